@@ -1,0 +1,27 @@
+-- An image as a list of bytes, and its blocks (littlefs disk version 2.0).
+use Rattle.std.specs.Prelude.{◌≡◌, ℕ, ◌+◌, ◌*◌, List, ◌++◌, length, take, drop}
+use Rattle.lfs_block.specs.Bytes.{IsBytes}
+use Rattle.lfs_block.specs.Geometry.{IsGeometry}
+
+-- an image of `count` blocks of `size` bytes
+pub record Disk : Type 0 where
+  pub size : ℕ
+  pub count : ℕ
+  pub bytes : List ℕ
+
+pub record IsDisk (d : Disk) : Type 0 where
+  pub geometry : IsGeometry d.size d.count
+  pub len : length d.bytes ≡ d.count * d.size
+  pub bytes : IsBytes d.bytes
+
+-- block n, the n-th slice of the bytes
+abbrev pub block_of : Disk → ℕ → List ℕ
+block_of d n = take d.size (drop (n * d.size) d.bytes)
+
+-- a list with other elements from a place on
+abbrev pub put_at : ℕ → List ℕ → List ℕ → List ℕ
+put_at at new bytes = take at bytes ++ new ++ drop (at + length new) bytes
+
+-- the image with another block n
+abbrev pub put : ℕ → List ℕ → Disk → Disk
+put n new d = record { size = d.size; count = d.count; bytes = put_at (n * d.size) new d.bytes }

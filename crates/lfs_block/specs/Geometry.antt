@@ -1,0 +1,8 @@
+-- The block sizes and counts that are edited (own).
+use Rattle.std.specs.Prelude.{◌≡◌, ℕ, ◌*◌, ◌%◌, ◌≤◌}
+
+-- an image's block size, in bytes, and its number of blocks
+pub record IsGeometry (size count : ℕ) : Type 0 where
+  pub size_fits : (256 ≤ size) × (size ≤ 65536) × (size % 16 ≡ 0)
+  pub count_fits : (2 ≤ count) × (count ≤ 65536)
+  pub length_fits : count * size ≤ 67108864

@@ -1,0 +1,31 @@
+//! Why bytes are no image.
+
+ghost use Rattle.std.specs.Prelude.{◌≡◌};
+ghost use Rattle.lfs_block.specs.Faults.{image_fault_number};
+
+use thiserror::Error;
+
+/// Why bytes are no image of a block size.
+///
+/// Source: own.
+#[derive(Clone, Copy, Debug, PartialEq, Eq, Error)]
+pub enum ImageFault {
+    /// The length is no multiple of the block size.
+    #[error("ImageLength")]
+    ImageLength,
+    /// The block size, the block count or the length is out of its limit.
+    #[error("BadGeometry")]
+    BadGeometry,
+}
+
+impl ImageFault {
+    /// The fault's number, 1 or 2.
+    pub fn number(self) -> u8
+        ensures { result ≡ image_fault_number self }
+    {
+        match self {
+            ImageFault::ImageLength => 1,
+            ImageFault::BadGeometry => 2,
+        }
+    }
+}
