@@ -1,0 +1,9 @@
+pub mod Steps
+pub mod Sums
+pub mod Codec
+pub mod Commits
+pub mod Logs
+pub mod ReadLoop
+pub mod Puts
+pub mod Erased
+pub mod Items

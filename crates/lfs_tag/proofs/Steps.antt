@@ -1,0 +1,174 @@
+-- The reading functions without their bounds: each reads one thing more, and the rest is read by itself.
+use Rattle.std.proofs.Common.{◌≡◌, ◌≢◌, ℕ, zero, suc, ◌+◌, ◌^◌, ◌<◌, ◌≤◌, Bool, true, false, cond, ltb, leb, eqb, ◌&&◌, List, [], ◌∷◌, length, take, drop, Option, Some, None, option_map, refl, sym, ap, ◌∙◌, arith, bit_xor, eq-eqb}
+use Rattle.std.specs.Int.{w32, from_be_bytes}
+use Rattle.std.proofs.lemmas.Bool.{ltb-false}
+use Rattle.std.proofs.lemmas.List.{length-drop}
+use Rattle.lfs_block.specs.Checksum.{crc}
+use Rattle.lfs_tag.specs.Tag.{main_kind, data_len}
+use Rattle.lfs_tag.specs.Commit.{Item, word_after, next_word}
+use Rattle.lfs_tag.specs.Reading.{TagFront, tag_behind, tag_at, CommitFront, with_tag, closed, commit_step, commit_within, commit_at, Front, with_commit, log_step, log_within, log_from, tags_step, tags_within, tags_at}
+
+-- a choice between something and nothing that gave something
+pub guard_some : {A : Type 0} (b : Bool) (x y : A) → cond b (Some x) None ≡ Some y → (b ≡ true) × (x ≡ y)
+guard_some true x y e = (refl, cc)
+guard_some false x y e = absurd cc
+
+pub guard_none : {A : Type 0} (b : Bool) (o : Option A) (y : A) → cond b None o ≡ Some y → (b ≡ false) × (o ≡ Some y)
+guard_none true o y e = absurd cc
+guard_none false o y e = (refl, e)
+
+pub map_some : {A B : Type 0} (f : A → B) (o : Option A) (y : B) → option_map f o ≡ Some y → (x : A) × (o ≡ Some x) × (f x ≡ y)
+map_some f None y e = absurd cc
+map_some f (Some x) y e = (x, refl, cc)
+
+pub kind_test : (k : ℕ) → k ≢ 5 → eqb k 5 ≡ false
+kind_test k h = grind arith
+
+-- a tag takes four bytes or more
+pub tag_at-shorter : (prev : ℕ) (bytes : List ℕ) (f : TagFront) → tag_at prev bytes ≡ Some f → length f.rest + 4 ≤ length bytes
+unfolding tag_at
+tag_at-shorter prev bytes f e =
+    let word : ℕ = bit_xor (from_be_bytes w32 (take 4 bytes)) prev in
+    let a = guard_none (ltb (length bytes) 4) (tag_behind (take 4 bytes) word (drop 4 bytes)) f e in
+    let long : 4 ≤ length bytes = ltb-false _ _ a.0 in
+    let b = guard_some (ltb word (2 ^ 31) && leb (data_len word) (length (drop 4 bytes)))
+    (record { stored = take 4 bytes; item = record { word = word; content = take (data_len word) (drop 4 bytes) }; rest = drop (data_len word) (drop 4 bytes) }) f a.1 in
+    let len : length f.rest ≡ length (drop (data_len word) (drop 4 bytes)) = sym (ap (λ (g : TagFront). length g.rest) b.1) in
+    omega (arith, len, length-drop (data_len word) (drop 4 bytes), length-drop 4 bytes)
+
+-- ---- commits
+
+commit_step-same : (F G : ℕ → ℕ → List ℕ → Option CommitFront) (sum : ℕ) (o : Option TagFront)
+    → ((f : TagFront) → o ≡ Some f → (s p : ℕ) → F s p f.rest ≡ G s p f.rest) → commit_step F sum o ≡ commit_step G sum o
+commit_step-same F G sum None h = refl
+commit_step-same F G sum (Some f) h =
+    ap (λ (x : Option CommitFront). cond (eqb (main_kind f.item.word) 5) (closed (crc sum f.stored) f) (option_map (with_tag f.item) x))
+    (h f refl (crc (crc sum f.stored) f.item.content) f.item.word)
+
+commit_enough : (n m sum prev : ℕ) (bytes : List ℕ) → length bytes < n → length bytes < m → commit_within n sum prev bytes ≡ commit_within m sum prev bytes
+unfolding commit_within
+commit_enough zero m sum prev bytes a b = absurd (omega arith)
+commit_enough (suc n) zero sum prev bytes a b = absurd (omega arith)
+commit_enough (suc n) (suc m) sum prev bytes a b =
+    commit_step-same (commit_within n) (commit_within m) sum (tag_at prev bytes)
+    (λ f e s p. let k = tag_at-shorter prev bytes f e in commit_enough n m s p f.rest (omega arith) (omega arith))
+
+pub commit_at-step : (sum prev : ℕ) (bytes : List ℕ) → commit_at sum prev bytes ≡ commit_step commit_at sum (tag_at prev bytes)
+unfolding commit_at commit_within
+commit_at-step sum prev bytes =
+    commit_step-same (commit_within (length bytes)) commit_at sum (tag_at prev bytes)
+    (λ f e s p. let k = tag_at-shorter prev bytes f e in commit_enough (length bytes) (suc (length f.rest)) s p f.rest (omega arith) (omega arith))
+
+pub commit_at-none : (sum prev : ℕ) (bytes : List ℕ) → tag_at prev bytes ≡ None → commit_at sum prev bytes ≡ None
+commit_at-none sum prev bytes e = commit_at-step sum prev bytes ∙ ap (commit_step commit_at sum) e
+
+pub commit_at-closed : (sum prev : ℕ) (bytes : List ℕ) (f : TagFront) → tag_at prev bytes ≡ Some f → main_kind f.item.word ≡ 5
+    → commit_at sum prev bytes ≡ closed (crc sum f.stored) f
+commit_at-closed sum prev bytes f e k =
+    commit_at-step sum prev bytes ∙ ap (commit_step commit_at sum) e
+    ∙ ap (λ (b : Bool). cond b (closed (crc sum f.stored) f) (option_map (with_tag f.item) (commit_at (crc (crc sum f.stored) f.item.content) f.item.word f.rest))) (eq-eqb _ _ k)
+
+pub commit_at-more : (sum prev : ℕ) (bytes : List ℕ) (f : TagFront) → tag_at prev bytes ≡ Some f → main_kind f.item.word ≢ 5
+    → commit_at sum prev bytes ≡ option_map (with_tag f.item) (commit_at (crc (crc sum f.stored) f.item.content) f.item.word f.rest)
+commit_at-more sum prev bytes f e k =
+    commit_at-step sum prev bytes ∙ ap (commit_step commit_at sum) e
+    ∙ ap (λ (b : Bool). cond b (closed (crc sum f.stored) f) (option_map (with_tag f.item) (commit_at (crc (crc sum f.stored) f.item.content) f.item.word f.rest))) (kind_test _ k)
+
+-- ---- logs
+
+closed-rest : (sum : ℕ) (f : TagFront) (r : CommitFront) → closed sum f ≡ Some r → r.rest ≡ f.rest
+unfolding closed
+closed-rest sum f r e =
+    ap (λ (x : CommitFront). x.rest) (sym (guard_some _ (record { commit = record { tags = []; closing = f.item.word; padding = drop 4 f.item.content }; rest = f.rest }) r e).1)
+
+commit_step-shorter : (F : ℕ → ℕ → List ℕ → Option CommitFront) (sum : ℕ) (o : Option TagFront) (r : CommitFront) (bound : ℕ)
+    → ((f : TagFront) → o ≡ Some f → length f.rest < bound)
+    → ((f : TagFront) → o ≡ Some f → (s p : ℕ) (q : CommitFront) → F s p f.rest ≡ Some q → length q.rest < bound)
+    → commit_step F sum o ≡ Some r → length r.rest < bound
+commit_step-shorter F sum None r bound h k e = absurd cc
+commit_step-shorter F sum (Some f) r bound h k e =
+    by_test (eqb (main_kind f.item.word) 5) e
+  where
+    by_test : (b : Bool) → cond b (closed (crc sum f.stored) f) (option_map (with_tag f.item) (F (crc (crc sum f.stored) f.item.content) f.item.word f.rest)) ≡ Some r → length r.rest < bound
+    by_test true d = rw (closed-rest (crc sum f.stored) f r d) (h f refl)
+    by_test false d =
+        let m = map_some (with_tag f.item) (F (crc (crc sum f.stored) f.item.content) f.item.word f.rest) r d in
+        let below = k f refl (crc (crc sum f.stored) f.item.content) f.item.word m.0 m.1 in
+        rw (← m.2) below
+
+commit_within-shorter : (n sum prev : ℕ) (bytes : List ℕ) (r : CommitFront) → commit_within n sum prev bytes ≡ Some r → length r.rest < length bytes
+unfolding commit_within
+commit_within-shorter zero sum prev bytes r e = absurd cc
+commit_within-shorter (suc n) sum prev bytes r e =
+    commit_step-shorter (commit_within n) sum (tag_at prev bytes) r (length bytes)
+    (λ f t. let k = tag_at-shorter prev bytes f t in omega arith)
+    (λ f t s p q d. let k = tag_at-shorter prev bytes f t in omega (arith, commit_within-shorter n s p f.rest q d))
+    e
+
+pub commit_at-shorter : (sum prev : ℕ) (bytes : List ℕ) (r : CommitFront) → commit_at sum prev bytes ≡ Some r → length r.rest < length bytes
+unfolding commit_at
+commit_at-shorter sum prev bytes r e = commit_within-shorter (suc (length bytes)) sum prev bytes r e
+
+log_step-same : (F G : ℕ → ℕ → List ℕ → Front) (prev : ℕ) (bytes : List ℕ) (o : Option CommitFront)
+    → ((r : CommitFront) → o ≡ Some r → (s p : ℕ) → F s p r.rest ≡ G s p r.rest) → log_step F prev bytes o ≡ log_step G prev bytes o
+log_step-same F G prev bytes None h = refl
+log_step-same F G prev bytes (Some r) h = ap (with_commit r.commit) (h r refl 0xffffffff (next_word r.commit))
+
+log_enough : (n m sum prev : ℕ) (bytes : List ℕ) → length bytes < n → length bytes < m → log_within n sum prev bytes ≡ log_within m sum prev bytes
+unfolding log_within
+log_enough zero m sum prev bytes a b = absurd (omega arith)
+log_enough (suc n) zero sum prev bytes a b = absurd (omega arith)
+log_enough (suc n) (suc m) sum prev bytes a b =
+    log_step-same (log_within n) (log_within m) prev bytes (commit_at sum prev bytes)
+    (λ r e s p. let k = commit_at-shorter sum prev bytes r e in log_enough n m s p r.rest (omega arith) (omega arith))
+
+pub log_from-step : (sum prev : ℕ) (bytes : List ℕ) → log_from sum prev bytes ≡ log_step log_from prev bytes (commit_at sum prev bytes)
+unfolding log_from log_within
+log_from-step sum prev bytes =
+    log_step-same (log_within (length bytes)) log_from prev bytes (commit_at sum prev bytes)
+    (λ r e s p. let k = commit_at-shorter sum prev bytes r e in log_enough (length bytes) (suc (length r.rest)) s p r.rest (omega arith) (omega arith))
+
+pub log_from-none : (sum prev : ℕ) (bytes : List ℕ) → commit_at sum prev bytes ≡ None → log_from sum prev bytes ≡ record { commits = []; last = prev; rest = bytes }
+log_from-none sum prev bytes e = log_from-step sum prev bytes ∙ ap (log_step log_from prev bytes) e
+
+pub log_from-more : (sum prev : ℕ) (bytes : List ℕ) (r : CommitFront) → commit_at sum prev bytes ≡ Some r
+    → log_from sum prev bytes ≡ with_commit r.commit (log_from 0xffffffff (next_word r.commit) r.rest)
+log_from-more sum prev bytes r e = log_from-step sum prev bytes ∙ ap (log_step log_from prev bytes) e
+
+-- ---- the tags of a log
+
+tags_step-same : (F G : ℕ → List ℕ → List Item) (o : Option TagFront)
+    → ((f : TagFront) → o ≡ Some f → (p : ℕ) → F p f.rest ≡ G p f.rest) → tags_step F o ≡ tags_step G o
+tags_step-same F G None h = refl
+tags_step-same F G (Some f) h =
+    ap (λ (x : List Item). cond (eqb (main_kind f.item.word) 5) x (f.item ∷ F f.item.word f.rest)) (h f refl (word_after f.item.word))
+    ∙ ap (λ (x : List Item). cond (eqb (main_kind f.item.word) 5) (G (word_after f.item.word) f.rest) (f.item ∷ x)) (h f refl f.item.word)
+
+tags_enough : (n m prev : ℕ) (bytes : List ℕ) → length bytes < n → length bytes < m → tags_within n prev bytes ≡ tags_within m prev bytes
+unfolding tags_within
+tags_enough zero m prev bytes a b = absurd (omega arith)
+tags_enough (suc n) zero prev bytes a b = absurd (omega arith)
+tags_enough (suc n) (suc m) prev bytes a b =
+    tags_step-same (tags_within n) (tags_within m) (tag_at prev bytes)
+    (λ f e p. let k = tag_at-shorter prev bytes f e in tags_enough n m p f.rest (omega arith) (omega arith))
+
+pub tags_at-step : (prev : ℕ) (bytes : List ℕ) → tags_at prev bytes ≡ tags_step tags_at (tag_at prev bytes)
+unfolding tags_at tags_within
+tags_at-step prev bytes =
+    tags_step-same (tags_within (length bytes)) tags_at (tag_at prev bytes)
+    (λ f e p. let k = tag_at-shorter prev bytes f e in tags_enough (length bytes) (suc (length f.rest)) p f.rest (omega arith) (omega arith))
+
+pub tags_at-none : (prev : ℕ) (bytes : List ℕ) → tag_at prev bytes ≡ None → tags_at prev bytes ≡ []
+tags_at-none prev bytes e = tags_at-step prev bytes ∙ ap (tags_step tags_at) e
+
+pub tags_at-closed : (prev : ℕ) (bytes : List ℕ) (f : TagFront) → tag_at prev bytes ≡ Some f → main_kind f.item.word ≡ 5
+    → tags_at prev bytes ≡ tags_at (word_after f.item.word) f.rest
+tags_at-closed prev bytes f e k =
+    tags_at-step prev bytes ∙ ap (tags_step tags_at) e
+    ∙ ap (λ (b : Bool). cond b (tags_at (word_after f.item.word) f.rest) (f.item ∷ tags_at f.item.word f.rest)) (eq-eqb _ _ k)
+
+pub tags_at-more : (prev : ℕ) (bytes : List ℕ) (f : TagFront) → tag_at prev bytes ≡ Some f → main_kind f.item.word ≢ 5
+    → tags_at prev bytes ≡ f.item ∷ tags_at f.item.word f.rest
+tags_at-more prev bytes f e k =
+    tags_at-step prev bytes ∙ ap (tags_step tags_at) e
+    ∙ ap (λ (b : Bool). cond b (tags_at (word_after f.item.word) f.rest) (f.item ∷ tags_at f.item.word f.rest)) (kind_test _ k)

@@ -1,0 +1,58 @@
+-- Laws of logs (own).
+use Rattle.std.specs.Prelude.{◌≡◌, ◌≢◌, ℕ, ◌+◌, ◌<◌, ◌≤◌, ◌^◌, List, [], ◌∷◌, ◌++◌, length, drop}
+use Rattle.std.specs.List.{AllByRecursion}
+use Rattle.lfs_block.specs.Bytes.{IsBytes}
+use Rattle.lfs_block.specs.Disk.{put_at}
+use Rattle.lfs_tag.specs.Tag.{main_kind}
+use Rattle.lfs_tag.specs.Commit.{Item, Commit, IsItem, IsCommit, commit_bytes}
+use Rattle.lfs_tag.specs.Log.{IsErased, IsLog, final_word, log_tags}
+use Rattle.lfs_tag.specs.Reading.{log_of}
+use Rattle.lfs_tag.specs.Writing.{committed_end, commit_of, lead_at}
+
+-- A block of bytes has one log.
+abbrev pub OneLog : Type 0
+OneLog = (block : List ℕ) (first second : List Commit) (rest other : List ℕ) → IsBytes block
+    → IsLog block first rest → IsLog block second other → (first ≡ second) × (rest ≡ other)
+
+-- The log of a block is what is read of it.
+abbrev pub LogIsRead : Type 0
+LogIsRead = (block : List ℕ) (commits : List Commit) (rest : List ℕ) → IsBytes block → IsLog block commits rest
+    → log_of block ≡ record { commits = commits; last = final_word 0xffffffff commits; rest = rest }
+
+-- The tags of a log's commits are valid, no checksums', and have as much data as they say.
+abbrev pub LogTagsAreItems : Type 0
+LogTagsAreItems = (block : List ℕ) (commits : List Commit) (rest : List ℕ) → IsLog block commits rest
+    → AllByRecursion IsItem (log_tags commits)
+
+-- Erased bytes hold no commit behind a word whose main type isn't 2: the first word may be a valid tag there, and the next
+-- one isn't.
+abbrev pub ErasedHoldsNoCommit : Type 0
+ErasedHoldsNoCommit = (lead rest more : List ℕ) (prev : ℕ) (c : Commit) → IsBytes lead → prev < 2 ^ 32 → main_kind prev ≢ 2
+    → IsErased rest → IsCommit c → rest ≡ commit_bytes lead prev c ++ more → ⊥
+
+-- The main type of the word behind commits isn't 2, whichever its top bit is.
+abbrev pub FinalWordKind : Type 0
+FinalWordKind = (block : List ℕ) (commits : List Commit) (rest : List ℕ) → IsLog block commits rest
+    → (final_word 0xffffffff commits < 2 ^ 32) × (main_kind (final_word 0xffffffff commits) ≢ 2)
+
+-- A block that is erased behind its revision has a log with no commit.
+abbrev pub ErasedBlock : Type 0
+ErasedBlock = (block : List ℕ) → 4 ≤ length block → IsBytes block → IsErased (drop 4 block) → IsLog block [] (drop 4 block)
+
+-- A block with one commit behind its revision, and erased behind that, has that commit as its log.
+abbrev pub FirstCommit : Type 0
+FirstCommit = (block : List ℕ) (c : Commit) → IsCommit c →
+    let new : List ℕ = commit_bytes (lead_at 4 block) 0xffffffff c in
+    let rest : List ℕ = drop (4 + length new) block in
+    4 + length new ≤ length block → IsErased rest → IsLog (put_at 4 new block) (c ∷ []) rest
+
+-- A commit written behind a log whose rest is erased makes the log longer by it.
+abbrev pub NextCommit : Type 0
+NextCommit = (block : List ℕ) (commits : List Commit) (rest : List ℕ) (at : ℕ) (c : Commit) → IsLog block commits rest → IsErased rest
+    → at + length rest ≡ length block → IsCommit c →
+    let new : List ℕ = commit_bytes (lead_at at block) (final_word 0xffffffff commits) c in
+    at + length new ≤ length block → IsLog (put_at at new block) (commits ++ c ∷ []) (drop (length new) rest)
+
+-- The commit that tags are written as reaches to the next multiple of 16 behind its checksum.
+abbrev pub WrittenLength : Type 0
+WrittenLength = (lead : List ℕ) (at prev : ℕ) (tags : List Item) → at + length (commit_bytes lead prev (commit_of at tags)) ≡ committed_end at tags

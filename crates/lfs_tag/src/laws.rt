@@ -1,0 +1,44 @@
+//! Laws of logs. Each function does nothing: its contract is the law.
+
+ghost use Rattle.lfs_tag.specs.Laws.{OneLog, LogIsRead, LogTagsAreItems, ErasedHoldsNoCommit, FinalWordKind, ErasedBlock, FirstCommit, NextCommit, WrittenLength};
+
+/// A block of bytes has one log.
+pub fn one_log()
+    ensures { OneLog }
+{}
+
+/// The log of a block is what is read of it.
+pub fn log_is_read()
+    ensures { LogIsRead }
+{}
+
+/// The tags of a log's commits are valid, no checksums', and have as much data as they say.
+pub fn log_tags_are_items()
+    ensures { LogTagsAreItems }
+{}
+
+/// Erased bytes hold no commit, whichever word of a log stands before them.
+pub fn erased_holds_no_commit()
+    ensures none { ErasedHoldsNoCommit }
+    ensures word { FinalWordKind }
+{}
+
+/// A block that is erased behind its revision has a log with no commit.
+pub fn erased_block()
+    ensures { ErasedBlock }
+{}
+
+/// A block with one commit behind its revision, and erased behind that, has that commit as its log.
+pub fn first_commit()
+    ensures { FirstCommit }
+{}
+
+/// A commit written behind a log whose rest is erased makes the log longer by it.
+pub fn next_commit()
+    ensures { NextCommit }
+{}
+
+/// A written commit reaches to the next multiple of 16 behind its checksum.
+pub fn written_length()
+    ensures { WrittenLength }
+{}

@@ -1,0 +1,19 @@
+//! Tags, commits and logs: what stands in a metadata block.
+#![tactic(auto)]
+
+mod edit;
+pub mod laws;
+mod log;
+mod reading;
+mod tag;
+mod tags;
+mod writing;
+
+pub use edit::Edit;
+pub use log::Log;
+pub use tag::{CHECKSUM, DELETED, FIRST_WORD, NO_ID, Tag};
+pub use tags::Tags;
+pub use writing::write_commit;
+
+#[cfg(test)]
+mod tests;
