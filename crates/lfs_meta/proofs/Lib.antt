@@ -1,0 +1,17 @@
+pub mod AttributeLemmas
+pub mod EditLemmas
+pub mod FitsLemmas
+pub mod FrameLemmas
+pub mod GrowLemmas
+pub mod ItemLemmas
+pub mod LiveLemmas
+pub mod LogLemmas
+pub mod NameLemmas
+pub mod PutLemmas
+pub mod ReplayFitsLemmas
+pub mod ReplayLemmas
+pub mod TagWordLemmas
+pub mod UnreadLemmas
+pub mod WeighingLemmas
+pub mod WholeLemmas
+pub mod WrittenLemmas

@@ -1,0 +1,100 @@
+-- A block written beside another, by its revision the live one.
+use Rattle.std.proofs.Common.{◌≡◌, ◌≢◌, ℕ, ◌+◌, ◌-◌, ◌%◌, ◌<◌, ◌≤◌, ◌^◌, Bool, true, false, if◌then◌else◌, List, length, refl, ap, sym, ◌∙◌, arith, Option, Some, None, suc}
+use Rattle.std.specs.Prelude.{option_and_then, replicate, All, is_some, not}
+use Rattle.std.specs.List.{AllByRecursion}
+use Rattle.std.proofs.lemmas.List.Elements.{recursion_from_All}
+use Rattle.lfs_block.specs.Disk.{Disk, IsDisk, block_of, put}
+use Rattle.lfs_tag.specs.Commit.{Item}
+use Rattle.lfs_meta.specs.Body.{Pair}
+use Rattle.lfs_meta.specs.Fits.{EntryFits, TailFits}
+use Rattle.lfs_meta.specs.Laws.{WrittenPartsReplay, WrittenPartsAreWhole}
+use Rattle.lfs_meta.specs.LiveBlock.{revision, is_later, committed, or_else, live_tags, tags_of}
+use Rattle.lfs_meta.specs.Part.{StoredPart}
+use Rattle.lfs_meta.specs.Replay.{replay}
+use Rattle.lfs_meta.specs.Spelling.{IsWhole, raw_part, part_tags}
+use Rattle.lfs_meta.specs.Whole.{whole_part}
+use Rattle.lfs_meta.specs.Writing.{part_in, second_is_live, other_number, live_revision}
+use Rattle.lfs_meta.proofs.PutLemmas.{block_of-put, block_of-put_other}
+
+-- a revision one more is later, and one less isn't
+later-next : (r : ℕ) → r < 2 ^ 32 → is_later ((r + 1) % 2 ^ 32) r ≡ true
+later-next r h =
+    let ahead : ((r + 1) % 2 ^ 32 + 2 ^ 32 - r) % 2 ^ 32 ≡ 1 = omega arith in
+    rw ahead refl
+
+later-last : (r : ℕ) → r < 2 ^ 32 → is_later r ((r + 1) % 2 ^ 32) ≡ false
+later-last r h =
+    let ahead : (r + 2 ^ 32 - (r + 1) % 2 ^ 32) % 2 ^ 32 ≡ 0xffffffff = omega arith in
+    rw ahead refl
+
+not-earlier : (new other : List ℕ) (ts : List Item) (a b : ℕ) → revision other ≡ a → revision new ≡ b → is_later a b ≡ false → committed new ≡ Some ts
+    → live_tags new other ≡ Some ts
+not-earlier new other ts a b other_is new_is order here =
+    let earlier : is_later (revision other) (revision new) ≡ false = ap (λ (n : ℕ). is_later n (revision new)) other_is ∙ ap (is_later a) new_is ∙ order in
+    ap (λ (t : Bool). if t then or_else (committed other) (committed new) else or_else (committed new) (committed other)) earlier
+    ∙ ap (λ (o : Option (List Item)). or_else o (committed other)) here
+
+later : (new other : List ℕ) (ts : List Item) (a b : ℕ) → revision other ≡ a → revision new ≡ b → is_later b a ≡ true → committed new ≡ Some ts
+    → live_tags other new ≡ Some ts
+later new other ts a b other_is new_is order here =
+    let after : is_later (revision new) (revision other) ≡ true = ap (is_later (revision new)) other_is ∙ ap (λ (n : ℕ). is_later n a) new_is ∙ order in
+    ap (λ (t : Bool). if t then or_else (committed new) (committed other) else or_else (committed other) (committed new)) after
+    ∙ ap (λ (o : Option (List Item)). or_else o (committed other)) here
+
+erased-revision : (size : ℕ) → 4 ≤ size → revision (replicate size 0xff) ≡ 0xffffffff
+erased-revision size h =
+    let split : size ≡ suc (suc (suc (suc (size - 4)))) = omega arith in
+    rw split refl
+
+-- a new block beside an erased one, in both orders
+pub new-before_erased : (size : ℕ) (new : List ℕ) (ts : List Item) → 4 ≤ size → revision new ≡ 1 → committed new ≡ Some ts
+    → live_tags new (replicate size 0xff) ≡ Some ts
+new-before_erased size new ts h one here = not-earlier new (replicate size 0xff) ts 0xffffffff 1 (erased-revision size h) one refl here
+
+pub new-behind_erased : (size : ℕ) (new : List ℕ) (ts : List Item) → 4 ≤ size → revision new ≡ 1 → committed new ≡ Some ts
+    → live_tags (replicate size 0xff) new ≡ Some ts
+new-behind_erased size new ts h one here = later new (replicate size 0xff) ts 0xffffffff 1 (erased-revision size h) one refl here
+
+-- a part's tags in the live block are that part
+pub read-back : WrittenPartsReplay → WrittenPartsAreWhole → (p : StoredPart) (first second : List ℕ) → All EntryFits p.entries → length p.entries ≤ 1000
+    → TailFits p.tail → length p.delta ≡ 12 → AllByRecursion IsWhole p.entries → live_tags first second ≡ Some (part_tags p) → part_in first second ≡ Some p
+read-back replays wholes p first second fits few tail delta whole live =
+    let replayed : replay (part_tags p) ≡ Some (raw_part p) = replays p (recursion_from_All EntryFits p.entries fits) (omega (arith, few)) tail delta in
+    ap (λ (o : Option (List Item)). option_and_then whole_part (option_and_then replay o)) live
+    ∙ ap (option_and_then whole_part) replayed
+    ∙ wholes p whole
+
+-- a block put in the place of the one that isn't live is the live one
+put-by : (b : Bool) (d : Disk) (pair : Pair) (new : List ℕ) (ts : List Item) (r : ℕ) → IsDisk d → pair.0 ≢ pair.1 → pair.0 < d.count → pair.1 < d.count
+    → length new ≡ d.size → committed new ≡ Some ts → r < 2 ^ 32 → (if b then revision (block_of d pair.1) else revision (block_of d pair.0)) ≡ r
+    → revision new ≡ (r + 1) % 2 ^ 32 → tags_of (put (if b then pair.0 else pair.1) new d) pair ≡ Some ts
+put-by true d pair new ts r disk apart first second len here small live_is new_is =
+    let other : pair.1 ≢ pair.0 = λ e. apart (sym e) in
+    ap (λ (x : List ℕ). live_tags x (block_of (put pair.0 new d) pair.1)) (block_of-put d pair.0 new disk first len)
+    ∙ ap (live_tags new) (block_of-put_other d pair.0 pair.1 new disk first other len)
+    ∙ not-earlier new (block_of d pair.1) ts r ((r + 1) % 2 ^ 32) live_is new_is (later-last r small) here
+put-by false d pair new ts r disk apart first second len here small live_is new_is =
+    ap (λ (x : List ℕ). live_tags x (block_of (put pair.1 new d) pair.1)) (block_of-put_other d pair.1 pair.0 new disk second apart len)
+    ∙ ap (live_tags (block_of d pair.0)) (block_of-put d pair.1 new disk second len)
+    ∙ later new (block_of d pair.0) ts r ((r + 1) % 2 ^ 32) live_is new_is (later-next r small) here
+
+pub rewritten-tags : (d : Disk) (pair : Pair) (new : List ℕ) (ts : List Item) (r : ℕ) → IsDisk d → pair.0 ≢ pair.1 → pair.0 < d.count → pair.1 < d.count
+    → length new ≡ d.size → committed new ≡ Some ts → r < 2 ^ 32 → live_revision d pair ≡ r → revision new ≡ (r + 1) % 2 ^ 32
+    → tags_of (put (other_number d pair) new d) pair ≡ Some ts
+rewritten-tags d pair new ts r disk apart first second len here small live_is new_is =
+    put-by (second_is_live (block_of d pair.0) (block_of d pair.1)) d pair new ts r disk apart first second len here small live_is new_is
+
+-- ---- the live block
+
+live-when : (late : Bool) (first second : List ℕ) (one two : Option (List Item)) (tags : List Item) → committed first ≡ one → committed second ≡ two
+    → (if late then or_else two one else or_else one two) ≡ Some tags
+    → committed (if (if late then is_some two else not (is_some one)) then second else first) ≡ Some tags
+live-when true first second one (Some b) tags first_is second_is e = second_is ∙ e
+live-when true first second one None tags first_is second_is e = first_is ∙ e
+live-when false first second (Some a) two tags first_is second_is e = first_is ∙ e
+live-when false first second None two tags first_is second_is e = second_is ∙ e
+
+pub tags-are_live : (first second : List ℕ) (tags : List Item) → live_tags first second ≡ Some tags
+    → committed (if second_is_live first second then second else first) ≡ Some tags
+tags-are_live first second tags e =
+    live-when (is_later (revision second) (revision first)) first second (committed first) (committed second) tags refl refl e

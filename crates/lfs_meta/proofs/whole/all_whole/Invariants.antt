@@ -1,0 +1,6 @@
+use Rattle.std.proofs.Common.{◌≡◌, take, Some}
+use Rattle.lfs_meta.specs.Whole.{all_whole}
+use Rattle.lfs_meta.proofs.whole.all_whole.Given as goal
+
+abbrev pub invariant-loop-draft : goal.invariant-loop-draft
+invariant-loop-draft l = all_whole (take l.draft-index l.drafts) ≡ Some l.entries.items

@@ -1,0 +1,21 @@
+-- Beside an erased block the new one is live, and its tags are the part.
+use Rattle.std.proofs.Common.{refl, arith, replicate}
+use Rattle.lfs_meta.specs.Part.{StoredPart}
+use Rattle.lfs_meta.specs.Spelling.{part_tags}
+use Rattle.lfs_meta.specs.Writing.{stored_part}
+use Rattle.lfs_meta.proofs.LiveLemmas.{new-before_erased, new-behind_erased, read-back}
+use Rattle.lfs_meta.proofs.writing.first_block.Goals as goal
+
+pub returns-clause-before_erased : goal.returns-clause-before_erased
+returns-clause-before_erased c =
+    let p : StoredPart = stored_part c.args.entries.now c.args.tail (replicate 12 0) in
+    read-back c.written_parts_replay.ensures.replay c.written_parts_replay.ensures.whole p c.in-Ok.block.items (replicate c.args.size 255)
+    c.in-Ok.ensures.fits c.requires.few c.requires.tail refl c.requires.whole
+    (new-before_erased c.args.size c.in-Ok.block.items (part_tags p) (omega (arith, c.requires.size.0)) c.in-Ok.ensures.revision c.in-Ok.ensures.committed)
+
+pub returns-clause-behind_erased : goal.returns-clause-behind_erased
+returns-clause-behind_erased c =
+    let p : StoredPart = stored_part c.args.entries.now c.args.tail (replicate 12 0) in
+    read-back c.written_parts_replay.ensures.replay c.written_parts_replay.ensures.whole p (replicate c.args.size 255) c.in-Ok.block.items
+    c.in-Ok.ensures.fits c.requires.few c.requires.tail refl c.requires.whole
+    (new-behind_erased c.args.size c.in-Ok.block.items (part_tags p) (omega (arith, c.requires.size.0)) c.in-Ok.ensures.revision c.in-Ok.ensures.committed)

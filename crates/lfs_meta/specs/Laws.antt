@@ -1,0 +1,57 @@
+-- Laws of pairs and names.
+use Rattle.std.specs.Prelude.{◌≡◌, ◌↔◌, ℕ, ◌+◌, ◌%◌, ◌≤◌, true, List, length, Some, None, if◌then◌else◌}
+use Rattle.std.specs.List.{AllByRecursion}
+use Rattle.lfs_block.specs.Disk.{Disk, block_of}
+use Rattle.lfs_block.specs.declared.mount_fault.MountFault.{MountFault}
+use Rattle.lfs_meta.specs.Body.{Pair}
+use Rattle.lfs_meta.specs.Name.{Name, IsName, is_name}
+use Rattle.lfs_meta.specs.LiveBlock.{committed, live_tags, tags_of, part_of, stored_part_of}
+use Rattle.lfs_meta.specs.Cause.{PairCause}
+use Rattle.lfs_tag.specs.Commit.{Item, IsItem}
+use Rattle.lfs_tag.specs.Writing.{committed_end}
+use Rattle.lfs_meta.specs.Weighing.{weights}
+use Rattle.lfs_meta.specs.Writing.{second_is_live}
+use Rattle.lfs_meta.specs.Fits.{EntryFits, RawPartFits, TailFits}
+use Rattle.lfs_meta.specs.Part.{RawPart, StoredPart}
+use Rattle.lfs_meta.specs.Replay.{replay}
+use Rattle.lfs_meta.specs.Spelling.{IsWhole, raw_part, part_tags}
+use Rattle.lfs_meta.specs.Whole.{whole_part}
+
+-- the test of a name says whether it is one
+abbrev pub NamesAreDecided : Type 0
+NamesAreDecided = (n : Name) → (is_name n ≡ true) ↔ IsName n
+
+-- two disks have the same blocks at a pair
+abbrev pub SameBlocks : Disk → Disk → Pair → Type 0
+SameBlocks d e pair = (block_of d pair.0 ≡ block_of e pair.0) × (block_of d pair.1 ≡ block_of e pair.1)
+
+-- what a pair holds depends on its two blocks alone
+abbrev pub PartsDependOnTheirBlocks : Type 0
+PartsDependOnTheirBlocks = (d e : Disk) (pair : Pair) → SameBlocks d e pair
+    → (tags_of d pair ≡ tags_of e pair) × (part_of d pair ≡ part_of e pair) × (stored_part_of d pair ≡ stored_part_of e pair)
+
+-- a pair that has a cause holds no part
+abbrev pub UnreadPairsHoldNoPart : Type 0
+UnreadPairsHoldNoPart = (fault : MountFault) (d : Disk) (pair : Pair) → PairCause fault d pair → stored_part_of d pair ≡ None
+
+-- what tags leave keeps to the lengths of tags, and its attributes rise
+abbrev pub ReplayedPartsFit : Type 0
+ReplayedPartsFit = (tags : List Item) (p : RawPart) → AllByRecursion IsItem tags → replay tags ≡ Some p → RawPartFits p
+
+-- the tags that a part is written as leave that part
+abbrev pub WrittenPartsReplay : Type 0
+WrittenPartsReplay = (p : StoredPart) → AllByRecursion EntryFits p.entries → length p.entries ≤ 1022 → TailFits p.tail → length p.delta ≡ 12
+    → replay (part_tags p) ≡ Some (raw_part p)
+
+-- what whole entries are written as is whole
+abbrev pub WrittenPartsAreWhole : Type 0
+WrittenPartsAreWhole = (p : StoredPart) → AllByRecursion IsWhole p.entries → whole_part (raw_part p) ≡ Some p
+
+-- what is written for entries whose weights leave 40 bytes of a block fits it
+abbrev pub WeightsFit : Type 0
+WeightsFit = (p : StoredPart) (size : ℕ) → size % 16 ≡ 0 → length p.delta ≡ 12 → weights p.entries + 40 ≤ size → committed_end 4 (part_tags p) ≤ size
+
+-- where a pair of blocks has tags, they are those of its live block
+abbrev pub TagsAreTheLiveBlocks : Type 0
+TagsAreTheLiveBlocks = (first second : List ℕ) (tags : List Item) → live_tags first second ≡ Some tags
+    → committed (if second_is_live first second then second else first) ≡ Some tags

@@ -1,0 +1,47 @@
+-- The live block of a pair, and what the pair holds (SPEC.md, "Metadata pairs").
+use Rattle.std.specs.Prelude.{ℕ, ◌+◌, ◌-◌, ◌%◌, ◌^◌, ◌&&◌, nat_lt, nat_le, Bool, List, length, take, Option, Some, None, option_and_then, if◌then◌else◌}
+use Rattle.std.specs.Int.{w32, from_le_bytes}
+use Rattle.lfs_block.specs.Disk.{Disk, block_of}
+use Rattle.lfs_tag.specs.Commit.{Item}
+use Rattle.lfs_tag.specs.Log.{log_tags}
+use Rattle.lfs_tag.specs.Reading.{log_of}
+use Rattle.lfs_meta.specs.Body.{Pair}
+use Rattle.lfs_meta.specs.Part.{RawPart, StoredPart}
+use Rattle.lfs_meta.specs.Replay.{replay}
+use Rattle.lfs_meta.specs.Whole.{whole_part}
+
+-- a block's revision, its first four bytes
+abbrev pub revision : List ℕ → ℕ
+revision block = from_le_bytes w32 (take 4 block)
+
+-- Revision a comes after b: revisions are counted around 2 ^ 32.
+abbrev pub is_later : ℕ → ℕ → Bool
+is_later a b = let ahead = (a + 2 ^ 32 - b) % 2 ^ 32 in nat_le 1 ahead && nat_lt ahead (2 ^ 31)
+
+-- the tags of a block's log, where it has a commit
+abbrev pub committed : List ℕ → Option (List Item)
+committed block = if nat_lt 0 (length (log_of block).commits) then Some (log_tags (log_of block).commits) else None
+
+-- the first option that is there
+abbrev pub or_else : {A : Type 0} → Option A → Option A → Option A
+or_else None o = o
+or_else (Some x) o = Some x
+
+-- The tags of the live block: the second one is tried first where its revision is the later one, else the first one
+-- (own: the first where neither is later).
+abbrev pub live_tags : List ℕ → List ℕ → Option (List Item)
+live_tags first second =
+    if is_later (revision second) (revision first) then or_else (committed second) (committed first)
+    else or_else (committed first) (committed second)
+
+-- the tags of a pair's live block
+abbrev pub tags_of : Disk → Pair → Option (List Item)
+tags_of d pair = live_tags (block_of d pair.0) (block_of d pair.1)
+
+-- the part that a pair holds, undefined where no block has a commit or the replay is undefined
+abbrev pub part_of : Disk → Pair → Option RawPart
+part_of d pair = option_and_then replay (tags_of d pair)
+
+-- the same, where all entries are whole
+abbrev pub stored_part_of : Disk → Pair → Option StoredPart
+stored_part_of d pair = option_and_then whole_part (part_of d pair)

@@ -1,0 +1,65 @@
+-- Entries that are whole: named, with a struct that their kind takes (own: SPEC.md leaves open what others mean).
+use Rattle.std.specs.Prelude.{◌≡◌, ◌&&◌, Bool, true, false, List, [], ◌∷◌, Option, Some, None, option_map, option_and_then, if◌then◌else◌}
+use Rattle.lfs_meta.specs.declared.kind.Kind.{Kind}
+use Rattle.lfs_meta.specs.declared.kind.Kind.TheVariants.{File, Dir, Super}
+use Rattle.lfs_meta.specs.Attribute.{Attributes}
+use Rattle.lfs_meta.specs.Body.{StoredBody, Inline, Ctz, Leads}
+use Rattle.lfs_meta.specs.Entry.{RawEntry, StoredEntry}
+use Rattle.lfs_meta.specs.Name.{Name, is_name}
+use Rattle.lfs_meta.specs.Part.{RawPart, StoredPart}
+
+-- the structs that a kind takes
+abbrev pub takes : Kind → StoredBody → Bool
+takes File (Inline bytes) = true
+takes File (Ctz head size) = true
+takes File (Leads first second) = false
+takes Dir (Inline bytes) = false
+takes Dir (Ctz head size) = false
+takes Dir (Leads first second) = true
+takes Super (Inline bytes) = true
+takes Super (Ctz head size) = false
+takes Super (Leads first second) = false
+
+-- the names that a kind takes: a superblock's is judged elsewhere
+abbrev pub takes_name : Kind → Name → Bool
+takes_name File name = is_name name
+takes_name Dir name = is_name name
+takes_name Super name = true
+
+-- no name, no struct, or a struct that the kind doesn't take
+abbrev pub IsIncompleteBy : Option (Kind × Name) → Option StoredBody → Type 0
+IsIncompleteBy None body = Unit {0}
+IsIncompleteBy (Some name) None = Unit {0}
+IsIncompleteBy (Some name) (Some body) = takes name.0 body ≡ false
+
+abbrev pub IsIncomplete : RawEntry → Type 0
+IsIncomplete e = IsIncompleteBy e.name e.body
+
+-- a name that no file or directory may have
+abbrev pub IsMisnamedBy : Option (Kind × Name) → Type 0
+IsMisnamedBy None = ⊥
+IsMisnamedBy (Some name) = takes_name name.0 name.1 ≡ false
+
+abbrev pub IsMisnamed : RawEntry → Type 0
+IsMisnamed e = IsMisnamedBy e.name
+
+abbrev pub whole_by : Option (Kind × Name) → Option StoredBody → Attributes → Option StoredEntry
+whole_by None body attributes = None
+whole_by (Some name) None attributes = None
+whole_by (Some name) (Some body) attributes =
+    if takes name.0 body && takes_name name.0 name.1
+    then Some (record { kind = name.0; name = name.1; body = body; attributes = attributes })
+    else None
+
+-- the entry, where it is whole
+abbrev pub whole : RawEntry → Option StoredEntry
+whole e = whole_by e.name e.body e.attributes
+
+-- all entries, where all are whole
+abbrev pub all_whole : List RawEntry → Option (List StoredEntry)
+all_whole [] = Some []
+all_whole (e ∷ es) = option_and_then (λ w. option_map (λ ws. w ∷ ws) (all_whole es)) (whole e)
+
+-- the part, where all its entries are whole
+abbrev pub whole_part : RawPart → Option StoredPart
+whole_part p = option_map (λ es. record { entries = es; tail = p.tail; delta = p.delta }) (all_whole p.entries)

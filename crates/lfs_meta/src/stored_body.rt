@@ -1,0 +1,14 @@
+//! Structs of entries.
+
+/// Where an entry's contents stand.
+///
+/// Source: SPEC.md, "Metadata types".
+#[derive(Debug, Drop)]
+pub enum Body {
+    /// The contents, of at most 1,022 bytes.
+    Inline(Vec<u8>),
+    /// A skip list: its last block, and the contents' length in bytes.
+    Ctz { head: u32, size: u32 },
+    /// The first pair of a directory.
+    Leads(u32, u32),
+}

@@ -1,0 +1,175 @@
+//! Entries made whole, with bytes of their own.
+
+ghost use Rattle.std.specs.Prelude.{◌≡◌, ◌==◌, not, ◌<◌, [], ◌∷◌, ◌++◌, length, Some, IfOk, IfErr, OnOk, All};
+ghost use Rattle.std.specs.List.{list_all, AllByRecursion};
+ghost use Rattle.lfs_meta.specs.Spelling.{IsWhole};
+ghost use Rattle.lfs_meta.specs.BodySeen.{body_seen};
+ghost use Rattle.lfs_meta.specs.BodyHeld.{body_held};
+ghost use Rattle.lfs_meta.specs.Cause.{EntryCause, EntriesCause};
+ghost use Rattle.lfs_meta.specs.Fits.{AttributeFits, BodyFits, ContentsFit, RawEntryFits, RiseFrom};
+ghost use Rattle.lfs_meta.specs.Name.{is_name};
+ghost use Rattle.lfs_meta.specs.Whole.{all_whole, takes, takes_name, whole};
+
+use crate::attribute::AttributeRef;
+use crate::body::BodyRef;
+use crate::entry::EntryDraft;
+use crate::kind::Kind;
+use crate::stored_attribute::Attribute;
+use crate::stored_body::Body;
+use crate::stored_entry::Entry;
+use lfs_block::MountFault;
+use std::alloc::{AllocError, Global};
+
+/// Whether no byte of a name is a slash.
+fn has_no_slash(name: &[u8]) -> bool
+    ensures { result ≡ list_all (λ b. not (b == 47)) name.now }
+{
+    name.iter().all(|byte| *byte != b'/')
+}
+
+/// Whether a file or a directory may have this name.
+fn is_name(name: &[u8]) -> bool
+    ensures { result ≡ is_name name.now }
+{
+    let is_some = !name.is_empty();
+    let has_slash = !has_no_slash(name);
+    let is_dot = name == b".".as_slice();
+    let is_dots = name == b"..".as_slice();
+    is_some && !has_slash && !is_dot && !is_dots
+}
+
+/// Whether a kind takes a struct.
+fn takes(kind: Kind, body: BodyRef<'_>) -> bool
+    ensures { result ≡ takes kind (body_seen body.entry) }
+{
+    match (kind, body) {
+        (Kind::File, BodyRef::Leads(..)) => false,
+        (Kind::File, _) => true,
+        (Kind::Dir, BodyRef::Leads(..)) => true,
+        (Kind::Super, BodyRef::Inline(_)) => true,
+        _ => false,
+    }
+}
+
+/// Whether a kind takes a name.
+fn takes_name(kind: Kind, name: &[u8]) -> bool
+    ensures { result ≡ takes_name kind name.now }
+{
+    match kind {
+        Kind::File | Kind::Dir => is_name(name),
+        Kind::Super => true,
+    }
+}
+
+/// A struct with bytes of its own.
+fn body_of(alloc: Global, body: BodyRef<'_>) -> Result<Body, AllocError>
+    requires { ContentsFit (body_seen body) }
+    ensures held { IfOk result (λ held. body_held held ≡ body_seen body.entry) }
+    ensures fits { IfOk result (λ held. BodyFits (body_held held)) }
+{
+    Ok(match body {
+        BodyRef::Inline(bytes) => Body::Inline(Vec::from_slice(alloc, bytes)?),
+        BodyRef::Ctz { head, size } => Body::Ctz { head, size },
+        BodyRef::Leads(first, second) => Body::Leads(first, second),
+    })
+}
+
+/// An attribute with bytes of its own.
+fn attribute_of(alloc: Global, attribute: &AttributeRef<'_>) -> Result<Attribute, AllocError>
+    requires { AttributeFits attribute.now }
+    ensures { IfOk result (λ held. held ≡ attribute.now) }
+{
+    Ok(Attribute {
+        kind: attribute.kind,
+        value: Vec::from_slice(alloc, attribute.value)?,
+    })
+}
+
+/// Attributes with bytes of their own.
+fn attributes_of(
+    alloc: Global,
+    attributes: &[AttributeRef<'_>],
+) -> Result<Vec<Attribute>, AllocError>
+    requires { All AttributeFits attributes.now }
+    ensures { IfOk result (λ held. held.items ≡ attributes.now) }
+{
+    let mut held = Vec::new(alloc);
+    for attribute in attributes {
+        held.push(attribute_of(alloc, attribute)?)?;
+    }
+    Ok(held)
+}
+
+/// The entry with bytes of its own.
+fn entry_of(
+    alloc: Global,
+    kind: Kind,
+    name: &[u8],
+    body: BodyRef<'_>,
+    attributes: &[AttributeRef<'_>],
+) -> Result<Entry, AllocError>
+    requires name { length name.now < 1023 }
+    requires contents { ContentsFit (body_seen body) }
+    requires rise { RiseFrom 0 attributes.now }
+    ensures { IfOk result (λ entry. entry ≡ record {
+      kind = kind;
+      name = name.now;
+      body = body_seen body.entry;
+      attributes = attributes.now;
+    }) }
+{
+    let name = Vec::from_slice(alloc, name)?;
+    let body = body_of(alloc, body)?;
+    let attributes = attributes_of(alloc, attributes)?;
+    Ok(Entry {
+        name,
+        kind,
+        body,
+        attributes,
+    })
+}
+
+/// The entry made whole: `IncompleteEntry` where it has no name, no struct or one that its kind doesn't take, else
+/// `BadName` where its kind doesn't take its name.
+fn whole(alloc: Global, draft: &EntryDraft<'_>) -> Result<Entry, MountFault>
+    requires { RawEntryFits draft.now }
+    ensures found { IfOk result (λ entry. whole draft.now ≡ Some entry) }
+    ensures refused { IfErr result (λ fault. EntryCause fault draft.now) }
+{
+    let Some((kind, name)) = draft.name else {
+        return Err(MountFault::IncompleteEntry);
+    };
+    let Some(body) = draft.body else {
+        return Err(MountFault::IncompleteEntry);
+    };
+    if !takes(kind, body) {
+        return Err(MountFault::IncompleteEntry);
+    }
+    if !takes_name(kind, name) {
+        return Err(MountFault::BadName);
+    }
+    entry_of(alloc, kind, name, body, &draft.attributes).map_err(|_| MountFault::Memory)
+}
+
+/// Adds an entry.
+fn keep(entries: &mut Vec<Entry>, entry: Entry) -> Result<(), MountFault>
+    ensures kept { OnOk result (entries.new.items ≡ entries.old.items ++ entry ∷ []) }
+    ensures refused { IfErr result (λ fault. fault ≡ MountFault.Memory) }
+{
+    entries.push(entry).map_err(|_| MountFault::Memory)
+}
+
+/// All entries made whole, or the fault of the first that isn't.
+pub(crate) fn all_whole(alloc: Global, drafts: &[EntryDraft<'_>]) -> Result<Vec<Entry>, MountFault>
+    requires { All RawEntryFits drafts.now }
+    ensures found { IfOk result (λ entries. all_whole drafts.now ≡ Some entries.items) }
+    ensures whole { IfOk result (λ entries. AllByRecursion IsWhole entries.items) }
+    ensures refused { IfErr result (λ fault. EntriesCause fault drafts.now) }
+{
+    let mut entries = Vec::new(alloc);
+    for draft in drafts {
+        let entry = whole(alloc, draft)?;
+        keep(&mut entries, entry)?;
+    }
+    Ok(entries)
+}
