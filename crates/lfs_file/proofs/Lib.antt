@@ -1,0 +1,5 @@
+pub mod CapacityLemmas
+pub mod ContentLemmas
+pub mod PointerLemmas
+pub mod SkipListLemmas
+pub mod WalkLemmas

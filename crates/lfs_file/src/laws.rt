@@ -1,0 +1,36 @@
+//! What holds of every chain. A function here does nothing: its contract is the law.
+
+ghost use Rattle.lfs_file.specs.Laws.{LeastIsLeast, LeastIsOne, ChainsAreFound, FoundAreChains, ChainsAreOne, ChainsDiffer, ChainsFit, ChainsStay, FoundStay, ContentStays, EmptyIsFound, ContentHasLength};
+
+/// Law: the number of blocks that a file takes is the least that hold it, and the only least one.
+pub fn least_blocks_law()
+    ensures least { LeastIsLeast }
+    ensures one { LeastIsOne }
+{}
+
+/// Law: the chain that is found is a chain, every chain is found, a file has one at most, and a file of no
+/// bytes has the chain of no blocks.
+pub fn one_chain_law()
+    ensures found { ChainsAreFound }
+    ensures chain { FoundAreChains }
+    ensures one { ChainsAreOne }
+    ensures empty { EmptyIsFound }
+{}
+
+/// Law: the blocks of a chain are on the disk and differ, so that they are no more than the disk has.
+pub fn chain_blocks_law()
+    ensures differ { ChainsDiffer }
+    ensures fit { ChainsFit }
+{}
+
+/// Law: a chain and its content depend on the chain's own blocks alone.
+pub fn chain_stays_law()
+    ensures chain { ChainsStay }
+    ensures found { FoundStay }
+    ensures content { ContentStays }
+{}
+
+/// Law: the content of a file has the file's length.
+pub fn content_length_law()
+    ensures { ContentHasLength }
+{}
