@@ -1,0 +1,13 @@
+pub mod NameOrderLemmas
+pub mod FrontLemmas
+pub mod ThreadLemmas
+pub mod FormattedLemmas
+pub mod RowLemmas
+pub mod RootMountLemmas
+pub mod EmptyRootLemmas
+pub mod OneMountLemmas
+pub mod PrefixLemmas
+pub mod StoredLemmas
+pub mod CountLemmas
+pub mod InVolumeLemmas
+pub mod NoCauseLemmas

@@ -1,0 +1,88 @@
+-- A map from paths has one list of rows.
+use Rattle.std.proofs.Common.{◌≡◌, ◌⊎◌, Bool, true, false, List, [], ◌∷◌, refl, arith, sym, subst, zero, suc, get_or}
+use Rattle.std.specs.Prelude.{Option, Some, None, bytes_eq, if◌then◌else◌}
+use Rattle.std.specs.Option.{option_map}
+use Rattle.std.specs.List.{All, Contains}
+use Rattle.std.proofs.lemmas.List.Elements.{All-contains, All-tail, All-head}
+use Rattle.std.proofs.lemmas.Bool.Decides.{same_from_decides, Decides-like}
+use Rattle.std.proofs.lemmas.Slice.Eq.{bytes_eq-Decides}
+use mathlib.Core.Logic.{inl, inr}
+use Rattle.lfs_meta.specs.Name.{Name}
+use Rattle.lfs_fs.specs.NameOrder.{precedes}
+use Rattle.lfs_fs.specs.Path.{Path}
+use Rattle.lfs_fs.specs.Entry.{Entry}
+use Rattle.lfs_fs.specs.Row.{path_precedes, Row, row_of, RowsRise, AreRows, RowsAreUnique}
+use Rattle.lfs_fs.proofs.NameOrderLemmas.{precedes_irreflexive, precedes_transitive}
+
+-- two names don't precede each other
+names_not_both : (n m : Name) → precedes n m ≡ true → precedes m n ≡ true → ⊥
+names_not_both n m h k = cc (precedes_transitive n m n h k, precedes_irreflexive n)
+
+same_either_way : (n m : Name) → bytes_eq n m ≡ bytes_eq m n
+same_either_way n m = same_from_decides (bytes_eq n m) (bytes_eq m n) (bytes_eq-Decides n m) (Decides-like (bytes_eq m n) sym sym (bytes_eq-Decides m n))
+
+-- by the first names, or by the rest
+both_by_names : (same back : Bool) (n m : Name) (p q : Path) → same ≡ back → (same ≡ true → n ≡ m) → (if same then path_precedes p q else precedes n m) ≡ true → (if back then path_precedes q p else precedes m n) ≡ true → (path_precedes p q ≡ true → path_precedes q p ≡ true → ⊥) → ⊥
+both_by_names true true n m p q both is h k rest = rest h k
+both_by_names false false n m p q both is h k rest = names_not_both n m h k
+both_by_names true false n m p q both is h k rest = cc
+both_by_names false true n m p q both is h k rest = cc
+
+-- two paths don't precede each other
+paths_not_both : (p q : Path) → path_precedes p q ≡ true → path_precedes q p ≡ true → ⊥
+paths_not_both [] [] h k = cc
+paths_not_both [] (m ∷ q) h k = cc
+paths_not_both (n ∷ p) [] h k = cc
+paths_not_both (n ∷ p) (m ∷ q) h k = both_by_names (bytes_eq n m) (bytes_eq m n) n m p q (same_either_way n m) (bytes_eq-Decides n m).0 h k (paths_not_both p q)
+
+-- an element of a list is its first one or one of the others
+contains_cases : {X : Type 0} (y : X) (ys : List X) (x : X) → Contains (y ∷ ys) x → (x ≡ y) ⊎ Contains ys x
+contains_cases y ys x (zero, within, is) = inl (sym is)
+contains_cases y ys x (suc k, within, is) = inr (k, omega arith, is)
+
+contains_none : {X : Type 0} (x : X) → Contains [] x → ⊥
+contains_none x h = omega arith
+
+-- what is in a list is its first row, or comes after it
+after_first : (r : Row) (rows : List Row) (x : Row) → RowsRise (r ∷ rows) → Contains (r ∷ rows) x → (x ≡ r) ⊎ (path_precedes r.path x.path ≡ true)
+after_first r rows x h there = elim (contains_cases r rows x there) [ inl same ↦ inl same | inr later ↦ inr (All-contains (λ (y : Row). path_precedes r.path y.path ≡ true) rows x h.0 later) ]
+
+-- two lists with the same rows begin with the same one
+first_same : (r s : Row) → (s ≡ r) ⊎ (path_precedes r.path s.path ≡ true) → (r ≡ s) ⊎ (path_precedes s.path r.path ≡ true) → r ≡ s
+first_same r s (inl same) more = sym same
+first_same r s (inr before) (inl same) = same
+first_same r s (inr before) (inr after) = absurd (paths_not_both r.path s.path before after)
+
+-- all but the first rows are among all but the first
+others_contained : (r : Row) (rows others : List Row) → RowsRise (r ∷ rows) → All (Contains (r ∷ others)) (r ∷ rows) → All (Contains others) rows
+others_contained r rows others h there k d within =
+    let x = get_or rows k d in
+    let later : path_precedes r.path x.path ≡ true = h.0 k d within in
+    elim (contains_cases r others x (All-tail (Contains (r ∷ others)) r rows there k d within)) [ inl same ↦ absurd (paths_not_both r.path x.path later (subst (λ (y : Row). path_precedes y.path r.path ≡ true) (sym same) (subst (λ (y : Row). path_precedes r.path y.path ≡ true) same later))) | inr there' ↦ there' ]
+
+-- two rising lists with the same rows are the same
+rows_same : (rows others : List Row) → RowsRise rows → RowsRise others → All (Contains others) rows → All (Contains rows) others → rows ≡ others
+rows_same [] [] h k there back = refl
+rows_same [] (s ∷ others) h k there back = absurd (contains_none s (All-head (Contains []) s others back))
+rows_same (r ∷ rows) [] h k there back = absurd (contains_none r (All-head (Contains []) r rows there))
+rows_same (r ∷ rows) (s ∷ others) h k there back =
+    let same : r ≡ s = first_same r s (after_first r rows s h (All-head (Contains (r ∷ rows)) s others back)) (after_first s others r k (All-head (Contains (s ∷ others)) r rows there)) in
+    let k' : RowsRise (r ∷ others) = subst (λ (x : Row). RowsRise (x ∷ others)) (sym same) k in
+    let there' : All (Contains (r ∷ others)) (r ∷ rows) = subst (λ (x : Row). All (Contains (x ∷ others)) (r ∷ rows)) (sym same) there in
+    let back' : All (Contains (r ∷ rows)) (r ∷ others) = subst (λ (x : Row). All (Contains (r ∷ rows)) (x ∷ others)) (sym same) back in
+    let tails : rows ≡ others = rows_same rows others h.1 k'.1 (others_contained r rows others h there') (others_contained r others rows k' back') in
+    cc
+
+-- a row of a map from paths is the row of what stands at its path
+row_from_map : (at : Path → Option Entry) (r : Row) (here : Option Entry) (others : List Row) → here ≡ at r.path → AreRows at others → option_map (row_of r.path) here ≡ Some r → Contains others r
+row_from_map at r None others is h right = cc
+row_from_map at r (Some e) others is h right =
+    let same : row_of r.path e ≡ r = cc in
+    subst (Contains others) same (h.whole r.path e (sym is))
+
+-- each row of one list is a row of the other
+rows_contained : (at : Path → Option Entry) (rows others : List Row) → AreRows at rows → AreRows at others → All (Contains others) rows
+rows_contained at rows others h k i d within = row_from_map at (get_or rows i d) (at (get_or rows i d).path) others refl k (h.right i d within)
+
+pub rows_are_unique : RowsAreUnique
+rows_are_unique at rows others h k = rows_same rows others h.rise k.rise (rows_contained at rows others h k) (rows_contained at others rows k h)

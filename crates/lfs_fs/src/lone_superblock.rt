@@ -1,0 +1,11 @@
+//! An image whose root's first pair holds a superblock alone.
+
+ghost use Rattle.lfs_fs.specs.LoneSuperblock.{LoneSuperblockMounts};
+
+/// A law: an image whose root's first pair holds a superblock alone, with a version, a geometry and limits that are
+/// edited and attributes within them, mounts to the root alone. Takes no memory.
+///
+/// Source: own.
+pub fn lone_superblock_mounts()
+    ensures { LoneSuperblockMounts }
+{}

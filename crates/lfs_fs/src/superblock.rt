@@ -1,0 +1,96 @@
+//! The superblock of an image.
+
+ghost use Rattle.std.specs.Prelude.{◌≡◌, ◌≤◌, ◌<◌, ◌+◌, ◌*◌, ℕ, List, [], All, IfOk, IfErr, IfSome, IfNone, IsTrue, MatchBool, ◌↔◌, length};
+ghost use Rattle.std.specs.List.{Any};
+ghost use Rattle.lfs_fs.specs.Header.{IsHeader, HeaderCause};
+ghost use Rattle.lfs_fs.specs.EmptyRoot.{IsSuperblock};
+ghost use Rattle.lfs_fs.specs.Superblock.{IsLimits, header_of, word_at};
+
+use crate::limits::Limits;
+use byteorder::{ByteOrder, LittleEndian};
+use lfs_block::MountFault;
+use lfs_meta::{Attribute, Body, Entry, Kind};
+
+/// The superblock's name.
+const NAME: [u8; 8] = *b"littlefs";
+/// The length of its struct, in bytes.
+const LEN: usize = 24;
+/// Version 2.0 of the disk format.
+const VERSION: u32 = 0x0002_0000;
+/// The greatest limit of a name, in bytes.
+const MAX_NAME: u32 = 1_022;
+/// The greatest limit of a file, in bytes.
+const MAX_FILE: u32 = 2_147_483_647;
+/// The greatest limit of an attribute, in bytes.
+const MAX_ATTRIBUTE: u32 = 1_022;
+
+/// The struct of an entry, where the entry is a superblock.
+pub(crate) fn struct_of(entry: &Entry) -> Option<&[u8]>
+    ensures found { IfSome result (λ bytes. IsSuperblock entry.now bytes.now) }
+    ensures none { IfNone result ((bytes : List ℕ) → IsSuperblock entry.now bytes → ⊥) }
+{
+    let Body::Inline(bytes) = &entry.body else {
+        return None;
+    };
+    if entry.kind == Kind::Super && entry.name.as_slice() == NAME.as_slice() && bytes.len() == LEN {
+        Some(bytes)
+    } else {
+        None
+    }
+}
+
+/// One of the words of a superblock's struct.
+fn word_at(bytes: &[u8], index: usize) -> u32
+    requires { 4 * index + 4 ≤ length bytes.now }
+    ensures { result ≡ word_at bytes.now index }
+{
+    let at = 4 * index;
+    LittleEndian::read_u32(&bytes[at..at + 4])
+}
+
+/// Whether the three limits are within their ranges.
+fn are_limits(limits: Limits) -> bool
+    ensures { IsTrue result ↔ IsLimits limits }
+{
+    (1..=MAX_NAME).contains(&limits.name)
+        && (1..=MAX_FILE).contains(&limits.file)
+        && (1..=MAX_ATTRIBUTE).contains(&limits.attribute)
+}
+
+/// The limits that a superblock's struct says, where its version and geometry are those of an image of `count` blocks
+/// of `size` bytes and its limits are within their ranges.
+pub(crate) fn limits_of(bytes: &[u8], size: u32, count: u32) -> Result<Limits, MountFault>
+    requires { length bytes.now ≡ 24 }
+    ensures good { IfOk result (λ limits. IsHeader size count bytes.now) }
+    ensures limits { IfOk result (λ limits. limits ≡ (header_of bytes.now []).limits) }
+    ensures refused { IfErr result (λ fault. HeaderCause fault size count bytes.now) }
+{
+    if word_at(bytes, 0) != VERSION {
+        return Err(MountFault::Version);
+    }
+    if word_at(bytes, 1) != size || word_at(bytes, 2) != count {
+        return Err(MountFault::Geometry);
+    }
+    let limits = Limits {
+        name: word_at(bytes, 3),
+        file: word_at(bytes, 4),
+        attribute: word_at(bytes, 5),
+    };
+    if are_limits(limits) {
+        Ok(limits)
+    } else {
+        Err(MountFault::Limits)
+    }
+}
+
+/// Whether no attribute is longer than the limit.
+pub(crate) fn are_within(attributes: &[Attribute], limit: u32) -> bool
+    ensures { MatchBool result (All (λ a. length a.1 ≤ limit) attributes.now) (Any (λ a. limit < length a.1) attributes.now) }
+{
+    'each: for attribute in attributes {
+        if attribute.value.len() > limit as usize {
+            return false;
+        }
+    }
+    true
+}

@@ -1,0 +1,10 @@
+//! The thread of an image.
+
+ghost use Rattle.lfs_fs.specs.Thread.{PiecesOfLinks};
+
+/// A law: the directories that a thread makes are those that it was written for. Takes no memory.
+///
+/// Source: own.
+pub fn pieces_of_links()
+    ensures { PiecesOfLinks }
+{}
