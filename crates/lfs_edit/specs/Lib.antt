@@ -1,0 +1,3 @@
+pub mod Faults
+pub mod Formatted
+pub mod SuperblockBytes

@@ -1,0 +1,40 @@
+//! A new image.
+
+ghost use Rattle.std.specs.Prelude.{◌≡◌, ◌+◌, ◌-◌, ◌≤◌, ◌++◌, length, replicate, IfOk, IfErr};
+ghost use Rattle.lfs_block.specs.Bytes.{IsBytes};
+ghost use Rattle.lfs_block.specs.Geometry.{IsGeometry};
+ghost use Rattle.lfs_edit.specs.Formatted.{IsFormatted};
+
+use crate::refusal::Refusal;
+use crate::superblock::new_superblock;
+use lfs_fs::lone_superblock_mounts;
+use lfs_meta::{Tail, first_block};
+use std::alloc::{AllocError, Global};
+
+/// Bytes filled up with erased ones.
+fn filled(mut bytes: Vec<u8>, len: usize) -> Result<Vec<u8>, AllocError>
+    requires { length bytes.items ≤ len }
+    ensures filled { IfOk result (λ all. all.items ≡ bytes.items ++ replicate (len - length bytes.items) 0xff) }
+    ensures bytes { IfOk result (λ all. IsBytes bytes.items) }
+{
+    bytes.resize(len, 0xff)?;
+    Ok(bytes)
+}
+
+/// A new image of `count` blocks of `size` bytes, which mounts to the root alone. Names may have 255 bytes, files
+/// 2,147,483,647 and attributes 1,022. Block 0 holds the superblock behind revision 1; all other bytes are 0xff. The
+/// caller owes a good geometry; the only refusal is `Memory`.
+///
+/// Source: own.
+pub fn format(alloc: Global, size: u32, count: u32) -> Result<Vec<u8>, Refusal>
+    requires { IsGeometry size count }
+    ensures image { IfOk result (λ bytes. IsFormatted size count bytes.items) }
+    ensures refused { IfErr result (λ refusal. refusal ≡ Refusal.Memory) }
+{
+    lone_superblock_mounts();
+    let entries = [new_superblock(alloc, size, count)?];
+    let Some(root) = first_block(alloc, size, &entries, Tail::End) else {
+        return Err(Refusal::Memory);
+    };
+    Ok(filled(root, size as usize * count as usize)?)
+}
