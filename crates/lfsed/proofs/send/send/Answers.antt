@@ -1,0 +1,19 @@
+use Rattle.std.proofs.Common.{rules, ◌≡◌, ◌+◌, ◌-◌, length, drop, ap, ◌∙◌, arith, length-drop}
+use Rattle.std.proofs.lemmas.List.{drop-drop}
+use Rattle.lfsed.proofs.SendLemmas.{sends_more}
+use Rattle.lfsed.proofs.send.send.Goals as goal
+
+pub rest-preserved : goal.rest-preserved
+rest-preserved g c =
+    let n = c.rest.invariant.0 in
+    let k = c.in-Some.count in
+    let text = c.args.text.now in
+    let at : c.rest.rest.now ≡ drop n text = c.rest.invariant.2 in
+    let left : length (drop n text) ≡ length text - n = length-drop n text in
+    let same : length c.rest.rest.now ≡ length (drop n text) = ap length at in (
+      n + k,
+      omega arith,
+      c.split_at.ensures.back ∙ ap (drop k) at ∙ drop-drop k n text,
+      sends_more _ _ _ text c.rest.rest.now n k at c.rest.invariant.3 c.in-Some.ensures.sent,
+      search rules,
+    )

@@ -1,0 +1,4 @@
+pub mod Fault
+pub mod Outcome
+pub mod Send
+pub mod Summary

@@ -1,0 +1,95 @@
+//! The command line.
+
+use crate::step::Step;
+use clap::{Arg, ArgMatches, Command, value_parser};
+use std::alloc::{AllocError, Global};
+
+/// What the statuses mean.
+const STATUSES: &str = "Status: 0 done; 1 the change is refused; 2 the command line is refused;
+3 the image is refused; 4 out of memory, or a file is not read or written.";
+
+/// What a command line asks for.
+///
+/// Source: own.
+#[derive(Drop)]
+pub struct Request<'a> {
+    /// What is to be done.
+    pub step: Step,
+    /// The block size, in bytes.
+    pub size: u32,
+    /// The image's file name.
+    pub image: &'a str,
+}
+
+/// The option that gives the block size.
+fn block_option<'a>(alloc: Global) -> Arg<'a> {
+    Arg::new(alloc, "block")
+        .long("block")
+        .value_name("BYTES")
+        .value_parser(value_parser!(u32).range(256..=65_536))
+        .default_value("4096")
+        .help("Size of a block, a multiple of 16 from 256 to 65536")
+}
+
+/// The option that gives the number of blocks.
+fn count_option<'a>(alloc: Global) -> Arg<'a> {
+    Arg::new(alloc, "count")
+        .long("count")
+        .value_name("N")
+        .value_parser(value_parser!(u32).range(2..=65_536))
+        .required(true)
+        .help("Number of blocks, from 2 to 65536; at most 67108864 bytes in all")
+}
+
+/// The image's file name.
+fn image_argument<'a>(alloc: Global) -> Arg<'a> {
+    Arg::new(alloc, "image")
+        .value_name("IMAGE")
+        .required(true)
+        .help("File of the image")
+}
+
+/// The command `format`.
+fn format_command<'a>(alloc: Global) -> Result<Command<'a>, AllocError> {
+    Command::new(alloc, "format")
+        .about("Write a new image, in place of a file of this name")
+        .arg(block_option(alloc))?
+        .arg(count_option(alloc))?
+        .arg(image_argument(alloc))
+}
+
+/// The command `check`.
+fn check_command<'a>(alloc: Global) -> Result<Command<'a>, AllocError> {
+    Command::new(alloc, "check")
+        .about("Judge an image; print its geometry, free blocks, directories and files")
+        .arg(block_option(alloc))?
+        .arg(image_argument(alloc))
+}
+
+/// The program's command line.
+pub fn command_line<'a>(alloc: Global) -> Result<Command<'a>, AllocError> {
+    Command::new(alloc, "lfsed")
+        .bin_name("lfsed")?
+        .about("Edit littlefs images of disk version 2.0")
+        .after_help(STATUSES)
+        .subcommand_required(true)
+        .disable_help_subcommand(true)
+        .subcommand(format_command(alloc)?)?
+        .subcommand(check_command(alloc)?)
+}
+
+/// What the words that were matched ask for. `None` where they ask for nothing.
+pub fn requested<'a>(matches: &ArgMatches<'a>) -> Option<Request<'a>> {
+    let (name, options) = matches.subcommand()?;
+    let step = match name {
+        "format" => Step::Format {
+            count: options.get_one::<u32>("count")?,
+        },
+        _ => Step::Check,
+    };
+    Some(Request {
+        step,
+        size: options.get_one::<u32>("block")?,
+        image: options.get_str("image")?,
+    })
+}

@@ -1,0 +1,65 @@
+//! The system as a host.
+
+use crate::host::{Host, HostFault, ReadFault};
+use crate::sink::Sink;
+use crate::writer_sink::Out;
+use std::alloc::Global;
+use std::fmt::Display;
+use std::io::{ErrorKind, Printer};
+use std::{fs, io};
+
+/// The system's files, standard output and standard error.
+///
+/// Source: own.
+#[derive(Drop)]
+pub struct Terminal<'a> {
+    rt: &'a HostRuntime,
+    out: Out<Printer<'a, HostRuntime>>,
+}
+
+impl<'a> Terminal<'a> {
+    /// The host that the runtime stands for. Takes no memory.
+    pub fn new(rt: &'a HostRuntime) -> Terminal<'a> {
+        Terminal {
+            rt,
+            out: Out::new(io::writer(rt)),
+        }
+    }
+}
+
+impl Host for Terminal<'_> {
+    fn read(&mut self, _alloc: Global, name: &str) -> Result<Vec<u8>, ReadFault> {
+        fs::read(self.rt, name).map_err(|error| match error.kind() {
+            ErrorKind::OutOfMemory => ReadFault::Memory,
+            _ => ReadFault::CannotRead,
+        })
+    }
+
+    fn write(&mut self, name: &str, bytes: &[u8]) -> Result<(), HostFault> {
+        fs::write(self.rt, name, bytes).map_err(|_| HostFault)
+    }
+
+    fn rename(&mut self, from: &str, to: &str) -> Result<(), HostFault> {
+        fs::rename(self.rt, from, to).map_err(|_| HostFault)
+    }
+
+    fn print(&mut self, bytes: &[u8]) -> Option<usize> {
+        if self.out.has_failed() {
+            None
+        } else {
+            self.out.write(bytes)
+        }
+    }
+
+    fn flush(&mut self) -> Result<(), HostFault> {
+        if self.out.flush() {
+            Ok(())
+        } else {
+            Err(HostFault)
+        }
+    }
+
+    fn complain<D: Display + Drop>(&mut self, text: D) {
+        let _ = self.rt.eprint(text);
+    }
+}

@@ -1,0 +1,9 @@
+//! Runs of the program on a host in memory, and writers that misbehave.
+
+mod faults;
+mod host_faults;
+mod images;
+mod memory_host;
+mod usage;
+mod verdicts;
+mod writer_sink;

@@ -1,0 +1,110 @@
+//! Command lines that are refused, and help.
+
+use crate::tests::memory_host::MemoryHost;
+
+#[test]
+fn refused_command_lines(rt: HostRuntime) {
+    let rows = [
+        (
+            ["lfsed"].as_slice(),
+            "error: 'lfsed' requires a subcommand but one was not provided\n",
+        ),
+        (
+            &["lfsed", "frob"],
+            "error: unrecognized subcommand 'frob'\n",
+        ),
+        (
+            &["lfsed", "help"],
+            "error: unrecognized subcommand 'help'\n",
+        ),
+        (
+            &["lfsed", "format", "a.img"],
+            "error: the following required arguments were not provided:\n  --count <N>\n",
+        ),
+        (
+            &["lfsed", "format", "--count", "8"],
+            "error: the following required arguments were not provided:\n  <IMAGE>\n",
+        ),
+        (
+            &["lfsed", "format", "--count", "1", "a.img"],
+            "error: invalid value '1' for '--count <N>': 1 is not in 2..=65536\n",
+        ),
+        (
+            &["lfsed", "format", "--count", "eight", "a.img"],
+            "error: invalid value 'eight' for '--count <N>': invalid digit found in string\n",
+        ),
+        (
+            &["lfsed", "format", "--block", "255", "--count", "8", "a.img"],
+            "error: invalid value '255' for '--block <BYTES>': 255 is not in 256..=65536\n",
+        ),
+        (
+            &["lfsed", "check", "--block", "65537", "a.img"],
+            "error: invalid value '65537' for '--block <BYTES>': 65537 is not in 256..=65536\n",
+        ),
+        (
+            &["lfsed", "check", "a.img", "b.img"],
+            "error: unexpected argument 'b.img' found\n",
+        ),
+    ];
+    for (words, text) in rows {
+        let mut host = MemoryHost::new(rt.alloc());
+        assert_eq!(rt; host.run(words), 2, "{text}");
+        assert!(rt; host.complained.as_str().starts_with(text), "{text}");
+        assert!(rt; host.printed.is_empty());
+    }
+}
+
+const HELP: &str = "Edit littlefs images of disk version 2.0
+
+Usage: lfsed <COMMAND>
+
+Commands:
+  format  Write a new image, in place of a file of this name
+  check   Judge an image; print its geometry, free blocks, directories and files
+
+Options:
+  -h, --help  Print help
+
+Status: 0 done; 1 the change is refused; 2 the command line is refused;
+3 the image is refused; 4 out of memory, or a file is not read or written.
+";
+
+const FORMAT_HELP: &str = "Write a new image, in place of a file of this name
+
+Usage: lfsed format [OPTIONS] --count <N> <IMAGE>
+
+Arguments:
+  <IMAGE>  File of the image
+
+Options:
+      --block <BYTES>  Size of a block, a multiple of 16 from 256 to 65536 [default: 4096]
+      --count <N>      Number of blocks, from 2 to 65536; at most 67108864 bytes in all
+  -h, --help           Print help
+";
+
+const CHECK_HELP: &str = "Judge an image; print its geometry, free blocks, directories and files
+
+Usage: lfsed check [OPTIONS] <IMAGE>
+
+Arguments:
+  <IMAGE>  File of the image
+
+Options:
+      --block <BYTES>  Size of a block, a multiple of 16 from 256 to 65536 [default: 4096]
+  -h, --help           Print help
+";
+
+#[test]
+fn help_goes_to_standard_output(rt: HostRuntime) {
+    let rows = [
+        (["lfsed", "--help"].as_slice(), HELP),
+        (&["lfsed", "format", "--help"], FORMAT_HELP),
+        (&["lfsed", "check", "--help"], CHECK_HELP),
+    ];
+    for (words, text) in rows {
+        let mut host = MemoryHost::new(rt.alloc());
+        assert_eq!(rt; host.run(words), 0);
+        assert!(rt; host.printed.as_slice() == text.as_bytes());
+        assert!(rt; host.complained.is_empty());
+    }
+}

@@ -1,0 +1,73 @@
+//! Writers that misbehave.
+
+use crate::send::send;
+use crate::writer_sink::Out;
+use std::io;
+use std::io::{ErrorKind, Write};
+use std::test::Fail;
+
+/// How a writer answers a write.
+#[derive(Clone, Copy)]
+enum Reply {
+    Takes(usize),
+    Interrupts,
+    Fails,
+}
+
+/// A writer that answers by a list, and then takes all.
+#[derive(Drop)]
+struct Scripted<'a> {
+    replies: &'a [Reply],
+    written: Vec<u8>,
+}
+
+impl Write for Scripted<'_> {
+    fn write(&mut self, bytes: &[u8]) -> io::Result<usize> {
+        let reply = match self.replies.split_first() {
+            Some((reply, others)) => {
+                self.replies = others;
+                *reply
+            }
+            None => Reply::Takes(bytes.len()),
+        };
+        match reply {
+            Reply::Takes(count) => {
+                let count = count.min(bytes.len());
+                self.written.extend_from_slice(&bytes[..count])?;
+                Ok(count)
+            }
+            Reply::Interrupts => Err(io::Error::from(ErrorKind::Interrupted)),
+            Reply::Fails => Err(io::Error::from(ErrorKind::StorageFull)),
+        }
+    }
+
+    fn flush(&mut self) -> io::Result<()> {
+        Err(io::Error::from(ErrorKind::StorageFull))
+    }
+}
+
+#[test]
+fn writers_that_misbehave(rt: HostRuntime) -> Result<(), Fail> {
+    let rows = [
+        ([Reply::Takes(3), Reply::Takes(2)], true, "littlefs"),
+        ([Reply::Takes(3), Reply::Takes(0)], false, "lit"),
+        ([Reply::Takes(0), Reply::Takes(8)], false, ""),
+        ([Reply::Fails, Reply::Takes(8)], false, ""),
+        ([Reply::Takes(7), Reply::Fails], false, "littlef"),
+        ([Reply::Interrupts, Reply::Interrupts], true, "littlefs"),
+        ([Reply::Interrupts, Reply::Fails], false, ""),
+        ([Reply::Takes(1), Reply::Interrupts], true, "littlefs"),
+    ];
+    for (replies, whole, text) in rows {
+        let mut writer = Scripted {
+            replies: &replies,
+            written: Vec::new(rt.alloc()),
+        };
+        let mut out = Out::new(&mut writer);
+        assert_eq!(rt; send(&mut out, b"littlefs"), whole);
+        assert_eq!(rt; out.has_failed(), !whole);
+        assert!(rt; !out.flush());
+        assert!(rt; writer.written.as_slice() == text.as_bytes());
+    }
+    Ok(())
+}

@@ -1,0 +1,67 @@
+//! A sink over a writer.
+
+ghost use Rattle.std.specs.Prelude.{◌≡◌, false};
+ghost use Rattle.std.specs.Io.KnownBytes.{Keeps};
+
+use crate::sink::Sink;
+use std::io::{ErrorKind, Write};
+
+/// A sink over one of std's writers. A write that is interrupted is tried again. The sink fails where the writer fails
+/// or takes no byte.
+///
+/// Source: own.
+#[derive(Drop)]
+pub struct Out<W> {
+    writer: W,
+    has_failed: bool,
+}
+
+impl<W: Write> Out<W> {
+    /// A sink over `writer`, which has not failed. Takes no memory.
+    pub fn new(writer: W) -> Out<W>
+        ensures sent { ⟦<Out<W> as Sink>⟧.sent result ≡ W.contents writer }
+        ensures failed { ⟦<Out<W> as Sink>⟧.failed result ≡ false }
+    {
+        Out {
+            writer,
+            has_failed: false,
+        }
+    }
+
+    /// Whether it has failed. Takes no memory.
+    pub fn has_failed(&self) -> bool
+        ensures { result ≡ ⟦<Out<W> as Sink>⟧.failed self.now }
+    {
+        self.has_failed
+    }
+
+    /// Flushes the writer, and answers whether that went well. Takes no memory.
+    pub fn flush(&mut self) -> bool
+        ensures failed { ⟦<Out<W> as Sink>⟧.failed self.new ≡ ⟦<Out<W> as Sink>⟧.failed self.old }
+        ensures sent { Keeps (⟦<Out<W> as Sink>⟧.sent self.old) (⟦<Out<W> as Sink>⟧.sent self.new) }
+    {
+        self.writer.flush().is_ok()
+    }
+}
+
+impl<W: Write> Sink for Out<W> {
+    ghost sent = { λ out. W.contents out.writer };
+
+    ghost failed = { λ out. out.has_failed };
+
+    fn write(&mut self, bytes: &[u8]) -> Option<usize> {
+        'tries: for _ in 0..u64::MAX {
+            match self.writer.write(bytes) {
+                Ok(0) => break,
+                Ok(count) => return Some(count),
+                Err(error) => {
+                    if error.kind() != ErrorKind::Interrupted {
+                        break;
+                    }
+                }
+            }
+        }
+        self.has_failed = true;
+        None
+    }
+}
