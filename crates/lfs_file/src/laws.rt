@@ -34,3 +34,17 @@ pub fn chain_stays_law()
 pub fn content_length_law()
     ensures { ContentHasLength }
 {}
+
+#[cfg(test)]
+mod tests {
+    use super::*;
+
+    #[test]
+    fn laws_of_chains(_rt: HostRuntime) {
+        least_blocks_law();
+        one_chain_law();
+        chain_blocks_law();
+        chain_stays_law();
+        content_length_law();
+    }
+}

@@ -1,8 +1,8 @@
 //! Vectors from outside: the blocks' bytes were put together by hand, tag by tag, each behind its comment.
 
 use crate::{
-    Action, BodyRef, EntryDraft, Kind, PartDraft, Tail, is_later, live, read_draft, replayed,
-    revision,
+    Action, BodyRef, EntryDraft, Kind, PartDraft, Tail, is_later, live, names_are_decided,
+    parts_depend_on_their_blocks, read_draft, replayed, revision, unread_pairs_hold_no_part,
 };
 use lfs_block::{Image, MountFault};
 use lfs_tag::{Log, NO_ID, Tag};
@@ -251,4 +251,11 @@ fn refused_tags(rt: HostRuntime) {
     }
     assert_eq!(rt; Action::of(0x100), None);
     assert!(rt; EntryDraft::blank(rt.alloc()).name.is_none());
+}
+
+#[test]
+fn laws_of_what_is_read(_rt: HostRuntime) {
+    names_are_decided();
+    parts_depend_on_their_blocks();
+    unread_pairs_hold_no_part();
 }

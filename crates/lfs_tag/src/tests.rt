@@ -175,3 +175,15 @@ fn hands_out_the_tags_of_all_commits(rt: HostRuntime) {
     }
     assert!(rt; tags.next().is_none());
 }
+
+#[test]
+fn laws_of_logs(_rt: HostRuntime) {
+    laws::one_log();
+    laws::log_is_read();
+    laws::log_tags_are_items();
+    laws::erased_holds_no_commit();
+    laws::erased_block();
+    laws::first_commit();
+    laws::next_commit();
+    laws::written_length();
+}
