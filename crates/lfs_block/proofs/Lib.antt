@@ -1,1 +1,5 @@
 pub mod ChecksumLemmas
+pub mod DiskLemmas
+pub mod PatchLemmas
+pub mod PutLemmas
+pub mod WritingLemmas

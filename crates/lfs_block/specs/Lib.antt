@@ -1,6 +1,9 @@
 pub mod Bytes
+pub mod Change
 pub mod Checksum
 pub mod Disk
 pub mod Faults
 pub mod Geometry
 pub mod ImageFault
+pub mod Patch
+pub mod PatchLaws

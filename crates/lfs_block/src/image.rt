@@ -6,6 +6,7 @@ use crate::geometry::{
 };
 use crate::image_fault::ImageFault;
 use std::marker::Model;
+use std::ops::Range;
 
 /// An image: its bytes, cut into blocks of one size. Its meaning is a `Disk` whose geometry is within the limits.
 ///
@@ -28,8 +29,8 @@ impl Model for Image {
 }
 
 impl Image {
-    ghost use Rattle.std.specs.Prelude.{◌≡◌, IfOk, IfErr};
-    ghost use Rattle.lfs_block.specs.Disk.{IsDisk};
+    ghost use Rattle.std.specs.Prelude.{◌≡◌, ◌<◌, ◌≤◌, ◌+◌, ◌*◌, length, IfOk, IfErr};
+    ghost use Rattle.lfs_block.specs.Disk.{IsDisk, put};
     ghost use Rattle.lfs_block.specs.ImageFault.{IsNoImage};
 
     /// The image of `bytes`, cut into blocks of `size` bytes. A refusal hands the bytes back: `BadGeometry` where the
@@ -61,6 +62,29 @@ impl Image {
         })
     }
 
+    /// Where block `n` stands in the bytes.
+    fn place_of(&self, n: u32) -> Range<usize>
+        requires { n < self.now.count }
+        ensures disk { IsDisk self.now }
+        ensures start { result.start ≡ n * self.now.size }
+        ensures end { result.end ≡ n * self.now.size + self.now.size }
+        ensures within { result.end ≤ length self.now.bytes }
+    {
+        let start = n as usize * self.size as usize;
+        start..start + self.size as usize
+    }
+
+    /// Writes `bytes` over block `n`. The caller owes that there is such a block, and as many bytes as it has. Takes no
+    /// memory.
+    pub(crate) fn write_block(&mut self, n: u32, bytes: &[u8])
+        requires within { n < self.old.count }
+        requires whole { length bytes.now ≡ self.old.size }
+        ensures { self.new ≡ put n bytes.now self.old }
+    {
+        let place = self.place_of(n);
+        self.bytes[place].copy_from_slice(bytes);
+    }
+
     /// The image's bytes. Takes no memory.
     pub fn into_bytes(self) -> Vec<u8>
         ensures { result.items ≡ self.bytes }
@@ -86,8 +110,6 @@ impl Blocks for Image {
     }
 
     fn block(&self, n: u32) -> &[u8] {
-        let start = n as usize * self.size as usize;
-        let end = start + self.size as usize;
-        &self.bytes[start..end]
+        &self.bytes[self.place_of(n)]
     }
 }

@@ -1,5 +1,5 @@
-//! The lowest layer: an image as numbered blocks of bytes, the checksum of metadata, and the faults
-//! for which an image is refused.
+//! The lowest layer: an image as numbered blocks of bytes, exact changes of it, the checksum of metadata, and the
+//! faults for which an image is refused.
 #![tactic(auto)]
 
 mod blocks;
@@ -8,6 +8,11 @@ mod geometry;
 mod image;
 mod image_fault;
 mod mount_fault;
+mod patch;
+mod patch_laws;
+#[cfg(test)]
+mod patch_tests;
+mod record;
 #[cfg(test)]
 mod tests;
 
@@ -17,3 +22,8 @@ pub use geometry::geometry_ok;
 pub use image::Image;
 pub use image_fault::ImageFault;
 pub use mount_fault::MountFault;
+pub use patch::Patch;
+pub use patch_laws::{
+    applied_law, apply_again_law, changes_law, equal_blocks_law, flips_law, puts_law, revert_law,
+};
+pub use record::Record;

@@ -1,0 +1,7 @@
+use Rattle.std.proofs.Common.{map}
+use Rattle.lfs_block.specs.Change.{flip}
+use Rattle.lfs_block.proofs.WritingLemmas.{IsChangedTo}
+use Rattle.lfs_block.proofs.patch.Patch.revert.Given as goal
+
+abbrev pub invariant-loop-record : goal.invariant-loop-record
+invariant-loop-record l = IsChangedTo (map flip l.self.changes) l.record-index l.fn.image l.image

@@ -1,0 +1,5 @@
+use Rattle.lfs_block.proofs.PatchLemmas.{reverted-is_disk, reverted-agrees, reverted-again}
+use Rattle.lfs_block.proofs.patch_laws.apply_again_law.Goals as goal
+
+pub returns : goal.returns
+returns c = record { disk = reverted-is_disk; agrees = reverted-agrees; again = reverted-again }
