@@ -7,11 +7,12 @@ pub mod ItemLemmas
 pub mod LiveLemmas
 pub mod LogLemmas
 pub mod NameLemmas
-pub mod PutLemmas
 pub mod ReplayFitsLemmas
 pub mod ReplayLemmas
+pub mod RunLemmas
 pub mod TagWordLemmas
 pub mod UnreadLemmas
 pub mod WeighingLemmas
 pub mod WholeLemmas
 pub mod WrittenLemmas
+pub mod CuttingLoop

@@ -4,6 +4,7 @@ use Rattle.std.specs.Prelude.{option_and_then, replicate, All, is_some, not}
 use Rattle.std.specs.List.{AllByRecursion}
 use Rattle.std.proofs.lemmas.List.Elements.{recursion_from_All}
 use Rattle.lfs_block.specs.Disk.{Disk, IsDisk, block_of, put}
+use Rattle.lfs_block.specs.PatchLaws.{BlockPut, BlockPutOther}
 use Rattle.lfs_tag.specs.Commit.{Item}
 use Rattle.lfs_meta.specs.Body.{Pair}
 use Rattle.lfs_meta.specs.Fits.{EntryFits, TailFits}
@@ -14,7 +15,6 @@ use Rattle.lfs_meta.specs.Replay.{replay}
 use Rattle.lfs_meta.specs.Spelling.{IsWhole, raw_part, part_tags}
 use Rattle.lfs_meta.specs.Whole.{whole_part}
 use Rattle.lfs_meta.specs.Writing.{part_in, second_is_live, other_number, live_revision}
-use Rattle.lfs_meta.proofs.PutLemmas.{block_of-put, block_of-put_other}
 
 -- a revision one more is later, and one less isn't
 later-next : (r : ℕ) → r < 2 ^ 32 → is_later ((r + 1) % 2 ^ 32) r ≡ true
@@ -65,24 +65,24 @@ read-back replays wholes p first second fits few tail delta whole live =
     ∙ wholes p whole
 
 -- a block put in the place of the one that isn't live is the live one
-put-by : (b : Bool) (d : Disk) (pair : Pair) (new : List ℕ) (ts : List Item) (r : ℕ) → IsDisk d → pair.0 ≢ pair.1 → pair.0 < d.count → pair.1 < d.count
-    → length new ≡ d.size → committed new ≡ Some ts → r < 2 ^ 32 → (if b then revision (block_of d pair.1) else revision (block_of d pair.0)) ≡ r
+put-by : BlockPut → BlockPutOther → (b : Bool) (d : Disk) (pair : Pair) (new : List ℕ) (ts : List Item) (r : ℕ) → IsDisk d → pair.0 ≢ pair.1
+    → pair.0 < d.count → pair.1 < d.count → length new ≡ d.size → committed new ≡ Some ts → r < 2 ^ 32 → (if b then revision (block_of d pair.1) else revision (block_of d pair.0)) ≡ r
     → revision new ≡ (r + 1) % 2 ^ 32 → tags_of (put (if b then pair.0 else pair.1) new d) pair ≡ Some ts
-put-by true d pair new ts r disk apart first second len here small live_is new_is =
+put-by this others true d pair new ts r disk apart first second len here small live_is new_is =
     let other : pair.1 ≢ pair.0 = λ e. apart (sym e) in
-    ap (λ (x : List ℕ). live_tags x (block_of (put pair.0 new d) pair.1)) (block_of-put d pair.0 new disk first len)
-    ∙ ap (live_tags new) (block_of-put_other d pair.0 pair.1 new disk first other len)
+    ap (λ (x : List ℕ). live_tags x (block_of (put pair.0 new d) pair.1)) (this d pair.0 new disk first len)
+    ∙ ap (live_tags new) (others d pair.0 pair.1 new disk first other len)
     ∙ not-earlier new (block_of d pair.1) ts r ((r + 1) % 2 ^ 32) live_is new_is (later-last r small) here
-put-by false d pair new ts r disk apart first second len here small live_is new_is =
-    ap (λ (x : List ℕ). live_tags x (block_of (put pair.1 new d) pair.1)) (block_of-put_other d pair.1 pair.0 new disk second apart len)
-    ∙ ap (live_tags (block_of d pair.0)) (block_of-put d pair.1 new disk second len)
+put-by this others false d pair new ts r disk apart first second len here small live_is new_is =
+    ap (λ (x : List ℕ). live_tags x (block_of (put pair.1 new d) pair.1)) (others d pair.1 pair.0 new disk second apart len)
+    ∙ ap (live_tags (block_of d pair.0)) (this d pair.1 new disk second len)
     ∙ later new (block_of d pair.0) ts r ((r + 1) % 2 ^ 32) live_is new_is (later-next r small) here
 
-pub rewritten-tags : (d : Disk) (pair : Pair) (new : List ℕ) (ts : List Item) (r : ℕ) → IsDisk d → pair.0 ≢ pair.1 → pair.0 < d.count → pair.1 < d.count
-    → length new ≡ d.size → committed new ≡ Some ts → r < 2 ^ 32 → live_revision d pair ≡ r → revision new ≡ (r + 1) % 2 ^ 32
+pub rewritten-tags : BlockPut → BlockPutOther → (d : Disk) (pair : Pair) (new : List ℕ) (ts : List Item) (r : ℕ) → IsDisk d → pair.0 ≢ pair.1
+    → pair.0 < d.count → pair.1 < d.count → length new ≡ d.size → committed new ≡ Some ts → r < 2 ^ 32 → live_revision d pair ≡ r → revision new ≡ (r + 1) % 2 ^ 32
     → tags_of (put (other_number d pair) new d) pair ≡ Some ts
-rewritten-tags d pair new ts r disk apart first second len here small live_is new_is =
-    put-by (second_is_live (block_of d pair.0) (block_of d pair.1)) d pair new ts r disk apart first second len here small live_is new_is
+rewritten-tags this others d pair new ts r disk apart first second len here small live_is new_is =
+    put-by this others (second_is_live (block_of d pair.0) (block_of d pair.1)) d pair new ts r disk apart first second len here small live_is new_is
 
 -- ---- the live block
 

@@ -15,4 +15,6 @@ pub mod Fits
 pub mod BodyHeld
 pub mod Spelling
 pub mod Weighing
+pub mod Runs
+pub mod RunLaws
 pub mod Writing

@@ -4,6 +4,7 @@
 mod action;
 mod attribute;
 mod body;
+mod cutting;
 mod edits;
 mod entry;
 mod kind;
@@ -14,6 +15,7 @@ mod part;
 mod part_tests;
 mod read;
 mod replay;
+mod runs;
 mod stored_attribute;
 mod stored_body;
 mod stored_entry;
@@ -29,6 +31,7 @@ mod writing;
 pub use action::Action;
 pub use attribute::AttributeRef;
 pub use body::BodyRef;
+pub use cutting::cut;
 pub use entry::EntryDraft;
 pub use kind::Kind;
 pub use laws::{
@@ -39,6 +42,9 @@ pub use live_block::{is_later, live, revision};
 pub use part::PartDraft;
 pub use read::{read_draft, read_pair};
 pub use replay::replayed;
+pub use runs::{
+    lists_have_a_run, runs_are_greedy, runs_behind_first, runs_follow_weights, runs_join,
+};
 pub use stored_attribute::Attribute;
 pub use stored_body::Body;
 pub use stored_entry::Entry;

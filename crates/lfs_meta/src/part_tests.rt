@@ -1,7 +1,7 @@
 //! Parts as they are read and written. The blocks' bytes were put together by a program of their own, tag by tag.
 
 use crate::{
-    Body, Kind, Tail, first_block, read_pair, replayed_parts_fit, rewrite,
+    Body, Kind, Tail, cut, first_block, read_pair, replayed_parts_fit, rewrite,
     tags_are_the_live_blocks, weight, weights, weights_fit, written_parts_replay,
 };
 use lfs_block::{Image, MountFault};
@@ -257,6 +257,30 @@ fn attributes_over_several_commits(rt: HostRuntime) -> Result<(), Fail> {
             assert_eq!(rt; read.value.as_slice(), *value);
         }
     }
+    Ok(())
+}
+
+#[test]
+fn cuts_entries_into_runs(rt: HostRuntime) -> Result<(), Fail> {
+    let image = image_of(rt.alloc(), THREE_ENTRIES, b"")?;
+    let part = read_pair(rt.alloc(), &image, (0, 1))?;
+    // the entries weigh 28, 19 and 19
+    let rows: [(u32, &[usize]); 6] = [
+        (66, &[3]),
+        (65, &[2, 1]),
+        (47, &[2, 1]),
+        (46, &[1, 2]),
+        (38, &[1, 2]),
+        (37, &[1, 1, 1]),
+    ];
+    for (room, wanted) in rows {
+        let lengths = cut(rt.alloc(), &part.entries, room).ok_or("no memory")?;
+        assert_eq!(rt; lengths.as_slice(), wanted, "at {room}");
+    }
+    assert_eq!(rt;
+        cut(rt.alloc(), &[], 216).ok_or("no memory")?.as_slice(),
+        [0].as_slice()
+    );
     Ok(())
 }
 

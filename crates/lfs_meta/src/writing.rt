@@ -21,7 +21,7 @@ use crate::stored_entry::Entry;
 use crate::tail::Tail;
 use crate::words::{structs, tail_words};
 use byteorder::{ByteOrder, LittleEndian};
-use lfs_block::{Blocks, MountFault};
+use lfs_block::{Blocks, MountFault, puts_law};
 use lfs_tag::laws::{first_commit, log_is_read, written_length};
 use lfs_tag::{Edit, FIRST_WORD, write_commit};
 use std::alloc::{AllocError, Global};
@@ -167,6 +167,7 @@ pub fn rewrite<B: Blocks>(
         stored_part_of (put new.0 new.1.items d) pair ≡ Some (stored_part entries.now tail delta)) }
     ensures refused { IfErr result (λ fault. fault ≡ MountFault.Memory) }
 {
+    puts_law();
     written_parts_replay();
     let size = blocks.size();
     let (number, live) = other_block(blocks, pair);

@@ -1,0 +1,43 @@
+//! Laws of runs of entries of any type: each function does nothing, and its contract is the law.
+
+ghost use Rattle.lfs_meta.specs.RunLaws.{RunsAreGreedy, RunsBehindFirst, RunsFollowWeights, RunsJoin, SomeRun};
+
+/// The runs of entries that each fit a pair join to them, each run fits a pair, no run could take the first entry of the
+/// next one, and only an empty list has an empty run.
+pub fn runs_are_greedy<E>()
+    ensures { RunsAreGreedy E }
+{}
+
+/// However they begin, the runs of a list join to it.
+pub fn runs_join<E>()
+    ensures { RunsJoin E }
+{}
+
+/// Behind an entry that fits a pair, the runs of a list are those that begin with its weight and one entry.
+pub fn runs_behind_first<E>()
+    ensures { RunsBehindFirst E }
+{}
+
+/// Each list has a run.
+pub fn lists_have_a_run<E>()
+    ensures { SomeRun E }
+{}
+
+/// Lists of entries that weigh the same at each place are cut at the same places.
+pub fn runs_follow_weights<E, F>()
+    ensures { RunsFollowWeights E F }
+{}
+
+#[cfg(test)]
+mod tests {
+    use super::*;
+
+    #[test]
+    fn laws_of_runs(_rt: HostRuntime) {
+        runs_are_greedy::<u8>();
+        runs_join::<u8>();
+        runs_behind_first::<u8>();
+        lists_have_a_run::<u8>();
+        runs_follow_weights::<u8, u16>();
+    }
+}
