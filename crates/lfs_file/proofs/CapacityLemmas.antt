@@ -1,7 +1,5 @@
 -- The least number of blocks that hold a file.
 use Rattle.std.proofs.Common.{◌≡◌, ℕ, zero, suc, ◌+◌, ◌-◌, ◌*◌, ◌%◌, ◌<◌, ◌≤◌, ◌==◌, cond, Bool, true, false, refl, ap, ◌∙◌, map, sum, ◌⊎◌, inl, inr, arith}
-use Rattle.std.proofs.Math.Nat.{mul-le-mul_right, suc-mul}
-use Rattle.std.proofs.lemmas.Bool.{cases_lt}
 use borrow.Author.Count.{below_more}
 use Rattle.std.specs.Int.Count.{count_trailing_zeros}
 use Rattle.std.specs.List.{range_with_len}
@@ -78,26 +76,3 @@ least_is_one size len m n these those = grind (arith, these.0, these.1 n, those.
 
 pub least_is : (size len n : ℕ) → 8 ≤ size → IsLeast size len n → n ≡ least_blocks size len
 least_is size len n big is = least_is_one size len n (least_blocks size len) is (least_blocks-is size len big)
-
--- n blocks hold no more than n times the block size
-room_bound : (size n : ℕ) → room size n ≤ n * size
-room_bound size zero = omega arith
-room_bound size (suc n) =
-    let earlier : room size n ≤ n * size = room_bound size n in
-    let more : room size (n + 1) ≡ room size n + capacity size n = room_more size n in
-    let row : suc n * size ≡ n * size + size = suc-mul n size in
-    let number : n + 1 ≡ suc n = omega arith in
-    let held : room size (n + 1) ≤ suc n * size = omega arith in
-    rw number at held
-
--- a file longer than n blocks takes more of them
-pub longer : (size len n : ℕ) → 8 ≤ size → n * size < len → n < least_blocks size len
-longer size len n big long =
-    elim (cases_lt n (least_blocks size len)) [
-      | inl less ↦ less
-      | inr few ↦
-          let fits : len ≤ room size (least_blocks size len) = (least_blocks-is size len big).0 in
-          let held : room size (least_blocks size len) ≤ least_blocks size len * size = room_bound size (least_blocks size len) in
-          let rows : least_blocks size len * size ≤ n * size = mul-le-mul_right size few in
-          absurd (omega (arith, fits, held, rows, long))
-    ]

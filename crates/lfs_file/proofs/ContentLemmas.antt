@@ -46,9 +46,15 @@ parts_len d blocks (suc n) is below within =
     let number : n + 1 ≡ suc n = add-one n in
     rw number at all
 
+-- joined too
+pub length-parts : (d : Disk) (blocks : List ℕ) (n : ℕ) → IsDisk d → All (λ b. b < d.count) blocks → n ≤ length blocks
+    → length (concat (map (data_part d blocks) (range_with_len 0 n))) ≡ room d.size n
+length-parts d blocks n is below within =
+    let parts = map (data_part d blocks) (range_with_len 0 n) in
+    ap length (concat_is parts) ∙ length-flat_map (λ x. x) parts ∙ parts_len d blocks n is below within
+
 pub length-content : (d : Disk) (head len : ℕ) (blocks : List ℕ) → IsDisk d → IsChain d head len blocks → length (content d len blocks) ≡ len
 unfolding content
 length-content d head len blocks is chain =
-    let parts = map (data_part d blocks) (range_with_len 0 (length blocks)) in
-    let whole : length (concat parts) ≡ room d.size (length blocks) = ap length (concat_is parts) ∙ length-flat_map (λ x. x) parts ∙ parts_len d blocks (length blocks) is chain.below (omega arith) in
-    length-take-le len (concat parts) (omega (arith, whole, chain.least.0))
+    let whole = length-parts d blocks (length blocks) is chain.below (omega arith) in
+    length-take-le len (concat (map (data_part d blocks) (range_with_len 0 (length blocks)))) (omega (arith, whole, chain.least.0))

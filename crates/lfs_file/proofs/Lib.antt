@@ -1,5 +1,10 @@
 pub mod CapacityLemmas
 pub mod ContentLemmas
+pub mod LaidByteLemmas
+pub mod LaidLemmas
+pub mod LayingLemmas
 pub mod PointerLemmas
+pub mod RoomLemmas
 pub mod SkipListLemmas
+pub mod SliceLemmas
 pub mod WalkLemmas

@@ -175,11 +175,11 @@ walked-chain d head len n blocks big is walked passes =
     ap (λ w. cond (is_linked d w) (Some w) None) (sym (walked ∙ ap (walk d head) is)) ∙ cond-true (is_linked d blocks) (Some blocks) None passes
 
 -- one block more of a walk
-pub walk-more : (d : Disk) (block m left before : ℕ) (items more : List ℕ) → m ≡ suc left → pointer (block_of d block) 0 ≡ before → more ≡ items ++ block ∷ []
-    → walk d block m ++ reverse items ≡ walk d before left ++ reverse more
+pub walk-more : (d : Disk) (block m left before : ℕ) (items more whole : List ℕ) → m ≡ suc left → pointer (block_of d block) 0 ≡ before → more ≡ items ++ block ∷ []
+    → whole ≡ walk d block m ++ reverse items → whole ≡ walk d before left ++ reverse more
 unfolding walk
-walk-more d block m left before items more is points pushed =
-    ap (λ n. walk d block n ++ reverse items) is
+walk-more d block m left before items more whole is points pushed so_far =
+    so_far ∙ ap (λ n. walk d block n ++ reverse items) is
     ∙ ap (λ b. (walk d b left ++ block ∷ []) ++ reverse items) points
     ∙ append_assoc (walk d before left) (block ∷ []) (reverse items)
     ∙ ap (λ xs. walk d before left ++ xs) (sym (ap reverse pushed ∙ reverse-append items (block ∷ [])))

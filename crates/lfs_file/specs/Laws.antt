@@ -1,8 +1,11 @@
 -- What holds of every chain (own).
 use Rattle.std.specs.Prelude.{◌≡◌, ◌≢◌, ℕ, ◌<◌, ◌≤◌, List, [], length, Some, All, AllPairs}
+use Rattle.lfs_block.specs.Bytes.{IsBytes}
 use Rattle.lfs_block.specs.Disk.{Disk, IsDisk, block_of}
+use Rattle.lfs_block.specs.ImageFault.{IsBlockSize}
 use Rattle.lfs_file.specs.Capacity.{IsLeast, least_blocks}
 use Rattle.lfs_file.specs.Content.{content}
+use Rattle.lfs_file.specs.Laying.{IsLaid, laid}
 use Rattle.lfs_file.specs.SkipList.{IsChain, chain_of}
 
 -- `least_blocks` is the least number of blocks, for every block size that is no less than 8 bytes
@@ -59,3 +62,27 @@ ContentStays = (d e : Disk) (len : ℕ) (blocks : List ℕ) → AgreeOn blocks d
 -- the content of a file has the file's length
 abbrev pub ContentHasLength : Type 0
 ContentHasLength = (d : Disk) (head len : ℕ) (blocks : List ℕ) → IsDisk d → IsChain d head len blocks → length (content d len blocks) ≡ len
+
+-- there are as many laid blocks as numbers of blocks
+abbrev pub LaidAreAsMany : Type 0
+LaidAreAsMany = (size : ℕ) (bytes blocks : List ℕ) → length (laid size bytes blocks) ≡ length blocks
+
+-- each of them has the block size
+abbrev pub LaidAreWhole : Type 0
+LaidAreWhole = (size : ℕ) (bytes blocks : List ℕ) → IsBlockSize size → All (λ block. length block ≡ size) (laid size bytes blocks)
+
+-- they are bytes
+abbrev pub LaidAreBytes : Type 0
+LaidAreBytes = (size : ℕ) (bytes blocks : List ℕ) → IsBytes bytes → All IsBytes (laid size bytes blocks)
+
+-- laid blocks are a chain of the file
+abbrev pub LaidIsChain : Type 0
+LaidIsChain = (d : Disk) (head : ℕ) (bytes blocks : List ℕ) → IsDisk d → IsLaid d head bytes blocks → IsChain d head (length bytes) blocks
+
+-- they are the chain that is found
+abbrev pub LaidIsFound : Type 0
+LaidIsFound = (d : Disk) (head : ℕ) (bytes blocks : List ℕ) → IsDisk d → IsLaid d head bytes blocks → chain_of d head (length bytes) ≡ Some blocks
+
+-- and its content is the bytes
+abbrev pub LaidIsContent : Type 0
+LaidIsContent = (d : Disk) (head : ℕ) (bytes blocks : List ℕ) → IsDisk d → IsLaid d head bytes blocks → content d (length bytes) blocks ≡ bytes

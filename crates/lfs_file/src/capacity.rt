@@ -12,7 +12,7 @@ pub(crate) fn pointers_of(n: u32) -> u32
 }
 
 /// The bytes of a file in block `n`.
-fn capacity_of(block_size: u32, n: u32) -> u32
+pub(crate) fn capacity_of(block_size: u32, n: u32) -> u32
     requires { IsBlockSize block_size }
     ensures { result ≡ capacity block_size n }
 {
@@ -20,20 +20,28 @@ fn capacity_of(block_size: u32, n: u32) -> u32
 }
 
 /// The least number of blocks that hold a file of `size` bytes, in blocks of `block_size` bytes. The caller owes
-/// a block size that images have. Takes no memory.
+/// a block size that images have. Takes no memory, and the same time for every size.
 ///
 /// Source: DESIGN.md, "CTZ skip-lists".
 pub fn blocks_for(size: u32, block_size: u32) -> u32
     requires { IsBlockSize block_size }
     ensures { result ≡ least_blocks block_size size }
 {
-    let mut blocks = 0;
-    let mut left = size;
-    while left > 0 {
-        left = left.saturating_sub(capacity_of(block_size, blocks));
-        blocks += 1;
+    if size == 0 {
+        return 0;
     }
-    blocks
+    if size <= block_size {
+        return 1;
+    }
+    // n blocks hold n times this, 8 bytes, and 4 for each bit of n - 1 that is 1: those are less than a block's share
+    let share = block_size - 8;
+    let whole = (size - 9) / share;
+    let over = (size - 9) % share;
+    if over < 4 * (whole - 1).count_ones() {
+        whole
+    } else {
+        whole + 1
+    }
 }
 
 #[cfg(test)]
@@ -54,5 +62,7 @@ mod tests {
         for (size, want) in cases {
             assert_eq!(rt; blocks_for(size, 512), want, "at {size}");
         }
+        assert_eq!(rt; blocks_for(0xffff_ffff, 256), 17_318_417);
+        assert_eq!(rt; blocks_for(0xffff_ffff, 65_536), 65_545);
     }
 }

@@ -1,6 +1,6 @@
 //! What holds of every chain. A function here does nothing: its contract is the law.
 
-ghost use Rattle.lfs_file.specs.Laws.{LeastIsLeast, LeastIsOne, ChainsAreFound, FoundAreChains, ChainsAreOne, ChainsDiffer, ChainsFit, ChainsStay, FoundStay, ContentStays, EmptyIsFound, ContentHasLength};
+ghost use Rattle.lfs_file.specs.Laws.{LeastIsLeast, LeastIsOne, ChainsAreFound, FoundAreChains, ChainsAreOne, ChainsDiffer, ChainsFit, ChainsStay, FoundStay, ContentStays, EmptyIsFound, ContentHasLength, LaidAreAsMany, LaidAreWhole, LaidAreBytes, LaidIsChain, LaidIsFound, LaidIsContent};
 
 /// Law: the number of blocks that a file takes is the least that hold it, and the only least one.
 pub fn least_blocks_law()
@@ -35,6 +35,21 @@ pub fn content_length_law()
     ensures { ContentHasLength }
 {}
 
+/// Law: the blocks that are laid for a file are as many as they are to be, each of the block size, and of bytes.
+pub fn laid_blocks_law()
+    ensures many { LaidAreAsMany }
+    ensures whole { LaidAreWhole }
+    ensures bytes { LaidAreBytes }
+{}
+
+/// Law: a disk with the laid blocks of a file has the file's chain in them, and the content of the chain is the file's
+/// bytes.
+pub fn laid_is_chain_law()
+    ensures chain { LaidIsChain }
+    ensures found { LaidIsFound }
+    ensures content { LaidIsContent }
+{}
+
 #[cfg(test)]
 mod tests {
     use super::*;
@@ -46,5 +61,7 @@ mod tests {
         chain_blocks_law();
         chain_stays_law();
         content_length_law();
+        laid_blocks_law();
+        laid_is_chain_law();
     }
 }

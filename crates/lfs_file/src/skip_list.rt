@@ -10,19 +10,14 @@ use crate::pointer::pointer_at;
 use lfs_block::{Blocks, MountFault};
 use std::alloc::Global;
 
-/// How many blocks a file of `size` bytes takes, if the disk has so many. A file longer than the disk is told apart
-/// first, since its blocks take long to count.
+/// How many blocks a file of `size` bytes takes, if the disk has so many.
 fn count_within<B: Blocks>(blocks: &B, size: u32) -> Option<u32>
     ensures disk { IsDisk (B.disk blocks.now) }
     ensures count { IfSome result (λ n. n ≡ least_blocks (B.disk blocks.now).size size) }
     ensures within { IfSome result (λ n. n ≤ (B.disk blocks.now).count) }
     ensures longer { IfNone result ((B.disk blocks.now).count < least_blocks (B.disk blocks.now).size size) }
 {
-    let block_size = blocks.size();
-    if u64::from(size) > u64::from(blocks.count()) * u64::from(block_size) {
-        return None;
-    }
-    let count = blocks_for(size, block_size);
+    let count = blocks_for(size, blocks.size());
     (count <= blocks.count()).then_some(count)
 }
 

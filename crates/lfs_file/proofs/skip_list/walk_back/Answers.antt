@@ -3,6 +3,7 @@ use Rattle.std.proofs.lemmas.List.Elements.{All-push, All-same}
 use Rattle.std.proofs.lemmas.Bool.{cond-true}
 use Rattle.lfs_block.specs.Disk.{block_of}
 use Rattle.lfs_file.specs.Pointer.{pointer}
+use Rattle.lfs_file.specs.SkipList.{walk}
 use Rattle.lfs_file.proofs.WalkLemmas.{walk-more, walk-past, walk-none}
 use Rattle.lfs_file.proofs.skip_list.walk_back.Goals as goal
 
@@ -14,6 +15,9 @@ returns-then-block-count-clause-refused g c =
 pushed_when : (ok : Bool) (old new : List ℕ) (last : ℕ) → new ≡ cond ok (old ++ last ∷ []) old → ok ≡ true → new ≡ old ++ last ∷ []
 pushed_when ok old new last is passed = is ∙ cond-true ok (old ++ last ∷ []) old passed
 
+first_of : (p : ℕ) (bytes block : List ℕ) → p ≡ pointer bytes 0 → bytes ≡ block → pointer block 0 ≡ p
+first_of p bytes block is same = sym (is ∙ ap (λ b. pointer b 0) same)
+
 pub loop-preserved : goal.loop-preserved
 loop-preserved g c =
     let d = g.B.Blocks.disk c.args.blocks.now in
@@ -21,10 +25,9 @@ loop-preserved g c =
     let left = c.args.count - (c.loop.counter + 1) in
     let ok : is_ok c.push.result ≡ true = ◌∙◌ {A = Bool} (sym c.map_err.ensures.variant) (ap is_ok c.in_ok-map_err.was) in
     let pushed : c.push.new.self.items ≡ items ++ c.loop.block ∷ [] = pushed_when (is_ok c.push.result) items c.push.new.self.items c.loop.block c.push.ensures.items ok in
-    let before : pointer (block_of d c.loop.block) 0 ≡ c.pointer_at-block.result = sym (c.pointer_at-block.ensures ∙ ap (λ b. pointer b 0) c.block.ensures) in
+    let before : pointer (block_of d c.loop.block) 0 ≡ c.pointer_at-block.result = first_of _ _ _ c.pointer_at-block.ensures c.block.ensures in
     record {
-      whole = c.loop.invariant.whole
-          ∙ walk-more d c.loop.block (c.args.count - c.loop.counter) left c.pointer_at-block.result items c.push.new.self.items (omega arith) before pushed;
+      whole = walk-more d c.loop.block (c.args.count - c.loop.counter) left c.pointer_at-block.result items c.push.new.self.items (walk d c.args.head c.args.count) (omega arith) before pushed c.loop.invariant.whole;
       below = All-same (λ b. b < d.count) c.push.new.self.items (items ++ c.loop.block ∷ []) pushed
           (All-push (λ b. b < d.count) items c.loop.block c.loop.invariant.below (omega arith));
     }

@@ -1,0 +1,125 @@
+//! Files that are read, against bytes from outside.
+
+ghost use Rattle.std.specs.Prelude.{◌≡◌, ◌<◌, ◌≤◌, length, All, IfOk};
+ghost use Rattle.lfs_file.specs.Content.{content};
+
+use crate::{chain, lay, read_file};
+use lfs_block::{Blocks, Image};
+use std::alloc::{AllocError, Global};
+use std::test::Fail;
+
+/// The slices of a file, joined.
+fn join<B: Blocks>(
+    alloc: Global,
+    blocks: &B,
+    chain: &[u32],
+    size: u32,
+) -> Result<Vec<u8>, AllocError>
+    requires below { All (λ b. b < (B.disk blocks.now).count) chain.now }
+    requires few { length chain.now ≤ (B.disk blocks.now).count }
+    ensures { IfOk result (λ bytes. bytes.items ≡ content (B.disk blocks.now) size chain.now) }
+{
+    let mut bytes = Vec::new(alloc);
+    for slice in read_file(blocks, chain, size) {
+        bytes.extend_from_slice(slice)?;
+    }
+    Ok(bytes)
+}
+
+/// What blocks 2 to 7 of an image hold: pointers, and the bytes of a file from one number to another.
+const PARTS: [(&[u8], usize, usize); 6] = [
+    (&[], 0, 512),
+    (&[2, 0, 0, 0], 512, 1_020),
+    (&[3, 0, 0, 0, 2, 0, 0, 0], 1_020, 1_524),
+    (&[4, 0, 0, 0], 1_524, 2_032),
+    (&[5, 0, 0, 0, 4, 0, 0, 0, 2, 0, 0, 0], 2_032, 2_532),
+    (&[6, 0, 0, 0], 2_532, 3_040),
+];
+
+/// Byte `n` of the file.
+fn byte_of(n: usize) -> u8 {
+    (n % 251) as u8
+}
+
+/// The bytes of the image.
+fn image_bytes(alloc: Global) -> Result<Vec<u8>, Fail> {
+    let mut bytes = vec![in alloc; 0u8; 1_024]?;
+    for (pointers, from, to) in PARTS {
+        bytes.extend_from_slice(pointers)?;
+        for n in from..to {
+            bytes.push(byte_of(n))?;
+        }
+    }
+    Ok(bytes)
+}
+
+/// The first bytes of the file.
+fn file_bytes(alloc: Global, size: usize) -> Result<Vec<u8>, Fail> {
+    let mut bytes = Vec::new(alloc);
+    for n in 0..size {
+        bytes.push(byte_of(n))?;
+    }
+    Ok(bytes)
+}
+
+#[test]
+fn gives_the_contents(rt: HostRuntime) -> Result<(), Fail> {
+    let alloc = rt.alloc();
+    let image = Image::new(image_bytes(alloc)?, 512).map_err(|refused| refused.0)?;
+    for (head, size) in [(7, 0), (2, 1), (2, 512), (3, 513), (7, 2_533), (7, 3_040)] {
+        let found = chain(alloc, &image, head, size)?;
+        let bytes = join(alloc, &image, &found, size)?;
+        let want = file_bytes(alloc, size as usize)?;
+        assert!(rt; bytes == want, "at {size}");
+    }
+    Ok(())
+}
+
+#[test]
+fn cuts_a_slice_for_each_block(rt: HostRuntime) -> Result<(), Fail> {
+    let alloc = rt.alloc();
+    let image = Image::new(image_bytes(alloc)?, 512).map_err(|refused| refused.0)?;
+    let found = chain(alloc, &image, 7, 2_533)?;
+    let mut lengths = Vec::new(alloc);
+    for slice in read_file(&image, &found, 2_533) {
+        lengths.push(slice.len())?;
+    }
+    assert_eq!(rt; lengths.as_slice(), [512, 508, 504, 508, 500, 1].as_slice());
+    Ok(())
+}
+
+#[test]
+fn lays_blocks(rt: HostRuntime) -> Result<(), Fail> {
+    let alloc = rt.alloc();
+    let file = file_bytes(alloc, 3_040)?;
+    let laid = lay(alloc, &file, &[2, 3, 4, 5, 6, 7], 512).expect(&rt, "memory");
+    let mut bytes = vec![in alloc; 0u8; 1_024]?;
+    for block in &laid {
+        assert_eq!(rt; block.len(), 512);
+        bytes.extend_from_slice(block)?;
+    }
+    let want = image_bytes(alloc)?;
+    assert!(rt; bytes == want);
+    let image = Image::new(bytes, 512).map_err(|refused| refused.0)?;
+    let found = chain(alloc, &image, 7, 3_040)?;
+    assert_eq!(rt; found.as_slice(), [2, 3, 4, 5, 6, 7].as_slice());
+    Ok(())
+}
+
+#[test]
+fn fills_the_last_block(rt: HostRuntime) -> Result<(), Fail> {
+    let alloc = rt.alloc();
+    let file = file_bytes(alloc, 257)?;
+    let laid = lay(alloc, &file, &[0x0102, 9], 256).expect(&rt, "memory");
+    let mut bytes = Vec::new(alloc);
+    for block in &laid {
+        bytes.extend_from_slice(block)?;
+    }
+    let mut want = file_bytes(alloc, 256)?;
+    want.extend_from_slice(&[2, 1, 0, 0, 5])?;
+    want.resize(512, 0xff)?;
+    assert!(rt; bytes == want);
+    let none = lay(alloc, &[], &[], 256).expect(&rt, "memory");
+    assert!(rt; none.is_empty());
+    Ok(())
+}
