@@ -49,7 +49,7 @@ uses_at r h b ps = sum_pieces (directory_uses b) (part_uses b) (map (link_at r) 
 pub named_at : (r : Reading) (h : Header) (k : Pair) (ps : List Pair) → named k (volume_at r h ps) ≡ leads_to k (Some root) + sum_by (λ (l : Link). part_names k l.part) (map (link_at r) ps)
 named_at r h k ps = ap (λ x. leads_to k (Some root) + x) (sum_pieces (names_of k) (part_names k) (map (link_at r) ps) (names_sum k))
 
-link_pair : (r : Reading) (q : Pair) (o : Option StoredPart) → (link_of r q o).part.pair ≡ q
+pub link_pair : (r : Reading) (q : Pair) (o : Option StoredPart) → (link_of r q o).part.pair ≡ q
 link_pair r q None = refl
 link_pair r q (Some s) = refl
 

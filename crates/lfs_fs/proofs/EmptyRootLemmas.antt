@@ -16,7 +16,7 @@ use Rattle.lfs_fs.specs.NotYet.{HasNoMore}
 use Rattle.lfs_fs.specs.Sound.{AreAttributes}
 use Rattle.lfs_fs.specs.Superblock.{superblock_entry}
 
-super_by : (e : StoredEntry) (bytes : List ℕ) → IsSuperblock e bytes → e ≡ superblock_entry bytes e.attributes
+pub super_by : (e : StoredEntry) (bytes : List ℕ) → IsSuperblock e bytes → e ≡ superblock_entry bytes e.attributes
 super_by e bytes is = rw (sym is.kind, sym is.name, sym is.body) refl
 
 begins_from : (es : List StoredEntry) (e : StoredEntry) → slice_get es 0 ≡ Some e → (others : List StoredEntry) × (es ≡ e ∷ others)

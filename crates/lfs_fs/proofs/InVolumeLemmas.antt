@@ -48,7 +48,7 @@ home [] l there = absurd (omega arith)
 home (m ∷ ls) l (zero, within, is) = subst (λ (x : Link). Home (pieces (m ∷ ls)) x.part.entries) is (home_step_first (is_hard m.tail) m.part (pieces ls))
 home (m ∷ ls) l (suc k, within, is) = home_step_later (is_hard m.tail) m.part (pieces ls) l.part.entries (home ls l (k, omega arith, is))
 
-contains_map : {X Y : Type 0} (f : X → Y) (xs : List X) (x : X) → Contains xs x → Contains (map f xs) (f x)
+pub contains_map : {X Y : Type 0} (f : X → Y) (xs : List X) (x : X) → Contains xs x → Contains (map f xs) (f x)
 contains_map f [] x there = absurd (omega arith)
 contains_map f (y ∷ xs) x (zero, within, is) = (0, omega arith, ap f is)
 contains_map f (y ∷ xs) x (suc k, within, is) = contains_more (f x) (f y) (map f xs) (contains_map f xs x (k, omega arith, is))

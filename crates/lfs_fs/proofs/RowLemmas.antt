@@ -1,39 +1,18 @@
 -- A map from paths has one list of rows.
-use Rattle.std.proofs.Common.{◌≡◌, ◌⊎◌, Bool, true, false, List, [], ◌∷◌, refl, arith, sym, subst, zero, suc, get_or}
-use Rattle.std.specs.Prelude.{Option, Some, None, bytes_eq, if◌then◌else◌}
+use Rattle.std.proofs.Common.{◌≡◌, ◌⊎◌, true, List, [], ◌∷◌, refl, arith, sym, subst, zero, suc, get_or}
+use Rattle.std.specs.Prelude.{Option, Some, None}
 use Rattle.std.specs.Option.{option_map}
 use Rattle.std.specs.List.{All, Contains}
 use Rattle.std.proofs.lemmas.List.Elements.{All-contains, All-tail, All-head}
-use Rattle.std.proofs.lemmas.Bool.Decides.{same_from_decides, Decides-like}
-use Rattle.std.proofs.lemmas.Slice.Eq.{bytes_eq-Decides}
 use mathlib.Core.Logic.{inl, inr}
-use Rattle.lfs_meta.specs.Name.{Name}
-use Rattle.lfs_fs.specs.NameOrder.{precedes}
 use Rattle.lfs_fs.specs.Path.{Path}
 use Rattle.lfs_fs.specs.Entry.{Entry}
 use Rattle.lfs_fs.specs.Row.{path_precedes, Row, row_of, RowsRise, AreRows, RowsAreUnique}
-use Rattle.lfs_fs.proofs.NameOrderLemmas.{precedes_irreflexive, precedes_transitive}
-
--- two names don't precede each other
-names_not_both : (n m : Name) → precedes n m ≡ true → precedes m n ≡ true → ⊥
-names_not_both n m h k = cc (precedes_transitive n m n h k, precedes_irreflexive n)
-
-same_either_way : (n m : Name) → bytes_eq n m ≡ bytes_eq m n
-same_either_way n m = same_from_decides (bytes_eq n m) (bytes_eq m n) (bytes_eq-Decides n m) (Decides-like (bytes_eq m n) sym sym (bytes_eq-Decides m n))
-
--- by the first names, or by the rest
-both_by_names : (same back : Bool) (n m : Name) (p q : Path) → same ≡ back → (same ≡ true → n ≡ m) → (if same then path_precedes p q else precedes n m) ≡ true → (if back then path_precedes q p else precedes m n) ≡ true → (path_precedes p q ≡ true → path_precedes q p ≡ true → ⊥) → ⊥
-both_by_names true true n m p q both is h k rest = rest h k
-both_by_names false false n m p q both is h k rest = names_not_both n m h k
-both_by_names true false n m p q both is h k rest = cc
-both_by_names false true n m p q both is h k rest = cc
+use Rattle.lfs_fs.proofs.PathOrderLemmas.{path_irreflexive, path_transitive}
 
 -- two paths don't precede each other
 paths_not_both : (p q : Path) → path_precedes p q ≡ true → path_precedes q p ≡ true → ⊥
-paths_not_both [] [] h k = cc
-paths_not_both [] (m ∷ q) h k = cc
-paths_not_both (n ∷ p) [] h k = cc
-paths_not_both (n ∷ p) (m ∷ q) h k = both_by_names (bytes_eq n m) (bytes_eq m n) n m p q (same_either_way n m) (bytes_eq-Decides n m).0 h k (paths_not_both p q)
+paths_not_both p q h k = cc (path_transitive p q p h k, path_irreflexive p)
 
 -- an element of a list is its first one or one of the others
 contains_cases : {X : Type 0} (y : X) (ys : List X) (x : X) → Contains (y ∷ ys) x → (x ≡ y) ⊎ Contains ys x

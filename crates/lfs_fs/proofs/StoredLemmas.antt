@@ -25,7 +25,7 @@ front_of_thread r ps qs h k = elim (fronts_begin_each_other r ps qs h.front k) [
 pub there_in_thread : (qs ps : List Pair) (p : Pair) → Begins qs ps → Contains qs p → Contains ps p
 there_in_thread qs ps p begins there = subst (λ (x : List Pair). Contains x p) (sym begins.1) (Contains-append_left qs begins.0 p there)
 
-same_or_not : (p q : Pair) → (p ≡ q) ⊎ (p ≢ q)
+pub same_or_not : (p q : Pair) → (p ≡ q) ⊎ (p ≢ q)
 same_or_not p q =
     elim (eqb_tells p.0 q.0) [
       | inl first ↦ elim (eqb_tells p.1 q.1) [

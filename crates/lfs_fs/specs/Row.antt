@@ -2,7 +2,7 @@
 use Rattle.std.specs.Prelude.{◌≡◌, ℕ, Bool, true, false, List, [], ◌∷◌, Option, Some, if◌then◌else◌, bytes_eq, All, Contains, length}
 use Rattle.std.specs.Option.{option_map}
 use Rattle.lfs_meta.specs.Attribute.{Attributes}
-use Rattle.lfs_fs.specs.NameOrder.{precedes}
+use Rattle.lfs_fs.specs.NameOrder.{precedes, IsStrictOrder}
 use Rattle.lfs_fs.specs.Path.{Path}
 use Rattle.lfs_fs.specs.Entry.{Body, Inline, Chain, Directory_at, Entry}
 
@@ -12,6 +12,10 @@ path_precedes [] [] = false
 path_precedes [] (m ∷ q) = true
 path_precedes (n ∷ p) [] = false
 path_precedes (n ∷ p) (m ∷ q) = if bytes_eq n m then path_precedes p q else precedes n m
+
+-- the law: paths are in a strict total order
+abbrev pub PathsAreOrdered : Type 0
+PathsAreOrdered = IsStrictOrder path_precedes
 
 -- a directory, a file's bytes in its entry, or a file's chain with its size
 pub data RowBody : Type 0 where

@@ -2,29 +2,56 @@
 #![tactic(auto)]
 
 mod empty_root;
+mod folder;
+mod folder_table;
 mod formatted;
 mod front;
+mod gathering;
+#[cfg(test)]
+mod gathering_tests;
+mod keeping;
 mod limits;
+mod listed_row;
+mod listing;
+#[cfg(test)]
+mod listing_tests;
 mod lone_superblock;
 mod mounted;
 mod mounting;
 mod name_order;
+mod names;
 mod no_cause;
 mod one_mount;
+mod path;
+mod pending;
+mod pushing;
 mod row;
+mod row_body;
+mod state;
+mod stored;
 mod superblock;
 #[cfg(test)]
 mod tests;
 mod thread;
+mod thread_reading;
+mod used;
+mod walk;
+mod weight;
+mod whole_mount;
 
 pub use formatted::formatted_volume_is_sound;
 pub use front::fronts_begin_each_other;
 pub use limits::Limits;
+pub use listed_row::Row;
 pub use lone_superblock::lone_superblock_mounts;
 pub use mounted::Mounted;
 pub use mounting::mount;
 pub use name_order::names_are_ordered;
 pub use no_cause::mounted_images_have_no_cause;
 pub use one_mount::images_mount_to_one_tree;
-pub use row::rows_are_unique;
+pub use path::Path;
+pub use row::{paths_are_ordered, rows_are_unique};
+pub use row_body::RowBody;
+pub use stored::{both_sides_hold, same_readings_hold_the_same, stored_links_stay};
 pub use thread::pieces_of_links;
+pub use weight::{entries_are_cut_greedily, entries_weigh_as_stored};

@@ -26,5 +26,8 @@ pub fn mount<B: Blocks>(alloc: Global, blocks: &B) -> Result<Mounted, MountFault
     let count = blocks.count();
     let part = read_pair(alloc, blocks, ROOT)?;
     let limits = empty_root(&part, size, count)?;
-    Ok(Mounted::empty(first_attributes(part), limits, count))
+    let Ok(mounted) = Mounted::empty(alloc, first_attributes(part), limits, count) else {
+        return Err(MountFault::Memory);
+    };
+    Ok(mounted)
 }

@@ -4,12 +4,13 @@ ghost use Rattle.std.specs.Prelude.{◌≡◌, ◌≤◌, ◌<◌, ◌+◌, ◌*
 ghost use Rattle.std.specs.List.{Any};
 ghost use Rattle.lfs_fs.specs.Header.{IsHeader, HeaderCause};
 ghost use Rattle.lfs_fs.specs.EmptyRoot.{IsSuperblock};
+ghost use Rattle.lfs_fs.specs.Judged.{IsJudged, JudgedCause, TakesFirst, BeginsWithNone};
 ghost use Rattle.lfs_fs.specs.Superblock.{IsLimits, header_of, word_at};
 
 use crate::limits::Limits;
 use byteorder::{ByteOrder, LittleEndian};
 use lfs_block::MountFault;
-use lfs_meta::{Attribute, Body, Entry, Kind};
+use lfs_meta::{Attribute, Body, Entry, Kind, Part};
 
 /// The superblock's name.
 const NAME: [u8; 8] = *b"littlefs";
@@ -93,4 +94,30 @@ pub(crate) fn are_within(attributes: &[Attribute], limit: u32) -> bool
         }
     }
     true
+}
+
+/// The limits that an entry says, where it is a superblock of an image of `count` blocks of `size` bytes: `NoSuperblock`
+/// where it isn't one, else what `limits_of` refuses, else `BadSize` where an attribute is over the limit.
+pub(crate) fn judged(entry: &Entry, size: u32, count: u32) -> Result<Limits, MountFault>
+    ensures judged { IfOk result (λ limits. IsJudged size count limits entry.now) }
+    ensures refused { IfErr result (λ fault. JudgedCause fault size count entry.now) }
+{
+    let bytes = struct_of(entry).ok_or(MountFault::NoSuperblock)?;
+    let limits = limits_of(bytes, size, count)?;
+    if !are_within(&entry.attributes, limits.attribute) {
+        return Err(MountFault::BadSize);
+    }
+    Ok(limits)
+}
+
+/// Takes the first entry of the first part off, if there is one.
+pub(crate) fn take_first(parts: &mut Vec<Part>) -> Option<Entry>
+    ensures taken { IfSome result (λ entry. TakesFirst parts.old.items parts.new.items entry) }
+    ensures none { IfNone result (BeginsWithNone parts.old.items) }
+{
+    let first = parts.first_mut()?;
+    if first.entries.is_empty() {
+        return None;
+    }
+    Some(first.entries.remove(0))
 }

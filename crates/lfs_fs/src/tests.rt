@@ -1,9 +1,10 @@
 //! Vectors from outside: each log was put together tag by tag, with a checksum of its own, by another program.
 
 use crate::{
-    formatted_volume_is_sound, fronts_begin_each_other, images_mount_to_one_tree,
-    lone_superblock_mounts, mount, mounted_images_have_no_cause, names_are_ordered,
-    pieces_of_links, rows_are_unique,
+    both_sides_hold, entries_are_cut_greedily, entries_weigh_as_stored, formatted_volume_is_sound,
+    fronts_begin_each_other, images_mount_to_one_tree, lone_superblock_mounts, mount,
+    mounted_images_have_no_cause, names_are_ordered, paths_are_ordered, pieces_of_links,
+    rows_are_unique, same_readings_hold_the_same, stored_links_stay,
 };
 use lfs_block::{Image, MountFault};
 use std::alloc::Global;
@@ -172,12 +173,18 @@ fn mounted_image_tells_its_root(rt: HostRuntime) -> Result<(), Fail> {
 
 #[test]
 fn laws_are_called(_rt: HostRuntime) {
+    both_sides_hold();
+    entries_are_cut_greedily();
+    entries_weigh_as_stored();
     formatted_volume_is_sound();
     fronts_begin_each_other();
     images_mount_to_one_tree();
     lone_superblock_mounts();
     mounted_images_have_no_cause();
     names_are_ordered();
+    paths_are_ordered();
     pieces_of_links();
     rows_are_unique();
+    same_readings_hold_the_same();
+    stored_links_stay();
 }

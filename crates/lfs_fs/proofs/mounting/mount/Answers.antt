@@ -27,4 +27,4 @@ returns-clause-mounted g c =
     let limits = c.in_ok-limits.limits in
     let by_size = subst (λ (n : ℕ). IsEmptyRoot n c.count-count.result limits part) c.size-size.ensures.value c.in_ok-limits.ensures.empty in
     let empty = subst (λ (n : ℕ). IsEmptyRoot d.size n limits part) c.count-count.ensures by_size in
-    empty_mounts d part limits _ c.count-count.result c.empty.result c.size-size.ensures.disk c.in_ok-part.ensures.found empty c.first_attributes.ensures c.count-count.ensures c.empty.ensures
+    empty_mounts d part limits _ c.count-count.result c.in-Ok.mounted c.size-size.ensures.disk c.in_ok-part.ensures.found empty c.first_attributes.ensures c.count-count.ensures c.in-Ok.ensures

@@ -1,9 +1,10 @@
-use Rattle.std.proofs.Common.{◌≡◌, ◌-◌, length, sym, subst}
-use Rattle.std.proofs.lemmas.List.FromFn.{length-range_with_len}
+use Rattle.std.proofs.Common.{◌≡◌, Bool, not, length, count_by, rules, sym, ◌∙◌, ap}
 use Rattle.lfs_fs.specs.Mounted.{MountedValue}
+use Rattle.lfs_fs.proofs.UnusedLemmas.{length_unused}
 use Rattle.lfs_fs.proofs.mounted.Mounted.free_count.Goals as goal
 
 pub returns : goal.returns
 returns c =
-    let free = sym (length-range_with_len 2 (c.self.inside.count - 2)) in
-    subst (λ (m : MountedValue). c.self.inside.count - 2 ≡ length m.free) c.self.view_is free
+    let flags = c.self.inside.used.items in
+    let counted : c.count.result ≡ count_by (λ (used : Bool). not used) flags = search rules in
+    counted ∙ sym (length_unused 0 flags) ∙ ap (λ (m : MountedValue). length m.free) c.self.view_is

@@ -1,0 +1,30 @@
+use Rattle.std.proofs.Common.{◌≡◌, ◌+◌, ◌++◌, ◌-◌, ◌<◌, ℕ, List, false, [], ◌∷◌, length, take, drop, arith, ap, ◌∙◌, subst, sym}
+use Rattle.std.proofs.lemmas.List.{length_push}
+use Rattle.lfs_fs.specs.Unused.{unused, unused_from}
+use Rattle.lfs_fs.proofs.UnusedLemmas.{lowest_more_used, lowest_more_unused}
+use Rattle.lfs_fs.proofs.mounted.lowest_unused.Goals as goal
+use Rattle.lfs_fs.proofs.mounted.lowest_unused.Goals.{then-not-used+in_ok-push, else-not-used}
+
+pub loop-block-preserved : goal.loop-block-preserved
+loop-block-preserved c =
+    let n = c.args.n in
+    let i = c.loop-block.block in
+    let flags = c.args.used.now in
+    let old = c.loop-block.lowest.items in
+    let new = c.if-not-used.lowest.items in
+    let few : length old < n = omega arith in
+    elim c.if-not-used.branch [
+      | then-not-used+in_ok-push w ↦
+          let is : new ≡ old ++ i ∷ [] = ap (λ v. v.items) w.lowest-is ∙ w.in_ok-push.ensures.items in
+          record {
+            whole = lowest_more_unused n i flags old new false c.loop-block-test.true w.if-not-used.true few is c.loop-block.invariant.whole;
+            few = omega (arith, ap length is, length_push old i);
+          }
+      | else-not-used w ↦
+          let is : old ≡ new = sym (ap (λ v. v.items) w.lowest-is) in
+          let rest = unused_from (i + 1) (drop (i + 1) flags) in
+          record {
+            whole = subst (λ (bs : List ℕ). bs ++ take (n - length bs) rest ≡ take n (unused flags)) is (lowest_more_used n i flags old false c.loop-block-test.true w.if-not-used.false c.loop-block.invariant.whole);
+            few = omega (arith, ap length is);
+          }
+    ]

@@ -1,0 +1,31 @@
+//! Mounting an image as a whole.
+
+ghost use Rattle.std.specs.Prelude.{IfOk, IfErr};
+ghost use Rattle.lfs_fs.specs.Cause.{HasCause};
+ghost use Rattle.lfs_fs.specs.Mounted.{IsMountOf};
+
+use crate::gathering::{Gathered, gather};
+use crate::mounted::Mounted;
+use crate::walk::walk;
+use lfs_block::{Blocks, MountFault};
+use std::alloc::Global;
+
+/// Judges an image: what stands at each path, the pairs of its thread, its limits and its free blocks, or a cause for which
+/// it doesn't mount. Where several causes hold, the answer is one of them. `Memory` says only that a growth was refused.
+///
+/// Source: own.
+pub(crate) fn mount_whole<B: Blocks>(alloc: Global, blocks: &B) -> Result<Mounted, MountFault>
+    ensures mounted { IfOk result (λ m. IsMountOf (B.disk blocks.now) m) }
+    ensures refused { IfErr result (λ fault. HasCause (B.disk blocks.now) fault) }
+{
+    let Gathered {
+        folders,
+        thread,
+        used,
+        limits,
+        attributes,
+    } = gather(alloc, blocks)?;
+    let rows = walk(alloc, folders, attributes)?;
+    prove!(used.len() == blocks.count() as usize);
+    Ok(Mounted::new(rows, thread, limits, used))
+}
