@@ -1,0 +1,78 @@
+//! Laws of commands: each function does nothing but call laws, and its contract is the law.
+
+ghost use Rattle.lfs_edit.specs.Laws.{CleansFollow, CommandsAreFrugal, CommandsFollow, CutsAreFrugal, CutsFollow, FewPartsChange, FreeAfter, NeedIsExact, NeedIsTheSame, UsesAfter};
+ghost use Rattle.lfs_edit.specs.Written.{HeldAreClean, WrittenAreHeld};
+
+use lfs_file::chain_stays_law;
+use lfs_fs::{entries_are_cut_greedily, names_are_ordered, stored_links_stay};
+use lfs_meta::parts_depend_on_their_blocks;
+
+/// A law: on a sound volume, a command that no check refuses, on supplies that are free, leaves a sound volume of the same
+/// size, count and limits, whose tree is the command's equation at every path. Takes no memory.
+///
+/// Source: own.
+pub fn commands_follow()
+    ensures { CommandsFollow }
+{
+    names_are_ordered();
+}
+
+/// A law: so it is when the parts that the command sets are cut, into pairs that were free (`cut`), and when its marks are
+/// taken off (`clean`). Takes no memory.
+///
+/// Source: own.
+pub fn cuts_follow()
+    ensures cut { CutsFollow }
+    ensures clean { CleansFollow }
+{
+    names_are_ordered();
+    entries_are_cut_greedily();
+}
+
+/// A law: every part that a command doesn't set keeps its entries, its tail and its delta, before parts are cut
+/// (`command`) and when they are (`cut`). Takes no memory.
+///
+/// Source: own.
+pub fn commands_are_frugal()
+    ensures command { CommandsAreFrugal }
+    ensures cut { CutsAreFrugal }
+{}
+
+/// A law: what a command needs doesn't depend on which blocks it gets (`same`), and is the number of its new blocks: those
+/// of its contents, two for a new directory, two for each run behind the first of each part that it sets (`exact`). It sets
+/// at most two parts, a new directory's own aside (`few`). Takes no memory.
+///
+/// Source: own.
+pub fn need_is_exact()
+    ensures same { NeedIsTheSame }
+    ensures exact { NeedIsExact }
+    ensures few { FewPartsChange }
+{
+    names_are_ordered();
+    entries_are_cut_greedily();
+}
+
+/// A law: the free blocks after a command are those before it without its supplies and its new pairs, with the blocks of
+/// contents that it removed or replaced and of a directory that it removed. Takes no memory.
+///
+/// Source: own.
+pub fn free_after()
+    ensures uses { UsesAfter }
+    ensures free { FreeAfter }
+{
+    names_are_ordered();
+    entries_are_cut_greedily();
+}
+
+/// A law: an image holds the edited volume where the parts that the command sets are written so, and no other block that the
+/// volume used (`held`). A volume that an image holds has no marks (`clean`). Takes no memory.
+///
+/// Source: own.
+pub fn written_volumes_are_held()
+    ensures held { WrittenAreHeld }
+    ensures clean { HeldAreClean }
+{
+    parts_depend_on_their_blocks();
+    chain_stays_law();
+    stored_links_stay();
+}
