@@ -3,7 +3,7 @@ use Rattle.std.specs.Prelude.{ℕ}
 use Rattle.lfs_block.specs.declared.image_fault.ImageFault.{ImageFault}
 use Rattle.lfs_block.specs.declared.image_fault.ImageFault.TheVariants.{ImageLength, BadGeometry}
 use Rattle.lfs_block.specs.declared.mount_fault.MountFault.{MountFault}
-use Rattle.lfs_block.specs.declared.mount_fault.MountFault.TheVariants.{NoValidCommit, UnknownTag, BadTag, IncompleteEntry, BadName, BadSkipList, NoSuperblock, Version, Geometry, Limits, OrderFault, BlockRange, BlockTwice, MissingDirectory, Orphan, UnfinishedMove, SuperblockElsewhere, BadSize, UnknownState, NotYet, Memory}
+use Rattle.lfs_block.specs.declared.mount_fault.MountFault.TheVariants.{NoValidCommit, UnknownTag, BadTag, IncompleteEntry, BadName, BadSkipList, NoSuperblock, Version, Geometry, Limits, OrderFault, BlockRange, BlockTwice, MissingDirectory, Orphan, UnfinishedMove, SuperblockElsewhere, BadSize, UnknownState, Memory}
 
 abbrev pub image_fault_number : ImageFault → ℕ
 image_fault_number ImageLength = 1
@@ -29,5 +29,4 @@ mount_fault_number UnfinishedMove = 18
 mount_fault_number SuperblockElsewhere = 19
 mount_fault_number BadSize = 20
 mount_fault_number UnknownState = 21
-mount_fault_number NotYet = 22
 mount_fault_number Memory = 44

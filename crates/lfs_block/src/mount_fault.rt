@@ -5,7 +5,7 @@ ghost use Rattle.lfs_block.specs.Faults.{mount_fault_number};
 
 use thiserror::Error;
 
-/// Why an image does not mount. Each but `NotYet` and `Memory` names a cause that the image has.
+/// Why an image does not mount. Each but `Memory` names a cause that the image has.
 ///
 /// Source: own.
 #[derive(Clone, Copy, Debug, PartialEq, Eq, Error)]
@@ -67,16 +67,13 @@ pub enum MountFault {
     /// The global state is not zero, and says neither that a move is unfinished nor that there may be orphans.
     #[error("UnknownState")]
     UnknownState,
-    /// The image holds more than an empty root, which is not read yet.
-    #[error("NotYet")]
-    NotYet,
     /// A growth of memory was refused.
     #[error("Memory")]
     Memory,
 }
 
 impl MountFault {
-    /// The fault's number: 3 to 22, and 44 for `Memory`.
+    /// The fault's number: 3 to 21, and 44 for `Memory`.
     pub fn number(self) -> u8
         ensures { result ≡ mount_fault_number self }
     {
@@ -100,7 +97,6 @@ impl MountFault {
             MountFault::SuperblockElsewhere => 19,
             MountFault::BadSize => 20,
             MountFault::UnknownState => 21,
-            MountFault::NotYet => 22,
             MountFault::Memory => 44,
         }
     }

@@ -83,8 +83,5 @@ fn fault_numbers(rt: HostRuntime) {
         ),
         (3, 21)
     );
-    assert_eq!(rt;
-        (MountFault::NotYet.number(), MountFault::Memory.number()),
-        (22, 44)
-    );
+    assert_eq!(rt; MountFault::Memory.number(), 44);
 }

@@ -21,8 +21,7 @@ use Rattle.lfs_fs.specs.State.{delta_of}
 use Rattle.lfs_fs.specs.Thread.{pieces}
 use Rattle.lfs_fs.specs.Reading.{Reading, reading_of}
 use Rattle.lfs_fs.specs.Front.{pair_names, pairs_name}
-use Rattle.lfs_fs.specs.EmptyRoot.{IsSuperblock}
-use Rattle.lfs_fs.specs.Superblock.{HasSuperblock, superblock_entry}
+use Rattle.lfs_fs.specs.Superblock.{HasSuperblock, IsSuperblock, superblock_entry}
 use Rattle.lfs_fs.specs.Header.{HeaderCause}
 use Rattle.lfs_fs.specs.Held.{directories_at, volume_at}
 use Rattle.lfs_fs.specs.EntryFault.{MisorderedNames}

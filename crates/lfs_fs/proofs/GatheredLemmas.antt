@@ -24,8 +24,7 @@ use Rattle.lfs_fs.specs.Thread.{Link, pieces}
 use Rattle.lfs_fs.specs.Sound.{IsProper, Rise, AreAttributes}
 use Rattle.lfs_fs.specs.Reading.{Reading, reading_of}
 use Rattle.lfs_fs.specs.Front.{IsThread, pair_names, pairs_name}
-use Rattle.lfs_fs.specs.EmptyRoot.{IsSuperblock}
-use Rattle.lfs_fs.specs.Superblock.{Header, HasSuperblock, header_of}
+use Rattle.lfs_fs.specs.Superblock.{Header, HasSuperblock, IsSuperblock, header_of}
 use Rattle.lfs_fs.specs.Held.{resolved_as, resolved, link_of, link_at, directories_at, volume_at}
 use Rattle.lfs_fs.specs.Holds.{Holds, IsResolved}
 use Rattle.lfs_fs.specs.Shown.{ShownDirectory, shown_directory}
@@ -33,7 +32,7 @@ use Rattle.lfs_fs.specs.Gathering.{PairPart, delta_from, NamesRise, link_from, s
 use Rattle.lfs_fs.specs.ThreadRead.{pairs_of, IsPartRead, IsThreadRead}
 use Rattle.lfs_fs.specs.Judged.{IsJudged, with_entries, TakesFirst}
 use Rattle.lfs_fs.specs.Gathered.{IsSoundUnwalked, IsGathered}
-use Rattle.lfs_fs.proofs.EmptyRootLemmas.{super_by}
+use Rattle.lfs_fs.proofs.SuperblockLemmas.{super_by}
 use Rattle.lfs_fs.proofs.CountLemmas.{part_uses, uses_at, link_pair}
 use Rattle.lfs_fs.proofs.ThreadReadLemmas.{marked_once, marked_within}
 use Rattle.lfs_fs.proofs.FoldersLemmas.{shown_pieces, starts_at_root, each_entry, thread_of_pieces, all_rise}

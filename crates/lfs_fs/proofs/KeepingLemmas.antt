@@ -27,7 +27,7 @@ use Rattle.lfs_fs.specs.Held.{chained, resolved_body, resolved}
 use Rattle.lfs_fs.specs.FrontCause.{IsOversized, stored_size, stored_name_length}
 use Rattle.lfs_fs.specs.Shown.{ShownBody, shown_body, shown_entry, InBlocks}
 use Rattle.lfs_fs.specs.Gathering.{HasNoChain, stored_length, KeepsBody, IsWithin, KeepsEntry, stored_uses}
-use Rattle.lfs_fs.proofs.EmptyRootLemmas.{are_attributes}
+use Rattle.lfs_fs.proofs.SuperblockLemmas.{are_attributes}
 use Rattle.lfs_fs.proofs.ResolvedLemmas.{stood_for, resolved_is}
 
 -- ---- limits

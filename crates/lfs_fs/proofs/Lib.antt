@@ -17,7 +17,7 @@ pub mod StandsLemmas
 pub mod WeightLemmas
 pub mod RowLemmas
 pub mod RootMountLemmas
-pub mod EmptyRootLemmas
+pub mod SuperblockLemmas
 pub mod OneMountLemmas
 pub mod PrefixLemmas
 pub mod StoredLemmas

@@ -1,15 +1,10 @@
 -- What is gathered of an image and listed by the walk is what it mounts to; what the walk refuses is a cause.
-use Rattle.std.proofs.Common.{◌≡◌, ℕ, ◌+◌, ◌<◌, ◌≤◌, ◌==◌, Bool, true, false, List, [], ◌∷◌, length, refl, ap, sym, ◌∙◌, subst, arith, inl, inr, suc}
-use Rattle.std.specs.Prelude.{slice_index_or, if◌then◌else◌}
-use Rattle.std.specs.List.{filter, range_with_len}
+use Rattle.std.proofs.Common.{◌≡◌, ◌≤◌, List, ap, sym, ◌∙◌, subst, arith, inl, inr}
 use Rattle.lfs_block.specs.Disk.{Disk}
 use Rattle.lfs_block.specs.declared.mount_fault.MountFault.{MountFault}
 use Rattle.lfs_block.specs.declared.mount_fault.MountFault.TheVariants.{MissingDirectory, BlockTwice, Orphan, Memory}
 use Rattle.lfs_fs.specs.Volume.{Volume}
-use Rattle.lfs_fs.specs.Uses.{uses}
-use Rattle.lfs_fs.specs.Free.{free_blocks}
-use Rattle.lfs_fs.specs.Used.{Marks}
-use Rattle.lfs_fs.specs.Unused.{unused_from, unused}
+use Rattle.lfs_fs.specs.Unused.{unused}
 use Rattle.lfs_fs.specs.Sound.{IsSound}
 use Rattle.lfs_fs.specs.Row.{Row}
 use Rattle.lfs_fs.specs.Reading.{reading_of}
@@ -23,24 +18,7 @@ use Rattle.lfs_fs.specs.Gathered.{IsSoundUnwalked, IsGathered}
 use Rattle.lfs_fs.specs.Walked.{IsWalkable, IsListed, WalkCause}
 use Rattle.lfs_fs.specs.declared.gathering.Gathered.{Gathered}
 use Rattle.lfs_fs.proofs.CountLemmas.{count_uses}
-
--- ---- free blocks
-
-flag_by : (first : ℕ) (used : Bool) (flags : List Bool) (f : ℕ → ℕ) → (if used then 1 else 0) ≡ f first → unused_from (first + 1) flags ≡ filter (λ b. f b == 0) (range_with_len (first + 1) (length flags))
-    → unused_from first (used ∷ flags) ≡ filter (λ b. f b == 0) (range_with_len first (suc (length flags)))
-flag_by first true flags f is rest = rw (sym is) rest
-flag_by first false flags f is rest = rw (sym is) (ap (λ (bs : List ℕ). first ∷ bs) rest)
-
-unused_filter : (first : ℕ) (flags : List Bool) (f : ℕ → ℕ) → ((i : ℕ) → i < length flags → (if slice_index_or flags i false then 1 else 0) ≡ f (first + i)) → unused_from first flags ≡ filter (λ b. f b == 0) (range_with_len first (length flags))
-unused_filter first [] f is = refl
-unused_filter first (used ∷ flags) f is =
-    let here : (if used then 1 else 0) ≡ f first = is 0 (omega arith) ∙ ap f (omega arith) in
-    let later : (i : ℕ) → i < length flags → (if slice_index_or flags i false then 1 else 0) ≡ f (first + 1 + i) = λ i within. is (suc i) (omega (arith, within)) ∙ ap f (omega arith) in
-    flag_by first used flags f here (unused_filter (first + 1) flags f later)
-
-pub unused_are_free : (v : Volume) (flags : List Bool) → length flags ≡ v.count → Marks flags (λ b. uses b v) → unused flags ≡ free_blocks v
-unused_are_free v flags len marks =
-    unused_filter 0 flags (λ b. uses b v) (λ i within. marks i ∙ ap (λ (b : ℕ). uses b v) (omega arith)) ∙ ap (λ (n : ℕ). filter (λ b. uses b v == 0) (range_with_len 0 n)) len
+use Rattle.lfs_fs.proofs.UnusedLemmas.{unused_free}
 
 -- ---- the walk
 
@@ -90,5 +68,5 @@ mounted_by d g found rows m listed is = rw is (record {
   rows = listed.listed;
   thread = found.pairs;
   limits = found.limits;
-  free = unused_are_free found.volume g.used.items (found.len ∙ ap (λ (v : Volume). v.count) (sym found.holds.is)) found.marks;
+  free = unused_free found.volume g.used.items (found.len ∙ ap (λ (v : Volume). v.count) (sym found.holds.is)) found.marks;
 })

@@ -282,7 +282,6 @@ none_of d v fault.UnfinishedMove law lengths h sound of c = no_state (reading_of
 none_of d v fault.SuperblockElsewhere law lengths h sound of c = no_elsewhere (reading_of d) v h c
 none_of d v fault.BadSize law lengths h sound of c = no_oversized (reading_of d) v h sound lengths c
 none_of d v fault.UnknownState law lengths h sound of c = (no_state (reading_of d) v IsUnknownState h sound c).0 refl
-none_of d v fault.NotYet law lengths h sound of c = absurd of
 none_of d v fault.Memory law lengths h sound of c = absurd of
 
 pub mounted_have_no_cause : PairsWithCausesAreUnread → FoundAreChains → ContentHasLength → MountedHaveNoCause

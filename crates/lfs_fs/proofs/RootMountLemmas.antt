@@ -1,19 +1,13 @@
--- What an image mounts to whose root's first pair holds its superblock alone, and the causes that the pair shows.
-use Rattle.std.proofs.Common.{◌≡◌, ℕ, ◌-◌, ◌<◌, ◌≤◌, List, [], ◌∷◌, refl, ap, arith, ◌∙◌, sym, length}
+-- What an image mounts to whose root's first pair holds its superblock alone.
+use Rattle.std.proofs.Common.{◌≡◌, ℕ, ◌<◌, ◌≤◌, List, [], ◌∷◌, refl, ap, arith, ◌∙◌, sym, length}
 use Rattle.std.specs.Prelude.{Some, None, replicate, option_map, IsSome, true, zero, suc}
 use Rattle.std.proofs.lemmas.Option.{none-some}
-use Rattle.std.specs.List.{Contains, range_with_len, slice_get}
+use Rattle.std.specs.List.{Contains}
 use Rattle.std.proofs.lemmas.Bool.Decides.{nat_tests}
 use Rattle.std.proofs.lemmas.List.Elements.{All-cons, All-nil}
-use mathlib.Core.Logic.{inr}
-use Rattle.lfs_block.specs.Disk.{Disk, IsDisk}
-use Rattle.lfs_block.specs.declared.mount_fault.MountFault.{MountFault}
-use Rattle.lfs_block.specs.declared.mount_fault.MountFault.TheVariants.{NoValidCommit, UnknownTag, BadTag, IncompleteEntry, BadName, NoSuperblock as No_superblock, Version, Geometry, Limits, BadSize, NotYet, Memory}
 use Rattle.lfs_meta.specs.declared.tail.Tail.TheVariants.{End}
 use Rattle.lfs_meta.specs.Attribute.{Attributes}
 use Rattle.lfs_meta.specs.Body.{Pair}
-use Rattle.lfs_meta.specs.Cause.{PairCause, ReadCause}
-use Rattle.lfs_meta.specs.Entry.{StoredEntry}
 use Rattle.lfs_meta.specs.LiveBlock.{stored_part_of}
 use Rattle.lfs_meta.specs.Part.{StoredPart}
 use Rattle.lfs_fs.specs.declared.limits.Limits.{Limits as LimitsOf}
@@ -28,14 +22,9 @@ use Rattle.lfs_fs.specs.Reading.{Reading, reading_of}
 use Rattle.lfs_fs.specs.Front.{IsFront, IsThread, pairs_name}
 use Rattle.lfs_fs.specs.Superblock.{HasSuperblock, header_of, superblock_entry}
 use Rattle.lfs_fs.specs.Holds.{Holds, IsResolved}
-use Rattle.lfs_fs.specs.Mounted.{MountedValue, IsMountOf}
-use Rattle.lfs_fs.specs.FrontCause.{Unread}
-use Rattle.lfs_fs.specs.SuperblockCause.{SuperblockIs}
-use Rattle.lfs_fs.specs.Cause.{HasCause}
 use Rattle.lfs_fs.specs.Formatted.{empty_volume}
-use Rattle.lfs_fs.specs.Header.{IsHeader, HeaderCause}
+use Rattle.lfs_fs.specs.Header.{IsHeader}
 use Rattle.lfs_fs.specs.LoneSuperblock.{IsLoneSuperblock, LoneSuperblockMounts}
-use Rattle.lfs_fs.specs.EmptyRoot.{BeginsWithSuperblock, IsEmptyRoot, RootCause, SuperblockHas}
 use Rattle.lfs_fs.proofs.FormattedLemmas.{empty_is_sound, empty_leaves_the_rest}
 
 -- ---- the root's first pair
@@ -48,9 +37,6 @@ root_names_once b = grind (arith, nat_tests)
 
 root_front : (r : Reading) → 2 ≤ r.count → IsFront r (root ∷ [])
 root_front r h = record { follow = (refl, tt); within = λ b named. root_names_within b r.count h named; once = root_names_once }
-
-root_there : Contains (root ∷ []) root
-root_there = (0, omega arith, refl)
 
 -- the superblock alone
 abbrev super_part : List ℕ → Attributes → StoredPart
@@ -125,65 +111,3 @@ mounted_root d p bytes attributes disk is alone header fit =
       limits = refl;
       free = sym (empty_leaves_the_rest d.size d.count (header_of bytes []).limits attributes two);
     }
-
--- what is mounted of an empty root
-pub empty_mounts : (d : Disk) (p : StoredPart) (limits : LimitsOf) (attributes : Attributes) (n : ℕ) (m : MountedValue) → IsDisk d → stored_part_of d root ≡ Some p → IsEmptyRoot d.size d.count limits p
-    → option_map (λ (e : StoredEntry). e.attributes) (slice_get p.entries 0) ≡ Some attributes → n ≡ d.count
-    → m ≡ record { rows = root_row attributes ∷ []; thread = root ∷ []; limits = limits; free = range_with_len 2 (n - 2) } → IsMountOf d m
-empty_mounts d p limits attributes n m disk is empty first counted value =
-    let whole : Some empty.attributes ≡ Some attributes = ap (λ (es : List StoredEntry). option_map (λ (e : StoredEntry). e.attributes) (slice_get es 0)) (sym empty.alone.is) ∙ first in
-    let same : attributes ≡ empty.attributes = cc in
-    rw (value, same, empty.limits_are, counted) (mounted_root d p empty.bytes empty.attributes disk is empty.alone empty.header empty.fit)
-
--- ---- why it doesn't mount
-
--- the part begins with a superblock just where the image has it
-superblock_by : (d : Disk) (p : StoredPart) (bytes : List ℕ) (attributes : Attributes) → stored_part_of d root ≡ Some p → BeginsWithSuperblock p bytes attributes → HasSuperblock (reading_of d) bytes attributes
-superblock_by d p bytes attributes is begins = record { part = p; read = is; others = begins.others; is = begins.is; len = begins.len }
-
-begins_by : (d : Disk) (p : StoredPart) (bytes : List ℕ) (attributes : Attributes) → stored_part_of d root ≡ Some p → HasSuperblock (reading_of d) bytes attributes → BeginsWithSuperblock p bytes attributes
-begins_by d p bytes attributes is super =
-    let same : p ≡ super.part = cc (is, super.read) in
-    record { others = super.others; is = ap (λ (x : StoredPart). x.entries) same ∙ super.is; len = super.len }
-
-unread : (d : Disk) (fault : MountFault) → IsDisk d → PairCause fault d root → Unread d fault
-unread d fault disk h = record { front = root ∷ []; is_front = root_front (reading_of d) disk.geometry.count_fits.0; pair = root; there = root_there; cause = h }
-
--- why the pair isn't read is a cause of the image
-pub read_cause : (d : Disk) (fault : MountFault) → IsDisk d → ReadCause fault d root → HasCause d fault
-read_cause d NoValidCommit disk h = unread d NoValidCommit disk h
-read_cause d UnknownTag disk h = unread d UnknownTag disk h
-read_cause d BadTag disk h = unread d BadTag disk h
-read_cause d IncompleteEntry disk h = unread d IncompleteEntry disk h
-read_cause d BadName disk h = unread d BadName disk h
-read_cause d Memory disk h = tt
-read_cause d _ disk h = absurd h
-
-superblock_is : (d : Disk) (p : StoredPart) (these : List ℕ → Type 0) → stored_part_of d root ≡ Some p → SuperblockHas p (λ bytes attributes. these bytes) → SuperblockIs (reading_of d) these
-superblock_is d p these is h = record { bytes = h.bytes; attributes = h.attributes; superblock = superblock_by d p h.bytes h.attributes is h.begins; is = h.is }
-
--- and why what it holds is refused
-pub root_cause : (d : Disk) (p : StoredPart) (fault : MountFault) → IsDisk d → stored_part_of d root ≡ Some p → RootCause fault d.size d.count p → HasCause d fault
-root_cause d p No_superblock disk is h = record { part = p; read = is; none = λ bytes attributes super. h bytes attributes (begins_by d p bytes attributes is super) }
-root_cause d p Version disk is h = superblock_is d p (HeaderCause Version d.size d.count) is h
-root_cause d p Geometry disk is h = superblock_is d p (HeaderCause Geometry d.size d.count) is h
-root_cause d p Limits disk is h = superblock_is d p (HeaderCause Limits d.size d.count) is h
-root_cause d p BadSize disk is h = record {
-  bytes = h.bytes;
-  attributes = h.attributes;
-  superblock = superblock_by d p h.bytes h.attributes is h.begins;
-  entry = superblock_entry h.bytes h.attributes;
-  stored = record {
-    front = root ∷ [];
-    is_front = root_front (reading_of d) disk.geometry.count_fits.0;
-    pair = root;
-    there = root_there;
-    part = p;
-    read = is;
-    index = 0;
-    member = rw h.begins.is refl;
-  };
-  over = inr (inr h.is);
-}
-root_cause d p NotYet disk is h = record { part = p; read = is; more = h }
-root_cause d p _ disk is h = absurd h.is

@@ -1,8 +1,8 @@
 -- The blocks that a table of flags leaves unused.
-use Rattle.std.proofs.Common.{◌≡◌, ℕ, ◌+◌, ◌-◌, ◌<◌, ◌≤◌, Bool, true, false, not, List, [], ◌∷◌, ◌++◌, zero, suc, length, take, drop, get_or, replicate, cond, refl, ap, sym, ◌∙◌, arith, add-one, drop-cons}
+use Rattle.std.proofs.Common.{◌≡◌, ℕ, ◌+◌, ◌-◌, ◌<◌, Bool, true, false, not, List, [], ◌∷◌, ◌++◌, suc, length, take, drop, get_or, cond, refl, ap, sym, ◌∙◌, arith, add-one, drop-cons}
 use Rattle.std.specs.Prelude.{◌==◌, if◌then◌else◌, count_by}
 use Rattle.std.specs.List.{filter, range_with_len}
-use Rattle.std.proofs.lemmas.List.{take_all, length_push, append_assoc}
+use Rattle.std.proofs.lemmas.List.{length_push, append_assoc}
 use Rattle.std.proofs.lemmas.Bool.Decides.{nat_tests}
 use Rattle.std.proofs.lemmas.List.Sums.{sum_by-cons}
 use Rattle.lfs_fs.specs.Volume.{Volume}
@@ -15,18 +15,6 @@ pub length_unused : (first : ℕ) (flags : List Bool) → length (unused_from fi
 length_unused first [] = refl
 length_unused first (true ∷ flags) = omega (arith, length_unused (first + 1) flags, sum_by-cons (λ (used : Bool). if not used then 1 else 0) true flags)
 length_unused first (false ∷ flags) = omega (arith, length_unused (first + 1) flags, sum_by-cons (λ (used : Bool). if not used then 1 else 0) false flags)
-
--- flags none of which is set
-unused_replicate : (first n : ℕ) → unused_from first (replicate n false) ≡ range_with_len first n
-unused_replicate first zero = refl
-unused_replicate first (suc n) = ap (λ (bs : List ℕ). first ∷ bs) (unused_replicate (first + 1) n)
-
--- two flags that are set, and others that aren't
-pub unused_root : (count : ℕ) (used flags : List Bool) → 2 ≤ count → used ≡ true ∷ true ∷ [] → flags ≡ take count used ++ replicate (count - 2) false → unused flags ≡ range_with_len 2 (count - 2)
-unused_root count used flags room two is =
-    let front : take count used ≡ true ∷ true ∷ [] = ap (take count) two ∙ take_all count (true ∷ true ∷ []) room in
-    let whole : flags ≡ true ∷ true ∷ replicate (count - 2) false = is ∙ ap (λ (xs : List Bool). xs ++ replicate (count - 2) false) front in
-    ap unused whole ∙ unused_replicate 2 (count - 2)
 
 -- the next flag, where it is set
 more_used : (first : ℕ) (flags : List Bool) (i : ℕ) (d : Bool) → i < length flags → get_or flags i d ≡ true → unused_from first (drop i flags) ≡ unused_from (first + 1) (drop (i + 1) flags)

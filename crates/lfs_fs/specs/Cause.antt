@@ -2,13 +2,12 @@
 use Rattle.std.specs.Prelude.{◌⊎◌}
 use Rattle.lfs_block.specs.Disk.{Disk}
 use Rattle.lfs_block.specs.declared.mount_fault.MountFault.{MountFault}
-use Rattle.lfs_block.specs.declared.mount_fault.MountFault.TheVariants.{NoValidCommit, UnknownTag, BadTag, IncompleteEntry, BadName, BadSkipList, NoSuperblock as No_superblock, Version, Geometry, Limits, OrderFault, BlockRange, BlockTwice, MissingDirectory, Orphan, UnfinishedMove, SuperblockElsewhere as Superblock_elsewhere, BadSize, UnknownState, NotYet, Memory}
+use Rattle.lfs_block.specs.declared.mount_fault.MountFault.TheVariants.{NoValidCommit, UnknownTag, BadTag, IncompleteEntry, BadName, BadSkipList, NoSuperblock as No_superblock, Version, Geometry, Limits, OrderFault, BlockRange, BlockTwice, MissingDirectory, Orphan, UnfinishedMove, SuperblockElsewhere as Superblock_elsewhere, BadSize, UnknownState, Memory}
 use Rattle.lfs_fs.specs.State.{IsUnfinishedMove, SaysOrphans, IsUnknownState}
 use Rattle.lfs_fs.specs.Reading.{reading_of}
 use Rattle.lfs_fs.specs.FrontCause.{Unread, NoChain, FrontOrder, TailRange, EntryRange, FrontTwice, SuperblockElsewhere, EntryOversized}
 use Rattle.lfs_fs.specs.SuperblockCause.{NoSuperblock, WrongVersion, WrongGeometry, WrongLimits}
 use Rattle.lfs_fs.specs.ThreadCause.{ThreadMissing, ThreadOrphan, HasState}
-use Rattle.lfs_fs.specs.NotYet.{HasMoreThanRoot}
 
 -- what each fault says of the image; want of memory says nothing
 abbrev pub HasCause : Disk → MountFault → Type 0
@@ -31,11 +30,9 @@ HasCause d UnfinishedMove = HasState (reading_of d) IsUnfinishedMove
 HasCause d Superblock_elsewhere = SuperblockElsewhere (reading_of d)
 HasCause d BadSize = EntryOversized (reading_of d)
 HasCause d UnknownState = HasState (reading_of d) IsUnknownState
-HasCause d NotYet = HasMoreThanRoot d
 HasCause d Memory = Unit {0}
 
--- the faults that say something of the format: all but want of memory and what is not read yet
+-- the faults that say something of the format: all but want of memory
 abbrev pub IsOfFormat : MountFault → Type 0
-IsOfFormat NotYet = ⊥
 IsOfFormat Memory = ⊥
 IsOfFormat _ = Unit {0}

@@ -5,11 +5,10 @@ use Rattle.lfs_block.specs.declared.mount_fault.MountFault.{MountFault}
 use Rattle.lfs_block.specs.declared.mount_fault.MountFault.TheVariants.{NoSuperblock, BadSize}
 use Rattle.lfs_meta.specs.Entry.{StoredEntry}
 use Rattle.lfs_fs.specs.declared.limits.Limits.{Limits}
-use Rattle.lfs_fs.specs.EmptyRoot.{IsSuperblock}
 use Rattle.lfs_fs.specs.Gathering.{PairPart}
 use Rattle.lfs_fs.specs.Header.{IsHeader, HeaderCause}
 use Rattle.lfs_fs.specs.Sound.{AreAttributes}
-use Rattle.lfs_fs.specs.Superblock.{header_of}
+use Rattle.lfs_fs.specs.Superblock.{IsSuperblock, header_of}
 
 -- an entry is the superblock of an image of `count` blocks of `size` bytes, and says these limits
 pub record IsJudged (size count : ℕ) (limits : Limits) (e : StoredEntry) : Type 0 where

@@ -29,7 +29,6 @@ pub mod StoredWeight
 pub mod FrontCause
 pub mod SuperblockCause
 pub mod ThreadCause
-pub mod NotYet
 pub mod Cause
 pub mod Holds
 pub mod Used
@@ -41,7 +40,6 @@ pub mod Mounts
 pub mod LoneSuperblock
 pub mod Mounted
 pub mod Formatted
-pub mod EmptyRoot
 pub mod Header
 pub mod Stored
 pub mod Alike

@@ -23,6 +23,13 @@ word_at bytes i = from_le_bytes w32 (slice_range bytes (4 * i) (4 * i + 4))
 abbrev pub superblock_entry : List ℕ → Attributes → StoredEntry
 superblock_entry bytes attributes = record { kind = Super; name = littlefs; body = Inline bytes; attributes = attributes }
 
+-- an entry is a superblock with these bytes
+pub record IsSuperblock (e : StoredEntry) (bytes : List ℕ) : Type 0 where
+  pub kind : e.kind ≡ Super
+  pub name : e.name ≡ littlefs
+  pub body : e.body ≡ Inline bytes
+  pub len : length bytes ≡ 24
+
 -- The image has one, with these bytes and attributes.
 pub record HasSuperblock (r : Reading) (bytes : List ℕ) (attributes : Attributes) : Type 0 where
   pub part : StoredPart

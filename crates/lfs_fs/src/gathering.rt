@@ -1,6 +1,6 @@
 //! What is gathered of an image before its tree is walked.
 
-ghost use Rattle.std.specs.Prelude.{◌≡◌, true, false, All, [], ◌∷◌, ◌++◌, IfOk, IfErr, OnOk, MatchBool, length};
+ghost use Rattle.std.specs.Prelude.{◌≡◌, true, All, [], IfOk, IfErr, OnOk, MatchBool, length};
 ghost use Rattle.std.specs.List.{AllByRecursion};
 ghost use Rattle.lfs_block.specs.Disk.{IsDisk};
 ghost use Rattle.lfs_meta.specs.Spelling.{IsWhole};

@@ -9,13 +9,13 @@ use std::test::Fail;
 
 // The superblock of 512 by 8, a file `a` with `hi` and an attribute 7 of `!`, a directory `d` of {2, 3}, and a hard
 // tail to {4, 5}.
-const ROOT: &[u8] =
+pub(crate) const ROOT: &[u8] =
     b"\x01\x00\x00\x00\xf0\x0f\xff\xf7littlefs/\xe0\x00\x10\x00\x00\x02\x00\x00\x02\x00\x00\x08\x00\x00\x00\xff\x00\x00\x00\xff\xff\xff\x7f\xfe\x03\x00\x00`\x00\x04\x18@\x00\x00\x01a \x00\x00\x03hi\x10`\x00\x03!p`\x0c\x01@0\x00\x01d  \x00\x09\x02\x00\x00\x00\x03\x00\x00\x00@\x1f\xf4\x00\x04\x00\x00\x00\x05\x00\x00\x000\x10\x00\x03\x1f\xe8\xa6b";
 // A file `e` of 600 bytes whose last block is 7, and a soft tail to {2, 3}.
-const MORE: &[u8] =
+pub(crate) const MORE: &[u8] =
     b"\x01\x00\x00\x00\xff\xef\xff\xfee 0\x00\x09\x07\x00\x00\x00X\x02\x00\x00@/\xfc\x00\x02\x00\x00\x00\x03\x00\x00\x000\x00\x00\x03\x8b\x01\xfb\x81";
 // A file `x`.
-const BELOW: &[u8] = b"\x01\x00\x00\x00\xff\xef\xff\xfex \x00\x00\x01p\x1f\xfc\x0fd'yy";
+pub(crate) const BELOW: &[u8] = b"\x01\x00\x00\x00\xff\xef\xff\xfex \x00\x00\x01p\x1f\xfc\x0fd'yy";
 // A file `c`, behind no tail.
 const BEFORE: &[u8] = b"\x01\x00\x00\x00\xff\xef\xff\xfec \x00\x00\x01p\x1f\xfc\x0f\xc8\xfb\xecW";
 // The superblock and a soft tail to {2, 3}.
@@ -80,14 +80,18 @@ const MIXED: &[u8] =
     b"\x01\x00\x00\x00\x80\x00\x03\xf3\x00\x00\x00\x00\x00\x00\x00\x00\x00\x00\x00\x01/\xf0\x00\x04\xb8\xb2V\xa6";
 
 // Where blocks 2, 4 and 7 begin.
-const TWO: usize = 1_024;
+pub(crate) const TWO: usize = 1_024;
 
-const FOUR: usize = 2_048;
+pub(crate) const FOUR: usize = 2_048;
 
-const SEVEN: usize = 3_584;
+pub(crate) const SEVEN: usize = 3_584;
 
 // an image of 8 blocks of 512 bytes with a log at its head, and bytes at other places
-fn image_with(alloc: Global, root: &[u8], others: &[(usize, &[u8])]) -> Result<Image, Fail> {
+pub(crate) fn image_with(
+    alloc: Global,
+    root: &[u8],
+    others: &[(usize, &[u8])],
+) -> Result<Image, Fail> {
     let mut bytes = vec![in alloc; 0xff; 4_096]?;
     for (old, new) in bytes.iter_mut().zip(root) {
         *old = *new;

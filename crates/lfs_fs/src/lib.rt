@@ -1,7 +1,6 @@
 //! The file system of an image: its volume, why an image does not mount, and what a mounted image shows.
 #![tactic(auto)]
 
-mod empty_root;
 mod folder;
 mod folder_table;
 mod formatted;
@@ -37,7 +36,6 @@ mod thread_reading;
 mod used;
 mod walk;
 mod weight;
-mod whole_mount;
 
 pub use formatted::formatted_volume_is_sound;
 pub use front::fronts_begin_each_other;

@@ -6,8 +6,6 @@ ghost use Rattle.lfs_fs.specs.Unused.{unused};
 use crate::limits::Limits;
 use crate::listed_row::Row;
 use crate::path::Path;
-use crate::row_body::RowBody;
-use lfs_meta::Attribute;
 use std::alloc::{AllocError, Global};
 use std::marker::Model;
 
@@ -59,11 +57,9 @@ fn lowest_unused(alloc: Global, used: &[bool], n: u32) -> Result<Vec<u32>, Alloc
 }
 
 impl Mounted {
-    ghost use Rattle.std.specs.Prelude.{◌≡◌, ◌≢◌, ◌-◌, ◌<◌, ◌≤◌, ◌^◌, [], ◌∷◌, length, take, map, count_by, not, All, Some, IfOk, IfSome, IfNone, slice_get};
-    ghost use Rattle.std.specs.List.{range_with_len};
+    ghost use Rattle.std.specs.Prelude.{◌≡◌, ◌≢◌, ◌<◌, ◌≤◌, ◌^◌, length, take, count_by, not, All, Some, IfSome, IfNone, slice_get};
     ghost use Rattle.std.specs.Option.{option_map};
-    ghost use Rattle.lfs_fs.specs.Pair.{root};
-    ghost use Rattle.lfs_fs.specs.Row.{Folder, is_folder};
+    ghost use Rattle.lfs_fs.specs.Row.{is_folder};
     ghost use Rattle.lfs_fs.specs.Unused.{unused};
 
     /// What is known of an image, with one flag a block that says whether it is used. Takes no memory.
@@ -87,35 +83,6 @@ impl Mounted {
             limits,
             used,
         }
-    }
-
-    /// The root alone, with these attributes, in an image of `count` blocks.
-    pub(crate) fn empty(
-        alloc: Global,
-        attributes: Vec<Attribute>,
-        limits: Limits,
-        count: u32,
-    ) -> Result<Mounted, AllocError>
-        requires { 2 ≤ count }
-        ensures { IfOk result (λ m. m ≡ record {
-          rows = record { path = []; body = Folder; attributes = attributes.items } ∷ [];
-          thread = root ∷ [];
-          limits = limits;
-          free = range_with_len 2 (count - 2);
-        }) }
-    {
-        let path = Path::new(Vec::new(alloc));
-        let body = RowBody::Dir;
-        let mut rows = Vec::new(alloc);
-        rows.push(Row {
-            path,
-            body,
-            attributes,
-        })?;
-        let thread = vec![in alloc; (0, 1)]?;
-        let mut used = vec![in alloc; true; 2]?;
-        used.resize(count as usize, false)?;
-        Ok(Mounted::new(rows, thread, limits, used))
     }
 
     /// What stands at each path, in the order of paths. Takes no memory.

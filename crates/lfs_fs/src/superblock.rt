@@ -3,9 +3,8 @@
 ghost use Rattle.std.specs.Prelude.{◌≡◌, ◌≤◌, ◌<◌, ◌+◌, ◌*◌, ℕ, List, [], All, IfOk, IfErr, IfSome, IfNone, IsTrue, MatchBool, ◌↔◌, length};
 ghost use Rattle.std.specs.List.{Any};
 ghost use Rattle.lfs_fs.specs.Header.{IsHeader, HeaderCause};
-ghost use Rattle.lfs_fs.specs.EmptyRoot.{IsSuperblock};
 ghost use Rattle.lfs_fs.specs.Judged.{IsJudged, JudgedCause, TakesFirst, BeginsWithNone};
-ghost use Rattle.lfs_fs.specs.Superblock.{IsLimits, header_of, word_at};
+ghost use Rattle.lfs_fs.specs.Superblock.{IsLimits, IsSuperblock, header_of, word_at};
 
 use crate::limits::Limits;
 use byteorder::{ByteOrder, LittleEndian};
@@ -26,7 +25,7 @@ const MAX_FILE: u32 = 2_147_483_647;
 const MAX_ATTRIBUTE: u32 = 1_022;
 
 /// The struct of an entry, where the entry is a superblock.
-pub(crate) fn struct_of(entry: &Entry) -> Option<&[u8]>
+fn struct_of(entry: &Entry) -> Option<&[u8]>
     ensures found { IfSome result (λ bytes. IsSuperblock entry.now bytes.now) }
     ensures none { IfNone result ((bytes : List ℕ) → IsSuperblock entry.now bytes → ⊥) }
 {
@@ -60,7 +59,7 @@ fn are_limits(limits: Limits) -> bool
 
 /// The limits that a superblock's struct says, where its version and geometry are those of an image of `count` blocks
 /// of `size` bytes and its limits are within their ranges.
-pub(crate) fn limits_of(bytes: &[u8], size: u32, count: u32) -> Result<Limits, MountFault>
+fn limits_of(bytes: &[u8], size: u32, count: u32) -> Result<Limits, MountFault>
     requires { length bytes.now ≡ 24 }
     ensures good { IfOk result (λ limits. IsHeader size count bytes.now) }
     ensures limits { IfOk result (λ limits. limits ≡ (header_of bytes.now []).limits) }

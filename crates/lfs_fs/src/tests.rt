@@ -1,5 +1,6 @@
 //! Vectors from outside: each log was put together tag by tag, with a checksum of its own, by another program.
 
+use crate::gathering_tests::{BELOW, FOUR, MORE, ROOT, SEVEN, TWO, image_with};
 use crate::{
     both_sides_hold, entries_are_cut_greedily, entries_weigh_as_stored, formatted_volume_is_sound,
     fronts_begin_each_other, images_mount_to_one_tree, lone_superblock_mounts, mount,
@@ -63,6 +64,9 @@ const DELTA: &[u8] =
 // Behind them: 0x7ffffc0c, a delta of zeros.
 const ZERO_DELTA: &[u8] =
     b"\x01\x00\x00\x00\xf0\x0f\xff\xf7littlefs/\xe0\x00\x10\x00\x00\x02\x00\x00\x02\x00\x00\x08\x00\x00\x00\xff\x00\x00\x00\xff\xff\xff\x7f\xfe\x03\x00\x00_\xef\xfc\x14\x00\x00\x00\x00\x00\x00\x00\x00\x00\x00\x00\x00/\xf0\x00\x1c\x1fO\x0a\x00";
+// Behind them: 0x40100400, 0x00200401 `d`, 0x20000408 with {2, 3}.
+const NO_DIRECTORY: &[u8] =
+    b"\x01\x00\x00\x00\xf0\x0f\xff\xf7littlefs/\xe0\x00\x10\x00\x00\x02\x00\x00\x02\x00\x00\x08\x00\x00\x00\xff\x00\x00\x00\xff\xff\xff\x7f\xfe\x03\x00\x00`\x00\x04\x18@0\x00\x01d  \x00\x09\x02\x00\x00\x00\x03\x00\x00\x00p\x0f\xf8\x03s\x86\x81\xd0";
 // Behind them: 0x100ffc00.
 const UNKNOWN_TYPE: &[u8] =
     b"\x01\x00\x00\x00\xf0\x0f\xff\xf7littlefs/\xe0\x00\x10\x00\x00\x02\x00\x00\x02\x00\x00\x08\x00\x00\x00\xff\x00\x00\x00\xff\xff\xff\x7f\xfe\x03\x00\x000\x1f\xfc\x18@\x00\x00\x0c\x01\xf1\xb5I";
@@ -147,10 +151,20 @@ fn mount_judges_the_root(rt: HostRuntime) -> Result<(), Fail> {
             8,
             Err(MountFault::BadSize),
         ),
-        ("a second entry", SECOND_ENTRY, 8, Err(MountFault::NotYet)),
-        ("a soft tail", SOFT_TAIL, 8, Err(MountFault::NotYet)),
-        ("a hard tail", HARD_TAIL, 8, Err(MountFault::NotYet)),
-        ("a delta", DELTA, 8, Err(MountFault::NotYet)),
+        ("a second entry", SECOND_ENTRY, 8, Ok(6)),
+        (
+            "a soft tail to an erased pair",
+            SOFT_TAIL,
+            8,
+            Err(MountFault::NoValidCommit),
+        ),
+        (
+            "a hard tail to an erased pair",
+            HARD_TAIL,
+            8,
+            Err(MountFault::NoValidCommit),
+        ),
+        ("a delta", DELTA, 8, Err(MountFault::UnknownState)),
     ];
     for (case, log, blocks, answer) in rows {
         assert_eq!(rt; free_or_fault(rt.alloc(), log, blocks)?, answer, "{case}");
@@ -168,6 +182,57 @@ fn mounted_image_tells_its_root(rt: HostRuntime) -> Result<(), Fail> {
     assert_eq!(rt; limits.name, 255);
     assert_eq!(rt; limits.file, 2_147_483_647);
     assert_eq!(rt; limits.attribute, 1_022);
+    Ok(())
+}
+
+#[test]
+fn mounted_image_shows_directories_and_files(rt: HostRuntime) -> Result<(), Fail> {
+    let others = [
+        (TWO, BELOW),
+        (FOUR, MORE),
+        (SEVEN, b"\x06\x00\x00\x00".as_slice()),
+    ];
+    let image = image_with(rt.alloc(), ROOT, &others)?;
+    let mounted = mount(rt.alloc(), &image)?;
+    assert_eq!(rt; mounted.thread(), [(0, 1), (4, 5), (2, 3)].as_slice());
+    assert_eq!(rt; mounted.directories(), 2);
+    assert_eq!(rt; mounted.files(), 3);
+    assert_eq!(rt; mounted.free_count(), 0);
+    let names: [&[u8]; 5] = [b"", b"a", b"d", b"x", b"e"];
+    assert_eq!(rt; mounted.rows().len(), 5);
+    for (row, name) in mounted.rows().iter().zip(names) {
+        let last = row
+            .path
+            .names()
+            .last()
+            .map_or(b"".as_slice(), |last| last.as_slice());
+        assert_eq!(rt; last, name);
+    }
+    Ok(())
+}
+
+#[test]
+fn directories_are_reached_by_their_names(rt: HostRuntime) -> Result<(), Fail> {
+    let rows = [
+        ("a file in the root", SECOND_ENTRY, b"".as_slice(), Ok(2)),
+        (
+            "no name for a directory",
+            SOFT_TAIL,
+            BELOW,
+            Err(MountFault::Orphan),
+        ),
+        (
+            "no directory for a name",
+            NO_DIRECTORY,
+            b"",
+            Err(MountFault::MissingDirectory),
+        ),
+    ];
+    for (case, root, log, answer) in rows {
+        let image = image_with(rt.alloc(), root, &[(TWO, log)])?;
+        let found = mount(rt.alloc(), &image).map(|mounted| mounted.rows().len());
+        assert_eq!(rt; found, answer, "{case}");
+    }
     Ok(())
 }
 

@@ -12,12 +12,10 @@ use crate::listed_row::Row;
 use crate::listing::Listing;
 use crate::path::Path;
 use crate::pending::Pending;
+use crate::thread_reading::ROOT;
 use lfs_block::MountFault;
 use lfs_meta::Attribute;
 use std::alloc::{AllocError, Global};
-
-/// The root's first pair.
-const ROOT: (u32, u32) = (0, 1);
 
 /// The root as what waits.
 fn first_pending(alloc: Global, attributes: Vec<Attribute>) -> Pending

@@ -1,6 +1,7 @@
 //! What entries weigh, and how they are cut into runs.
 
 ghost use Rattle.std.specs.Prelude.{ℕ};
+ghost use Rattle.lfs_meta.specs.Entry.{StoredEntry};
 ghost use Rattle.lfs_fs.specs.Entry.{Entry};
 ghost use Rattle.lfs_meta.specs.RunLaws.{RunsAreGreedy, RunsBehindFirst, RunsFollowWeights, RunsJoin, SomeRun};
 ghost use Rattle.lfs_fs.specs.StoredWeight.{EntriesWeighAsStored, RunsResolve, SuperblocksWeighAsStored};
@@ -26,4 +27,5 @@ pub fn entries_are_cut_greedily()
     ensures some { SomeRun Entry }
     ensures joined { RunsJoin Entry }
     ensures weights { RunsFollowWeights Entry ℕ }
+    ensures stored { RunsFollowWeights StoredEntry Entry }
 {}

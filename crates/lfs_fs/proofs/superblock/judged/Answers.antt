@@ -3,7 +3,7 @@ use Rattle.std.specs.Prelude.{All}
 use Rattle.lfs_meta.specs.Attribute.{Attributes}
 use Rattle.lfs_meta.specs.Entry.{StoredEntry}
 use Rattle.lfs_meta.specs.Fits.{RiseFrom}
-use Rattle.lfs_fs.proofs.EmptyRootLemmas.{are_attributes}
+use Rattle.lfs_fs.proofs.SuperblockLemmas.{are_attributes}
 use Rattle.lfs_fs.proofs.superblock.judged.Goals as goal
 
 pub returns-clause-judged : goal.returns-clause-judged

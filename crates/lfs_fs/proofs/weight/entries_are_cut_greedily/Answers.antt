@@ -15,3 +15,6 @@ returns-clause-joined c = runs_join
 
 pub returns-clause-weights : goal.returns-clause-weights
 returns-clause-weights c = runs_follow_weights
+
+pub returns-clause-stored : goal.returns-clause-stored
+returns-clause-stored c = runs_follow_weights
