@@ -28,7 +28,7 @@ RiseFrom-lower : (least more : ℕ) (xs : Attributes) → least ≤ more → Ris
 RiseFrom-lower least more [] le rise = tt
 RiseFrom-lower least more (a ∷ xs) le rise = (omega (arith, rise.0), rise.1, rise.2)
 
-set_attribute-rises : (least k : ℕ) (v : List ℕ) (xs : Attributes) → least ≤ k → AttributeFits (k, v) → RiseFrom least xs → RiseFrom least (set_attribute k v xs)
+pub set_attribute-rises : (least k : ℕ) (v : List ℕ) (xs : Attributes) → least ≤ k → AttributeFits (k, v) → RiseFrom least xs → RiseFrom least (set_attribute k v xs)
 unfolding set_attribute
 set_attribute-rises least k v [] le fits rise = (le, fits, tt)
 set_attribute-rises least k v (a ∷ xs) le fits rise = elim (cases_order a.0 k) [
@@ -43,7 +43,7 @@ kept-rises : (b : Bool) (least : ℕ) (a : ℕ × List ℕ) (xs : Attributes) �
 kept-rises true least a xs le fits rise = (le, fits, rise)
 kept-rises false least a xs le fits rise = RiseFrom-lower least (a.0 + 1) xs (omega arith) rise
 
-filter-rises : (p : ℕ × List ℕ → Bool) (least : ℕ) (xs : Attributes) → RiseFrom least xs → RiseFrom least (filter p xs)
+pub filter-rises : (p : ℕ × List ℕ → Bool) (least : ℕ) (xs : Attributes) → RiseFrom least xs → RiseFrom least (filter p xs)
 filter-rises p least [] rise = tt
 filter-rises p least (a ∷ xs) rise = kept-rises (p a) least a (filter p xs) rise.0 rise.1 (filter-rises p (a.0 + 1) xs rise.2)
 

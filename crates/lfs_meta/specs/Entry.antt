@@ -21,3 +21,7 @@ pub record StoredEntry : Type 0 where
   pub name : Name
   pub body : StoredBody
   pub attributes : Attributes
+
+-- the entry with its attributes changed
+abbrev pub with_attributes : (Attributes → Attributes) → StoredEntry → StoredEntry
+with_attributes f e = record { kind = e.kind; name = e.name; body = e.body; attributes = f e.attributes }

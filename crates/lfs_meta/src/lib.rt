@@ -7,9 +7,13 @@ mod body;
 mod cutting;
 mod edits;
 mod entry;
+mod entry_attributes;
+#[cfg(test)]
+mod entry_attributes_tests;
 mod kind;
 mod laws;
 mod live_block;
+mod name;
 mod part;
 #[cfg(test)]
 mod part_tests;
@@ -39,6 +43,7 @@ pub use laws::{
     unread_pairs_hold_no_part, weights_fit, written_parts_replay,
 };
 pub use live_block::{is_later, live, revision};
+pub use name::is_name;
 pub use part::PartDraft;
 pub use read::{read_draft, read_pair};
 pub use replay::replayed;

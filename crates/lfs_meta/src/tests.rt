@@ -1,7 +1,7 @@
 //! Vectors from outside: the blocks' bytes were put together by hand, tag by tag, each behind its comment.
 
 use crate::{
-    Action, BodyRef, EntryDraft, Kind, PartDraft, Tail, is_later, live, names_are_decided,
+    Action, BodyRef, EntryDraft, Kind, PartDraft, Tail, is_later, is_name, live, names_are_decided,
     parts_depend_on_their_blocks, read_draft, replayed, revision, unread_pairs_hold_no_part,
 };
 use lfs_block::{Image, MountFault};
@@ -251,6 +251,23 @@ fn refused_tags(rt: HostRuntime) {
     }
     assert_eq!(rt; Action::of(0x100), None);
     assert!(rt; EntryDraft::blank(rt.alloc()).name.is_none());
+}
+
+#[test]
+fn which_names_are_taken(rt: HostRuntime) {
+    let rows: [(&[u8], bool); 8] = [
+        (b"a", true),
+        (b"...", true),
+        (b"..a", true),
+        (b"\xff\x80", true),
+        (b"", false),
+        (b".", false),
+        (b"..", false),
+        (b"a/", false),
+    ];
+    for (name, is_taken) in rows {
+        assert_eq!(rt; is_name(name), is_taken, "{name:?}");
+    }
 }
 
 #[test]

@@ -1,42 +1,24 @@
 //! Entries made whole, with bytes of their own.
 
-ghost use Rattle.std.specs.Prelude.{◌≡◌, ◌==◌, not, ◌<◌, [], ◌∷◌, ◌++◌, length, Some, IfOk, IfErr, OnOk, All};
-ghost use Rattle.std.specs.List.{list_all, AllByRecursion};
+ghost use Rattle.std.specs.Prelude.{◌≡◌, ◌<◌, [], ◌∷◌, ◌++◌, length, Some, IfOk, IfErr, OnOk, All};
+ghost use Rattle.std.specs.List.{AllByRecursion};
 ghost use Rattle.lfs_meta.specs.Spelling.{IsWhole};
 ghost use Rattle.lfs_meta.specs.BodySeen.{body_seen};
 ghost use Rattle.lfs_meta.specs.BodyHeld.{body_held};
 ghost use Rattle.lfs_meta.specs.Cause.{EntryCause, EntriesCause};
 ghost use Rattle.lfs_meta.specs.Fits.{AttributeFits, BodyFits, ContentsFit, RawEntryFits, RiseFrom};
-ghost use Rattle.lfs_meta.specs.Name.{is_name};
 ghost use Rattle.lfs_meta.specs.Whole.{all_whole, takes, takes_name, whole};
 
 use crate::attribute::AttributeRef;
 use crate::body::BodyRef;
 use crate::entry::EntryDraft;
 use crate::kind::Kind;
+use crate::name::is_name;
 use crate::stored_attribute::Attribute;
 use crate::stored_body::Body;
 use crate::stored_entry::Entry;
 use lfs_block::MountFault;
 use std::alloc::{AllocError, Global};
-
-/// Whether no byte of a name is a slash.
-fn has_no_slash(name: &[u8]) -> bool
-    ensures { result ≡ list_all (λ b. not (b == 47)) name.now }
-{
-    name.iter().all(|byte| *byte != b'/')
-}
-
-/// Whether a file or a directory may have this name.
-fn is_name(name: &[u8]) -> bool
-    ensures { result ≡ is_name name.now }
-{
-    let is_some = !name.is_empty();
-    let has_slash = !has_no_slash(name);
-    let is_dot = name == b".".as_slice();
-    let is_dots = name == b"..".as_slice();
-    is_some && !has_slash && !is_dot && !is_dots
-}
 
 /// Whether a kind takes a struct.
 fn takes(kind: Kind, body: BodyRef<'_>) -> bool

@@ -3,7 +3,7 @@ use Rattle.std.proofs.Common.{◌≡◌, length, sym, ◌∙◌, not, true, fals
 use Rattle.std.specs.List.{list_all}
 use Rattle.std.proofs.lemmas.Bool.Decides.{nat_tests}
 use Rattle.lfs_meta.specs.Name.{Name, is_name}
-use Rattle.lfs_meta.proofs.whole.is_name.Goals as goal
+use Rattle.lfs_meta.proofs.name.is_name.Goals as goal
 
 last : (n : Name) (slashless dot dots : Bool) → (length n == 0) ≡ false → slashless ≡ list_all (λ b. not (b == 47)) n → slashless ≡ true
     → dot ≡ bytes_eq n (46 ∷ []) → dot ≡ false → dots ≡ bytes_eq n (46 ∷ 46 ∷ []) → not dots ≡ is_name n

@@ -1,0 +1,70 @@
+//! Attributes of an entry, read, set and removed.
+
+ghost use Rattle.std.specs.Prelude.{◌≡◌, nat_lt, OnOk, OnErr};
+ghost use Rattle.std.specs.List.{prefix_len};
+ghost use Rattle.lfs_meta.specs.Attribute.{set_attribute};
+
+use crate::stored_attribute::Attribute;
+use crate::stored_entry::Entry;
+use std::alloc::{AllocError, Global};
+
+/// How many attributes have lesser kinds.
+fn place_of(attributes: &[Attribute], kind: u8) -> usize
+    ensures { result ≡ prefix_len (λ a. nat_lt a.0 kind) attributes.now }
+{
+    attributes
+        .iter()
+        .take_while(|attribute| attribute.kind < kind)
+        .count()
+}
+
+/// Puts an attribute among others, which rise by kind. Want of memory changes nothing.
+fn set(attributes: &mut Vec<Attribute>, attribute: Attribute) -> Result<(), AllocError>
+    ensures set { OnOk result (attributes.new.items ≡ set_attribute attribute.0 attribute.1 attributes.old.items) }
+    ensures unchanged { OnErr result (attributes.new.items ≡ attributes.old.items) }
+{
+    let at = place_of(attributes, attribute.kind);
+    if at < attributes.len() && attributes[at].kind == attribute.kind {
+        attributes[at] = attribute;
+        return Ok(());
+    }
+    attributes.insert(at, attribute)?;
+    Ok(())
+}
+
+impl Entry {
+    ghost use Rattle.std.specs.Prelude.{◌≡◌, ◌==◌, ◌<◌, length, not, OnOk, OnErr};
+    ghost use Rattle.std.specs.List.{list_any};
+    ghost use Rattle.lfs_meta.specs.Attribute.{set_attribute, remove_attribute};
+    ghost use Rattle.lfs_meta.specs.Entry.{with_attributes};
+
+    /// Whether the entry has an attribute of a kind. Takes no memory.
+    pub fn has_attribute(&self, kind: u8) -> bool
+        ensures { result ≡ list_any (λ a. kind == a.0) self.now.attributes }
+    {
+        self.attributes
+            .iter()
+            .any(|attribute| kind == attribute.kind)
+    }
+
+    /// Sets the value of a kind. The caller owes a value of at most 1,022 bytes. Want of memory changes nothing.
+    pub fn set_attribute(&mut self, alloc: Global, kind: u8, value: &[u8]) -> Result<(), AllocError>
+        requires { length value.now < 1023 }
+        ensures set { OnOk result (self.new ≡ with_attributes (set_attribute kind value.now) self.old) }
+        ensures unchanged { OnErr result (self.new ≡ self.old) }
+    {
+        let value = Vec::from_slice(alloc, value)?;
+        set(&mut self.attributes, Attribute { kind, value })
+    }
+
+    /// Takes the value of a kind out. Takes no memory.
+    pub fn remove_attribute(&mut self, kind: u8)
+        ensures { self.new ≡ with_attributes (remove_attribute kind) self.old }
+    {
+        self.attributes.retain(
+            |attribute| -> bool
+                ensures { result ≡ not (kind == attribute.now.0) }
+            { attribute.kind != kind },
+        );
+    }
+}
