@@ -32,7 +32,7 @@ joined_by : RunsJoin Entry → (t : Bool) (v : Volume) (p : Part)
 joined_by join true v p = join weight (room v) (superblock_weight v.attributes) 1 p.entries
 joined_by join false v p = join weight (room v) 0 0 p.entries
 
-joined : RunsJoin Entry → (v : Volume) (p : Part) → flat_map (λ run. run) (runs v p) ≡ p.entries
+pub joined : RunsJoin Entry → (v : Volume) (p : Part) → flat_map (λ run. run) (runs v p) ≡ p.entries
 joined join v p = joined_by join (is_first p) v p
 
 first_and_later : (rs : List (List Entry)) → first_run rs ++ flat_map (λ run. run) (later_runs rs) ≡ flat_map (λ run. run) rs

@@ -41,7 +41,7 @@ use Rattle.lfs_edit.proofs.MkdirFollows.{IsNewPair, none_begins}
 -- ---- homes
 
 -- where a path has a home, one directory begins there
-home_once : (v : Volume) (p : Path) (h : Pair × Name) → IsSound v → home_of v p ≡ Some h → count_by (begins_at h.0) v.directories ≡ 1
+pub home_once : (v : Volume) (p : Path) (h : Pair × Name) → IsSound v → home_of v p ≡ Some h → count_by (begins_at h.0) v.directories ≡ 1
 home_once v p h sound is = split_by (split_last p) is
   where
     target_by : (s : Path × Name) (e : Entry) (o : Option Pair) → entry_at v s.0 ≡ Some e → target e ≡ o → option_map (λ (k : Pair). (k, s.1)) o ≡ Some h → count_by (begins_at h.0) v.directories ≡ 1
@@ -64,13 +64,13 @@ fewer_by true true = omega arith
 fewer_by true false = omega arith
 fewer_by false new = omega arith
 
-changed_are_marked : (s : Supplies) (w : Volume) → length (changed_parts s w) ≤ marks (thread w.directories)
+pub changed_are_marked : (s : Supplies) (w : Volume) → length (changed_parts s w) ≤ marks (thread w.directories)
 changed_are_marked s w =
     let few : count_by (λ p. p.dirty && not (same_pair p.pair s.pair)) (thread w.directories) ≤ marks (thread w.directories) =
     sum_by-le-sum_by (λ (p : Part). cond {A = ℕ} (p.dirty && not (same_pair p.pair s.pair)) 1 0) (λ (p : Part). cond {A = ℕ} p.dirty 1 0) (thread w.directories) (λ p. fewer_by p.dirty (same_pair p.pair s.pair)) in
     omega (arith, length-filter (λ (p : Part). p.dirty && not (same_pair p.pair s.pair)) (thread w.directories), few)
 
-unmarked : (ps : List Part) → All (λ p. p.dirty ≡ false) ps → marks ps ≡ 0
+pub unmarked : (ps : List Part) → All (λ p. p.dirty ≡ false) ps → marks ps ≡ 0
 unmarked [] clean = refl
 unmarked (p ∷ ps) clean =
     omega (arith, ap (λ (t : Bool). cond {A = ℕ} t 1 0) (All-head (λ (q : Part). q.dirty ≡ false) p ps clean), unmarked ps (All-tail (λ (q : Part). q.dirty ≡ false) p ps clean), sum_by-cons (λ (q : Part). cond {A = ℕ} q.dirty 1 0) p ps)

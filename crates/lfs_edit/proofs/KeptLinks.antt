@@ -25,7 +25,7 @@ contains-cons y xs x (k, within, is) = (suc k, omega arith, is)
 pub contains_first : {X : Type 0} (x : X) (xs : List X) → Contains (x ∷ xs) x
 contains_first x xs = (0, omega arith, refl)
 
-contains_right : {X : Type 0} (xs ys : List X) (x : X) → Contains ys x → Contains (xs ++ ys) x
+pub contains_right : {X : Type 0} (xs ys : List X) (x : X) → Contains ys x → Contains (xs ++ ys) x
 contains_right [] ys x h = h
 contains_right (y ∷ xs) ys x h = contains-cons y (xs ++ ys) x (contains_right xs ys x h)
 
@@ -33,7 +33,7 @@ pub contains_cases : {X : Type 0} (y : X) (ys : List X) (x : X) → Contains (y 
 contains_cases y ys x (zero, within, is) = inl (sym is)
 contains_cases y ys x (suc k, within, is) = inr (k, omega arith, is)
 
-contains_left : {X : Type 0} (xs ys : List X) (x : X) → Contains xs x → Contains (xs ++ ys) x
+pub contains_left : {X : Type 0} (xs ys : List X) (x : X) → Contains xs x → Contains (xs ++ ys) x
 contains_left [] ys x h = let no : ⊥ = none_there h in absurd no
   where
     none_there : Contains [] x → ⊥

@@ -70,7 +70,7 @@ parts_with_name n (p ∷ ps) =
     omega (arith, parts_with_name n ps, has_one n p.entries, count_cases (has_name n) p ps, sum_by-append (λ (e : Entry). cond {A = ℕ} (is_named n e) 1 0) p.entries (entries_of ps))
 
 -- where names rise, one entry at most has a name
-named_once : (n : Name) (es : List Entry) → NamesAreOrdered → Rise es → count_by (is_named n) es ≤ 1
+pub named_once : (n : Name) (es : List Entry) → NamesAreOrdered → Rise es → count_by (is_named n) es ≤ 1
 named_once n es ordered rise = go (find (is_named n) es) refl
   where
     go : (o : Option Entry) → find (is_named n) es ≡ o → count_by (is_named n) es ≤ 1

@@ -31,11 +31,11 @@ use Rattle.lfs_edit.proofs.KeptLinks.{contains_first, contains-cons, contains_ca
 
 -- ---- links and parts
 
-part_of_links : (p : Part) (ps : List Part) (tail : Tail) → map (λ (l : Link). l.part) (links_of p ps tail) ≡ p ∷ ps
+pub part_of_links : (p : Part) (ps : List Part) (tail : Tail) → map (λ (l : Link). l.part) (links_of p ps tail) ≡ p ∷ ps
 part_of_links p [] tail = refl
 part_of_links p (q ∷ ps) tail = ap (λ (qs : List Part). p ∷ qs) (part_of_links q ps tail)
 
-parts_of_links : (ds : List Directory) → map (λ (l : Link). l.part) (links ds) ≡ thread ds
+pub parts_of_links : (ds : List Directory) → map (λ (l : Link). l.part) (links ds) ≡ thread ds
 parts_of_links [] = refl
 parts_of_links (d ∷ ds) =
     map-append (λ (l : Link). l.part) (links_of d.first d.more (tail_to ds)) (links ds)
@@ -44,7 +44,7 @@ parts_of_links (d ∷ ds) =
     ∙ sym (flat_map-cons parts d ds)
 
 -- an element of a list is one of the mapped list
-contains-map : {X Y : Type 0} (f : X → Y) (xs : List X) (x : X) → Contains xs x → Contains (map f xs) (f x)
+pub contains-map : {X Y : Type 0} (f : X → Y) (xs : List X) (x : X) → Contains xs x → Contains (map f xs) (f x)
 contains-map f [] x there = let no : ⊥ = none_there there in absurd no
   where
     none_there : {X : Type 0} {x : X} → Contains [] x → ⊥
@@ -54,12 +54,12 @@ contains-map f (y ∷ xs) x there = elim (contains_cases y xs x there) [
   | inr later ↦ contains-cons (f y) (map f xs) (f x) (contains-map f xs x later)
 ]
 
-part_there : (ds : List Directory) (l : Link) → Contains (links ds) l → Contains (thread ds) l.part
+pub part_there : (ds : List Directory) (l : Link) → Contains (links ds) l → Contains (thread ds) l.part
 part_there ds l there = subst (λ (ps : List Part). Contains ps l.part) (parts_of_links ds) (contains-map (λ (x : Link). x.part) (links ds) l there)
 
 -- ---- uses, by parts
 
-abbrev part_uses : ℕ → Part → ℕ
+abbrev pub part_uses : ℕ → Part → ℕ
 part_uses b p = pair_uses b p + sum_by (entry_uses b) p.entries
 
 sum_parts : (b : ℕ) (ps : List Part) → sum_by (part_uses b) ps ≡ sum_by (pair_uses b) ps + sum_by (entry_uses b) (flat_map (λ p. p.entries) ps)
@@ -74,17 +74,17 @@ sum_parts b (p ∷ ps) =
       sum_by-append (entry_uses b) p.entries (flat_map (λ (q : Part). q.entries) ps),
     )
 
-sum_thread : (b : ℕ) (ds : List Directory) → sum_by (part_uses b) (thread ds) ≡ sum_by (directory_uses b) ds
+pub sum_thread : (b : ℕ) (ds : List Directory) → sum_by (part_uses b) (thread ds) ≡ sum_by (directory_uses b) ds
 sum_thread b [] = refl
 sum_thread b (d ∷ ds) =
     omega (arith, ap (sum_by (part_uses b)) (flat_map-cons parts d ds), sum_by-append (part_uses b) (parts d) (thread ds), sum_parts b (parts d), sum_thread b ds, sum_by-cons (directory_uses b) d ds)
 
-one_le : {X : Type 0} (f : X → ℕ) (xs : List X) (x : X) → Contains xs x → f x ≤ sum_by f xs
+pub one_le : {X : Type 0} (f : X → ℕ) (xs : List X) (x : X) → Contains xs x → f x ≤ sum_by f xs
 one_le f xs x (k, within, is) =
     let le : f (get_or xs k x) ≤ sum_by f xs = get_or-le-sum_by f xs k x within in
     subst (λ y. f y ≤ sum_by f xs) is le
 
-two_le : {X : Type 0} (f : X → ℕ) (xs : List X) (x y : X) → Contains xs x → Contains xs y → (x ≡ y → ⊥) → f x + f y ≤ sum_by f xs
+pub two_le : {X : Type 0} (f : X → ℕ) (xs : List X) (x y : X) → Contains xs x → Contains xs y → (x ≡ y → ⊥) → f x + f y ≤ sum_by f xs
 two_le f [] x y h k apart = let no : ⊥ = none_there h in absurd no
   where
     none_there : {X : Type 0} {x : X} → Contains [] x → ⊥
@@ -103,7 +103,7 @@ two_le f (z ∷ zs) x y h k apart = elim (contains_cases z zs x h) [
 -- ---- what isn't set stays
 
 -- a part that is set is another one than a part that isn't
-set_apart : (p q : Part) → p.dirty ≡ true → q.dirty ≡ false → p ≡ q → ⊥
+pub set_apart : (p q : Part) → p.dirty ≡ true → q.dirty ≡ false → p ≡ q → ⊥
 set_apart p q set unset same = true-false (sym set ∙ ap (λ (x : Part). x.dirty) same ∙ unset)
   where
     true-false : true ≡ false → ⊥
@@ -118,7 +118,7 @@ block_stays d e v w held edit writes p was there unset b used =
     let both : part_uses b q + part_uses b p ≤ sum_by (part_uses b) (thread w.directories) = two_le (part_uses b) (thread w.directories) q p set_there there (set_apart q p set unset) in
     omega (arith, both, used, sum_thread b w.directories, edit.new_sound.once b))
 
-pair_used : (p : Part) → (0 < part_uses p.pair.0 p) × (0 < part_uses p.pair.1 p)
+pub pair_used : (p : Part) → (0 < part_uses p.pair.0 p) × (0 < part_uses p.pair.1 p)
 pair_used p = (omega (arith, first p.pair), omega (arith, second p.pair))
   where
     first : (q : Pair) → 1 ≤ times q.0 (q.0 ∷ q.1 ∷ [])
@@ -128,13 +128,13 @@ pair_used p = (omega (arith, first p.pair), omega (arith, second p.pair))
     second q = grind (arith, nat_tests)
 
 -- the blocks of a chain
-times_there : (b : ℕ) (bs : List ℕ) → Contains bs b → 1 ≤ times b bs
+pub times_there : (b : ℕ) (bs : List ℕ) → Contains bs b → 1 ≤ times b bs
 times_there b bs there =
     let le = one_le (λ (x : ℕ). cond {A = ℕ} (x == b) 1 0) bs b there in
     let one : cond {A = ℕ} (b == b) 1 0 ≡ 1 = grind (arith, nat_tests) in
     omega (arith, le, one)
 
-chain_by : FoundStay → ContentStays → (d e : Disk) → IsDisk d → (body : Body) → e.size ≡ d.size → e.count ≡ d.count
+pub chain_by : FoundStay → ContentStays → (d e : Disk) → IsDisk d → (body : Body) → e.size ≡ d.size → e.count ≡ d.count
     → ((b : ℕ) → 0 < body_uses b body → block_of e b ≡ block_of d b) → ChainStays (reading_of d) (reading_of e) body
 chain_by found content d e disk (Inline bytes) size count stays = tt
 chain_by found content d e disk (Directory_at pair) size count stays = tt

@@ -19,3 +19,10 @@ pub mod Kept
 pub mod Freed
 pub mod Laws
 pub mod Written
+pub mod AskedFor
+pub mod Planned
+pub mod Place
+pub mod Located
+pub mod AttributeEdit
+pub mod Rewritten
+pub mod PlanLaws

@@ -1,16 +1,25 @@
 //! New images and changes of images.
 #![tactic(auto)]
 
+mod attribute_edit;
+mod command;
 mod formatting;
 mod laws;
+mod paths;
+mod picking;
+mod place;
+mod planning;
 mod refusal;
+mod rewriting;
 mod superblock;
 
+pub use command::Command;
 pub use formatting::format;
 pub use laws::{
     commands_are_frugal, commands_follow, cuts_follow, free_after, need_is_exact,
     written_volumes_are_held,
 };
+pub use planning::plan;
 pub use refusal::Refusal;
 
 #[cfg(test)]

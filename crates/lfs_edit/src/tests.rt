@@ -1,9 +1,10 @@
-//! New images, refusals, laws, and verdicts on small volumes.
+//! New images, refusals, laws, texts of paths, and verdicts on small volumes.
 
 mod changes;
 mod checks;
 mod formatting;
 mod laws;
+mod paths;
 mod plain_volumes;
 mod refusals;
 mod runs;

@@ -1,0 +1,20 @@
+-- The first check that refuses.
+use Rattle.std.proofs.Common.{◌≡◌, Bool, false, List, [], ◌∷◌, ◌++◌, Option, Some, None, refl, sym}
+use Rattle.std.proofs.lemmas.Option.{none-some}
+use Rattle.lfs_edit.specs.declared.refusal.Refusal.{Refusal}
+use Rattle.lfs_edit.specs.Verdict.{refuse_if, first_refusal}
+
+-- checks behind one that refuses don't matter
+pub refused_first : (rs more : List (Option Refusal)) (r : Refusal) → first_refusal rs ≡ Some r → first_refusal (rs ++ more) ≡ Some r
+refused_first [] more r h = absurd (none-some r h)
+refused_first (None ∷ rs) more r h = refused_first rs more r h
+refused_first (Some q ∷ rs) more r h = h
+
+-- checks that don't refuse leave it to those behind them
+pub passed_first : (rs more : List (Option Refusal)) → first_refusal rs ≡ None → first_refusal (rs ++ more) ≡ first_refusal more
+passed_first [] more h = refl
+passed_first (None ∷ rs) more h = passed_first rs more h
+passed_first (Some q ∷ rs) more h = absurd (none-some q (sym h))
+
+pub not_refused : (t : Bool) (r : Refusal) → t ≡ false → refuse_if t r ≡ None
+not_refused t r h = rw h refl

@@ -1,0 +1,88 @@
+-- What is planned for a command that is asked for, and why none is (own).
+use Rattle.std.specs.Prelude.{ℕ, ◌≡◌, ◌+◌, ◌++◌, Bool, true, List, [], ◌∷◌, Option, Some, None, All, Contains, nat_lt, length, take, map}
+use Rattle.std.specs.List.{list_any, Any}
+use Rattle.lfs_block.specs.Disk.{Disk}
+use Rattle.lfs_block.specs.Patch.{ChangeSet, IsPatch, AgreesOld, applied}
+use Rattle.lfs_meta.specs.Body.{Pair}
+use Rattle.lfs_fs.specs.Directory.{Part}
+use Rattle.lfs_fs.specs.Volume.{Volume}
+use Rattle.lfs_fs.specs.Free.{free_blocks}
+use Rattle.lfs_fs.specs.Sound.{IsSound}
+use Rattle.lfs_fs.specs.Reading.{reading_of}
+use Rattle.lfs_fs.specs.Holds.{Holds}
+use Rattle.lfs_edit.specs.declared.refusal.Refusal.{Refusal}
+use Rattle.lfs_edit.specs.declared.refusal.Refusal.TheVariants.{BadPath, EntryTooLarge, OnePartOnly, Memory}
+use Rattle.lfs_edit.specs.Command.{Command, Asked, Spells, SpellsNone}
+use Rattle.lfs_edit.specs.Supplies.{Supplies, nothing}
+use Rattle.lfs_edit.specs.Edited.{edited}
+use Rattle.lfs_edit.specs.Cut.{cut, runs}
+use Rattle.lfs_edit.specs.Need.{need, data_blocks, dirty_parts, changed_parts}
+use Rattle.lfs_edit.specs.Verdict.{checks, first_refusal, refuse_if, is_too_large, verdict}
+use Rattle.lfs_edit.specs.Clean.{clean}
+use Rattle.lfs_edit.specs.Accepted.{IsAccepted, AreChosen}
+
+-- one of the numbers is a block of the part's pair
+abbrev pub HasOneOf : List ℕ → Part → Type 0
+HasOneOf numbers p = Any (Contains numbers) (p.pair.0 ∷ p.pair.1 ∷ [])
+
+-- the blocks that are written: the least free ones, as many as the command needs, and one of each part's pair that it
+-- changes
+pub record IsFrugal (v : Volume) (c : Command) (s : Supplies) (numbers : List ℕ) : Type 0 where
+  pub free : All (Contains numbers) (take (need v c) (free_blocks v))
+  pub changed : All (HasOneOf numbers) (changed_parts s (edited v c s))
+  pub len : length numbers ≡ need v c + length (changed_parts s (edited v c s))
+
+-- the numbers of the blocks that a patch names
+abbrev pub numbers_of : ChangeSet → List ℕ
+numbers_of p = map (λ c. c.number) p.changes
+
+-- A patch of an image carries out a command that is asked for: on the volume that the image holds no check refuses the
+-- command, the patch stands in the image, and the patched image holds the edited volume.
+pub record Plans (d : Disk) (asked : Asked) (p : ChangeSet) : Type 0 where
+  pub volume : Volume
+  pub holds : Holds (reading_of d) volume
+  pub command : Command
+  pub spells : Spells asked command
+  pub supplies : Supplies
+  pub blocks : length supplies.blocks ≡ data_blocks volume command
+  pub accepted : IsAccepted volume command supplies
+  pub chosen : Part → List Pair
+  pub pairs : AreChosen volume command supplies chosen
+  pub patch : IsPatch p
+  pub stands : AgreesOld p d
+  pub after : Holds (reading_of (applied p d)) (clean (cut chosen (edited volume command supplies)))
+  pub frugal : IsFrugal volume command supplies (numbers_of p)
+
+-- A command that is asked for is refused on the sound volume that an image holds.
+pub record IsRefused (d : Disk) (asked : Asked) (r : Refusal) : Type 0 where
+  pub volume : Volume
+  pub holds : Holds (reading_of d) volume
+  pub sound : IsSound volume
+  pub command : Command
+  pub spells : Spells asked command
+  pub refused : verdict volume command ≡ Some r
+
+-- some part that the command sets has more than one run
+abbrev pub is_cut : Volume → Command → Bool
+is_cut v c = list_any (λ p. nat_lt 1 (length (runs (edited v c nothing) p))) (dirty_parts (edited v c nothing))
+
+-- the checks that come before those on room, and the one on entries
+abbrev pub early_checks : Volume → Command → List (Option Refusal)
+early_checks v c = checks v c ++ refuse_if (list_any (is_too_large (edited v c nothing)) (dirty_parts (edited v c nothing))) EntryTooLarge ∷ []
+
+-- No check before the one on free blocks refuses the command, and it asks for a further part, which isn't made so far.
+pub record IsOfOnePart (d : Disk) (asked : Asked) : Type 0 where
+  pub volume : Volume
+  pub holds : Holds (reading_of d) volume
+  pub sound : IsSound volume
+  pub command : Command
+  pub spells : Spells asked command
+  pub unrefused : first_refusal (early_checks volume command) ≡ None
+  pub cut : is_cut volume command ≡ true
+
+-- why nothing is planned: a text that spells no path, the verdict, a further part, or want of memory
+abbrev pub RefusesPlan : Disk → Asked → Refusal → Type 0
+RefusesPlan d asked BadPath = SpellsNone asked
+RefusesPlan d asked OnePartOnly = IsOfOnePart d asked
+RefusesPlan d asked Memory = Unit {0}
+RefusesPlan d asked r = IsRefused d asked r
