@@ -1,0 +1,4 @@
+pub mod MoveLemmas
+pub mod PlaceLemmas
+pub mod RunLemmas
+pub mod EquationLemmas

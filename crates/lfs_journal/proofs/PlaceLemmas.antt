@@ -1,0 +1,116 @@
+-- A history is one list of changes, cut at a place.
+use Rattle.std.proofs.Common.{◌≡◌, ℕ, ◌+◌, ◌<◌, ◌≤◌, List, [], ◌∷◌, ◌++◌, length, take, drop, get_or, ap, sym, ◌∙◌, subst, arith}
+use Rattle.std.specs.Prelude.{reverse}
+use Rattle.std.proofs.lemmas.List.{take_more, drop_more, take_all, drop_all, length_push, length-take-le, get_or_push}
+use Rattle.lfs_block.specs.Disk.{Disk}
+use Rattle.lfs_block.specs.Patch.{ChangeSet, IsPatch, AgreesOld, AgreesNew, applied, reverted}
+use Rattle.lfs_edit.specs.Command.{Asked}
+use Rattle.lfs_edit.specs.Planned.{Plans}
+use Rattle.lfs_journal.specs.History.{History, IsHistoryAt, history_at, past_of, future_of, GoesBack, GoesOn, most_changes}
+use Rattle.lfs_journal.specs.Moves.{Pushes, Undoes, Redoes}
+use Rattle.lfs_journal.specs.Steps.{Does}
+use Rattle.lfs_journal.proofs.MoveLemmas.{TakeBack, Make, Follow, latest, undo_keeps, redo_keeps, push_keeps}
+
+-- the change at a place, between those before it and those behind it
+pub record IsAt (changes : List ChangeSet) (i j : ℕ) (p : ChangeSet) : Type 0 where
+  pub next : j ≡ i + 1
+  pub within : i < length changes
+  pub taken : take j changes ≡ take i changes ++ p ∷ []
+  pub left : drop i changes ≡ p ∷ drop j changes
+
+pub is_at : (changes : List ChangeSet) (i j : ℕ) (p : ChangeSet) → j ≡ i + 1 → i < length changes → p ≡ get_or changes i p → IsAt changes i j p
+is_at changes i j p next within is = record {
+  next = next;
+  within = within;
+  taken = ap (λ (k : ℕ). take k changes) next ∙ take_more changes i p within ∙ ap (λ (q : ChangeSet). take i changes ++ q ∷ []) (sym is);
+  left = drop_more changes i p within ∙ ap (λ (q : ChangeSet). q ∷ drop (i + 1) changes) (sym is) ∙ ap (λ (k : ℕ). p ∷ drop k changes) (sym next);
+}
+
+-- the latest change that was made agrees with the image
+pub made_agrees : (d : Disk) (changes : List ChangeSet) (i j : ℕ) (p : ChangeSet) → IsAt changes i j p → IsHistoryAt d changes j → IsPatch p × AgreesNew p d
+made_agrees d changes i j p at h =
+    let back : GoesBack (p ∷ reverse (take i changes)) d = subst (λ (ps : List ChangeSet). GoesBack ps d) (latest (take i changes) (take j changes) p at.taken) h.history.back in
+    (back.0, back.1)
+
+-- the next change to be made agrees with the image
+pub next_agrees : (d : Disk) (changes : List ChangeSet) (i j : ℕ) (p : ChangeSet) → IsAt changes i j p → IsHistoryAt d changes i → IsPatch p × AgreesOld p d
+next_agrees d changes i j p at h =
+    let on : GoesOn (p ∷ drop j changes) d = subst (λ (us : List ChangeSet). GoesOn us d) at.left h.history.on in
+    (on.0, on.1)
+
+-- a change leads between the images on its two sides
+undoes_at : (d e : Disk) (changes : List ChangeSet) (i j : ℕ) (p : ChangeSet) → IsAt changes i j p → e ≡ reverted p d → d ≡ applied p e → Undoes (history_at d changes j) (history_at e changes i)
+undoes_at d e changes i j p at down up = record {
+  past = ap (λ (ps : List ChangeSet). past_of ps d) (latest (take i changes) (take j changes) p at.taken)
+      ∙ ap (λ (x : Disk). x ∷ past_of (reverse (take i changes)) x) (sym down);
+  future = ap (λ (us : List ChangeSet). future_of us e) at.left ∙ ap (λ (x : Disk). x ∷ future_of (drop j changes) x) (sym up);
+  change = p;
+  done = at.taken;
+  undone = at.left;
+}
+
+-- a move to an image, at a place
+pub record MovesTo (Moves : History → History → Type 0) (old : History) (e : Disk) (changes : List ChangeSet) (i : ℕ) : Type 0 where
+  pub moves : Moves old (history_at e changes i)
+  pub keeps : IsHistoryAt e changes i
+
+pub undone_at : TakeBack → (d e : Disk) (changes : List ChangeSet) (i j : ℕ) (p : ChangeSet) → IsAt changes i j p → IsHistoryAt d changes j → e ≡ reverted p d → MovesTo Undoes (history_at d changes j) e changes i
+undone_at law d e changes i j p at h is =
+    let agrees = made_agrees d changes i j p at h in
+    let undoes = undoes_at d e changes i j p at is (sym (law.again p d h.history.disk agrees.0 agrees.1) ∙ ap (applied p) (sym is)) in
+    record {
+      moves = undoes;
+      keeps = record {
+        within = let a = at.within in omega arith;
+        history = undo_keeps law (history_at d changes j) (history_at e changes i) h.history undoes;
+      };
+    }
+
+pub redone_at : Make → (d e : Disk) (changes : List ChangeSet) (i j : ℕ) (p : ChangeSet) → IsAt changes i j p → IsHistoryAt d changes i → e ≡ applied p d → MovesTo Redoes (history_at d changes i) e changes j
+redone_at law d e changes i j p at h is =
+    let agrees = next_agrees d changes i j p at h in
+    let redoes = undoes_at e d changes i j p at (sym (law.back p d h.history.disk agrees.0 agrees.1) ∙ ap (reverted p) (sym is)) is in
+    record {
+      moves = redoes;
+      keeps = record {
+        within = let a = at.within in let b = at.next in omega arith;
+        history = redo_keeps law (history_at d changes i) (history_at e changes j) h.history redoes;
+      };
+    }
+
+-- the list once a change is put behind those that were made
+pub record IsPut (old new : List ChangeSet) (i : ℕ) (p : ChangeSet) : Type 0 where
+  pub all : new ≡ take i old ++ p ∷ []
+  pub within : i ≤ length old
+
+put_len : (old new : List ChangeSet) (i : ℕ) (p : ChangeSet) → IsPut old new i p → length new ≡ i + 1
+put_len old new i p put = ap length put.all ∙ length_push (take i old) p ∙ ap (λ (n : ℕ). n + 1) (length-take-le i old put.within)
+
+-- it stands at the place
+pub put_is : (old new : List ChangeSet) (i : ℕ) (p q : ChangeSet) → IsPut old new i p → q ≡ get_or new i q → q ≡ p
+put_is old new i p q put read = read ∙ ap (λ (xs : List ChangeSet). get_or xs i q) put.all ∙ get_or_push (take i old) p q i (length-take-le i old put.within)
+
+pub done_at : Make → Follow → (asked : Asked) (d e : Disk) (old new : List ChangeSet) (i : ℕ) (p q : ChangeSet) → IsPut old new i p → q ≡ get_or new i q → IsHistoryAt d old i → i < most_changes
+    → Plans d asked p → e ≡ applied q d → MovesTo (Does asked) (history_at d old i) e new (i + 1)
+done_at law follow asked d e old new i p q put read h room plans is =
+    let len = put_len old new i p put in
+    let all : take (i + 1) new ≡ new = take_all (i + 1) new (omega arith) in
+    let none : drop (i + 1) new ≡ [] = drop_all (i + 1) new (omega arith) in
+    let made : take (i + 1) new ≡ take i old ++ p ∷ [] = all ∙ put.all in
+    let to : e ≡ applied p d = is ∙ ap (λ (x : ChangeSet). applied x d) (put_is old new i p q put read) in
+    let few : length (take i old) < most_changes = let a = length-take-le i old put.within in omega arith in
+    let pushes : Pushes p (history_at d old i) (history_at e new (i + 1)) = record {
+      past = ap (λ (ps : List ChangeSet). past_of ps e) (latest (take i old) (take (i + 1) new) p made)
+          ∙ ap (λ (x : Disk). x ∷ past_of (reverse (take i old)) x) (ap (reverted p) to ∙ law.back p d h.history.disk plans.patch plans.stands);
+      present = to;
+      future = ap (λ (us : List ChangeSet). future_of us e) none;
+      done = made;
+      undone = none;
+    } in
+    record {
+      moves = record { room = few; change = p; plans = plans; pushes = pushes };
+      keeps = record {
+        within = omega arith;
+        history = push_keeps law follow asked p (history_at d old i) (history_at e new (i + 1)) h.history few plans pushes;
+      };
+    }

@@ -1,0 +1,50 @@
+-- The planned patch is put at the place, and made.
+use Rattle.std.proofs.Common.{◌+◌, ◌<◌, List, length, take, ap, ◌∙◌, subst, arith}
+use Rattle.std.proofs.lemmas.Result.{err_from_is_err_and}
+use Rattle.std.proofs.lemmas.List.{length-take-le}
+use Rattle.lfs_block.specs.Patch.{ChangeSet}
+use Rattle.lfs_edit.specs.AskedFor.{asked_for}
+use Rattle.lfs_journal.specs.History.{History, history_at, most_changes}
+use Rattle.lfs_journal.specs.Steps.{Does}
+use Rattle.lfs_journal.proofs.PlaceLemmas.{done_at}
+use Rattle.lfs_journal.proofs.session.Session.command.Goals as goal
+
+pub returns-in_err-replace_from-clause-refused : goal.returns-in_err-replace_from-clause-refused
+returns-in_err-replace_from-clause-refused c =
+    let s = c.self.inside in
+    let p = err_from_is_err_and c.from_residual-in_err-replace_from.result c.from_residual-in_err-replace_from.ensures.1 in
+    let within = c.self.invariant.within in
+    let made : length (take s.done s.patches.items) < most_changes = let len = length-take-le s.done s.patches.items within in omega arith in
+    rw (p.1, p.2) (
+      subst (λ (h : History). length h.done < most_changes) c.self.view_is made,
+      tt,
+      ap (λ (changes : List ChangeSet). history_at s.image changes s.done) c.in_err-replace_from.ensures.unchanged ∙ c.self.view_is,
+    )
+
+pub returns-in_err-replace_from-clause-unchanged : goal.returns-in_err-replace_from-clause-unchanged
+returns-in_err-replace_from-clause-unchanged c =
+    let s = c.self.inside in
+    let p = err_from_is_err_and c.from_residual-in_err-replace_from.result c.from_residual-in_err-replace_from.ensures.1 in
+    rw (p.1)
+    (ap (λ (changes : List ChangeSet). history_at s.image changes s.done) c.in_err-replace_from.ensures.unchanged ∙ c.self.view_is)
+
+pub invariant_of-self-2 : goal.invariant_of-self-2
+invariant_of-self-2 c =
+    let s = c.self.inside in
+    let made = c.applied_law.ensures in
+    let back = c.revert_law.ensures in
+    let follow = c.cuts_follow.ensures in
+    (done_at (record { disk = made.disk; agrees = back.agrees; back = back.back }) (record { cut = follow.cut; clean = follow.clean }) (asked_for c.args.command.now)
+    s.image c.apply.new.image s.patches.items c.replace_from.new.patches.items s.done c.in_ok-patch.patch c.index.result.now
+    (record { all = c.in_ok-replace_from.ensures.done; within = c.self.invariant.within }) c.index.ensures c.self.invariant (omega arith) c.in_ok-patch.ensures.planned c.apply.ensures.applied).keeps
+
+pub returns-clause-done : goal.returns-clause-done
+returns-clause-done c =
+    let s = c.self.inside in
+    let made = c.applied_law.ensures in
+    let back = c.revert_law.ensures in
+    let follow = c.cuts_follow.ensures in
+    let to = done_at (record { disk = made.disk; agrees = back.agrees; back = back.back }) (record { cut = follow.cut; clean = follow.clean }) (asked_for c.args.command.now)
+    s.image c.apply.new.image s.patches.items c.replace_from.new.patches.items s.done c.in_ok-patch.patch c.index.result.now
+    (record { all = c.in_ok-replace_from.ensures.done; within = c.self.invariant.within }) c.index.ensures c.self.invariant (omega arith) c.in_ok-patch.ensures.planned c.apply.ensures.applied in
+    subst (λ (old : History). Does (asked_for c.args.command.now) old (history_at c.apply.new.image c.replace_from.new.patches.items (s.done + 1))) c.self.view_is to.moves

@@ -1,0 +1,27 @@
+-- The change at the place is made again.
+use Rattle.std.proofs.Common.{◌+◌, subst, arith, refl}
+use Rattle.lfs_journal.specs.History.{History, history_at}
+use Rattle.lfs_journal.specs.Moves.{Redoes}
+use Rattle.lfs_journal.proofs.PlaceLemmas.{is_at, redone_at}
+use Rattle.lfs_journal.proofs.session.Session.redo.Goals as goal
+
+pub invariant_of-self : goal.invariant_of-self
+invariant_of-self c =
+    let s = c.self.inside in
+    let within = c.self.invariant.within in
+    let made = c.applied_law.ensures in
+    let back = c.revert_law.ensures in
+    let at = is_at s.patches.items s.done (s.done + 1) c.index.result.now refl (omega arith) c.index.ensures in
+    (redone_at (record { disk = made.disk; agrees = back.agrees; back = back.back }) s.image c.apply.new.image s.patches.items s.done (s.done + 1) c.index.result.now
+    at c.self.invariant c.apply.ensures.applied).keeps
+
+pub returns-clause-done : goal.returns-clause-done
+returns-clause-done c =
+    let s = c.self.inside in
+    let within = c.self.invariant.within in
+    let made = c.applied_law.ensures in
+    let back = c.revert_law.ensures in
+    let at = is_at s.patches.items s.done (s.done + 1) c.index.result.now refl (omega arith) c.index.ensures in
+    let to = redone_at (record { disk = made.disk; agrees = back.agrees; back = back.back }) s.image c.apply.new.image s.patches.items s.done (s.done + 1) c.index.result.now
+    at c.self.invariant c.apply.ensures.applied in
+    subst (λ (old : History). Redoes old (history_at c.apply.new.image s.patches.items (s.done + 1))) c.self.view_is to.moves

@@ -1,0 +1,32 @@
+-- The change before the place is taken back.
+use Rattle.std.proofs.Common.{◌-◌, subst, arith}
+use Rattle.lfs_journal.specs.History.{History, history_at}
+use Rattle.lfs_journal.specs.Moves.{Undoes}
+use Rattle.lfs_journal.proofs.PlaceLemmas.{is_at, made_agrees, undone_at}
+use Rattle.lfs_journal.proofs.session.Session.undo.Goals as goal
+
+pub revert-requires : goal.revert-requires
+revert-requires c =
+    let s = c.self.inside in
+    let within = c.self.invariant.within in
+    let at = is_at s.patches.items (s.done - 1) s.done c.index.result.now (omega arith) (omega arith) c.index.ensures in
+    (made_agrees s.image s.patches.items (s.done - 1) s.done c.index.result.now at c.self.invariant).1
+
+pub invariant_of-self : goal.invariant_of-self
+invariant_of-self c =
+    let s = c.self.inside in
+    let within = c.self.invariant.within in
+    let law = c.apply_again_law.ensures in
+    let at = is_at s.patches.items (s.done - 1) s.done c.index.result.now (omega arith) (omega arith) c.index.ensures in
+    (undone_at (record { disk = law.disk; agrees = law.agrees; again = law.again }) s.image c.revert.new.image s.patches.items (s.done - 1) s.done c.index.result.now
+    at c.self.invariant c.revert.ensures.reverted).keeps
+
+pub returns-clause-done : goal.returns-clause-done
+returns-clause-done c =
+    let s = c.self.inside in
+    let within = c.self.invariant.within in
+    let law = c.apply_again_law.ensures in
+    let at = is_at s.patches.items (s.done - 1) s.done c.index.result.now (omega arith) (omega arith) c.index.ensures in
+    let to = undone_at (record { disk = law.disk; agrees = law.agrees; again = law.again }) s.image c.revert.new.image s.patches.items (s.done - 1) s.done c.index.result.now
+    at c.self.invariant c.revert.ensures.reverted in
+    subst (λ (old : History). Undoes old (history_at c.revert.new.image s.patches.items (s.done - 1))) c.self.view_is to.moves

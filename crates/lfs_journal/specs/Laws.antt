@@ -1,0 +1,43 @@
+-- Laws of histories (own).
+use Rattle.std.specs.Prelude.{◌≡◌, List, [], ◌∷◌, Option, None}
+use Rattle.lfs_block.specs.Disk.{Disk}
+use Rattle.lfs_block.specs.Patch.{ChangeSet, applied}
+use Rattle.lfs_fs.specs.Path.{Path}
+use Rattle.lfs_fs.specs.Volume.{Volume}
+use Rattle.lfs_fs.specs.Tree.{Node}
+use Rattle.lfs_fs.specs.Reading.{reading_of}
+use Rattle.lfs_fs.specs.Holds.{Holds}
+use Rattle.lfs_fs.specs.Mounts.{Mounts}
+use Rattle.lfs_edit.specs.Command.{Command, Asked, Spells}
+use Rattle.lfs_edit.specs.Equation.{equation}
+use Rattle.lfs_edit.specs.Accepted.{Follows}
+use Rattle.lfs_edit.specs.Planned.{Plans}
+use Rattle.lfs_journal.specs.History.{History, IsHistory}
+use Rattle.lfs_journal.specs.Steps.{Step, Do, Undo, Redo, Reply, Run}
+
+-- the patched image holds a sound volume of the same size, count and limits, whose tree is the command's equation
+pub record IsCarriedOut (asked : Asked) (e : Disk) (v : Volume) (t : Path → Option Node) : Type 0 where
+  pub command : Command
+  pub spells : Spells asked command
+  pub volume : Volume
+  pub holds : Holds (reading_of e) volume
+  pub follows : Follows v command volume
+  pub mounts : Mounts e (equation command t)
+
+-- a patch that is planned for a command makes its equation of the tree that the image mounts to
+abbrev pub CommandsAreEquations : Type 0
+CommandsAreEquations = (d : Disk) (asked : Asked) (p : ChangeSet) (v : Volume) (t : Path → Option Node) → Plans d asked p
+    → Holds (reading_of d) v → Mounts d t → IsCarriedOut asked (applied p d) v t
+
+-- a run leaves a history
+abbrev pub RunsKeepHistories : Type 0
+RunsKeepHistories = (steps : List Step) (replies : List Reply) (old new : History) → Run steps replies old new → IsHistory old → IsHistory new
+
+-- what is done and undone leaves the image and the images before it
+abbrev pub UndoIsExact : Type 0
+UndoIsExact = (asked : Asked) (old new : History) → Run (Do asked ∷ Undo ∷ []) (None ∷ None ∷ []) old new
+    → (new.present ≡ old.present) × (new.past ≡ old.past) × (new.done ≡ old.done)
+
+-- what is undone and redone leaves the history
+abbrev pub RedoIsExact : Type 0
+RedoIsExact = (old new : History) → Run (Undo ∷ Redo ∷ []) (None ∷ None ∷ []) old new → new ≡ old

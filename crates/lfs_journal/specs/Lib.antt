@@ -1,0 +1,6 @@
+pub mod Faults
+pub mod History
+pub mod Moves
+pub mod Steps
+pub mod Meaning
+pub mod Laws

@@ -1,0 +1,45 @@
+//! Laws of histories: each function does nothing but call laws, and its contract is the law.
+
+ghost use Rattle.lfs_journal.specs.Laws.{CommandsAreEquations, RunsKeepHistories, UndoIsExact, RedoIsExact};
+
+use lfs_block::{applied_law, apply_again_law, revert_law};
+use lfs_edit::cuts_follow;
+use lfs_fs::images_mount_to_one_tree;
+
+/// A law: a patch that is planned for a command leaves an image that mounts, to the tree that is the command's equation of
+/// the tree before, with the same size, count and limits. Takes no memory.
+///
+/// Source: own.
+pub fn commands_are_equations()
+    ensures { CommandsAreEquations }
+{
+    images_mount_to_one_tree();
+    cuts_follow();
+}
+
+/// A law: after any steps the present image stands between whole images, each of which mounts, and which its changes lead
+/// to. Takes no memory.
+///
+/// Source: own.
+pub fn runs_keep_histories()
+    ensures { RunsKeepHistories }
+{
+    applied_law();
+    revert_law();
+    apply_again_law();
+    cuts_follow();
+}
+
+/// A law: a command that is carried out and taken back leaves the image and all images before it. Takes no memory.
+///
+/// Source: own.
+pub fn undo_is_exact()
+    ensures { UndoIsExact }
+{}
+
+/// A law: a change that is taken back and made again leaves the history. Takes no memory.
+///
+/// Source: own.
+pub fn redo_is_exact()
+    ensures { RedoIsExact }
+{}

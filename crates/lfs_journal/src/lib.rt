@@ -1,0 +1,24 @@
+//! An image with its changes, each of which can be taken back exactly.
+#![tactic(auto)]
+
+#[cfg(test)]
+mod command_tests;
+mod laws;
+#[cfg(test)]
+mod plan_tests;
+mod remounting;
+mod replacing;
+mod session;
+mod step;
+mod step_fault;
+mod stepping;
+#[cfg(test)]
+mod tests;
+mod unmounted;
+
+pub use laws::{commands_are_equations, redo_is_exact, runs_keep_histories, undo_is_exact};
+pub use session::Session;
+pub use step::Step;
+pub use step_fault::StepFault;
+pub use stepping::run_steps;
+pub use unmounted::Unmounted;

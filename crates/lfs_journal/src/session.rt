@@ -1,0 +1,143 @@
+//! An image with its changes.
+
+use crate::remounting::remount;
+use crate::replacing::replace_from;
+use crate::step_fault::StepFault;
+use crate::unmounted::Unmounted;
+use lfs_block::{Image, Patch, applied_law, apply_again_law, revert_law};
+use lfs_edit::{Command, cuts_follow, plan};
+use lfs_fs::mount;
+use std::alloc::Global;
+use std::marker::Model;
+
+/// The most changes that a session keeps.
+const MOST_CHANGES: usize = 1_000;
+
+/// An image with its changes, up to 1,000, each of which can be taken back exactly, and made again. Its meaning is a
+/// `History`: each image that was and can be again, all of which mount.
+///
+/// Source: own.
+#[derive(Drop)]
+pub struct Session {
+    image: Image,
+    patches: Vec<Patch>,
+    done: usize,
+}
+
+impl Model for Session {
+    ghost use Rattle.lfs_journal.specs.History.{History, history_at, IsHistoryAt};
+
+    ghost Value = { History };
+
+    ghost view = { λ s. history_at s.image s.patches.items s.done };
+
+    ghost invariant = { λ s. IsHistoryAt s.image s.patches.items s.done };
+}
+
+impl Session {
+    ghost use Rattle.std.specs.Prelude.{◌≡◌, [], Some, IfOk, IfErr, OnOk, OnErr};
+    ghost use Rattle.lfs_fs.specs.Cause.{HasCause};
+    ghost use Rattle.lfs_edit.specs.AskedFor.{asked_for};
+    ghost use Rattle.lfs_journal.specs.declared.step_fault.StepFault.TheVariants.{NothingToUndo, NothingToRedo};
+    ghost use Rattle.lfs_journal.specs.History.{IsHistory, fresh_history};
+    ghost use Rattle.lfs_journal.specs.Moves.{Undoes, Redoes, Forgets};
+    ghost use Rattle.lfs_journal.specs.Steps.{Does, Takes, Do};
+
+    /// A session of an image that nothing was done to. A refusal hands the image back: the image has the cause that the
+    /// fault names, and `Memory` says only that a growth was refused.
+    pub fn fresh(alloc: Global, image: Image) -> Result<Session, Unmounted>
+        ensures fresh { IfOk result (λ session. session ≡ fresh_history image) }
+        ensures history { IfOk result (λ session. IsHistory session) }
+        ensures cause { IfErr result (λ unmounted. HasCause image unmounted.fault) }
+        ensures handed_back { IfErr result (λ unmounted. unmounted.image ≡ image) }
+    {
+        match mount(alloc, &image) {
+            Ok(_) => Ok(Session {
+                image,
+                patches: Vec::new(alloc),
+                done: 0,
+            }),
+            Err(fault) => Err(Unmounted { fault, image }),
+        }
+    }
+
+    /// The image as it is now. Takes no memory.
+    pub fn image(&self) -> &Image
+        ensures image { result.now ≡ self.now.present }
+        ensures history { IsHistory self.now }
+    {
+        &self.image
+    }
+
+    /// The image as it is now, without its changes. Takes no memory.
+    pub fn into_image(self) -> Image
+        ensures { result ≡ self.present }
+    {
+        let Session {
+            image,
+            patches: _,
+            done: _,
+        } = self;
+        image
+    }
+
+    /// Carries a command out, as a change that can be taken back; what was undone is dropped. Any refusal leaves all as
+    /// it was: `JournalFull` where 1,000 changes were made, then what `plan` refuses, or `Memory`.
+    pub fn command(&mut self, alloc: Global, command: &Command<'_>) -> Result<(), StepFault>
+        ensures done { OnOk result (Does (asked_for command.now) self.old self.new) }
+        ensures refused { IfErr result (λ fault. Takes (Do (asked_for command.now)) (Some fault) self.old self.new) }
+        ensures unchanged { OnErr result (self.new ≡ self.old) }
+    {
+        applied_law();
+        revert_law();
+        cuts_follow();
+        if self.done >= MOST_CHANGES {
+            return Err(StepFault::JournalFull);
+        }
+        let mounted = remount(alloc, &self.image)?;
+        let patch = plan(alloc, &self.image, &mounted, command)?;
+        replace_from(&mut self.patches, self.done, patch)?;
+        self.patches[self.done].apply(&mut self.image);
+        self.done += 1;
+        Ok(())
+    }
+
+    /// Takes the latest change back. `NothingToUndo` where none was made that isn't undone, which leaves all as it was.
+    /// Takes no memory.
+    pub fn undo(&mut self) -> Result<(), StepFault>
+        ensures done { OnOk result (Undoes self.old self.new) }
+        ensures refused { IfErr result (λ fault. (fault ≡ NothingToUndo) × (self.old.past ≡ []) × (self.new ≡ self.old)) }
+    {
+        apply_again_law();
+        if self.done == 0 {
+            return Err(StepFault::NothingToUndo);
+        }
+        self.patches[self.done - 1].revert(&mut self.image);
+        self.done -= 1;
+        Ok(())
+    }
+
+    /// Makes again the latest change that was undone. `NothingToRedo` where there is none, which leaves all as it was.
+    /// Takes no memory.
+    pub fn redo(&mut self) -> Result<(), StepFault>
+        ensures done { OnOk result (Redoes self.old self.new) }
+        ensures refused { IfErr result (λ fault. (fault ≡ NothingToRedo) × (self.old.future ≡ []) × (self.new ≡ self.old)) }
+    {
+        applied_law();
+        revert_law();
+        if self.done == self.patches.len() {
+            return Err(StepFault::NothingToRedo);
+        }
+        self.patches[self.done].apply(&mut self.image);
+        self.done += 1;
+        Ok(())
+    }
+
+    /// Keeps the image alone: its changes can no longer be taken back, nor made again. Takes no memory.
+    pub fn forget(&mut self)
+        ensures { Forgets self.old self.new }
+    {
+        self.patches.clear();
+        self.done = 0;
+    }
+}

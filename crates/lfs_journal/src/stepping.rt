@@ -1,0 +1,51 @@
+//! Runs of steps.
+
+ghost use Rattle.std.specs.Prelude.{◌≡◌, map, IfOk, OnErr};
+ghost use Rattle.std.specs.Result.{result_err};
+ghost use Rattle.lfs_journal.specs.Meaning.{step_of};
+ghost use Rattle.lfs_journal.specs.Steps.{Run};
+
+use crate::session::Session;
+use crate::step::Step;
+use crate::step_fault::StepFault;
+use std::alloc::{AllocError, Global};
+
+impl Session {
+    ghost use Rattle.std.specs.Result.{result_err};
+    ghost use Rattle.lfs_journal.specs.Meaning.{step_of};
+    ghost use Rattle.lfs_journal.specs.Steps.{Takes};
+
+    /// Takes one step. A refusal leaves all as it was.
+    pub fn step(&mut self, alloc: Global, step: &Step<'_>) -> Result<(), StepFault>
+        ensures { Takes (step_of step.now) (result_err result) self.old self.new }
+    {
+        match step {
+            Step::Do(command) => self.command(alloc, command),
+            Step::Undo => self.undo(),
+            Step::Redo => self.redo(),
+            Step::Forget => {
+                self.forget();
+                Ok(())
+            }
+        }
+    }
+}
+
+/// Takes steps, one after another, also behind one that is refused, and gives the reply to each. Where there is no memory
+/// for the replies, no step is taken.
+///
+/// Source: own.
+pub fn run_steps(
+    alloc: Global,
+    session: &mut Session,
+    steps: &[Step<'_>],
+) -> Result<Vec<Result<(), StepFault>>, AllocError>
+    ensures run { IfOk result (λ replies. Run (map step_of steps.now) (map result_err replies.items) session.old session.new) }
+    ensures unchanged { OnErr result (session.new ≡ session.old) }
+{
+    let mut replies = Vec::with_capacity(alloc, steps.len())?;
+    for step in steps {
+        replies.push(session.step(alloc, step))?;
+    }
+    Ok(replies)
+}

@@ -1,0 +1,92 @@
+//! Sessions by example, apart from commands.
+
+use crate::{Session, Step, StepFault, run_steps};
+use lfs_block::{Blocks, Image, MountFault};
+use lfs_edit::{Refusal, format};
+use std::alloc::Global;
+use std::test::Fail;
+
+/// A new image of 8 blocks of 512 bytes.
+pub(crate) fn new_image(alloc: Global) -> Result<Image, Fail> {
+    let bytes = format(alloc, 512, 8)?;
+    Ok(Image::new(bytes, 512).map_err(|refused| refused.0)?)
+}
+
+/// A session of a new image.
+pub(crate) fn new_session(alloc: Global) -> Result<Session, Fail> {
+    let image = new_image(alloc)?;
+    Ok(Session::fresh(alloc, image).map_err(|unmounted| unmounted.fault)?)
+}
+
+/// Whether two images are the same, byte for byte.
+pub(crate) fn are_same(left: &Image, right: &Image) -> bool {
+    left.count() == right.count() && (0..left.count()).all(|n| left.block(n) == right.block(n))
+}
+
+#[test]
+fn fresh_session_has_nothing_to_undo_or_redo(rt: HostRuntime) -> Result<(), Fail> {
+    let first = new_image(rt.alloc())?;
+    let mut session = new_session(rt.alloc())?;
+    assert_eq!(rt; session.undo(), Err(StepFault::NothingToUndo));
+    assert!(rt; are_same(session.image(), &first));
+    assert_eq!(rt; session.redo(), Err(StepFault::NothingToRedo));
+    assert!(rt; are_same(session.image(), &first));
+    session.forget();
+    assert!(rt; are_same(session.image(), &first));
+    assert!(rt; are_same(&session.into_image(), &first));
+    Ok(())
+}
+
+#[test]
+fn runs_go_on_behind_a_refusal(rt: HostRuntime) -> Result<(), Fail> {
+    let first = new_image(rt.alloc())?;
+    let mut session = new_session(rt.alloc())?;
+    let steps = [Step::Undo, Step::Redo, Step::Forget, Step::Undo];
+    let replies = run_steps(rt.alloc(), &mut session, &steps)?;
+    let expected: [Result<(), StepFault>; 4] = [
+        Err(StepFault::NothingToUndo),
+        Err(StepFault::NothingToRedo),
+        Ok(()),
+        Err(StepFault::NothingToUndo),
+    ];
+    assert_eq!(rt; replies.as_slice(), expected.as_slice());
+    assert!(rt; are_same(session.image(), &first));
+    Ok(())
+}
+
+#[test]
+fn image_that_does_not_mount_is_handed_back(rt: HostRuntime) -> Result<(), Fail> {
+    let bytes = vec![in rt.alloc(); 0xff; 4_096]?;
+    let image = Image::new(bytes, 512).map_err(|refused| refused.0)?;
+    let Err(unmounted) = Session::fresh(rt.alloc(), image) else {
+        return Err(Fail::new("erased bytes mount"));
+    };
+    assert_eq!(rt; unmounted.fault, MountFault::NoValidCommit);
+    let bytes = unmounted.image.into_bytes();
+    assert_eq!(rt; bytes.len(), 4_096);
+    assert!(rt; bytes.iter().all(|byte| *byte == 0xff));
+    Ok(())
+}
+
+#[test]
+fn faults_have_numbers_and_texts(rt: HostRuntime) -> Result<(), Fail> {
+    let rows = [
+        (StepFault::Refused(Refusal::NotFound), 30, "NotFound"),
+        (StepFault::NothingToUndo, 53, "NothingToUndo"),
+        (StepFault::NothingToRedo, 54, "NothingToRedo"),
+        (StepFault::JournalFull, 55, "JournalFull"),
+    ];
+    for (fault, number, text) in rows {
+        assert_eq!(rt; fault.number(), number, "{text}");
+        assert!(rt; fault.to_string(rt.alloc())?.as_str() == text, "{number}");
+    }
+    Ok(())
+}
+
+#[test]
+fn laws_of_histories(_rt: HostRuntime) {
+    crate::commands_are_equations();
+    crate::runs_keep_histories();
+    crate::undo_is_exact();
+    crate::redo_is_exact();
+}
