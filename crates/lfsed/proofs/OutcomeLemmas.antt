@@ -4,10 +4,11 @@ use Rattle.std.specs.Result.{result_err}
 use Rattle.std.proofs.lemmas.Nat.{div-mul-add}
 use Rattle.lfs_block.specs.Disk.{Disk, IsDisk}
 use Rattle.lfsed.specs.declared.fault.Fault.{Fault}
-use Rattle.lfsed.specs.declared.fault.Fault.TheVariants.{Image, Mount, Refused, CannotRead, CannotWrite}
+use Rattle.lfsed.specs.declared.fault.Fault.TheVariants.{Image, Mount, Refused, Step, JournalFormat, CannotRead, CannotWrite, BadHex}
 use Rattle.lfsed.specs.declared.outcome.Outcome.{Outcome}
 use Rattle.lfsed.specs.declared.step.Step.TheVariants.{Check}
-use Rattle.lfsed.specs.Outcome.{Answers, AnswersBy, RefusesReport, RefusesCheck, SendsReport, SendsText, image_of}
+use Rattle.lfsed.specs.Outcome.{Answers, AnswersBy, RefusesReport, RefusesCheck, SendsReport, SendsText}
+use Rattle.lfsed.specs.Bytes.{image_of}
 
 -- an image is what its bytes are
 pub image_of_disk : (d : Disk) → IsDisk d → image_of d.size d.bytes ≡ d
@@ -24,7 +25,10 @@ check_refused d (Mount fault) is refuses =
 check_refused d (Refused refusal) is refuses =
     let same = sym (image_of_disk d is) in
     (subst IsDisk same is, subst (λ e. RefusesReport e (Refused refusal)) same refuses)
+check_refused d (Step fault) is refuses = absurd refuses
+check_refused d JournalFormat is refuses = absurd refuses
 check_refused d CannotRead is refuses = absurd refuses
+check_refused d BadHex is refuses = absurd refuses
 check_refused d CannotWrite is refuses =
     let same = sym (image_of_disk d is) in
     (subst IsDisk same is, subst (λ e. RefusesReport e CannotWrite) same refuses)

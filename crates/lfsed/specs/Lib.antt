@@ -1,4 +1,7 @@
+pub mod Bytes
+pub mod Change
 pub mod Fault
 pub mod Outcome
 pub mod Send
 pub mod Summary
+pub mod Task

@@ -4,6 +4,7 @@ ghost use Rattle.std.specs.Prelude.{◌≡◌, Some};
 ghost use Rattle.lfsed.specs.Fault.{status_of};
 
 use crate::command_line::{Request, command_line, requested};
+use crate::digits::bytes_of;
 use crate::fault::Fault;
 use crate::host::{Host, ReadFault};
 use crate::output::Output;
@@ -70,15 +71,17 @@ fn refused<H: Host>(alloc: Global, host: &mut H, error: Error) -> Result<u8, Fau
     Ok(0)
 }
 
-/// Takes the step that is asked for, and writes the image that it makes.
+/// Takes the step that is asked for, and writes the image that it makes. Digits are read before files.
 fn done<H: Host>(alloc: Global, host: &mut H, request: &Request<'_>) -> Result<(), Fault> {
-    let image = match request.step {
+    let value = bytes_of(alloc, request.task.digits())?;
+    let step = request.task.step(value.as_slice())?;
+    let image = match step {
         Step::Format { count: _ } => Vec::new(alloc),
-        Step::Check => read(alloc, host, request.image)?,
+        _ => read(alloc, host, request.image)?,
     };
     let outcome = run(
         alloc,
-        &request.step,
+        &step,
         request.size,
         image,
         Vec::new(alloc),
@@ -88,8 +91,9 @@ fn done<H: Host>(alloc: Global, host: &mut H, request: &Request<'_>) -> Result<(
     if let Some(fault) = outcome.fault {
         return Err(fault);
     }
-    if let Step::Format { count: _ } = request.step {
-        replace(alloc, host, request.image, outcome.image.as_slice())?;
+    match step {
+        Step::Check => {}
+        _ => replace(alloc, host, request.image, outcome.image.as_slice())?,
     }
     flush(host)
 }

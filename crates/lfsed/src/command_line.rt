@@ -1,6 +1,6 @@
 //! The command line.
 
-use crate::step::Step;
+use crate::task::Task;
 use clap::{Arg, ArgMatches, Command, value_parser};
 use std::alloc::{AllocError, Global};
 
@@ -14,7 +14,7 @@ const STATUSES: &str = "Status: 0 done; 1 the change is refused; 2 the command l
 #[derive(Drop)]
 pub struct Request<'a> {
     /// What is to be done.
-    pub step: Step,
+    pub task: Task<'a>,
     /// The block size, in bytes.
     pub size: u32,
     /// The image's file name.
@@ -49,6 +49,33 @@ fn image_argument<'a>(alloc: Global) -> Arg<'a> {
         .help("File of the image")
 }
 
+/// A path within the image.
+fn path_argument<'a>(alloc: Global) -> Arg<'a> {
+    Arg::new(alloc, "path")
+        .value_name("PATH")
+        .required(true)
+        .allow_hyphen_values(true)
+        .help("Path of a file or a directory in the image, from / on")
+}
+
+/// An attribute's kind.
+fn kind_argument<'a>(alloc: Global) -> Arg<'a> {
+    Arg::new(alloc, "kind")
+        .value_name("KIND")
+        .required(true)
+        .allow_hyphen_values(true)
+        .help("Kind of the attribute, in two hexadecimal digits")
+}
+
+/// An attribute's value.
+fn value_argument<'a>(alloc: Global) -> Arg<'a> {
+    Arg::new(alloc, "hex")
+        .value_name("HEX")
+        .required(true)
+        .allow_hyphen_values(true)
+        .help("Value of the attribute, in two hexadecimal digits for each byte; may be empty")
+}
+
 /// The command `format`.
 fn format_command<'a>(alloc: Global) -> Result<Command<'a>, AllocError> {
     Command::new(alloc, "format")
@@ -66,6 +93,27 @@ fn check_command<'a>(alloc: Global) -> Result<Command<'a>, AllocError> {
         .arg(image_argument(alloc))
 }
 
+/// The command `setattr`.
+fn setattr_command<'a>(alloc: Global) -> Result<Command<'a>, AllocError> {
+    Command::new(alloc, "setattr")
+        .about("Set an attribute of a file or a directory")
+        .arg(block_option(alloc))?
+        .arg(image_argument(alloc))?
+        .arg(path_argument(alloc))?
+        .arg(kind_argument(alloc))?
+        .arg(value_argument(alloc))
+}
+
+/// The command `rmattr`.
+fn rmattr_command<'a>(alloc: Global) -> Result<Command<'a>, AllocError> {
+    Command::new(alloc, "rmattr")
+        .about("Remove an attribute of a file or a directory")
+        .arg(block_option(alloc))?
+        .arg(image_argument(alloc))?
+        .arg(path_argument(alloc))?
+        .arg(kind_argument(alloc))
+}
+
 /// The program's command line.
 pub fn command_line<'a>(alloc: Global) -> Result<Command<'a>, AllocError> {
     Command::new(alloc, "lfsed")
@@ -75,20 +123,31 @@ pub fn command_line<'a>(alloc: Global) -> Result<Command<'a>, AllocError> {
         .subcommand_required(true)
         .disable_help_subcommand(true)
         .subcommand(format_command(alloc)?)?
-        .subcommand(check_command(alloc)?)
+        .subcommand(check_command(alloc)?)?
+        .subcommand(setattr_command(alloc)?)?
+        .subcommand(rmattr_command(alloc)?)
 }
 
 /// What the words that were matched ask for. `None` where they ask for nothing.
 pub fn requested<'a>(matches: &ArgMatches<'a>) -> Option<Request<'a>> {
     let (name, options) = matches.subcommand()?;
-    let step = match name {
-        "format" => Step::Format {
+    let task = match name {
+        "format" => Task::Format {
             count: options.get_one::<u32>("count")?,
         },
-        _ => Step::Check,
+        "setattr" => Task::SetAttr {
+            path: options.get_str("path")?,
+            kind: options.get_str("kind")?,
+            value: options.get_str("hex")?,
+        },
+        "rmattr" => Task::RmAttr {
+            path: options.get_str("path")?,
+            kind: options.get_str("kind")?,
+        },
+        _ => Task::Check,
     };
     Some(Request {
-        step,
+        task,
         size: options.get_one::<u32>("block")?,
         image: options.get_str("image")?,
     })

@@ -1,7 +1,9 @@
 //! Why the program ends without having done what it was asked for.
 
+use hex::FromHexError;
 use lfs_block::{ImageFault, MountFault};
 use lfs_edit::Refusal;
+use lfs_journal::StepFault;
 use std::alloc::AllocError;
 use thiserror::Error;
 
@@ -19,12 +21,21 @@ pub enum Fault {
     /// The change is refused, or a growth of memory was.
     #[error(transparent)]
     Refused(Refusal),
+    /// The step is refused for what was done before it.
+    #[error(transparent)]
+    Step(StepFault),
+    /// The bytes are no journal.
+    #[error("JournalFormat")]
+    JournalFormat,
     /// A file could not be read.
     #[error("CannotRead")]
     CannotRead,
     /// A file or standard output could not be written.
     #[error("CannotWrite")]
     CannotWrite,
+    /// An argument is not made of as many hexadecimal digits as it takes.
+    #[error("BadHex")]
+    BadHex,
 }
 
 impl Fault {
@@ -39,8 +50,11 @@ impl Fault {
             Fault::Image(fault) => fault.number(),
             Fault::Mount(fault) => fault.number(),
             Fault::Refused(refusal) => refusal.number(),
+            Fault::Step(fault) => fault.number(),
+            Fault::JournalFormat => 50,
             Fault::CannotRead => 60,
             Fault::CannotWrite => 61,
+            Fault::BadHex => 64,
         }
     }
 
@@ -50,9 +64,9 @@ impl Fault {
         ensures { result ≡ status_of_number (fault_number self) }
     {
         match self.number() {
-            30..=43 | 53..=55 => 1,
+            30..=43 | 45 | 53..=55 => 1,
             64 => 2,
-            1..=22 | 50..=52 => 3,
+            1..=21 | 50..=52 => 3,
             _ => 4,
         }
     }
@@ -91,6 +105,34 @@ impl From<Refusal> for Fault {
 
     fn from(refusal: Refusal) -> Fault {
         Fault::Refused(refusal)
+    }
+}
+
+impl From<StepFault> for Fault {
+    ghost use Rattle.std.specs.Prelude.{◌≡◌};
+    ghost use Rattle.lfsed.specs.Fault.{fault_of_step};
+
+    ghost from_gives = { λ step_fault fault. fault ≡ fault_of_step step_fault };
+
+    fn from(fault: StepFault) -> Fault {
+        match fault {
+            StepFault::Refused(refusal) => Fault::Refused(refusal),
+            fault => Fault::Step(fault),
+        }
+    }
+}
+
+impl From<FromHexError> for Fault {
+    ghost use Rattle.std.specs.Prelude.{◌≡◌};
+    ghost use Rattle.lfsed.specs.Fault.{fault_of_hex};
+
+    ghost from_gives = { λ error fault. fault ≡ fault_of_hex error };
+
+    fn from(error: FromHexError) -> Fault {
+        match error {
+            FromHexError::OutOfMemory => Fault::Refused(Refusal::Memory),
+            _ => Fault::BadHex,
+        }
     }
 }
 

@@ -1,8 +1,10 @@
 //! An editor for images of littlefs.
 #![tactic(auto)]
 
+mod changing;
 mod cli;
 mod command_line;
+mod digits;
 mod fault;
 mod host;
 mod outcome;
@@ -12,6 +14,7 @@ mod send;
 mod sink;
 mod step;
 mod summary;
+mod task;
 mod terminal;
 mod writer_sink;
 

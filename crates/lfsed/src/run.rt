@@ -8,6 +8,7 @@ ghost use Rattle.lfsed.specs.Fault.{status_of};
 ghost use Rattle.lfsed.specs.Outcome.{Answers, RefusesFormat, RefusesReport, SendsReport, SendsText, blames_output};
 ghost use Rattle.lfsed.specs.declared.step.Step.TheVariants.{Format, Check};
 
+use crate::changing::changed;
 use crate::fault::Fault;
 use crate::outcome::Outcome;
 use crate::send::send;
@@ -15,18 +16,19 @@ use crate::sink::Sink;
 use crate::step::Step;
 use crate::summary::summary;
 use lfs_block::{Image, ImageFault, geometry_ok};
-use lfs_edit::format;
+use lfs_edit::{Command, format};
 use lfs_fs::mount;
 use std::alloc::Global;
 
 /// Takes one step on an image and its journal, with blocks of `size` bytes. `input` is what the step reads. What it
 /// says goes to `out`, and the caller owes that this has not failed. With a fault the image and the journal are those
-/// that were handed in, and nothing goes out but where `out` itself failed. Takes memory.
+/// that were handed in, and nothing goes out but where `out` itself failed. No journal is read so far: a step that changes
+/// the image answers an empty one, and is refused with `JournalFormat` where the journal isn't empty. Takes memory.
 ///
 /// Source: own.
 pub fn run<S: Sink>(
     alloc: Global,
-    step: &Step,
+    step: &Step<'_>,
     size: u32,
     image: Vec<u8>,
     journal: Vec<u8>,
@@ -42,6 +44,14 @@ pub fn run<S: Sink>(
     match *step {
         Step::Format { count } => formatted(alloc, size, count, image, journal),
         Step::Check => checked(alloc, size, image, journal, out),
+        Step::SetAttr { path, kind, value } => {
+            let command = Command::SetAttr { path, kind, value };
+            changed(alloc, &command, size, image, journal)
+        }
+        Step::RmAttr { path, kind } => {
+            let command = Command::RmAttr { path, kind };
+            changed(alloc, &command, size, image, journal)
+        }
     }
 }
 

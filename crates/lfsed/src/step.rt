@@ -3,8 +3,8 @@
 /// What a run does with an image.
 ///
 /// Source: own.
-#[derive(Clone, Copy, Debug, PartialEq, Eq)]
-pub enum Step {
+#[derive(Clone, Copy, Debug)]
+pub enum Step<'a> {
     /// Makes a new image of this many blocks.
     Format {
         /// The number of blocks.
@@ -12,4 +12,20 @@ pub enum Step {
     },
     /// Judges the image, and says what it holds.
     Check,
+    /// Sets an attribute of what is at a path.
+    SetAttr {
+        /// The text of the path.
+        path: &'a [u8],
+        /// The attribute's kind.
+        kind: u8,
+        /// The attribute's value.
+        value: &'a [u8],
+    },
+    /// Removes an attribute of what is at a path.
+    RmAttr {
+        /// The text of the path.
+        path: &'a [u8],
+        /// The attribute's kind.
+        kind: u8,
+    },
 }

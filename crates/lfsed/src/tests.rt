@@ -1,5 +1,8 @@
 //! Runs of the program on a host in memory, and writers that misbehave.
 
+mod changes;
+mod commands;
+mod digits;
 mod faults;
 mod host_faults;
 mod images;

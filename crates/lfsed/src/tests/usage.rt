@@ -45,6 +45,34 @@ fn refused_command_lines(rt: HostRuntime) {
             &["lfsed", "check", "a.img", "b.img"],
             "error: unexpected argument 'b.img' found\n",
         ),
+        (
+            &["lfsed", "setattr", "a.img", "/", "74"],
+            "error: the following required arguments were not provided:\n  <HEX>\n",
+        ),
+        (
+            &["lfsed", "rmattr", "a.img", "/"],
+            "error: the following required arguments were not provided:\n  <KIND>\n",
+        ),
+        (
+            &["lfsed", "rmattr", "a.img", "/", "74", "00"],
+            "error: unexpected argument '00' found\n",
+        ),
+        (
+            &["lfsed", "setattr", "--block", "255", "a.img", "/", "7", "0"],
+            "error: invalid value '255' for '--block <BYTES>': 255 is not in 256..=65536\n",
+        ),
+        (
+            &["lfsed", "undo", "a.img"],
+            "error: unrecognized subcommand 'undo'\n",
+        ),
+        (
+            &["lfsed", "redo", "a.img"],
+            "error: unrecognized subcommand 'redo'\n",
+        ),
+        (
+            &["lfsed", "forget", "a.img"],
+            "error: unrecognized subcommand 'forget'\n",
+        ),
     ];
     for (words, text) in rows {
         let mut host = MemoryHost::new(rt.alloc());
@@ -59,8 +87,10 @@ const HELP: &str = "Edit littlefs images of disk version 2.0
 Usage: lfsed <COMMAND>
 
 Commands:
-  format  Write a new image, in place of a file of this name
-  check   Judge an image; print its geometry, free blocks, directories and files
+  format   Write a new image, in place of a file of this name
+  check    Judge an image; print its geometry, free blocks, directories and files
+  setattr  Set an attribute of a file or a directory
+  rmattr   Remove an attribute of a file or a directory
 
 Options:
   -h, --help  Print help
@@ -94,12 +124,43 @@ Options:
   -h, --help           Print help
 ";
 
+const SETATTR_HELP: &str = "Set an attribute of a file or a directory
+
+Usage: lfsed setattr [OPTIONS] <IMAGE> <PATH> <KIND> <HEX>
+
+Arguments:
+  <IMAGE>  File of the image
+  <PATH>   Path of a file or a directory in the image, from / on
+  <KIND>   Kind of the attribute, in two hexadecimal digits
+  <HEX>    Value of the attribute, in two hexadecimal digits for each byte; may be empty
+
+Options:
+      --block <BYTES>  Size of a block, a multiple of 16 from 256 to 65536 [default: 4096]
+  -h, --help           Print help
+";
+
+const RMATTR_HELP: &str = "Remove an attribute of a file or a directory
+
+Usage: lfsed rmattr [OPTIONS] <IMAGE> <PATH> <KIND>
+
+Arguments:
+  <IMAGE>  File of the image
+  <PATH>   Path of a file or a directory in the image, from / on
+  <KIND>   Kind of the attribute, in two hexadecimal digits
+
+Options:
+      --block <BYTES>  Size of a block, a multiple of 16 from 256 to 65536 [default: 4096]
+  -h, --help           Print help
+";
+
 #[test]
 fn help_goes_to_standard_output(rt: HostRuntime) {
     let rows = [
         (["lfsed", "--help"].as_slice(), HELP),
         (&["lfsed", "format", "--help"], FORMAT_HELP),
         (&["lfsed", "check", "--help"], CHECK_HELP),
+        (&["lfsed", "setattr", "--help"], SETATTR_HELP),
+        (&["lfsed", "rmattr", "--help"], RMATTR_HELP),
     ];
     for (words, text) in rows {
         let mut host = MemoryHost::new(rt.alloc());

@@ -78,7 +78,7 @@ fn check_names_the_cause(rt: HostRuntime) -> Result<(), Fail> {
     judge(&rt, &version, 4_096, "512", "lfsed: 10 Version\n")?;
     judge(&rt, &NEW, 3_584, "512", "lfsed: 11 Geometry\n")?;
     judge(&rt, &limit, 4_096, "512", "lfsed: 12 Limits\n")?;
-    judge(&rt, &WITH_TAIL, 4_096, "512", "lfsed: 22 NotYet\n")?;
+    judge(&rt, &WITH_TAIL, 4_096, "512", "lfsed: 3 NoValidCommit\n")?;
     Ok(())
 }
 

@@ -1,0 +1,67 @@
+-- What a command on an image answers, from what is said of its session, and what it answers on bytes.
+use Rattle.std.proofs.Common.{◌≡◌, ℕ, List, [], Option, Some, None, Result, Ok, Err, IfErr, OnOk, OnErr, sym, subst, ap, ◌∙◌}
+use Rattle.std.specs.Result.{result_err}
+use Rattle.lfs_block.specs.Disk.{Disk, IsDisk}
+use Rattle.lfs_edit.specs.Command.{Asked}
+use Rattle.lfs_journal.specs.History.{History, fresh_history}
+use Rattle.lfs_journal.specs.Steps.{Takes, Do}
+use Rattle.lfsed.specs.declared.fault.Fault.{Fault}
+use Rattle.lfsed.specs.declared.fault.Fault.TheVariants.{Image, Mount, Refused, Step, JournalFormat, CannotRead, CannotWrite, BadHex}
+use Rattle.lfsed.specs.declared.outcome.Outcome.{Outcome}
+use Rattle.lfsed.specs.Change.{IsChanged, RefusesImage, AnswersImage, RefusesChange, AnswersChange}
+use Rattle.lfsed.proofs.OutcomeLemmas.{image_of_disk}
+
+-- what is said of a session in which a command was to be carried out
+pub record IsCarriedOut {T : Type 0} (asked : Asked) (journal : List ℕ) (reported : Result T Fault) (old new : History) : Type 0 where
+  pub unused : OnOk reported (journal ≡ [])
+  pub done : OnOk reported (Takes (Do asked) None old new)
+  pub refused : IfErr reported (λ fault. RefusesImage asked old.present journal fault)
+  pub unchanged : OnErr reported (new ≡ old)
+
+-- the outcome is what the session leaves
+pub record IsKept (journal : List ℕ) (new : History) (o : Outcome) : Type 0 where
+  pub image : o.image.items ≡ new.present.bytes
+  pub same : o.journal.items ≡ journal
+
+answers_at : {T : Type 0} (asked : Asked) (d : Disk) (journal : List ℕ) (reported : Result T Fault) (new : History) (o : Outcome) → IsKept journal new o
+    → IsCarriedOut asked journal reported (fresh_history d) new → AnswersImage (result_err reported) asked d journal o
+answers_at asked d journal (Ok x) new o kept is = record { unused = is.unused; new = new; takes = is.done; kept = kept.image; emptied = kept.same ∙ is.unused }
+answers_at asked d journal (Err fault) new o kept is = (kept.image ∙ ap (λ (h : History). h.present.bytes) is.unchanged, kept.same, is.refused)
+
+pub image_answers : {T : Type 0} (asked : Asked) (d : Disk) (journal : List ℕ) (reported : Result T Fault) (old new : History) (o : Outcome) → IsKept journal new o
+    → old ≡ fresh_history d → o.fault ≡ result_err reported → IsCarriedOut asked journal reported old new → AnswersImage o.fault asked d journal o
+image_answers asked d journal reported old new o kept fresh fault is =
+    let at = subst (λ (h : History). IsCarriedOut asked journal reported h new) fresh is in
+    subst (λ (x : Option Fault). AnswersImage x asked d journal o) (sym fault) (answers_at asked d journal reported new o kept at)
+
+change_refused : (asked : Asked) (d : Disk) (journal : List ℕ) (fault : Fault) → IsDisk d → RefusesImage asked d journal fault → RefusesChange asked d.size d.bytes journal fault
+change_refused asked d journal (Image fault) is refuses = absurd refuses
+change_refused asked d journal (Mount fault) is refuses =
+    let same = sym (image_of_disk d is) in
+    (subst IsDisk same is, subst (λ (e : Disk). RefusesImage asked e journal (Mount fault)) same refuses)
+change_refused asked d journal (Refused refusal) is refuses =
+    let same = sym (image_of_disk d is) in
+    (subst IsDisk same is, subst (λ (e : Disk). RefusesImage asked e journal (Refused refusal)) same refuses)
+change_refused asked d journal (Step fault) is refuses =
+    let same = sym (image_of_disk d is) in
+    (subst IsDisk same is, subst (λ (e : Disk). RefusesImage asked e journal (Step fault)) same refuses)
+change_refused asked d journal JournalFormat is refuses =
+    let same = sym (image_of_disk d is) in
+    (subst IsDisk same is, subst (λ (e : Disk). RefusesImage asked e journal JournalFormat) same refuses)
+change_refused asked d journal CannotRead is refuses = absurd refuses
+change_refused asked d journal CannotWrite is refuses = absurd refuses
+change_refused asked d journal BadHex is refuses = absurd refuses
+
+change_at : (fault : Option Fault) (asked : Asked) (d : Disk) (journal : List ℕ) (o : Outcome) → IsDisk d → AnswersImage fault asked d journal o
+    → AnswersChange fault asked d.size d.bytes journal o
+change_at None asked d journal o is changed =
+    let same = sym (image_of_disk d is) in
+    (subst IsDisk same is, subst (λ (e : Disk). IsChanged asked e journal o) same changed)
+change_at (Some fault) asked d journal o is answers = (answers.0, answers.1, change_refused asked d journal fault is answers.2)
+
+pub change_answers : (asked : Asked) (size : ℕ) (bytes journal : List ℕ) (d : Disk) (o : Outcome) → IsDisk d → d.size ≡ size → d.bytes ≡ bytes
+    → AnswersImage o.fault asked d journal o → AnswersChange o.fault asked size bytes journal o
+change_answers asked size bytes journal d o is e f answers =
+    let at = change_at o.fault asked d journal o is answers in
+    let by_size = subst (λ (n : ℕ). AnswersChange o.fault asked n d.bytes journal o) e at in
+    subst (λ (l : List ℕ). AnswersChange o.fault asked size l journal o) f by_size

@@ -1,0 +1,37 @@
+-- What the words of a command line ask for (own).
+use Rattle.std.specs.Prelude.{◌≡◌, ℕ, List, [], ◌∷◌, Ok, IsErr}
+use Rattle.hex.specs.Hex.{decode_of, decode_sized}
+use Rattle.lfsed.specs.declared.step.Step.{Step}
+use Rattle.lfsed.specs.declared.step.Step.TheVariants.{Format, Check, SetAttr, RmAttr}
+use Rattle.lfsed.specs.declared.task.Task.{Task}
+use Rattle.lfsed.specs.declared.task.Task.TheVariants as task
+
+-- the text is the two hexadecimal digits of a byte
+abbrev pub SpellsByte : List ℕ → ℕ → Type 0
+SpellsByte text byte = decode_sized text 1 ≡ Ok (byte ∷ [])
+
+-- the text is the hexadecimal digits of bytes, two of each
+abbrev pub SpellsBytes : List ℕ → List ℕ → Type 0
+SpellsBytes text bytes = decode_of text ≡ Ok bytes
+
+-- the digits of the task's value; the empty text where it has none
+abbrev pub digits_of : Task → List ℕ
+digits_of (task.Format count) = []
+digits_of task.Check = []
+digits_of (task.SetAttr path kind digits) = digits.now
+digits_of (task.RmAttr path kind) = []
+
+-- the kind that the task names isn't two hexadecimal digits
+abbrev pub SpellsNoKind : Task → Type 0
+SpellsNoKind (task.Format count) = ⊥
+SpellsNoKind task.Check = ⊥
+SpellsNoKind (task.SetAttr path kind digits) = IsErr (decode_sized kind.now 1)
+SpellsNoKind (task.RmAttr path kind) = IsErr (decode_sized kind.now 1)
+
+-- the step is what the task asks for
+abbrev pub AsksFor : Task → Step → Type 0
+AsksFor (task.Format n) (Format count) = count ≡ n
+AsksFor task.Check Check = Unit {0}
+AsksFor (task.SetAttr text digits value_digits) (SetAttr path kind value) = (path.now ≡ text.now) × SpellsByte digits.now kind × SpellsBytes value_digits.now value.now
+AsksFor (task.RmAttr text digits) (RmAttr path kind) = (path.now ≡ text.now) × SpellsByte digits.now kind
+AsksFor _ _ = ⊥
