@@ -76,56 +76,69 @@ fn value_argument<'a>(alloc: Global) -> Arg<'a> {
         .help("Value of the attribute, in two hexadecimal digits for each byte; may be empty")
 }
 
+/// A command on an image, with the size of its blocks.
+fn image_command<'a>(alloc: Global, name: &'a str) -> Result<Command<'a>, AllocError> {
+    Command::new(alloc, name)
+        .arg(block_option(alloc))?
+        .arg(image_argument(alloc))
+}
+
+/// A command on an attribute.
+fn attribute_command<'a>(alloc: Global, name: &'a str) -> Result<Command<'a>, AllocError> {
+    image_command(alloc, name)?
+        .arg(path_argument(alloc))?
+        .arg(kind_argument(alloc))
+}
+
 /// The command `format`.
 fn format_command<'a>(alloc: Global) -> Result<Command<'a>, AllocError> {
-    Command::new(alloc, "format")
+    image_command(alloc, "format")?
         .about("Write a new image, in place of a file of this name")
-        .arg(block_option(alloc))?
-        .arg(count_option(alloc))?
-        .arg(image_argument(alloc))
+        .arg(count_option(alloc))
 }
 
 /// The command `check`.
 fn check_command<'a>(alloc: Global) -> Result<Command<'a>, AllocError> {
-    Command::new(alloc, "check")
-        .about("Judge an image; print its geometry, free blocks, directories and files")
-        .arg(block_option(alloc))?
-        .arg(image_argument(alloc))
+    let command = image_command(alloc, "check")?;
+    Ok(command.about("Judge an image; print its geometry, free blocks, directories and files"))
 }
 
 /// The command `setattr`.
 fn setattr_command<'a>(alloc: Global) -> Result<Command<'a>, AllocError> {
-    Command::new(alloc, "setattr")
+    attribute_command(alloc, "setattr")?
         .about("Set an attribute of a file or a directory")
-        .arg(block_option(alloc))?
-        .arg(image_argument(alloc))?
-        .arg(path_argument(alloc))?
-        .arg(kind_argument(alloc))?
         .arg(value_argument(alloc))
 }
 
 /// The command `rmattr`.
 fn rmattr_command<'a>(alloc: Global) -> Result<Command<'a>, AllocError> {
-    Command::new(alloc, "rmattr")
-        .about("Remove an attribute of a file or a directory")
-        .arg(block_option(alloc))?
-        .arg(image_argument(alloc))?
-        .arg(path_argument(alloc))?
-        .arg(kind_argument(alloc))
+    let command = attribute_command(alloc, "rmattr")?;
+    Ok(command.about("Remove an attribute of a file or a directory"))
+}
+
+/// The commands on whole images.
+fn with_images<'a>(alloc: Global, program: Command<'a>) -> Result<Command<'a>, AllocError> {
+    program
+        .subcommand(format_command(alloc)?)?
+        .subcommand(check_command(alloc)?)
+}
+
+/// The commands on attributes, behind others.
+fn with_attributes<'a>(alloc: Global, program: Command<'a>) -> Result<Command<'a>, AllocError> {
+    program
+        .subcommand(setattr_command(alloc)?)?
+        .subcommand(rmattr_command(alloc)?)
 }
 
 /// The program's command line.
 pub fn command_line<'a>(alloc: Global) -> Result<Command<'a>, AllocError> {
-    Command::new(alloc, "lfsed")
+    let program = Command::new(alloc, "lfsed")
         .bin_name("lfsed")?
         .about("Edit littlefs images of disk version 2.0")
         .after_help(STATUSES)
         .subcommand_required(true)
-        .disable_help_subcommand(true)
-        .subcommand(format_command(alloc)?)?
-        .subcommand(check_command(alloc)?)?
-        .subcommand(setattr_command(alloc)?)?
-        .subcommand(rmattr_command(alloc)?)
+        .disable_help_subcommand(true);
+    with_attributes(alloc, with_images(alloc, program)?)
 }
 
 /// What the words that were matched ask for. `None` where they ask for nothing.
