@@ -16,6 +16,7 @@ pub mod ResolvedLemmas
 pub mod StandsLemmas
 pub mod WeightLemmas
 pub mod RowLemmas
+pub mod RowShownLemmas
 pub mod RootMountLemmas
 pub mod SuperblockLemmas
 pub mod OneMountLemmas

@@ -39,6 +39,7 @@ pub mod Gathered
 pub mod Mounts
 pub mod LoneSuperblock
 pub mod Mounted
+pub mod RowShown
 pub mod Formatted
 pub mod Header
 pub mod Stored

@@ -1,18 +1,19 @@
 //! What is gathered of small images, whose logs were put together tag by tag, with checksums of their own, by another
 //! program. Each block behind a log is erased.
 
-use crate::folder::FolderBody;
+use crate::folder::{Folder, FolderBody, FolderEntry};
 use crate::gathering::gather;
 use lfs_block::{Image, MountFault};
 use std::alloc::Global;
+use std::process::Abort;
 use std::test::Fail;
 
 // The superblock of 512 by 8, a file `a` with `hi` and an attribute 7 of `!`, a directory `d` of {2, 3}, and a hard
 // tail to {4, 5}.
-pub(crate) const ROOT: &[u8] =
+const ROOT: &[u8] =
     b"\x01\x00\x00\x00\xf0\x0f\xff\xf7littlefs/\xe0\x00\x10\x00\x00\x02\x00\x00\x02\x00\x00\x08\x00\x00\x00\xff\x00\x00\x00\xff\xff\xff\x7f\xfe\x03\x00\x00`\x00\x04\x18@\x00\x00\x01a \x00\x00\x03hi\x10`\x00\x03!p`\x0c\x01@0\x00\x01d  \x00\x09\x02\x00\x00\x00\x03\x00\x00\x00@\x1f\xf4\x00\x04\x00\x00\x00\x05\x00\x00\x000\x10\x00\x03\x1f\xe8\xa6b";
 // A file `e` of 600 bytes whose last block is 7, and a soft tail to {2, 3}.
-pub(crate) const MORE: &[u8] =
+const MORE: &[u8] =
     b"\x01\x00\x00\x00\xff\xef\xff\xfee 0\x00\x09\x07\x00\x00\x00X\x02\x00\x00@/\xfc\x00\x02\x00\x00\x00\x03\x00\x00\x000\x00\x00\x03\x8b\x01\xfb\x81";
 // A file `x`.
 pub(crate) const BELOW: &[u8] = b"\x01\x00\x00\x00\xff\xef\xff\xfex \x00\x00\x01p\x1f\xfc\x0fd'yy";
@@ -82,9 +83,16 @@ const MIXED: &[u8] =
 // Where blocks 2, 4 and 7 begin.
 pub(crate) const TWO: usize = 1_024;
 
-pub(crate) const FOUR: usize = 2_048;
+const FOUR: usize = 2_048;
 
-pub(crate) const SEVEN: usize = 3_584;
+const SEVEN: usize = 3_584;
+
+// writes a log over the bytes from a place on
+fn put(bytes: &mut [u8], at: usize, log: &[u8]) {
+    for (old, new) in bytes.iter_mut().skip(at).zip(log) {
+        *old = *new;
+    }
+}
 
 // an image of 8 blocks of 512 bytes with a log at its head, and bytes at other places
 pub(crate) fn image_with(
@@ -93,15 +101,17 @@ pub(crate) fn image_with(
     others: &[(usize, &[u8])],
 ) -> Result<Image, Fail> {
     let mut bytes = vec![in alloc; 0xff; 4_096]?;
-    for (old, new) in bytes.iter_mut().zip(root) {
-        *old = *new;
-    }
+    put(&mut bytes, 0, root);
     for (at, log) in others {
-        for (old, new) in bytes.iter_mut().skip(*at).zip(*log) {
-            *old = *new;
-        }
+        put(&mut bytes, *at, log);
     }
     Ok(Image::new(bytes, 512).map_err(|refused| refused.0)?)
+}
+
+// the image with the root, the rest of it, what is below it, and the file's chain
+pub(crate) fn whole_image(alloc: Global) -> Result<Image, Fail> {
+    let chain = b"\x06\x00\x00\x00".as_slice();
+    image_with(alloc, ROOT, &[(TWO, BELOW), (FOUR, MORE), (SEVEN, chain)])
 }
 
 // the number of directories, or the fault
@@ -114,153 +124,176 @@ fn folders_or_fault(
     Ok(gather(alloc, &image).map(|gathered| gathered.folders.len()))
 }
 
+// asserts that an entry has this name
+fn is_named(rt: &impl Abort, entry: &FolderEntry, name: &[u8]) {
+    assert_eq!(rt; entry.name.as_slice(), name);
+}
+
+// asserts that a directory begins at this pair, and how many entries it has
+fn is_folder(rt: &impl Abort, folder: &Folder, pair: (u32, u32), entries: usize) {
+    assert_eq!(rt; folder.pair, pair);
+    assert_eq!(rt; folder.entries.len(), entries);
+}
+
+// asserts that a file has these blocks and this size
+fn is_linked(rt: &impl Abort, file: &FolderEntry, chain: &[u32], bytes: u32) {
+    let FolderBody::Linked { blocks, size } = &file.body else {
+        panic!(rt; "no chain")
+    };
+    assert_eq!(rt; blocks.as_slice(), chain);
+    assert_eq!(rt; *size, bytes);
+}
+
 #[test]
-fn gather_keeps_what_is_stored(rt: HostRuntime) -> Result<(), Fail> {
-    let others = [
-        (TWO, BELOW),
-        (FOUR, MORE),
-        (SEVEN, b"\x06\x00\x00\x00".as_slice()),
-    ];
-    let image = image_with(rt.alloc(), ROOT, &others)?;
+fn gather_keeps_the_thread(rt: HostRuntime) -> Result<(), Fail> {
+    let image = whole_image(rt.alloc())?;
     let gathered = gather(rt.alloc(), &image)?;
-    assert_eq!(rt;
-        gathered.thread.as_slice(),
-        [(0, 1), (4, 5), (2, 3)].as_slice()
-    );
+    let thread = [(0, 1), (4, 5), (2, 3)];
+    assert_eq!(rt; gathered.thread.as_slice(), thread.as_slice());
     assert_eq!(rt; gathered.used.as_slice(), [true; 8].as_slice());
     assert_eq!(rt; gathered.limits.name, 255);
     assert!(rt; gathered.attributes.is_empty());
-    let root = gathered.folders.first().ok_or("no directory")?;
-    assert_eq!(rt; root.pair, (0, 1));
-    let names = [b"a", b"d", b"e"];
-    assert_eq!(rt; root.entries.len(), 3);
-    for (entry, name) in root.entries.iter().zip(names) {
-        assert_eq!(rt; entry.name.as_slice(), name.as_slice());
-    }
-    let file = root.entries.last().ok_or("no entry")?;
-    let FolderBody::Linked { blocks, size } = &file.body else {
-        return Err("no chain")?;
-    };
-    assert_eq!(rt; blocks.as_slice(), [6, 7].as_slice());
-    assert_eq!(rt; *size, 600);
-    let below = gathered.folders.last().ok_or("no directory")?;
-    assert_eq!(rt; below.pair, (2, 3));
-    assert_eq!(rt; below.entries.len(), 1);
     Ok(())
 }
 
 #[test]
+fn gather_keeps_directories(rt: HostRuntime) -> Result<(), Fail> {
+    let image = whole_image(rt.alloc())?;
+    let gathered = gather(rt.alloc(), &image)?;
+    let root = gathered.folders.first().expect(&rt, "no directory");
+    is_folder(&rt, root, (0, 1), 3);
+    for (entry, name) in root.entries.iter().zip([b"a", b"d", b"e"]) {
+        is_named(&rt, entry, name);
+    }
+    let file = root.entries.last().expect(&rt, "no entry");
+    is_linked(&rt, file, &[6, 7], 600);
+    let below = gathered.folders.last().expect(&rt, "no directory");
+    is_folder(&rt, below, (2, 3), 1);
+    Ok(())
+}
+
+// a case, the root's log, another log and where it begins, and what is gathered
+type Row = (
+    &'static str,
+    &'static [u8],
+    usize,
+    &'static [u8],
+    Result<usize, MountFault>,
+);
+
+const ROWS: [Row; 21] = [
+    (
+        "an erased pair",
+        SOFT_TAIL,
+        TWO,
+        b"",
+        Err(MountFault::NoValidCommit),
+    ),
+    ("a second directory", SOFT_TAIL, TWO, BELOW, Ok(2)),
+    (
+        "a tail past the count",
+        TAIL_PAST,
+        TWO,
+        b"",
+        Err(MountFault::BlockRange),
+    ),
+    (
+        "a tail back",
+        TAIL_BACK,
+        TWO,
+        b"",
+        Err(MountFault::BlockTwice),
+    ),
+    (
+        "another name",
+        OTHER_NAME,
+        TWO,
+        b"",
+        Err(MountFault::NoSuperblock),
+    ),
+    (
+        "another version",
+        OTHER_VERSION,
+        TWO,
+        b"",
+        Err(MountFault::Version),
+    ),
+    (
+        "another count",
+        OTHER_COUNT,
+        TWO,
+        b"",
+        Err(MountFault::Geometry),
+    ),
+    (
+        "a largest name of 0",
+        NO_NAMES,
+        TWO,
+        b"",
+        Err(MountFault::Limits),
+    ),
+    (
+        "two names that fall",
+        MISORDERED,
+        TWO,
+        b"",
+        Err(MountFault::OrderFault),
+    ),
+    (
+        "two names that fall across parts",
+        ROOT,
+        FOUR,
+        BEFORE,
+        Err(MountFault::OrderFault),
+    ),
+    (
+        "a directory past the count",
+        PAST,
+        TWO,
+        b"",
+        Err(MountFault::BlockRange),
+    ),
+    ("no chain", NO_CHAIN, TWO, b"", Err(MountFault::BadSkipList)),
+    (
+        "a chain with a block of the root",
+        USED,
+        TWO,
+        b"",
+        Err(MountFault::BlockTwice),
+    ),
+    (
+        "a second superblock",
+        SECOND,
+        TWO,
+        b"",
+        Err(MountFault::SuperblockElsewhere),
+    ),
+    ("a long name", LONG_NAME, TWO, b"", Err(MountFault::BadSize)),
+    ("a long file", LONG_FILE, TWO, b"", Err(MountFault::BadSize)),
+    (
+        "a long attribute",
+        LONG_ATTRIBUTE,
+        TWO,
+        b"",
+        Err(MountFault::BadSize),
+    ),
+    ("a move", MOVE, TWO, b"", Err(MountFault::UnfinishedMove)),
+    ("orphans", ORPHANS, TWO, b"", Err(MountFault::Orphan)),
+    (
+        "another state",
+        UNKNOWN,
+        TWO,
+        b"",
+        Err(MountFault::UnknownState),
+    ),
+    ("deltas that cancel", MIXED_ROOT, TWO, MIXED, Ok(2)),
+];
+
+#[test]
 fn gather_names_the_cause(rt: HostRuntime) -> Result<(), Fail> {
-    let rows = [
-        (
-            "an erased pair",
-            SOFT_TAIL,
-            TWO,
-            b"".as_slice(),
-            Err(MountFault::NoValidCommit),
-        ),
-        ("a second directory", SOFT_TAIL, TWO, BELOW, Ok(2)),
-        (
-            "a tail past the count",
-            TAIL_PAST,
-            TWO,
-            b"",
-            Err(MountFault::BlockRange),
-        ),
-        (
-            "a tail back",
-            TAIL_BACK,
-            TWO,
-            b"",
-            Err(MountFault::BlockTwice),
-        ),
-        (
-            "another name",
-            OTHER_NAME,
-            TWO,
-            b"",
-            Err(MountFault::NoSuperblock),
-        ),
-        (
-            "another version",
-            OTHER_VERSION,
-            TWO,
-            b"",
-            Err(MountFault::Version),
-        ),
-        (
-            "another count",
-            OTHER_COUNT,
-            TWO,
-            b"",
-            Err(MountFault::Geometry),
-        ),
-        (
-            "a largest name of 0",
-            NO_NAMES,
-            TWO,
-            b"",
-            Err(MountFault::Limits),
-        ),
-        (
-            "two names that fall",
-            MISORDERED,
-            TWO,
-            b"",
-            Err(MountFault::OrderFault),
-        ),
-        (
-            "two names that fall across parts",
-            ROOT,
-            FOUR,
-            BEFORE,
-            Err(MountFault::OrderFault),
-        ),
-        (
-            "a directory past the count",
-            PAST,
-            TWO,
-            b"",
-            Err(MountFault::BlockRange),
-        ),
-        ("no chain", NO_CHAIN, TWO, b"", Err(MountFault::BadSkipList)),
-        (
-            "a chain with a block of the root",
-            USED,
-            TWO,
-            b"",
-            Err(MountFault::BlockTwice),
-        ),
-        (
-            "a second superblock",
-            SECOND,
-            TWO,
-            b"",
-            Err(MountFault::SuperblockElsewhere),
-        ),
-        ("a long name", LONG_NAME, TWO, b"", Err(MountFault::BadSize)),
-        ("a long file", LONG_FILE, TWO, b"", Err(MountFault::BadSize)),
-        (
-            "a long attribute",
-            LONG_ATTRIBUTE,
-            TWO,
-            b"",
-            Err(MountFault::BadSize),
-        ),
-        ("a move", MOVE, TWO, b"", Err(MountFault::UnfinishedMove)),
-        ("orphans", ORPHANS, TWO, b"", Err(MountFault::Orphan)),
-        (
-            "another state",
-            UNKNOWN,
-            TWO,
-            b"",
-            Err(MountFault::UnknownState),
-        ),
-        ("deltas that cancel", MIXED_ROOT, TWO, MIXED, Ok(2)),
-    ];
-    for (case, root, at, log, answer) in rows {
-        let found = folders_or_fault(rt.alloc(), root, &[(at, log)])?;
-        assert_eq!(rt; found, answer, "{case}");
+    for (case, root, at, log, answer) in &ROWS {
+        let found = folders_or_fault(rt.alloc(), root, &[(*at, *log)])?;
+        assert_eq!(rt; found, *answer, "{case}");
     }
     Ok(())
 }

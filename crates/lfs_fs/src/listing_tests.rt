@@ -9,6 +9,7 @@ use crate::row_body::RowBody;
 use crate::walk::walk;
 use lfs_block::MountFault;
 use std::alloc::{AllocError, Global};
+use std::process::Abort;
 use std::test::Fail;
 
 const LIMITS: Limits = Limits {
@@ -35,15 +36,19 @@ fn file(alloc: Global, name: &[u8]) -> Result<FolderEntry, AllocError> {
     )
 }
 
-// the root with a directory `d`, whose pair is written as `first` and `second`, beside three files
-fn root_folder(alloc: Global, first: u32, second: u32) -> Result<Folder, AllocError> {
+// a file of 600 bytes
+fn long_file(alloc: Global, name: &[u8]) -> Result<FolderEntry, AllocError> {
     let blocks = vec![in alloc; 6, 7]?;
-    let entries = vec![in alloc;
-        file(alloc, b"ab")?,
-        file(alloc, b"a")?,
-        entry(alloc, b"d", FolderBody::Leads(first, second))?,
-        entry(alloc, b"e", FolderBody::Linked { blocks, size: 600 })?,
-    ]?;
+    entry(alloc, name, FolderBody::Linked { blocks, size: 600 })
+}
+
+// the root with a directory `d`, whose pair is written the other way round, beside three files
+fn root_folder(alloc: Global) -> Result<Folder, AllocError> {
+    let mut entries = Vec::new(alloc);
+    entries.push(file(alloc, b"ab")?)?;
+    entries.push(file(alloc, b"a")?)?;
+    entries.push(entry(alloc, b"d", FolderBody::Leads(3, 2))?)?;
+    entries.push(long_file(alloc, b"e")?)?;
     Ok(Folder {
         pair: (0, 1),
         entries,
@@ -60,9 +65,11 @@ fn folder(alloc: Global, pair: (u32, u32), entry: FolderEntry) -> Result<Folder,
 
 // the root's directory `d` and what stands below it
 fn tree(alloc: Global, below: FolderEntry) -> Result<Vec<Folder>, AllocError> {
-    vec![in alloc; root_folder(alloc, 3, 2)?, folder(alloc, (2, 3), below)?].map_err(
-        AllocError::from,
-    )
+    let below = folder(alloc, (2, 3), below)?;
+    let mut folders = Vec::new(alloc);
+    folders.push(root_folder(alloc)?)?;
+    folders.push(below)?;
+    Ok(folders)
 }
 
 // a path's names with a slash before each
@@ -80,70 +87,115 @@ fn fault_of(alloc: Global, folders: Vec<Folder>) -> Option<MountFault> {
     walk(alloc, folders, Vec::new(alloc)).err()
 }
 
+// which fault a walk ends with where `d` has a directory at this pair
+fn fault_below(alloc: Global, first: u32, second: u32) -> Result<Option<MountFault>, AllocError> {
+    let below = entry(alloc, b"x", FolderBody::Leads(first, second))?;
+    Ok(fault_of(alloc, tree(alloc, below)?))
+}
+
+// the rows of the tree where `d` has a file `x`
+fn listed(alloc: Global) -> Result<Vec<Row>, Fail> {
+    Ok(walk(alloc, tree(alloc, file(alloc, b"x")?)?, Vec::new(alloc))?)
+}
+
+// their paths, and which are directories
+const LISTED: [(&[u8], bool); 6] = [
+    (b"", true),
+    (b"/ab", false),
+    (b"/a", false),
+    (b"/d", true),
+    (b"/d/x", false),
+    (b"/e", false),
+];
+
+// asserts what a row shows
+fn shows(
+    rt: &impl Abort,
+    alloc: Global,
+    row: &Row,
+    text: &[u8],
+    is_dir: bool,
+) -> Result<(), AllocError> {
+    let path = spelled(alloc, &row.path)?;
+    assert_eq!(rt; path.as_slice(), text);
+    assert_eq!(rt; row.is_dir(), is_dir);
+    Ok(())
+}
+
 #[test]
 fn walk_lists_paths_in_order(rt: HostRuntime) -> Result<(), Fail> {
-    let alloc = rt.alloc();
-    let rows = walk(alloc, tree(alloc, file(alloc, b"x")?)?, Vec::new(alloc))?;
-    let texts = [b"".as_slice(), b"/ab", b"/a", b"/d", b"/d/x", b"/e"];
-    assert_eq!(rt; rows.len(), texts.len());
-    for (row, text) in rows.iter().zip(texts) {
-        assert_eq!(rt; spelled(alloc, &row.path)?.as_slice(), text);
-    }
-    let kinds = [true, false, false, true, false, false];
-    for (row, is_dir) in rows.iter().zip(kinds) {
-        assert_eq!(rt; row.is_dir(), is_dir);
+    let rows = listed(rt.alloc())?;
+    assert_eq!(rt; rows.len(), LISTED.len());
+    for (row, (text, is_dir)) in rows.iter().zip(&LISTED) {
+        shows(&rt, rt.alloc(), row, text, *is_dir)?;
     }
     Ok(())
 }
 
 #[test]
 fn walk_names_each_fault(rt: HostRuntime) -> Result<(), Fail> {
+    let rows = [
+        (4, 5, MountFault::MissingDirectory),
+        (2, 5, MountFault::MissingDirectory),
+        (2, 3, MountFault::BlockTwice),
+        (1, 0, MountFault::BlockTwice),
+    ];
+    for (first, second, fault) in rows {
+        let found = fault_below(rt.alloc(), first, second)?;
+        assert_eq!(rt; found, Some(fault), "{first}, {second}");
+    }
+    Ok(())
+}
+
+#[test]
+fn walk_leaves_no_directory_out(rt: HostRuntime) -> Result<(), Fail> {
     let alloc = rt.alloc();
-    let missing = entry(alloc, b"x", FolderBody::Leads(4, 5))?;
-    assert_eq!(rt;
-        fault_of(alloc, tree(alloc, missing)?),
-        Some(MountFault::MissingDirectory)
-    );
-    let same_block = entry(alloc, b"x", FolderBody::Leads(2, 5))?;
-    assert_eq!(rt;
-        fault_of(alloc, tree(alloc, same_block)?),
-        Some(MountFault::MissingDirectory)
-    );
-    let again = entry(alloc, b"x", FolderBody::Leads(2, 3))?;
-    assert_eq!(rt;
-        fault_of(alloc, tree(alloc, again)?),
-        Some(MountFault::BlockTwice)
-    );
-    let back = entry(alloc, b"x", FolderBody::Leads(1, 0))?;
-    assert_eq!(rt;
-        fault_of(alloc, tree(alloc, back)?),
-        Some(MountFault::BlockTwice)
-    );
     let mut lost = tree(alloc, file(alloc, b"x")?)?;
     lost.push(folder(alloc, (4, 5), file(alloc, b"y")?)?)?;
     assert_eq!(rt; fault_of(alloc, lost), Some(MountFault::Orphan));
     Ok(())
 }
 
-#[test]
-fn mounted_image_finds_paths(rt: HostRuntime) -> Result<(), Fail> {
-    let alloc = rt.alloc();
-    let rows = walk(alloc, tree(alloc, file(alloc, b"x")?)?, Vec::new(alloc))?;
+// an image with the listed rows
+fn mounted(alloc: Global) -> Result<Mounted, Fail> {
     let thread = vec![in alloc; (0, 1), (2, 3)]?;
     let used = vec![in alloc; true, true, true, true, false, false, true, true, false]?;
-    let mounted = Mounted::new(rows, thread, LIMITS, used);
+    Ok(Mounted::new(listed(alloc)?, thread, LIMITS, used))
+}
+
+// the path of these names
+fn path_of(alloc: Global, names: &[&[u8]]) -> Result<Path, AllocError> {
+    let mut path = Vec::new(alloc);
+    for name in names {
+        path.push(Vec::from_slice(alloc, name)?)?;
+    }
+    Ok(Path::new(path))
+}
+
+#[test]
+fn mounted_image_counts_what_it_has(rt: HostRuntime) -> Result<(), Fail> {
+    let mounted = mounted(rt.alloc())?;
     assert_eq!(rt; mounted.rows().len(), 6);
     assert_eq!(rt; mounted.thread(), [(0, 1), (2, 3)].as_slice());
     assert_eq!(rt; mounted.directories(), 2);
     assert_eq!(rt; mounted.files(), 4);
-    let names = vec![in alloc;
-        Vec::from_slice(alloc, b"d")?,
-        Vec::from_slice(alloc, b"x")?,
-    ]?;
-    assert_eq!(rt; mounted.find(&Path::new(names)), Some(4));
-    assert_eq!(rt; mounted.find(&Path::new(Vec::new(alloc))), Some(0));
-    let names = vec![in alloc; Vec::from_slice(alloc, b"x")?]?;
-    assert_eq!(rt; mounted.find(&Path::new(names)), None);
+    Ok(())
+}
+
+// names, and where their path stands in the rows
+const PLACES: [(&[&[u8]], Option<usize>); 3] = [
+    (&[b"d", b"x"], Some(4)),
+    (&[], Some(0)),
+    (&[b"x"], None),
+];
+
+#[test]
+fn mounted_image_finds_paths(rt: HostRuntime) -> Result<(), Fail> {
+    let mounted = mounted(rt.alloc())?;
+    for (names, place) in &PLACES {
+        let path = path_of(rt.alloc(), names)?;
+        assert_eq!(rt; mounted.find(&path), *place);
+    }
     Ok(())
 }
 

@@ -4,8 +4,8 @@ ghost use Rattle.std.specs.Prelude.{◌≡◌};
 ghost use Rattle.lfs_fs.specs.NameOrder.{precedes};
 
 /// Whether a name comes before another: by the first byte in which they differ, and where one begins the other, the
-/// longer one first.
-pub(crate) fn precedes(left: &[u8], right: &[u8]) -> bool
+/// longer one first. Takes no memory.
+pub fn precedes(left: &[u8], right: &[u8]) -> bool
     ensures { result ≡ precedes left.now right.now }
 {
     'each: for (index, byte) in left.iter().enumerate() {

@@ -1,6 +1,9 @@
 //! Vectors from outside: each log was put together tag by tag, with a checksum of its own, by another program.
 
-use crate::gathering_tests::{BELOW, FOUR, MORE, ROOT, SEVEN, TWO, image_with};
+use crate::gathering_tests::{BELOW, TWO, image_with, whole_image};
+use crate::limits::Limits;
+use crate::listed_row::Row;
+use crate::mounted::Mounted;
 use crate::{
     both_sides_hold, entries_are_cut_greedily, entries_weigh_as_stored, formatted_volume_is_sound,
     fronts_begin_each_other, images_mount_to_one_tree, lone_superblock_mounts, mount,
@@ -9,6 +12,7 @@ use crate::{
 };
 use lfs_block::{Image, MountFault};
 use std::alloc::Global;
+use std::process::Abort;
 use std::test::Fail;
 
 const SIZE: u32 = 512;
@@ -93,81 +97,86 @@ fn free_or_fault(alloc: Global, log: &[u8], blocks: u8) -> Result<Result<u32, Mo
     Ok(mount(alloc, &image).map(|mounted| mounted.free_count()))
 }
 
+// a case, the first block's log, how many blocks there are, and what mounting answers
+type RootRow = (&'static str, &'static [u8], u8, Result<u32, MountFault>);
+
+const ROOT_ROWS: [RootRow; 24] = [
+    ("formatted", FORMATTED, 8, Ok(6)),
+    ("an attribute within the limit", WITH_ATTRIBUTE, 8, Ok(6)),
+    ("two entries deleted", DELETED_ENTRIES, 8, Ok(6)),
+    ("a null tail", NULL_TAIL, 8, Ok(6)),
+    ("a delta of zeros", ZERO_DELTA, 8, Ok(6)),
+    ("erased", b"", 8, Err(MountFault::NoValidCommit)),
+    (
+        "an unknown type",
+        UNKNOWN_TYPE,
+        8,
+        Err(MountFault::UnknownTag),
+    ),
+    ("the struct first", STRUCT_FIRST, 8, Err(MountFault::BadTag)),
+    (
+        "create past the end",
+        CREATE_PAST_END,
+        8,
+        Err(MountFault::BadTag),
+    ),
+    ("no struct", NO_STRUCT, 8, Err(MountFault::IncompleteEntry)),
+    (
+        "a file without a struct",
+        NAME_ALONE,
+        8,
+        Err(MountFault::IncompleteEntry),
+    ),
+    ("a file named `..`", DOTS, 8, Err(MountFault::BadName)),
+    ("no entry", NO_ENTRY, 8, Err(MountFault::NoSuperblock)),
+    (
+        "a file in its place",
+        A_FILE,
+        8,
+        Err(MountFault::NoSuperblock),
+    ),
+    ("another name", OTHER_NAME, 8, Err(MountFault::NoSuperblock)),
+    (
+        "a short struct",
+        SHORT_STRUCT,
+        8,
+        Err(MountFault::NoSuperblock),
+    ),
+    (
+        "another version",
+        OTHER_VERSION,
+        8,
+        Err(MountFault::Version),
+    ),
+    ("a block less", FORMATTED, 7, Err(MountFault::Geometry)),
+    ("a largest name of 0", NO_NAMES, 8, Err(MountFault::Limits)),
+    (
+        "a long attribute",
+        LONG_ATTRIBUTE,
+        8,
+        Err(MountFault::BadSize),
+    ),
+    ("a second entry", SECOND_ENTRY, 8, Ok(6)),
+    (
+        "a soft tail to an erased pair",
+        SOFT_TAIL,
+        8,
+        Err(MountFault::NoValidCommit),
+    ),
+    (
+        "a hard tail to an erased pair",
+        HARD_TAIL,
+        8,
+        Err(MountFault::NoValidCommit),
+    ),
+    ("a delta", DELTA, 8, Err(MountFault::UnknownState)),
+];
+
 #[test]
 fn mount_judges_the_root(rt: HostRuntime) -> Result<(), Fail> {
-    let rows = [
-        ("formatted", FORMATTED, 8, Ok(6)),
-        ("an attribute within the limit", WITH_ATTRIBUTE, 8, Ok(6)),
-        ("two entries deleted", DELETED_ENTRIES, 8, Ok(6)),
-        ("a null tail", NULL_TAIL, 8, Ok(6)),
-        ("a delta of zeros", ZERO_DELTA, 8, Ok(6)),
-        ("erased", b"".as_slice(), 8, Err(MountFault::NoValidCommit)),
-        (
-            "an unknown type",
-            UNKNOWN_TYPE,
-            8,
-            Err(MountFault::UnknownTag),
-        ),
-        ("the struct first", STRUCT_FIRST, 8, Err(MountFault::BadTag)),
-        (
-            "create past the end",
-            CREATE_PAST_END,
-            8,
-            Err(MountFault::BadTag),
-        ),
-        ("no struct", NO_STRUCT, 8, Err(MountFault::IncompleteEntry)),
-        (
-            "a file without a struct",
-            NAME_ALONE,
-            8,
-            Err(MountFault::IncompleteEntry),
-        ),
-        ("a file named `..`", DOTS, 8, Err(MountFault::BadName)),
-        ("no entry", NO_ENTRY, 8, Err(MountFault::NoSuperblock)),
-        (
-            "a file in its place",
-            A_FILE,
-            8,
-            Err(MountFault::NoSuperblock),
-        ),
-        ("another name", OTHER_NAME, 8, Err(MountFault::NoSuperblock)),
-        (
-            "a short struct",
-            SHORT_STRUCT,
-            8,
-            Err(MountFault::NoSuperblock),
-        ),
-        (
-            "another version",
-            OTHER_VERSION,
-            8,
-            Err(MountFault::Version),
-        ),
-        ("a block less", FORMATTED, 7, Err(MountFault::Geometry)),
-        ("a largest name of 0", NO_NAMES, 8, Err(MountFault::Limits)),
-        (
-            "a long attribute",
-            LONG_ATTRIBUTE,
-            8,
-            Err(MountFault::BadSize),
-        ),
-        ("a second entry", SECOND_ENTRY, 8, Ok(6)),
-        (
-            "a soft tail to an erased pair",
-            SOFT_TAIL,
-            8,
-            Err(MountFault::NoValidCommit),
-        ),
-        (
-            "a hard tail to an erased pair",
-            HARD_TAIL,
-            8,
-            Err(MountFault::NoValidCommit),
-        ),
-        ("a delta", DELTA, 8, Err(MountFault::UnknownState)),
-    ];
-    for (case, log, blocks, answer) in rows {
-        assert_eq!(rt; free_or_fault(rt.alloc(), log, blocks)?, answer, "{case}");
+    for (case, log, blocks, answer) in &ROOT_ROWS {
+        let found = free_or_fault(rt.alloc(), log, *blocks)?;
+        assert_eq!(rt; found, *answer, "{case}");
     }
     Ok(())
 }
@@ -178,60 +187,89 @@ fn mounted_image_tells_its_root(rt: HostRuntime) -> Result<(), Fail> {
     let mounted = mount(rt.alloc(), &image)?;
     assert_eq!(rt; mounted.directories(), 1);
     assert_eq!(rt; mounted.files(), 0);
-    let limits = mounted.limits();
-    assert_eq!(rt; limits.name, 255);
-    assert_eq!(rt; limits.file, 2_147_483_647);
-    assert_eq!(rt; limits.attribute, 1_022);
+    let limits = Limits {
+        name: 255,
+        file: 2_147_483_647,
+        attribute: 1_022,
+    };
+    assert_eq!(rt; mounted.limits(), limits);
     Ok(())
+}
+
+// asserts that the last name of a row's path is this one, or that it has none
+fn is_last(rt: &impl Abort, row: &Row, name: &[u8]) {
+    let last = row
+        .path
+        .names()
+        .last()
+        .map_or(b"".as_slice(), |last| last.as_slice());
+    assert_eq!(rt; last, name);
+}
+
+// asserts how much of each kind an image has
+fn has_counts(rt: &impl Abort, mounted: &Mounted, directories: usize, files: usize, free: u32) {
+    assert_eq!(rt; mounted.directories(), directories);
+    assert_eq!(rt; mounted.files(), files);
+    assert_eq!(rt; mounted.free_count(), free);
+}
+
+// asserts how many rows there are, and the last name of each one's path
+fn have_names(rt: &impl Abort, rows: &[Row], names: &[&[u8]]) {
+    assert_eq!(rt; rows.len(), names.len());
+    for (row, name) in rows.iter().zip(names) {
+        is_last(rt, row, name);
+    }
 }
 
 #[test]
 fn mounted_image_shows_directories_and_files(rt: HostRuntime) -> Result<(), Fail> {
-    let others = [
-        (TWO, BELOW),
-        (FOUR, MORE),
-        (SEVEN, b"\x06\x00\x00\x00".as_slice()),
-    ];
-    let image = image_with(rt.alloc(), ROOT, &others)?;
+    let image = whole_image(rt.alloc())?;
     let mounted = mount(rt.alloc(), &image)?;
     assert_eq!(rt; mounted.thread(), [(0, 1), (4, 5), (2, 3)].as_slice());
-    assert_eq!(rt; mounted.directories(), 2);
-    assert_eq!(rt; mounted.files(), 3);
-    assert_eq!(rt; mounted.free_count(), 0);
-    let names: [&[u8]; 5] = [b"", b"a", b"d", b"x", b"e"];
-    assert_eq!(rt; mounted.rows().len(), 5);
-    for (row, name) in mounted.rows().iter().zip(names) {
-        let last = row
-            .path
-            .names()
-            .last()
-            .map_or(b"".as_slice(), |last| last.as_slice());
-        assert_eq!(rt; last, name);
-    }
+    has_counts(&rt, &mounted, 2, 3, 0);
+    have_names(&rt, mounted.rows(), &[b"", b"a", b"d", b"x", b"e"]);
     Ok(())
 }
 
+// the number of rows, or the fault
+fn rows_or_fault(
+    alloc: Global,
+    root: &[u8],
+    log: &[u8],
+) -> Result<Result<usize, MountFault>, Fail> {
+    let image = image_with(alloc, root, &[(TWO, log)])?;
+    Ok(mount(alloc, &image).map(|mounted| mounted.rows().len()))
+}
+
+// a case, the root's log, the log of block 2, and what mounting answers
+type TreeRow = (
+    &'static str,
+    &'static [u8],
+    &'static [u8],
+    Result<usize, MountFault>,
+);
+
+const TREE_ROWS: [TreeRow; 3] = [
+    ("a file in the root", SECOND_ENTRY, b"", Ok(2)),
+    (
+        "no name for a directory",
+        SOFT_TAIL,
+        BELOW,
+        Err(MountFault::Orphan),
+    ),
+    (
+        "no directory for a name",
+        NO_DIRECTORY,
+        b"",
+        Err(MountFault::MissingDirectory),
+    ),
+];
+
 #[test]
 fn directories_are_reached_by_their_names(rt: HostRuntime) -> Result<(), Fail> {
-    let rows = [
-        ("a file in the root", SECOND_ENTRY, b"".as_slice(), Ok(2)),
-        (
-            "no name for a directory",
-            SOFT_TAIL,
-            BELOW,
-            Err(MountFault::Orphan),
-        ),
-        (
-            "no directory for a name",
-            NO_DIRECTORY,
-            b"",
-            Err(MountFault::MissingDirectory),
-        ),
-    ];
-    for (case, root, log, answer) in rows {
-        let image = image_with(rt.alloc(), root, &[(TWO, log)])?;
-        let found = mount(rt.alloc(), &image).map(|mounted| mounted.rows().len());
-        assert_eq!(rt; found, answer, "{case}");
+    for (case, root, log, answer) in &TREE_ROWS {
+        let found = rows_or_fault(rt.alloc(), root, log)?;
+        assert_eq!(rt; found, *answer, "{case}");
     }
     Ok(())
 }
