@@ -1,15 +1,14 @@
 -- An image of which a part is rewritten with an attribute edited holds the volume that the command leaves.
-use Rattle.std.proofs.Common.{◌≡◌, ℕ, ◌≤◌, Bool, true, false, cond, List, [], ◌∷◌, Some, None, refl, ap, sym, ◌∙◌, subst, arith, inl, inr}
-use Rattle.std.specs.Prelude.{All, Contains, flat_map, count_by, if◌then◌else◌}
+use Rattle.std.proofs.Common.{◌≡◌, ℕ, ◌≤◌, Bool, cond, List, [], ◌∷◌, Some, None, refl, ap, sym, ◌∙◌, subst, arith, inl, inr}
+use Rattle.std.specs.Prelude.{All, Contains, flat_map, count_by}
 use Rattle.std.specs.List.{AllZip}
-use Rattle.std.proofs.lemmas.List.Elements.{All-head, All-tail}
 use Rattle.std.proofs.lemmas.List.Concat.{flat_map-cons}
 use Rattle.std.proofs.lemmas.List.Sums.{sum_by-append}
 use Rattle.lfs_meta.specs.Name.{Name}
 use Rattle.lfs_meta.specs.Attribute.{Attributes}
 use Rattle.lfs_meta.specs.Body.{Pair}
 use Rattle.lfs_meta.specs.Entry.{StoredEntry, with_attributes}
-use Rattle.lfs_fs.specs.Pair.{root, same_pair}
+use Rattle.lfs_fs.specs.Pair.{root}
 use Rattle.lfs_fs.specs.Entry.{Entry, is_named}
 use Rattle.lfs_fs.specs.Reading.{Reading}
 use Rattle.lfs_fs.specs.NameOrder.{NamesAreOrdered}
@@ -18,88 +17,37 @@ use Rattle.lfs_fs.specs.Sound.{Rise}
 use Rattle.lfs_fs.specs.Thread.{Link}
 use Rattle.lfs_meta.specs.Writing.{stored_part}
 use Rattle.lfs_fs.specs.Stored.{Stands, IsStored, stored_before}
-use Rattle.lfs_fs.specs.Superblock.{superblock_entry}
 use Rattle.lfs_fs.specs.Alike.{ChainStays}
 use Rattle.lfs_edit.specs.AttributeEdit.{changed_first}
 use Rattle.lfs_edit.specs.EntryEdit.{changed}
 use Rattle.lfs_edit.specs.Edited.{with_entry_attributes}
 use Rattle.lfs_edit.specs.Place.{picks}
 use Rattle.lfs_edit.specs.Written.{cleaned_link}
-use Rattle.lfs_edit.proofs.OneElement.{count_cases, where_none, none_counted}
 use Rattle.lfs_edit.proofs.OneLink.{none_there}
 use Rattle.lfs_edit.proofs.KeptLinks.{contains_cases}
 use Rattle.lfs_edit.proofs.Marks.{named_once}
-use Rattle.lfs_edit.proofs.Searched.{named_alike}
 use Rattle.lfs_edit.proofs.SetLink.{with_part, changed_part, set_part}
-use Rattle.lfs_edit.proofs.OneWritten.{entry_stands}
+use Rattle.lfs_edit.proofs.EntriesStand.{StandsChanged, all_stand, named_stand, named_stored}
 
 -- ---- stored entries, one of which is edited
 
--- as they stood, each of them stands
-pub all_stand : (r q : Reading) (ss : List StoredEntry) (xs : List Entry) → AllZip (Stands r) ss xs → All (λ x. ChainStays r q x.body) xs → AllZip (Stands q) ss xs
-all_stand r q [] [] stand stays = stand
-all_stand r q [] (x ∷ xs) stand stays = stand
-all_stand r q (s ∷ ss) [] stand stays = stand
-all_stand r q (s ∷ ss) (x ∷ xs) stand stays =
-    (entry_stands r q s x (All-head (λ (y : Entry). ChainStays r q y.body) x xs stays) stand.0, all_stand r q ss xs stand.1 (All-tail (λ (y : Entry). ChainStays r q y.body) x xs stays))
-
 -- edited
-edited_stands : (q : Reading) (f : Attributes → Attributes) (s : StoredEntry) (x : Entry) → Stands q s x → Stands q (with_attributes f s) (with_entry_attributes f x)
+edited_stands : (q : Reading) (f : Attributes → Attributes) → StandsChanged q (with_attributes f) (with_entry_attributes f)
 edited_stands q f s x stands = record { kind = stands.kind; name = stands.name; attributes = ap f stands.attributes; body = stands.body }
-
-none_changed : (n : Name) (g : Entry → Entry) (xs : List Entry) → count_by (is_named n) xs ≡ 0 → changed n g xs ≡ xs
-none_changed n g xs none = where_none (is_named n) g xs (none_counted (is_named n) xs none)
 
 -- where one entry at most has the name
 pub changed_stand : (r q : Reading) (n : Name) (f : Attributes → Attributes) (ss : List StoredEntry) (xs : List Entry) → AllZip (Stands r) ss xs → All (λ x. ChainStays r q x.body) xs → count_by (is_named n) xs ≤ 1
     → AllZip (Stands q) (changed_first (picks (Some n)) (with_attributes f) ss) (changed n (with_entry_attributes f) xs)
-changed_stand r q n f [] [] stand stays once = stand
-changed_stand r q n f [] (x ∷ xs) stand stays once = absurd stand
-changed_stand r q n f (s ∷ ss) [] stand stays once = absurd stand
-changed_stand r q n f (s ∷ ss) (x ∷ xs) stand stays once = by (is_named n x) refl (changed_stand r q n f ss xs stand.1 (All-tail (λ (y : Entry). ChainStays r q y.body) x xs stays))
-  where
-    stay : Entry → Type 0
-    stay y = ChainStays r q y.body
-
-    this : Stands q s x
-    this = entry_stands r q s x (All-head stay x xs stays) stand.0
-
-    by : (t : Bool) → is_named n x ≡ t → (count_by (is_named n) xs ≤ 1 → AllZip (Stands q) (changed_first (picks (Some n)) (with_attributes f) ss) (changed n (with_entry_attributes f) xs))
-        → AllZip (Stands q) (changed_first (picks (Some n)) (with_attributes f) (s ∷ ss)) (changed n (with_entry_attributes f) (x ∷ xs))
-    by true is later =
-        let none : count_by (is_named n) xs ≡ 0 = omega (arith, once, count_cases (is_named n) x xs, ap (λ (t : Bool). cond {A = ℕ} t 1 0) is) in
-        rw (named_alike r n s x stand.0, is, none_changed n (with_entry_attributes f) xs none) (edited_stands q f s x this, all_stand r q ss xs stand.1 (All-tail stay x xs stays))
-    by false is later =
-        let few : count_by (is_named n) xs ≤ 1 = omega (arith, once, count_cases (is_named n) x xs) in
-        rw (named_alike r n s x stand.0, is) (this, later few)
+changed_stand r q n f = named_stand r q n (with_attributes f) (with_entry_attributes f) (edited_stands q f)
 
 -- ---- a part
-
--- no name names the superblock
-pub edited_before : (n : Name) (f : Attributes → Attributes) (bytes : List ℕ) (attributes : Attributes) (pair : Pair) (others : List StoredEntry)
-    → changed_first (picks (Some n)) (with_attributes f) (stored_before bytes attributes pair others) ≡ stored_before bytes attributes pair (changed_first (picks (Some n)) (with_attributes f) others)
-edited_before n f bytes attributes pair others = by (same_pair pair root)
-  where
-    by : (t : Bool) → changed_first (picks (Some n)) (with_attributes f) (if t then superblock_entry bytes attributes ∷ others else others)
-        ≡ (if t then superblock_entry bytes attributes ∷ changed_first (picks (Some n)) (with_attributes f) others else changed_first (picks (Some n)) (with_attributes f) others)
-    by true = refl
-    by false = refl
 
 -- the part that has the name
 pub stored_below : (r q : Reading) (bytes : List ℕ) (attributes : Attributes) (l : Link) (stored : IsStored r bytes attributes l) (n : Name) (f : Attributes → Attributes)
     → q.part l.part.pair ≡ Some (stored_part (changed_first (picks (Some n)) (with_attributes f) stored.stored.entries) stored.stored.tail stored.stored.delta)
     → All (λ x. ChainStays r q x.body) l.part.entries → count_by (is_named n) l.part.entries ≤ 1
     → IsStored q bytes attributes (cleaned_link (with_part (changed_part n (with_entry_attributes f)) l))
-stored_below r q bytes attributes l stored n f read stays once = record {
-  stored = stored_part (changed_first (picks (Some n)) (with_attributes f) stored.stored.entries) stored.stored.tail stored.stored.delta;
-  read = read;
-  others = changed_first (picks (Some n)) (with_attributes f) stored.others;
-  entries = ap (changed_first (picks (Some n)) (with_attributes f)) stored.entries ∙ edited_before n f bytes attributes l.part.pair stored.others;
-  stands = changed_stand r q n f stored.others l.part.entries stored.stands stays once;
-  tail = stored.tail;
-  delta = stored.delta;
-  clean = refl;
-}
+stored_below r q bytes attributes l stored n f = named_stored r q bytes attributes l stored n (with_attributes f) (with_entry_attributes f) (edited_stands q f)
 
 pub edited_first : (f : Attributes → Attributes) (bytes : List ℕ) (attributes : Attributes) (pair : Pair) (others : List StoredEntry) → pair ≡ root
     → changed_first (picks None) (with_attributes f) (stored_before bytes attributes pair others) ≡ stored_before bytes (f attributes) pair others

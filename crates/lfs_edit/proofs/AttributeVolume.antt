@@ -1,10 +1,11 @@
 -- What an edit of an attribute sets in the volume, by the place of its path.
-use Rattle.std.proofs.Common.{◌≡◌, ◌⊎◌, ℕ, ◌≤◌, true, List, [], ◌∷◌, ◌++◌, Option, Some, None, refl, ap, sym, ◌∙◌, subst, inl, inr}
+use Rattle.std.proofs.Common.{◌≡◌, ◌≤◌, true, List, [], ◌∷◌, ◌++◌, Option, Some, None, refl, ap, sym, ◌∙◌, subst, inl, inr}
 use Rattle.std.specs.Prelude.{All, Contains, find, count_by}
 use Rattle.std.specs.Option.{option_and_then, option_map}
 use Rattle.std.proofs.lemmas.Option.{none-some, same_Some}
 use Rattle.std.proofs.lemmas.List.Elements.{All-contains, All-weaker, All-contains_itself}
-use Rattle.lfs_block.specs.Disk.{Disk}
+use Rattle.lfs_block.specs.Disk.{Disk, IsDisk}
+use Rattle.lfs_block.specs.Patch.{ChangeSet, applied}
 use Rattle.lfs_meta.specs.Name.{Name}
 use Rattle.lfs_meta.specs.Attribute.{Attributes}
 use Rattle.lfs_meta.specs.Body.{Pair}
@@ -20,6 +21,7 @@ use Rattle.lfs_fs.specs.Volume.{Volume}
 use Rattle.lfs_fs.specs.Tree.{entry_at}
 use Rattle.lfs_fs.specs.Thread.{Link, links_of, links, tail_to}
 use Rattle.lfs_fs.specs.Sound.{IsSound, Rise}
+use Rattle.lfs_fs.specs.NameOrder.{NamesAreOrdered}
 use Rattle.lfs_fs.specs.Reading.{Reading, reading_of}
 use Rattle.lfs_fs.specs.Stored.{IsStored, HoldsLinks}
 use Rattle.lfs_fs.specs.Alike.{ChainStays}
@@ -29,14 +31,17 @@ use Rattle.lfs_edit.specs.Edited.{with_entry_attributes, set_attributes}
 use Rattle.lfs_edit.specs.EntryEdit.{changed}
 use Rattle.lfs_edit.specs.Home.{split_last, home_of}
 use Rattle.lfs_edit.specs.Located.{IsLinkOf, IsPlace}
+use Rattle.lfs_edit.specs.PartWritten.{WritesPart}
 use Rattle.lfs_edit.specs.Place.{Found, picks}
 use Rattle.lfs_edit.specs.PlanLaws.{PlanLaws}
 use Rattle.lfs_edit.specs.Written.{cleaned_link}
-use Rattle.lfs_edit.proofs.AttributePlan.{changed_stand, edited_before, edited_first, stored_below, stored_first, named_in_part}
+use Rattle.lfs_edit.proofs.AttributePlan.{changed_stand, edited_first, stored_below, stored_first, named_in_part}
+use Rattle.lfs_edit.proofs.EntryPairs.{changed_before}
 use Rattle.lfs_edit.proofs.KeptLinks.{contains_first, contains_left, contains_right}
-use Rattle.lfs_edit.proofs.OneLink.{SetsOne}
-use Rattle.lfs_edit.proofs.OneWritten.{WritesBlock, chains_stay}
+use Rattle.lfs_edit.proofs.OneLink.{none_there}
+use Rattle.lfs_edit.proofs.OneWritten.{chains_stay}
 use Rattle.lfs_edit.proofs.SetLink.{with_part, changed_part, set_part, change_sets, touch_sets}
+use Rattle.lfs_edit.proofs.SetsPart.{SetsPart}
 use Rattle.lfs_edit.proofs.StoredWeights.{Weighs, part_weighs}
 use Rattle.lfs_edit.proofs.WrittenLemmas.{contains-map, part_of_links}
 
@@ -48,6 +53,20 @@ contains_mid before x after = contains_right before (x ∷ after) x (contains_fi
 pub link_there : (before : List Directory) (d : Directory) (after : List Directory) (l : Link) → Contains (links_of d.first d.more (tail_to after)) l → Contains (links (before ++ d ∷ after)) l
 link_there [] d after l there = contains_left (links_of d.first d.more (tail_to after)) (links after) l there
 link_there (e ∷ before) d after l there = contains_right (links_of e.first e.more (tail_to (before ++ d ∷ after))) (links (before ++ d ∷ after)) l (link_there before d after l there)
+
+-- the link of a place is one of the volume's
+pub link_of_volume : (r : Reading) (v : Volume) (held : HoldsLinks r v) (found : Found) (before : List Directory) (d : Directory) (after : List Directory) (l : Link) → IsLinkOf r v held found before d after l → Contains (links v.directories) l
+link_of_volume r v held found before d after l is = subst (λ (ds : List Directory). Contains (links ds) l) (sym is.directories) (link_there before d after l is.there)
+
+-- one entry of its part at most has a name
+pub named_in_link : NamesAreOrdered → (r : Reading) (v : Volume) → IsSound v → (held : HoldsLinks r v) (found : Found) (before : List Directory) (d : Directory) (after : List Directory) (l : Link)
+    → IsLinkOf r v held found before d after l → (n : Name) → count_by (is_named n) l.part.entries ≤ 1
+named_in_link ordered r v sound held found before d after l is n =
+    let inside : Contains (parts d) l.part =
+    subst (λ (ps : List Part). Contains ps l.part) (part_of_links d.first d.more (tail_to after)) (contains-map (λ (x : Link). x.part) (links_of d.first d.more (tail_to after)) l is.there) in
+    let rise : Rise (entries d) =
+    All-contains (λ (x : Directory). Rise (entries x)) v.directories d sound.order (subst (λ (ds : List Directory). Contains ds d) (sym is.directories) (contains_mid before d after)) in
+    named_in_part n d l.part ordered rise inside
 
 -- the last name of a path that has a home
 pub home_name : (v : Volume) (path : Path) (k : Pair) (m : Name) → home_of v path ≡ Some (k, m) → last_name path ≡ Some m
@@ -72,15 +91,10 @@ home_name v path k m home = split_by (split_last path) home
 abbrev pub edited_part : Option Name → (Attributes → Attributes) → StoredPart → StoredPart
 edited_part name f s = stored_part (changed_first (picks name) (with_attributes f) s.entries) s.tail s.delta
 
--- One link of the volume is set, that of the part which was found; with that part written the link is stored.
-pub record IsEdit (d : Disk) (v : Volume) (held : HoldsLinks (reading_of d) v) (found : Found) (f : Attributes → Attributes) (name : Option Name) (h : Option (Pair × Name)) : Type 0 where
-  pub link : Link
-  pub sets : SetsOne (set_attributes v f h) link
-  pub pair : link.part.pair ≡ found.0
-  pub attributes : ((set_attributes v f h).attributes ≡ v.attributes) ⊎ (link.part.pair ≡ root)
-  pub after : (e : Disk) (n : ℕ) (new : List ℕ) → WritesBlock d e found.0 n new → stored_part_of e found.0 ≡ Some (edited_part name f found.1)
-      → IsStored (reading_of e) held.bytes (set_attributes v f h).attributes (cleaned_link link)
-  pub weighs : (space : ℕ) → Weighs space (set_attributes v f h).attributes link.part.pair (edited_part name f found.1).entries link.part.entries
+-- In w the link of the part which was found is set; with that part written the link is stored.
+pub record IsEdit (d : Disk) (v : Volume) (held : HoldsLinks (reading_of d) v) (found : Found) (f : Attributes → Attributes) (name : Option Name) (w : Volume) : Type 0 where
+  pub set : SetsPart v w found.0 (edited_part name f found.1).entries
+  pub after : (p : ChangeSet) → WritesPart d (found.0, edited_part name f found.1) [] [] p → IsStored (reading_of (applied p d)) held.bytes w.attributes (cleaned_link set.link)
 
 same_chain : (r : Reading) (b : Body) → ChainStays r r b
 same_chain r (Inline bytes) = tt
@@ -90,68 +104,67 @@ same_chain r (Directory_at pair) = tt
 same_chains : (r : Reading) (xs : List Entry) → All (λ x. ChainStays r r x.body) xs
 same_chains r xs = All-weaker (Contains xs) (λ (x : Entry). ChainStays r r x.body) (λ x h. same_chain r x.body) xs (All-contains_itself xs)
 
-module _ (laws : PlanLaws) (d : Disk) (v : Volume) (held : HoldsLinks (reading_of d) v) (sound : IsSound v) (clean : IsClean v) (found : Found) (f : Attributes → Attributes) where
+module _ (laws : PlanLaws) (d : Disk) (disk : IsDisk d) (v : Volume) (held : HoldsLinks (reading_of d) v) (sound : IsSound v) (clean : IsClean v) (found : Found) (f : Attributes → Attributes) where
   -- the chains of the part's files stay
-  stays : (before : List Directory) (dir : Directory) (after : List Directory) (l : Link) (is : IsLinkOf (reading_of d) v held found before dir after l) (e : Disk) (n : ℕ) (new : List ℕ)
-      → WritesBlock d e found.0 n new → All (λ x. ChainStays (reading_of d) (reading_of e) x.body) l.part.entries
-  stays before dir after l is e n new writes =
-      chains_stay laws.other laws.found laws.content d e v l n new sound
-      (subst (λ (ds : List Directory). Contains (links ds) l) (sym is.directories) (link_there before dir after l is.there))
-      (subst (λ (k : Pair). WritesBlock d e k n new) (sym is.pair) writes)
+  stays : (name : Option Name) (before : List Directory) (dir : Directory) (after : List Directory) (l : Link) (is : IsLinkOf (reading_of d) v held found before dir after l) (p : ChangeSet)
+      → WritesPart d (found.0, edited_part name f found.1) [] [] p → All (λ x. ChainStays (reading_of d) (reading_of (applied p d)) x.body) l.part.entries
+  stays name before dir after l is p writes =
+      chains_stay laws.found laws.content d disk v l (found.0, edited_part name f found.1) [] [] p sound
+      (link_of_volume (reading_of d) v held found before dir after l is) is.pair writes (λ b there. absurd (none_there there))
 
   -- what the pair then holds, by the link
-  reads : (name : Option Name) (before : List Directory) (dir : Directory) (after : List Directory) (l : Link) (is : IsLinkOf (reading_of d) v held found before dir after l) (e : Disk)
-      → stored_part_of e found.0 ≡ Some (edited_part name f found.1) → stored_part_of e l.part.pair ≡ Some (edited_part name f is.stored.stored)
-  reads name before dir after l is e read = ap (stored_part_of e) is.pair ∙ read ∙ ap (λ (s : StoredPart). Some (edited_part name f s)) (sym is.same)
+  reads : (name : Option Name) (before : List Directory) (dir : Directory) (after : List Directory) (l : Link) (is : IsLinkOf (reading_of d) v held found before dir after l) (p : ChangeSet)
+      → WritesPart d (found.0, edited_part name f found.1) [] [] p → stored_part_of (applied p d) l.part.pair ≡ Some (edited_part name f is.stored.stored)
+  reads name before dir after l is p writes = ap (stored_part_of (applied p d)) is.pair ∙ writes.back ∙ ap (λ (s : StoredPart). Some (edited_part name f s)) (sym is.same)
 
   below_edit : (path : Path) (before : List Directory) (dir : Directory) (after : List Directory) (l : Link) (is : IsLinkOf (reading_of d) v held found before dir after l) (k : Pair) (m : Name) (entry : Entry)
-      → home_of v path ≡ Some (k, m) → begins_at k dir ≡ true → find (is_named m) l.part.entries ≡ Some entry → IsEdit d v held found f (Some m) (Some (k, m))
+      → home_of v path ≡ Some (k, m) → begins_at k dir ≡ true → find (is_named m) l.part.entries ≡ Some entry → IsEdit d v held found f (Some m) (set_attributes v f (Some (k, m)))
   below_edit path before dir after l is k m entry home begins named =
-      let inside : Contains (parts dir) l.part =
-      subst (λ (ps : List Part). Contains ps l.part) (part_of_links dir.first dir.more (tail_to after)) (contains-map (λ (x : Link). x.part) (links_of dir.first dir.more (tail_to after)) l is.there) in
-      let rise : Rise (entries dir) =
-      All-contains (λ (x : Directory). Rise (entries x)) v.directories dir sound.order (subst (λ (ds : List Directory). Contains ds dir) (sym is.directories) (contains_mid before dir after)) in
-      let once : count_by (is_named m) l.part.entries ≤ 1 = named_in_part m dir l.part laws.ordered rise inside in
+      let once : count_by (is_named m) l.part.entries ≤ 1 = named_in_link laws.ordered (reading_of d) v sound held found before dir after l is m in
       record {
-        link = with_part (changed_part m (with_entry_attributes f)) l;
-        sets = change_sets v path k m (with_entry_attributes f) before dir after l entry laws.ordered sound clean home is.directories is.there begins named;
-        pair = is.pair;
-        attributes = inl refl;
-        after = λ e n new writes read.
-            stored_below (reading_of d) (reading_of e) held.bytes v.attributes l is.stored m f (reads (Some m) before dir after l is e read) (stays before dir after l is e n new writes) once;
-        weighs = λ space.
-            subst (λ (ss : List StoredEntry). Weighs space v.attributes l.part.pair ss (changed m (with_entry_attributes f) l.part.entries))
-            (sym (ap (λ (s : StoredPart). changed_first (picks (Some m)) (with_attributes f) s.entries) (sym is.same) ∙ ap (changed_first (picks (Some m)) (with_attributes f)) is.stored.entries
-            ∙ edited_before m f held.bytes v.attributes l.part.pair is.stored.others))
-            (part_weighs laws.entries laws.superblocks laws.behind laws.some laws.follow (reading_of d) space held.bytes v.attributes l.part.pair
-            (changed_first (picks (Some m)) (with_attributes f) is.stored.others) (changed m (with_entry_attributes f) l.part.entries) held.superblock.len
-            (changed_stand (reading_of d) (reading_of d) m f is.stored.others l.part.entries is.stored.stands (same_chains (reading_of d) l.part.entries) once));
+        set = record {
+          link = with_part (changed_part m (with_entry_attributes f)) l;
+          sets = change_sets v path k m (with_entry_attributes f) before dir after l entry laws.ordered sound clean home is.directories is.there begins named;
+          pair = is.pair;
+          attributes = inl refl;
+          weighs = λ space.
+              subst (λ (ss : List StoredEntry). Weighs space v.attributes l.part.pair ss (changed m (with_entry_attributes f) l.part.entries))
+              (sym (ap (λ (s : StoredPart). changed_first (picks (Some m)) (with_attributes f) s.entries) (sym is.same) ∙ ap (changed_first (picks (Some m)) (with_attributes f)) is.stored.entries
+              ∙ changed_before m (with_attributes f) held.bytes v.attributes l.part.pair is.stored.others))
+              (part_weighs laws.entries laws.superblocks laws.behind laws.some laws.follow (reading_of d) space held.bytes v.attributes l.part.pair
+              (changed_first (picks (Some m)) (with_attributes f) is.stored.others) (changed m (with_entry_attributes f) l.part.entries) held.superblock.len
+              (changed_stand (reading_of d) (reading_of d) m f is.stored.others l.part.entries is.stored.stands (same_chains (reading_of d) l.part.entries) once));
+        };
+        after = λ p writes.
+            stored_below (reading_of d) (reading_of (applied p d)) held.bytes v.attributes l is.stored m f (reads (Some m) before dir after l is p writes) (stays (Some m) before dir after l is p writes) once;
       }
 
-  root_edit : (dir : Directory) (after : List Directory) (l : Link) (is : IsLinkOf (reading_of d) v held found [] dir after l) → found.0 ≡ root → l.part ≡ dir.first → IsEdit d v held found f None None
+  root_edit : (dir : Directory) (after : List Directory) (l : Link) (is : IsLinkOf (reading_of d) v held found [] dir after l) → found.0 ≡ root → l.part ≡ dir.first → IsEdit d v held found f None (set_attributes v f None)
   root_edit dir after l is at_root first =
       let pair : l.part.pair ≡ root = is.pair ∙ at_root in
       record {
-        link = with_part set_part l;
-        sets = touch_sets v dir after l sound clean is.directories is.there first (f v.attributes);
-        pair = is.pair;
-        attributes = inr pair;
-        after = λ e n new writes read.
-            stored_first (reading_of d) (reading_of e) held.bytes v.attributes l is.stored f (reads None [] dir after l is e read) (stays [] dir after l is e n new writes) pair;
-        weighs = λ space.
-            subst (λ (ss : List StoredEntry). Weighs space (f v.attributes) l.part.pair ss l.part.entries)
-            (sym (ap (λ (s : StoredPart). changed_first (picks None) (with_attributes f) s.entries) (sym is.same) ∙ ap (changed_first (picks None) (with_attributes f)) is.stored.entries
-            ∙ edited_first f held.bytes v.attributes l.part.pair is.stored.others pair))
-            (part_weighs laws.entries laws.superblocks laws.behind laws.some laws.follow (reading_of d) space held.bytes (f v.attributes) l.part.pair is.stored.others l.part.entries held.superblock.len is.stored.stands);
+        set = record {
+          link = with_part set_part l;
+          sets = touch_sets v dir after l sound clean is.directories is.there first (f v.attributes);
+          pair = is.pair;
+          attributes = inr pair;
+          weighs = λ space.
+              subst (λ (ss : List StoredEntry). Weighs space (f v.attributes) l.part.pair ss l.part.entries)
+              (sym (ap (λ (s : StoredPart). changed_first (picks None) (with_attributes f) s.entries) (sym is.same) ∙ ap (changed_first (picks None) (with_attributes f)) is.stored.entries
+              ∙ edited_first f held.bytes v.attributes l.part.pair is.stored.others pair))
+              (part_weighs laws.entries laws.superblocks laws.behind laws.some laws.follow (reading_of d) space held.bytes (f v.attributes) l.part.pair is.stored.others l.part.entries held.superblock.len is.stored.stands);
+        };
+        after = λ p writes.
+            stored_first (reading_of d) (reading_of (applied p d)) held.bytes v.attributes l is.stored f (reads None [] dir after l is p writes) (stays None [] dir after l is p writes) pair;
       }
 
-  pub edit_of : (path : Path) → IsPlace (reading_of d) v held path found → IsEdit d v held found f (last_name path) (home_of v path)
+  pub edit_of : (path : Path) → IsPlace (reading_of d) v held path found → IsEdit d v held found f (last_name path) (set_attributes v f (home_of v path))
   edit_of [] place =
       let r = place.of_root refl in
       root_edit place.directory place.after place.link
       (subst (λ (ds : List Directory). IsLinkOf (reading_of d) v held found ds place.directory place.after place.link) r.1 place.is) r.0 r.2
   edit_of (n ∷ ns) place =
       let b = place.below n ns refl in
-      subst (λ (h : Option (Pair × Name)). IsEdit d v held found f (last_name (n ∷ ns)) h) (sym b.2)
-      (subst (λ (o : Option Name). IsEdit d v held found f o (Some (b.0, b.1))) (sym (home_name v (n ∷ ns) b.0 b.1 b.2))
+      subst (λ (h : Option (Pair × Name)). IsEdit d v held found f (last_name (n ∷ ns)) (set_attributes v f h)) (sym b.2)
+      (subst (λ (o : Option Name). IsEdit d v held found f o (set_attributes v f (Some (b.0, b.1)))) (sym (home_name v (n ∷ ns) b.0 b.1 b.2))
       (below_edit (n ∷ ns) place.before place.directory place.after place.link place.is b.0 b.1 place.entry b.2 b.3 b.4))

@@ -1,7 +1,8 @@
 -- Blocks of an image, and of its pairs.
-use Rattle.std.proofs.Common.{◌≡◌, ◌⊎◌, ◌+◌, ◌*◌, ◌<◌, ◌≤◌, ℕ, drop, Bool, true, false, length, refl, arith, inl, inr, if◌then◌else◌}
+use Rattle.std.proofs.Common.{◌≡◌, ◌⊎◌, ◌+◌, ◌*◌, ◌<◌, ◌≤◌, ℕ, zero, suc, drop, take, Bool, true, false, List, [], ◌∷◌, length, refl, arith, inl, inr, if◌then◌else◌}
 use Rattle.std.proofs.Math.Nat.{mul-le-mul_right}
 use Rattle.std.proofs.lemmas.List.{length-take-le, length-drop}
+use Rattle.lfs_block.specs.Bytes.{IsBytes}
 use Rattle.lfs_block.specs.Disk.{Disk, IsDisk, block_of}
 use Rattle.lfs_meta.specs.Body.{Pair}
 use Rattle.lfs_meta.specs.Writing.{second_is_live, other_number}
@@ -13,6 +14,21 @@ block_len d n disk below =
     let left : d.size ≤ length (drop (n * d.size) d.bytes) = omega (arith, length-drop (n * d.size) d.bytes, disk.len, rows) in
     length-take-le d.size (drop (n * d.size) d.bytes) left
 
+take_bytes : (n : ℕ) (xs : List ℕ) → IsBytes xs → IsBytes (take n xs)
+take_bytes zero xs all i = omega arith
+take_bytes (suc n) [] all i = omega arith
+take_bytes (suc n) (x ∷ xs) all zero = all 0
+take_bytes (suc n) (x ∷ xs) all (suc i) = take_bytes n xs (λ k. all (suc k)) i
+
+drop_bytes : (n : ℕ) (xs : List ℕ) → IsBytes xs → IsBytes (drop n xs)
+drop_bytes zero xs all i = all i
+drop_bytes (suc n) [] all i = omega arith
+drop_bytes (suc n) (x ∷ xs) all i = drop_bytes n xs (λ k. all (suc k)) i
+
+-- a block is bytes
+pub block_bytes : (d : Disk) (n : ℕ) → IsDisk d → IsBytes (block_of d n)
+block_bytes d n disk = take_bytes d.size (drop (n * d.size) d.bytes) (drop_bytes (n * d.size) d.bytes disk.bytes)
+
 -- the block that isn't live is one of the pair's
 pub other_is_one : (d : Disk) (pair : Pair) → (other_number d pair ≡ pair.0) ⊎ (other_number d pair ≡ pair.1)
 other_is_one d pair = by (second_is_live (block_of d pair.0) (block_of d pair.1))
@@ -20,3 +36,6 @@ other_is_one d pair = by (second_is_live (block_of d pair.0) (block_of d pair.1)
     by : (t : Bool) → ((if t then pair.0 else pair.1) ≡ pair.0) ⊎ ((if t then pair.0 else pair.1) ≡ pair.1)
     by true = inl refl
     by false = inr refl
+
+pub other_below : (d : Disk) (pair : Pair) → pair.0 < d.count → pair.1 < d.count → other_number d pair < d.count
+other_below d pair first second = elim (other_is_one d pair) [ inl is ↦ omega (arith, is, first) | inr is ↦ omega (arith, is, second) ]

@@ -93,7 +93,7 @@ KeepsLinks g = (d : Directory) (tail : Tail) → All (IsKept (links_of d.first d
 
 -- ---- all directories
 
-tail_same : (g : Directory → Directory) → KeepsPair g → (ds : List Directory) → tail_to (map g ds) ≡ tail_to ds
+pub tail_same : (g : Directory → Directory) → KeepsPair g → (ds : List Directory) → tail_to (map g ds) ≡ tail_to ds
 tail_same g h [] = refl
 tail_same g h (d ∷ ds) = ap soft_to (h d)
 
@@ -105,7 +105,7 @@ map_kept g h k (d ∷ ds) =
     (map_kept g h k ds)
 
 -- an edit of the directory at a pair
-at_pair : (k : Pair) (f : Directory → Directory) → KeepsPair f → (d : Directory) (t : Bool) → (if t then f d else d).first.pair ≡ d.first.pair
+pub at_pair : (k : Pair) (f : Directory → Directory) → KeepsPair f → (d : Directory) (t : Bool) → (if t then f d else d).first.pair ≡ d.first.pair
 at_pair k f h d true = h d
 at_pair k f h d false = refl
 
@@ -173,7 +173,7 @@ link_pair_by : (e : Entry) (p q : Part) (ps : List Part) (t : Bool) → (if t th
 link_pair_by e p q ps true = refl
 link_pair_by e p q ps false = refl
 
-link_pair : (e : Entry) (p : Part) (ps : List Part) → (link_parts e p ps).first.pair ≡ p.pair
+pub link_pair : (e : Entry) (p : Part) (ps : List Part) → (link_parts e p ps).first.pair ≡ p.pair
 unfolding link_parts
 link_pair e p [] = refl
 link_pair e p (q ∷ ps) = link_pair_by e p q ps (list_any (λ f. precedes e.name f.name) p.entries)

@@ -16,7 +16,7 @@ use Rattle.lfs_fs.specs.Entry.{Body, Inline, Chain, Directory_at, Entry, body_ta
 use Rattle.lfs_fs.specs.Directory.{Part, Directory, entries, begins_at, thread}
 use Rattle.lfs_fs.specs.Volume.{Volume}
 use Rattle.lfs_fs.specs.Tree.{Node, Dir, entry_at, node, node_of, tree, top}
-use Rattle.lfs_fs.specs.Thread.{Link, links_of, links, tail_to, is_hard, hard_to}
+use Rattle.lfs_fs.specs.Thread.{Link, links_of, links, tail_to, is_hard}
 use Rattle.lfs_fs.specs.Sound.{IsSound, StartsAtRoot}
 use Rattle.lfs_fs.specs.Reading.{Reading, reading_of}
 use Rattle.lfs_fs.specs.Mounted.{MountedValue, IsMountOf}
@@ -25,7 +25,8 @@ use Rattle.lfs_edit.specs.declared.refusal.Refusal.{Refusal}
 use Rattle.lfs_edit.specs.declared.refusal.Refusal.TheVariants.{NotFound, NotADirectory}
 use Rattle.lfs_edit.specs.Home.{split_last, behind_name, home_of}
 use Rattle.lfs_edit.specs.Verdict.{first_refusal, refuse_if, walk_refusal_at, walk_refusal}
-use Rattle.lfs_edit.specs.Place.{Found, Place, place_of, onwards, past_name, leads_to, from_pair, search, located_from, located}
+use Rattle.lfs_edit.specs.Place.{Found, PlaceOf, Home, At, Nowhere, place_of, onwards, past_name, leads_to, from_pair, search, walked, at_home, entry_part, located}
+use Rattle.lfs_edit.specs.FileLocated.{tail_behind}
 use Rattle.lfs_edit.specs.Located.{IsPlaceOr, LocatedAreThere}
 use Rattle.lfs_edit.proofs.KeptLinks.{contains_first}
 use Rattle.lfs_edit.proofs.OneEdge.{entry_under}
@@ -36,7 +37,7 @@ use Rattle.lfs_edit.proofs.Searched.{Searched, search_along}
 
 -- ---- what an entry shows
 
-shows_directory : (b : Body) (a : Attributes) (k : Pair) → body_target b ≡ Some k → node_of b a ≡ Dir a
+pub shows_directory : (b : Body) (a : Attributes) (k : Pair) → body_target b ≡ Some k → node_of b a ≡ Dir a
 shows_directory (Inline bytes) a k leads = absurd (none-some k leads)
 shows_directory (Chain blocks bytes) a k leads = absurd (none-some k leads)
 shows_directory (Directory_at pair) a k leads = refl
@@ -90,14 +91,22 @@ in_links [] d after l there = Contains-append_left (links_of d.first d.more (tai
 in_links (x ∷ before) d after l there =
     Contains-append_right (links_of x.first x.more (tail_to (before ++ d ∷ after))) (links (before ++ d ∷ after)) l (in_links before d after l there)
 
-links_stored : (r : Reading) (v : Volume) (held : HoldsLinks r v) (before : List Directory) (d : Directory) (after : List Directory) → v.directories ≡ before ++ d ∷ after
+pub links_stored : (r : Reading) (v : Volume) (held : HoldsLinks r v) (before : List Directory) (d : Directory) (after : List Directory) → v.directories ≡ before ++ d ∷ after
     → All (IsStored r held.bytes v.attributes) (links_of d.first d.more (tail_to after))
 links_stored r v held before d after is =
     All-weaker (Contains (links_of d.first d.more (tail_to after))) (IsStored r held.bytes v.attributes)
     (λ l there. All-contains (IsStored r held.bytes v.attributes) (links v.directories) l held.each (subst (λ (ds : List Directory). Contains (links ds) l) (sym is) (in_links before d after l there)))
     (links_of d.first d.more (tail_to after)) (All-contains_itself (links_of d.first d.more (tail_to after)))
 
-no_hard_tail : (ds : List Directory) → is_hard (tail_to ds) ≡ false
+-- the first link of a directory
+abbrev pub first_link : Part → List Part → Tail → Link
+first_link p ps tail = record { part = p; tail = tail_behind ps tail }
+
+pub first_there : (p : Part) (ps : List Part) (tail : Tail) → Contains (links_of p ps tail) (first_link p ps tail)
+first_there p [] tail = contains_first (first_link p [] tail) []
+first_there p (q ∷ ps) tail = contains_first (first_link p (q ∷ ps) tail) (links_of q ps tail)
+
+pub no_hard_tail : (ds : List Directory) → is_hard (tail_to ds) ≡ false
 no_hard_tail [] = refl
 no_hard_tail (d ∷ ds) = refl
 
@@ -109,7 +118,7 @@ pub record SearchedAt (r : Reading) (v : Volume) (held : HoldsLinks r v) (front 
   pub starts : Starts v.directories k directory
   pub searched : Searched r held.bytes v.attributes n (links_of directory.first directory.more (tail_to starts.after)) (entry_at v (front ++ n ∷ [])) o
 
-search_at : (r : Reading) (v : Volume) (held : HoldsLinks r v) → IsSound v → (front : Path) (k : Pair) (n : Name) → IsWalked v front k
+pub search_at : (r : Reading) (v : Volume) (held : HoldsLinks r v) → IsSound v → (front : Path) (k : Pair) (n : Name) → IsWalked v front k
     → SearchedAt r v held front k n (search r n (from_pair k (pairs_of (thread v.directories))))
 search_at r v held sound front k n walked =
     let one = found_one (begins_at k) v.directories (led_directory v sound front walked.above k walked.at walked.leads) in
@@ -124,6 +133,58 @@ search_at r v held sound front k n walked =
       searched = subst (λ (ps : List Pair). Searched r held.bytes v.attributes n (links_of d.first d.more (tail_to s.after)) (entry_at v (front ++ n ∷ [])) (search r n ps)) (sym s.pairs)
           (subst (λ (x : Option Entry). Searched r held.bytes v.attributes n (links_of d.first d.more (tail_to s.after)) x (search r n (pairs_of (d.first ∷ d.more) ++ pairs_of (thread s.after)))) (sym here) found);
     }
+
+-- ---- the walk
+
+-- The walk of a path comes to where its last name belongs.
+pub record ComesTo (v : Volume) (path : Path) (home : Home) : Type 0 where
+  pub front : Path
+  pub whole : path ≡ front ++ home.0 ∷ []
+  pub walked : IsWalked v front home.1
+
+-- what the walk of a path says of the volume
+abbrev pub ComesToOr : Volume → Path → PlaceOf Home → Type 0
+ComesToOr v path (At home) = ComesTo v path home
+ComesToOr v path (Nowhere refusal) = walk_refusal (tree v) [] path ≡ Some refusal
+
+-- the names behind a front
+abbrev pub Onwards : Volume → (Pair → PlaceOf Home) → Name → Path → Type 0
+Onwards v rest m ms = (front : Path) (j : Pair) → IsWalked v front j → ComesToOr v (front ++ m ∷ ms) (rest j)
+
+led_on : (v : Volume) (front : Path) (k : Pair) (n m : Name) (ms : Path) (rest : Pair → PlaceOf Home) → IsWalked v front k → Onwards v rest m ms
+    → (e : Entry) → entry_at v (front ++ n ∷ []) ≡ Some e → (o : Option Pair) → target e ≡ o → ComesToOr v (front ++ n ∷ m ∷ ms) (onwards rest o)
+led_on v front k n m ms rest walked later e here None leads =
+    walk_on v front k n (m ∷ ms) walked
+    ∙ ap (λ (o : Option Node). walk_refusal_at o (walk_refusal (tree v) ((front ++ n ∷ []) ++ m ∷ []) ms)) (ap (option_map node) here)
+    ∙ no_directory e.body e.attributes (walk_refusal (tree v) ((front ++ n ∷ []) ++ m ∷ []) ms) leads
+led_on v front k n m ms rest walked later e here (Some j) leads =
+    subst (λ (path : Path). ComesToOr v path (rest j)) (append_assoc front (n ∷ []) (m ∷ ms)) (later (front ++ n ∷ []) j (walked_on v front k n e j walked here leads))
+
+past_home : (r : Reading) (v : Volume) (held : HoldsLinks r v) (front : Path) (k : Pair) (n m : Name) (ms : Path) (rest : Pair → PlaceOf Home) → IsWalked v front k → Onwards v rest m ms
+    → (o : Option Found) → SearchedAt r v held front k n o → ComesToOr v (front ++ n ∷ m ∷ ms) (past_name n rest o)
+past_home r v held front k n m ms rest walked later None at =
+    walk_on v front k n (m ∷ ms) walked
+    ∙ ap (λ (o : Option Node). walk_refusal_at o (walk_refusal (tree v) ((front ++ n ∷ []) ++ m ∷ []) ms)) (ap (option_map node) at.searched)
+past_home r v held front k n m ms rest walked later (Some found) at =
+    led_on v front k n m ms rest walked later at.searched.0 at.searched.1 (leads_to n found.1.entries) (sym at.searched.2.leads)
+
+walked_from : (r : Reading) (v : Volume) (held : HoldsLinks r v) → IsSound v → (n : Name) (ns : Path) → Onwards v (walked r (pairs_of (thread v.directories)) n ns) n ns
+unfolding walked
+walked_from r v held sound n [] front k here = record { front = front; whole = refl; walked = here }
+walked_from r v held sound n (m ∷ ms) front k here =
+    past_home r v held front k n m ms (walked r (pairs_of (thread v.directories)) m ms) here (walked_from r v held sound m ms)
+    (search r n (from_pair k (pairs_of (thread v.directories)))) (search_at r v held sound front k n here)
+
+-- what is walked along the thread from the root on
+pub walked_there : (r : Reading) (v : Volume) (held : HoldsLinks r v) → IsSound v → (n : Name) (ns : Path) → ComesToOr v (n ∷ ns) (walked r (pairs_of (thread v.directories)) n ns (unordered root))
+walked_there r v held sound n ns = walked_from r v held sound n ns [] (unordered root) (none_walked v)
+
+-- the home is the path's, and the walk doesn't refuse
+pub home_there : (v : Volume) (path : Path) (home : Home) → ComesTo v path home → home_of v path ≡ Some (home.1, home.0)
+home_there v path home comes = ap (home_of v) comes.whole ∙ home_behind v comes.front home.1 home.0 comes.walked
+
+pub home_walk : (v : Volume) (path : Path) (home : Home) → ComesTo v path home → walk_refusal (tree v) [] path ≡ None
+home_walk v path home comes = ap (walk_refusal (tree v) []) comes.whole ∙ walk_on v comes.front home.1 home.0 [] comes.walked
 
 -- ---- the last name
 
@@ -141,10 +202,10 @@ some_names : (front : Path) (n : Name) → front ++ n ∷ [] ≡ [] → ⊥
 some_names [] n is = cc
 some_names (m ∷ front) n is = cc
 
-last_place : (r : Reading) (v : Volume) (held : HoldsLinks r v) (front : Path) (k : Pair) (n : Name) → IsWalked v front k → (o : Option Found) → SearchedAt r v held front k n o
-    → IsPlaceOr r v held (front ++ n ∷ []) (place_of o)
-last_place r v held front k n walked None at = none_there v (front ++ n ∷ []) (walk_on v front k n [] walked) at.searched
-last_place r v held front k n walked (Some found) at =
+-- what was found under the last name
+pub last_place : (r : Reading) (v : Volume) (held : HoldsLinks r v) (path : Path) (home : Home) (comes : ComesTo v path home) (o : Option Found) → SearchedAt r v held comes.front home.1 home.0 o → IsPlaceOr r v held path (place_of o)
+last_place r v held path home comes None at = none_there v path (home_walk v path home comes) (ap (entry_at v) comes.whole ∙ at.searched)
+last_place r v held path home comes (Some found) at =
     let s = at.starts in
     let is = at.searched.2 in
     record {
@@ -154,77 +215,44 @@ last_place r v held front k n walked (Some found) at =
       link = is.link;
       is = record { directories = s.directories; there = is.there; pair = is.pair; stored = is.stored; same = is.same };
       entry = at.searched.0;
-      at = at.searched.1;
-      walk = walk_on v front k n [] walked;
-      of_root = λ none. absurd (some_names front n none);
-      below = λ m ms names. (k, n, home_behind v front k n walked, s.begins, is.at);
+      at = ap (entry_at v) comes.whole ∙ at.searched.1;
+      walk = home_walk v path home comes;
+      of_root = λ none. absurd (some_names comes.front home.0 (sym comes.whole ∙ none));
+      below = λ m ms names. (home.1, home.0, home_there v path home comes, s.begins, is.at);
     }
 
--- ---- the other names
-
--- the names behind a front
-abbrev pub Onwards : (r : Reading) (v : Volume) → HoldsLinks r v → (Pair → Place) → Name → Path → Type 0
-Onwards r v held rest m ms = (front : Path) (j : Pair) → IsWalked v front j → IsPlaceOr r v held (front ++ m ∷ ms) (rest j)
-
-led_on : (r : Reading) (v : Volume) (held : HoldsLinks r v) (front : Path) (k : Pair) (n m : Name) (ms : Path) (rest : Pair → Place) → IsWalked v front k → Onwards r v held rest m ms
-    → (e : Entry) → entry_at v (front ++ n ∷ []) ≡ Some e → (o : Option Pair) → target e ≡ o → IsPlaceOr r v held (front ++ n ∷ m ∷ ms) (onwards rest o)
-led_on r v held front k n m ms rest walked later e here None leads =
-    walk_refused v (front ++ n ∷ m ∷ ms) NotADirectory
-    (walk_on v front k n (m ∷ ms) walked
-    ∙ ap (λ (o : Option Node). walk_refusal_at o (walk_refusal (tree v) ((front ++ n ∷ []) ++ m ∷ []) ms)) (ap (option_map node) here)
-    ∙ no_directory e.body e.attributes (walk_refusal (tree v) ((front ++ n ∷ []) ++ m ∷ []) ms) leads)
-led_on r v held front k n m ms rest walked later e here (Some j) leads =
-    subst (λ (path : Path). IsPlaceOr r v held path (rest j)) (append_assoc front (n ∷ []) (m ∷ ms)) (later (front ++ n ∷ []) j (walked_on v front k n e j walked here leads))
-
-past_place : (r : Reading) (v : Volume) (held : HoldsLinks r v) (front : Path) (k : Pair) (n m : Name) (ms : Path) (rest : Pair → Place) → IsWalked v front k → Onwards r v held rest m ms
-    → (o : Option Found) → SearchedAt r v held front k n o → IsPlaceOr r v held (front ++ n ∷ m ∷ ms) (past_name n rest o)
-past_place r v held front k n m ms rest walked later None at =
-    walk_refused v (front ++ n ∷ m ∷ ms) NotFound
-    (walk_on v front k n (m ∷ ms) walked
-    ∙ ap (λ (o : Option Node). walk_refusal_at o (walk_refusal (tree v) ((front ++ n ∷ []) ++ m ∷ []) ms)) (ap (option_map node) at.searched))
-past_place r v held front k n m ms rest walked later (Some found) at =
-    led_on r v held front k n m ms rest walked later at.searched.0 at.searched.1 (leads_to n found.1.entries) (sym at.searched.2.leads)
-
-walked_place : (r : Reading) (v : Volume) (held : HoldsLinks r v) → IsSound v → (n : Name) (ns : Path) → Onwards r v held (located_from r (pairs_of (thread v.directories)) n ns) n ns
-unfolding located_from
-walked_place r v held sound n [] front k walked =
-    last_place r v held front k n walked (search r n (from_pair k (pairs_of (thread v.directories)))) (search_at r v held sound front k n walked)
-walked_place r v held sound n (m ∷ ms) front k walked =
-    past_place r v held front k n m ms (located_from r (pairs_of (thread v.directories)) m ms) walked (walked_place r v held sound m ms)
-    (search r n (from_pair k (pairs_of (thread v.directories)))) (search_at r v held sound front k n walked)
+home_place : (r : Reading) (v : Volume) (held : HoldsLinks r v) → IsSound v → (path : Path) (place : PlaceOf Home) → ComesToOr v path place → IsPlaceOr r v held path (at_home (entry_part r (pairs_of (thread v.directories))) place)
+home_place r v held sound path (At home) comes =
+    last_place r v held path home comes (search r home.0 (from_pair home.1 (pairs_of (thread v.directories)))) (search_at r v held sound comes.front home.1 home.0 comes.walked)
+home_place r v held sound path (Nowhere refusal) refused = walk_refused v path refusal refused
 
 -- ---- the root
-
--- the first link of a directory
-first_link : (p : Part) (ps : List Part) (tail : Tail) → (l : Link) × (l.part ≡ p) × Contains (links_of p ps tail) l
-first_link p [] tail = (record { part = p; tail = tail }, refl, contains_first (record { part = p; tail = tail }) [])
-first_link p (q ∷ ps) tail = (record { part = p; tail = hard_to q.pair }, refl, contains_first (record { part = p; tail = hard_to q.pair }) (links_of q ps tail))
 
 root_place : (r : Reading) (v : Volume) (held : HoldsLinks r v) (ds : List Directory) → v.directories ≡ ds → StartsAtRoot ds → IsPlaceOr r v held [] (located r (pairs_of (thread v.directories)) [])
 root_place r v held [] is begins = absurd begins
 root_place r v held (d ∷ ds) is begins =
-    let first = first_link d.first d.more (tail_to ds) in
-    let l : Link = first.0 in
-    let stored : IsStored r held.bytes v.attributes l = All-contains (IsStored r held.bytes v.attributes) (links_of d.first d.more (tail_to ds)) l (links_stored r v held [] d ds is) first.2 in
-    let pair : l.part.pair ≡ root = ap (λ (p : Part). p.pair) first.1 ∙ begins in
-    let read : r.part root ≡ Some stored.stored = ap r.part (sym pair) ∙ stored.read in
+    let l : Link = first_link d.first d.more (tail_to ds) in
+    let there : Contains (links_of d.first d.more (tail_to ds)) l = first_there d.first d.more (tail_to ds) in
+    let stored : IsStored r held.bytes v.attributes l = All-contains (IsStored r held.bytes v.attributes) (links_of d.first d.more (tail_to ds)) l (links_stored r v held [] d ds is) there in
+    let read : r.part root ≡ Some stored.stored = ap r.part (sym begins) ∙ stored.read in
     subst (IsPlaceOr r v held []) (ap (λ (o : Option StoredPart). place_of (option_and_then (λ s. Some (root, s)) o)) (sym read))
     (record {
       before = [];
       directory = d;
       after = ds;
       link = l;
-      is = record { directories = is; there = first.2; pair = pair; stored = stored; same = refl };
+      is = record { directories = is; there = there; pair = begins; stored = stored; same = refl };
       entry = top v;
       at = refl;
       walk = refl;
-      of_root = λ none. (refl, refl, first.1, refl);
+      of_root = λ none. (refl, refl, refl, refl);
       below = λ n ns names. absurd (cc);
     })
 
 pub located_are_there : LocatedAreThere
 located_are_there r v held [] sound = root_place r v held v.directories refl sound.starts
-located_are_there r v held (n ∷ ns) sound = walked_place r v held sound n ns [] (unordered root) (none_walked v)
+located_are_there r v held (n ∷ ns) sound =
+    home_place r v held sound (n ∷ ns) (walked r (pairs_of (thread v.directories)) n ns (unordered root)) (walked_there r v held sound n ns)
 
 -- the same of a mounted image, along the thread that its mount answers
 pub mounted_place : (d : Disk) (m : MountedValue) (is : IsMountOf d m) (held : HoldsLinks (reading_of d) is.volume) (path : Path) → IsPlaceOr (reading_of d) is.volume held path (located (reading_of d) m.thread path)

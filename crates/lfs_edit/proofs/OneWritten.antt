@@ -1,36 +1,30 @@
--- An image of which one part is rewritten holds the volume in which that part is set.
-use Rattle.std.proofs.Common.{◌≡◌, ◌⊎◌, ℕ, ◌<◌, ◌≤◌, false, List, [], ◌∷◌, ap, sym, ◌∙◌, subst, arith, inl, inr, length}
+-- An image of which one part is written, and new blocks beside it, holds the volume in which that part is set.
+use Rattle.std.proofs.Common.{◌≡◌, ◌⊎◌, ℕ, ◌<◌, ◌≤◌, false, List, [], ◌∷◌, sym, ◌∙◌, subst, arith, inl, inr}
 use Rattle.std.specs.Prelude.{All, Contains}
 use Rattle.std.proofs.lemmas.Bool.Decides.{nat_tests}
 use Rattle.std.proofs.lemmas.List.Elements.{All-weaker, All-contains_itself}
-use Rattle.lfs_block.specs.Bytes.{IsBytes}
-use Rattle.lfs_block.specs.Disk.{Disk, IsDisk, block_of, put}
-use Rattle.lfs_block.specs.PatchLaws.{BlockPutOther, PutIsDisk}
+use Rattle.lfs_block.specs.Disk.{Disk, IsDisk, block_of}
+use Rattle.lfs_block.specs.Patch.{ChangeSet, applied}
 use Rattle.lfs_file.specs.Laws.{FoundStay, ContentStays}
 use Rattle.lfs_meta.specs.Body.{Pair, StoredBody, Inline as Stored_inline, Ctz, Leads}
 use Rattle.lfs_meta.specs.Entry.{StoredEntry}
+use Rattle.lfs_meta.specs.Writing.{other_number}
 use Rattle.lfs_fs.specs.Pair.{root}
 use Rattle.lfs_fs.specs.Entry.{Body, Inline, Chain, Directory_at, Entry}
 use Rattle.lfs_fs.specs.Directory.{Part, thread}
 use Rattle.lfs_fs.specs.Volume.{Volume}
 use Rattle.lfs_fs.specs.Thread.{Link, links}
-use Rattle.lfs_fs.specs.Uses.{times, entry_uses, pair_uses}
+use Rattle.lfs_fs.specs.Uses.{times, entry_uses, pair_uses, uses}
 use Rattle.lfs_fs.specs.Sound.{IsSound}
 use Rattle.lfs_fs.specs.Reading.{Reading, reading_of}
 use Rattle.lfs_fs.specs.Stored.{BodyStands, Stands, IsStored, HoldsLinks}
 use Rattle.lfs_fs.specs.Alike.{ChainStays}
+use Rattle.lfs_edit.specs.PartWritten.{WritesPart}
+use Rattle.lfs_edit.specs.Place.{Found}
 use Rattle.lfs_edit.specs.Written.{cleaned_link, Writes}
+use Rattle.lfs_edit.proofs.BlockLemmas.{other_is_one}
 use Rattle.lfs_edit.proofs.OneLink.{SetsOne, the_one_link}
 use Rattle.lfs_edit.proofs.WrittenLemmas.{part_uses, part_there, sum_thread, one_le, two_le, pair_used, set_apart, chain_by}
-
--- one of a pair's blocks is written
-pub record WritesBlock (d e : Disk) (pair : Pair) (n : ℕ) (new : List ℕ) : Type 0 where
-  pub disk : IsDisk d
-  pub within : n < d.count
-  pub len : length new ≡ d.size
-  pub bytes : IsBytes new
-  pub one : (n ≡ pair.0) ⊎ (n ≡ pair.1)
-  pub is : e ≡ put n new d
 
 pub block_used : (p : Part) (n : ℕ) → (n ≡ p.pair.0) ⊎ (n ≡ p.pair.1) → 1 ≤ pair_uses n p
 block_used p n one = elim one [
@@ -44,31 +38,39 @@ block_used p n one = elim one [
     second : (q : Pair) → 1 ≤ times q.1 (q.0 ∷ q.1 ∷ [])
     second q = grind (arith, nat_tests)
 
--- all other blocks stay
-others_stay : BlockPutOther → (d e : Disk) (pair : Pair) (n : ℕ) (new : List ℕ) → WritesBlock d e pair n new → (b : ℕ) → (b ≡ n → ⊥) → block_of e b ≡ block_of d b
-others_stay other d e pair n new writes b apart =
-    ap (λ (x : Disk). block_of x b) writes.is ∙ other d n b new writes.disk writes.within apart writes.len
+-- the block of a part's pair that is written
+pub other_used : (d : Disk) (p : Part) (pair : Pair) → p.pair ≡ pair → 1 ≤ pair_uses (other_number d pair) p
+other_used d p pair same = block_used p (other_number d pair) (subst (λ (k : Pair). (other_number d pair ≡ k.0) ⊎ (other_number d pair ≡ k.1)) (sym same) (other_is_one d pair))
+
+-- a volume doesn't use any of some blocks
+abbrev pub AreUnused : Volume → List ℕ → Type 0
+AreUnused v blocks = (b : ℕ) → Contains blocks b → uses b v ≡ 0
+
+-- all other blocks that the volume uses stay
+pub used_stay : (d : Disk) (v : Volume) (part : Found) (blocks : List ℕ) (contents : List (List ℕ)) (p : ChangeSet) → WritesPart d part blocks contents p → AreUnused v blocks
+    → (b : ℕ) → 0 < uses b v → (b ≡ other_number d part.0 → ⊥) → block_of (applied p d) b ≡ block_of d b
+used_stay d v part blocks contents p writes unused b used apart = writes.others b (λ there. let none : uses b v ≡ 0 = unused b there in omega (arith, none, used)) apart
 
 -- ---- what stands in the part that is rewritten
 
--- the chains of a part's files have none of its pair's blocks
-pub chains_stay : BlockPutOther → FoundStay → ContentStays → (d e : Disk) (v : Volume) (l : Link) (n : ℕ) (new : List ℕ) → IsSound v → Contains (links v.directories) l → WritesBlock d e l.part.pair n new
-    → All (λ x. ChainStays (reading_of d) (reading_of e) x.body) l.part.entries
-chains_stay other found content d e v l n new sound there writes =
-    All-weaker (Contains l.part.entries) (λ (x : Entry). ChainStays (reading_of d) (reading_of e) x.body)
-    (λ x inside. chain_by found content d e writes.disk x.body (ap (λ (y : Disk). y.size) writes.is) (ap (λ (y : Disk). y.count) writes.is)
-    (λ b used. others_stay other d e l.part.pair n new writes b (λ same.
-    let this : 1 ≤ entry_uses n x = subst (λ (m : ℕ). 1 ≤ entry_uses m x) same used in
-    omega (
-      arith,
-      this,
-      block_used l.part n writes.one,
-      one_le (entry_uses n) l.part.entries x inside,
-      one_le (part_uses n) (thread v.directories) l.part (part_there v.directories l there),
-      sum_thread n v.directories,
-      sound.once n,
-    ))))
+-- the chains of a part's files have none of the blocks that are written
+pub chains_stay : FoundStay → ContentStays → (d : Disk) → IsDisk d → (v : Volume) (l : Link) (part : Found) (blocks : List ℕ) (contents : List (List ℕ)) (p : ChangeSet) → IsSound v → Contains (links v.directories) l
+    → l.part.pair ≡ part.0 → WritesPart d part blocks contents p → AreUnused v blocks → All (λ x. ChainStays (reading_of d) (reading_of (applied p d)) x.body) l.part.entries
+chains_stay found content d disk v l part blocks contents p sound there pair writes unused =
+    All-weaker (Contains l.part.entries) (λ (x : Entry). ChainStays (reading_of d) (reading_of (applied p d)) x.body)
+    (λ x inside. chain_by found content d (applied p d) disk x.body writes.after.size writes.after.count (λ b used. entry_stays x inside b used))
     l.part.entries (All-contains_itself l.part.entries)
+  where
+    in_thread : (b : ℕ) → part_uses b l.part ≤ uses b v
+    in_thread b = omega (arith, one_le (part_uses b) (thread v.directories) l.part (part_there v.directories l there), sum_thread b v.directories)
+
+    entry_stays : (x : Entry) → Contains l.part.entries x → (b : ℕ) → 0 < entry_uses b x → block_of (applied p d) b ≡ block_of d b
+    entry_stays x inside b used =
+        used_stay d v part blocks contents p writes unused b (omega (arith, used, one_le (entry_uses b) l.part.entries x inside, in_thread b))
+        (λ same.
+        let number : ℕ = other_number d part.0 in
+        let this : 1 ≤ entry_uses number x = subst (λ (m : ℕ). 1 ≤ entry_uses m x) same used in
+        omega (arith, this, other_used d l.part part.0 pair, one_le (entry_uses number) l.part.entries x inside, in_thread number, sound.once number))
 
 -- a body stands for the same where its chain stays
 body_stands : (r q : Reading) (s : StoredBody) (b : Body) → ChainStays r q b → BodyStands r s b → BodyStands q s b
@@ -88,18 +90,19 @@ entry_stands r q s x stays stands = record { kind = stands.kind; name = stands.n
 -- ---- the image
 
 -- The volume's root has other attributes only where its first part is rewritten.
-pub writes_one : BlockPutOther → PutIsDisk → (d e : Disk) (v w : Volume) (held : HoldsLinks (reading_of d) v) (l : Link) (n : ℕ) (new : List ℕ) → IsSound w → SetsOne w l → WritesBlock d e l.part.pair n new
-    → IsStored (reading_of e) held.bytes w.attributes (cleaned_link l) → (w.attributes ≡ v.attributes) ⊎ (l.part.pair ≡ root) → Writes d e v w held
-writes_one other is_disk d e v w held l n new sound one writes stored attributes = record {
-  old_disk = writes.disk;
-  new_disk = subst IsDisk (sym writes.is) (is_disk d n new writes.disk writes.within writes.len writes.bytes);
-  size = ap (λ (y : Disk). y.size) writes.is;
-  count = ap (λ (y : Disk). y.count) writes.is;
-  stays = λ b used apart. others_stay other d e l.part.pair n new writes b (λ same.
+pub writes_one : (d : Disk) → IsDisk d → (v w : Volume) (held : HoldsLinks (reading_of d) v) (l : Link) (part : Found) (blocks : List ℕ) (contents : List (List ℕ)) (p : ChangeSet) → IsSound w → SetsOne w l → l.part.pair ≡ part.0
+    → WritesPart d part blocks contents p → AreUnused v blocks → IsStored (reading_of (applied p d)) held.bytes w.attributes (cleaned_link l) → (w.attributes ≡ v.attributes) ⊎ (l.part.pair ≡ root)
+    → Writes d (applied p d) v w held
+writes_one d disk v w held l part blocks contents p sound one pair writes unused stored attributes = record {
+  old_disk = disk;
+  new_disk = writes.after.disk;
+  size = writes.after.size;
+  count = writes.after.count;
+  stays = λ b used apart. used_stay d v part blocks contents p writes unused b used (λ same.
       let none : pair_uses b l.part ≡ 0 = apart l.part (part_there w.directories l one.there) one.set in
-      let some : 1 ≤ pair_uses b l.part = subst (λ (m : ℕ). 1 ≤ pair_uses m l.part) (sym same) (block_used l.part n writes.one) in
+      let some : 1 ≤ pair_uses b l.part = subst (λ (m : ℕ). 1 ≤ pair_uses m l.part) (sym same) (other_used d l.part part.0 pair) in
       omega (arith, none, some));
-  written = λ m there set. subst (λ (x : Link). IsStored (reading_of e) held.bytes w.attributes (cleaned_link x)) (sym (the_one_link w l m one there set)) stored;
+  written = λ m there set. subst (λ (x : Link). IsStored (reading_of (applied p d)) held.bytes w.attributes (cleaned_link x)) (sym (the_one_link w l m one there set)) stored;
   attributes = λ m there is unset. elim attributes [
     | inl same ↦ same
     | inr at_root ↦ absurd (two_at_root m there is unset at_root)

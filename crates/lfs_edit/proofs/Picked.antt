@@ -49,3 +49,12 @@ is_first t k (suc i) (x ∷ xs) d found = by (t x) refl found (is_first t (k + 1
 
 pub first_at : {X : Type 0} (t : X → Bool) (i : ℕ) (xs : List X) (d : X) → position_from t 0 xs ≡ Some i → IsFirst t xs i d
 first_at t i xs d found = is_first t 0 i xs d (found ∙ ap Some (omega arith))
+
+-- where none passes, none is changed
+pub unchanged : {X : Type 0} (t : X → Bool) (f : X → X) (xs : List X) → find t xs ≡ None → changed_first t f xs ≡ xs
+unchanged t f [] none = refl
+unchanged t f (x ∷ xs) none = by (t x) none (unchanged t f xs)
+  where
+    by : (b : Bool) → cond b (Some x) (find t xs) ≡ None → (find t xs ≡ None → changed_first t f xs ≡ xs) → cond b (f x ∷ xs) (x ∷ changed_first t f xs) ≡ x ∷ xs
+    by true is later = cc
+    by false is later = ap (λ ys. x ∷ ys) (later is)

@@ -14,10 +14,10 @@ use Rattle.lfs_fs.specs.Pair.{unordered, same_pair}
 use Rattle.lfs_fs.specs.Thread.{is_hard}
 use Rattle.lfs_fs.specs.Reading.{Reading}
 use Rattle.lfs_edit.specs.declared.refusal.Refusal.TheVariants.{NotFound, Memory}
-use Rattle.lfs_edit.specs.Place.{Found, Place, At, Nowhere, picks, from_pair, search, place_of, past_name, located_from}
+use Rattle.lfs_edit.specs.Place.{Found, PlaceOf, Place, Home, At, Nowhere, picks, from_pair, search, place_of, past_name, walked}
 use Rattle.lfs_edit.proofs.Searched.{search_first}
 
-first_left : (ps : List Pair) (i : ℕ) → i < length ps → drop i ps ≡ get_or ps i (0, 0) ∷ drop (i + 1) ps
+pub first_left : (ps : List Pair) (i : ℕ) → i < length ps → drop i ps ≡ get_or ps i (0, 0) ∷ drop (i + 1) ps
 first_left ps i within = drop-cons ps i (0, 0) within ∙ rw add-one refl
 
 -- ---- the pairs from one on
@@ -93,21 +93,21 @@ search_none r n = refl
 abbrev pub names_of : List (Bor Name) → Path
 names_of ns = map (λ n. n.now) ns
 
-pub located_last : (r : Reading) (thread : List Pair) (n : Name) (others : List (Bor Name)) (i : ℕ) (k : Pair) → length others ≤ i
-    → located_from r thread n (names_of (drop i others)) k ≡ place_of (search r n (from_pair k thread))
-unfolding located_from
-located_last r thread n others i k past = rw (drop_of_length-le others past) refl
+-- where no name is left, this is what the walk comes to
+pub walked_last : (r : Reading) (thread : List Pair) (n : Name) (others : List (Bor Name)) (i : ℕ) (k : Pair) (place : PlaceOf Home) → length others ≤ i → walked r thread n (names_of (drop i others)) k ≡ place → place ≡ At (n, k)
+unfolding walked
+walked_last r thread n others i k place past is = sym is ∙ rw (drop_of_length-le others past) refl
 
-located_more : (r : Reading) (thread : List Pair) (n m : Name) (ms : Path) (k : Pair) → located_from r thread n (m ∷ ms) k ≡ past_name n (located_from r thread m ms) (search r n (from_pair k thread))
-unfolding located_from
-located_more r thread n m ms k = refl
+walked_more : (r : Reading) (thread : List Pair) (n m : Name) (ms : Path) (k : Pair) → walked r thread n (m ∷ ms) k ≡ past_name n (walked r thread m ms) (search r n (from_pair k thread))
+unfolding walked
+walked_more r thread n m ms k = refl
 
-pub located_on : (r : Reading) (thread : List Pair) (n : Name) (others : List (Bor Name)) (i : ℕ) (d : Bor Name) (k : Pair) → i < length others
-    → located_from r thread n (names_of (drop i others)) k ≡ past_name n (located_from r thread (get_or others i d).now (names_of (drop (i + 1) others))) (search r n (from_pair k thread))
-located_on r thread n others i d k within =
+pub walked_past : (r : Reading) (thread : List Pair) (n : Name) (others : List (Bor Name)) (i : ℕ) (d : Bor Name) (k : Pair) → i < length others
+    → walked r thread n (names_of (drop i others)) k ≡ past_name n (walked r thread (get_or others i d).now (names_of (drop (i + 1) others))) (search r n (from_pair k thread))
+walked_past r thread n others i d k within =
     let left : drop i others ≡ get_or others i d ∷ drop (i + 1) others = drop-cons others i d within ∙ rw add-one refl in
-    ap (λ (ns : List (Bor Name)). located_from r thread n (names_of ns) k) left
-    ∙ located_more r thread n (get_or others i d).now (names_of (drop (i + 1) others)) k
+    ap (λ (ns : List (Bor Name)). walked r thread n (names_of ns) k) left
+    ∙ walked_more r thread n (get_or others i d).now (names_of (drop (i + 1) others)) k
 
 -- ---- answers
 

@@ -14,6 +14,7 @@ use Rattle.lfs_meta.specs.Attribute.{Attributes}
 use Rattle.lfs_meta.specs.Body.{Pair, StoredBody, Inline as Stored_inline, Ctz, Leads}
 use Rattle.lfs_meta.specs.Entry.{StoredEntry}
 use Rattle.lfs_meta.specs.Part.{StoredPart}
+use Rattle.lfs_fs.specs.NameOrder.{precedes}
 use Rattle.lfs_fs.specs.Pair.{root, unordered, same_pair}
 use Rattle.lfs_fs.specs.Entry.{Body, Inline, Chain, Directory_at, Entry, body_target, target, is_named}
 use Rattle.lfs_fs.specs.Directory.{Part}
@@ -21,6 +22,7 @@ use Rattle.lfs_fs.specs.Thread.{Link, links_of, is_hard, hard_to}
 use Rattle.lfs_fs.specs.Reading.{Reading}
 use Rattle.lfs_fs.specs.Superblock.{superblock_entry}
 use Rattle.lfs_fs.specs.Stored.{BodyStands, Stands, IsStored}
+use Rattle.lfs_edit.specs.FilePlace.{is_after}
 use Rattle.lfs_edit.specs.Place.{Found, is_super, picks, search, stored_target, leads_to}
 use Rattle.lfs_edit.proofs.KeptLinks.{contains_first, contains-cons}
 use Rattle.lfs_edit.proofs.ThreadFrom.{pairs_of}
@@ -35,6 +37,10 @@ not_super Super other = absurd (other refl)
 -- a name names what is stored where it names what that stands for
 pub named_alike : (r : Reading) (n : Name) (s : StoredEntry) (e : Entry) → Stands r s e → picks (Some n) s ≡ is_named n e
 named_alike r n s e stands = rw (not_super s.kind stands.kind, stands.name) refl
+
+-- what is stored is after a name where that is which it stands for
+pub after_alike : (r : Reading) (n : Name) (s : StoredEntry) (e : Entry) → Stands r s e → is_after n s ≡ precedes n e.name
+after_alike r n s e stands = rw (not_super s.kind stands.kind, stands.name) refl
 
 leads_alike : (r : Reading) (stored : StoredBody) (body : Body) → BodyStands r stored body → stored_target stored ≡ body_target body
 leads_alike r (Stored_inline stored) (Inline bytes) stands = refl

@@ -24,7 +24,7 @@ use Rattle.lfs_edit.specs.Clean.{IsClean}
 use Rattle.lfs_edit.specs.Edited.{with_directories}
 use Rattle.lfs_edit.proofs.EdgeEdits.{sound_is_good}
 use Rattle.lfs_edit.proofs.FewParts.{home_once, unmarked}
-use Rattle.lfs_edit.proofs.KeptLinks.{contains_left, contains_right, contains_first, contains_cases}
+use Rattle.lfs_edit.proofs.KeptLinks.{contains_left, contains_right, contains_first, contains_cases, KeepsPair, tail_same, at_pair}
 use Rattle.lfs_edit.proofs.Marks.{marks_change, marks_touch_first}
 use Rattle.lfs_edit.proofs.OneLink.{SetsOne, none_there}
 use Rattle.lfs_edit.proofs.WrittenLemmas.{contains-map, one_le, part_of_links}
@@ -41,31 +41,30 @@ each_links h keeps p (q ∷ ps) tail =
     ap (λ (k : Pair). record { part = h p; tail = hard_to k } ∷ links_of (h q) (map h ps) tail) (keeps q)
     ∙ ap (λ (ls : List Link). record { part = h p; tail = hard_to q.pair } ∷ ls) (each_links h keeps q ps tail)
 
-tail_same : (k : Pair) (h : Part → Part) → ((p : Part) → (h p).pair ≡ p.pair) → (ds : List Directory) → tail_to (in_directory k (each_part h) ds) ≡ tail_to ds
-tail_same k h keeps [] = refl
-tail_same k h keeps (d ∷ ds) = by (begins_at k d)
-  where
-    by : (t : Bool) → tail_to ((if t then each_part h d else d) ∷ in_directory k (each_part h) ds) ≡ tail_to (d ∷ ds)
-    by true = ap (λ (j : Pair). tail_to (record { first = record { pair = j; entries = d.first.entries; delta = d.first.delta; dirty = d.first.dirty }; more = d.more } ∷ ds)) (keeps d.first)
-    by false = refl
+-- ---- a directory that is changed
 
-changed_here : (k : Pair) (h : Part → Part) → ((p : Part) → (h p).pair ≡ p.pair) → (d : Directory) (after : List Directory) (l : Link) → begins_at k d ≡ true → Contains (links_of d.first d.more (tail_to after)) l
-    → Contains (links (in_directory k (each_part h) (d ∷ after))) (with_part h l)
-changed_here k h keeps d after l is there =
-    let rest : List Directory = in_directory k (each_part h) after in
-    let moved : Contains (links_of (h d.first) (map h d.more) (tail_to rest)) (with_part h l) =
-    subst (λ (t : Tail). Contains (links_of (h d.first) (map h d.more) t) (with_part h l)) (sym (tail_same k h keeps after))
-    (subst (λ (ls : List Link). Contains ls (with_part h l)) (sym (each_links h keeps d.first d.more (tail_to after))) (contains-map (with_part h) (links_of d.first d.more (tail_to after)) l there)) in
-    rw is (contains_left (links_of (h d.first) (map h d.more) (tail_to rest)) (links rest) (with_part h l) moved)
+-- a link of the directory that is changed, where its first pair stays
+edited_here : (k : Pair) (f : Directory → Directory) → KeepsPair f → (d : Directory) (after : List Directory) (l : Link) → begins_at k d ≡ true → Contains (links_of (f d).first (f d).more (tail_to after)) l
+    → Contains (links (in_directory k f (d ∷ after))) l
+edited_here k f keeps d after l is there =
+    let rest : List Directory = in_directory k f after in
+    let same : tail_to rest ≡ tail_to after = tail_same (λ x. if begins_at k x then f x else x) (λ x. at_pair k f keeps x (begins_at k x)) after in
+    rw is (contains_left (links_of (f d).first (f d).more (tail_to rest)) (links rest) l (subst (λ (t : Tail). Contains (links_of (f d).first (f d).more t) l) (sym same) there))
 
--- the link of a part in the directory that is changed
+pub edited_link : (k : Pair) (f : Directory → Directory) → KeepsPair f → (before : List Directory) (d : Directory) (after : List Directory) (l : Link) → begins_at k d ≡ true
+    → Contains (links_of (f d).first (f d).more (tail_to after)) l → Contains (links (in_directory k f (before ++ d ∷ after))) l
+edited_link k f keeps [] d after l is there = edited_here k f keeps d after l is there
+edited_link k f keeps (e ∷ before) d after l is there =
+    let rest : List Directory = in_directory k f (before ++ d ∷ after) in
+    let first : Directory = if begins_at k e then f e else e in
+    contains_right (links_of first.first first.more (tail_to rest)) (links rest) l (edited_link k f keeps before d after l is there)
+
+-- the link of a part in the directory each part of which is changed
 pub changed_link : (k : Pair) (h : Part → Part) → ((p : Part) → (h p).pair ≡ p.pair) → (before : List Directory) (d : Directory) (after : List Directory) (l : Link)
     → begins_at k d ≡ true → Contains (links_of d.first d.more (tail_to after)) l → Contains (links (in_directory k (each_part h) (before ++ d ∷ after))) (with_part h l)
-changed_link k h keeps [] d after l is there = changed_here k h keeps d after l is there
-changed_link k h keeps (e ∷ before) d after l is there =
-    let rest : List Directory = in_directory k (each_part h) (before ++ d ∷ after) in
-    let first : Directory = if begins_at k e then each_part h e else e in
-    contains_right (links_of first.first first.more (tail_to rest)) (links rest) (with_part h l) (changed_link k h keeps before d after l is there)
+changed_link k h keeps before d after l is there =
+    edited_link k (each_part h) (λ x. keeps x.first) before d after (with_part h l) is
+    (subst (λ (ls : List Link). Contains ls (with_part h l)) (sym (each_links h keeps d.first d.more (tail_to after))) (contains-map (with_part h) (links_of d.first d.more (tail_to after)) l there))
 
 -- ---- the entry of a name changed
 
@@ -77,22 +76,29 @@ name_there m (f ∷ es) e found = by (is_named m f) found (name_there m es e)
     by true is later = refl
     by false is later = later is
 
--- the part that has the name, changed and set
-abbrev pub changed_part : Name → (Entry → Entry) → Part → Part
-changed_part m g p = record { pair = p.pair; entries = changed m g p.entries; delta = p.delta; dirty = true }
+-- a part with other entries, set
+abbrev pub set_with : (List Entry → List Entry) → Part → Part
+set_with f p = record { pair = p.pair; entries = f p.entries; delta = p.delta; dirty = true }
 
-touched : (m : Name) (g : Entry → Entry) (p : Part) (e : Entry) → find (is_named m) p.entries ≡ Some e → touch (has_name m p) (changed m g) p ≡ changed_part m g p
-touched m g p e found = rw (name_there m p.entries e found) (by p.dirty)
+pub touched : (f : List Entry → List Entry) (p : Part) → touch true f p ≡ set_with f p
+touched f p = by p.dirty
   where
-    by : (t : Bool) → record { pair = p.pair; entries = changed m g p.entries; delta = p.delta; dirty = t || true } ≡ changed_part m g p
+    by : (t : Bool) → record { pair = p.pair; entries = f p.entries; delta = p.delta; dirty = t || true } ≡ set_with f p
     by true = refl
     by false = refl
+
+-- the part that has the name, changed and set
+abbrev pub changed_part : Name → (Entry → Entry) → Part → Part
+changed_part m g = set_with (changed m g)
+
+touched_named : (m : Name) (g : Entry → Entry) (p : Part) (e : Entry) → find (is_named m) p.entries ≡ Some e → touch (has_name m p) (changed m g) p ≡ changed_part m g p
+touched_named m g p e found = rw (name_there m p.entries e found) (touched (changed m g) p)
 
 pub change_sets : (v : Volume) (path : Path) (k : Pair) (m : Name) (g : Entry → Entry) (before : List Directory) (d : Directory) (after : List Directory) (l : Link) (e : Entry)
     → NamesAreOrdered → IsSound v → IsClean v → home_of v path ≡ Some (k, m) → v.directories ≡ before ++ d ∷ after → Contains (links_of d.first d.more (tail_to after)) l
     → begins_at k d ≡ true → find (is_named m) l.part.entries ≡ Some e → SetsOne (with_directories v (change k m g v.directories)) (with_part (changed_part m g) l)
 change_sets v path k m g before d after l e ordered sound clean home split there begins found = record {
-  there = subst (λ (p : Part). Contains (links (change k m g v.directories)) (record { part = p; tail = l.tail })) (touched m g l.part e found)
+  there = subst (λ (p : Part). Contains (links (change k m g v.directories)) (record { part = p; tail = l.tail })) (touched_named m g l.part e found)
       (subst (λ (ds : List Directory). Contains (links (change k m g ds)) (with_part (λ p. touch (has_name m p) (changed m g) p) l)) (sym split)
       (changed_link k (λ p. touch (has_name m p) (changed m g) p) (λ p. refl) before d after l begins there));
   set = refl;
@@ -103,7 +109,7 @@ change_sets v path k m g before d after l e ordered sound clean home split there
 
 -- a part set as it is
 abbrev pub set_part : Part → Part
-set_part p = record { pair = p.pair; entries = p.entries; delta = p.delta; dirty = true }
+set_part = set_with (λ es. es)
 
 times_first : (q : Pair) → 1 ≤ times q.0 (q.0 ∷ q.1 ∷ [])
 times_first q = grind (arith, nat_tests)

@@ -19,7 +19,7 @@ use Rattle.lfs_fs.specs.Stored.{BodyStands, Stands, stored_before}
 use Rattle.lfs_fs.specs.StoredWeight.{EntriesWeighAsStored, SuperblocksWeighAsStored}
 use Rattle.lfs_fs.specs.Superblock.{littlefs, superblock_entry}
 use Rattle.lfs_fs.specs.Weight.{weight, superblock_weight}
-use Rattle.lfs_edit.specs.Rewritten.{has_too_large, stored_runs}
+use Rattle.lfs_edit.specs.Room.{has_too_large, stored_runs}
 
 -- ---- one entry
 
@@ -48,11 +48,15 @@ resolves r s x stands = by s.kind stands.kind
     by Dir other = ap (λ (y : Entry). y ∷ []) same
     by Super other = absurd (other refl)
 
+-- what is stored weighs what it stands for does
+pub entry_weighs : EntriesWeighAsStored → (r : Reading) (s : StoredEntry) (x : Entry) → Stands r s x → stored_weight s ≡ weight x
+entry_weighs same r s x stands = same r s x (resolves r s x stands)
+
 weighs_alike : EntriesWeighAsStored → (r : Reading) (ss : List StoredEntry) (xs : List Entry) → AllZip (Stands r) ss xs → WeighAlike stored_weight weight ss xs
 weighs_alike same r [] [] stand = tt
 weighs_alike same r [] (x ∷ xs) stand = absurd stand
 weighs_alike same r (s ∷ ss) [] stand = absurd stand
-weighs_alike same r (s ∷ ss) (x ∷ xs) stand = (same r s x (resolves r s x stand.0), weighs_alike same r ss xs stand.1)
+weighs_alike same r (s ∷ ss) (x ∷ xs) stand = (entry_weighs same r s x stand.0, weighs_alike same r ss xs stand.1)
 
 -- ---- entries that are too large
 
@@ -104,13 +108,11 @@ first_runs behind some follow superblocks space bytes attributes ss xs len alike
     ∙ onto_length (stand_in bytes attributes) (runs_after weight space (weight (stand_in bytes attributes)) 1 xs) (some weight space (weight (stand_in bytes attributes)) 1 xs)
     ∙ ap (λ (n : ℕ). length (runs_after weight space n 1 xs)) here
 
-pub part_weighs : EntriesWeighAsStored → SuperblocksWeighAsStored → RunsBehindFirst Entry → SomeRun Entry → RunsFollowWeights StoredEntry Entry → (r : Reading) (space : ℕ) (bytes : List ℕ) (attributes : Attributes) (pair : Pair)
-    → (ss : List StoredEntry) (xs : List Entry) → length bytes ≡ 24 → AllZip (Stands r) ss xs → Weighs space attributes pair (stored_before bytes attributes pair ss) xs
-part_weighs same superblocks behind some follow r space bytes attributes pair ss xs len stand = by (same_pair pair root) refl
+-- where the stored entries behind the superblock weigh what the part's do
+pub part_weighs_alike : SuperblocksWeighAsStored → RunsBehindFirst Entry → SomeRun Entry → RunsFollowWeights StoredEntry Entry → (space : ℕ) (bytes : List ℕ) (attributes : Attributes) (pair : Pair)
+    → (ss : List StoredEntry) (xs : List Entry) → length bytes ≡ 24 → WeighAlike stored_weight weight ss xs → Weighs space attributes pair (stored_before bytes attributes pair ss) xs
+part_weighs_alike superblocks behind some follow space bytes attributes pair ss xs len alike = by (same_pair pair root) refl
   where
-    alike : WeighAlike stored_weight weight ss xs
-    alike = weighs_alike same r ss xs stand
-
     large : has_too_large space ss ≡ list_any (λ x. nat_lt space (weight x)) xs
     large = large_alike space ss xs alike
 
@@ -124,3 +126,8 @@ part_weighs same superblocks behind some follow r space bytes attributes pair ss
       large = rw is large;
       runs = rw is (λ fits. same_length (WeighAlike stored_weight weight) (stored_runs space ss) (runs_after weight space 0 0 xs) (follow stored_weight weight space 0 0 ss xs alike));
     }
+
+pub part_weighs : EntriesWeighAsStored → SuperblocksWeighAsStored → RunsBehindFirst Entry → SomeRun Entry → RunsFollowWeights StoredEntry Entry → (r : Reading) (space : ℕ) (bytes : List ℕ) (attributes : Attributes) (pair : Pair)
+    → (ss : List StoredEntry) (xs : List Entry) → length bytes ≡ 24 → AllZip (Stands r) ss xs → Weighs space attributes pair (stored_before bytes attributes pair ss) xs
+part_weighs same superblocks behind some follow r space bytes attributes pair ss xs len stand =
+    part_weighs_alike superblocks behind some follow space bytes attributes pair ss xs len (weighs_alike same r ss xs stand)

@@ -13,6 +13,7 @@ pub mod Edited
 pub mod Cut
 pub mod Need
 pub mod Verdict
+pub mod Contents
 pub mod Clean
 pub mod Accepted
 pub mod Kept
@@ -22,7 +23,13 @@ pub mod Written
 pub mod AskedFor
 pub mod Planned
 pub mod Place
+pub mod FilePlace
+pub mod FilePart
 pub mod Located
+pub mod FileLocated
 pub mod AttributeEdit
-pub mod Rewritten
+pub mod Room
+pub mod PartWritten
+pub mod FileEdit
+pub mod FileAllowed
 pub mod PlanLaws

@@ -50,10 +50,18 @@ stored_target (Leads first second) = Some (unordered (first, second))
 abbrev pub leads_to : Name → List StoredEntry → Option Pair
 leads_to n es = option_and_then (λ e. stored_target e.body) (find (picks (Some n)) es)
 
--- what a path comes to: a part, or a refusal
-pub data Place : Type 0 where
-  At : (found : Found) → Place
-  Nowhere : (refusal : Refusal) → Place
+-- what names come to: something, or a refusal
+pub data PlaceOf (X : Type 0) : Type 0 where
+  At : (found : X) → PlaceOf X
+  Nowhere : (refusal : Refusal) → PlaceOf X
+
+-- a part, or a refusal
+abbrev pub Place : Type 0
+Place = PlaceOf Found
+
+-- where a name belongs: the name, and the directory as a set of blocks
+abbrev pub Home : Type 0
+Home = Name × Pair
 
 -- a part that is there
 abbrev pub place_of : Option Found → Place
@@ -61,22 +69,31 @@ place_of None = Nowhere NotFound
 place_of (Some found) = At found
 
 -- where the walk goes on, if it does
-abbrev pub onwards : (Pair → Place) → Option Pair → Place
+abbrev pub onwards : {X : Type 0} → (Pair → PlaceOf X) → Option Pair → PlaceOf X
 onwards rest None = Nowhere NotADirectory
 onwards rest (Some k) = rest k
 
 -- from what was found under a name that isn't the last
-abbrev pub past_name : Name → (Pair → Place) → Option Found → Place
+abbrev pub past_name : {X : Type 0} → Name → (Pair → PlaceOf X) → Option Found → PlaceOf X
 past_name n rest None = Nowhere NotFound
 past_name n rest (Some found) = onwards rest (leads_to n found.1.entries)
 
--- The part that has the entry of names behind the directory of a pair, in a thread: what stands under each name but the last
+-- Where the last of some names belongs, in a thread, from the directory of a pair on: what stands under each name but the last
 -- has to lead to a directory.
-unfoldable pub located_from : Reading → List Pair → Name → Path → Pair → Place
-located_from r thread n [] k = place_of (search r n (from_pair k thread))
-located_from r thread n (m ∷ ns) k = past_name n (located_from r thread m ns) (search r n (from_pair k thread))
+unfoldable pub walked : Reading → List Pair → Name → Path → Pair → PlaceOf Home
+walked r thread n [] k = At (n, k)
+walked r thread n (m ∷ ns) k = past_name n (walked r thread m ns) (search r n (from_pair k thread))
 
--- the same from the root on; the root's own entry is in its first part
+-- what is there, if the walk comes to it
+abbrev pub at_home : {X : Type 0} → (Home → PlaceOf X) → PlaceOf Home → PlaceOf X
+at_home look (At home) = look home
+at_home look (Nowhere refusal) = Nowhere refusal
+
+-- the part that has the entry of a name
+abbrev pub entry_part : Reading → List Pair → Home → Place
+entry_part r thread home = place_of (search r home.0 (from_pair home.1 thread))
+
+-- the part of the thread that has the entry at a path; the root's own entry is in its first part
 abbrev pub located : Reading → List Pair → Path → Place
 located r thread [] = place_of (option_and_then (λ s. Some (root, s)) (r.part root))
-located r thread (n ∷ ns) = located_from r thread n ns (unordered root)
+located r thread (n ∷ ns) = at_home (entry_part r thread) (walked r thread n ns (unordered root))

@@ -1,6 +1,5 @@
 -- The laws that a plan stands on (own).
-use Rattle.lfs_block.specs.PatchLaws.{BlockPutOther, PutIsDisk}
-use Rattle.lfs_file.specs.Laws.{FoundStay, ContentStays}
+use Rattle.lfs_file.specs.Laws.{FoundStay, ContentStays, LaidIsContent, LaidIsFound}
 use Rattle.lfs_meta.specs.Entry.{StoredEntry}
 use Rattle.lfs_meta.specs.RunLaws.{RunsBehindFirst, RunsFollowWeights, RunsJoin, SomeRun}
 use Rattle.lfs_fs.specs.Entry.{Entry}
@@ -13,9 +12,10 @@ use Rattle.lfs_edit.specs.Written.{WrittenAreHeld, HeldAreClean}
 -- those of the layers below
 pub record PlanLaws : Type 0 where
   pub ordered : NamesAreOrdered
-  pub other : BlockPutOther
   pub found : FoundStay
   pub content : ContentStays
+  pub laid_found : LaidIsFound
+  pub laid_content : LaidIsContent
   pub entries : EntriesWeighAsStored
   pub superblocks : SuperblocksWeighAsStored
   pub behind : RunsBehindFirst Entry
@@ -25,7 +25,6 @@ pub record PlanLaws : Type 0 where
 -- with those of commands and of the volumes that images hold
 pub record CommandLaws : Type 0 where
   pub parts : PlanLaws
-  pub is_disk : PutIsDisk
   pub join : RunsJoin Entry
   pub commands : CommandsFollow
   pub frugal : CommandsAreFrugal

@@ -1,5 +1,5 @@
 -- What is planned for a command that is asked for, and why none is (own).
-use Rattle.std.specs.Prelude.{ℕ, ◌≡◌, ◌+◌, ◌++◌, Bool, true, List, [], ◌∷◌, Option, Some, None, All, Contains, nat_lt, length, take, map}
+use Rattle.std.specs.Prelude.{ℕ, ◌≡◌, ◌+◌, ◌++◌, Bool, true, List, [], ◌∷◌, Option, Some, None, All, Contains, nat_lt, length, take}
 use Rattle.std.specs.List.{list_any, Any}
 use Rattle.lfs_block.specs.Disk.{Disk}
 use Rattle.lfs_block.specs.Patch.{ChangeSet, IsPatch, AgreesOld, applied}
@@ -20,6 +20,7 @@ use Rattle.lfs_edit.specs.Need.{need, data_blocks, dirty_parts, changed_parts}
 use Rattle.lfs_edit.specs.Verdict.{checks, first_refusal, refuse_if, is_too_large, verdict}
 use Rattle.lfs_edit.specs.Clean.{clean}
 use Rattle.lfs_edit.specs.Accepted.{IsAccepted, AreChosen}
+use Rattle.lfs_edit.specs.PartWritten.{numbers_of}
 
 -- one of the numbers is a block of the part's pair
 abbrev pub HasOneOf : List ℕ → Part → Type 0
@@ -31,10 +32,6 @@ pub record IsFrugal (v : Volume) (c : Command) (s : Supplies) (numbers : List �
   pub free : All (Contains numbers) (take (need v c) (free_blocks v))
   pub changed : All (HasOneOf numbers) (changed_parts s (edited v c s))
   pub len : length numbers ≡ need v c + length (changed_parts s (edited v c s))
-
--- the numbers of the blocks that a patch names
-abbrev pub numbers_of : ChangeSet → List ℕ
-numbers_of p = map (λ c. c.number) p.changes
 
 -- A patch of an image carries out a command that is asked for: on the volume that the image holds no check refuses the
 -- command, the patch stands in the image, and the patched image holds the edited volume.

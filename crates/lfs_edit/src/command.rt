@@ -5,6 +5,13 @@
 /// Source: own.
 #[derive(Clone, Copy, Debug)]
 pub enum Command<'a> {
+    /// Puts a file's contents: a new file, or other contents of one that is there, which keeps its attributes.
+    Put {
+        /// The text of the path.
+        path: &'a [u8],
+        /// The contents.
+        bytes: &'a [u8],
+    },
     /// Sets an attribute of what is at a path.
     SetAttr {
         /// The text of the path.

@@ -3,17 +3,25 @@
 
 mod attribute_edit;
 mod command;
+mod contents;
+mod file_edit;
+mod file_part;
+mod file_place;
+mod file_planning;
 mod formatting;
 mod laws;
 mod paths;
 mod picking;
 mod place;
+mod plan_laws;
 mod planning;
 mod refusal;
-mod rewriting;
+mod room;
 mod superblock;
+mod writing;
 
 pub use command::Command;
+pub use contents::file_contents;
 pub use formatting::format;
 pub use laws::{
     commands_are_frugal, commands_follow, cuts_follow, free_after, need_is_exact,

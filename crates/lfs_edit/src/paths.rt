@@ -2,9 +2,11 @@
 
 ghost use Rattle.std.specs.Prelude.{◌≡◌, ◌≢◌, ◌⊎◌, ◌∷◌, All, IfOk, IfErr, flat_map, map};
 ghost use Rattle.std.specs.List.{list_all};
+ghost use Rattle.std.specs.Option.{option_map};
 ghost use Rattle.lfs_meta.specs.Name.{is_name};
 ghost use Rattle.lfs_fs.specs.Path.{IsPathText, IsNoPath};
 ghost use Rattle.lfs_edit.specs.declared.refusal.Refusal.TheVariants.{Memory, BadPath};
+ghost use Rattle.lfs_edit.specs.AttributeEdit.{last_name};
 
 use crate::refusal::Refusal;
 use bstr::ByteSlice;
@@ -46,4 +48,11 @@ pub(crate) fn names_of<'a>(alloc: Global, text: &'a [u8]) -> Result<Vec<&'a [u8]
     } else {
         Err(Refusal::BadPath)
     }
+}
+
+/// The last name of a path; the root has none. Takes no memory.
+pub(crate) fn last_of<'a>(names: &[&'a [u8]]) -> Option<&'a [u8]>
+    ensures { option_map (λ n. n.now) result ≡ last_name (map (λ n. n.now) names.now) }
+{
+    names.last().copied()
 }

@@ -1,10 +1,12 @@
-//! The entry of a part that a name names.
+//! The entries of a part that a name names, or that stand behind it.
 
 ghost use Rattle.std.specs.Prelude.{◌≡◌, ◌<◌, length, IfSome};
 ghost use Rattle.std.specs.List.{position_from};
 ghost use Rattle.std.specs.Option.{option_map};
+ghost use Rattle.lfs_edit.specs.FilePlace.{is_after};
 ghost use Rattle.lfs_edit.specs.Place.{is_super, picks};
 
+use lfs_fs::precedes;
 use lfs_meta::{Entry, Kind};
 
 /// Whether a kind is the superblock's.
@@ -30,4 +32,11 @@ pub(crate) fn picked(entries: &[Entry], name: Option<&[u8]>) -> Option<usize>
     ensures first { result ≡ position_from (picks (option_map (λ n. n.now) name.entry)) 0 entries.now }
 {
     entries.iter().position(|entry| picks(entry, name))
+}
+
+/// Whether an entry, which is no superblock, has a greater name.
+pub(crate) fn is_after(entry: &Entry, name: &[u8]) -> bool
+    ensures { result ≡ is_after name.now entry.now }
+{
+    !is_super(entry.kind) && precedes(name, &entry.name)
 }

@@ -6,11 +6,11 @@ ghost use Rattle.std.specs.Option.{option_map};
 ghost use Rattle.lfs_meta.specs.Body.{Pair};
 ghost use Rattle.lfs_meta.specs.BodyHeld.{body_held};
 ghost use Rattle.lfs_meta.specs.Spelling.{IsWhole};
-ghost use Rattle.lfs_fs.specs.Pair.{unordered};
+ghost use Rattle.lfs_fs.specs.Pair.{root, unordered};
 ghost use Rattle.lfs_fs.specs.Reading.{reading_of};
 ghost use Rattle.lfs_fs.specs.Thread.{is_hard};
 ghost use Rattle.lfs_edit.specs.declared.refusal.Refusal.TheVariants.{Memory};
-ghost use Rattle.lfs_edit.specs.Place.{Place, At, Nowhere, picks, from_pair, search, stored_target, leads_to, past_name, located};
+ghost use Rattle.lfs_edit.specs.Place.{PlaceOf, Home, At, Nowhere, picks, from_pair, search, stored_target, leads_to, past_name, walked, located};
 
 use crate::picking::picks;
 use crate::refusal::Refusal;
@@ -34,7 +34,7 @@ fn unordered(pair: (u32, u32)) -> (u32, u32)
 }
 
 /// Whether the thread goes on in the same directory.
-fn is_hard(tail: Tail) -> bool
+pub(crate) fn is_hard(tail: Tail) -> bool
     ensures { result ≡ is_hard tail }
 {
     matches!(tail, Tail::Hard(..))
@@ -48,7 +48,7 @@ fn has_entry(entries: &[Entry], name: &[u8]) -> bool
 }
 
 /// The pairs of a thread from the first one on that has these blocks.
-fn from_pair(thread: &[(u32, u32)], blocks: (u32, u32)) -> &[(u32, u32)]
+pub(crate) fn from_pair(thread: &[(u32, u32)], blocks: (u32, u32)) -> &[(u32, u32)]
     ensures { result.now ≡ from_pair blocks thread.now }
 {
     'each: for (index, pair) in thread.iter().enumerate() {
@@ -77,7 +77,7 @@ fn entry_named<'a>(entries: &'a [Entry], name: &[u8]) -> Option<&'a Entry>
 }
 
 /// The directory that the entry of a name leads to, as a set of blocks.
-fn leads_to(entries: &[Entry], name: &[u8]) -> Option<(u32, u32)>
+pub(crate) fn leads_to(entries: &[Entry], name: &[u8]) -> Option<(u32, u32)>
     ensures { result ≡ leads_to name.now entries.now }
 {
     let entry = entry_named(entries, name)?;
@@ -86,7 +86,7 @@ fn leads_to(entries: &[Entry], name: &[u8]) -> Option<(u32, u32)>
 
 /// The first part that has an entry of a name, of those that hard tails join from the first pair on: `Memory` where the
 /// growth is refused, or a pair can't be read.
-fn search<B: Blocks>(
+pub(crate) fn search<B: Blocks>(
     alloc: Global,
     blocks: &B,
     name: &[u8],
@@ -120,13 +120,36 @@ fn directory_under<B: Blocks>(
     pairs: &[(u32, u32)],
 ) -> Result<(u32, u32), Refusal>
     requires within { All (λ p. (p.0 < (B.disk blocks.now).count) × (p.1 < (B.disk blocks.now).count)) pairs.now }
-    ensures led { IfOk result (λ k. (rest : Pair → Place) → past_name name.now rest (search (reading_of (B.disk blocks.now)) name.now pairs.now) ≡ rest k) }
-    ensures refused { IfErr result (λ refusal. (refusal ≡ Memory) ⊎ ((rest : Pair → Place) → past_name name.now rest (search (reading_of (B.disk blocks.now)) name.now pairs.now) ≡ Nowhere refusal)) }
+    ensures led { IfOk result (λ k. (rest : Pair → PlaceOf Home) → past_name name.now rest (search (reading_of (B.disk blocks.now)) name.now pairs.now) ≡ rest k) }
+    ensures refused { IfErr result (λ refusal. (refusal ≡ Memory) ⊎ ((rest : Pair → PlaceOf Home) → past_name name.now rest (search (reading_of (B.disk blocks.now)) name.now pairs.now) ≡ Nowhere refusal)) }
 {
     let Some(part) = search(alloc, blocks, name, pairs)? else {
         return Err(Refusal::NotFound);
     };
     leads_to(&part.entries, name).ok_or(Refusal::NotADirectory)
+}
+
+/// Where the last of some names belongs: that name, and the directory that the others lead to from the root on, as a set of
+/// blocks. `NotFound` where one of the others isn't there, `NotADirectory` where it is a file, `Memory` as `search` has it.
+/// The caller owes pairs of blocks of the disk.
+pub(crate) fn walk<'a, B: Blocks>(
+    alloc: Global,
+    blocks: &B,
+    thread: &[(u32, u32)],
+    first: &'a [u8],
+    others: &[&'a [u8]],
+) -> Result<(&'a [u8], (u32, u32)), Refusal>
+    requires within { All (λ p. (p.0 < (B.disk blocks.now).count) × (p.1 < (B.disk blocks.now).count)) thread.now }
+    ensures home { IfOk result (λ home. walked (reading_of (B.disk blocks.now)) thread.now first.now (map (λ n. n.now) others.now) (unordered root) ≡ At (home.0.now, home.1)) }
+    ensures refused { IfErr result (λ refusal. (refusal ≡ Memory) ⊎ (walked (reading_of (B.disk blocks.now)) thread.now first.now (map (λ n. n.now) others.now) (unordered root) ≡ Nowhere refusal)) }
+{
+    let mut name = first;
+    let mut pair = ROOT;
+    'each: for next in others {
+        pair = directory_under(alloc, blocks, name, from_pair(thread, pair))?;
+        name = *next;
+    }
+    Ok((name, pair))
 }
 
 /// The root's first part: `Memory` where the growth is refused, or its pair can't be read.
@@ -157,12 +180,7 @@ pub(crate) fn locate<B: Blocks>(
     let Some((first, others)) = names.split_first() else {
         return root_part(alloc, blocks);
     };
-    let mut name = *first;
-    let mut pair = ROOT;
-    'each: for next in others {
-        pair = directory_under(alloc, blocks, name, from_pair(thread, pair))?;
-        name = *next;
-    }
+    let (name, pair) = walk(alloc, blocks, thread, first, others)?;
     let part = search(alloc, blocks, name, from_pair(thread, pair))?;
     part.ok_or(Refusal::NotFound)
 }

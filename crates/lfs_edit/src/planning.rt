@@ -1,49 +1,24 @@
 //! What a command changes of an image.
 
-ghost use Rattle.std.specs.Prelude.{◌≡◌, map, IfOk, IfErr};
+ghost use Rattle.std.specs.Prelude.{IfOk, IfErr};
 ghost use Rattle.std.specs.Option.{option_map};
 ghost use Rattle.lfs_fs.specs.Mounted.{IsMountOf};
 ghost use Rattle.lfs_edit.specs.AskedFor.{asked_for};
-ghost use Rattle.lfs_edit.specs.AttributeEdit.{asked_as, last_name};
-ghost use Rattle.lfs_edit.specs.PlanLaws.{CommandLaws};
+ghost use Rattle.lfs_edit.specs.AttributeEdit.{asked_as};
 ghost use Rattle.lfs_edit.specs.Planned.{Plans, RefusesPlan};
 
 use crate::attribute_edit::with_attribute;
 use crate::command::Command;
-use crate::laws::{commands_are_frugal, commands_follow, cuts_follow, written_volumes_are_held};
-use crate::paths::names_of;
+use crate::file_planning::file_patch;
+use crate::paths::{last_of, names_of};
 use crate::place::locate;
+use crate::plan_laws::command_laws;
 use crate::refusal::Refusal;
-use crate::rewriting::rewritten;
-use lfs_block::{Blocks, Image, Patch, puts_law};
-use lfs_file::chain_stays_law;
-use lfs_fs::{
-    Mounted, both_sides_hold, entries_are_cut_greedily, entries_weigh_as_stored, names_are_ordered,
-};
+use crate::room::fit_part;
+use crate::writing::written;
+use lfs_block::{Blocks, Image, Patch};
+use lfs_fs::Mounted;
 use std::alloc::Global;
-
-/// The laws that plans stand on. Takes no memory.
-fn command_laws()
-    ensures { CommandLaws }
-{
-    names_are_ordered();
-    puts_law();
-    chain_stays_law();
-    entries_weigh_as_stored();
-    entries_are_cut_greedily();
-    commands_follow();
-    commands_are_frugal();
-    cuts_follow();
-    written_volumes_are_held();
-    both_sides_hold();
-}
-
-/// The last name of a path; the root has none. Takes no memory.
-fn last_of<'a>(names: &[&'a [u8]]) -> Option<&'a [u8]>
-    ensures { option_map (λ n. n.now) result ≡ last_name (map (λ n. n.now) names.now) }
-{
-    names.last().copied()
-}
 
 /// The patch that sets an attribute of what is at a path, or without a value removes it.
 fn attribute_patch(
@@ -64,15 +39,18 @@ fn attribute_patch(
     let part = locate(alloc, image, mounted.thread(), &names)?;
     let limit = mounted.limits().attribute;
     let part = with_attribute(alloc, part, last_of(&names), kind, value, limit)?;
-    rewritten(alloc, image, &part)
+    fit_part(alloc, image, &part)?;
+    written(alloc, image, &part, &[], Vec::new(alloc))
 }
 
 /// The patch that carries out a command on an image, or why there is none. The caller owes that `mounted` is the mount of
-/// the image. `BadPath` where a text spells no path; else the first of these that holds: a front of the path isn't there
-/// (`NotFound`) or is a file (`NotADirectory`); nothing is at the path (`NotFound`); the value is longer than the limit
-/// (`AttrTooLarge`), or there is no attribute of the kind (`NoAttr`); an entry of the part that is changed weighs more than a
-/// block has room for (`EntryTooLarge`); its entries take more room than one block has, or are more than 1,000
-/// (`OnePartOnly`). `Memory` says only that a growth was refused.
+/// the image. `BadPath` where a text spells no path; else the first of these that holds: the path of a file is the root's
+/// (`IsRoot`); a front of the path isn't there (`NotFound`) or is a file (`NotADirectory`). Then for a file: a directory is at
+/// the path (`IsADirectory`); the name is new and longer than the limit (`NameTooLong`); the contents are longer than the limit
+/// (`FileTooLarge`). For an attribute: nothing is at the path (`NotFound`); the value is longer than the limit (`AttrTooLarge`),
+/// or there is no attribute of the kind (`NoAttr`). Then for either: an entry of the part that is changed weighs more than a
+/// block has room for (`EntryTooLarge`); its entries take more room than one block has, or are more than 1,000 (`OnePartOnly`);
+/// fewer blocks are free than the contents take (`NoSpace`). `Memory` says only that a growth was refused.
 ///
 /// Source: own.
 pub fn plan(
@@ -86,6 +64,7 @@ pub fn plan(
     ensures refused { IfErr result (λ refusal. RefusesPlan image.now (asked_for command.now) refusal) }
 {
     match *command {
+        Command::Put { path, bytes } => file_patch(alloc, image, mounted, path, bytes),
         Command::SetAttr { path, kind, value } => {
             attribute_patch(alloc, image, mounted, path, kind, Some(value))
         }

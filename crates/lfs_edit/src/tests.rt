@@ -1,7 +1,8 @@
-//! New images, refusals, laws, texts of paths, and verdicts on small volumes.
+//! New images, refusals, laws, texts of paths, files, and verdicts on small volumes.
 
 mod changes;
 mod checks;
+mod file_edits;
 mod formatting;
 mod laws;
 mod paths;

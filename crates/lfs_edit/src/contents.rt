@@ -1,0 +1,112 @@
+//! The contents of a file.
+
+ghost use Rattle.std.specs.Prelude.{◌≡◌, ◌≢◌, ◌⊎◌, ◌<◌, ◌≤◌, All, Contains, IfOk, IfErr, IfSome, IfNone, length, map};
+ghost use Rattle.lfs_file.specs.Content.{content};
+ghost use Rattle.lfs_meta.specs.Attribute.{Attributes};
+ghost use Rattle.lfs_fs.specs.Mounted.{IsMountOf};
+ghost use Rattle.lfs_fs.specs.Reading.{reading_of};
+ghost use Rattle.lfs_fs.specs.RowShown.{HasBlocks, shown_node};
+ghost use Rattle.lfs_fs.specs.Tree.{Dir, File};
+ghost use Rattle.lfs_edit.specs.declared.refusal.Refusal.TheVariants.{IsADirectory, Memory};
+ghost use Rattle.lfs_edit.specs.Contents.{IsContents, RefusesContents};
+ghost use Rattle.lfs_edit.specs.Place.{At, Found, Nowhere, located};
+
+use crate::paths::names_of;
+use crate::place::locate;
+use crate::refusal::Refusal;
+use lfs_block::Blocks;
+use lfs_file::read_file;
+use lfs_fs::{Mounted, Path, Row, RowBody, both_sides_hold, rows_show_the_tree};
+use std::alloc::{AllocError, Global};
+
+/// The path of these names.
+fn path_of(alloc: Global, names: &[&[u8]]) -> Result<Path, AllocError>
+    ensures { IfOk result (λ path. path ≡ map (λ n. n.now) names.now) }
+{
+    let mut parts = Vec::with_capacity(alloc, names.len())?;
+    for name in names {
+        parts.push(Vec::from_slice(alloc, name)?)?;
+    }
+    Ok(Path::new(parts))
+}
+
+/// The row of a path.
+fn row_at<'a>(mounted: &'a Mounted, path: &Path) -> Option<&'a Row>
+    ensures found { IfSome result (λ row. Contains mounted.now.rows row.now × (row.now.path ≡ path.now)) }
+    ensures none { IfNone result (All (λ row. row.path ≢ path.now) mounted.now.rows) }
+{
+    let index = mounted.find(path)?;
+    mounted.rows().get(index)
+}
+
+/// The contents of a file of `size` bytes in these blocks. The caller owes that they are on the disk, and no more than it
+/// has.
+fn joined<B: Blocks>(
+    alloc: Global,
+    disk: &B,
+    blocks: &[u32],
+    size: u32,
+) -> Result<Vec<u8>, AllocError>
+    requires below { All (λ b. b < (B.disk disk.now).count) blocks.now }
+    requires few { length blocks.now ≤ (B.disk disk.now).count }
+    ensures { IfOk result (λ bytes. bytes.items ≡ content (B.disk disk.now) size blocks.now) }
+{
+    let mut bytes = Vec::with_capacity(alloc, size as usize)?;
+    for slice in read_file(disk, blocks, size) {
+        bytes.extend_from_slice(slice)?;
+    }
+    Ok(bytes)
+}
+
+/// The contents of the file that a row shows: `IsADirectory` where it shows a directory, else `Memory` alone.
+fn contents_of<B: Blocks>(alloc: Global, disk: &B, row: &Row) -> Result<Vec<u8>, Refusal>
+    requires { HasBlocks (B.disk disk.now) row.now.body }
+    ensures bytes { IfOk result (λ bytes. (a : Attributes) → shown_node (B.disk disk.now) row.now.body a ≡ File bytes.items a) }
+    ensures refused { IfErr result (λ refusal. (refusal ≡ Memory) ⊎ ((refusal ≡ IsADirectory) × ((a : Attributes) → shown_node (B.disk disk.now) row.now.body a ≡ Dir a))) }
+{
+    match &row.body {
+        RowBody::Dir => Err(Refusal::IsADirectory),
+        RowBody::Inline(bytes) => Ok(Vec::from_slice(alloc, bytes)?),
+        RowBody::Chain { blocks, size } => Ok(joined(alloc, disk, blocks, *size)?),
+    }
+}
+
+/// Why nothing is at a path, where nothing is.
+fn missing<B: Blocks>(alloc: Global, disk: &B, thread: &[(u32, u32)], names: &[&[u8]]) -> Refusal
+    requires root { 1 < (B.disk disk.now).count }
+    requires within { All (λ p. (p.0 < (B.disk disk.now).count) × (p.1 < (B.disk disk.now).count)) thread.now }
+    ensures { (result ≡ Memory)
+        ⊎ (located (reading_of (B.disk disk.now)) thread.now (map (λ n. n.now) names.now) ≡ Nowhere result)
+        ⊎ ((found : Found) × (located (reading_of (B.disk disk.now)) thread.now (map (λ n. n.now) names.now) ≡ At found)) }
+{
+    match locate(alloc, disk, thread, names) {
+        Ok(_) => Refusal::NotFound,
+        Err(refusal) => refusal,
+    }
+}
+
+/// The contents of the file at a path of a mounted image. The caller owes that `mounted` is the mount of the disk.
+/// `BadPath` where the text spells no path; else the first of these that holds: a front of the path isn't there
+/// (`NotFound`) or is a file (`NotADirectory`); nothing is at the path (`NotFound`); a directory is (`IsADirectory`). `Memory`
+/// says only that a growth was refused.
+///
+/// Source: own.
+pub fn file_contents<B: Blocks>(
+    alloc: Global,
+    disk: &B,
+    mounted: &Mounted,
+    path: &[u8],
+) -> Result<Vec<u8>, Refusal>
+    requires mounted { IsMountOf (B.disk disk.now) mounted.now }
+    ensures found { IfOk result (λ bytes. IsContents (B.disk disk.now) path.now bytes.items) }
+    ensures refused { IfErr result (λ refusal. RefusesContents (B.disk disk.now) path.now refusal) }
+{
+    rows_show_the_tree();
+    both_sides_hold();
+    let _size = disk.size();
+    let names = names_of(alloc, path)?;
+    let Some(row) = row_at(mounted, &path_of(alloc, &names)?) else {
+        return Err(missing(alloc, disk, mounted.thread(), &names));
+    };
+    contents_of(alloc, disk, row)
+}
