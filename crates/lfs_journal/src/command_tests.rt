@@ -1,7 +1,9 @@
 //! Sessions by example, with commands.
 
-use crate::tests::{are_same, new_image, new_session};
-use crate::{Session, Step, StepFault, run_steps};
+use crate::tests::{
+    are_same, cannot_redo, cannot_undo, has_image, new_image, new_session, replies_to,
+};
+use crate::{Session, Step, StepFault};
 use lfs_block::{Blocks, Image};
 use lfs_edit::{Command, Refusal};
 use std::alloc::Global;
@@ -16,6 +18,27 @@ fn set_root<'a>(value: &'a [u8]) -> Command<'a> {
     }
 }
 
+/// Carries that command out.
+fn change(alloc: Global, session: &mut Session, value: &[u8]) -> Result<(), StepFault> {
+    session.command(alloc, &set_root(value))
+}
+
+/// A session of a new image with one change.
+fn changed_session(alloc: Global) -> Result<Session, Fail> {
+    let mut session = new_session(alloc)?;
+    change(alloc, &mut session, &[1, 2])?;
+    Ok(session)
+}
+
+/// A session of a new image with as many changes as a journal keeps.
+fn full_session(alloc: Global) -> Result<Session, Fail> {
+    let mut session = new_session(alloc)?;
+    for _ in 0..1_000 {
+        change(alloc, &mut session, &[1])?;
+    }
+    Ok(session)
+}
+
 /// A copy of an image.
 fn copy_of(alloc: Global, image: &Image) -> Result<Image, Fail> {
     let mut bytes = Vec::new(alloc);
@@ -28,56 +51,48 @@ fn copy_of(alloc: Global, image: &Image) -> Result<Image, Fail> {
 #[test]
 fn undo_and_redo_are_exact(rt: HostRuntime) -> Result<(), Fail> {
     let first = new_image(rt.alloc())?;
-    let mut session = new_session(rt.alloc())?;
-    session.command(rt.alloc(), &set_root(&[1, 2]))?;
+    let mut session = changed_session(rt.alloc())?;
     let later = copy_of(rt.alloc(), session.image())?;
     assert!(rt; !are_same(&later, &first));
     session.undo()?;
-    assert!(rt; are_same(session.image(), &first));
+    has_image(&rt, &session, &first);
     session.redo()?;
-    assert!(rt; are_same(session.image(), &later));
-    assert_eq!(rt; session.redo(), Err(StepFault::NothingToRedo));
-    assert!(rt; are_same(session.image(), &later));
+    has_image(&rt, &session, &later);
+    cannot_redo(&rt, &mut session, &later);
     Ok(())
 }
 
 #[test]
 fn command_drops_what_was_undone(rt: HostRuntime) -> Result<(), Fail> {
-    let mut session = new_session(rt.alloc())?;
-    session.command(rt.alloc(), &set_root(&[1, 2]))?;
+    let mut session = changed_session(rt.alloc())?;
     session.undo()?;
-    session.command(rt.alloc(), &set_root(&[3]))?;
+    change(rt.alloc(), &mut session, &[3])?;
     let later = copy_of(rt.alloc(), session.image())?;
-    assert_eq!(rt; session.redo(), Err(StepFault::NothingToRedo));
-    assert!(rt; are_same(session.image(), &later));
+    cannot_redo(&rt, &mut session, &later);
     Ok(())
 }
 
 #[test]
 fn forgotten_changes_cannot_be_undone(rt: HostRuntime) -> Result<(), Fail> {
-    let mut session = new_session(rt.alloc())?;
-    session.command(rt.alloc(), &set_root(&[1, 2]))?;
+    let mut session = changed_session(rt.alloc())?;
     let later = copy_of(rt.alloc(), session.image())?;
     session.forget();
-    assert!(rt; are_same(session.image(), &later));
-    assert_eq!(rt; session.undo(), Err(StepFault::NothingToUndo));
+    has_image(&rt, &session, &later);
+    cannot_undo(&rt, &mut session, &later);
     assert!(rt; are_same(&session.into_image(), &later));
     Ok(())
 }
 
 #[test]
 fn a_thousand_changes_fill_the_journal(rt: HostRuntime) -> Result<(), Fail> {
-    let mut session = new_session(rt.alloc())?;
-    for _ in 0..1_000 {
-        session.command(rt.alloc(), &set_root(&[1]))?;
-    }
+    let mut session = full_session(rt.alloc())?;
     let full = copy_of(rt.alloc(), session.image())?;
-    let more = session.command(rt.alloc(), &set_root(&[1]));
+    let more = change(rt.alloc(), &mut session, &[1]);
     assert_eq!(rt; more, Err(StepFault::JournalFull));
-    assert!(rt; are_same(session.image(), &full));
+    has_image(&rt, &session, &full);
     session.undo()?;
-    session.command(rt.alloc(), &set_root(&[1]))?;
-    assert!(rt; are_same(session.image(), &full));
+    change(rt.alloc(), &mut session, &[1])?;
+    has_image(&rt, &session, &full);
     Ok(())
 }
 
@@ -95,14 +110,13 @@ fn runs_carry_commands_out(rt: HostRuntime) -> Result<(), Fail> {
         Step::Undo,
         Step::Undo,
     ];
-    let replies = run_steps(rt.alloc(), &mut session, &steps)?;
-    let expected: [Result<(), StepFault>; 4] = [
+    let expected = [
         Ok(()),
         Err(StepFault::Refused(Refusal::NotFound)),
         Ok(()),
         Err(StepFault::NothingToUndo),
     ];
-    assert_eq!(rt; replies.as_slice(), expected.as_slice());
-    assert!(rt; are_same(session.image(), &first));
+    replies_to(&rt, rt.alloc(), &mut session, &steps, &expected)?;
+    has_image(&rt, &session, &first);
     Ok(())
 }

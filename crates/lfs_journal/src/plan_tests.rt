@@ -4,7 +4,9 @@ use crate::tests::new_session;
 use crate::{Session, StepFault};
 use lfs_block::Image;
 use lfs_edit::{Command, Refusal, format};
+use lfs_fs::mount;
 use std::alloc::Global;
+use std::process::Abort;
 use std::test::Fail;
 
 // the command that sets an attribute of what is at a path
@@ -21,6 +23,11 @@ fn remove(path: &[u8]) -> Command<'_> {
     Command::RmAttr { path, kind: 0x74 }
 }
 
+// the command that puts a file
+fn put<'a>(path: &'a [u8], bytes: &'a [u8]) -> Command<'a> {
+    Command::Put { path, bytes }
+}
+
 // a session of a new image of four blocks of 256 bytes
 fn small_session(alloc: Global) -> Result<Session, Fail> {
     let bytes = format(alloc, 256, 4)?;
@@ -28,48 +35,142 @@ fn small_session(alloc: Global) -> Result<Session, Fail> {
     Ok(Session::fresh(alloc, image).map_err(|unmounted| unmounted.fault)?)
 }
 
-#[test]
-fn attributes_are_removed_once(rt: HostRuntime) -> Result<(), Fail> {
-    let mut session = new_session(rt.alloc())?;
-    let nothing = Err(StepFault::Refused(Refusal::NoAttr));
-    let nowhere = Err(StepFault::Refused(Refusal::NotFound));
-    assert_eq!(rt; session.command(rt.alloc(), &remove(b"/")), nothing);
-    assert_eq!(rt; session.command(rt.alloc(), &set(b"/x", &[1])), nowhere);
-    assert_eq!(rt; session.command(rt.alloc(), &set(b"/", &[1, 2])), Ok(()));
-    assert_eq!(rt; session.command(rt.alloc(), &remove(b"/")), Ok(()));
-    assert_eq!(rt; session.command(rt.alloc(), &remove(b"/")), nothing);
-    Ok(())
+// asserts how a session replies to a command
+fn replies(
+    rt: &impl Abort,
+    alloc: Global,
+    session: &mut Session,
+    command: &Command<'_>,
+    reply: Result<(), StepFault>,
+) {
+    assert_eq!(rt; session.command(alloc, command), reply);
 }
 
 #[test]
+fn attributes_are_removed_once(rt: HostRuntime) -> Result<(), Fail> {
+    let alloc = rt.alloc();
+    let mut session = new_session(alloc)?;
+    let nothing = Err(StepFault::Refused(Refusal::NoAttr));
+    let nowhere = Err(StepFault::Refused(Refusal::NotFound));
+    replies(&rt, alloc, &mut session, &remove(b"/"), nothing);
+    replies(&rt, alloc, &mut session, &set(b"/x", &[1]), nowhere);
+    replies(&rt, alloc, &mut session, &set(b"/", &[1, 2]), Ok(()));
+    replies(&rt, alloc, &mut session, &remove(b"/"), Ok(()));
+    replies(&rt, alloc, &mut session, &remove(b"/"), nothing);
+    Ok(())
+}
+
+// how a small session replies to the command that gives the root a value of this length
+fn reply_for(alloc: Global, len: usize) -> Result<Result<(), StepFault>, Fail> {
+    let mut session = small_session(alloc)?;
+    let value = vec![in alloc; 7; len]?;
+    let command = Command::SetAttr {
+        path: b"/",
+        kind: 1,
+        value: &value,
+    };
+    Ok(session.command(alloc, &command))
+}
+
+// lengths of values, and replies
+const VALUES: [(usize, Result<(), StepFault>); 4] = [
+    (172, Ok(())),
+    (173, Err(StepFault::Refused(Refusal::EntryTooLarge))),
+    (1_022, Err(StepFault::Refused(Refusal::EntryTooLarge))),
+    (1_023, Err(StepFault::Refused(Refusal::AttrTooLarge))),
+];
+
+#[test]
 fn value_has_to_fit_limit_and_block(rt: HostRuntime) -> Result<(), Fail> {
-    let rows = [
-        (172, Ok(())),
-        (173, Err(StepFault::Refused(Refusal::EntryTooLarge))),
-        (1_022, Err(StepFault::Refused(Refusal::EntryTooLarge))),
-        (1_023, Err(StepFault::Refused(Refusal::AttrTooLarge))),
-    ];
-    for (len, reply) in rows {
-        let mut session = small_session(rt.alloc())?;
-        let value = vec![in rt.alloc(); 7; len]?;
-        let command = Command::SetAttr {
-            path: b"/",
-            kind: 1,
-            value: &value,
-        };
-        assert_eq!(rt; session.command(rt.alloc(), &command), reply, "{len}");
+    for (len, reply) in &VALUES {
+        assert_eq!(rt; reply_for(rt.alloc(), *len)?, *reply, "{len}");
     }
     Ok(())
 }
+
+// texts that spell no path
+const TEXTS: [&[u8]; 6] = [b"a", b"/a/", b"//", b"/.", b"/..", b""];
 
 #[test]
 fn texts_that_spell_no_path_are_refused(rt: HostRuntime) -> Result<(), Fail> {
     let mut session = new_session(rt.alloc())?;
     let reply = Err(StepFault::Refused(Refusal::BadPath));
-    let texts: [&[u8]; 6] = [b"a", b"/a/", b"//", b"/.", b"/..", b""];
-    for text in texts {
-        assert_eq!(rt; session.command(rt.alloc(), &set(text, &[1])), reply);
-        assert_eq!(rt; session.command(rt.alloc(), &remove(text)), reply);
+    for text in &TEXTS {
+        replies(&rt, rt.alloc(), &mut session, &set(text, &[1]), reply);
+        replies(&rt, rt.alloc(), &mut session, &remove(text), reply);
+    }
+    Ok(())
+}
+
+#[test]
+fn files_are_put(rt: HostRuntime) -> Result<(), Fail> {
+    let mut session = small_session(rt.alloc())?;
+    let rows: [(&[u8], usize, Option<Refusal>, u32); 11] = [
+        (b"/", 1, Some(Refusal::IsRoot), 2),
+        (b"a", 1, Some(Refusal::BadPath), 2),
+        (b"/x/y", 1, Some(Refusal::NotFound), 2),
+        (b"/a", 32, None, 2),
+        (b"/a/b", 1, Some(Refusal::NotADirectory), 2),
+        (b"/a", 600, Some(Refusal::NoSpace { need: 3, free: 2 }), 2),
+        (b"/a", 508, None, 0),
+        // the blocks that the file has are free only behind the command
+        (b"/a", 100, Some(Refusal::NoSpace { need: 1, free: 0 }), 0),
+        (b"/b", 0, None, 0),
+        (b"/a", 0, None, 2),
+        (b"/b", 33, None, 1),
+    ];
+    for (path, len, refusal, free) in rows {
+        let bytes = vec![in rt.alloc(); 7; len]?;
+        let reply = match refusal {
+            None => Ok(()),
+            Some(refusal) => Err(StepFault::Refused(refusal)),
+        };
+        assert_eq!(rt;
+            session.command(rt.alloc(), &put(path, &bytes)),
+            reply,
+            "{len}"
+        );
+        let mounted = mount(rt.alloc(), session.image())?;
+        assert_eq!(rt; mounted.free_count(), free, "{len}");
+    }
+    Ok(())
+}
+
+#[test]
+fn files_keep_their_attributes(rt: HostRuntime) -> Result<(), Fail> {
+    let mut session = small_session(rt.alloc())?;
+    let nothing = Err(StepFault::Refused(Refusal::NoAttr));
+    assert_eq!(rt; session.command(rt.alloc(), &put(b"/a", &[1])), Ok(()));
+    assert_eq!(rt; session.command(rt.alloc(), &set(b"/a", &[2])), Ok(()));
+    assert_eq!(rt; session.command(rt.alloc(), &put(b"/a", &[3; 33])), Ok(()));
+    assert_eq!(rt; session.command(rt.alloc(), &remove(b"/a")), Ok(()));
+    assert_eq!(rt; session.command(rt.alloc(), &remove(b"/a")), nothing);
+    Ok(())
+}
+
+#[test]
+fn file_has_to_fit_limit_and_block(rt: HostRuntime) -> Result<(), Fail> {
+    let rows = [
+        (257, 0, Some(Refusal::NameTooLong)),
+        (210, 0, Some(Refusal::EntryTooLarge)),
+        (209, 0, Some(Refusal::OnePartOnly)),
+        (201, 600, Some(Refusal::OnePartOnly)),
+        (169, 0, None),
+    ];
+    for (path_len, len, refusal) in rows {
+        let mut session = small_session(rt.alloc())?;
+        let mut path = vec![in rt.alloc(); b'/'; 1]?;
+        path.resize(path_len, b'a')?;
+        let bytes = vec![in rt.alloc(); 7; len]?;
+        let reply = match refusal {
+            None => Ok(()),
+            Some(refusal) => Err(StepFault::Refused(refusal)),
+        };
+        assert_eq!(rt;
+            session.command(rt.alloc(), &put(&path, &bytes)),
+            reply,
+            "{path_len}"
+        );
     }
     Ok(())
 }

@@ -3,7 +3,8 @@
 use crate::{Session, Step, StepFault, run_steps};
 use lfs_block::{Blocks, Image, MountFault};
 use lfs_edit::{Refusal, format};
-use std::alloc::Global;
+use std::alloc::{AllocError, Global};
+use std::process::Abort;
 use std::test::Fail;
 
 /// A new image of 8 blocks of 512 bytes.
@@ -23,16 +24,44 @@ pub(crate) fn are_same(left: &Image, right: &Image) -> bool {
     left.count() == right.count() && (0..left.count()).all(|n| left.block(n) == right.block(n))
 }
 
+/// Asserts that a session's image is this one.
+pub(crate) fn has_image(rt: &impl Abort, session: &Session, image: &Image) {
+    assert!(rt; are_same(session.image(), image));
+}
+
+/// Asserts that there is nothing to undo, and that trying leaves this image.
+pub(crate) fn cannot_undo(rt: &impl Abort, session: &mut Session, image: &Image) {
+    assert_eq!(rt; session.undo(), Err(StepFault::NothingToUndo));
+    has_image(rt, session, image);
+}
+
+/// Asserts that there is nothing to redo, and that trying leaves this image.
+pub(crate) fn cannot_redo(rt: &impl Abort, session: &mut Session, image: &Image) {
+    assert_eq!(rt; session.redo(), Err(StepFault::NothingToRedo));
+    has_image(rt, session, image);
+}
+
+/// Asserts how a session replies to a run of steps.
+pub(crate) fn replies_to(
+    rt: &impl Abort,
+    alloc: Global,
+    session: &mut Session,
+    steps: &[Step<'_>],
+    expected: &[Result<(), StepFault>],
+) -> Result<(), AllocError> {
+    let replies = run_steps(alloc, session, steps)?;
+    assert_eq!(rt; replies.as_slice(), expected);
+    Ok(())
+}
+
 #[test]
 fn fresh_session_has_nothing_to_undo_or_redo(rt: HostRuntime) -> Result<(), Fail> {
     let first = new_image(rt.alloc())?;
     let mut session = new_session(rt.alloc())?;
-    assert_eq!(rt; session.undo(), Err(StepFault::NothingToUndo));
-    assert!(rt; are_same(session.image(), &first));
-    assert_eq!(rt; session.redo(), Err(StepFault::NothingToRedo));
-    assert!(rt; are_same(session.image(), &first));
+    cannot_undo(&rt, &mut session, &first);
+    cannot_redo(&rt, &mut session, &first);
     session.forget();
-    assert!(rt; are_same(session.image(), &first));
+    has_image(&rt, &session, &first);
     assert!(rt; are_same(&session.into_image(), &first));
     Ok(())
 }
@@ -42,16 +71,22 @@ fn runs_go_on_behind_a_refusal(rt: HostRuntime) -> Result<(), Fail> {
     let first = new_image(rt.alloc())?;
     let mut session = new_session(rt.alloc())?;
     let steps = [Step::Undo, Step::Redo, Step::Forget, Step::Undo];
-    let replies = run_steps(rt.alloc(), &mut session, &steps)?;
-    let expected: [Result<(), StepFault>; 4] = [
+    let expected = [
         Err(StepFault::NothingToUndo),
         Err(StepFault::NothingToRedo),
         Ok(()),
         Err(StepFault::NothingToUndo),
     ];
-    assert_eq!(rt; replies.as_slice(), expected.as_slice());
-    assert!(rt; are_same(session.image(), &first));
+    replies_to(&rt, rt.alloc(), &mut session, &steps, &expected)?;
+    has_image(&rt, &session, &first);
     Ok(())
+}
+
+/// Asserts that an image has 4,096 bytes, all of them erased.
+fn is_erased(rt: &impl Abort, image: Image) {
+    let bytes = image.into_bytes();
+    assert_eq!(rt; bytes.len(), 4_096);
+    assert!(rt; bytes.iter().all(|byte| *byte == 0xff));
 }
 
 #[test]
@@ -62,23 +97,23 @@ fn image_that_does_not_mount_is_handed_back(rt: HostRuntime) -> Result<(), Fail>
         return Err(Fail::new("erased bytes mount"));
     };
     assert_eq!(rt; unmounted.fault, MountFault::NoValidCommit);
-    let bytes = unmounted.image.into_bytes();
-    assert_eq!(rt; bytes.len(), 4_096);
-    assert!(rt; bytes.iter().all(|byte| *byte == 0xff));
+    is_erased(&rt, unmounted.image);
     Ok(())
 }
 
+/// Faults, their numbers and their texts.
+const FAULTS: [(StepFault, u8, &str); 4] = [
+    (StepFault::Refused(Refusal::NotFound), 30, "NotFound"),
+    (StepFault::NothingToUndo, 53, "NothingToUndo"),
+    (StepFault::NothingToRedo, 54, "NothingToRedo"),
+    (StepFault::JournalFull, 55, "JournalFull"),
+];
+
 #[test]
 fn faults_have_numbers_and_texts(rt: HostRuntime) -> Result<(), Fail> {
-    let rows = [
-        (StepFault::Refused(Refusal::NotFound), 30, "NotFound"),
-        (StepFault::NothingToUndo, 53, "NothingToUndo"),
-        (StepFault::NothingToRedo, 54, "NothingToRedo"),
-        (StepFault::JournalFull, 55, "JournalFull"),
-    ];
-    for (fault, number, text) in rows {
-        assert_eq!(rt; fault.number(), number, "{text}");
-        assert!(rt; fault.to_string(rt.alloc())?.as_str() == text, "{number}");
+    for (fault, number, text) in &FAULTS {
+        assert_eq!(rt; fault.number(), *number, "{text}");
+        assert!(rt; fault.to_string(rt.alloc())?.as_str() == *text, "{number}");
     }
     Ok(())
 }
