@@ -1,6 +1,7 @@
 pub mod Bytes
 pub mod Change
 pub mod Fault
+pub mod Query
 pub mod Outcome
 pub mod Send
 pub mod Summary

@@ -2,7 +2,7 @@
 use Rattle.std.specs.Prelude.{◌≡◌, ℕ, List, [], ◌∷◌, Ok, IsErr}
 use Rattle.hex.specs.Hex.{decode_of, decode_sized}
 use Rattle.lfsed.specs.declared.step.Step.{Step}
-use Rattle.lfsed.specs.declared.step.Step.TheVariants.{Format, Check, SetAttr, RmAttr}
+use Rattle.lfsed.specs.declared.step.Step.TheVariants.{Format, Check, Cat, Put, SetAttr, RmAttr}
 use Rattle.lfsed.specs.declared.task.Task.{Task}
 use Rattle.lfsed.specs.declared.task.Task.TheVariants as task
 
@@ -18,6 +18,8 @@ SpellsBytes text bytes = decode_of text ≡ Ok bytes
 abbrev pub digits_of : Task → List ℕ
 digits_of (task.Format count) = []
 digits_of task.Check = []
+digits_of (task.Cat path) = []
+digits_of (task.Put path) = []
 digits_of (task.SetAttr path kind digits) = digits.now
 digits_of (task.RmAttr path kind) = []
 
@@ -25,6 +27,8 @@ digits_of (task.RmAttr path kind) = []
 abbrev pub SpellsNoKind : Task → Type 0
 SpellsNoKind (task.Format count) = ⊥
 SpellsNoKind task.Check = ⊥
+SpellsNoKind (task.Cat path) = ⊥
+SpellsNoKind (task.Put path) = ⊥
 SpellsNoKind (task.SetAttr path kind digits) = IsErr (decode_sized kind.now 1)
 SpellsNoKind (task.RmAttr path kind) = IsErr (decode_sized kind.now 1)
 
@@ -32,6 +36,8 @@ SpellsNoKind (task.RmAttr path kind) = IsErr (decode_sized kind.now 1)
 abbrev pub AsksFor : Task → Step → Type 0
 AsksFor (task.Format n) (Format count) = count ≡ n
 AsksFor task.Check Check = Unit {0}
+AsksFor (task.Cat text) (Cat path) = path.now ≡ text.now
+AsksFor (task.Put text) (Put path) = path.now ≡ text.now
 AsksFor (task.SetAttr text digits value_digits) (SetAttr path kind value) = (path.now ≡ text.now) × SpellsByte digits.now kind × SpellsBytes value_digits.now value.now
 AsksFor (task.RmAttr text digits) (RmAttr path kind) = (path.now ≡ text.now) × SpellsByte digits.now kind
 AsksFor _ _ = ⊥

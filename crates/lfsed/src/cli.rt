@@ -71,7 +71,8 @@ fn refused<H: Host>(alloc: Global, host: &mut H, error: Error) -> Result<u8, Fau
     Ok(0)
 }
 
-/// Takes the step that is asked for, and writes the image that it makes. Digits are read before files.
+/// Takes the step that is asked for, and writes the image that it makes. Digits are read before files, and those before
+/// standard input.
 fn done<H: Host>(alloc: Global, host: &mut H, request: &Request<'_>) -> Result<(), Fault> {
     let value = bytes_of(alloc, request.task.digits())?;
     let step = request.task.step(value.as_slice())?;
@@ -79,20 +80,24 @@ fn done<H: Host>(alloc: Global, host: &mut H, request: &Request<'_>) -> Result<(
         Step::Format { count: _ } => Vec::new(alloc),
         _ => read(alloc, host, request.image)?,
     };
+    let input = match step {
+        Step::Put { .. } => host.input(alloc).map_err(fault_of_reading)?,
+        _ => Vec::new(alloc),
+    };
     let outcome = run(
         alloc,
         &step,
         request.size,
         image,
         Vec::new(alloc),
-        &[],
+        input.as_slice(),
         &mut Output::new(host),
     );
     if let Some(fault) = outcome.fault {
         return Err(fault);
     }
     match step {
-        Step::Check => {}
+        Step::Check | Step::Cat { .. } => {}
         _ => replace(alloc, host, request.image, outcome.image.as_slice())?,
     }
     flush(host)
@@ -100,10 +105,15 @@ fn done<H: Host>(alloc: Global, host: &mut H, request: &Request<'_>) -> Result<(
 
 /// The bytes of a file.
 fn read<H: Host>(alloc: Global, host: &mut H, name: &str) -> Result<Vec<u8>, Fault> {
-    host.read(alloc, name).map_err(|fault| match fault {
+    host.read(alloc, name).map_err(fault_of_reading)
+}
+
+/// What the program ends with where nothing is read.
+fn fault_of_reading(fault: ReadFault) -> Fault {
+    match fault {
         ReadFault::Memory => Fault::Refused(Refusal::Memory),
         ReadFault::CannotRead => Fault::CannotRead,
-    })
+    }
 }
 
 /// Writes a file under its name with `.new` behind it, then gives it its name.

@@ -103,6 +103,22 @@ fn check_command<'a>(alloc: Global) -> Result<Command<'a>, AllocError> {
     Ok(command.about("Judge an image; print its geometry, free blocks, directories and files"))
 }
 
+/// The command `cat`.
+fn cat_command<'a>(alloc: Global) -> Result<Command<'a>, AllocError> {
+    image_command(alloc, "cat")?
+        .about("Print the contents of a file")
+        .arg(path_argument(alloc))
+}
+
+/// The command `put`.
+fn put_command<'a>(alloc: Global) -> Result<Command<'a>, AllocError> {
+    image_command(alloc, "put")?
+        .about(
+            "Put a file, in place of one of this path; its contents are read from standard input",
+        )
+        .arg(path_argument(alloc))
+}
+
 /// The command `setattr`.
 fn setattr_command<'a>(alloc: Global) -> Result<Command<'a>, AllocError> {
     attribute_command(alloc, "setattr")?
@@ -123,6 +139,13 @@ fn with_images<'a>(alloc: Global, program: Command<'a>) -> Result<Command<'a>, A
         .subcommand(check_command(alloc)?)
 }
 
+/// The commands on files, behind others.
+fn with_files<'a>(alloc: Global, program: Command<'a>) -> Result<Command<'a>, AllocError> {
+    program
+        .subcommand(cat_command(alloc)?)?
+        .subcommand(put_command(alloc)?)
+}
+
 /// The commands on attributes, behind others.
 fn with_attributes<'a>(alloc: Global, program: Command<'a>) -> Result<Command<'a>, AllocError> {
     program
@@ -138,7 +161,7 @@ pub fn command_line<'a>(alloc: Global) -> Result<Command<'a>, AllocError> {
         .after_help(STATUSES)
         .subcommand_required(true)
         .disable_help_subcommand(true);
-    with_attributes(alloc, with_images(alloc, program)?)
+    with_attributes(alloc, with_files(alloc, with_images(alloc, program)?)?)
 }
 
 /// What the words that were matched ask for. `None` where they ask for nothing.
@@ -147,6 +170,12 @@ pub fn requested<'a>(matches: &ArgMatches<'a>) -> Option<Request<'a>> {
     let task = match name {
         "format" => Task::Format {
             count: options.get_one::<u32>("count")?,
+        },
+        "cat" => Task::Cat {
+            path: options.get_str("path")?,
+        },
+        "put" => Task::Put {
+            path: options.get_str("path")?,
         },
         "setattr" => Task::SetAttr {
             path: options.get_str("path")?,

@@ -11,14 +11,14 @@ use std::fmt::Display;
 #[derive(Clone, Copy, Debug, PartialEq, Eq)]
 pub struct HostFault;
 
-/// Why a file was not read.
+/// Why a file or standard input was not read.
 ///
 /// Source: own.
 #[derive(Clone, Copy, Debug, PartialEq, Eq)]
 pub enum ReadFault {
     /// A growth of memory was refused.
     Memory,
-    /// The file is not there, is no regular file, or the system refused to read it.
+    /// The file is not there, is no regular file, or the system refused to read.
     CannotRead,
 }
 
@@ -28,6 +28,9 @@ pub enum ReadFault {
 pub trait Host {
     /// The bytes of a file.
     fn read(&mut self, alloc: Global, name: &str) -> Result<Vec<u8>, ReadFault>;
+
+    /// All bytes of standard input.
+    fn input(&mut self, alloc: Global) -> Result<Vec<u8>, ReadFault>;
 
     /// Makes a file of these bytes; one of this name is replaced.
     fn write(&mut self, name: &str, bytes: &[u8]) -> Result<(), HostFault>;

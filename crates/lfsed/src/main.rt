@@ -9,6 +9,8 @@ mod fault;
 mod host;
 mod outcome;
 mod output;
+mod query;
+mod querying;
 mod run;
 mod send;
 mod sink;

@@ -1,26 +1,23 @@
 //! One step on an image.
 
-ghost use Rattle.std.specs.Prelude.{◌≡◌, false, IfOk, IfErr, Some, None};
-ghost use Rattle.std.specs.Result.{result_err};
-ghost use Rattle.std.specs.Io.KnownBytes.{Keeps};
+ghost use Rattle.std.specs.Prelude.{◌≡◌, [], false, IfOk, IfErr};
 ghost use Rattle.lfs_edit.specs.Formatted.{IsFormatted};
 ghost use Rattle.lfsed.specs.Fault.{status_of};
-ghost use Rattle.lfsed.specs.Outcome.{Answers, RefusesFormat, RefusesReport, SendsReport, SendsText, blames_output};
-ghost use Rattle.lfsed.specs.declared.step.Step.TheVariants.{Format, Check};
+ghost use Rattle.lfsed.specs.Outcome.{Answers, RefusesFormat, SendsText, blames_output};
+ghost use Rattle.lfsed.specs.declared.step.Step.TheVariants.{Format};
 
 use crate::changing::changed;
 use crate::fault::Fault;
 use crate::outcome::Outcome;
-use crate::send::send;
+use crate::query::Query;
+use crate::querying::queried;
 use crate::sink::Sink;
 use crate::step::Step;
-use crate::summary::summary;
-use lfs_block::{Image, ImageFault, geometry_ok};
+use lfs_block::{ImageFault, geometry_ok};
 use lfs_edit::{Command, format};
-use lfs_fs::mount;
 use std::alloc::Global;
 
-/// Takes one step on an image and its journal, with blocks of `size` bytes. `input` is what the step reads. What it
+/// Takes one step on an image and its journal, with blocks of `size` bytes. `input` is what the step reads: the contents of a file that is put. What it
 /// says goes to `out`, and the caller owes that this has not failed. With a fault the image and the journal are those
 /// that were handed in, and nothing goes out but where `out` itself failed. No journal is read so far: a step that changes
 /// the image answers an empty one, and is refused with `JournalFormat` where the journal isn't empty. Takes memory.
@@ -32,18 +29,23 @@ pub fn run<S: Sink>(
     size: u32,
     image: Vec<u8>,
     journal: Vec<u8>,
-    _input: &[u8],
+    input: &[u8],
     out: &mut S,
 ) -> Outcome
     requires { S.failed out.old ≡ false }
-    ensures answers { Answers step.now size image.items journal.items result }
+    ensures answers { Answers step.now size image.items journal.items input.now result }
     ensures sent { SendsText step.now size image.items result.fault (S.sent out.old) (S.sent out.new) }
     ensures failed { S.failed out.new ≡ blames_output result.fault }
     ensures status { result.status ≡ status_of result.fault }
 {
     match *step {
         Step::Format { count } => formatted(alloc, size, count, image, journal),
-        Step::Check => checked(alloc, size, image, journal, out),
+        Step::Check => queried(alloc, &Query::Check, size, image, journal, out),
+        Step::Cat { path } => queried(alloc, &Query::Cat { path }, size, image, journal, out),
+        Step::Put { path } => {
+            let command = Command::Put { path, bytes: input };
+            changed(alloc, &command, size, image, journal)
+        }
         Step::SetAttr { path, kind, value } => {
             let command = Command::SetAttr { path, kind, value };
             changed(alloc, &command, size, image, journal)
@@ -57,7 +59,7 @@ pub fn run<S: Sink>(
 
 /// A new image with no journal.
 fn formatted(alloc: Global, size: u32, count: u32, image: Vec<u8>, journal: Vec<u8>) -> Outcome
-    ensures answers { Answers (Format count) size image.items journal.items result }
+    ensures answers { Answers (Format count) size image.items journal.items [] result }
     ensures failed { blames_output result.fault ≡ false }
     ensures status { result.status ≡ status_of result.fault }
 {
@@ -76,43 +78,4 @@ fn new_image(alloc: Global, size: u32, count: u32) -> Result<Vec<u8>, Fault>
         return Err(Fault::Image(ImageFault::BadGeometry));
     }
     Ok(format(alloc, size, count)?)
-}
-
-/// Says what the bytes hold, where they are an image that mounts.
-fn checked<S: Sink>(
-    alloc: Global,
-    size: u32,
-    image: Vec<u8>,
-    journal: Vec<u8>,
-    out: &mut S,
-) -> Outcome
-    requires { S.failed out.old ≡ false }
-    ensures answers { Answers Check size image.items journal.items result }
-    ensures sent { SendsText Check size image.items result.fault (S.sent out.old) (S.sent out.new) }
-    ensures failed { S.failed out.new ≡ blames_output result.fault }
-    ensures status { result.status ≡ status_of result.fault }
-{
-    match Image::new(image, size) {
-        Ok(image) => {
-            let fault = report(alloc, &image, out).err();
-            Outcome::new(image.into_bytes(), journal, fault)
-        }
-        Err((fault, image)) => Outcome::new(image, journal, Some(Fault::Image(fault))),
-    }
-}
-
-/// Says what an image holds, where it mounts.
-fn report<S: Sink>(alloc: Global, image: &Image, out: &mut S) -> Result<(), Fault>
-    requires { S.failed out.old ≡ false }
-    ensures refused { IfErr result (λ fault. RefusesReport image.now fault) }
-    ensures sent { SendsReport image.now (result_err result) (S.sent out.old) (S.sent out.new) }
-    ensures failed { S.failed out.new ≡ blames_output (result_err result) }
-{
-    let mounted = mount(alloc, image)?;
-    let text = summary(alloc, image, &mounted)?;
-    if send(out, text.as_bytes()) {
-        Ok(())
-    } else {
-        Err(Fault::CannotWrite)
-    }
 }

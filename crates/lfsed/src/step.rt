@@ -12,6 +12,16 @@ pub enum Step<'a> {
     },
     /// Judges the image, and says what it holds.
     Check,
+    /// Says the contents of a file.
+    Cat {
+        /// The text of the file's path.
+        path: &'a [u8],
+    },
+    /// Puts a file, whose contents are what the step reads.
+    Put {
+        /// The text of the file's path.
+        path: &'a [u8],
+    },
     /// Sets an attribute of what is at a path.
     SetAttr {
         /// The text of the path.

@@ -16,6 +16,16 @@ pub enum Task<'a> {
     },
     /// The verdict on an image.
     Check,
+    /// The contents of a file.
+    Cat {
+        /// The path.
+        path: &'a str,
+    },
+    /// A file, whose contents come from standard input.
+    Put {
+        /// The path.
+        path: &'a str,
+    },
     /// An attribute of what is at a path.
     SetAttr {
         /// The path.
@@ -59,6 +69,12 @@ impl<'a> Task<'a> {
         let step = match *self {
             Task::Format { count } => Step::Format { count },
             Task::Check => Step::Check,
+            Task::Cat { path } => Step::Cat {
+                path: path.as_bytes(),
+            },
+            Task::Put { path } => Step::Put {
+                path: path.as_bytes(),
+            },
             Task::SetAttr { path, kind, .. } => Step::SetAttr {
                 path: path.as_bytes(),
                 kind: byte_of(kind)?,

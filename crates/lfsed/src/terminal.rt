@@ -5,7 +5,7 @@ use crate::sink::Sink;
 use crate::writer_sink::Out;
 use std::alloc::Global;
 use std::fmt::Display;
-use std::io::{ErrorKind, Printer};
+use std::io::{ErrorKind, Printer, Read};
 use std::{fs, io};
 
 /// The system's files, standard output and standard error.
@@ -27,12 +27,25 @@ impl<'a> Terminal<'a> {
     }
 }
 
+/// What an error of reading means.
+fn read_fault(error: io::Error) -> ReadFault {
+    match error.kind() {
+        ErrorKind::OutOfMemory => ReadFault::Memory,
+        _ => ReadFault::CannotRead,
+    }
+}
+
 impl Host for Terminal<'_> {
     fn read(&mut self, _alloc: Global, name: &str) -> Result<Vec<u8>, ReadFault> {
-        fs::read(self.rt, name).map_err(|error| match error.kind() {
-            ErrorKind::OutOfMemory => ReadFault::Memory,
-            _ => ReadFault::CannotRead,
-        })
+        fs::read(self.rt, name).map_err(read_fault)
+    }
+
+    fn input(&mut self, alloc: Global) -> Result<Vec<u8>, ReadFault> {
+        let mut bytes = Vec::new(alloc);
+        match self.rt.reader().read_to_end(&mut bytes) {
+            Ok(_) => Ok(bytes),
+            Err(error) => Err(read_fault(error)),
+        }
     }
 
     fn write(&mut self, name: &str, bytes: &[u8]) -> Result<(), HostFault> {

@@ -4,6 +4,7 @@ mod changes;
 mod commands;
 mod digits;
 mod faults;
+mod files;
 mod host_faults;
 mod images;
 mod memory_host;

@@ -12,6 +12,8 @@ pub struct MemoryHost {
     files: Vec<(String, Vec<u8>)>,
     /// The name of a folder.
     pub folder: &'static str,
+    /// What comes from standard input, unless reading it fails.
+    pub input: Option<Vec<u8>>,
     /// What went to standard output.
     pub printed: Vec<u8>,
     /// What went to standard error.
@@ -36,6 +38,7 @@ impl MemoryHost {
             alloc,
             files: Vec::new(alloc),
             folder: "",
+            input: Some(Vec::new(alloc)),
             printed: Vec::new(alloc),
             complained: String::new(alloc),
             room: 65_536,
@@ -74,6 +77,13 @@ impl MemoryHost {
 impl Host for MemoryHost {
     fn read(&mut self, alloc: Global, name: &str) -> Result<Vec<u8>, ReadFault> {
         match self.file(name) {
+            Some(bytes) => Vec::from_slice(alloc, bytes).map_err(|_| ReadFault::Memory),
+            None => Err(ReadFault::CannotRead),
+        }
+    }
+
+    fn input(&mut self, alloc: Global) -> Result<Vec<u8>, ReadFault> {
+        match &self.input {
             Some(bytes) => Vec::from_slice(alloc, bytes).map_err(|_| ReadFault::Memory),
             None => Err(ReadFault::CannotRead),
         }

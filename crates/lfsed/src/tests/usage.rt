@@ -89,6 +89,8 @@ Usage: lfsed <COMMAND>
 Commands:
   format   Write a new image, in place of a file of this name
   check    Judge an image; print its geometry, free blocks, directories and files
+  cat      Print the contents of a file
+  put      Put a file, in place of one of this path; its contents are read from standard input
   setattr  Set an attribute of a file or a directory
   rmattr   Remove an attribute of a file or a directory
 
@@ -118,6 +120,33 @@ Usage: lfsed check [OPTIONS] <IMAGE>
 
 Arguments:
   <IMAGE>  File of the image
+
+Options:
+      --block <BYTES>  Size of a block, a multiple of 16 from 256 to 65536 [default: 4096]
+  -h, --help           Print help
+";
+
+const CAT_HELP: &str = "Print the contents of a file
+
+Usage: lfsed cat [OPTIONS] <IMAGE> <PATH>
+
+Arguments:
+  <IMAGE>  File of the image
+  <PATH>   Path of a file or a directory in the image, from / on
+
+Options:
+      --block <BYTES>  Size of a block, a multiple of 16 from 256 to 65536 [default: 4096]
+  -h, --help           Print help
+";
+
+const PUT_HELP: &str =
+    "Put a file, in place of one of this path; its contents are read from standard input
+
+Usage: lfsed put [OPTIONS] <IMAGE> <PATH>
+
+Arguments:
+  <IMAGE>  File of the image
+  <PATH>   Path of a file or a directory in the image, from / on
 
 Options:
       --block <BYTES>  Size of a block, a multiple of 16 from 256 to 65536 [default: 4096]
@@ -159,6 +188,8 @@ fn help_goes_to_standard_output(rt: HostRuntime) {
         (["lfsed", "--help"].as_slice(), HELP),
         (&["lfsed", "format", "--help"], FORMAT_HELP),
         (&["lfsed", "check", "--help"], CHECK_HELP),
+        (&["lfsed", "cat", "--help"], CAT_HELP),
+        (&["lfsed", "put", "--help"], PUT_HELP),
         (&["lfsed", "setattr", "--help"], SETATTR_HELP),
         (&["lfsed", "rmattr", "--help"], RMATTR_HELP),
     ];

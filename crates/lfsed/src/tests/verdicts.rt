@@ -1,6 +1,9 @@
 //! New images, and verdicts on images.
 
-use crate::tests::images::{NEW, WITH_DELETED, WITH_TAIL, changed, filled, host_with};
+use crate::tests::images::{
+    EMPTY_WITH_HEAD, HEAD_PAST, NEW, SHARED, SHORT_FIRST, TO_ITSELF, WITH_DELETED, WITH_TAIL,
+    changed, filled, host_with,
+};
 use crate::tests::memory_host::MemoryHost;
 use std::process::Abort;
 use std::test::Fail;
@@ -112,4 +115,36 @@ fn too_many_bytes_are_no_geometry(rt: HostRuntime) -> Result<(), Fail> {
     assert!(rt; host.file("a.img").is_none());
     assert!(rt; host.file("a.img.new").is_none());
     Ok(())
+}
+
+#[test]
+fn chains_of_files_are_judged(rt: HostRuntime) -> Result<(), Fail> {
+    let mut to_itself = filled(rt.alloc(), &TO_ITSELF, 1_536)?;
+    to_itself.extend_from_slice(&[3, 0, 0, 0])?;
+    judge(&rt, &to_itself, 4_096, "512", "lfsed: 8 BadSkipList\n")?;
+    judge(&rt, &HEAD_PAST, 4_096, "512", "lfsed: 8 BadSkipList\n")?;
+    judge(&rt, &SHARED, 4_096, "512", "lfsed: 15 BlockTwice\n")
+}
+
+#[test]
+fn an_empty_file_keeps_any_head(rt: HostRuntime) -> Result<(), Fail> {
+    let image = filled(rt.alloc(), &EMPTY_WITH_HEAD, 4_096)?;
+    let mut host = host_with(rt.alloc(), image.as_slice())?;
+    assert_eq!(rt;
+        host.run(&["lfsed", "cat", "--block=512", "a.img", "/f"]),
+        0
+    );
+    assert!(rt; host.printed.is_empty());
+    let set = ["lfsed", "setattr", "--block=512", "a.img", "/f", "74", "01"];
+    assert_eq!(rt; host.run(&set), 0);
+    let image = host.file("a.img").ok_or("an image")?;
+    assert!(rt; image.len() == 4_096);
+    let head = [9, 0, 0, 0, 0, 0, 0, 0];
+    assert!(rt; image[512..].windows(8).any(|part| part == head.as_slice()));
+    Ok(())
+}
+
+#[test]
+fn longer_names_come_first(rt: HostRuntime) -> Result<(), Fail> {
+    judge(&rt, &SHORT_FIRST, 4_096, "512", "lfsed: 13 OrderFault\n")
 }
