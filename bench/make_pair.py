@@ -1,32 +1,12 @@
 #!/usr/bin/env python3
-"""Makes the image that the benchmark reads: one pair of blocks of 64 KiB, whose first block has a log of 1,000 files in
-400 commits. It encodes tags and commits by itself, so it also shows that a foreign log is read."""
+"""Makes the image of one pair of blocks of 64 KiB, whose first block has a log of 1,000 files in 400 commits. It shows, too,
+that a foreign log is read."""
 import struct
 import sys
 
+from encoder import commit, tag
+
 SIZE = 65_536
-
-
-def checksum(start, data):
-    for byte in data:
-        start ^= byte
-        for _ in range(8):
-            start = (start >> 1) ^ (0xEDB88320 if start & 1 else 0)
-    return start
-
-
-def tag(kind, entry, length):
-    return kind << 20 | entry << 10 | length
-
-
-def commit(lead, previous, tags):
-    out = b""
-    for word, data in tags:
-        out += struct.pack(">I", word ^ previous) + data
-        previous = word
-    closing = tag(0x500, 0x3FF, 4)
-    out += struct.pack(">I", closing ^ previous)
-    return out + struct.pack("<I", checksum(0xFFFFFFFF, lead + out)), closing
 
 
 def pair():
