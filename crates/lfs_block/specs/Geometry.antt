@@ -1,8 +1,12 @@
 -- The block sizes and counts that are edited (own).
 use Rattle.std.specs.Prelude.{◌≡◌, ℕ, ◌*◌, ◌%◌, ◌≤◌}
 
--- an image's block size, in bytes, and its number of blocks
+-- a block size, in bytes
+abbrev pub IsBlockSize : ℕ → Type 0
+IsBlockSize size = (256 ≤ size) × (size ≤ 65536) × (size % 16 ≡ 0)
+
+-- an image's block size, and its number of blocks
 pub record IsGeometry (size count : ℕ) : Type 0 where
-  pub size_fits : (256 ≤ size) × (size ≤ 65536) × (size % 16 ≡ 0)
+  pub size_fits : IsBlockSize size
   pub count_fits : (2 ≤ count) × (count ≤ 65536)
   pub length_fits : count * size ≤ 67108864

@@ -1,12 +1,8 @@
 -- Why bytes are no image of a block size (own).
-use Rattle.std.specs.Prelude.{◌≡◌, ◌≢◌, ℕ, ◌/◌, ◌%◌, ◌≤◌, List, length, ◌⊎◌}
-use Rattle.lfs_block.specs.Geometry.{IsGeometry}
+use Rattle.std.specs.Prelude.{◌≡◌, ◌≢◌, ℕ, ◌/◌, ◌%◌, List, length, ◌⊎◌}
+use Rattle.lfs_block.specs.Geometry.{IsBlockSize, IsGeometry}
 use Rattle.lfs_block.specs.declared.image_fault.ImageFault.{ImageFault}
 use Rattle.lfs_block.specs.declared.image_fault.ImageFault.TheVariants.{ImageLength, BadGeometry}
-
--- the block size alone is within its limit
-abbrev pub IsBlockSize : ℕ → Type 0
-IsBlockSize size = (256 ≤ size) × (size ≤ 65536) × (size % 16 ≡ 0)
 
 -- The size is judged first, then whether the length is a multiple of it, then the count and the length.
 abbrev pub IsNoImage : ImageFault → ℕ → List ℕ → Type 0

@@ -57,12 +57,19 @@ impl Patch {
         self.records.as_slice()
     }
 
+    /// Whether the image's blocks have the patch's size.
+    fn has_size_of(&self, image: &Image) -> bool
+        ensures { IsTrue result ↔ (self.now.size ≡ image.now.size) }
+    {
+        self.size == image.size()
+    }
+
     /// Whether the image is what the patch was made of: its blocks have the patch's size, and each block that the patch
     /// names is one of the image and holds the bytes from before. Takes no memory.
     pub fn agrees_old(&self, image: &Image) -> bool
         ensures { IsTrue result ↔ AgreesOld self.now image.now }
     {
-        self.size == image.size()
+        self.has_size_of(image)
             && self
                 .records
                 .iter()
@@ -74,7 +81,7 @@ impl Patch {
     pub fn agrees_new(&self, image: &Image) -> bool
         ensures { IsTrue result ↔ AgreesNew self.now image.now }
     {
-        self.size == image.size()
+        self.has_size_of(image)
             && self
                 .records
                 .iter()

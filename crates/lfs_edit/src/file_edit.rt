@@ -2,7 +2,7 @@
 
 ghost use Rattle.std.specs.Prelude.{◌≡◌, ◌<◌, ◌^◌, Some, None, true, not, length, nat_le, if◌then◌else◌, IfOk, IfErr, OnOk};
 ghost use Rattle.std.specs.List.{prefix_len, AllByRecursion};
-ghost use Rattle.lfs_block.specs.ImageFault.{IsBlockSize};
+ghost use Rattle.lfs_block.specs.Geometry.{IsBlockSize};
 ghost use Rattle.lfs_file.specs.Capacity.{least_blocks};
 ghost use Rattle.lfs_meta.specs.declared.kind.Kind.TheVariants.{File};
 ghost use Rattle.lfs_meta.specs.BodyHeld.{body_held};

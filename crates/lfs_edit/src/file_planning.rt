@@ -2,7 +2,7 @@
 
 ghost use Rattle.std.specs.Prelude.{◌≡◌, ◌<◌, ◌^◌, length, map, take, IfOk, IfErr};
 ghost use Rattle.std.specs.List.{AllByRecursion};
-ghost use Rattle.lfs_block.specs.ImageFault.{IsBlockSize};
+ghost use Rattle.lfs_block.specs.Geometry.{IsBlockSize};
 ghost use Rattle.lfs_file.specs.Laying.{laid};
 ghost use Rattle.lfs_meta.specs.Name.{IsName};
 ghost use Rattle.lfs_meta.specs.Spelling.{IsWhole};

@@ -8,7 +8,7 @@ use Rattle.std.proofs.lemmas.List.Elements.{All-from_get_or}
 use Rattle.std.proofs.lemmas.List.Folds.{concat-append}
 use Rattle.std.proofs.lemmas.Bool.{cases_lt}
 use Rattle.lfs_block.specs.Disk.{Disk, IsDisk, block_of}
-use Rattle.lfs_block.specs.ImageFault.{IsBlockSize}
+use Rattle.lfs_block.specs.Geometry.{IsBlockSize}
 use Rattle.lfs_file.specs.Capacity.{IsLeast, capacity, pointers, room}
 use Rattle.lfs_file.specs.Content.{data_part, content}
 use Rattle.lfs_file.specs.Laying.{IsLaid, filled, laid, part_of}

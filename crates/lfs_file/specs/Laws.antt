@@ -2,7 +2,7 @@
 use Rattle.std.specs.Prelude.{◌≡◌, ◌≢◌, ℕ, ◌<◌, ◌≤◌, List, [], length, Some, All, AllPairs}
 use Rattle.lfs_block.specs.Bytes.{IsBytes}
 use Rattle.lfs_block.specs.Disk.{Disk, IsDisk, block_of}
-use Rattle.lfs_block.specs.ImageFault.{IsBlockSize}
+use Rattle.lfs_block.specs.Geometry.{IsBlockSize}
 use Rattle.lfs_file.specs.Capacity.{IsLeast, least_blocks}
 use Rattle.lfs_file.specs.Content.{content}
 use Rattle.lfs_file.specs.Laying.{IsLaid, laid}

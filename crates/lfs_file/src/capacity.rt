@@ -1,7 +1,7 @@
 //! How many blocks a file takes.
 
 ghost use Rattle.std.specs.Prelude.{◌≡◌};
-ghost use Rattle.lfs_block.specs.ImageFault.{IsBlockSize};
+ghost use Rattle.lfs_block.specs.Geometry.{IsBlockSize};
 ghost use Rattle.lfs_file.specs.Capacity.{capacity, least_blocks, pointers};
 
 /// The pointers in front of block `n` of a file.

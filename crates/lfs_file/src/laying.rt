@@ -1,8 +1,8 @@
 //! The blocks of a file that is written.
 
 ghost use Rattle.std.specs.Prelude.{◌≡◌, ◌<◌, ◌≤◌, ◌^◌, length, map, IfOk, IfSome};
-ghost use Rattle.lfs_block.specs.ImageFault.{IsBlockSize};
-ghost use Rattle.lfs_file.specs.Capacity.{capacity, pointers};
+ghost use Rattle.lfs_block.specs.Geometry.{IsBlockSize};
+ghost use Rattle.lfs_file.specs.Capacity.{capacity, least_blocks, pointers};
 ghost use Rattle.lfs_file.specs.Laying.{filled, laid, laid_pointers};
 
 use crate::capacity::{capacity_of, pointers_of};
@@ -35,11 +35,13 @@ fn filled(
 }
 
 /// The blocks of a file of these bytes, in the blocks of these numbers, from the first one on: each its pointers, the
-/// bytes of the file that it holds, and 0xff behind the last of them. `None` where memory is refused.
+/// bytes of the file that it holds, and 0xff behind the last of them. The caller owes as many blocks as the bytes take,
+/// so none of them is left out. `None` where memory is refused.
 ///
 /// Source: DESIGN.md, "CTZ skip-lists".
 pub fn lay(alloc: Global, bytes: &[u8], blocks: &[u32], block_size: u32) -> Option<Vec<Vec<u8>>>
     requires size { IsBlockSize block_size }
+    requires many { length blocks.now ≡ least_blocks block_size (length bytes.now) }
     requires few { length blocks.now < 2 ^ 32 }
     ensures { IfSome result (λ all. map (λ block. block.items) all.items ≡ laid block_size bytes.now blocks.now) }
 {

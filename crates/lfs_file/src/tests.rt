@@ -1,9 +1,10 @@
 //! Files that are read, against bytes from outside.
 
 ghost use Rattle.std.specs.Prelude.{◌≡◌, ◌<◌, ◌≤◌, length, All, IfOk};
+ghost use Rattle.lfs_block.specs.Geometry.{IsBlockSize};
 ghost use Rattle.lfs_file.specs.Content.{content};
 
-use crate::{chain, lay, read_file};
+use crate::{blocks_for, chain, lay, read_file};
 use lfs_block::{Blocks, Image};
 use std::alloc::{AllocError, Global};
 use std::test::Fail;
@@ -62,6 +63,17 @@ fn file_bytes(alloc: Global, size: usize) -> Result<Vec<u8>, Fail> {
     Ok(bytes)
 }
 
+/// What is laid for a file in these blocks; none where they aren't as many as it takes.
+fn lay_in(alloc: Global, file: &[u8], blocks: &[u32], size: u32) -> Option<Vec<Vec<u8>>>
+    requires { IsBlockSize size }
+{
+    let len = u32::try_from(file.len()).ok()?;
+    if blocks_for(len, size) as usize != blocks.len() {
+        return None;
+    }
+    lay(alloc, file, blocks, size)
+}
+
 #[test]
 fn gives_the_contents(rt: HostRuntime) -> Result<(), Fail> {
     let alloc = rt.alloc();
@@ -92,7 +104,7 @@ fn cuts_a_slice_for_each_block(rt: HostRuntime) -> Result<(), Fail> {
 fn lays_blocks(rt: HostRuntime) -> Result<(), Fail> {
     let alloc = rt.alloc();
     let file = file_bytes(alloc, 3_040)?;
-    let laid = lay(alloc, &file, &[2, 3, 4, 5, 6, 7], 512).expect(&rt, "memory");
+    let laid = lay_in(alloc, &file, &[2, 3, 4, 5, 6, 7], 512).expect(&rt, "laid");
     let mut bytes = vec![in alloc; 0u8; 1_024]?;
     for block in &laid {
         assert_eq!(rt; block.len(), 512);
@@ -110,7 +122,7 @@ fn lays_blocks(rt: HostRuntime) -> Result<(), Fail> {
 fn fills_the_last_block(rt: HostRuntime) -> Result<(), Fail> {
     let alloc = rt.alloc();
     let file = file_bytes(alloc, 257)?;
-    let laid = lay(alloc, &file, &[0x0102, 9], 256).expect(&rt, "memory");
+    let laid = lay_in(alloc, &file, &[0x0102, 9], 256).expect(&rt, "laid");
     let mut bytes = Vec::new(alloc);
     for block in &laid {
         bytes.extend_from_slice(block)?;
@@ -119,7 +131,7 @@ fn fills_the_last_block(rt: HostRuntime) -> Result<(), Fail> {
     want.extend_from_slice(&[2, 1, 0, 0, 5])?;
     want.resize(512, 0xff)?;
     assert!(rt; bytes == want);
-    let none = lay(alloc, &[], &[], 256).expect(&rt, "memory");
+    let none = lay_in(alloc, &[], &[], 256).expect(&rt, "laid");
     assert!(rt; none.is_empty());
     Ok(())
 }

@@ -1,6 +1,7 @@
 -- A planned patch makes the command's equation.
 use Rattle.std.proofs.Common.{◌≡◌, Option, ap, sym, ◌∙◌, subst}
 use Rattle.std.proofs.Math.Path.{fun_ext}
+use Rattle.lfs_block.specs.Disk.{Disk}
 use Rattle.lfs_fs.specs.Path.{Path}
 use Rattle.lfs_fs.specs.Volume.{Volume}
 use Rattle.lfs_fs.specs.Tree.{Node, tree}
@@ -11,7 +12,7 @@ use Rattle.lfs_edit.specs.Edited.{edited}
 use Rattle.lfs_edit.specs.Cut.{cut}
 use Rattle.lfs_edit.specs.Clean.{clean}
 use Rattle.lfs_edit.specs.Accepted.{Follows}
-use Rattle.lfs_journal.specs.Laws.{CommandsAreEquations}
+use Rattle.lfs_journal.specs.Laws.{IsCarriedOut, CommandsAreEquations, CommandsPushEquations, PushesEquation}
 use Rattle.lfs_journal.proofs.MoveLemmas.{Follow}
 
 pub equations : VolumesAreOne → Follow → CommandsAreEquations
@@ -29,4 +30,14 @@ equations one law d asked p v t plans holds (w, shown, sound, is) =
       holds = plans.after;
       follows = follows;
       mounts = (after, plans.after, follows.sound, λ q. ap (λ (f : Path → Option Node). equation c f q) before ∙ sym (follows.at q));
+    }
+
+pub push_equations : CommandsAreEquations → CommandsPushEquations
+push_equations equation_of asked old new v t does holds mounts =
+    let p = does.pushes in
+    let P : Disk → Type 0 = λ (d : Disk). IsCarriedOut asked d v t in
+    record {
+      past = p.past;
+      future = p.future;
+      present = subst P (sym p.present) (equation_of old.present asked does.change v t does.plans holds mounts);
     }

@@ -2,3 +2,4 @@ pub mod MoveLemmas
 pub mod PlaceLemmas
 pub mod RunLemmas
 pub mod EquationLemmas
+pub mod ImageLemmas

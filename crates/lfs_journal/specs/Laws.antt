@@ -1,5 +1,6 @@
 -- Laws of histories (own).
-use Rattle.std.specs.Prelude.{◌≡◌, List, [], ◌∷◌, Option, None}
+use Rattle.std.specs.Prelude.{◌≡◌, List, [], ◌∷◌, ◌++◌, reverse, Option, None}
+use Rattle.std.specs.List.{AllByRecursion}
 use Rattle.lfs_block.specs.Disk.{Disk}
 use Rattle.lfs_block.specs.Patch.{ChangeSet, applied}
 use Rattle.lfs_fs.specs.Path.{Path}
@@ -13,7 +14,7 @@ use Rattle.lfs_edit.specs.Equation.{equation}
 use Rattle.lfs_edit.specs.Accepted.{Follows}
 use Rattle.lfs_edit.specs.Planned.{Plans}
 use Rattle.lfs_journal.specs.History.{History, IsHistory}
-use Rattle.lfs_journal.specs.Steps.{Step, Do, Undo, Redo, Reply, Run}
+use Rattle.lfs_journal.specs.Steps.{Step, Do, Undo, Redo, Forget, Reply, Does, Run}
 
 -- the patched image holds a sound volume of the same size, count and limits, whose tree is the command's equation
 pub record IsCarriedOut (asked : Asked) (e : Disk) (v : Volume) (t : Path → Option Node) : Type 0 where
@@ -28,6 +29,33 @@ pub record IsCarriedOut (asked : Asked) (e : Disk) (v : Volume) (t : Path → Op
 abbrev pub CommandsAreEquations : Type 0
 CommandsAreEquations = (d : Disk) (asked : Asked) (p : ChangeSet) (v : Volume) (t : Path → Option Node) → Plans d asked p
     → Holds (reading_of d) v → Mounts d t → IsCarriedOut asked (applied p d) v t
+
+-- the old present is the nearest image of the past, there is no future, and the new present makes the command's equation
+pub record PushesEquation (asked : Asked) (old new : History) (v : Volume) (t : Path → Option Node) : Type 0 where
+  pub past : new.past ≡ old.present ∷ old.past
+  pub future : new.future ≡ []
+  pub present : IsCarriedOut asked new.present v t
+
+-- a command that is carried out puts an image in front that mounts to its equation of the tree of the one before
+abbrev pub CommandsPushEquations : Type 0
+CommandsPushEquations = (asked : Asked) (old new : History) (v : Volume) (t : Path → Option Node) → Does asked old new
+    → Holds (reading_of old.present) v → Mounts old.present t → PushesEquation asked old new v t
+
+-- all images of a history, from the first one on
+abbrev pub images : History → List Disk
+images h = reverse h.past ++ h.present ∷ h.future
+
+-- a step that takes a change back or makes it again
+abbrev pub IsUndoOrRedo : Step → Type 0
+IsUndoOrRedo (Do asked) = ⊥
+IsUndoOrRedo Undo = Unit {0}
+IsUndoOrRedo Redo = Unit {0}
+IsUndoOrRedo Forget = ⊥
+
+-- undo and redo, in any list, keep all images, each byte for byte
+abbrev pub UndoAndRedoKeepImages : Type 0
+UndoAndRedoKeepImages = (steps : List Step) (replies : List Reply) (old new : History) → AllByRecursion IsUndoOrRedo steps
+    → Run steps replies old new → images new ≡ images old
 
 -- a run leaves a history
 abbrev pub RunsKeepHistories : Type 0

@@ -1,6 +1,6 @@
 //! Laws of histories: each function does nothing but call laws, and its contract is the law.
 
-ghost use Rattle.lfs_journal.specs.Laws.{CommandsAreEquations, RunsKeepHistories, UndoIsExact, RedoIsExact};
+ghost use Rattle.lfs_journal.specs.Laws.{CommandsAreEquations, CommandsPushEquations, RunsKeepHistories, UndoIsExact, RedoIsExact, UndoAndRedoKeepImages};
 
 use lfs_block::{applied_law, apply_again_law, revert_law};
 use lfs_edit::cuts_follow;
@@ -15,6 +15,17 @@ pub fn commands_are_equations()
 {
     images_mount_to_one_tree();
     cuts_follow();
+}
+
+/// A law: a command that is carried out leaves the old present image in front of those before it, and no image to go on to.
+/// The present image mounts to the command's equation of the old one's tree, with the same size, count and limits. Takes no
+/// memory.
+///
+/// Source: own.
+pub fn commands_push_equations()
+    ensures { CommandsPushEquations }
+{
+    commands_are_equations();
 }
 
 /// A law: after any steps the present image stands between whole images, each of which mounts, and which its changes lead
@@ -42,4 +53,12 @@ pub fn undo_is_exact()
 /// Source: own.
 pub fn redo_is_exact()
     ensures { RedoIsExact }
+{}
+
+/// A law: undo and redo, in any list and whatever they reply, keep all images of a history, each byte for byte, and their
+/// order. Takes no memory.
+///
+/// Source: own.
+pub fn undo_and_redo_keep_images()
+    ensures { UndoAndRedoKeepImages }
 {}

@@ -16,7 +16,10 @@ mod stepping;
 mod tests;
 mod unmounted;
 
-pub use laws::{commands_are_equations, redo_is_exact, runs_keep_histories, undo_is_exact};
+pub use laws::{
+    commands_are_equations, commands_push_equations, redo_is_exact, runs_keep_histories,
+    undo_and_redo_keep_images, undo_is_exact,
+};
 pub use session::Session;
 pub use step::Step;
 pub use step_fault::StepFault;

@@ -4,7 +4,7 @@ ghost use Rattle.std.specs.Prelude.{◌≡◌, ◌≢◌, ◌+◌, ◌%◌, ◌<
 ghost use Rattle.std.specs.List.{AllByRecursion};
 ghost use Rattle.lfs_block.specs.Bytes.{IsBytes};
 ghost use Rattle.lfs_block.specs.Disk.{put};
-ghost use Rattle.lfs_block.specs.ImageFault.{IsBlockSize};
+ghost use Rattle.lfs_block.specs.Geometry.{IsBlockSize};
 ghost use Rattle.lfs_tag.specs.Commit.{IsCommit};
 ghost use Rattle.lfs_tag.specs.Log.{IsErased};
 ghost use Rattle.lfs_tag.specs.Writing.{items, commit_of, committed_end};
