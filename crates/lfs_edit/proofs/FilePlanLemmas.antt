@@ -1,5 +1,6 @@
 -- What a plan of putting a file answers, step by step, on a mounted image.
-use Rattle.std.proofs.Common.{◌≡◌, ◌⊎◌, ℕ, ◌-◌, ◌^◌, ◌<◌, ◌≤◌, nat_le, nat_lt, false, List, [], ◌∷◌, Option, Some, None, inl, inr, refl, ap, sym, ◌∙◌, subst, arith, length, map, take, Bor}
+use Rattle.std.proofs.Common.{◌≡◌, ◌⊎◌, ℕ, ◌-◌, ◌^◌, ◌<◌, ◌≤◌, nat_le, nat_lt, false, List, [], ◌∷◌, Option, Some, None, inl, inr, refl, ap, sym, ◌∙◌, subst, arith, length, map, take, Bor, Bool, true, ◌≢◌}
+use Rattle.std.proofs.lemmas.List.{length-take-le}
 use Rattle.std.specs.Prelude.{All, if◌then◌else◌, is_some}
 use Rattle.std.proofs.lemmas.Bool.Decides.{nat_tests}
 use Rattle.std.proofs.lemmas.Slice.Eq.{bytes_eq-Decides}
@@ -254,3 +255,14 @@ module _ (laws : CommandLaws) (d : Disk) (disk : IsDisk d) (m : MountedValue) (i
       planned_patch enough p writes =
           planned laws d disk v is.holds is.sound held text path may.spelled place is_there n may.named bytes is_allowed fits_too (omega (arith, enough, ap length is.free, count_is)) p
           (subst (λ (bs : List ℕ). WritesPart d (put_part n (file_body d.size bs bytes) place) bs (laid d.size bytes bs) p) blocks_are writes)
+
+count_is_least : (inline : Bool) (least taken : ℕ) → taken ≡ (if inline then 0 else least) → taken ≢ 0 → taken ≡ least
+count_is_least true least taken is some = absurd (some is)
+count_is_least false least taken is some = is
+
+-- the least free blocks are as many as the file takes, where it takes some beside its entry
+pub enough_blocks : (size : ℕ) (bytes blocks free : List ℕ) → blocks ≡ take (file_count size bytes) free → file_count size bytes ≤ length free
+    → length blocks ≢ 0 → length blocks ≡ least_blocks size (length bytes)
+enough_blocks size bytes blocks free is enough some =
+    let as_many : length blocks ≡ file_count size bytes = ap length is ∙ length-take-le (file_count size bytes) free enough in
+    count_is_least (nat_le (length bytes) (most_inline size)) (least_blocks size (length bytes)) (length blocks) as_many some

@@ -12,12 +12,13 @@ use Rattle.lfs_meta.specs.declared.tail.Tail.TheVariants.{End}
 use Rattle.lfs_meta.specs.Entry.{StoredEntry}
 use Rattle.lfs_meta.specs.Part.{StoredPart}
 use Rattle.lfs_meta.specs.LiveBlock.{stored_part_of}
-use Rattle.lfs_meta.specs.Writing.{part_in, stored_part}
+use Rattle.lfs_meta.specs.Spelling.{part_tags}
+use Rattle.lfs_meta.specs.Writing.{log_written, part_in, stored_part}
 use Rattle.lfs_fs.specs.Header.{IsHeader}
 use Rattle.lfs_fs.specs.LoneSuperblock.{LoneSuperblockMounts, IsLoneSuperblock}
 use Rattle.lfs_fs.specs.Pair.{root}
 use Rattle.lfs_edit.specs.SuperblockBytes.{superblock_bytes, new_superblock}
-use Rattle.lfs_edit.specs.Formatted.{disk_with, IsFormatted}
+use Rattle.lfs_edit.specs.Formatted.{disk_with, root_block, IsFormatted}
 
 IsBytes-append : (xs ys : List ℕ) → IsBytes xs → IsBytes ys → IsBytes (xs ++ ys)
 IsBytes-append [] ys here there i = there i
@@ -47,9 +48,9 @@ is_lone size count = record { is = refl; len = refl; tail = refl; delta = refl }
 
 -- the root block, and erased ones behind it
 whole : (size count : ℕ) (first : List ℕ) → LoneSuperblockMounts → IsGeometry size count → length first ≡ size → IsBytes first
-    → part_in first (replicate size 0xff) ≡ Some (root_part size count)
+    → first ≡ root_block size count → part_in first (replicate size 0xff) ≡ Some (root_part size count)
     → IsFormatted size count (first ++ replicate (size * count - size) 0xff)
-whole size count first lone geometry len bytes part =
+whole size count first lone geometry len bytes is part =
     let rest : List ℕ = replicate (size * count - size) 0xff in
     let disk : Disk = disk_with size count (first ++ rest) in
     let two : size * 2 ≤ size * count = mul-le-mul_left size geometry.count_fits.0 in
@@ -66,6 +67,7 @@ whole size count first lone geometry len bytes part =
     let held : stored_part_of disk root ≡ Some (root_part size count) =
     ap (λ (b : List ℕ). part_in b (block_of disk 1)) zero_is ∙ ap (part_in first) one_is ∙ part in
     record {
+      content = ap (λ (b : List ℕ). b ++ rest) is;
       disk = is_disk;
       mount = lone disk (root_part size count) (superblock_bytes size count) [] is_disk held (is_lone size count)
           (is_header size count (omega (arith, geometry.size_fits.1)) (omega (arith, geometry.count_fits.1))) tt;
@@ -74,9 +76,11 @@ whole size count first lone geometry len bytes part =
 -- the same, as it is made
 pub formatted : (size count : ℕ) (first bytes : List ℕ) (entry : StoredEntry) → LoneSuperblockMounts → IsGeometry size count
     → length first ≡ size → IsBytes first → bytes ≡ first ++ replicate (size * count - length first) 0xff
+    → first ≡ log_written 1 (part_tags (stored_part (entry ∷ []) End (replicate 12 0))) (replicate size 0xff)
     → part_in first (replicate size 0xff) ≡ Some (stored_part (entry ∷ []) End (replicate 12 0)) → entry ≡ new_superblock size count
     → IsFormatted size count bytes
-formatted size count first bytes entry lone geometry len first_bytes is part entry_is =
+formatted size count first bytes entry lone geometry len first_bytes is block part entry_is =
     subst (IsFormatted size count) (sym (is ∙ ap (λ (k : ℕ). first ++ replicate (size * count - k) 0xff) len))
     (whole size count first lone geometry len first_bytes
+    (block ∙ ap (λ (e : StoredEntry). log_written 1 (part_tags (stored_part (e ∷ []) End (replicate 12 0))) (replicate size 0xff)) entry_is)
     (part ∙ ap (λ (e : StoredEntry). Some (stored_part (e ∷ []) End (replicate 12 0))) entry_is))

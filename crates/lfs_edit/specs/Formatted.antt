@@ -1,10 +1,14 @@
 -- A new image (own).
-use Rattle.std.specs.Prelude.{ℕ, ◌-◌, List, [], ◌∷◌}
+use Rattle.std.specs.Prelude.{◌≡◌, ℕ, ◌-◌, ◌*◌, List, [], ◌∷◌, ◌++◌, replicate}
 use Rattle.std.specs.List.{range_with_len}
 use Rattle.lfs_block.specs.Disk.{Disk, IsDisk}
+use Rattle.lfs_meta.specs.declared.tail.Tail.TheVariants.{End}
+use Rattle.lfs_meta.specs.Spelling.{part_tags}
+use Rattle.lfs_meta.specs.Writing.{log_written, stored_part}
 use Rattle.lfs_fs.specs.Mounted.{MountedValue, IsMountOf}
 use Rattle.lfs_fs.specs.Pair.{root}
 use Rattle.lfs_fs.specs.Row.{Folder}
+use Rattle.lfs_edit.specs.SuperblockBytes.{new_superblock}
 
 -- the image of these bytes
 abbrev pub disk_with : ℕ → ℕ → List ℕ → Disk
@@ -19,7 +23,13 @@ new_mount count = record {
   free = range_with_len 2 (count - 2);
 }
 
--- bytes that are a new image
+-- the first block of a new image: revision 1, and one commit of the superblock
+abbrev pub root_block : ℕ → ℕ → List ℕ
+root_block size count =
+    log_written 1 (part_tags (stored_part (new_superblock size count ∷ []) End (replicate 12 0))) (replicate size 0xff)
+
+-- bytes that are a new image: its first block, and behind it all erased
 pub record IsFormatted (size count : ℕ) (bytes : List ℕ) : Type 0 where
+  pub content : bytes ≡ root_block size count ++ replicate (size * count - size) 0xff
   pub disk : IsDisk (disk_with size count bytes)
   pub mount : IsMountOf (disk_with size count bytes) (new_mount count)

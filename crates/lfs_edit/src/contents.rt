@@ -103,7 +103,7 @@ pub fn file_contents<B: Blocks>(
 {
     rows_show_the_tree();
     both_sides_hold();
-    let _size = disk.size();
+    let _within_limits = disk.size();
     let names = names_of(alloc, path)?;
     let Some(row) = row_at(mounted, &path_of(alloc, &names)?) else {
         return Err(missing(alloc, disk, mounted.thread(), &names));

@@ -1,8 +1,9 @@
 //! What putting a file changes of an image.
 
-ghost use Rattle.std.specs.Prelude.{◌≡◌, ◌<◌, ◌^◌, length, map, take, IfOk, IfErr};
+ghost use Rattle.std.specs.Prelude.{◌≡◌, ◌≢◌, ◌<◌, ◌^◌, length, map, take, IfOk, IfErr};
 ghost use Rattle.std.specs.List.{AllByRecursion};
 ghost use Rattle.lfs_block.specs.Geometry.{IsBlockSize};
+ghost use Rattle.lfs_file.specs.Capacity.{least_blocks};
 ghost use Rattle.lfs_file.specs.Laying.{laid};
 ghost use Rattle.lfs_meta.specs.Name.{IsName};
 ghost use Rattle.lfs_meta.specs.Spelling.{IsWhole};
@@ -65,7 +66,8 @@ fn part_with_file(
     with_file(alloc, place, name, body)
 }
 
-/// What the blocks of a file of these bytes are to hold. The only refusal is `Memory`.
+/// What the blocks of a file of these bytes are to hold; nothing where the bytes stand in its entry. The caller owes as many
+/// blocks as the file takes beside its entry. The only refusal is `Memory`.
 fn contents_of(
     alloc: Global,
     size: u32,
@@ -73,12 +75,16 @@ fn contents_of(
     blocks: &[u32],
 ) -> Result<Vec<Vec<u8>>, Refusal>
     requires size { IsBlockSize size }
+    requires many { length blocks.now ≢ 0 → length blocks.now ≡ least_blocks size (length bytes.now) }
     requires few { length blocks.now < 2 ^ 32 }
     ensures laid { IfOk result (λ all. map (λ c. c.items) all.items ≡ laid size bytes.now blocks.now) }
     ensures contents { IfOk result (λ all. AreContents size blocks.now (map (λ c. c.items) all.items)) }
     ensures refused { IfErr result (λ refusal. refusal ≡ Memory) }
 {
     laid_blocks_law();
+    if blocks.is_empty() {
+        return Ok(Vec::new(alloc));
+    }
     lay(alloc, bytes, blocks, size).ok_or(Refusal::Memory)
 }
 

@@ -22,8 +22,8 @@ fn filled(mut bytes: Vec<u8>, len: usize) -> Result<Vec<u8>, AllocError>
 }
 
 /// A new image of `count` blocks of `size` bytes, which mounts to the root alone. Names may have 255 bytes, files
-/// 2,147,483,647 and attributes 1,022. Block 0 holds the superblock behind revision 1; all other bytes are 0xff. The
-/// caller owes a good geometry; the only refusal is `Memory`.
+/// 2,147,483,647 and attributes 1,022. Block 0 holds revision 1 and one commit of the superblock; all other bytes are
+/// 0xff. The caller owes a good geometry; the only refusal is `Memory`.
 ///
 /// Source: own.
 pub fn format(alloc: Global, size: u32, count: u32) -> Result<Vec<u8>, Refusal>

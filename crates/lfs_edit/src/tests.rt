@@ -1,13 +1,7 @@
-//! New images, refusals, laws, texts of paths, files, and verdicts on small volumes.
+//! New images, refusals, laws, texts of paths, and files.
 
-mod changes;
-mod checks;
 mod file_edits;
 mod formatting;
 mod laws;
 mod paths;
-mod plain_volumes;
 mod refusals;
-mod runs;
-mod small_volumes;
-mod verdicts;

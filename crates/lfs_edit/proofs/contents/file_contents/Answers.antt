@@ -20,12 +20,12 @@ returns-in_default-clause-refused g c =
     let d : Disk = g.B.Blocks.disk c.args.disk.now in
     let same = same_located (reading_of d) c.thread.result.now c.args.mounted.now.thread c.deref-in_default.result.now c.in_ok-names.names.items c.thread.ensures c.deref-in_default.ensures.value in
     let is_path : c.in_ok-path_of.field-0 ≡ path = c.in_ok-path_of.ensures ∙ ap (map (λ (n : Bor Name). n.now)) c.deref.ensures.value in
-    refused_missing c.rows_show_the_tree.ensures c.both_sides_hold.ensures.links d c.size-size.ensures.disk c.args.mounted.now c.requires.mounted c.args.path.now path c.in_ok-names.ensures.spelled
+    refused_missing c.rows_show_the_tree.ensures c.both_sides_hold.ensures.links d c.size-within_limits.ensures.disk c.args.mounted.now c.requires.mounted c.args.path.now path c.in_ok-names.ensures.spelled
     c.missing.result (subst (λ (p : Path). All (λ row. row.path ≢ p) c.args.mounted.now.rows) is_path c.in_default.ensures.none)
     (elim c.missing.ensures [ inl memory ↦ inl memory | inr other ↦ elim other [ inl nowhere ↦ inr (inl (sym same ∙ nowhere)) | inr at ↦ inr (inr (at.0, sym same ∙ at.1)) ] ])
 
 pub contents_of-requires : goal.contents_of-requires
-contents_of-requires g c = (c.rows_show_the_tree.ensures (g.B.Blocks.disk c.args.disk.now) c.args.mounted.now c.requires.mounted c.in-Some.row.now c.size-size.ensures.disk c.in-Some.ensures.found.0).1
+contents_of-requires g c = (c.rows_show_the_tree.ensures (g.B.Blocks.disk c.args.disk.now) c.args.mounted.now c.requires.mounted c.in-Some.row.now c.size-within_limits.ensures.disk c.in-Some.ensures.found.0).1
 
 pub returns-clause-found : goal.returns-clause-found
 returns-clause-found g c =
@@ -33,7 +33,7 @@ returns-clause-found g c =
     let d : Disk = g.B.Blocks.disk c.args.disk.now in
     let is_path : c.in_ok-path_of.field-0 ≡ path = c.in_ok-path_of.ensures ∙ ap (map (λ (n : Bor Name). n.now)) c.deref.ensures.value in
     IfOk-weaker c.contents_of.result _ _
-    (λ bytes same. found_contents c.rows_show_the_tree.ensures c.both_sides_hold.ensures.links d c.size-size.ensures.disk c.args.mounted.now c.requires.mounted c.args.path.now path c.in_ok-names.ensures.spelled
+    (λ bytes same. found_contents c.rows_show_the_tree.ensures c.both_sides_hold.ensures.links d c.size-within_limits.ensures.disk c.args.mounted.now c.requires.mounted c.args.path.now path c.in_ok-names.ensures.spelled
     c.in-Some.row.now c.in-Some.ensures.found.0 (c.in-Some.ensures.found.1 ∙ is_path) bytes.items same)
     c.contents_of.ensures.bytes
 
@@ -43,6 +43,6 @@ returns-clause-refused g c =
     let d : Disk = g.B.Blocks.disk c.args.disk.now in
     let is_path : c.in_ok-path_of.field-0 ≡ path = c.in_ok-path_of.ensures ∙ ap (map (λ (n : Bor Name). n.now)) c.deref.ensures.value in
     IfErr-weaker c.contents_of.result _ _
-    (λ refusal why. refused_contents c.rows_show_the_tree.ensures c.both_sides_hold.ensures.links d c.size-size.ensures.disk c.args.mounted.now c.requires.mounted c.args.path.now path c.in_ok-names.ensures.spelled
+    (λ refusal why. refused_contents c.rows_show_the_tree.ensures c.both_sides_hold.ensures.links d c.size-within_limits.ensures.disk c.args.mounted.now c.requires.mounted c.args.path.now path c.in_ok-names.ensures.spelled
     c.in-Some.row.now c.in-Some.ensures.found.0 (c.in-Some.ensures.found.1 ∙ is_path) refusal why)
     c.contents_of.ensures.refused

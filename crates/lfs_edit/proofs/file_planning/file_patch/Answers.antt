@@ -10,7 +10,7 @@ use Rattle.lfs_edit.specs.Place.{Found}
 use Rattle.lfs_edit.specs.Planned.{Plans, RefusesPlan}
 use Rattle.lfs_edit.specs.declared.refusal.Refusal.TheVariants.{NoSpace}
 use Rattle.lfs_edit.specs.Room.{FitsOne, RefusesRoom}
-use Rattle.lfs_edit.proofs.FilePlanLemmas.{are_new, file_blocks, file_count, is_name, part_fits, planned_patch, refused_room, refused_space, same_put, same_writes, short_name}
+use Rattle.lfs_edit.proofs.FilePlanLemmas.{are_new, enough_blocks, file_blocks, file_count, is_name, part_fits, planned_patch, refused_room, refused_space, same_put, same_writes, short_name}
 use Rattle.lfs_edit.proofs.file_planning.file_patch.Goals as goal
 
 pub part_with_file-requires-clause-name : goal.part_with_file-requires-clause-name
@@ -40,6 +40,12 @@ returns-then-count-free-clause-refused c =
     subst (λ (k : ℕ). RefusesPlan c.args.image.now (Put c.args.path.now c.args.bytes.now) (NoSpace k c.free_count-free.result)) (sym count)
     (subst (λ (k : ℕ). RefusesPlan c.args.image.now (Put c.args.path.now c.args.bytes.now) (NoSpace (file_count c.args.image.now.size c.args.bytes.now) k)) (sym c.free_count-free.ensures)
     (refused_space c.command_laws.ensures c.args.image.now c.size-size.ensures.disk c.args.mounted.now c.requires.mounted c.args.path.now c.args.bytes.now (place_seen c.in_ok-place.place) c.in_ok-place.name.now c.in_ok-place.ensures.allowed fits (omega (arith, few, count, c.free_count-free.ensures))))
+
+pub contents_of-requires-clause-many : goal.contents_of-requires-clause-many
+contents_of-requires-clause-many c =
+    let enough : c.data_count-count.result ≤ c.free_count-free.result = grind (arith, nat_tests, c.if-count-free.false) in
+    let taken = c.deref-2.ensures.value ∙ c.in_ok-taken.ensures.least ∙ ap (λ (k : ℕ). take k c.args.mounted.now.free) c.data_count-count.ensures in
+    enough_blocks c.size-size.result c.args.bytes.now c.deref-2.result.now c.args.mounted.now.free taken (omega (arith, enough, c.data_count-count.ensures, c.free_count-free.ensures))
 
 pub written-requires-clause-apart : goal.written-requires-clause-apart
 written-requires-clause-apart c = rw c.in_ok-part.ensures.pair (part_fits c.command_laws.ensures c.args.image.now c.size-size.ensures.disk c.args.mounted.now c.requires.mounted c.args.path.now c.args.bytes.now (place_seen c.in_ok-place.place) c.in_ok-place.name.now c.in_ok-place.ensures.allowed).apart
