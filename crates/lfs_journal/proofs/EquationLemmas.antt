@@ -12,7 +12,7 @@ use Rattle.lfs_edit.specs.Edited.{edited}
 use Rattle.lfs_edit.specs.Cut.{cut}
 use Rattle.lfs_edit.specs.Clean.{clean}
 use Rattle.lfs_edit.specs.Accepted.{Follows}
-use Rattle.lfs_journal.specs.Laws.{IsCarriedOut, CommandsAreEquations, CommandsPushEquations, PushesEquation}
+use Rattle.lfs_journal.specs.Laws.{IsCarriedOut, CommandsAreEquations, CommandsPushEquations}
 use Rattle.lfs_journal.proofs.MoveLemmas.{Follow}
 
 pub equations : VolumesAreOne → Follow → CommandsAreEquations

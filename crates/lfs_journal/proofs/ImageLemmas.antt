@@ -1,16 +1,17 @@
 -- Undo and redo keep all images.
-use Rattle.std.proofs.Common.{◌≡◌, List, [], ◌∷◌, ◌++◌, reverse, refl, ap, sym, ◌∙◌, append_assoc, Some, None}
-use Rattle.std.specs.List.{AllByRecursion}
+use Rattle.std.proofs.Common.{◌≡◌, List, [], ◌∷◌, ◌++◌, reverse, ap, sym, ◌∙◌, append_assoc, Some, None}
+use Rattle.std.proofs.lemmas.List.{reverse-append}
 use Rattle.lfs_block.specs.Disk.{Disk}
 use Rattle.lfs_journal.specs.declared.step_fault.StepFault.TheVariants.{Refused, NothingToUndo, NothingToRedo, JournalFull}
 use Rattle.lfs_journal.specs.History.{History}
 use Rattle.lfs_journal.specs.Moves.{Undoes}
-use Rattle.lfs_journal.specs.Steps.{Step, Do, Undo, Redo, Forget, Reply, Takes, Run}
+use Rattle.lfs_journal.specs.Steps.{Step, Do, Undo, Redo, Forget, Reply, Takes}
 use Rattle.lfs_journal.specs.Laws.{images, IsUndoOrRedo, UndoAndRedoKeepImages}
 
--- the front of one list put in front of another, the images are the same
+-- the nearest image of the past becomes the present one: the images are the same
 moved : (front : Disk) (past : List Disk) (x : Disk) (future : List Disk) → reverse past ++ front ∷ (x ∷ future) ≡ reverse (front ∷ past) ++ x ∷ future
-moved front past x future = ?
+moved front past x future =
+    sym (ap (λ (r : List Disk). r ++ x ∷ future) (reverse-append (front ∷ []) past) ∙ append_assoc (reverse past) (front ∷ []) (x ∷ future))
 
 undo_keeps_images : (old new : History) → Undoes old new → images new ≡ images old
 undo_keeps_images old new u =

@@ -124,4 +124,6 @@ fn laws_of_histories(_rt: HostRuntime) {
     crate::runs_keep_histories();
     crate::undo_is_exact();
     crate::redo_is_exact();
+    crate::commands_push_equations();
+    crate::undo_and_redo_keep_images();
 }
