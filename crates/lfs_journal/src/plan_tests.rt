@@ -1,5 +1,6 @@
 //! Commands that are carried out and refused, on images of few blocks.
 
+use crate::StepFault::Refused;
 use crate::tests::new_session;
 use crate::{Session, StepFault};
 use lfs_block::Image;
@@ -50,8 +51,8 @@ fn replies(
 fn attributes_are_removed_once(rt: HostRuntime) -> Result<(), Fail> {
     let alloc = rt.alloc();
     let mut session = new_session(alloc)?;
-    let nothing = Err(StepFault::Refused(Refusal::NoAttr));
-    let nowhere = Err(StepFault::Refused(Refusal::NotFound));
+    let nothing = Err(Refused(Refusal::NoAttr));
+    let nowhere = Err(Refused(Refusal::NotFound));
     replies(&rt, alloc, &mut session, &remove(b"/"), nothing);
     replies(&rt, alloc, &mut session, &set(b"/x", &[1]), nowhere);
     replies(&rt, alloc, &mut session, &set(b"/", &[1, 2]), Ok(()));
@@ -75,9 +76,9 @@ fn reply_for(alloc: Global, len: usize) -> Result<Result<(), StepFault>, Fail> {
 // lengths of values, and replies
 const VALUES: [(usize, Result<(), StepFault>); 4] = [
     (172, Ok(())),
-    (173, Err(StepFault::Refused(Refusal::EntryTooLarge))),
-    (1_022, Err(StepFault::Refused(Refusal::EntryTooLarge))),
-    (1_023, Err(StepFault::Refused(Refusal::AttrTooLarge))),
+    (173, Err(Refused(Refusal::EntryTooLarge))),
+    (1_022, Err(Refused(Refusal::EntryTooLarge))),
+    (1_023, Err(Refused(Refusal::AttrTooLarge))),
 ];
 
 #[test]
@@ -94,7 +95,7 @@ const TEXTS: [&[u8]; 6] = [b"a", b"/a/", b"//", b"/.", b"/..", b""];
 #[test]
 fn texts_that_spell_no_path_are_refused(rt: HostRuntime) -> Result<(), Fail> {
     let mut session = new_session(rt.alloc())?;
-    let reply = Err(StepFault::Refused(Refusal::BadPath));
+    let reply = Err(Refused(Refusal::BadPath));
     for text in &TEXTS {
         replies(&rt, rt.alloc(), &mut session, &set(text, &[1]), reply);
         replies(&rt, rt.alloc(), &mut session, &remove(text), reply);
@@ -102,36 +103,55 @@ fn texts_that_spell_no_path_are_refused(rt: HostRuntime) -> Result<(), Fail> {
     Ok(())
 }
 
+// how a session replies to a file of so many bytes that is put
+fn reply_to_file(
+    alloc: Global,
+    session: &mut Session,
+    path: &[u8],
+    len: usize,
+) -> Result<Result<(), StepFault>, Fail> {
+    let bytes = vec![in alloc; 7; len]?;
+    Ok(session.command(alloc, &put(path, &bytes)))
+}
+
+// the number of blocks that are free then
+fn free_of(alloc: Global, session: &Session) -> Result<u32, Fail> {
+    Ok(mount(alloc, session.image())?.free_count())
+}
+
+// paths, lengths of files, replies, and how many blocks are free then; the blocks that a file has are free only behind the
+// command
+const FILES: [(&[u8], usize, Result<(), StepFault>, u32); 11] = [
+    (b"/", 1, Err(Refused(Refusal::IsRoot)), 2),
+    (b"a", 1, Err(Refused(Refusal::BadPath)), 2),
+    (b"/x/y", 1, Err(Refused(Refusal::NotFound)), 2),
+    (b"/a", 32, Ok(()), 2),
+    (b"/a/b", 1, Err(Refused(Refusal::NotADirectory)), 2),
+    (
+        b"/a",
+        600,
+        Err(Refused(Refusal::NoSpace { need: 3, free: 2 })),
+        2,
+    ),
+    (b"/a", 508, Ok(()), 0),
+    (
+        b"/a",
+        100,
+        Err(Refused(Refusal::NoSpace { need: 1, free: 0 })),
+        0,
+    ),
+    (b"/b", 0, Ok(()), 0),
+    (b"/a", 0, Ok(()), 2),
+    (b"/b", 33, Ok(()), 1),
+];
+
 #[test]
 fn files_are_put(rt: HostRuntime) -> Result<(), Fail> {
     let mut session = small_session(rt.alloc())?;
-    let rows: [(&[u8], usize, Option<Refusal>, u32); 11] = [
-        (b"/", 1, Some(Refusal::IsRoot), 2),
-        (b"a", 1, Some(Refusal::BadPath), 2),
-        (b"/x/y", 1, Some(Refusal::NotFound), 2),
-        (b"/a", 32, None, 2),
-        (b"/a/b", 1, Some(Refusal::NotADirectory), 2),
-        (b"/a", 600, Some(Refusal::NoSpace { need: 3, free: 2 }), 2),
-        (b"/a", 508, None, 0),
-        // the blocks that the file has are free only behind the command
-        (b"/a", 100, Some(Refusal::NoSpace { need: 1, free: 0 }), 0),
-        (b"/b", 0, None, 0),
-        (b"/a", 0, None, 2),
-        (b"/b", 33, None, 1),
-    ];
-    for (path, len, refusal, free) in rows {
-        let bytes = vec![in rt.alloc(); 7; len]?;
-        let reply = match refusal {
-            None => Ok(()),
-            Some(refusal) => Err(StepFault::Refused(refusal)),
-        };
-        assert_eq!(rt;
-            session.command(rt.alloc(), &put(path, &bytes)),
-            reply,
-            "{len}"
-        );
-        let mounted = mount(rt.alloc(), session.image())?;
-        assert_eq!(rt; mounted.free_count(), free, "{len}");
+    for (path, len, reply, free) in &FILES {
+        let replied = reply_to_file(rt.alloc(), &mut session, path, *len)?;
+        assert_eq!(rt; replied, *reply, "{len}");
+        assert_eq!(rt; free_of(rt.alloc(), &session)?, *free, "{len}");
     }
     Ok(())
 }
@@ -139,7 +159,7 @@ fn files_are_put(rt: HostRuntime) -> Result<(), Fail> {
 #[test]
 fn files_keep_their_attributes(rt: HostRuntime) -> Result<(), Fail> {
     let mut session = small_session(rt.alloc())?;
-    let nothing = Err(StepFault::Refused(Refusal::NoAttr));
+    let nothing = Err(Refused(Refusal::NoAttr));
     assert_eq!(rt; session.command(rt.alloc(), &put(b"/a", &[1])), Ok(()));
     assert_eq!(rt; session.command(rt.alloc(), &set(b"/a", &[2])), Ok(()));
     assert_eq!(rt; session.command(rt.alloc(), &put(b"/a", &[3; 33])), Ok(()));
@@ -148,27 +168,33 @@ fn files_keep_their_attributes(rt: HostRuntime) -> Result<(), Fail> {
     Ok(())
 }
 
+// how a small session replies to a file of so many bytes at a path of so many
+fn reply_at_length(
+    alloc: Global,
+    path_len: usize,
+    len: usize,
+) -> Result<Result<(), StepFault>, Fail> {
+    let mut session = small_session(alloc)?;
+    let mut path = vec![in alloc; b'/'; 1]?;
+    path.resize(path_len, b'a')?;
+    reply_to_file(alloc, &mut session, &path, len)
+}
+
+// lengths of paths and of files, and replies
+const LENGTHS: [(usize, usize, Result<(), StepFault>); 5] = [
+    (257, 0, Err(Refused(Refusal::NameTooLong))),
+    (210, 0, Err(Refused(Refusal::EntryTooLarge))),
+    (209, 0, Err(Refused(Refusal::OnePartOnly))),
+    (201, 600, Err(Refused(Refusal::OnePartOnly))),
+    (169, 0, Ok(())),
+];
+
 #[test]
 fn file_has_to_fit_limit_and_block(rt: HostRuntime) -> Result<(), Fail> {
-    let rows = [
-        (257, 0, Some(Refusal::NameTooLong)),
-        (210, 0, Some(Refusal::EntryTooLarge)),
-        (209, 0, Some(Refusal::OnePartOnly)),
-        (201, 600, Some(Refusal::OnePartOnly)),
-        (169, 0, None),
-    ];
-    for (path_len, len, refusal) in rows {
-        let mut session = small_session(rt.alloc())?;
-        let mut path = vec![in rt.alloc(); b'/'; 1]?;
-        path.resize(path_len, b'a')?;
-        let bytes = vec![in rt.alloc(); 7; len]?;
-        let reply = match refusal {
-            None => Ok(()),
-            Some(refusal) => Err(StepFault::Refused(refusal)),
-        };
+    for (path_len, len, reply) in &LENGTHS {
         assert_eq!(rt;
-            session.command(rt.alloc(), &put(&path, &bytes)),
-            reply,
+            reply_at_length(rt.alloc(), *path_len, *len)?,
+            *reply,
             "{path_len}"
         );
     }
