@@ -4,7 +4,7 @@ use Rattle.std.specs.Bool.{MatchBool}
 use Rattle.std.specs.List.{AllByRecursion, AllWithin, HoldsAt}
 use Rattle.std.proofs.lemmas.Bool.{cases_eq, cond-true, cond-false, eq-eqb, false≢true, ne_eqb}
 use Rattle.std.proofs.lemmas.List.Elements.{All-from_recursion, recursion_from_All}
-use Rattle.lfs_block.specs.Change.{Change, IsRising, IsWhole, flip, overlaid}
+use Rattle.lfs_block.specs.Change.{Change, IsRising, IsBlockChange, flip, overlaid}
 use Rattle.lfs_block.specs.Disk.{Disk, IsDisk, block_of, put}
 use Rattle.lfs_block.specs.Patch.{ChangeSet, IsPatch, AgreesOld, AgreesNew, Stands, StandsAt, flipped, put_all, applied, reverted}
 use Rattle.lfs_block.specs.PatchLaws.{IsDiskAs, FitsDisk}
@@ -35,7 +35,7 @@ flip-rising : (cs : List Change) → IsRising cs → IsRising (map flip cs)
 flip-rising [] rising = tt
 flip-rising (c ∷ cs) rising = (each-flipped (λ e. c.number < e.number) (λ e. c.number < e.number) (λ e lt. lt) cs rising.0, flip-rising cs rising.1)
 
-flip-whole : (size : ℕ) (c : Change) → IsWhole size c → IsWhole size (flip c)
+flip-whole : (size : ℕ) (c : Change) → IsBlockChange size c → IsBlockChange size (flip c)
 flip-whole size c whole = record { old = whole.new; new = whole.old; old_bytes = whole.new_bytes; new_bytes = whole.old_bytes }
 
 pub flipped-twice : (p : ChangeSet) → flipped (flipped p) ≡ p
@@ -46,7 +46,7 @@ flipped-is_patch p is =
     record {
       some = λ none. is.some (sym (flip-twice p.changes) ∙ ap (map flip) none);
       rising = flip-rising p.changes is.rising;
-      whole = each-flipped (IsWhole p.size) (IsWhole p.size) (flip-whole p.size) p.changes is.whole;
+      whole = each-flipped (IsBlockChange p.size) (IsBlockChange p.size) (flip-whole p.size) p.changes is.whole;
     }
 
 -- ---- what one block holds
@@ -116,9 +116,9 @@ changed-blocks d (c ∷ cs) n disk rising fits =
 
 -- ---- a patch
 
-fits-of : (size : ℕ) (d : Disk) (cs : List Change) → size ≡ d.size → AllByRecursion (IsWhole size) cs → AllByRecursion (Stands d) cs → AllByRecursion (FitsDisk d) cs
+fits-of : (size : ℕ) (d : Disk) (cs : List Change) → size ≡ d.size → AllByRecursion (IsBlockChange size) cs → AllByRecursion (Stands d) cs → AllByRecursion (FitsDisk d) cs
 fits-of size d cs same whole stand =
-    each-both (IsWhole size) (Stands d) (FitsDisk d) (λ c is stands. (stands.0, subst (λ (k : ℕ). IsWhole k c) same is)) cs whole stand
+    each-both (IsBlockChange size) (Stands d) (FitsDisk d) (λ c is stands. (stands.0, subst (λ (k : ℕ). IsBlockChange k c) same is)) cs whole stand
 
 pub patch-fits : (p : ChangeSet) (d : Disk) → IsPatch p → AgreesOld p d → AllByRecursion (FitsDisk d) p.changes
 patch-fits p d is agrees = fits-of p.size d p.changes agrees.size is.whole agrees.stand

@@ -4,7 +4,7 @@ use Rattle.std.specs.List.{AllByRecursion}
 use Rattle.std.proofs.Math.ListN.{drop_of_length-le}
 use Rattle.std.proofs.lemmas.List.{drop_more, get_or-map, length-map}
 use Rattle.std.proofs.lemmas.List.Elements.{All-from_recursion, All-get_or}
-use Rattle.lfs_block.specs.Change.{Change, IsWhole, flip}
+use Rattle.lfs_block.specs.Change.{Change, IsBlockChange, flip}
 use Rattle.lfs_block.specs.Disk.{Disk, IsDisk, put}
 use Rattle.lfs_block.specs.Patch.{ChangeSet, put_all}
 use Rattle.lfs_block.specs.PatchLaws.{IsDiskAs, FitsDisk}
@@ -39,7 +39,7 @@ changed-none cs d disk fits = record { fits = fits; whole = refl; disk = record 
 next-fits : (cs : List Change) (i : ℕ) (c : Change) (first now : Disk) → IsChangedTo cs i first now → IsAt cs i c → FitsDisk now c
 next-fits cs i c first now so_far at =
     let here : FitsDisk first c = subst (FitsDisk first) (sym at.is) (All-get_or (FitsDisk first) cs i c at.within (All-from_recursion (FitsDisk first) cs so_far.fits)) in
-    (subst (λ (k : ℕ). c.number < k) (sym so_far.disk.count) here.0, subst (λ (k : ℕ). IsWhole k c) (sym so_far.disk.size) here.1)
+    (subst (λ (k : ℕ). c.number < k) (sym so_far.disk.count) here.0, subst (λ (k : ℕ). IsBlockChange k c) (sym so_far.disk.size) here.1)
 
 -- what writing the change at i asks, where its number and bytes are read of r
 pub next-writes : (cs : List Change) (i : ℕ) (r c : Change) (bytes : List ℕ) (first now : Disk) → IsChangedTo cs i first now → IsAt cs i c → r ≡ c → bytes ≡ r.new

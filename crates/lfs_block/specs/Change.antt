@@ -15,7 +15,7 @@ IsRising [] = Unit {0}
 IsRising (c ∷ cs) = AllByRecursion (λ e. c.number < e.number) cs × IsRising cs
 
 -- as many bytes as a block, before and after
-pub record IsWhole (size : ℕ) (c : Change) : Type 0 where
+pub record IsBlockChange (size : ℕ) (c : Change) : Type 0 where
   pub old : length c.old ≡ size
   pub new : length c.new ≡ size
   pub old_bytes : IsBytes c.old

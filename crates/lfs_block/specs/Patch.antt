@@ -1,7 +1,7 @@
 -- An exact change of an image, and its reverse (own).
 use Rattle.std.specs.Prelude.{◌≡◌, ◌≢◌, ℕ, ◌<◌, List, [], ◌∷◌, map}
 use Rattle.std.specs.List.{AllByRecursion}
-use Rattle.lfs_block.specs.Change.{Change, IsRising, IsWhole, flip}
+use Rattle.lfs_block.specs.Change.{Change, IsRising, IsBlockChange, flip}
 use Rattle.lfs_block.specs.Disk.{Disk, block_of, put}
 
 -- the meaning of a `Patch`: its Model's Value
@@ -12,7 +12,7 @@ pub record ChangeSet : Type 0 where
 pub record IsPatch (p : ChangeSet) : Type 0 where
   pub some : p.changes ≢ []
   pub rising : IsRising p.changes
-  pub whole : AllByRecursion (IsWhole p.size) p.changes
+  pub whole : AllByRecursion (IsBlockChange p.size) p.changes
 
 -- before and after change places
 abbrev pub flipped : ChangeSet → ChangeSet

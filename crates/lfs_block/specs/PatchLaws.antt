@@ -2,7 +2,7 @@
 use Rattle.std.specs.Prelude.{◌≡◌, ◌≢◌, ℕ, ◌<◌, List, length}
 use Rattle.std.specs.List.{AllByRecursion}
 use Rattle.lfs_block.specs.Bytes.{IsBytes}
-use Rattle.lfs_block.specs.Change.{Change, IsRising, IsWhole, overlaid}
+use Rattle.lfs_block.specs.Change.{Change, IsRising, IsBlockChange, overlaid}
 use Rattle.lfs_block.specs.Disk.{Disk, IsDisk, block_of, put}
 use Rattle.lfs_block.specs.Patch.{ChangeSet, IsPatch, AgreesOld, AgreesNew, flipped, put_all, applied, reverted}
 
@@ -31,7 +31,7 @@ DisksAreTheirBlocks = (d e : Disk) → IsDisk d → IsDisk e → d.size ≡ e.si
 
 -- the change is one of a block of the image
 abbrev pub FitsDisk : Disk → Change → Type 0
-FitsDisk d c = (c.number < d.count) × IsWhole d.size c
+FitsDisk d c = (c.number < d.count) × IsBlockChange d.size c
 
 -- changes leave an image
 abbrev pub ChangedIsDisk : Type 0

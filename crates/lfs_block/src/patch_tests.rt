@@ -1,7 +1,7 @@
 //! Patches by example.
 
 ghost use Rattle.std.specs.Prelude.{◌≡◌, ◌<◌, IfOk};
-ghost use Rattle.lfs_block.specs.Change.{IsWhole};
+ghost use Rattle.lfs_block.specs.Change.{IsBlockChange};
 
 use crate::{Blocks, Image, Patch, Record};
 use std::alloc::Global;
@@ -28,7 +28,7 @@ fn is_filled(image: &Image, fills: [u8; 4]) -> bool {
 
 /// A block's 256 bytes, of one value before and of one after.
 fn record(alloc: Global, number: u32, old: u8, new: u8) -> Result<Record, Fail>
-    ensures { IfOk result (λ r. (r.number ≡ number) × IsWhole 256 r) }
+    ensures { IfOk result (λ r. (r.number ≡ number) × IsBlockChange 256 r) }
 {
     let old = vec![in alloc; old; 256]?;
     let new = vec![in alloc; new; 256]?;

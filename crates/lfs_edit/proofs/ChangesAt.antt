@@ -5,7 +5,7 @@ use Rattle.std.specs.List.{AllByRecursion, prefix_len}
 use Rattle.std.proofs.lemmas.Bool.Decides.{nat_tests}
 use Rattle.std.proofs.lemmas.List.Elements.{All-head, All-tail}
 use Rattle.lfs_block.specs.Bytes.{IsBytes}
-use Rattle.lfs_block.specs.Change.{Change, IsRising, IsWhole, overlaid}
+use Rattle.lfs_block.specs.Change.{Change, IsRising, IsBlockChange, overlaid}
 use Rattle.lfs_block.specs.Disk.{Disk, IsDisk, block_of}
 use Rattle.lfs_block.specs.Patch.{Stands}
 use Rattle.lfs_edit.specs.PartWritten.{change_at, changes_at, with_change}
@@ -84,7 +84,7 @@ with_rising c (e ∷ es) apart rising = by (nat_lt e.number c.number) refl (with
 -- of the blocks of an image, with contents of their size
 pub record FitsAt (d : Disk) (c : Change) : Type 0 where
   pub stands : Stands d c
-  pub whole : IsWhole d.size c
+  pub whole : IsBlockChange d.size c
 
 pub change_whole : (d : Disk) (b : ℕ) (new : List ℕ) → IsDisk d → b < d.count → length new ≡ d.size → IsBytes new → IsBytes (block_of d b) → FitsAt d (change_at d b new)
 change_whole d b new disk below len bytes old = record { stands = (below, refl); whole = record { old = block_len d b disk below; new = len; old_bytes = old; new_bytes = bytes } }

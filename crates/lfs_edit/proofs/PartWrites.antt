@@ -6,7 +6,7 @@ use Rattle.std.proofs.lemmas.Bool.{cases_eq}
 use Rattle.std.proofs.lemmas.List.{length-map}
 use Rattle.std.proofs.lemmas.List.Elements.{All-cons, All-weaker, All-contains_itself, recursion_from_All, All-from_recursion}
 use Rattle.lfs_block.specs.Bytes.{IsBytes}
-use Rattle.lfs_block.specs.Change.{Change, IsWhole, flip}
+use Rattle.lfs_block.specs.Change.{Change, IsBlockChange, flip}
 use Rattle.lfs_block.specs.Disk.{Disk, IsDisk, block_of, put}
 use Rattle.lfs_block.specs.Patch.{ChangeSet, IsPatch, AgreesOld, Stands, applied}
 use Rattle.lfs_block.specs.PatchLaws.{AppliedAgrees, AppliedBlocks, AppliedIsDisk, BlockPut, BlockPutOther}
@@ -80,7 +80,7 @@ made_is_patch d blocks contents n new makes =
     record {
       some = with_some (change_at d n new) (changes_at d blocks contents);
       rising = with_rising (change_at d n new) (changes_at d blocks contents) (none_of d blocks contents n makes.apart) (changes_rising d blocks contents makes.rising);
-      whole = each_weaker (FitsAt d) (IsWhole d.size) (λ c fits. fits.whole) changes (each_fits d blocks contents n new makes);
+      whole = each_weaker (FitsAt d) (IsBlockChange d.size) (λ c fits. fits.whole) changes (each_fits d blocks contents n new makes);
     }
 
 made_stands : (d : Disk) (blocks : List ℕ) (contents : List (List ℕ)) (n : ℕ) (new : List ℕ) → MakesBlocks d blocks contents n new → AgreesOld (patch_at d n new blocks contents) d

@@ -11,7 +11,7 @@ use Rattle.lfs_block.specs.Disk.{Disk, IsDisk, block_of}
 use Rattle.lfs_block.specs.Geometry.{IsBlockSize}
 use Rattle.lfs_file.specs.Capacity.{IsLeast, capacity, pointers, room}
 use Rattle.lfs_file.specs.Content.{data_part, content}
-use Rattle.lfs_file.specs.Laying.{IsLaid, filled, laid, part_of}
+use Rattle.lfs_file.specs.Laying.{IsLaid, filled, laid, share_of}
 use Rattle.lfs_file.specs.Pointer.{pointer}
 use Rattle.lfs_file.specs.SkipList.{IsChain, chain_of}
 use Rattle.lfs_file.proofs.CapacityLemmas.{least_blocks-is, room_more}
@@ -22,22 +22,22 @@ use Rattle.lfs_file.proofs.WalkLemmas.{chain-found}
 
 pub length-laid : (size : ℕ) (bytes blocks : List ℕ) → length (laid size bytes blocks) ≡ length blocks
 unfolding laid
-length-laid size bytes blocks = length-map-range_with_len (λ n. filled size (part_of size bytes n) blocks n) 0 (length blocks)
+length-laid size bytes blocks = length-map-range_with_len (λ n. filled size (share_of size bytes n) blocks n) 0 (length blocks)
 
 -- laid block n
-pub get_or-laid : (size : ℕ) (bytes blocks : List ℕ) (n : ℕ) → n < length blocks → get_or (laid size bytes blocks) n [] ≡ filled size (part_of size bytes n) blocks n
+pub get_or-laid : (size : ℕ) (bytes blocks : List ℕ) (n : ℕ) → n < length blocks → get_or (laid size bytes blocks) n [] ≡ filled size (share_of size bytes n) blocks n
 unfolding laid
-get_or-laid size bytes blocks n within = get_or-map-range_with_len (λ n. filled size (part_of size bytes n) blocks n) 0 (length blocks) n n [] within (zero-add n)
+get_or-laid size bytes blocks n within = get_or-map-range_with_len (λ n. filled size (share_of size bytes n) blocks n) 0 (length blocks) n n [] within (zero-add n)
 
 pub laid-whole_blocks : (size : ℕ) (bytes blocks : List ℕ) → IsBlockSize size → All (λ block. length block ≡ size) (laid size bytes blocks)
 laid-whole_blocks size bytes blocks fits =
     All-from_get_or (λ block. length block ≡ size) (laid size bytes blocks) []
     (λ n within. ap length (get_or-laid size bytes blocks n (omega (arith, within, length-laid size bytes blocks)))
-    ∙ length-filled size n (part_of size bytes n) blocks (omega (arith, fits.0)) (part_fits size n bytes))
+    ∙ length-filled size n (share_of size bytes n) blocks (omega (arith, fits.0)) (part_fits size n bytes))
 
 -- what block n of the disk has
 on_disk : (d : Disk) (head : ℕ) (bytes blocks : List ℕ) → IsLaid d head bytes blocks → (n : ℕ) → n < length blocks
-    → block_of d (slice_index blocks n) ≡ filled d.size (part_of d.size bytes n) blocks n
+    → block_of d (slice_index blocks n) ≡ filled d.size (share_of d.size bytes n) blocks n
 on_disk d head bytes blocks is n within =
     sym (get_or-map (block_of d) blocks n 0 [] within) ∙ ap (λ all. get_or all n []) is.same ∙ get_or-laid d.size bytes blocks n within
 
@@ -49,7 +49,7 @@ laid-chain d head bytes blocks disk is = record {
   apart = is.apart;
   back = λ n i later within lt.
       ap (λ block. pointer block i) (on_disk d head bytes blocks is n within)
-      ∙ pointer-filled d.size n i (part_of d.size bytes n) blocks lt (omega (arith, is.below (n - 2 ^ i) 0 (omega (arith, within)), disk.geometry.count_fits.1));
+      ∙ pointer-filled d.size n i (share_of d.size bytes n) blocks lt (omega (arith, is.below (n - 2 ^ i) 0 (omega (arith, within)), disk.geometry.count_fits.1));
 }
 
 pub laid-found : (d : Disk) (head : ℕ) (bytes blocks : List ℕ) → IsDisk d → IsLaid d head bytes blocks → chain_of d head (length bytes) ≡ Some blocks
@@ -80,7 +80,7 @@ front_held d head bytes blocks disk is (suc n) within =
     let len = length bytes in
     let front = concat (map (data_part d blocks) (range_with_len 0 n)) in
     let next = data_part d blocks n in
-    let part = part_of size bytes n in
+    let part = share_of size bytes n in
     let fill : List ℕ = replicate (capacity size n - length part) 0xff in
     let number : n + 1 ≡ suc n = add-one n in
     let earlier : take len front ≡ take (room size n) bytes = front_held d head bytes blocks disk is n (omega (arith, within)) in

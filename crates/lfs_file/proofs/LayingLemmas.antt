@@ -10,7 +10,7 @@ use Rattle.std.proofs.lemmas.List.FromFn.{map-range_with_len_more}
 use Rattle.std.proofs.lemmas.List.Folds.{concat-append}
 use Rattle.std.proofs.lemmas.Nat.{from_le_bytes-to_le_bytes_4}
 use Rattle.lfs_file.specs.Capacity.{pointers, capacity, room}
-use Rattle.lfs_file.specs.Laying.{filled, laid, laid_pointers, part_of}
+use Rattle.lfs_file.specs.Laying.{filled, laid, laid_pointers, share_of}
 use Rattle.lfs_file.specs.Pointer.{pointer}
 use Rattle.lfs_file.proofs.CapacityLemmas.{pointers_few, room_more}
 use Rattle.lfs_file.proofs.SliceLemmas.{concat-cons}
@@ -125,7 +125,7 @@ laid-more view f n ok all new x before passed pushed is =
 
 -- the bytes that go into block n, and those that are left
 pub part-next : (size n held cut : ℕ) (bytes rest part : List ℕ) → rest ≡ drop (room size n) bytes → held ≡ capacity size n → cut ≡ min held (length rest) → part ≡ take cut rest
-    → part ≡ part_of size bytes n
+    → part ≡ share_of size bytes n
 part-next size n held cut bytes rest part left holds cuts is =
     is ∙ ap (λ k. take k rest) cuts ∙ take_min held rest ∙ ap (λ k. take k rest) holds ∙ ap (take (capacity size n)) left
 
@@ -136,11 +136,11 @@ rest-next size n held cut bytes rest later left holds cuts is =
     ∙ drop-drop (capacity size n) (room size n) bytes ∙ ap (λ k. drop k bytes) (sym (room_more size n))
 
 -- what block n holds is no more than its room
-pub part_fits : (size n : ℕ) (bytes : List ℕ) → length (part_of size bytes n) ≤ capacity size n
+pub part_fits : (size n : ℕ) (bytes : List ℕ) → length (share_of size bytes n) ≤ capacity size n
 part_fits size n bytes = omega (arith, length-take (capacity size n) (drop (room size n) bytes))
 
 -- all blocks
-pub laid-whole : (size n : ℕ) (bytes blocks : List ℕ) (all : List (List ℕ)) → all ≡ map (λ k. filled size (part_of size bytes k) blocks k) (range_with_len 0 n) → n ≡ length blocks
+pub laid-whole : (size n : ℕ) (bytes blocks : List ℕ) (all : List (List ℕ)) → all ≡ map (λ k. filled size (share_of size bytes k) blocks k) (range_with_len 0 n) → n ≡ length blocks
     → all ≡ laid size bytes blocks
 unfolding laid
-laid-whole size n bytes blocks all is end = is ∙ ap (λ k. map (λ k. filled size (part_of size bytes k) blocks k) (range_with_len 0 k)) end
+laid-whole size n bytes blocks all is end = is ∙ ap (λ k. map (λ k. filled size (share_of size bytes k) blocks k) (range_with_len 0 k)) end

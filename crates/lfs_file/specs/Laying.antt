@@ -14,12 +14,12 @@ unfoldable pub filled : ℕ → List ℕ → List ℕ → ℕ → List ℕ
 filled size part blocks n = laid_pointers blocks n (pointers n) ++ part ++ replicate (capacity size n - length part) 0xff
 
 -- the bytes of a file that block n holds
-abbrev pub part_of : ℕ → List ℕ → ℕ → List ℕ
-part_of size bytes n = take (capacity size n) (drop (room size n) bytes)
+abbrev pub share_of : ℕ → List ℕ → ℕ → List ℕ
+share_of size bytes n = take (capacity size n) (drop (room size n) bytes)
 
 -- the blocks of a file of these bytes, in order
 unfoldable pub laid : ℕ → List ℕ → List ℕ → List (List ℕ)
-laid size bytes blocks = map (λ n. filled size (part_of size bytes n) blocks n) (range_with_len 0 (length blocks))
+laid size bytes blocks = map (λ n. filled size (share_of size bytes n) blocks n) (range_with_len 0 (length blocks))
 
 -- these blocks of the disk have what is laid in them for a file of these bytes; they are as many as it takes, they differ, and the last one is the head
 pub record IsLaid (d : Disk) (head : ℕ) (bytes blocks : List ℕ) : Type 0 where

@@ -19,24 +19,24 @@ pub(crate) fn capacity_of(block_size: u32, n: u32) -> u32
     block_size - 4 * pointers_of(n)
 }
 
-/// The least number of blocks that hold a file of `size` bytes, in blocks of `block_size` bytes. The caller owes
-/// a block size that images have. Takes no memory, and the same time for every size.
+/// The least number of blocks that hold a file of `len` bytes, in blocks of `block_size` bytes. The caller owes
+/// a block size that images have. Takes no memory, and the same time for every length.
 ///
 /// Source: DESIGN.md, "CTZ skip-lists".
-pub fn blocks_for(size: u32, block_size: u32) -> u32
+pub fn blocks_for(len: u32, block_size: u32) -> u32
     requires { IsBlockSize block_size }
-    ensures { result ≡ least_blocks block_size size }
+    ensures { result ≡ least_blocks block_size len }
 {
-    if size == 0 {
+    if len == 0 {
         return 0;
     }
-    if size <= block_size {
+    if len <= block_size {
         return 1;
     }
     // n blocks hold n times this, 8 bytes, and 4 for each bit of n - 1 that is 1: those are less than a block's share
     let share = block_size - 8;
-    let whole = (size - 9) / share;
-    let over = (size - 9) % share;
+    let whole = (len - 9) / share;
+    let over = (len - 9) % share;
     if over < 4 * (whole - 1).count_ones() {
         whole
     } else {
@@ -59,8 +59,8 @@ mod tests {
             (3_040, 6),
             (3_041, 7),
         ];
-        for (size, want) in cases {
-            assert_eq!(rt; blocks_for(size, 512), want, "at {size}");
+        for (len, want) in cases {
+            assert_eq!(rt; blocks_for(len, 512), want, "at {len}");
         }
         assert_eq!(rt; blocks_for(0xffff_ffff, 256), 17_318_417);
         assert_eq!(rt; blocks_for(0xffff_ffff, 65_536), 65_545);

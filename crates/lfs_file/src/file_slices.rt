@@ -53,20 +53,20 @@ impl<'a, B: Blocks> Iterator for FileSlices<'a, B> {
     }
 }
 
-/// The contents of a file of `size` bytes in the blocks of `chain`, in slices. Nothing is copied, and no memory is
+/// The contents of a file of `len` bytes in the blocks of `chain`, in slices. Nothing is copied, and no memory is
 /// taken. The caller owes that the blocks are on the disk, and no more than it has.
 ///
 /// Source: DESIGN.md, "CTZ skip-lists".
-pub fn read_file<'a, B: Blocks>(blocks: &'a B, chain: &'a [u32], size: u32) -> FileSlices<'a, B>
+pub fn read_file<'a, B: Blocks>(blocks: &'a B, chain: &'a [u32], len: u32) -> FileSlices<'a, B>
     requires below { All (λ b. b < (B.disk blocks.now).count) chain.now }
     requires few { length chain.now ≤ (B.disk blocks.now).count }
-    ensures joined { concat result ≡ content (B.disk blocks.now) size chain.now }
+    ensures joined { concat result ≡ content (B.disk blocks.now) len chain.now }
     ensures count { length result ≡ length chain.now }
 {
     FileSlices {
         disk: blocks,
         chain,
         number: 0,
-        left: size as usize,
+        left: len as usize,
     }
 }

@@ -10,14 +10,14 @@ use crate::pointer::pointer_at;
 use lfs_block::{Blocks, MountFault};
 use std::alloc::Global;
 
-/// How many blocks a file of `size` bytes takes, if the disk has so many.
-fn count_within<B: Blocks>(blocks: &B, size: u32) -> Option<u32>
+/// How many blocks a file of `len` bytes takes, if the disk has so many.
+fn count_within<B: Blocks>(blocks: &B, len: u32) -> Option<u32>
     ensures disk { IsDisk (B.disk blocks.now) }
-    ensures count { IfSome result (λ n. n ≡ least_blocks (B.disk blocks.now).size size) }
+    ensures count { IfSome result (λ n. n ≡ least_blocks (B.disk blocks.now).size len) }
     ensures within { IfSome result (λ n. n ≤ (B.disk blocks.now).count) }
-    ensures longer { IfNone result ((B.disk blocks.now).count < least_blocks (B.disk blocks.now).size size) }
+    ensures longer { IfNone result ((B.disk blocks.now).count < least_blocks (B.disk blocks.now).size len) }
 {
-    let count = blocks_for(size, blocks.size());
+    let count = blocks_for(len, blocks.size());
     (count <= blocks.count()).then_some(count)
 }
 
@@ -91,7 +91,7 @@ fn is_linked<B: Blocks>(blocks: &B, chain: &[u32]) -> bool
     true
 }
 
-/// The blocks of a file of `size` bytes whose last block is `head`, from block 0 on. `BadSkipList` where the disk holds
+/// The blocks of a file of `len` bytes whose last block is `head`, from block 0 on. `BadSkipList` where the disk holds
 /// no such chain: a pointer is wrong, a block is past the disk's end or stands twice, or the file is longer than the
 /// disk. Takes memory for the blocks' numbers, for no more of them than the disk has.
 ///
@@ -100,13 +100,13 @@ pub fn chain<B: Blocks>(
     alloc: Global,
     blocks: &B,
     head: u32,
-    size: u32,
+    len: u32,
 ) -> Result<Vec<u32>, MountFault>
-    ensures found { IfOk result (λ chain. IsChain (B.disk blocks.now) head size chain.items) }
-    ensures computed { IfOk result (λ chain. chain_of (B.disk blocks.now) head size ≡ Some chain.items) }
-    ensures refused { IfErr result (λ fault. ChainCause fault (B.disk blocks.now) head size) }
+    ensures found { IfOk result (λ chain. IsChain (B.disk blocks.now) head len chain.items) }
+    ensures computed { IfOk result (λ chain. chain_of (B.disk blocks.now) head len ≡ Some chain.items) }
+    ensures refused { IfErr result (λ fault. ChainCause fault (B.disk blocks.now) head len) }
 {
-    let Some(count) = count_within(blocks, size) else {
+    let Some(count) = count_within(blocks, len) else {
         return Err(MountFault::BadSkipList);
     };
     let chain = walk_back(alloc, blocks, head, count)?;
@@ -173,9 +173,9 @@ mod tests {
             ("one byte more than 8 blocks hold", 0, 0, 7, 4_053),
             ("the longest file", 0, 0, 7, 0xffff_ffff),
         ];
-        for (name, place, byte, head, size) in cases {
+        for (name, place, byte, head, len) in cases {
             let image = image_with(alloc, place, byte)?;
-            let refused = chain(alloc, &image, head, size).map(|_| ());
+            let refused = chain(alloc, &image, head, len).map(|_| ());
             assert!(rt; refused == Err(MountFault::BadSkipList), "{name}");
         }
         Ok(())

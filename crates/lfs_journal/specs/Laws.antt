@@ -14,7 +14,7 @@ use Rattle.lfs_edit.specs.Equation.{equation}
 use Rattle.lfs_edit.specs.Accepted.{Follows}
 use Rattle.lfs_edit.specs.Planned.{Plans}
 use Rattle.lfs_journal.specs.History.{History, IsHistory}
-use Rattle.lfs_journal.specs.Steps.{Step, Do, Undo, Redo, Forget, Reply, Does, Run}
+use Rattle.lfs_journal.specs.Steps.{Step, Do, Undo, Redo, Reply, Does, Run}
 
 -- the patched image holds a sound volume of the same size, count and limits, whose tree is the command's equation
 pub record IsCarriedOut (asked : Asked) (e : Disk) (v : Volume) (t : Path → Option Node) : Type 0 where
@@ -47,10 +47,9 @@ images h = reverse h.past ++ h.present ∷ h.future
 
 -- a step that takes a change back or makes it again
 abbrev pub IsUndoOrRedo : Step → Type 0
-IsUndoOrRedo (Do asked) = ⊥
 IsUndoOrRedo Undo = Unit {0}
 IsUndoOrRedo Redo = Unit {0}
-IsUndoOrRedo Forget = ⊥
+IsUndoOrRedo _ = ⊥
 
 -- undo and redo, in any list, keep all images, each byte for byte
 abbrev pub UndoAndRedoKeepImages : Type 0

@@ -38,19 +38,10 @@ Takes Redo None old new = Redoes old new
 Takes Redo (Some NothingToRedo) old new = (old.future ≡ []) × (new ≡ old)
 Takes Forget None old new = Forgets old new
 -- no other reply is given
-Takes (Do asked) (Some NothingToUndo) old new = ⊥
-Takes (Do asked) (Some NothingToRedo) old new = ⊥
-Takes Undo (Some (Refused r)) old new = ⊥
-Takes Undo (Some NothingToRedo) old new = ⊥
-Takes Undo (Some JournalFull) old new = ⊥
-Takes Redo (Some (Refused r)) old new = ⊥
-Takes Redo (Some NothingToUndo) old new = ⊥
-Takes Redo (Some JournalFull) old new = ⊥
-Takes Forget (Some fault) old new = ⊥
+Takes _ _ old new = ⊥
 
 -- the steps may get these replies, one after another
 abbrev pub Run : List Step → List Reply → History → History → Type 0
 Run [] [] old new = new ≡ old
 Run (step ∷ steps) (reply ∷ replies) old new = (mid : History) × Takes step reply old mid × Run steps replies mid new
-Run [] (reply ∷ replies) old new = ⊥
-Run (step ∷ steps) [] old new = ⊥
+Run _ _ old new = ⊥
