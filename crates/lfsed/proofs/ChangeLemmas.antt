@@ -12,7 +12,7 @@ use Rattle.lfsed.specs.Change.{IsChanged, RefusesImage, AnswersImage, RefusesCha
 use Rattle.lfsed.proofs.OutcomeLemmas.{image_of_disk}
 
 -- what is said of a session in which a command was to be carried out
-pub record IsCarriedOut {T : Type 0} (asked : Asked) (journal : List ℕ) (reported : Result T Fault) (old new : History) : Type 0 where
+pub record IsReported {T : Type 0} (asked : Asked) (journal : List ℕ) (reported : Result T Fault) (old new : History) : Type 0 where
   pub unused : OnOk reported (journal ≡ [])
   pub done : OnOk reported (Takes (Do asked) None old new)
   pub refused : IfErr reported (λ fault. RefusesImage asked old.present journal fault)
@@ -24,14 +24,14 @@ pub record IsKept (journal : List ℕ) (new : History) (o : Outcome) : Type 0 wh
   pub same : o.journal.items ≡ journal
 
 answers_at : {T : Type 0} (asked : Asked) (d : Disk) (journal : List ℕ) (reported : Result T Fault) (new : History) (o : Outcome) → IsKept journal new o
-    → IsCarriedOut asked journal reported (fresh_history d) new → AnswersImage (result_err reported) asked d journal o
+    → IsReported asked journal reported (fresh_history d) new → AnswersImage (result_err reported) asked d journal o
 answers_at asked d journal (Ok x) new o kept is = record { unused = is.unused; new = new; takes = is.done; kept = kept.image; emptied = kept.same ∙ is.unused }
 answers_at asked d journal (Err fault) new o kept is = (kept.image ∙ ap (λ (h : History). h.present.bytes) is.unchanged, kept.same, is.refused)
 
 pub image_answers : {T : Type 0} (asked : Asked) (d : Disk) (journal : List ℕ) (reported : Result T Fault) (old new : History) (o : Outcome) → IsKept journal new o
-    → old ≡ fresh_history d → o.fault ≡ result_err reported → IsCarriedOut asked journal reported old new → AnswersImage o.fault asked d journal o
+    → old ≡ fresh_history d → o.fault ≡ result_err reported → IsReported asked journal reported old new → AnswersImage o.fault asked d journal o
 image_answers asked d journal reported old new o kept fresh fault is =
-    let at = subst (λ (h : History). IsCarriedOut asked journal reported h new) fresh is in
+    let at = subst (λ (h : History). IsReported asked journal reported h new) fresh is in
     subst (λ (x : Option Fault). AnswersImage x asked d journal o) (sym fault) (answers_at asked d journal reported new o kept at)
 
 change_refused : (asked : Asked) (d : Disk) (journal : List ℕ) (fault : Fault) → IsDisk d → RefusesImage asked d journal fault → RefusesChange asked d.size d.bytes journal fault

@@ -1,3 +1,4 @@
 pub mod ChangeLemmas
 pub mod OutcomeLemmas
 pub mod SendLemmas
+pub mod LawLemmas

@@ -6,3 +6,4 @@ pub mod Outcome
 pub mod Send
 pub mod Summary
 pub mod Task
+pub mod Laws

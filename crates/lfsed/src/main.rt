@@ -7,6 +7,7 @@ mod command_line;
 mod digits;
 mod fault;
 mod host;
+mod laws;
 mod outcome;
 mod output;
 mod query;

@@ -8,6 +8,7 @@ ghost use Rattle.lfsed.specs.declared.step.Step.TheVariants.{Format};
 
 use crate::changing::changed;
 use crate::fault::Fault;
+use crate::laws::{changed_bytes_are_equations, changed_bytes_are_taken_back};
 use crate::outcome::Outcome;
 use crate::query::Query;
 use crate::querying::queried;
@@ -38,6 +39,8 @@ pub fn run<S: Sink>(
     ensures failed { S.failed out.new ≡ blames_output result.fault }
     ensures status { result.status ≡ status_of result.fault }
 {
+    changed_bytes_are_equations();
+    changed_bytes_are_taken_back();
     match *step {
         Step::Format { count } => formatted(alloc, size, count, image, journal),
         Step::Check => queried(alloc, &Query::Check, size, image, journal, out),

@@ -1,6 +1,6 @@
 use Rattle.std.proofs.Common.{ℕ, List, ap, subst, ◌∙◌}
 use Rattle.lfs_edit.specs.AskedFor.{asked_for}
-use Rattle.lfsed.proofs.ChangeLemmas.{IsCarriedOut, IsKept, image_answers}
+use Rattle.lfsed.proofs.ChangeLemmas.{IsReported, IsKept, image_answers}
 use Rattle.lfsed.proofs.changing.changed_image.Goals as goal
 
 pub returns-in-Ok-clause-answers : goal.returns-in-Ok-clause-answers
@@ -11,7 +11,7 @@ returns-in-Ok-clause-answers c =
     let new = c.carry_out.new.session in
     let reported = c.carry_out.result in
     let said = c.carry_out.ensures in
-    let is : IsCarriedOut asked c.as_slice.result.now reported session new = record {
+    let is : IsReported asked c.as_slice.result.now reported session new = record {
       unused = said.unused;
       done = said.done;
       refused = said.refused;
@@ -21,5 +21,5 @@ returns-in-Ok-clause-answers c =
       image = ap (λ v. v.items) c.new.ensures.kept.0 ∙ c.into_bytes.ensures ∙ ap (λ d. d.bytes) c.into_image.ensures;
       same = ap (λ v. v.items) c.new.ensures.kept.1;
     } in
-    let at = subst (λ (l : List ℕ). IsCarriedOut asked l reported session new) c.as_slice.ensures.value is in
+    let at = subst (λ (l : List ℕ). IsReported asked l reported session new) c.as_slice.ensures.value is in
     image_answers asked c.args.image c.args.journal.items reported session new o kept c.in-Ok.ensures.fresh (c.new.ensures.fault ∙ c.err-fault.ensures.value) at
