@@ -1,11 +1,12 @@
 -- The loop that reads a log: what is left decides what the whole gives.
-use Rattle.std.proofs.Common.{◌≡◌, ℕ, suc, ◌+◌, ◌<◌, ◌≤◌, List, [], length, take, drop, Option, Some, None, option_map, refl, sym, ap, subst, ◌∙◌, arith}
+use Rattle.std.proofs.Common.{◌≡◌, ℕ, suc, ◌+◌, ◌<◌, ◌≤◌, Bool, List, [], length, take, drop, Option, Some, None, option_map, refl, sym, ap, subst, ◌∙◌, arith}
 use Rattle.std.proofs.lemmas.List.{take_at, length-append}
 use Rattle.lfs_block.specs.Checksum.{crc}
 use Rattle.lfs_block.specs.Bytes.{IsBytes}
-use Rattle.lfs_tag.specs.Commit.{next_word}
+use Rattle.lfs_tag.specs.Commit.{Item, next_word}
 use Rattle.lfs_tag.specs.Log.{log_tags}
 use Rattle.lfs_tag.specs.Found.{commit_seen}
+use Rattle.lfs_tag.specs.LogSeen.{LogSeen}
 use Rattle.lfs_tag.specs.Reading.{CommitFront, commit_at, Front, with_commit, log_from, log_of, tags_at}
 use Rattle.lfs_tag.proofs.Steps.{map_some, commit_at-shorter, log_from-none, log_from-more}
 use Rattle.lfs_tag.proofs.Logs.{logged, log_of-takes, tags_again}
@@ -84,3 +85,15 @@ pub block_read : (block revision bytes : List ℕ) (sum : ℕ) → sum ≡ crc 0
     → log_from sum 0xffffffff bytes ≡ log_of block
 block_read block revision bytes sum s r b =
     ap (λ (x : ℕ). log_from x 0xffffffff bytes) (s ∙ ap (crc 0xffffffff) r) ∙ ap (log_from (crc 0xffffffff (take 4 block)) 0xffffffff) b ∙ log_of-from block
+
+abbrev log_with : ℕ → ℕ → ℕ → Bool → List Item → LogSeen
+log_with end commits last erased tags = record { end = end; commits = commits; last = last; erased = erased; tags = tags }
+
+-- two logs that agree in each field
+pub same_log : (a b : LogSeen) → a.end ≡ b.end → a.commits ≡ b.commits → a.last ≡ b.last → a.erased ≡ b.erased → a.tags ≡ b.tags → a ≡ b
+same_log a b end commits last erased tags =
+    ap (λ (n : ℕ). log_with n a.commits a.last a.erased a.tags) end
+    ∙ ap (λ (n : ℕ). log_with b.end n a.last a.erased a.tags) commits
+    ∙ ap (λ (n : ℕ). log_with b.end b.commits n a.erased a.tags) last
+    ∙ ap (λ (t : Bool). log_with b.end b.commits b.last t a.tags) erased
+    ∙ ap (log_with b.end b.commits b.last b.erased) tags

@@ -1,11 +1,12 @@
 -- Laws of logs (own).
-use Rattle.std.specs.Prelude.{◌≡◌, ◌≢◌, ℕ, ◌+◌, ◌<◌, ◌≤◌, ◌^◌, List, [], ◌∷◌, ◌++◌, length, drop}
+use Rattle.std.specs.Prelude.{◌≡◌, ◌≢◌, ◌↔◌, true, ℕ, ◌+◌, ◌<◌, ◌≤◌, ◌^◌, List, [], ◌∷◌, ◌++◌, length, drop}
 use Rattle.std.specs.List.{AllByRecursion}
 use Rattle.lfs_block.specs.Bytes.{IsBytes}
 use Rattle.lfs_block.specs.Disk.{put_at}
 use Rattle.lfs_tag.specs.Tag.{main_kind}
 use Rattle.lfs_tag.specs.Commit.{Item, Commit, IsItem, IsCommit, commit_bytes}
 use Rattle.lfs_tag.specs.Log.{IsErased, IsLog, final_word, log_tags}
+use Rattle.lfs_tag.specs.LogSeen.{is_erased}
 use Rattle.lfs_tag.specs.Reading.{log_of}
 use Rattle.lfs_tag.specs.Writing.{committed_end, commit_of, lead_at}
 
@@ -23,6 +24,10 @@ LogIsRead = (block : List ℕ) (commits : List Commit) (rest : List ℕ) → IsB
 abbrev pub LogTagsAreItems : Type 0
 LogTagsAreItems = (block : List ℕ) (commits : List Commit) (rest : List ℕ) → IsLog block commits rest
     → AllByRecursion IsItem (log_tags commits)
+
+-- The test of erased bytes says whether they are.
+abbrev pub ErasedIsDecided : Type 0
+ErasedIsDecided = (bytes : List ℕ) → (is_erased bytes ≡ true) ↔ IsErased bytes
 
 -- Erased bytes hold no commit behind a word whose main type isn't 2: the first word may be a valid tag there, and the next
 -- one isn't.

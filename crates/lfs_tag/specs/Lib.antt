@@ -3,6 +3,7 @@ pub mod Commit
 pub mod Log
 pub mod Found
 pub mod Reading
+pub mod LogSeen
 pub mod Tags
 pub mod Writing
 pub mod Laws

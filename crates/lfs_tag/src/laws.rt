@@ -1,6 +1,6 @@
 //! Laws of logs. Each function does nothing: its contract is the law.
 
-ghost use Rattle.lfs_tag.specs.Laws.{OneLog, LogIsRead, LogTagsAreItems, ErasedHoldsNoCommit, FinalWordKind, ErasedBlock, FirstCommit, NextCommit, WrittenLength};
+ghost use Rattle.lfs_tag.specs.Laws.{OneLog, LogIsRead, LogTagsAreItems, ErasedIsDecided, ErasedHoldsNoCommit, FinalWordKind, ErasedBlock, FirstCommit, NextCommit, WrittenLength};
 
 /// A block of bytes has one log.
 pub fn one_log()
@@ -15,6 +15,11 @@ pub fn log_is_read()
 /// The tags of a log's commits are valid, no checksums', and have as much data as they say.
 pub fn log_tags_are_items()
     ensures { LogTagsAreItems }
+{}
+
+/// The test of erased bytes says whether they are.
+pub fn erased_is_decided()
+    ensures { ErasedIsDecided }
 {}
 
 /// Erased bytes hold no commit, whichever word of a log stands before them.

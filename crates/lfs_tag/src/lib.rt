@@ -1,6 +1,8 @@
 //! Tags, commits and logs: what stands in a metadata block.
 #![tactic(auto)]
 
+#[cfg(test)]
+mod closing_tests;
 mod edit;
 pub mod laws;
 mod log;

@@ -1,28 +1,26 @@
 //! The log of a block.
 
-ghost use Rattle.std.specs.Prelude.{◌≡◌, ◌≤◌, ◌+◌, ◌↔◌, length, IsTrue};
-ghost use Rattle.std.specs.List.{AllByRecursion};
-ghost use Rattle.lfs_tag.specs.Commit.{IsItem};
-ghost use Rattle.lfs_tag.specs.Log.{IsErased, IsLog, final_word, log_tags};
-ghost use Rattle.lfs_tag.specs.Reading.{log_of};
-ghost use Rattle.lfs_tag.specs.Tags.{log_items};
+ghost use Rattle.std.specs.Prelude.{◌≡◌};
+ghost use Rattle.lfs_tag.specs.LogSeen.{is_erased};
 
 use crate::reading::{CHECKSUM_START, commit_at};
 use crate::tag::FIRST_WORD;
 use crate::tags::Tags;
 use lfs_block::crc32;
+use std::marker::Model;
 
 /// Whether each byte is 0xff.
 fn is_erased(bytes: &[u8]) -> bool
-    ensures { IsTrue result ↔ IsErased bytes.now }
+    ensures { result ≡ is_erased bytes.now }
 {
     bytes.iter().all(|byte| *byte == 0xff)
 }
 
-/// The log of a block: its longest front of valid commits.
+/// The log of a block: its longest front of valid commits. Its meaning is what is read of it, with the tags of all its
+/// commits.
 ///
 /// Source: SPEC.md, "Metadata pairs".
-#[derive(Clone, Copy, Debug)]
+#[derive(Debug, Drop)]
 pub struct Log<'a> {
     /// Where the last commit ends, in bytes from the block's beginning.
     pub end: usize,
@@ -36,16 +34,34 @@ pub struct Log<'a> {
     committed: &'a [u8],
 }
 
+impl<'a> Model for Log<'a> {
+    ghost use Rattle.lfs_tag.specs.LogSeen.{LogSeen};
+    ghost use Rattle.lfs_tag.specs.Reading.{tags_at};
+
+    ghost Value = { LogSeen };
+
+    ghost view = { λ log. record {
+      end = log.end;
+      commits = log.commits;
+      last = log.last;
+      erased = log.erased;
+      tags = tags_at 0xffffffff log.committed.now;
+    } };
+}
+
 impl<'a> Log<'a> {
+    ghost use Rattle.std.specs.Prelude.{◌≡◌, ◌≤◌, length};
+    ghost use Rattle.std.specs.List.{AllByRecursion};
+    ghost use Rattle.lfs_tag.specs.Commit.{IsItem};
+    ghost use Rattle.lfs_tag.specs.Log.{IsLog};
+    ghost use Rattle.lfs_tag.specs.LogSeen.{log_seen};
+    ghost use Rattle.lfs_tag.specs.Reading.{log_of};
+
     /// The log of `block`, which has four bytes or more. Takes no memory.
     pub fn read(block: &'a [u8]) -> Log<'a>
         requires { 4 ≤ length block.now }
+        ensures seen { result ≡ log_seen block.now }
         ensures log { IsLog block.now (log_of block.now).commits (log_of block.now).rest }
-        ensures end { result.end + length (log_of block.now).rest ≡ length block.now }
-        ensures commits { result.commits ≡ length (log_of block.now).commits }
-        ensures last { result.last ≡ final_word 0xffffffff (log_of block.now).commits }
-        ensures erased { IsTrue result.erased ↔ IsErased (log_of block.now).rest }
-        ensures tags { log_items result ≡ log_tags (log_of block.now).commits }
     {
         let (revision, bytes) = block.split_at(4);
         let mut sum = crc32(CHECKSUM_START, revision);
@@ -70,7 +86,7 @@ impl<'a> Log<'a> {
 
     /// The tags of all commits, in order, each with its data, without those of checksums. Takes no memory.
     pub fn tags(&self) -> Tags<'a>
-        ensures tags { result ≡ log_items self.now }
+        ensures tags { result ≡ self.now.tags }
         ensures valid { AllByRecursion IsItem result }
     {
         Tags::new(self.committed)

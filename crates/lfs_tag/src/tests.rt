@@ -181,6 +181,7 @@ fn laws_of_logs(_rt: HostRuntime) {
     laws::one_log();
     laws::log_is_read();
     laws::log_tags_are_items();
+    laws::erased_is_decided();
     laws::erased_holds_no_commit();
     laws::erased_block();
     laws::first_commit();

@@ -1,12 +1,13 @@
 -- What was read when the loop is left is the log of the block.
-use Rattle.std.proofs.Common.{◌≡◌, ◌≤◌, ◌+◌, ◌-◌, length, take, drop, ℕ, List, ap, subst, ◌∙◌, arith}
-use Rattle.std.specs.Prelude.{All, IsTrue, ◌↔◌}
+use Rattle.std.proofs.Common.{◌≡◌, ◌≤◌, ◌+◌, ◌-◌, length, take, drop, ℕ, ap, subst, ◌∙◌, arith}
 use Rattle.std.proofs.lemmas.List.{length-drop}
 use Rattle.lfs_block.specs.Bytes.{IsBytes}
 use Rattle.lfs_tag.specs.Found.{commit_found}
+use Rattle.lfs_tag.specs.Log.{log_tags}
+use Rattle.lfs_tag.specs.LogSeen.{is_erased, log_seen}
 use Rattle.lfs_tag.specs.Reading.{Front, log_of, tags_at}
 use Rattle.lfs_tag.proofs.Logs.{log_of-takes, is_log}
-use Rattle.lfs_tag.proofs.ReadLoop.{ReadLoop-first, ReadLoop-shorter, ReadLoop-more, IsRead, ReadLoop-last, block_read, committed-tags}
+use Rattle.lfs_tag.proofs.ReadLoop.{ReadLoop-first, ReadLoop-shorter, ReadLoop-more, IsRead, ReadLoop-last, block_read, committed-tags, same_log}
 use Rattle.lfs_tag.proofs.log.Log.read.Goals as goal
 
 pub loop-commit-init : goal.loop-commit-init
@@ -44,21 +45,17 @@ size c =
 pub returns-clause-log : goal.returns-clause-log
 returns-clause-log c = is_log c.args.block.now c.requires (bytes c)
 
-pub returns-clause-end : goal.returns-clause-end
-returns-clause-end c =
-    omega (arith, size c, c.split_at-2.ensures.front_len, c.requires, length-drop 4 c.args.block.now)
-
-pub returns-clause-commits : goal.returns-clause-commits
-returns-clause-commits c = (done c).count
-
-pub returns-clause-last : goal.returns-clause-last
-returns-clause-last c = (done c).word ∙ (log_of-takes c.args.block.now (bytes c)).word
-
-pub returns-clause-erased : goal.returns-clause-erased
-returns-clause-erased c = subst (λ (rest : List ℕ). IsTrue c.is_erased.result ↔ All (λ b. b ≡ 255) rest) (done c).left c.is_erased.ensures
-
-pub returns-clause-tags : goal.returns-clause-tags
-returns-clause-tags c =
+tags : (c : goal.After-is_erased) → tags_at 0xffffffff c.split_at-2.result.0.now ≡ log_tags (log_of c.args.block.now).commits
+tags c =
     let n : ℕ = length c.split_at.result.1.now - length c.loop-commit.rest.now in
     ap (tags_at 0xffffffff) (c.split_at-2.ensures.front ∙ ap (take n) c.split_at.ensures.back)
     ∙ committed-tags c.args.block.now n (bytes c) (size c)
+
+pub returns-clause-seen : goal.returns-clause-seen
+returns-clause-seen c =
+    same_log _ (log_seen c.args.block.now)
+    (omega (arith, size c, c.split_at-2.ensures.front_len, c.requires, length-drop 4 c.args.block.now))
+    (done c).count
+    ((done c).word ∙ (log_of-takes c.args.block.now (bytes c)).word)
+    (c.is_erased.ensures ∙ ap is_erased (done c).left)
+    (tags c)

@@ -5,4 +5,4 @@ use Rattle.lfs_tag.proofs.Items.{tags_at-items}
 use Rattle.lfs_tag.proofs.log.Log.tags.Goals as goal
 
 pub returns-clause-valid : goal.returns-clause-valid
-returns-clause-valid c = subst (AllByRecursion IsItem) (sym c.new.ensures) (tags_at-items 0xffffffff c.args.self.now.committed.now)
+returns-clause-valid c = subst (AllByRecursion IsItem) (sym c.new.ensures) (tags_at-items 0xffffffff c.self.inside.committed.now)
