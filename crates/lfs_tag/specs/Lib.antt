@@ -5,5 +5,6 @@ pub mod Found
 pub mod Reading
 pub mod LogSeen
 pub mod Tags
+pub mod EditData
 pub mod Writing
 pub mod Laws

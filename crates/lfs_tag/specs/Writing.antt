@@ -1,12 +1,13 @@
 -- Writing: the commit that a list of tags is written as (own, within what SPEC.md, "0x5xx CRC", leaves open).
 use Rattle.std.specs.Prelude.{ℕ, ◌+◌, ◌-◌, ◌*◌, ◌/◌, ◌==◌, List, [], length, take, map, replicate, sum_by, if◌then◌else◌}
 use Rattle.lfs_tag.specs.declared.edit.Edit.{Edit}
+use Rattle.lfs_tag.specs.EditData.{data_bytes}
 use Rattle.lfs_tag.specs.Tags.{item_with}
 use Rattle.lfs_tag.specs.Commit.{Item, Commit}
 
 -- what an edit writes
 abbrev pub item_of : Edit → Item
-item_of edit = item_with edit.tag edit.bytes.now
+item_of edit = item_with edit.tag (data_bytes edit.content)
 
 abbrev pub items : List Edit → List Item
 items edits = map item_of edits

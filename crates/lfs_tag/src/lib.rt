@@ -4,6 +4,7 @@
 #[cfg(test)]
 mod closing_tests;
 mod edit;
+mod edit_data;
 pub mod laws;
 mod log;
 mod reading;
@@ -12,6 +13,7 @@ mod tags;
 mod writing;
 
 pub use edit::Edit;
+pub use edit_data::EditData;
 pub use log::Log;
 pub use tag::{CHECKSUM, DELETED, FIRST_WORD, NO_ID, Tag};
 pub use tags::Tags;

@@ -39,7 +39,7 @@ fn superblock(bytes: &[u8; 32]) -> [Edit<'_>; 2]
                 id: 0,
                 len: 8,
             },
-            bytes: name,
+            content: EditData::Bytes(name),
         },
         Edit {
             tag: Tag {
@@ -47,7 +47,7 @@ fn superblock(bytes: &[u8; 32]) -> [Edit<'_>; 2]
                 id: 0,
                 len: 24,
             },
-            bytes: limits,
+            content: EditData::Bytes(limits),
         },
     ]
 }

@@ -6,6 +6,7 @@ ghost use Rattle.std.specs.Int.{w32, to_be_bytes, to_le_bytes};
 ghost use Rattle.lfs_block.specs.Disk.{put_at};
 ghost use Rattle.lfs_tag.specs.Tag.{word_of};
 ghost use Rattle.lfs_tag.specs.Commit.{IsCommit, tags_bytes, last_word, commit_bytes, next_word};
+ghost use Rattle.lfs_tag.specs.EditData.{data_bytes};
 ghost use Rattle.lfs_tag.specs.Writing.{items, tags_len, committed_end, commit_of, lead_at};
 
 use crate::edit::Edit;
@@ -59,13 +60,14 @@ fn put_padding(block: &mut [u8], at: usize, len: usize)
 
 /// Writes a tag with its data at the place `at`, and gives the place behind it.
 fn put_edit(block: &mut [u8], at: usize, prev: u32, edit: Edit) -> usize
-    requires { at + 4 + length edit.bytes.now ≤ length block.old }
-    ensures written { block.new ≡ put_at at (to_be_bytes w32 (bit_xor (word_of edit.entry.tag) prev) ++ edit.entry.bytes.now) block.old }
-    ensures end { result ≡ at + 4 + length edit.entry.bytes.now }
+    requires { at + 4 + length (data_bytes edit.content) ≤ length block.old }
+    ensures written { block.new ≡ put_at at (to_be_bytes w32 (bit_xor (word_of edit.entry.tag) prev) ++ data_bytes edit.entry.content) block.old }
+    ensures end { result ≡ at + 4 + length (data_bytes edit.entry.content) }
 {
+    let bytes = edit.content.as_bytes();
     put_big_word(block, at, edit.tag.encode(prev));
-    put(block, at + 4, edit.bytes);
-    at + 4 + edit.bytes.len()
+    put(block, at + 4, bytes);
+    at + 4 + bytes.len()
 }
 
 /// Writes tags with their data at the place `at`, and gives the place behind them and the last one's word.

@@ -1,0 +1,25 @@
+//! The data of a tag to be written.
+
+/// The data of a tag to be written: bytes that stand elsewhere, or eight bytes of its own.
+#[derive(Clone, Copy, Debug)]
+pub enum EditData<'a> {
+    /// Bytes that stand elsewhere.
+    Bytes(&'a [u8]),
+    /// Two words.
+    Words([u8; 8]),
+}
+
+impl EditData<'_> {
+    ghost use Rattle.std.specs.Prelude.{◌≡◌};
+    ghost use Rattle.lfs_tag.specs.EditData.{data_bytes};
+
+    /// The bytes. Takes no memory.
+    pub fn as_bytes(&self) -> &[u8]
+        ensures { result.now ≡ data_bytes self.now }
+    {
+        match self {
+            EditData::Bytes(bytes) => bytes,
+            EditData::Words(words) => words,
+        }
+    }
+}
