@@ -3,7 +3,6 @@ pub mod EditLemmas
 pub mod FitsLemmas
 pub mod FrameLemmas
 pub mod GrowLemmas
-pub mod ItemLemmas
 pub mod LiveLemmas
 pub mod LogLemmas
 pub mod NameLemmas

@@ -1,13 +1,14 @@
 -- A block with a revision and one commit, read back.
 use Rattle.std.proofs.Common.{◌≡◌, ℕ, ◌+◌, ◌-◌, ◌≤◌, List, [], ◌∷◌, ◌++◌, length, take, drop, refl, ap, sym, ◌∙◌, arith, subst, Some, None, nat_lt, append-nil}
-use Rattle.std.specs.Prelude.{replicate, if◌then◌else◌}
+use Rattle.std.specs.Prelude.{replicate, option_map, if◌then◌else◌}
 use Rattle.std.specs.Int.{w32, to_le_bytes}
 use Rattle.std.proofs.lemmas.List.{length-drop, length-replicate, take-append-le, take_all}
 use Rattle.std.proofs.lemmas.List.Elements.{All-replicate, All-drop}
 use Rattle.std.proofs.Math.Seq.{drop-append-add}
 use Rattle.lfs_block.specs.Bytes.{IsBytes}
 use Rattle.lfs_tag.specs.Commit.{Item, Commit, IsCommit, commit_bytes}
-use Rattle.lfs_tag.specs.Log.{IsErased, IsLog, log_tags}
+use Rattle.lfs_tag.specs.Log.{IsErased, IsLog, final_word, log_tags}
+use Rattle.lfs_tag.specs.LogSeen.{LogSeen, is_erased}
 use Rattle.lfs_tag.specs.Reading.{Front}
 use Rattle.lfs_tag.specs.Writing.{committed_end, commit_of, lead_at}
 use Rattle.lfs_tag.specs.Laws.{FirstCommit, LogIsRead, WrittenLength}
@@ -17,6 +18,16 @@ use Rattle.lfs_meta.specs.Writing.{revised, log_written}
 -- the new commit
 abbrev new : ℕ → List Item → List ℕ → List ℕ
 new number ts block = commit_bytes (lead_at 4 (revised number block)) 0xffffffff (commit_of 4 ts)
+
+-- what is seen of a block whose log was read so
+abbrev seen_by : List ℕ → Front → LogSeen
+seen_by block f = record {
+  end = length block - length f.rest;
+  commits = length f.commits;
+  last = final_word 0xffffffff f.commits;
+  erased = is_erased f.rest;
+  tags = log_tags f.commits;
+}
 
 erased_behind : (number size n : ℕ) → IsErased (drop (4 + n) (revised number (replicate size 0xff)))
 erased_behind number size n =
@@ -36,7 +47,7 @@ written-committed first read written number size ts fits is_commit bytes =
     let room : 4 + length (new number ts block) ≤ length (revised number block) = omega (arith, new_len, len, behind_len, fits) in
     let log : IsLog (log_written number ts block) (c ∷ []) rest =
     first (revised number block) c is_commit room (erased_behind number size (length (new number ts block))) in
-    ap (λ (f : Front). if nat_lt 0 (length f.commits) then Some (log_tags f.commits) else None) (read (log_written number ts block) (c ∷ []) rest bytes log)
+    ap (λ (f : Front). option_map (λ l. l.tags) (if nat_lt 0 (length f.commits) then Some (seen_by (log_written number ts block) f) else None)) (read (log_written number ts block) (c ∷ []) rest bytes log)
     ∙ ap (λ (us : List Item). Some us) (append-nil ts)
 
 -- a list whose front was written whole

@@ -1,16 +1,18 @@
 -- Laws of pairs and names.
-use Rattle.std.specs.Prelude.{◌≡◌, ◌↔◌, ℕ, ◌+◌, ◌%◌, ◌≤◌, true, List, length, Some, None, if◌then◌else◌}
+use Rattle.std.specs.Prelude.{◌≡◌, ◌↔◌, ℕ, ◌+◌, ◌%◌, ◌<◌, ◌≤◌, true, List, length, Some, None}
 use Rattle.std.specs.List.{AllByRecursion}
 use Rattle.lfs_block.specs.Disk.{Disk, block_of}
 use Rattle.lfs_block.specs.declared.mount_fault.MountFault.{MountFault}
 use Rattle.lfs_meta.specs.Body.{Pair}
 use Rattle.lfs_meta.specs.Name.{Name, IsName, is_name}
-use Rattle.lfs_meta.specs.LiveBlock.{committed, live_tags, tags_of, part_of, stored_part_of}
+use Rattle.lfs_meta.specs.LiveBlock.{live_block, tags_of, part_of, stored_part_of}
+use Rattle.lfs_meta.specs.declared.live_block.LiveBlock.{LiveBlock}
+use Rattle.lfs_meta.specs.declared.live_block.LiveBlock.TheVariants.{First, Second, Neither}
 use Rattle.lfs_meta.specs.Cause.{PairCause}
 use Rattle.lfs_tag.specs.Commit.{Item, IsItem}
+use Rattle.lfs_tag.specs.LogSeen.{log_seen}
 use Rattle.lfs_tag.specs.Writing.{committed_end}
 use Rattle.lfs_meta.specs.Weighing.{weights}
-use Rattle.lfs_meta.specs.Writing.{second_is_live}
 use Rattle.lfs_meta.specs.Fits.{EntryFits, RawPartFits, TailFits}
 use Rattle.lfs_meta.specs.Part.{RawPart, StoredPart}
 use Rattle.lfs_meta.specs.Replay.{replay}
@@ -51,7 +53,11 @@ WrittenPartsAreWhole = (p : StoredPart) → AllByRecursion IsWhole p.entries →
 abbrev pub WeightsFit : Type 0
 WeightsFit = (p : StoredPart) (size : ℕ) → size % 16 ≡ 0 → length p.delta ≡ 12 → weights p.entries + 40 ≤ size → committed_end 4 (part_tags p) ≤ size
 
--- where a pair of blocks has tags, they are those of its live block
-abbrev pub TagsAreTheLiveBlocks : Type 0
-TagsAreTheLiveBlocks = (first second : List ℕ) (tags : List Item) → live_tags first second ≡ Some tags
-    → committed (if second_is_live first second then second else first) ≡ Some tags
+-- the live block of two has a commit, and its log is what is read of it; where neither is live, neither has one
+abbrev pub IsLive : LiveBlock → List ℕ → List ℕ → Type 0
+IsLive (First log) first second = (log ≡ log_seen first) × (0 < log.commits)
+IsLive (Second log) first second = (log ≡ log_seen second) × (0 < log.commits)
+IsLive Neither first second = ((log_seen first).commits ≡ 0) × ((log_seen second).commits ≡ 0)
+
+abbrev pub LiveBlocksAreRead : Type 0
+LiveBlocksAreRead = (first second : List ℕ) → IsLive (live_block first second) first second

@@ -1,10 +1,11 @@
 -- The live block of a pair, and what the pair holds (SPEC.md, "Metadata pairs").
-use Rattle.std.specs.Prelude.{ℕ, ◌+◌, ◌-◌, ◌%◌, ◌^◌, ◌&&◌, nat_lt, nat_le, Bool, List, length, take, Option, Some, None, option_and_then, if◌then◌else◌}
+use Rattle.std.specs.Prelude.{ℕ, ◌+◌, ◌-◌, ◌%◌, ◌^◌, ◌&&◌, nat_lt, nat_le, Bool, List, take, Option, Some, None, option_map, option_and_then, if◌then◌else◌}
 use Rattle.std.specs.Int.{w32, from_le_bytes}
 use Rattle.lfs_block.specs.Disk.{Disk, block_of}
 use Rattle.lfs_tag.specs.Commit.{Item}
-use Rattle.lfs_tag.specs.Log.{log_tags}
-use Rattle.lfs_tag.specs.Reading.{log_of}
+use Rattle.lfs_tag.specs.LogSeen.{LogSeen, log_seen}
+use Rattle.lfs_meta.specs.declared.live_block.LiveBlock.{LiveBlock}
+use Rattle.lfs_meta.specs.declared.live_block.LiveBlock.TheVariants.{First, Second, Neither}
 use Rattle.lfs_meta.specs.Body.{Pair}
 use Rattle.lfs_meta.specs.Part.{RawPart, StoredPart}
 use Rattle.lfs_meta.specs.Replay.{replay}
@@ -18,21 +19,40 @@ revision block = from_le_bytes w32 (take 4 block)
 abbrev pub is_later : ℕ → ℕ → Bool
 is_later a b = let ahead = (a + 2 ^ 32 - b) % 2 ^ 32 in nat_le 1 ahead && nat_lt ahead (2 ^ 31)
 
+-- the log of a block, where it has a commit
+abbrev pub committed_log : List ℕ → Option LogSeen
+committed_log block = if nat_lt 0 (log_seen block).commits then Some (log_seen block) else None
+
 -- the tags of a block's log, where it has a commit
 abbrev pub committed : List ℕ → Option (List Item)
-committed block = if nat_lt 0 (length (log_of block).commits) then Some (log_tags (log_of block).commits) else None
+committed block = option_map (λ log. log.tags) (committed_log block)
 
--- the first option that is there
-abbrev pub or_else : {A : Type 0} → Option A → Option A → Option A
-or_else None o = o
-or_else (Some x) o = Some x
+-- the first block where it has a log, else another choice
+abbrev pub first_or : Option LogSeen → LiveBlock → LiveBlock
+first_or None other = other
+first_or (Some log) other = First log
 
--- The tags of the live block: the second one is tried first where its revision is the later one, else the first one
--- (own: the first where neither is later).
+-- the second block where it has a log, else another choice
+abbrev pub second_or : Option LogSeen → LiveBlock → LiveBlock
+second_or None other = other
+second_or (Some log) other = Second log
+
+-- The live block: the second one is tried first where its revision is the later one, else the first one (own: the first
+-- where neither is later).
+abbrev pub live_block : List ℕ → List ℕ → LiveBlock
+live_block first second =
+    if is_later (revision second) (revision first) then second_or (committed_log second) (first_or (committed_log first) Neither)
+    else first_or (committed_log first) (second_or (committed_log second) Neither)
+
+-- the log of the live block
+abbrev pub live_log : LiveBlock → Option LogSeen
+live_log (First log) = Some log
+live_log (Second log) = Some log
+live_log Neither = None
+
+-- the tags of the live block
 abbrev pub live_tags : List ℕ → List ℕ → Option (List Item)
-live_tags first second =
-    if is_later (revision second) (revision first) then or_else (committed second) (committed first)
-    else or_else (committed first) (committed second)
+live_tags first second = option_map (λ log. log.tags) (live_log (live_block first second))
 
 -- the tags of a pair's live block
 abbrev pub tags_of : Disk → Pair → Option (List Item)

@@ -12,7 +12,7 @@ use crate::stored_attribute::Attribute;
 use crate::stored_body::Body;
 use crate::stored_entry::Entry;
 use crate::tail::Tail;
-use lfs_tag::{Edit, NO_ID, Tag};
+use lfs_tag::{Edit, EditData, NO_ID, Tag};
 use std::alloc::{AllocError, Global};
 
 /// The type of an attribute's tag of kind 0.
@@ -38,7 +38,7 @@ fn edit<'a>(kind: u16, id: u16, bytes: &'a [u8]) -> Edit<'a>
             id,
             len: bytes.len() as u16,
         },
-        bytes,
+        content: EditData::Bytes(bytes),
     }
 }
 

@@ -1,6 +1,6 @@
 //! Laws of pairs and names: each function does nothing, and its contract is the law.
 
-ghost use Rattle.lfs_meta.specs.Laws.{NamesAreDecided, PartsDependOnTheirBlocks, ReplayedPartsFit, TagsAreTheLiveBlocks, UnreadPairsHoldNoPart, WeightsFit, WrittenPartsAreWhole, WrittenPartsReplay};
+ghost use Rattle.lfs_meta.specs.Laws.{LiveBlocksAreRead, NamesAreDecided, PartsDependOnTheirBlocks, ReplayedPartsFit, UnreadPairsHoldNoPart, WeightsFit, WrittenPartsAreWhole, WrittenPartsReplay};
 
 /// The test of a name says whether it is one.
 pub fn names_are_decided()
@@ -34,7 +34,8 @@ pub fn weights_fit()
     ensures { WeightsFit }
 {}
 
-/// Where a pair of blocks has tags, they are those of its live block: the one whose successor `rewrite` makes of the other.
-pub fn tags_are_the_live_blocks()
-    ensures { TagsAreTheLiveBlocks }
+/// The live block of a pair has a commit, and its log is what is read of it in all its fields. Where neither block is
+/// live, neither has a commit.
+pub fn live_blocks_are_read()
+    ensures { LiveBlocksAreRead }
 {}

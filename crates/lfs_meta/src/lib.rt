@@ -39,7 +39,7 @@ pub use cutting::cut;
 pub use entry::EntryDraft;
 pub use kind::Kind;
 pub use laws::{
-    names_are_decided, parts_depend_on_their_blocks, replayed_parts_fit, tags_are_the_live_blocks,
+    live_blocks_are_read, names_are_decided, parts_depend_on_their_blocks, replayed_parts_fit,
     unread_pairs_hold_no_part, weights_fit, written_parts_replay,
 };
 pub use live_block::{is_later, live, revision};

@@ -1,10 +1,7 @@
 //! The live block of a pair.
 
-ghost use Rattle.std.specs.Prelude.{◌≡◌, ◌≤◌, length, option_map, IfSome};
-ghost use Rattle.std.specs.List.{AllByRecursion};
-ghost use Rattle.lfs_tag.specs.Commit.{IsItem};
-ghost use Rattle.lfs_tag.specs.Tags.{log_items};
-ghost use Rattle.lfs_meta.specs.LiveBlock.{committed, is_later, live_tags, revision};
+ghost use Rattle.std.specs.Prelude.{◌≡◌, ◌≤◌, length};
+ghost use Rattle.lfs_meta.specs.LiveBlock.{committed_log, is_later, live_block, live_log, revision};
 
 use byteorder::{ByteOrder, LittleEndian};
 use lfs_tag::Log;
@@ -29,14 +26,49 @@ pub fn is_later(a: u32, b: u32) -> bool
     1 <= ahead && ahead < 1 << 31
 }
 
+/// Which block of a pair is live, with its log.
+#[derive(Debug, Drop)]
+pub(crate) enum LiveBlock<'a> {
+    /// The first one.
+    First(Log<'a>),
+    /// The second one.
+    Second(Log<'a>),
+    /// No block has a commit.
+    Neither,
+}
+
 /// The log of a block, where it has a commit.
-pub(crate) fn committed(block: &[u8]) -> Option<Log<'_>>
+fn committed(block: &[u8]) -> Option<Log<'_>>
     requires { 4 ≤ length block.now }
-    ensures tags { option_map log_items result ≡ committed block.now }
-    ensures items { IfSome result (λ log. AllByRecursion IsItem (log_items log)) }
+    ensures { result ≡ committed_log block.now }
 {
     let log = Log::read(block);
     if log.commits > 0 { Some(log) } else { None }
+}
+
+/// The live block of a pair. The second block is tried first where its revision is the later one, else the first one.
+pub(crate) fn live_block<'a>(first: &'a [u8], second: &'a [u8]) -> LiveBlock<'a>
+    requires first { 4 ≤ length first.now }
+    requires second { 4 ≤ length second.now }
+    ensures { result ≡ live_block first.now second.now }
+{
+    if is_later(revision(second), revision(first)) {
+        match committed(second) {
+            Some(log) => LiveBlock::Second(log),
+            None => match committed(first) {
+                Some(log) => LiveBlock::First(log),
+                None => LiveBlock::Neither,
+            },
+        }
+    } else {
+        match committed(first) {
+            Some(log) => LiveBlock::First(log),
+            None => match committed(second) {
+                Some(log) => LiveBlock::Second(log),
+                None => LiveBlock::Neither,
+            },
+        }
+    }
 }
 
 /// The log of the live block of a pair, `None` where no block has a commit. The second block is tried first where its
@@ -46,12 +78,10 @@ pub(crate) fn committed(block: &[u8]) -> Option<Log<'_>>
 pub fn live<'a>(first: &'a [u8], second: &'a [u8]) -> Option<Log<'a>>
     requires first { 4 ≤ length first.now }
     requires second { 4 ≤ length second.now }
-    ensures tags { option_map log_items result ≡ live_tags first.now second.now }
-    ensures items { IfSome result (λ log. AllByRecursion IsItem (log_items log)) }
+    ensures { result ≡ live_log (live_block first.now second.now) }
 {
-    if is_later(revision(second), revision(first)) {
-        committed(second).or_else(|| committed(first))
-    } else {
-        committed(first).or_else(|| committed(second))
+    match live_block(first, second) {
+        LiveBlock::First(log) | LiveBlock::Second(log) => Some(log),
+        LiveBlock::Neither => None,
     }
 }

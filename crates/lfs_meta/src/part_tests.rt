@@ -2,7 +2,7 @@
 
 use crate::{
     Body, Kind, Tail, cut, first_block, read_pair, replayed_parts_fit, rewrite,
-    tags_are_the_live_blocks, weight, weights, weights_fit, written_parts_replay,
+    live_blocks_are_read, weight, weights, weights_fit, written_parts_replay,
 };
 use lfs_block::{Image, MountFault};
 use std::alloc::Global;
@@ -328,7 +328,7 @@ fn rewrites_the_block_that_is_not_live(rt: HostRuntime) -> Result<(), Fail> {
 #[test]
 fn laws_of_what_is_written(_rt: HostRuntime) {
     replayed_parts_fit();
-    tags_are_the_live_blocks();
+    live_blocks_are_read();
     weights_fit();
     written_parts_replay();
 }

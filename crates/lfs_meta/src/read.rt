@@ -30,7 +30,7 @@ pub fn read_draft<'a, B: Blocks>(
     ensures fits { IfOk result RawPartFits }
     ensures refused { IfErr result (λ fault. DraftCause fault (B.disk blocks.now) pair) }
 {
-    let _size = blocks.size();
+    let _fits_the_limits = blocks.size();
     let log = live(blocks.block(pair.0), blocks.block(pair.1)).ok_or(MountFault::NoValidCommit)?;
     replayed(alloc, log.tags())
 }

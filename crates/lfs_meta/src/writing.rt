@@ -12,11 +12,11 @@ ghost use Rattle.lfs_meta.specs.Fits.{EntryFits, TailFits};
 ghost use Rattle.lfs_meta.specs.LiveBlock.{committed, revision, stored_part_of, tags_of};
 ghost use Rattle.lfs_meta.specs.Spelling.{IsWhole, part_tags};
 ghost use Rattle.lfs_meta.specs.Weighing.{weights};
-ghost use Rattle.lfs_meta.specs.Writing.{live_revision, log_written, other_number, part_in, second_is_live, stored_part};
+ghost use Rattle.lfs_meta.specs.Writing.{live_revision, log_written, other_number, part_in, stored_part};
 
 use crate::edits::part_edits;
 use crate::laws::written_parts_replay;
-use crate::live_block::{committed, is_later, revision};
+use crate::live_block::{LiveBlock, live_block, revision};
 use crate::stored_entry::Entry;
 use crate::tail::Tail;
 use crate::words::{structs, tail_words};
@@ -80,33 +80,20 @@ fn written(
     block_with(alloc, size, number, &edits)
 }
 
-/// Whether the second of two blocks is the live one.
-fn second_is_live(first: &[u8], second: &[u8]) -> bool
-    requires first { 4 ≤ length first.now }
-    requires second { 4 ≤ length second.now }
-    ensures { result ≡ second_is_live first.now second.now }
-{
-    if is_later(revision(second), revision(first)) {
-        committed(second).is_some()
-    } else {
-        committed(first).is_none()
-    }
-}
-
-/// The block of a pair that isn't live, and the revision of the one that is.
+/// The block of a pair that isn't live, and the revision of the one that is. Where neither is, the first one counts as
+/// live.
 fn other_block<B: Blocks>(blocks: &B, pair: (u32, u32)) -> (u32, u32)
     requires first { pair.0 < (B.disk blocks.now).count }
     requires second { pair.1 < (B.disk blocks.now).count }
     ensures number { result.0 ≡ other_number (B.disk blocks.now) pair }
     ensures revision { result.1 ≡ live_revision (B.disk blocks.now) pair }
 {
-    let _size = blocks.size();
+    let _fits_the_limits = blocks.size();
     let first = blocks.block(pair.0);
     let second = blocks.block(pair.1);
-    if second_is_live(first, second) {
-        (pair.0, revision(second))
-    } else {
-        (pair.1, revision(first))
+    match live_block(first, second) {
+        LiveBlock::Second(_) => (pair.0, revision(second)),
+        LiveBlock::First(_) | LiveBlock::Neither => (pair.1, revision(first)),
     }
 }
 
