@@ -6,7 +6,7 @@ use Rattle.std.proofs.lemmas.Bool.Decides.{nat_tests}
 use Rattle.std.proofs.lemmas.List.Elements.{All-cons, All-nil, All-head, All-tail}
 use Rattle.std.proofs.lemmas.List.Sums.{sum_by-cons}
 use Rattle.lfs_meta.specs.Runs.{most_entries, onto, runs_after, takes, first_run, later_runs}
-use Rattle.lfs_meta.specs.RunLaws.{RunFits, LeavesNext, AreGreedy, AreRuns, RunsAreGreedy, RunsBehindFirst, SomeRun, RunsFollowWeights, RunsJoin}
+use Rattle.lfs_meta.specs.RunLaws.{RunFits, LeavesNext, AreGreedy, AreRuns, OneCut, RunsAreGreedy, RunsBehindFirst, SomeRun, RunsFollowWeights, RunsJoin}
 
 -- the same of a list whose first run has a weight and a number to begin with
 record AreRunsAfter {E : Type 0} (weigh : E → ℕ) (room weight number : ℕ) (es : List E) (runs : List (List E)) : Type 0 where
@@ -105,6 +105,7 @@ first_empty {E} weigh room es ((e ∷ run) ∷ runs) fit joined leaves =
 all_runs : {E : Type 0} (weigh : E → ℕ) (room : ℕ) (es : List E) (runs : List (List E)) → All (λ e. weigh e ≤ room) es → AreRunsAfter weigh room 0 0 es runs → AreRuns weigh room es runs
 all_runs weigh room es [] fit h = absurd (omega (arith, h.some'))
 all_runs weigh room es ([] ∷ runs) fit h = record {
+  some' = omega arith;
   joined = h.joined;
   fit = All-cons (RunFits weigh room) [] runs (record { weight = omega arith; number = omega arith }) h.later;
   greedy = (h.leaves, h.greedy);
@@ -117,6 +118,7 @@ all_runs {E} weigh room es ((e ∷ run) ∷ runs) fit h =
     let few : 0 + length (e ∷ run) ≡ length (e ∷ run) = omega arith in
     let leaves : LeavesNext weigh room (sum_by weigh (e ∷ run)) (length (e ∷ run)) runs = subst (λ (n : ℕ). LeavesNext weigh room (sum_by weigh (e ∷ run)) n runs) few (subst (λ (n : ℕ). LeavesNext weigh room n (0 + length (e ∷ run)) runs) light h.leaves) in
     record {
+      some' = omega arith;
       joined = h.joined;
       fit = All-cons (RunFits weigh room) (e ∷ run) runs (record { weight = weight; number = number }) h.later;
       greedy = (leaves, h.greedy);
@@ -125,6 +127,107 @@ all_runs {E} weigh room es ((e ∷ run) ∷ runs) fit h =
 
 pub runs_are_greedy : {E : Type 0} → RunsAreGreedy E
 runs_are_greedy weigh room es fit = all_runs weigh room es (runs_after weigh room 0 0 es) fit (are_runs_after weigh room 0 0 es (omega arith) (omega arith) fit)
+
+-- ---- a list is cut in one way
+
+-- a run is done, and the next one begins
+begun : {E : Type 0} (weigh : E → ℕ) (room weight number : ℕ) (e d : E) (es run : List E) (runs : List (List E)) → d ≡ e → run ++ flat_map (λ xs. xs) runs ≡ es
+    → AreRunsAfter weigh room weight number (e ∷ es) ([] ∷ (d ∷ run) ∷ runs) → AreRunsAfter weigh room (weigh e) 1 es (run ∷ runs)
+begun {E} weigh room weight number e d es run runs same joined h =
+    let P : E → Type 0 = λ x. AreRunsAfter weigh room (weigh x) 1 es (run ∷ runs) in
+    let fits : RunFits weigh room (d ∷ run) = All-head (RunFits weigh room) (d ∷ run) runs h.later in
+    let heavy : sum_by weigh (d ∷ run) ≡ weigh d + sum_by weigh run = sum_by-cons weigh d run in
+    let many : length (d ∷ run) ≡ 1 + length run = omega arith in
+    let made : P d = record {
+      some' = omega arith;
+      joined = joined;
+      first_weight = omega (arith, fits.weight, heavy);
+      first_number = omega (arith, fits.number, many);
+      later = All-tail (RunFits weigh room) (d ∷ run) runs h.later;
+      leaves = subst (λ (n : ℕ). LeavesNext weigh room (weigh d + sum_by weigh run) n runs) many (subst (λ (w : ℕ). LeavesNext weigh room w (length (d ∷ run)) runs) heavy h.greedy.0);
+      greedy = h.greedy.1;
+    } in
+    subst P same made
+
+-- a run goes on
+gone_on : {E : Type 0} (weigh : E → ℕ) (room weight number : ℕ) (e d : E) (es run : List E) (runs : List (List E)) → d ≡ e → run ++ flat_map (λ xs. xs) runs ≡ es
+    → AreRunsAfter weigh room weight number (e ∷ es) ((d ∷ run) ∷ runs) → AreRunsAfter weigh room (weight + weigh e) (number + 1) es (run ∷ runs)
+gone_on {E} weigh room weight number e d es run runs same joined h =
+    let P : E → Type 0 = λ x. AreRunsAfter weigh room (weight + weigh x) (number + 1) es (run ∷ runs) in
+    let heavy : weight + sum_by weigh (d ∷ run) ≡ weight + weigh d + sum_by weigh run = omega (arith, sum_by-cons weigh d run) in
+    let many : number + length (d ∷ run) ≡ number + 1 + length run = omega arith in
+    let made : P d = record {
+      some' = omega arith;
+      joined = joined;
+      first_weight = omega (arith, h.first_weight, heavy);
+      first_number = omega (arith, h.first_number, many);
+      later = h.later;
+      leaves = subst (λ (n : ℕ). LeavesNext weigh room (weight + weigh d + sum_by weigh run) n runs) many (subst (λ (w : ℕ). LeavesNext weigh room w (number + length (d ∷ run)) runs) heavy h.leaves);
+      greedy = h.greedy;
+    } in
+    subst P same made
+
+-- the first run takes its own first entry
+taken_first : {E : Type 0} (weigh : E → ℕ) (room weight number : ℕ) (e d : E) (es run : List E) (runs : List (List E)) → d ≡ e
+    → AreRunsAfter weigh room weight number (e ∷ es) ((d ∷ run) ∷ runs) → takes room weight number (weigh e) ≡ true
+taken_first weigh room weight number e d es run runs same h =
+    let heavy : sum_by weigh (d ∷ run) ≡ weigh d + sum_by weigh run = sum_by-cons weigh d run in
+    let is : weigh d ≡ weigh e = ap weigh same in
+    let light : weight + weigh e ≤ room = omega (arith, h.first_weight, heavy, is) in
+    let few : number + 1 ≤ most_entries = omega (arith, h.first_number) in
+    grind (arith, nat_tests)
+
+-- an empty first run doesn't take the next one's first entry
+left_first : {E : Type 0} (weigh : E → ℕ) (room weight number : ℕ) (e d : E) (es run : List E) (runs : List (List E)) → d ≡ e
+    → AreRunsAfter weigh room weight number (e ∷ es) ([] ∷ (d ∷ run) ∷ runs) → takes room weight number (weigh e) ≡ false
+left_first weigh room weight number e d es run runs same h =
+    let none : weight + 0 ≡ weight = omega arith in
+    let no_more : number + 0 ≡ number = omega arith in
+    ap (λ (x : ℕ). takes room weight number x) (sym (ap weigh same))
+    ∙ ap (λ (w : ℕ). takes room w number (weigh d)) (sym none)
+    ∙ ap (λ (n : ℕ). takes room (weight + 0) n (weigh d)) (sym no_more)
+    ∙ h.leaves
+
+only_after : {E : Type 0} (weigh : E → ℕ) (room weight number : ℕ) (es : List E) (runs : List (List E)) → AreRunsAfter weigh room weight number es runs → runs ≡ runs_after weigh room weight number es
+unfolding runs_after onto
+only_after weigh room weight number [] [] h = absurd (omega (arith, h.some'))
+only_after weigh room weight number [] ([] ∷ []) h = refl
+only_after weigh room weight number [] ([] ∷ [] ∷ runs) h = absurd h.leaves
+only_after weigh room weight number [] ([] ∷ (d ∷ run) ∷ runs) h = absurd (cc h.joined)
+only_after weigh room weight number [] ((d ∷ run) ∷ runs) h = absurd (cc h.joined)
+only_after weigh room weight number (e ∷ es) [] h = absurd (omega (arith, h.some'))
+only_after weigh room weight number (e ∷ es) ([] ∷ []) h = absurd (cc h.joined)
+only_after weigh room weight number (e ∷ es) ([] ∷ [] ∷ runs) h = absurd h.leaves
+only_after weigh room weight number (e ∷ es) ([] ∷ (d ∷ run) ∷ runs) h =
+    let same : d ≡ e = cc h.joined in
+    let joined : run ++ flat_map (λ xs. xs) runs ≡ es = cc h.joined in
+    let rest : run ∷ runs ≡ runs_after weigh room (weigh e) 1 es = only_after weigh room (weigh e) 1 es (run ∷ runs) (begun weigh room weight number e d es run runs same joined h) in
+    rw (left_first weigh room weight number e d es run runs same h) (ap (λ x. [] ∷ (x ∷ run) ∷ runs) same ∙ ap (λ xs. [] ∷ onto e xs) rest)
+only_after weigh room weight number (e ∷ es) ((d ∷ run) ∷ runs) h =
+    let same : d ≡ e = cc h.joined in
+    let joined : run ++ flat_map (λ xs. xs) runs ≡ es = cc h.joined in
+    let rest : run ∷ runs ≡ runs_after weigh room (weight + weigh e) (number + 1) es = only_after weigh room (weight + weigh e) (number + 1) es (run ∷ runs) (gone_on weigh room weight number e d es run runs same joined h) in
+    rw (taken_first weigh room weight number e d es run runs same h) (ap (λ x. (x ∷ run) ∷ runs) same ∙ ap (λ xs. onto e xs) rest)
+
+from_first : {E : Type 0} (weigh : E → ℕ) (room : ℕ) (es : List E) (runs : List (List E)) → AreRuns weigh room es runs → AreRunsAfter weigh room 0 0 es runs
+from_first weigh room es [] h = absurd (omega (arith, h.some'))
+from_first weigh room es (run ∷ runs) h =
+    let fits : RunFits weigh room run = All-head (RunFits weigh room) run runs h.fit in
+    let light : sum_by weigh run ≡ 0 + sum_by weigh run = omega arith in
+    let few : length run ≡ 0 + length run = omega arith in
+    record {
+      some' = h.some';
+      joined = h.joined;
+      first_weight = omega (arith, fits.weight);
+      first_number = omega (arith, fits.number);
+      later = All-tail (RunFits weigh room) run runs h.fit;
+      leaves = subst (λ (n : ℕ). LeavesNext weigh room (0 + sum_by weigh run) n runs) few (subst (λ (w : ℕ). LeavesNext weigh room w (length run) runs) light h.greedy.0);
+      greedy = h.greedy.1;
+    }
+
+pub one_cut : {E : Type 0} → OneCut E
+one_cut weigh room es runs others h k =
+    only_after weigh room 0 0 es runs (from_first weigh room es runs h) ∙ sym (only_after weigh room 0 0 es others (from_first weigh room es others k))
 
 pub runs_behind_first : {E : Type 0} → RunsBehindFirst E
 unfolding runs_after

@@ -19,9 +19,10 @@ abbrev pub AreGreedy : {E : Type 0} → (E → ℕ) → ℕ → List (List E) �
 AreGreedy weigh room [] = Unit {0}
 AreGreedy weigh room (run ∷ runs) = LeavesNext weigh room (sum_by weigh run) (length run) runs × AreGreedy weigh room runs
 
--- A list cut into runs: they join to it, each fits a pair, none could take the next one's first entry, and only an
--- empty list has an empty run.
+-- A list cut into runs: there is one at least, they join to it, each fits a pair, none could take the next one's first
+-- entry, and only an empty list has an empty run.
 pub record AreRuns {E : Type 0} (weigh : E → ℕ) (room : ℕ) (es : List E) (runs : List (List E)) : Type 0 where
+  pub some' : 1 ≤ length runs
   pub joined : flat_map (λ run. run) runs ≡ es
   pub fit : All (RunFits weigh room) runs
   pub greedy : AreGreedy weigh room runs
@@ -30,6 +31,10 @@ pub record AreRuns {E : Type 0} (weigh : E → ℕ) (room : ℕ) (es : List E) (
 -- the law: a list of entries that fit a pair is cut so
 abbrev pub RunsAreGreedy : Type 0 → Type 0
 RunsAreGreedy E = (weigh : E → ℕ) (room : ℕ) (es : List E) → All (λ e. weigh e ≤ room) es → AreRuns weigh room es (runs_after weigh room 0 0 es)
+
+-- the law: a list is cut so in one way
+abbrev pub OneCut : Type 0 → Type 0
+OneCut E = (weigh : E → ℕ) (room : ℕ) (es : List E) (runs others : List (List E)) → AreRuns weigh room es runs → AreRuns weigh room es others → runs ≡ others
 
 -- the law: behind an entry that fits a pair, the runs of a list are those that begin with its weight and one entry
 abbrev pub RunsBehindFirst : Type 0 → Type 0

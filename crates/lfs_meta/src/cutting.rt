@@ -20,8 +20,8 @@ fn takes(room: u32, taken: u32, len: usize, next: u32) -> bool
 }
 
 /// The lengths of the runs into which entries are cut where a pair has `room` bytes for them: a run takes the next entry as
-/// long as it weighs no more than that and has at most 1,000 entries. There is always a first run. `None` where memory is
-/// refused.
+/// long as it weighs no more than that and has at most 1,000 entries. There is always a first run. An entry that weighs
+/// more than `room` stands alone in a run, behind an empty one where it is the first. `None` where memory is refused.
 ///
 /// Source: own.
 pub fn cut(alloc: Global, entries: &[Entry], room: u32) -> Option<Vec<usize>>

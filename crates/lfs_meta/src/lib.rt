@@ -48,7 +48,8 @@ pub use part::PartDraft;
 pub use read::{read_draft, read_pair};
 pub use replay::replayed;
 pub use runs::{
-    lists_have_a_run, runs_are_greedy, runs_behind_first, runs_follow_weights, runs_join,
+    lists_have_a_run, runs_are_greedy, runs_are_the_only_ones, runs_behind_first,
+    runs_follow_weights, runs_join,
 };
 pub use stored_attribute::Attribute;
 pub use stored_body::Body;

@@ -35,9 +35,10 @@ pub fn read_draft<'a, B: Blocks>(
     replayed(alloc, log.tags())
 }
 
-/// The part that a pair of an image holds, all of whose entries are whole: what `read_draft` refuses, then for the first
-/// entry that isn't whole `IncompleteEntry` where it has no name, no struct or one that its kind doesn't take, else
-/// `BadName`. The caller owes two numbers below the block count.
+/// The part that a pair of an image holds, all of whose entries are whole. It is refused with what `read_draft` says, with
+/// `IncompleteEntry` where an entry has no name, no struct or one that its kind doesn't take, and with `BadName` where an
+/// entry's kind doesn't take its name. Where several of these hold, one of them is named. The caller owes two numbers
+/// below the block count.
 ///
 /// Source: SPEC.md, "Metadata pairs".
 pub fn read_pair<B: Blocks>(alloc: Global, blocks: &B, pair: (u32, u32)) -> Result<Part, MountFault>

@@ -13,7 +13,8 @@ use lfs_tag::Tags;
 use std::alloc::Global;
 
 /// What the tags of a log leave, one after another: `UnknownTag` where one has a type that isn't known, `BadTag` where
-/// one has an id or a length that is refused, `Memory` where a growth was. Of several such tags it names the first.
+/// one has an id or a length that is refused behind those before it, `Memory` where a growth was. Where several of these
+/// hold, one of them is named.
 ///
 /// Source: SPEC.md, "Metadata types".
 pub fn replayed<'a>(alloc: Global, tags: Tags<'a>) -> Result<PartDraft<'a>, MountFault>

@@ -1,11 +1,16 @@
 //! Laws of runs of entries of any type: each function does nothing, and its contract is the law.
 
-ghost use Rattle.lfs_meta.specs.RunLaws.{RunsAreGreedy, RunsBehindFirst, RunsFollowWeights, RunsJoin, SomeRun};
+ghost use Rattle.lfs_meta.specs.RunLaws.{OneCut, RunsAreGreedy, RunsBehindFirst, RunsFollowWeights, RunsJoin, SomeRun};
 
-/// The runs of entries that each fit a pair join to them, each run fits a pair, no run could take the first entry of the
+/// There are runs of entries that each fit a pair: they join to them, each run fits a pair, no run could take the first entry of the
 /// next one, and only an empty list has an empty run.
 pub fn runs_are_greedy<E>()
     ensures { RunsAreGreedy E }
+{}
+
+/// A list is cut so in one way: the laws' `AreRuns` says which runs they are.
+pub fn runs_are_the_only_ones<E>()
+    ensures { OneCut E }
 {}
 
 /// However they begin, the runs of a list join to it.
@@ -35,6 +40,7 @@ mod tests {
     #[test]
     fn laws_of_runs(_rt: HostRuntime) {
         runs_are_greedy::<u8>();
+        runs_are_the_only_ones::<u8>();
         runs_join::<u8>();
         runs_behind_first::<u8>();
         lists_have_a_run::<u8>();

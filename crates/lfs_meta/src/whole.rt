@@ -111,8 +111,8 @@ fn entry_of(
     })
 }
 
-/// The entry made whole: `IncompleteEntry` where it has no name, no struct or one that its kind doesn't take, else
-/// `BadName` where its kind doesn't take its name.
+/// The entry made whole: `IncompleteEntry` where it has no name, no struct or one that its kind doesn't take, `BadName`
+/// where its kind doesn't take its name. Where both hold, one of them is named.
 fn whole(alloc: Global, draft: &EntryDraft<'_>) -> Result<Entry, MountFault>
     requires { RawEntryFits draft.now }
     ensures found { IfOk result (λ entry. whole draft.now ≡ Some entry) }
@@ -141,7 +141,7 @@ fn keep(entries: &mut Vec<Entry>, entry: Entry) -> Result<(), MountFault>
     entries.push(entry).map_err(|_| MountFault::Memory)
 }
 
-/// All entries made whole, or the fault of the first that isn't.
+/// All entries made whole, or the fault of one that isn't.
 pub(crate) fn all_whole(alloc: Global, drafts: &[EntryDraft<'_>]) -> Result<Vec<Entry>, MountFault>
     requires { All RawEntryFits drafts.now }
     ensures found { IfOk result (λ entries. all_whole drafts.now ≡ Some entries.items) }
