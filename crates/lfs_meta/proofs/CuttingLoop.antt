@@ -4,7 +4,7 @@ use Rattle.std.specs.Prelude.{if◌then◌else◌}
 use Rattle.std.proofs.lemmas.Bool.Decides.{nat_tests}
 use Rattle.std.proofs.lemmas.List.{drop_more, drop_all}
 use Rattle.lfs_meta.specs.Entry.{StoredEntry}
-use Rattle.lfs_meta.specs.Runs.{onto, runs_after, takes}
+use Rattle.lfs_meta.specs.Runs.{onto, runs_after, run_takes}
 use Rattle.lfs_meta.specs.Weighing.{weight}
 use Rattle.lfs_meta.proofs.RunLemmas.{some_run}
 
@@ -38,7 +38,7 @@ none_more (m ∷ ms) = ap (λ k. k ∷ ms) (omega arith)
 pub first : (room : ℕ) (all : List StoredEntry) → IsCutTo room all all [] 0 0
 first room all = record { whole = sym (none_more (run_lengths room 0 0 all)); light = omega arith; few = omega arith }
 
-step_by : (room taken len : ℕ) (e : StoredEntry) (es : List StoredEntry) (t : Bool) → takes room taken len (weight e) ≡ t
+step_by : (room taken len : ℕ) (e : StoredEntry) (es : List StoredEntry) (t : Bool) → run_takes room taken len (weight e) ≡ t
     → run_lengths room taken len (e ∷ es) ≡ (if t then with_more 1 (run_lengths room (taken + weight e) (len + 1) es) else 0 ∷ with_more 1 (run_lengths room (weight e) 1 es))
 unfolding runs_after
 step_by room taken len e es true is =
@@ -46,7 +46,7 @@ step_by room taken len e es true is =
 step_by room taken len e es false is =
     rw is (ap (λ (ns : List ℕ). 0 ∷ ns) (onto_lengths e (runs_after weight room (weight e) 1 es) (some_run weight room (weight e) 1 es)))
 
-pub taken_more : (room : ℕ) (all : List StoredEntry) (e : StoredEntry) (left : List StoredEntry) (lengths : List ℕ) (taken len : ℕ) → room ≤ 65536 → takes room taken len (weight e) ≡ true
+pub taken_more : (room : ℕ) (all : List StoredEntry) (e : StoredEntry) (left : List StoredEntry) (lengths : List ℕ) (taken len : ℕ) → room ≤ 65536 → run_takes room taken len (weight e) ≡ true
     → IsCutTo room all (e ∷ left) lengths taken len → IsCutTo room all left lengths (taken + weight e) (len + 1)
 taken_more room all e left lengths taken len small full h =
     let fits : taken + weight e ≤ room = grind (arith, nat_tests) in
@@ -57,7 +57,7 @@ taken_more room all e left lengths taken len small full h =
       few = omega (arith, few);
     }
 
-pub left_more : (room : ℕ) (all : List StoredEntry) (e : StoredEntry) (left : List StoredEntry) (lengths : List ℕ) (taken len : ℕ) → weight e ≤ 264708 → (takes room taken len (weight e) ≡ false)
+pub left_more : (room : ℕ) (all : List StoredEntry) (e : StoredEntry) (left : List StoredEntry) (lengths : List ℕ) (taken len : ℕ) → weight e ≤ 264708 → (run_takes room taken len (weight e) ≡ false)
     → IsCutTo room all (e ∷ left) lengths taken len → IsCutTo room all left (lengths ++ len ∷ []) (weight e) 1
 left_more room all e left lengths taken len small full h = record {
   whole =
@@ -76,16 +76,16 @@ all_cut room all lengths taken len h = sym (h.whole ∙ ap (λ (n : ℕ). length
 next_entry : (all : List StoredEntry) (i : ℕ) (e : StoredEntry) → i < length all → e ≡ get_or all i e → drop i all ≡ e ∷ drop (i + 1) all
 next_entry all i e within is = drop_more all i e within ∙ ap (λ (x : StoredEntry). x ∷ drop (i + 1) all) (sym is)
 
-pub taken_next : (room : ℕ) (all : List StoredEntry) (i : ℕ) (e : StoredEntry) (w : ℕ) (lengths : List ℕ) (taken len : ℕ) → i < length all → e ≡ get_or all i e → w ≡ weight e → room ≤ 65536 → takes room taken len w ≡ true
+pub taken_next : (room : ℕ) (all : List StoredEntry) (i : ℕ) (e : StoredEntry) (w : ℕ) (lengths : List ℕ) (taken len : ℕ) → i < length all → e ≡ get_or all i e → w ≡ weight e → room ≤ 65536 → run_takes room taken len w ≡ true
     → IsCutTo room all (drop i all) lengths taken len → IsCutTo room all (drop (i + 1) all) lengths (taken + w) (len + 1)
 taken_next room all i e w lengths taken len within is weighs small full h =
-    rw weighs (taken_more room all e (drop (i + 1) all) lengths taken len small (ap (takes room taken len) (sym weighs) ∙ full)
+    rw weighs (taken_more room all e (drop (i + 1) all) lengths taken len small (ap (run_takes room taken len) (sym weighs) ∙ full)
     (subst (λ (left : List StoredEntry). IsCutTo room all left lengths taken len) (next_entry all i e within is) h))
 
-pub left_next : (room : ℕ) (all : List StoredEntry) (i : ℕ) (e : StoredEntry) (w : ℕ) (lengths : List ℕ) (taken len : ℕ) → i < length all → e ≡ get_or all i e → w ≡ weight e → w ≤ 264708 → takes room taken len w ≡ false
+pub left_next : (room : ℕ) (all : List StoredEntry) (i : ℕ) (e : StoredEntry) (w : ℕ) (lengths : List ℕ) (taken len : ℕ) → i < length all → e ≡ get_or all i e → w ≡ weight e → w ≤ 264708 → run_takes room taken len w ≡ false
     → IsCutTo room all (drop i all) lengths taken len → IsCutTo room all (drop (i + 1) all) (lengths ++ len ∷ []) w 1
 left_next room all i e w lengths taken len within is weighs small full h =
-    rw weighs (left_more room all e (drop (i + 1) all) lengths taken len (omega (arith, weighs, small)) (ap (takes room taken len) (sym weighs) ∙ full)
+    rw weighs (left_more room all e (drop (i + 1) all) lengths taken len (omega (arith, weighs, small)) (ap (run_takes room taken len) (sym weighs) ∙ full)
     (subst (λ (left : List StoredEntry). IsCutTo room all left lengths taken len) (next_entry all i e within is) h))
 
 pub cut_whole : (room : ℕ) (all : List StoredEntry) (i : ℕ) (lengths : List ℕ) (taken len : ℕ) → length all ≤ i → IsCutTo room all (drop i all) lengths taken len → lengths ++ len ∷ [] ≡ run_lengths room 0 0 all

@@ -5,7 +5,7 @@ use Rattle.std.specs.List.{AllZip}
 use Rattle.std.proofs.lemmas.Bool.Decides.{nat_tests}
 use Rattle.std.proofs.lemmas.List.Elements.{All-cons, All-nil, All-head, All-tail}
 use Rattle.std.proofs.lemmas.List.Sums.{sum_by-cons}
-use Rattle.lfs_meta.specs.Runs.{most_entries, onto, runs_after, takes, first_run, later_runs}
+use Rattle.lfs_meta.specs.Runs.{most_entries, onto, runs_after, run_takes, first_run, later_runs}
 use Rattle.lfs_meta.specs.RunLaws.{RunFits, LeavesNext, AreGreedy, AreRuns, OneCut, RunsAreGreedy, RunsBehindFirst, SomeRun, RunsFollowWeights, RunsJoin}
 
 -- the same of a list whose first run has a weight and a number to begin with
@@ -36,7 +36,7 @@ taken weigh room weight number e es (run ∷ runs) h =
     }
 
 -- an entry that it doesn't take
-left : {E : Type 0} (weigh : E → ℕ) (room weight number : ℕ) (e : E) (es : List E) (runs : List (List E)) → weight ≤ room → number ≤ most_entries → takes room weight number (weigh e) ≡ false
+left : {E : Type 0} (weigh : E → ℕ) (room weight number : ℕ) (e : E) (es : List E) (runs : List (List E)) → weight ≤ room → number ≤ most_entries → run_takes room weight number (weigh e) ≡ false
     → AreRunsAfter weigh room (weigh e) 1 es runs → AreRunsAfter weigh room weight number (e ∷ es) ([] ∷ onto e runs)
 unfolding onto
 left weigh room weight number e es [] light few full h = absurd (omega (arith, h.some'))
@@ -55,10 +55,10 @@ left weigh room weight number e es (run ∷ runs) light few full h =
       greedy = (rw (← heavy, ← many) h.leaves, h.greedy);
     }
 
-takes_fits : (room weight number w : ℕ) → takes room weight number w ≡ true → (weight + w ≤ room) × (number + 1 ≤ most_entries)
+takes_fits : (room weight number w : ℕ) → run_takes room weight number w ≡ true → (weight + w ≤ room) × (number + 1 ≤ most_entries)
 takes_fits room weight number w h = (grind (arith, nat_tests), grind (arith, nat_tests))
 
-either : {E : Type 0} (weigh : E → ℕ) (room weight number : ℕ) (e : E) (es : List E) (more others : List (List E)) (b : Bool) → takes room weight number (weigh e) ≡ b → weight ≤ room → number ≤ most_entries
+either : {E : Type 0} (weigh : E → ℕ) (room weight number : ℕ) (e : E) (es : List E) (more others : List (List E)) (b : Bool) → run_takes room weight number (weigh e) ≡ b → weight ≤ room → number ≤ most_entries
     → (weight + weigh e ≤ room → number + 1 ≤ most_entries → AreRunsAfter weigh room (weight + weigh e) (number + 1) es more)
     → AreRunsAfter weigh room (weigh e) 1 es others → AreRunsAfter weigh room weight number (e ∷ es) (if b then onto e more else [] ∷ onto e others)
 either weigh room weight number e es more others true is light few h k =
@@ -80,7 +80,7 @@ are_runs_after weigh room weight number [] light few fit = record {
 are_runs_after {E} weigh room weight number (e ∷ es) light few fit =
     let here : weigh e ≤ room = All-head (λ (x : E). weigh x ≤ room) e es fit in
     let rest : All (λ (x : E). weigh x ≤ room) es = All-tail (λ (x : E). weigh x ≤ room) e es fit in
-    either weigh room weight number e es (runs_after weigh room (weight + weigh e) (number + 1) es) (runs_after weigh room (weigh e) 1 es) (takes room weight number (weigh e)) refl light few
+    either weigh room weight number e es (runs_after weigh room (weight + weigh e) (number + 1) es) (runs_after weigh room (weigh e) 1 es) (run_takes room weight number (weigh e)) refl light few
     (λ heavy many. are_runs_after weigh room (weight + weigh e) (number + 1) es heavy many rest)
     (are_runs_after weigh room (weigh e) 1 es here (omega arith) rest)
 
@@ -169,7 +169,7 @@ gone_on {E} weigh room weight number e d es run runs same joined h =
 
 -- the first run takes its own first entry
 taken_first : {E : Type 0} (weigh : E → ℕ) (room weight number : ℕ) (e d : E) (es run : List E) (runs : List (List E)) → d ≡ e
-    → AreRunsAfter weigh room weight number (e ∷ es) ((d ∷ run) ∷ runs) → takes room weight number (weigh e) ≡ true
+    → AreRunsAfter weigh room weight number (e ∷ es) ((d ∷ run) ∷ runs) → run_takes room weight number (weigh e) ≡ true
 taken_first weigh room weight number e d es run runs same h =
     let heavy : sum_by weigh (d ∷ run) ≡ weigh d + sum_by weigh run = sum_by-cons weigh d run in
     let is : weigh d ≡ weigh e = ap weigh same in
@@ -179,13 +179,13 @@ taken_first weigh room weight number e d es run runs same h =
 
 -- an empty first run doesn't take the next one's first entry
 left_first : {E : Type 0} (weigh : E → ℕ) (room weight number : ℕ) (e d : E) (es run : List E) (runs : List (List E)) → d ≡ e
-    → AreRunsAfter weigh room weight number (e ∷ es) ([] ∷ (d ∷ run) ∷ runs) → takes room weight number (weigh e) ≡ false
+    → AreRunsAfter weigh room weight number (e ∷ es) ([] ∷ (d ∷ run) ∷ runs) → run_takes room weight number (weigh e) ≡ false
 left_first weigh room weight number e d es run runs same h =
     let none : weight + 0 ≡ weight = omega arith in
     let no_more : number + 0 ≡ number = omega arith in
-    ap (λ (x : ℕ). takes room weight number x) (sym (ap weigh same))
-    ∙ ap (λ (w : ℕ). takes room w number (weigh d)) (sym none)
-    ∙ ap (λ (n : ℕ). takes room (weight + 0) n (weigh d)) (sym no_more)
+    ap (λ (x : ℕ). run_takes room weight number x) (sym (ap weigh same))
+    ∙ ap (λ (w : ℕ). run_takes room w number (weigh d)) (sym none)
+    ∙ ap (λ (n : ℕ). run_takes room (weight + 0) n (weigh d)) (sym no_more)
     ∙ h.leaves
 
 only_after : {E : Type 0} (weigh : E → ℕ) (room weight number : ℕ) (es : List E) (runs : List (List E)) → AreRunsAfter weigh room weight number es runs → runs ≡ runs_after weigh room weight number es
@@ -232,7 +232,7 @@ one_cut weigh room es runs others h k =
 pub runs_behind_first : {E : Type 0} → RunsBehindFirst E
 unfolding runs_after
 runs_behind_first weigh room first es fits =
-    let taken : takes room 0 0 (weigh first) ≡ true = grind (arith, nat_tests, fits) in
+    let taken : run_takes room 0 0 (weigh first) ≡ true = grind (arith, nat_tests, fits) in
     let weight : 0 + weigh first ≡ weigh first = omega arith in
     ap (λ (b : Bool). if b then onto first (runs_after weigh room (0 + weigh first) 1 es) else [] ∷ onto first (runs_after weigh room (weigh first) 1 es)) taken
     ∙ ap (λ (w : ℕ). onto first (runs_after weigh room w 1 es)) weight
@@ -249,7 +249,7 @@ some_either false e more others = omega arith
 pub some_run : {E : Type 0} → SomeRun E
 unfolding runs_after
 some_run weigh room weight number [] = omega arith
-some_run weigh room weight number (e ∷ es) = some_either (takes room weight number (weigh e)) e (runs_after weigh room (weight + weigh e) (number + 1) es) (runs_after weigh room (weigh e) 1 es)
+some_run weigh room weight number (e ∷ es) = some_either (run_takes room weight number (weigh e)) e (runs_after weigh room (weight + weigh e) (number + 1) es) (runs_after weigh room (weigh e) 1 es)
 
 -- an entry in front of runs that match
 onto_matches : {E F : Type 0} (R : E → F → Type 0) (e : E) (f : F) (runs : List (List E)) (others : List (List F)) → R e f → AllZip (AllZip R) runs others → AllZip (AllZip R) (onto e runs) (onto f others)
@@ -272,7 +272,7 @@ runs_match R weigh heft room weight number [] (f ∷ fs) same match = absurd mat
 runs_match R weigh heft room weight number (e ∷ es) [] same match = absurd match
 runs_match R weigh heft room weight number (e ∷ es) (f ∷ fs) same match =
     let alike : weigh e ≡ heft f = same e f match.0 in
-    rw alike (either_matches R (takes room weight number (heft f)) e f _ _ _ _ match.0
+    rw alike (either_matches R (run_takes room weight number (heft f)) e f _ _ _ _ match.0
     (runs_match R weigh heft room (weight + heft f) (number + 1) es fs same match.1)
     (runs_match R weigh heft room (heft f) 1 es fs same match.1))
 
@@ -294,5 +294,5 @@ pub runs_join : {E : Type 0} → RunsJoin E
 unfolding runs_after
 runs_join weigh room weight number [] = refl
 runs_join weigh room weight number (e ∷ es) =
-    joined_either e es (runs_after weigh room (weight + weigh e) (number + 1) es) (runs_after weigh room (weigh e) 1 es) (takes room weight number (weigh e))
+    joined_either e es (runs_after weigh room (weight + weigh e) (number + 1) es) (runs_after weigh room (weigh e) 1 es) (run_takes room weight number (weigh e))
     (runs_join weigh room (weight + weigh e) (number + 1) es) (runs_join weigh room (weigh e) 1 es)

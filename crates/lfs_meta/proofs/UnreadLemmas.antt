@@ -14,7 +14,7 @@ use Rattle.lfs_meta.specs.Body.{Pair, StoredBody}
 use Rattle.lfs_meta.specs.Entry.{RawEntry}
 use Rattle.lfs_meta.specs.Part.{RawPart, empty_part}
 use Rattle.lfs_meta.specs.Replay.{acted, step_by, step, replay_from, replay, HasBadFrom}
-use Rattle.lfs_meta.specs.Whole.{takes, takes_name, IsIncompleteBy, IsIncomplete, IsMisnamedBy, IsMisnamed, whole_by, whole, all_whole, whole_part}
+use Rattle.lfs_meta.specs.Whole.{kind_takes_body, kind_takes_name, IsIncompleteBy, IsIncomplete, IsMisnamedBy, IsMisnamed, whole_by, whole, all_whole, whole_part}
 use Rattle.lfs_meta.specs.LiveBlock.{stored_part_of}
 use Rattle.lfs_meta.specs.Cause.{PairCause}
 
@@ -65,7 +65,7 @@ misnamed_by : (n : Option (Kind × List ℕ)) (b : Option StoredBody) (attribute
 misnamed_by None b attributes h = refl
 misnamed_by (Some n) None attributes h = refl
 misnamed_by (Some n) (Some b) attributes h =
-    ap (λ t. if t then Some (record { kind = n.0; name = n.1; body = b; attributes = attributes }) else None) (and_false (takes n.0 b) (takes_name n.0 n.1) h)
+    ap (λ t. if t then Some (record { kind = n.0; name = n.1; body = b; attributes = attributes }) else None) (and_false (kind_takes_body n.0 b) (kind_takes_name n.0 n.1) h)
 
 -- one entry that isn't whole
 not_whole : (P : RawEntry → Type 0) → ((e : RawEntry) → P e → whole e ≡ None) → (es : List RawEntry) (k : ℕ) (e : RawEntry)

@@ -7,7 +7,7 @@ use Rattle.lfs_block.specs.declared.mount_fault.MountFault.{MountFault}
 use Rattle.lfs_block.specs.declared.mount_fault.MountFault.TheVariants as fault
 use Rattle.lfs_meta.specs.Entry.{RawEntry, StoredEntry}
 use Rattle.lfs_meta.specs.Cause.{EntryCause, EntriesCause}
-use Rattle.lfs_meta.specs.Whole.{takes, takes_name, whole_by, whole, all_whole, whole_part}
+use Rattle.lfs_meta.specs.Whole.{kind_takes_body, kind_takes_name, whole_by, whole, all_whole, whole_part}
 use Rattle.lfs_meta.specs.declared.kind.Kind.{Kind}
 use Rattle.lfs_meta.specs.Attribute.{Attributes}
 use Rattle.lfs_meta.specs.Body.{StoredBody}
@@ -61,7 +61,7 @@ whole-is None body attributes w e = cc
 whole-is (Some name) None attributes w e = cc
 whole-is (Some name) (Some body) attributes w e =
     let x : StoredEntry = record { kind = name.0; name = name.1; body = body; attributes = attributes } in
-    let parts : (x ≡ w) × (takes name.0 body ≡ true) × (takes_name name.0 name.1 ≡ true) = when_both (takes name.0 body) (takes_name name.0 name.1) x w e in
+    let parts : (x ≡ w) × (kind_takes_body name.0 body ≡ true) × (kind_takes_name name.0 name.1 ≡ true) = when_both (kind_takes_body name.0 body) (kind_takes_name name.0 name.1) x w e in
     let is_whole : IsWhole x = record { body = parts.1; name = parts.2 } in
     subst IsWhole parts.0 is_whole
 

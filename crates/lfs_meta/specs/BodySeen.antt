@@ -1,7 +1,7 @@
 -- What a borrowed struct means.
 use Rattle.lfs_meta.specs.Body.{StoredBody, Inline, Ctz, Leads}
-use Rattle.lfs_meta.specs.declared.body.BodyRef.{BodyRef}
-use Rattle.lfs_meta.specs.declared.body.BodyRef.TheVariants as case
+use Rattle.lfs_meta.specs.declared.body_ref.BodyRef.{BodyRef}
+use Rattle.lfs_meta.specs.declared.body_ref.BodyRef.TheVariants as case
 
 abbrev pub body_seen : BodyRef → StoredBody
 body_seen (case.Inline bytes) = Inline bytes.now

@@ -1,7 +1,7 @@
 -- Laws of runs: each takes as many entries as it can, and weights alone decide where a list is cut.
 use Rattle.std.specs.Prelude.{◌≡◌, ℕ, ◌≤◌, false, List, [], ◌∷◌, length, All, Contains, flat_map, sum_by}
 use Rattle.std.specs.List.{AllZip}
-use Rattle.lfs_meta.specs.Runs.{most_entries, onto, runs_after, takes}
+use Rattle.lfs_meta.specs.Runs.{most_entries, onto, runs_after, run_takes}
 
 -- a run fits a pair
 pub record RunFits {E : Type 0} (weigh : E → ℕ) (room : ℕ) (run : List E) : Type 0 where
@@ -12,7 +12,7 @@ pub record RunFits {E : Type 0} (weigh : E → ℕ) (room : ℕ) (run : List E) 
 abbrev pub LeavesNext : {E : Type 0} → (E → ℕ) → ℕ → ℕ → ℕ → List (List E) → Type 0
 LeavesNext weigh room weight number [] = Unit {0}
 LeavesNext weigh room weight number ([] ∷ runs) = ⊥
-LeavesNext weigh room weight number ((e ∷ run) ∷ runs) = takes room weight number (weigh e) ≡ false
+LeavesNext weigh room weight number ((e ∷ run) ∷ runs) = run_takes room weight number (weigh e) ≡ false
 
 -- each run leaves the next one what it could not take
 abbrev pub AreGreedy : {E : Type 0} → (E → ℕ) → ℕ → List (List E) → Type 0

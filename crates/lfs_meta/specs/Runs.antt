@@ -11,15 +11,15 @@ onto e [] = (e ∷ []) ∷ []
 onto e (run ∷ runs) = (e ∷ run) ∷ runs
 
 -- Whether a run of this weight and so many entries takes one more entry of weight w.
-abbrev pub takes : ℕ → ℕ → ℕ → ℕ → Bool
-takes room weight number w = nat_le (weight + w) room && nat_lt number most_entries
+abbrev pub run_takes : ℕ → ℕ → ℕ → ℕ → Bool
+run_takes room weight number w = nat_le (weight + w) room && nat_lt number most_entries
 
 -- The rest of a run that has this weight and this many entries so far, and the runs behind it. A run takes the next entry
 -- as long as it can.
 unfoldable pub runs_after : {E : Type 0} → (E → ℕ) → ℕ → ℕ → ℕ → List E → List (List E)
 runs_after weigh room weight number [] = [] ∷ []
 runs_after weigh room weight number (e ∷ es) =
-    if takes room weight number (weigh e)
+    if run_takes room weight number (weigh e)
     then onto e (runs_after weigh room (weight + weigh e) (number + 1) es)
     else [] ∷ onto e (runs_after weigh room (weigh e) 1 es)
 

@@ -10,12 +10,12 @@ use Rattle.lfs_meta.specs.declared.tail.Tail.TheVariants.{End, Soft, Hard}
 use Rattle.lfs_meta.specs.Body.{StoredBody, Inline, Ctz, Leads}
 use Rattle.lfs_meta.specs.Entry.{RawEntry, StoredEntry}
 use Rattle.lfs_meta.specs.Part.{RawPart, StoredPart}
-use Rattle.lfs_meta.specs.Whole.{takes, takes_name}
+use Rattle.lfs_meta.specs.Whole.{kind_takes_body, kind_takes_name}
 
 -- a struct and a name that the entry's kind takes
 pub record IsWhole (e : StoredEntry) : Type 0 where
-  pub body : takes e.kind e.body ≡ true
-  pub name : takes_name e.kind e.name ≡ true
+  pub body : kind_takes_body e.kind e.body ≡ true
+  pub name : kind_takes_name e.kind e.name ≡ true
 
 -- how tags leave a whole entry, and a part of them
 abbrev pub raw_of : StoredEntry → RawEntry
@@ -45,18 +45,6 @@ abbrev pub body_bytes : StoredBody → List ℕ
 body_bytes (Inline bytes) = bytes
 body_bytes (Ctz head size) = words head size
 body_bytes (Leads first second) = words first second
-
--- the words of a struct of two words
-abbrev pub body_words : StoredBody → List ℕ
-body_words (Inline bytes) = words 0 0
-body_words (Ctz head size) = words head size
-body_words (Leads first second) = words first second
-
--- the words of a tail
-abbrev pub tail_words : Tail → List ℕ
-tail_words End = words 0 0
-tail_words (Soft first second) = words first second
-tail_words (Hard first second) = words first second
 
 -- a tag of this type and id, with its data
 abbrev pub tag_item : ℕ → ℕ → List ℕ → Item

@@ -9,28 +9,28 @@ use Rattle.lfs_meta.specs.Name.{Name, is_name}
 use Rattle.lfs_meta.specs.Part.{RawPart, StoredPart}
 
 -- the structs that a kind takes
-abbrev pub takes : Kind → StoredBody → Bool
-takes File (Inline bytes) = true
-takes File (Ctz head size) = true
-takes File (Leads first second) = false
-takes Dir (Inline bytes) = false
-takes Dir (Ctz head size) = false
-takes Dir (Leads first second) = true
-takes Super (Inline bytes) = true
-takes Super (Ctz head size) = false
-takes Super (Leads first second) = false
+abbrev pub kind_takes_body : Kind → StoredBody → Bool
+kind_takes_body File (Inline bytes) = true
+kind_takes_body File (Ctz head size) = true
+kind_takes_body File (Leads first second) = false
+kind_takes_body Dir (Inline bytes) = false
+kind_takes_body Dir (Ctz head size) = false
+kind_takes_body Dir (Leads first second) = true
+kind_takes_body Super (Inline bytes) = true
+kind_takes_body Super (Ctz head size) = false
+kind_takes_body Super (Leads first second) = false
 
 -- the names that a kind takes: a superblock's is judged elsewhere
-abbrev pub takes_name : Kind → Name → Bool
-takes_name File name = is_name name
-takes_name Dir name = is_name name
-takes_name Super name = true
+abbrev pub kind_takes_name : Kind → Name → Bool
+kind_takes_name File name = is_name name
+kind_takes_name Dir name = is_name name
+kind_takes_name Super name = true
 
 -- no name, no struct, or a struct that the kind doesn't take
 abbrev pub IsIncompleteBy : Option (Kind × Name) → Option StoredBody → Type 0
 IsIncompleteBy None body = Unit {0}
 IsIncompleteBy (Some name) None = Unit {0}
-IsIncompleteBy (Some name) (Some body) = takes name.0 body ≡ false
+IsIncompleteBy (Some name) (Some body) = kind_takes_body name.0 body ≡ false
 
 abbrev pub IsIncomplete : RawEntry → Type 0
 IsIncomplete e = IsIncompleteBy e.name e.body
@@ -38,7 +38,7 @@ IsIncomplete e = IsIncompleteBy e.name e.body
 -- a name that no file or directory may have
 abbrev pub IsMisnamedBy : Option (Kind × Name) → Type 0
 IsMisnamedBy None = ⊥
-IsMisnamedBy (Some name) = takes_name name.0 name.1 ≡ false
+IsMisnamedBy (Some name) = kind_takes_name name.0 name.1 ≡ false
 
 abbrev pub IsMisnamed : RawEntry → Type 0
 IsMisnamed e = IsMisnamedBy e.name
@@ -47,7 +47,7 @@ abbrev pub whole_by : Option (Kind × Name) → Option StoredBody → Attributes
 whole_by None body attributes = None
 whole_by (Some name) None attributes = None
 whole_by (Some name) (Some body) attributes =
-    if takes name.0 body && takes_name name.0 name.1
+    if kind_takes_body name.0 body && kind_takes_name name.0 name.1
     then Some (record { kind = name.0; name = name.1; body = body; attributes = attributes })
     else None
 

@@ -7,7 +7,7 @@ use lfs_tag::{DELETED, NO_ID, Tag};
 ///
 /// Source: SPEC.md, "Metadata types".
 #[derive(Clone, Copy, Debug, PartialEq, Eq)]
-pub enum Action {
+pub(crate) enum Action {
     /// Puts a blank entry in at the tag's id; later ones move up.
     Create,
     /// Takes the entry at the tag's id out; later ones move down.
@@ -31,7 +31,7 @@ impl Action {
 
     /// What a tag of this type does, `None` where the type isn't known. Takes no memory.
     #[tactic(auto, unfolding(crate::specs::Action::action_of))]
-    pub fn of(kind: u16) -> Option<Action>
+    pub(crate) fn of(kind: u16) -> Option<Action>
         ensures { result ≡ action_of kind }
     {
         match kind {
@@ -49,7 +49,7 @@ impl Action {
     /// Whether a tag of this action is refused where there are `count` entries, for its id or its length. `bytes` are
     /// the tag's data. Takes no memory.
     #[tactic(auto, unfolding(crate::specs::Action::is_bad))]
-    pub fn is_bad(self, tag: Tag, bytes: &[u8], count: usize) -> bool
+    pub(crate) fn is_bad(self, tag: Tag, bytes: &[u8], count: usize) -> bool
         ensures { result ≡ is_bad self (item_with tag bytes.now) count }
     {
         let id = usize::from(tag.id);

@@ -1,10 +1,10 @@
 //! How entries that take more room than one block has are cut.
 
 ghost use Rattle.std.specs.Prelude.{◌≡◌, ◌+◌, ◌<◌, ◌≤◌, ◌^◌, length, map, IfSome};
-ghost use Rattle.lfs_meta.specs.Runs.{runs_after, takes};
+ghost use Rattle.lfs_meta.specs.Runs.{runs_after, run_takes};
 ghost use Rattle.lfs_meta.specs.Weighing.{weight};
 
-use crate::stored_entry::Entry;
+use crate::entry::Entry;
 use crate::weighing::weight;
 use std::alloc::Global;
 
@@ -12,9 +12,9 @@ use std::alloc::Global;
 const MOST_ENTRIES: usize = 1_000;
 
 /// Whether a run that weighs `taken` and has `len` entries takes one more of weight `next`.
-fn takes(room: u32, taken: u32, len: usize, next: u32) -> bool
+fn run_takes(room: u32, taken: u32, len: usize, next: u32) -> bool
     requires { taken + next < 2 ^ 32 }
-    ensures { result ≡ takes room taken len next }
+    ensures { result ≡ run_takes room taken len next }
 {
     taken + next <= room && len < MOST_ENTRIES
 }
@@ -33,7 +33,7 @@ pub fn cut(alloc: Global, entries: &[Entry], room: u32) -> Option<Vec<usize>>
     let mut len = 0;
     for entry in entries {
         let next = weight(entry);
-        if takes(room, taken, len, next) {
+        if run_takes(room, taken, len, next) {
             taken += next;
             len += 1;
         } else {

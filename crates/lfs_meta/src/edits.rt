@@ -2,16 +2,19 @@
 
 ghost use Rattle.std.specs.Prelude.{◌≡◌, ◌≢◌, ◌==◌, ℕ, ◌+◌, ◌/◌, ◌<◌, ◌≤◌, [], ◌∷◌, ◌++◌, length, map, All, IfOk, OnOk};
 ghost use Rattle.std.specs.List.{list_all};
+ghost use Rattle.lfs_tag.specs.EditData.{data_bytes};
 ghost use Rattle.lfs_tag.specs.Writing.{item_of, items};
 ghost use Rattle.lfs_meta.specs.BodyHeld.{body_held};
 ghost use Rattle.lfs_meta.specs.Fits.{EntryFits};
-ghost use Rattle.lfs_meta.specs.Spelling.{attribute_item, body_bytes, body_kind, body_words, delta_tags, entries_tags, entry_tags, name_kind, part_tags, tag_item, tail_tags, tail_words};
+ghost use Rattle.lfs_meta.specs.Spelling.{attribute_item, body_bytes, body_kind, delta_tags, entries_tags, entry_tags, name_kind, part_tags, tag_item, tail_tags, words};
+ghost use Rattle.lfs_meta.specs.Writing.{stored_part};
 
+use crate::attribute::Attribute;
+use crate::body::Body;
+use crate::entry::Entry;
 use crate::kind::Kind;
-use crate::stored_attribute::Attribute;
-use crate::stored_body::Body;
-use crate::stored_entry::Entry;
 use crate::tail::Tail;
+use byteorder::{ByteOrder, LittleEndian};
 use lfs_tag::{Edit, EditData, NO_ID, Tag};
 use std::alloc::{AllocError, Global};
 
@@ -24,21 +27,27 @@ const HARD_TAIL: u16 = 0x601;
 /// The type of a delta's tag.
 const DELTA: u16 = 0x7ff;
 
+/// Two words, low bytes first.
+fn words<'a>(first: u32, second: u32) -> EditData<'a>
+    ensures { data_bytes result ≡ words first second }
+{
+    let mut bytes = [0; 8];
+    LittleEndian::write_u32_into(&[first, second], &mut bytes);
+    EditData::Words(bytes)
+}
+
 /// A tag of this type and id, with its data.
-fn edit<'a>(kind: u16, id: u16, bytes: &'a [u8]) -> Edit<'a>
+fn edit<'a>(kind: u16, id: u16, content: EditData<'a>) -> Edit<'a>
     requires kind { kind < 2048 }
     requires main { kind / 256 ≢ 5 }
     requires id { id < 1024 }
-    requires bytes { length bytes.now < 1023 }
-    ensures { item_of result ≡ tag_item kind id bytes.now }
+    requires bytes { length (data_bytes content) < 1023 }
+    ensures { item_of result ≡ tag_item kind id (data_bytes content.entry) }
 {
+    let len = content.as_bytes().len() as u16;
     Edit {
-        tag: Tag {
-            kind,
-            id,
-            len: bytes.len() as u16,
-        },
-        content: EditData::Bytes(bytes),
+        tag: Tag { kind, id, len },
+        content,
     }
 }
 
@@ -64,14 +73,14 @@ fn body_kind(body: &Body) -> u16
     }
 }
 
-/// The data of a struct's tag, whose words are these.
-fn body_bytes<'a>(body: &'a Body, words: &'a [u8; 8]) -> &'a [u8]
-    requires { words.now ≡ body_words (body_held body.now) }
-    ensures { result.now ≡ body_bytes (body_held body.now) }
+/// The data of a struct's tag.
+fn body_data(body: &Body) -> EditData<'_>
+    ensures { data_bytes result ≡ body_bytes (body_held body.now) }
 {
     match body {
-        Body::Inline(bytes) => bytes,
-        Body::Ctz { .. } | Body::Leads(..) => words,
+        Body::Inline(bytes) => EditData::Bytes(bytes),
+        Body::Ctz { head, size } => words(*head, *size),
+        Body::Leads(first, second) => words(*first, *second),
     }
 }
 
@@ -86,59 +95,42 @@ fn push_attributes<'a>(
 {
     for attribute in attributes {
         let kind = ATTRIBUTE + u16::from(attribute.kind);
-        edits.push(edit(kind, id, &attribute.value))?;
+        edits.push(edit(kind, id, EditData::Bytes(&attribute.value)))?;
     }
     Ok(())
 }
 
-/// Adds an entry, whose struct's words are these.
-fn push_entry<'a>(
-    edits: &mut Vec<Edit<'a>>,
-    id: u16,
-    entry: &'a Entry,
-    words: &'a [u8; 8],
-) -> Result<(), AllocError>
-    requires id { id < 1023 }
-    requires words { words.now ≡ body_words (entry.now).body }
+/// Adds an entry.
+fn push_entry<'a>(edits: &mut Vec<Edit<'a>>, id: u16, entry: &'a Entry) -> Result<(), AllocError>
+    requires { id < 1023 }
     ensures pushed { OnOk result (items edits.new.items ≡ items edits.old.items ++ entry_tags id entry.now) }
     ensures fits { EntryFits entry.now }
 {
-    edits.push(edit(name_kind(entry.kind), id, &entry.name))?;
-    let body = body_bytes(&entry.body, words);
-    edits.push(edit(body_kind(&entry.body), id, body))?;
+    edits.push(edit(name_kind(entry.kind), id, EditData::Bytes(&entry.name)))?;
+    edits.push(edit(body_kind(&entry.body), id, body_data(&entry.body)))?;
     push_attributes(edits, id, &entry.attributes)
 }
 
-/// Adds entries, whose structs' words are these.
-fn push_entries<'a>(
-    edits: &mut Vec<Edit<'a>>,
-    entries: &'a [Entry],
-    structs: &'a [[u8; 8]],
-) -> Result<(), AllocError>
-    requires few { length entries.now ≤ 1000 }
-    requires words { structs.now ≡ map (λ e. body_words e.body) entries.now }
+/// Adds entries.
+fn push_entries<'a>(edits: &mut Vec<Edit<'a>>, entries: &'a [Entry]) -> Result<(), AllocError>
+    requires { length entries.now ≤ 1000 }
     ensures pushed { OnOk result (items edits.new.items ≡ items edits.old.items ++ entries_tags 0 entries.now) }
     ensures fits { OnOk result (All EntryFits entries.now) }
 {
     for (id, entry) in entries.iter().enumerate() {
-        push_entry(edits, id as u16, entry, &structs[id])?;
+        push_entry(edits, id as u16, entry)?;
     }
     Ok(())
 }
 
-/// Adds a tail, whose words are these.
-fn push_tail<'a>(
-    edits: &mut Vec<Edit<'a>>,
-    tail: Tail,
-    words: &'a [u8; 8],
-) -> Result<(), AllocError>
-    requires { words.now ≡ tail_words tail }
+/// Adds a tail.
+fn push_tail(edits: &mut Vec<Edit<'_>>, tail: Tail) -> Result<(), AllocError>
     ensures { OnOk result (items edits.new.items ≡ items edits.old.items ++ tail_tags tail) }
 {
     match tail {
         Tail::End => {}
-        Tail::Soft(..) => edits.push(edit(SOFT_TAIL, NO_ID, words))?,
-        Tail::Hard(..) => edits.push(edit(HARD_TAIL, NO_ID, words))?,
+        Tail::Soft(first, second) => edits.push(edit(SOFT_TAIL, NO_ID, words(first, second)))?,
+        Tail::Hard(first, second) => edits.push(edit(HARD_TAIL, NO_ID, words(first, second)))?,
     }
     Ok(())
 }
@@ -157,32 +149,24 @@ fn push_delta<'a>(edits: &mut Vec<Edit<'a>>, delta: &'a [u8; 12]) -> Result<(), 
     if is_zero(delta) {
         return Ok(());
     }
-    edits.push(edit(DELTA, NO_ID, delta))?;
+    edits.push(edit(DELTA, NO_ID, EditData::Bytes(delta)))?;
     Ok(())
 }
 
-/// The tags that a part is written as, where these are the words of its structs and of its tail.
+/// The tags that a part is written as.
 pub(crate) fn part_edits<'a>(
     alloc: Global,
     entries: &'a [Entry],
-    structs: &'a [[u8; 8]],
     tail: Tail,
-    words: &'a [u8; 8],
     delta: &'a [u8; 12],
 ) -> Result<Vec<Edit<'a>>, AllocError>
-    requires few { length entries.now ≤ 1000 }
-    requires structs { structs.now ≡ map (λ e. body_words e.body) entries.now }
-    requires tail { words.now ≡ tail_words tail }
-    ensures tags { IfOk result (λ edits. items edits.items ≡ part_tags (record {
-      entries = entries.now;
-      tail = tail;
-      delta = delta.now;
-    })) }
+    requires { length entries.now ≤ 1000 }
+    ensures tags { IfOk result (λ edits. items edits.items ≡ part_tags (stored_part entries.now tail delta.now)) }
     ensures fits { OnOk result (All EntryFits entries.now) }
 {
     let mut edits = Vec::new(alloc);
-    push_entries(&mut edits, entries, structs)?;
-    push_tail(&mut edits, tail, words)?;
+    push_entries(&mut edits, entries)?;
+    push_tail(&mut edits, tail)?;
     push_delta(&mut edits, delta)?;
     Ok(edits)
 }

@@ -1,50 +1,109 @@
-//! An entry, as tags leave it.
+//! An entry that has its name and its struct.
 
-use crate::attribute::AttributeRef;
-use crate::body::BodyRef;
+ghost use Rattle.std.specs.Prelude.{◌≡◌, nat_lt, OnOk, OnErr};
+ghost use Rattle.std.specs.List.{prefix_len};
+ghost use Rattle.lfs_meta.specs.Attribute.{set_attribute};
+
+use crate::attribute::Attribute;
+use crate::body::Body;
 use crate::kind::Kind;
-use std::alloc::Global;
+use std::alloc::{AllocError, Global};
 use std::marker::Model;
 
-/// An entry, as tags leave it: its name or its struct may still be missing. What it holds is borrowed from a block.
+/// An entry that has its name and its struct. Its name, its contents and each value have at most 1,022 bytes.
 ///
 /// Source: SPEC.md, "Metadata types".
-#[derive(Drop)]
-pub struct EntryDraft<'a> {
-    /// The kind and the name.
-    pub name: Option<(Kind, &'a [u8])>,
+#[derive(Debug, Drop)]
+pub struct Entry {
+    /// The name.
+    pub name: Vec<u8>,
+    /// What the entry is.
+    pub kind: Kind,
     /// The struct.
-    pub body: Option<BodyRef<'a>>,
-    /// The attributes, rising by kind.
-    pub attributes: Vec<AttributeRef<'a>>,
+    pub body: Body,
+    /// The attributes, strictly rising by kind.
+    pub attributes: Vec<Attribute>,
 }
 
-impl<'a> Model for EntryDraft<'a> {
-    ghost use Rattle.std.specs.Prelude.{option_map};
-    ghost use Rattle.lfs_meta.specs.Entry.{RawEntry};
-    ghost use Rattle.lfs_meta.specs.BodySeen.{body_seen};
+impl Model for Entry {
+    ghost use Rattle.lfs_meta.specs.Entry.{StoredEntry};
+    ghost use Rattle.lfs_meta.specs.BodyHeld.{body_held};
+    ghost use Rattle.lfs_meta.specs.Fits.{EntryFits};
 
-    ghost Value = { RawEntry };
+    ghost Value = { StoredEntry };
 
     ghost view = { λ e. record {
-      name = option_map (λ n. (n.0, n.1.now)) e.name;
-      body = option_map body_seen e.body;
+      kind = e.kind;
+      name = e.name.items;
+      body = body_held e.body;
       attributes = e.attributes.items;
     } };
+
+    ghost invariant = { λ e. EntryFits (record {
+      kind = e.kind;
+      name = e.name.items;
+      body = body_held e.body;
+      attributes = e.attributes.items;
+    }) };
 }
 
-impl<'a> EntryDraft<'a> {
-    ghost use Rattle.std.specs.Prelude.{◌≡◌};
-    ghost use Rattle.lfs_meta.specs.Entry.{blank};
+/// How many attributes have lesser kinds.
+fn place_of(attributes: &[Attribute], kind: u8) -> usize
+    ensures { result ≡ prefix_len (λ a. nat_lt a.0 kind) attributes.now }
+{
+    attributes
+        .iter()
+        .take_while(|attribute| attribute.kind < kind)
+        .count()
+}
 
-    /// An entry without anything. Takes no memory.
-    pub fn blank(alloc: Global) -> Self
-        ensures { result ≡ blank }
+/// Puts an attribute among others, which rise by kind. Want of memory changes nothing.
+fn set(attributes: &mut Vec<Attribute>, attribute: Attribute) -> Result<(), AllocError>
+    ensures set { OnOk result (attributes.new.items ≡ set_attribute attribute.0 attribute.1 attributes.old.items) }
+    ensures unchanged { OnErr result (attributes.new.items ≡ attributes.old.items) }
+{
+    let at = place_of(attributes, attribute.kind);
+    if at < attributes.len() && attributes[at].kind == attribute.kind {
+        attributes[at] = attribute;
+        return Ok(());
+    }
+    attributes.insert(at, attribute)?;
+    Ok(())
+}
+
+impl Entry {
+    ghost use Rattle.std.specs.Prelude.{◌≡◌, ◌==◌, ◌<◌, length, not, OnOk, OnErr};
+    ghost use Rattle.std.specs.List.{list_any};
+    ghost use Rattle.lfs_meta.specs.Attribute.{set_attribute, remove_attribute};
+    ghost use Rattle.lfs_meta.specs.Entry.{with_attributes};
+
+    /// Whether the entry has an attribute of a kind. Takes no memory.
+    pub fn has_attribute(&self, kind: u8) -> bool
+        ensures { result ≡ list_any (λ a. kind == a.0) self.now.attributes }
     {
-        EntryDraft {
-            name: None,
-            body: None,
-            attributes: Vec::new(alloc),
-        }
+        self.attributes
+            .iter()
+            .any(|attribute| kind == attribute.kind)
+    }
+
+    /// Sets the value of a kind. The caller owes a value of at most 1,022 bytes. Want of memory changes nothing.
+    pub fn set_attribute(&mut self, alloc: Global, kind: u8, value: &[u8]) -> Result<(), AllocError>
+        requires { length value.now < 1023 }
+        ensures set { OnOk result (self.new ≡ with_attributes (set_attribute kind value.now) self.old) }
+        ensures unchanged { OnErr result (self.new ≡ self.old) }
+    {
+        let value = Vec::from_slice(alloc, value)?;
+        set(&mut self.attributes, Attribute { kind, value })
+    }
+
+    /// Takes the value of a kind out. Takes no memory.
+    pub fn remove_attribute(&mut self, kind: u8)
+        ensures { self.new ≡ with_attributes (remove_attribute kind) self.old }
+    {
+        self.attributes.retain(
+            |attribute| -> bool
+                ensures { result ≡ not (kind == attribute.now.0) }
+            { attribute.kind != kind },
+        );
     }
 }

@@ -9,7 +9,7 @@ use lfs_tag::Log;
 /// A block's revision. The caller owes four bytes or more. Takes no memory.
 ///
 /// Source: SPEC.md, "Metadata pairs".
-pub fn revision(block: &[u8]) -> u32
+pub(crate) fn revision(block: &[u8]) -> u32
     requires { 4 ≤ length block.now }
     ensures { result ≡ revision block.now }
 {
@@ -19,7 +19,7 @@ pub fn revision(block: &[u8]) -> u32
 /// Whether revision `a` comes after `b`, where revisions are counted around 2^32. Takes no memory.
 ///
 /// Source: SPEC.md, "Metadata pairs".
-pub fn is_later(a: u32, b: u32) -> bool
+pub(crate) fn is_later(a: u32, b: u32) -> bool
     ensures { result ≡ is_later a b }
 {
     let ahead = a.wrapping_sub(b);
@@ -75,7 +75,7 @@ pub(crate) fn live_block<'a>(first: &'a [u8], second: &'a [u8]) -> LiveBlock<'a>
 /// revision is the later one, else the first one. The caller owes blocks of four bytes or more. Takes no memory.
 ///
 /// Source: SPEC.md, "Metadata pairs"; the first block where neither is later: own.
-pub fn live<'a>(first: &'a [u8], second: &'a [u8]) -> Option<Log<'a>>
+pub(crate) fn live<'a>(first: &'a [u8], second: &'a [u8]) -> Option<Log<'a>>
     requires first { 4 ≤ length first.now }
     requires second { 4 ≤ length second.now }
     ensures { result ≡ live_log (live_block first.now second.now) }

@@ -1,8 +1,9 @@
 //! Parts as they are read and written. The blocks' bytes were put together by a program of their own, tag by tag.
 
+use crate::weighing::weights;
 use crate::{
     Body, Kind, Tail, cut, first_block, live_blocks_are_read, read_pair, replayed_parts_fit,
-    rewrite, weight, weights, weights_fit, written_parts_replay,
+    rewrite, weight, weights_fit, written_parts_replay,
 };
 use lfs_block::{Image, MountFault};
 use std::alloc::Global;

@@ -8,9 +8,9 @@ ghost use Rattle.lfs_meta.specs.LiveBlock.{part_of, stored_part_of};
 ghost use Rattle.lfs_meta.specs.Cause.{DraftCause, ReadCause};
 
 use crate::live_block::live;
-use crate::part::PartDraft;
+use crate::part::Part;
+use crate::part_draft::PartDraft;
 use crate::replay::replayed;
-use crate::stored_part::Part;
 use crate::whole::all_whole;
 use lfs_block::{Blocks, MountFault};
 use std::alloc::Global;
@@ -19,7 +19,7 @@ use std::alloc::Global;
 /// says. The caller owes two numbers below the block count.
 ///
 /// Source: SPEC.md, "Metadata pairs".
-pub fn read_draft<'a, B: Blocks>(
+pub(crate) fn read_draft<'a, B: Blocks>(
     alloc: Global,
     blocks: &'a B,
     pair: (u32, u32),

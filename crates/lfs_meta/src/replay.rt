@@ -7,7 +7,7 @@ ghost use Rattle.lfs_meta.specs.Fits.{RawPartFits};
 ghost use Rattle.lfs_meta.specs.Replay.{replay};
 ghost use Rattle.lfs_meta.specs.Cause.{TagsCause};
 
-use crate::part::PartDraft;
+use crate::part_draft::PartDraft;
 use lfs_block::MountFault;
 use lfs_tag::Tags;
 use std::alloc::Global;
@@ -17,7 +17,7 @@ use std::alloc::Global;
 /// hold, one of them is named.
 ///
 /// Source: SPEC.md, "Metadata types".
-pub fn replayed<'a>(alloc: Global, tags: Tags<'a>) -> Result<PartDraft<'a>, MountFault>
+pub(crate) fn replayed<'a>(alloc: Global, tags: Tags<'a>) -> Result<PartDraft<'a>, MountFault>
     requires { AllByRecursion IsItem tags }
     ensures found { IfOk result (λ part. replay tags.entry ≡ Some part) }
     ensures fits { IfOk result RawPartFits }

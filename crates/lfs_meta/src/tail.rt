@@ -4,7 +4,7 @@ ghost use Rattle.std.specs.Prelude.{◌≡◌, ◌≤◌, length};
 ghost use Rattle.lfs_meta.specs.Action.{is_null};
 ghost use Rattle.lfs_meta.specs.Replay.{tail_named};
 
-use crate::body::struct_word;
+use crate::body_ref::struct_word;
 
 /// How the thread goes on behind a pair. The numbers are the next pair's blocks.
 ///

@@ -1,8 +1,14 @@
 //! Vectors from outside: the blocks' bytes were put together by hand, tag by tag, each behind its comment.
 
+use crate::action::Action;
+use crate::body_ref::BodyRef;
+use crate::entry_draft::EntryDraft;
+use crate::live_block::{is_later, live, revision};
+use crate::part_draft::PartDraft;
+use crate::read::read_draft;
+use crate::replay::replayed;
 use crate::{
-    Action, BodyRef, EntryDraft, Kind, PartDraft, Tail, is_later, is_name, live, names_are_decided,
-    parts_depend_on_their_blocks, read_draft, replayed, revision, unread_pairs_hold_no_part,
+    Kind, Tail, is_name, names_are_decided, parts_depend_on_their_blocks, unread_pairs_hold_no_part,
 };
 use lfs_block::{Image, MountFault};
 use lfs_tag::{Log, NO_ID, Tag};

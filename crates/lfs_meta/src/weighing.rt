@@ -5,9 +5,9 @@ ghost use Rattle.lfs_meta.specs.BodyHeld.{body_held};
 ghost use Rattle.lfs_meta.specs.Spelling.{body_bytes};
 ghost use Rattle.lfs_meta.specs.Weighing.{attributes_weight, weight, weights};
 
-use crate::stored_attribute::Attribute;
-use crate::stored_body::Body;
-use crate::stored_entry::Entry;
+use crate::attribute::Attribute;
+use crate::body::Body;
+use crate::entry::Entry;
 
 /// The bytes of a tag's word.
 const WORD_LEN: u32 = 4;
@@ -59,7 +59,7 @@ pub fn weight(entry: &Entry) -> u32
 /// The bytes that entries take of a block. The caller owes at most 1,000 of them. Takes no memory.
 ///
 /// Source: own.
-pub fn weights(entries: &[Entry]) -> u32
+pub(crate) fn weights(entries: &[Entry]) -> u32
     requires { length entries.now ≤ 1000 }
     ensures { result ≡ weights entries.now }
 {

@@ -7,22 +7,22 @@ ghost use Rattle.lfs_meta.specs.BodySeen.{body_seen};
 ghost use Rattle.lfs_meta.specs.BodyHeld.{body_held};
 ghost use Rattle.lfs_meta.specs.Cause.{EntryCause, EntriesCause};
 ghost use Rattle.lfs_meta.specs.Fits.{AttributeFits, BodyFits, ContentsFit, RawEntryFits, RiseFrom};
-ghost use Rattle.lfs_meta.specs.Whole.{all_whole, takes, takes_name, whole};
+ghost use Rattle.lfs_meta.specs.Whole.{all_whole, kind_takes_body, kind_takes_name, whole};
 
-use crate::attribute::AttributeRef;
-use crate::body::BodyRef;
-use crate::entry::EntryDraft;
+use crate::attribute::Attribute;
+use crate::attribute_ref::AttributeRef;
+use crate::body::Body;
+use crate::body_ref::BodyRef;
+use crate::entry::Entry;
+use crate::entry_draft::EntryDraft;
 use crate::kind::Kind;
 use crate::name::is_name;
-use crate::stored_attribute::Attribute;
-use crate::stored_body::Body;
-use crate::stored_entry::Entry;
 use lfs_block::MountFault;
 use std::alloc::{AllocError, Global};
 
 /// Whether a kind takes a struct.
-fn takes(kind: Kind, body: BodyRef<'_>) -> bool
-    ensures { result ≡ takes kind (body_seen body.entry) }
+fn kind_takes_body(kind: Kind, body: BodyRef<'_>) -> bool
+    ensures { result ≡ kind_takes_body kind (body_seen body.entry) }
 {
     match (kind, body) {
         (Kind::File, BodyRef::Leads(..)) => false,
@@ -34,8 +34,8 @@ fn takes(kind: Kind, body: BodyRef<'_>) -> bool
 }
 
 /// Whether a kind takes a name.
-fn takes_name(kind: Kind, name: &[u8]) -> bool
-    ensures { result ≡ takes_name kind name.now }
+fn kind_takes_name(kind: Kind, name: &[u8]) -> bool
+    ensures { result ≡ kind_takes_name kind name.now }
 {
     match kind {
         Kind::File | Kind::Dir => is_name(name),
@@ -124,10 +124,10 @@ fn whole(alloc: Global, draft: &EntryDraft<'_>) -> Result<Entry, MountFault>
     let Some(body) = draft.body else {
         return Err(MountFault::IncompleteEntry);
     };
-    if !takes(kind, body) {
+    if !kind_takes_body(kind, body) {
         return Err(MountFault::IncompleteEntry);
     }
-    if !takes_name(kind, name) {
+    if !kind_takes_name(kind, name) {
         return Err(MountFault::BadName);
     }
     entry_of(alloc, kind, name, body, &draft.attributes).map_err(|_| MountFault::Memory)

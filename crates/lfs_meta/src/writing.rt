@@ -15,11 +15,10 @@ ghost use Rattle.lfs_meta.specs.Weighing.{weights};
 ghost use Rattle.lfs_meta.specs.Writing.{live_revision, log_written, other_number, part_in, stored_part};
 
 use crate::edits::part_edits;
+use crate::entry::Entry;
 use crate::laws::written_parts_replay;
 use crate::live_block::{LiveBlock, live_block, revision};
-use crate::stored_entry::Entry;
 use crate::tail::Tail;
-use crate::words::{structs, tail_words};
 use byteorder::{ByteOrder, LittleEndian};
 use lfs_block::{Blocks, MountFault, puts_law};
 use lfs_tag::laws::{first_commit, log_is_read, written_length};
@@ -74,9 +73,7 @@ fn written(
     ensures committed { IfOk result (λ block. committed block.items ≡ Some (part_tags (stored_part entries.now tail delta.now))) }
     ensures fits { IfOk result (λ block. All EntryFits entries.now) }
 {
-    let structs = structs(alloc, entries)?;
-    let words = tail_words(tail);
-    let edits = part_edits(alloc, entries, &structs, tail, &words, delta)?;
+    let edits = part_edits(alloc, entries, tail, delta)?;
     block_with(alloc, size, number, &edits)
 }
 

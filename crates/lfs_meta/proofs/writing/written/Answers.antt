@@ -10,6 +10,6 @@ use Rattle.lfs_meta.proofs.writing.written.Goals as goal
 pub block_with-requires : goal.block_with-requires
 block_with-requires c =
     let p : StoredPart = record { entries = c.args.entries.now; tail = c.args.tail; delta = c.args.delta.now } in
-    let is : items c.deref-2.result.now ≡ part_tags p = ap items c.deref-2.ensures.value ∙ c.in_ok-edits.ensures.tags in
+    let is : items c.deref.result.now ≡ part_tags p = ap items c.deref.ensures.value ∙ c.in_ok-edits.ensures.tags in
     subst (λ (ts : List Item). committed_end 4 ts ≤ c.args.size) (sym is)
     (weights-fit p c.args.size c.requires.size (omega arith) c.requires.room)

@@ -6,7 +6,7 @@ use Rattle.lfs_meta.specs.Entry.{with_attributes}
 use Rattle.lfs_meta.specs.BodyHeld.{body_held}
 use Rattle.lfs_meta.specs.Fits.{RiseFrom}
 use Rattle.lfs_meta.proofs.ReplayFitsLemmas.{filter-rises}
-use Rattle.lfs_meta.proofs.stored_entry.Entry.remove_attribute.Goals as goal
+use Rattle.lfs_meta.proofs.entry.Entry.remove_attribute.Goals as goal
 
 pub invariant_of-self : goal.invariant_of-self
 invariant_of-self c =

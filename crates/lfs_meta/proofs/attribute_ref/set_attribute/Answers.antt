@@ -3,8 +3,8 @@ use Rattle.std.proofs.Common.{ℕ, List, ◌<◌, length, sym, ap, ◌∙◌, ar
 use Rattle.std.proofs.lemmas.List.{get_or_default}
 use Rattle.std.proofs.lemmas.List.Sums.{prefix_len-le-length}
 use Rattle.lfs_meta.proofs.AttributeLemmas.{place, is_lesser, set_attribute-new, set_attribute-old}
-use Rattle.lfs_meta.proofs.attribute.set_attribute.Goals as goal
-use Rattle.lfs_meta.proofs.attribute.set_attribute.Goals.{else-at-len-via-then-at-len+else-index-kind, else-at-len-via-else-at-len}
+use Rattle.lfs_meta.proofs.attribute_ref.set_attribute.Goals as goal
+use Rattle.lfs_meta.proofs.attribute_ref.set_attribute.Goals.{else-at-len-via-then-at-len+else-index-kind, else-at-len-via-else-at-len}
 
 pub returns-then-index-kind-clause-set : goal.returns-then-index-kind-clause-set
 returns-then-index-kind-clause-set c =

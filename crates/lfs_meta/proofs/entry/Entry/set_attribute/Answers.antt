@@ -3,7 +3,7 @@ use Rattle.std.proofs.Common.{length, Result, Ok, Err, OnOk, OnErr, ◌≡◌, �
 use Rattle.lfs_meta.specs.Attribute.{Attributes, set_attribute}
 use Rattle.lfs_meta.specs.Fits.{RiseFrom, AttributeFits}
 use Rattle.lfs_meta.proofs.ReplayFitsLemmas.{set_attribute-rises}
-use Rattle.lfs_meta.proofs.stored_entry.Entry.set_attribute.Goals as goal
+use Rattle.lfs_meta.proofs.entry.Entry.set_attribute.Goals as goal
 
 either_rises : {T E : Type 0} (r : Result T E) (k : ℕ) (v : List ℕ) (old new : Attributes) → OnOk r (new ≡ set_attribute k v old) → OnErr r (new ≡ old) → AttributeFits (k, v) → RiseFrom 0 old → RiseFrom 0 new
 either_rises (Ok x) k v old new set same fits rise = subst (RiseFrom 0) (sym set) (set_attribute-rises 0 k v old (omega arith) fits rise)

@@ -1,6 +1,6 @@
 use Rattle.std.proofs.Common.{◌≡◌, ◌+◌, ◌-◌, vec_len}
 use Rattle.lfs_meta.specs.Replay.{up_to}
-use Rattle.lfs_meta.proofs.part.grow.Given as goal
+use Rattle.lfs_meta.proofs.part_draft.grow.Given as goal
 
 -- the entries so far are filled up to the same
 abbrev pub invariant-grow : goal.invariant-grow

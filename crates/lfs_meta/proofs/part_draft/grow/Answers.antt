@@ -3,7 +3,7 @@ use Rattle.std.proofs.Common.{[], ◌∷◌, ◌++◌, arith, sym, ap, ◌∙◌
 use Rattle.lfs_meta.specs.Entry.{RawEntry}
 use Rattle.lfs_meta.specs.Replay.{up_to}
 use Rattle.lfs_meta.proofs.GrowLemmas.{up_to-more, up_to-all}
-use Rattle.lfs_meta.proofs.part.grow.Goals as goal
+use Rattle.lfs_meta.proofs.part_draft.grow.Goals as goal
 
 pub grow-preserved : goal.grow-preserved
 grow-preserved c =

@@ -3,7 +3,7 @@ use Rattle.std.proofs.Common.{ap}
 use Rattle.std.specs.Prelude.{None}
 use Rattle.lfs_meta.specs.Entry.{RawEntry, blank}
 use Rattle.lfs_meta.specs.Attribute.{Attributes}
-use Rattle.lfs_meta.proofs.entry.EntryDraft.blank.Goals as goal
+use Rattle.lfs_meta.proofs.entry_draft.EntryDraft.blank.Goals as goal
 
 pub returns : goal.returns
 unfolding blank
