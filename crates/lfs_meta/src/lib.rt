@@ -6,6 +6,8 @@ mod attribute;
 mod attribute_ref;
 mod body;
 mod body_ref;
+#[cfg(test)]
+mod count_tests;
 mod cutting;
 mod edits;
 mod entry;
@@ -24,6 +26,8 @@ mod read;
 mod replay;
 mod runs;
 mod tail;
+#[cfg(test)]
+mod tail_tests;
 #[cfg(test)]
 mod tests;
 mod weighing;

@@ -43,7 +43,7 @@ fn block_of(alloc: Global, size: usize, log: &[u8]) -> Result<Vec<u8>, Fail> {
 }
 
 // an image of the two blocks
-fn image_of(alloc: Global, first: &[u8], second: &[u8]) -> Result<Image, Fail> {
+pub(crate) fn image_of(alloc: Global, first: &[u8], second: &[u8]) -> Result<Image, Fail> {
     let mut bytes = block_of(alloc, 256, first)?;
     bytes.extend_from_slice(&block_of(alloc, 256, second)?)?;
     Ok(Image::new(bytes, 256).map_err(|refused| refused.0)?)
@@ -176,6 +176,16 @@ fn entries_that_are_whole_and_not(rt: HostRuntime) -> Result<(), Fail> {
             "a slash",
             b"\x01\x00\x00\x00\xff\xef\xff\xfca/b \x00\x00\x03p\x1f\xfc\x044*{\xeb".as_slice(),
             Err(MountFault::BadName),
+        ),
+        (
+            "a skip list of seven bytes",
+            b"\x01\x00\x00\x00\xff\xef\xff\xfea 0\x00\x06\x00\x01\x02\x03\x04\x05\x06p/\xfc\x03\x0e]\x85\xff".as_slice(),
+            Err(MountFault::BadTag),
+        ),
+        (
+            "a directory's struct of nine bytes",
+            b"\x01\x00\x00\x00\xff\xdf\xff\xfea  \x00\x08\x00\x01\x02\x03\x04\x05\x06\x07\x08p\x0f\xfc\x0d\xeeO\x22w".as_slice(),
+            Err(MountFault::BadTag),
         ),
         (
             "an unknown type",
