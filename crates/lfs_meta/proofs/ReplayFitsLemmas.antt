@@ -11,7 +11,7 @@ use Rattle.lfs_tag.specs.Commit.{Item, IsItem}
 use Rattle.lfs_meta.specs.declared.action.Action.{Action}
 use Rattle.lfs_meta.specs.declared.action.Action.TheVariants.{Create, Delete, SetName, SetBody, SetAttribute, SetTail, SetDelta}
 use Rattle.lfs_meta.specs.Action.{action_of, is_bad, is_deleted}
-use Rattle.lfs_meta.specs.Attribute.{Attributes, set_attribute, remove_attribute}
+use Rattle.lfs_meta.specs.Attribute.{Attributes, put_by, set_attribute, remove_attribute}
 use Rattle.lfs_meta.specs.Body.{StoredBody, Inline, Ctz, Leads, struct_word, body_named}
 use Rattle.lfs_meta.specs.Entry.{RawEntry, blank}
 use Rattle.lfs_meta.specs.Fits.{AttributeFits, RiseFrom, ContentsFit, RawEntryFits, RawPartFits}
@@ -29,7 +29,7 @@ RiseFrom-lower least more [] le rise = tt
 RiseFrom-lower least more (a ∷ xs) le rise = (omega (arith, rise.0), rise.1, rise.2)
 
 pub set_attribute-rises : (least k : ℕ) (v : List ℕ) (xs : Attributes) → least ≤ k → AttributeFits (k, v) → RiseFrom least xs → RiseFrom least (set_attribute k v xs)
-unfolding set_attribute
+unfolding put_by
 set_attribute-rises least k v [] le fits rise = (le, fits, tt)
 set_attribute-rises least k v (a ∷ xs) le fits rise = elim (cases_order a.0 k) [
   | inl same ↦ subst (RiseFrom least) (sym (set_same k v a xs same)) (le, fits, subst (λ (m : ℕ). RiseFrom (m + 1) xs) same rise.2)

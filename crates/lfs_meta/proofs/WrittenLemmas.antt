@@ -13,7 +13,7 @@ use Rattle.lfs_meta.specs.declared.action.Action.TheVariants.{SetName, SetBody, 
 use Rattle.lfs_meta.specs.declared.tail.Tail.{Tail}
 use Rattle.lfs_meta.specs.declared.tail.Tail.TheVariants.{End, Soft, Hard}
 use Rattle.lfs_meta.specs.Action.{action_of, is_bad, is_null}
-use Rattle.lfs_meta.specs.Attribute.{Attributes, set_attribute, remove_attribute}
+use Rattle.lfs_meta.specs.Attribute.{Attributes, put_by, set_attribute, remove_attribute}
 use Rattle.lfs_meta.specs.Body.{StoredBody, Inline, Ctz, Leads, body_named, struct_word}
 use Rattle.lfs_meta.specs.Entry.{RawEntry, StoredEntry, blank}
 use Rattle.lfs_meta.specs.Fits.{AttributeFits, RiseFrom, BodyFits, EntryFits, NumbersFit, TailFits}
@@ -133,7 +133,7 @@ below-push kind [] a below h = (h, tt)
 below-push kind (x ∷ xs) a below h = (below.0, below-push kind xs a below.1 h)
 
 set_attribute-last : (k : ℕ) (v : List ℕ) (xs : Attributes) → Below k xs → set_attribute k v xs ≡ xs ++ ((k, v) ∷ [])
-unfolding set_attribute
+unfolding put_by
 set_attribute-last k v [] below = refl
 set_attribute-last k v (a ∷ xs) below = set_lesser k v a xs below.0 ∙ ap (λ (ys : Attributes). a ∷ ys) (set_attribute-last k v xs below.1)
 

@@ -6,13 +6,17 @@ use Rattle.std.specs.List.{filter}
 abbrev pub Attributes : Type 0
 Attributes = List (ℕ × List ℕ)
 
+-- an element put among others that rise by a key: in the place of the one that has its key, else before the first greater
+unfoldable pub put_by : {A : Type 0} → (A → ℕ) → A → List A → List A
+put_by key new [] = new ∷ []
+put_by key new (a ∷ more) =
+    if nat_lt (key new) (key a) then new ∷ a ∷ more
+    else if key new == key a then new ∷ more
+    else a ∷ put_by key new more
+
 -- the value of a kind set
-unfoldable pub set_attribute : ℕ → List ℕ → Attributes → Attributes
-set_attribute kind value [] = (kind, value) ∷ []
-set_attribute kind value (a ∷ more) =
-    if nat_lt kind a.0 then (kind, value) ∷ a ∷ more
-    else if kind == a.0 then (kind, value) ∷ more
-    else a ∷ set_attribute kind value more
+abbrev pub set_attribute : ℕ → List ℕ → Attributes → Attributes
+set_attribute kind value attributes = put_by (λ a. a.0) (kind, value) attributes
 
 -- the value of a kind taken out
 abbrev pub remove_attribute : ℕ → Attributes → Attributes

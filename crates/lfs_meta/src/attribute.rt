@@ -1,5 +1,6 @@
 //! User attributes.
 
+use crate::attributes::HasKind;
 use std::marker::Model;
 
 /// A user attribute. Its meaning is its kind with the bytes of its value.
@@ -22,4 +23,12 @@ impl Model for Attribute {
     ghost view = { λ a. (a.kind, a.value.items) };
 
     ghost invariant = { λ a. AttributeFits (a.kind, a.value.items) };
+}
+
+impl HasKind for Attribute {
+    ghost kind_of = { λ a. a.0 };
+
+    fn kind(&self) -> u8 {
+        self.kind
+    }
 }

@@ -1,10 +1,6 @@
 //! User attributes, whose values are borrowed from a block.
 
-ghost use Rattle.std.specs.Prelude.{◌≡◌, ◌==◌, not, nat_lt, OnOk, OnErr};
-ghost use Rattle.std.specs.List.{prefix_len};
-ghost use Rattle.lfs_meta.specs.Attribute.{set_attribute, remove_attribute};
-
-use std::alloc::AllocError;
+use crate::attributes::HasKind;
 use std::marker::Model;
 
 /// A user attribute. Its meaning is its kind with the bytes of its value.
@@ -26,42 +22,10 @@ impl<'a> Model for AttributeRef<'a> {
     ghost view = { λ a. (a.kind, a.value.now) };
 }
 
-/// How many attributes have lesser kinds.
-fn place_of(attributes: &[AttributeRef<'_>], kind: u8) -> usize
-    ensures { result ≡ prefix_len (λ a. nat_lt a.0 kind) attributes.now }
-{
-    attributes
-        .iter()
-        .take_while(|attribute| attribute.kind < kind)
-        .count()
-}
+impl<'a> HasKind for AttributeRef<'a> {
+    ghost kind_of = { λ a. a.0 };
 
-/// Sets the value of a kind, where `attributes` rise by kind. Want of memory changes nothing.
-pub(crate) fn set_attribute<'a>(
-    attributes: &mut Vec<AttributeRef<'a>>,
-    kind: u8,
-    value: &'a [u8],
-) -> Result<(), AllocError>
-    ensures set { OnOk result (attributes.new.items ≡ set_attribute kind value.now attributes.old.items) }
-    ensures unchanged { OnErr result (attributes.new.items ≡ attributes.old.items) }
-{
-    let at = place_of(attributes, kind);
-    let attribute = AttributeRef { kind, value };
-    if at < attributes.len() && attributes[at].kind == kind {
-        attributes[at] = attribute;
-        return Ok(());
+    fn kind(&self) -> u8 {
+        self.kind
     }
-    attributes.insert(at, attribute)?;
-    Ok(())
-}
-
-/// Takes the value of a kind out. Takes no memory.
-pub(crate) fn remove_attribute(attributes: &mut Vec<AttributeRef<'_>>, kind: u8)
-    ensures { attributes.new.items ≡ remove_attribute kind attributes.old.items }
-{
-    attributes.retain(
-        |attribute| -> bool
-            ensures { result ≡ not (kind == attribute.now.0) }
-        { attribute.kind != kind },
-    );
 }

@@ -1,10 +1,7 @@
 //! An entry that has its name and its struct.
 
-ghost use Rattle.std.specs.Prelude.{◌≡◌, nat_lt, OnOk, OnErr};
-ghost use Rattle.std.specs.List.{prefix_len};
-ghost use Rattle.lfs_meta.specs.Attribute.{set_attribute};
-
 use crate::attribute::Attribute;
+use crate::attributes::{remove, set};
 use crate::body::Body;
 use crate::kind::Kind;
 use std::alloc::{AllocError, Global};
@@ -47,30 +44,6 @@ impl Model for Entry {
     }) };
 }
 
-/// How many attributes have lesser kinds.
-fn place_of(attributes: &[Attribute], kind: u8) -> usize
-    ensures { result ≡ prefix_len (λ a. nat_lt a.0 kind) attributes.now }
-{
-    attributes
-        .iter()
-        .take_while(|attribute| attribute.kind < kind)
-        .count()
-}
-
-/// Puts an attribute among others, which rise by kind. Want of memory changes nothing.
-fn set(attributes: &mut Vec<Attribute>, attribute: Attribute) -> Result<(), AllocError>
-    ensures set { OnOk result (attributes.new.items ≡ set_attribute attribute.0 attribute.1 attributes.old.items) }
-    ensures unchanged { OnErr result (attributes.new.items ≡ attributes.old.items) }
-{
-    let at = place_of(attributes, attribute.kind);
-    if at < attributes.len() && attributes[at].kind == attribute.kind {
-        attributes[at] = attribute;
-        return Ok(());
-    }
-    attributes.insert(at, attribute)?;
-    Ok(())
-}
-
 impl Entry {
     ghost use Rattle.std.specs.Prelude.{◌≡◌, ◌==◌, ◌<◌, length, not, OnOk, OnErr};
     ghost use Rattle.std.specs.List.{list_any};
@@ -100,10 +73,6 @@ impl Entry {
     pub fn remove_attribute(&mut self, kind: u8)
         ensures { self.new ≡ with_attributes (remove_attribute kind) self.old }
     {
-        self.attributes.retain(
-            |attribute| -> bool
-                ensures { result ≡ not (kind == attribute.now.0) }
-            { attribute.kind != kind },
-        );
+        remove(&mut self.attributes, kind);
     }
 }

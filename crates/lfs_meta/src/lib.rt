@@ -4,6 +4,7 @@
 mod action;
 mod attribute;
 mod attribute_ref;
+mod attributes;
 mod body;
 mod body_ref;
 #[cfg(test)]

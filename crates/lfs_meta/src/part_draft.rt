@@ -7,7 +7,8 @@ ghost use Rattle.lfs_meta.specs.Action.{is_bad};
 ghost use Rattle.lfs_meta.specs.Replay.{acted, at_entry, attributed_by, embodied_by, kind_named, named_by, up_to};
 
 use crate::action::Action;
-use crate::attribute_ref::{remove_attribute, set_attribute};
+use crate::attribute_ref::AttributeRef;
+use crate::attributes::{remove, set};
 use crate::body_ref::body_named;
 use crate::entry_draft::EntryDraft;
 use crate::kind::Kind;
@@ -110,10 +111,10 @@ fn set_or_remove<'a>(
 {
     let kind = tag.chunk() as u8;
     if tag.len == DELETED {
-        remove_attribute(&mut entry.attributes, kind);
+        remove(&mut entry.attributes, kind);
         return Ok(());
     }
-    set_attribute(&mut entry.attributes, kind, bytes)
+    set(&mut entry.attributes, AttributeRef { kind, value: bytes })
 }
 
 /// Names the entry at the tag's id.
