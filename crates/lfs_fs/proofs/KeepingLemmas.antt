@@ -16,7 +16,7 @@ use Rattle.lfs_meta.specs.Fits.{RiseFrom}
 use Rattle.lfs_meta.specs.Name.{Name, IsName}
 use Rattle.lfs_meta.specs.Laws.{NamesAreDecided}
 use Rattle.lfs_meta.specs.Spelling.{IsWhole}
-use Rattle.lfs_meta.specs.Whole.{takes, takes_name}
+use Rattle.lfs_meta.specs.Whole.{kind_takes_body, kind_takes_name}
 use Rattle.lfs_fs.specs.declared.limits.Limits.{Limits}
 use Rattle.lfs_fs.specs.Entry.{Entry, Body, Chain, body_length}
 use Rattle.lfs_fs.specs.Uses.{entry_uses, body_uses}
@@ -40,7 +40,7 @@ whole_name Super name other = absurd (other refl)
 pub long_name : (l : Limits) (e : StoredEntry) → e.kind ≢ Super → l.name < length e.name → IsOversized l e
 long_name l e other long = let same = whole_name e.kind e.name other in inl (omega arith)
 
-whole_size : (kind : Kind) (body : StoredBody) → kind ≢ Super → takes kind body ≡ true → stored_size kind body ≡ stored_length body
+whole_size : (kind : Kind) (body : StoredBody) → kind ≢ Super → kind_takes_body kind body ≡ true → stored_size kind body ≡ stored_length body
 whole_size File (Stored_inline bytes) other takes' = refl
 whole_size File (Ctz head size) other takes' = refl
 whole_size File (Leads first second) other takes' = refl
@@ -74,7 +74,7 @@ chain_kept d old new head size blocks found len adds =
 
 -- ---- the entry
 
-named : (kind : Kind) (name : Name) → NamesAreDecided → kind ≢ Super → takes_name kind name ≡ true → IsName name
+named : (kind : Kind) (name : Name) → NamesAreDecided → kind ≢ Super → kind_takes_name kind name ≡ true → IsName name
 named File name law other takes' = (law name).0 takes'
 named Dir name law other takes' = (law name).0 takes'
 named Super name law other takes' = absurd (other refl)

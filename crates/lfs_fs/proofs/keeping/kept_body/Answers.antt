@@ -1,6 +1,6 @@
 use Rattle.std.proofs.Common.{subst, sym}
 use Rattle.lfs_meta.specs.BodyHeld.{body_held}
-use Rattle.lfs_meta.specs.declared.stored_body.Body.{Body}
+use Rattle.lfs_meta.specs.declared.body.Body.{Body}
 use Rattle.lfs_fs.specs.Shown.{InBlocks}
 use Rattle.lfs_fs.specs.Used.{AddsBlocks}
 use Rattle.lfs_fs.specs.Reading.{reading_of}
