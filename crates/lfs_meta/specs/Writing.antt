@@ -1,17 +1,18 @@
 -- What is written into a block (own, within what SPEC.md, "Metadata pairs", leaves open).
-use Rattle.std.specs.Prelude.{ℕ, ◌++◌, List, drop, Option, option_and_then}
+use Rattle.std.specs.Prelude.{◌≡◌, ℕ, ◌+◌, ◌%◌, ◌^◌, ◌++◌, List, length, drop, replicate, Option, Some, option_and_then}
 use Rattle.std.specs.Int.{w32, to_le_bytes}
-use Rattle.lfs_block.specs.Disk.{Disk, block_of, put_at}
+use Rattle.lfs_block.specs.Disk.{Disk, block_of, put, put_at}
 use Rattle.lfs_tag.specs.Commit.{Item, commit_bytes}
 use Rattle.lfs_tag.specs.Writing.{commit_of, lead_at}
 use Rattle.lfs_meta.specs.Body.{Pair}
-use Rattle.lfs_meta.specs.LiveBlock.{revision, live_block, live_tags}
+use Rattle.lfs_meta.specs.LiveBlock.{revision, committed, live_block, live_tags, stored_part_of}
 use Rattle.lfs_meta.specs.declared.live_block.LiveBlock.{LiveBlock}
 use Rattle.lfs_meta.specs.declared.live_block.LiveBlock.TheVariants.{First, Second, Neither}
 use Rattle.lfs_meta.specs.declared.tail.Tail.{Tail}
 use Rattle.lfs_meta.specs.Entry.{StoredEntry}
 use Rattle.lfs_meta.specs.Part.{StoredPart}
 use Rattle.lfs_meta.specs.Replay.{replay}
+use Rattle.lfs_meta.specs.Spelling.{part_tags}
 use Rattle.lfs_meta.specs.Whole.{whole_part}
 
 -- a block with this revision, and behind it as it was
@@ -50,3 +51,25 @@ live_revision d pair = revision_by (live_block (block_of d pair.0) (block_of d p
 -- a part of these entries, with a tail and a delta
 abbrev pub stored_part : List StoredEntry → Tail → List ℕ → StoredPart
 stored_part entries tail delta = record { entries = entries; tail = tail; delta = delta }
+
+-- a block of this size with a revision and one commit of tags, all else 0xff, which is read back so
+pub record IsWritten (size number : ℕ) (tags : List Item) (block : List ℕ) : Type 0 where
+  pub bytes : block ≡ log_written number tags (replicate size 0xff)
+  pub len : length block ≡ size
+  pub numbered : revision block ≡ number
+  pub held : committed block ≡ Some tags
+
+-- the first block of a new pair: revision 1 and a part, which the pair holds beside an erased block
+pub record IsFirstBlock (size : ℕ) (p : StoredPart) (block : List ℕ) : Type 0 where
+  pub bytes : block ≡ log_written 1 (part_tags p) (replicate size 0xff)
+  pub len : length block ≡ size
+  pub before_erased : part_in block (replicate size 0xff) ≡ Some p
+  pub behind_erased : part_in (replicate size 0xff) block ≡ Some p
+
+-- a pair's block that isn't live, rewritten with a part: the live one's revision and one more; in the image with that
+-- block the pair holds the part
+pub record IsRewritten (d : Disk) (pair : Pair) (p : StoredPart) (n : ℕ) (block : List ℕ) : Type 0 where
+  pub number : n ≡ other_number d pair
+  pub bytes : block ≡ log_written ((live_revision d pair + 1) % 2 ^ 32) (part_tags p) (replicate d.size 0xff)
+  pub len : length block ≡ d.size
+  pub reads_back : stored_part_of (put n block d) pair ≡ Some p

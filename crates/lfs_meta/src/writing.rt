@@ -12,7 +12,7 @@ ghost use Rattle.lfs_meta.specs.Fits.{EntryFits, TailFits};
 ghost use Rattle.lfs_meta.specs.LiveBlock.{committed, revision, stored_part_of, tags_of};
 ghost use Rattle.lfs_meta.specs.Spelling.{IsWhole, part_tags};
 ghost use Rattle.lfs_meta.specs.Weighing.{weights};
-ghost use Rattle.lfs_meta.specs.Writing.{live_revision, log_written, other_number, part_in, stored_part};
+ghost use Rattle.lfs_meta.specs.Writing.{IsFirstBlock, IsRewritten, IsWritten, live_revision, log_written, other_number, stored_part};
 
 use crate::edits::part_edits;
 use crate::entry::Entry;
@@ -42,10 +42,7 @@ fn write_log(block: &mut [u8], number: u32, edits: &[Edit])
 /// A block of `size` bytes with a revision and one commit of edits. All else is 0xff.
 fn block_with(alloc: Global, size: u32, number: u32, edits: &[Edit]) -> Result<Vec<u8>, AllocError>
     requires { committed_end 4 (items edits.now) ≤ size }
-    ensures written { IfOk result (λ block. block.items ≡ log_written number (items edits.now) (replicate size 0xff)) }
-    ensures len { IfOk result (λ block. length block.items ≡ size) }
-    ensures revision { IfOk result (λ block. revision block.items ≡ number) }
-    ensures committed { IfOk result (λ block. committed block.items ≡ Some (items edits.now)) }
+    ensures { IfOk result (λ block. IsWritten size number (items edits.now) block.items) }
 {
     first_commit();
     log_is_read();
@@ -67,10 +64,7 @@ fn written(
     requires size { size % 16 ≡ 0 }
     requires few { length entries.now ≤ 1000 }
     requires room { weights entries.now + 40 ≤ size }
-    ensures written { IfOk result (λ block. block.items ≡ log_written number (part_tags (stored_part entries.now tail delta.now)) (replicate size 0xff)) }
-    ensures len { IfOk result (λ block. length block.items ≡ size) }
-    ensures revision { IfOk result (λ block. revision block.items ≡ number) }
-    ensures committed { IfOk result (λ block. committed block.items ≡ Some (part_tags (stored_part entries.now tail delta.now))) }
+    ensures written { IfOk result (λ block. IsWritten size number (part_tags (stored_part entries.now tail delta.now)) block.items) }
     ensures fits { IfOk result (λ block. All EntryFits entries.now) }
 {
     let edits = part_edits(alloc, entries, tail, delta)?;
@@ -106,13 +100,7 @@ pub fn first_block(alloc: Global, size: u32, entries: &[Entry], tail: Tail) -> O
     requires few { length entries.now ≤ 1000 }
     requires room { weights entries.now + 40 ≤ size }
     requires tail { TailFits tail }
-    ensures bytes { IfSome result (λ block.
-        block.items ≡ log_written 1 (part_tags (stored_part entries.now tail (replicate 12 0))) (replicate size 0xff)) }
-    ensures len { IfSome result (λ block. length block.items ≡ size) }
-    ensures before_erased { IfSome result (λ block.
-        part_in block.items (replicate size 0xff) ≡ Some (stored_part entries.now tail (replicate 12 0))) }
-    ensures behind_erased { IfSome result (λ block.
-        part_in (replicate size 0xff) block.items ≡ Some (stored_part entries.now tail (replicate 12 0))) }
+    ensures { IfSome result (λ block. IsFirstBlock size (stored_part entries.now tail (replicate 12 0)) block.items) }
 {
     written_parts_replay();
     let Ok(block) = written(alloc, size, 1, entries, tail, &[0; 12]) else {
@@ -143,12 +131,7 @@ pub fn rewrite<B: Blocks>(
     requires few { length entries.now ≤ 1000 }
     requires room { weights entries.now + 40 ≤ (B.disk blocks.now).size }
     requires tail { TailFits tail }
-    ensures number { IfOk result (λ new. new.0 ≡ other_number (B.disk blocks.now) pair) }
-    ensures bytes { let d = B.disk blocks.now in IfOk result (λ new.
-        new.1.items ≡ log_written ((live_revision d pair + 1) % 2 ^ 32) (part_tags (stored_part entries.now tail delta)) (replicate d.size 0xff)) }
-    ensures len { IfOk result (λ new. length new.1.items ≡ (B.disk blocks.now).size) }
-    ensures reads_back { let d = B.disk blocks.now in IfOk result (λ new.
-        stored_part_of (put new.0 new.1.items d) pair ≡ Some (stored_part entries.now tail delta)) }
+    ensures new { IfOk result (λ new. IsRewritten (B.disk blocks.now) pair (stored_part entries.now tail delta) new.0 new.1.items) }
     ensures refused { IfErr result (λ fault. fault ≡ MountFault.Memory) }
 {
     puts_law();

@@ -6,16 +6,20 @@ use Rattle.lfs_meta.specs.Writing.{stored_part}
 use Rattle.lfs_meta.proofs.LiveLemmas.{new-before_erased, new-behind_erased, read-back}
 use Rattle.lfs_meta.proofs.writing.first_block.Goals as goal
 
-pub returns-clause-before_erased : goal.returns-clause-before_erased
-returns-clause-before_erased c =
+pub returns : goal.returns
+returns c =
     let p : StoredPart = stored_part c.args.entries.now c.args.tail (replicate 12 0) in
-    read-back c.written_parts_replay.ensures.replay c.written_parts_replay.ensures.whole p c.in-Ok.block.items (replicate c.args.size 255)
-    c.in-Ok.ensures.fits c.requires.few c.requires.tail refl c.requires.whole
-    (new-before_erased c.args.size c.in-Ok.block.items (part_tags p) (omega (arith, c.requires.size.0)) c.in-Ok.ensures.revision c.in-Ok.ensures.committed)
-
-pub returns-clause-behind_erased : goal.returns-clause-behind_erased
-returns-clause-behind_erased c =
-    let p : StoredPart = stored_part c.args.entries.now c.args.tail (replicate 12 0) in
-    read-back c.written_parts_replay.ensures.replay c.written_parts_replay.ensures.whole p (replicate c.args.size 255) c.in-Ok.block.items
-    c.in-Ok.ensures.fits c.requires.few c.requires.tail refl c.requires.whole
-    (new-behind_erased c.args.size c.in-Ok.block.items (part_tags p) (omega (arith, c.requires.size.0)) c.in-Ok.ensures.revision c.in-Ok.ensures.committed)
+    let block = c.in-Ok.block.items in
+    let written = c.in-Ok.ensures.written in
+    record {
+      bytes = written.bytes;
+      len = written.len;
+      before_erased =
+          read-back c.written_parts_replay.ensures.replay c.written_parts_replay.ensures.whole p block (replicate c.args.size 255)
+          c.in-Ok.ensures.fits c.requires.few c.requires.tail refl c.requires.whole
+          (new-before_erased c.args.size block (part_tags p) (omega (arith, c.requires.size.0)) written.numbered written.held);
+      behind_erased =
+          read-back c.written_parts_replay.ensures.replay c.written_parts_replay.ensures.whole p (replicate c.args.size 255) block
+          c.in-Ok.ensures.fits c.requires.few c.requires.tail refl c.requires.whole
+          (new-behind_erased c.args.size block (part_tags p) (omega (arith, c.requires.size.0)) written.numbered written.held);
+    }

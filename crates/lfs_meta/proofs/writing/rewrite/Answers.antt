@@ -8,8 +8,8 @@ use Rattle.lfs_meta.specs.Writing.{stored_part, other_number}
 use Rattle.lfs_meta.proofs.LiveLemmas.{rewritten-tags, read-back}
 use Rattle.lfs_meta.proofs.writing.rewrite.Goals as goal
 
-pub returns-clause-reads_back : goal.returns-clause-reads_back
-returns-clause-reads_back g c =
+pub returns-clause-new : goal.returns-clause-new
+returns-clause-new g c =
     let d : Disk = g.B.Blocks.disk c.args.blocks.now in
     let p : StoredPart = stored_part c.args.entries.now c.args.tail c.args.delta in
     let new : List ℕ = c.in-Ok.bytes.items in
@@ -19,8 +19,15 @@ returns-clause-reads_back g c =
     let small : live < 2 ^ 32 = search rules in
     let tags : tags_of (put (other_number d c.args.pair) new d) c.args.pair ≡ Some (part_tags p) =
     rewritten-tags c.puts_law.ensures.block c.puts_law.ensures.others d c.args.pair new (part_tags p) live c.size-size.ensures.disk c.requires.apart c.requires.first c.requires.second
-    (c.in-Ok.ensures.len ∙ c.size-size.ensures.value) c.in-Ok.ensures.committed small (sym c.other_block-number.ensures.revision) c.in-Ok.ensures.revision in
-    subst (λ (n : ℕ). stored_part_of (put n new d) c.args.pair ≡ Some p) (sym c.other_block-number.ensures.number)
-    (read-back c.written_parts_replay.ensures.replay c.written_parts_replay.ensures.whole p
-    (block_of (put (other_number d c.args.pair) new d) c.args.pair.0) (block_of (put (other_number d c.args.pair) new d) c.args.pair.1)
-    c.in-Ok.ensures.fits c.requires.few c.requires.tail twelve c.requires.whole tags)
+    (c.in-Ok.ensures.written.len ∙ c.size-size.ensures.value) c.in-Ok.ensures.written.held small (sym c.other_block-number.ensures.revision) c.in-Ok.ensures.written.numbered in
+    let size = c.size-size.ensures.value in
+    record {
+      number = c.other_block-number.ensures.number;
+      bytes = search rules;
+      len = c.in-Ok.ensures.written.len ∙ size;
+      reads_back =
+          subst (λ (n : ℕ). stored_part_of (put n new d) c.args.pair ≡ Some p) (sym c.other_block-number.ensures.number)
+          (read-back c.written_parts_replay.ensures.replay c.written_parts_replay.ensures.whole p
+          (block_of (put (other_number d c.args.pair) new d) c.args.pair.0) (block_of (put (other_number d c.args.pair) new d) c.args.pair.1)
+          c.in-Ok.ensures.fits c.requires.few c.requires.tail twelve c.requires.whole tags);
+    }
