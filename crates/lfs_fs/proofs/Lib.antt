@@ -1,6 +1,7 @@
 pub mod NameOrderLemmas
 pub mod PathOrderLemmas
 pub mod PathLemmas
+pub mod PathTextLemmas
 pub mod ApartLemmas
 pub mod EntryAtLemmas
 pub mod FolderTableLemmas

@@ -18,3 +18,7 @@ IsPathText text path = All IsName path × (text ≡ path_text path)
 -- the text spells no path
 abbrev pub IsNoPath : List ℕ → Type 0
 IsNoPath text = (path : Path) → IsPathText text path → ⊥
+
+-- the law: a text spells one path at most
+abbrev pub TextsSpellOnePath : Type 0
+TextsSpellOnePath = (text : List ℕ) (p q : Path) → IsPathText text p → IsPathText text q → p ≡ q
