@@ -20,6 +20,10 @@ abbrev pub LogIsRead : Type 0
 LogIsRead = (block : List ℕ) (commits : List Commit) (rest : List ℕ) → IsBytes block → IsLog block commits rest
     → log_of block ≡ record { commits = commits; last = final_word 0xffffffff commits; rest = rest }
 
+-- A block of bytes has a log: what is read of it.
+abbrev pub BlocksHaveALog : Type 0
+BlocksHaveALog = (block : List ℕ) → 4 ≤ length block → IsBytes block → IsLog block (log_of block).commits (log_of block).rest
+
 -- The tags of a log's commits are valid, no checksums', and have as much data as they say.
 abbrev pub LogTagsAreItems : Type 0
 LogTagsAreItems = (block : List ℕ) (commits : List Commit) (rest : List ℕ) → IsLog block commits rest

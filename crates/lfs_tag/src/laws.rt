@@ -1,6 +1,6 @@
 //! Laws of logs. Each function does nothing: its contract is the law.
 
-ghost use Rattle.lfs_tag.specs.Laws.{OneLog, LogIsRead, LogTagsAreItems, ErasedIsDecided, ErasedHoldsNoCommit, FinalWordKind, ErasedBlock, FirstCommit, NextCommit, WrittenLength};
+ghost use Rattle.lfs_tag.specs.Laws.{OneLog, LogIsRead, BlocksHaveALog, LogTagsAreItems, ErasedIsDecided, ErasedHoldsNoCommit, FinalWordKind, ErasedBlock, FirstCommit, NextCommit, WrittenLength};
 
 /// A block of bytes has one log.
 pub fn one_log()
@@ -10,6 +10,11 @@ pub fn one_log()
 /// The log of a block is what is read of it.
 pub fn log_is_read()
     ensures { LogIsRead }
+{}
+
+/// A block of bytes that is long enough for a revision has a log.
+pub fn blocks_have_a_log()
+    ensures { BlocksHaveALog }
 {}
 
 /// The tags of a log's commits are valid, no checksums', and have as much data as they say.
