@@ -11,6 +11,8 @@ pub mod ReplayLemmas
 pub mod RunLemmas
 pub mod TagWordLemmas
 pub mod UnreadLemmas
+pub mod PartlessLemmas
+pub mod HeldPartLemmas
 pub mod WeighingLemmas
 pub mod WholeLemmas
 pub mod WrittenLemmas

@@ -18,3 +18,4 @@ pub mod Weighing
 pub mod Runs
 pub mod RunLaws
 pub mod Writing
+pub mod HeldLaws

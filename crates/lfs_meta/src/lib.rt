@@ -15,6 +15,7 @@ mod entry;
 mod entry_draft;
 #[cfg(test)]
 mod entry_tests;
+mod held_laws;
 mod kind;
 mod laws;
 mod live_block;
@@ -39,6 +40,7 @@ pub use attribute::Attribute;
 pub use body::Body;
 pub use cutting::cut;
 pub use entry::Entry;
+pub use held_laws::{held_parts_are_whole, pairs_without_a_part_have_a_cause};
 pub use kind::Kind;
 pub use laws::{
     live_blocks_are_read, names_are_decided, parts_depend_on_their_blocks, replayed_parts_fit,

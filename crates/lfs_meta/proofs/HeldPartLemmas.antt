@@ -1,0 +1,115 @@
+-- The entries of a part that a pair holds are whole, and their attributes rise.
+use Rattle.std.proofs.Common.{◌≡◌, ℕ, ◌+◌, ◌*◌, ◌<◌, ◌≤◌, Bool, true, false, ◌&&◌, nat_lt, List, [], ◌∷◌, length, take, drop, refl, subst, arith, Option, Some, None, zero, suc, if◌then◌else◌}
+use Rattle.std.specs.Prelude.{All, option_and_then, option_map}
+use Rattle.std.specs.List.{AllByRecursion}
+use Rattle.std.proofs.Math.Nat.{mul-le-mul_right}
+use Rattle.std.proofs.lemmas.List.{length-take-le, length-drop}
+use Rattle.std.proofs.lemmas.List.Elements.{All-nil, All-cons, All-head, All-tail}
+use Rattle.std.proofs.lemmas.Option.{option_and_then_some}
+use Rattle.lfs_block.specs.Bytes.{IsBytes}
+use Rattle.lfs_block.specs.Disk.{Disk, IsDisk, block_of}
+use Rattle.lfs_tag.specs.Commit.{Item, IsItem}
+use Rattle.lfs_tag.specs.Laws.{BlocksHaveALog, LogTagsAreItems}
+use Rattle.lfs_tag.specs.Log.{log_tags}
+use Rattle.lfs_tag.specs.Reading.{log_of}
+use Rattle.lfs_meta.specs.declared.kind.Kind.{Kind}
+use Rattle.lfs_meta.specs.Attribute.{Attributes}
+use Rattle.lfs_meta.specs.Body.{Pair, StoredBody}
+use Rattle.lfs_meta.specs.Entry.{RawEntry, StoredEntry}
+use Rattle.lfs_meta.specs.Fits.{RiseFrom, RawEntryFits}
+use Rattle.lfs_meta.specs.LiveBlock.{committed, tags_of}
+use Rattle.lfs_meta.specs.Name.{Name}
+use Rattle.lfs_meta.specs.Part.{RawPart, StoredPart}
+use Rattle.lfs_meta.specs.Replay.{replay}
+use Rattle.lfs_meta.specs.Whole.{takes, takes_name, whole_by, whole, all_whole, whole_part}
+use Rattle.lfs_meta.specs.Writing.{second_is_live}
+use Rattle.lfs_meta.specs.HeldLaws.{IsHeldEntry, HeldPartsAreWhole}
+use Rattle.lfs_meta.proofs.LiveLemmas.{tags-are_live}
+use Rattle.lfs_meta.proofs.ReplayFitsLemmas.{replay-fits}
+
+-- ---- blocks
+
+block_len : (d : Disk) (n : ℕ) → IsDisk d → n < d.count → 4 ≤ length (block_of d n)
+block_len d n disk below =
+    let rows : (n + 1) * d.size ≤ d.count * d.size = mul-le-mul_right d.size (omega arith) in
+    let left : d.size ≤ length (drop (n * d.size) d.bytes) = omega (arith, length-drop (n * d.size) d.bytes, disk.len, rows) in
+    let len : length (block_of d n) ≡ d.size = length-take-le d.size (drop (n * d.size) d.bytes) left in
+    omega (arith, len, disk.geometry.size_fits.0)
+
+take_bytes : (n : ℕ) (xs : List ℕ) → IsBytes xs → IsBytes (take n xs)
+take_bytes zero xs all i = omega arith
+take_bytes (suc n) [] all i = omega arith
+take_bytes (suc n) (x ∷ xs) all zero = all 0
+take_bytes (suc n) (x ∷ xs) all (suc i) = take_bytes n xs (λ k. all (suc k)) i
+
+drop_bytes : (n : ℕ) (xs : List ℕ) → IsBytes xs → IsBytes (drop n xs)
+drop_bytes zero xs all i = all i
+drop_bytes (suc n) [] all i = omega arith
+drop_bytes (suc n) (x ∷ xs) all i = drop_bytes n xs (λ k. all (suc k)) i
+
+some_tags : (b : Bool) (ts us : List Item) → (if b then Some ts else None) ≡ Some us → ts ≡ us
+some_tags true ts us is = cc
+some_tags false ts us is = cc
+
+committed_items : BlocksHaveALog → LogTagsAreItems → (d : Disk) (n : ℕ) (tags : List Item) → IsDisk d → n < d.count → committed (block_of d n) ≡ Some tags → AllByRecursion IsItem tags
+committed_items logs items d n tags disk below is =
+    let block : List ℕ = block_of d n in
+    let log = logs block (block_len d n disk below) (take_bytes d.size (drop (n * d.size) d.bytes) (drop_bytes (n * d.size) d.bytes disk.bytes)) in
+    subst (AllByRecursion IsItem) (some_tags (nat_lt 0 (length (log_of block).commits)) (log_tags (log_of block).commits) tags is) (items block (log_of block).commits (log_of block).rest log)
+
+one_of : (b : Bool) (d : Disk) (pair : Pair) (P : List ℕ → Type 0) → P (if b then block_of d pair.1 else block_of d pair.0) → P (block_of d (if b then pair.1 else pair.0))
+one_of true d pair P h = h
+one_of false d pair P h = h
+
+one_below : (b : Bool) (count : ℕ) (pair : Pair) → pair.0 < count → pair.1 < count → (if b then pair.1 else pair.0) < count
+one_below true count pair first second = second
+one_below false count pair first second = first
+
+items_of : BlocksHaveALog → LogTagsAreItems → (d : Disk) (pair : Pair) (tags : List Item) → IsDisk d → pair.0 < d.count → pair.1 < d.count → tags_of d pair ≡ Some tags → AllByRecursion IsItem tags
+items_of logs items d pair tags disk first second is =
+    let late : Bool = second_is_live (block_of d pair.0) (block_of d pair.1) in
+    let live : committed (if late then block_of d pair.1 else block_of d pair.0) ≡ Some tags = tags-are_live (block_of d pair.0) (block_of d pair.1) tags is in
+    committed_items logs items d (if late then pair.1 else pair.0) tags disk (one_below late d.count pair first second) (one_of late d pair (λ (block : List ℕ). committed block ≡ Some tags) live)
+
+-- ---- entries
+
+when_both : (p q : Bool) (x w : StoredEntry) → (if p && q then Some x else None) ≡ Some w → (x ≡ w) × (p ≡ true) × (q ≡ true)
+when_both true true x w e = (cc, refl, refl)
+when_both true false x w e = cc
+when_both false q x w e = cc
+
+held_by : (n : Option (Kind × Name)) (b : Option StoredBody) (attributes : Attributes) (w : StoredEntry) → RiseFrom 0 attributes → whole_by n b attributes ≡ Some w → IsHeldEntry w
+held_by None b attributes w rise is = cc
+held_by (Some n) None attributes w rise is = cc
+held_by (Some n) (Some b) attributes w rise is =
+    let x : StoredEntry = record { kind = n.0; name = n.1; body = b; attributes = attributes } in
+    let both : (x ≡ w) × (takes n.0 b ≡ true) × (takes_name n.0 n.1 ≡ true) = when_both (takes n.0 b) (takes_name n.0 n.1) x w is in
+    let held : IsHeldEntry x = record { whole = record { body = both.1; name = both.2 }; attributes = rise } in
+    subst IsHeldEntry both.0 held
+
+by_first : (e : RawEntry) (o : Option StoredEntry) (os : Option (List StoredEntry)) (ws : List StoredEntry) → RawEntryFits e → whole e ≡ o
+    → option_and_then (λ w. option_map (λ vs. w ∷ vs) os) o ≡ Some ws → ((vs : List StoredEntry) → os ≡ Some vs → All IsHeldEntry vs) → All IsHeldEntry ws
+by_first e None os ws fits is all later = cc
+by_first e (Some w) None ws fits is all later = cc
+by_first e (Some w) (Some vs) ws fits is all later =
+    let same : w ∷ vs ≡ ws = cc in
+    subst (All IsHeldEntry) same (All-cons IsHeldEntry w vs (held_by e.name e.body e.attributes w fits.attributes is) (later vs refl))
+
+held_entries : (es : List RawEntry) (ws : List StoredEntry) → All RawEntryFits es → all_whole es ≡ Some ws → All IsHeldEntry ws
+held_entries [] ws fit all = let none : [] ≡ ws = cc in subst (All IsHeldEntry) none (All-nil IsHeldEntry)
+held_entries (e ∷ es) ws fit all = by_first e (whole e) (all_whole es) ws (All-head RawEntryFits e es fit) refl all (λ vs. held_entries es vs (All-tail RawEntryFits e es fit))
+
+-- ---- parts
+
+by_part : (p : RawPart) (o : Option (List StoredEntry)) (s : StoredPart) → All RawEntryFits p.entries → all_whole p.entries ≡ o
+    → option_map (λ (es : List StoredEntry). let q : StoredPart = record { entries = es; tail = p.tail; delta = p.delta } in q) o ≡ Some s → All IsHeldEntry s.entries
+by_part p None s fit is some' = cc
+by_part p (Some ws) s fit is some' =
+    let same : ◌≡◌ {A = StoredPart} (record { entries = ws; tail = p.tail; delta = p.delta }) s = cc in
+    subst (λ (q : StoredPart). All IsHeldEntry q.entries) same (held_entries p.entries ws fit is)
+
+pub held_parts : BlocksHaveALog → LogTagsAreItems → HeldPartsAreWhole
+held_parts logs items d pair s disk first second is =
+    option_and_then_some whole_part (option_and_then replay (tags_of d pair)) s is
+    (λ p there whole_is. option_and_then_some replay (tags_of d pair) p there
+    (λ tags tags_are replayed. by_part p (all_whole p.entries) s (replay-fits tags p (items_of logs items d pair tags disk first second tags_are) replayed) refl whole_is))
