@@ -74,7 +74,7 @@ chain_kept d old new head size blocks found len adds =
 
 -- ---- the entry
 
-named : (kind : Kind) (name : Name) → NamesAreDecided → kind ≢ Super → kind_takes_name kind name ≡ true → IsName name
+pub named : (kind : Kind) (name : Name) → NamesAreDecided → kind ≢ Super → kind_takes_name kind name ≡ true → IsName name
 named File name law other takes' = (law name).0 takes'
 named Dir name law other takes' = (law name).0 takes'
 named Super name law other takes' = absurd (other refl)

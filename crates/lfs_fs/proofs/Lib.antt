@@ -40,3 +40,4 @@ pub mod FoldersLemmas
 pub mod GatheredLemmas
 pub mod GatherCauseLemmas
 pub mod MountLemmas
+pub mod ThreadThereLemmas

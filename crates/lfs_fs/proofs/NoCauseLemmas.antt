@@ -158,7 +158,7 @@ no_orphan r v h sound c =
 
 -- ---- causes of fronts
 
-names_itself : (p : Pair) → (1 ≤ pair_names p.0 p) × (1 ≤ pair_names p.1 p)
+pub names_itself : (p : Pair) → (1 ≤ pair_names p.0 p) × (1 ≤ pair_names p.1 p)
 names_itself p = (grind (arith, nat_tests), grind (arith, nat_tests))
 
 tail_within : (r : Reading) (ps front rest : List Pair) (pair : Pair) (next : Option Pair) → IsThread r ps → ps ≡ front ++ rest → Ends rest next → next ≡ Some pair → (r.count ≤ pair.0) ⊎ (r.count ≤ pair.1) → ⊥

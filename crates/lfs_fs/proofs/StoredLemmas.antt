@@ -35,7 +35,7 @@ same_or_not p q =
       | inr first ↦ inr (λ same. first.1 (ap (λ (x : Pair). x.0) same))
     ]
 
-all_got : {X : Type 0} (P : X → Type 0) (xs : List X) (i : ℕ) (x : X) → All P xs → slice_get xs i ≡ Some x → P x
+pub all_got : {X : Type 0} (P : X → Type 0) (xs : List X) (i : ℕ) (x : X) → All P xs → slice_get xs i ≡ Some x → P x
 all_got P [] i x all is = cc
 all_got P (y ∷ xs) zero x all is = let same : y ≡ x = cc in subst P same (All-head P y xs all)
 all_got P (y ∷ xs) (suc i) x all is = all_got P xs i x (All-tail P y xs all) is

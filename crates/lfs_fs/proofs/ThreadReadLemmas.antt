@@ -53,7 +53,7 @@ marked_within used b some =
 
 -- ---- fronts
 
-follow_more : (step : Pair → Option Pair) (from : Option Pair) (ps : List Pair) (p : Pair) → Follow step from ps → after step from ps ≡ Some p → Follow step from (ps ++ p ∷ [])
+pub follow_more : (step : Pair → Option Pair) (from : Option Pair) (ps : List Pair) (p : Pair) → Follow step from ps → after step from ps ≡ Some p → Follow step from (ps ++ p ∷ [])
 follow_more step from [] p follow is = (is, tt)
 follow_more step from (q ∷ ps) p follow is = (follow.0, follow_more step (step q) ps p follow.1 is)
 
@@ -61,7 +61,7 @@ after_more : (step : Pair → Option Pair) (from : Option Pair) (ps : List Pair)
 after_more step from [] p = refl
 after_more step from (q ∷ ps) p = after_more step (step q) ps p
 
-pairs_more : (b : ℕ) (ps : List Pair) (p : Pair) → pairs_name b (ps ++ p ∷ []) ≡ pairs_name b ps + pair_names b p
+pub pairs_more : (b : ℕ) (ps : List Pair) (p : Pair) → pairs_name b (ps ++ p ∷ []) ≡ pairs_name b ps + pair_names b p
 pairs_more b ps p = omega (arith, sum_by-append (pair_names b) ps (p ∷ []))
 
 marked_front : (r : Reading) (ps : List Pair) (used : List Bool) → Follow (next_pair r) (Some root) ps → length used ≡ r.count → Marks used (λ b. pairs_name b ps) → IsFront r ps
@@ -163,7 +163,7 @@ pairs_in_links r b (p ∷ ps) =
     let same : pair_uses b (link_at r p).part ≡ pair_names b p = ap (pair_names b) (link_pair r p (r.part p)) in
     omega (arith, sum_by-cons (pair_names b) p ps, sum_by-cons (λ (l : Link). part_uses b l.part) (link_at r p) (map (link_at r) ps))
 
-pairs_in_uses : (r : Reading) (h : Header) (b : ℕ) (ps : List Pair) → pairs_name b ps ≤ uses b (volume_at r h ps)
+pub pairs_in_uses : (r : Reading) (h : Header) (b : ℕ) (ps : List Pair) → pairs_name b ps ≤ uses b (volume_at r h ps)
 pairs_in_uses r h b ps =
     let all = uses_at r h b ps in
     let some = pairs_in_links r b ps in

@@ -56,7 +56,7 @@ none_counted_by true a x xs is h rest = cc
 none_counted_by {X} false a x xs is h rest = omega (arith, rest h, ap (λ (t : Bool). cond {A = ℕ} t 1 0) is, sum_by-cons (λ (y : X). cond {A = ℕ} (a y) 1 0) x xs)
 
 -- what isn't found isn't there
-none_counted : {X : Type 0} (a : X → Bool) (xs : List X) → find a xs ≡ None → count_by a xs ≡ 0
+pub none_counted : {X : Type 0} (a : X → Bool) (xs : List X) → find a xs ≡ None → count_by a xs ≡ 0
 none_counted a [] h = refl
 none_counted a (x ∷ xs) h = none_counted_by (a x) a x xs refl h (none_counted a xs)
 
@@ -64,7 +64,7 @@ left_at_start : (v : Volume) (k : Pair) (o : Option Directory) → find (begins_
 left_at_start v k None is = sym (none_counted (begins_at k) v.directories is)
 left_at_start v k (Some d) is = (refl, d, is, refl)
 
-root_begins : (ds : List Directory) → StartsAtRoot ds → 1 ≤ count_by (begins_at root) ds
+pub root_begins : (ds : List Directory) → StartsAtRoot ds → 1 ≤ count_by (begins_at root) ds
 root_begins [] h = absurd h
 root_begins (d ∷ ds) h =
     let here : begins_at root d ≡ true = ap (λ (p : Pair). same_pair root (unordered p)) h in
@@ -131,7 +131,7 @@ all_listed v rows opened table items walk =
     let one = All-contains (IsOpened v opened (row_paths rows ++ [])) (row_paths rows) p walk.done (above below.above below.there) in
     subst (λ (ps : List Path). Contains ps (p ++ n ∷ [])) met (one.below n e there))
 
-begins-itself : (ds : List Directory) (d : Directory) → Contains ds d → 1 ≤ count_by (begins_at (key d)) ds
+pub begins-itself : (ds : List Directory) (d : Directory) → Contains ds d → 1 ≤ count_by (begins_at (key d)) ds
 begins-itself ds d there =
     let least : cond {A = ℕ} (begins_at (key d) d) 1 0 ≤ count_by (begins_at (key d)) ds = element_le (λ (c : Directory). cond {A = ℕ} (begins_at (key d) c) 1 0) ds d there in
     let one : cond {A = ℕ} (begins_at (key d) d) 1 0 ≡ 1 = ap (λ (b : Bool). cond {A = ℕ} b 1 0) (same_pair-refl (key d)) in
@@ -188,7 +188,7 @@ walk_twice v rows x rest opened table items k leads many walk =
     let one : leads_to k (shown_target x.entry) ≡ 1 = ap (leads_to k) leads ∙ ap (λ (b : Bool). cond {A = ℕ} b 1 0) (same_pair-refl k) in
     (k, omega (arith, walk.counts k, sum_by-cons (λ (y : Pending). leads_to k (shown_target y.entry)) x rest))
 
-last_name : (p : Path) → (p ≡ []) ⊎ ((q : Path) × (n : Name) × (p ≡ q ++ n ∷ []))
+pub last_name : (p : Path) → (p ≡ []) ⊎ ((q : Path) × (n : Name) × (p ≡ q ++ n ∷ []))
 last_name p = by_last_name (λ (p : Path). (p ≡ []) ⊎ ((q : Path) × (n : Name) × (p ≡ q ++ n ∷ []))) (inl refl) (λ q n h. inr (q, n, refl)) p
 
 pub walk_missing : {X : Type 0} (v : Volume) (rows : List Row) (x : Pending) (rest : List Pending) (opened : List Pair) (table : List (Pair × X)) (items : X → List ShownEntry) (k : Pair) → shown_target x.entry ≡ Some k → look_up k table ≡ None → times_opened k opened ≡ 0

@@ -36,3 +36,7 @@ HasCause d Memory = Unit {0}
 abbrev pub IsOfFormat : MountFault → Type 0
 IsOfFormat Memory = ⊥
 IsOfFormat _ = Unit {0}
+
+-- none of these holds
+abbrev pub HasNoCause : Disk → Type 0
+HasNoCause d = (fault : MountFault) → IsOfFormat fault → HasCause d fault → ⊥

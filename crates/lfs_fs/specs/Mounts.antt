@@ -8,7 +8,7 @@ use Rattle.lfs_fs.specs.Tree.{Node, tree}
 use Rattle.lfs_fs.specs.Sound.{IsSound}
 use Rattle.lfs_fs.specs.Reading.{reading_of}
 use Rattle.lfs_fs.specs.Holds.{Holds}
-use Rattle.lfs_fs.specs.Cause.{HasCause, IsOfFormat}
+use Rattle.lfs_fs.specs.Cause.{HasCause, IsOfFormat, HasNoCause}
 
 -- it holds a sound volume, which has this tree
 abbrev pub Mounts : Disk → (Path → Option Node) → Type 0
@@ -21,3 +21,7 @@ TreesAreOne = (d : Disk) (t u : Path → Option Node) → Mounts d t → Mounts 
 -- the law: an image that mounts has none of the causes
 abbrev pub MountedHaveNoCause : Type 0
 MountedHaveNoCause = (d : Disk) (t : Path → Option Node) (fault : MountFault) → IsDisk d → Mounts d t → IsOfFormat fault → HasCause d fault → ⊥
+
+-- the law: an image that has none of the causes mounts. The tree isn't searched for: it can't be that there is none
+abbrev pub WithoutCauseMount : Type 0
+WithoutCauseMount = (d : Disk) → IsDisk d → HasNoCause d → ¬ ¬ ((t : Path → Option Node) × Mounts d t)
