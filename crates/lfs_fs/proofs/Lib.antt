@@ -41,3 +41,4 @@ pub mod GatheredLemmas
 pub mod GatherCauseLemmas
 pub mod MountLemmas
 pub mod ThreadThereLemmas
+pub mod EntriesThereLemmas

@@ -1,4 +1,5 @@
 use Rattle.lfs_fs.proofs.ThreadThereLemmas.{thread_there}
+use Rattle.lfs_fs.proofs.EntriesThereLemmas.{root_stored}
 use Rattle.lfs_fs.proofs.no_cause_mounts.images_without_cause_mount.Goals as goal
 
 pub returns : goal.returns
