@@ -163,7 +163,7 @@ held_fits r v h =
       once = λ b. rw same (h.is_thread.front.once b);
     }
 
-some_part : (r : Reading) (p : Pair) (o : Option StoredPart) → r.part p ≡ o → IsSome o → (s : StoredPart) × (r.part p ≡ Some s)
+pub some_part : (r : Reading) (p : Pair) (o : Option StoredPart) → r.part p ≡ o → IsSome o → (s : StoredPart) × (r.part p ≡ Some s)
 some_part r p None is some = cc
 some_part r p (Some s) is some = (s, is)
 

@@ -1,5 +1,5 @@
 -- The entries that are read along the thread of an image without a cause.
-use Rattle.std.proofs.Common.{◌≡◌, ◌≢◌, ◌⊎◌, ℕ, ◌<◌, ◌≤◌, List, [], ◌∷◌, length, map, get_or, Option, Some, None, zero, suc, refl, ap, sym, ◌∙◌, subst, arith}
+use Rattle.std.proofs.Common.{◌≡◌, ◌≢◌, ◌⊎◌, ℕ, ◌<◌, ◌≤◌, List, [], ◌∷◌, length, map, get_or, Option, Some, None, suc, refl, ap, arith}
 use Rattle.std.specs.Prelude.{All, Contains, IsSome, flat_map}
 use Rattle.std.specs.List.{slice_get}
 use Rattle.std.proofs.lemmas.Bool.{cases_lt}
@@ -60,7 +60,7 @@ limits_of f = (header_of f.bytes f.attributes).limits
 
 -- ---- stored entries
 
-pub stored_on : (d : Disk) (f : HasFound d) (p : Pair) (s : StoredPart) (i : ℕ) (e : StoredEntry) → Contains f.pairs p → (reading_of d).part p ≡ Some s → slice_get s.entries i ≡ Some e → StoredOn (reading_of d) e
+unfoldable pub stored_on : (d : Disk) (f : HasFound d) (p : Pair) (s : StoredPart) (i : ℕ) (e : StoredEntry) → Contains f.pairs p → (reading_of d).part p ≡ Some s → slice_get s.entries i ≡ Some e → StoredOn (reading_of d) e
 stored_on d f p s i e there read member = record { front = f.pairs; is_front = f.is_thread.front; pair = p; there = there; part = s; read = read; index = i; member = member }
 
 -- the blocks of a pair of a front are the disk's
@@ -157,8 +157,11 @@ root_first : (step : Pair → Option Pair) (ps : List Pair) → Follow step (Som
 root_first step [] follow ends = cc
 root_first step (p ∷ ps) follow ends = (0, omega arith, let first : Some root ≡ Some p = follow.0 in cc)
 
+pub thread_root : (r : Reading) (ps : List Pair) → IsThread r ps → Contains ps root
+thread_root r ps h = root_first (next_pair r) ps h.front.follow h.ends
+
 pub root_there : (d : Disk) (f : HasFound d) → Contains f.pairs root
-root_there d f = root_first (next_pair (reading_of d)) f.pairs f.is_thread.front.follow f.is_thread.ends
+root_there d f = thread_root (reading_of d) f.pairs f.is_thread
 
 pub root_stored : (d : Disk) (f : HasFound d) → StoredOn (reading_of d) (superblock_entry f.bytes f.attributes)
 root_stored d f = stored_on d f root f.superblock.part 0 (superblock_entry f.bytes f.attributes) (root_there d f) f.superblock.read (ap (λ es. slice_get es 0) f.superblock.is)

@@ -42,3 +42,5 @@ pub mod GatherCauseLemmas
 pub mod MountLemmas
 pub mod ThreadThereLemmas
 pub mod EntriesThereLemmas
+pub mod SoundThereLemmas
+pub mod MountsThereLemmas

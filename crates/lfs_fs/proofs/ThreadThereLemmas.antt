@@ -1,6 +1,6 @@
 -- An image without a cause has a thread.
 use Rattle.std.proofs.Common.{◌≡◌, ◌⊎◌, ℕ, ◌+◌, ◌*◌, ◌<◌, ◌≤◌, true, false, List, [], ◌∷◌, ◌++◌, length, length-append, Option, Some, None, zero, suc, refl, ap, sym, ◌∙◌, arith, eqb}
-use Rattle.std.specs.Prelude.{◌==◌, All, Contains, IsSome, cond, flat_map, option_to_list, ◌||◌}
+use Rattle.std.specs.Prelude.{◌==◌, Contains, IsSome, cond, flat_map, option_to_list, ◌||◌}
 use Rattle.std.specs.List.{AllByRecursion, IsDistinct, list_any}
 use Rattle.std.proofs.lemmas.Bool.{cases_lt}
 use Rattle.std.proofs.lemmas.Bool.Decides.{nat_tests, eqb_tells}
@@ -18,10 +18,9 @@ use Rattle.lfs_meta.specs.HeldLaws.{PairsWithoutAPartHaveACause}
 use Rattle.lfs_meta.specs.LiveBlock.{stored_part_of}
 use Rattle.lfs_meta.specs.Part.{StoredPart}
 use Rattle.lfs_fs.specs.Pair.{root}
-use Rattle.lfs_fs.specs.Uses.{times, uses}
+use Rattle.lfs_fs.specs.Uses.{times}
 use Rattle.lfs_fs.specs.Reading.{reading_of}
 use Rattle.lfs_fs.specs.Front.{next_pair, next_after, pair_names, pairs_name, IsFront, IsThread}
-use Rattle.lfs_fs.specs.Held.{volume_at}
 use Rattle.lfs_fs.specs.FrontCause.{Unread}
 use Rattle.lfs_fs.specs.Cause.{HasNoCause}
 use Rattle.lfs_fs.proofs.ThreadReadLemmas.{follow_more, pairs_more, pairs_in_uses, no_header}
@@ -140,11 +139,14 @@ HasThread d = (ps : List Pair) × IsThread (reading_of d) ps
 -- a front is the thread, or goes on
 ends_or_on : (d : Disk) (ps : List Pair) (o : Option Pair) → PairsWithoutAPartHaveACause → HasNoCause d → IsFront (reading_of d) ps → next_after (reading_of d) ps ≡ o
     → ((p : Pair) → IsFront (reading_of d) (ps ++ p ∷ []) → HasThread d) → HasThread d
-ends_or_on d ps None law none front is on = (ps, record {
-  front = front;
-  parts = λ i dflt within. part_by d ps _ (stored_part_of d _) law none front (Contains-get_or ps i dflt within) refl;
-  ends = is;
-})
+ends_or_on d ps None law none front is on = (
+  ps,
+  record {
+    front = front;
+    parts = λ i dflt within. part_by d ps _ (stored_part_of d _) law none front (Contains-get_or ps i dflt within) refl;
+    ends = is;
+  },
+)
 ends_or_on d ps (Some p) law none front is on = on p (front_next d ps p none front is)
 
 find_thread : (n : ℕ) (d : Disk) (ps : List Pair) → PairsWithoutAPartHaveACause → HasNoCause d → IsFront (reading_of d) ps → d.count ≤ 2 * length ps + n → HasThread d
