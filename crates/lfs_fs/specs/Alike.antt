@@ -14,7 +14,8 @@ use Rattle.lfs_fs.specs.Stored.{IsStored}
 
 -- a skip list has the same chain, and its blocks the same content
 abbrev pub ReadAlike : Reading → Reading → StoredBody → Type 0
-ReadAlike r q (Ctz head size) = (q.chain head size ≡ r.chain head size) × ((blocks : List ℕ) → r.chain head size ≡ Some blocks → q.content size blocks ≡ r.content size blocks)
+ReadAlike r q (Ctz head size) = (q.chain head size ≡ r.chain head size)
+    × ((blocks : List ℕ) → r.chain head size ≡ Some blocks → q.content size blocks ≡ r.content size blocks)
 ReadAlike r q stored = Unit {0}
 
 -- a pair holds the same part, whose skip lists are read alike
@@ -33,7 +34,8 @@ SameReadingsHoldTheSame = (r q : Reading) (v : Volume) → q.size ≡ r.size →
 
 -- the blocks of a chain are one still, with the same content
 abbrev pub ChainStays : Reading → Reading → Body → Type 0
-ChainStays r q (Chain blocks bytes) = (head size : ℕ) → r.chain head size ≡ Some blocks → (q.chain head size ≡ Some blocks) × (q.content size blocks ≡ r.content size blocks)
+ChainStays r q (Chain blocks bytes) = (head size : ℕ) → r.chain head size ≡ Some blocks
+    → (q.chain head size ≡ Some blocks) × (q.content size blocks ≡ r.content size blocks)
 ChainStays r q body = Unit {0}
 
 -- what a part's pair holds stays, and so do the chains of its files
@@ -43,7 +45,8 @@ pub record PartStays (r q : Reading) (p : Part) : Type 0 where
 
 -- the law: a link whose part stays is still stored
 abbrev pub StoredLinksStay : Type 0
-StoredLinksStay = (r q : Reading) (bytes : List ℕ) (attributes : Attributes) (l : Link) → PartStays r q l.part → IsStored r bytes attributes l → IsStored q bytes attributes l
+StoredLinksStay = (r q : Reading) (bytes : List ℕ) (attributes : Attributes) (l : Link) → PartStays r q l.part
+    → IsStored r bytes attributes l → IsStored q bytes attributes l
 
 -- the law: the superblock doesn't matter to a link elsewhere than at the root's pair
 abbrev pub SuperblockIsOfTheRoot : Type 0

@@ -76,7 +76,8 @@ pub record FrontTwice (r : Reading) : Type 0 where
   pub header : Header
   pub front : List Pair
   pub is_front : IsFront r front
-  pub twice : ((b : ℕ) × (2 ≤ uses b (volume_at r header front) + pairs_name b (option_to_list (next_after r front)))) ⊎ ((k : Pair) × (2 ≤ named k (volume_at r header front)))
+  pub twice : ((b : ℕ) × (2 ≤ uses b (volume_at r header front) + pairs_name b (option_to_list (next_after r front))))
+      ⊎ ((k : Pair) × (2 ≤ named k (volume_at r header front)))
 
 -- an entry of superblock kind elsewhere than as entry 0 of the root's first pair
 pub record SuperblockElsewhere (r : Reading) : Type 0 where

@@ -38,7 +38,10 @@ resolved r e = resolved_as r e e.kind
 -- what a pair holds, as a link; a pair that isn't read holds nothing and ends the thread
 abbrev pub link_of : Reading → Pair → Option StoredPart → Link
 link_of r p None = record { part = record { pair = p; entries = []; delta = 0; dirty = false }; tail = End }
-link_of r p (Some s) = record { part = record { pair = p; entries = flat_map (resolved r) s.entries; delta = little_endian s.delta; dirty = false }; tail = s.tail }
+link_of r p (Some s) = record {
+  part = record { pair = p; entries = flat_map (resolved r) s.entries; delta = little_endian s.delta; dirty = false };
+  tail = s.tail;
+}
 
 -- what the image holds at a pair
 abbrev pub link_at : Reading → Pair → Link

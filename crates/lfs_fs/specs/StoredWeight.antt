@@ -17,7 +17,8 @@ EntriesWeighAsStored = (r : Reading) (s : StoredEntry) (e : Entry) → resolved 
 
 -- the law: so does the superblock entry
 abbrev pub SuperblocksWeighAsStored : Type 0
-SuperblocksWeighAsStored = (bytes : List ℕ) (attributes : Attributes) → length bytes ≡ 24 → stored_weight (superblock_entry bytes attributes) ≡ superblock_weight attributes
+SuperblocksWeighAsStored = (bytes : List ℕ) (attributes : Attributes) → length bytes ≡ 24
+    → stored_weight (superblock_entry bytes attributes) ≡ superblock_weight attributes
 
 -- the law: stored entries that aren't superblocks are cut where what they stand for is
 abbrev pub RunsResolve : Type 0

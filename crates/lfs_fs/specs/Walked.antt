@@ -118,7 +118,8 @@ pub record IsOpened (v : Volume) (opened : List Pair) (met : List Path) (p : Pat
   pub below : (n : Name) (e : Entry) → entry_at v (p ++ n ∷ []) ≡ Some e → Contains met (p ++ n ∷ [])
 
 -- rows are listed, a queue waits, directories were opened, and others are left in a table
-pub record IsWalkTo {X : Type 0} (v : Volume) (rows : List Row) (queue : List Pending) (opened : List Pair) (table : List (Pair × X)) (items : X → List ShownEntry) : Type 0 where
+pub record IsWalkTo {X : Type 0} (v : Volume) (rows : List Row) (queue : List Pending) (opened : List Pair)
+    (table : List (Pair × X)) (items : X → List ShownEntry) : Type 0 where
   pub order : All (λ d. Rise (entries d)) v.directories
   pub once : (k : Pair) → count_by (begins_at k) v.directories ≤ 1
   pub begins : 1 ≤ count_by (begins_at root) v.directories
@@ -131,7 +132,8 @@ pub record IsWalkTo {X : Type 0} (v : Volume) (rows : List Row) (queue : List Pe
   pub reached : (k : Pair) → 1 ≤ times_opened k opened → Reached v k
   pub left : (k : Pair) → IsLeft v opened k (option_map items (look_up k table))
   -- each name is of what was opened, of what waits or of what is left
-  pub counts : (k : Pair) → named k v ≡ times_opened k opened + sum_by (λ x. leads_to k (shown_target x.entry)) queue + sum_by (λ x. names_in k (items x)) (values_of table)
+  pub counts : (k : Pair) → named k v
+      ≡ times_opened k opened + sum_by (λ x. leads_to k (shown_target x.entry)) queue + sum_by (λ x. names_in k (items x)) (values_of table)
 
 -- ---- steps of a walk
 

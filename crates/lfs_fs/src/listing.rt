@@ -73,7 +73,8 @@ impl Listing {
         ensures refused { IfErr result (λ fault. (v : Volume)
             → IsWalkTo v self.old.rows.items (next ∷ reverse self.old.pending.items) self.old.opened.items self.old.left.entries (λ es. es.items)
             → WalkCause v fault) }
-        ensures less { OnOk result (work self.new.pending.items self.new.left.entries (λ es. es.items) ≤ work self.old.pending.items self.old.left.entries (λ es. es.items)) }
+        ensures less { OnOk result (work self.new.pending.items self.new.left.entries (λ es. es.items)
+            ≤ work self.old.pending.items self.old.left.entries (λ es. es.items)) }
     {
         let Pending { path, entry } = next;
         let FolderEntry {

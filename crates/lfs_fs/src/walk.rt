@@ -40,7 +40,8 @@ fn start(
     folders: Vec<Folder>,
     attributes: Vec<Attribute>,
 ) -> Result<Listing, AllocError>
-    ensures { IfOk result (λ l. (v : Volume) → IsWalkable folders.items attributes.items v → IsWalkTo v l.rows.items (reverse l.pending.items) l.opened.items l.left.entries (λ es. es.items)) }
+    ensures { IfOk result (λ l. (v : Volume) → IsWalkable folders.items attributes.items v
+        → IsWalkTo v l.rows.items (reverse l.pending.items) l.opened.items l.left.entries (λ es. es.items)) }
 {
     let left = table_of(alloc, folders)?;
     let pending = vec![in alloc; first_pending(alloc, attributes)]?;
