@@ -6,14 +6,12 @@ mod folder_table;
 mod formatted;
 mod front;
 mod gathering;
-#[cfg(test)]
-mod gathering_tests;
 mod keeping;
 mod limits;
 mod listed_row;
 mod listing;
 #[cfg(test)]
-mod listing_tests;
+mod logs;
 mod lone_superblock;
 mod mounted;
 mod mounting;

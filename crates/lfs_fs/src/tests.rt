@@ -1,209 +1,388 @@
-//! Vectors from outside: each log was put together tag by tag, with a checksum of its own, by another program.
+//! What mounting answers of small images.
 
-use crate::gathering_tests::{BELOW, TWO, image_with, whole_image};
 use crate::limits::Limits;
 use crate::listed_row::Row;
+use crate::logs::*;
 use crate::mounted::Mounted;
+use crate::path::Path;
+use crate::row_body::RowBody;
 use crate::{
     both_sides_hold, entries_are_cut_greedily, entries_weigh_as_stored, formatted_volume_is_sound,
-    fronts_begin_each_other, images_mount_to_one_tree, lone_superblock_mounts, mount,
-    mounted_images_have_no_cause, names_are_ordered, paths_are_ordered, pieces_of_links,
-    rows_are_unique, same_readings_hold_the_same, stored_links_stay,
+    fronts_begin_each_other, images_mount_to_one_tree, images_without_cause_mount,
+    lone_superblock_mounts, mount, mounted_images_have_no_cause, names_are_ordered,
+    paths_are_ordered, pieces_of_links, rows_are_unique, rows_show_the_tree,
+    same_readings_hold_the_same, stored_links_stay, texts_spell_one_path,
 };
 use lfs_block::{Image, MountFault};
-use std::alloc::Global;
+use std::alloc::{AllocError, Global};
 use std::process::Abort;
 use std::test::Fail;
 
 const SIZE: u32 = 512;
 
-// Revision 1: 0x0ff00008 `littlefs`, 0x20100018 with the words 0x00020000, 512, 8, 255, 2147483647, 1022.
-const FORMATTED: &[u8] =
-    b"\x01\x00\x00\x00\xf0\x0f\xff\xf7littlefs/\xe0\x00\x10\x00\x00\x02\x00\x00\x02\x00\x00\x08\x00\x00\x00\xff\x00\x00\x00\xff\xff\xff\x7f\xfe\x03\x00\x00p\x1f\xfc\x08\xc8\x95\xba\xf9";
-// The same with the name `littlefx`.
-const OTHER_NAME: &[u8] =
-    b"\x01\x00\x00\x00\xf0\x0f\xff\xf7littlefx/\xe0\x00\x10\x00\x00\x02\x00\x00\x02\x00\x00\x08\x00\x00\x00\xff\x00\x00\x00\xff\xff\xff\x7f\xfe\x03\x00\x00p\x1f\xfc\x08\x04\xa5H\xce";
-// The same with the version 0x00020001.
-const OTHER_VERSION: &[u8] =
-    b"\x01\x00\x00\x00\xf0\x0f\xff\xf7littlefs/\xe0\x00\x10\x01\x00\x02\x00\x00\x02\x00\x00\x08\x00\x00\x00\xff\x00\x00\x00\xff\xff\xff\x7f\xfe\x03\x00\x00p\x1f\xfc\x08\xd5h\x0f\xf8";
-// The same with a largest name of 0.
-const NO_NAMES: &[u8] =
-    b"\x01\x00\x00\x00\xf0\x0f\xff\xf7littlefs/\xe0\x00\x10\x00\x00\x02\x00\x00\x02\x00\x00\x08\x00\x00\x00\x00\x00\x00\x00\xff\xff\xff\x7f\xfe\x03\x00\x00p\x1f\xfc\x08\x1f\xac\xcb\xf4";
-// The same with 0x600ffc08, a soft tail to {2, 3}.
-const SOFT_TAIL: &[u8] =
-    b"\x01\x00\x00\x00\xf0\x0f\xff\xf7littlefs/\xe0\x00\x10\x00\x00\x02\x00\x00\x02\x00\x00\x08\x00\x00\x00\xff\x00\x00\x00\xff\xff\xff\x7f\xfe\x03\x00\x00@\x1f\xfc\x10\x02\x00\x00\x00\x03\x00\x00\x000\x00\x00\x0ck\x80\x5c\xd9";
-// The name alone.
-const NO_STRUCT: &[u8] = b"\x01\x00\x00\x00\xf0\x0f\xff\xf7littlefs_\xff\xfc\x04\x8e\xaa\x90\xe2";
-// The struct before the name.
-const STRUCT_FIRST: &[u8] =
-    b"\x01\x00\x00\x00\xdf\xef\xff\xe7\x00\x00\x02\x00\x00\x02\x00\x00\x08\x00\x00\x00\xff\x00\x00\x00\xff\xff\xff\x7f\xfe\x03\x00\x00/\xe0\x00\x10littlefs_\xff\xfc\x18\x87J\xf2\x9d";
-// A struct of 20 bytes.
-const SHORT_STRUCT: &[u8] =
-    b"\x01\x00\x00\x00\xf0\x0f\xff\xf7littlefs/\xe0\x00\x1c\x00\x00\x02\x00\x00\x02\x00\x00\x08\x00\x00\x00\xff\x00\x00\x00\xff\xff\xff\x7fp\x1f\xfc\x10\xae\xc48\xc3";
-// A largest attribute of 2, and 0x37400002 `hi`.
-const WITH_ATTRIBUTE: &[u8] =
-    b"\x01\x00\x00\x00\xf0\x0f\xff\xf7littlefs/\xe0\x00\x10\x00\x00\x02\x00\x00\x02\x00\x00\x08\x00\x00\x00\xff\x00\x00\x00\xff\xff\xff\x7f\x02\x00\x00\x00\x17P\x00\x1ahigO\xfc\x08\xae\x97Q\xa3";
-// A largest attribute of 1, and 0x37400002 `hi`.
-const LONG_ATTRIBUTE: &[u8] =
-    b"\x01\x00\x00\x00\xf0\x0f\xff\xf7littlefs/\xe0\x00\x10\x00\x00\x02\x00\x00\x02\x00\x00\x08\x00\x00\x00\xff\x00\x00\x00\xff\xff\xff\x7f\x01\x00\x00\x00\x17P\x00\x1ahigO\xfc\x08u\xb20\xdf";
-// No tag but the checksum.
-const NO_ENTRY: &[u8] = b"\x01\x00\x00\x00\xaf\xf0\x03\xf7\xf7nO\xfe";
-// 0x00100001 `a`, 0x20100000.
-const A_FILE: &[u8] = b"\x01\x00\x00\x00\xff\xef\xff\xfea \x00\x00\x01p\x1f\xfc\x0fN\xd3\x1ay";
-// Behind the superblock's two tags: 0x40100400, 0x00100401 `b`, 0x20100400.
-const SECOND_ENTRY: &[u8] =
-    b"\x01\x00\x00\x00\xf0\x0f\xff\xf7littlefs/\xe0\x00\x10\x00\x00\x02\x00\x00\x02\x00\x00\x08\x00\x00\x00\xff\x00\x00\x00\xff\xff\xff\x7f\xfe\x03\x00\x00`\x00\x04\x18@\x00\x00\x01b \x00\x00\x01p\x1f\xf8\x13G\x7f\xcb\xbc";
-// The same, then 0x40100400, 0x00100401 `a`, 0x20100400, 0x4ff00800, 0x4ff00400.
-const DELETED_ENTRIES: &[u8] =
-    b"\x01\x00\x00\x00\xf0\x0f\xff\xf7littlefs/\xe0\x00\x10\x00\x00\x02\x00\x00\x02\x00\x00\x08\x00\x00\x00\xff\x00\x00\x00\xff\xff\xff\x7f\xfe\x03\x00\x00`\x00\x04\x18@\x00\x00\x01b \x00\x00\x01`\x00\x00\x00@\x00\x00\x01a \x00\x00\x01o\xe0\x0c\x00\x00\x00\x0c\x00\x1f\xff\xf8\x0ef\xe2?s";
-// Behind the superblock's two tags: 0x600ffc08, a soft tail of null pointers.
-const NULL_TAIL: &[u8] =
-    b"\x01\x00\x00\x00\xf0\x0f\xff\xf7littlefs/\xe0\x00\x10\x00\x00\x02\x00\x00\x02\x00\x00\x08\x00\x00\x00\xff\x00\x00\x00\xff\xff\xff\x7f\xfe\x03\x00\x00@\x1f\xfc\x10\xff\xff\xff\xff\xff\xff\xff\xff0\x00\x00\x0c\x11\x00\x1f\xa5";
-// Behind them: 0x601ffc08, a hard tail to {2, 3}.
-const HARD_TAIL: &[u8] =
-    b"\x01\x00\x00\x00\xf0\x0f\xff\xf7littlefs/\xe0\x00\x10\x00\x00\x02\x00\x00\x02\x00\x00\x08\x00\x00\x00\xff\x00\x00\x00\xff\xff\xff\x7f\xfe\x03\x00\x00@\x0f\xfc\x10\x02\x00\x00\x00\x03\x00\x00\x000\x10\x00\x0cT\xbc\x18\x81";
-// Behind them: 0x7ffffc0c, a delta whose last byte is 1.
-const DELTA: &[u8] =
-    b"\x01\x00\x00\x00\xf0\x0f\xff\xf7littlefs/\xe0\x00\x10\x00\x00\x02\x00\x00\x02\x00\x00\x08\x00\x00\x00\xff\x00\x00\x00\xff\xff\xff\x7f\xfe\x03\x00\x00_\xef\xfc\x14\x00\x00\x00\x00\x00\x00\x00\x00\x00\x00\x00\x01/\xf0\x00\x1c\xaffj=";
-// Behind them: 0x7ffffc0c, a delta of zeros.
-const ZERO_DELTA: &[u8] =
-    b"\x01\x00\x00\x00\xf0\x0f\xff\xf7littlefs/\xe0\x00\x10\x00\x00\x02\x00\x00\x02\x00\x00\x08\x00\x00\x00\xff\x00\x00\x00\xff\xff\xff\x7f\xfe\x03\x00\x00_\xef\xfc\x14\x00\x00\x00\x00\x00\x00\x00\x00\x00\x00\x00\x00/\xf0\x00\x1c\x1fO\x0a\x00";
-// Behind them: 0x40100400, 0x00200401 `d`, 0x20000408 with {2, 3}.
-const NO_DIRECTORY: &[u8] =
-    b"\x01\x00\x00\x00\xf0\x0f\xff\xf7littlefs/\xe0\x00\x10\x00\x00\x02\x00\x00\x02\x00\x00\x08\x00\x00\x00\xff\x00\x00\x00\xff\xff\xff\x7f\xfe\x03\x00\x00`\x00\x04\x18@0\x00\x01d  \x00\x09\x02\x00\x00\x00\x03\x00\x00\x00p\x0f\xf8\x03s\x86\x81\xd0";
-// Behind them: 0x100ffc00.
-const UNKNOWN_TYPE: &[u8] =
-    b"\x01\x00\x00\x00\xf0\x0f\xff\xf7littlefs/\xe0\x00\x10\x00\x00\x02\x00\x00\x02\x00\x00\x08\x00\x00\x00\xff\x00\x00\x00\xff\xff\xff\x7f\xfe\x03\x00\x000\x1f\xfc\x18@\x00\x00\x0c\x01\xf1\xb5I";
-// Behind them: 0x40100c00, where there is one entry.
-const CREATE_PAST_END: &[u8] =
-    b"\x01\x00\x00\x00\xf0\x0f\xff\xf7littlefs/\xe0\x00\x10\x00\x00\x02\x00\x00\x02\x00\x00\x08\x00\x00\x00\xff\x00\x00\x00\xff\xff\xff\x7f\xfe\x03\x00\x00`\x00\x0c\x18\x10\x1f\xf0\x0c\xab\xfd\x5cP";
-// Behind them: 0x00100401 `a`.
-const NAME_ALONE: &[u8] =
-    b"\x01\x00\x00\x00\xf0\x0f\xff\xf7littlefs/\xe0\x00\x10\x00\x00\x02\x00\x00\x02\x00\x00\x08\x00\x00\x00\xff\x00\x00\x00\xff\xff\xff\x7f\xfe\x03\x00\x00 \x00\x04\x19aP\x1f\xf8\x0avc\x0bR";
-// Behind them: 0x00100402 `..`, 0x20100400.
-const DOTS: &[u8] =
-    b"\x01\x00\x00\x00\xf0\x0f\xff\xf7littlefs/\xe0\x00\x10\x00\x00\x02\x00\x00\x02\x00\x00\x08\x00\x00\x00\xff\x00\x00\x00\xff\xff\xff\x7f\xfe\x03\x00\x00 \x00\x04\x1a.. \x00\x00\x02p\x1f\xf8\x06\xe6p\x8f\x8c";
+// a log, or other bytes, with the block at whose head they stand
+type Head = (u8, &'static [u8]);
 
-// an image whose first block begins with a log, and which is erased elsewhere
-fn image_of(alloc: Global, log: &[u8], blocks: u8) -> Result<Image, Fail> {
-    let mut bytes = Vec::from_slice(alloc, log)?;
-    bytes.resize(SIZE as usize * usize::from(blocks), 0xff)?;
+// writes bytes over those from a place on
+fn put(bytes: &mut [u8], at: usize, new: &[u8]) {
+    for (old, new) in bytes.iter_mut().skip(at).zip(new) {
+        *old = *new;
+    }
+}
+
+// an image of so many blocks, which are erased elsewhere
+fn image_of(alloc: Global, blocks: u8, heads: &[Head]) -> Result<Image, Fail> {
+    let mut bytes = vec![in alloc; 0xff; SIZE as usize * usize::from(blocks)]?;
+    for (block, head) in heads {
+        put(&mut bytes, usize::from(*block) * SIZE as usize, *head);
+    }
     Ok(Image::new(bytes, SIZE).map_err(|refused| refused.0)?)
 }
 
-// the number of free blocks, or the fault
-fn free_or_fault(alloc: Global, log: &[u8], blocks: u8) -> Result<Result<u32, MountFault>, Fail> {
-    let image = image_of(alloc, log, blocks)?;
-    Ok(mount(alloc, &image).map(|mounted| mounted.free_count()))
+// the number of free blocks and of rows, or the fault
+fn answer_of(
+    alloc: Global,
+    blocks: u8,
+    heads: &[Head],
+) -> Result<Result<(u32, usize), MountFault>, Fail> {
+    let image = image_of(alloc, blocks, heads)?;
+    Ok(mount(alloc, &image).map(|mounted| (mounted.free_count(), mounted.rows().len())))
 }
 
-// a case, the first block's log, how many blocks there are, and what mounting answers
-type RootRow = (&'static str, &'static [u8], u8, Result<u32, MountFault>);
+// a case, how many blocks there are, what stands at their heads, and what mounting answers
+type Case = (
+    &'static str,
+    u8,
+    &'static [Head],
+    Result<(u32, usize), MountFault>,
+);
 
-const ROOT_ROWS: [RootRow; 24] = [
-    ("formatted", FORMATTED, 8, Ok(6)),
-    ("an attribute within the limit", WITH_ATTRIBUTE, 8, Ok(6)),
-    ("two entries deleted", DELETED_ENTRIES, 8, Ok(6)),
-    ("a null tail", NULL_TAIL, 8, Ok(6)),
-    ("a delta of zeros", ZERO_DELTA, 8, Ok(6)),
-    ("erased", b"", 8, Err(MountFault::NoValidCommit)),
+const CASES: [Case; 46] = [
+    ("formatted", 8, &[(0, FORMATTED)], Ok((6, 1))),
     (
-        "an unknown type",
-        UNKNOWN_TYPE,
+        "an attribute within the limit",
         8,
-        Err(MountFault::UnknownTag),
-    ),
-    ("the struct first", STRUCT_FIRST, 8, Err(MountFault::BadTag)),
-    (
-        "create past the end",
-        CREATE_PAST_END,
-        8,
-        Err(MountFault::BadTag),
-    ),
-    ("no struct", NO_STRUCT, 8, Err(MountFault::IncompleteEntry)),
-    (
-        "a file without a struct",
-        NAME_ALONE,
-        8,
-        Err(MountFault::IncompleteEntry),
-    ),
-    ("a file named `..`", DOTS, 8, Err(MountFault::BadName)),
-    ("no entry", NO_ENTRY, 8, Err(MountFault::NoSuperblock)),
-    (
-        "a file in its place",
-        A_FILE,
-        8,
-        Err(MountFault::NoSuperblock),
-    ),
-    ("another name", OTHER_NAME, 8, Err(MountFault::NoSuperblock)),
-    (
-        "a short struct",
-        SHORT_STRUCT,
-        8,
-        Err(MountFault::NoSuperblock),
+        &[(0, WITH_ATTRIBUTE)],
+        Ok((6, 1)),
     ),
     (
-        "another version",
-        OTHER_VERSION,
+        "two entries deleted",
         8,
-        Err(MountFault::Version),
+        &[(0, DELETED_ENTRIES)],
+        Ok((6, 1)),
     ),
-    ("a block less", FORMATTED, 7, Err(MountFault::Geometry)),
-    ("a largest name of 0", NO_NAMES, 8, Err(MountFault::Limits)),
-    (
-        "a long attribute",
-        LONG_ATTRIBUTE,
-        8,
-        Err(MountFault::BadSize),
-    ),
-    ("a second entry", SECOND_ENTRY, 8, Ok(6)),
+    ("a null tail", 8, &[(0, NULL_TAIL)], Ok((6, 1))),
+    ("a delta of zeros", 8, &[(0, ZERO_DELTA)], Ok((6, 1))),
+    ("a second entry", 8, &[(0, SECOND_ENTRY)], Ok((6, 2))),
+    ("erased", 8, &[], Err(MountFault::NoValidCommit)),
     (
         "a soft tail to an erased pair",
-        SOFT_TAIL,
         8,
+        &[(0, SOFT_TAIL)],
         Err(MountFault::NoValidCommit),
     ),
     (
         "a hard tail to an erased pair",
-        HARD_TAIL,
         8,
+        &[(0, HARD_TAIL)],
         Err(MountFault::NoValidCommit),
     ),
-    ("a delta", DELTA, 8, Err(MountFault::UnknownState)),
+    (
+        "an unknown type",
+        8,
+        &[(0, UNKNOWN_TYPE)],
+        Err(MountFault::UnknownTag),
+    ),
+    (
+        "the struct first",
+        8,
+        &[(0, STRUCT_FIRST)],
+        Err(MountFault::BadTag),
+    ),
+    (
+        "create past the end",
+        8,
+        &[(0, CREATE_PAST_END)],
+        Err(MountFault::BadTag),
+    ),
+    (
+        "no struct",
+        8,
+        &[(0, NO_STRUCT)],
+        Err(MountFault::IncompleteEntry),
+    ),
+    (
+        "a file without a struct",
+        8,
+        &[(0, NAME_ALONE)],
+        Err(MountFault::IncompleteEntry),
+    ),
+    (
+        "a file named `..`",
+        8,
+        &[(0, DOTS)],
+        Err(MountFault::BadName),
+    ),
+    (
+        "no chain",
+        8,
+        &[(0, NO_CHAIN)],
+        Err(MountFault::BadSkipList),
+    ),
+    (
+        "no entry",
+        8,
+        &[(0, NO_ENTRY)],
+        Err(MountFault::NoSuperblock),
+    ),
+    (
+        "a file in its place",
+        8,
+        &[(0, A_FILE)],
+        Err(MountFault::NoSuperblock),
+    ),
+    (
+        "another name",
+        8,
+        &[(0, OTHER_NAME)],
+        Err(MountFault::NoSuperblock),
+    ),
+    (
+        "a short struct",
+        8,
+        &[(0, SHORT_STRUCT)],
+        Err(MountFault::NoSuperblock),
+    ),
+    (
+        "another version",
+        8,
+        &[(0, OTHER_VERSION)],
+        Err(MountFault::Version),
+    ),
+    (
+        "a block less",
+        7,
+        &[(0, FORMATTED)],
+        Err(MountFault::Geometry),
+    ),
+    (
+        "another count",
+        8,
+        &[(0, OTHER_COUNT)],
+        Err(MountFault::Geometry),
+    ),
+    (
+        "a largest name of 0",
+        8,
+        &[(0, NO_NAMES)],
+        Err(MountFault::Limits),
+    ),
+    (
+        "two names that fall",
+        8,
+        &[(0, MISORDERED)],
+        Err(MountFault::OrderFault),
+    ),
+    (
+        "two names that fall across parts",
+        8,
+        &[(0, ROOT), (4, BEFORE)],
+        Err(MountFault::OrderFault),
+    ),
+    (
+        "a tail past the count",
+        8,
+        &[(0, TAIL_PAST)],
+        Err(MountFault::BlockRange),
+    ),
+    (
+        "a directory past the count",
+        8,
+        &[(0, PAST)],
+        Err(MountFault::BlockRange),
+    ),
+    (
+        "a tail back",
+        8,
+        &[(0, TAIL_BACK)],
+        Err(MountFault::BlockTwice),
+    ),
+    (
+        "a chain with a block of the root",
+        8,
+        &[(0, USED)],
+        Err(MountFault::BlockTwice),
+    ),
+    (
+        "a directory below itself",
+        8,
+        &[(0, DIRECTORY), (2, LEADS_BACK)],
+        Err(MountFault::BlockTwice),
+    ),
+    (
+        "the root below itself",
+        8,
+        &[(0, DIRECTORY), (2, LEADS_UP)],
+        Err(MountFault::BlockTwice),
+    ),
+    (
+        "no directory for a name",
+        8,
+        &[(0, NO_DIRECTORY)],
+        Err(MountFault::MissingDirectory),
+    ),
+    (
+        "no directory for a name below",
+        8,
+        &[(0, DIRECTORY), (2, LEADS_FAR)],
+        Err(MountFault::MissingDirectory),
+    ),
+    (
+        "no directory with both blocks",
+        8,
+        &[(0, DIRECTORY), (2, LEADS_ASIDE)],
+        Err(MountFault::MissingDirectory),
+    ),
+    (
+        "no name for a directory",
+        8,
+        &[(0, SOFT_TAIL), (2, BELOW)],
+        Err(MountFault::Orphan),
+    ),
+    (
+        "no name for a third directory",
+        8,
+        &[(0, DIRECTORY), (2, GOES_ON), (4, BELOW)],
+        Err(MountFault::Orphan),
+    ),
+    (
+        "deltas that cancel, and no name",
+        8,
+        &[(0, MIXED_ROOT), (2, MIXED)],
+        Err(MountFault::Orphan),
+    ),
+    ("orphans", 8, &[(0, ORPHANS)], Err(MountFault::Orphan)),
+    ("a move", 8, &[(0, MOVE)], Err(MountFault::UnfinishedMove)),
+    (
+        "another state",
+        8,
+        &[(0, UNKNOWN_STATE)],
+        Err(MountFault::UnknownState),
+    ),
+    (
+        "a second superblock",
+        8,
+        &[(0, SECOND_SUPERBLOCK)],
+        Err(MountFault::SuperblockElsewhere),
+    ),
+    (
+        "a long attribute of the root",
+        8,
+        &[(0, LONG_ROOT_ATTRIBUTE)],
+        Err(MountFault::BadSize),
+    ),
+    (
+        "a long name",
+        8,
+        &[(0, LONG_NAME)],
+        Err(MountFault::BadSize),
+    ),
+    (
+        "a long file",
+        8,
+        &[(0, LONG_FILE)],
+        Err(MountFault::BadSize),
+    ),
+    (
+        "a long attribute",
+        8,
+        &[(0, LONG_ATTRIBUTE)],
+        Err(MountFault::BadSize),
+    ),
 ];
 
 #[test]
-fn mount_judges_the_root(rt: HostRuntime) -> Result<(), Fail> {
-    for (case, log, blocks, answer) in &ROOT_ROWS {
-        let found = free_or_fault(rt.alloc(), log, *blocks)?;
+fn mount_judges_images(rt: HostRuntime) -> Result<(), Fail> {
+    for (case, blocks, heads, answer) in &CASES {
+        let found = answer_of(rt.alloc(), *blocks, *heads)?;
         assert_eq!(rt; found, *answer, "{case}");
     }
     Ok(())
 }
 
-#[test]
-fn mounted_image_tells_its_root(rt: HostRuntime) -> Result<(), Fail> {
-    let image = image_of(rt.alloc(), FORMATTED, 8)?;
-    let mounted = mount(rt.alloc(), &image)?;
-    assert_eq!(rt; mounted.directories(), 1);
-    assert_eq!(rt; mounted.files(), 0);
-    let limits = Limits {
-        name: 255,
-        file: 2_147_483_647,
-        attribute: 1_022,
+// the names of a path, and whether a directory stands there
+type Listed = (&'static [&'static [u8]], bool);
+
+const TREE_ROWS: [Listed; 6] = [
+    (&[], true),
+    (&[b"ab"], false),
+    (&[b"a"], false),
+    (&[b"d"], true),
+    (&[b"d", b"x"], false),
+    (&[b"e"], false),
+];
+
+const PARTED_ROWS: [Listed; 5] = [
+    (&[], true),
+    (&[b"a"], false),
+    (&[b"d"], true),
+    (&[b"d", b"x"], false),
+    (&[b"e"], false),
+];
+
+// asserts which names a path has
+fn has_names(rt: &impl Abort, path: &Path, names: &[&[u8]]) {
+    assert_eq!(rt; path.names().len(), names.len());
+    for (found, name) in path.names().iter().zip(names) {
+        assert_eq!(rt; found.as_slice(), *name);
+    }
+}
+
+// asserts what is listed
+fn lists(rt: &impl Abort, rows: &[Row], listed: &[Listed]) {
+    assert_eq!(rt; rows.len(), listed.len());
+    for (row, (names, is_dir)) in rows.iter().zip(listed) {
+        has_names(rt, &row.path, *names);
+        assert_eq!(rt; row.is_dir(), *is_dir);
+    }
+}
+
+// asserts that a file has these blocks and this size
+fn is_linked(rt: &impl Abort, row: &Row, chain: &[u32], bytes: u32) {
+    let RowBody::Chain { blocks, size } = &row.body else {
+        panic!(rt; "no chain")
     };
-    assert_eq!(rt; mounted.limits(), limits);
+    assert_eq!(rt; blocks.as_slice(), chain);
+    assert_eq!(rt; *size, bytes);
+}
+
+// an image of 8 blocks, mounted
+fn mounted_of(alloc: Global, heads: &[Head]) -> Result<Mounted, Fail> {
+    let image = image_of(alloc, 8, heads)?;
+    Ok(mount(alloc, &image)?)
+}
+
+// a tree, with a file in blocks 5 and 7
+const TREE_HEADS: [Head; 3] = [(0, TREE), (3, BELOW), (7, b"\x05\x00\x00\x00")];
+// one whose root has two parts, with a file in blocks 6 and 7
+const PARTED_HEADS: [Head; 4] = [(0, ROOT), (2, BELOW), (4, MORE), (7, b"\x06\x00\x00\x00")];
+
+#[test]
+fn mounted_image_lists_its_tree(rt: HostRuntime) -> Result<(), Fail> {
+    let mounted = mounted_of(rt.alloc(), &TREE_HEADS)?;
+    lists(&rt, mounted.rows(), &TREE_ROWS);
+    let file = mounted.rows().last().expect(&rt, "no row");
+    is_linked(&rt, file, &[5, 7], 600);
     Ok(())
 }
 
-// asserts that the last name of a row's path is this one, or that it has none
-fn is_last(rt: &impl Abort, row: &Row, name: &[u8]) {
-    let last = row
-        .path
-        .names()
-        .last()
-        .map_or(b"".as_slice(), |last| last.as_slice());
-    assert_eq!(rt; last, name);
+#[test]
+fn mounted_image_lists_directories_in_parts(rt: HostRuntime) -> Result<(), Fail> {
+    let mounted = mounted_of(rt.alloc(), &PARTED_HEADS)?;
+    lists(&rt, mounted.rows(), &PARTED_ROWS);
+    assert_eq!(rt; mounted.thread(), [(0, 1), (4, 5), (2, 3)].as_slice());
+    assert_eq!(rt; mounted.free_count(), 0);
+    Ok(())
 }
 
 // asserts how much of each kind an image has
@@ -213,63 +392,51 @@ fn has_counts(rt: &impl Abort, mounted: &Mounted, directories: usize, files: usi
     assert_eq!(rt; mounted.free_count(), free);
 }
 
-// asserts how many rows there are, and the last name of each one's path
-fn have_names(rt: &impl Abort, rows: &[Row], names: &[&[u8]]) {
-    assert_eq!(rt; rows.len(), names.len());
-    for (row, name) in rows.iter().zip(names) {
-        is_last(rt, row, name);
-    }
-}
-
 #[test]
-fn mounted_image_shows_directories_and_files(rt: HostRuntime) -> Result<(), Fail> {
-    let image = whole_image(rt.alloc())?;
-    let mounted = mount(rt.alloc(), &image)?;
-    assert_eq!(rt; mounted.thread(), [(0, 1), (4, 5), (2, 3)].as_slice());
-    has_counts(&rt, &mounted, 2, 3, 0);
-    have_names(&rt, mounted.rows(), &[b"", b"a", b"d", b"x", b"e"]);
+fn mounted_image_tells_what_it_has(rt: HostRuntime) -> Result<(), Fail> {
+    let mounted = mounted_of(rt.alloc(), &TREE_HEADS)?;
+    has_counts(&rt, &mounted, 2, 4, 2);
+    assert_eq!(rt; mounted.thread(), [(0, 1), (3, 4)].as_slice());
+    let limits = Limits {
+        name: 255,
+        file: 2_147_483_647,
+        attribute: 1_022,
+    };
+    assert_eq!(rt; mounted.limits(), limits);
     Ok(())
 }
 
-// the number of rows, or the fault
-fn rows_or_fault(
-    alloc: Global,
-    root: &[u8],
-    log: &[u8],
-) -> Result<Result<usize, MountFault>, Fail> {
-    let image = image_with(alloc, root, &[(TWO, log)])?;
-    Ok(mount(alloc, &image).map(|mounted| mounted.rows().len()))
+#[test]
+fn mounted_image_tells_free_blocks(rt: HostRuntime) -> Result<(), Fail> {
+    let mounted = mounted_of(rt.alloc(), &TREE_HEADS)?;
+    assert_eq!(rt; mounted.free_count(), 2);
+    let blocks = mounted.lowest_free(rt.alloc(), 2).ok_or("memory")?;
+    assert_eq!(rt; blocks.as_slice(), [2, 6].as_slice());
+    Ok(())
 }
 
-// a case, the root's log, the log of block 2, and what mounting answers
-type TreeRow = (
-    &'static str,
-    &'static [u8],
-    &'static [u8],
-    Result<usize, MountFault>,
-);
+// the path of these names
+fn path_of(alloc: Global, names: &[&[u8]]) -> Result<Path, AllocError> {
+    let mut path = Vec::new(alloc);
+    for name in names {
+        path.push(Vec::from_slice(alloc, name)?)?;
+    }
+    Ok(Path::new(path))
+}
 
-const TREE_ROWS: [TreeRow; 3] = [
-    ("a file in the root", SECOND_ENTRY, b"", Ok(2)),
-    (
-        "no name for a directory",
-        SOFT_TAIL,
-        BELOW,
-        Err(MountFault::Orphan),
-    ),
-    (
-        "no directory for a name",
-        NO_DIRECTORY,
-        b"",
-        Err(MountFault::MissingDirectory),
-    ),
+// names, and where their path stands in the rows
+const PLACES: [(&[&[u8]], Option<usize>); 3] = [
+    (&[b"d", b"x"], Some(4)),
+    (&[], Some(0)),
+    (&[b"x"], None),
 ];
 
 #[test]
-fn directories_are_reached_by_their_names(rt: HostRuntime) -> Result<(), Fail> {
-    for (case, root, log, answer) in &TREE_ROWS {
-        let found = rows_or_fault(rt.alloc(), root, log)?;
-        assert_eq!(rt; found, *answer, "{case}");
+fn mounted_image_finds_paths(rt: HostRuntime) -> Result<(), Fail> {
+    let mounted = mounted_of(rt.alloc(), &TREE_HEADS)?;
+    for (names, place) in &PLACES {
+        let path = path_of(rt.alloc(), names)?;
+        assert_eq!(rt; mounted.find(&path), *place);
     }
     Ok(())
 }
@@ -282,12 +449,15 @@ fn laws_are_called(_rt: HostRuntime) {
     formatted_volume_is_sound();
     fronts_begin_each_other();
     images_mount_to_one_tree();
+    images_without_cause_mount();
     lone_superblock_mounts();
     mounted_images_have_no_cause();
     names_are_ordered();
     paths_are_ordered();
     pieces_of_links();
     rows_are_unique();
+    rows_show_the_tree();
     same_readings_hold_the_same();
     stored_links_stay();
+    texts_spell_one_path();
 }

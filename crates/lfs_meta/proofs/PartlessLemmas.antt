@@ -84,19 +84,19 @@ not_all_whole (e ∷ es) none = by_first e es (whole e) (all_whole es) refl refl
 
 -- ---- pairs
 
-abbrev HasCause : Disk → Pair → Type 0
-HasCause d pair = (f : MountFault) × PairCause f d pair
+abbrev HasPairCause : Disk → Pair → Type 0
+HasPairCause d pair = (f : MountFault) × PairCause f d pair
 
 by_entries : (d : Disk) (pair : Pair) (p : RawPart) (o : Option (List StoredEntry)) → part_of d pair ≡ Some p → all_whole p.entries ≡ o
-    → option_map (λ (es : List StoredEntry). let q : StoredPart = record { entries = es; tail = p.tail; delta = p.delta } in q) o ≡ None → HasCause d pair
+    → option_map (λ (es : List StoredEntry). let q : StoredPart = record { entries = es; tail = p.tail; delta = p.delta } in q) o ≡ None → HasPairCause d pair
 by_entries d pair p None part entries none = elim (not_all_whole p.entries entries) [ inl h ↦ (fault.IncompleteEntry, (p, part, h)) | inr h ↦ (fault.BadName, (p, part, h)) ]
 by_entries d pair p (Some es) part entries none = cc
 
-by_part : (d : Disk) (pair : Pair) (tags : List Item) (o : Option RawPart) → tags_of d pair ≡ Some tags → replay tags ≡ o → option_and_then whole_part o ≡ None → HasCause d pair
+by_part : (d : Disk) (pair : Pair) (tags : List Item) (o : Option RawPart) → tags_of d pair ≡ Some tags → replay tags ≡ o → option_and_then whole_part o ≡ None → HasPairCause d pair
 by_part d pair tags None is replayed none = elim (refused empty_part tags replayed) [ inl h ↦ (fault.UnknownTag, (tags, is, h)) | inr h ↦ (fault.BadTag, (tags, is, h)) ]
 by_part d pair tags (Some p) is replayed none = by_entries d pair p (all_whole p.entries) (ap (option_and_then replay) is ∙ replayed) refl none
 
-by_tags : (d : Disk) (pair : Pair) (o : Option (List Item)) → tags_of d pair ≡ o → option_and_then whole_part (option_and_then replay o) ≡ None → HasCause d pair
+by_tags : (d : Disk) (pair : Pair) (o : Option (List Item)) → tags_of d pair ≡ o → option_and_then whole_part (option_and_then replay o) ≡ None → HasPairCause d pair
 by_tags d pair None is none = (fault.NoValidCommit, is)
 by_tags d pair (Some tags) is none = by_part d pair tags (replay tags) is refl none
 

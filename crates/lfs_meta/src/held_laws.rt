@@ -16,3 +16,14 @@ pub fn held_parts_are_whole()
     blocks_have_a_log();
     log_tags_are_items();
 }
+
+#[cfg(test)]
+mod tests {
+    use super::*;
+
+    #[test]
+    fn laws_of_what_is_held(_rt: HostRuntime) {
+        held_parts_are_whole();
+        pairs_without_a_part_have_a_cause();
+    }
+}

@@ -180,6 +180,7 @@ fn hands_out_the_tags_of_all_commits(rt: HostRuntime) {
 fn laws_of_logs(_rt: HostRuntime) {
     laws::one_log();
     laws::log_is_read();
+    laws::blocks_have_a_log();
     laws::log_tags_are_items();
     laws::erased_is_decided();
     laws::erased_holds_no_commit();
