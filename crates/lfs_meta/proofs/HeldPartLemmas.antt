@@ -1,5 +1,5 @@
 -- The entries of a part that a pair holds are whole, and their attributes rise.
-use Rattle.std.proofs.Common.{◌≡◌, ℕ, ◌+◌, ◌*◌, ◌<◌, ◌≤◌, Bool, true, false, ◌&&◌, nat_lt, List, [], ◌∷◌, length, take, drop, refl, subst, arith, Option, Some, None, zero, suc, if◌then◌else◌}
+use Rattle.std.proofs.Common.{◌≡◌, ℕ, ◌+◌, ◌*◌, ◌<◌, ◌≤◌, Bool, true, false, ◌&&◌, List, [], ◌∷◌, length, take, drop, refl, ap, sym, ◌∙◌, subst, arith, Option, Some, None, zero, suc, if◌then◌else◌}
 use Rattle.std.specs.Prelude.{All, option_and_then, option_map}
 use Rattle.std.specs.List.{AllByRecursion}
 use Rattle.std.proofs.Math.Nat.{mul-le-mul_right}
@@ -11,20 +11,23 @@ use Rattle.lfs_block.specs.Disk.{Disk, IsDisk, block_of}
 use Rattle.lfs_tag.specs.Commit.{Item, IsItem}
 use Rattle.lfs_tag.specs.Laws.{BlocksHaveALog, LogTagsAreItems}
 use Rattle.lfs_tag.specs.Log.{log_tags}
+use Rattle.lfs_tag.specs.LogSeen.{LogSeen, log_seen}
 use Rattle.lfs_tag.specs.Reading.{log_of}
 use Rattle.lfs_meta.specs.declared.kind.Kind.{Kind}
+use Rattle.lfs_meta.specs.declared.live_block.LiveBlock.{LiveBlock}
+use Rattle.lfs_meta.specs.declared.live_block.LiveBlock.TheVariants.{First, Second, Neither}
+use Rattle.lfs_meta.specs.Laws.{IsLive}
 use Rattle.lfs_meta.specs.Attribute.{Attributes}
 use Rattle.lfs_meta.specs.Body.{Pair, StoredBody}
 use Rattle.lfs_meta.specs.Entry.{RawEntry, StoredEntry}
 use Rattle.lfs_meta.specs.Fits.{RiseFrom, RawEntryFits}
-use Rattle.lfs_meta.specs.LiveBlock.{committed, tags_of}
+use Rattle.lfs_meta.specs.LiveBlock.{live_block, live_log, tags_of}
 use Rattle.lfs_meta.specs.Name.{Name}
 use Rattle.lfs_meta.specs.Part.{RawPart, StoredPart}
 use Rattle.lfs_meta.specs.Replay.{replay}
-use Rattle.lfs_meta.specs.Whole.{takes, takes_name, whole_by, whole, all_whole, whole_part}
-use Rattle.lfs_meta.specs.Writing.{second_is_live}
+use Rattle.lfs_meta.specs.Whole.{kind_takes_body, kind_takes_name, whole_by, whole, all_whole, whole_part}
 use Rattle.lfs_meta.specs.HeldLaws.{IsHeldEntry, HeldPartsAreWhole}
-use Rattle.lfs_meta.proofs.LiveLemmas.{tags-are_live}
+use Rattle.lfs_meta.proofs.LiveLemmas.{live-read}
 use Rattle.lfs_meta.proofs.ReplayFitsLemmas.{replay-fits}
 
 -- ---- blocks
@@ -47,29 +50,27 @@ drop_bytes zero xs all i = all i
 drop_bytes (suc n) [] all i = omega arith
 drop_bytes (suc n) (x ∷ xs) all i = drop_bytes n xs (λ k. all (suc k)) i
 
-some_tags : (b : Bool) (ts us : List Item) → (if b then Some ts else None) ≡ Some us → ts ≡ us
-some_tags true ts us is = cc
-some_tags false ts us is = cc
-
-committed_items : BlocksHaveALog → LogTagsAreItems → (d : Disk) (n : ℕ) (tags : List Item) → IsDisk d → n < d.count → committed (block_of d n) ≡ Some tags → AllByRecursion IsItem tags
-committed_items logs items d n tags disk below is =
+-- the tags that a block's log has
+block_items : BlocksHaveALog → LogTagsAreItems → (d : Disk) (n : ℕ) (log : LogSeen) (tags : List Item) → IsDisk d → n < d.count
+    → log ≡ log_seen (block_of d n) → log.tags ≡ tags → AllByRecursion IsItem tags
+block_items logs items d n log tags disk below is same =
     let block : List ℕ = block_of d n in
-    let log = logs block (block_len d n disk below) (take_bytes d.size (drop (n * d.size) d.bytes) (drop_bytes (n * d.size) d.bytes disk.bytes)) in
-    subst (AllByRecursion IsItem) (some_tags (nat_lt 0 (length (log_of block).commits)) (log_tags (log_of block).commits) tags is) (items block (log_of block).commits (log_of block).rest log)
+    let there = logs block (block_len d n disk below) (take_bytes d.size (drop (n * d.size) d.bytes) (drop_bytes (n * d.size) d.bytes disk.bytes)) in
+    let these : log_tags (log_of block).commits ≡ tags = sym (ap (λ (l : LogSeen). l.tags) is) ∙ same in
+    subst (AllByRecursion IsItem) these (items block (log_of block).commits (log_of block).rest there)
 
-one_of : (b : Bool) (d : Disk) (pair : Pair) (P : List ℕ → Type 0) → P (if b then block_of d pair.1 else block_of d pair.0) → P (block_of d (if b then pair.1 else pair.0))
-one_of true d pair P h = h
-one_of false d pair P h = h
+same_tags : (log : LogSeen) (tags : List Item) → ◌≡◌ {A = Option (List Item)} (Some log.tags) (Some tags) → log.tags ≡ tags
+same_tags log tags is = cc
 
-one_below : (b : Bool) (count : ℕ) (pair : Pair) → pair.0 < count → pair.1 < count → (if b then pair.1 else pair.0) < count
-one_below true count pair first second = second
-one_below false count pair first second = first
+live_items : BlocksHaveALog → LogTagsAreItems → (d : Disk) (pair : Pair) (live : LiveBlock) (tags : List Item) → IsDisk d → pair.0 < d.count → pair.1 < d.count
+    → IsLive live (block_of d pair.0) (block_of d pair.1) → option_map (λ log. log.tags) (live_log live) ≡ Some tags → AllByRecursion IsItem tags
+live_items logs items d pair (First log) tags disk first second read is = block_items logs items d pair.0 log tags disk first read.0 (same_tags log tags is)
+live_items logs items d pair (Second log) tags disk first second read is = block_items logs items d pair.1 log tags disk second read.0 (same_tags log tags is)
+live_items logs items d pair Neither tags disk first second read is = cc
 
 items_of : BlocksHaveALog → LogTagsAreItems → (d : Disk) (pair : Pair) (tags : List Item) → IsDisk d → pair.0 < d.count → pair.1 < d.count → tags_of d pair ≡ Some tags → AllByRecursion IsItem tags
 items_of logs items d pair tags disk first second is =
-    let late : Bool = second_is_live (block_of d pair.0) (block_of d pair.1) in
-    let live : committed (if late then block_of d pair.1 else block_of d pair.0) ≡ Some tags = tags-are_live (block_of d pair.0) (block_of d pair.1) tags is in
-    committed_items logs items d (if late then pair.1 else pair.0) tags disk (one_below late d.count pair first second) (one_of late d pair (λ (block : List ℕ). committed block ≡ Some tags) live)
+    live_items logs items d pair (live_block (block_of d pair.0) (block_of d pair.1)) tags disk first second (live-read (block_of d pair.0) (block_of d pair.1)) is
 
 -- ---- entries
 
@@ -83,7 +84,7 @@ held_by None b attributes w rise is = cc
 held_by (Some n) None attributes w rise is = cc
 held_by (Some n) (Some b) attributes w rise is =
     let x : StoredEntry = record { kind = n.0; name = n.1; body = b; attributes = attributes } in
-    let both : (x ≡ w) × (takes n.0 b ≡ true) × (takes_name n.0 n.1 ≡ true) = when_both (takes n.0 b) (takes_name n.0 n.1) x w is in
+    let both : (x ≡ w) × (kind_takes_body n.0 b ≡ true) × (kind_takes_name n.0 n.1 ≡ true) = when_both (kind_takes_body n.0 b) (kind_takes_name n.0 n.1) x w is in
     let held : IsHeldEntry x = record { whole = record { body = both.1; name = both.2 }; attributes = rise } in
     subst IsHeldEntry both.0 held
 

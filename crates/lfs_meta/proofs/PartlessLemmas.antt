@@ -18,7 +18,7 @@ use Rattle.lfs_meta.specs.LiveBlock.{tags_of, part_of}
 use Rattle.lfs_meta.specs.Name.{Name}
 use Rattle.lfs_meta.specs.Part.{RawPart, StoredPart, empty_part}
 use Rattle.lfs_meta.specs.Replay.{acted, step_by, step, replay_from, replay, HasUnknown, HasBadFrom}
-use Rattle.lfs_meta.specs.Whole.{takes, takes_name, IsIncompleteBy, IsIncomplete, IsMisnamedBy, IsMisnamed, whole_by, whole, all_whole, whole_part}
+use Rattle.lfs_meta.specs.Whole.{kind_takes_body, kind_takes_name, IsIncompleteBy, IsIncomplete, IsMisnamedBy, IsMisnamed, whole_by, whole, all_whole, whole_part}
 use Rattle.lfs_meta.specs.HeldLaws.{PairsWithoutAPartHaveACause}
 
 any_later : {X : Type 0} (P : X → Type 0) (x : X) (xs : List X) → Any P xs → Any P (x ∷ xs)
@@ -68,7 +68,7 @@ either_false true true x none = cc
 not_whole_by : (n : Option (Kind × Name)) (b : Option StoredBody) (attributes : Attributes) → whole_by n b attributes ≡ None → IsIncompleteBy n b ⊎ IsMisnamedBy n
 not_whole_by None b attributes none = inl tt
 not_whole_by (Some n) None attributes none = inl tt
-not_whole_by (Some n) (Some b) attributes none = either_false (takes n.0 b) (takes_name n.0 n.1) (record { kind = n.0; name = n.1; body = b; attributes = attributes }) none
+not_whole_by (Some n) (Some b) attributes none = either_false (kind_takes_body n.0 b) (kind_takes_name n.0 n.1) (record { kind = n.0; name = n.1; body = b; attributes = attributes }) none
 
 -- the first entry isn't whole, or a later one isn't
 by_first : (e : RawEntry) (es : List RawEntry) (o : Option StoredEntry) (os : Option (List StoredEntry)) → whole e ≡ o → all_whole es ≡ os
