@@ -24,6 +24,6 @@ pub use image_fault::ImageFault;
 pub use mount_fault::MountFault;
 pub use patch::Patch;
 pub use patch_laws::{
-    applied_law, apply_again_law, changes_law, equal_blocks_law, flips_law, puts_law, revert_law,
+    applied_patches_change_their_blocks, reverted_patches_apply_again, changes_change_their_blocks, images_are_their_blocks, flipped_patches_are_patches, put_blocks_stand, applied_patches_revert,
 };
 pub use record::Record;

@@ -4,46 +4,46 @@ ghost use Rattle.lfs_block.specs.PatchLaws.{AppliedAgrees, AppliedBlocks, Applie
 
 /// Law: a block that is put into an image is the image's block of that number, the other blocks stay, and it is an
 /// image again.
-pub fn puts_law()
+pub fn put_blocks_stand()
     ensures block { BlockPut }
     ensures others { BlockPutOther }
     ensures disk { PutIsDisk }
 {}
 
 /// Law: two images of one size and count that have the same blocks are one.
-pub fn equal_blocks_law()
+pub fn images_are_their_blocks()
     ensures { DisksAreTheirBlocks }
 {}
 
 /// Law: of an image of which some blocks are changed, the changed blocks hold the new bytes and the others what they
 /// held.
-pub fn changes_law()
+pub fn changes_change_their_blocks()
     ensures disk { ChangedIsDisk }
     ensures blocks { ChangedBlocks }
 {}
 
 /// Law: a patch is one backwards, and is itself when it is turned twice.
-pub fn flips_law()
+pub fn flipped_patches_are_patches()
     ensures patch { FlippedIsPatch }
     ensures twice { FlippedTwice }
 {}
 
 /// Law: a patch that is applied leaves an image of the same size and count, with the patch's new bytes in the blocks
 /// that it names and the same bytes in the others.
-pub fn applied_law()
+pub fn applied_patches_change_their_blocks()
     ensures fits { PatchFits }
     ensures disk { AppliedIsDisk }
     ensures blocks { AppliedBlocks }
 {}
 
 /// Law: once a patch is applied, its new bytes stand, and reverting it gives the first image.
-pub fn revert_law()
+pub fn applied_patches_revert()
     ensures agrees { AppliedAgrees }
     ensures back { AppliedRevertsBack }
 {}
 
 /// Law: once a patch is reverted, its old bytes stand, and applying it gives the first image.
-pub fn apply_again_law()
+pub fn reverted_patches_apply_again()
     ensures disk { RevertedIsDisk }
     ensures agrees { RevertedAgrees }
     ensures again { RevertedAppliesAgain }
@@ -55,12 +55,12 @@ mod tests {
 
     #[test]
     fn laws_of_patches(_rt: HostRuntime) {
-        puts_law();
-        equal_blocks_law();
-        changes_law();
-        flips_law();
-        applied_law();
-        revert_law();
-        apply_again_law();
+        put_blocks_stand();
+        images_are_their_blocks();
+        changes_change_their_blocks();
+        flipped_patches_are_patches();
+        applied_patches_change_their_blocks();
+        applied_patches_revert();
+        reverted_patches_apply_again();
     }
 }

@@ -27,7 +27,7 @@ use crate::refusal::Refusal;
 use crate::room::fit_part;
 use crate::writing::written;
 use lfs_block::{Blocks, Image, Patch};
-use lfs_file::{laid_blocks_law, lay};
+use lfs_file::{laid_blocks_are_whole, lay};
 use lfs_fs::Mounted;
 use lfs_meta::Part;
 use std::alloc::Global;
@@ -81,7 +81,7 @@ fn contents_of(
     ensures contents { IfOk result (λ all. AreContents size blocks.now (map (λ c. c.items) all.items)) }
     ensures refused { IfErr result (λ refusal. refusal ≡ Memory) }
 {
-    laid_blocks_law();
+    laid_blocks_are_whole();
     if blocks.is_empty() {
         return Ok(Vec::new(alloc));
     }

@@ -3,7 +3,7 @@
 ghost use Rattle.lfs_edit.specs.Laws.{CleansFollow, CommandsAreFrugal, CommandsFollow, CutsAreFrugal, CutsFollow, FewPartsChange, FreeAfter, NeedIsExact, NeedIsTheSame, UsesAfter};
 ghost use Rattle.lfs_edit.specs.Written.{HeldAreClean, WrittenAreHeld};
 
-use lfs_file::chain_stays_law;
+use lfs_file::chains_stay_on_their_blocks;
 use lfs_fs::{entries_are_cut_greedily, names_are_ordered, stored_links_stay};
 use lfs_meta::parts_depend_on_their_blocks;
 
@@ -73,6 +73,6 @@ pub fn written_volumes_are_held()
     ensures clean { HeldAreClean }
 {
     parts_depend_on_their_blocks();
-    chain_stays_law();
+    chains_stay_on_their_blocks();
     stored_links_stay();
 }

@@ -3,7 +3,7 @@
 ghost use Rattle.lfs_edit.specs.PlanLaws.{CommandLaws};
 
 use crate::laws::{commands_are_frugal, commands_follow, cuts_follow, written_volumes_are_held};
-use lfs_file::{chain_stays_law, laid_is_chain_law};
+use lfs_file::{chains_stay_on_their_blocks, laid_blocks_are_chains};
 use lfs_fs::{
     both_sides_hold, entries_are_cut_greedily, entries_weigh_as_stored, names_are_ordered,
 };
@@ -13,8 +13,8 @@ pub(crate) fn command_laws()
     ensures { CommandLaws }
 {
     names_are_ordered();
-    chain_stays_law();
-    laid_is_chain_law();
+    chains_stay_on_their_blocks();
+    laid_blocks_are_chains();
     entries_weigh_as_stored();
     entries_are_cut_greedily();
     commands_follow();

@@ -10,7 +10,7 @@ ghost use Rattle.lfs_edit.specs.declared.refusal.Refusal.TheVariants.{Memory};
 ghost use Rattle.lfs_edit.specs.PartWritten.{AreContents, AreNew, WritesPart, change_at, changes_at, patch_at, with_change};
 
 use crate::refusal::Refusal;
-use lfs_block::{Blocks, Image, Patch, Record, applied_law, puts_law, revert_law};
+use lfs_block::{Blocks, Image, Patch, Record, applied_patches_change_their_blocks, put_blocks_stand, applied_patches_revert};
 use lfs_meta::{Part, parts_depend_on_their_blocks, rewrite};
 use std::alloc::{AllocError, Global};
 
@@ -112,9 +112,9 @@ pub(crate) fn written(
     ensures writes { IfOk result (λ patch. WritesPart image.now part.now blocks.now (map (λ c. c.items) contents.items) patch) }
     ensures refused { IfErr result (λ refusal. refusal ≡ Memory) }
 {
-    puts_law();
-    revert_law();
-    applied_law();
+    put_blocks_stand();
+    applied_patches_revert();
+    applied_patches_change_their_blocks();
     parts_depend_on_their_blocks();
     let _size = image.size();
     let Ok((number, new)) = rewrite(

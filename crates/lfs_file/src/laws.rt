@@ -3,14 +3,14 @@
 ghost use Rattle.lfs_file.specs.Laws.{LeastIsLeast, LeastIsOne, ChainsAreFound, FoundAreChains, ChainsAreOne, ChainsDiffer, ChainsFit, ChainsStay, FoundStay, ContentStays, EmptyIsFound, ContentHasLength, LaidAreAsMany, LaidAreWhole, LaidAreBytes, LaidIsChain, LaidIsFound, LaidIsContent};
 
 /// Law: the number of blocks that a file takes is the least that hold it, and the only least one.
-pub fn least_blocks_law()
+pub fn least_blocks_are_least()
     ensures least { LeastIsLeast }
     ensures one { LeastIsOne }
 {}
 
 /// Law: the chain that is found is a chain, every chain is found, a file has one at most, and a file of no
 /// bytes has the chain of no blocks.
-pub fn one_chain_law()
+pub fn files_have_one_chain()
     ensures found { ChainsAreFound }
     ensures chain { FoundAreChains }
     ensures one { ChainsAreOne }
@@ -18,25 +18,25 @@ pub fn one_chain_law()
 {}
 
 /// Law: the blocks of a chain are on the disk and differ, so that they are no more than the disk has.
-pub fn chain_blocks_law()
+pub fn blocks_of_chains_differ()
     ensures differ { ChainsDiffer }
     ensures fit { ChainsFit }
 {}
 
 /// Law: a chain and its content depend on the chain's own blocks alone.
-pub fn chain_stays_law()
+pub fn chains_stay_on_their_blocks()
     ensures chain { ChainsStay }
     ensures found { FoundStay }
     ensures content { ContentStays }
 {}
 
 /// Law: the content of a file has the file's length.
-pub fn content_length_law()
+pub fn contents_have_their_length()
     ensures { ContentHasLength }
 {}
 
 /// Law: the blocks that are laid for a file are as many as they are to be, each of the block size, and of bytes.
-pub fn laid_blocks_law()
+pub fn laid_blocks_are_whole()
     ensures many { LaidAreAsMany }
     ensures whole { LaidAreWhole }
     ensures bytes { LaidAreBytes }
@@ -44,7 +44,7 @@ pub fn laid_blocks_law()
 
 /// Law: a disk with the laid blocks of a file has the file's chain in them, and the content of the chain is the file's
 /// bytes.
-pub fn laid_is_chain_law()
+pub fn laid_blocks_are_chains()
     ensures chain { LaidIsChain }
     ensures found { LaidIsFound }
     ensures content { LaidIsContent }
@@ -56,12 +56,12 @@ mod tests {
 
     #[test]
     fn laws_of_chains(_rt: HostRuntime) {
-        least_blocks_law();
-        one_chain_law();
-        chain_blocks_law();
-        chain_stays_law();
-        content_length_law();
-        laid_blocks_law();
-        laid_is_chain_law();
+        least_blocks_are_least();
+        files_have_one_chain();
+        blocks_of_chains_differ();
+        chains_stay_on_their_blocks();
+        contents_have_their_length();
+        laid_blocks_are_whole();
+        laid_blocks_are_chains();
     }
 }

@@ -13,8 +13,8 @@ mod tests;
 pub use capacity::blocks_for;
 pub use file_slices::{FileSlices, read_file};
 pub use laws::{
-    chain_blocks_law, chain_stays_law, content_length_law, laid_blocks_law, laid_is_chain_law,
-    least_blocks_law, one_chain_law,
+    blocks_of_chains_differ, chains_stay_on_their_blocks, contents_have_their_length, laid_blocks_are_whole, laid_blocks_are_chains,
+    least_blocks_are_least, files_have_one_chain,
 };
 pub use laying::lay;
 pub use skip_list::chain;

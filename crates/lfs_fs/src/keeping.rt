@@ -15,7 +15,7 @@ use crate::limits::Limits;
 use crate::superblock::are_within;
 use crate::used::mark_all;
 use lfs_block::{Blocks, MountFault};
-use lfs_file::{chain, content_length_law};
+use lfs_file::{chain, contents_have_their_length};
 use lfs_meta::{Body, Entry, Kind, names_are_decided};
 use std::alloc::Global;
 
@@ -58,7 +58,7 @@ fn kept_body<B: Blocks>(
     ensures kept { IfOk result (λ kept. KeepsBody (reading_of (B.disk blocks.now)) used.old used.new (body_held body) (folder_body_held kept)) }
     ensures refused { IfErr result (λ fault. BodyCause fault (reading_of (B.disk blocks.now)) used.old (body_held body)) }
 {
-    content_length_law();
+    contents_have_their_length();
     let count = blocks.count();
     match body {
         Body::Inline(bytes) => Ok(FolderBody::Held(bytes)),

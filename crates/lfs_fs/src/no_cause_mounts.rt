@@ -2,7 +2,7 @@
 
 ghost use Rattle.lfs_fs.specs.Mounts.{WithoutCauseMount};
 
-use lfs_file::{chain_blocks_law, content_length_law, one_chain_law};
+use lfs_file::{blocks_of_chains_differ, contents_have_their_length, files_have_one_chain};
 use lfs_meta::{held_parts_are_whole, names_are_decided, pairs_without_a_part_have_a_cause};
 
 /// A law: an image that has none of the causes for which an image does not mount, mounts. Takes no memory.
@@ -14,7 +14,7 @@ pub fn images_without_cause_mount()
     pairs_without_a_part_have_a_cause();
     held_parts_are_whole();
     names_are_decided();
-    one_chain_law();
-    chain_blocks_law();
-    content_length_law();
+    files_have_one_chain();
+    blocks_of_chains_differ();
+    contents_have_their_length();
 }

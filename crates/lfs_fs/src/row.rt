@@ -3,7 +3,7 @@
 ghost use Rattle.lfs_fs.specs.Row.{PathsAreOrdered, RowsAreUnique};
 ghost use Rattle.lfs_fs.specs.RowShown.{RowsShowTheTree};
 
-use lfs_file::{chain_blocks_law, content_length_law, one_chain_law};
+use lfs_file::{blocks_of_chains_differ, contents_have_their_length, files_have_one_chain};
 
 /// A law: one list has the rows of a map from paths. Takes no memory.
 ///
@@ -26,7 +26,7 @@ pub fn paths_are_ordered()
 pub fn rows_show_the_tree()
     ensures { RowsShowTheTree }
 {
-    one_chain_law();
-    content_length_law();
-    chain_blocks_law();
+    files_have_one_chain();
+    contents_have_their_length();
+    blocks_of_chains_differ();
 }

@@ -2,7 +2,7 @@
 
 ghost use Rattle.lfs_journal.specs.Laws.{CommandsAreEquations, CommandsPushEquations, RunsKeepHistories, UndoIsExact, RedoIsExact, UndoAndRedoKeepImages};
 
-use lfs_block::{applied_law, apply_again_law, revert_law};
+use lfs_block::{applied_patches_change_their_blocks, reverted_patches_apply_again, applied_patches_revert};
 use lfs_edit::cuts_follow;
 use lfs_fs::images_mount_to_one_tree;
 
@@ -35,9 +35,9 @@ pub fn commands_push_equations()
 pub fn runs_keep_histories()
     ensures { RunsKeepHistories }
 {
-    applied_law();
-    revert_law();
-    apply_again_law();
+    applied_patches_change_their_blocks();
+    applied_patches_revert();
+    reverted_patches_apply_again();
     cuts_follow();
 }
 

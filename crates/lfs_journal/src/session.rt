@@ -4,7 +4,7 @@ use crate::remounting::remount;
 use crate::replacing::replace_from;
 use crate::step_fault::StepFault;
 use crate::unmounted::Unmounted;
-use lfs_block::{Image, Patch, applied_law, apply_again_law, revert_law};
+use lfs_block::{Image, Patch, applied_patches_change_their_blocks, reverted_patches_apply_again, applied_patches_revert};
 use lfs_edit::{Command, cuts_follow, plan};
 use lfs_fs::mount;
 use std::alloc::Global;
@@ -88,8 +88,8 @@ impl Session {
         ensures refused { IfErr result (λ fault. Takes (Do (asked_for command.now)) (Some fault) self.old self.new) }
         ensures unchanged { OnErr result (self.new ≡ self.old) }
     {
-        applied_law();
-        revert_law();
+        applied_patches_change_their_blocks();
+        applied_patches_revert();
         cuts_follow();
         if self.done >= MOST_CHANGES {
             return Err(StepFault::JournalFull);
@@ -108,7 +108,7 @@ impl Session {
         ensures done { OnOk result (Undoes self.old self.new) }
         ensures refused { IfErr result (λ fault. (fault ≡ NothingToUndo) × (self.old.past ≡ []) × (self.new ≡ self.old)) }
     {
-        apply_again_law();
+        reverted_patches_apply_again();
         if self.done == 0 {
             return Err(StepFault::NothingToUndo);
         }
@@ -123,8 +123,8 @@ impl Session {
         ensures done { OnOk result (Redoes self.old self.new) }
         ensures refused { IfErr result (λ fault. (fault ≡ NothingToRedo) × (self.old.future ≡ []) × (self.new ≡ self.old)) }
     {
-        applied_law();
-        revert_law();
+        applied_patches_change_their_blocks();
+        applied_patches_revert();
         if self.done == self.patches.len() {
             return Err(StepFault::NothingToRedo);
         }

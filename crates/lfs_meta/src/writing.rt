@@ -20,7 +20,7 @@ use crate::laws::written_parts_replay;
 use crate::live_block::{LiveBlock, live_block, revision};
 use crate::tail::Tail;
 use byteorder::{ByteOrder, LittleEndian};
-use lfs_block::{Blocks, MountFault, puts_law};
+use lfs_block::{Blocks, MountFault, put_blocks_stand};
 use lfs_tag::laws::{first_commit, log_is_read, written_length};
 use lfs_tag::{Edit, FIRST_WORD, write_commit};
 use std::alloc::{AllocError, Global};
@@ -134,7 +134,7 @@ pub fn rewrite<B: Blocks>(
     ensures new { IfOk result (λ new. IsRewritten (B.disk blocks.now) pair (stored_part entries.now tail delta) new.0 new.1.items) }
     ensures refused { IfErr result (λ fault. fault ≡ MountFault.Memory) }
 {
-    puts_law();
+    put_blocks_stand();
     written_parts_replay();
     let size = blocks.size();
     let (number, live) = other_block(blocks, pair);

@@ -2,7 +2,7 @@
 
 ghost use Rattle.lfsed.specs.Laws.{ChangedBytesAreEquations, ChangedBytesAreTakenBack};
 
-use lfs_block::applied_law;
+use lfs_block::applied_patches_change_their_blocks;
 use lfs_journal::{commands_push_equations, undo_and_redo_keep_images};
 
 /// A law: bytes that a command changed are an image that mounts to the command's equation of the tree of the image before,
@@ -13,7 +13,7 @@ pub fn changed_bytes_are_equations()
     ensures { ChangedBytesAreEquations }
 {
     commands_push_equations();
-    applied_law();
+    applied_patches_change_their_blocks();
 }
 
 /// A law: from the history that a command leaves, undo and redo, in any list, lead to the bytes before and to those after,
@@ -24,5 +24,5 @@ pub fn changed_bytes_are_taken_back()
     ensures { ChangedBytesAreTakenBack }
 {
     undo_and_redo_keep_images();
-    applied_law();
+    applied_patches_change_their_blocks();
 }

@@ -44,10 +44,10 @@ returns-clause-writes c =
       back = back_is d n new _ part c.deref.result.now c.part.view_is c.deref.ensures.value c.in-Ok.ensures.reads_back;
     } in
     let laws : WriteLaws = record {
-      put = c.puts_law.ensures.block;
-      other = c.puts_law.ensures.others;
-      agrees = c.revert_law.ensures.agrees;
-      disk = c.applied_law.ensures.disk;
+      put = c.put_blocks_stand.ensures.block;
+      other = c.put_blocks_stand.ensures.others;
+      agrees = c.applied_patches_revert.ensures.agrees;
+      disk = c.applied_patches_change_their_blocks.ensures.disk;
       blocks = search rules;
       parts = c.parts_depend_on_their_blocks.ensures;
     } in

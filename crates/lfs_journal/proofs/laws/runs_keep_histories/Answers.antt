@@ -3,9 +3,9 @@ use Rattle.lfs_journal.proofs.laws.runs_keep_histories.Goals as goal
 
 pub returns : goal.returns
 returns c =
-    let made = c.applied_law.ensures in
-    let back = c.revert_law.ensures in
-    let again = c.apply_again_law.ensures in
+    let made = c.applied_patches_change_their_blocks.ensures in
+    let back = c.applied_patches_revert.ensures in
+    let again = c.reverted_patches_apply_again.ensures in
     let follow = c.cuts_follow.ensures in
     runs_keep
     (record { disk = again.disk; agrees = again.agrees; again = again.again })

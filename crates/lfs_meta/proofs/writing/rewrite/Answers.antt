@@ -18,7 +18,7 @@ returns-clause-new g c =
     let twelve : length c.args.delta ≡ 12 = search rules in
     let small : live < 2 ^ 32 = search rules in
     let tags : tags_of (put (other_number d c.args.pair) new d) c.args.pair ≡ Some (part_tags p) =
-    rewritten-tags c.puts_law.ensures.block c.puts_law.ensures.others d c.args.pair new (part_tags p) live c.size-size.ensures.disk c.requires.apart c.requires.first c.requires.second
+    rewritten-tags c.put_blocks_stand.ensures.block c.put_blocks_stand.ensures.others d c.args.pair new (part_tags p) live c.size-size.ensures.disk c.requires.apart c.requires.first c.requires.second
     (c.in-Ok.ensures.written.len ∙ c.size-size.ensures.value) c.in-Ok.ensures.written.held small (sym c.other_block-number.ensures.revision) c.in-Ok.ensures.written.numbered in
     let size = c.size-size.ensures.value in
     record {

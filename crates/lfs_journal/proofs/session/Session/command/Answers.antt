@@ -31,8 +31,8 @@ returns-in_err-replace_from-clause-unchanged c =
 pub invariant_of-self-2 : goal.invariant_of-self-2
 invariant_of-self-2 c =
     let s = c.self.inside in
-    let made = c.applied_law.ensures in
-    let back = c.revert_law.ensures in
+    let made = c.applied_patches_change_their_blocks.ensures in
+    let back = c.applied_patches_revert.ensures in
     let follow = c.cuts_follow.ensures in
     (done_at (record { disk = made.disk; agrees = back.agrees; back = back.back }) (record { cut = follow.cut; clean = follow.clean }) (asked_for c.args.command.now)
     s.image c.apply.new.image s.patches.items c.replace_from.new.patches.items s.done c.in_ok-patch.patch c.index.result.now
@@ -41,8 +41,8 @@ invariant_of-self-2 c =
 pub returns-clause-done : goal.returns-clause-done
 returns-clause-done c =
     let s = c.self.inside in
-    let made = c.applied_law.ensures in
-    let back = c.revert_law.ensures in
+    let made = c.applied_patches_change_their_blocks.ensures in
+    let back = c.applied_patches_revert.ensures in
     let follow = c.cuts_follow.ensures in
     let to = done_at (record { disk = made.disk; agrees = back.agrees; back = back.back }) (record { cut = follow.cut; clean = follow.clean }) (asked_for c.args.command.now)
     s.image c.apply.new.image s.patches.items c.replace_from.new.patches.items s.done c.in_ok-patch.patch c.index.result.now

@@ -9,8 +9,8 @@ pub invariant_of-self : goal.invariant_of-self
 invariant_of-self c =
     let s = c.self.inside in
     let within = c.self.invariant.within in
-    let made = c.applied_law.ensures in
-    let back = c.revert_law.ensures in
+    let made = c.applied_patches_change_their_blocks.ensures in
+    let back = c.applied_patches_revert.ensures in
     let at = is_at s.patches.items s.done (s.done + 1) c.index.result.now refl (omega arith) c.index.ensures in
     (redone_at (record { disk = made.disk; agrees = back.agrees; back = back.back }) s.image c.apply.new.image s.patches.items s.done (s.done + 1) c.index.result.now
     at c.self.invariant c.apply.ensures.applied).keeps
@@ -19,8 +19,8 @@ pub returns-clause-done : goal.returns-clause-done
 returns-clause-done c =
     let s = c.self.inside in
     let within = c.self.invariant.within in
-    let made = c.applied_law.ensures in
-    let back = c.revert_law.ensures in
+    let made = c.applied_patches_change_their_blocks.ensures in
+    let back = c.applied_patches_revert.ensures in
     let at = is_at s.patches.items s.done (s.done + 1) c.index.result.now refl (omega arith) c.index.ensures in
     let to = redone_at (record { disk = made.disk; agrees = back.agrees; back = back.back }) s.image c.apply.new.image s.patches.items s.done (s.done + 1) c.index.result.now
     at c.self.invariant c.apply.ensures.applied in

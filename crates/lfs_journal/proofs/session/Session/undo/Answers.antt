@@ -16,7 +16,7 @@ pub invariant_of-self : goal.invariant_of-self
 invariant_of-self c =
     let s = c.self.inside in
     let within = c.self.invariant.within in
-    let law = c.apply_again_law.ensures in
+    let law = c.reverted_patches_apply_again.ensures in
     let at = is_at s.patches.items (s.done - 1) s.done c.index.result.now (omega arith) (omega arith) c.index.ensures in
     (undone_at (record { disk = law.disk; agrees = law.agrees; again = law.again }) s.image c.revert.new.image s.patches.items (s.done - 1) s.done c.index.result.now
     at c.self.invariant c.revert.ensures.reverted).keeps
@@ -25,7 +25,7 @@ pub returns-clause-done : goal.returns-clause-done
 returns-clause-done c =
     let s = c.self.inside in
     let within = c.self.invariant.within in
-    let law = c.apply_again_law.ensures in
+    let law = c.reverted_patches_apply_again.ensures in
     let at = is_at s.patches.items (s.done - 1) s.done c.index.result.now (omega arith) (omega arith) c.index.ensures in
     let to = undone_at (record { disk = law.disk; agrees = law.agrees; again = law.again }) s.image c.revert.new.image s.patches.items (s.done - 1) s.done c.index.result.now
     at c.self.invariant c.revert.ensures.reverted in

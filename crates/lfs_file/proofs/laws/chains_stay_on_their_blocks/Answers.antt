@@ -1,7 +1,7 @@
 use Rattle.std.proofs.Common.{arith}
 use Rattle.lfs_file.proofs.ContentLemmas.{content-stays}
 use Rattle.lfs_file.proofs.WalkLemmas.{chain-stays, found-stays}
-use Rattle.lfs_file.proofs.laws.chain_stays_law.Goals as goal
+use Rattle.lfs_file.proofs.laws.chains_stay_on_their_blocks.Goals as goal
 
 pub returns : goal.returns
 returns c = record {

@@ -1,6 +1,6 @@
 use Rattle.std.proofs.Common.{arith}
 use Rattle.lfs_file.proofs.WalkLemmas.{chain-empty, chain-found, found-chain, chain-is_one}
-use Rattle.lfs_file.proofs.laws.one_chain_law.Goals as goal
+use Rattle.lfs_file.proofs.laws.files_have_one_chain.Goals as goal
 
 pub returns : goal.returns
 returns c = record {

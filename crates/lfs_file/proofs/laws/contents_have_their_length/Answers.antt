@@ -1,5 +1,5 @@
 use Rattle.lfs_file.proofs.ContentLemmas.{length-content}
-use Rattle.lfs_file.proofs.laws.content_length_law.Goals as goal
+use Rattle.lfs_file.proofs.laws.contents_have_their_length.Goals as goal
 
 pub returns : goal.returns
 returns c = length-content

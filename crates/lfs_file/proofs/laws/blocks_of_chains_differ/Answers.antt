@@ -1,6 +1,6 @@
 use Rattle.std.proofs.Common.{arith}
 use Rattle.lfs_file.proofs.WalkLemmas.{found-chain, chain-fits}
-use Rattle.lfs_file.proofs.laws.chain_blocks_law.Goals as goal
+use Rattle.lfs_file.proofs.laws.blocks_of_chains_differ.Goals as goal
 
 pub returns : goal.returns
 returns c = record {
