@@ -75,16 +75,16 @@ table_more {X} folders f table after items x k key_is entries_are sorted updates
   found = λ j.
       let test : is_at (pair_order k) j ≡ starts_at j f = is_at-same k j ∙ same_pair-symmetric k j ∙ ap (same_pair j) key_is in
       ap (option_map items) (updates j ∙ ap (λ (b : Bool). if b then Some x else look_up j table) test) ∙ found_more (starts_at j f) items x f (look_up j table) (find (starts_at j) folders) entries_are (is.found j);
-  sums = λ distinct weight.
+  sums = λ distinct measure.
       let fewer : (j : Pair) → count_by (starts_at j) folders ≤ 1 = λ j. omega (arith, distinct j, sum_by-cons (λ (g : ShownDirectory). cond {A = ℕ} (starts_at j g) 1 0) f folders) in
       let none : count_by (starts_at k) folders ≡ 0 = omega (arith, distinct k, starts-head k f key_is, sum_by-cons (λ (g : ShownDirectory). cond {A = ℕ} (starts_at k g) 1 0) f folders) in
       let absent : look_up k table ≡ None = no_value items (look_up k table) (is.found k ∙ ap (option_map (λ (g : ShownDirectory). g.entries)) (none_found (starts_at k) folders none)) in
-      let w : X → ℕ = λ (y : X). weight (items y) in
+      let w : X → ℕ = λ (y : X). measure (items y) in
       let put : sum_by w (values_of (insert_entry pair_order table k x)) + unwrap_or (option_map w (look_up k table)) 0 ≡ sum_by w (values_of table) + w x = sum_by-insert_entry w pairs_total table k x sorted in
       let zero' : unwrap_or (option_map w (look_up k table)) 0 ≡ 0 = ap (λ (o : Option X). unwrap_or (option_map w o) 0) absent in
       let same : sum_by w (values_of after) ≡ sum_by w (values_of (insert_entry pair_order table k x)) = ap (λ (es : List (Pair × X)). sum_by w (values_of es)) inserted in
-      let weighs : w x ≡ weight f.entries = ap weight entries_are in
-      omega (arith, is.sums fewer weight, sum_by-cons (λ (g : ShownDirectory). weight g.entries) f folders);
+      let weighs : w x ≡ measure f.entries = ap measure entries_are in
+      omega (arith, is.sums fewer measure, sum_by-cons (λ (g : ShownDirectory). measure g.entries) f folders);
 }
 
 -- the last of the folders that are left is put in
@@ -99,7 +99,7 @@ taken_more all left rest taken f table after items x k all_is left_is key_is ent
 )
 
 pub table_none : {X : Type 0} (items : X → List ShownEntry) (table : List (Pair × X)) → table ≡ [] → IsTableOf [] table items
-table_none {X} items table is = subst (λ (t : List (Pair × X)). IsTableOf [] t items) (sym is) (record { found = λ k. refl; sums = λ distinct weight. refl })
+table_none {X} items table is = subst (λ (t : List (Pair × X)). IsTableOf [] t items) (sym is) (record { found = λ k. refl; sums = λ distinct measure. refl })
 
 -- ---- pairs that were opened
 

@@ -25,5 +25,5 @@ starts_at k f = same_pair k (unordered f.pair)
 pub record IsTableOf {X : Type 0} (folders : List ShownDirectory) (table : List (Pair × X)) (items : X → List ShownEntry) : Type 0 where
   pub found : (k : Pair) → option_map items (look_up k table) ≡ option_map (λ f. f.entries) (find (starts_at k) folders)
   -- where no two have one pair, a sum over the table is one over the folders
-  pub sums : ((k : Pair) → count_by (starts_at k) folders ≤ 1) → (weight : List ShownEntry → ℕ)
-      → sum_by (λ x. weight (items x)) (values_of table) ≡ sum_by (λ f. weight f.entries) folders
+  pub sums : ((k : Pair) → count_by (starts_at k) folders ≤ 1) → (measure : List ShownEntry → ℕ)
+      → sum_by (λ x. measure (items x)) (values_of table) ≡ sum_by (λ f. measure f.entries) folders
