@@ -46,6 +46,7 @@ pub use laws::{
     live_blocks_are_read, names_are_decided, parts_depend_on_their_blocks, replayed_parts_fit,
     unread_pairs_hold_no_part, weights_fit, written_parts_replay,
 };
+pub use live_block::LiveBlock;
 pub use name::is_name;
 pub use part::Part;
 pub use read::read_pair;

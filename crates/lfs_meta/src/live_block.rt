@@ -27,8 +27,10 @@ pub(crate) fn is_later(a: u32, b: u32) -> bool
 }
 
 /// Which block of a pair is live, with its log.
+///
+/// Source: SPEC.md, "Metadata pairs".
 #[derive(Debug, Drop)]
-pub(crate) enum LiveBlock<'a> {
+pub enum LiveBlock<'a> {
     /// The first one.
     First(Log<'a>),
     /// The second one.
