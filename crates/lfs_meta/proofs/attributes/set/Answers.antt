@@ -8,12 +8,11 @@ use Rattle.lfs_meta.proofs.attributes.set.Goals.{else-at-len-via-then-at-len+els
 
 pub returns-then-kind-clause-set : goal.returns-then-kind-clause-set
 returns-then-kind-clause-set g c =
-    let key = g.A.HasKind.kind_of in
     let within : c.place_of-at.result < length c.args.attributes.now.items = omega arith in
-    sym (put_by-old key c.args.attribute c.args.attributes.now.items c.place_of-at.result
-    (c.place_of-at.ensures ∙ ap (place key c.kind-kind.result) c.deref.ensures.value ∙ ap (λ (k : ℕ). place key k c.args.attributes.now.items) c.kind-kind.ensures)
+    sym (put_by-old g.A.HasKind.kind_of c.args.attribute c.args.attributes.now.items c.place_of-at.result
+    (c.place_of-at.ensures ∙ ap (place g.A.HasKind.kind_of c.kind-kind.result) c.deref.ensures.value ∙ ap (λ (k : ℕ). place g.A.HasKind.kind_of k c.args.attributes.now.items) c.kind-kind.ensures)
     within
-    (λ d. ap key (get_or_default c.args.attributes.now.items c.place_of-at.result d c.index.result.now within ∙ sym c.index.ensures)
+    (λ d. ap g.A.HasKind.kind_of (get_or_default c.args.attributes.now.items c.place_of-at.result d c.index.result.now within ∙ sym c.index.ensures)
     ∙ sym c.kind.ensures ∙ c.if-kind.true ∙ c.kind-kind.ensures))
 
 pub insert-requires : goal.insert-requires
@@ -22,12 +21,11 @@ insert-requires g c =
 
 pub returns-clause-set : goal.returns-clause-set
 returns-clause-set g c =
-    let key = g.A.HasKind.kind_of in
-    c.in_ok-insert.ensures.items ∙ sym (put_by-new key c.args.attribute c.args.attributes.now.items c.place_of-at.result
-    (c.place_of-at.ensures ∙ ap (place key c.kind-kind.result) c.deref.ensures.value ∙ ap (λ (k : ℕ). place key k c.args.attributes.now.items) c.kind-kind.ensures)
+    c.in_ok-insert.ensures.items ∙ sym (put_by-new g.A.HasKind.kind_of c.args.attribute c.args.attributes.now.items c.place_of-at.result
+    (c.place_of-at.ensures ∙ ap (place g.A.HasKind.kind_of c.kind-kind.result) c.deref.ensures.value ∙ ap (λ (k : ℕ). place g.A.HasKind.kind_of k c.args.attributes.now.items) c.kind-kind.ensures)
     (λ within d same. elim c.else-at-len.branch [
       | else-at-len-via-then-at-len+else-kind w ↦
-          w.if-kind.false (w.kind.ensures ∙ ap key (w.index.ensures
+          w.if-kind.false (w.kind.ensures ∙ ap g.A.HasKind.kind_of (w.index.ensures
           ∙ get_or_default c.args.attributes.now.items c.place_of-at.result w.index.result.now d within) ∙ same ∙ sym c.kind-kind.ensures)
       | else-at-len-via-else-at-len w ↦ absurd (omega arith)
     ]))
