@@ -7,7 +7,7 @@ ghost use Rattle.lfs_edit.specs.Formatted.{IsFormatted};
 
 use crate::refusal::Refusal;
 use crate::superblock::new_superblock;
-use lfs_fs::lone_superblock_mounts;
+use lfs_fs::lone_superblocks_mount;
 use lfs_meta::{Tail, first_block};
 use std::alloc::{AllocError, Global};
 
@@ -31,7 +31,7 @@ pub fn format(alloc: Global, size: u32, count: u32) -> Result<Vec<u8>, Refusal>
     ensures image { IfOk result (λ bytes. IsFormatted size count bytes.items) }
     ensures refused { IfErr result (λ refusal. refusal ≡ Refusal.Memory) }
 {
-    lone_superblock_mounts();
+    lone_superblocks_mount();
     let entries = [new_superblock(alloc, size, count)?];
     let Some(root) = first_block(alloc, size, &entries, Tail::End) else {
         return Err(Refusal::Memory);

@@ -20,7 +20,7 @@ use Rattle.lfs_fs.specs.Superblock.{header_of, superblock_entry}
 use Rattle.lfs_fs.specs.Held.{link_of, link_at}
 use Rattle.lfs_fs.specs.Holds.{Holds, IsResolved}
 use Rattle.lfs_fs.specs.Stored.{stored_before, IsStored, HoldsLinks, HeldAreHeldByLinks, HeldByLinksAreHeld}
-use Rattle.lfs_fs.proofs.ThreadLemmas.{pieces_of_links}
+use Rattle.lfs_fs.proofs.ThreadLemmas.{links_make_their_directories}
 use Rattle.lfs_fs.proofs.ChainedLemmas.{first_pair, Chained, first_of_links, links_chained, links_of_pieces, pair_of, IsStep, pairs_follow, pairs_used}
 use Rattle.lfs_fs.proofs.StandsLemmas.{all_are_resolved, read_at, stored_step, stored_at}
 use Rattle.lfs_fs.proofs.CountLemmas.{link_pair}
@@ -123,7 +123,7 @@ held_by_links r v fit h =
           (All-weaker (IsStored r h.bytes v.attributes) (λ (l : Link). pair_of l ≢ root → (t : StoredPart) → r.part (pair_of l) ≡ Some t → All (IsResolved r) t.entries) (later_resolved r h.bytes v.attributes) ls h.each))
           there other s read;
       is = same_volume v r.size r.count (header_of h.bytes v.attributes).limits (pieces (map (link_at r) (map pair_of ls))) h.size h.count h.superblock.limits
-          (sym (pieces_of_links v.directories) ∙ ap pieces (sym (links_read r ls (All-weaker (IsStored r h.bytes v.attributes) (λ (l : Link). link_at r (pair_of l) ≡ l) (read_at r h.bytes v.attributes) ls h.each))));
+          (sym (links_make_their_directories v.directories) ∙ ap pieces (sym (links_read r ls (All-weaker (IsStored r h.bytes v.attributes) (λ (l : Link). link_at r (pair_of l) ≡ l) (read_at r h.bytes v.attributes) ls h.each))));
     }
 
 pub held_by_links_are_held : HeldByLinksAreHeld

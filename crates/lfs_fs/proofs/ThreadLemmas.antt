@@ -13,6 +13,6 @@ tail_is_soft : (ds : List Directory) → is_hard (tail_to ds) ≡ false
 tail_is_soft [] = refl
 tail_is_soft (d ∷ ds) = refl
 
-pub pieces_of_links : PiecesOfLinks
-pieces_of_links [] = refl
-pieces_of_links (d ∷ ds) = pieces_of_directory d.first d.more (tail_to ds) (links ds) (tail_is_soft ds) ∙ ap (λ x. d ∷ x) (pieces_of_links ds)
+pub links_make_their_directories : PiecesOfLinks
+links_make_their_directories [] = refl
+links_make_their_directories (d ∷ ds) = pieces_of_directory d.first d.more (tail_to ds) (links ds) (tail_is_soft ds) ∙ ap (λ x. d ∷ x) (links_make_their_directories ds)

@@ -6,6 +6,6 @@ ghost use Rattle.lfs_fs.specs.LoneSuperblock.{LoneSuperblockMounts};
 /// edited and attributes within them, mounts to the root alone. Takes no memory.
 ///
 /// Source: own.
-pub fn lone_superblock_mounts()
+pub fn lone_superblocks_mount()
     ensures { LoneSuperblockMounts }
 {}

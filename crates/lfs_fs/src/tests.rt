@@ -7,10 +7,10 @@ use crate::mounted::Mounted;
 use crate::path::Path;
 use crate::row_body::RowBody;
 use crate::{
-    both_sides_hold, entries_are_cut_greedily, entries_weigh_as_stored, formatted_volume_is_sound,
+    both_sides_hold, entries_are_cut_greedily, entries_weigh_as_stored, formatted_volumes_are_sound,
     fronts_begin_each_other, images_mount_to_one_tree, images_without_cause_mount,
-    lone_superblock_mounts, mount, mounted_images_have_no_cause, names_are_ordered,
-    paths_are_ordered, pieces_of_links, rows_are_unique, rows_show_the_tree,
+    lone_superblocks_mount, mount, mounted_images_have_no_cause, names_are_ordered,
+    paths_are_ordered, links_make_their_directories, rows_are_unique, rows_show_the_tree,
     same_readings_hold_the_same, stored_links_stay, texts_spell_one_path,
 };
 use lfs_block::{Image, MountFault};
@@ -454,15 +454,15 @@ fn laws_are_called(_rt: HostRuntime) {
     both_sides_hold();
     entries_are_cut_greedily();
     entries_weigh_as_stored();
-    formatted_volume_is_sound();
+    formatted_volumes_are_sound();
     fronts_begin_each_other();
     images_mount_to_one_tree();
     images_without_cause_mount();
-    lone_superblock_mounts();
+    lone_superblocks_mount();
     mounted_images_have_no_cause();
     names_are_ordered();
     paths_are_ordered();
-    pieces_of_links();
+    links_make_their_directories();
     rows_are_unique();
     rows_show_the_tree();
     same_readings_hold_the_same();

@@ -5,6 +5,6 @@ ghost use Rattle.lfs_fs.specs.Thread.{PiecesOfLinks};
 /// A law: the directories that a thread makes are those that it was written for. Takes no memory.
 ///
 /// Source: own.
-pub fn pieces_of_links()
+pub fn links_make_their_directories()
     ensures { PiecesOfLinks }
 {}
