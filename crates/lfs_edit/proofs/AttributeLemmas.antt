@@ -3,7 +3,7 @@ use Rattle.std.proofs.Common.{◌≡◌, ℕ, ◌<◌, ◌≤◌, ◌==◌, nat_
 use Rattle.std.specs.Prelude.{All, if◌then◌else◌}
 use Rattle.std.proofs.lemmas.Bool.Decides.{nat_tests}
 use Rattle.std.proofs.lemmas.List.Elements.{All-head, All-tail, All-cons, All-nil, All-weaker, All-filter}
-use Rattle.lfs_meta.specs.Attribute.{Attributes, set_attribute, remove_attribute}
+use Rattle.lfs_meta.specs.Attribute.{Attributes, put_by, set_attribute, remove_attribute}
 use Rattle.lfs_fs.specs.Sound.{AreAttributes}
 
 abbrev After : ℕ → Attributes → Type 0
@@ -16,7 +16,7 @@ set_after_by j k value a more false true lt h rest = All-cons (λ (b : ℕ × Li
 set_after_by j k value a more false false lt h rest = All-cons (λ (b : ℕ × List ℕ). j < b.0) a (set_attribute k value more) (All-head (λ (b : ℕ × List ℕ). j < b.0) a more h) rest
 
 set_after : (j k : ℕ) (value : List ℕ) (kept : Attributes) → j < k → After j kept → After j (set_attribute k value kept)
-unfolding set_attribute
+unfolding put_by
 set_after j k value [] lt h = All-cons (λ (b : ℕ × List ℕ). j < b.0) (k, value) [] lt h
 set_after j k value (a ∷ more) lt h = set_after_by j k value a more (nat_lt k a.0) (k == a.0) lt h (set_after j k value more lt (All-tail (λ (b : ℕ × List ℕ). j < b.0) a more h))
 
@@ -34,7 +34,7 @@ set_good_by limit k value a more false false is_less is_same fits h rest =
     (h.0, set_after a.0 k value more lt h.1, rest)
 
 pub set_good : (limit k : ℕ) (value : List ℕ) (kept : Attributes) → length value ≤ limit → AreAttributes limit kept → AreAttributes limit (set_attribute k value kept)
-unfolding set_attribute
+unfolding put_by
 set_good limit k value [] fits h = (fits, All-nil (λ (b : ℕ × List ℕ). k < b.0), h)
 set_good limit k value (a ∷ more) fits h = set_good_by limit k value a more (nat_lt k a.0) (k == a.0) refl refl fits h (set_good limit k value more fits h.2)
 

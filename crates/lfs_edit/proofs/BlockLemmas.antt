@@ -5,7 +5,10 @@ use Rattle.std.proofs.lemmas.List.{length-take-le, length-drop}
 use Rattle.lfs_block.specs.Bytes.{IsBytes}
 use Rattle.lfs_block.specs.Disk.{Disk, IsDisk, block_of}
 use Rattle.lfs_meta.specs.Body.{Pair}
-use Rattle.lfs_meta.specs.Writing.{second_is_live, other_number}
+use Rattle.lfs_meta.specs.declared.live_block.LiveBlock.{LiveBlock}
+use Rattle.lfs_meta.specs.declared.live_block.LiveBlock.TheVariants.{First, Second, Neither}
+use Rattle.lfs_meta.specs.LiveBlock.{live_block}
+use Rattle.lfs_meta.specs.Writing.{other_than, other_number}
 
 -- a block has as many bytes as the block size says
 pub block_len : (d : Disk) (n : ℕ) → IsDisk d → n < d.count → length (block_of d n) ≡ d.size
@@ -31,11 +34,12 @@ block_bytes d n disk = take_bytes d.size (drop (n * d.size) d.bytes) (drop_bytes
 
 -- the block that isn't live is one of the pair's
 pub other_is_one : (d : Disk) (pair : Pair) → (other_number d pair ≡ pair.0) ⊎ (other_number d pair ≡ pair.1)
-other_is_one d pair = by (second_is_live (block_of d pair.0) (block_of d pair.1))
+other_is_one d pair = by (live_block (block_of d pair.0) (block_of d pair.1))
   where
-    by : (t : Bool) → ((if t then pair.0 else pair.1) ≡ pair.0) ⊎ ((if t then pair.0 else pair.1) ≡ pair.1)
-    by true = inl refl
-    by false = inr refl
+    by : (live : LiveBlock) → (other_than live pair ≡ pair.0) ⊎ (other_than live pair ≡ pair.1)
+    by (First log) = inr refl
+    by (Second log) = inl refl
+    by Neither = inr refl
 
 pub other_below : (d : Disk) (pair : Pair) → pair.0 < d.count → pair.1 < d.count → other_number d pair < d.count
 other_below d pair first second = elim (other_is_one d pair) [ inl is ↦ omega (arith, is, first) | inr is ↦ omega (arith, is, second) ]

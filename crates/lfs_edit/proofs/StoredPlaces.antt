@@ -10,7 +10,7 @@ use Rattle.lfs_meta.specs.Body.{StoredBody, Inline, Ctz, Leads}
 use Rattle.lfs_meta.specs.Entry.{StoredEntry}
 use Rattle.lfs_meta.specs.Name.{Name}
 use Rattle.lfs_meta.specs.Spelling.{IsWhole}
-use Rattle.lfs_meta.specs.Whole.{takes}
+use Rattle.lfs_meta.specs.Whole.{kind_takes_body}
 use Rattle.lfs_fs.specs.Pair.{unordered}
 use Rattle.lfs_edit.specs.AttributeEdit.{changed_first}
 use Rattle.lfs_edit.specs.FileEdit.{stored_place, with_stored_body}
@@ -54,14 +54,14 @@ place_whole e (f ∷ fs) new old = by (is_after e.name f) (place_whole e fs new 
     by false later = (old.0, later)
 
 -- an entry of a name that leads to no directory takes what a file does
-file_taken : (n m : Name) (k : Kind) (old new : StoredBody) → takes k old ≡ true → (not (is_super k) && bytes_eq n m) ≡ true → stored_target old ≡ None → takes File new ≡ true → takes k new ≡ true
+file_taken : (n m : Name) (k : Kind) (old new : StoredBody) → kind_takes_body k old ≡ true → (not (is_super k) && bytes_eq n m) ≡ true → stored_target old ≡ None → kind_takes_body File new ≡ true → kind_takes_body k new ≡ true
 file_taken n m File old new was picked none fits = fits
 file_taken n m Dir (Inline bytes) new was picked none fits = cc
 file_taken n m Dir (Ctz head size) new was picked none fits = cc
 file_taken n m Dir (Leads first second) new was picked none fits = absurd (none-some (unordered (first, second)) (sym none))
 file_taken n m Super old new was picked none fits = cc
 
-pub body_whole : (n : Name) (b : StoredBody) (es : List StoredEntry) → takes File b ≡ true → leads_to n es ≡ None → AllByRecursion IsWhole es
+pub body_whole : (n : Name) (b : StoredBody) (es : List StoredEntry) → kind_takes_body File b ≡ true → leads_to n es ≡ None → AllByRecursion IsWhole es
     → AllByRecursion IsWhole (changed_first (picks (Some n)) (with_stored_body b) es)
 body_whole n b [] fits none old = old
 body_whole n b (e ∷ es) fits none old = by (picks (Some n) e) refl none (λ later. body_whole n b es fits later old.1)

@@ -2,7 +2,7 @@
 use Rattle.std.proofs.Common.{◌≡◌, ℕ, false, List, [], ◌∷◌, refl, map}
 use Rattle.std.specs.Prelude.{Some, None, replicate, sum_by}
 use Rattle.std.specs.List.{range_with_len}
-use Rattle.lfs_meta.specs.Attribute.{set_attribute}
+use Rattle.lfs_meta.specs.Attribute.{put_by}
 use Rattle.lfs_meta.specs.Name.{Name}
 use Rattle.lfs_meta.specs.Body.{Pair}
 use Rattle.lfs_meta.specs.Runs.{runs_after, onto}
@@ -87,11 +87,11 @@ abbrev fresh_root : Volume
 fresh_root = volume 256 4 (directory (0, 1) [] ∷ [])
 
 attribute_fills_the_root : verdict fresh_root (SetAttr [] 1 (replicate 172 0)) ≡ None
-unfolding set_attribute runs_after onto
+unfolding put_by runs_after onto
 attribute_fills_the_root = refl
 
 attribute_is_one_byte_too_long : verdict fresh_root (SetAttr [] 1 (replicate 173 0)) ≡ Some EntryTooLarge
-unfolding set_attribute runs_after onto
+unfolding put_by runs_after onto
 attribute_is_one_byte_too_long = refl
 
 -- ---- what is moved and removed

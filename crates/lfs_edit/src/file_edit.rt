@@ -9,7 +9,7 @@ ghost use Rattle.lfs_meta.specs.BodyHeld.{body_held};
 ghost use Rattle.lfs_meta.specs.Fits.{BodyFits};
 ghost use Rattle.lfs_meta.specs.Name.{IsName};
 ghost use Rattle.lfs_meta.specs.Spelling.{IsWhole};
-ghost use Rattle.lfs_meta.specs.Whole.{takes};
+ghost use Rattle.lfs_meta.specs.Whole.{kind_takes_body};
 ghost use Rattle.lfs_meta.specs.Writing.{stored_part};
 ghost use Rattle.lfs_edit.specs.declared.refusal.Refusal.TheVariants.{Memory};
 ghost use Rattle.lfs_edit.specs.AttributeEdit.{changed_first};
@@ -63,7 +63,7 @@ pub(crate) fn file_body(
     requires { length bytes.now < 2 ^ 32 }
     ensures body { IfOk result (λ body. body_held body ≡ file_body size blocks.now bytes.now) }
     ensures fits { IfOk result (λ body. BodyFits (body_held body)) }
-    ensures file { IfOk result (λ body. takes File (body_held body) ≡ true) }
+    ensures file { IfOk result (λ body. kind_takes_body File (body_held body) ≡ true) }
     ensures refused { IfErr result (λ refusal. refusal ≡ Memory) }
 {
     if bytes.len() <= most_inline(size) as usize {
@@ -161,7 +161,7 @@ pub(crate) fn with_file(
     requires name { IsName name.now }
     requires short { length name.now < 1023 }
     requires fits { BodyFits (body_held body) }
-    requires file { takes File (body_held body) ≡ true }
+    requires file { kind_takes_body File (body_held body) ≡ true }
     requires whole { AllByRecursion IsWhole (found_in (place_seen part)).1.entries }
     requires no_directory { IsNoDirectory name.now (place_seen part) }
     ensures pair { IfOk result (λ new. new.0 ≡ (found_in (place_seen part)).0) }

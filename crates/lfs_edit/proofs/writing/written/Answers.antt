@@ -11,12 +11,12 @@ use Rattle.lfs_edit.proofs.writing.written.Goals as goal
 pub patch_of-requires-clause-within : goal.patch_of-requires-clause-within
 patch_of-requires-clause-within c =
     let d = c.args.image.now in
-    subst (λ (m : ℕ). m < d.count) (sym (c.in-Ok.ensures.number ∙ ap (λ (x : Found). other_number d x.0) c.part.view_is)) (other_below d c.args.part.now.0 c.requires.first c.requires.second)
+    subst (λ (m : ℕ). m < d.count) (sym (c.in-Ok.ensures.new.number ∙ ap (λ (x : Found). other_number d x.0) c.part.view_is)) (other_below d c.args.part.now.0 c.requires.first c.requires.second)
 
 pub patch_of-requires-clause-apart : goal.patch_of-requires-clause-apart
 patch_of-requires-clause-apart c =
     let d = c.args.image.now in
-    subst (λ (m : ℕ). ¬ Contains c.args.blocks.now m) (sym (c.in-Ok.ensures.number ∙ ap (λ (x : Found). other_number d x.0) c.part.view_is)) (other_new d c.args.part.now.0 c.args.blocks.now c.requires.new.first c.requires.new.second)
+    subst (λ (m : ℕ). ¬ Contains c.args.blocks.now m) (sym (c.in-Ok.ensures.new.number ∙ ap (λ (x : Found). other_number d x.0) c.part.view_is)) (other_new d c.args.part.now.0 c.args.blocks.now c.requires.new.first c.requires.new.second)
 
 pub returns-clause-writes : goal.returns-clause-writes
 returns-clause-writes c =
@@ -26,12 +26,12 @@ returns-clause-writes c =
     let contents : List (List ℕ) = map (λ (c : Vec ℕ Global). c.items) c.args.contents.items in
     let n = c.in-Ok.number in
     let new = c.in-Ok.new.items in
-    let number : n ≡ other_number d part.0 = c.in-Ok.ensures.number ∙ ap (λ (x : Found). other_number d x.0) c.part.view_is in
+    let number : n ≡ other_number d part.0 = c.in-Ok.ensures.new.number ∙ ap (λ (x : Found). other_number d x.0) c.part.view_is in
     let makes : MakesPart d part blocks contents n new = record {
       makes = record {
         disk = c.size-size.ensures.disk;
         within = subst (λ (m : ℕ). m < d.count) (sym number) (other_below d part.0 c.requires.first c.requires.second);
-        len = c.in-Ok.ensures.len;
+        len = c.in-Ok.ensures.new.len;
         bytes = c.patch_of.ensures.bytes;
         rising = c.requires.new.rising;
         below = c.requires.new.below;
@@ -41,7 +41,7 @@ returns-clause-writes c =
       is = number;
       first = c.requires.new.first;
       second = c.requires.new.second;
-      back = back_is d n new _ part c.deref.result.now c.part.view_is c.deref.ensures.value c.in-Ok.ensures.reads_back;
+      back = back_is d n new _ part c.deref.result.now c.part.view_is c.deref.ensures.value c.in-Ok.ensures.new.reads_back;
     } in
     let laws : WriteLaws = record {
       put = c.put_blocks_stand.ensures.block;
