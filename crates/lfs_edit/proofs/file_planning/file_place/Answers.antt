@@ -8,12 +8,17 @@ use Rattle.lfs_fs.specs.Reading.{reading_of}
 use Rattle.lfs_edit.specs.AttributeEdit.{last_name}
 use Rattle.lfs_edit.specs.FileEdit.{file_refusal}
 use Rattle.lfs_edit.specs.FilePart.{place_seen}
-use Rattle.lfs_edit.proofs.FilePlanLemmas.{refused_file, refused_place, same_file_located}
+use Rattle.lfs_edit.proofs.FilePlanLemmas.{refused_file, refused_place, refused_text, same_file_located}
 use Rattle.lfs_edit.proofs.ThreadWithin.{mounted_within}
 use Rattle.lfs_edit.proofs.file_planning.file_place.Goals as goal
 
 pub locate_file-requires : goal.locate_file-requires
 locate_file-requires c = record { within = rw c.thread.ensures (mounted_within c.args.image.now c.args.mounted.now c.requires.mounted).1 }
+
+pub returns-in_err-names-clause-refused : goal.returns-in_err-names-clause-refused
+returns-in_err-names-clause-refused c =
+    let p = err_from_is_err_and c.from_residual.result c.from_residual.ensures.1 in
+    rw (p.1, p.2) (refused_text c.args.image.now c.args.path.now c.args.bytes.now c.in_err-names.field-0.0 c.in_err-names.ensures.refused)
 
 pub returns-in_err-place-clause-refused : goal.returns-in_err-place-clause-refused
 returns-in_err-place-clause-refused c =
