@@ -1,4 +1,3 @@
 pub mod ChangeLemmas
 pub mod OutcomeLemmas
-pub mod SendLemmas
 pub mod LawLemmas

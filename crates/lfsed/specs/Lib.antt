@@ -3,7 +3,6 @@ pub mod Change
 pub mod Fault
 pub mod Query
 pub mod Outcome
-pub mod Send
 pub mod Summary
 pub mod Task
 pub mod Laws

@@ -14,7 +14,7 @@ use Rattle.lfsed.specs.declared.outcome.Outcome.{Outcome}
 use Rattle.lfsed.specs.declared.query.Query.{Query}
 use Rattle.lfsed.specs.declared.query.Query.TheVariants.{Check, Cat}
 use Rattle.lfsed.specs.Bytes.{image_of}
-use Rattle.lfsed.specs.Send.{SendsBeginning}
+use Rattle.lfs_sink.specs.Send.{SendsBeginning}
 use Rattle.lfsed.specs.Summary.{summary}
 
 -- the text that answers a query of an image that mounts

@@ -9,11 +9,11 @@ use crate::fault::Fault;
 use crate::host::{Host, ReadFault};
 use crate::output::Output;
 use crate::run::run;
-use crate::send::send;
 use crate::step::Step;
 use clap::Error;
 use clap::error::ErrorKind;
 use lfs_edit::Refusal;
+use lfs_sink::send;
 use std::alloc::Global;
 use std::convert::AsStr;
 

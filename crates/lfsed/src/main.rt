@@ -13,13 +13,10 @@ mod output;
 mod query;
 mod querying;
 mod run;
-mod send;
-mod sink;
 mod step;
 mod summary;
 mod task;
 mod terminal;
-mod writer_sink;
 
 use crate::cli::{USAGE, cli as run_words, tell};
 use crate::fault::Fault;

@@ -3,7 +3,7 @@
 ghost use Rattle.std.specs.Prelude.{◌≡◌, false};
 
 use crate::host::{Host, HostFault};
-use crate::sink::Sink;
+use lfs_sink::Sink;
 
 /// A host's standard output as a sink. Which bytes went out is not known.
 ///

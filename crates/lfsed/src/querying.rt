@@ -9,12 +9,11 @@ ghost use Rattle.lfsed.specs.Query.{AnswersQuery, IsAnswer, RefusesReport, Sends
 use crate::fault::Fault;
 use crate::outcome::Outcome;
 use crate::query::Query;
-use crate::send::send;
-use crate::sink::Sink;
 use crate::summary::summary;
 use lfs_block::Image;
 use lfs_edit::file_contents;
 use lfs_fs::mount;
+use lfs_sink::{Sink, send};
 use std::alloc::Global;
 
 /// Answers a query of bytes that are an image, with blocks of `size` bytes; image and journal are answered as they were

@@ -12,10 +12,10 @@ use crate::laws::{changed_bytes_are_equations, changed_bytes_are_taken_back};
 use crate::outcome::Outcome;
 use crate::query::Query;
 use crate::querying::queried;
-use crate::sink::Sink;
 use crate::step::Step;
 use lfs_block::{ImageFault, geometry_ok};
 use lfs_edit::{Command, format};
+use lfs_sink::Sink;
 use std::alloc::Global;
 
 /// Takes one step on an image and its journal, with blocks of `size` bytes. `input` is what the step reads: the contents of a file that is put. What it

@@ -1,8 +1,7 @@
 //! The system as a host.
 
 use crate::host::{Host, HostFault, ReadFault};
-use crate::sink::Sink;
-use crate::writer_sink::Out;
+use lfs_sink::{Out, Sink};
 use std::alloc::Global;
 use std::fmt::Display;
 use std::io::{ErrorKind, Printer, Read};

@@ -1,4 +1,4 @@
-//! Runs of the program on a host in memory, and writers that misbehave.
+//! Runs of the program on a host in memory.
 
 mod changes;
 mod commands;
@@ -10,4 +10,3 @@ mod images;
 mod memory_host;
 mod usage;
 mod verdicts;
-mod writer_sink;

@@ -1,7 +1,7 @@
 use Rattle.std.proofs.Common.{rules, ◌≡◌, ◌+◌, ◌-◌, length, drop, ap, ◌∙◌, arith, length-drop}
 use Rattle.std.proofs.lemmas.List.{drop-drop}
-use Rattle.lfsed.proofs.SendLemmas.{sends_more}
-use Rattle.lfsed.proofs.send.send.Goals as goal
+use Rattle.lfs_sink.proofs.SendLemmas.{sends_more}
+use Rattle.lfs_sink.proofs.sending.send.Goals as goal
 
 pub rest-preserved : goal.rest-preserved
 rest-preserved g c =

@@ -1,6 +1,6 @@
 //! Writers that misbehave.
 
-use crate::send::send;
+use crate::sending::send;
 use crate::writer_sink::Out;
 use std::io;
 use std::io::{ErrorKind, Write};

@@ -1,6 +1,6 @@
 use Rattle.std.proofs.Common.{◌≡◌, false, ℕ, ◌≤◌, length, take, drop}
 use Rattle.std.specs.Io.KnownBytes.{Appends}
-use Rattle.lfsed.proofs.send.send.Given as goal
+use Rattle.lfs_sink.proofs.sending.send.Given as goal
 
 abbrev pub invariant-rest : goal.invariant-rest
 invariant-rest g l =

@@ -1,7 +1,7 @@
 //! Sending a whole text.
 
 ghost use Rattle.std.specs.Prelude.{◌≡◌, false, not};
-ghost use Rattle.lfsed.specs.Send.{Sends};
+ghost use Rattle.lfs_sink.specs.Send.{Sends};
 
 use crate::sink::Sink;
 
