@@ -21,147 +21,144 @@ pub struct Request<'a> {
     pub image: &'a str,
 }
 
-/// The option that gives the block size.
-fn block_option<'a>(alloc: Global) -> Arg<'a> {
-    Arg::new(alloc, "block")
-        .long("block")
-        .value_name("BYTES")
-        .value_parser(value_parser!(u32).range(256..=65_536))
-        .default_value("4096")
-        .help("Size of a block, a multiple of 16 from 256 to 65536")
+/// What a command takes on its command line.
+#[derive(Clone, Copy)]
+enum Argument {
+    /// The block size.
+    Block,
+    /// The number of blocks.
+    Count,
+    /// The image's file name.
+    Image,
+    /// A path within the image.
+    Path,
+    /// An attribute's kind.
+    Kind,
+    /// An attribute's value.
+    Value,
 }
 
-/// The option that gives the number of blocks.
-fn count_option<'a>(alloc: Global) -> Arg<'a> {
-    Arg::new(alloc, "count")
-        .long("count")
-        .value_name("N")
-        .value_parser(value_parser!(u32).range(2..=65_536))
-        .required(true)
-        .help("Number of blocks, from 2 to 65536; at most 67108864 bytes in all")
+/// A command of the program.
+struct CommandRow {
+    name: &'static str,
+    about: &'static str,
+    arguments: &'static [Argument],
 }
 
-/// The image's file name.
-fn image_argument<'a>(alloc: Global) -> Arg<'a> {
-    Arg::new(alloc, "image")
-        .value_name("IMAGE")
-        .required(true)
-        .help("File of the image")
-}
+/// The program's commands, in the order of its help. Each takes the block size and the image's file name.
+const COMMANDS: [CommandRow; 6] = [
+    CommandRow {
+        name: "format",
+        about: "Write a new image, in place of a file of this name",
+        arguments: &[Argument::Block, Argument::Image, Argument::Count],
+    },
+    CommandRow {
+        name: "check",
+        about: "Judge an image; print its geometry, free blocks, directories and files",
+        arguments: &[Argument::Block, Argument::Image],
+    },
+    CommandRow {
+        name: "cat",
+        about: "Print the contents of a file",
+        arguments: &[Argument::Block, Argument::Image, Argument::Path],
+    },
+    CommandRow {
+        name: "put",
+        about: "Put a file, in place of one of this path; its contents are read from standard input",
+        arguments: &[Argument::Block, Argument::Image, Argument::Path],
+    },
+    CommandRow {
+        name: "setattr",
+        about: "Set an attribute of a file or a directory",
+        arguments: &[
+            Argument::Block,
+            Argument::Image,
+            Argument::Path,
+            Argument::Kind,
+            Argument::Value,
+        ],
+    },
+    CommandRow {
+        name: "rmattr",
+        about: "Remove an attribute of a file or a directory",
+        arguments: &[
+            Argument::Block,
+            Argument::Image,
+            Argument::Path,
+            Argument::Kind,
+        ],
+    },
+];
 
-/// A path within the image.
-fn path_argument<'a>(alloc: Global) -> Arg<'a> {
-    Arg::new(alloc, "path")
-        .value_name("PATH")
-        .required(true)
-        .allow_hyphen_values(true)
-        .help("Path of a file or a directory in the image, from / on")
-}
-
-/// An attribute's kind.
-fn kind_argument<'a>(alloc: Global) -> Arg<'a> {
-    Arg::new(alloc, "kind")
-        .value_name("KIND")
-        .required(true)
-        .allow_hyphen_values(true)
-        .help("Kind of the attribute, in two hexadecimal digits")
-}
-
-/// An attribute's value.
-fn value_argument<'a>(alloc: Global) -> Arg<'a> {
-    Arg::new(alloc, "hex")
-        .value_name("HEX")
-        .required(true)
-        .allow_hyphen_values(true)
-        .help("Value of the attribute, in two hexadecimal digits for each byte; may be empty")
-}
-
-/// A command on an image, with the size of its blocks.
-fn image_command<'a>(alloc: Global, name: &'a str) -> Result<Command<'a>, AllocError> {
-    Command::new(alloc, name)
-        .arg(block_option(alloc))?
-        .arg(image_argument(alloc))
-}
-
-/// A command on an attribute.
-fn attribute_command<'a>(alloc: Global, name: &'a str) -> Result<Command<'a>, AllocError> {
-    image_command(alloc, name)?
-        .arg(path_argument(alloc))?
-        .arg(kind_argument(alloc))
-}
-
-/// The command `format`.
-fn format_command<'a>(alloc: Global) -> Result<Command<'a>, AllocError> {
-    image_command(alloc, "format")?
-        .about("Write a new image, in place of a file of this name")
-        .arg(count_option(alloc))
-}
-
-/// The command `check`.
-fn check_command<'a>(alloc: Global) -> Result<Command<'a>, AllocError> {
-    let command = image_command(alloc, "check")?;
-    Ok(command.about("Judge an image; print its geometry, free blocks, directories and files"))
-}
-
-/// The command `cat`.
-fn cat_command<'a>(alloc: Global) -> Result<Command<'a>, AllocError> {
-    image_command(alloc, "cat")?
-        .about("Print the contents of a file")
-        .arg(path_argument(alloc))
-}
-
-/// The command `put`.
-fn put_command<'a>(alloc: Global) -> Result<Command<'a>, AllocError> {
-    image_command(alloc, "put")?
-        .about(
-            "Put a file, in place of one of this path; its contents are read from standard input",
+/// An argument as clap takes it. A word may begin with a hyphen where it stands for a path, a kind or a value.
+fn clap_argument<'a>(alloc: Global, argument: Argument) -> Arg<'a> {
+    match argument {
+        Argument::Block => Arg::new(alloc, "block")
+            .long("block")
+            .value_name("BYTES")
+            .value_parser(value_parser!(u32).range(256..=65_536))
+            .default_value("4096")
+            .help("Size of a block, a multiple of 16 from 256 to 65536"),
+        Argument::Count => Arg::new(alloc, "count")
+            .long("count")
+            .value_name("N")
+            .value_parser(value_parser!(u32).range(2..=65_536))
+            .required(true)
+            .help("Number of blocks, from 2 to 65536; at most 67108864 bytes in all"),
+        Argument::Image => word(alloc, "image", "IMAGE", "File of the image"),
+        Argument::Path => word(
+            alloc,
+            "path",
+            "PATH",
+            "Path of a file or a directory in the image, from / on",
         )
-        .arg(path_argument(alloc))
+        .allow_hyphen_values(true),
+        Argument::Kind => word(
+            alloc,
+            "kind",
+            "KIND",
+            "Kind of the attribute, in two hexadecimal digits",
+        )
+        .allow_hyphen_values(true),
+        Argument::Value => word(
+            alloc,
+            "hex",
+            "HEX",
+            "Value of the attribute, in two hexadecimal digits for each byte; may be empty",
+        )
+        .allow_hyphen_values(true),
+    }
 }
 
-/// The command `setattr`.
-fn setattr_command<'a>(alloc: Global) -> Result<Command<'a>, AllocError> {
-    attribute_command(alloc, "setattr")?
-        .about("Set an attribute of a file or a directory")
-        .arg(value_argument(alloc))
+/// A word that must be there.
+fn word<'a>(alloc: Global, id: &'a str, name: &'a str, help: &'a str) -> Arg<'a> {
+    Arg::new(alloc, id)
+        .value_name(name)
+        .required(true)
+        .help(help)
 }
 
-/// The command `rmattr`.
-fn rmattr_command<'a>(alloc: Global) -> Result<Command<'a>, AllocError> {
-    let command = attribute_command(alloc, "rmattr")?;
-    Ok(command.about("Remove an attribute of a file or a directory"))
-}
-
-/// The commands on whole images.
-fn with_images<'a>(alloc: Global, program: Command<'a>) -> Result<Command<'a>, AllocError> {
-    program
-        .subcommand(format_command(alloc)?)?
-        .subcommand(check_command(alloc)?)
-}
-
-/// The commands on files, behind others.
-fn with_files<'a>(alloc: Global, program: Command<'a>) -> Result<Command<'a>, AllocError> {
-    program
-        .subcommand(cat_command(alloc)?)?
-        .subcommand(put_command(alloc)?)
-}
-
-/// The commands on attributes, behind others.
-fn with_attributes<'a>(alloc: Global, program: Command<'a>) -> Result<Command<'a>, AllocError> {
-    program
-        .subcommand(setattr_command(alloc)?)?
-        .subcommand(rmattr_command(alloc)?)
+/// A command as clap takes it.
+fn clap_command<'a>(alloc: Global, row: &CommandRow) -> Result<Command<'a>, AllocError> {
+    let mut command = Command::new(alloc, row.name).about(row.about);
+    for argument in row.arguments {
+        command = command.arg(clap_argument(alloc, *argument))?;
+    }
+    Ok(command)
 }
 
 /// The program's command line.
 pub fn command_line<'a>(alloc: Global) -> Result<Command<'a>, AllocError> {
-    let program = Command::new(alloc, "lfsed")
+    let mut program = Command::new(alloc, "lfsed")
         .bin_name("lfsed")?
         .about("Edit littlefs images of disk version 2.0")
         .after_help(STATUSES)
         .subcommand_required(true)
         .disable_help_subcommand(true);
-    with_attributes(alloc, with_files(alloc, with_images(alloc, program)?)?)
+    for row in &COMMANDS {
+        program = program.subcommand(clap_command(alloc, row)?)?;
+    }
+    Ok(program)
 }
 
 /// What the words that were matched ask for. `None` where they ask for nothing.
