@@ -6,7 +6,7 @@ use Rattle.lfs_edit.specs.Command.{Asked}
 use Rattle.lfs_journal.specs.History.{History, fresh_history}
 use Rattle.lfs_journal.specs.Steps.{Takes, Do}
 use Rattle.lfsed.specs.declared.fault.Fault.{Fault}
-use Rattle.lfsed.specs.declared.fault.Fault.TheVariants.{Image, Mount, Refused, Step, JournalFormat, CannotRead, CannotWrite, BadHex}
+use Rattle.lfsed.specs.declared.fault.Fault.TheVariants.{Image}
 use Rattle.lfsed.specs.declared.outcome.Outcome.{Outcome}
 use Rattle.lfsed.specs.Change.{IsChanged, RefusesImage, AnswersImage, RefusesChange, AnswersChange}
 use Rattle.lfsed.proofs.OutcomeLemmas.{image_of_disk}
@@ -36,21 +36,9 @@ image_answers asked d journal reported old new o kept fresh fault is =
 
 change_refused : (asked : Asked) (d : Disk) (journal : List ℕ) (fault : Fault) → IsDisk d → RefusesImage asked d journal fault → RefusesChange asked d.size d.bytes journal fault
 change_refused asked d journal (Image fault) is refuses = absurd refuses
-change_refused asked d journal (Mount fault) is refuses =
+change_refused asked d journal fault is refuses =
     let same = sym (image_of_disk d is) in
-    (subst IsDisk same is, subst (λ (e : Disk). RefusesImage asked e journal (Mount fault)) same refuses)
-change_refused asked d journal (Refused refusal) is refuses =
-    let same = sym (image_of_disk d is) in
-    (subst IsDisk same is, subst (λ (e : Disk). RefusesImage asked e journal (Refused refusal)) same refuses)
-change_refused asked d journal (Step fault) is refuses =
-    let same = sym (image_of_disk d is) in
-    (subst IsDisk same is, subst (λ (e : Disk). RefusesImage asked e journal (Step fault)) same refuses)
-change_refused asked d journal JournalFormat is refuses =
-    let same = sym (image_of_disk d is) in
-    (subst IsDisk same is, subst (λ (e : Disk). RefusesImage asked e journal JournalFormat) same refuses)
-change_refused asked d journal CannotRead is refuses = absurd refuses
-change_refused asked d journal CannotWrite is refuses = absurd refuses
-change_refused asked d journal BadHex is refuses = absurd refuses
+    (subst IsDisk same is, subst (λ (e : Disk). RefusesImage asked e journal fault) same refuses)
 
 change_at : (fault : Option Fault) (asked : Asked) (d : Disk) (journal : List ℕ) (o : Outcome) → IsDisk d → AnswersImage fault asked d journal o
     → AnswersChange fault asked d.size d.bytes journal o

@@ -4,7 +4,7 @@ use Rattle.std.specs.Result.{result_err}
 use Rattle.std.proofs.lemmas.Nat.{div-mul-add}
 use Rattle.lfs_block.specs.Disk.{Disk, IsDisk}
 use Rattle.lfsed.specs.declared.fault.Fault.{Fault}
-use Rattle.lfsed.specs.declared.fault.Fault.TheVariants.{Image, Mount, Refused, Step, JournalFormat, CannotRead, CannotWrite, BadHex}
+use Rattle.lfsed.specs.declared.fault.Fault.TheVariants.{Image}
 use Rattle.lfsed.specs.declared.outcome.Outcome.{Outcome}
 use Rattle.lfsed.specs.declared.query.Query.{Query}
 use Rattle.lfsed.specs.Query.{RefusesReport, RefusesQuery, AnswersQuery, SendsReport, SendsQuery}
@@ -19,19 +19,9 @@ image_of_disk d is =
 
 refused_bytes : (q : Query) (d : Disk) (fault : Fault) → IsDisk d → RefusesReport q d fault → RefusesQuery q d.size d.bytes fault
 refused_bytes q d (Image fault) is refuses = absurd refuses
-refused_bytes q d (Mount fault) is refuses =
+refused_bytes q d fault is refuses =
     let same = sym (image_of_disk d is) in
-    (subst IsDisk same is, subst (λ (e : Disk). RefusesReport q e (Mount fault)) same refuses)
-refused_bytes q d (Refused refusal) is refuses =
-    let same = sym (image_of_disk d is) in
-    (subst IsDisk same is, subst (λ (e : Disk). RefusesReport q e (Refused refusal)) same refuses)
-refused_bytes q d (Step fault) is refuses = absurd refuses
-refused_bytes q d JournalFormat is refuses = absurd refuses
-refused_bytes q d CannotRead is refuses = absurd refuses
-refused_bytes q d BadHex is refuses = absurd refuses
-refused_bytes q d CannotWrite is refuses =
-    let same = sym (image_of_disk d is) in
-    (subst IsDisk same is, subst (λ (e : Disk). RefusesReport q e CannotWrite) same refuses)
+    (subst IsDisk same is, subst (λ (e : Disk). RefusesReport q e fault) same refuses)
 
 answers_at : {T : Type 0} (q : Query) (d : Disk) (journal : List ℕ) (reported : Result T Fault) (o : Outcome) → IsDisk d → IfErr reported (λ fault. RefusesReport q d fault)
     → o.image.items ≡ d.bytes → o.journal.items ≡ journal → AnswersQuery (result_err reported) q d.size d.bytes journal o

@@ -6,11 +6,11 @@ use Rattle.lfs_fs.specs.Cause.{HasCause}
 use Rattle.lfs_edit.specs.declared.refusal.Refusal.TheVariants.{Memory}
 use Rattle.lfs_edit.specs.Command.{Asked}
 use Rattle.lfs_journal.specs.declared.step_fault.StepFault.{StepFault}
-use Rattle.lfs_journal.specs.declared.step_fault.StepFault.TheVariants.{Refused as Refused_step, NothingToUndo, NothingToRedo, JournalFull}
+use Rattle.lfs_journal.specs.declared.step_fault.StepFault.TheVariants.{Refused as Refused_step}
 use Rattle.lfs_journal.specs.History.{History, IsMounted, fresh_history}
 use Rattle.lfs_journal.specs.Steps.{Takes, Do}
 use Rattle.lfsed.specs.declared.fault.Fault.{Fault}
-use Rattle.lfsed.specs.declared.fault.Fault.TheVariants.{Image, Mount, Refused, Step, JournalFormat, CannotRead, CannotWrite, BadHex}
+use Rattle.lfsed.specs.declared.fault.Fault.TheVariants.{Image, Mount, Refused, Step, JournalFormat}
 use Rattle.lfsed.specs.declared.outcome.Outcome.{Outcome}
 use Rattle.lfsed.specs.Bytes.{image_of}
 
@@ -30,22 +30,18 @@ RefusesStep asked disk journal fault = IsMounted disk × (journal ≡ []) × Tak
 -- why an image isn't changed: a cause that it has, then a journal that isn't empty, then what the command is refused for;
 -- or want of memory
 abbrev pub RefusesImage : Asked → Disk → List ℕ → Fault → Type 0
-RefusesImage asked disk journal (Image fault) = ⊥
 RefusesImage asked disk journal (Mount fault) = HasCause disk fault
 RefusesImage asked disk journal (Refused refusal) = (refusal ≡ Memory) ⊎ RefusesStep asked disk journal (Refused_step refusal)
 RefusesImage asked disk journal (Step (Refused_step refusal)) = ⊥
-RefusesImage asked disk journal (Step NothingToUndo) = RefusesStep asked disk journal NothingToUndo
-RefusesImage asked disk journal (Step NothingToRedo) = RefusesStep asked disk journal NothingToRedo
-RefusesImage asked disk journal (Step JournalFull) = RefusesStep asked disk journal JournalFull
+RefusesImage asked disk journal (Step fault) = RefusesStep asked disk journal fault
 RefusesImage asked disk journal JournalFormat = IsMounted disk × (journal ≢ [])
-RefusesImage asked disk journal CannotRead = ⊥
-RefusesImage asked disk journal CannotWrite = ⊥
-RefusesImage asked disk journal BadHex = ⊥
+RefusesImage asked disk journal _ = ⊥
 
 -- what a command on an image answers; with a fault, image and journal are those that were handed in
 abbrev pub AnswersImage : Option Fault → Asked → Disk → List ℕ → Outcome → Type 0
 AnswersImage None asked disk journal outcome = IsChanged asked disk journal outcome
-AnswersImage (Some fault) asked disk journal outcome = (outcome.image.items ≡ disk.bytes) × (outcome.journal.items ≡ journal) × RefusesImage asked disk journal fault
+AnswersImage (Some fault) asked disk journal outcome =
+    (outcome.image.items ≡ disk.bytes) × (outcome.journal.items ≡ journal) × RefusesImage asked disk journal fault
 
 -- a command is carried out on bytes that are an image
 abbrev pub ChangesBytes : Asked → ℕ → List ℕ → List ℕ → Outcome → Type 0
@@ -59,4 +55,5 @@ RefusesChange asked size image journal fault = IsDisk (image_of size image) × R
 -- what a command on bytes answers; with a fault, image and journal are those that were handed in
 abbrev pub AnswersChange : Option Fault → Asked → ℕ → List ℕ → List ℕ → Outcome → Type 0
 AnswersChange None asked size image journal outcome = ChangesBytes asked size image journal outcome
-AnswersChange (Some fault) asked size image journal outcome = (outcome.image.items ≡ image) × (outcome.journal.items ≡ journal) × RefusesChange asked size image journal fault
+AnswersChange (Some fault) asked size image journal outcome =
+    (outcome.image.items ≡ image) × (outcome.journal.items ≡ journal) × RefusesChange asked size image journal fault

@@ -9,7 +9,7 @@ use Rattle.lfs_edit.specs.declared.refusal.Refusal.{Refusal}
 use Rattle.lfs_edit.specs.Faults.{refusal_number}
 use Rattle.lfs_edit.specs.Contents.{IsContents, RefusesContents}
 use Rattle.lfsed.specs.declared.fault.Fault.{Fault}
-use Rattle.lfsed.specs.declared.fault.Fault.TheVariants.{Image, Mount, Refused, Step as Step_refused, JournalFormat, CannotRead, CannotWrite, BadHex}
+use Rattle.lfsed.specs.declared.fault.Fault.TheVariants.{Image, Mount, Refused, CannotWrite}
 use Rattle.lfsed.specs.declared.outcome.Outcome.{Outcome}
 use Rattle.lfsed.specs.declared.query.Query.{Query}
 use Rattle.lfsed.specs.declared.query.Query.TheVariants.{Check, Cat}
@@ -29,14 +29,10 @@ RefusesAnswer (Cat path) disk refusal = RefusesContents disk path.now refusal
 
 -- why nothing, or not all, is said of an image: a cause that it has, no answer, or standard output
 abbrev pub RefusesReport : Query → Disk → Fault → Type 0
-RefusesReport query disk (Image fault) = ⊥
 RefusesReport query disk (Mount fault) = HasCause disk fault
 RefusesReport query disk (Refused refusal) = RefusesAnswer query disk refusal
-RefusesReport query disk (Step_refused fault) = ⊥
-RefusesReport query disk JournalFormat = ⊥
-RefusesReport query disk CannotRead = ⊥
 RefusesReport query disk CannotWrite = (text : List ℕ) × IsAnswer query disk text
-RefusesReport query disk BadHex = ⊥
+RefusesReport query disk _ = ⊥
 
 -- why nothing, or not all, is said of bytes: they are no image, or else as for an image
 abbrev pub RefusesQuery : Query → ℕ → List ℕ → Fault → Type 0
@@ -46,7 +42,8 @@ RefusesQuery query size bytes fault = IsDisk (image_of size bytes) × RefusesRep
 -- what a query answers: image and journal are those that were handed in
 abbrev pub AnswersQuery : Option Fault → Query → ℕ → List ℕ → List ℕ → Outcome → Type 0
 AnswersQuery None query size image journal outcome = (outcome.image.items ≡ image) × (outcome.journal.items ≡ journal)
-AnswersQuery (Some fault) query size image journal outcome = (outcome.image.items ≡ image) × (outcome.journal.items ≡ journal) × RefusesQuery query size image fault
+AnswersQuery (Some fault) query size image journal outcome =
+    (outcome.image.items ≡ image) × (outcome.journal.items ≡ journal) × RefusesQuery query size image fault
 
 -- what goes out on an image: the whole text, a beginning of it where standard output failed, else nothing
 abbrev pub SendsReport : Query → Disk → Option Fault → Option (List ℕ) → Option (List ℕ) → Type 0

@@ -16,21 +16,14 @@ SpellsBytes text bytes = decode_of text ≡ Ok bytes
 
 -- the digits of the task's value; the empty text where it has none
 abbrev pub digits_of : Task → List ℕ
-digits_of (task.Format count) = []
-digits_of task.Check = []
-digits_of (task.Cat path) = []
-digits_of (task.Put path) = []
 digits_of (task.SetAttr path kind digits) = digits.now
-digits_of (task.RmAttr path kind) = []
+digits_of _ = []
 
 -- the kind that the task names isn't two hexadecimal digits
 abbrev pub SpellsNoKind : Task → Type 0
-SpellsNoKind (task.Format count) = ⊥
-SpellsNoKind task.Check = ⊥
-SpellsNoKind (task.Cat path) = ⊥
-SpellsNoKind (task.Put path) = ⊥
 SpellsNoKind (task.SetAttr path kind digits) = IsErr (decode_sized kind.now 1)
 SpellsNoKind (task.RmAttr path kind) = IsErr (decode_sized kind.now 1)
+SpellsNoKind _ = ⊥
 
 -- the step is what the task asks for
 abbrev pub AsksFor : Task → Step → Type 0
@@ -38,6 +31,7 @@ AsksFor (task.Format n) (Format count) = count ≡ n
 AsksFor task.Check Check = Unit {0}
 AsksFor (task.Cat text) (Cat path) = path.now ≡ text.now
 AsksFor (task.Put text) (Put path) = path.now ≡ text.now
-AsksFor (task.SetAttr text digits value_digits) (SetAttr path kind value) = (path.now ≡ text.now) × SpellsByte digits.now kind × SpellsBytes value_digits.now value.now
+AsksFor (task.SetAttr text digits value_digits) (SetAttr path kind value) =
+    (path.now ≡ text.now) × SpellsByte digits.now kind × SpellsBytes value_digits.now value.now
 AsksFor (task.RmAttr text digits) (RmAttr path kind) = (path.now ≡ text.now) × SpellsByte digits.now kind
 AsksFor _ _ = ⊥

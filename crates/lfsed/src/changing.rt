@@ -15,8 +15,8 @@ use lfs_edit::Command;
 use lfs_journal::Session;
 use std::alloc::Global;
 
-/// Carries a command out on bytes that are an image, with blocks of `size` bytes, and on its journal, which is empty before
-/// and after. With a fault the image and the journal are those that were handed in. Takes memory.
+/// Carries a command out on bytes that are an image, with blocks of `size` bytes, and on its journal, which is empty
+/// before and after. With a fault the image and the journal are those that were handed in. Takes memory.
 ///
 /// Source: own.
 pub fn changed(

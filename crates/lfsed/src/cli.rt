@@ -71,8 +71,8 @@ fn refused<H: Host>(alloc: Global, host: &mut H, error: Error) -> Result<u8, Fau
     Ok(0)
 }
 
-/// Takes the step that is asked for, and writes the image that it makes. Digits are read before files, and those before
-/// standard input.
+/// Takes the step that is asked for, and writes the image that it makes. Digits are read before files, and those
+/// before standard input.
 fn done<H: Host>(alloc: Global, host: &mut H, request: &Request<'_>) -> Result<(), Fault> {
     let value = bytes_of(alloc, request.task.digits())?;
     let step = request.task.step(value.as_slice())?;

@@ -23,8 +23,8 @@ pub fn byte_of(text: &str) -> Result<u8, Fault>
     }
 }
 
-/// The bytes that hexadecimal digits in either case are, two of each; none for the empty text. `BadHex` for every other
-/// text, or want of memory.
+/// The bytes that hexadecimal digits in either case are, two of each; none for the empty text. `BadHex` for every
+/// other text, or want of memory.
 ///
 /// Source: own.
 pub fn bytes_of(alloc: Global, text: &str) -> Result<Vec<u8>, Fault>

@@ -58,8 +58,8 @@ impl Fault {
         }
     }
 
-    /// The status that the program ends with: 1 where a command was refused, 2 for the command line, 3 where an image or
-    /// a journal was refused, 4 for want of memory and for what the host refused.
+    /// The status that the program ends with: 1 where a command was refused, 2 for the command line, 3 where an image
+    /// or a journal was refused, 4 for want of memory and for what the host refused.
     pub fn status(self) -> u8
         ensures { result ≡ status_of_number (fault_number self) }
     {
@@ -69,17 +69,6 @@ impl Fault {
             1..=21 | 50..=52 => 3,
             _ => 4,
         }
-    }
-}
-
-impl From<ImageFault> for Fault {
-    ghost use Rattle.std.specs.Prelude.{◌≡◌};
-    ghost use Rattle.lfsed.specs.declared.fault.Fault.TheVariants.{Image};
-
-    ghost from_gives = { λ image_fault fault. fault ≡ Image image_fault };
-
-    fn from(fault: ImageFault) -> Fault {
-        Fault::Image(fault)
     }
 }
 

@@ -38,7 +38,8 @@ pub trait Host {
     /// Gives a file another name; a file of that name is replaced.
     fn rename(&mut self, from: &str, to: &str) -> Result<(), HostFault>;
 
-    /// Writes the first of these bytes to standard output, at least one, and answers how many, or fails and writes none.
+    /// Writes the first of these bytes to standard output, at least one, and answers how many, or fails and writes
+    /// none.
     fn print(&mut self, bytes: &[u8]) -> Option<usize>
         requires { 0 < length bytes.now }
         ensures { IfSome result (λ n. (0 < n) × (n ≤ length bytes.now)) };

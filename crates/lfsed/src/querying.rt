@@ -16,8 +16,8 @@ use lfs_fs::mount;
 use lfs_sink::{Sink, send};
 use std::alloc::Global;
 
-/// Answers a query of bytes that are an image, with blocks of `size` bytes; image and journal are answered as they were
-/// handed in. The caller owes that `out` has not failed. Takes memory.
+/// Answers a query of bytes that are an image, with blocks of `size` bytes; image and journal are answered as they
+/// were handed in. The caller owes that `out` has not failed. Takes memory.
 ///
 /// Source: own.
 pub fn queried<S: Sink>(

@@ -3,7 +3,7 @@
 ghost use Rattle.std.specs.Prelude.{◌≡◌, [], false, IfOk, IfErr};
 ghost use Rattle.lfs_edit.specs.Formatted.{IsFormatted};
 ghost use Rattle.lfsed.specs.Fault.{status_of};
-ghost use Rattle.lfsed.specs.Outcome.{Answers, RefusesFormat, SendsText, blames_output};
+ghost use Rattle.lfsed.specs.Outcome.{Answers, RefusesFormat, SendsText, blames_output, given};
 ghost use Rattle.lfsed.specs.declared.step.Step.TheVariants.{Format};
 
 use crate::changing::changed;
@@ -18,10 +18,11 @@ use lfs_edit::{Command, format};
 use lfs_sink::Sink;
 use std::alloc::Global;
 
-/// Takes one step on an image and its journal, with blocks of `size` bytes. `input` is what the step reads: the contents of a file that is put. What it
-/// says goes to `out`, and the caller owes that this has not failed. With a fault the image and the journal are those
-/// that were handed in, and nothing goes out but where `out` itself failed. No journal is read so far: a step that changes
-/// the image answers an empty one, and is refused with `JournalFormat` where the journal isn't empty. Takes memory.
+/// Takes one step on an image and its journal, with blocks of `size` bytes. `input` is what the step reads: the
+/// contents of a file that is put. What it says goes to `out`, and the caller owes that this has not failed. With a
+/// fault the image and the journal are those that were handed in, and nothing goes out but where `out` itself failed.
+/// No journal is read so far: a step that changes the image answers an empty one, and is refused with `JournalFormat`
+/// where the journal isn't empty. Takes memory.
 ///
 /// Source: own.
 pub fn run<S: Sink>(
@@ -34,8 +35,8 @@ pub fn run<S: Sink>(
     out: &mut S,
 ) -> Outcome
     requires { S.failed out.old ≡ false }
-    ensures answers { Answers step.now size image.items journal.items input.now result }
-    ensures sent { SendsText step.now size image.items result.fault (S.sent out.old) (S.sent out.new) }
+    ensures answers { Answers step.now (given size image.items journal.items input.now) result }
+    ensures sent { SendsText step.now (given size image.items journal.items input.now) result.fault (S.sent out.old) (S.sent out.new) }
     ensures failed { S.failed out.new ≡ blames_output result.fault }
     ensures status { result.status ≡ status_of result.fault }
 {
@@ -62,7 +63,7 @@ pub fn run<S: Sink>(
 
 /// A new image with no journal.
 fn formatted(alloc: Global, size: u32, count: u32, image: Vec<u8>, journal: Vec<u8>) -> Outcome
-    ensures answers { Answers (Format count) size image.items journal.items [] result }
+    ensures answers { Answers (Format count) (given size image.items journal.items []) result }
     ensures failed { blames_output result.fault ≡ false }
     ensures status { result.status ≡ status_of result.fault }
 {

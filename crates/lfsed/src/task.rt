@@ -59,8 +59,8 @@ impl<'a> Task<'a> {
         }
     }
 
-    /// The step that is asked for, whose value the caller has read from its digits. `BadHex` where a kind isn't two digits.
-    /// Takes no memory.
+    /// The step that is asked for, whose value the caller has read from its digits. `BadHex` where a kind isn't two
+    /// digits. Takes no memory.
     pub fn step<'b>(&'b self, value: &'b [u8]) -> Result<Step<'b>, Fault>
         requires { SpellsBytes (digits_of self.now) value.now }
         ensures asked { IfOk result (λ step. AsksFor self.now step) }
