@@ -8,5 +8,6 @@ mod files;
 mod host_faults;
 mod images;
 mod memory_host;
+mod playing;
 mod usage;
 mod verdicts;

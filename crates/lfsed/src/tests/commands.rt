@@ -1,7 +1,9 @@
 //! Commands on attributes, carried out and refused.
 
-use crate::tests::images::{NEW, filled, host_with};
+use crate::tests::images::{NEW, begins_with};
 use crate::tests::memory_host::MemoryHost;
+use crate::tests::playing::Print::{Nothing, Text};
+use crate::tests::playing::{Run, play, play_on_new, play_one};
 use std::process::Abort;
 use std::test::Fail;
 
@@ -21,108 +23,210 @@ const WITHOUT_ATTRIBUTE: [u8; 52] = [
     0x70, 0x4c, 0xd9, 0x82,
 ];
 
-/// Words that set the attribute 74 of the root.
-const SET: [&str; 7] = [
-    "lfsed",
-    "setattr",
-    "--block=512",
-    "a.img",
-    "/",
-    "74",
-    "0102",
+/// Commands that a new image refuses.
+const REFUSED: [Run; 19] = [
+    (
+        "lfsed rmattr --block=512 a.img / 74",
+        0,
+        1,
+        "lfsed: 39 NoAttr\n",
+        Nothing,
+    ),
+    (
+        "lfsed setattr --block=512 a.img /x 74 01",
+        0,
+        1,
+        "lfsed: 30 NotFound\n",
+        Nothing,
+    ),
+    (
+        "lfsed rmattr --block=512 a.img /x 74",
+        0,
+        1,
+        "lfsed: 30 NotFound\n",
+        Nothing,
+    ),
+    (
+        "lfsed setattr --block=512 a.img /x/y 74 01",
+        0,
+        1,
+        "lfsed: 30 NotFound\n",
+        Nothing,
+    ),
+    (
+        "lfsed rmattr --block=512 a.img /x/y 74",
+        0,
+        1,
+        "lfsed: 30 NotFound\n",
+        Nothing,
+    ),
+    (
+        "lfsed setattr --block=512 a.img  74 01",
+        0,
+        1,
+        "lfsed: 35 BadPath\n",
+        Nothing,
+    ),
+    (
+        "lfsed rmattr --block=512 a.img  74",
+        0,
+        1,
+        "lfsed: 35 BadPath\n",
+        Nothing,
+    ),
+    (
+        "lfsed setattr --block=512 a.img a 74 01",
+        0,
+        1,
+        "lfsed: 35 BadPath\n",
+        Nothing,
+    ),
+    (
+        "lfsed rmattr --block=512 a.img a 74",
+        0,
+        1,
+        "lfsed: 35 BadPath\n",
+        Nothing,
+    ),
+    (
+        "lfsed setattr --block=512 a.img -a 74 01",
+        0,
+        1,
+        "lfsed: 35 BadPath\n",
+        Nothing,
+    ),
+    (
+        "lfsed rmattr --block=512 a.img -a 74",
+        0,
+        1,
+        "lfsed: 35 BadPath\n",
+        Nothing,
+    ),
+    (
+        "lfsed setattr --block=512 a.img /a/ 74 01",
+        0,
+        1,
+        "lfsed: 35 BadPath\n",
+        Nothing,
+    ),
+    (
+        "lfsed rmattr --block=512 a.img /a/ 74",
+        0,
+        1,
+        "lfsed: 35 BadPath\n",
+        Nothing,
+    ),
+    (
+        "lfsed setattr --block=512 a.img // 74 01",
+        0,
+        1,
+        "lfsed: 35 BadPath\n",
+        Nothing,
+    ),
+    (
+        "lfsed rmattr --block=512 a.img // 74",
+        0,
+        1,
+        "lfsed: 35 BadPath\n",
+        Nothing,
+    ),
+    (
+        "lfsed setattr --block=512 a.img /. 74 01",
+        0,
+        1,
+        "lfsed: 35 BadPath\n",
+        Nothing,
+    ),
+    (
+        "lfsed rmattr --block=512 a.img /. 74",
+        0,
+        1,
+        "lfsed: 35 BadPath\n",
+        Nothing,
+    ),
+    (
+        "lfsed setattr --block=512 a.img /.. 74 01",
+        0,
+        1,
+        "lfsed: 35 BadPath\n",
+        Nothing,
+    ),
+    (
+        "lfsed rmattr --block=512 a.img /.. 74",
+        0,
+        1,
+        "lfsed: 35 BadPath\n",
+        Nothing,
+    ),
 ];
-
-/// Words that remove it.
-const REMOVE: [&str; 6] = ["lfsed", "rmattr", "--block=512", "a.img", "/", "74"];
-
-/// Fails where a command on a host's file `a.img` isn't refused with status 1 and this line, or changes a file.
-fn refuse(
-    rt: &(impl Abort + AllocGlobal),
-    host: &mut MemoryHost,
-    words: &[&str],
-    line: &str,
-) -> Result<(), Fail> {
-    let image = Vec::from_slice(rt.alloc(), host.file("a.img").ok_or("a file")?)?;
-    host.complained.clear();
-    assert_eq!(rt; host.run(words), 1, "{line}");
-    assert!(rt; host.complained.as_str() == line, "{line}");
-    assert!(rt; host.printed.is_empty());
-    assert!(rt; host.file("a.img").ok_or("a file")? == image.as_slice());
-    assert!(rt; host.file("a.img.new").is_none());
-    Ok(())
-}
 
 #[test]
 fn commands_that_are_refused_change_nothing(rt: HostRuntime) -> Result<(), Fail> {
-    let alloc = rt.alloc();
-    let image = filled(alloc, &NEW, 4_096)?;
-    let mut host = host_with(alloc, image.as_slice())?;
-    refuse(&rt, &mut host, &REMOVE, "lfsed: 39 NoAttr\n")?;
-    let rows = [
-        ("/x", "lfsed: 30 NotFound\n"),
-        ("/x/y", "lfsed: 30 NotFound\n"),
-        ("", "lfsed: 35 BadPath\n"),
-        ("a", "lfsed: 35 BadPath\n"),
-        ("-a", "lfsed: 35 BadPath\n"),
-        ("/a/", "lfsed: 35 BadPath\n"),
-        ("//", "lfsed: 35 BadPath\n"),
-        ("/.", "lfsed: 35 BadPath\n"),
-        ("/..", "lfsed: 35 BadPath\n"),
-    ];
-    for (path, line) in rows {
-        let set = ["lfsed", "setattr", "--block=512", "a.img", path, "74", "01"];
-        let remove = ["lfsed", "rmattr", "--block=512", "a.img", path, "74"];
-        refuse(&rt, &mut host, &set, line)?;
-        refuse(&rt, &mut host, &remove, line)?;
-    }
+    let _ = play_on_new(&rt, &REFUSED)?;
     Ok(())
 }
 
-/// Fails where a command on a host's file `a.img` isn't carried out, or leaves other bytes than these: how blocks 0 and 1
-/// begin, and 0xff.
-fn accept(
-    rt: &(impl Abort + AllocGlobal),
-    host: &mut MemoryHost,
-    words: &[&str],
-    first: &[u8],
-    second: &[u8],
-) -> Result<(), Fail> {
-    assert_eq!(rt; host.run(words), 0);
-    assert!(rt; host.complained.is_empty());
-    assert!(rt; host.printed.is_empty());
-    assert!(rt; host.file("a.img.new").is_none());
-    let mut expected = filled(rt.alloc(), first, 512)?;
-    expected.extend_from_slice(second)?;
-    expected.resize(4_096, 0xff)?;
-    assert!(rt; host.file("a.img").ok_or("a file")? == expected.as_slice());
-    Ok(())
+const SET: Run = (
+    "lfsed setattr --block=512 a.img / 74 0102",
+    0,
+    0,
+    "",
+    Nothing,
+);
+
+const REMOVE: Run = ("lfsed rmattr --block=512 a.img / 74", 0, 0, "", Nothing);
+
+/// Commands behind these two.
+const REMOVED: [Run; 2] = [
+    (
+        "lfsed rmattr --block=512 a.img / 74",
+        0,
+        1,
+        "lfsed: 39 NoAttr\n",
+        Nothing,
+    ),
+    (
+        "lfsed check --block=512 a.img",
+        0,
+        0,
+        "",
+        Text("block 512, count 8, free 6, directories 1, files 0\n"),
+    ),
+];
+
+/// Asserts that an image has 4,096 bytes: how blocks 0 and 1 begin, and 0xff.
+fn has_blocks(rt: &impl Abort, image: &[u8], first: &[u8], second: &[u8]) {
+    assert!(rt; image.len() == 4_096);
+    assert!(rt; begins_with(&image[..512], first));
+    assert!(rt; begins_with(&image[512..], second));
 }
 
 #[test]
 fn an_attribute_of_the_root_is_set_and_removed(rt: HostRuntime) -> Result<(), Fail> {
-    let alloc = rt.alloc();
-    let image = filled(alloc, &NEW, 4_096)?;
-    let mut host = host_with(alloc, image.as_slice())?;
-    accept(&rt, &mut host, &SET, &NEW, &WITH_ATTRIBUTE)?;
-    accept(&rt, &mut host, &REMOVE, &WITHOUT_ATTRIBUTE, &WITH_ATTRIBUTE)?;
-    refuse(&rt, &mut host, &REMOVE, "lfsed: 39 NoAttr\n")?;
-    assert_eq!(rt; host.run(&["lfsed", "check", "--block=512", "a.img"]), 0);
-    let line = "block 512, count 8, free 6, directories 1, files 0\n";
-    assert!(rt; host.printed.as_slice() == line.as_bytes());
+    let mut host = MemoryHost::with(rt.alloc(), &NEW, 4_096)?;
+    play_one(&rt, &mut host, &SET)?;
+    has_blocks(&rt, host.bytes(), &NEW, &WITH_ATTRIBUTE);
+    play_one(&rt, &mut host, &REMOVE)?;
+    has_blocks(&rt, host.bytes(), &WITHOUT_ATTRIBUTE, &WITH_ATTRIBUTE);
+    play(&rt, &mut host, &REMOVED)?;
     Ok(())
 }
 
+const NOT_WRITTEN: Run = (
+    "lfsed setattr --block=512 a.img / 74 0102",
+    0,
+    4,
+    "lfsed: 61 CannotWrite\n",
+    Nothing,
+);
+
 #[test]
 fn a_change_that_is_not_written_leaves_the_old_file(rt: HostRuntime) -> Result<(), Fail> {
-    let alloc = rt.alloc();
-    let image = filled(alloc, &NEW, 4_096)?;
     for (write_fails, rename_fails) in [(true, false), (false, true)] {
-        let mut host = host_with(alloc, image.as_slice())?;
+        let mut host = MemoryHost::with(rt.alloc(), &NEW, 4_096)?;
         host.write_fails = write_fails;
         host.rename_fails = rename_fails;
-        assert_eq!(rt; host.run(&SET), 4);
-        assert!(rt; host.complained.as_str() == "lfsed: 61 CannotWrite\n");
-        assert!(rt; host.file("a.img").ok_or("a file")? == image.as_slice());
+        play_one(&rt, &mut host, &NOT_WRITTEN)?;
     }
     Ok(())
 }

@@ -2,86 +2,178 @@
 
 use crate::digits::{byte_of, bytes_of};
 use crate::fault::Fault;
-use crate::tests::images::{NEW, filled, host_with};
 use crate::tests::memory_host::MemoryHost;
+use crate::tests::playing::Print::Nothing;
+use crate::tests::playing::{Run, play, play_on_new};
+use std::process::Abort;
 use std::test::Fail;
+
+/// Texts, and the bytes whose two digits they are.
+const BYTES: [(&str, Result<u8, Fault>); 9] = [
+    ("00", Ok(0x00)),
+    ("74", Ok(0x74)),
+    ("fE", Ok(0xfe)),
+    ("FF", Ok(0xff)),
+    ("", Err(Fault::BadHex)),
+    ("7", Err(Fault::BadHex)),
+    ("074", Err(Fault::BadHex)),
+    ("7g", Err(Fault::BadHex)),
+    ("-7", Err(Fault::BadHex)),
+];
 
 #[test]
 fn two_digits_are_a_byte(rt: HostRuntime) {
-    let rows: [(&str, Result<u8, Fault>); 9] = [
-        ("00", Ok(0x00)),
-        ("74", Ok(0x74)),
-        ("fE", Ok(0xfe)),
-        ("FF", Ok(0xff)),
-        ("", Err(Fault::BadHex)),
-        ("7", Err(Fault::BadHex)),
-        ("074", Err(Fault::BadHex)),
-        ("7g", Err(Fault::BadHex)),
-        ("-7", Err(Fault::BadHex)),
-    ];
-    for (text, byte) in rows {
-        assert_eq!(rt; byte_of(text), byte, "{text}");
+    for (text, byte) in &BYTES {
+        assert_eq!(rt; byte_of(text), *byte, "{text}");
+    }
+}
+
+/// Texts, and the bytes whose digits they are.
+const DIGITS: [(&str, &[u8]); 3] = [("", &[]), ("00", &[0]), ("01aBCd", &[0x01, 0xab, 0xcd])];
+
+/// Texts that are no digits of bytes.
+const NO_DIGITS: [&str; 7] = ["0", "012", "0g", "g0", "0x00", " 00", "-0"];
+
+/// Asserts that digits are these bytes.
+fn spell(rt: &(impl Abort + AllocGlobal), text: &str, bytes: &[u8]) {
+    match bytes_of(rt.alloc(), text) {
+        Ok(answer) => assert!(rt; answer.as_slice() == bytes, "{text}"),
+        Err(_) => assert!(rt; false, "{text}"),
     }
 }
 
 #[test]
-fn digits_are_bytes(rt: HostRuntime) -> Result<(), Fail> {
-    let rows: [(&str, &[u8]); 3] = [("", &[]), ("00", &[0]), ("01aBCd", &[0x01, 0xab, 0xcd])];
-    for (text, bytes) in rows {
-        assert!(rt;
-            bytes_of(rt.alloc(), text)
-                .map_err(|_| "refused")?
-                .as_slice()
-                == bytes
-        );
+fn digits_are_bytes(rt: HostRuntime) {
+    for (text, bytes) in &DIGITS {
+        spell(&rt, text, bytes);
     }
-    for text in ["0", "012", "0g", "g0", "0x00", " 00", "-0"] {
+}
+
+#[test]
+fn what_is_no_digits_is_no_bytes(rt: HostRuntime) {
+    for text in &NO_DIGITS {
         let fault = bytes_of(rt.alloc(), text).err();
         assert_eq!(rt; fault, Some(Fault::BadHex), "{text}");
     }
-    Ok(())
 }
+
+/// Runs whose digits are refused.
+const BAD_DIGITS: [Run; 10] = [
+    (
+        "lfsed setattr a.img / 74 0",
+        0,
+        2,
+        "lfsed: 64 BadHex\n",
+        Nothing,
+    ),
+    (
+        "lfsed setattr a.img / 74 0g",
+        0,
+        2,
+        "lfsed: 64 BadHex\n",
+        Nothing,
+    ),
+    (
+        "lfsed setattr a.img / 74 -1",
+        0,
+        2,
+        "lfsed: 64 BadHex\n",
+        Nothing,
+    ),
+    (
+        "lfsed setattr a.img / 7 00",
+        0,
+        2,
+        "lfsed: 64 BadHex\n",
+        Nothing,
+    ),
+    (
+        "lfsed setattr a.img / 7x 00",
+        0,
+        2,
+        "lfsed: 64 BadHex\n",
+        Nothing,
+    ),
+    (
+        "lfsed setattr a.img /  ",
+        0,
+        2,
+        "lfsed: 64 BadHex\n",
+        Nothing,
+    ),
+    (
+        "lfsed rmattr a.img / 7",
+        0,
+        2,
+        "lfsed: 64 BadHex\n",
+        Nothing,
+    ),
+    (
+        "lfsed rmattr a.img / x7",
+        0,
+        2,
+        "lfsed: 64 BadHex\n",
+        Nothing,
+    ),
+    (
+        "lfsed rmattr a.img / 0x74",
+        0,
+        2,
+        "lfsed: 64 BadHex\n",
+        Nothing,
+    ),
+    (
+        "lfsed rmattr a.img / -7",
+        0,
+        2,
+        "lfsed: 64 BadHex\n",
+        Nothing,
+    ),
+];
 
 #[test]
 fn bad_digits_are_refused_before_files(rt: HostRuntime) -> Result<(), Fail> {
-    let alloc = rt.alloc();
-    let rows: [&[&str]; 10] = [
-        &["lfsed", "setattr", "a.img", "/", "74", "0"],
-        &["lfsed", "setattr", "a.img", "/", "74", "0g"],
-        &["lfsed", "setattr", "a.img", "/", "74", "-1"],
-        &["lfsed", "setattr", "a.img", "/", "7", "00"],
-        &["lfsed", "setattr", "a.img", "/", "7x", "00"],
-        &["lfsed", "setattr", "a.img", "/", "", ""],
-        &["lfsed", "rmattr", "a.img", "/", "7"],
-        &["lfsed", "rmattr", "a.img", "/", "x7"],
-        &["lfsed", "rmattr", "a.img", "/", "0x74"],
-        &["lfsed", "rmattr", "a.img", "/", "-7"],
-    ];
-    for words in rows {
-        let mut empty = MemoryHost::new(alloc);
-        assert_eq!(rt; empty.run(words), 2);
-        assert!(rt; empty.complained.as_str() == "lfsed: 64 BadHex\n");
-        assert!(rt; empty.printed.is_empty());
-        let image = filled(alloc, &NEW, 4_096)?;
-        let mut host = host_with(alloc, image.as_slice())?;
-        assert_eq!(rt; host.run(words), 2);
-        assert!(rt; host.file("a.img").ok_or("a file")? == image.as_slice());
-        assert!(rt; host.file("a.img.new").is_none());
-    }
+    let mut empty = MemoryHost::new(rt.alloc());
+    play(&rt, &mut empty, &BAD_DIGITS)?;
+    let _ = play_on_new(&rt, &BAD_DIGITS)?;
     Ok(())
 }
 
+/// Runs whose digits are good; two spaces, or one at the end, stand for an empty word.
+const GOOD_DIGITS: [Run; 4] = [
+    (
+        "lfsed setattr a.img / 7F ",
+        0,
+        4,
+        "lfsed: 60 CannotRead\n",
+        Nothing,
+    ),
+    (
+        "lfsed setattr a.img -a 7f 0Aff",
+        0,
+        4,
+        "lfsed: 60 CannotRead\n",
+        Nothing,
+    ),
+    (
+        "lfsed setattr a.img  00 00",
+        0,
+        4,
+        "lfsed: 60 CannotRead\n",
+        Nothing,
+    ),
+    (
+        "lfsed rmattr a.img -a Ff",
+        0,
+        4,
+        "lfsed: 60 CannotRead\n",
+        Nothing,
+    ),
+];
+
 #[test]
-fn good_digits_and_any_path_are_handed_on(rt: HostRuntime) {
-    let rows: [&[&str]; 4] = [
-        &["lfsed", "setattr", "a.img", "/", "7F", ""],
-        &["lfsed", "setattr", "a.img", "-a", "7f", "0Aff"],
-        &["lfsed", "setattr", "a.img", "", "00", "00"],
-        &["lfsed", "rmattr", "a.img", "-a", "Ff"],
-    ];
-    for words in rows {
-        let mut host = MemoryHost::new(rt.alloc());
-        assert_eq!(rt; host.run(words), 4);
-        assert!(rt; host.complained.as_str() == "lfsed: 60 CannotRead\n");
-    }
+fn good_digits_and_any_path_are_handed_on(rt: HostRuntime) -> Result<(), Fail> {
+    let mut host = MemoryHost::new(rt.alloc());
+    play(&rt, &mut host, &GOOD_DIGITS)?;
+    Ok(())
 }

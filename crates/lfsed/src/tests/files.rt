@@ -1,206 +1,250 @@
 //! Files, put and read.
 
-use crate::tests::images::{NEW, changed, filled, host_with};
+use crate::tests::images::{SHORT_NAMES, holds, holds_at};
 use crate::tests::memory_host::MemoryHost;
+use crate::tests::playing::Print::{Contents, Nothing, Text};
+use crate::tests::playing::{Run, play, play_on_new};
 use lfs_block::Image;
 use lfs_fs::{Row, mount};
+use std::alloc::{AllocError, Global};
 use std::process::Abort;
 use std::test::Fail;
 
-/// A host with a new image of `a.img` in blocks of 512 bytes, 8 of them.
-fn new_host(rt: &impl AllocGlobal) -> Result<MemoryHost, Fail> {
-    let image = filled(rt.alloc(), &NEW, 4_096)?;
-    Ok(host_with(rt.alloc(), image.as_slice())?)
-}
-
-/// The words of a command on `a.img`, whose blocks have 512 bytes, and on a path.
-fn words<'a>(command: &'a str, path: &'a str) -> [&'a str; 5] {
-    ["lfsed", command, "--block=512", "a.img", path]
-}
-
-/// Byte `n` of a file's contents.
-fn byte_of(n: usize) -> u8 {
-    (n % 251) as u8
-}
-
-/// Hands this many bytes of contents to standard input.
-fn supply(rt: &impl AllocGlobal, host: &mut MemoryHost, len: usize) -> Result<(), Fail> {
-    let mut bytes = Vec::with_capacity(rt.alloc(), len)?;
-    for n in 0..len {
-        bytes.push(byte_of(n))?;
-    }
-    host.input = Some(bytes);
-    Ok(())
-}
-
-/// Fails where a file of this many bytes isn't put at a path.
-fn put(
-    rt: &(impl Abort + AllocGlobal),
-    host: &mut MemoryHost,
-    path: &str,
-    len: usize,
-) -> Result<(), Fail> {
-    supply(rt, host, len)?;
-    assert_eq!(rt; host.run(&words("put", path)), 0, "{path}");
-    assert!(rt; host.complained.is_empty());
-    assert!(rt; host.printed.is_empty());
-    assert!(rt; host.file("a.img.new").is_none());
-    Ok(())
-}
-
-/// Fails where a command isn't refused with status 1 and this line, or changes the image.
-fn refuse(
-    rt: &(impl Abort + AllocGlobal),
-    host: &mut MemoryHost,
-    words: &[&str],
-    line: &str,
-) -> Result<(), Fail> {
-    let image = Vec::from_slice(rt.alloc(), host.file("a.img").ok_or("a file")?)?;
-    host.complained.clear();
-    assert_eq!(rt; host.run(words), 1, "{line}");
-    assert!(rt; host.complained.as_str() == line, "{line}");
-    assert!(rt; host.printed.is_empty());
-    assert!(rt; host.file("a.img").ok_or("a file")? == image.as_slice());
-    host.complained.clear();
-    Ok(())
-}
-
-/// Fails where `check` doesn't print so many free blocks and files.
-fn count(
-    rt: &(impl Abort + AllocGlobal),
-    host: &mut MemoryHost,
-    free: u32,
-    files: u32,
-) -> Result<(), Fail> {
-    let line = format!(in rt.alloc();
-        "block 512, count 8, free {free}, directories 1, files {files}\n"
-    )?;
-    assert_eq!(rt; host.run(&["lfsed", "check", "--block=512", "a.img"]), 0);
-    assert!(rt; host.printed.as_slice() == line.as_bytes(), "{line}");
-    host.printed.clear();
-    Ok(())
-}
-
-/// Fails where `cat` doesn't print this many bytes of contents.
-fn print(
-    rt: &(impl Abort + AllocGlobal),
-    host: &mut MemoryHost,
-    path: &str,
-    len: usize,
-) -> Result<(), Fail> {
-    assert_eq!(rt; host.run(&words("cat", path)), 0, "{path}");
-    assert_eq!(rt; host.printed.len(), len, "{path}");
-    for (n, byte) in host.printed.iter().enumerate() {
-        assert_eq!(rt; *byte, byte_of(n), "at {n}");
-    }
-    host.printed.clear();
-    Ok(())
-}
+/// Files at the limit up to which their contents stand in the entry, each on an image of its own.
+const INLINE: [[Run; 3]; 3] = [
+    [
+        ("lfsed put --block=512 a.img /f", 0, 0, "", Nothing),
+        (
+            "lfsed check --block=512 a.img",
+            0,
+            0,
+            "",
+            Text("block 512, count 8, free 6, directories 1, files 1\n"),
+        ),
+        ("lfsed cat --block=512 a.img /f", 0, 0, "", Contents(0)),
+    ],
+    [
+        ("lfsed put --block=512 a.img /f", 64, 0, "", Nothing),
+        (
+            "lfsed check --block=512 a.img",
+            0,
+            0,
+            "",
+            Text("block 512, count 8, free 6, directories 1, files 1\n"),
+        ),
+        ("lfsed cat --block=512 a.img /f", 0, 0, "", Contents(64)),
+    ],
+    [
+        ("lfsed put --block=512 a.img /f", 65, 0, "", Nothing),
+        (
+            "lfsed check --block=512 a.img",
+            0,
+            0,
+            "",
+            Text("block 512, count 8, free 5, directories 1, files 1\n"),
+        ),
+        ("lfsed cat --block=512 a.img /f", 0, 0, "", Contents(65)),
+    ],
+];
 
 #[test]
 fn inline_limit(rt: HostRuntime) -> Result<(), Fail> {
-    for (len, free) in [(0, 6), (64, 6), (65, 5)] {
-        let mut host = new_host(&rt)?;
-        put(&rt, &mut host, "/f", len)?;
-        count(&rt, &mut host, free, 1)?;
-        print(&rt, &mut host, "/f", len)?;
+    for runs in &INLINE {
+        let _ = play_on_new(&rt, runs)?;
     }
     Ok(())
 }
+
+/// A file that takes all blocks.
+const FULL: [Run; 6] = [
+    (
+        "lfsed put --block=512 a.img /f",
+        3_041,
+        1,
+        "lfsed: 43 NoSpace need 7 free 6\n",
+        Nothing,
+    ),
+    ("lfsed put --block=512 a.img /f", 3_040, 0, "", Nothing),
+    (
+        "lfsed check --block=512 a.img",
+        0,
+        0,
+        "",
+        Text("block 512, count 8, free 0, directories 1, files 1\n"),
+    ),
+    ("lfsed cat --block=512 a.img /f", 0, 0, "", Contents(3_040)),
+    (
+        "lfsed put --block=512 a.img /f",
+        3_040,
+        1,
+        "lfsed: 43 NoSpace need 6 free 0\n",
+        Nothing,
+    ),
+    ("lfsed cat --block=512 a.img /f", 0, 0, "", Contents(3_040)),
+];
 
 #[test]
 fn full_image_refuses_one_more_block(rt: HostRuntime) -> Result<(), Fail> {
-    let mut host = new_host(&rt)?;
-    supply(&rt, &mut host, 3_041)?;
-    refuse(
-        &rt,
-        &mut host,
-        &words("put", "/f"),
-        "lfsed: 43 NoSpace need 7 free 6\n",
-    )?;
-    put(&rt, &mut host, "/f", 3_040)?;
-    count(&rt, &mut host, 0, 1)?;
-    print(&rt, &mut host, "/f", 3_040)?;
-    let image = host.file("a.img").ok_or("an image")?;
-    assert!(rt; image.len() == 4_096);
-    assert!(rt;
-        image[512..]
-            .windows(8)
-            .any(|part| part == [7, 0, 0, 0, 0xe0, 0x0b, 0, 0].as_slice())
-    );
-    assert!(rt; image[3_072..3_084] == [5, 0, 0, 0, 4, 0, 0, 0, 2, 0, 0, 0]);
-    assert!(rt; image[3_584..3_588] == [6, 0, 0, 0]);
-    refuse(
-        &rt,
-        &mut host,
-        &words("put", "/f"),
-        "lfsed: 43 NoSpace need 6 free 0\n",
-    )?;
-    print(&rt, &mut host, "/f", 3_040)
+    let host = play_on_new(&rt, &FULL)?;
+    assert_eq!(rt; host.bytes().len(), 4_096);
+    assert!(rt; holds(host.bytes(), &[7, 0, 0, 0, 0xe0, 0x0b, 0, 0]));
+    assert!(rt; holds_at(host.bytes(), 3_072, &[5, 0, 0, 0, 4, 0, 0, 0, 2, 0, 0, 0]));
+    assert!(rt; holds_at(host.bytes(), 3_584, &[6, 0, 0, 0]));
+    Ok(())
 }
+
+/// A file with an attribute, replaced.
+const REPLACED: [Run; 9] = [
+    ("lfsed put --block=512 a.img /f", 513, 0, "", Nothing),
+    (
+        "lfsed setattr --block=512 a.img /f 74 01",
+        0,
+        0,
+        "",
+        Nothing,
+    ),
+    (
+        "lfsed check --block=512 a.img",
+        0,
+        0,
+        "",
+        Text("block 512, count 8, free 4, directories 1, files 1\n"),
+    ),
+    ("lfsed cat --block=512 a.img /f", 0, 0, "", Contents(513)),
+    ("lfsed put --block=512 a.img /f", 3, 0, "", Nothing),
+    (
+        "lfsed check --block=512 a.img",
+        0,
+        0,
+        "",
+        Text("block 512, count 8, free 6, directories 1, files 1\n"),
+    ),
+    ("lfsed cat --block=512 a.img /f", 0, 0, "", Contents(3)),
+    ("lfsed rmattr --block=512 a.img /f 74", 0, 0, "", Nothing),
+    (
+        "lfsed rmattr --block=512 a.img /f 74",
+        0,
+        1,
+        "lfsed: 39 NoAttr\n",
+        Nothing,
+    ),
+];
 
 #[test]
 fn a_replaced_file_keeps_its_attributes(rt: HostRuntime) -> Result<(), Fail> {
-    let mut host = new_host(&rt)?;
-    put(&rt, &mut host, "/f", 513)?;
-    let set = ["lfsed", "setattr", "--block=512", "a.img", "/f", "74", "01"];
-    assert_eq!(rt; host.run(&set), 0);
-    count(&rt, &mut host, 4, 1)?;
-    print(&rt, &mut host, "/f", 513)?;
-    put(&rt, &mut host, "/f", 3)?;
-    count(&rt, &mut host, 6, 1)?;
-    print(&rt, &mut host, "/f", 3)?;
-    let remove = ["lfsed", "rmattr", "--block=512", "a.img", "/f", "74"];
-    assert_eq!(rt; host.run(&remove), 0);
-    refuse(&rt, &mut host, &remove, "lfsed: 39 NoAttr\n")
+    let _ = play_on_new(&rt, &REPLACED)?;
+    Ok(())
 }
+
+/// What is read, and is no file.
+const NOT_READ: [Run; 6] = [
+    ("lfsed put --block=512 a.img /g", 3, 0, "", Nothing),
+    (
+        "lfsed cat --block=512 a.img /",
+        0,
+        1,
+        "lfsed: 33 IsADirectory\n",
+        Nothing,
+    ),
+    (
+        "lfsed cat --block=512 a.img /f",
+        0,
+        1,
+        "lfsed: 30 NotFound\n",
+        Nothing,
+    ),
+    (
+        "lfsed cat --block=512 a.img /f/g",
+        0,
+        1,
+        "lfsed: 30 NotFound\n",
+        Nothing,
+    ),
+    (
+        "lfsed cat --block=512 a.img /g/f",
+        0,
+        1,
+        "lfsed: 32 NotADirectory\n",
+        Nothing,
+    ),
+    (
+        "lfsed cat --block=512 a.img g",
+        0,
+        1,
+        "lfsed: 35 BadPath\n",
+        Nothing,
+    ),
+];
 
 #[test]
 fn what_is_no_file_is_not_read(rt: HostRuntime) -> Result<(), Fail> {
-    let mut host = new_host(&rt)?;
-    put(&rt, &mut host, "/g", 3)?;
-    let rows = [
-        ("/", "lfsed: 33 IsADirectory\n"),
-        ("/f", "lfsed: 30 NotFound\n"),
-        ("/f/g", "lfsed: 30 NotFound\n"),
-        ("/g/f", "lfsed: 32 NotADirectory\n"),
-        ("g", "lfsed: 35 BadPath\n"),
-    ];
-    for (path, line) in rows {
-        refuse(&rt, &mut host, &words("cat", path), line)?;
-    }
+    let _ = play_on_new(&rt, &NOT_READ)?;
     Ok(())
 }
+
+/// What is put, and can be no file.
+const NOT_PUT: [Run; 5] = [
+    ("lfsed put --block=512 a.img /g", 3, 0, "", Nothing),
+    (
+        "lfsed put --block=512 a.img /",
+        3,
+        1,
+        "lfsed: 41 IsRoot\n",
+        Nothing,
+    ),
+    (
+        "lfsed put --block=512 a.img /f/g",
+        3,
+        1,
+        "lfsed: 30 NotFound\n",
+        Nothing,
+    ),
+    (
+        "lfsed put --block=512 a.img /g/f",
+        3,
+        1,
+        "lfsed: 32 NotADirectory\n",
+        Nothing,
+    ),
+    (
+        "lfsed put --block=512 a.img f/",
+        3,
+        1,
+        "lfsed: 35 BadPath\n",
+        Nothing,
+    ),
+];
 
 #[test]
 fn what_can_be_no_file_is_not_put(rt: HostRuntime) -> Result<(), Fail> {
-    let mut host = new_host(&rt)?;
-    put(&rt, &mut host, "/g", 3)?;
-    let rows = [
-        ("/", "lfsed: 41 IsRoot\n"),
-        ("/f/g", "lfsed: 30 NotFound\n"),
-        ("/g/f", "lfsed: 32 NotADirectory\n"),
-        ("f/", "lfsed: 35 BadPath\n"),
-    ];
-    for (path, line) in rows {
-        refuse(&rt, &mut host, &words("put", path), line)?;
-    }
+    let _ = play_on_new(&rt, &NOT_PUT)?;
     Ok(())
 }
 
+/// Files whose names stand in another order.
+const NAMES: [Run; 4] = [
+    ("lfsed put --block=512 a.img /ab", 0, 0, "", Nothing),
+    ("lfsed put --block=512 a.img /a", 0, 0, "", Nothing),
+    ("lfsed put --block=512 a.img /b", 0, 0, "", Nothing),
+    (
+        "lfsed check --block=512 a.img",
+        0,
+        0,
+        "",
+        Text("block 512, count 8, free 6, directories 1, files 3\n"),
+    ),
+];
+
+/// Where these names stand in the root's block, behind its revision.
+const PLACES: [(usize, &[u8]); 4] = [(512, &[4, 0, 0, 0]), (560, b"ab"), (570, b"a"), (579, b"b")];
+
 #[test]
 fn names_stand_in_order(rt: HostRuntime) -> Result<(), Fail> {
-    let mut host = new_host(&rt)?;
-    for path in ["/ab", "/a", "/b"] {
-        put(&rt, &mut host, path, 0)?;
+    let host = play_on_new(&rt, &NAMES)?;
+    assert_eq!(rt; host.bytes().len(), 4_096);
+    for (at, part) in &PLACES {
+        assert!(rt; holds_at(host.bytes(), *at, part), "at {at}");
     }
-    count(&rt, &mut host, 6, 3)?;
-    let image = host.file("a.img").ok_or("an image")?;
-    assert!(rt; image.len() == 4_096);
-    assert!(rt; &image[512..516] == [4, 0, 0, 0].as_slice());
-    assert!(rt; &image[560..562] == b"ab".as_slice());
-    assert!(rt; &image[570..571] == b"a".as_slice());
-    assert!(rt; &image[579..580] == b"b".as_slice());
     Ok(())
 }
 
@@ -212,78 +256,111 @@ fn name_of(row: &Row) -> &[u8] {
     }
 }
 
-#[test]
-fn rows_come_in_order(rt: HostRuntime) -> Result<(), Fail> {
-    let mut host = new_host(&rt)?;
-    for path in ["/ab", "/a", "/b"] {
-        put(&rt, &mut host, path, 0)?;
+/// The names of the rows of the image with these files.
+const ROWS: [&[u8]; 4] = [b"", b"ab", b"a", b"b"];
+
+/// Asserts that rows have these names.
+fn have_names(rt: &impl Abort, rows: &[Row]) {
+    assert_eq!(rt; rows.len(), ROWS.len());
+    for (row, name) in rows.iter().zip(&ROWS) {
+        assert!(rt; name_of(row) == *name);
     }
-    let bytes = Vec::from_slice(rt.alloc(), host.file("a.img").ok_or("an image")?)?;
-    let image = Image::new(bytes, 512).map_err(|refused| refused.0)?;
-    let mounted = mount(rt.alloc(), &image)?;
-    let names: [&[u8]; 4] = [b"", b"ab", b"a", b"b"];
-    assert_eq!(rt; mounted.rows().len(), names.len());
-    for (row, name) in mounted.rows().iter().zip(names) {
-        assert!(rt; name_of(row) == name);
-    }
-    Ok(())
 }
 
 #[test]
+fn rows_come_in_order(rt: HostRuntime) -> Result<(), Fail> {
+    let host = play_on_new(&rt, &NAMES)?;
+    let bytes = host.copy()?.ok_or("an image")?;
+    let image = Image::new(bytes, 512).map_err(|refused| refused.0)?;
+    let mounted = mount(rt.alloc(), &image)?;
+    have_names(&rt, mounted.rows());
+    Ok(())
+}
+
+/// Puts a file whose name is a letter so many times, and answers the status.
+fn put_long(
+    alloc: Global,
+    host: &mut MemoryHost,
+    letter: &str,
+    len: usize,
+) -> Result<u8, AllocError> {
+    let name = letter.repeat(alloc, len)?;
+    let line = format!(in alloc; "lfsed put --block=256 a.img /{name}")?;
+    host.run(line.as_str())
+}
+
+/// Long names, of a letter so many times, and the status of putting a file of that name.
+const LONG: [(&str, usize, u8); 3] = [("a", 80, 0), ("c", 80, 0), ("b", 130, 1)];
+
+#[test]
 fn a_third_part_is_not_made(rt: HostRuntime) -> Result<(), Fail> {
-    let alloc = rt.alloc();
-    let mut host = MemoryHost::new(alloc);
-    let format = ["lfsed", "format", "--block=256", "--count=4", "a.img"];
-    assert_eq!(rt; host.run(&format), 0);
-    let rows = [("a", 80, 0), ("c", 80, 0), ("b", 130, 1)];
-    for (letter, len, status) in rows {
-        let path = format!(in alloc; "/{}", letter.repeat(alloc, len)?)?;
-        let put = ["lfsed", "put", "--block=256", "a.img", path.as_str()];
-        assert_eq!(rt; host.run(&put), status, "{letter}");
+    let mut host = MemoryHost::new(rt.alloc());
+    assert_eq!(rt; host.run("lfsed format --block=256 --count=4 a.img")?, 0);
+    for (letter, len, status) in &LONG {
+        assert_eq!(rt;
+            put_long(rt.alloc(), &mut host, letter, *len)?,
+            *status,
+            "{letter}"
+        );
     }
     assert!(rt; host.complained.as_str() == "lfsed: 45 OnePartOnly\n");
     Ok(())
 }
 
-#[test]
-fn names_are_limited(rt: HostRuntime) -> Result<(), Fail> {
-    let alloc = rt.alloc();
-    let root = changed(32, &[3, 0, 0, 0], [0xed, 0x18, 0x03, 0xdd]);
-    let image = filled(alloc, &root, 4_096)?;
-    let mut host = host_with(alloc, image.as_slice())?;
-    put(&rt, &mut host, "/abc", 0)?;
-    let image = host.file("a.img").ok_or("an image")?;
-    assert!(rt; image.len() == 4_096);
-    assert!(rt; &image[544..548] == [3, 0, 0, 0].as_slice());
-    refuse(
-        &rt,
-        &mut host,
-        &words("put", "/abcd"),
+/// Names at the limit of an image whose greatest name is 3.
+const LIMITED: [Run; 2] = [
+    ("lfsed put --block=512 a.img /abc", 0, 0, "", Nothing),
+    (
+        "lfsed put --block=512 a.img /abcd",
+        0,
+        1,
         "lfsed: 36 NameTooLong\n",
-    )
-}
+        Nothing,
+    ),
+];
 
 #[test]
-fn input_that_fails_changes_nothing(rt: HostRuntime) -> Result<(), Fail> {
-    let mut host = new_host(&rt)?;
-    host.input = None;
-    assert_eq!(rt; host.run(&words("put", "/f")), 4);
-    assert!(rt; host.complained.as_str() == "lfsed: 60 CannotRead\n");
-    let image = filled(rt.alloc(), &NEW, 4_096)?;
-    assert!(rt; host.file("a.img").ok_or("an image")? == image.as_slice());
+fn names_are_limited(rt: HostRuntime) -> Result<(), Fail> {
+    let mut host = MemoryHost::with(rt.alloc(), &SHORT_NAMES, 4_096)?;
+    play(&rt, &mut host, &LIMITED)?;
+    assert_eq!(rt; host.bytes().len(), 4_096);
+    assert!(rt; holds_at(host.bytes(), 544, &[3, 0, 0, 0]));
     Ok(())
 }
 
+/// A file whose contents can't be read.
+const NO_INPUT: [Run; 1] = [(
+    "lfsed put --block=512 a.img /f",
+    0,
+    4,
+    "lfsed: 60 CannotRead\n",
+    Nothing,
+)];
+
+#[test]
+fn input_that_fails_changes_nothing(rt: HostRuntime) -> Result<(), Fail> {
+    let mut host = play_on_new(&rt, &[])?;
+    host.input_fails = true;
+    play(&rt, &mut host, &NO_INPUT)?;
+    Ok(())
+}
+
+/// A file to be printed.
+const LARGE: [Run; 1] = [("lfsed put --block=512 a.img /f", 3_040, 0, "", Nothing)];
+
+/// A run that prints its beginning.
+const BEGINNING: [Run; 1] = [(
+    "lfsed cat --block=512 a.img /f",
+    0,
+    4,
+    "lfsed: 61 CannotWrite\n",
+    Contents(1_000),
+)];
+
 #[test]
 fn output_that_fails_gets_a_beginning(rt: HostRuntime) -> Result<(), Fail> {
-    let mut host = new_host(&rt)?;
-    put(&rt, &mut host, "/f", 3_040)?;
+    let mut host = play_on_new(&rt, &LARGE)?;
     host.room = 1_000;
-    assert_eq!(rt; host.run(&words("cat", "/f")), 4);
-    assert!(rt; host.complained.as_str() == "lfsed: 61 CannotWrite\n");
-    assert_eq!(rt; host.printed.len(), 1_000);
-    for (n, byte) in host.printed.iter().enumerate() {
-        assert_eq!(rt; *byte, byte_of(n), "at {n}");
-    }
+    play(&rt, &mut host, &BEGINNING)?;
     Ok(())
 }

@@ -1,20 +1,36 @@
 //! What the host refuses.
 
-use crate::tests::images::{NEW, filled, host_with};
+use crate::tests::images::NEW;
 use crate::tests::memory_host::MemoryHost;
+use crate::tests::playing::Print::{Nothing, Text};
+use crate::tests::playing::{Run, play_one};
+use crate::tests::usage::HELP;
+use std::alloc::AllocError;
+use std::process::Abort;
 use std::test::Fail;
 
-const FORMAT: [&str; 7] = ["lfsed", "format", "--block", "512", "--count", "8", "a.img"];
+const NOT_READ: Run = (
+    "lfsed check --block 512 a.img",
+    0,
+    4,
+    "lfsed: 60 CannotRead\n",
+    Nothing,
+);
 
-const CHECK: [&str; 5] = ["lfsed", "check", "--block", "512", "a.img"];
+const NOT_WRITTEN: Run = (
+    "lfsed format --block 512 --count 8 a.img",
+    0,
+    4,
+    "lfsed: 61 CannotWrite\n",
+    Nothing,
+);
 
 #[test]
 fn a_file_that_is_not_there_or_is_a_folder(rt: HostRuntime) -> Result<(), Fail> {
-    for folder in ["", "a.img"] {
+    for is_folder in [false, true] {
         let mut host = MemoryHost::new(rt.alloc());
-        host.folder = folder;
-        assert_eq!(rt; host.run(&CHECK), 4);
-        assert!(rt; host.complained.as_str() == "lfsed: 60 CannotRead\n");
+        host.is_folder = is_folder;
+        play_one(&rt, &mut host, &NOT_READ)?;
     }
     Ok(())
 }
@@ -22,12 +38,10 @@ fn a_file_that_is_not_there_or_is_a_folder(rt: HostRuntime) -> Result<(), Fail> 
 #[test]
 fn a_write_or_a_rename_that_fails_leaves_the_old_file(rt: HostRuntime) -> Result<(), Fail> {
     for (write_fails, rename_fails) in [(true, false), (false, true)] {
-        let mut host = host_with(rt.alloc(), b"old")?;
+        let mut host = MemoryHost::with(rt.alloc(), b"old", 3)?;
         host.write_fails = write_fails;
         host.rename_fails = rename_fails;
-        assert_eq!(rt; host.run(&FORMAT), 4);
-        assert!(rt; host.complained.as_str() == "lfsed: 61 CannotWrite\n");
-        assert!(rt; host.file("a.img").ok_or("a file")? == b"old".as_slice());
+        play_one(&rt, &mut host, &NOT_WRITTEN)?;
     }
     Ok(())
 }
@@ -35,55 +49,90 @@ fn a_write_or_a_rename_that_fails_leaves_the_old_file(rt: HostRuntime) -> Result
 #[test]
 fn a_folder_is_not_replaced(rt: HostRuntime) -> Result<(), Fail> {
     let mut host = MemoryHost::new(rt.alloc());
-    host.folder = "a.img";
-    assert_eq!(rt; host.run(&FORMAT), 4);
-    assert!(rt; host.complained.as_str() == "lfsed: 61 CannotWrite\n");
-    assert!(rt; host.file("a.img").is_none());
+    host.is_folder = true;
+    play_one(&rt, &mut host, &NOT_WRITTEN)?;
+    assert!(rt; host.image.is_none());
     Ok(())
+}
+
+/// How many bytes standard output takes, and a run that prints them.
+const CUT: [(usize, Run); 4] = [
+    (
+        0,
+        (
+            "lfsed check --block 512 a.img",
+            0,
+            4,
+            "lfsed: 61 CannotWrite\n",
+            Nothing,
+        ),
+    ),
+    (
+        9,
+        (
+            "lfsed check --block 512 a.img",
+            0,
+            4,
+            "lfsed: 61 CannotWrite\n",
+            Text("block 512"),
+        ),
+    ),
+    (
+        50,
+        (
+            "lfsed check --block 512 a.img",
+            0,
+            4,
+            "lfsed: 61 CannotWrite\n",
+            Text("block 512, count 8, free 6, directories 1, files 0"),
+        ),
+    ),
+    (
+        20,
+        (
+            "lfsed --help",
+            0,
+            4,
+            "lfsed: 61 CannotWrite\n",
+            Text("Edit littlefs images"),
+        ),
+    ),
+];
+
+/// Plays a run on a new image, on a host whose standard output takes so many bytes.
+fn play_in_room(rt: &(impl Abort + AllocGlobal), room: usize, run: &Run) -> Result<(), AllocError> {
+    let mut host = MemoryHost::with(rt.alloc(), &NEW, 4_096)?;
+    host.room = room;
+    play_one(rt, &mut host, run)
 }
 
 #[test]
 fn standard_output_that_fails_in_mid_text(rt: HostRuntime) -> Result<(), Fail> {
-    let alloc = rt.alloc();
-    let image = filled(alloc, &NEW, 4_096)?;
-    for (room, text) in [
-        (0, ""),
-        (9, "block 512"),
-        (50, "block 512, count 8, free 6, directories 1, files 0"),
-    ] {
-        let mut host = host_with(alloc, image.as_slice())?;
-        host.room = room;
-        assert_eq!(rt; host.run(&CHECK), 4);
-        assert!(rt; host.printed.as_slice() == text.as_bytes());
-        assert!(rt; host.complained.as_str() == "lfsed: 61 CannotWrite\n");
-        assert!(rt; host.file("a.img").ok_or("a file")? == image.as_slice());
+    for (room, run) in &CUT {
+        play_in_room(&rt, *room, run)?;
     }
     Ok(())
 }
+
+/// Runs whose text isn't handed on.
+const NOT_FLUSHED: [Run; 3] = [
+    (
+        "lfsed check --block 512 a.img",
+        0,
+        4,
+        "lfsed: 61 CannotWrite\n",
+        Text("block 512, count 8, free 6, directories 1, files 0\n"),
+    ),
+    NOT_WRITTEN,
+    ("lfsed --help", 0, 4, "lfsed: 61 CannotWrite\n", Text(HELP)),
+];
 
 #[test]
 fn a_flush_that_fails(rt: HostRuntime) -> Result<(), Fail> {
-    let alloc = rt.alloc();
-    let image = filled(alloc, &NEW, 4_096)?;
-    for words in [
-        CHECK.as_slice(),
-        FORMAT.as_slice(),
-        ["lfsed", "--help"].as_slice(),
-    ] {
-        let mut host = host_with(alloc, image.as_slice())?;
+    for run in &NOT_FLUSHED {
+        let mut host = MemoryHost::with(rt.alloc(), &NEW, 4_096)?;
         host.flush_fails = true;
-        assert_eq!(rt; host.run(words), 4);
-        assert!(rt; host.complained.as_str() == "lfsed: 61 CannotWrite\n");
+        play_one(&rt, &mut host, run)?;
     }
-    Ok(())
-}
-
-#[test]
-fn help_that_is_not_taken(rt: HostRuntime) -> Result<(), Fail> {
-    let mut host = MemoryHost::new(rt.alloc());
-    host.room = 20;
-    assert_eq!(rt; host.run(&["lfsed", "--help"]), 4);
-    assert_eq!(rt; host.printed.len(), 20);
-    assert!(rt; host.complained.as_str() == "lfsed: 61 CannotWrite\n");
     Ok(())
 }

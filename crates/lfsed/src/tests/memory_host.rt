@@ -2,24 +2,30 @@
 
 use crate::cli::cli;
 use crate::host::{Host, HostFault, ReadFault};
+use crate::tests::images::{byte_of, filled};
 use std::alloc::{AllocError, Global};
 use std::fmt::{Display, Write};
 
-/// Files by name, what was printed and what was complained, and what is to fail.
+/// The files `a.img` and `a.img.new`, what was printed and what was complained, and what is to fail.
 #[derive(Drop)]
 pub struct MemoryHost {
     alloc: Global,
-    files: Vec<(String, Vec<u8>)>,
-    /// The name of a folder.
-    pub folder: &'static str,
-    /// What comes from standard input, unless reading it fails.
-    pub input: Option<Vec<u8>>,
+    /// The bytes of `a.img`, where there is such a file.
+    pub image: Option<Vec<u8>>,
+    /// The bytes of `a.img.new`, where there is such a file.
+    pub new_image: Option<Vec<u8>>,
+    /// How many bytes of contents come from standard input.
+    pub input: usize,
     /// What went to standard output.
     pub printed: Vec<u8>,
     /// What went to standard error.
     pub complained: String,
     /// How many bytes standard output still takes.
     pub room: usize,
+    /// Whether `a.img` is a folder.
+    pub is_folder: bool,
+    /// Whether reading standard input fails.
+    pub input_fails: bool,
     /// Whether writing a file fails.
     pub write_fails: bool,
     /// Whether renaming a file fails.
@@ -36,82 +42,96 @@ impl MemoryHost {
     pub fn new(alloc: Global) -> MemoryHost {
         MemoryHost {
             alloc,
-            files: Vec::new(alloc),
-            folder: "",
-            input: Some(Vec::new(alloc)),
+            image: None,
+            new_image: None,
+            input: 0,
             printed: Vec::new(alloc),
             complained: String::new(alloc),
             room: 65_536,
+            is_folder: false,
+            input_fails: false,
             write_fails: false,
             rename_fails: false,
             flush_fails: false,
         }
     }
 
-    /// Runs the program, and answers its status.
-    pub fn run(&mut self, words: &[&str]) -> u8 {
+    /// A host with one file, `a.img`: these bytes, with 0xff behind them up to a length.
+    pub fn with(alloc: Global, root: &[u8], len: usize) -> Result<MemoryHost, AllocError> {
+        let mut host = MemoryHost::new(alloc);
+        host.image = Some(filled(alloc, root, len)?);
+        Ok(host)
+    }
+
+    /// Runs the program, and answers its status. Its words are parted by single spaces.
+    pub fn run(&mut self, line: &str) -> Result<u8, AllocError> {
         let alloc = self.alloc;
-        cli(alloc, self, words)
-    }
-
-    /// Makes a file of these bytes.
-    pub fn put(&mut self, name: &str, bytes: &[u8]) -> Result<(), AllocError> {
-        let name = String::from_str(self.alloc, name)?;
-        let bytes = Vec::from_slice(self.alloc, bytes)?;
-        self.files.retain(|file| file.0.as_str() != name.as_str());
-        self.files.push((name, bytes))?;
-        Ok(())
-    }
-
-    /// A file's bytes.
-    pub fn file(&self, name: &str) -> Option<&[u8]> {
-        for (other, bytes) in &self.files {
-            if other.as_str() == name {
-                return Some(bytes.as_slice());
-            }
+        let mut words = Vec::new(alloc);
+        for word in line.split(' ') {
+            words.push(word)?;
         }
-        None
+        Ok(cli(alloc, self, words.as_slice()))
+    }
+
+    /// A copy of `a.img`, where there is such a file.
+    pub fn copy(&self) -> Result<Option<Vec<u8>>, AllocError> {
+        match &self.image {
+            Some(bytes) => Ok(Some(Vec::from_slice(self.alloc, bytes.as_slice())?)),
+            None => Ok(None),
+        }
+    }
+
+    /// The bytes of `a.img`; none where there is no such file.
+    pub fn bytes(&self) -> &[u8] {
+        match &self.image {
+            Some(bytes) => bytes.as_slice(),
+            None => &[],
+        }
     }
 }
 
 impl Host for MemoryHost {
     fn read(&mut self, alloc: Global, name: &str) -> Result<Vec<u8>, ReadFault> {
-        match self.file(name) {
-            Some(bytes) => Vec::from_slice(alloc, bytes).map_err(|_| ReadFault::Memory),
-            None => Err(ReadFault::CannotRead),
+        match &self.image {
+            Some(bytes) if name == "a.img" => {
+                Vec::from_slice(alloc, bytes.as_slice()).map_err(|_| ReadFault::Memory)
+            }
+            _ => Err(ReadFault::CannotRead),
         }
     }
 
     fn input(&mut self, alloc: Global) -> Result<Vec<u8>, ReadFault> {
-        match &self.input {
-            Some(bytes) => Vec::from_slice(alloc, bytes).map_err(|_| ReadFault::Memory),
-            None => Err(ReadFault::CannotRead),
+        if self.input_fails {
+            return Err(ReadFault::CannotRead);
         }
+        let mut bytes = Vec::new(alloc);
+        for n in 0..self.input {
+            if bytes.push(byte_of(n)).is_err() {
+                return Err(ReadFault::Memory);
+            }
+        }
+        Ok(bytes)
     }
 
     fn write(&mut self, name: &str, bytes: &[u8]) -> Result<(), HostFault> {
-        if self.write_fails {
+        if self.write_fails || name != "a.img.new" {
             return Err(HostFault);
         }
-        self.put(name, bytes).map_err(|_| HostFault)
+        match Vec::from_slice(self.alloc, bytes) {
+            Ok(bytes) => {
+                self.new_image = Some(bytes);
+                Ok(())
+            }
+            Err(_) => Err(HostFault),
+        }
     }
 
     fn rename(&mut self, from: &str, to: &str) -> Result<(), HostFault> {
-        if self.rename_fails || to == self.folder {
+        if self.rename_fails || self.is_folder || from != "a.img.new" || to != "a.img" {
             return Err(HostFault);
         }
-        for (name, _) in self.files.iter_mut() {
-            if name.as_str() == to {
-                name.clear();
-            }
-        }
-        for (name, _) in self.files.iter_mut() {
-            if name.as_str() == from {
-                name.clear();
-                return name.push_str(to).map_err(|_| HostFault);
-            }
-        }
-        Err(HostFault)
+        self.image = self.new_image.take();
+        Ok(())
     }
 
     fn print(&mut self, bytes: &[u8]) -> Option<usize> {

@@ -1,88 +1,96 @@
 //! Command lines that are refused, and help.
 
 use crate::tests::memory_host::MemoryHost;
+use crate::tests::playing::{Print, Run, play_one};
+use std::alloc::{AllocError, Global};
+use std::process::Abort;
+use std::test::Fail;
 
-#[test]
-fn refused_command_lines(rt: HostRuntime) {
-    let rows = [
-        (
-            ["lfsed"].as_slice(),
-            "error: 'lfsed' requires a subcommand but one was not provided\n",
-        ),
-        (
-            &["lfsed", "frob"],
-            "error: unrecognized subcommand 'frob'\n",
-        ),
-        (
-            &["lfsed", "help"],
-            "error: unrecognized subcommand 'help'\n",
-        ),
-        (
-            &["lfsed", "format", "a.img"],
-            "error: the following required arguments were not provided:\n  --count <N>\n",
-        ),
-        (
-            &["lfsed", "format", "--count", "8"],
-            "error: the following required arguments were not provided:\n  <IMAGE>\n",
-        ),
-        (
-            &["lfsed", "format", "--count", "1", "a.img"],
-            "error: invalid value '1' for '--count <N>': 1 is not in 2..=65536\n",
-        ),
-        (
-            &["lfsed", "format", "--count", "eight", "a.img"],
-            "error: invalid value 'eight' for '--count <N>': invalid digit found in string\n",
-        ),
-        (
-            &["lfsed", "format", "--block", "255", "--count", "8", "a.img"],
-            "error: invalid value '255' for '--block <BYTES>': 255 is not in 256..=65536\n",
-        ),
-        (
-            &["lfsed", "check", "--block", "65537", "a.img"],
-            "error: invalid value '65537' for '--block <BYTES>': 65537 is not in 256..=65536\n",
-        ),
-        (
-            &["lfsed", "check", "a.img", "b.img"],
-            "error: unexpected argument 'b.img' found\n",
-        ),
-        (
-            &["lfsed", "setattr", "a.img", "/", "74"],
-            "error: the following required arguments were not provided:\n  <HEX>\n",
-        ),
-        (
-            &["lfsed", "rmattr", "a.img", "/"],
-            "error: the following required arguments were not provided:\n  <KIND>\n",
-        ),
-        (
-            &["lfsed", "rmattr", "a.img", "/", "74", "00"],
-            "error: unexpected argument '00' found\n",
-        ),
-        (
-            &["lfsed", "setattr", "--block", "255", "a.img", "/", "7", "0"],
-            "error: invalid value '255' for '--block <BYTES>': 255 is not in 256..=65536\n",
-        ),
-        (
-            &["lfsed", "undo", "a.img"],
-            "error: unrecognized subcommand 'undo'\n",
-        ),
-        (
-            &["lfsed", "redo", "a.img"],
-            "error: unrecognized subcommand 'redo'\n",
-        ),
-        (
-            &["lfsed", "forget", "a.img"],
-            "error: unrecognized subcommand 'forget'\n",
-        ),
-    ];
-    for (words, text) in rows {
-        let mut host = MemoryHost::new(rt.alloc());
-        assert_eq!(rt; host.run(words), 2, "{text}");
-        assert!(rt; host.complained.as_str().starts_with(text), "{text}");
-        assert!(rt; host.printed.is_empty());
-    }
+/// Command lines that are refused, and how what is complained begins.
+const REFUSED: [(&str, &str); 17] = [
+    (
+        "lfsed",
+        "error: 'lfsed' requires a subcommand but one was not provided\n",
+    ),
+    ("lfsed frob", "error: unrecognized subcommand 'frob'\n"),
+    ("lfsed help", "error: unrecognized subcommand 'help'\n"),
+    (
+        "lfsed format a.img",
+        "error: the following required arguments were not provided:\n  --count <N>\n",
+    ),
+    (
+        "lfsed format --count 8",
+        "error: the following required arguments were not provided:\n  <IMAGE>\n",
+    ),
+    (
+        "lfsed format --count 1 a.img",
+        "error: invalid value '1' for '--count <N>': 1 is not in 2..=65536\n",
+    ),
+    (
+        "lfsed format --count eight a.img",
+        "error: invalid value 'eight' for '--count <N>': invalid digit found in string\n",
+    ),
+    (
+        "lfsed format --block 255 --count 8 a.img",
+        "error: invalid value '255' for '--block <BYTES>': 255 is not in 256..=65536\n",
+    ),
+    (
+        "lfsed check --block 65537 a.img",
+        "error: invalid value '65537' for '--block <BYTES>': 65537 is not in 256..=65536\n",
+    ),
+    (
+        "lfsed check a.img b.img",
+        "error: unexpected argument 'b.img' found\n",
+    ),
+    (
+        "lfsed setattr a.img / 74",
+        "error: the following required arguments were not provided:\n  <HEX>\n",
+    ),
+    (
+        "lfsed rmattr a.img /",
+        "error: the following required arguments were not provided:\n  <KIND>\n",
+    ),
+    (
+        "lfsed rmattr a.img / 74 00",
+        "error: unexpected argument '00' found\n",
+    ),
+    (
+        "lfsed setattr --block 255 a.img / 7 0",
+        "error: invalid value '255' for '--block <BYTES>': 255 is not in 256..=65536\n",
+    ),
+    (
+        "lfsed undo a.img",
+        "error: unrecognized subcommand 'undo'\n",
+    ),
+    (
+        "lfsed redo a.img",
+        "error: unrecognized subcommand 'redo'\n",
+    ),
+    (
+        "lfsed forget a.img",
+        "error: unrecognized subcommand 'forget'\n",
+    ),
+];
+
+/// Asserts that a command line is refused, and how what is complained begins.
+fn refuse(rt: &impl Abort, alloc: Global, line: &str, text: &str) -> Result<(), AllocError> {
+    let mut host = MemoryHost::new(alloc);
+    assert_eq!(rt; host.run(line)?, 2, "{line}");
+    assert!(rt; host.complained.as_str().starts_with(text), "{line}");
+    assert!(rt; host.printed.is_empty(), "{line}");
+    Ok(())
 }
 
-const HELP: &str = "Edit littlefs images of disk version 2.0
+#[test]
+fn refused_command_lines(rt: HostRuntime) -> Result<(), Fail> {
+    for (line, text) in &REFUSED {
+        refuse(&rt, rt.alloc(), line, text)?;
+    }
+    Ok(())
+}
+
+/// The program's help.
+pub const HELP: &str = "Edit littlefs images of disk version 2.0
 
 Usage: lfsed <COMMAND>
 
@@ -182,21 +190,22 @@ Options:
   -h, --help           Print help
 ";
 
+/// What asks for help, and what is printed.
+const HELPS: [Run; 7] = [
+    ("lfsed --help", 0, 0, "", Print::Text(HELP)),
+    ("lfsed format --help", 0, 0, "", Print::Text(FORMAT_HELP)),
+    ("lfsed check --help", 0, 0, "", Print::Text(CHECK_HELP)),
+    ("lfsed cat --help", 0, 0, "", Print::Text(CAT_HELP)),
+    ("lfsed put --help", 0, 0, "", Print::Text(PUT_HELP)),
+    ("lfsed setattr --help", 0, 0, "", Print::Text(SETATTR_HELP)),
+    ("lfsed rmattr --help", 0, 0, "", Print::Text(RMATTR_HELP)),
+];
+
 #[test]
-fn help_goes_to_standard_output(rt: HostRuntime) {
-    let rows = [
-        (["lfsed", "--help"].as_slice(), HELP),
-        (&["lfsed", "format", "--help"], FORMAT_HELP),
-        (&["lfsed", "check", "--help"], CHECK_HELP),
-        (&["lfsed", "cat", "--help"], CAT_HELP),
-        (&["lfsed", "put", "--help"], PUT_HELP),
-        (&["lfsed", "setattr", "--help"], SETATTR_HELP),
-        (&["lfsed", "rmattr", "--help"], RMATTR_HELP),
-    ];
-    for (words, text) in rows {
+fn help_goes_to_standard_output(rt: HostRuntime) -> Result<(), Fail> {
+    for run in &HELPS {
         let mut host = MemoryHost::new(rt.alloc());
-        assert_eq!(rt; host.run(words), 0);
-        assert!(rt; host.printed.as_slice() == text.as_bytes());
-        assert!(rt; host.complained.is_empty());
+        play_one(&rt, &mut host, run)?;
     }
+    Ok(())
 }
