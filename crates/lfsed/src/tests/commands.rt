@@ -4,7 +4,6 @@ use crate::tests::images::{NEW, begins_with};
 use crate::tests::memory_host::MemoryHost;
 use crate::tests::playing::Print::{Nothing, Text};
 use crate::tests::playing::{Run, play, play_on_new, play_one};
-use std::process::Abort;
 use std::test::Fail;
 
 /// How block 1 begins after `setattr / 74 0102` on a new image of 8 blocks of 512 bytes.
@@ -194,21 +193,20 @@ const REMOVED: [Run; 2] = [
     ),
 ];
 
-/// Asserts that an image has 4,096 bytes: how blocks 0 and 1 begin, and 0xff.
-fn has_blocks(rt: &impl Abort, image: &[u8], first: &[u8], second: &[u8]) {
-    assert!(rt; image.len() == 4_096);
-    assert!(rt; begins_with(&image[..512], first));
-    assert!(rt; begins_with(&image[512..], second));
+/// Whether the first block of 512 bytes and what stands behind it begin with these bytes, and are 0xff behind them.
+fn has_blocks(image: &[u8], first: &[u8], second: &[u8]) -> bool {
+    image.len() >= 512 && begins_with(&image[..512], first) && begins_with(&image[512..], second)
 }
 
 #[test]
 fn an_attribute_of_the_root_is_set_and_removed(rt: HostRuntime) -> Result<(), Fail> {
     let mut host = MemoryHost::with(rt.alloc(), &NEW, 4_096)?;
     play_one(&rt, &mut host, &SET)?;
-    has_blocks(&rt, host.bytes(), &NEW, &WITH_ATTRIBUTE);
+    assert!(rt; has_blocks(host.bytes(), &NEW, &WITH_ATTRIBUTE));
     play_one(&rt, &mut host, &REMOVE)?;
-    has_blocks(&rt, host.bytes(), &WITHOUT_ATTRIBUTE, &WITH_ATTRIBUTE);
+    assert!(rt; has_blocks(host.bytes(), &WITHOUT_ATTRIBUTE, &WITH_ATTRIBUTE));
     play(&rt, &mut host, &REMOVED)?;
+    assert_eq!(rt; host.bytes().len(), 4_096);
     Ok(())
 }
 
