@@ -24,6 +24,8 @@ pub use image_fault::ImageFault;
 pub use mount_fault::MountFault;
 pub use patch::Patch;
 pub use patch_laws::{
-    applied_patches_change_their_blocks, reverted_patches_apply_again, changes_change_their_blocks, images_are_their_blocks, flipped_patches_are_patches, put_blocks_stand, applied_patches_revert,
+    applied_patches_change_their_blocks, applied_patches_revert, changes_change_their_blocks,
+    flipped_patches_are_patches, images_are_their_blocks, put_blocks_stand,
+    reverted_patches_apply_again,
 };
 pub use record::Record;

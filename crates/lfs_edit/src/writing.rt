@@ -10,7 +10,10 @@ ghost use Rattle.lfs_edit.specs.declared.refusal.Refusal.TheVariants.{Memory};
 ghost use Rattle.lfs_edit.specs.PartWritten.{AreContents, AreNew, WritesPart, change_at, changes_at, patch_at, with_change};
 
 use crate::refusal::Refusal;
-use lfs_block::{Blocks, Image, Patch, Record, applied_patches_change_their_blocks, put_blocks_stand, applied_patches_revert};
+use lfs_block::{
+    Blocks, Image, Patch, Record, applied_patches_change_their_blocks, applied_patches_revert,
+    put_blocks_stand,
+};
 use lfs_meta::{Part, parts_depend_on_their_blocks, rewrite};
 use std::alloc::{AllocError, Global};
 

@@ -13,8 +13,8 @@ mod tests;
 pub use capacity::blocks_for;
 pub use file_slices::{FileSlices, read_file};
 pub use laws::{
-    blocks_of_chains_differ, chains_stay_on_their_blocks, contents_have_their_length, laid_blocks_are_whole, laid_blocks_are_chains,
-    least_blocks_are_least, files_have_one_chain,
+    blocks_of_chains_differ, chains_stay_on_their_blocks, contents_have_their_length,
+    files_have_one_chain, laid_blocks_are_chains, laid_blocks_are_whole, least_blocks_are_least,
 };
 pub use laying::lay;
 pub use skip_list::chain;

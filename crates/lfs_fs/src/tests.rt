@@ -7,11 +7,11 @@ use crate::mounted::Mounted;
 use crate::path::Path;
 use crate::row_body::RowBody;
 use crate::{
-    both_sides_hold, entries_are_cut_greedily, entries_weigh_as_stored, formatted_volumes_are_sound,
-    fronts_begin_each_other, images_mount_to_one_tree, images_without_cause_mount,
-    lone_superblocks_mount, mount, mounted_images_have_no_cause, names_are_ordered,
-    paths_are_ordered, links_make_their_directories, rows_are_unique, rows_show_the_tree,
-    same_readings_hold_the_same, stored_links_stay, texts_spell_one_path,
+    both_sides_hold, entries_are_cut_greedily, entries_weigh_as_stored,
+    formatted_volumes_are_sound, fronts_begin_each_other, images_mount_to_one_tree,
+    images_without_cause_mount, links_make_their_directories, lone_superblocks_mount, mount,
+    mounted_images_have_no_cause, names_are_ordered, paths_are_ordered, rows_are_unique,
+    rows_show_the_tree, same_readings_hold_the_same, stored_links_stay, texts_spell_one_path,
 };
 use lfs_block::{Image, MountFault};
 use std::alloc::{AllocError, Global};
