@@ -1,12 +1,12 @@
--- Undo and redo keep all images.
+-- Undo takes a command back, and undo and redo keep all images.
 use Rattle.std.proofs.Common.{◌≡◌, List, [], ◌∷◌, ◌++◌, reverse, ap, sym, ◌∙◌, append_assoc, Some, None}
-use Rattle.std.proofs.lemmas.List.{reverse-append}
+use Rattle.std.proofs.lemmas.List.{reverse-append, same_from_push}
 use Rattle.lfs_block.specs.Disk.{Disk}
 use Rattle.lfs_journal.specs.declared.step_fault.StepFault.TheVariants.{Refused, NothingToUndo, NothingToRedo, JournalFull}
 use Rattle.lfs_journal.specs.History.{History}
 use Rattle.lfs_journal.specs.Moves.{Undoes}
 use Rattle.lfs_journal.specs.Steps.{Step, Do, Undo, Redo, Forget, Reply, Takes}
-use Rattle.lfs_journal.specs.Laws.{images, IsUndoOrRedo, UndoAndRedoKeepImages}
+use Rattle.lfs_journal.specs.Laws.{images, IsUndoOrRedo, UndoAndRedoKeepImages, UndoIsExact}
 
 -- the nearest image of the past becomes the present one: the images are the same
 moved : (front : Disk) (past : List Disk) (x : Disk) (future : List Disk) → reverse past ++ front ∷ (x ∷ future) ≡ reverse (front ∷ past) ++ x ∷ future
@@ -39,3 +39,14 @@ runs_keep_images (step ∷ steps) (reply ∷ replies) old new each (mid, first, 
     runs_keep_images steps replies mid new each.1 rest ∙ step_keeps_images step reply old mid each.0 first
 runs_keep_images [] (reply ∷ replies) old new each run = absurd run
 runs_keep_images (step ∷ steps) [] old new each run = absurd run
+
+-- ---- a command taken back
+
+same_front : (x y : Disk) (xs ys : List Disk) → x ∷ xs ≡ y ∷ ys → (x ≡ y) × (xs ≡ ys)
+same_front x y xs ys is = (cc, cc)
+
+pub done_is_undone : UndoIsExact
+done_is_undone asked old new (mid, does, (last, undoes, same)) =
+    let front = same_front last.present old.present last.past old.past (sym undoes.past ∙ does.pushes.past) in
+    let made : last.done ≡ old.done = (same_from_push last.done old.done undoes.change does.change (sym undoes.done ∙ does.pushes.done)).0 in
+    (ap (λ (h : History). h.present) same ∙ front.0, ap (λ (h : History). h.past) same ∙ front.1, ap (λ (h : History). h.done) same ∙ made)

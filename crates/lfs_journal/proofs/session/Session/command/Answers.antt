@@ -1,13 +1,26 @@
 -- The planned patch is put at the place, and made.
-use Rattle.std.proofs.Common.{◌+◌, ◌<◌, List, length, take, ap, ◌∙◌, subst, arith}
+use Rattle.std.proofs.Common.{◌+◌, ◌<◌, List, length, take, refl, ap, ◌∙◌, subst, arith}
 use Rattle.std.proofs.lemmas.Result.{err_from_is_err_and}
 use Rattle.std.proofs.lemmas.List.{length-take-le}
 use Rattle.lfs_block.specs.Patch.{ChangeSet}
 use Rattle.lfs_edit.specs.AskedFor.{asked_for}
+use Rattle.lfs_edit.specs.Planned.{RefusesPlan}
 use Rattle.lfs_journal.specs.History.{History, history_at, most_changes}
 use Rattle.lfs_journal.specs.Steps.{Does}
 use Rattle.lfs_journal.proofs.PlaceLemmas.{done_at}
 use Rattle.lfs_journal.proofs.session.Session.command.Goals as goal
+
+pub returns-in_err-patch-clause-refused : goal.returns-in_err-patch-clause-refused
+returns-in_err-patch-clause-refused c =
+    let s = c.self.inside in
+    let p = err_from_is_err_and c.from_residual-in_err-patch.result c.from_residual-in_err-patch.ensures.1 in
+    let within = c.self.invariant.within in
+    let made : length (take s.done s.patches.items) < most_changes = let len = length-take-le s.done s.patches.items within in omega arith in
+    rw (p.1, p.2) (
+      subst (λ (h : History). length h.done < most_changes) c.self.view_is made,
+      subst (λ (h : History). RefusesPlan h.present (asked_for c.args.command.now) c.in_err-patch.field-0.0) c.self.view_is c.in_err-patch.ensures.refused,
+      refl,
+    )
 
 pub returns-in_err-replace_from-clause-refused : goal.returns-in_err-replace_from-clause-refused
 returns-in_err-replace_from-clause-refused c =
