@@ -2,7 +2,9 @@
 
 ghost use Rattle.lfs_journal.specs.Laws.{CommandsAreEquations, CommandsPushEquations, RunsKeepHistories, UndoIsExact, RedoIsExact, UndoAndRedoKeepImages};
 
-use lfs_block::{applied_patches_change_their_blocks, reverted_patches_apply_again, applied_patches_revert};
+use lfs_block::{
+    applied_patches_change_their_blocks, applied_patches_revert, reverted_patches_apply_again,
+};
 use lfs_edit::cuts_follow;
 use lfs_fs::images_mount_to_one_tree;
 

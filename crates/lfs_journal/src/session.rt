@@ -4,7 +4,10 @@ use crate::remounting::remount;
 use crate::replacing::replace_from;
 use crate::step_fault::StepFault;
 use crate::unmounted::Unmounted;
-use lfs_block::{Image, Patch, applied_patches_change_their_blocks, reverted_patches_apply_again, applied_patches_revert};
+use lfs_block::{
+    Image, Patch, applied_patches_change_their_blocks, applied_patches_revert,
+    reverted_patches_apply_again,
+};
 use lfs_edit::{Command, cuts_follow, plan};
 use lfs_fs::mount;
 use std::alloc::Global;

@@ -1,15 +1,33 @@
 -- What a command on an image answers, from what is said of its session, and what it answers on bytes.
-use Rattle.std.proofs.Common.{◌≡◌, ℕ, List, [], Option, Some, None, Result, Ok, Err, IfErr, OnOk, OnErr, sym, subst, ap, ◌∙◌}
+use Rattle.std.proofs.Common.{◌≡◌, ℕ, List, [], Option, Some, None, Result, Ok, Err, IfErr, OnOk, OnErr, inr, sym, subst, ap, ◌∙◌}
 use Rattle.std.specs.Result.{result_err}
 use Rattle.lfs_block.specs.Disk.{Disk, IsDisk}
 use Rattle.lfs_edit.specs.Command.{Asked}
-use Rattle.lfs_journal.specs.History.{History, fresh_history}
+use Rattle.lfs_journal.specs.declared.step_fault.StepFault.{StepFault}
+use Rattle.lfs_journal.specs.declared.step_fault.StepFault.TheVariants.{Refused as Refused_step, NothingToUndo, NothingToRedo, JournalFull}
+use Rattle.lfs_journal.specs.History.{History, IsMounted, fresh_history}
 use Rattle.lfs_journal.specs.Steps.{Takes, Do}
 use Rattle.lfsed.specs.declared.fault.Fault.{Fault}
+use Rattle.lfsed.specs.Fault.{fault_of_step}
 use Rattle.lfsed.specs.declared.fault.Fault.TheVariants.{Image}
 use Rattle.lfsed.specs.declared.outcome.Outcome.{Outcome}
-use Rattle.lfsed.specs.Change.{IsChanged, RefusesImage, AnswersImage, RefusesChange, AnswersChange}
+use Rattle.lfsed.specs.Change.{IsChanged, RefusesStep, RefusesImage, AnswersImage, RefusesChange, AnswersChange}
 use Rattle.lfsed.proofs.OutcomeLemmas.{image_of_disk}
+
+-- a command that is refused on an image that nothing was done to
+refused_step : (asked : Asked) (journal : List ℕ) (old new : History) (fault : StepFault) → IsMounted old.present → journal ≡ [] → old ≡ fresh_history old.present
+    → new ≡ old → Takes (Do asked) (Some fault) old new → RefusesStep asked old.present journal fault
+refused_step asked journal old new fault mounts unused fresh same takes =
+    let kept : Takes (Do asked) (Some fault) old old = subst (λ (h : History). Takes (Do asked) (Some fault) old h) same takes in
+    (mounts, unused, subst (λ (h : History). Takes (Do asked) (Some fault) h h) fresh kept)
+
+-- and so the image isn't changed
+pub refused_image : (asked : Asked) (journal : List ℕ) (old new : History) (fault : StepFault) → IsMounted old.present → journal ≡ [] → old ≡ fresh_history old.present
+    → new ≡ old → Takes (Do asked) (Some fault) old new → RefusesImage asked old.present journal (fault_of_step fault)
+refused_image asked journal old new (Refused_step r) mounts unused fresh same takes = inr (refused_step asked journal old new (Refused_step r) mounts unused fresh same takes)
+refused_image asked journal old new NothingToUndo mounts unused fresh same takes = refused_step asked journal old new NothingToUndo mounts unused fresh same takes
+refused_image asked journal old new NothingToRedo mounts unused fresh same takes = refused_step asked journal old new NothingToRedo mounts unused fresh same takes
+refused_image asked journal old new JournalFull mounts unused fresh same takes = refused_step asked journal old new JournalFull mounts unused fresh same takes
 
 -- what is said of a session in which a command was to be carried out
 pub record IsReported {T : Type 0} (asked : Asked) (journal : List ℕ) (reported : Result T Fault) (old new : History) : Type 0 where
