@@ -17,6 +17,9 @@ pub mod Thread
 pub mod Row
 pub mod Shown
 pub mod FolderHeld
+pub mod Outlined
+pub mod AsStored
+pub mod OutlineHeld
 pub mod RowHeld
 pub mod EntryFault
 pub mod FolderTable

@@ -1,6 +1,7 @@
 //! The file system of an image: its volume, why an image does not mount, and what a mounted image shows.
 #![tactic(auto)]
 
+mod delta;
 mod folder;
 mod folder_table;
 mod formatted;
@@ -20,6 +21,11 @@ mod names;
 mod no_cause;
 mod no_cause_mounts;
 mod one_mount;
+mod outline;
+mod outline_body;
+mod outline_directory;
+mod outline_entry;
+mod outline_part;
 mod path;
 mod path_text;
 mod pending;
@@ -37,6 +43,7 @@ mod used;
 mod walk;
 mod weight;
 
+pub use delta::Delta;
 pub use formatted::formatted_volumes_are_sound;
 pub use front::fronts_begin_each_other;
 pub use limits::Limits;
@@ -49,6 +56,11 @@ pub use names::precedes;
 pub use no_cause::mounted_images_have_no_cause;
 pub use no_cause_mounts::images_without_cause_mount;
 pub use one_mount::images_mount_to_one_tree;
+pub use outline::Outline;
+pub use outline_body::OutlineBody;
+pub use outline_directory::OutlineDirectory;
+pub use outline_entry::OutlineEntry;
+pub use outline_part::OutlinePart;
 pub use path::Path;
 pub use path_text::texts_spell_one_path;
 pub use row::{paths_are_ordered, rows_are_unique, rows_show_the_tree};

@@ -1,0 +1,14 @@
+//! Where the contents of an entry stand.
+
+/// Where what stands under a name is: a file's bytes, a file's chain with its size, or a directory's first pair.
+///
+/// Source: SPEC.md, "Metadata types".
+#[derive(Debug, Drop)]
+pub enum OutlineBody {
+    /// The bytes of a file that stand in its entry.
+    Held(Vec<u8>),
+    /// The blocks of a file from its first on, and its size in bytes.
+    Linked { blocks: Vec<u32>, size: u32 },
+    /// The first pair of a directory.
+    Leads(u32, u32),
+}

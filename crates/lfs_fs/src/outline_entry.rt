@@ -1,0 +1,37 @@
+//! What stands under a name of a directory, in an outline.
+
+use crate::outline_body::OutlineBody;
+use lfs_meta::Attribute;
+use std::marker::Model;
+
+/// What stands under a name of a directory. Its meaning is the entry of a volume, with as many zeros as the contents of
+/// its chain have bytes. As it is
+/// stored its lengths and numbers fit into tags.
+///
+/// Source: own.
+#[derive(Debug, Drop)]
+pub struct OutlineEntry {
+    /// The name.
+    pub name: Vec<u8>,
+    /// Where it is.
+    pub body: OutlineBody,
+    /// The attributes, strictly rising by kind.
+    pub attributes: Vec<Attribute>,
+}
+
+impl Model for OutlineEntry {
+    ghost use Rattle.lfs_meta.specs.Fits.{EntryFits};
+    ghost use Rattle.lfs_fs.specs.AsStored.{stored_entry};
+    ghost use Rattle.lfs_fs.specs.Entry.{Entry};
+    ghost use Rattle.lfs_fs.specs.OutlineHeld.{outline_body_held};
+
+    ghost Value = { Entry };
+
+    ghost view = { λ e. record { name = e.name.items; body = outline_body_held e.body; attributes = e.attributes.items } };
+
+    ghost invariant = { λ e. EntryFits (stored_entry (record {
+      name = e.name.items;
+      body = outline_body_held e.body;
+      attributes = e.attributes.items;
+    })) };
+}
