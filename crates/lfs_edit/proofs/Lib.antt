@@ -79,3 +79,5 @@ pub mod LinkFits
 pub mod PlanLemmas
 pub mod FilePlanLemmas
 pub mod ContentsLemmas
+pub mod OutlinePlaces
+pub mod OneIndex

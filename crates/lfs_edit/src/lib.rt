@@ -4,6 +4,8 @@
 mod attribute_edit;
 mod command;
 mod contents;
+mod directory_edit;
+mod entry_edit;
 mod file_edit;
 mod file_part;
 mod file_place;

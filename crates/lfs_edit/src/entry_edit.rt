@@ -1,0 +1,75 @@
+//! Edits of a list of entries.
+
+ghost use Rattle.std.specs.Prelude.{◌≡◌, ◌≤◌, not, count_by, length, OnOk, OnErr};
+ghost use Rattle.std.specs.List.{position, prefix_len};
+ghost use Rattle.lfs_meta.specs.Fits.{BodyFits};
+ghost use Rattle.lfs_fs.specs.AsStored.{stored_body};
+ghost use Rattle.lfs_fs.specs.Entry.{is_named};
+ghost use Rattle.lfs_fs.specs.NameOrder.{precedes};
+ghost use Rattle.lfs_fs.specs.OutlineHeld.{outline_body_held};
+ghost use Rattle.lfs_edit.specs.Edited.{with_body};
+ghost use Rattle.lfs_edit.specs.EntryEdit.{changed, place, without};
+
+use lfs_fs::{OutlineBody, OutlineEntry, precedes};
+use std::alloc::AllocError;
+
+/// How many entries stand before the first one with a greater name.
+fn place_of(entries: &[OutlineEntry], name: &[u8]) -> usize
+    ensures place { result ≡ prefix_len (λ e. not (precedes name.now e.name)) entries.now }
+    ensures within { result ≤ length entries.now }
+{
+    entries
+        .iter()
+        .take_while(|entry| !precedes(name, &entry.name))
+        .count()
+}
+
+/// Puts an entry before the first one with a greater name, else at the end. Want of memory changes nothing.
+pub(crate) fn place(entries: &mut Vec<OutlineEntry>, entry: OutlineEntry) -> Result<(), AllocError>
+    ensures placed { OnOk result (entries.new.items ≡ place entry entries.old.items) }
+    ensures unchanged { OnErr result (entries.new.items ≡ entries.old.items) }
+{
+    let at = place_of(entries, &entry.name);
+    entries.insert(at, entry)?;
+    Ok(())
+}
+
+/// Takes the entries of a name out. Takes no memory.
+pub(crate) fn take_out(entries: &mut Vec<OutlineEntry>, name: &[u8])
+    ensures { entries.new.items ≡ without name.now entries.old.items }
+{
+    entries.retain(
+        |entry| -> bool
+            ensures { result ≡ not (is_named name.entry.now entry.now) }
+        { name != entry.name.as_slice() },
+    );
+}
+
+/// The place of the first entry of a name.
+fn index_of(entries: &[OutlineEntry], name: &[u8]) -> Option<usize>
+    ensures { result ≡ position (is_named name.now) entries.now }
+{
+    entries
+        .iter()
+        .position(|entry| name == entry.name.as_slice())
+}
+
+/// Gives an entry another body. The caller owes numbers that have their width and contents of at most 1,022 bytes.
+fn set_body(entry: &mut OutlineEntry, body: OutlineBody)
+    requires { BodyFits (stored_body (outline_body_held body)) }
+    ensures { entry.new ≡ with_body (outline_body_held body) entry.old }
+{
+    entry.body = body;
+}
+
+/// Gives the entry of a name another body. The caller owes that no two entries have the name, and a body as `set_body` asks.
+/// Takes no memory.
+pub(crate) fn replace_body(entries: &mut Vec<OutlineEntry>, name: &[u8], body: OutlineBody)
+    requires once { count_by (is_named name.now) entries.old.items ≤ 1 }
+    requires fits { BodyFits (stored_body (outline_body_held body)) }
+    ensures { entries.new.items ≡ changed name.now (with_body (outline_body_held body)) entries.old.items }
+{
+    if let Some(at) = index_of(entries, name) {
+        set_body(&mut entries[at], body);
+    }
+}
