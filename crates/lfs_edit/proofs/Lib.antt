@@ -81,3 +81,4 @@ pub mod FilePlanLemmas
 pub mod ContentsLemmas
 pub mod OutlinePlaces
 pub mod OneIndex
+pub mod LinkedParts

@@ -20,6 +20,10 @@ each_part f d = record { first = f d.first; more = map f d.more }
 abbrev pub has_name : Name → Part → Bool
 has_name n p = list_any (is_named n) p.entries
 
+-- the part has an entry with a greater name
+abbrev pub has_greater : Name → Part → Bool
+has_greater n p = list_any (λ e. precedes n e.name) p.entries
+
 -- the entry of a name taken out; the part that had it is set
 abbrev pub unlink_in : Name → Directory → Directory
 unlink_in n = each_part (λ p. touch (has_name n p) (without n) p)
@@ -36,7 +40,7 @@ behind p d = record { first = p; more = parts d }
 unfoldable pub link_parts : Entry → Part → List Part → Directory
 link_parts e p [] = record { first = touch true (place e) p; more = [] }
 link_parts e p (q ∷ ps) =
-    if list_any (λ f. precedes e.name f.name) p.entries
+    if has_greater e.name p
     then record { first = touch true (place e) p; more = q ∷ ps }
     else behind p (link_parts e q ps)
 

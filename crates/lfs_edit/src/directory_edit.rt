@@ -1,10 +1,11 @@
 //! Edits of a directory: which of its parts is set, and to what.
 
-ghost use Rattle.std.specs.Prelude.{◌≡◌, ◌≤◌, ◌<◌, true, length, OnOk, OnErr};
-ghost use Rattle.std.specs.List.{list_any};
-ghost use Rattle.lfs_fs.specs.NameOrder.{precedes};
+ghost use Rattle.std.specs.Prelude.{◌≡◌, ◌-◌, ◌<◌, ◌⊎◌, true, false, List, ◌∷◌, length, MatchBool, OnOk, OnErr};
+ghost use Rattle.std.specs.List.{position};
+ghost use Rattle.std.specs.Option.{unwrap_or};
+ghost use Rattle.lfs_fs.specs.Directory.{Part, parts as parts_of};
 ghost use Rattle.lfs_edit.specs.EntryEdit.{place, without};
-ghost use Rattle.lfs_edit.specs.DirectoryEdit.{has_name, touch};
+ghost use Rattle.lfs_edit.specs.DirectoryEdit.{has_greater, has_name, link_in, link_parts, touch};
 
 use crate::entry_edit::{place, take_out};
 use lfs_fs::{OutlineDirectory, OutlineEntry, OutlinePart, precedes};
@@ -21,7 +22,7 @@ fn has_name(part: &OutlinePart, name: &[u8]) -> bool
 
 /// Whether an entry of a part has a greater name.
 fn has_greater(part: &OutlinePart, name: &[u8]) -> bool
-    ensures { result ≡ list_any (λ e. precedes name.now e.name) part.now.entries }
+    ensures { result ≡ has_greater name.now part.now }
 {
     part.entries.iter().any(|entry| precedes(name, &entry.name))
 }
@@ -46,13 +47,53 @@ fn take_out_of(part: &mut OutlinePart, name: &[u8])
     take_out(&mut part.entries, name);
 }
 
-/// The place of the first part with a greater name, else of the last one.
+/// The place of the first part that has a greater name.
+fn first_greater(parts: &[OutlinePart], name: &[u8]) -> Option<usize>
+    ensures { result ≡ position (has_greater name.now) parts.now }
+{
+    parts.iter().position(|part| has_greater(part, name))
+}
+
+/// The place of the part where a name belongs: the first one that has a greater name, else the last one.
 fn home_among(parts: &[OutlinePart], name: &[u8]) -> usize
     requires { 0 < length parts.now }
-    ensures { result < length parts.now }
+    ensures { result ≡ unwrap_or (position (has_greater name.now) parts.now) (length parts.now - 1) }
 {
-    parts
-        .iter()
-        .position(|part| has_greater(part, name))
-        .unwrap_or(parts.len() - 1)
+    first_greater(parts, name).unwrap_or(parts.len() - 1)
+}
+
+/// Puts an entry into the part where its name belongs, which is set. The caller owes a part. Want of memory changes nothing.
+fn link_among(parts: &mut Vec<OutlinePart>, entry: OutlineEntry) -> Result<(), AllocError>
+    requires { 0 < length parts.old.items }
+    ensures linked { OnOk result ((p : Part) (ps : List Part) → parts.old.items ≡ p ∷ ps → parts.new.items ≡ parts_of (link_parts entry p ps)) }
+    ensures unchanged { OnErr result (parts.new.items ≡ parts.old.items) }
+{
+    let at = home_among(parts, &entry.name);
+    place_in(&mut parts[at], entry)?;
+    Ok(())
+}
+
+/// Whether a name belongs into a directory's first part: there is no other, or it has a greater name.
+fn belongs_first(directory: &OutlineDirectory, name: &[u8]) -> bool
+    ensures { MatchBool result
+        ((length directory.now.more ≡ 0) ⊎ (has_greater name.now directory.now.first ≡ true))
+        ((0 < length directory.now.more) × (has_greater name.now directory.now.first ≡ false)) }
+{
+    directory.more.is_empty() || has_greater(&directory.first, name)
+}
+
+/// Puts an entry into the part of a directory where its name belongs, which is set. Want of memory changes nothing.
+pub(crate) fn link_in(
+    directory: &mut OutlineDirectory,
+    entry: OutlineEntry,
+) -> Result<(), AllocError>
+    ensures linked { OnOk result (directory.new ≡ link_in entry directory.old) }
+    ensures unchanged { OnErr result (directory.new ≡ directory.old) }
+{
+    if belongs_first(directory, &entry.name) {
+        place_in(&mut directory.first, entry)?;
+    } else {
+        link_among(&mut directory.more, entry)?;
+    }
+    Ok(())
 }
