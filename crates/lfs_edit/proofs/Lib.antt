@@ -82,3 +82,5 @@ pub mod ContentsLemmas
 pub mod OutlinePlaces
 pub mod OneIndex
 pub mod LinkedParts
+pub mod LastParts
+pub mod AddedDirectories

@@ -55,9 +55,13 @@ touch_last_of p (q ∷ ps) = behind p (touch_last_of q ps)
 abbrev pub touch_last : Directory → Directory
 touch_last d = touch_last_of d.first d.more
 
+-- a part that is set and takes up a delta
+abbrev pub taking_up : ℕ → Part → Part
+taking_up delta p = record { pair = p.pair; entries = p.entries; delta = bit_xor p.delta delta; dirty = true }
+
 -- the last part set, for the sake of its tail and of a delta that it takes up
 unfoldable pub absorb_in : ℕ → Part → List Part → Directory
-absorb_in delta p [] = record { first = record { pair = p.pair; entries = p.entries; delta = bit_xor p.delta delta; dirty = true }; more = [] }
+absorb_in delta p [] = record { first = taking_up delta p; more = [] }
 absorb_in delta p (q ∷ ps) = behind p (absorb_in delta q ps)
 
 -- a directory whose last part takes up the deltas of one that goes

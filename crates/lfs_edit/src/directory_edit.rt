@@ -1,14 +1,14 @@
 //! Edits of a directory: which of its parts is set, and to what.
 
-ghost use Rattle.std.specs.Prelude.{◌≡◌, ◌-◌, ◌<◌, ◌⊎◌, true, false, List, ◌∷◌, length, MatchBool, OnOk, OnErr};
+ghost use Rattle.std.specs.Prelude.{◌≡◌, ◌-◌, ◌<◌, ◌⊎◌, true, false, List, ◌∷◌, length, map, MatchBool, OnOk, OnErr};
 ghost use Rattle.std.specs.List.{position};
 ghost use Rattle.std.specs.Option.{unwrap_or};
 ghost use Rattle.lfs_fs.specs.Directory.{Part, parts as parts_of};
 ghost use Rattle.lfs_edit.specs.EntryEdit.{place, without};
-ghost use Rattle.lfs_edit.specs.DirectoryEdit.{has_greater, has_name, link_in, link_parts, touch};
+ghost use Rattle.lfs_edit.specs.DirectoryEdit.{absorb_in, has_greater, has_name, link_in, link_parts, taking_up, touch, touch_last, unlink_in};
 
 use crate::entry_edit::{place, take_out};
-use lfs_fs::{OutlineDirectory, OutlineEntry, OutlinePart, precedes};
+use lfs_fs::{Delta, OutlineDirectory, OutlineEntry, OutlinePart, precedes};
 use std::alloc::AllocError;
 
 /// Whether a part has an entry of a name.
@@ -96,4 +96,56 @@ pub(crate) fn link_in(
         link_among(&mut directory.more, entry)?;
     }
     Ok(())
+}
+
+/// Takes the entries of a name out of parts; each that had one is set. Takes no memory.
+fn take_out_of_all(parts: &mut Vec<OutlinePart>, name: &[u8])
+    ensures { parts.new.items ≡ map (λ p. touch (has_name name.now p) (without name.now) p) parts.old.items }
+{
+    for part in parts.iter_mut() {
+        take_out_of(part, name);
+    }
+}
+
+/// Takes the entries of a name out of a directory; each part that had one is set. Takes no memory.
+pub(crate) fn unlink_in(directory: &mut OutlineDirectory, name: &[u8])
+    ensures { directory.new ≡ unlink_in name.now directory.old }
+{
+    take_out_of(&mut directory.first, name);
+    take_out_of_all(&mut directory.more, name);
+}
+
+/// Sets a part.
+fn touch(part: &mut OutlinePart)
+    ensures { part.new ≡ touch true (λ es. es) part.old }
+{
+    part.dirty = true;
+}
+
+/// Sets the last part of a directory, for the sake of its tail. Takes no memory.
+pub(crate) fn touch_last(directory: &mut OutlineDirectory)
+    ensures { directory.new ≡ touch_last directory.old }
+{
+    match directory.more.last_mut() {
+        Some(part) => touch(part),
+        None => touch(&mut directory.first),
+    }
+}
+
+/// Sets a part, which takes up a delta. Takes no memory.
+fn absorb_into(part: &mut OutlinePart, delta: &Delta)
+    ensures { part.new ≡ taking_up delta.now part.old }
+{
+    part.delta = part.delta.joined(delta);
+    part.dirty = true;
+}
+
+/// Sets the last part of a directory, for the sake of its tail and of a delta that it takes up. Takes no memory.
+pub(crate) fn absorb_in(directory: &mut OutlineDirectory, delta: &Delta)
+    ensures { directory.new ≡ absorb_in delta.now directory.old.first directory.old.more }
+{
+    match directory.more.last_mut() {
+        Some(part) => absorb_into(part, delta),
+        None => absorb_into(&mut directory.first, delta),
+    }
 }

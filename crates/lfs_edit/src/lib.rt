@@ -20,6 +20,7 @@ mod planning;
 mod refusal;
 mod room;
 mod superblock;
+mod thread_edit;
 mod writing;
 
 pub use command::Command;
