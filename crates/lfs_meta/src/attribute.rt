@@ -1,6 +1,11 @@
 //! User attributes.
 
-use crate::attributes::HasKind;
+ghost use Rattle.std.specs.Prelude.{◌≡◌, ◌<◌, length, OnOk, OnErr};
+ghost use Rattle.lfs_meta.specs.Attribute.{remove_attribute, set_attribute};
+ghost use Rattle.lfs_meta.specs.Fits.{RiseFrom};
+
+use crate::attributes::{HasKind, remove, set};
+use std::alloc::{AllocError, Global};
 use std::marker::Model;
 
 /// A user attribute. Its meaning is its kind with the bytes of its value.
@@ -31,4 +36,33 @@ impl HasKind for Attribute {
     fn kind(&self) -> u8 {
         self.kind
     }
+}
+
+/// Sets the value of a kind among attributes that rise by kind. The caller owes a value of at most 1,022 bytes. Want of
+/// memory changes nothing.
+///
+/// Source: own.
+pub fn set_attribute(
+    attributes: &mut Vec<Attribute>,
+    alloc: Global,
+    kind: u8,
+    value: &[u8],
+) -> Result<(), AllocError>
+    requires { length value.now < 1023 }
+    ensures set { OnOk result (attributes.new.items ≡ set_attribute kind value.now attributes.old.items) }
+    ensures unchanged { OnErr result (attributes.new.items ≡ attributes.old.items) }
+    ensures rise { RiseFrom 0 attributes.old.items → RiseFrom 0 attributes.new.items }
+{
+    let value = Vec::from_slice(alloc, value)?;
+    set(attributes, Attribute { kind, value })
+}
+
+/// Takes the value of a kind out of attributes. Takes no memory.
+///
+/// Source: own.
+pub fn remove_attribute(attributes: &mut Vec<Attribute>, kind: u8)
+    ensures removed { attributes.new.items ≡ remove_attribute kind attributes.old.items }
+    ensures rise { RiseFrom 0 attributes.old.items → RiseFrom 0 attributes.new.items }
+{
+    remove(attributes, kind);
 }

@@ -1,7 +1,6 @@
 //! An entry that has its name and its struct.
 
-use crate::attribute::Attribute;
-use crate::attributes::{remove, set};
+use crate::attribute::{Attribute, remove_attribute, set_attribute};
 use crate::body::Body;
 use crate::kind::Kind;
 use std::alloc::{AllocError, Global};
@@ -65,14 +64,13 @@ impl Entry {
         ensures set { OnOk result (self.new ≡ with_attributes (set_attribute kind value.now) self.old) }
         ensures unchanged { OnErr result (self.new ≡ self.old) }
     {
-        let value = Vec::from_slice(alloc, value)?;
-        set(&mut self.attributes, Attribute { kind, value })
+        set_attribute(&mut self.attributes, alloc, kind, value)
     }
 
     /// Takes the value of a kind out. Takes no memory.
     pub fn remove_attribute(&mut self, kind: u8)
         ensures { self.new ≡ with_attributes (remove_attribute kind) self.old }
     {
-        remove(&mut self.attributes, kind);
+        remove_attribute(&mut self.attributes, kind);
     }
 }

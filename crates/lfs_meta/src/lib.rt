@@ -36,7 +36,7 @@ mod weighing;
 mod whole;
 mod writing;
 
-pub use attribute::Attribute;
+pub use attribute::{Attribute, remove_attribute, set_attribute};
 pub use body::Body;
 pub use cutting::cut;
 pub use entry::Entry;
