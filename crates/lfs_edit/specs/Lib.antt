@@ -33,3 +33,4 @@ pub mod PartWritten
 pub mod FileEdit
 pub mod FileAllowed
 pub mod PlanLaws
+pub mod EntryChange

@@ -2,16 +2,14 @@
 
 ghost use Rattle.std.specs.Prelude.{◌≡◌, ◌≤◌, not, count_by, length, OnOk, OnErr};
 ghost use Rattle.std.specs.List.{position, prefix_len};
-ghost use Rattle.lfs_meta.specs.Fits.{BodyFits};
-ghost use Rattle.lfs_fs.specs.AsStored.{stored_body};
 ghost use Rattle.lfs_fs.specs.Entry.{is_named};
 ghost use Rattle.lfs_fs.specs.NameOrder.{precedes};
-ghost use Rattle.lfs_fs.specs.OutlineHeld.{outline_body_held};
-ghost use Rattle.lfs_edit.specs.Edited.{with_body};
+ghost use Rattle.lfs_edit.specs.EntryChange.{ChangeFits, entry_change};
 ghost use Rattle.lfs_edit.specs.EntryEdit.{changed, place, without};
 
-use lfs_fs::{OutlineBody, OutlineEntry, precedes};
-use std::alloc::AllocError;
+use crate::entry_change::{EntryChange, change_entry};
+use lfs_fs::{OutlineEntry, precedes};
+use std::alloc::{AllocError, Global};
 
 /// How many entries stand before the first one with a greater name.
 fn place_of(entries: &[OutlineEntry], name: &[u8]) -> usize
@@ -54,22 +52,21 @@ fn index_of(entries: &[OutlineEntry], name: &[u8]) -> Option<usize>
         .position(|entry| name == entry.name.as_slice())
 }
 
-/// Gives an entry another body. The caller owes numbers that have their width and contents of at most 1,022 bytes.
-fn set_body(entry: &mut OutlineEntry, body: OutlineBody)
-    requires { BodyFits (stored_body (outline_body_held body)) }
-    ensures { entry.new ≡ with_body (outline_body_held body) entry.old }
-{
-    entry.body = body;
-}
-
-/// Gives the entry of a name another body. The caller owes that no two entries have the name, and a body as `set_body` asks.
-/// Takes no memory.
-pub(crate) fn replace_body(entries: &mut Vec<OutlineEntry>, name: &[u8], body: OutlineBody)
+/// Changes the entry of a name. The caller owes that no two entries have it, and what `change_entry` asks. Want of memory
+/// changes nothing.
+pub(crate) fn change_named(
+    alloc: Global,
+    entries: &mut Vec<OutlineEntry>,
+    name: &[u8],
+    change: EntryChange,
+) -> Result<(), AllocError>
     requires once { count_by (is_named name.now) entries.old.items ≤ 1 }
-    requires fits { BodyFits (stored_body (outline_body_held body)) }
-    ensures { entries.new.items ≡ changed name.now (with_body (outline_body_held body)) entries.old.items }
+    requires fits { ChangeFits change }
+    ensures changed { OnOk result (entries.new.items ≡ changed name.now (entry_change change.entry) entries.old.items) }
+    ensures unchanged { OnErr result (entries.new.items ≡ entries.old.items) }
 {
     if let Some(at) = index_of(entries, name) {
-        set_body(&mut entries[at], body);
+        change_entry(alloc, &mut entries[at], change)?;
     }
+    Ok(())
 }

@@ -5,6 +5,7 @@ mod attribute_edit;
 mod command;
 mod contents;
 mod directory_edit;
+mod entry_change;
 mod entry_edit;
 mod file_edit;
 mod file_part;
