@@ -84,3 +84,4 @@ pub mod OneIndex
 pub mod LinkedParts
 pub mod LastParts
 pub mod AddedDirectories
+pub mod OneNamed

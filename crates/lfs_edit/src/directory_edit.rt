@@ -1,15 +1,18 @@
 //! Edits of a directory: which of its parts is set, and to what.
 
-ghost use Rattle.std.specs.Prelude.{◌≡◌, ◌-◌, ◌<◌, ◌⊎◌, true, false, List, ◌∷◌, length, map, MatchBool, OnOk, OnErr};
+ghost use Rattle.std.specs.Prelude.{◌≡◌, ◌≤◌, ◌-◌, ◌<◌, ◌⊎◌, true, false, List, ◌∷◌, count_by, flat_map, length, map, MatchBool, OnOk, OnErr};
 ghost use Rattle.std.specs.List.{position};
 ghost use Rattle.std.specs.Option.{unwrap_or};
-ghost use Rattle.lfs_fs.specs.Directory.{Part, parts as parts_of};
-ghost use Rattle.lfs_edit.specs.EntryEdit.{place, without};
-ghost use Rattle.lfs_edit.specs.DirectoryEdit.{absorb_in, has_greater, has_name, link_in, link_parts, taking_up, touch, touch_last, unlink_in};
+ghost use Rattle.lfs_fs.specs.Directory.{Part, entries, parts as parts_of};
+ghost use Rattle.lfs_fs.specs.Entry.{is_named};
+ghost use Rattle.lfs_edit.specs.EntryChange.{ChangeFits, entry_change};
+ghost use Rattle.lfs_edit.specs.EntryEdit.{changed, place, without};
+ghost use Rattle.lfs_edit.specs.DirectoryEdit.{absorb_in, change_in, has_greater, has_name, link_in, link_parts, taking_up, touch, touch_last, unlink_in};
 
-use crate::entry_edit::{place, take_out};
+use crate::entry_change::EntryChange;
+use crate::entry_edit::{change_named, place, take_out};
 use lfs_fs::{Delta, OutlineDirectory, OutlineEntry, OutlinePart, precedes};
-use std::alloc::AllocError;
+use std::alloc::{AllocError, Global};
 
 /// Whether a part has an entry of a name.
 fn has_name(part: &OutlinePart, name: &[u8]) -> bool
@@ -113,6 +116,72 @@ pub(crate) fn unlink_in(directory: &mut OutlineDirectory, name: &[u8])
 {
     take_out_of(&mut directory.first, name);
     take_out_of_all(&mut directory.more, name);
+}
+
+/// Changes the entry of a name of a part, which is set. The caller owes that no two entries have the name, and what
+/// `change_entry` asks. Want of memory changes nothing.
+fn change_in_part(
+    alloc: Global,
+    part: &mut OutlinePart,
+    name: &[u8],
+    change: EntryChange,
+) -> Result<(), AllocError>
+    requires once { count_by (is_named name.now) part.old.entries ≤ 1 }
+    requires fits { ChangeFits change }
+    ensures changed { OnOk result (part.new ≡ touch true (changed name.now (entry_change change.entry)) part.old) }
+    ensures unchanged { OnErr result (part.new ≡ part.old) }
+{
+    change_named(alloc, &mut part.entries, name, change)?;
+    part.dirty = true;
+    Ok(())
+}
+
+/// The place of the first part that has an entry of a name.
+fn first_with(parts: &[OutlinePart], name: &[u8]) -> Option<usize>
+    ensures { result ≡ position (has_name name.now) parts.now }
+{
+    parts.iter().position(|part| has_name(part, name))
+}
+
+/// Changes the entry of a name in the part of some that has it, which is set. The caller owes what `change_in` asks. Want of
+/// memory changes nothing.
+fn change_among(
+    alloc: Global,
+    parts: &mut Vec<OutlinePart>,
+    name: &[u8],
+    change: EntryChange,
+) -> Result<(), AllocError>
+    requires once { count_by (is_named name.now) (flat_map (λ p. p.entries) parts.old.items) ≤ 1 }
+    requires fits { ChangeFits change }
+    ensures changed { OnOk result (parts.new.items
+        ≡ map (λ p. touch (has_name name.now p) (changed name.now (entry_change change.entry)) p) parts.old.items) }
+    ensures unchanged { OnErr result (parts.new.items ≡ parts.old.items) }
+{
+    if let Some(at) = first_with(parts, name) {
+        change_in_part(alloc, &mut parts[at], name, change)?;
+    }
+    Ok(())
+}
+
+/// Changes the entry of a name of a directory; the part that has it is set. The caller owes that no two entries have the name,
+/// and what `change_entry` asks. Want of memory changes nothing.
+pub(crate) fn change_in(
+    alloc: Global,
+    directory: &mut OutlineDirectory,
+    name: &[u8],
+    change: EntryChange,
+) -> Result<(), AllocError>
+    requires once { count_by (is_named name.now) (entries directory.old) ≤ 1 }
+    requires fits { ChangeFits change }
+    ensures changed { OnOk result (directory.new ≡ change_in name.now (entry_change change.entry) directory.old) }
+    ensures unchanged { OnErr result (directory.new ≡ directory.old) }
+{
+    if has_name(&directory.first, name) {
+        change_in_part(alloc, &mut directory.first, name, change)?;
+    } else {
+        change_among(alloc, &mut directory.more, name, change)?;
+    }
+    Ok(())
 }
 
 /// Sets a part.
