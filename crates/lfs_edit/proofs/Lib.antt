@@ -85,3 +85,4 @@ pub mod LinkedParts
 pub mod LastParts
 pub mod AddedDirectories
 pub mod OneNamed
+pub mod TakenDirectories

@@ -5,9 +5,10 @@ ghost use Rattle.std.specs.List.{position};
 ghost use Rattle.std.specs.Option.{unwrap_or};
 ghost use Rattle.lfs_fs.specs.Directory.{Part, entries, parts as parts_of};
 ghost use Rattle.lfs_fs.specs.Entry.{is_named};
+ghost use Rattle.lfs_fs.specs.State.{delta_of};
 ghost use Rattle.lfs_edit.specs.EntryChange.{ChangeFits, entry_change};
 ghost use Rattle.lfs_edit.specs.EntryEdit.{changed, place, without};
-ghost use Rattle.lfs_edit.specs.DirectoryEdit.{absorb_in, change_in, has_greater, has_name, link_in, link_parts, taking_up, touch, touch_last, unlink_in};
+ghost use Rattle.lfs_edit.specs.DirectoryEdit.{absorb, absorb_in, change_in, has_greater, has_name, link_in, link_parts, taking_up, touch, touch_last, unlink_in};
 
 use crate::entry_change::EntryChange;
 use crate::entry_edit::{change_named, place, take_out};
@@ -184,8 +185,8 @@ pub(crate) fn change_in(
     Ok(())
 }
 
-/// Sets a part.
-fn touch(part: &mut OutlinePart)
+/// Sets a part. Takes no memory.
+pub(crate) fn touch(part: &mut OutlinePart)
     ensures { part.new ≡ touch true (λ es. es) part.old }
 {
     part.dirty = true;
@@ -210,11 +211,30 @@ fn absorb_into(part: &mut OutlinePart, delta: &Delta)
 }
 
 /// Sets the last part of a directory, for the sake of its tail and of a delta that it takes up. Takes no memory.
-pub(crate) fn absorb_in(directory: &mut OutlineDirectory, delta: &Delta)
+fn absorb_in(directory: &mut OutlineDirectory, delta: &Delta)
     ensures { directory.new ≡ absorb_in delta.now directory.old.first directory.old.more }
 {
     match directory.more.last_mut() {
         Some(part) => absorb_into(part, delta),
         None => absorb_into(&mut directory.first, delta),
     }
+}
+
+/// The deltas of parts together. Takes no memory.
+fn delta_of_parts(parts: &[OutlinePart]) -> Delta
+    ensures { result ≡ delta_of parts.now }
+{
+    let mut delta = Delta::none();
+    'each: for part in parts {
+        delta = delta.joined(&part.delta);
+    }
+    delta
+}
+
+/// Sets the last part of a directory, which takes up the deltas of one that goes. Takes no memory.
+pub(crate) fn absorb(directory: &mut OutlineDirectory, gone: &OutlineDirectory)
+    ensures { directory.new ≡ absorb directory.old gone.now }
+{
+    let delta = gone.first.delta.joined(&delta_of_parts(&gone.more));
+    absorb_in(directory, &delta);
 }
