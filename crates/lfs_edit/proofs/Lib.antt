@@ -86,3 +86,7 @@ pub mod LastParts
 pub mod AddedDirectories
 pub mod OneNamed
 pub mod TakenDirectories
+pub mod OutlineEntries
+pub mod OutlineDirectories
+pub mod OutlinesFollow
+pub mod OutlineCuts

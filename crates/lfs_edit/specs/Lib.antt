@@ -34,3 +34,5 @@ pub mod FileEdit
 pub mod FileAllowed
 pub mod PlanLaws
 pub mod EntryChange
+pub mod EditedOutline
+pub mod CutOutline
