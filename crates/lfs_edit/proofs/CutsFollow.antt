@@ -70,7 +70,7 @@ uses_after ordered join v c s chosen ok pairs b =
 same_test : (after freed was : ℕ) → after + freed ≡ was → was ≤ 1 → (after == 0) ≡ ((was == 0) || nat_lt 0 freed)
 same_test after freed was h once = grind (arith, nat_tests)
 
-filter_same : (f g : ℕ → Bool) → ((b : ℕ) → f b ≡ g b) → (xs : List ℕ) → filter f xs ≡ filter g xs
+pub filter_same : (f g : ℕ → Bool) → ((b : ℕ) → f b ≡ g b) → (xs : List ℕ) → filter f xs ≡ filter g xs
 filter_same f g same [] = refl
 filter_same f g same (x ∷ xs) = rw (same x, filter_same f g same xs) refl
 

@@ -90,3 +90,5 @@ pub mod OutlineEntries
 pub mod OutlineDirectories
 pub mod OutlinesFollow
 pub mod OutlineCuts
+pub mod OutlineRoom
+pub mod OutlinesJudged

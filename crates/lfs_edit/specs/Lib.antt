@@ -36,3 +36,4 @@ pub mod PlanLaws
 pub mod EntryChange
 pub mod EditedOutline
 pub mod CutOutline
+pub mod JudgedAlike

@@ -2,6 +2,7 @@
 
 ghost use Rattle.lfs_edit.specs.CutOutline.{CutsOutline};
 ghost use Rattle.lfs_edit.specs.EditedOutline.{OutlinesFollow};
+ghost use Rattle.lfs_edit.specs.JudgedAlike.{OutlinesAreJudgedAlike, OutlinesTakeSameRoom, PairsAreChosenAlike};
 
 /// A law: the outline of the volume that a command leaves is what the command makes of the outline. Takes no memory.
 ///
@@ -10,9 +11,20 @@ pub fn outlines_follow()
     ensures { OutlinesFollow }
 {}
 
-/// A law: the outline of a volume whose parts are cut is the outline cut, where the same pairs are chosen. Takes no memory.
+/// A law: the outline of a volume whose parts are cut is the outline cut, where the same pairs are chosen (`cut`). Pairs that are
+/// enough for the outline are for the volume, and use the same blocks (`chosen`). Takes no memory.
 ///
 /// Source: own.
 pub fn cuts_keep_outlines()
-    ensures { CutsOutline }
+    ensures cut { CutsOutline }
+    ensures chosen { PairsAreChosenAlike }
+{}
+
+/// A law: a command has the same checks, the same verdict and the same need on an outline as on its volume, and frees the same
+/// blocks (`judged`). The outline uses the same blocks, and its parts take the same room (`room`). Takes no memory.
+///
+/// Source: own.
+pub fn outlines_are_judged_alike()
+    ensures judged { OutlinesAreJudgedAlike }
+    ensures room { OutlinesTakeSameRoom }
 {}
