@@ -92,3 +92,5 @@ pub mod OutlinesFollow
 pub mod OutlineCuts
 pub mod OutlineRoom
 pub mod OutlinesJudged
+pub mod LinksAdded
+pub mod OutlinesWritten

@@ -37,3 +37,5 @@ pub mod EntryChange
 pub mod EditedOutline
 pub mod CutOutline
 pub mod JudgedAlike
+pub mod WrittenLinks
+pub mod OutlineLaws

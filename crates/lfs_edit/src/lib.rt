@@ -32,7 +32,10 @@ pub use laws::{
     commands_are_frugal, commands_follow, cuts_follow, free_after, need_is_exact,
     written_volumes_are_held,
 };
-pub use outline_laws::{cuts_keep_outlines, outlines_are_judged_alike, outlines_follow};
+pub use outline_laws::{
+    cuts_keep_outlines, links_are_written_in_turn, outlines_are_judged_alike, outlines_are_written,
+    outlines_follow,
+};
 pub use planning::plan;
 pub use refusal::Refusal;
 

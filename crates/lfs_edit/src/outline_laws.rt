@@ -3,6 +3,9 @@
 ghost use Rattle.lfs_edit.specs.CutOutline.{CutsOutline};
 ghost use Rattle.lfs_edit.specs.EditedOutline.{OutlinesFollow};
 ghost use Rattle.lfs_edit.specs.JudgedAlike.{OutlinesAreJudgedAlike, OutlinesTakeSameRoom, PairsAreChosenAlike};
+ghost use Rattle.lfs_edit.specs.OutlineLaws.{LinksAreAdded, LinksAreLeft, OutlinesAreWritten};
+
+use lfs_block::applied_patches_change_their_blocks;
 
 /// A law: the outline of the volume that a command leaves is what the command makes of the outline. Takes no memory.
 ///
@@ -28,3 +31,22 @@ pub fn outlines_are_judged_alike()
     ensures judged { OutlinesAreJudgedAlike }
     ensures room { OutlinesTakeSameRoom }
 {}
+
+/// A law: links are written one after another: one that is set by changes of its pair's blocks, where none of those written before
+/// uses one of them (`added`), and one that isn't by none (`left`). Takes no memory.
+///
+/// Source: own.
+pub fn links_are_written_in_turn()
+    ensures added { LinksAreAdded }
+    ensures left { LinksAreLeft }
+{}
+
+/// A law: where a patch writes the links of an outline, the chains of its volume are there, and nothing else that the old volume
+/// used is written, the patch writes the volume. Takes no memory.
+///
+/// Source: own.
+pub fn outlines_are_written()
+    ensures { OutlinesAreWritten }
+{
+    applied_patches_change_their_blocks();
+}

@@ -1,0 +1,8 @@
+use Rattle.lfs_edit.proofs.LinksAdded.{links_are_added, links_are_left}
+use Rattle.lfs_edit.proofs.outline_laws.links_are_written_in_turn.Goals as goal
+
+pub returns-clause-added : goal.returns-clause-added
+returns-clause-added c = links_are_added
+
+pub returns-clause-left : goal.returns-clause-left
+returns-clause-left c = links_are_left
