@@ -121,7 +121,7 @@ all_entries join chosen v (p ∷ ps) enough =
 abbrev pub pairs_for : (Part → List Pair) → ℕ → List Part → ℕ
 pairs_for chosen b ps = sum_by (λ p. sum_by (pair_times b) (new_pairs chosen p)) ps
 
-all_uses : (b : ℕ) (chosen : Part → List Pair) (v : Volume) (ps : List Part) → All (HasEnough chosen v) ps
+pub all_uses : (b : ℕ) (chosen : Part → List Pair) (v : Volume) (ps : List Part) → All (HasEnough chosen v) ps
     → sum_by (pair_uses b) (flat_map (cut_part chosen v) ps) ≡ sum_by (pair_uses b) ps + pairs_for chosen b ps
 all_uses b chosen v [] enough = refl
 all_uses b chosen v (p ∷ ps) enough =
@@ -166,7 +166,7 @@ All-right : {X : Type 0} (P : X → Type 0) (xs ys : List X) → All P (xs ++ ys
 All-right P [] ys h = h
 All-right P (x ∷ xs) ys h = All-right P xs ys (All-tail P x (xs ++ ys) h)
 
-abbrev cut_all : (Part → List Pair) → Volume → List Directory → List Directory
+abbrev pub cut_all : (Part → List Pair) → Volume → List Directory → List Directory
 cut_all chosen v ds = map (cut_directory chosen v) ds
 
 -- the parts of each directory have enough pairs
@@ -202,7 +202,7 @@ cut_count_all k chosen v (d ∷ ds) =
     let rest = cut_count_all k chosen v ds in
     omega (arith, sum_by-cons (λ (e : Directory). cond (begins_at k e) 1 0) (cut_directory chosen v d) (cut_all chosen v ds), sum_by-cons (λ (e : Directory). cond (begins_at k e) 1 0) d ds)
 
-cut_thread : (chosen : Part → List Pair) (v : Volume) (ds : List Directory) → thread (cut_all chosen v ds) ≡ flat_map (cut_part chosen v) (thread ds)
+pub cut_thread : (chosen : Part → List Pair) (v : Volume) (ds : List Directory) → thread (cut_all chosen v ds) ≡ flat_map (cut_part chosen v) (thread ds)
 cut_thread chosen v [] = refl
 cut_thread chosen v (d ∷ ds) =
     flat_map-cons parts (cut_directory chosen v d) (cut_all chosen v ds)

@@ -94,3 +94,5 @@ pub mod OutlineRoom
 pub mod OutlinesJudged
 pub mod LinksAdded
 pub mod OutlinesWritten
+pub mod PlansHold
+pub mod PairTotals

@@ -39,3 +39,4 @@ pub mod CutOutline
 pub mod JudgedAlike
 pub mod WrittenLinks
 pub mod OutlineLaws
+pub mod PlansHold

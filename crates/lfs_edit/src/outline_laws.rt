@@ -4,8 +4,11 @@ ghost use Rattle.lfs_edit.specs.CutOutline.{CutsOutline};
 ghost use Rattle.lfs_edit.specs.EditedOutline.{OutlinesFollow};
 ghost use Rattle.lfs_edit.specs.JudgedAlike.{OutlinesAreJudgedAlike, OutlinesTakeSameRoom, PairsAreChosenAlike};
 ghost use Rattle.lfs_edit.specs.OutlineLaws.{LinksAreAdded, LinksAreLeft, OutlinesAreWritten};
+ghost use Rattle.lfs_edit.specs.PlansHold.{PlansHold};
 
+use crate::laws::{commands_are_frugal, cuts_follow, written_volumes_are_held};
 use lfs_block::applied_patches_change_their_blocks;
+use lfs_fs::both_sides_hold;
 
 /// A law: the outline of the volume that a command leaves is what the command makes of the outline. Takes no memory.
 ///
@@ -49,4 +52,17 @@ pub fn outlines_are_written()
     ensures { OutlinesAreWritten }
 {
     applied_patches_change_their_blocks();
+}
+
+/// A law: where a patch writes the outline of what an accepted command leaves, cut, the patched image holds it. Takes no memory.
+///
+/// Source: own.
+pub fn plans_hold()
+    ensures { PlansHold }
+{
+    cuts_follow();
+    commands_are_frugal();
+    written_volumes_are_held();
+    both_sides_hold();
+    outlines_are_written();
 }

@@ -1,0 +1,82 @@
+-- What a written outline of an accepted command leaves, and which blocks it is written to (own).
+use Rattle.std.specs.Prelude.{◌≡◌, ℕ, ◌+◌, ◌≤◌, ◌==◌, ◌&&◌, not, nat_le, Bool, List, [], All, Contains, if◌then◌else◌, length, map, take}
+use Rattle.std.specs.List.{filter}
+use Rattle.lfs_block.specs.Change.{Change}
+use Rattle.lfs_block.specs.Disk.{Disk}
+use Rattle.lfs_block.specs.Patch.{ChangeSet, applied}
+use Rattle.lfs_meta.specs.Body.{Pair}
+use Rattle.lfs_meta.specs.Writing.{other_number}
+use Rattle.lfs_fs.specs.Directory.{Part, thread}
+use Rattle.lfs_fs.specs.Volume.{Volume}
+use Rattle.lfs_fs.specs.Thread.{links}
+use Rattle.lfs_fs.specs.Uses.{times, uses}
+use Rattle.lfs_fs.specs.Free.{free_blocks}
+use Rattle.lfs_fs.specs.Reading.{reading_of}
+use Rattle.lfs_fs.specs.Holds.{Holds}
+use Rattle.lfs_fs.specs.Stored.{HoldsLinks}
+use Rattle.lfs_edit.specs.Command.{Command, Mkdir, Put, Rm, Mv, SetAttr, RmAttr}
+use Rattle.lfs_edit.specs.Supplies.{Supplies, most_inline, supply_uses}
+use Rattle.lfs_edit.specs.Edited.{edited}
+use Rattle.lfs_edit.specs.Cut.{cut, new_pair_uses}
+use Rattle.lfs_edit.specs.Clean.{clean}
+use Rattle.lfs_edit.specs.Accepted.{IsAccepted, AreChosen}
+use Rattle.lfs_edit.specs.Need.{need}
+use Rattle.lfs_edit.specs.Planned.{HasOneOf}
+use Rattle.lfs_edit.specs.WrittenLinks.{changed_blocks, links_blocks, set_uses}
+use Rattle.lfs_edit.specs.OutlineLaws.{WritesOutline}
+
+-- the law: where a patch writes the outline of what an accepted command leaves, cut, the patched image holds it
+abbrev pub PlansHold : Type 0
+PlansHold = (d : Disk) (v : Volume) (held : HoldsLinks (reading_of d) v) (c : Command) (s : Supplies) (chosen : Part → List Pair) (is_new : Pair → Bool) (base : List Change) (p : ChangeSet)
+    → IsAccepted v c s → AreChosen v c s chosen → WritesOutline d v (cut chosen (edited v c s)) held is_new base p
+    → Holds (reading_of (applied p d)) (clean (cut chosen (edited v c s)))
+
+-- ---- which blocks are written
+
+-- the blocks of a file's new contents, where they don't stand in its entry
+abbrev pub content_blocks : Volume → Command → Supplies → List ℕ
+content_blocks v (Mkdir p) s = []
+content_blocks v (Put p bytes) s = if nat_le (length bytes) (most_inline v.size) then [] else s.blocks
+content_blocks v (Rm p) s = []
+content_blocks v (Mv p q) s = []
+content_blocks v (SetAttr p k value) s = []
+content_blocks v (RmAttr p k) s = []
+
+-- a pair whose first block the volume doesn't use
+abbrev pub is_new_to : Volume → Pair → Bool
+is_new_to v pair = uses pair.0 v == 0
+
+-- the parts that are set in w whose pairs v has
+abbrev pub rewritten_parts : Volume → Volume → List Part
+rewritten_parts v w = filter (λ p. p.dirty && not (is_new_to v p.pair)) (thread w.directories)
+
+-- those of their blocks that aren't live, one of each pair
+abbrev pub rewritten_blocks : Disk → Volume → Volume → List ℕ
+rewritten_blocks d v w = map (λ p. other_number d p.pair) (rewritten_parts v w)
+
+-- the law: no block is written twice
+abbrev pub BlocksAreWrittenOnce : Type 0
+BlocksAreWrittenOnce = (v : Volume) (c : Command) (s : Supplies) (chosen : Part → List Pair) → IsAccepted v c s → AreChosen v c s chosen
+    → (n : ℕ) → times n (content_blocks v c s) + set_uses n (links (cut chosen (edited v c s)).directories) ≤ 1
+
+-- the law: what is written are the blocks that the command takes, and one of each pair of the volume whose part it sets
+abbrev pub BlocksAreTaken : Type 0
+BlocksAreTaken = (d : Disk) (v : Volume) (c : Command) (s : Supplies) (chosen : Part → List Pair) → IsAccepted v c s → AreChosen v c s chosen
+    → (n : ℕ) → times n (content_blocks v c s) + times n (links_blocks d (is_new_to v) (links (cut chosen (edited v c s)).directories))
+    ≡ supply_uses v c s n + new_pair_uses chosen (edited v c s) n + times n (rewritten_blocks d v (edited v c s))
+
+-- the blocks that a command takes are the least free ones
+abbrev pub TakesLeast : Volume → Command → Supplies → (Part → List Pair) → Type 0
+TakesLeast v c s chosen = (n : ℕ) → supply_uses v c s n + new_pair_uses chosen (edited v c s) n ≡ times n (take (need v c) (free_blocks v))
+
+-- The blocks that are changed: the least free ones, as many as the command needs, and one of the pair of each part that it rewrites.
+pub record NamesLeast (v : Volume) (c : Command) (s : Supplies) (numbers : List ℕ) : Type 0 where
+  pub free : All (Contains numbers) (take (need v c) (free_blocks v))
+  pub rewritten : All (HasOneOf numbers) (rewritten_parts v (edited v c s))
+  pub len : length numbers ≡ need v c + length (rewritten_parts v (edited v c s))
+
+-- the law: so many blocks are changed
+abbrev pub PlansAreFrugal : Type 0
+PlansAreFrugal = (d : Disk) (v : Volume) (held : HoldsLinks (reading_of d) v) (c : Command) (s : Supplies) (chosen : Part → List Pair) (base : List Change) (p : ChangeSet)
+    → IsAccepted v c s → AreChosen v c s chosen → TakesLeast v c s chosen → changed_blocks base ≡ content_blocks v c s
+    → WritesOutline d v (cut chosen (edited v c s)) held (is_new_to v) base p → NamesLeast v c s (changed_blocks p.changes)
