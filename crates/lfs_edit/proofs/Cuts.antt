@@ -45,7 +45,7 @@ first_and_later (run ∷ rs) = sym (flat_map-cons (λ (x : List Entry). x) run r
 abbrev pub cut_part : (Part → List Pair) → Volume → Part → List Part
 cut_part chosen v p = cut_head v p ∷ cut_tail chosen v p
 
-abbrev pair_times : ℕ → Pair → ℕ
+abbrev pub pair_times : ℕ → Pair → ℕ
 pair_times b q = times b (q.0 ∷ q.1 ∷ [])
 
 more_entries : (pairs : List Pair) (rs : List (List Entry)) → length pairs ≡ length rs → flat_map (λ p. p.entries) (more_parts pairs rs) ≡ flat_map (λ run. run) rs

@@ -96,3 +96,4 @@ pub mod LinksAdded
 pub mod OutlinesWritten
 pub mod PlansHold
 pub mod PairTotals
+pub mod NamedBlocks

@@ -4,7 +4,7 @@ ghost use Rattle.lfs_edit.specs.CutOutline.{CutsOutline};
 ghost use Rattle.lfs_edit.specs.EditedOutline.{OutlinesFollow};
 ghost use Rattle.lfs_edit.specs.JudgedAlike.{OutlinesAreJudgedAlike, OutlinesTakeSameRoom, PairsAreChosenAlike};
 ghost use Rattle.lfs_edit.specs.OutlineLaws.{LinksAreAdded, LinksAreLeft, OutlinesAreWritten};
-ghost use Rattle.lfs_edit.specs.PlansHold.{PlansHold};
+ghost use Rattle.lfs_edit.specs.PlansHold.{BlocksAreTaken, BlocksAreWrittenOnce, PlansHold};
 
 use crate::laws::{commands_are_frugal, cuts_follow, written_volumes_are_held};
 use lfs_block::applied_patches_change_their_blocks;
@@ -66,3 +66,12 @@ pub fn plans_hold()
     both_sides_hold();
     outlines_are_written();
 }
+
+/// A law: the blocks that are written for an accepted command are those that it takes and one of the pair of each part that it
+/// rewrites (`taken`), none of them twice (`once`). Takes no memory.
+///
+/// Source: own.
+pub fn written_blocks_are_taken()
+    ensures taken { BlocksAreTaken }
+    ensures once { BlocksAreWrittenOnce }
+{}
