@@ -97,3 +97,4 @@ pub mod OutlinesWritten
 pub mod PlansHold
 pub mod PairTotals
 pub mod NamedBlocks
+pub mod FrugalPlans

@@ -34,7 +34,7 @@ pub use laws::{
 };
 pub use outline_laws::{
     cuts_keep_outlines, links_are_written_in_turn, outlines_are_judged_alike, outlines_are_written,
-    outlines_follow, plans_hold, written_blocks_are_taken,
+    outlines_follow, plans_are_frugal, plans_hold, written_blocks_are_taken,
 };
 pub use planning::plan;
 pub use refusal::Refusal;

@@ -4,7 +4,7 @@ ghost use Rattle.lfs_edit.specs.CutOutline.{CutsOutline};
 ghost use Rattle.lfs_edit.specs.EditedOutline.{OutlinesFollow};
 ghost use Rattle.lfs_edit.specs.JudgedAlike.{OutlinesAreJudgedAlike, OutlinesTakeSameRoom, PairsAreChosenAlike};
 ghost use Rattle.lfs_edit.specs.OutlineLaws.{LinksAreAdded, LinksAreLeft, OutlinesAreWritten};
-ghost use Rattle.lfs_edit.specs.PlansHold.{BlocksAreTaken, BlocksAreWrittenOnce, PlansHold};
+ghost use Rattle.lfs_edit.specs.PlansHold.{BlocksAreTaken, BlocksAreWrittenOnce, PlansAreFrugal, PlansHold};
 
 use crate::laws::{commands_are_frugal, cuts_follow, written_volumes_are_held};
 use lfs_block::applied_patches_change_their_blocks;
@@ -74,4 +74,12 @@ pub fn plans_hold()
 pub fn written_blocks_are_taken()
     ensures taken { BlocksAreTaken }
     ensures once { BlocksAreWrittenOnce }
+{}
+
+/// A law: where a command takes the least free blocks, as many are changed as it needs and one more for each part that it rewrites, and
+/// these are they. Takes no memory.
+///
+/// Source: own.
+pub fn plans_are_frugal()
+    ensures { PlansAreFrugal }
 {}
