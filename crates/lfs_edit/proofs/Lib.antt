@@ -98,3 +98,5 @@ pub mod PlansHold
 pub mod PairTotals
 pub mod NamedBlocks
 pub mod FrugalPlans
+pub mod PartsCutLemmas
+pub mod PairWalks

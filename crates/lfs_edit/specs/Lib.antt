@@ -40,3 +40,6 @@ pub mod JudgedAlike
 pub mod WrittenLinks
 pub mod OutlineLaws
 pub mod PlansHold
+pub mod PartsCut
+pub mod PairWalk
+pub mod WalkRefusal

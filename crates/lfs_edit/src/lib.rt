@@ -23,6 +23,7 @@ mod refusal;
 mod room;
 mod superblock;
 mod thread_edit;
+mod walk_laws;
 mod writing;
 
 pub use command::Command;
@@ -38,6 +39,7 @@ pub use outline_laws::{
 };
 pub use planning::plan;
 pub use refusal::Refusal;
+pub use walk_laws::{parts_are_cut_by_themselves, walks_go_by_pairs};
 
 #[cfg(test)]
 mod tests;
