@@ -55,5 +55,5 @@ pub use runs::{
     runs_follow_weights, runs_join,
 };
 pub use tail::Tail;
-pub use weighing::weight;
+pub use weighing::{attributes_weight, weight};
 pub use writing::{first_block, rewrite};

@@ -2,6 +2,7 @@
 
 ghost use Rattle.std.specs.Prelude.{◌≡◌, ◌+◌, ◌<◌, ◌≤◌, ◌^◌, length};
 ghost use Rattle.lfs_meta.specs.BodyHeld.{body_held};
+ghost use Rattle.lfs_meta.specs.Fits.{RiseFrom};
 ghost use Rattle.lfs_meta.specs.Spelling.{body_bytes};
 ghost use Rattle.lfs_meta.specs.Weighing.{attributes_weight, weight, weights};
 
@@ -22,7 +23,7 @@ fn attribute_weight(attribute: &Attribute) -> u32
 }
 
 /// The bytes of attributes' tags with their values.
-fn attributes_weight(attributes: &[Attribute]) -> u32
+fn tags_len(attributes: &[Attribute]) -> u32
     requires { attributes_weight attributes.now < 2 ^ 32 }
     ensures { result ≡ attributes_weight attributes.now }
 {
@@ -31,6 +32,18 @@ fn attributes_weight(attributes: &[Attribute]) -> u32
         sum += attribute_weight(attribute);
     }
     sum
+}
+
+/// The bytes that attributes take of a block: four for the tag of each, with its value. The caller owes that they rise by
+/// kind. Takes no memory.
+///
+/// Source: own.
+pub fn attributes_weight(attributes: &[Attribute]) -> u32
+    requires { RiseFrom 0 attributes.now }
+    ensures value { result ≡ attributes_weight attributes.now }
+    ensures small { result ≤ 262656 }
+{
+    tags_len(attributes)
 }
 
 /// The bytes of a struct.
