@@ -100,3 +100,4 @@ pub mod NamedBlocks
 pub mod FrugalPlans
 pub mod PartsCutLemmas
 pub mod PairWalks
+pub mod RunSplits

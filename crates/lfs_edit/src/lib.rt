@@ -21,9 +21,11 @@ mod plan_laws;
 mod planning;
 mod refusal;
 mod room;
+mod splitting;
 mod superblock;
 mod thread_edit;
 mod walk_laws;
+mod weighing;
 mod writing;
 
 pub use command::Command;

@@ -1,0 +1,65 @@
+-- The loop that splits entries into runs: what is left of the entries decides what is to come.
+use Rattle.std.proofs.Common.{◌≡◌, ℕ, ◌+◌, ◌<◌, ◌≤◌, Bool, true, false, List, [], ◌∷◌, ◌++◌, length, drop, get_or, refl, ap, sym, subst, ◌∙◌, arith, append_assoc, append-nil}
+use Rattle.std.specs.Prelude.{if◌then◌else◌}
+use Rattle.std.proofs.lemmas.Bool.Decides.{nat_tests}
+use Rattle.lfs_meta.specs.Runs.{onto, runs_after, run_takes}
+use Rattle.lfs_meta.proofs.RunLemmas.{some_run}
+use Rattle.lfs_fs.specs.Entry.{Entry}
+use Rattle.lfs_fs.specs.Weight.{weight}
+
+-- the first run with others in front
+abbrev pub with_run : List Entry → List (List Entry) → List (List Entry)
+with_run run [] = []
+with_run run (next ∷ runs) = (run ++ next) ∷ runs
+
+-- of all entries these runs are made, the last run is at work, and some entries are left
+pub record IsSplitTo (whole : List (List Entry)) (room : ℕ) (runs : List (List Entry)) (run : List Entry) (taken len : ℕ) (left : List Entry) : Type 0 where
+  pub is : whole ≡ runs ++ with_run run (runs_after weight room taken len left)
+  pub light : taken ≤ 330244
+  pub few : len ≤ 1000
+
+with_none : (runs : List (List Entry)) → with_run [] runs ≡ runs
+with_none [] = refl
+with_none (run ∷ runs) = refl
+
+pub first : (room taken len : ℕ) (all : List Entry) → taken ≤ 330244 → len ≤ 1000 → IsSplitTo (runs_after weight room taken len all) room [] [] taken len all
+first room taken len all light few = record { is = sym (with_none (runs_after weight room taken len all)); light = light; few = few }
+
+-- an entry at the head of the rest goes to the end of the run
+with_onto : (run : List Entry) (e : Entry) (runs : List (List Entry)) → 1 ≤ length runs → with_run run (onto e runs) ≡ with_run (run ++ e ∷ []) runs
+unfolding onto
+with_onto run e [] some = absurd (omega (arith, some))
+with_onto run e (next ∷ runs) some = ap (λ (r : List Entry). r ∷ runs) (sym (append_assoc run (e ∷ []) next))
+
+-- one entry more
+step_by : (room taken len : ℕ) (e : Entry) (es : List Entry) (t : Bool) → run_takes room taken len (weight e) ≡ t
+    → runs_after weight room taken len (e ∷ es) ≡ (if t then onto e (runs_after weight room (taken + weight e) (len + 1) es) else [] ∷ onto e (runs_after weight room (weight e) 1 es))
+unfolding runs_after
+step_by room taken len e es t is = rw is refl
+
+pub taken_more : (whole : List (List Entry)) (room : ℕ) (runs : List (List Entry)) (run : List Entry) (taken len : ℕ) (e : Entry) (left : List Entry) → room ≤ 65536
+    → run_takes room taken len (weight e) ≡ true → IsSplitTo whole room runs run taken len (e ∷ left) → IsSplitTo whole room runs (run ++ e ∷ []) (taken + weight e) (len + 1) left
+taken_more whole room runs run taken len e left small takes to =
+    let fits : taken + weight e ≤ room = grind (arith, nat_tests) in
+    let few : len < 1000 = grind (arith, nat_tests) in
+    record {
+      is = to.is ∙ ap (λ (rs : List (List Entry)). runs ++ with_run run rs) (step_by room taken len e left true takes)
+          ∙ ap (λ (rs : List (List Entry)). runs ++ rs) (with_onto run e (runs_after weight room (taken + weight e) (len + 1) left) (some_run weight room (taken + weight e) (len + 1) left));
+      light = omega (arith, fits, small);
+      few = omega (arith, few);
+    }
+
+pub left_more : (whole : List (List Entry)) (room : ℕ) (runs : List (List Entry)) (run : List Entry) (taken len : ℕ) (e : Entry) (left : List Entry) → weight e ≤ 264708
+    → run_takes room taken len (weight e) ≡ false → IsSplitTo whole room runs run taken len (e ∷ left) → IsSplitTo whole room (runs ++ run ∷ []) (e ∷ []) (weight e) 1 left
+left_more whole room runs run taken len e left small takes to = record {
+  is = to.is ∙ ap (λ (rs : List (List Entry)). runs ++ with_run run rs) (step_by room taken len e left false takes)
+      ∙ ap (λ (r : List Entry). runs ++ r ∷ onto e (runs_after weight room (weight e) 1 left)) (append-nil run)
+      ∙ ap (λ (rs : List (List Entry)). runs ++ run ∷ rs) (sym (with_none (onto e (runs_after weight room (weight e) 1 left))) ∙ with_onto [] e (runs_after weight room (weight e) 1 left) (some_run weight room (weight e) 1 left))
+      ∙ sym (append_assoc runs (run ∷ []) (with_run (e ∷ []) (runs_after weight room (weight e) 1 left)));
+  light = omega (arith, small);
+  few = omega arith;
+}
+
+pub all_split : (whole : List (List Entry)) (room : ℕ) (runs : List (List Entry)) (run : List Entry) (taken len : ℕ) → IsSplitTo whole room runs run taken len [] → runs ++ run ∷ [] ≡ whole
+unfolding runs_after
+all_split whole room runs run taken len to = sym (to.is ∙ ap (λ (r : List Entry). runs ++ r ∷ []) (append-nil run))
