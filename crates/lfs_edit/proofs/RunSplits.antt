@@ -6,17 +6,7 @@ use Rattle.lfs_meta.specs.Runs.{onto, runs_after, run_takes}
 use Rattle.lfs_meta.proofs.RunLemmas.{some_run}
 use Rattle.lfs_fs.specs.Entry.{Entry}
 use Rattle.lfs_fs.specs.Weight.{weight}
-
--- the first run with others in front
-abbrev pub with_run : List Entry → List (List Entry) → List (List Entry)
-with_run run [] = []
-with_run run (next ∷ runs) = (run ++ next) ∷ runs
-
--- of all entries these runs are made, the last run is at work, and some entries are left
-pub record IsSplitTo (whole : List (List Entry)) (room : ℕ) (runs : List (List Entry)) (run : List Entry) (taken len : ℕ) (left : List Entry) : Type 0 where
-  pub is : whole ≡ runs ++ with_run run (runs_after weight room taken len left)
-  pub light : taken ≤ 330244
-  pub few : len ≤ 1000
+use Rattle.lfs_edit.specs.Splitting.{with_run, IsSplitTo}
 
 with_none : (runs : List (List Entry)) → with_run [] runs ≡ runs
 with_none [] = refl
@@ -60,6 +50,25 @@ left_more whole room runs run taken len e left small takes to = record {
   few = omega arith;
 }
 
-pub all_split : (whole : List (List Entry)) (room : ℕ) (runs : List (List Entry)) (run : List Entry) (taken len : ℕ) → IsSplitTo whole room runs run taken len [] → runs ++ run ∷ [] ≡ whole
+pub all_split : (whole : List (List Entry)) (room : ℕ) (runs : List (List Entry)) (run : List Entry) (taken len : ℕ) (left : List Entry) → length left ≡ 0
+    → IsSplitTo whole room runs run taken len left → runs ++ run ∷ [] ≡ whole
 unfolding runs_after
-all_split whole room runs run taken len to = sym (to.is ∙ ap (λ (r : List Entry). runs ++ r ∷ []) (append-nil run))
+all_split whole room runs run taken len [] none to = sym (to.is ∙ ap (λ (r : List Entry). runs ++ r ∷ []) (append-nil run))
+all_split whole room runs run taken len (e ∷ es) none to = absurd (omega (arith, none))
+
+-- ---- as it is done
+
+-- the last run takes the entry
+pub stays_in : (whole : List (List Entry)) (room : ℕ) (runs : List (List Entry)) (run run' : List Entry) (taken len next : ℕ) (e : Entry) (left : List Entry) → room ≤ 65536 → next ≡ weight e
+    → run_takes room taken len next ≡ true → run' ≡ run ++ e ∷ [] → IsSplitTo whole room runs run taken len (e ∷ left) → IsSplitTo whole room runs run' (taken + next) (len + 1) left
+stays_in whole room runs run run' taken len next e left small weighs takes is to =
+    rw (is, weighs) (taken_more whole room runs run taken len e left small (ap (run_takes room taken len) (sym weighs) ∙ takes) to)
+
+-- another one does
+pub goes_on : (whole : List (List Entry)) (room : ℕ) (runs runs' : List (List Entry)) (run fresh run' : List Entry) (taken len taken' len' next : ℕ) (e : Entry) (left : List Entry) → next ≡ weight e → next ≤ 264708
+    → run_takes room taken len next ≡ false → runs' ≡ runs ++ run ∷ [] → fresh ≡ [] → taken' ≡ 0 → len' ≡ 0 → run' ≡ fresh ++ e ∷ []
+    → IsSplitTo whole room runs run taken len (e ∷ left) → IsSplitTo whole room runs' run' (taken' + next) (len' + 1) left
+goes_on whole room runs runs' run fresh run' taken len taken' len' next e left weighs small takes are empty no_weight no_entry is to =
+    let weight_is : taken' + next ≡ weight e = omega (arith, no_weight, weighs) in
+    let one : len' + 1 ≡ 1 = omega (arith, no_entry) in
+    rw (is, empty, are, weight_is, one) (left_more whole room runs run taken len e left (omega (arith, weighs, small)) (ap (run_takes room taken len) (sym weighs) ∙ takes) to)

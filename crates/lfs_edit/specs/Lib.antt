@@ -43,3 +43,4 @@ pub mod PlansHold
 pub mod PartsCut
 pub mod PairWalk
 pub mod WalkRefusal
+pub mod Splitting
