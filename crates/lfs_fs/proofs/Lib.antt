@@ -8,6 +8,8 @@ pub mod FolderTableLemmas
 pub mod WalkLemmas
 pub mod WalkEndLemmas
 pub mod ListingLemmas
+pub mod FlaggedLemmas
+pub mod ListedLemmas
 pub mod UnusedLemmas
 pub mod FrontLemmas
 pub mod ThreadLemmas

@@ -24,6 +24,11 @@ pub mod RowHeld
 pub mod EntryFault
 pub mod FolderTable
 pub mod Walked
+pub mod Rows
+pub mod Listed
+pub mod Placed
+pub mod DirectoryTable
+pub mod Ordered
 pub mod Reading
 pub mod Front
 pub mod Superblock

@@ -29,6 +29,7 @@ mod outline_part;
 mod path;
 mod path_text;
 mod pending;
+mod place;
 mod pushing;
 mod row;
 mod row_body;
