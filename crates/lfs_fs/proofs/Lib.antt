@@ -10,6 +10,8 @@ pub mod WalkEndLemmas
 pub mod ListingLemmas
 pub mod FlaggedLemmas
 pub mod ListedLemmas
+pub mod OrderedLemmas
+pub mod OrderedEndLemmas
 pub mod UnusedLemmas
 pub mod FrontLemmas
 pub mod ThreadLemmas
