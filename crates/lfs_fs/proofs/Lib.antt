@@ -12,6 +12,8 @@ pub mod FlaggedLemmas
 pub mod ListedLemmas
 pub mod OrderedLemmas
 pub mod OrderedEndLemmas
+pub mod DirectoryTableLemmas
+pub mod PlacedLemmas
 pub mod UnusedLemmas
 pub mod FrontLemmas
 pub mod ThreadLemmas

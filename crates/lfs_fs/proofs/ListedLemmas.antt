@@ -1,6 +1,7 @@
 -- Paths that are found again from depths and names.
 use Rattle.std.proofs.Common.{◌≡◌, ℕ, List, [], ◌∷◌, ◌++◌, refl, ap, sym, ◌∙◌, subst, map, take, length, append-nil, append_assoc, add-one, suc, arith}
 use Rattle.std.proofs.Math.Seq.{take-append_seam}
+use Rattle.std.proofs.lemmas.List.{length-append}
 use Rattle.lfs_meta.specs.Name.{Name}
 use Rattle.lfs_fs.specs.Path.{Path}
 use Rattle.lfs_fs.specs.Entry.{Entry}
@@ -30,7 +31,7 @@ pub follow_longer : (p q : Path) (xs : List Listed) (rs : List Row) → Begins p
 follow_longer p q [] [] begins h = tt
 follow_longer p q [] (r ∷ rs) begins h = absurd h
 follow_longer p q (x ∷ xs) [] begins h = absurd h
-follow_longer p q (x ∷ xs) (r ∷ rs) begins (u, before, own, again, rest) = (u, begins_through u p q before begins, own, again, rest)
+follow_longer p q (x ∷ xs) (r ∷ rs) begins (u, before, own, deep, again, rest) = (u, begins_through u p q before begins, own, deep, again, rest)
 
 -- ---- what stands below a path
 
@@ -51,4 +52,4 @@ below_again p after k e is (rest, begins) =
 pub follow_below : (p : Path) (k : ℕ) (es : List Entry) (xs : List Listed) (rs : List Row) → k ≡ suc (length p) → Follow p xs rs → Follow p (map (listed_below k) es ++ xs) (map (row_below p) es ++ rs)
 follow_below p k [] xs rs is h = h
 follow_below p k (e ∷ es) xs rs is h =
-    (p, begins_itself p, (e.name ∷ [], refl), (λ after begins. below_again p after k e is begins), follow_below p k es xs rs is h)
+    (p, begins_itself p, (e.name ∷ [], refl), omega (arith, length-append p (e.name ∷ [])), (λ after begins. below_again p after k e is begins), follow_below p k es xs rs is h)

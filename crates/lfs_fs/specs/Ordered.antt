@@ -1,5 +1,5 @@
 -- A walk over the directories of a volume from the root: what is listed, what waits and what was opened (own).
-use Rattle.std.specs.Prelude.{◌≡◌, ℕ, ◌+◌, ◌-◌, ◌≤◌, Bool, true, false, List, [], ◌∷◌, ◌++◌, Option, Some, None, All, Contains, if◌then◌else◌, sum_by, count_by, map, length, set, slice_get}
+use Rattle.std.specs.Prelude.{◌≡◌, ℕ, ◌+◌, ◌-◌, ◌≤◌, Bool, true, false, List, [], ◌∷◌, ◌++◌, Option, Some, None, All, Contains, if◌then◌else◌, sum_by, count_by, map, length, reverse, set, slice_get}
 use Rattle.lfs_block.specs.declared.mount_fault.MountFault.{MountFault}
 use Rattle.lfs_block.specs.declared.mount_fault.MountFault.TheVariants.{MissingDirectory, BlockTwice, Orphan, Memory}
 use Rattle.lfs_meta.specs.Name.{Name}
@@ -8,7 +8,7 @@ use Rattle.lfs_fs.specs.declared.place.Place.{Place}
 use Rattle.lfs_fs.specs.Path.{Path}
 use Rattle.lfs_fs.specs.Pair.{root}
 use Rattle.lfs_fs.specs.Entry.{Entry, target}
-use Rattle.lfs_fs.specs.Directory.{Directory, entries, key, begins_at}
+use Rattle.lfs_fs.specs.Directory.{Directory, parts, entries, key, begins_at}
 use Rattle.lfs_fs.specs.Volume.{Volume}
 use Rattle.lfs_fs.specs.Tree.{entry_at, Reached}
 use Rattle.lfs_fs.specs.Named.{leads_to, names_of, named}
@@ -18,7 +18,7 @@ use Rattle.lfs_fs.specs.FolderTable.{look_up}
 use Rattle.lfs_fs.specs.Walked.{apart, AreApart, PathsRise}
 use Rattle.lfs_fs.specs.Rows.{Row, AreRows}
 use Rattle.lfs_fs.specs.Listed.{Listed, row_after, last_after}
-use Rattle.lfs_fs.specs.Placed.{ArePlaces, listed_at, rows_of}
+use Rattle.lfs_fs.specs.Placed.{ArePlaces, listed_at, rows_of, places_in}
 use Rattle.lfs_fs.specs.DirectoryTable.{IsTableOf}
 
 -- ---- what is asked and what is found
@@ -99,7 +99,7 @@ abbrev pub Follow : Path → List Listed → List Row → Type 0
 Follow q [] [] = Unit {0}
 Follow q [] (r ∷ rs) = ⊥
 Follow q (x ∷ xs) [] = ⊥
-Follow q (x ∷ xs) (r ∷ rs) = (p : Path) × Begins p q × Begins p r.path × ((after : Path) → Begins p after → row_after after x ≡ r) × Follow p xs rs
+Follow q (x ∷ xs) (r ∷ rs) = (p : Path) × Begins p q × Begins p r.path × (x.depth ≡ length r.path) × ((after : Path) → Begins p after → row_after after x ≡ r) × Follow p xs rs
 
 -- an order of places is listed, others wait, and directories were opened
 pub record IsWalking (v : Volume) (table : List (Pair × ℕ)) (order waiting : List Place) (opened : List Bool) : Type 0 where
@@ -125,6 +125,15 @@ abbrev pub NotOpened : List (Pair × ℕ) → Pair → List Bool → MountFault 
 NotOpened table k opened MissingDirectory = look_up k table ≡ None
 NotOpened table k opened BlockTwice = (i : ℕ) × (look_up k table ≡ Some i) × (slice_get opened i ≡ Some true)
 NotOpened table k opened _ = ⊥
+
+-- a directory is opened, and the places of its entries are put before what waits, the first one last
+pub record Enters (ds : List Directory) (table : List (Pair × ℕ)) (k : Pair) (depth : ℕ) (opened more : List Bool) (waiting longer : List Place) : Type 0 where
+  pub index : ℕ
+  pub directory : Directory
+  pub opens : Opens table k opened more index
+  pub there : slice_get ds index ≡ Some directory
+  pub begins : begins_at k directory ≡ true
+  pub pushed : reverse longer ≡ places_in depth index 0 (parts directory) ++ reverse waiting
 
 -- what a walk has still to do: places that wait, and those of directories that weren't opened
 abbrev pub work : Volume → List Place → List Bool → ℕ

@@ -2,6 +2,7 @@
 #![tactic(auto)]
 
 mod delta;
+mod directory_table;
 mod folder;
 mod folder_table;
 mod formatted;
@@ -21,6 +22,8 @@ mod names;
 mod no_cause;
 mod no_cause_mounts;
 mod one_mount;
+mod order;
+mod ordering;
 mod outline;
 mod outline_body;
 mod outline_directory;
@@ -30,6 +33,7 @@ mod path;
 mod path_text;
 mod pending;
 mod place;
+mod placing;
 mod pushing;
 mod row;
 mod row_body;

@@ -23,3 +23,34 @@ impl Model for OutlineDirectory {
 
     ghost invariant = { λ d. Unit };
 }
+
+impl OutlineDirectory {
+    ghost use Rattle.std.specs.Prelude.{◌≡◌, length, slice_get};
+    ghost use Rattle.std.specs.Option.{option_map};
+    ghost use Rattle.lfs_fs.specs.Directory.{key, parts};
+
+    /// One of its parts. Takes no memory.
+    pub fn part(&self, index: usize) -> Option<&OutlinePart>
+        ensures { option_map (λ p. p.now) result ≡ slice_get (parts self.now) index }
+    {
+        if index == 0 {
+            Some(&self.first)
+        } else {
+            self.more.get(index - 1)
+        }
+    }
+
+    /// The number of its parts. Takes no memory.
+    pub(crate) fn len(&self) -> usize
+        ensures { result ≡ length (parts self.now) }
+    {
+        self.more.len() + 1
+    }
+
+    /// The pair that entries name it by: the lesser block first. Takes no memory.
+    pub(crate) fn key(&self) -> (u32, u32)
+        ensures { result ≡ key self.now }
+    {
+        self.first.key()
+    }
+}

@@ -1,5 +1,6 @@
 //! What stands under a name of a directory, in an outline.
 
+use crate::folder_table::unordered;
 use crate::outline_body::OutlineBody;
 use lfs_meta::Attribute;
 use std::marker::Model;
@@ -34,4 +35,19 @@ impl Model for OutlineEntry {
       body = outline_body_held e.body;
       attributes = e.attributes.items;
     })) };
+}
+
+impl OutlineEntry {
+    ghost use Rattle.std.specs.Prelude.{◌≡◌};
+    ghost use Rattle.lfs_fs.specs.Entry.{target};
+
+    /// The directory that it leads to, as a set of blocks: the lesser one first. Takes no memory.
+    pub fn target(&self) -> Option<(u32, u32)>
+        ensures { result ≡ target self.now }
+    {
+        match &self.body {
+            OutlineBody::Leads(first, second) => Some(unordered(*first, *second)),
+            _ => None,
+        }
+    }
 }

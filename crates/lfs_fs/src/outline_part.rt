@@ -1,6 +1,7 @@
 //! What a pair holds, in an outline.
 
 use crate::delta::Delta;
+use crate::folder_table::unordered;
 use crate::outline_entry::OutlineEntry;
 use std::marker::Model;
 
@@ -27,4 +28,32 @@ impl Model for OutlinePart {
     ghost view = { λ p. record { pair = p.pair; entries = p.entries.items; delta = p.delta; dirty = p.dirty } };
 
     ghost invariant = { λ p. Unit };
+}
+
+impl OutlinePart {
+    ghost use Rattle.std.specs.Prelude.{◌≡◌, length, slice_get};
+    ghost use Rattle.std.specs.Option.{option_map};
+    ghost use Rattle.lfs_fs.specs.Pair.{unordered};
+
+    /// One of its entries. Takes no memory.
+    pub fn entry(&self, index: usize) -> Option<&OutlineEntry>
+        ensures { option_map (λ e. e.now) result ≡ slice_get self.now.entries index }
+    {
+        self.entries.get(index)
+    }
+
+    /// The number of its entries. Takes no memory.
+    pub(crate) fn len(&self) -> usize
+        ensures { result ≡ length self.now.entries }
+    {
+        self.entries.len()
+    }
+
+    /// Its pair as a set: the lesser block first. Takes no memory.
+    pub(crate) fn key(&self) -> (u32, u32)
+        ensures { result ≡ unordered self.now.pair }
+    {
+        let (first, second) = self.pair;
+        unordered(first, second)
+    }
 }
