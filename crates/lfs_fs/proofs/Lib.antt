@@ -14,6 +14,7 @@ pub mod OrderedLemmas
 pub mod OrderedEndLemmas
 pub mod DirectoryTableLemmas
 pub mod PlacedLemmas
+pub mod WalkingLemmas
 pub mod UnusedLemmas
 pub mod FrontLemmas
 pub mod ThreadLemmas
