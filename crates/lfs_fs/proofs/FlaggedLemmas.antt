@@ -1,9 +1,11 @@
 -- Sums over what is flagged.
 use Rattle.std.proofs.Common.{◌≡◌, ℕ, ◌+◌, ◌≤◌, ◌<◌, Bool, true, false, List, [], ◌∷◌, Some, refl, ap, sym, ◌∙◌, arith, length, cond, zero, suc, set, replicate}
-use Rattle.std.specs.Prelude.{sum_by, slice_get, All, if◌then◌else◌}
+use Rattle.std.specs.Prelude.{sum_by, slice_get, All, if◌then◌else◌, ◌||◌}
+use Rattle.std.specs.List.{list_any}
+use Rattle.std.proofs.lemmas.Bool.{false≢true}
 use Rattle.std.proofs.lemmas.Option.{none-some, same_Some}
 use Rattle.std.proofs.lemmas.List.Sums.{sum_by-cons}
-use Rattle.std.proofs.lemmas.List.Elements.{All-head, All-tail}
+use Rattle.std.proofs.lemmas.List.Elements.{All-nil, All-cons, All-head, All-tail}
 use Rattle.lfs_fs.specs.Ordered.{flagged}
 
 weighs : {X : Type 0} (f : X → ℕ) (x : X) (b c : Bool) → b ≡ c → cond {A = ℕ} b (f x) 0 ≡ cond {A = ℕ} c (f x) 0
@@ -50,3 +52,23 @@ flagged_set f [] flags i x at is = absurd (none-some x at)
 flagged_set f (y ∷ xs) [] i x at is = absurd (none-some false is)
 flagged_set f (y ∷ xs) (b ∷ flags) zero x at is = omega (arith, weighs f y b false (same_Some b false is), ap f (same_Some y x at))
 flagged_set f (y ∷ xs) (b ∷ flags) (suc i) x at is = omega (arith, flagged_set f xs flags i x at is)
+
+-- ---- what isn't flagged
+
+-- some flag isn't set
+pub some_unset : (test : Bool → Bool) (flags : List Bool) → test true ≡ false → list_any test flags ≡ true → (i : ℕ) × (slice_get flags i ≡ Some false)
+some_unset test [] set any = cc
+some_unset test (true ∷ flags) set any =
+    let rest = some_unset test flags set (sym (ap (λ (b : Bool). b || list_any test flags) set) ∙ any) in
+    (suc rest.0, rest.1)
+some_unset test (false ∷ flags) set any = (0, refl)
+
+-- each flag is set
+pub all_set : (test : Bool → Bool) (flags : List Bool) → test false ≡ true → list_any test flags ≡ false → All (λ b. b ≡ true) flags
+all_set test [] unset any = All-nil (λ (b : Bool). b ≡ true)
+all_set test (true ∷ flags) unset any = All-cons (λ (b : Bool). b ≡ true) true flags refl (all_set test flags unset (all_by (test true) (list_any test flags) any))
+  where
+    all_by : (b c : Bool) → (b || c) ≡ false → c ≡ false
+    all_by true c h = cc
+    all_by false c h = h
+all_set test (false ∷ flags) unset any = absurd (false≢true (sym any ∙ ap (λ (b : Bool). b || list_any test flags) unset))

@@ -1,6 +1,6 @@
 -- A walk over places lists the rows of its volume.
 use Rattle.std.proofs.Common.{◌≡◌, ◌⊎◌, ℕ, ◌+◌, ◌-◌, ◌≤◌, ◌<◌, Bool, true, false, List, [], ◌∷◌, ◌++◌, Option, Some, None, refl, ap, sym, ◌∙◌, subst, arith, map, length, reverse, replicate, set, suc, append_assoc, add-one, inl, inr}
-use Rattle.std.specs.Prelude.{slice_get, IsSome, sum_by}
+use Rattle.std.specs.Prelude.{slice_get, IsSome}
 use Rattle.std.specs.List.{All}
 use Rattle.std.specs.Option.{option_map}
 use Rattle.std.proofs.lemmas.List.{map-append, length-append, length-reverse}

@@ -1,7 +1,5 @@
-use Rattle.std.proofs.Common.{◌≡◌, ◌-◌, ◌+◌, ◌<◌, ◌≤◌, ℕ, length, drop, get_or, reverse, arith, ap, sym, ◌∙◌}
-use Rattle.std.specs.Prelude.{slice_get}
+use Rattle.std.proofs.Common.{◌-◌, reverse, arith}
 use Rattle.lfs_fs.specs.Directory.{parts}
-use Rattle.lfs_fs.specs.Placed.{places_in}
 use Rattle.lfs_fs.proofs.PlacedLemmas.{parts_pushed}
 use Rattle.lfs_fs.proofs.placing.push_directory.Goals as goal
 

@@ -1,4 +1,4 @@
-use Rattle.std.proofs.Common.{◌≡◌, ◌++◌, ◌-◌, ℕ, List, reverse, subst, arith, refl, suc, ap, sym, ◌∙◌}
+use Rattle.std.proofs.Common.{◌≡◌, ◌++◌, ◌-◌, ℕ, List, reverse, arith, refl, suc, ap, ◌∙◌}
 use Rattle.lfs_fs.specs.declared.place.Place.{Place}
 use Rattle.lfs_fs.specs.Placed.{places_from}
 use Rattle.lfs_fs.proofs.PlacedLemmas.{place_pushed}
