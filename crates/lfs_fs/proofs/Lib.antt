@@ -33,6 +33,7 @@ pub mod UsedLemmas
 pub mod NameTestLemmas
 pub mod StateLemmas
 pub mod ThreadReadLemmas
+pub mod OutlinedLemmas
 pub mod KeepingLemmas
 pub mod GatheringLemmas
 pub mod PartsLemmas

@@ -4,9 +4,11 @@
 mod delta;
 mod folder;
 mod folder_table;
+mod following;
 mod formatted;
 mod front;
 mod gathering;
+mod joining;
 mod keeping;
 mod limits;
 mod listed_row;
