@@ -34,6 +34,7 @@ pub mod NameTestLemmas
 pub mod StateLemmas
 pub mod ThreadReadLemmas
 pub mod OutlinedLemmas
+pub mod OutlinedFaultLemmas
 pub mod KeepingLemmas
 pub mod GatheringLemmas
 pub mod PartsLemmas
