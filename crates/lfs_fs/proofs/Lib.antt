@@ -40,6 +40,8 @@ pub mod UsedLemmas
 pub mod NameTestLemmas
 pub mod StateLemmas
 pub mod ThreadReadLemmas
+pub mod OutlinedLemmas
+pub mod OutlinedFaultLemmas
 pub mod KeepingLemmas
 pub mod GatheringLemmas
 pub mod PartsLemmas

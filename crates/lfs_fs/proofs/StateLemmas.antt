@@ -1,9 +1,12 @@
 -- The global state as words.
-use Rattle.std.proofs.Common.{◌≡◌, ℕ, ◌+◌, ◌*◌, ◌^◌, ◌<◌, List, [], ◌∷◌, length, take, drop, get_or, ap, sym, ◌∙◌, arith}
-use Rattle.std.specs.Prelude.{bit_xor}
+use Rattle.std.proofs.Common.{◌≡◌, ℕ, ◌+◌, ◌*◌, ◌^◌, ◌<◌, List, [], ◌∷◌, ◌++◌, length, take, drop, get_or, refl, ap, sym, append-nil, ◌∙◌, arith}
+use Rattle.std.specs.Prelude.{bit_xor, replicate}
+use Rattle.std.proofs.lemmas.List.{length-append}
+use borrow.Rule.Slice.PartMut.{put_mid}
 use Rattle.std.specs.Int.Bits.{xor_assoc}
 use Rattle.std.proofs.lemmas.Nat.{xor_block}
-use Rattle.byteorder.specs.Endian.{little_number}
+use Rattle.byteorder.specs.Endian.{little_number, little_bytes}
+use Rattle.byteorder.specs.Numbers.{little_number-reads_back}
 use Rattle.lfs_fs.specs.State.{little_endian}
 use Rattle.lfs_fs.specs.Gathering.{PairPart, delta_from}
 use Rattle.lfs_fs.proofs.ItemLemmas.{drop_at}
@@ -13,22 +16,36 @@ pub by_words : (bytes : List ℕ) → length bytes ≡ 12 → little_number 4 (t
 by_words (a ∷ b ∷ c ∷ d ∷ e ∷ f ∷ g ∷ h ∷ i ∷ j ∷ k ∷ l ∷ []) is = omega arith
 by_words _ is = omega arith
 
-mixed : (w r f o : ℕ) → w < 2 ^ 32 → f < 2 ^ 32 → bit_xor (w + 2 ^ 32 * r) (f + 2 ^ 32 * o) ≡ bit_xor w f + 2 ^ 32 * bit_xor r o
+pub mixed : (w r f o : ℕ) → w < 2 ^ 32 → f < 2 ^ 32 → bit_xor (w + 2 ^ 32 * r) (f + 2 ^ 32 * o) ≡ bit_xor w f + 2 ^ 32 * bit_xor r o
 mixed w r f o small less =
     let left : w + 2 ^ 32 * r ≡ r * 2 ^ 32 + w = omega arith in
     let right : f + 2 ^ 32 * o ≡ o * 2 ^ 32 + f = omega arith in
     let whole : bit_xor (r * 2 ^ 32 + w) (o * 2 ^ 32 + f) ≡ bit_xor r o * 2 ^ 32 + bit_xor w f = xor_block 32 r o w f small less in
     ap (λ x. bit_xor x (f + 2 ^ 32 * o)) left ∙ ap (λ x. bit_xor (r * 2 ^ 32 + w) x) right ∙ whole ∙ omega arith
 
+-- words and what they spell
+pub spelled : (word rest : ℕ) → word < 2 ^ 32 → rest < 2 ^ 64 → little_endian (little_bytes 4 word ++ little_bytes 8 rest) ≡ word + 2 ^ 32 * rest
+spelled word rest small less =
+    let first : little_number 4 (little_bytes 4 word) ≡ word = little_number-reads_back 4 word [] (omega arith) in
+    let others : little_number 8 (little_bytes 8 rest) ≡ rest = little_number-reads_back 8 rest [] (omega arith) in
+    sym (by_words (little_bytes 4 word ++ little_bytes 8 rest) refl) ∙ ap (λ n. n + 2 ^ 32 * little_number 8 (little_bytes 8 rest)) first ∙ ap (λ n. word + 2 ^ 32 * n) others
+
+no_tail : (xs ys rest : List ℕ) → xs ≡ ys ++ rest → length xs ≡ length ys → xs ≡ ys
+no_tail xs ys [] is len = is ∙ append-nil ys
+no_tail xs ys (x ∷ rest) is len = absurd (omega (arith, ap (λ (l : List ℕ). length l) is, length-append ys (x ∷ rest)))
+
+-- the same, where each is written over zeros
+pub spelled_over : (word rest : ℕ) (first others left right : List ℕ) → first ≡ little_bytes 4 word ++ left → length first ≡ 4 → others ≡ little_bytes 8 rest ++ right → length others ≡ length (take 8 (drop 4 (first ++ replicate 8 0)))
+    → word < 2 ^ 32 → rest < 2 ^ 64 → little_endian (put_mid 4 8 (first ++ replicate 8 0) others) ≡ word + 2 ^ 32 * rest
+spelled_over word rest first others left right first_is short others_are long small less =
+    let same : first ≡ little_bytes 4 word = no_tail first (little_bytes 4 word) left first_is short in
+    let eight : length others ≡ 8 = long ∙ ap (λ (l : List ℕ). length (take 8 (drop 4 (l ++ replicate 8 0)))) same in
+    rw (same, no_tail others (little_bytes 8 rest) right others_are eight) (spelled word rest small less)
+
 -- one part more is mixed in
-pub mixed_more : (w r f o : ℕ) (ps : List PairPart) (i : ℕ) (p : PairPart) → w < 2 ^ 32 → f < 2 ^ 32 → f + 2 ^ 32 * o ≡ little_endian p.1.delta → i < length ps → p ≡ get_or ps i p
-    → bit_xor (w + 2 ^ 32 * r) (delta_from (drop i ps)) ≡ delta_from ps
-    → bit_xor (bit_xor w f + 2 ^ 32 * bit_xor r o) (delta_from (drop (i + 1) ps)) ≡ delta_from ps
-mixed_more w r f o ps i p small less is within here before =
+pub mixed_more : (state delta : ℕ) (ps : List PairPart) (i : ℕ) (p : PairPart) → delta ≡ little_endian p.1.delta → i < length ps → p ≡ get_or ps i p
+    → bit_xor state (delta_from (drop i ps)) ≡ delta_from ps → bit_xor (bit_xor state delta) (delta_from (drop (i + 1) ps)) ≡ delta_from ps
+mixed_more state delta ps i p is within here before =
     let rest = delta_from (drop (i + 1) ps) in
     let at : delta_from (drop i ps) ≡ bit_xor (little_endian p.1.delta) rest = ap delta_from (drop_at ps i p within here) in
-    ap (λ x. bit_xor x rest) (sym (mixed w r f o small less))
-    ∙ xor_assoc (w + 2 ^ 32 * r) (f + 2 ^ 32 * o) rest
-    ∙ ap (λ x. bit_xor (w + 2 ^ 32 * r) (bit_xor x rest)) is
-    ∙ ap (bit_xor (w + 2 ^ 32 * r)) (sym at)
-    ∙ before
+    xor_assoc state delta rest ∙ ap (λ x. bit_xor state (bit_xor x rest)) is ∙ ap (bit_xor state) (sym at) ∙ before

@@ -1,5 +1,8 @@
 //! A pair's share of the global state.
 
+ghost use Rattle.std.specs.Prelude.{◌≡◌, ◌+◌, ◌*◌, ◌^◌};
+ghost use Rattle.lfs_fs.specs.State.{little_endian};
+
 use byteorder::{ByteOrder, LittleEndian};
 use std::marker::Model;
 
@@ -24,9 +27,19 @@ impl Model for Delta {
     ghost invariant = { λ d. Unit };
 }
 
+/// The twelve bytes that spell a word and the rest.
+fn bytes_of(word: u32, rest: u64) -> [u8; 12]
+    ensures { little_endian result ≡ word + 2 ^ 32 * rest }
+{
+    let mut bytes = [0; 12];
+    LittleEndian::write_u32(&mut bytes[..4], word);
+    LittleEndian::write_u64(&mut bytes[4..], rest);
+    bytes
+}
+
 impl Delta {
-    ghost use Rattle.std.specs.Prelude.{◌≡◌, bit_xor};
-    ghost use Rattle.lfs_fs.specs.State.{little_endian};
+    ghost use Rattle.std.specs.Prelude.{◌≡◌, ◌≢◌, MatchBool, bit_xor};
+    ghost use Rattle.lfs_fs.specs.State.{little_endian, move_type, orphan_bit};
 
     /// The delta that changes nothing. Takes no memory.
     pub fn none() -> Delta
@@ -49,10 +62,7 @@ impl Delta {
     pub fn to_bytes(&self) -> [u8; 12]
         ensures { little_endian result ≡ self.now }
     {
-        let mut bytes = [0; 12];
-        LittleEndian::write_u32(&mut bytes[..4], self.word);
-        LittleEndian::write_u64(&mut bytes[4..], self.rest);
-        bytes
+        bytes_of(self.word, self.rest)
     }
 
     /// Both deltas together, bit by bit one or the other. Takes no memory.
@@ -63,5 +73,25 @@ impl Delta {
             word: self.word ^ other.word,
             rest: self.rest ^ other.rest,
         }
+    }
+    /// The type of an unfinished move, 0 where there is none.
+    pub(crate) fn move_type(&self) -> u32
+        ensures { result ≡ move_type self.now }
+    {
+        (self.word >> 20) % 0x800
+    }
+
+    /// The bit that says that there may be directories that are not reached.
+    pub(crate) fn orphan_bit(&self) -> u32
+        ensures { result ≡ orphan_bit self.now }
+    {
+        self.word >> 31
+    }
+
+    /// Whether it changes nothing.
+    pub(crate) fn is_none(&self) -> bool
+        ensures { MatchBool result (self.now ≡ 0) (self.now ≢ 0) }
+    {
+        self.word == 0 && self.rest == 0
     }
 }

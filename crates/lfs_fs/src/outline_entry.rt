@@ -6,8 +6,7 @@ use lfs_meta::Attribute;
 use std::marker::Model;
 
 /// What stands under a name of a directory. Its meaning is the entry of a volume, with as many zeros as the contents of
-/// its chain have bytes. As it is
-/// stored its lengths and numbers fit into tags.
+/// its chain have bytes. As it is stored its lengths and numbers fit into tags.
 ///
 /// Source: own.
 #[derive(Debug, Drop)]

@@ -1,35 +1,21 @@
 //! The global state of an image.
 
-ghost use Rattle.std.specs.Prelude.{◌≡◌, ◌+◌, ◌*◌, ◌^◌, OnOk, IfErr};
-ghost use Rattle.lfs_fs.specs.State.{little_endian};
+ghost use Rattle.std.specs.Prelude.{◌≡◌, OnOk, IfErr};
 ghost use Rattle.lfs_fs.specs.Gathering.{delta_from, StateCause};
 
-use byteorder::{ByteOrder, LittleEndian};
+use crate::delta::Delta;
 use lfs_block::MountFault;
 use lfs_meta::Part;
 
-/// A delta as its first word and the rest.
-fn words_of(delta: &[u8; 12]) -> (u32, u64)
-    ensures { result.0 + 2 ^ 32 * result.1 ≡ little_endian delta.now }
+/// The exclusive or of the deltas of parts.
+fn state_of(parts: &[Part]) -> Delta
+    ensures { result ≡ delta_from parts.now }
 {
-    (
-        LittleEndian::read_u32(&delta[..4]),
-        LittleEndian::read_u64(&delta[4..]),
-    )
-}
-
-/// The exclusive or of the deltas of parts, as the first word and the rest.
-fn state_of(parts: &[Part]) -> (u32, u64)
-    ensures { result.0 + 2 ^ 32 * result.1 ≡ delta_from parts.now }
-{
-    let mut word = 0;
-    let mut rest = 0;
+    let mut state = Delta::none();
     'each: for part in parts {
-        let (first, others) = words_of(&part.delta);
-        word ^= first;
-        rest ^= others;
+        state = state.joined(&Delta::of(&part.delta));
     }
-    (word, rest)
+    state
 }
 
 /// Judges the state that parts leave: `UnfinishedMove` where it has the type of a move, else `Orphan` where it says that
@@ -38,14 +24,14 @@ pub(crate) fn settled(parts: &[Part]) -> Result<(), MountFault>
     ensures settled { OnOk result (delta_from parts.now ≡ 0) }
     ensures refused { IfErr result (λ fault. StateCause fault (delta_from parts.now)) }
 {
-    let (word, rest) = state_of(parts);
-    if (word >> 20) % 0x800 != 0 {
+    let state = state_of(parts);
+    if state.move_type() != 0 {
         return Err(MountFault::UnfinishedMove);
     }
-    if word >> 31 != 0 {
+    if state.orphan_bit() != 0 {
         return Err(MountFault::Orphan);
     }
-    if word != 0 || rest != 0 {
+    if !state.is_none() {
         return Err(MountFault::UnknownState);
     }
     Ok(())
