@@ -9,9 +9,9 @@ use Rattle.std.proofs.lemmas.List.Elements.{All-nil, All-push}
 use Rattle.lfs_meta.specs.Body.{Pair}
 use Rattle.lfs_fs.specs.Pair.{same_pair}
 use Rattle.lfs_fs.specs.Directory.{Directory, key, begins_at}
-use Rattle.lfs_fs.specs.FolderTable.{pair_order, look_up}
+use Rattle.lfs_fs.specs.DirectoryTable.{pair_order, look_up}
 use Rattle.lfs_fs.specs.DirectoryTable.{StandsAt, IsTableOf}
-use Rattle.lfs_fs.proofs.FolderTableLemmas.{is_at-same, same_pair-is, same_pair-refl, same_pair-symmetric}
+use Rattle.lfs_fs.proofs.PairLemmas.{is_at-same, same_pair-is, same_pair-refl, same_pair-symmetric}
 
 pub slice_get_left : {X : Type 0} (xs ys : List X) (i : ℕ) (x : X) → slice_get xs i ≡ Some x → slice_get (xs ++ ys) i ≡ Some x
 slice_get_left [] ys i x at = absurd (none-some x at)

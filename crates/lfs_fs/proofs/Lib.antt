@@ -4,10 +4,7 @@ pub mod PathLemmas
 pub mod PathTextLemmas
 pub mod ApartLemmas
 pub mod EntryAtLemmas
-pub mod FolderTableLemmas
-pub mod WalkLemmas
-pub mod WalkEndLemmas
-pub mod ListingLemmas
+pub mod PairLemmas
 pub mod FlaggedLemmas
 pub mod ListedLemmas
 pub mod OrderedLemmas

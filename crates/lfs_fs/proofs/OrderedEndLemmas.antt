@@ -1,6 +1,6 @@
 -- What a walk over directories knows at its start and at its end.
 use Rattle.std.proofs.Common.{◌≡◌, ◌⊎◌, ℕ, ◌≤◌, ◌<◌, Bool, true, false, List, [], ◌∷◌, ◌++◌, Option, Some, None, refl, ap, sym, ◌∙◌, subst, arith, map, length, append-nil, inl, inr, cond, get_or, replicate}
-use Rattle.std.specs.Prelude.{sum_by, count_by, slice_get}
+use Rattle.std.specs.Prelude.{find, sum_by, count_by, slice_get}
 use Rattle.std.specs.List.{All, Contains}
 use Rattle.std.proofs.lemmas.Option.{same_Some, slice_get_within, get_or_from_slice_get, slice_get_cases}
 use Rattle.std.proofs.lemmas.List.{length-map, get_or-map, length-replicate}
@@ -8,27 +8,35 @@ use Rattle.std.proofs.lemmas.List.Sums.{sum_by-cons}
 use Rattle.std.proofs.lemmas.List.Elements.{All-nil, All-cons, All-head, All-tail, All-contains, Contains-get_or}
 use Rattle.lfs_block.specs.declared.mount_fault.MountFault.{MountFault}
 use Rattle.lfs_block.specs.declared.mount_fault.MountFault.TheVariants.{MissingDirectory, BlockTwice}
+use Rattle.lfs_meta.specs.Name.{Name}
 use Rattle.lfs_meta.specs.Body.{Pair}
 use Rattle.lfs_fs.specs.Path.{Path}
-use Rattle.lfs_fs.specs.Pair.{root}
+use Rattle.lfs_fs.specs.Pair.{root, unordered, same_pair}
 use Rattle.lfs_fs.specs.Entry.{Entry, target}
 use Rattle.lfs_fs.specs.Directory.{Directory, key, begins_at}
 use Rattle.lfs_fs.specs.Volume.{Volume}
 use Rattle.lfs_fs.specs.Tree.{entry_at, top, Reached}
 use Rattle.lfs_fs.specs.Named.{leads_to, names_of, named}
 use Rattle.lfs_fs.specs.Row.{path_precedes}
-use Rattle.lfs_fs.specs.Rows.{Row, RowsRise, AreRows}
+use Rattle.lfs_fs.specs.Row.{Row, RowsRise, AreRows}
+use Rattle.lfs_fs.specs.Sound.{StartsAtRoot}
 use Rattle.lfs_fs.specs.EntryFault.{NamesNoDirectory, LosesDirectory}
-use Rattle.lfs_fs.specs.FolderTable.{look_up}
-use Rattle.lfs_fs.specs.Walked.{PathsRise}
+use Rattle.lfs_fs.specs.DirectoryTable.{look_up}
+use Rattle.lfs_fs.specs.Ordered.{PathsRise}
 use Rattle.lfs_fs.specs.DirectoryTable.{StandsAt, IsTableOf}
 use Rattle.lfs_fs.specs.Ordered.{IsWalkable, IsListed, WalkCause, flagged, begun_at, times_opened, row_paths, Stands, IsOpened, IsWalkTo, NotOpened}
 use Rattle.lfs_fs.proofs.EntryAtLemmas.{by_last_name, found, stands_below}
-use Rattle.lfs_fs.proofs.FolderTableLemmas.{same_pair-is, same_pair-refl}
+use Rattle.lfs_fs.proofs.PairLemmas.{same_pair-is, same_pair-refl}
 use Rattle.lfs_fs.proofs.FlaggedLemmas.{flagged_none, flagged_le, flagged_all, flagged_some, flagged_room}
-use Rattle.lfs_fs.proofs.WalkEndLemmas.{begins-itself, root_begins, last_name}
+use Rattle.lfs_fs.proofs.CountLemmas.{element_le}
 
 -- ---- the start
+
+pub root_begins : (ds : List Directory) → StartsAtRoot ds → 1 ≤ count_by (begins_at root) ds
+root_begins [] h = absurd h
+root_begins (d ∷ ds) h =
+    let here : begins_at root d ≡ true = ap (λ (p : Pair). same_pair root (unordered p)) h in
+    omega (arith, ap (λ (b : Bool). cond {A = ℕ} b 1 0) here, sum_by-cons (λ (c : Directory). cond {A = ℕ} (begins_at root c) 1 0) d ds)
 
 -- the root as what waits
 abbrev pub root_row : Volume → Row
@@ -78,6 +86,21 @@ all_listed v rows opened walk =
     let one = All-contains (IsOpened v opened (row_paths rows ++ [])) (row_paths rows) p walk.done (above below.above below.there) in
     subst (λ (ps : List Path). Contains ps (p ++ n ∷ [])) met (one.below n e there))
 
+none_counted_by : {X : Type 0} (b : Bool) (a : X → Bool) (x : X) (xs : List X) → a x ≡ b → cond b (Some x) (find a xs) ≡ None → (find a xs ≡ None → count_by a xs ≡ 0) → count_by a (x ∷ xs) ≡ 0
+none_counted_by true a x xs is h rest = cc
+none_counted_by {X} false a x xs is h rest = omega (arith, rest h, ap (λ (t : Bool). cond {A = ℕ} t 1 0) is, sum_by-cons (λ (y : X). cond {A = ℕ} (a y) 1 0) x xs)
+
+-- what isn't found isn't there
+pub none_counted : {X : Type 0} (a : X → Bool) (xs : List X) → find a xs ≡ None → count_by a xs ≡ 0
+none_counted a [] h = refl
+none_counted a (x ∷ xs) h = none_counted_by (a x) a x xs refl h (none_counted a xs)
+
+pub begins-itself : (ds : List Directory) (d : Directory) → Contains ds d → 1 ≤ count_by (begins_at (key d)) ds
+begins-itself ds d there =
+    let least : cond {A = ℕ} (begins_at (key d) d) 1 0 ≤ count_by (begins_at (key d)) ds = element_le (λ (c : Directory). cond {A = ℕ} (begins_at (key d) c) 1 0) ds d there in
+    let one : cond {A = ℕ} (begins_at (key d) d) 1 0 ≡ 1 = ap (λ (b : Bool). cond {A = ℕ} b 1 0) (same_pair-refl (key d)) in
+    omega arith
+
 pub walk_end : (v : Volume) (rows : List Row) (opened : List Bool) → All (λ b. b ≡ true) opened → IsWalkTo v rows [] opened → IsListed v rows
 walk_end v rows opened all walk =
     let listed = all_listed v rows opened walk in
@@ -124,6 +147,9 @@ walk_twice v rows x rest opened k i d leads at is flag walk =
     let many : begun_at k d ≤ times_opened v k opened = flagged_some (begun_at k) v.directories opened i d at flag in
     let own : begun_at k d ≡ 1 = ap (λ (b : Bool). cond {A = ℕ} b 1 0) is in
     (k, omega (arith, walk.counts k, flagged_le (names_of k) v.directories opened, sum_by-cons (λ (y : Row). leads_to k (target y.entry)) x rest))
+
+pub last_name : (p : Path) → (p ≡ []) ⊎ ((q : Path) × (n : Name) × (p ≡ q ++ n ∷ []))
+last_name p = by_last_name (λ (p : Path). (p ≡ []) ⊎ ((q : Path) × (n : Name) × (p ≡ q ++ n ∷ []))) (inl refl) (λ q n h. inr (q, n, refl)) p
 
 none_begins : (k : Pair) (ds : List Directory) → All (λ (d : Directory). begins_at k d ≡ false) ds → count_by (begins_at k) ds ≡ 0
 none_begins k [] all = refl

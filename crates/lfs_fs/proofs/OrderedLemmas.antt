@@ -19,12 +19,12 @@ use Rattle.lfs_fs.specs.Tree.{entry_at, Reached}
 use Rattle.lfs_fs.specs.Named.{leads_to, names_of}
 use Rattle.lfs_fs.specs.Sound.{Rise}
 use Rattle.lfs_fs.specs.Row.{path_precedes}
-use Rattle.lfs_fs.specs.Rows.{Row}
-use Rattle.lfs_fs.specs.Walked.{apart, AreApart, PathsRise}
+use Rattle.lfs_fs.specs.Row.{Row}
+use Rattle.lfs_fs.specs.Ordered.{apart, AreApart, PathsRise}
 use Rattle.lfs_fs.specs.Ordered.{flagged, begun_at, times_opened, row_paths, Stands, IsOpened, IsWalkTo}
 use Rattle.lfs_fs.proofs.ApartLemmas.{apart_below, apart_names, below_precedes, ApartFrom, apart-append, rise_apart, rise-insert}
 use Rattle.lfs_fs.proofs.EntryAtLemmas.{found, named_finds, entry_below, nothing_below}
-use Rattle.lfs_fs.proofs.FolderTableLemmas.{same_pair-is, same_pair-refl}
+use Rattle.lfs_fs.proofs.PairLemmas.{same_pair-is, same_pair-refl}
 use Rattle.lfs_fs.proofs.CountLemmas.{element_le}
 use Rattle.lfs_fs.proofs.FlaggedLemmas.{flagged_set}
 use Rattle.lfs_fs.proofs.ListedLemmas.{row_below}

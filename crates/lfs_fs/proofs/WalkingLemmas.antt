@@ -14,7 +14,7 @@ use Rattle.lfs_fs.specs.Entry.{Entry, target}
 use Rattle.lfs_fs.specs.Directory.{Directory, parts, entries}
 use Rattle.lfs_fs.specs.Volume.{Volume}
 use Rattle.lfs_fs.specs.EntryFault.{LosesDirectory}
-use Rattle.lfs_fs.specs.Rows.{Row}
+use Rattle.lfs_fs.specs.Row.{Row}
 use Rattle.lfs_fs.specs.Listed.{Listed, path_after, row_after, rows_after, last_after}
 use Rattle.lfs_fs.specs.Placed.{entry_placed, ArePlaces, listed_at, rows_of, places_in}
 use Rattle.lfs_fs.specs.DirectoryTable.{IsTableOf}

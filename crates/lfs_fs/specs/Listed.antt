@@ -3,7 +3,7 @@ use Rattle.std.specs.Prelude.{ℕ, zero, suc, List, [], ◌∷◌, ◌++◌, tak
 use Rattle.lfs_meta.specs.Name.{Name}
 use Rattle.lfs_fs.specs.Path.{Path}
 use Rattle.lfs_fs.specs.Entry.{Entry}
-use Rattle.lfs_fs.specs.Rows.{Row}
+use Rattle.lfs_fs.specs.Row.{Row}
 
 -- an entry with the number of names in its path
 pub record Listed : Type 0 where

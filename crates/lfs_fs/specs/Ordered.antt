@@ -1,5 +1,5 @@
 -- A walk over the directories of a volume from the root: what is listed, what waits and what was opened (own).
-use Rattle.std.specs.Prelude.{◌≡◌, ℕ, ◌+◌, ◌-◌, ◌≤◌, Bool, true, false, List, [], ◌∷◌, ◌++◌, Option, Some, None, All, Contains, if◌then◌else◌, sum_by, count_by, map, length, reverse, set, slice_get}
+use Rattle.std.specs.Prelude.{◌≡◌, ℕ, bytes_eq, ◌+◌, ◌-◌, ◌≤◌, Bool, true, false, List, [], ◌∷◌, ◌++◌, Option, Some, None, All, Contains, if◌then◌else◌, sum_by, count_by, map, length, reverse, set, slice_get}
 use Rattle.lfs_block.specs.declared.mount_fault.MountFault.{MountFault}
 use Rattle.lfs_block.specs.declared.mount_fault.MountFault.TheVariants.{MissingDirectory, BlockTwice, Orphan, Memory}
 use Rattle.lfs_meta.specs.Name.{Name}
@@ -14,12 +14,11 @@ use Rattle.lfs_fs.specs.Tree.{entry_at, Reached}
 use Rattle.lfs_fs.specs.Named.{leads_to, names_of, named}
 use Rattle.lfs_fs.specs.Sound.{StartsAtRoot, Rise}
 use Rattle.lfs_fs.specs.EntryFault.{NamesNoDirectory, LosesDirectory}
-use Rattle.lfs_fs.specs.FolderTable.{look_up}
-use Rattle.lfs_fs.specs.Walked.{apart, AreApart, PathsRise}
-use Rattle.lfs_fs.specs.Rows.{Row, AreRows}
+use Rattle.lfs_fs.specs.NameOrder.{precedes}
+use Rattle.lfs_fs.specs.Row.{path_precedes, Row, AreRows}
 use Rattle.lfs_fs.specs.Listed.{Listed, row_after, last_after}
 use Rattle.lfs_fs.specs.Placed.{ArePlaces, listed_at, rows_of, places_in}
-use Rattle.lfs_fs.specs.DirectoryTable.{IsTableOf}
+use Rattle.lfs_fs.specs.DirectoryTable.{look_up, IsTableOf}
 
 -- ---- what is asked and what is found
 
@@ -58,6 +57,24 @@ begun_at k d = if begins_at k d then 1 else 0
 -- how many directories that begin at a pair were opened
 abbrev pub times_opened : Volume → Pair → List Bool → ℕ
 times_opened v k opened = flagged (begun_at k) v.directories opened
+
+-- ---- the order of what waits
+
+-- the paths differ in a name, where the first one's precedes
+abbrev pub apart : Path → Path → Bool
+apart [] q = false
+apart (n ∷ p) [] = false
+apart (n ∷ p) (m ∷ q) = if bytes_eq n m then apart p q else precedes n m
+
+-- each is apart from all later ones
+abbrev pub AreApart : List Path → Type 0
+AreApart [] = Unit {0}
+AreApart (p ∷ ps) = All (λ q. apart p q ≡ true) ps × AreApart ps
+
+-- each path comes before all later ones
+abbrev pub PathsRise : List Path → Type 0
+PathsRise [] = Unit {0}
+PathsRise (p ∷ ps) = All (λ q. path_precedes p q ≡ true) ps × PathsRise ps
 
 -- ---- the state of a walk
 

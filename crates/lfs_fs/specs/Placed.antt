@@ -6,7 +6,7 @@ use Rattle.lfs_fs.specs.Entry.{Inline, Entry}
 use Rattle.lfs_fs.specs.Directory.{Part, Directory, parts}
 use Rattle.lfs_fs.specs.Volume.{Volume}
 use Rattle.lfs_fs.specs.Tree.{top}
-use Rattle.lfs_fs.specs.Rows.{Row}
+use Rattle.lfs_fs.specs.Row.{Row}
 use Rattle.lfs_fs.specs.Listed.{Listed, rows_listed}
 
 -- the entry at a place in directories

@@ -3,7 +3,7 @@
 ghost use Rattle.std.specs.Prelude.{◌≡◌, ◌≤◌, ◌∷◌, IfOk, IfErr, OnOk, ◌⊎◌, length, reverse, ◌<◌};
 ghost use Rattle.std.specs.Prelude.{IfSome};
 ghost use Rattle.lfs_block.specs.declared.mount_fault.MountFault.TheVariants as MountFault;
-ghost use Rattle.lfs_fs.specs.FolderTable.{look_up};
+ghost use Rattle.lfs_fs.specs.DirectoryTable.{look_up};
 ghost use Rattle.lfs_fs.specs.DirectoryTable.{IsTableOf};
 ghost use Rattle.lfs_fs.specs.Ordered.{Enters, IsWalking, NotOpened, Opens, WalkCause, work};
 

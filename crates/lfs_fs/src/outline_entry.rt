@@ -1,7 +1,9 @@
 //! What stands under a name of a directory, in an outline.
 
-use crate::folder_table::unordered;
+use crate::directory_table::unordered;
+use crate::listed_row::Row;
 use crate::outline_body::OutlineBody;
+use crate::row_body::RowBody;
 use lfs_meta::Attribute;
 use std::marker::Model;
 
@@ -39,6 +41,33 @@ impl Model for OutlineEntry {
 impl OutlineEntry {
     ghost use Rattle.std.specs.Prelude.{◌≡◌};
     ghost use Rattle.lfs_fs.specs.Entry.{target};
+    ghost use Rattle.lfs_fs.specs.RowHeld.{row_body_held};
+
+    /// Where its contents are. Takes no memory.
+    fn row_body(&self) -> RowBody<'_>
+        ensures { row_body_held result ≡ self.now.body }
+    {
+        match &self.body {
+            OutlineBody::Held(bytes) => RowBody::Inline(bytes),
+            OutlineBody::Linked { blocks, size } => RowBody::Chain {
+                blocks,
+                size: *size,
+            },
+            OutlineBody::Leads(first, second) => RowBody::Dir(*first, *second),
+        }
+    }
+
+    /// Its row, at a depth. Takes no memory.
+    pub(crate) fn row(&self, depth: usize) -> Row<'_>
+        ensures { result ≡ record { depth = depth; entry = self.now } }
+    {
+        Row {
+            depth,
+            name: &self.name,
+            body: self.row_body(),
+            attributes: &self.attributes,
+        }
+    }
 
     /// The directory that it leads to, as a set of blocks: the lesser one first. Takes no memory.
     pub fn target(&self) -> Option<(u32, u32)>

@@ -1,7 +1,7 @@
 //! What a pair holds, in an outline.
 
 use crate::delta::Delta;
-use crate::folder_table::unordered;
+use crate::directory_table::unordered;
 use crate::outline_entry::OutlineEntry;
 use std::marker::Model;
 

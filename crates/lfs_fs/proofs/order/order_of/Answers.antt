@@ -3,7 +3,7 @@ use Rattle.std.specs.List.{list_any, All}
 use Rattle.lfs_fs.specs.declared.place.Place.{Place}
 use Rattle.lfs_fs.specs.Ordered.{IsWalking}
 use Rattle.lfs_fs.proofs.FlaggedLemmas.{some_unset, all_set}
-use Rattle.lfs_fs.proofs.ListingLemmas.{no_elements}
+use Rattle.lfs_fs.proofs.ItemLemmas.{no_elements}
 use Rattle.lfs_fs.proofs.WalkingLemmas.{walking_end, walking_orphan}
 use Rattle.lfs_fs.proofs.order.order_of.Goals as goal
 
