@@ -12,6 +12,8 @@ pub mod OrderedEndLemmas
 pub mod DirectoryTableLemmas
 pub mod PlacedLemmas
 pub mod WalkingLemmas
+pub mod FindLemmas
+pub mod CountedLemmas
 pub mod UnusedLemmas
 pub mod FrontLemmas
 pub mod ThreadLemmas

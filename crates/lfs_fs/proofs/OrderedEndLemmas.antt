@@ -1,6 +1,6 @@
 -- What a walk over directories knows at its start and at its end.
-use Rattle.std.proofs.Common.{◌≡◌, ◌⊎◌, ℕ, ◌≤◌, ◌<◌, Bool, true, false, List, [], ◌∷◌, ◌++◌, Option, Some, None, refl, ap, sym, ◌∙◌, subst, arith, map, length, append-nil, inl, inr, cond, get_or, replicate}
-use Rattle.std.specs.Prelude.{find, sum_by, count_by, slice_get}
+use Rattle.std.proofs.Common.{◌≡◌, ◌⊎◌, ℕ, ◌≤◌, ◌<◌, Bool, true, false, List, [], ◌∷◌, ◌++◌, Some, None, refl, ap, sym, ◌∙◌, subst, arith, map, length, append-nil, inl, inr, cond, get_or, replicate}
+use Rattle.std.specs.Prelude.{not, find, sum_by, count_by, slice_get}
 use Rattle.std.specs.List.{All, Contains}
 use Rattle.std.proofs.lemmas.Option.{same_Some, slice_get_within, get_or_from_slice_get, slice_get_cases}
 use Rattle.std.proofs.lemmas.List.{length-map, get_or-map, length-replicate}
@@ -12,21 +12,20 @@ use Rattle.lfs_meta.specs.Name.{Name}
 use Rattle.lfs_meta.specs.Body.{Pair}
 use Rattle.lfs_fs.specs.Path.{Path}
 use Rattle.lfs_fs.specs.Pair.{root, unordered, same_pair}
-use Rattle.lfs_fs.specs.Entry.{Entry, target}
-use Rattle.lfs_fs.specs.Directory.{Directory, key, begins_at}
+use Rattle.lfs_fs.specs.Entry.{Entry, target, leads}
+use Rattle.lfs_fs.specs.Directory.{Directory, entries, key, begins_at}
 use Rattle.lfs_fs.specs.Volume.{Volume}
 use Rattle.lfs_fs.specs.Tree.{entry_at, top, Reached}
 use Rattle.lfs_fs.specs.Named.{leads_to, names_of, named}
 use Rattle.lfs_fs.specs.Row.{path_precedes}
-use Rattle.lfs_fs.specs.Row.{Row, RowsRise, AreRows}
+use Rattle.lfs_fs.specs.Row.{Row, RowsRise}
 use Rattle.lfs_fs.specs.Sound.{StartsAtRoot}
 use Rattle.lfs_fs.specs.EntryFault.{NamesNoDirectory, LosesDirectory}
-use Rattle.lfs_fs.specs.DirectoryTable.{look_up}
 use Rattle.lfs_fs.specs.Ordered.{PathsRise}
 use Rattle.lfs_fs.specs.DirectoryTable.{StandsAt, IsTableOf}
-use Rattle.lfs_fs.specs.Ordered.{IsWalkable, IsListed, WalkCause, flagged, begun_at, times_opened, row_paths, Stands, IsOpened, IsWalkTo, NotOpened}
+use Rattle.lfs_fs.specs.Ordered.{IsWalkable, IsListed, WalkCause, begun_at, times_opened, row_paths, Stands, IsOpened, IsWalkTo, NotOpened}
 use Rattle.lfs_fs.proofs.EntryAtLemmas.{by_last_name, found, stands_below}
-use Rattle.lfs_fs.proofs.PairLemmas.{same_pair-is, same_pair-refl}
+use Rattle.lfs_fs.proofs.PairLemmas.{same_pair-refl}
 use Rattle.lfs_fs.proofs.FlaggedLemmas.{flagged_none, flagged_le, flagged_all, flagged_some, flagged_room}
 use Rattle.lfs_fs.proofs.CountLemmas.{element_le}
 
@@ -52,13 +51,15 @@ walk_start v walkable =
       waits = All-cons (Stands v) (root_row v) [] refl (All-nil (Stands v));
       rise = (All-nil (λ (q : Path). path_precedes [] q ≡ true), tt);
       distinct = (λ i d within. absurd (omega arith), tt);
-      top = (0, omega arith, refl);
+      begun = (0, omega arith, refl);
       done = All-nil (IsOpened v opened ([] ∷ []));
       reached = λ k times. absurd (omega (arith, times, flagged_none (begun_at k) v.directories (length v.directories)));
       counts = λ k.
           let names = flagged_none (names_of k) v.directories (length v.directories) in
           let times = flagged_none (begun_at k) v.directories (length v.directories) in
           omega (arith, sum_by-cons (λ (r : Row). leads_to k (target r.entry)) (root_row v) []);
+      tally = λ f. omega (arith, flagged_none (λ (d : Directory). sum_by f (entries d)) v.directories (length v.directories), sum_by-cons (λ (r : Row). f r.entry) (root_row v) []);
+      folders = sym (flagged_none (λ (d : Directory). 1) v.directories (length v.directories));
     }
 
 -- ---- the end
@@ -80,7 +81,7 @@ all_listed : (v : Volume) (rows : List Row) (opened : List Bool) → IsWalkTo v 
 all_listed v rows opened walk =
     let met : row_paths rows ++ [] ≡ row_paths rows = append-nil (row_paths rows) in
     by_last_name (λ (p : Path). (e : Entry) → entry_at v p ≡ Some e → Contains (row_paths rows) p)
-    (λ e there. subst (λ (ps : List Path). Contains ps []) met walk.top)
+    (λ e there. subst (λ (ps : List Path). Contains ps []) met walk.begun)
     (λ p n above e there.
     let below = stands_below v p n e there in
     let one = All-contains (IsOpened v opened (row_paths rows ++ [])) (row_paths rows) p walk.done (above below.above below.there) in
@@ -101,6 +102,14 @@ begins-itself ds d there =
     let one : cond {A = ℕ} (begins_at (key d) d) 1 0 ≡ 1 = ap (λ (b : Bool). cond {A = ℕ} b 1 0) (same_pair-refl (key d)) in
     omega arith
 
+-- one, for a file
+abbrev file : Entry → ℕ
+file e = cond {A = ℕ} (not (leads e)) 1 0
+
+ones : {X : Type 0} (xs : List X) → sum_by (λ (x : X). 1) xs ≡ length xs
+ones [] = refl
+ones {X} (x ∷ xs) = omega (arith, ones xs, sum_by-cons (λ (y : X). 1) x xs)
+
 pub walk_end : (v : Volume) (rows : List Row) (opened : List Bool) → All (λ b. b ≡ true) opened → IsWalkTo v rows [] opened → IsListed v rows
 walk_end v rows opened all walk =
     let listed = all_listed v rows opened walk in
@@ -118,6 +127,10 @@ walk_end v rows opened all walk =
             subst (Contains rows) whole' row.1;
       };
       names = λ k. omega (arith, walk.counts k, times k, flagged_all (names_of k) v.directories opened walk.flags all);
+      counted = record {
+        directories = walk.folders ∙ flagged_all (λ (d : Directory). 1) v.directories opened walk.flags all ∙ ones v.directories;
+        files = omega (arith, walk.tally file, flagged_all (λ (d : Directory). sum_by file (entries d)) v.directories opened walk.flags all);
+      };
       reached = λ i d within.
           let one = begins-itself v.directories (get_or v.directories i d) (Contains-get_or v.directories i d within) in
           walk.reached (key (get_or v.directories i d)) (omega (arith, times (key (get_or v.directories i d))));

@@ -1,10 +1,10 @@
 -- A walk over the directories of a volume lists its rows.
-use Rattle.std.proofs.Common.{◌≡◌, ℕ, ◌+◌, ◌≤◌, Bool, true, false, List, [], ◌∷◌, ◌++◌, Option, Some, None, refl, ap, sym, ◌∙◌, subst, arith, map, length, append_assoc, inl, inr, cond, get_or, set, zero, suc}
-use Rattle.std.specs.Prelude.{find, sum_by, count_by, slice_get}
+use Rattle.std.proofs.Common.{◌≡◌, ℕ, ◌+◌, ◌≤◌, Bool, true, false, List, [], ◌∷◌, ◌++◌, Option, Some, None, refl, ap, sym, ◌∙◌, subst, arith, map, append_assoc, inl, inr, cond, get_or, set, zero, suc}
+use Rattle.std.specs.Prelude.{find, sum_by, count_by, slice_get, is_some}
 use Rattle.std.specs.List.{All, Contains}
 use Rattle.std.proofs.lemmas.Option.{none-some, same_Some, slice_get_within, get_or_from_slice_get}
 use Rattle.std.proofs.lemmas.List.{map-append, length-map, get_or-map, length-set}
-use Rattle.std.proofs.lemmas.List.Sums.{sum_by-cons, sum_by-append}
+use Rattle.std.proofs.lemmas.List.Sums.{sum_by-cons, sum_by-append, sum_by_push}
 use Rattle.std.proofs.lemmas.List.Elements.{All-nil, All-head, All-tail, All-append, All-push, All-weaker, All-contains, All-map, Contains-append_left, Contains-append_right, Contains-append_cases, Contains-get_or}
 use Rattle.std.proofs.lemmas.Slice.Eq.{bytes_eq-Decides}
 use Rattle.lfs_meta.specs.Name.{Name}
@@ -12,7 +12,7 @@ use Rattle.lfs_meta.specs.Body.{Pair}
 use Rattle.lfs_fs.specs.NameOrder.{precedes}
 use Rattle.lfs_fs.specs.Path.{Path}
 use Rattle.lfs_fs.specs.Pair.{same_pair}
-use Rattle.lfs_fs.specs.Entry.{Entry, target, is_named}
+use Rattle.lfs_fs.specs.Entry.{Entry, target, leads, is_named}
 use Rattle.lfs_fs.specs.Directory.{Directory, entries, key, begins_at}
 use Rattle.lfs_fs.specs.Volume.{Volume}
 use Rattle.lfs_fs.specs.Tree.{entry_at, Reached}
@@ -21,10 +21,10 @@ use Rattle.lfs_fs.specs.Sound.{Rise}
 use Rattle.lfs_fs.specs.Row.{path_precedes}
 use Rattle.lfs_fs.specs.Row.{Row}
 use Rattle.lfs_fs.specs.Ordered.{apart, AreApart, PathsRise}
-use Rattle.lfs_fs.specs.Ordered.{flagged, begun_at, times_opened, row_paths, Stands, IsOpened, IsWalkTo}
+use Rattle.lfs_fs.specs.Ordered.{begun_at, times_opened, row_paths, Stands, IsOpened, IsWalkTo}
 use Rattle.lfs_fs.proofs.ApartLemmas.{apart_below, apart_names, below_precedes, ApartFrom, apart-append, rise_apart, rise-insert}
 use Rattle.lfs_fs.proofs.EntryAtLemmas.{found, named_finds, entry_below, nothing_below}
-use Rattle.lfs_fs.proofs.PairLemmas.{same_pair-is, same_pair-refl}
+use Rattle.lfs_fs.proofs.PairLemmas.{same_pair-is}
 use Rattle.lfs_fs.proofs.CountLemmas.{element_le}
 use Rattle.lfs_fs.proofs.FlaggedLemmas.{flagged_set}
 use Rattle.lfs_fs.proofs.ListedLemmas.{row_below}
@@ -100,7 +100,7 @@ step_paths v rows x more rest opened again grows put walk =
       waits = All-append (Stands v) more rest put.waits (All-tail (Stands v) x rest walk.waits);
       rise = subst PathsRise (sym met_is) (rise-insert ps x.path cs qs walk.rise (rise_apart (cs ++ qs) apart_all) put.after);
       distinct = subst AreApart (sym queue) apart_all;
-      top = subst (λ (ms : List Path). Contains ms []) (sym met_is) (stays [] walk.top);
+      top = subst (λ (ms : List Path). Contains ms []) (sym met_is) (stays [] walk.begun);
       done = subst (λ (ms : List Path). All (IsOpened v again ms) (row_paths (rows ++ x ∷ []))) (sym met_is) done;
     }
 
@@ -117,9 +117,9 @@ nothing_put v x opened here leads = record {
 }
 
 pub step_file : (v : Volume) (rows : List Row) (x : Row) (rest : List Row) (opened : List Bool) → target x.entry ≡ None → IsWalkTo v rows (x ∷ rest) opened → IsWalkTo v (rows ++ x ∷ []) rest opened
-step_file v rows x rest opened leads walk =
+step_file v rows x rest opened none walk =
     let here : Stands v x = All-head (Stands v) x rest walk.waits in
-    let step = step_paths v rows x [] rest opened opened (λ k. omega arith) (nothing_put v x opened here leads) walk in
+    let step = step_paths v rows x [] rest opened opened (λ k. omega arith) (nothing_put v x opened here none) walk in
     record {
       walkable = walk.walkable;
       flags = walk.flags;
@@ -127,10 +127,12 @@ step_file v rows x rest opened leads walk =
       waits = step.waits;
       rise = step.rise;
       distinct = step.distinct;
-      top = step.top;
+      begun = step.top;
       done = step.done;
       reached = walk.reached;
-      counts = λ k. omega (arith, walk.counts k, ap (leads_to k) leads, sum_by-cons (λ (y : Row). leads_to k (target y.entry)) x rest);
+      counts = λ k. omega (arith, walk.counts k, ap (leads_to k) none, sum_by-cons (λ (y : Row). leads_to k (target y.entry)) x rest);
+      tally = λ f. omega (arith, walk.tally f, sum_by-cons (λ (y : Row). f y.entry) x rest, sum_by_push (λ (y : Row). f y.entry) rows x);
+      folders = omega (arith, walk.folders, ap (λ (o : Option Pair). cond {A = ℕ} (is_some o) 1 0) none, sum_by_push (λ (y : Row). cond {A = ℕ} (leads y.entry) 1 0) rows x);
     }
 
 -- ---- a directory is listed, and its entries wait
@@ -192,9 +194,9 @@ once_finds {X} a (y ∷ xs) i x once at is = by (a y) a y xs i x refl once at is
     by false a y xs (suc j) x this once at is rest =
         rest (omega (arith, once, ap (λ (b : Bool). cond {A = ℕ} b 1 0) this, sum_by-cons (λ (z : X). cond {A = ℕ} (a z) 1 0) y xs)) j at
 
-count_step : (k : Pair) (p : Path) (es : List Entry) → sum_by (λ (y : Row). leads_to k (target y.entry)) (map (row_below p) es) ≡ sum_by (λ (e : Entry). leads_to k (target e)) es
-count_step k p [] = refl
-count_step k p (e ∷ es) = omega (arith, count_step k p es, sum_by-cons (λ (y : Row). leads_to k (target y.entry)) (row_below p e) (map (row_below p) es), sum_by-cons (λ (x : Entry). leads_to k (target x)) e es)
+children_sum : (f : Entry → ℕ) (p : Path) (es : List Entry) → sum_by (λ (y : Row). f y.entry) (map (row_below p) es) ≡ sum_by f es
+children_sum f p [] = refl
+children_sum f p (e ∷ es) = omega (arith, children_sum f p es, sum_by-cons (λ (y : Row). f y.entry) (row_below p e) (map (row_below p) es), sum_by-cons f e es)
 
 begun-same : (j k : Pair) (d : Directory) → k ≡ key d → begun_at j d ≡ cond {A = ℕ} (same_pair j k) 1 0
 begun-same j k d is = ap (λ (p : Pair). cond {A = ℕ} (same_pair j p) 1 0) (sym is)
@@ -202,7 +204,7 @@ begun-same j k d is = ap (λ (p : Pair). cond {A = ℕ} (same_pair j p) 1 0) (sy
 pub step_directory : (v : Volume) (rows : List Row) (x : Row) (rest : List Row) (opened : List Bool) (k : Pair) (i : ℕ) (d : Directory)
     → target x.entry ≡ Some k → slice_get v.directories i ≡ Some d → begins_at k d ≡ true → slice_get opened i ≡ Some false → IsWalkTo v rows (x ∷ rest) opened
     → IsWalkTo v (rows ++ x ∷ []) (map (row_below x.path) (entries d) ++ rest) (set opened i true)
-step_directory v rows x rest opened k i d leads at is new walk =
+step_directory v rows x rest opened k i d to at is new walk =
     let here : Stands v x = All-head (Stands v) x rest walk.waits in
     let again = set opened i true in
     let begins : find (begins_at k) v.directories ≡ Some d = once_finds (begins_at k) v.directories i d (walk.walkable.once k) at is in
@@ -211,7 +213,7 @@ step_directory v rows x rest opened k i d leads at is new walk =
     let grows : (j : Pair) → times_opened v j opened ≤ times_opened v j again = λ j. omega (arith, noted j) in
     let many : 1 ≤ times_opened v k again = omega (arith, noted k, ap (λ (b : Bool). cond {A = ℕ} b 1 0) is) in
     let more = map (row_below x.path) (entries d) in
-    let step = step_paths v rows x more rest opened again grows (children_put v x again k d here leads begins rise many) walk in
+    let step = step_paths v rows x more rest opened again grows (children_put v x again k d here to begins rise many) walk in
     record {
       walkable = walk.walkable;
       flags = length-set opened i true ∙ walk.flags;
@@ -219,19 +221,28 @@ step_directory v rows x rest opened k i d leads at is new walk =
       waits = step.waits;
       rise = step.rise;
       distinct = step.distinct;
-      top = step.top;
+      begun = step.top;
       done = step.done;
-      reached = λ j times. reached_by (same_pair j k) v k j (begun_at j d) (begun-same j k d (same_pair-is k (key d) is)) refl (x.path, x.entry, here, leads) (walk.reached j) (omega (arith, times, noted j));
+      reached = λ j times. reached_by (same_pair j k) v k j (begun_at j d) (begun-same j k d (same_pair-is k (key d) is)) refl (x.path, x.entry, here, to) (walk.reached j) (omega (arith, times, noted j));
       counts = λ j.
           let before = walk.counts j in
           let head = sum_by-cons (λ (z : Row). leads_to j (target z.entry)) x rest in
           let front = sum_by-append (λ (z : Row). leads_to j (target z.entry)) more rest in
-          let named' = count_step j x.path (entries d) in
-          let one' : leads_to j (target x.entry) ≡ cond {A = ℕ} (same_pair j k) 1 0 = ap (leads_to j) leads in
+          let named' = children_sum (λ (e : Entry). leads_to j (target e)) x.path (entries d) in
+          let one' : leads_to j (target x.entry) ≡ cond {A = ℕ} (same_pair j k) 1 0 = ap (leads_to j) to in
           let begun' = begun-same j k d (same_pair-is k (key d) is) in
           let names' = flagged_set (names_of j) v.directories opened i d at new in
           let times' = noted j in
           omega arith;
+      tally = λ f.
+          let before = walk.tally f in
+          let head = sum_by-cons (λ (z : Row). f z.entry) x rest in
+          let front = sum_by-append (λ (z : Row). f z.entry) more rest in
+          let last = sum_by_push (λ (z : Row). f z.entry) rows x in
+          let below = children_sum f x.path (entries d) in
+          let opened' = flagged_set (λ (c : Directory). sum_by f (entries c)) v.directories opened i d at new in
+          omega arith;
+      folders = omega (arith, walk.folders, ap (λ (o : Option Pair). cond {A = ℕ} (is_some o) 1 0) to, sum_by_push (λ (z : Row). cond {A = ℕ} (leads z.entry) 1 0) rows x, flagged_set (λ (c : Directory). 1) v.directories opened i d at new);
     }
   where
     reached_by : (b : Bool) (v : Volume) (k j : Pair) (begun : ℕ) → begun ≡ cond {A = ℕ} (same_pair j k) 1 0 → same_pair j k ≡ b → Reached v k → (1 ≤ times_opened v j opened → Reached v j) → 1 ≤ times_opened v j opened + begun → Reached v j

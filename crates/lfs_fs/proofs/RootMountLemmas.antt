@@ -1,6 +1,6 @@
 -- What an image mounts to whose root's first pair holds its superblock alone.
 use Rattle.std.proofs.Common.{◌≡◌, ℕ, ◌<◌, ◌≤◌, List, [], ◌∷◌, refl, ap, arith, ◌∙◌, sym, length}
-use Rattle.std.specs.Prelude.{Some, None, replicate, option_map, IsSome, true, zero, suc}
+use Rattle.std.specs.Prelude.{Some, None, replicate, IsSome, true, zero, suc}
 use Rattle.std.proofs.lemmas.Option.{none-some}
 use Rattle.std.specs.List.{Contains}
 use Rattle.std.proofs.lemmas.Bool.Decides.{nat_tests}

@@ -1,8 +1,7 @@
 -- A walk over places lists the rows of its volume.
-use Rattle.std.proofs.Common.{◌≡◌, ◌⊎◌, ℕ, ◌+◌, ◌-◌, ◌≤◌, ◌<◌, Bool, true, false, List, [], ◌∷◌, ◌++◌, Option, Some, None, refl, ap, sym, ◌∙◌, subst, arith, map, length, reverse, replicate, set, suc, append_assoc, add-one, inl, inr}
+use Rattle.std.proofs.Common.{◌≡◌, ◌⊎◌, ℕ, ◌+◌, ◌≤◌, Bool, true, false, List, [], ◌∷◌, ◌++◌, Some, None, refl, ap, sym, ◌∙◌, subst, arith, map, length, reverse, replicate, suc, add-one, inl, inr}
 use Rattle.std.specs.Prelude.{slice_get, IsSome}
 use Rattle.std.specs.List.{All}
-use Rattle.std.specs.Option.{option_map}
 use Rattle.std.proofs.lemmas.List.{map-append, length-append, length-reverse}
 use Rattle.std.proofs.lemmas.List.Elements.{All-nil, All-cons, All-head, All-tail, All-append, All-push, All-weaker}
 use Rattle.lfs_block.specs.declared.mount_fault.MountFault.{MountFault}
@@ -10,15 +9,15 @@ use Rattle.lfs_block.specs.declared.mount_fault.MountFault.TheVariants.{Memory}
 use Rattle.lfs_meta.specs.Body.{Pair}
 use Rattle.lfs_fs.specs.declared.place.Place.{Place}
 use Rattle.lfs_fs.specs.Path.{Path}
-use Rattle.lfs_fs.specs.Entry.{Entry, target}
+use Rattle.lfs_fs.specs.Entry.{target}
 use Rattle.lfs_fs.specs.Directory.{Directory, parts, entries}
 use Rattle.lfs_fs.specs.Volume.{Volume}
 use Rattle.lfs_fs.specs.EntryFault.{LosesDirectory}
 use Rattle.lfs_fs.specs.Row.{Row}
-use Rattle.lfs_fs.specs.Listed.{Listed, path_after, row_after, rows_after, last_after}
-use Rattle.lfs_fs.specs.Placed.{entry_placed, ArePlaces, listed_at, rows_of, places_in}
+use Rattle.lfs_fs.specs.Listed.{Listed, row_after, rows_after, last_after}
+use Rattle.lfs_fs.specs.Placed.{entry_placed, listed_at, rows_of, places_in}
 use Rattle.lfs_fs.specs.DirectoryTable.{IsTableOf}
-use Rattle.lfs_fs.specs.Ordered.{IsWalkable, IsListed, WalkCause, Begins, Follow, IsWalkTo, IsWalking, NotOpened, Enters, flagged, work}
+use Rattle.lfs_fs.specs.Ordered.{IsWalkable, IsListed, WalkCause, Follow, IsWalkTo, IsWalking, NotOpened, Enters, flagged, work}
 use Rattle.lfs_fs.proofs.FlaggedLemmas.{flagged_set, flagged_room}
 use Rattle.lfs_fs.proofs.ListedLemmas.{rows_more, last_more, begins_itself, follow_longer, row_below, listed_below, follow_below}
 use Rattle.lfs_fs.proofs.PlacedLemmas.{listed_children, are_places, count_places, depth_in}

@@ -24,6 +24,7 @@ pub mod Listed
 pub mod Placed
 pub mod DirectoryTable
 pub mod Ordered
+pub mod Seen
 pub mod Reading
 pub mod Front
 pub mod Superblock

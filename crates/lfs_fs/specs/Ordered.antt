@@ -1,5 +1,5 @@
 -- A walk over the directories of a volume from the root: what is listed, what waits and what was opened (own).
-use Rattle.std.specs.Prelude.{◌≡◌, ℕ, bytes_eq, ◌+◌, ◌-◌, ◌≤◌, Bool, true, false, List, [], ◌∷◌, ◌++◌, Option, Some, None, All, Contains, if◌then◌else◌, sum_by, count_by, map, length, reverse, set, slice_get}
+use Rattle.std.specs.Prelude.{◌≡◌, ℕ, bytes_eq, not, ◌+◌, ◌-◌, ◌≤◌, Bool, true, false, List, [], ◌∷◌, ◌++◌, Some, None, All, Contains, if◌then◌else◌, sum_by, count_by, map, length, reverse, set, slice_get}
 use Rattle.lfs_block.specs.declared.mount_fault.MountFault.{MountFault}
 use Rattle.lfs_block.specs.declared.mount_fault.MountFault.TheVariants.{MissingDirectory, BlockTwice, Orphan, Memory}
 use Rattle.lfs_meta.specs.Name.{Name}
@@ -7,10 +7,10 @@ use Rattle.lfs_meta.specs.Body.{Pair}
 use Rattle.lfs_fs.specs.declared.place.Place.{Place}
 use Rattle.lfs_fs.specs.Path.{Path}
 use Rattle.lfs_fs.specs.Pair.{root}
-use Rattle.lfs_fs.specs.Entry.{Entry, target}
+use Rattle.lfs_fs.specs.Entry.{Entry, target, leads}
 use Rattle.lfs_fs.specs.Directory.{Directory, parts, entries, key, begins_at}
 use Rattle.lfs_fs.specs.Volume.{Volume}
-use Rattle.lfs_fs.specs.Tree.{entry_at, Reached}
+use Rattle.lfs_fs.specs.Tree.{entry_at, top, Reached}
 use Rattle.lfs_fs.specs.Named.{leads_to, names_of, named}
 use Rattle.lfs_fs.specs.Sound.{StartsAtRoot, Rise}
 use Rattle.lfs_fs.specs.EntryFault.{NamesNoDirectory, LosesDirectory}
@@ -28,11 +28,21 @@ pub record IsWalkable (v : Volume) : Type 0 where
   pub once : (k : Pair) → count_by (begins_at k) v.directories ≤ 1
   pub order : All (λ d. Rise (entries d)) v.directories
 
+-- how many of a volume's entries lead to no directory
+abbrev pub files_of : Volume → ℕ
+files_of v = sum_by (λ d. count_by (λ e. not (leads e)) (entries d)) v.directories
+
+-- as many rows show directories as there are, and as many show files as there are
+pub record AreCounted (v : Volume) (rows : List Row) : Type 0 where
+  pub directories : count_by (λ r. leads r.entry) rows ≡ length v.directories
+  pub files : count_by (λ r. not (leads r.entry)) rows ≡ files_of v
+
 -- the rows are the volume's, each of whose directories is named once and reached
 pub record IsListed (v : Volume) (rows : List Row) : Type 0 where
   pub listed : AreRows (entry_at v) rows
   pub names : (k : Pair) → named k v ≡ count_by (begins_at k) v.directories
   pub reached : All (λ d. Reached v (key d)) v.directories
+  pub counted : AreCounted v rows
 
 -- why a volume isn't listed
 abbrev pub WalkCause : Volume → MountFault → Type 0
@@ -98,11 +108,15 @@ pub record IsWalkTo (v : Volume) (rows queue : List Row) (opened : List Bool) : 
   pub waits : All (Stands v) queue
   pub rise : PathsRise (row_paths rows ++ row_paths queue)
   pub distinct : AreApart (row_paths queue)
-  pub top : Contains (row_paths rows ++ row_paths queue) []
+  pub begun : Contains (row_paths rows ++ row_paths queue) []
   pub done : All (IsOpened v opened (row_paths rows ++ row_paths queue)) (row_paths rows)
   pub reached : (k : Pair) → 1 ≤ times_opened v k opened → Reached v k
   -- each name of what was opened is of what was opened or of what waits
   pub counts : (k : Pair) → leads_to k (Some root) + flagged (names_of k) v.directories opened ≡ times_opened v k opened + sum_by (λ r. leads_to k (target r.entry)) queue
+  -- what was opened is listed or waits
+  pub tally : (f : Entry → ℕ) → f (top v) + flagged (λ d. sum_by f (entries d)) v.directories opened ≡ sum_by (λ r. f r.entry) rows + sum_by (λ r. f r.entry) queue
+  -- what was listed of directories was opened
+  pub folders : count_by (λ r. leads r.entry) rows ≡ flagged (λ d. 1) v.directories opened
 
 -- ---- places in place of rows
 

@@ -3,8 +3,10 @@
 
 mod delta;
 mod directory_table;
+mod finding;
 mod following;
 mod formatted;
+mod found;
 mod front;
 mod gathering;
 mod joining;
@@ -47,7 +49,9 @@ mod used;
 mod weight;
 
 pub use delta::Delta;
+pub use finding::entry_in;
 pub use formatted::formatted_volumes_are_sound;
+pub use found::Found;
 pub use front::fronts_begin_each_other;
 pub use limits::Limits;
 pub use listed_row::Row;

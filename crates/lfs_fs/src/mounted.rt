@@ -24,6 +24,7 @@ impl Model for Mounted {
     ghost use Rattle.std.specs.Prelude.{◌<◌, ◌^◌, length};
     ghost use Rattle.lfs_fs.specs.Unused.{unused};
     ghost use Rattle.lfs_fs.specs.Placed.{ArePlaces, rows_of};
+    ghost use Rattle.lfs_fs.specs.Ordered.{AreCounted};
     ghost use Rattle.lfs_fs.specs.Mounted.{MountedValue};
 
     ghost Value = { MountedValue };
@@ -34,7 +35,7 @@ impl Model for Mounted {
       free = unused m.used.items;
     } };
 
-    ghost invariant = { λ m. (length m.used.items < 2 ^ 32) × ArePlaces m.outline m.order.items };
+    ghost invariant = { λ m. (length m.used.items < 2 ^ 32) × ArePlaces m.outline m.order.items × AreCounted m.outline (rows_of m.outline m.order.items) };
 }
 
 /// The `n` least blocks whose flags aren't set.
@@ -57,7 +58,10 @@ fn lowest_unused(alloc: Global, used: &[bool], n: u32) -> Result<Vec<u32>, Alloc
 
 impl Mounted {
     ghost use Rattle.std.specs.Prelude.{◌≡◌, ◌<◌, ◌≤◌, ◌^◌, length, take, IfSome};
+    ghost use Rattle.std.specs.Prelude.{count_by, not};
+    ghost use Rattle.lfs_fs.specs.Entry.{leads};
     ghost use Rattle.lfs_fs.specs.Listed.{rows_listed};
+    ghost use Rattle.lfs_fs.specs.Ordered.{AreCounted, files_of};
     ghost use Rattle.lfs_fs.specs.Placed.{ArePlaces, rows_of};
     ghost use Rattle.lfs_fs.specs.Unused.{unused};
 
@@ -65,6 +69,7 @@ impl Mounted {
     pub(crate) fn new(outline: Outline, order: Vec<Place>, used: Vec<bool>) -> Mounted
         requires places { ArePlaces outline order.items }
         requires flags { length used.items < 2 ^ 32 }
+        requires counted { AreCounted outline (rows_of outline order.items) }
         ensures { result ≡ record { outline = outline; rows = rows_of outline order.items; free = unused used.items } }
     {
         Mounted {
@@ -101,6 +106,22 @@ impl Mounted {
         ensures { IfSome result (λ blocks. blocks.items ≡ take n self.now.free) }
     {
         lowest_unused(alloc, &self.used, n).ok()
+    }
+
+    /// The number of directories, the root among them: of rows that show one. Takes no memory.
+    pub fn directories(&self) -> usize
+        ensures outline { result ≡ length self.now.outline.directories }
+        ensures rows { result ≡ count_by (λ row. leads row.entry) self.now.rows }
+    {
+        self.outline.directory_count()
+    }
+
+    /// The number of files: of entries that lead to no directory, and of rows that show one. Takes no memory.
+    pub fn files(&self) -> usize
+        ensures outline { result ≡ files_of self.now.outline }
+        ensures rows { result ≡ count_by (λ row. not (leads row.entry)) self.now.rows }
+    {
+        self.order.len() - self.outline.directory_count()
     }
 
     /// The greatest lengths of a name, a file and an attribute. Takes no memory.

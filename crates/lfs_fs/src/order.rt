@@ -2,7 +2,7 @@
 
 ghost use Rattle.std.specs.Prelude.{IfOk, IfErr, reverse};
 ghost use Rattle.lfs_fs.specs.Placed.{ArePlaces, rows_of};
-ghost use Rattle.lfs_fs.specs.Ordered.{IsWalkable, IsListed, IsWalking, WalkCause};
+ghost use Rattle.lfs_fs.specs.Ordered.{AreCounted, IsWalkable, IsListed, IsWalking, WalkCause};
 
 use crate::directory_table::table_of;
 use crate::ordering::Walk;
@@ -42,6 +42,7 @@ fn start(alloc: Global, outline: &Outline) -> Result<Walk, AllocError>
 pub(crate) fn order_of(alloc: Global, outline: &Outline) -> Result<Vec<Place>, MountFault>
     requires { IsWalkable outline.now }
     ensures listed { IfOk result (λ order. IsListed outline.now (rows_of outline.now order.items)) }
+    ensures counted { IfOk result (λ order. AreCounted outline.now (rows_of outline.now order.items)) }
     ensures places { IfOk result (λ order. ArePlaces outline.now order.items) }
     ensures refused { IfErr result (λ fault. WalkCause outline.now fault) }
 {

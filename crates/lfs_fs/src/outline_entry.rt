@@ -40,7 +40,7 @@ impl Model for OutlineEntry {
 
 impl OutlineEntry {
     ghost use Rattle.std.specs.Prelude.{◌≡◌};
-    ghost use Rattle.lfs_fs.specs.Entry.{target};
+    ghost use Rattle.lfs_fs.specs.Entry.{is_named, target};
     ghost use Rattle.lfs_fs.specs.RowHeld.{row_body_held};
 
     /// Where its contents are. Takes no memory.
@@ -67,6 +67,13 @@ impl OutlineEntry {
             body: self.row_body(),
             attributes: &self.attributes,
         }
+    }
+
+    /// Whether it has a name. Takes no memory.
+    pub(crate) fn is_named(&self, name: &[u8]) -> bool
+        ensures { result ≡ is_named name.now self.now }
+    {
+        name == self.name.as_slice()
     }
 
     /// The directory that it leads to, as a set of blocks: the lesser one first. Takes no memory.

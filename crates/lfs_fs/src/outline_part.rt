@@ -1,5 +1,9 @@
 //! What a pair holds, in an outline.
 
+ghost use Rattle.std.specs.Prelude.{◌≡◌, find, flat_map};
+ghost use Rattle.std.specs.Option.{option_map};
+ghost use Rattle.lfs_fs.specs.Entry.{is_named};
+
 use crate::delta::Delta;
 use crate::directory_table::unordered;
 use crate::outline_entry::OutlineEntry;
@@ -31,15 +35,23 @@ impl Model for OutlinePart {
 }
 
 impl OutlinePart {
-    ghost use Rattle.std.specs.Prelude.{◌≡◌, length, slice_get};
+    ghost use Rattle.std.specs.Prelude.{◌≡◌, find, length, slice_get};
     ghost use Rattle.std.specs.Option.{option_map};
     ghost use Rattle.lfs_fs.specs.Pair.{unordered};
+    ghost use Rattle.lfs_fs.specs.Entry.{is_named};
 
     /// One of its entries. Takes no memory.
     pub fn entry(&self, index: usize) -> Option<&OutlineEntry>
         ensures { option_map (λ e. e.now) result ≡ slice_get self.now.entries index }
     {
         self.entries.get(index)
+    }
+
+    /// The first of its entries that has a name. Takes no memory.
+    pub(crate) fn named(&self, name: &[u8]) -> Option<&OutlineEntry>
+        ensures { option_map (λ e. e.now) result ≡ find (is_named name.now) self.now.entries }
+    {
+        self.entries.iter().find(|entry| entry.is_named(name))
     }
 
     /// The number of its entries. Takes no memory.
@@ -56,4 +68,16 @@ impl OutlinePart {
         let (first, second) = self.pair;
         unordered(first, second)
     }
+}
+
+/// The first entry of these parts that has a name.
+pub(crate) fn named_in<'a>(parts: &'a [OutlinePart], name: &[u8]) -> Option<&'a OutlineEntry>
+    ensures { option_map (λ e. e.now) result ≡ find (is_named name.now) (flat_map (λ p. p.entries) parts.now) }
+{
+    for part in parts {
+        if let Some(entry) = part.named(name) {
+            return Some(entry);
+        }
+    }
+    None
 }

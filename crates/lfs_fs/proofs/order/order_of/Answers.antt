@@ -24,3 +24,12 @@ returns-clause-listed c =
     let walking : IsWalking o old.table.entries old.order.items [] old.opened.items = subst (λ (xs : List Place). IsWalking o old.table.entries old.order.items (reverse xs) old.opened.items) empty c.loop-place.invariant in
     let all : All (λ b. b ≡ true) old.opened.items = all_set _ old.opened.items refl (ap (list_any _) (sym c.deref.ensures.value) ∙ sym c.contains.ensures.value ∙ c.if-contains.false) in
     walking_end o old.table.entries old.order.items old.opened.items all walking
+
+pub returns-clause-counted : goal.returns-clause-counted
+returns-clause-counted c =
+    let o = c.args.outline.now in
+    let old = c.loop-place.walk in
+    let empty : old.waiting.items ≡ [] = no_elements old.waiting.items (omega (arith, c.in_default-pop.ensures.cases.0)) in
+    let walking : IsWalking o old.table.entries old.order.items [] old.opened.items = subst (λ (xs : List Place). IsWalking o old.table.entries old.order.items (reverse xs) old.opened.items) empty c.loop-place.invariant in
+    let all : All (λ b. b ≡ true) old.opened.items = all_set _ old.opened.items refl (ap (list_any _) (sym c.deref.ensures.value) ∙ sym c.contains.ensures.value ∙ c.if-contains.false) in
+    (walking_end o old.table.entries old.order.items old.opened.items all walking).counted
