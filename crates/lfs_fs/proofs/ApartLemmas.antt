@@ -8,7 +8,7 @@ use Rattle.lfs_meta.specs.Name.{Name}
 use Rattle.lfs_fs.specs.NameOrder.{precedes}
 use Rattle.lfs_fs.specs.Path.{Path}
 use Rattle.lfs_fs.specs.Row.{path_precedes}
-use Rattle.lfs_fs.specs.Walked.{apart, AreApart, PathsRise}
+use Rattle.lfs_fs.specs.Ordered.{apart, AreApart, PathsRise}
 use Rattle.lfs_fs.proofs.NameOrderLemmas.{precedes_irreflexive}
 use Rattle.lfs_fs.proofs.PathOrderLemmas.{path_transitive}
 

@@ -1,64 +1,51 @@
 -- The directories that are gathered are those of the thread.
-use Rattle.std.proofs.Common.{◌≡◌, Bool, true, false, List, [], ◌∷◌, ◌++◌, map, refl, ap, sym, ◌∙◌, append_assoc, append-nil}
+use Rattle.std.proofs.Common.{◌≡◌, ℕ, Bool, true, false, List, [], ◌∷◌, ◌++◌, length, map, suc, refl, ap, ◌∙◌, arith}
 use Rattle.std.specs.Prelude.{All, if◌then◌else◌}
-use Rattle.std.proofs.lemmas.List.{map-append}
+use Rattle.std.proofs.lemmas.List.{length-append}
 use Rattle.std.proofs.lemmas.List.Elements.{All-cons, All-nil, All-head, All-tail, All-append}
-use Rattle.lfs_meta.specs.Body.{Pair}
 use Rattle.lfs_fs.specs.Pair.{root}
-use Rattle.lfs_fs.specs.NameOrder.{precedes}
 use Rattle.lfs_fs.specs.Entry.{Entry}
 use Rattle.lfs_fs.specs.Directory.{Part, Directory, parts, entries, thread}
 use Rattle.lfs_fs.specs.Thread.{Link, is_hard, joined_to, pieces}
-use Rattle.lfs_fs.specs.Sound.{Rise, StartsAtRoot}
-use Rattle.lfs_fs.specs.Shown.{ShownEntry, ShownDirectory, shown_entry, shown_directory}
-use Rattle.lfs_fs.specs.Gathering.{NamesRise, shown_from}
+use Rattle.lfs_fs.specs.Sound.{StartsAtRoot}
+use Rattle.lfs_fs.specs.Outlined.{outlined_part, outlined_directories}
+use Rattle.lfs_fs.specs.Gathering.{as_directory}
 
 -- ---- one pass makes what cutting the thread makes
 
--- a directory with these entries put before the first one
-abbrev pub put_before : Pair → List ShownEntry → List ShownDirectory → List ShownDirectory
-put_before pair before [] = record { pair = pair; entries = before } ∷ []
-put_before pair before (d ∷ ds) = record { pair = pair; entries = before ++ d.entries } ∷ ds
-
-abbrev cut_here : Bool → Part → List Directory → List Directory
+-- a part before directories, which it joins or not
+abbrev pub cut_here : Bool → Part → List Directory → List Directory
 cut_here hard p ds = if hard then joined_to p ds else record { first = p; more = [] } ∷ ds
 
-abbrev gone_on : Bool → Pair → List ShownEntry → List ShownDirectory → List ShownDirectory
-gone_on goes_on pair before ds = if goes_on then put_before pair before ds else record { pair = pair; entries = before } ∷ ds
+-- parts before directories, each of which joins what follows
+abbrev pub all_joined : List Part → List Directory → List Directory
+all_joined [] ds = ds
+all_joined (p ∷ ps) ds = joined_to p (all_joined ps ds)
 
-one_shown : (p : Part) → shown_directory (record { first = p; more = [] }) ≡ record { pair = p.pair; entries = map shown_entry p.entries }
-one_shown p = ap (λ (es : List Entry). record { pair = p.pair; entries = map shown_entry es }) (append-nil p.entries)
+pub outlined_cut : (hard : Bool) (p : Part) (ds : List Directory) → outlined_directories (cut_here hard p ds) ≡ cut_here hard (outlined_part p) (outlined_directories ds)
+outlined_cut true p [] = refl
+outlined_cut true p (d ∷ ds) = refl
+outlined_cut false p ds = refl
 
--- the entries of a part that goes on a directory stand behind those before
-put_join : (hard : Bool) (pair : Pair) (before : List ShownEntry) (p : Part) (ds : List Directory)
-    → gone_on hard pair (before ++ map shown_entry p.entries) (map shown_directory ds) ≡ put_before pair before (map shown_directory (cut_here hard p ds))
-put_join true pair before p [] = ap (λ (es : List Entry). record { pair = pair; entries = before ++ map shown_entry es } ∷ []) (sym (append-nil p.entries))
-put_join true pair before p (d ∷ ds) =
-    ap (λ (es : List ShownEntry). record { pair = pair; entries = es } ∷ map shown_directory ds)
-    (append_assoc before (map shown_entry p.entries) (map shown_entry (entries d)) ∙ ap (λ (es : List ShownEntry). before ++ es) (sym (map-append shown_entry p.entries (entries d))))
-put_join false pair before p ds = ap (λ (es : List Entry). record { pair = pair; entries = before ++ map shown_entry es } ∷ map shown_directory ds) (sym (append-nil p.entries))
+-- one part more that joins what follows
+pub joined_more : (ps : List Part) (p : Part) (ds : List Directory) → all_joined ps (cut_here true p ds) ≡ all_joined (ps ++ p ∷ []) ds
+joined_more [] p ds = refl
+joined_more (q ∷ ps) p ds = ap (joined_to q) (joined_more ps p ds)
 
--- those of one that begins a directory stand alone
-begin_join : (hard : Bool) (p : Part) (ds : List Directory)
-    → gone_on hard p.pair (map shown_entry p.entries) (map shown_directory ds) ≡ map shown_directory (cut_here hard p ds)
-begin_join true p [] = ap (λ (d : ShownDirectory). d ∷ []) (sym (one_shown p))
-begin_join true p (d ∷ ds) = ap (λ (es : List ShownEntry). record { pair = p.pair; entries = es } ∷ map shown_directory ds) (sym (map-append shown_entry p.entries (entries d)))
-begin_join false p ds = ap (λ (d : ShownDirectory). d ∷ map shown_directory ds) (sym (one_shown p))
+join_one : (q : Part) (ps : List Part) (ds : List Directory) → (some' : ℕ) → length ps ≡ suc some' → joined_to q (as_directory ps ++ ds) ≡ as_directory (q ∷ ps) ++ ds
+join_one q [] ds n is = absurd (omega (arith, is))
+join_one q (p ∷ ps) ds n is = refl
 
-passed : (goes_on : Bool) (pair : Pair) (before : List ShownEntry) (ls : List Link) → shown_from goes_on pair before ls ≡ gone_on goes_on pair before (map shown_directory (pieces ls))
-passed true pair before [] = refl
-passed false pair before [] = refl
-passed true pair before (l ∷ ls) = passed (is_hard l.tail) pair (before ++ map shown_entry l.part.entries) ls ∙ put_join (is_hard l.tail) pair before l.part (pieces ls)
-passed false pair before (l ∷ ls) =
-    ap (λ (ds : List ShownDirectory). record { pair = pair; entries = before } ∷ ds)
-    (passed (is_hard l.tail) l.part.pair (map shown_entry l.part.entries) ls ∙ begin_join (is_hard l.tail) l.part (pieces ls))
+-- one that ends a directory
+pub joined_ends : (ps : List Part) (p : Part) (ds : List Directory) → all_joined ps (cut_here false p ds) ≡ as_directory (ps ++ p ∷ []) ++ ds
+joined_ends [] p ds = refl
+joined_ends (q ∷ ps) p ds = ap (joined_to q) (joined_ends ps p ds) ∙ join_one q (ps ++ p ∷ []) ds (length ps) (omega (arith, length-append ps (p ∷ [])))
 
--- from the first link on
-pub shown_pieces : (pair : Pair) (l : Link) (ls : List Link) → l.part.pair ≡ pair → shown_from true pair [] (l ∷ ls) ≡ map shown_directory (pieces (l ∷ ls))
-shown_pieces pair l ls at =
-    ap (λ (p : Pair). shown_from (is_hard l.tail) p (map shown_entry l.part.entries) ls) (sym at)
-    ∙ passed (is_hard l.tail) l.part.pair (map shown_entry l.part.entries) ls
-    ∙ begin_join (is_hard l.tail) l.part (pieces ls)
+-- no directory follows
+pub joined_last : (ps : List Part) → all_joined ps [] ≡ as_directory ps
+joined_last [] = refl
+joined_last (p ∷ []) = refl
+joined_last (p ∷ q ∷ ps) = ap (joined_to p) (joined_last (q ∷ ps))
 
 -- ---- what holds of the parts of a thread holds of its directories
 
@@ -96,23 +83,3 @@ thread_joined false p ds = refl
 pub thread_of_pieces : (ls : List Link) → thread (pieces ls) ≡ map (λ (l : Link). l.part) ls
 thread_of_pieces [] = refl
 thread_of_pieces (l ∷ ls) = thread_joined (is_hard l.tail) l.part (pieces ls) ∙ ap (λ (ps : List Part). l.part ∷ ps) (thread_of_pieces ls)
-
--- ---- names in order
-
-name_before : (e : Entry) (es : List Entry) → All (λ f. precedes e.name f.name ≡ true) (map shown_entry es) → All (λ f. precedes e.name f.name ≡ true) es
-name_before e [] all = All-nil (λ (f : Entry). precedes e.name f.name ≡ true)
-name_before e (f ∷ es) all =
-    All-cons (λ (x : Entry). precedes e.name x.name ≡ true) f es
-    (All-head (λ (x : ShownEntry). precedes e.name x.name ≡ true) (shown_entry f) (map shown_entry es) all)
-    (name_before e es (All-tail (λ (x : ShownEntry). precedes e.name x.name ≡ true) (shown_entry f) (map shown_entry es) all))
-
-rise_of : (es : List Entry) → NamesRise (map shown_entry es) → Rise es
-rise_of [] rise = tt
-rise_of (e ∷ es) rise = (name_before e es rise.0, rise_of es rise.1)
-
-pub all_rise : (ds : List Directory) → All (λ f. NamesRise f.entries) (map shown_directory ds) → All (λ d. Rise (entries d)) ds
-all_rise [] all = All-nil (λ (d : Directory). Rise (entries d))
-all_rise (d ∷ ds) all =
-    All-cons (λ (x : Directory). Rise (entries x)) d ds
-    (rise_of (entries d) (All-head (λ (f : ShownDirectory). NamesRise f.entries) (shown_directory d) (map shown_directory ds) all))
-    (all_rise ds (All-tail (λ (f : ShownDirectory). NamesRise f.entries) (shown_directory d) (map shown_directory ds) all))

@@ -1,5 +1,5 @@
 -- What is refused while an image is gathered is a cause of the image.
-use Rattle.std.proofs.Common.{◌≡◌, ◌≢◌, ◌⊎◌, ℕ, ◌<◌, ◌≤◌, Bool, true, List, [], ◌∷◌, ◌++◌, length, map, Some, None, zero, suc, refl, ap, sym, ◌∙◌, subst, arith}
+use Rattle.std.proofs.Common.{◌≡◌, ◌≢◌, ◌⊎◌, ℕ, ◌<◌, ◌≤◌, Bool, List, [], ◌∷◌, ◌++◌, length, map, Some, None, zero, suc, refl, ap, sym, ◌∙◌, subst, arith}
 use Rattle.std.specs.Prelude.{Contains, slice_index_or}
 use Rattle.std.specs.List.{Any, slice_get}
 use Rattle.std.proofs.lemmas.List.Elements.{All-contains, All-head}
@@ -29,14 +29,14 @@ use Rattle.lfs_fs.specs.FrontCause.{StoredOn, IsOversized}
 use Rattle.lfs_fs.specs.SuperblockCause.{NoSuperblock, SuperblockIs}
 use Rattle.lfs_fs.specs.ThreadCause.{HasState}
 use Rattle.lfs_fs.specs.Cause.{HasCause}
-use Rattle.lfs_fs.specs.Shown.{ShownEntry, ShownDirectory, shown_entry, shown_directory}
-use Rattle.lfs_fs.specs.Gathering.{PairPart, delta_from, StateCause, NamesFall, HasNoChain, LeadsPast, EntryFault, link_from, PartsCause}
+use Rattle.lfs_fs.specs.Outlined.{outlined_entry, outlined_directory, outlined_directories}
+use Rattle.lfs_fs.specs.Gathering.{PairPart, delta_from, StateCause, NamesFall, HasNoChain, LeadsPast, EntryFault, PartsCause}
 use Rattle.lfs_fs.specs.ThreadRead.{pairs_of, IsPartRead, IsThreadRead}
 use Rattle.lfs_fs.specs.Judged.{IsJudged, SaysBytes, JudgedCause, with_entries, BeginsWithNone}
 use Rattle.lfs_fs.proofs.CountLemmas.{element_le}
 use Rattle.lfs_fs.proofs.InVolumeLemmas.{contains_map}
 use Rattle.lfs_fs.proofs.ThreadReadLemmas.{no_header}
-use Rattle.lfs_fs.proofs.FoldersLemmas.{shown_pieces}
+use Rattle.lfs_fs.proofs.OutlinedLemmas.{outlined_entries}
 use Rattle.lfs_fs.proofs.GatheredLemmas.{RootRead, root_superblock, later_links, same_links, uses_are, state_is}
 
 -- ---- the global state
@@ -186,43 +186,43 @@ leads_of r (Leads first second) past = ((first, second), refl, past)
 
 -- ---- names
 
--- neighbours among shown entries are neighbours
-record Neighbours (es : List Entry) (left right : ShownEntry) : Type 0 where
+-- neighbours among entries of an outline are neighbours
+record Neighbours (es : List Entry) (left right : Entry) : Type 0 where
   before : List Entry
   one : Entry
   two : Entry
   after : List Entry
   is : es ≡ before ++ one ∷ two ∷ after
-  one_is : shown_entry one ≡ left
-  two_is : shown_entry two ≡ right
+  one_is : outlined_entry one ≡ left
+  two_is : outlined_entry two ≡ right
 
-later_neighbours : (e : Entry) (es : List Entry) (left right : ShownEntry) → Neighbours es left right → Neighbours (e ∷ es) left right
+later_neighbours : (e : Entry) (es : List Entry) (left right : Entry) → Neighbours es left right → Neighbours (e ∷ es) left right
 later_neighbours e es left right h = record { before = e ∷ h.before; one = h.one; two = h.two; after = h.after; is = ap (λ (y : List Entry). e ∷ y) h.is; one_is = h.one_is; two_is = h.two_is }
 
-neighbours : (es : List Entry) (before : List ShownEntry) (left right : ShownEntry) (after : List ShownEntry) → map shown_entry es ≡ before ++ left ∷ right ∷ after → Neighbours es left right
+neighbours : (es : List Entry) (before : List Entry) (left right : Entry) (after : List Entry) → map outlined_entry es ≡ before ++ left ∷ right ∷ after → Neighbours es left right
 neighbours [] [] left right after is = cc
 neighbours [] (x ∷ before) left right after is = cc
 neighbours (e ∷ []) [] left right after is = cc
 neighbours (e ∷ f ∷ es) [] left right after is =
-    let one : shown_entry e ≡ left = cc in
-    let two : shown_entry f ≡ right = cc in
+    let one : outlined_entry e ≡ left = cc in
+    let two : outlined_entry f ≡ right = cc in
     record { before = []; one = e; two = f; after = es; is = refl; one_is = one; two_is = two }
 neighbours (e ∷ es) (x ∷ before) left right after is =
-    let tail : map shown_entry es ≡ before ++ left ∷ right ∷ after = cc in
+    let tail : map outlined_entry es ≡ before ++ left ∷ right ∷ after = cc in
     later_neighbours e es left right (neighbours es before left right after tail)
 
-any_shown : (P : ShownDirectory → Type 0) (ds : List Directory) → Any P (map shown_directory ds) → (x : Directory) × Contains ds x × P (shown_directory x)
-any_shown P [] (k, f, within, at, holds) = absurd (omega arith)
-any_shown P (d ∷ ds) (zero, f, within, at, holds) = (d, (0, omega arith, refl), subst P (sym at) holds)
-any_shown P (d ∷ ds) (suc k, f, within, at, holds) =
-    let rest = any_shown P ds (k, f, omega arith, at, holds) in
+any_outlined : (P : Directory → Type 0) (ds : List Directory) → Any P (outlined_directories ds) → (x : Directory) × Contains ds x × P (outlined_directory x)
+any_outlined P [] (k, f, within, at, holds) = absurd (omega arith)
+any_outlined P (d ∷ ds) (zero, f, within, at, holds) = (d, (0, omega arith, refl), subst P (sym at) holds)
+any_outlined P (d ∷ ds) (suc k, f, within, at, holds) =
+    let rest = any_outlined P ds (k, f, omega arith, at, holds) in
     (rest.0, (suc rest.1.0, omega (arith, rest.1.1), rest.1.2), rest.2)
 
-misordered : (r : Reading) (pairs : List Pair) → Any (λ (f : ShownDirectory). NamesFall f.entries) (map shown_directory (directories_at r pairs)) → MisorderedNames (volume_at r no_header pairs)
+misordered : (r : Reading) (pairs : List Pair) → Any (λ (d : Directory). NamesFall (entries d)) (outlined_directories (directories_at r pairs)) → MisorderedNames (volume_at r no_header pairs)
 misordered r pairs any =
-    let found = any_shown (λ (f : ShownDirectory). NamesFall f.entries) (directories_at r pairs) any in
+    let found = any_outlined (λ (d : Directory). NamesFall (entries d)) (directories_at r pairs) any in
     let fall = found.2 in
-    let two = neighbours (entries found.0) fall.before fall.left fall.right fall.after fall.neighbours in
+    let two = neighbours (entries found.0) fall.before fall.left fall.right fall.after (sym (outlined_entries found.0) ∙ fall.neighbours) in
     record {
       directory = found.0;
       there = found.1;
@@ -231,13 +231,13 @@ misordered r pairs any =
       right = two.two;
       after = two.after;
       neighbours = two.is;
-      fall = ap (λ (x : ShownEntry). precedes x.name two.two.name) two.one_is ∙ ap (λ (x : ShownEntry). precedes fall.left.name x.name) two.two_is ∙ fall.fall;
+      fall = ap (λ (x : Entry). precedes x.name two.two.name) two.one_is ∙ ap (λ (x : Entry). precedes fall.left.name x.name) two.two_is ∙ fall.fall;
     }
 
 -- ---- parts
 
 pub parts_refuse : (d : Disk) (f : MountFault) (limits : Limits) (start : List Bool) (p : PairPart) (e : StoredEntry) (others : List StoredEntry) (rest : List PairPart) → RootRead (reading_of d) start p e others rest → IsJudged d.size d.count limits e
-    → PartsCause f (reading_of d) limits start (with_entries p others ∷ rest) true root [] → HasCause d f
+    → PartsCause f (reading_of d) limits start (with_entries p others ∷ rest) → HasCause d f
 parts_refuse d fault.BadSkipList limits start p e others rest h judged cause =
     let r = reading_of d in
     let found = found_entry r start p e others rest (EntryFault fault.BadSkipList r limits) h cause in
@@ -264,12 +264,11 @@ parts_refuse d fault.BadSize limits start p e others rest h judged cause =
 parts_refuse d fault.OrderFault limits start p e others rest h judged cause =
     let r = reading_of d in
     let links = same_links r start p e others rest h judged.is.kind in
-    let shown = shown_pieces root (link_from r (with_entries p others)) (map (link_from r) rest) h.at in
     record {
       header = no_header;
       front = p.0 ∷ pairs_of rest;
       is_front = h.is_thread.front;
-      fault = misordered r (p.0 ∷ pairs_of rest) (subst (Any (λ (f : ShownDirectory). NamesFall f.entries)) (shown ∙ ap (λ x. map shown_directory (pieces x)) links) cause);
+      fault = misordered r (p.0 ∷ pairs_of rest) (subst (Any (λ (d : Directory). NamesFall (entries d))) (ap (λ x. outlined_directories (pieces x)) links) cause);
     }
 parts_refuse d fault.BlockTwice limits start p e others rest h judged (b, twice) =
     let r = reading_of d in

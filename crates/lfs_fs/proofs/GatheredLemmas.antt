@@ -15,7 +15,7 @@ use Rattle.lfs_fs.specs.declared.limits.Limits.{Limits}
 use Rattle.lfs_fs.specs.declared.gathering.Gathered.{Gathered}
 use Rattle.lfs_fs.specs.Pair.{root}
 use Rattle.lfs_fs.specs.Entry.{Entry}
-use Rattle.lfs_fs.specs.Directory.{Part, Directory, entries, thread}
+use Rattle.lfs_fs.specs.Directory.{Directory, entries, thread}
 use Rattle.lfs_fs.specs.Volume.{Volume}
 use Rattle.lfs_fs.specs.Uses.{uses}
 use Rattle.lfs_fs.specs.Used.{Marks}
@@ -27,15 +27,16 @@ use Rattle.lfs_fs.specs.Front.{IsThread, pair_names, pairs_name}
 use Rattle.lfs_fs.specs.Superblock.{Header, HasSuperblock, IsSuperblock, header_of}
 use Rattle.lfs_fs.specs.Held.{resolved_as, resolved, link_of, link_at, directories_at, volume_at}
 use Rattle.lfs_fs.specs.Holds.{Holds, IsResolved}
-use Rattle.lfs_fs.specs.Shown.{ShownDirectory, shown_directory}
-use Rattle.lfs_fs.specs.Gathering.{PairPart, delta_from, NamesRise, link_from, stored_uses, parts_use, IsProperPart, KeepsParts}
+use Rattle.lfs_fs.specs.Outlined.{outlined_directories}
+use Rattle.lfs_fs.specs.Gathering.{PairPart, delta_from, link_from, stored_uses, parts_use, IsProperPart, KeepsParts}
 use Rattle.lfs_fs.specs.ThreadRead.{pairs_of, IsPartRead, IsThreadRead}
 use Rattle.lfs_fs.specs.Judged.{IsJudged, with_entries, TakesFirst}
 use Rattle.lfs_fs.specs.Gathered.{IsSoundUnwalked, IsGathered}
 use Rattle.lfs_fs.proofs.SuperblockLemmas.{super_by}
 use Rattle.lfs_fs.proofs.CountLemmas.{part_uses, uses_at, link_pair}
 use Rattle.lfs_fs.proofs.ThreadReadLemmas.{marked_once, marked_within}
-use Rattle.lfs_fs.proofs.FoldersLemmas.{shown_pieces, starts_at_root, each_entry, thread_of_pieces, all_rise}
+use Rattle.lfs_fs.proofs.FoldersLemmas.{starts_at_root, each_entry, thread_of_pieces}
+use Rattle.lfs_fs.proofs.OutlinedLemmas.{all_rise}
 
 -- ---- the first part
 
@@ -113,13 +114,6 @@ deltas_are r (p ∷ ps) = ap (bit_xor (link_from r p).part.delta) (deltas_are r 
 pub state_is : (r : Reading) (ps : List PairPart) → delta_of (thread (pieces (map (link_from r) ps))) ≡ delta_from ps
 state_is r ps = ap delta_of (thread_of_pieces (map (link_from r) ps)) ∙ deltas_are r ps
 
-pairs_kept : (r : Reading) (ps : List PairPart) → map (λ (p : Part). p.pair) (map (λ (l : Link). l.part) (map (link_from r) ps)) ≡ pairs_of ps
-pairs_kept r [] = refl
-pairs_kept r (p ∷ ps) = ap (λ (x : List Pair). p.0 ∷ x) (pairs_kept r ps)
-
-pub thread_is : (r : Reading) (ps : List PairPart) → map (λ (p : Part). p.pair) (thread (pieces (map (link_from r) ps))) ≡ pairs_of ps
-thread_is r ps = ap (map (λ (p : Part). p.pair)) (thread_of_pieces (map (link_from r) ps)) ∙ pairs_kept r ps
-
 -- ---- entries
 
 proper_links : (r : Reading) (limits : Limits) (ps : List PairPart) → All (IsProperPart r limits) ps → All (λ (l : Link). All (IsProper limits) l.part.entries) (map (link_from r) ps)
@@ -145,19 +139,19 @@ later_one first ps pair (suc k, within, at) other = (k, omega arith, at)
 -- ---- all together
 
 -- what was found on the way
-pub record Found (r : Reading) (limits : Limits) (start used : List Bool) (p : PairPart) (e : StoredEntry) (others : List StoredEntry) (rest : List PairPart) (folders : List ShownDirectory) : Type 0 where
+pub record Found (r : Reading) (limits : Limits) (start used : List Bool) (p : PairPart) (e : StoredEntry) (others : List StoredEntry) (rest : List PairPart) (ds : List Directory) : Type 0 where
   pub read : RootRead r start p e others rest
   pub judged : IsJudged r.size r.count limits e
   pub state : delta_from (with_entries p (e ∷ others) ∷ rest) ≡ 0
-  pub kept : KeepsParts r limits start used (with_entries p others ∷ rest) root folders
+  pub kept : KeepsParts r limits start used (with_entries p others ∷ rest) ds
 
 -- the volume that the image holds
 abbrev pub found_volume : Reading → List ℕ → StoredEntry → PairPart → List PairPart → Volume
 found_volume r bytes e p rest = volume_at r (header_of bytes e.attributes) (p.0 ∷ pairs_of rest)
 
-pub found_holds : (r : Reading) (limits : Limits) (start used : List Bool) (p : PairPart) (e : StoredEntry) (others : List StoredEntry) (rest : List PairPart) (folders : List ShownDirectory) (h : Found r limits start used p e others rest folders) → Holds r (found_volume r h.judged.bytes e p rest)
+pub found_holds : (r : Reading) (limits : Limits) (start used : List Bool) (p : PairPart) (e : StoredEntry) (others : List StoredEntry) (rest : List PairPart) (ds : List Directory) (h : Found r limits start used p e others rest ds) → Holds r (found_volume r h.judged.bytes e p rest)
 unfolding root_superblock
-found_holds r limits start used p e others rest folders h = record {
+found_holds r limits start used p e others rest ds h = record {
   pairs = p.0 ∷ pairs_of rest;
   is_thread = h.read.is_thread;
   bytes = h.judged.bytes;
@@ -175,29 +169,26 @@ found_holds r limits start used p e others rest folders h = record {
 }
 
 -- the directories of the volume
-pub found_directories : (r : Reading) (limits : Limits) (start used : List Bool) (p : PairPart) (e : StoredEntry) (others : List StoredEntry) (rest : List PairPart) (folders : List ShownDirectory) (h : Found r limits start used p e others rest folders) → pieces (map (link_from r) (with_entries p others ∷ rest)) ≡ directories_at r (p.0 ∷ pairs_of rest)
-found_directories r limits start used p e others rest folders h = ap pieces (same_links r start p e others rest h.read h.judged.is.kind)
+pub found_directories : (r : Reading) (limits : Limits) (start used : List Bool) (p : PairPart) (e : StoredEntry) (others : List StoredEntry) (rest : List PairPart) (ds : List Directory) (h : Found r limits start used p e others rest ds) → pieces (map (link_from r) (with_entries p others ∷ rest)) ≡ directories_at r (p.0 ∷ pairs_of rest)
+found_directories r limits start used p e others rest ds h = ap pieces (same_links r start p e others rest h.read h.judged.is.kind)
 
-pub found_folders : (r : Reading) (limits : Limits) (start used : List Bool) (p : PairPart) (e : StoredEntry) (others : List StoredEntry) (rest : List PairPart) (folders : List ShownDirectory) (h : Found r limits start used p e others rest folders) → folders ≡ map shown_directory (pieces (map (link_from r) (with_entries p others ∷ rest)))
-found_folders r limits start used p e others rest folders h = h.kept.is ∙ shown_pieces root (link_from r (with_entries p others)) (map (link_from r) rest) h.read.at
-
-pub found_uses : (r : Reading) (limits : Limits) (start used : List Bool) (p : PairPart) (e : StoredEntry) (others : List StoredEntry) (rest : List PairPart) (folders : List ShownDirectory) (h : Found r limits start used p e others rest folders) → Marks used (λ b. uses b (found_volume r h.judged.bytes e p rest))
-found_uses r limits start used p e others rest folders h b =
+pub found_uses : (r : Reading) (limits : Limits) (start used : List Bool) (p : PairPart) (e : StoredEntry) (others : List StoredEntry) (rest : List PairPart) (ds : List Directory) (h : Found r limits start used p e others rest ds) → Marks used (λ b. uses b (found_volume r h.judged.bytes e p rest))
+found_uses r limits start used p e others rest ds h b =
     let all = uses_are r (header_of h.judged.bytes e.attributes) b (with_entries p others ∷ rest) (p.0 ∷ pairs_of rest) (same_links r start p e others rest h.read h.judged.is.kind) refl in
     let marks = h.kept.marks b in
     let pairs = h.read.marks b in
     omega arith
 
-pub found_sound : (r : Reading) (limits : Limits) (start used : List Bool) (p : PairPart) (e : StoredEntry) (others : List StoredEntry) (rest : List PairPart) (folders : List ShownDirectory) (h : Found r limits start used p e others rest folders) → IsSoundUnwalked (found_volume r h.judged.bytes e p rest)
-found_sound r limits start used p e others rest folders h =
-    let ds = pieces (map (link_from r) (with_entries p others ∷ rest)) in
-    let same : ds ≡ directories_at r (p.0 ∷ pairs_of rest) = found_directories r limits start used p e others rest folders h in
+pub found_sound : (r : Reading) (limits : Limits) (start used : List Bool) (p : PairPart) (e : StoredEntry) (others : List StoredEntry) (rest : List PairPart) (ds : List Directory) (h : Found r limits start used p e others rest ds) → IsSoundUnwalked (found_volume r h.judged.bytes e p rest)
+found_sound r limits start used p e others rest ds h =
+    let whole = pieces (map (link_from r) (with_entries p others ∷ rest)) in
+    let same : whole ≡ directories_at r (p.0 ∷ pairs_of rest) = found_directories r limits start used p e others rest ds h in
     let limits_are : limits ≡ (header_of h.judged.bytes e.attributes).limits = h.judged.limits_are in
-    let marks = found_uses r limits start used p e others rest folders h in
+    let marks = found_uses r limits start used p e others rest ds h in
     let len : length used ≡ r.count = h.kept.len ∙ h.read.len in
     record {
       starts = starts_at_root (link_at r p.0) (map (link_at r) (pairs_of rest)) (link_pair r p.0 (r.part p.0) ∙ h.read.at);
-      order = subst (All (λ (d : Directory). Rise (entries d))) same (all_rise ds (subst (All (λ (f : ShownDirectory). NamesRise f.entries)) (found_folders r limits start used p e others rest folders h) h.kept.order));
+      order = subst (All (λ (d : Directory). Rise (entries d))) same (all_rise whole (subst (All (λ (d : Directory). Rise (entries d))) h.kept.is h.kept.order));
       proper = subst (All (λ (d : Directory). All (IsProper (header_of h.judged.bytes e.attributes).limits) (entries d))) same
           (each_entry (IsProper (header_of h.judged.bytes e.attributes).limits) (map (link_from r) (with_entries p others ∷ rest))
           (subst (λ (l : Limits). All (λ (x : Link). All (IsProper l) x.part.entries) (map (link_from r) (with_entries p others ∷ rest))) limits_are (proper_links r limits (with_entries p others ∷ rest) h.kept.proper)));
@@ -207,29 +198,31 @@ found_sound r limits start used p e others rest folders h =
       settled = ap (λ (x : List Directory). delta_of (thread x)) (sym same) ∙ state_is r (with_entries p others ∷ rest) ∙ h.state;
     }
 
+abbrev outline_with : Disk → Header → List Directory → Volume
+outline_with d h ds = record { size = d.size; count = d.count; limits = h.limits; attributes = h.attributes; directories = ds }
+
 -- what is answered
-pub gathered : (d : Disk) (parts bare : List PairPart) (start : List Bool) (e : StoredEntry) (g : Gathered) → IsThreadRead (reading_of d) parts start → delta_from parts ≡ 0 → TakesFirst parts bare e → IsJudged d.size d.count g.limits e
-    → KeepsParts (reading_of d) g.limits start g.used.items bare root g.folders.items → g.thread.items ≡ pairs_of parts → g.attributes.items ≡ e.attributes → IsGathered d g
-gathered d parts bare start e g read state taken judged kept pairs attributes =
+pub gathered : (d : Disk) (parts bare : List PairPart) (start : List Bool) (e : StoredEntry) (limits : Limits) (kept : List Directory) (g : Gathered) → IsThreadRead (reading_of d) parts start → delta_from parts ≡ 0 → TakesFirst parts bare e → IsJudged d.size d.count limits e
+    → KeepsParts (reading_of d) limits start g.used.items bare kept → g.outline ≡ record { size = d.size; count = d.count; limits = limits; attributes = e.attributes; directories = kept } → IsGathered d g
+gathered d parts bare start e limits directories g read state taken judged kept outline =
     let r = reading_of d in
     let p = taken.first in
-    let h : Found r g.limits start g.used.items p e taken.others taken.rest g.folders.items = record {
+    let h : Found r limits start g.used.items p e taken.others taken.rest directories = record {
       read = root_read r start p e taken.others taken.rest (subst (λ (ps : List PairPart). IsThreadRead r ps start) taken.was read);
       judged = judged;
       state = ap delta_from (sym taken.was) ∙ state;
-      kept = subst (λ (ps : List PairPart). KeepsParts r g.limits start g.used.items ps root g.folders.items) taken.is kept;
+      kept = subst (λ (ps : List PairPart). KeepsParts r limits start g.used.items ps directories) taken.is kept;
     } in
-    let same = found_directories r g.limits start g.used.items p e taken.others taken.rest g.folders.items h in
+    let same = found_directories r limits start g.used.items p e taken.others taken.rest directories h in
     record {
       volume = found_volume r judged.bytes e p taken.rest;
-      holds = found_holds r g.limits start g.used.items p e taken.others taken.rest g.folders.items h;
-      sound = found_sound r g.limits start g.used.items p e taken.others taken.rest g.folders.items h;
-      folders = found_folders r g.limits start g.used.items p e taken.others taken.rest g.folders.items h ∙ ap (map shown_directory) same;
-      pairs = pairs ∙ ap pairs_of taken.was ∙ sym (thread_is r (with_entries p taken.others ∷ taken.rest)) ∙ ap (λ (ds : List Directory). map (λ (x : Part). x.pair) (thread ds)) same;
+      holds = found_holds r limits start g.used.items p e taken.others taken.rest directories h;
+      sound = found_sound r limits start g.used.items p e taken.others taken.rest directories h;
+      outline = outline
+          ∙ ap (λ (l : Limits). record { size = d.size; count = d.count; limits = l; attributes = e.attributes; directories = directories }) judged.limits_are
+          ∙ ap (λ (ds : List Directory). outline_with d (header_of judged.bytes e.attributes) ds) (h.kept.is ∙ ap outlined_directories same);
       len = h.kept.len ∙ h.read.len;
-      marks = found_uses r g.limits start g.used.items p e taken.others taken.rest g.folders.items h;
-      limits = judged.limits_are;
-      attributes = attributes;
+      marks = found_uses r limits start g.used.items p e taken.others taken.rest directories h;
     }
 
 -- the entries are whole still where the first one is taken off

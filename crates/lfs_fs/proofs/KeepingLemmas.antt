@@ -25,7 +25,7 @@ use Rattle.lfs_fs.specs.Sound.{IsProper}
 use Rattle.lfs_fs.specs.Reading.{Reading, reading_of}
 use Rattle.lfs_fs.specs.Held.{chained, resolved_body, resolved}
 use Rattle.lfs_fs.specs.FrontCause.{IsOversized, stored_size, stored_name_length}
-use Rattle.lfs_fs.specs.Shown.{ShownBody, shown_body, shown_entry, InBlocks}
+use Rattle.lfs_fs.specs.Outlined.{blank, outlined_body, outlined_entry}
 use Rattle.lfs_fs.specs.Gathering.{HasNoChain, stored_length, KeepsBody, IsWithin, KeepsEntry, stored_uses}
 use Rattle.lfs_fs.proofs.SuperblockLemmas.{are_attributes}
 use Rattle.lfs_fs.proofs.ResolvedLemmas.{stood_for, resolved_is}
@@ -61,11 +61,11 @@ attributes_decide false l e a is name size rise long = inr (inr (subst (Any (λ 
 -- ---- the body
 
 -- a chain that is found is kept with its size
-pub chain_kept : (d : Disk) (old new : List Bool) (head size : ℕ) (blocks : List ℕ) → chain_of d head size ≡ Some blocks → length (content d size blocks) ≡ size → AddsBlocks old new blocks → KeepsBody (reading_of d) old new (Ctz head size) (InBlocks blocks size)
+pub chain_kept : (d : Disk) (old new : List Bool) (head size : ℕ) (blocks : List ℕ) → chain_of d head size ≡ Some blocks → length (content d size blocks) ≡ size → AddsBlocks old new blocks → KeepsBody (reading_of d) old new (Ctz head size) (Chain blocks (blank size))
 chain_kept d old new head size blocks found len adds =
     let body : resolved_body (reading_of d) (Ctz head size) ≡ Chain blocks (content d size blocks) = ap (chained (reading_of d) size) found in
     record {
-      is = ap (InBlocks blocks) (sym len) ∙ ap shown_body (sym body);
+      is = ap (λ n. Chain blocks (blank n)) (sym len) ∙ ap outlined_body (sym body);
       len = adds.len;
       marks = λ b. adds.marks b ∙ ap (λ (x : Body). marked old b + body_uses b x) (sym body);
       chain = λ none. cc;
@@ -91,12 +91,12 @@ one_use r b e other =
     let one : resolved r e ≡ stood_for r e ∷ [] = resolved_is r e other in
     ap (λ (es : List Entry). sum_by (entry_uses b) (es ++ [])) one ∙ omega arith
 
-pub entry_kept : (r : Reading) (l : Limits) (old new : List Bool) (e : StoredEntry) (body : ShownBody) → NamesAreDecided → e.kind ≢ Super → IsWhole e → IsWithin l e → KeepsBody r old new e.body body
+pub entry_kept : (r : Reading) (l : Limits) (old new : List Bool) (e : StoredEntry) (body : Body) → NamesAreDecided → e.kind ≢ Super → IsWhole e → IsWithin l e → KeepsBody r old new e.body body
     → KeepsEntry r l old new e (record { name = e.name; body = body; attributes = e.attributes })
 entry_kept r l old new e body law other whole within keeps =
     let one : resolved r e ≡ stood_for r e ∷ [] = resolved_is r e other in
     record {
-      is = ap (map shown_entry) one ∙ ap (λ (x : ShownBody). record { name = e.name; body = x; attributes = e.attributes } ∷ []) (sym keeps.is);
+      is = ap (map outlined_entry) one ∙ ap (λ (x : Body). record { name = e.name; body = x; attributes = e.attributes } ∷ []) (sym keeps.is);
       len = keeps.len;
       marks = λ b. keeps.marks b ∙ ap (λ n. marked old b + n) (sym (one_use r b e other));
       resolved_one = (other, chain_there r e.body keeps.chain);

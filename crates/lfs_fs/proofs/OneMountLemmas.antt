@@ -1,17 +1,16 @@
 -- What an image mounts to is determined.
 use Rattle.std.proofs.Common.{◌≡◌, List, [], ◌∷◌, ◌++◌, Option, Some, ap, sym, ◌∙◌, subst, append-nil}
 use Rattle.std.proofs.lemmas.Option.{none-some}
-use Rattle.std.specs.Prelude.{ℕ, map}
+use Rattle.std.specs.Prelude.{ℕ}
 use mathlib.Core.Logic.{inl, inr}
 use Rattle.lfs_meta.specs.Attribute.{Attributes}
 use Rattle.lfs_meta.specs.Body.{Pair, Inline}
 use Rattle.lfs_meta.specs.Entry.{StoredEntry}
-use Rattle.lfs_fs.specs.declared.limits.Limits.{Limits}
 use Rattle.lfs_fs.specs.Pair.{root}
-use Rattle.lfs_fs.specs.Directory.{thread}
 use Rattle.lfs_fs.specs.Volume.{Volume}
 use Rattle.lfs_fs.specs.Tree.{entry_at, tree}
 use Rattle.lfs_fs.specs.Free.{free_blocks}
+use Rattle.lfs_fs.specs.Outlined.{outlined}
 use Rattle.lfs_fs.specs.Row.{Row, AreRows}
 use Rattle.lfs_fs.specs.Reading.{Reading, reading_of}
 use Rattle.lfs_fs.specs.Front.{Follow, after, next_pair, Begins, IsFront, IsThread}
@@ -66,18 +65,16 @@ one_volume r v w h k =
 pub one_tree : TreesAreOne
 one_tree d t u (v, holds, sound, is) (w, holds', sound', is') p = is p ∙ ap (λ (x : Volume). tree x p) (one_volume (reading_of d) v w holds holds') ∙ sym (is' p)
 
-same_value : (m n : MountedValue) → m.rows ≡ n.rows → m.thread ≡ n.thread → m.limits ≡ n.limits → m.free ≡ n.free → m ≡ n
-same_value m n rows pairs limits free =
-    ap (λ (x : List Row). record { rows = x; thread = m.thread; limits = m.limits; free = m.free }) rows
-    ∙ ap (λ (x : List Pair). record { rows = n.rows; thread = x; limits = m.limits; free = m.free }) pairs
-    ∙ ap (λ (x : Limits). record { rows = n.rows; thread = n.thread; limits = x; free = m.free }) limits
-    ∙ ap (λ (x : List ℕ). record { rows = n.rows; thread = n.thread; limits = n.limits; free = x }) free
+same_value : (m n : MountedValue) → m.outline ≡ n.outline → m.rows ≡ n.rows → m.free ≡ n.free → m ≡ n
+same_value m n outline rows free =
+    ap (λ (x : Volume). record { outline = x; rows = m.rows; free = m.free }) outline
+    ∙ ap (λ (x : List Row). record { outline = n.outline; rows = x; free = m.free }) rows
+    ∙ ap (λ (x : List ℕ). record { outline = n.outline; rows = n.rows; free = x }) free
 
 pub one_mount : MountsAreOne
 one_mount d m n h k =
     let same = one_volume (reading_of d) h.volume k.volume h.holds k.holds in
-    same_value m n
-    (rows_are_unique (entry_at k.volume) m.rows n.rows (subst (λ (v : Volume). AreRows (entry_at v) m.rows) same h.rows) k.rows)
-    (h.thread ∙ ap (λ (v : Volume). map (λ p. p.pair) (thread v.directories)) same ∙ sym k.thread)
-    (h.limits ∙ ap (λ (v : Volume). v.limits) same ∙ sym k.limits)
+    let outline : m.outline ≡ n.outline = h.outline ∙ ap outlined same ∙ sym k.outline in
+    same_value m n outline
+    (rows_are_unique (entry_at n.outline) m.rows n.rows (subst (λ (v : Volume). AreRows (entry_at v) m.rows) outline h.rows) k.rows)
     (h.free ∙ ap free_blocks same ∙ sym k.free)

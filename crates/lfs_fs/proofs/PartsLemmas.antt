@@ -1,21 +1,25 @@
 -- Parts gathered into directories, one after another: what is left decides the whole.
-use Rattle.std.proofs.Common.{◌≡◌, ℕ, ◌+◌, Bool, true, false, List, [], ◌∷◌, ◌++◌, length, map, refl, ap, sym, ◌∙◌, subst, arith, append_assoc, append-nil}
-use Rattle.std.specs.Prelude.{All, flat_map}
+use Rattle.std.proofs.Common.{◌≡◌, ℕ, ◌+◌, Bool, true, false, List, [], ◌∷◌, ◌++◌, length, map, refl, ap, sym, ◌∙◌, subst, arith, append_assoc}
+use Rattle.std.specs.Prelude.{All}
 use Rattle.std.specs.List.{Any, AllByRecursion}
-use Rattle.std.proofs.lemmas.List.Elements.{All-cons, All-nil, All-tail, All-push}
+use Rattle.std.proofs.lemmas.List.Elements.{All-cons, All-nil, All-tail, All-append, All-push}
+use Rattle.std.proofs.lemmas.Grind.{flat_map-append}
+use Rattle.std.proofs.lemmas.List.{flat_map_more}
 use Rattle.std.proofs.lemmas.List.Sums.{sum_by-cons}
 use Rattle.lfs_block.specs.declared.mount_fault.MountFault.{MountFault}
 use Rattle.lfs_block.specs.declared.mount_fault.MountFault.TheVariants as fault
-use Rattle.lfs_meta.specs.Body.{Pair}
 use Rattle.lfs_meta.specs.Spelling.{IsWhole}
 use Rattle.lfs_fs.specs.declared.limits.Limits.{Limits}
 use Rattle.lfs_fs.specs.Used.{marked}
-use Rattle.lfs_fs.specs.Thread.{Link, is_hard}
+use Rattle.lfs_fs.specs.Directory.{Part, Directory, parts, entries}
+use Rattle.lfs_fs.specs.Thread.{is_hard, joined_to, pieces}
+use Rattle.lfs_fs.specs.Entry.{Entry}
+use Rattle.lfs_fs.specs.Sound.{Rise}
 use Rattle.lfs_fs.specs.Reading.{Reading}
-use Rattle.lfs_fs.specs.Held.{resolved}
-use Rattle.lfs_fs.specs.Shown.{ShownEntry, ShownDirectory, shown_entry}
-use Rattle.lfs_fs.specs.Gathering.{PairPart, NamesRise, NamesFall, EntryFault, EntriesCause, KeepsEntries, link_from, shown_from, stored_uses, parts_use, IsProperPart, KeepsParts, PartsCause}
+use Rattle.lfs_fs.specs.Outlined.{outlined_part}
+use Rattle.lfs_fs.specs.Gathering.{PairPart, NamesFall, EntryFault, EntriesCause, KeepsPart, link_from, stored_uses, parts_use, part_entries, as_directory, outlined_pieces, IsProperPart, KeepsParts, PartsCause}
 use Rattle.lfs_fs.proofs.GatheringLemmas.{any_later, any_here}
+use Rattle.lfs_fs.proofs.FoldersLemmas.{cut_here, all_joined, outlined_cut, joined_more, joined_ends, joined_last}
 
 -- the entries of a part are whole
 abbrev pub IsWholePart : PairPart → Type 0
@@ -25,22 +29,22 @@ IsWholePart p = AllByRecursion IsWhole p.1.entries
 abbrev pub HasFault : MountFault → Reading → Limits → PairPart → Type 0
 HasFault f r limits p = Any (EntryFault f r limits) p.1.entries
 
--- the directories so far, the one that may go on, and the parts that are left
-pub record PartsTo (r : Reading) (limits : Limits) (start : List Bool) (from : Pair) (ps : List PairPart) (used : List Bool) (folders : List ShownDirectory) (goes_on : Bool) (pair : Pair) (entries : List ShownEntry) (rest : List PairPart) : Type 0 where
+-- the directories so far, the parts of the one that may go on, and the parts that are left
+pub record PartsTo (r : Reading) (limits : Limits) (start : List Bool) (ps : List PairPart) (used : List Bool) (directories : List Directory) (joined : List Part) (rest : List PairPart) : Type 0 where
   pub whole : All IsWholePart rest
-  pub rise : NamesRise entries
-  pub rises : All (λ f. NamesRise f.entries) folders
-  pub is : folders ++ shown_from goes_on pair entries (map (link_from r) rest) ≡ shown_from true from [] (map (link_from r) ps)
+  pub rise : Rise (part_entries joined)
+  pub rises : All (λ d. Rise (entries d)) directories
+  pub is : directories ++ all_joined joined (outlined_pieces r rest) ≡ outlined_pieces r ps
   pub len : length used ≡ length start
   pub marks : (b : ℕ) → marked used b + parts_use r b rest ≡ marked start b + parts_use r b ps
   pub faults : (f : MountFault) → Any (HasFault f r limits) rest → Any (HasFault f r limits) ps
   pub proper : All (IsProperPart r limits) rest → All (IsProperPart r limits) ps
 
-pub none_gathered : (r : Reading) (limits : Limits) (start : List Bool) (from : Pair) (ps : List PairPart) → All IsWholePart ps → PartsTo r limits start from ps start [] true from [] ps
-none_gathered r limits start from ps whole = record {
+pub none_gathered : (r : Reading) (limits : Limits) (start : List Bool) (ps : List PairPart) → All IsWholePart ps → PartsTo r limits start ps start [] [] ps
+none_gathered r limits start ps whole = record {
   whole = whole;
   rise = tt;
-  rises = All-nil (λ (f : ShownDirectory). NamesRise f.entries);
+  rises = All-nil (λ (d : Directory). Rise (entries d));
   is = refl;
   len = refl;
   marks = λ b. refl;
@@ -48,89 +52,101 @@ none_gathered r limits start from ps whole = record {
   proper = λ all. all;
 }
 
--- the next part begins a directory
-pub opened : (r : Reading) (limits : Limits) (start : List Bool) (from : Pair) (ps : List PairPart) (used : List Bool) (folders : List ShownDirectory) (pair : Pair) (entries : List ShownEntry) (p : PairPart) (rest : List PairPart)
-    → PartsTo r limits start from ps used folders false pair entries (p ∷ rest)
-    → PartsTo r limits start from ps used (folders ++ record { pair = pair; entries = entries } ∷ []) true p.0 [] (p ∷ rest)
-opened r limits start from ps used folders pair entries p rest h = record {
-  whole = h.whole;
-  rise = tt;
-  rises = All-push (λ (f : ShownDirectory). NamesRise f.entries) folders (record { pair = pair; entries = entries }) h.rises h.rise;
-  is = append_assoc folders (record { pair = pair; entries = entries } ∷ []) (shown_from true p.0 [] (map (link_from r) (p ∷ rest))) ∙ h.is;
-  len = h.len;
-  marks = h.marks;
-  faults = h.faults;
-  proper = h.proper;
-}
+-- a part before those that are left
+next_piece : (r : Reading) (p : PairPart) (rest : List PairPart) (hard : Bool) → is_hard p.1.tail ≡ hard → outlined_pieces r (p ∷ rest) ≡ cut_here hard (outlined_part (link_from r p).part) (outlined_pieces r rest)
+next_piece r p rest hard is =
+    outlined_cut (is_hard p.1.tail) (link_from r p).part (pieces (map (link_from r) rest))
+    ∙ ap (λ (b : Bool). cut_here b (outlined_part (link_from r p).part) (outlined_pieces r rest)) is
 
--- whether or not the last directory goes on
-pub begins_next : (r : Reading) (limits : Limits) (start : List Bool) (from : Pair) (ps : List PairPart) (used : List Bool) (folders others : List ShownDirectory) (goes_on : Bool) (pair first : Pair) (entries these : List ShownEntry) (p : PairPart) (rest : List PairPart)
-    → goes_on ≡ false → PartsTo r limits start from ps used folders goes_on pair entries (p ∷ rest)
-    → others ≡ folders ++ record { pair = pair; entries = entries } ∷ [] → first ≡ p.0 → these ≡ []
-    → PartsTo r limits start from ps used others true first these (p ∷ rest)
-begins_next r limits start from ps used folders others goes_on pair first entries these p rest ends h others_are first_is these_are =
-    let h' = subst (λ (b : Bool). PartsTo r limits start from ps used folders b pair entries (p ∷ rest)) ends h in
-    rw (others_are, first_is, these_are) (opened r limits start from ps used folders pair entries p rest h')
+rise_alone : (ps : List Part) → Rise (part_entries ps) → All (λ d. Rise (entries d)) (as_directory ps)
+rise_alone [] rise = All-nil (λ (d : Directory). Rise (entries d))
+rise_alone (p ∷ ps) rise = All-push (λ (d : Directory). Rise (entries d)) [] (record { first = p; more = ps }) (All-nil (λ (d : Directory). Rise (entries d))) rise
 
-pub goes_on_same : (r : Reading) (limits : Limits) (start : List Bool) (from : Pair) (ps : List PairPart) (used : List Bool) (folders others : List ShownDirectory) (goes_on : Bool) (pair first : Pair) (entries these : List ShownEntry) (p : PairPart) (rest : List PairPart)
-    → goes_on ≡ true → PartsTo r limits start from ps used folders goes_on pair entries (p ∷ rest) → others ≡ folders → first ≡ pair → these ≡ entries
-    → PartsTo r limits start from ps used others true first these (p ∷ rest)
-goes_on_same r limits start from ps used folders others goes_on pair first entries these p rest more h others_are first_is these_are =
-    let h' = subst (λ (b : Bool). PartsTo r limits start from ps used folders b pair entries (p ∷ rest)) more h in
-    rw (others_are, first_is, these_are) h'
-
--- one part more
-pub gathered_more : (r : Reading) (limits : Limits) (start : List Bool) (from : Pair) (ps : List PairPart) (used new : List Bool) (folders : List ShownDirectory) (pair : Pair) (entries after : List ShownEntry) (p : PairPart) (rest : List PairPart)
-    → PartsTo r limits start from ps used folders true pair entries (p ∷ rest) → KeepsEntries r limits used new p.1.entries entries after → NamesRise after
-    → PartsTo r limits start from ps new folders (is_hard p.1.tail) pair after rest
-gathered_more r limits start from ps used new folders pair entries after p rest h keeps rise = record {
+-- one part more, kept, which directories and parts are said to hold
+gathered_so : (r : Reading) (limits : Limits) (start : List Bool) (ps : List PairPart) (used new : List Bool) (directories others : List Directory) (joined these : List Part) (p : PairPart) (rest : List PairPart) (kept : Part)
+    → PartsTo r limits start ps used directories joined (p ∷ rest) → KeepsPart r limits used new p joined kept → Rise (part_entries these) → All (λ d. Rise (entries d)) others
+    → others ++ all_joined these (outlined_pieces r rest) ≡ directories ++ all_joined joined (outlined_pieces r (p ∷ rest))
+    → PartsTo r limits start ps new others these rest
+gathered_so r limits start ps used new directories others joined these p rest kept h keeps rise rises is = record {
   whole = All-tail IsWholePart p rest h.whole;
   rise = rise;
-  rises = h.rises;
-  is = ap (λ (x : List ShownEntry). folders ++ shown_from (is_hard p.1.tail) pair x (map (link_from r) rest)) keeps.is ∙ h.is;
+  rises = rises;
+  is = is ∙ h.is;
   len = keeps.len ∙ h.len;
   marks = λ b. let marks = keeps.marks b in let left = h.marks b in omega (arith, sum_by-cons (λ (q : PairPart). stored_uses r b q.1.entries) p rest);
   faults = λ f any. h.faults f (any_later (HasFault f r limits) p rest any);
-  proper = λ all. h.proper (All-cons (IsProperPart r limits) p rest (record { resolved_all = keeps.resolved_all; proper = keeps.proper }) all);
+  proper = λ all. h.proper (All-cons (IsProperPart r limits) p rest keeps.proper all);
 }
 
+-- the directory goes on behind it
+pub goes_on : (r : Reading) (limits : Limits) (start : List Bool) (ps : List PairPart) (used new : List Bool) (directories : List Directory) (joined : List Part) (p : PairPart) (rest : List PairPart) (kept : Part)
+    → PartsTo r limits start ps used directories joined (p ∷ rest) → KeepsPart r limits used new p joined kept → is_hard p.1.tail ≡ true → PartsTo r limits start ps new directories (joined ++ kept ∷ []) rest
+goes_on r limits start ps used new directories joined p rest kept h keeps hard =
+    gathered_so r limits start ps used new directories directories joined (joined ++ kept ∷ []) p rest kept h keeps keeps.order h.rises
+    (ap (λ (ds : List Directory). directories ++ ds)
+    (sym (joined_more joined kept (outlined_pieces r rest))
+    ∙ ap (λ (x : Part). all_joined joined (cut_here true x (outlined_pieces r rest))) keeps.is
+    ∙ ap (all_joined joined) (sym (next_piece r p rest true hard))))
+
+-- the directory ends with it
+pub ends_here : (r : Reading) (limits : Limits) (start : List Bool) (ps : List PairPart) (used new : List Bool) (directories : List Directory) (joined : List Part) (p : PairPart) (rest : List PairPart) (kept : Part)
+    → PartsTo r limits start ps used directories joined (p ∷ rest) → KeepsPart r limits used new p joined kept → is_hard p.1.tail ≡ false → PartsTo r limits start ps new (directories ++ as_directory (joined ++ kept ∷ [])) [] rest
+ends_here r limits start ps used new directories joined p rest kept h keeps soft =
+    gathered_so r limits start ps used new directories (directories ++ as_directory (joined ++ kept ∷ [])) joined [] p rest kept h keeps tt
+    (All-append (λ (d : Directory). Rise (entries d)) directories (as_directory (joined ++ kept ∷ [])) h.rises (rise_alone (joined ++ kept ∷ []) keeps.order))
+    (append_assoc directories (as_directory (joined ++ kept ∷ [])) (outlined_pieces r rest)
+    ∙ ap (λ (ds : List Directory). directories ++ ds)
+    (sym (joined_ends joined kept (outlined_pieces r rest))
+    ∙ ap (λ (x : Part). all_joined joined (cut_here false x (outlined_pieces r rest))) keeps.is
+    ∙ ap (all_joined joined) (sym (next_piece r p rest false soft))))
+
 -- no part is left
-pub all_gathered : (r : Reading) (limits : Limits) (start : List Bool) (from : Pair) (ps : List PairPart) (used : List Bool) (folders : List ShownDirectory) (goes_on : Bool) (pair : Pair) (entries : List ShownEntry) (rest : List PairPart) → length rest ≡ 0
-    → PartsTo r limits start from ps used folders goes_on pair entries rest → KeepsParts r limits start used ps from (folders ++ record { pair = pair; entries = entries } ∷ [])
-all_gathered r limits start from ps used folders goes_on pair entries [] none h = record {
-  is = h.is;
+pub all_gathered : (r : Reading) (limits : Limits) (start : List Bool) (ps : List PairPart) (used : List Bool) (directories : List Directory) (joined : List Part) (rest : List PairPart) → length rest ≡ 0
+    → PartsTo r limits start ps used directories joined rest → KeepsParts r limits start used ps (directories ++ as_directory joined)
+all_gathered r limits start ps used directories joined [] none h = record {
+  is = ap (λ (ds : List Directory). directories ++ ds) (sym (joined_last joined)) ∙ h.is;
   len = h.len;
   marks = λ b. let marks = h.marks b in omega arith;
   proper = h.proper (All-nil (IsProperPart r limits));
-  order = All-push (λ (f : ShownDirectory). NamesRise f.entries) folders (record { pair = pair; entries = entries }) h.rises h.rise;
+  order = All-append (λ (d : Directory). Rise (entries d)) directories (as_directory joined) h.rises (rise_alone joined h.rise);
 }
-all_gathered r limits start from ps used folders goes_on pair entries (p ∷ rest) none h = absurd (omega arith)
+all_gathered r limits start ps used directories joined (p ∷ rest) none h = absurd (omega arith)
 
 -- ---- why parts are refused
 
--- the first directory begins with the entries so far
-pub record Begun (ds : List ShownDirectory) (before : List ShownEntry) : Type 0 where
-  pub first : ShownDirectory
-  pub others : List ShownDirectory
-  pub more : List ShownEntry
-  pub is : ds ≡ first ∷ others
-  pub entries : first.entries ≡ before ++ more
+-- the first directory begins with these parts
+record Begun (ds : List Directory) (ps : List Part) : Type 0 where
+  first : Directory
+  others : List Directory
+  more : List Part
+  is : ds ≡ first ∷ others
+  begins : parts first ≡ ps ++ more
 
-begun_more : (ds : List ShownDirectory) (before here : List ShownEntry) → Begun ds (before ++ here) → Begun ds before
-begun_more ds before here h = record { first = h.first; others = h.others; more = here ++ h.more; is = h.is; entries = h.entries ∙ append_assoc before here h.more }
+begun_cut : (hard : Bool) (p : Part) (ds : List Directory) → Begun (cut_here hard p ds) (p ∷ [])
+begun_cut true p [] = record { first = record { first = p; more = [] }; others = []; more = []; is = refl; begins = refl }
+begun_cut true p (d ∷ ds) = record { first = record { first = p; more = parts d }; others = ds; more = parts d; is = refl; begins = refl }
+begun_cut false p ds = record { first = record { first = p; more = [] }; others = ds; more = []; is = refl; begins = refl }
 
-begun : (goes_on : Bool) (pair : Pair) (before : List ShownEntry) (ls : List Link) → Begun (shown_from goes_on pair before ls) before
-begun goes_on pair before [] = record { first = record { pair = pair; entries = before }; others = []; more = []; is = refl; entries = sym (append-nil before) }
-begun true pair before (l ∷ ls) = begun_more (shown_from (is_hard l.tail) pair (before ++ map shown_entry l.part.entries) ls) before (map shown_entry l.part.entries) (begun (is_hard l.tail) pair (before ++ map shown_entry l.part.entries) ls)
-begun false pair before (l ∷ ls) = record { first = record { pair = pair; entries = before }; others = shown_from (is_hard l.tail) l.part.pair (map shown_entry l.part.entries) ls; more = []; is = refl; entries = sym (append-nil before) }
+begun_before : (p : Part) (ds : List Directory) (ps : List Part) → Begun ds ps → Begun (joined_to p ds) (p ∷ ps)
+begun_before p ds ps h = record {
+  first = record { first = p; more = parts h.first };
+  others = h.others;
+  more = h.more;
+  is = ap (joined_to p) h.is;
+  begins = ap (λ (x : List Part). p ∷ x) h.begins;
+}
 
-fall_more : (es more : List ShownEntry) → NamesFall es → NamesFall (es ++ more)
+begun_joined : (joined : List Part) (ds : List Directory) (ps : List Part) → Begun ds ps → Begun (all_joined joined ds) (joined ++ ps)
+begun_joined [] ds ps h = h
+begun_joined (p ∷ joined) ds ps h = begun_before p (all_joined joined ds) (joined ++ ps) (begun_joined joined ds ps h)
+
+fall_more : (es more : List Entry) → NamesFall es → NamesFall (es ++ more)
 fall_more es more h = record {
   before = h.before;
   left = h.left;
   right = h.right;
   after = h.after ++ more;
-  neighbours = ap (λ (x : List ShownEntry). x ++ more) h.neighbours ∙ append_assoc h.before (h.left ∷ h.right ∷ h.after) more;
+  neighbours = ap (λ (x : List Entry). x ++ more) h.neighbours ∙ append_assoc h.before (h.left ∷ h.right ∷ h.after) more;
   fall = h.fall;
 }
 
@@ -138,25 +154,30 @@ any_behind : {X : Type 0} (P : X → Type 0) (xs ys : List X) → Any P ys → A
 any_behind P [] ys any = any
 any_behind P (x ∷ xs) ys any = any_later P x (xs ++ ys) (any_behind P xs ys any)
 
-falls_first : (ds : List ShownDirectory) (es : List ShownEntry) → Begun ds es → NamesFall es → Any (λ f. NamesFall f.entries) ds
-falls_first ds es h fall =
-    subst (Any (λ (f : ShownDirectory). NamesFall f.entries)) (sym h.is)
-    (any_here (λ (f : ShownDirectory). NamesFall f.entries) h.first h.others (subst NamesFall (sym h.entries) (fall_more es h.more fall)))
+falls_first : (ds : List Directory) (ps : List Part) → Begun ds ps → NamesFall (part_entries ps) → Any (λ d. NamesFall (entries d)) ds
+falls_first ds ps h fall =
+    let same : entries h.first ≡ part_entries ps ++ part_entries h.more = ap part_entries h.begins ∙ flat_map-append (λ (p : Part). p.entries) ps h.more in
+    subst (Any (λ (d : Directory). NamesFall (entries d))) (sym h.is)
+    (any_here (λ (d : Directory). NamesFall (entries d)) h.first h.others (subst NamesFall (sym same) (fall_more (part_entries ps) (part_entries h.more) fall)))
+
+one_behind : (ps : List Part) (p : Part) → part_entries ps ++ p.entries ≡ part_entries (ps ++ p ∷ [])
+one_behind ps p = flat_map_more (λ (x : Part). x.entries) [] ps p
 
 -- what refuses the next part refuses all
-pub part_refuses : (f : MountFault) (r : Reading) (limits : Limits) (start : List Bool) (from : Pair) (ps : List PairPart) (used : List Bool) (folders : List ShownDirectory) (pair : Pair) (entries : List ShownEntry) (p : PairPart) (rest : List PairPart)
-    → PartsTo r limits start from ps used folders true pair entries (p ∷ rest) → EntriesCause f r limits used entries p.1.entries → PartsCause f r limits start ps true from []
-part_refuses fault.OrderFault r limits start from ps used folders pair entries p rest h fall =
-    let here = entries ++ map shown_entry (flat_map (resolved r) p.1.entries) in
-    let others = shown_from (is_hard p.1.tail) pair here (map (link_from r) rest) in
-    subst (Any (λ (x : ShownDirectory). NamesFall x.entries)) h.is
-    (any_behind (λ (x : ShownDirectory). NamesFall x.entries) folders others (falls_first others here (begun (is_hard p.1.tail) pair here (map (link_from r) rest)) fall))
-part_refuses fault.BlockTwice r limits start from ps used folders pair entries p rest h (b, twice) =
+pub part_refuses : (f : MountFault) (r : Reading) (limits : Limits) (start : List Bool) (ps : List PairPart) (used : List Bool) (directories : List Directory) (joined : List Part) (p : PairPart) (rest : List PairPart)
+    → PartsTo r limits start ps used directories joined (p ∷ rest) → EntriesCause f r limits used (part_entries joined) p.1.entries → PartsCause f r limits start ps
+part_refuses fault.OrderFault r limits start ps used directories joined p rest h fall =
+    let here = outlined_part (link_from r p).part in
+    let others = all_joined joined (outlined_pieces r (p ∷ rest)) in
+    let begun = begun_joined joined (outlined_pieces r (p ∷ rest)) (here ∷ []) (subst (λ (ds : List Directory). Begun ds (here ∷ [])) (sym (next_piece r p rest (is_hard p.1.tail) refl)) (begun_cut (is_hard p.1.tail) here (outlined_pieces r rest))) in
+    subst (Any (λ (d : Directory). NamesFall (entries d))) h.is
+    (any_behind (λ (d : Directory). NamesFall (entries d)) directories others (falls_first others (joined ++ here ∷ []) begun (subst NamesFall (one_behind joined here) fall)))
+part_refuses fault.BlockTwice r limits start ps used directories joined p rest h (b, twice) =
     let left = h.marks b in
     (b, omega (arith, sum_by-cons (λ (q : PairPart). stored_uses r b q.1.entries) p rest))
-part_refuses fault.Memory r limits start from ps used folders pair entries p rest h cause = tt
-part_refuses fault.BadSkipList r limits start from ps used folders pair entries p rest h cause = h.faults fault.BadSkipList (any_here (HasFault fault.BadSkipList r limits) p rest cause)
-part_refuses fault.BlockRange r limits start from ps used folders pair entries p rest h cause = h.faults fault.BlockRange (any_here (HasFault fault.BlockRange r limits) p rest cause)
-part_refuses fault.SuperblockElsewhere r limits start from ps used folders pair entries p rest h cause = h.faults fault.SuperblockElsewhere (any_here (HasFault fault.SuperblockElsewhere r limits) p rest cause)
-part_refuses fault.BadSize r limits start from ps used folders pair entries p rest h cause = h.faults fault.BadSize (any_here (HasFault fault.BadSize r limits) p rest cause)
-part_refuses f r limits start from ps used folders pair entries p rest h cause = h.faults f (any_here (HasFault f r limits) p rest cause)
+part_refuses fault.Memory r limits start ps used directories joined p rest h cause = tt
+part_refuses fault.BadSkipList r limits start ps used directories joined p rest h cause = h.faults fault.BadSkipList (any_here (HasFault fault.BadSkipList r limits) p rest cause)
+part_refuses fault.BlockRange r limits start ps used directories joined p rest h cause = h.faults fault.BlockRange (any_here (HasFault fault.BlockRange r limits) p rest cause)
+part_refuses fault.SuperblockElsewhere r limits start ps used directories joined p rest h cause = h.faults fault.SuperblockElsewhere (any_here (HasFault fault.SuperblockElsewhere r limits) p rest cause)
+part_refuses fault.BadSize r limits start ps used directories joined p rest h cause = h.faults fault.BadSize (any_here (HasFault fault.BadSize r limits) p rest cause)
+part_refuses f r limits start ps used directories joined p rest h cause = h.faults f (any_here (HasFault f r limits) p rest cause)

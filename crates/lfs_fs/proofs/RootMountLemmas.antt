@@ -1,6 +1,6 @@
 -- What an image mounts to whose root's first pair holds its superblock alone.
 use Rattle.std.proofs.Common.{◌≡◌, ℕ, ◌<◌, ◌≤◌, List, [], ◌∷◌, refl, ap, arith, ◌∙◌, sym, length}
-use Rattle.std.specs.Prelude.{Some, None, replicate, option_map, IsSome, true, zero, suc}
+use Rattle.std.specs.Prelude.{Some, None, replicate, IsSome, true, zero, suc}
 use Rattle.std.proofs.lemmas.Option.{none-some}
 use Rattle.std.specs.List.{Contains}
 use Rattle.std.proofs.lemmas.Bool.Decides.{nat_tests}
@@ -16,8 +16,9 @@ use Rattle.lfs_fs.specs.Graph.{walk}
 use Rattle.lfs_fs.specs.Pair.{root}
 use Rattle.lfs_fs.specs.Entry.{Entry, target}
 use Rattle.lfs_fs.specs.Directory.{Directory}
+use Rattle.lfs_fs.specs.Volume.{Volume}
 use Rattle.lfs_fs.specs.Tree.{entry_in, entry_at, top}
-use Rattle.lfs_fs.specs.Row.{Row, Folder, row_of, path_precedes, AreRows}
+use Rattle.lfs_fs.specs.Row.{Row, path_precedes, AreRows}
 use Rattle.lfs_fs.specs.Reading.{Reading, reading_of}
 use Rattle.lfs_fs.specs.Front.{IsFront, IsThread, pairs_name}
 use Rattle.lfs_fs.specs.Superblock.{HasSuperblock, header_of, superblock_entry}
@@ -83,19 +84,21 @@ none_below : (ds : List Directory) (path : Path) → walk target (entry_in ds) N
 none_below ds [] = refl
 none_below ds (n ∷ path) = none_below ds path
 
-abbrev root_row : Attributes → Row
-root_row attributes = record { path = []; body = Folder; attributes = attributes }
+abbrev root_row : Volume → Row
+root_row v = record { path = []; entry = top v }
 
-only_root : (size count : ℕ) (l : LimitsOf) (a : Attributes) (path : Path) (e : Entry) → entry_at (empty_volume size count l a) path ≡ Some e → Contains (root_row a ∷ []) (row_of path e)
-only_root size count l a [] e is = let same : top (empty_volume size count l a) ≡ e = cc in (0, omega arith, ap (row_of []) same)
+only_root : (size count : ℕ) (l : LimitsOf) (a : Attributes) (path : Path) (e : Entry) → entry_at (empty_volume size count l a) path ≡ Some e → Contains (root_row (empty_volume size count l a) ∷ []) (record { path = path; entry = e })
+only_root size count l a [] e is = let same : top (empty_volume size count l a) ≡ e = cc in (0, omega arith, ap (λ (x : Entry). record { path = []; entry = x }) same)
 only_root size count l a (n ∷ path) e is = absurd (none-some e (sym (none_below (empty_volume size count l a).directories path) ∙ is))
 
-root_rows : (size count : ℕ) (l : LimitsOf) (a : Attributes) → AreRows (entry_at (empty_volume size count l a)) (root_row a ∷ [])
-root_rows size count l a = record {
-  rise = (All-nil (λ (s : Row). path_precedes [] s.path ≡ true), tt);
-  right = All-cons (λ (r : Row). option_map (row_of r.path) (entry_at (empty_volume size count l a) r.path) ≡ Some r) (root_row a) [] refl (All-nil (λ (r : Row). option_map (row_of r.path) (entry_at (empty_volume size count l a) r.path) ≡ Some r));
-  whole = λ p e is. only_root size count l a p e is;
-}
+root_rows : (size count : ℕ) (l : LimitsOf) (a : Attributes) → AreRows (entry_at (empty_volume size count l a)) (root_row (empty_volume size count l a) ∷ [])
+root_rows size count l a =
+    let v = empty_volume size count l a in
+    record {
+      rise = (All-nil (λ (s : Row). path_precedes [] s.path ≡ true), tt);
+      right = All-cons (λ (r : Row). entry_at v r.path ≡ Some r.entry) (root_row v) [] refl (All-nil (λ (r : Row). entry_at v r.path ≡ Some r.entry));
+      whole = λ p e is. only_root size count l a p e is;
+    }
 
 -- the value that is mounted
 pub mounted_root : LoneSuperblockMounts
@@ -106,8 +109,7 @@ mounted_root d p bytes attributes disk is alone header fit =
       volume = empty_volume d.size d.count (header_of bytes []).limits attributes;
       holds = root_holds (reading_of d) bytes attributes two alone.len read header;
       sound = empty_is_sound d.size d.count (header_of bytes []).limits attributes two fit;
+      outline = refl;
       rows = root_rows d.size d.count (header_of bytes []).limits attributes;
-      thread = refl;
-      limits = refl;
       free = sym (empty_leaves_the_rest d.size d.count (header_of bytes []).limits attributes two);
     }

@@ -1,13 +1,12 @@
 -- A map from paths has one list of rows.
 use Rattle.std.proofs.Common.{◌≡◌, ◌⊎◌, true, List, [], ◌∷◌, refl, arith, sym, subst, zero, suc, get_or}
-use Rattle.std.specs.Prelude.{Option, Some, None}
-use Rattle.std.specs.Option.{option_map}
+use Rattle.std.specs.Prelude.{Option}
 use Rattle.std.specs.List.{All, Contains}
 use Rattle.std.proofs.lemmas.List.Elements.{All-contains, All-tail, All-head}
 use mathlib.Core.Logic.{inl, inr}
 use Rattle.lfs_fs.specs.Path.{Path}
 use Rattle.lfs_fs.specs.Entry.{Entry}
-use Rattle.lfs_fs.specs.Row.{path_precedes, Row, row_of, RowsRise, AreRows, RowsAreUnique}
+use Rattle.lfs_fs.specs.Row.{path_precedes, Row, RowsRise, AreRows, RowsAreUnique}
 use Rattle.lfs_fs.proofs.PathOrderLemmas.{path_irreflexive, path_transitive}
 
 -- two paths don't precede each other
@@ -52,16 +51,9 @@ rows_same (r ∷ rows) (s ∷ others) h k there back =
     let tails : rows ≡ others = rows_same rows others h.1 k'.1 (others_contained r rows others h there') (others_contained r others rows k' back') in
     cc
 
--- a row of a map from paths is the row of what stands at its path
-row_from_map : (at : Path → Option Entry) (r : Row) (here : Option Entry) (others : List Row) → here ≡ at r.path → AreRows at others → option_map (row_of r.path) here ≡ Some r → Contains others r
-row_from_map at r None others is h right = cc
-row_from_map at r (Some e) others is h right =
-    let same : row_of r.path e ≡ r = cc in
-    subst (Contains others) same (h.whole r.path e (sym is))
-
 -- each row of one list is a row of the other
 rows_contained : (at : Path → Option Entry) (rows others : List Row) → AreRows at rows → AreRows at others → All (Contains others) rows
-rows_contained at rows others h k i d within = row_from_map at (get_or rows i d) (at (get_or rows i d).path) others refl k (h.right i d within)
+rows_contained at rows others h k i d within = k.whole (get_or rows i d).path (get_or rows i d).entry (h.right i d within)
 
 pub rows_are_unique : RowsAreUnique
 rows_are_unique at rows others h k = rows_same rows others h.rise k.rise (rows_contained at rows others h k) (rows_contained at others rows k h)

@@ -4,6 +4,7 @@ use Rattle.std.specs.Prelude.{All, Contains, flat_map}
 use Rattle.std.specs.List.{AllZip}
 use Rattle.std.specs.Option.{option_map}
 use Rattle.std.proofs.lemmas.Option.{none-some, same_Some}
+use Rattle.std.proofs.lemmas.List.{length-replicate}
 use Rattle.std.proofs.lemmas.List.Concat.{flat_map-cons}
 use Rattle.std.proofs.lemmas.List.Elements.{All-contains, All-head, All-tail, All-weaker, All-contains_itself, Contains-append_left, Contains-append_right, Contains-append_cases}
 use Rattle.lfs_block.specs.Disk.{Disk, IsDisk}
@@ -21,8 +22,11 @@ use Rattle.lfs_fs.specs.Tree.{File, entry_at, node, node_of, top}
 use Rattle.lfs_fs.specs.Thread.{Link, links_of, links, tail_to, hard_to}
 use Rattle.lfs_fs.specs.Reading.{Reading, reading_of}
 use Rattle.lfs_fs.specs.Stored.{BodyStands, Stands, IsStored, HoldsLinks}
-use Rattle.lfs_fs.specs.Row.{Row, row_body, row_of}
-use Rattle.lfs_fs.specs.RowShown.{shown_node, HasBlocks, RowsShowTheTree}
+use Rattle.lfs_fs.specs.Row.{Row}
+use Rattle.lfs_fs.specs.RowShown.{shown_body, shown_node, HasBlocks, RowsShowTheTree}
+use Rattle.lfs_fs.specs.Outlined.{outlined_body, outlined_entry}
+use Rattle.lfs_fs.specs.Mounted.{MountedValue, IsMountOf}
+use Rattle.lfs_fs.proofs.OutlinedLemmas.{outlined_at}
 use Rattle.lfs_fs.proofs.BothSidesLemmas.{held_are_held_by_links}
 use Rattle.lfs_fs.proofs.EntryAtLemmas.{by_last_name, found, stands_below}
 
@@ -93,24 +97,29 @@ there_as_stored chain long differ fit d disk (Ctz head size) (Chain blocks bytes
     let same : length bytes ≡ size = ap length stands.1 ∙ long d head size blocks disk is in
     (ap (λ (n : ℕ). content d n blocks) same ∙ sym stands.1, (differ d head size blocks disk stands.0).0, fit d head size blocks is)
 
-shows_as : (d : Disk) (b : Body) (a : Attributes) → IsThere d b → (node_of b a ≡ shown_node d (row_body b) a) × HasBlocks d (row_body b)
+shows_as : (d : Disk) (b : Body) (a : Attributes) → IsThere d b → (node_of b a ≡ shown_body d (outlined_body b) a) × HasBlocks d (outlined_body b)
 shows_as d (Inline bytes) a there = (refl, tt)
-shows_as d (Chain blocks bytes) a there = (ap (λ (bs : List ℕ). File bs a) (sym there.0), (there.1, there.2))
+shows_as d (Chain blocks bytes) a there =
+    (ap (λ (bs : List ℕ). File bs a) (sym there.0 ∙ ap (λ (n : ℕ). content d n blocks) (sym (length-replicate (length bytes) 0))), (there.1, there.2))
 shows_as d (Directory_at pair) a there = (refl, tt)
 
 -- ---- the rows
 
-row_shows : (d : Disk) (v : Volume) (r : Row) (o : Option Entry) → ((e : Entry) → o ≡ Some e → IsThere d e.body) → option_map (row_of r.path) o ≡ Some r
-    → (option_map node o ≡ Some (shown_node d r.body r.attributes)) × HasBlocks d r.body
-row_shows d v r None there is = absurd (none-some r is)
-row_shows d v r (Some e) there is =
-    let same : row_of r.path e ≡ r = same_Some (row_of r.path e) r is in
+row_shows : (d : Disk) (r : Row) (o : Option Entry) → ((e : Entry) → o ≡ Some e → IsThere d e.body) → option_map outlined_entry o ≡ Some r.entry
+    → (option_map node o ≡ Some (shown_node d r.entry)) × HasBlocks d r.entry.body
+row_shows d r None there is = absurd (none-some r.entry is)
+row_shows d r (Some e) there is =
+    let same : outlined_entry e ≡ r.entry = same_Some (outlined_entry e) r.entry is in
     let shows = shows_as d e.body e.attributes (there e refl) in
-    (ap Some (shows.0 ∙ ap (λ (x : Row). shown_node d x.body x.attributes) same), subst (λ (x : Row). HasBlocks d x.body) same shows.1)
+    (ap Some (shows.0 ∙ ap (λ (x : Entry). shown_node d x) same), subst (λ (x : Entry). HasBlocks d x.body) same shows.1)
+
+-- what the outline of a volume has at a path
+outline_at : (d : Disk) (m : MountedValue) (is : IsMountOf d m) (r : Row) → Contains m.rows r → option_map outlined_entry (entry_at is.volume r.path) ≡ Some r.entry
+outline_at d m is r there =
+    sym (outlined_at is.volume r.path) ∙ ap (λ (v : Volume). entry_at v r.path) (sym is.outline) ∙ All-contains (λ (x : Row). entry_at m.outline x.path ≡ Some x.entry) m.rows r is.rows.right there
 
 pub rows_show_the_tree : FoundAreChains → ContentHasLength → ChainsDiffer → ChainsFit → RowsShowTheTree
-rows_show_the_tree chain long differ fit d m is r disk there =
-    row_shows d is.volume r (entry_at is.volume r.path) entry_there (All-contains (λ (x : Row). option_map (row_of x.path) (entry_at is.volume x.path) ≡ Some x) m.rows r is.rows.right there)
+rows_show_the_tree chain long differ fit d m is r disk there = row_shows d r (entry_at is.volume r.path) entry_there (outline_at d m is r there)
   where
     held : HoldsLinks (reading_of d) is.volume
     held = held_are_held_by_links (reading_of d) is.volume is.holds

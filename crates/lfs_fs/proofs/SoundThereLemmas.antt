@@ -27,10 +27,10 @@ use Rattle.lfs_fs.specs.Held.{chained, resolved_body, link_at, directories_at, v
 use Rattle.lfs_fs.proofs.CountLemmas.{part_uses, uses_at, count_uses, link_pair, names_some}
 use Rattle.lfs_fs.proofs.EntriesThereLemmas.{IsClear, HasFound, each_link}
 use Rattle.lfs_fs.proofs.EntryAtLemmas.{found, stands_below}
-use Rattle.lfs_fs.proofs.FolderTableLemmas.{same_pair-is, same_pair-refl}
+use Rattle.lfs_fs.proofs.PairLemmas.{same_pair-is, same_pair-refl}
 use Rattle.lfs_fs.proofs.FoldersLemmas.{starts_at_root}
 use Rattle.lfs_fs.proofs.NameOrderLemmas.{precedes_transitive}
-use Rattle.lfs_fs.proofs.WalkEndLemmas.{begins-itself, last_name, root_begins, none_counted}
+use Rattle.lfs_fs.proofs.OrderedEndLemmas.{begins-itself, last_name, root_begins, none_counted}
 
 -- the volume that is read
 abbrev pub volume_of : (d : Disk) → HasFound d → Volume

@@ -1,5 +1,5 @@
 -- Entries of a directory, with what they stand for in place of where it stands (SPEC.md, "Metadata types").
-use Rattle.std.specs.Prelude.{ℕ, Bool, List, Option, Some, None, length, bytes_eq}
+use Rattle.std.specs.Prelude.{ℕ, Bool, List, Option, Some, None, length, bytes_eq, is_some}
 use Rattle.lfs_meta.specs.Name.{Name}
 use Rattle.lfs_meta.specs.Attribute.{Attributes}
 use Rattle.lfs_meta.specs.Body.{Pair}
@@ -26,6 +26,10 @@ body_target (Directory_at pair) = Some (unordered pair)
 -- the directory that an entry leads to
 abbrev pub target : Entry → Option Pair
 target e = body_target e.body
+
+-- whether an entry leads to a directory
+abbrev pub leads : Entry → Bool
+leads e = is_some (target e)
 
 -- whether an entry has a name
 abbrev pub is_named : Name → Entry → Bool

@@ -1,5 +1,5 @@
 -- What is gathered of an image before its tree is walked (own).
-use Rattle.std.specs.Prelude.{ℕ, ◌≡◌, ◌≤◌, ◌<◌, All, length, map}
+use Rattle.std.specs.Prelude.{ℕ, ◌≡◌, ◌≤◌, ◌<◌, All, length}
 use Rattle.lfs_block.specs.Disk.{Disk}
 use Rattle.lfs_fs.specs.declared.gathering.Gathered.{Gathered}
 use Rattle.lfs_fs.specs.Directory.{entries, thread}
@@ -8,7 +8,7 @@ use Rattle.lfs_fs.specs.Uses.{uses}
 use Rattle.lfs_fs.specs.Used.{Marks}
 use Rattle.lfs_fs.specs.State.{delta_of}
 use Rattle.lfs_fs.specs.Sound.{StartsAtRoot, Rise, IsProper, AreAttributes}
-use Rattle.lfs_fs.specs.Shown.{ShowVolume}
+use Rattle.lfs_fs.specs.Outlined.{outlined}
 use Rattle.lfs_fs.specs.Reading.{reading_of}
 use Rattle.lfs_fs.specs.Holds.{Holds}
 
@@ -22,15 +22,11 @@ pub record IsSoundUnwalked (v : Volume) : Type 0 where
   pub within : (b : ℕ) → 0 < uses b v → b < v.count
   pub settled : delta_of (thread v.directories) ≡ 0
 
--- of the volume that an image holds: its directories, the pairs of its thread, the blocks that it uses, its limits and
--- the root's attributes
+-- of the volume that an image holds: its outline, and the blocks that it uses
 pub record IsGathered (d : Disk) (g : Gathered) : Type 0 where
   pub volume : Volume
   pub holds : Holds (reading_of d) volume
   pub sound : IsSoundUnwalked volume
-  pub folders : ShowVolume g.folders.items volume
-  pub pairs : g.thread.items ≡ map (λ p. p.pair) (thread volume.directories)
+  pub outline : g.outline ≡ outlined volume
   pub len : length g.used.items ≡ d.count
   pub marks : Marks g.used.items (λ b. uses b volume)
-  pub limits : g.limits ≡ volume.limits
-  pub attributes : g.attributes.items ≡ volume.attributes

@@ -1,5 +1,5 @@
 -- What is gathered of parts that are read, one after another, and why parts are refused (own).
-use Rattle.std.specs.Prelude.{ℕ, ◌+◌, ◌≤◌, ◌≡◌, ◌⊎◌, Bool, true, false, List, [], ◌∷◌, ◌++◌, length, map, flat_map, sum_by, All, Some, None, bit_xor, if◌then◌else◌}
+use Rattle.std.specs.Prelude.{ℕ, ◌+◌, ◌≤◌, ◌≡◌, ◌⊎◌, Bool, false, List, [], ◌∷◌, ◌++◌, length, map, flat_map, sum_by, All, Some, None, bit_xor}
 use Rattle.std.specs.List.{Any}
 use Rattle.lfs_block.specs.declared.mount_fault.MountFault.{MountFault}
 use Rattle.lfs_block.specs.declared.mount_fault.MountFault.TheVariants.{BadSkipList, OrderFault, BlockRange, BlockTwice, Orphan, UnfinishedMove, SuperblockElsewhere, BadSize, UnknownState, Memory}
@@ -10,17 +10,18 @@ use Rattle.lfs_meta.specs.Entry.{StoredEntry}
 use Rattle.lfs_meta.specs.Part.{StoredPart}
 use Rattle.lfs_fs.specs.declared.limits.Limits.{Limits}
 use Rattle.lfs_fs.specs.NameOrder.{precedes}
-use Rattle.lfs_fs.specs.Entry.{body_length}
+use Rattle.lfs_fs.specs.Entry.{Body, Entry, body_length}
+use Rattle.lfs_fs.specs.Directory.{Part, Directory, entries}
 use Rattle.lfs_fs.specs.Uses.{body_uses, entry_uses}
 use Rattle.lfs_fs.specs.Used.{Marks, marked}
 use Rattle.lfs_fs.specs.State.{little_endian, IsUnfinishedMove, SaysOrphans, IsUnknownState}
-use Rattle.lfs_fs.specs.Thread.{Link, is_hard}
-use Rattle.lfs_fs.specs.Sound.{IsProper, AreAttributes}
+use Rattle.lfs_fs.specs.Thread.{Link, pieces}
+use Rattle.lfs_fs.specs.Sound.{Rise, IsProper, AreAttributes}
 use Rattle.lfs_fs.specs.Reading.{Reading}
 use Rattle.lfs_fs.specs.Held.{resolved_body, resolved, link_of}
 use Rattle.lfs_fs.specs.Holds.{IsResolved}
 use Rattle.lfs_fs.specs.FrontCause.{IsOversized}
-use Rattle.lfs_fs.specs.Shown.{ShownBody, ShownEntry, ShownDirectory, shown_body, shown_entry}
+use Rattle.lfs_fs.specs.Outlined.{outlined_body, outlined_entry, outlined_part, outlined_directories}
 
 -- a pair with the part that it holds
 abbrev pub PairPart : Type 0
@@ -42,24 +43,23 @@ StateCause _ state = ⊥
 
 -- ---- names in order
 
--- each name comes before all later ones
-abbrev pub NamesRise : List ShownEntry → Type 0
-NamesRise [] = Unit {0}
-NamesRise (e ∷ es) = All (λ f. precedes e.name f.name ≡ true) es × NamesRise es
-
 -- two neighbours don't rise
-pub record NamesFall (es : List ShownEntry) : Type 0 where
-  pub before : List ShownEntry
-  pub left : ShownEntry
-  pub right : ShownEntry
-  pub after : List ShownEntry
+pub record NamesFall (es : List Entry) : Type 0 where
+  pub before : List Entry
+  pub left : Entry
+  pub right : Entry
+  pub after : List Entry
   pub neighbours : es ≡ before ++ left ∷ right ∷ after
   pub fall : precedes left.name right.name ≡ false
 
+-- the last of entries
+abbrev pub EndsWith : List Entry → Entry → Type 0
+EndsWith es last = (before : List Entry) × (es ≡ before ++ last ∷ [])
+
 -- the last entry doesn't come before a name
-pub record EndsAtOrAfter (es : List ShownEntry) (name : Name) : Type 0 where
-  pub before : List ShownEntry
-  pub last : ShownEntry
+pub record EndsAtOrAfter (es : List Entry) (name : Name) : Type 0 where
+  pub before : List Entry
+  pub last : Entry
   pub is : es ≡ before ++ last ∷ []
   pub fall : precedes last.name name ≡ false
 
@@ -82,8 +82,8 @@ stored_length (Ctz head size) = size
 stored_length (Leads first second) = 0
 
 -- a stored body is kept as this, and its blocks are marked
-pub record KeepsBody (r : Reading) (old new : List Bool) (stored : StoredBody) (kept : ShownBody) : Type 0 where
-  pub is : kept ≡ shown_body (resolved_body r stored)
+pub record KeepsBody (r : Reading) (old new : List Bool) (stored : StoredBody) (kept : Body) : Type 0 where
+  pub is : kept ≡ outlined_body (resolved_body r stored)
   pub len : length new ≡ length old
   pub marks : Marks new (λ b. marked old b + body_uses b (resolved_body r stored))
   pub chain : HasNoChain r stored → ⊥
@@ -118,8 +118,8 @@ abbrev pub stored_uses : Reading → ℕ → List StoredEntry → ℕ
 stored_uses r b es = sum_by (entry_uses b) (flat_map (resolved r) es)
 
 -- a stored entry, which isn't a superblock, is kept as this, and its blocks are marked
-pub record KeepsEntry (r : Reading) (limits : Limits) (old new : List Bool) (e : StoredEntry) (kept : ShownEntry) : Type 0 where
-  pub is : map shown_entry (resolved r e) ≡ kept ∷ []
+pub record KeepsEntry (r : Reading) (limits : Limits) (old new : List Bool) (e : StoredEntry) (kept : Entry) : Type 0 where
+  pub is : map outlined_entry (resolved r e) ≡ kept ∷ []
   pub len : length new ≡ length old
   pub marks : Marks new (λ b. marked old b + stored_uses r b (e ∷ []))
   pub resolved_one : IsResolved r e
@@ -133,17 +133,17 @@ EntryCause fault r limits used e = EntryFault fault r limits e
 
 -- ---- entries one after another
 
--- stored entries are kept behind others, and their blocks are marked
-pub record KeepsEntries (r : Reading) (limits : Limits) (old new : List Bool) (es : List StoredEntry) (before after : List ShownEntry) : Type 0 where
-  pub is : after ≡ before ++ map shown_entry (flat_map (resolved r) es)
+-- stored entries are kept as these, and their blocks are marked
+pub record KeepsEntries (r : Reading) (limits : Limits) (old new : List Bool) (es : List StoredEntry) (kept : List Entry) : Type 0 where
+  pub is : kept ≡ map outlined_entry (flat_map (resolved r) es)
   pub len : length new ≡ length old
   pub marks : Marks new (λ b. marked old b + stored_uses r b es)
   pub resolved_all : All (IsResolved r) es
   pub proper : All (IsProper limits) (flat_map (resolved r) es)
 
--- why they aren't
-abbrev pub EntriesCause : MountFault → Reading → Limits → List Bool → List ShownEntry → List StoredEntry → Type 0
-EntriesCause OrderFault r limits used before es = NamesFall (before ++ map shown_entry (flat_map (resolved r) es))
+-- why they aren't, behind others of their directory
+abbrev pub EntriesCause : MountFault → Reading → Limits → List Bool → List Entry → List StoredEntry → Type 0
+EntriesCause OrderFault r limits used before es = NamesFall (before ++ map outlined_entry (flat_map (resolved r) es))
 EntriesCause BlockTwice r limits used before es = (b : ℕ) × (2 ≤ marked used b + stored_uses r b es)
 EntriesCause Memory r limits used before es = Unit {0}
 EntriesCause fault r limits used before es = Any (EntryFault fault r limits) es
@@ -154,15 +154,6 @@ EntriesCause fault r limits used before es = Any (EntryFault fault r limits) es
 abbrev pub link_from : Reading → PairPart → Link
 link_from r p = link_of r p.0 (Some p.1)
 
--- The directories that are made of links behind one with this first pair and these entries; `goes_on` says whether the
--- first link joins it.
-abbrev pub shown_from : Bool → Pair → List ShownEntry → List Link → List ShownDirectory
-shown_from goes_on pair before [] = record { pair = pair; entries = before } ∷ []
-shown_from goes_on pair before (l ∷ ls) =
-    let here = map shown_entry l.part.entries in
-    if goes_on then shown_from (is_hard l.tail) pair (before ++ here) ls
-    else record { pair = pair; entries = before } ∷ shown_from (is_hard l.tail) l.part.pair here ls
-
 -- how often the entries of parts use a block
 abbrev pub parts_use : Reading → ℕ → List PairPart → ℕ
 parts_use r b ps = sum_by (λ p. stored_uses r b p.1.entries) ps
@@ -172,17 +163,38 @@ pub record IsProperPart (r : Reading) (limits : Limits) (p : PairPart) : Type 0 
   pub resolved_all : All (IsResolved r) p.1.entries
   pub proper : All (IsProper limits) (flat_map (resolved r) p.1.entries)
 
+-- the entries of parts
+abbrev pub part_entries : List Part → List Entry
+part_entries ps = flat_map (λ p. p.entries) ps
+
+-- a part is kept as this behind the parts before it in its directory, and the blocks of its files are marked
+pub record KeepsPart (r : Reading) (limits : Limits) (old new : List Bool) (p : PairPart) (before : List Part) (kept : Part) : Type 0 where
+  pub is : kept ≡ outlined_part (link_from r p).part
+  pub len : length new ≡ length old
+  pub marks : Marks new (λ b. marked old b + stored_uses r b p.1.entries)
+  pub proper : IsProperPart r limits p
+  pub order : Rise (part_entries (before ++ kept ∷ []))
+
+-- the directories that parts make, less the contents of chains
+abbrev pub outlined_pieces : Reading → List PairPart → List Directory
+outlined_pieces r ps = outlined_directories (pieces (map (link_from r) ps))
+
 -- the directories of parts are kept, and the blocks of their files are marked
-pub record KeepsParts (r : Reading) (limits : Limits) (old new : List Bool) (ps : List PairPart) (pair : Pair) (kept : List ShownDirectory) : Type 0 where
-  pub is : kept ≡ shown_from true pair [] (map (link_from r) ps)
+pub record KeepsParts (r : Reading) (limits : Limits) (old new : List Bool) (ps : List PairPart) (kept : List Directory) : Type 0 where
+  pub is : kept ≡ outlined_pieces r ps
   pub len : length new ≡ length old
   pub marks : Marks new (λ b. marked old b + parts_use r b ps)
   pub proper : All (IsProperPart r limits) ps
-  pub order : All (λ f. NamesRise f.entries) kept
+  pub order : All (λ d. Rise (entries d)) kept
 
 -- why they aren't
-abbrev pub PartsCause : MountFault → Reading → Limits → List Bool → List PairPart → Bool → Pair → List ShownEntry → Type 0
-PartsCause OrderFault r limits used ps goes_on pair before = Any (λ f. NamesFall f.entries) (shown_from goes_on pair before (map (link_from r) ps))
-PartsCause BlockTwice r limits used ps goes_on pair before = (b : ℕ) × (2 ≤ marked used b + parts_use r b ps)
-PartsCause Memory r limits used ps goes_on pair before = Unit {0}
-PartsCause fault r limits used ps goes_on pair before = Any (λ p. Any (EntryFault fault r limits) p.1.entries) ps
+abbrev pub PartsCause : MountFault → Reading → Limits → List Bool → List PairPart → Type 0
+PartsCause OrderFault r limits used ps = Any (λ d. NamesFall (entries d)) (outlined_pieces r ps)
+PartsCause BlockTwice r limits used ps = (b : ℕ) × (2 ≤ marked used b + parts_use r b ps)
+PartsCause Memory r limits used ps = Unit {0}
+PartsCause fault r limits used ps = Any (λ p. Any (EntryFault fault r limits) p.1.entries) ps
+
+-- parts as a directory, if there are any
+abbrev pub as_directory : List Part → List Directory
+as_directory [] = []
+as_directory (p ∷ ps) = record { first = p; more = ps } ∷ []

@@ -9,7 +9,9 @@ use Rattle.lfs_meta.specs.Part.{StoredPart}
 use Rattle.lfs_fs.specs.Header.{IsHeader}
 use Rattle.lfs_fs.specs.Mounted.{MountedValue, IsMountOf}
 use Rattle.lfs_fs.specs.Pair.{root}
-use Rattle.lfs_fs.specs.Row.{Folder}
+use Rattle.lfs_fs.specs.Tree.{top}
+use Rattle.lfs_fs.specs.Formatted.{empty_volume}
+use Rattle.lfs_fs.specs.Volume.{Volume}
 use Rattle.lfs_fs.specs.Sound.{AreAttributes}
 use Rattle.lfs_fs.specs.Superblock.{header_of, superblock_entry}
 
@@ -20,17 +22,16 @@ pub record IsLoneSuperblock (p : StoredPart) (bytes : List ℕ) (attributes : At
   pub tail : p.tail ≡ End
   pub delta : p.delta ≡ replicate 12 0
 
--- the root alone, with the limits that the superblock's struct says: all blocks but the root's two are free
-abbrev pub lone_root : ℕ → List ℕ → Attributes → MountedValue
-lone_root count bytes attributes = record {
-  rows = record { path = []; body = Folder; attributes = attributes } ∷ [];
-  thread = root ∷ [];
-  limits = (header_of bytes []).limits;
-  free = range_with_len 2 (count - 2);
-}
+-- a volume of the root alone, as it is mounted: all blocks but the root's two are free
+abbrev pub mounted_root : Volume → MountedValue
+mounted_root v = record { outline = v; rows = record { path = []; entry = top v } ∷ []; free = range_with_len 2 (v.count - 2) }
+
+-- the root alone, with the limits that the superblock's struct says
+abbrev pub lone_root : ℕ → ℕ → List ℕ → Attributes → MountedValue
+lone_root size count bytes attributes = mounted_root (empty_volume size count (header_of bytes []).limits attributes)
 
 -- the law: it mounts to the root alone
 abbrev pub LoneSuperblockMounts : Type 0
 LoneSuperblockMounts = (d : Disk) (p : StoredPart) (bytes : List ℕ) (attributes : Attributes) → IsDisk d → stored_part_of d root ≡ Some p
     → IsLoneSuperblock p bytes attributes → IsHeader d.size d.count bytes
-    → AreAttributes (header_of bytes []).limits.attribute attributes → IsMountOf d (lone_root d.count bytes attributes)
+    → AreAttributes (header_of bytes []).limits.attribute attributes → IsMountOf d (lone_root d.size d.count bytes attributes)

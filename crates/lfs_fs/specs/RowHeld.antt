@@ -1,9 +1,10 @@
 -- What the body of a row means.
-use Rattle.lfs_fs.specs.Row.{RowBody as ListedBody, Folder, Held, Linked}
+use Rattle.lfs_fs.specs.Entry.{Body, Inline, Chain, Directory_at}
+use Rattle.lfs_fs.specs.Outlined.{blank}
 use Rattle.lfs_fs.specs.declared.row_body.RowBody.{RowBody}
 use Rattle.lfs_fs.specs.declared.row_body.RowBody.TheVariants as case
 
-abbrev pub row_body_held : RowBody → ListedBody
-row_body_held case.Dir = Folder
-row_body_held (case.Inline bytes) = Held bytes.items
-row_body_held (case.Chain blocks size) = Linked blocks.items size
+abbrev pub row_body_held : RowBody → Body
+row_body_held (case.Inline bytes) = Inline bytes.now
+row_body_held (case.Chain blocks size) = Chain blocks.now (blank size)
+row_body_held (case.Dir first second) = Directory_at (first, second)

@@ -4,14 +4,17 @@ ghost use Rattle.std.specs.Prelude.{◌≡◌, ◌≢◌, IfOk, IfErr, MatchBool
 ghost use Rattle.lfs_block.specs.Disk.{IsDisk};
 ghost use Rattle.lfs_meta.specs.declared.kind.Kind.TheVariants.{Super};
 ghost use Rattle.lfs_meta.specs.BodyHeld.{body_held};
+ghost use Rattle.lfs_meta.specs.Fits.{BodyFits};
 ghost use Rattle.lfs_meta.specs.Spelling.{IsWhole};
-ghost use Rattle.lfs_fs.specs.FolderHeld.{folder_body_held};
+ghost use Rattle.lfs_fs.specs.AsStored.{stored_body};
 ghost use Rattle.lfs_fs.specs.FrontCause.{IsOversized};
 ghost use Rattle.lfs_fs.specs.Gathering.{BodyCause, EntryCause, KeepsBody, KeepsEntry, IsWithin, stored_length};
+ghost use Rattle.lfs_fs.specs.OutlineHeld.{outline_body_held};
 ghost use Rattle.lfs_fs.specs.Reading.{reading_of};
 
-use crate::folder::{FolderBody, FolderEntry};
 use crate::limits::Limits;
+use crate::outline_body::OutlineBody;
+use crate::outline_entry::OutlineEntry;
 use crate::superblock::are_within;
 use crate::used::mark_all;
 use lfs_block::{Blocks, MountFault};
@@ -52,26 +55,28 @@ fn kept_body<B: Blocks>(
     blocks: &B,
     used: &mut [bool],
     body: Body,
-) -> Result<FolderBody, MountFault>
+) -> Result<OutlineBody, MountFault>
     requires disk { IsDisk (B.disk blocks.now) }
     requires len { length used.old ≡ (B.disk blocks.now).count }
-    ensures kept { IfOk result (λ kept. KeepsBody (reading_of (B.disk blocks.now)) used.old used.new (body_held body) (folder_body_held kept)) }
+    requires fits { BodyFits (body_held body) }
+    ensures fits { IfOk result (λ kept. BodyFits (stored_body (outline_body_held kept))) }
+    ensures kept { IfOk result (λ kept. KeepsBody (reading_of (B.disk blocks.now)) used.old used.new (body_held body) (outline_body_held kept)) }
     ensures refused { IfErr result (λ fault. BodyCause fault (reading_of (B.disk blocks.now)) used.old (body_held body)) }
 {
     contents_have_their_length();
     let count = blocks.count();
     match body {
-        Body::Inline(bytes) => Ok(FolderBody::Held(bytes)),
+        Body::Inline(bytes) => Ok(OutlineBody::Held(bytes)),
         Body::Ctz { head, size } => {
             let blocks = chain(alloc, blocks, head, size)?;
             mark_all(used, &blocks)?;
-            Ok(FolderBody::Linked { blocks, size })
+            Ok(OutlineBody::Linked { blocks, size })
         }
         Body::Leads(first, second) => {
             if first >= count || second >= count {
                 return Err(MountFault::BlockRange);
             }
-            Ok(FolderBody::Leads(first, second))
+            Ok(OutlineBody::Leads(first, second))
         }
     }
 }
@@ -84,7 +89,7 @@ pub(crate) fn kept_entry<B: Blocks>(
     limits: Limits,
     used: &mut [bool],
     entry: Entry,
-) -> Result<FolderEntry, MountFault>
+) -> Result<OutlineEntry, MountFault>
     requires disk { IsDisk (B.disk blocks.now) }
     requires len { length used.old ≡ (B.disk blocks.now).count }
     requires whole { IsWhole entry }
@@ -99,7 +104,7 @@ pub(crate) fn kept_entry<B: Blocks>(
         return Err(MountFault::BadSize);
     }
     let body = kept_body(alloc, blocks, used, entry.body)?;
-    Ok(FolderEntry {
+    Ok(OutlineEntry {
         name: entry.name,
         body,
         attributes: entry.attributes,

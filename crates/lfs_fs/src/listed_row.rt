@@ -1,52 +1,48 @@
 //! Rows of an image's tree.
 
-use crate::path::Path;
 use crate::row_body::RowBody;
 use lfs_meta::Attribute;
 use std::marker::Model;
 
-/// A path with what stands there.
+/// What stands at a path, less the path. Its path is the name behind as many names of the row before it as the depth less
+/// one; the root's row has depth 0 and no name. Its meaning is its depth with an entry, in which as many zeros as the
+/// contents of a chain have bytes stand for them.
 ///
 /// Source: own.
 #[derive(Debug, Drop)]
-pub struct Row {
-    /// The path.
-    pub path: Path,
+pub struct Row<'a> {
+    /// The number of names in its path.
+    pub depth: usize,
+    /// The last name of its path.
+    pub name: &'a [u8],
     /// A directory, or where a file's bytes are.
-    pub body: RowBody,
+    pub body: RowBody<'a>,
     /// The attributes, strictly rising by kind.
-    pub attributes: Vec<Attribute>,
+    pub attributes: &'a [Attribute],
 }
 
-impl Model for Row {
-    ghost use Rattle.lfs_fs.specs.Row.{Row};
+impl<'a> Model for Row<'a> {
+    ghost use Rattle.lfs_fs.specs.Listed.{Listed};
     ghost use Rattle.lfs_fs.specs.RowHeld.{row_body_held};
 
-    ghost Value = { Row };
+    ghost Value = { Listed };
 
-    ghost view = { λ r. record { path = r.path; body = row_body_held r.body; attributes = r.attributes.items } };
+    ghost view = { λ r. record { depth = r.depth; entry = record { name = r.name.now; body = row_body_held r.body; attributes = r.attributes.now } } };
 
     ghost invariant = { λ r. Unit };
 }
 
-impl Row {
-    ghost use Rattle.std.specs.Prelude.{◌≡◌, ◌↔◌, IsTrue};
-    ghost use Rattle.lfs_fs.specs.Row.{is_folder};
+impl<'a> Row<'a> {
+    ghost use Rattle.std.specs.Prelude.{◌≡◌};
+    ghost use Rattle.lfs_fs.specs.Entry.{leads};
 
     /// Whether it is a directory. Takes no memory.
     pub fn is_dir(&self) -> bool
-        ensures { result ≡ is_folder self.now.body }
+        ensures { result ≡ leads self.now.entry }
     {
         match &self.body {
-            RowBody::Dir => true,
+            RowBody::Dir(..) => true,
             _ => false,
         }
-    }
-
-    /// Whether it stands at a path. Takes no memory.
-    pub(crate) fn is_at(&self, path: &Path) -> bool
-        ensures { IsTrue result ↔ (self.now.path ≡ path.now) }
-    {
-        self.path.is_same(path)
     }
 }

@@ -4,38 +4,38 @@ ghost use Rattle.std.specs.Prelude.{◌≡◌, ◌<◌, ◌≤◌, ◌^◌, leng
 ghost use Rattle.lfs_fs.specs.Unused.{unused};
 
 use crate::limits::Limits;
-use crate::listed_row::Row;
-use crate::path::Path;
+use crate::outline::Outline;
+use crate::place::Place;
+use crate::rows::Rows;
 use std::alloc::{AllocError, Global};
 use std::marker::Model;
 
-/// What is known of an image that mounts: what stands at each path, the pairs of its thread, its limits and its free
-/// blocks.
+/// What is known of an image that mounts: its outline, the places of what stands at each path, and its free blocks.
 ///
 /// Source: own.
 #[derive(Drop)]
 pub struct Mounted {
-    rows: Vec<Row>,
-    thread: Vec<(u32, u32)>,
-    limits: Limits,
+    outline: Outline,
+    order: Vec<Place>,
     used: Vec<bool>,
 }
 
 impl Model for Mounted {
     ghost use Rattle.std.specs.Prelude.{◌<◌, ◌^◌, length};
     ghost use Rattle.lfs_fs.specs.Unused.{unused};
+    ghost use Rattle.lfs_fs.specs.Placed.{ArePlaces, rows_of};
+    ghost use Rattle.lfs_fs.specs.Ordered.{AreCounted};
     ghost use Rattle.lfs_fs.specs.Mounted.{MountedValue};
 
     ghost Value = { MountedValue };
 
     ghost view = { λ m. record {
-      rows = m.rows.items;
-      thread = m.thread.items;
-      limits = m.limits;
+      outline = m.outline;
+      rows = rows_of m.outline m.order.items;
       free = unused m.used.items;
     } };
 
-    ghost invariant = { λ m. length m.used.items < 2 ^ 32 };
+    ghost invariant = { λ m. (length m.used.items < 2 ^ 32) × ArePlaces m.outline m.order.items × AreCounted m.outline (rows_of m.outline m.order.items) };
 }
 
 /// The `n` least blocks whose flags aren't set.
@@ -57,54 +57,40 @@ fn lowest_unused(alloc: Global, used: &[bool], n: u32) -> Result<Vec<u32>, Alloc
 }
 
 impl Mounted {
-    ghost use Rattle.std.specs.Prelude.{◌≡◌, ◌≢◌, ◌<◌, ◌≤◌, ◌^◌, length, take, count_by, not, All, Some, IfSome, IfNone, slice_get};
-    ghost use Rattle.std.specs.Option.{option_map};
-    ghost use Rattle.lfs_fs.specs.Row.{is_folder};
+    ghost use Rattle.std.specs.Prelude.{◌≡◌, ◌<◌, ◌≤◌, ◌^◌, length, take, IfSome};
+    ghost use Rattle.std.specs.Prelude.{count_by, not};
+    ghost use Rattle.lfs_fs.specs.Entry.{leads};
+    ghost use Rattle.lfs_fs.specs.Listed.{rows_listed};
+    ghost use Rattle.lfs_fs.specs.Ordered.{AreCounted, files_of};
+    ghost use Rattle.lfs_fs.specs.Placed.{ArePlaces, rows_of};
     ghost use Rattle.lfs_fs.specs.Unused.{unused};
 
     /// What is known of an image, with one flag a block that says whether it is used. Takes no memory.
-    pub(crate) fn new(
-        rows: Vec<Row>,
-        thread: Vec<(u32, u32)>,
-        limits: Limits,
-        used: Vec<bool>,
-    ) -> Mounted
-        requires { length used.items < 2 ^ 32 }
-        ensures { result ≡ record {
-          rows = rows.items;
-          thread = thread.items;
-          limits = limits;
-          free = unused used.items;
-        } }
+    pub(crate) fn new(outline: Outline, order: Vec<Place>, used: Vec<bool>) -> Mounted
+        requires places { ArePlaces outline order.items }
+        requires flags { length used.items < 2 ^ 32 }
+        requires counted { AreCounted outline (rows_of outline order.items) }
+        ensures { result ≡ record { outline = outline; rows = rows_of outline order.items; free = unused used.items } }
     {
         Mounted {
-            rows,
-            thread,
-            limits,
+            outline,
+            order,
             used,
         }
     }
 
-    /// What stands at each path, in the order of paths. Takes no memory.
-    pub fn rows(&self) -> &[Row]
-        ensures { result.now ≡ self.now.rows }
+    /// The image's volume less the contents of its chains. Takes no memory.
+    pub fn outline(&self) -> &Outline
+        ensures { result.now ≡ self.now.outline }
     {
-        &self.rows
+        &self.outline
     }
 
-    /// The pairs of the thread in order. Takes no memory.
-    pub fn thread(&self) -> &[(u32, u32)]
-        ensures { result.now ≡ self.now.thread }
+    /// What stands at each path, in the order of paths: the root's row first. Takes no memory.
+    pub fn rows(&self) -> Rows<'_>
+        ensures { rows_listed result ≡ self.now.rows }
     {
-        &self.thread
-    }
-
-    /// The place of a path among the rows. Takes no memory.
-    pub fn find(&self, path: &Path) -> Option<usize>
-        ensures found { IfSome result (λ i. option_map (λ row. row.path) (slice_get self.now.rows i) ≡ Some path.now) }
-        ensures none { IfNone result (All (λ row. row.path ≢ path.now) self.now.rows) }
-    {
-        self.rows.iter().position(|row| row.is_at(path))
+        Rows::new(&self.outline, &self.order)
     }
 
     /// The number of free blocks. Takes no memory.
@@ -122,24 +108,26 @@ impl Mounted {
         lowest_unused(alloc, &self.used, n).ok()
     }
 
-    /// The number of directories, the root among them. Takes no memory.
+    /// The number of directories, the root among them: of rows that show one. Takes no memory.
     pub fn directories(&self) -> usize
-        ensures { result ≡ count_by (λ row. is_folder row.body) self.now.rows }
+        ensures outline { result ≡ length self.now.outline.directories }
+        ensures rows { result ≡ count_by (λ row. leads row.entry) self.now.rows }
     {
-        self.rows.iter().filter(|row| row.is_dir()).count()
+        self.outline.directory_count()
     }
 
-    /// The number of files. Takes no memory.
+    /// The number of files: of entries that lead to no directory, and of rows that show one. Takes no memory.
     pub fn files(&self) -> usize
-        ensures { result ≡ count_by (λ row. not (is_folder row.body)) self.now.rows }
+        ensures outline { result ≡ files_of self.now.outline }
+        ensures rows { result ≡ count_by (λ row. not (leads row.entry)) self.now.rows }
     {
-        self.rows.iter().filter(|row| !row.is_dir()).count()
+        self.order.len() - self.outline.directory_count()
     }
 
     /// The greatest lengths of a name, a file and an attribute. Takes no memory.
     pub fn limits(&self) -> Limits
-        ensures { result ≡ self.now.limits }
+        ensures { result ≡ self.now.outline.limits }
     {
-        self.limits
+        self.outline.limits
     }
 }

@@ -6,26 +6,19 @@ ghost use Rattle.lfs_fs.specs.Mounted.{IsMountOf};
 
 use crate::gathering::{Gathered, gather};
 use crate::mounted::Mounted;
-use crate::walk::walk;
+use crate::order::order_of;
 use lfs_block::{Blocks, MountFault};
 use std::alloc::Global;
 
-/// Judges an image: what stands at each path, the pairs of its thread, its limits and its free blocks, or a cause for which
-/// it doesn't mount. Where several causes hold, the answer is one of them. `Memory` says only that a growth was refused.
+/// Judges an image: its outline, what stands at each path and its free blocks, or a cause for which it doesn't mount. Where several causes hold, the answer is one of them. `Memory` says only that a growth was refused.
 ///
 /// Source: own.
 pub fn mount<B: Blocks>(alloc: Global, blocks: &B) -> Result<Mounted, MountFault>
     ensures mounted { IfOk result (λ m. IsMountOf (B.disk blocks.now) m) }
     ensures refused { IfErr result (λ fault. HasCause (B.disk blocks.now) fault) }
 {
-    let Gathered {
-        folders,
-        thread,
-        used,
-        limits,
-        attributes,
-    } = gather(alloc, blocks)?;
-    let rows = walk(alloc, folders, attributes)?;
+    let Gathered { outline, used } = gather(alloc, blocks)?;
+    let order = order_of(alloc, &outline)?;
     prove!(used.len() == blocks.count() as usize);
-    Ok(Mounted::new(rows, thread, limits, used))
+    Ok(Mounted::new(outline, order, used))
 }

@@ -38,3 +38,14 @@ impl Model for Outline {
 
     ghost invariant = { λ o. Unit };
 }
+
+impl Outline {
+    ghost use Rattle.std.specs.Prelude.{◌≡◌, length};
+
+    /// The number of its directories. Takes no memory.
+    pub(crate) fn directory_count(&self) -> usize
+        ensures { result ≡ length self.now.directories }
+    {
+        self.directories.len()
+    }
+}

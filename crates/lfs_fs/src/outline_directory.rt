@@ -1,6 +1,7 @@
 //! Directories of an outline.
 
-use crate::outline_part::OutlinePart;
+use crate::outline_entry::OutlineEntry;
+use crate::outline_part::{OutlinePart, named_in};
 use std::marker::Model;
 
 /// A first part and the parts that hard tails join to it. Its meaning is the directory of a volume.
@@ -22,4 +23,54 @@ impl Model for OutlineDirectory {
     ghost view = { λ d. record { first = d.first; more = d.more.items } };
 
     ghost invariant = { λ d. Unit };
+}
+
+impl OutlineDirectory {
+    ghost use Rattle.std.specs.Prelude.{◌≡◌, find, length, slice_get};
+    ghost use Rattle.std.specs.Option.{option_map};
+    ghost use Rattle.lfs_fs.specs.Directory.{begins_at, entries, key, parts};
+    ghost use Rattle.lfs_fs.specs.Entry.{is_named};
+
+    /// One of its parts. Takes no memory.
+    pub fn part(&self, index: usize) -> Option<&OutlinePart>
+        ensures { option_map (λ p. p.now) result ≡ slice_get (parts self.now) index }
+    {
+        if index == 0 {
+            Some(&self.first)
+        } else {
+            self.more.get(index - 1)
+        }
+    }
+
+    /// The first of its entries that has a name. Takes no memory.
+    pub fn named(&self, name: &[u8]) -> Option<&OutlineEntry>
+        ensures { option_map (λ e. e.now) result ≡ find (is_named name.now) (entries self.now) }
+    {
+        match self.first.named(name) {
+            Some(entry) => Some(entry),
+            None => named_in(&self.more, name),
+        }
+    }
+
+    /// Whether its first pair has these blocks, the lesser one first. Takes no memory.
+    pub(crate) fn begins_at(&self, pair: (u32, u32)) -> bool
+        ensures { result ≡ begins_at pair self.now }
+    {
+        let (first, second) = self.key();
+        pair.0 == first && pair.1 == second
+    }
+
+    /// The number of its parts. Takes no memory.
+    pub(crate) fn len(&self) -> usize
+        ensures { result ≡ length (parts self.now) }
+    {
+        self.more.len() + 1
+    }
+
+    /// The pair that entries name it by: the lesser block first. Takes no memory.
+    pub(crate) fn key(&self) -> (u32, u32)
+        ensures { result ≡ key self.now }
+    {
+        self.first.key()
+    }
 }

@@ -1,12 +1,14 @@
 //! What stands under a name of a directory, in an outline.
 
+use crate::directory_table::unordered;
+use crate::listed_row::Row;
 use crate::outline_body::OutlineBody;
+use crate::row_body::RowBody;
 use lfs_meta::Attribute;
 use std::marker::Model;
 
 /// What stands under a name of a directory. Its meaning is the entry of a volume, with as many zeros as the contents of
-/// its chain have bytes. As it is
-/// stored its lengths and numbers fit into tags.
+/// its chain have bytes. As it is stored its lengths and numbers fit into tags.
 ///
 /// Source: own.
 #[derive(Debug, Drop)]
@@ -34,4 +36,53 @@ impl Model for OutlineEntry {
       body = outline_body_held e.body;
       attributes = e.attributes.items;
     })) };
+}
+
+impl OutlineEntry {
+    ghost use Rattle.std.specs.Prelude.{◌≡◌};
+    ghost use Rattle.lfs_fs.specs.Entry.{is_named, target};
+    ghost use Rattle.lfs_fs.specs.RowHeld.{row_body_held};
+
+    /// Where its contents are. Takes no memory.
+    fn row_body(&self) -> RowBody<'_>
+        ensures { row_body_held result ≡ self.now.body }
+    {
+        match &self.body {
+            OutlineBody::Held(bytes) => RowBody::Inline(bytes),
+            OutlineBody::Linked { blocks, size } => RowBody::Chain {
+                blocks,
+                size: *size,
+            },
+            OutlineBody::Leads(first, second) => RowBody::Dir(*first, *second),
+        }
+    }
+
+    /// Its row, at a depth. Takes no memory.
+    pub(crate) fn row(&self, depth: usize) -> Row<'_>
+        ensures { result ≡ record { depth = depth; entry = self.now } }
+    {
+        Row {
+            depth,
+            name: &self.name,
+            body: self.row_body(),
+            attributes: &self.attributes,
+        }
+    }
+
+    /// Whether it has a name. Takes no memory.
+    pub(crate) fn is_named(&self, name: &[u8]) -> bool
+        ensures { result ≡ is_named name.now self.now }
+    {
+        name == self.name.as_slice()
+    }
+
+    /// The directory that it leads to, as a set of blocks: the lesser one first. Takes no memory.
+    pub fn target(&self) -> Option<(u32, u32)>
+        ensures { result ≡ target self.now }
+    {
+        match &self.body {
+            OutlineBody::Leads(first, second) => Some(unordered(*first, *second)),
+            _ => None,
+        }
+    }
 }

@@ -1,12 +1,12 @@
 //! Where the contents of a row stand.
 
-/// What a row has: a directory, a file's bytes, or a file's chain with its size.
-#[derive(Debug, Drop)]
-pub enum RowBody {
-    /// A directory.
-    Dir,
+/// What a row has: a file's bytes, a file's chain with its size, or a directory's first pair.
+#[derive(Clone, Copy, Debug, Drop)]
+pub enum RowBody<'a> {
     /// The bytes of a file that stand in its entry.
-    Inline(Vec<u8>),
+    Inline(&'a [u8]),
     /// The blocks of a file from its first on, and its size in bytes.
-    Chain { blocks: Vec<u32>, size: u32 },
+    Chain { blocks: &'a [u32], size: u32 },
+    /// The first pair of a directory.
+    Dir(u32, u32),
 }

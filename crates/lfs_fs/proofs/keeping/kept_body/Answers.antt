@@ -1,7 +1,8 @@
 use Rattle.std.proofs.Common.{subst, sym}
 use Rattle.lfs_meta.specs.BodyHeld.{body_held}
 use Rattle.lfs_meta.specs.declared.body.Body.{Body}
-use Rattle.lfs_fs.specs.Shown.{InBlocks}
+use Rattle.lfs_fs.specs.Entry.{Chain}
+use Rattle.lfs_fs.specs.Outlined.{blank}
 use Rattle.lfs_fs.specs.Used.{AddsBlocks}
 use Rattle.lfs_fs.specs.Reading.{reading_of}
 use Rattle.lfs_fs.specs.Gathering.{KeepsBody}
@@ -13,5 +14,5 @@ returns-in_ok-mark_all-in-Ctz-clause-kept g c =
     let d = g.B.Blocks.disk c.args.blocks.now in
     let blocks = c.in_ok-blocks-in-Ctz.blocks.items in
     let adds = subst (AddsBlocks c.args.used.now c.mark_all.new.used) c.deref.ensures.value c.in_ok-mark_all-in-Ctz.ensures.marked in
-    subst (λ (b : Body). KeepsBody (reading_of d) c.args.used.now c.mark_all.new.used (body_held b) (InBlocks blocks c.in-Ctz.size)) (sym c.in-Ctz.is)
+    subst (λ (b : Body). KeepsBody (reading_of d) c.args.used.now c.mark_all.new.used (body_held b) (Chain blocks (blank c.in-Ctz.size))) (sym c.in-Ctz.is)
     (chain_kept d c.args.used.now c.mark_all.new.used c.in-Ctz.head c.in-Ctz.size blocks c.in_ok-blocks-in-Ctz.ensures.computed (c.contents_have_their_length.ensures d c.in-Ctz.head c.in-Ctz.size blocks c.requires.disk c.in_ok-blocks-in-Ctz.ensures.found) adds)

@@ -1,0 +1,94 @@
+//! Places of entries, looked up and listed.
+
+ghost use Rattle.std.specs.Prelude.{◌≡◌, ◌++◌, OnOk, IfErr, IfSome, length, reverse, slice_get};
+ghost use Rattle.std.specs.Option.{option_map};
+ghost use Rattle.lfs_block.specs.declared.mount_fault.MountFault.TheVariants as MountFault;
+ghost use Rattle.lfs_fs.specs.Entry.{target};
+ghost use Rattle.lfs_fs.specs.Directory.{parts};
+ghost use Rattle.lfs_fs.specs.Placed.{entry_in_directories, listed_at, places_from, places_in};
+
+use crate::outline::Outline;
+use crate::outline_directory::OutlineDirectory;
+use crate::outline_entry::OutlineEntry;
+use crate::place::Place;
+use crate::pushing::push;
+use crate::thread_reading::ROOT;
+use lfs_block::MountFault;
+
+/// The entry at a place of directories.
+pub(crate) fn entry_in_directories<'a>(
+    directories: &'a [OutlineDirectory],
+    place: Place,
+) -> Option<&'a OutlineEntry>
+    ensures { option_map (λ e. e.now) result ≡ entry_in_directories directories.now place }
+{
+    directories
+        .get(place.directory)?
+        .part(place.part)?
+        .entry(place.entry)
+}
+
+/// The directory to which the entry at a place leads, as a set of blocks.
+pub(crate) fn target_of(outline: &Outline, place: Place) -> Option<(u32, u32)>
+    ensures { result ≡ target (listed_at outline.now place).entry }
+{
+    if place.depth == 0 {
+        return Some(ROOT);
+    }
+    entry_in_directories(&outline.directories, place)?.target()
+}
+
+/// Puts the places of a part's entries on a stack, the first one last: `Memory` where the growth is refused.
+fn push_part(
+    stack: &mut Vec<Place>,
+    depth: usize,
+    directory: usize,
+    part: usize,
+    len: usize,
+) -> Result<(), MountFault>
+    ensures pushed { OnOk result (reverse stack.new.items ≡ places_from depth directory part 0 len ++ reverse stack.old.items) }
+    ensures refused { IfErr result (λ fault. fault ≡ MountFault.Memory) }
+{
+    let mut entry = len;
+    while entry > 0 {
+        entry -= 1;
+        push(
+            stack,
+            Place {
+                depth,
+                directory,
+                part,
+                entry,
+            },
+        )?;
+    }
+    Ok(())
+}
+
+/// The number of entries of a directory's part; none where there is no such part.
+fn part_len(directory: &OutlineDirectory, part: usize) -> usize
+    ensures { IfSome (slice_get (parts directory.now) part) (λ p. result ≡ length p.entries) }
+{
+    match directory.part(part) {
+        Some(part) => part.len(),
+        None => 0,
+    }
+}
+
+/// Puts the places of a directory's entries on a stack, the first one last: `Memory` where the growth is refused.
+pub(crate) fn push_directory(
+    stack: &mut Vec<Place>,
+    depth: usize,
+    index: usize,
+    directory: &OutlineDirectory,
+) -> Result<(), MountFault>
+    ensures pushed { OnOk result (reverse stack.new.items ≡ places_in depth index 0 (parts directory.now) ++ reverse stack.old.items) }
+    ensures refused { IfErr result (λ fault. fault ≡ MountFault.Memory) }
+{
+    let mut part = directory.len();
+    while part > 0 {
+        part -= 1;
+        push_part(stack, depth, index, part, part_len(directory, part))?;
+    }
+    Ok(())
+}
