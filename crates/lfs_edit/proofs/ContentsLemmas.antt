@@ -27,6 +27,7 @@ use Rattle.lfs_edit.proofs.LocatedLemmas.{mounted_place, shows_directory}
 use Rattle.lfs_edit.proofs.VerdictKinds.{IsOfVerdict, MayBeOfVerdict, of_first, of_test, of_walk}
 use Rattle.lfs_edit.proofs.Verdicts.{refused_first}
 use Rattle.lfs_edit.proofs.Walks.{walk-append, walk-none, step_some}
+use Rattle.lfs_edit.proofs.MountedThread.{mounted_pairs}
 
 -- ---- the walk of a path where something is
 
@@ -98,7 +99,7 @@ module _ (shows : RowsShowTheTree) (links : HeldAreHeldByLinks) (d : Disk) (disk
 
   -- where no row has the path
   pub refused_missing : (r : Refusal) → All (λ row. row.path ≢ path) m.rows
-      → (r ≡ Memory) ⊎ (located (reading_of d) m.thread path ≡ Nowhere r) ⊎ ((found : Found) × (located (reading_of d) m.thread path ≡ At found)) → RefusesContents d text r
+      → (r ≡ Memory) ⊎ (located (reading_of d) (mounted_pairs m) path ≡ Nowhere r) ⊎ ((found : Found) × (located (reading_of d) (mounted_pairs m) path ≡ At found)) → RefusesContents d text r
   refused_missing r none why = elim why [
     | inl memory ↦ subst (RefusesContents d text) (sym memory) tt
     | inr other ↦ elim other [

@@ -21,6 +21,7 @@ use Rattle.lfs_edit.specs.FileLocated.{IsFilePlaceOr, FilesAreThere}
 use Rattle.lfs_edit.proofs.ThreadFrom.{pairs_of}
 use Rattle.lfs_edit.proofs.HomeAlong.{HomeAlong, home_along}
 use Rattle.lfs_edit.proofs.LocatedLemmas.{SearchedAt, search_at, links_stored, no_hard_tail, ComesTo, ComesToOr, walked_there, home_there, home_walk, last_place}
+use Rattle.lfs_edit.proofs.MountedThread.{mounted_pairs, mounted_thread}
 
 module _ (r : Reading) (v : Volume) (held : HoldsLinks r v) (sound : IsSound v) (path : Path) where
   -- the pairs of the volume's thread
@@ -73,6 +74,6 @@ files_are_there r v held (n ∷ ns) sound =
     file_place r v held sound (n ∷ ns) refl (walked r (pairs_of (thread v.directories)) n ns (unordered root)) (walked_there r v held sound n ns)
 
 -- the same of a mounted image, along the thread that its mount answers
-pub mounted_file_place : (d : Disk) (m : MountedValue) (is : IsMountOf d m) (held : HoldsLinks (reading_of d) is.volume) (path : Path) → IsFilePlaceOr (reading_of d) is.volume held path (file_located (reading_of d) m.thread path)
+pub mounted_file_place : (d : Disk) (m : MountedValue) (is : IsMountOf d m) (held : HoldsLinks (reading_of d) is.volume) (path : Path) → IsFilePlaceOr (reading_of d) is.volume held path (file_located (reading_of d) (mounted_pairs m) path)
 mounted_file_place d m is held path =
-    subst (λ (ps : List Pair). IsFilePlaceOr (reading_of d) is.volume held path (file_located (reading_of d) ps path)) (sym is.thread) (files_are_there (reading_of d) is.volume held path is.sound)
+    subst (λ (ps : List Pair). IsFilePlaceOr (reading_of d) is.volume held path (file_located (reading_of d) ps path)) (sym (mounted_thread d m is)) (files_are_there (reading_of d) is.volume held path is.sound)

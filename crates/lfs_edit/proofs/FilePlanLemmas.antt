@@ -54,6 +54,7 @@ use Rattle.lfs_edit.proofs.PartPlanned.{least_free}
 use Rattle.lfs_edit.proofs.PlanLemmas.{same_found}
 use Rattle.lfs_edit.proofs.Placed.{is_placed, proper_entry}
 use Rattle.lfs_edit.proofs.VerdictKinds.{refuses}
+use Rattle.lfs_edit.proofs.MountedThread.{mounted_pairs, mounted_limits}
 
 -- ---- limits
 
@@ -132,10 +133,10 @@ module _ (laws : CommandLaws) (d : Disk) (disk : IsDisk d) (m : MountedValue) (i
   abbrev held : HoldsLinks (reading_of d) v
   held = laws.by_links (reading_of d) v is.holds
 
-  there : (path : Path) (place : FilePlace) → file_located (reading_of d) m.thread path ≡ At place → IsFilePlaceOr (reading_of d) v held path (At place)
+  there : (path : Path) (place : FilePlace) → file_located (reading_of d) (mounted_pairs m) path ≡ At place → IsFilePlaceOr (reading_of d) v held path (At place)
   there path place at = subst (IsFilePlaceOr (reading_of d) v held path) at (mounted_file_place d m is held path)
 
-  pub refused_place : (path : Path) → IsPathText text path → (r : Refusal) → (r ≡ Memory) ⊎ (file_located (reading_of d) m.thread path ≡ Nowhere r) → RefusesPlan d (Put text bytes) r
+  pub refused_place : (path : Path) → IsPathText text path → (r : Refusal) → (r ≡ Memory) ⊎ (file_located (reading_of d) (mounted_pairs m) path ≡ Nowhere r) → RefusesPlan d (Put text bytes) r
   refused_place path spelled r why = elim why [
     | inl memory ↦ subst (RefusesPlan d (Put text bytes)) (sym memory) tt
     | inr nowhere ↦
@@ -144,11 +145,11 @@ module _ (laws : CommandLaws) (d : Disk) (disk : IsDisk d) (m : MountedValue) (i
         refuses d (Put text bytes) r (refused_nowhere d v text path bytes r is.holds is.sound spelled refused)
   ]
 
-  pub refused_file : (path : Path) → IsPathText text path → (place : FilePlace) → file_located (reading_of d) m.thread path ≡ At place → (n : Name) → last_name path ≡ Some n
-      → (r : Refusal) → file_refusal m.limits n bytes place ≡ Some r → RefusesPlan d (Put text bytes) r
+  pub refused_file : (path : Path) → IsPathText text path → (place : FilePlace) → file_located (reading_of d) (mounted_pairs m) path ≡ At place → (n : Name) → last_name path ≡ Some n
+      → (r : Refusal) → file_refusal m.outline.limits n bytes place ≡ Some r → RefusesPlan d (Put text bytes) r
   refused_file path spelled place at n named r refused =
       refuses d (Put text bytes) r
-      (refused_there laws d disk v is.holds is.sound held text path spelled place (there path place at) n named bytes r (ap (λ l. file_refusal l n bytes place) (sym is.limits) ∙ refused))
+      (refused_there laws d disk v is.holds is.sound held text path spelled place (there path place at) n named bytes r (ap (λ l. file_refusal l n bytes place) (sym (mounted_limits d m is)) ∙ refused))
 
   -- ---- where a file may be put
 
@@ -170,7 +171,7 @@ module _ (laws : CommandLaws) (d : Disk) (disk : IsDisk d) (m : MountedValue) (i
     part_fits = link_fits d disk m is held (found_in place) placed
 
     is_allowed : file_refusal v.limits n bytes place ≡ None
-    is_allowed = ap (λ l. file_refusal l n bytes place) (sym is.limits) ∙ may.allowed
+    is_allowed = ap (λ l. file_refusal l n bytes place) (sym (mounted_limits d m is)) ∙ may.allowed
 
     limits : IsLimits v.limits
     limits = volume_limits (reading_of d) v is.holds

@@ -101,3 +101,4 @@ pub mod FrugalPlans
 pub mod PartsCutLemmas
 pub mod PairWalks
 pub mod RunSplits
+pub mod MountedThread

@@ -34,6 +34,7 @@ use Rattle.lfs_edit.proofs.OneElement.{found_one}
 use Rattle.lfs_edit.proofs.Placed.{led_directory}
 use Rattle.lfs_edit.proofs.ThreadFrom.{pairs_of, Starts, starts}
 use Rattle.lfs_edit.proofs.Searched.{Searched, search_along}
+use Rattle.lfs_edit.proofs.MountedThread.{mounted_pairs, mounted_thread}
 
 -- ---- what an entry shows
 
@@ -255,6 +256,6 @@ located_are_there r v held (n ∷ ns) sound =
     home_place r v held sound (n ∷ ns) (walked r (pairs_of (thread v.directories)) n ns (unordered root)) (walked_there r v held sound n ns)
 
 -- the same of a mounted image, along the thread that its mount answers
-pub mounted_place : (d : Disk) (m : MountedValue) (is : IsMountOf d m) (held : HoldsLinks (reading_of d) is.volume) (path : Path) → IsPlaceOr (reading_of d) is.volume held path (located (reading_of d) m.thread path)
+pub mounted_place : (d : Disk) (m : MountedValue) (is : IsMountOf d m) (held : HoldsLinks (reading_of d) is.volume) (path : Path) → IsPlaceOr (reading_of d) is.volume held path (located (reading_of d) (mounted_pairs m) path)
 mounted_place d m is held path =
-    subst (λ (ps : List Pair). IsPlaceOr (reading_of d) is.volume held path (located (reading_of d) ps path)) (sym is.thread) (located_are_there (reading_of d) is.volume held path is.sound)
+    subst (λ (ps : List Pair). IsPlaceOr (reading_of d) is.volume held path (located (reading_of d) ps path)) (sym (mounted_thread d m is)) (located_are_there (reading_of d) is.volume held path is.sound)

@@ -34,6 +34,7 @@ use Rattle.lfs_edit.proofs.AttributeVolume.{edited_part}
 use Rattle.lfs_edit.proofs.LinkFits.{IsOfImage, link_fits, link_in}
 use Rattle.lfs_edit.proofs.LocatedLemmas.{mounted_place}
 use Rattle.lfs_edit.proofs.VerdictKinds.{refuses}
+use Rattle.lfs_edit.proofs.MountedThread.{mounted_pairs, mounted_limits}
 
 -- ---- why nothing is planned
 
@@ -54,10 +55,10 @@ module _ (laws : CommandLaws) (d : Disk) (disk : IsDisk d) (m : MountedValue) (i
   abbrev held : HoldsLinks (reading_of d) is.volume
   held = laws.by_links (reading_of d) is.volume is.holds
 
-  place : (found : Found) → located (reading_of d) m.thread path ≡ At found → IsPlace (reading_of d) is.volume held path found
+  place : (found : Found) → located (reading_of d) (mounted_pairs m) path ≡ At found → IsPlace (reading_of d) is.volume held path found
   place found at = subst (IsPlaceOr (reading_of d) is.volume held path) at (mounted_place d m is held path)
 
-  pub refused_place : (r : Refusal) → (r ≡ Memory) ⊎ (located (reading_of d) m.thread path ≡ Nowhere r) → RefusesPlan d (asked_as text kind value) r
+  pub refused_place : (r : Refusal) → (r ≡ Memory) ⊎ (located (reading_of d) (mounted_pairs m) path ≡ Nowhere r) → RefusesPlan d (asked_as text kind value) r
   refused_place r why = elim why [
     | inl memory ↦ subst (RefusesPlan d (asked_as text kind value)) (sym memory) tt
     | inr nowhere ↦
@@ -66,16 +67,16 @@ module _ (laws : CommandLaws) (d : Disk) (disk : IsDisk d) (m : MountedValue) (i
         refuses d (asked_as text kind value) r (refused_nowhere d is.volume text path kind value r is.holds is.sound spelled refused)
   ]
 
-  module _ (found : Found) (at : located (reading_of d) m.thread path ≡ At found) where
+  module _ (found : Found) (at : located (reading_of d) (mounted_pairs m) path ≡ At found) where
     pub there : IsSome (find (picks (last_name path)) found.1.entries)
     there = let finds = finds_at (reading_of d) is.volume held path found (place found at) in rw finds.found refl
 
-    same_refusal : entries_refusal m.limits.attribute kind value (last_name path) found.1.entries ≡ Some (attributes_refusal is.volume.limits.attribute kind value (place found at).entry.attributes)
+    same_refusal : entries_refusal m.outline.limits.attribute kind value (last_name path) found.1.entries ≡ Some (attributes_refusal is.volume.limits.attribute kind value (place found at).entry.attributes)
     same_refusal =
-        ap (λ (n : ℕ). entries_refusal n kind value (last_name path) found.1.entries) (ap (λ l. l.attribute) is.limits)
+        ap (λ (n : ℕ). entries_refusal n kind value (last_name path) found.1.entries) (ap (λ l. l.attribute) (mounted_limits d m is))
         ∙ refused_as is.volume.limits.attribute kind value (last_name path) found.1.entries (place found at).entry (finds_at (reading_of d) is.volume held path found (place found at))
 
-    pub refused_entry : (r : Refusal) → (r ≡ Memory) ⊎ (entries_refusal m.limits.attribute kind value (last_name path) found.1.entries ≡ Some (Some r)) → RefusesPlan d (asked_as text kind value) r
+    pub refused_entry : (r : Refusal) → (r ≡ Memory) ⊎ (entries_refusal m.outline.limits.attribute kind value (last_name path) found.1.entries ≡ Some (Some r)) → RefusesPlan d (asked_as text kind value) r
     refused_entry r why = elim why [
       | inl memory ↦ subst (RefusesPlan d (asked_as text kind value)) (sym memory) tt
       | inr refused ↦
@@ -84,7 +85,7 @@ module _ (laws : CommandLaws) (d : Disk) (disk : IsDisk d) (m : MountedValue) (i
           refuses d (asked_as text kind value) r (refused_attribute laws d disk is.volume is.holds is.sound held text path spelled found (place found at) kind value r this)
     ]
 
-    module _ (allowed : entries_refusal m.limits.attribute kind value (last_name path) found.1.entries ≡ Some None) where
+    module _ (allowed : entries_refusal m.outline.limits.attribute kind value (last_name path) found.1.entries ≡ Some None) where
       is_allowed : attributes_refusal is.volume.limits.attribute kind value (place found at).entry.attributes ≡ None
       is_allowed = same_Some (attributes_refusal is.volume.limits.attribute kind value (place found at).entry.attributes) None (sym same_refusal ∙ allowed)
 

@@ -11,6 +11,7 @@ use Rattle.lfs_fs.specs.Sound.{IsSound}
 use Rattle.lfs_fs.specs.Mounted.{MountedValue, IsMountOf}
 use Rattle.lfs_edit.proofs.WrittenLemmas.{part_uses, one_le, sum_thread, pair_used}
 use Rattle.lfs_edit.proofs.ThreadFrom.{pairs_of, root_first}
+use Rattle.lfs_edit.proofs.MountedThread.{mounted_pairs, mounted_thread}
 
 -- both blocks are among so many
 abbrev pub AreBelow : ℕ → Pair → Type 0
@@ -33,9 +34,9 @@ root_within v sound =
     (All-contains (AreBelow v.count) (pairs_of (thread v.directories)) root (thread_within v sound) (root_first v.directories sound.starts)).1
 
 -- what a reader of a mounted image owes
-pub mounted_within : (d : Disk) (m : MountedValue) → IsMountOf d m → (1 < d.count) × All (AreBelow d.count) m.thread
+pub mounted_within : (d : Disk) (m : MountedValue) → IsMountOf d m → (1 < d.count) × All (AreBelow d.count) (mounted_pairs m)
 mounted_within d m is =
     let count : is.volume.count ≡ d.count = ap (λ (v : Volume). v.count) is.holds.is in (
       subst (λ (n : ℕ). 1 < n) count (root_within is.volume is.sound),
-      subst (λ (n : ℕ). All (AreBelow n) m.thread) count (subst (All (AreBelow is.volume.count)) (sym is.thread) (thread_within is.volume is.sound)),
+      subst (λ (n : ℕ). All (AreBelow n) (mounted_pairs m)) count (subst (All (AreBelow is.volume.count)) (sym (mounted_thread d m is)) (thread_within is.volume is.sound)),
     )

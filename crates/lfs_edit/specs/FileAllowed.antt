@@ -17,7 +17,7 @@ pub record MayPut (d : Disk) (m : MountedValue) (text bytes : List ℕ) (place :
   pub path : Path
   pub spelled : IsPathText text path
   pub named : last_name path ≡ Some n
-  pub at : file_located (reading_of d) m.thread path ≡ At place
-  pub allowed : file_refusal m.limits n bytes place ≡ None
+  pub at : file_located (reading_of d) (map (λ p. p.pair) (thread m.outline.directories)) path ≡ At place
+  pub allowed : file_refusal m.outline.limits n bytes place ≡ None
   pub no_directory : IsNoDirectory n place
   pub whole : AllByRecursion IsWhole (found_in place).1.entries

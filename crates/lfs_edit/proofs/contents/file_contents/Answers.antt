@@ -9,6 +9,7 @@ use Rattle.lfs_fs.specs.Reading.{reading_of}
 use Rattle.lfs_edit.proofs.ContentsLemmas.{refused_missing, found_contents, refused_contents}
 use Rattle.lfs_edit.proofs.PlanLemmas.{same_located}
 use Rattle.lfs_edit.proofs.ThreadWithin.{mounted_within}
+use Rattle.lfs_edit.proofs.MountedThread.{mounted_pairs}
 use Rattle.lfs_edit.proofs.contents.file_contents.Goals as goal
 
 pub missing-requires-clause-within : goal.missing-requires-clause-within
@@ -18,7 +19,7 @@ pub returns-in_default-clause-refused : goal.returns-in_default-clause-refused
 returns-in_default-clause-refused g c =
     let path : Path = map (λ (n : Bor Name). n.now) c.in_ok-names.names.items in
     let d : Disk = g.B.Blocks.disk c.args.disk.now in
-    let same = same_located (reading_of d) c.thread.result.now c.args.mounted.now.thread c.deref-in_default.result.now c.in_ok-names.names.items c.thread.ensures c.deref-in_default.ensures.value in
+    let same = same_located (reading_of d) c.thread.result.now (mounted_pairs c.args.mounted.now) c.deref-in_default.result.now c.in_ok-names.names.items c.thread.ensures c.deref-in_default.ensures.value in
     let is_path : c.in_ok-path_of.field-0 ≡ path = c.in_ok-path_of.ensures ∙ ap (map (λ (n : Bor Name). n.now)) c.deref.ensures.value in
     refused_missing c.rows_show_the_tree.ensures c.both_sides_hold.ensures.links d c.size-within_limits.ensures.disk c.args.mounted.now c.requires.mounted c.args.path.now path c.in_ok-names.ensures.spelled
     c.missing.result (subst (λ (p : Path). All (λ row. row.path ≢ p) c.args.mounted.now.rows) is_path c.in_default.ensures.none)
