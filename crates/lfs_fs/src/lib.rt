@@ -44,6 +44,7 @@ mod superblock;
 #[cfg(test)]
 mod tests;
 mod thread;
+mod thread_pairs;
 mod thread_reading;
 mod used;
 mod weight;

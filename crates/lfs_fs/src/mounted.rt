@@ -3,8 +3,10 @@
 ghost use Rattle.std.specs.Prelude.{◌≡◌, ◌<◌, ◌≤◌, ◌^◌, length, take, IfOk};
 ghost use Rattle.lfs_fs.specs.Unused.{unused};
 
+use crate::found::Found;
 use crate::limits::Limits;
 use crate::outline::Outline;
+use crate::path::Path;
 use crate::place::Place;
 use crate::rows::Rows;
 use std::alloc::{AllocError, Global};
@@ -17,11 +19,13 @@ use std::marker::Model;
 pub struct Mounted {
     outline: Outline,
     order: Vec<Place>,
+    thread: Vec<(u32, u32)>,
     used: Vec<bool>,
 }
 
 impl Model for Mounted {
-    ghost use Rattle.std.specs.Prelude.{◌<◌, ◌^◌, length};
+    ghost use Rattle.std.specs.Prelude.{◌≡◌, ◌<◌, ◌^◌, length, map};
+    ghost use Rattle.lfs_fs.specs.Directory.{thread as thread_parts};
     ghost use Rattle.lfs_fs.specs.Unused.{unused};
     ghost use Rattle.lfs_fs.specs.Placed.{ArePlaces, rows_of};
     ghost use Rattle.lfs_fs.specs.Ordered.{AreCounted};
@@ -35,7 +39,9 @@ impl Model for Mounted {
       free = unused m.used.items;
     } };
 
-    ghost invariant = { λ m. (length m.used.items < 2 ^ 32) × ArePlaces m.outline m.order.items × AreCounted m.outline (rows_of m.outline m.order.items) };
+    ghost invariant = { λ m. (length m.used.items < 2 ^ 32) × ArePlaces m.outline m.order.items
+        × AreCounted m.outline (rows_of m.outline m.order.items)
+        × (m.thread.items ≡ map (λ p. p.pair) (thread_parts m.outline.directories)) };
 }
 
 /// The `n` least blocks whose flags aren't set.
@@ -58,7 +64,11 @@ fn lowest_unused(alloc: Global, used: &[bool], n: u32) -> Result<Vec<u32>, Alloc
 
 impl Mounted {
     ghost use Rattle.std.specs.Prelude.{◌≡◌, ◌<◌, ◌≤◌, ◌^◌, length, take, IfSome};
-    ghost use Rattle.std.specs.Prelude.{count_by, not};
+    ghost use Rattle.std.specs.Prelude.{count_by, map, not};
+    ghost use Rattle.lfs_fs.specs.Directory.{thread as thread_parts};
+    ghost use Rattle.std.specs.Option.{option_map};
+    ghost use Rattle.lfs_fs.specs.Tree.{entry_at};
+    ghost use Rattle.lfs_fs.specs.Seen.{seen};
     ghost use Rattle.lfs_fs.specs.Entry.{leads};
     ghost use Rattle.lfs_fs.specs.Listed.{rows_listed};
     ghost use Rattle.lfs_fs.specs.Ordered.{AreCounted, files_of};
@@ -66,15 +76,22 @@ impl Mounted {
     ghost use Rattle.lfs_fs.specs.Unused.{unused};
 
     /// What is known of an image, with one flag a block that says whether it is used. Takes no memory.
-    pub(crate) fn new(outline: Outline, order: Vec<Place>, used: Vec<bool>) -> Mounted
+    pub(crate) fn new(
+        outline: Outline,
+        order: Vec<Place>,
+        thread: Vec<(u32, u32)>,
+        used: Vec<bool>,
+    ) -> Mounted
         requires places { ArePlaces outline order.items }
         requires flags { length used.items < 2 ^ 32 }
+        requires thread { thread.items ≡ map (λ p. p.pair) (thread_parts outline.directories) }
         requires counted { AreCounted outline (rows_of outline order.items) }
         ensures { result ≡ record { outline = outline; rows = rows_of outline order.items; free = unused used.items } }
     {
         Mounted {
             outline,
             order,
+            thread,
             used,
         }
     }
@@ -91,6 +108,20 @@ impl Mounted {
         ensures { rows_listed result ≡ self.now.rows }
     {
         Rows::new(&self.outline, &self.order)
+    }
+
+    /// The pairs of the thread in order. Takes no memory.
+    pub fn thread(&self) -> &[(u32, u32)]
+        ensures { result.now ≡ map (λ p. p.pair) (thread_parts self.now.outline.directories) }
+    {
+        &self.thread
+    }
+
+    /// What stands at a path. Takes no memory.
+    pub fn find(&self, path: &Path) -> Option<Found<'_>>
+        ensures { option_map (seen self.now.outline) result ≡ entry_at self.now.outline path.now }
+    {
+        self.outline.find(path)
     }
 
     /// The number of free blocks. Takes no memory.

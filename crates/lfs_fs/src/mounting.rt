@@ -7,6 +7,7 @@ ghost use Rattle.lfs_fs.specs.Mounted.{IsMountOf};
 use crate::gathering::{Gathered, gather};
 use crate::mounted::Mounted;
 use crate::order::order_of;
+use crate::thread_pairs::thread_of;
 use lfs_block::{Blocks, MountFault};
 use std::alloc::Global;
 
@@ -19,6 +20,7 @@ pub fn mount<B: Blocks>(alloc: Global, blocks: &B) -> Result<Mounted, MountFault
 {
     let Gathered { outline, used } = gather(alloc, blocks)?;
     let order = order_of(alloc, &outline)?;
+    let thread = thread_of(alloc, &outline)?;
     prove!(used.len() == blocks.count() as usize);
-    Ok(Mounted::new(outline, order, used))
+    Ok(Mounted::new(outline, order, thread, used))
 }

@@ -61,6 +61,13 @@ impl OutlinePart {
         self.entries.len()
     }
 
+    /// Its pair. Takes no memory.
+    pub(crate) fn pair(&self) -> (u32, u32)
+        ensures { result ≡ self.now.pair }
+    {
+        self.pair
+    }
+
     /// Its pair as a set: the lesser block first. Takes no memory.
     pub(crate) fn key(&self) -> (u32, u32)
         ensures { result ≡ unordered self.now.pair }

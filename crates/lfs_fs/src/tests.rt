@@ -46,7 +46,7 @@ fn answer_of(
     heads: &[Head],
 ) -> Result<Result<(u32, usize), MountFault>, Fail> {
     let image = image_of(alloc, blocks, heads)?;
-    Ok(mount(alloc, &image).map(|mounted| (mounted.free_count(), mounted.rows().len())))
+    Ok(mount(alloc, &image).map(|mounted| (mounted.free_count(), mounted.rows().count())))
 }
 
 // a case, how many blocks there are, what stands at their heads, and what mounting answers
@@ -315,50 +315,43 @@ fn mount_judges_images(rt: HostRuntime) -> Result<(), Fail> {
     are_judged(&rt, rt.alloc(), &CASES)
 }
 
-// the names of a path, and whether a directory stands there
-type Listed = (&'static [&'static [u8]], bool);
+// a depth, a name, and whether a directory stands there
+type Listed = (usize, &'static [u8], bool);
 
 const TREE_ROWS: [Listed; 6] = [
-    (&[], true),
-    (&[b"ab"], false),
-    (&[b"a"], false),
-    (&[b"d"], true),
-    (&[b"d", b"x"], false),
-    (&[b"e"], false),
+    (0, b"", true),
+    (1, b"ab", false),
+    (1, b"a", false),
+    (1, b"d", true),
+    (2, b"x", false),
+    (1, b"e", false),
 ];
 
 const PARTED_ROWS: [Listed; 5] = [
-    (&[], true),
-    (&[b"a"], false),
-    (&[b"d"], true),
-    (&[b"d", b"x"], false),
-    (&[b"e"], false),
+    (0, b"", true),
+    (1, b"a", false),
+    (1, b"d", true),
+    (2, b"x", false),
+    (1, b"e", false),
 ];
 
-// asserts which names a path has
-fn has_names(rt: &impl Abort, path: &Path, names: &[&[u8]]) {
-    assert_eq!(rt; path.names().len(), names.len());
-    for (found, name) in path.names().iter().zip(names) {
-        assert_eq!(rt; found.as_slice(), *name);
-    }
-}
-
 // asserts what is listed
-fn lists(rt: &impl Abort, rows: &[Row], listed: &[Listed]) {
-    assert_eq!(rt; rows.len(), listed.len());
-    for (row, (names, is_dir)) in rows.iter().zip(listed) {
-        has_names(rt, &row.path, *names);
+fn lists(rt: &impl Abort, mounted: &Mounted, listed: &[Listed]) {
+    assert_eq!(rt; mounted.rows().count(), listed.len());
+    for (row, (depth, name, is_dir)) in mounted.rows().zip(listed) {
+        assert_eq!(rt; row.depth, *depth);
+        assert_eq!(rt; row.name, *name);
         assert_eq!(rt; row.is_dir(), *is_dir);
     }
 }
 
 // asserts that a file has these blocks and this size
-fn is_linked(rt: &impl Abort, row: &Row, chain: &[u32], bytes: u32) {
-    let RowBody::Chain { blocks, size } = &row.body else {
+fn is_linked(rt: &impl Abort, row: &Row<'_>, chain: &[u32], bytes: u32) {
+    let RowBody::Chain { blocks, size } = row.body else {
         panic!(rt; "no chain")
     };
-    assert_eq!(rt; blocks.as_slice(), chain);
-    assert_eq!(rt; *size, bytes);
+    assert_eq!(rt; blocks, chain);
+    assert_eq!(rt; size, bytes);
 }
 
 // an image of 8 blocks, mounted
@@ -375,16 +368,16 @@ const PARTED_HEADS: [Head; 4] = [(0, ROOT), (2, BELOW), (4, MORE), (7, b"\x06\x0
 #[test]
 fn mounted_image_lists_its_tree(rt: HostRuntime) -> Result<(), Fail> {
     let mounted = mounted_of(rt.alloc(), &TREE_HEADS)?;
-    lists(&rt, mounted.rows(), &TREE_ROWS);
+    lists(&rt, &mounted, &TREE_ROWS);
     let file = mounted.rows().last().expect(&rt, "no row");
-    is_linked(&rt, file, &[5, 7], 600);
+    is_linked(&rt, &file, &[5, 7], 600);
     Ok(())
 }
 
 #[test]
 fn mounted_image_lists_directories_in_parts(rt: HostRuntime) -> Result<(), Fail> {
     let mounted = mounted_of(rt.alloc(), &PARTED_HEADS)?;
-    lists(&rt, mounted.rows(), &PARTED_ROWS);
+    lists(&rt, &mounted, &PARTED_ROWS);
     assert_eq!(rt; mounted.thread(), [(0, 1), (4, 5), (2, 3)].as_slice());
     assert_eq!(rt; mounted.free_count(), 0);
     Ok(())
@@ -423,12 +416,17 @@ fn path_of(alloc: Global, names: &[&[u8]]) -> Result<Path, AllocError> {
     Ok(Path::new(path))
 }
 
-// names, and where their path stands in the rows
-type Place = (&'static [&'static [u8]], Option<usize>);
+// the names of a path, and whether a directory stands there, if something does
+type Place = (&'static [&'static [u8]], Option<bool>);
 
-const PLACES: [Place; 3] = [(&[b"d", b"x"], Some(4)), (&[], Some(0)), (&[b"x"], None)];
+const PLACES: [Place; 4] = [
+    (&[b"d", b"x"], Some(false)),
+    (&[b"d"], Some(true)),
+    (&[], Some(true)),
+    (&[b"x"], None),
+];
 
-// asserts where paths stand
+// asserts what stands at paths
 fn are_found(
     rt: &impl Abort,
     alloc: Global,
@@ -437,7 +435,10 @@ fn are_found(
 ) -> Result<(), AllocError> {
     for (names, place) in places {
         let path = path_of(alloc, *names)?;
-        assert_eq!(rt; mounted.find(&path), *place);
+        assert_eq!(rt;
+            mounted.find(&path).map(|found| found.target().is_some()),
+            *place
+        );
     }
     Ok(())
 }
