@@ -13,18 +13,22 @@ use Rattle.lfs_fs.specs.Entry.{Entry, target}
 use Rattle.lfs_fs.specs.Volume.{Volume}
 use Rattle.lfs_fs.specs.Tree.{Node, File, Dir, entry_in, entry_at, node, top, tree}
 use Rattle.lfs_fs.specs.Reading.{reading_of}
-use Rattle.lfs_fs.specs.Row.{Row, row_of}
-use Rattle.lfs_fs.specs.RowShown.{RowsShowTheTree, shown_node}
+use Rattle.lfs_fs.specs.Outlined.{outlined_entry}
+use Rattle.lfs_fs.specs.declared.found.Found.{Found}
+use Rattle.lfs_fs.specs.declared.found.Found.TheVariants as case
+use Rattle.lfs_fs.specs.Seen.{seen}
+use Rattle.lfs_fs.specs.RowShown.{HasBlocks, RowsShowTheTree, shown_body, shown_node}
 use Rattle.lfs_fs.specs.Mounted.{MountedValue, IsMountOf}
 use Rattle.lfs_fs.specs.Stored.{HeldAreHeldByLinks, HoldsLinks}
 use Rattle.lfs_edit.specs.declared.refusal.Refusal.{Refusal}
 use Rattle.lfs_edit.specs.declared.refusal.Refusal.TheVariants.{NotFound, NotADirectory, BadPath, AttrTooLarge, NoAttr, EntryTooLarge, OnePartOnly, Memory, Exists, IsADirectory, NotEmpty, NameTooLong, FileTooLarge, IntoItself, IsRoot, NoSpace}
 use Rattle.lfs_edit.specs.Contents.{IsContents, HasNoFile, RefusesContents, reading_checks}
 use Rattle.lfs_edit.specs.Located.{IsPlace, IsPlaceOr}
-use Rattle.lfs_edit.specs.Place.{Found, At, Nowhere, located}
+use Rattle.lfs_edit.specs.Place.{Found as PlaceFound, At, Nowhere, located}
 use Rattle.lfs_edit.specs.Verdict.{first_refusal, refuse_if, walk_refusal_at, walk_refusal, is_directory}
 use Rattle.lfs_edit.proofs.LocatedLemmas.{mounted_place, shows_directory}
 use Rattle.lfs_edit.proofs.VerdictKinds.{IsOfVerdict, MayBeOfVerdict, of_first, of_test, of_walk}
+use Rattle.lfs_edit.proofs.OutlinesFollow.{entry_at_outlined}
 use Rattle.lfs_edit.proofs.Verdicts.{refused_first}
 use Rattle.lfs_edit.proofs.Walks.{walk-append, walk-none, step_some}
 use Rattle.lfs_edit.proofs.MountedThread.{mounted_pairs}
@@ -97,45 +101,53 @@ module _ (shows : RowsShowTheTree) (links : HeldAreHeldByLinks) (d : Disk) (disk
       refused_check r
       (refused_first (walk_refusal (tree is.volume) [] path ∷ refuse_if (is_none (tree is.volume path)) NotFound ∷ []) (refuse_if (is_directory (tree is.volume path)) IsADirectory ∷ []) r refused)
 
-  -- where no row has the path
-  pub refused_missing : (r : Refusal) → All (λ row. row.path ≢ path) m.rows
-      → (r ≡ Memory) ⊎ (located (reading_of d) (mounted_pairs m) path ≡ Nowhere r) ⊎ ((found : Found) × (located (reading_of d) (mounted_pairs m) path ≡ At found)) → RefusesContents d text r
+  -- where nothing is at the path
+  pub refused_missing : (r : Refusal) → entry_at m.outline path ≡ None
+      → (r ≡ Memory) ⊎ (located (reading_of d) (mounted_pairs m) path ≡ Nowhere r) ⊎ ((found : PlaceFound) × (located (reading_of d) (mounted_pairs m) path ≡ At found)) → RefusesContents d text r
   refused_missing r none why = elim why [
     | inl memory ↦ subst (RefusesContents d text) (sym memory) tt
     | inr other ↦ elim other [
       | inl is_nowhere ↦ nowhere r (subst (IsPlaceOr (reading_of d) is.volume held path) is_nowhere (mounted_place d m is held path))
       | inr at ↦
           let place : IsPlace (reading_of d) is.volume held path at.0 = subst (IsPlaceOr (reading_of d) is.volume held path) at.1 (mounted_place d m is held path) in
-          absurd (All-contains (λ (row : Row). row.path ≢ path) m.rows (row_of path place.entry) none (is.rows.whole path place.entry place.at) refl)
+          absurd (none-some (outlined_entry place.entry) (sym none ∙ ap (λ (v : Volume). entry_at v path) is.outline ∙ entry_at_outlined is.volume path ∙ ap (option_map outlined_entry) place.at))
     ]
   ]
     where
       held : HoldsLinks (reading_of d) is.volume
       held = links (reading_of d) is.volume is.holds
 
-  module _ (row : Row) (there : Contains m.rows row) (at : row.path ≡ path) where
-    shown : tree is.volume path ≡ Some (shown_node d row.body row.attributes)
-    shown = subst (λ (p : Path). tree is.volume p ≡ Some (shown_node d row.body row.attributes)) at (shows d m is row disk there).0
+  module _ (e : Entry) (at : entry_at m.outline path ≡ Some e) where
+    here : (tree is.volume path ≡ Some (shown_node d e)) × HasBlocks d e.body
+    here = shows d m is (record { path = path; entry = e }) disk (is.rows.whole path e at)
 
-    pub found_contents : (bytes : List ℕ) → ((a : Attributes) → shown_node d row.body a ≡ File bytes a) → IsContents d text bytes
+    pub has_blocks : HasBlocks d e.body
+    has_blocks = here.1
+
+    pub found_contents : (bytes : List ℕ) → ((a : Attributes) → shown_body d e.body a ≡ File bytes a) → IsContents d text bytes
     found_contents bytes same = record {
       volume = is.volume;
       holds = is.holds;
       sound = is.sound;
       path = path;
       spelled = spelled;
-      attributes = row.attributes;
-      there = shown ∙ ap Some (same row.attributes);
+      attributes = e.attributes;
+      there = here.0 ∙ ap Some (same e.attributes);
     }
 
-    pub refused_contents : (r : Refusal) → (r ≡ Memory) ⊎ ((r ≡ IsADirectory) × ((a : Attributes) → shown_node d row.body a ≡ Dir a)) → RefusesContents d text r
+    pub refused_contents : (r : Refusal) → (r ≡ Memory) ⊎ ((r ≡ IsADirectory) × ((a : Attributes) → shown_body d e.body a ≡ Dir a)) → RefusesContents d text r
     refused_contents r why = elim why [
       | inl memory ↦ subst (RefusesContents d text) (sym memory) tt
       | inr directory ↦
-          let there_is : tree is.volume path ≡ Some (Dir row.attributes) = shown ∙ ap Some (directory.1 row.attributes) in
+          let there_is : tree is.volume path ≡ Some (Dir e.attributes) = here.0 ∙ ap Some (directory.1 e.attributes) in
           subst (RefusesContents d text) (sym directory.0)
-          (refused_check IsADirectory (directory_refused (tree is.volume) path row.attributes (reached is.volume path (Dir row.attributes) there_is) there_is))
+          (refused_check IsADirectory (directory_refused (tree is.volume) path e.attributes (reached is.volume path (Dir e.attributes) there_is) there_is))
     ]
+
+-- what is found has the same body in any volume
+pub same_body : (v w : Volume) (found : Found) → (seen v found).body ≡ (seen w found).body
+same_body v w case.Root = refl
+same_body v w (case.Entry entry) = refl
 
 -- of the text
 pub refused_text : (d : Disk) (text : List ℕ) (r : Refusal) → (r ≡ Memory) ⊎ ((r ≡ BadPath) × IsNoPath text) → RefusesContents d text r

@@ -21,6 +21,7 @@ use Rattle.lfs_edit.proofs.AttributeVolume.{link_of_volume}
 use Rattle.lfs_edit.proofs.OneLink.{all_split}
 use Rattle.lfs_edit.proofs.ThreadWithin.{mounted_within}
 use Rattle.lfs_edit.proofs.WrittenLemmas.{part_uses, part_there, sum_thread, one_le}
+use Rattle.lfs_edit.proofs.MountedThread.{mounted_thread}
 
 -- ---- a link of some directory
 
@@ -112,7 +113,7 @@ module _ (d : Disk) (disk : IsDisk d) (m : MountedValue) (is : IsMountOf d m) (h
 
   below_count : All (λ q. BlocksFit d.count q.pair) (thread is.volume.directories)
   below_count = All-unmap (λ (q : Pair). BlocksFit d.count q) (λ (p : Part). p.pair) (thread is.volume.directories)
-      (subst (λ (ps : List Pair). All (λ q. BlocksFit d.count q) ps) is.thread (mounted_within d m is).1)
+      (subst (λ (ps : List Pair). All (λ q. BlocksFit d.count q) ps) (mounted_thread d m is) (mounted_within d m is).1)
 
   tail_fits : TailFits found.1.tail
   tail_fits =

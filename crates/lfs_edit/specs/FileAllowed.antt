@@ -1,9 +1,10 @@
 -- A file that may be put into a mounted image (own).
-use Rattle.std.specs.Prelude.{ℕ, ◌≡◌, List, Some, None}
+use Rattle.std.specs.Prelude.{ℕ, ◌≡◌, List, Some, None, map}
 use Rattle.std.specs.List.{AllByRecursion}
 use Rattle.lfs_block.specs.Disk.{Disk}
 use Rattle.lfs_meta.specs.Name.{Name}
 use Rattle.lfs_meta.specs.Spelling.{IsWhole}
+use Rattle.lfs_fs.specs.Directory.{thread}
 use Rattle.lfs_fs.specs.Mounted.{MountedValue}
 use Rattle.lfs_fs.specs.Path.{Path, IsPathText}
 use Rattle.lfs_fs.specs.Reading.{reading_of}

@@ -5,9 +5,9 @@ use Rattle.lfs_block.specs.Disk.{Disk, IsDisk}
 use Rattle.lfs_meta.specs.declared.tail.Tail.TheVariants.{End}
 use Rattle.lfs_meta.specs.Spelling.{part_tags}
 use Rattle.lfs_meta.specs.Writing.{log_written, stored_part}
+use Rattle.lfs_fs.specs.Formatted.{formatted_volume}
 use Rattle.lfs_fs.specs.Mounted.{MountedValue, IsMountOf}
-use Rattle.lfs_fs.specs.Pair.{root}
-use Rattle.lfs_fs.specs.Row.{Folder}
+use Rattle.lfs_fs.specs.Tree.{top}
 use Rattle.lfs_edit.specs.SuperblockBytes.{new_superblock}
 
 -- the image of these bytes
@@ -15,11 +15,10 @@ abbrev pub disk_with : ℕ → ℕ → List ℕ → Disk
 disk_with size count bytes = record { size = size; count = count; bytes = bytes }
 
 -- what a new image mounts to: the root alone, without attributes, with these limits; all blocks but the root's two are free
-abbrev pub new_mount : ℕ → MountedValue
-new_mount count = record {
-  rows = record { path = []; body = Folder; attributes = [] } ∷ [];
-  thread = root ∷ [];
-  limits = record { name = 255; file = 2147483647; attribute = 1022 };
+abbrev pub new_mount : ℕ → ℕ → MountedValue
+new_mount size count = record {
+  outline = formatted_volume size count;
+  rows = record { path = []; entry = top (formatted_volume size count) } ∷ [];
   free = range_with_len 2 (count - 2);
 }
 
@@ -32,4 +31,4 @@ root_block size count =
 pub record IsFormatted (size count : ℕ) (bytes : List ℕ) : Type 0 where
   pub content : bytes ≡ root_block size count ++ replicate (size * count - size) 0xff
   pub disk : IsDisk (disk_with size count bytes)
-  pub mount : IsMountOf (disk_with size count bytes) (new_mount count)
+  pub mount : IsMountOf (disk_with size count bytes) (new_mount size count)

@@ -1,22 +1,25 @@
 //! The contents of a file.
 
-ghost use Rattle.std.specs.Prelude.{◌≡◌, ◌≢◌, ◌⊎◌, ◌<◌, ◌≤◌, All, Contains, IfOk, IfErr, IfSome, IfNone, length, map};
+ghost use Rattle.std.specs.Prelude.{◌≡◌, ◌⊎◌, ◌<◌, ◌≤◌, All, IfOk, IfErr, length, map};
 ghost use Rattle.lfs_file.specs.Content.{content};
 ghost use Rattle.lfs_meta.specs.Attribute.{Attributes};
 ghost use Rattle.lfs_fs.specs.Mounted.{IsMountOf};
 ghost use Rattle.lfs_fs.specs.Reading.{reading_of};
-ghost use Rattle.lfs_fs.specs.RowShown.{HasBlocks, shown_node};
+ghost use Rattle.lfs_fs.specs.OutlineHeld.{outline_body_held};
+ghost use Rattle.lfs_fs.specs.RowShown.{HasBlocks, shown_body};
+ghost use Rattle.lfs_fs.specs.Seen.{seen};
+ghost use Rattle.lfs_fs.specs.Volume.{Volume};
 ghost use Rattle.lfs_fs.specs.Tree.{Dir, File};
 ghost use Rattle.lfs_edit.specs.declared.refusal.Refusal.TheVariants.{IsADirectory, Memory};
 ghost use Rattle.lfs_edit.specs.Contents.{IsContents, RefusesContents};
-ghost use Rattle.lfs_edit.specs.Place.{At, Found, Nowhere, located};
+ghost use Rattle.lfs_edit.specs.Place.{At, Found as PlaceFound, Nowhere, located};
 
 use crate::paths::names_of;
 use crate::place::locate;
 use crate::refusal::Refusal;
 use lfs_block::Blocks;
 use lfs_file::read_file;
-use lfs_fs::{Mounted, Path, Row, RowBody, both_sides_hold, rows_show_the_tree};
+use lfs_fs::{Found, Mounted, OutlineBody, Path, both_sides_hold, rows_show_the_tree};
 use std::alloc::{AllocError, Global};
 
 /// The path of these names.
@@ -28,15 +31,6 @@ fn path_of(alloc: Global, names: &[&[u8]]) -> Result<Path, AllocError>
         parts.push(Vec::from_slice(alloc, name)?)?;
     }
     Ok(Path::new(parts))
-}
-
-/// The row of a path.
-fn row_at<'a>(mounted: &'a Mounted, path: &Path) -> Option<&'a Row>
-    ensures found { IfSome result (λ row. Contains mounted.now.rows row.now × (row.now.path ≡ path.now)) }
-    ensures none { IfNone result (All (λ row. row.path ≢ path.now) mounted.now.rows) }
-{
-    let index = mounted.find(path)?;
-    mounted.rows().get(index)
 }
 
 /// The contents of a file of `size` bytes in these blocks. The caller owes that they are on the disk, and no more than it
@@ -58,16 +52,32 @@ fn joined<B: Blocks>(
     Ok(bytes)
 }
 
-/// The contents of the file that a row shows: `IsADirectory` where it shows a directory, else `Memory` alone.
-fn contents_of<B: Blocks>(alloc: Global, disk: &B, row: &Row) -> Result<Vec<u8>, Refusal>
-    requires { HasBlocks (B.disk disk.now) row.now.body }
-    ensures bytes { IfOk result (λ bytes. (a : Attributes) → shown_node (B.disk disk.now) row.now.body a ≡ File bytes.items a) }
-    ensures refused { IfErr result (λ refusal. (refusal ≡ Memory) ⊎ ((refusal ≡ IsADirectory) × ((a : Attributes) → shown_node (B.disk disk.now) row.now.body a ≡ Dir a))) }
+/// The contents of the file whose body this is: `IsADirectory` where it is a directory's, else `Memory` alone. The caller owes
+/// that its blocks are on the disk, and no more than it has.
+fn contents_of<B: Blocks>(alloc: Global, disk: &B, body: &OutlineBody) -> Result<Vec<u8>, Refusal>
+    requires { HasBlocks (B.disk disk.now) (outline_body_held body.now) }
+    ensures bytes { IfOk result (λ bytes. (a : Attributes) → shown_body (B.disk disk.now) (outline_body_held body.now) a ≡ File bytes.items a) }
+    ensures refused { IfErr result (λ refusal. (refusal ≡ Memory)
+        ⊎ ((refusal ≡ IsADirectory) × ((a : Attributes) → shown_body (B.disk disk.now) (outline_body_held body.now) a ≡ Dir a))) }
 {
-    match &row.body {
-        RowBody::Dir => Err(Refusal::IsADirectory),
-        RowBody::Inline(bytes) => Ok(Vec::from_slice(alloc, bytes)?),
-        RowBody::Chain { blocks, size } => Ok(joined(alloc, disk, blocks, *size)?),
+    match body {
+        OutlineBody::Held(bytes) => Ok(Vec::from_slice(alloc, bytes)?),
+        OutlineBody::Linked { blocks, size } => Ok(joined(alloc, disk, blocks, *size)?),
+        OutlineBody::Leads(..) => Err(Refusal::IsADirectory),
+    }
+}
+
+/// The contents of what stands at a path: `IsADirectory` where it is a directory, else `Memory` alone. The caller owes what
+/// `contents_of` asks.
+fn contents_found<B: Blocks>(alloc: Global, disk: &B, found: Found<'_>) -> Result<Vec<u8>, Refusal>
+    requires { (v : Volume) → HasBlocks (B.disk disk.now) (seen v found).body }
+    ensures bytes { IfOk result (λ bytes. (v : Volume) (a : Attributes) → shown_body (B.disk disk.now) (seen v found.entry).body a ≡ File bytes.items a) }
+    ensures refused { IfErr result (λ refusal. (refusal ≡ Memory)
+        ⊎ ((refusal ≡ IsADirectory) × ((v : Volume) (a : Attributes) → shown_body (B.disk disk.now) (seen v found.entry).body a ≡ Dir a))) }
+{
+    match found {
+        Found::Root => Err(Refusal::IsADirectory),
+        Found::Entry(entry) => contents_of(alloc, disk, &entry.body),
     }
 }
 
@@ -77,7 +87,7 @@ fn missing<B: Blocks>(alloc: Global, disk: &B, thread: &[(u32, u32)], names: &[&
     requires within { All (λ p. (p.0 < (B.disk disk.now).count) × (p.1 < (B.disk disk.now).count)) thread.now }
     ensures { (result ≡ Memory)
         ⊎ (located (reading_of (B.disk disk.now)) thread.now (map (λ n. n.now) names.now) ≡ Nowhere result)
-        ⊎ ((found : Found) × (located (reading_of (B.disk disk.now)) thread.now (map (λ n. n.now) names.now) ≡ At found)) }
+        ⊎ ((found : PlaceFound) × (located (reading_of (B.disk disk.now)) thread.now (map (λ n. n.now) names.now) ≡ At found)) }
 {
     match locate(alloc, disk, thread, names) {
         Ok(_) => Refusal::NotFound,
@@ -105,8 +115,8 @@ pub fn file_contents<B: Blocks>(
     both_sides_hold();
     let _within_limits = disk.size();
     let names = names_of(alloc, path)?;
-    let Some(row) = row_at(mounted, &path_of(alloc, &names)?) else {
+    let Some(found) = mounted.find(&path_of(alloc, &names)?) else {
         return Err(missing(alloc, disk, mounted.thread(), &names));
     };
-    contents_of(alloc, disk, row)
+    contents_found(alloc, disk, found)
 }

@@ -12,7 +12,7 @@ pub each-preserved : goal.each-preserved
 each-preserved c =
     let whole : List (List Entry) = runs_after weight c.args.room c.args.taken c.args.len c.args.entries.items in
     let before = subst (IsSplitTo whole c.args.room (map (λ run. run.items) c.each.splitting.done.items) c.each.splitting.run.items c.each.splitting.taken c.each.splitting.len)
-          c.in-Some.ensures.steps.0 c.each.invariant.split in
+    c.in-Some.ensures.steps.0 c.each.invariant.split in
     record {
       counted = omega (arith, ap (λ (x : List Entry). length x) c.in-Some.ensures.steps.0, c.in-Some.ensures.steps.1);
       split = c.in_ok-add.ensures whole (into_iter_items c.next.new.self) before;
