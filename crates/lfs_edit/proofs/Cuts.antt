@@ -158,11 +158,11 @@ cut_begins k chosen v d = ap (λ (q : Pair). same_pair k (unordered q)) (head_pa
 
 -- ---- all directories
 
-All-left : {X : Type 0} (P : X → Type 0) (xs ys : List X) → All P (xs ++ ys) → All P xs
+pub All-left : {X : Type 0} (P : X → Type 0) (xs ys : List X) → All P (xs ++ ys) → All P xs
 All-left P [] ys h = All-nil P
 All-left P (x ∷ xs) ys h = All-cons P x xs (All-head P x (xs ++ ys) h) (All-left P xs ys (All-tail P x (xs ++ ys) h))
 
-All-right : {X : Type 0} (P : X → Type 0) (xs ys : List X) → All P (xs ++ ys) → All P ys
+pub All-right : {X : Type 0} (P : X → Type 0) (xs ys : List X) → All P (xs ++ ys) → All P ys
 All-right P [] ys h = h
 All-right P (x ∷ xs) ys h = All-right P xs ys (All-tail P x (xs ++ ys) h)
 
@@ -170,7 +170,7 @@ abbrev pub cut_all : (Part → List Pair) → Volume → List Directory → List
 cut_all chosen v ds = map (cut_directory chosen v) ds
 
 -- the parts of each directory have enough pairs
-enough_each : (chosen : Part → List Pair) (v : Volume) (ds : List Directory) → All (HasEnough chosen v) (thread ds) → All (λ d. All (HasEnough chosen v) (parts d)) ds
+pub enough_each : (chosen : Part → List Pair) (v : Volume) (ds : List Directory) → All (HasEnough chosen v) (thread ds) → All (λ d. All (HasEnough chosen v) (parts d)) ds
 enough_each chosen v [] enough = All-nil (λ d. All (HasEnough chosen v) (parts d))
 enough_each chosen v (d ∷ ds) enough =
     let both : All (HasEnough chosen v) (parts d ++ thread ds) = subst (All (HasEnough chosen v)) (flat_map-cons parts d ds) enough in
@@ -227,7 +227,7 @@ cut_effect join chosen v ds enough = record {
 }
 
 -- what is said of each directory's entries stays
-cut_all_entries : (P : List Entry → Type 0) → RunsJoin Entry → (chosen : Part → List Pair) (v : Volume) (ds : List Directory) → All (λ d. All (HasEnough chosen v) (parts d)) ds
+pub cut_all_entries : (P : List Entry → Type 0) → RunsJoin Entry → (chosen : Part → List Pair) (v : Volume) (ds : List Directory) → All (λ d. All (HasEnough chosen v) (parts d)) ds
     → All (λ d. P (entries d)) ds → All (λ d. P (entries d)) (cut_all chosen v ds)
 cut_all_entries P join chosen v [] enough h = All-nil (λ d. P (entries d))
 cut_all_entries P join chosen v (d ∷ ds) enough h =

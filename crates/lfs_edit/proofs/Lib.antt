@@ -102,3 +102,5 @@ pub mod PartsCutLemmas
 pub mod PairWalks
 pub mod RunSplits
 pub mod MountedThread
+pub mod KnownBodies
+pub mod CommandsWritten

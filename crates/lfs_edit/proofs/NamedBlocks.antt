@@ -261,7 +261,7 @@ set_uses_thread n ds =
     sym (sum_over (one_use n) (λ (p : Part). if p.dirty then pair_times n p.pair else 0) (λ (l : Link). l.part) (λ l. refl) (links ds))
     ∙ ap (set_total (pair_times n)) (parts_of_links ds)
 
-supplies_once : (v : Volume) (c : Command) (s : Supplies) (n : ℕ) → times n (content_blocks v c s) + made_total (pair_times n) c s ≡ supply_uses v c s n
+pub supplies_once : (v : Volume) (c : Command) (s : Supplies) (n : ℕ) → times n (content_blocks v c s) + made_total (pair_times n) c s ≡ supply_uses v c s n
 supplies_once v (Mkdir p) s n = omega arith
 supplies_once v (Put p bytes) s n = omega (arith, contents_by n bytes s.blocks (nat_le (length bytes) (most_inline v.size)))
 supplies_once v (Rm p) s n = refl

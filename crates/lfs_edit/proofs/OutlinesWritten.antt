@@ -73,7 +73,7 @@ outline_there w l there =
 
 -- ---- what isn't written
 
-none_named : (n : ℕ) (cs : List Change) → times n (changed_blocks cs) ≡ 0 → AllByRecursion (λ c. c.number ≢ n) cs
+pub none_named : (n : ℕ) (cs : List Change) → times n (changed_blocks cs) ≡ 0 → AllByRecursion (λ c. c.number ≢ n) cs
 none_named n [] none = tt
 none_named n (c ∷ cs) none = (λ same. differ same (omega (arith, none, times_cons n c.number (changed_blocks cs))), none_named n cs (omega (arith, none, times_cons n c.number (changed_blocks cs))))
   where

@@ -44,3 +44,4 @@ pub mod PartsCut
 pub mod PairWalk
 pub mod WalkRefusal
 pub mod Splitting
+pub mod PlansWritten

@@ -5,10 +5,12 @@ ghost use Rattle.lfs_edit.specs.EditedOutline.{OutlinesFollow};
 ghost use Rattle.lfs_edit.specs.JudgedAlike.{OutlinesAreJudgedAlike, OutlinesTakeSameRoom, PairsAreChosenAlike};
 ghost use Rattle.lfs_edit.specs.OutlineLaws.{LinksAreAdded, LinksAreLeft, OutlinesAreWritten};
 ghost use Rattle.lfs_edit.specs.PlansHold.{BlocksAreTaken, BlocksAreWrittenOnce, PlansAreFrugal, PlansHold};
+ghost use Rattle.lfs_edit.specs.PlansWritten.{CommandsAreWritten};
 
 use crate::laws::{commands_are_frugal, cuts_follow, written_volumes_are_held};
 use lfs_block::applied_patches_change_their_blocks;
-use lfs_fs::both_sides_hold;
+use lfs_file::{chains_stay_on_their_blocks, contents_have_their_length, files_have_one_chain};
+use lfs_fs::{both_sides_hold, entries_are_cut_greedily};
 
 /// A law: the outline of the volume that a command leaves is what the command makes of the outline. Takes no memory.
 ///
@@ -83,3 +85,18 @@ pub fn written_blocks_are_taken()
 pub fn plans_are_frugal()
     ensures { PlansAreFrugal }
 {}
+
+/// A law: where an accepted command's new contents and the links of what it leaves, cut, are written, its outline is: the chains of
+/// the volume stay, and so do the root's attributes where its first part does. Takes no memory.
+///
+/// Source: own.
+pub fn commands_are_written()
+    ensures { CommandsAreWritten }
+{
+    cuts_follow();
+    entries_are_cut_greedily();
+    applied_patches_change_their_blocks();
+    files_have_one_chain();
+    contents_have_their_length();
+    chains_stay_on_their_blocks();
+}

@@ -1,0 +1,43 @@
+-- What is to be shown of the bytes that are written for a command (own).
+use Rattle.std.specs.Prelude.{◌≡◌, Bool, List}
+use Rattle.lfs_block.specs.Change.{Change}
+use Rattle.lfs_block.specs.Disk.{Disk, IsDisk}
+use Rattle.lfs_block.specs.Patch.{ChangeSet, IsPatch, AgreesOld, applied}
+use Rattle.lfs_meta.specs.Body.{Pair}
+use Rattle.lfs_fs.specs.Directory.{Part}
+use Rattle.lfs_fs.specs.Outlined.{outlined}
+use Rattle.lfs_fs.specs.Volume.{Volume}
+use Rattle.lfs_fs.specs.Thread.{links}
+use Rattle.lfs_fs.specs.Reading.{Reading, reading_of}
+use Rattle.lfs_fs.specs.Stored.{HoldsLinks}
+use Rattle.lfs_edit.specs.Command.{Command, Mkdir, Put, Rm, Mv, SetAttr, RmAttr}
+use Rattle.lfs_edit.specs.Supplies.{Supplies, new_body}
+use Rattle.lfs_edit.specs.Edited.{edited}
+use Rattle.lfs_edit.specs.Cut.{cut}
+use Rattle.lfs_edit.specs.Accepted.{IsAccepted, AreChosen}
+use Rattle.lfs_edit.specs.WrittenLinks.{changed_blocks, AreWritten}
+use Rattle.lfs_edit.specs.OutlineLaws.{IsThere, WritesOutline}
+use Rattle.lfs_edit.specs.PlansHold.{content_blocks}
+
+-- a file's new contents are there
+abbrev pub NewIsThere : Reading → Volume → Command → Supplies → Type 0
+NewIsThere r v (Mkdir p) s = Unit {0}
+NewIsThere r v (Put p bytes) s = IsThere r (new_body v s bytes)
+NewIsThere r v (Rm p) s = Unit {0}
+NewIsThere r v (Mv p q) s = Unit {0}
+NewIsThere r v (SetAttr p k value) s = Unit {0}
+NewIsThere r v (RmAttr p k) s = Unit {0}
+
+-- A patch writes for a command: blocks of new contents, which are there, and the links of the outline of what the command leaves, cut.
+pub record WritesCommand (d : Disk) (v : Volume) (held : HoldsLinks (reading_of d) v) (c : Command) (s : Supplies) (chosen : Part → List Pair) (is_new : Pair → Bool) (base : List Change) (p : ChangeSet) : Type 0 where
+  pub disk : IsDisk d
+  pub patch : IsPatch p
+  pub stands : AgreesOld p d
+  pub contents : changed_blocks base ≡ content_blocks v c s
+  pub written : AreWritten d held.bytes (cut chosen (edited v c s)).attributes is_new base (links (outlined (cut chosen (edited v c s))).directories) p.changes
+  pub there : NewIsThere (reading_of (applied p d)) v c s
+
+-- the law: for an accepted command nothing else is to be shown
+abbrev pub CommandsAreWritten : Type 0
+CommandsAreWritten = (d : Disk) (v : Volume) (held : HoldsLinks (reading_of d) v) (c : Command) (s : Supplies) (chosen : Part → List Pair) (is_new : Pair → Bool) (base : List Change) (p : ChangeSet)
+    → IsAccepted v c s → AreChosen v c s chosen → WritesCommand d v held c s chosen is_new base p → WritesOutline d v (cut chosen (edited v c s)) held is_new base p
