@@ -104,3 +104,5 @@ pub mod RunSplits
 pub mod MountedThread
 pub mod KnownBodies
 pub mod CommandsWritten
+pub mod LeastBlocks
+pub mod LaidContents

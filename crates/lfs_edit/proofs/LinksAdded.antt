@@ -1,5 +1,5 @@
 -- Links of an outline written one after another.
-use Rattle.std.proofs.Common.{◌≡◌, ◌⊎◌, ℕ, ◌+◌, ◌≤◌, ◌==◌, Bool, true, false, cond, List, [], ◌∷◌, ◌++◌, ap, sym, ◌∙◌, subst, arith, inl, inr, Some}
+use Rattle.std.proofs.Common.{◌≡◌, ◌⊎◌, ℕ, ◌+◌, ◌≤◌, ◌==◌, Bool, true, false, cond, List, [], ◌∷◌, ◌++◌, ap, sym, ◌∙◌, subst, arith, inl, inr, Some, refl}
 use Rattle.std.specs.Prelude.{Contains, if◌then◌else◌}
 use Rattle.std.proofs.lemmas.Bool.Decides.{nat_tests}
 use Rattle.std.proofs.lemmas.Grind.{flat_map-append}
@@ -12,8 +12,8 @@ use Rattle.lfs_meta.specs.Writing.{other_number, part_in}
 use Rattle.lfs_fs.specs.Directory.{Part}
 use Rattle.lfs_fs.specs.Thread.{Link}
 use Rattle.lfs_fs.specs.Uses.{times, pair_uses}
-use Rattle.lfs_edit.specs.WrittenLinks.{block_after, part_after, written_blocks, set_blocks, links_blocks, set_uses, link_part, MakesLink}
-use Rattle.lfs_edit.specs.OutlineLaws.{LinksAreAdded, LinksAreLeft}
+use Rattle.lfs_edit.specs.WrittenLinks.{changed_blocks, block_after, part_after, written_blocks, set_blocks, links_blocks, set_uses, link_part, MakesLink}
+use Rattle.lfs_edit.specs.OutlineLaws.{LinksAreAdded, LinksAreFree, LinksAreLeft, NoLinksAreWritten}
 use Rattle.lfs_edit.proofs.BlockLemmas.{other_is_one}
 use Rattle.lfs_edit.proofs.KeptLinks.{contains_first, contains-cons, contains_cases}
 use Rattle.lfs_edit.proofs.WrittenLemmas.{one_le}
@@ -138,4 +138,37 @@ links_are_left d bytes attributes is_new base ls l cs unset written = record {
     | inl before ↦ written.makes m before set
     | inr last ↦ absurd (true-false (sym set ∙ ap (λ (x : Link). x.part.dirty) (contains_one l m last) ∙ unset))
   ];
+}
+
+-- what is written of links is within the uses of their pairs
+written_uses : (d : Disk) (is_new : Pair → Bool) (n : ℕ) (ls : List Link) → times n (links_blocks d is_new ls) ≤ set_uses n ls
+written_uses d is_new n [] = omega arith
+written_uses d is_new n (l ∷ ls) =
+    omega (arith, times_append n (set_blocks d is_new l.part) (links_blocks d is_new ls), one_by l.part.dirty refl, written_uses d is_new n ls, sum_by-cons (one_use n) l ls)
+  where
+    one_by : (t : Bool) → l.part.dirty ≡ t → times n (set_blocks d is_new l.part) ≤ one_use n l
+    one_by true is = omega (arith, ap (times n) (set_is d is_new l.part true is), set_use n l is, written_within d is_new l.part.pair n)
+    one_by false is = omega (arith, ap (times n) (set_is d is_new l.part false is))
+
+pub links_are_free : LinksAreFree
+links_are_free d bytes attributes is_new base ls l old set once written = record {
+  rising = written.rising;
+  made = written.made;
+  first = unnamed l.part.pair.0 (first_used l.part.pair);
+  second = unnamed l.part.pair.1 (second_used l.part.pair);
+}
+  where
+    unnamed : (n : ℕ) → 1 ≤ pair_uses n l.part → times n (changed_blocks old) ≡ 0
+    unnamed n used = omega (arith, used, once n, written.named n, uses_behind n ls l, set_use n l set, written_uses d is_new n ls)
+
+none_there : {X : Type 0} (x : X) → Contains [] x → ⊥
+none_there x there = omega arith
+
+pub no_links_are_written : NoLinksAreWritten
+no_links_are_written d bytes attributes is_new base rising made = record {
+  rising = rising;
+  made = made;
+  named = λ n. omega arith;
+  kept = λ n some. refl;
+  makes = λ l there set. absurd (none_there l there);
 }

@@ -40,6 +40,7 @@ use Rattle.lfs_edit.proofs.KeptLinks.{contains_first, contains-cons}
 use Rattle.lfs_edit.proofs.LinksAdded.{times_cons, times_append, first_used, one_use, set_is}
 use Rattle.lfs_edit.proofs.OneElement.{found_one}
 use Rattle.lfs_edit.proofs.OutlineRoom.{sum_over}
+use Rattle.lfs_edit.proofs.OutlinesWritten.{set_uses_outlined}
 use Rattle.lfs_edit.proofs.PairTotals.{parts_total, total, total_cons, link_total, last_total, made_total, edited_total}
 use Rattle.lfs_edit.proofs.Placed.{IsPlaced, is_placed}
 use Rattle.lfs_edit.proofs.WrittenLemmas.{part_uses, sum_thread, one_le, parts_of_links}
@@ -50,7 +51,7 @@ pub sum_le : {X : Type 0} (f g : X → ℕ) → ((x : X) → f x ≤ g x) → (x
 sum_le f g le [] = omega arith
 sum_le f g le (x ∷ xs) = omega (arith, le x, sum_le f g le xs, sum_by-cons f x xs, sum_by-cons g x xs)
 
-sum_zero : {X : Type 0} (f : X → ℕ) (xs : List X) → ((x : X) → Contains xs x → f x ≡ 0) → sum_by f xs ≡ 0
+pub sum_zero : {X : Type 0} (f : X → ℕ) (xs : List X) → ((x : X) → Contains xs x → f x ≡ 0) → sum_by f xs ≡ 0
 sum_zero f [] none = refl
 sum_zero f (x ∷ xs) none = omega (arith, sum_by-cons f x xs, none x (contains_first x xs), sum_zero f xs (λ y there. none y (contains-cons x xs y there)))
 
@@ -69,13 +70,13 @@ pairs_within n v =
     let each : (p : Part) → pair_times n p.pair ≤ part_uses n p = λ p. omega arith in
     omega (arith, sum_le (λ (p : Part). pair_times n p.pair) (part_uses n) each (thread v.directories), sum_thread n v.directories)
 
-not_new : (v : Volume) (p : Part) → Contains (thread v.directories) p → is_new_to v p.pair ≡ false
+pub not_new : (v : Volume) (p : Part) → Contains (thread v.directories) p → is_new_to v p.pair ≡ false
 not_new v p there =
     let le : part_uses p.pair.0 p ≤ sum_by (part_uses p.pair.0) (thread v.directories) = one_le (part_uses p.pair.0) (thread v.directories) p there in
     let some : 1 ≤ uses p.pair.0 v = omega (arith, le, first_used p.pair, sum_thread p.pair.0 v.directories) in
     grind (arith, nat_tests)
 
-new_is : (v : Volume) (pair : Pair) → uses pair.0 v ≡ 0 → is_new_to v pair ≡ true
+pub new_is : (v : Volume) (pair : Pair) → uses pair.0 v ≡ 0 → is_new_to v pair ≡ true
 new_is v pair none = grind (arith, nat_tests)
 
 no_new_pairs : (v : Volume) (n : ℕ) → total (new_times v n) v.directories ≡ 0
@@ -277,6 +278,7 @@ blocks_are_written_once v c s chosen ok pairs n =
     ap (parts_total (pair_times n)) (cut_thread chosen w w.directories) ∙ all_uses n chosen w (thread w.directories) pairs.enough in
     omega (
       arith,
+      set_uses_outlined n (cut chosen w),
       set_uses_thread n ds,
       set_within (pair_times n) (thread ds),
       after,

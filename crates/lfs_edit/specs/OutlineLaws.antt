@@ -1,6 +1,7 @@
 -- Laws of what is written of an outline (own).
 use Rattle.std.specs.Prelude.{◌≡◌, ℕ, ◌<◌, ◌≤◌, ◌+◌, Bool, true, false, List, [], ◌∷◌, ◌++◌, length, Some, Contains}
-use Rattle.lfs_block.specs.Change.{Change}
+use Rattle.std.specs.List.{AllByRecursion}
+use Rattle.lfs_block.specs.Change.{Change, IsRising}
 use Rattle.lfs_block.specs.Disk.{Disk, IsDisk}
 use Rattle.lfs_block.specs.Patch.{ChangeSet, IsPatch, AgreesOld, applied}
 use Rattle.lfs_meta.specs.Attribute.{Attributes}
@@ -15,13 +16,24 @@ use Rattle.lfs_fs.specs.Uses.{times, uses}
 use Rattle.lfs_fs.specs.Reading.{Reading, reading_of}
 use Rattle.lfs_fs.specs.Stored.{HoldsLinks}
 use Rattle.lfs_edit.specs.Written.{Writes}
-use Rattle.lfs_edit.specs.WrittenLinks.{changed_blocks, set_uses, AddsLink, AreWritten}
+use Rattle.lfs_edit.specs.WrittenLinks.{changed_blocks, set_uses, CanBeMade, IsFreeFor, AddsLink, AreWritten}
 
 -- the law: a link that is set is written behind others, where no two of them, nor the base, use one block
 abbrev pub LinksAreAdded : Type 0
 LinksAreAdded = (d : Disk) (bytes : List ℕ) (attributes : Attributes) (is_new : Pair → Bool) (base : List Change) (ls : List Link) (l : Link) (old new : List Change)
     → l.part.dirty ≡ true → ((n : ℕ) → times n (changed_blocks base) + set_uses n (ls ++ l ∷ []) ≤ 1)
     → AreWritten d bytes attributes is_new base ls old → AddsLink d bytes attributes is_new l old new → AreWritten d bytes attributes is_new base (ls ++ l ∷ []) new
+
+-- the law: there is no change of its pair's blocks before
+abbrev pub LinksAreFree : Type 0
+LinksAreFree = (d : Disk) (bytes : List ℕ) (attributes : Attributes) (is_new : Pair → Bool) (base : List Change) (ls : List Link) (l : Link) (old : List Change)
+    → l.part.dirty ≡ true → ((n : ℕ) → times n (changed_blocks base) + set_uses n (ls ++ l ∷ []) ≤ 1)
+    → AreWritten d bytes attributes is_new base ls old → IsFreeFor d l.part.pair old
+
+-- the law: the base alone writes no link
+abbrev pub NoLinksAreWritten : Type 0
+NoLinksAreWritten = (d : Disk) (bytes : List ℕ) (attributes : Attributes) (is_new : Pair → Bool) (base : List Change) → IsRising base → AllByRecursion (CanBeMade d) base
+    → AreWritten d bytes attributes is_new base [] base
 
 -- the law: one that isn't set asks for no change
 abbrev pub LinksAreLeft : Type 0

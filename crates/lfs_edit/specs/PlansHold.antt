@@ -1,26 +1,29 @@
 -- What a written outline of an accepted command leaves, and which blocks it is written to (own).
-use Rattle.std.specs.Prelude.{◌≡◌, ℕ, ◌+◌, ◌≤◌, ◌==◌, ◌&&◌, not, nat_le, Bool, List, [], All, Contains, if◌then◌else◌, length, map, take}
+use Rattle.std.specs.Prelude.{◌≡◌, ℕ, ◌+◌, ◌<◌, ◌≤◌, ◌==◌, ◌&&◌, not, nat_le, Bool, false, List, [], All, Contains, if◌then◌else◌, length, map, take}
 use Rattle.std.specs.List.{filter}
 use Rattle.lfs_block.specs.Change.{Change}
 use Rattle.lfs_block.specs.Disk.{Disk}
 use Rattle.lfs_block.specs.Patch.{ChangeSet, applied}
 use Rattle.lfs_meta.specs.Body.{Pair}
 use Rattle.lfs_meta.specs.Writing.{other_number}
+use Rattle.lfs_fs.specs.Pair.{same_pair}
 use Rattle.lfs_fs.specs.Directory.{Part, thread}
+use Rattle.lfs_fs.specs.Outlined.{outlined}
 use Rattle.lfs_fs.specs.Volume.{Volume}
 use Rattle.lfs_fs.specs.Thread.{links}
 use Rattle.lfs_fs.specs.Uses.{times, uses}
 use Rattle.lfs_fs.specs.Free.{free_blocks}
+use Rattle.lfs_fs.specs.Sound.{IsSound}
 use Rattle.lfs_fs.specs.Reading.{reading_of}
 use Rattle.lfs_fs.specs.Holds.{Holds}
 use Rattle.lfs_fs.specs.Stored.{HoldsLinks}
 use Rattle.lfs_edit.specs.Command.{Command, Mkdir, Put, Rm, Mv, SetAttr, RmAttr}
-use Rattle.lfs_edit.specs.Supplies.{Supplies, most_inline, supply_uses}
+use Rattle.lfs_edit.specs.Supplies.{Supplies, AreFree, most_inline, supply_uses}
 use Rattle.lfs_edit.specs.Edited.{edited}
 use Rattle.lfs_edit.specs.Cut.{cut, new_pair_uses}
 use Rattle.lfs_edit.specs.Clean.{clean}
 use Rattle.lfs_edit.specs.Accepted.{IsAccepted, AreChosen}
-use Rattle.lfs_edit.specs.Need.{need}
+use Rattle.lfs_edit.specs.Need.{changed_parts, need}
 use Rattle.lfs_edit.specs.Planned.{HasOneOf}
 use Rattle.lfs_edit.specs.WrittenLinks.{changed_blocks, links_blocks, set_uses}
 use Rattle.lfs_edit.specs.OutlineLaws.{WritesOutline}
@@ -57,7 +60,7 @@ rewritten_blocks d v w = map (λ p. other_number d p.pair) (rewritten_parts v w)
 -- the law: no block is written twice
 abbrev pub BlocksAreWrittenOnce : Type 0
 BlocksAreWrittenOnce = (v : Volume) (c : Command) (s : Supplies) (chosen : Part → List Pair) → IsAccepted v c s → AreChosen v c s chosen
-    → (n : ℕ) → times n (content_blocks v c s) + set_uses n (links (cut chosen (edited v c s)).directories) ≤ 1
+    → (n : ℕ) → times n (content_blocks v c s) + set_uses n (links (outlined (cut chosen (edited v c s))).directories) ≤ 1
 
 -- the law: what is written are the blocks that the command takes, and one of each pair of the volume whose part it sets
 abbrev pub BlocksAreTaken : Type 0
@@ -68,6 +71,16 @@ BlocksAreTaken = (d : Disk) (v : Volume) (c : Command) (s : Supplies) (chosen : 
 -- the blocks that a command takes are the least free ones
 abbrev pub TakesLeast : Volume → Command → Supplies → (Part → List Pair) → Type 0
 TakesLeast v c s chosen = (n : ℕ) → supply_uses v c s n + new_pair_uses chosen (edited v c s) n ≡ times n (take (need v c) (free_blocks v))
+
+-- the law: then they are free, each taken once
+abbrev pub LeastAreFree : Type 0
+LeastAreFree = (v : Volume) (c : Command) (s : Supplies) (chosen : Part → List Pair) → IsSound v → TakesLeast v c s chosen
+    → AreFree v c s × ((b : ℕ) → uses b v + supply_uses v c s b + new_pair_uses chosen (edited v c s) b ≤ 1) × ((b : ℕ) → 0 < new_pair_uses chosen (edited v c s) b → b < v.count)
+
+-- the law: the parts that are rewritten are those that are changed, where the pair of the supplies is none of the volume's
+abbrev pub RewrittenAreChanged : Type 0
+RewrittenAreChanged = (v : Volume) (c : Command) (s : Supplies) → IsAccepted v c s → All (λ p. same_pair p.pair s.pair ≡ false) (thread v.directories)
+    → rewritten_parts v (edited v c s) ≡ changed_parts s (edited v c s)
 
 -- The blocks that are changed: the least free ones, as many as the command needs, and one of the pair of each part that it rewrites.
 pub record NamesLeast (v : Volume) (c : Command) (s : Supplies) (numbers : List ℕ) : Type 0 where

@@ -3,13 +3,16 @@
 ghost use Rattle.lfs_edit.specs.CutOutline.{CutsOutline};
 ghost use Rattle.lfs_edit.specs.EditedOutline.{OutlinesFollow};
 ghost use Rattle.lfs_edit.specs.JudgedAlike.{OutlinesAreJudgedAlike, OutlinesTakeSameRoom, PairsAreChosenAlike};
-ghost use Rattle.lfs_edit.specs.OutlineLaws.{LinksAreAdded, LinksAreLeft, OutlinesAreWritten};
-ghost use Rattle.lfs_edit.specs.PlansHold.{BlocksAreTaken, BlocksAreWrittenOnce, PlansAreFrugal, PlansHold};
-ghost use Rattle.lfs_edit.specs.PlansWritten.{CommandsAreWritten};
+ghost use Rattle.lfs_edit.specs.OutlineLaws.{LinksAreAdded, LinksAreFree, LinksAreLeft, NoLinksAreWritten, OutlinesAreWritten};
+ghost use Rattle.lfs_edit.specs.PlansHold.{BlocksAreTaken, BlocksAreWrittenOnce, LeastAreFree, PlansAreFrugal, PlansHold, RewrittenAreChanged};
+ghost use Rattle.lfs_edit.specs.PlansWritten.{CommandsAreWritten, LaidAreThere};
 
 use crate::laws::{commands_are_frugal, cuts_follow, written_volumes_are_held};
 use lfs_block::applied_patches_change_their_blocks;
-use lfs_file::{chains_stay_on_their_blocks, contents_have_their_length, files_have_one_chain};
+use lfs_file::{
+    chains_stay_on_their_blocks, contents_have_their_length, files_have_one_chain,
+    laid_blocks_are_chains,
+};
 use lfs_fs::{both_sides_hold, entries_are_cut_greedily};
 
 /// A law: the outline of the volume that a command leaves is what the command makes of the outline. Takes no memory.
@@ -37,11 +40,14 @@ pub fn outlines_are_judged_alike()
     ensures room { OutlinesTakeSameRoom }
 {}
 
-/// A law: links are written one after another: one that is set by changes of its pair's blocks, where none of those written before
-/// uses one of them (`added`), and one that isn't by none (`left`). Takes no memory.
+/// A law: links are written one after another, none at first (`none`): one that is set by changes of its pair's blocks, where none of
+/// those written before uses one of them (`added`), so that there is no change of them yet (`free`), and one that isn't set by
+/// no change (`left`). Takes no memory.
 ///
 /// Source: own.
 pub fn links_are_written_in_turn()
+    ensures none { NoLinksAreWritten }
+    ensures free { LinksAreFree }
     ensures added { LinksAreAdded }
     ensures left { LinksAreLeft }
 {}
@@ -77,6 +83,25 @@ pub fn written_blocks_are_taken()
     ensures taken { BlocksAreTaken }
     ensures once { BlocksAreWrittenOnce }
 {}
+
+/// A law: the least free blocks are free (`free`), and the parts that a command rewrites are those that it changes (`changed`). Takes
+/// no memory.
+///
+/// Source: own.
+pub fn least_blocks_are_free()
+    ensures free { LeastAreFree }
+    ensures changed { RewrittenAreChanged }
+{}
+
+/// A law: a file's contents that are laid in blocks are there when the links are written. Takes no memory.
+///
+/// Source: own.
+pub fn laid_contents_are_there()
+    ensures { LaidAreThere }
+{
+    laid_blocks_are_chains();
+    applied_patches_change_their_blocks();
+}
 
 /// A law: where a command takes the least free blocks, as many are changed as it needs and one more for each part that it rewrites, and
 /// these are they. Takes no memory.
