@@ -106,3 +106,6 @@ pub mod KnownBodies
 pub mod CommandsWritten
 pub mod LeastBlocks
 pub mod LaidContents
+pub mod LargeParts
+pub mod OutlinesCarried
+pub mod TablesTell

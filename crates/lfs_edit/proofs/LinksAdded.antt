@@ -3,6 +3,7 @@ use Rattle.std.proofs.Common.{◌≡◌, ◌⊎◌, ℕ, ◌+◌, ◌≤◌, ◌
 use Rattle.std.specs.Prelude.{Contains, if◌then◌else◌}
 use Rattle.std.proofs.lemmas.Bool.Decides.{nat_tests}
 use Rattle.std.proofs.lemmas.Grind.{flat_map-append}
+use Rattle.std.proofs.lemmas.List.Elements.{Contains-append_cases}
 use Rattle.std.proofs.lemmas.List.Sums.{sum_by-cons, sum_by-append}
 use Rattle.lfs_block.specs.Change.{Change}
 use Rattle.lfs_block.specs.Disk.{Disk}
@@ -15,7 +16,7 @@ use Rattle.lfs_fs.specs.Uses.{times, pair_uses}
 use Rattle.lfs_edit.specs.WrittenLinks.{changed_blocks, block_after, part_after, written_blocks, set_blocks, links_blocks, set_uses, link_part, MakesLink}
 use Rattle.lfs_edit.specs.OutlineLaws.{LinksAreAdded, LinksAreFree, LinksAreLeft, NoLinksAreWritten}
 use Rattle.lfs_edit.proofs.BlockLemmas.{other_is_one}
-use Rattle.lfs_edit.proofs.KeptLinks.{contains_first, contains-cons, contains_cases}
+use Rattle.lfs_edit.proofs.KeptLinks.{contains_cases}
 use Rattle.lfs_edit.proofs.WrittenLemmas.{one_le}
 
 -- ---- lists
@@ -25,13 +26,6 @@ times_cons n x xs = sum_by-cons (λ (y : ℕ). cond {A = ℕ} (y == n) 1 0) x xs
 
 pub times_append : (n : ℕ) (xs ys : List ℕ) → times n (xs ++ ys) ≡ times n xs + times n ys
 times_append n xs ys = sum_by-append (λ (y : ℕ). cond {A = ℕ} (y == n) 1 0) xs ys
-
-pub contains_either : {X : Type 0} (xs ys : List X) (x : X) → Contains (xs ++ ys) x → Contains xs x ⊎ Contains ys x
-contains_either [] ys x h = inr h
-contains_either (y ∷ xs) ys x h = elim (contains_cases y (xs ++ ys) x h) [
-  | inl same ↦ inl (subst (Contains (y ∷ xs)) (sym same) (contains_first y xs))
-  | inr later ↦ elim (contains_either xs ys x later) [ inl left ↦ inl (contains-cons y xs x left) | inr right ↦ inr right ]
-]
 
 pub contains_one : {X : Type 0} (y x : X) → Contains (y ∷ []) x → x ≡ y
 contains_one y x h = elim (contains_cases y [] x h) [ inl same ↦ same | inr later ↦ (let no : ⊥ = none_there later in absurd no) ]
@@ -106,7 +100,7 @@ links_are_added d bytes attributes is_new base ls l old new set once written add
   kept = λ n some.
       let none : times n (written_blocks d is_new l.part.pair) ≡ 0 = omega (arith, some, once n, uses_behind n ls l, set_use n l set, written_within d is_new l.part.pair n) in
       adds.adds.others n none ∙ written.kept n some;
-  makes = λ m there set_there. elim (contains_either ls (l ∷ []) m there) [
+  makes = λ m there set_there. elim (Contains-append_cases ls (l ∷ []) m there) [
     | inl before ↦ makes_before m before set_there
     | inr last ↦ subst (MakesLink d bytes attributes new) (sym (contains_one l m last)) (record { delta = adds.delta; delta_is = adds.delta_is; part = adds.adds.back })
   ];
@@ -134,7 +128,7 @@ links_are_left d bytes attributes is_new base ls l cs unset written = record {
   made = written.made;
   named = λ n. omega (arith, written.named n, blocks_behind d is_new n ls l, ap (times n) (set_is d is_new l.part false unset));
   kept = written.kept;
-  makes = λ m there set. elim (contains_either ls (l ∷ []) m there) [
+  makes = λ m there set. elim (Contains-append_cases ls (l ∷ []) m there) [
     | inl before ↦ written.makes m before set
     | inr last ↦ absurd (true-false (sym set ∙ ap (λ (x : Link). x.part.dirty) (contains_one l m last) ∙ unset))
   ];

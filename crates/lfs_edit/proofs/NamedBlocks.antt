@@ -6,7 +6,7 @@ use Rattle.std.specs.Option.{option_map}
 use Rattle.std.proofs.lemmas.Bool.Decides.{nat_tests}
 use Rattle.std.proofs.lemmas.List.Elements.{All-contains, All-head}
 use Rattle.std.proofs.lemmas.List.Folds.{flat_map-map}
-use Rattle.std.proofs.lemmas.List.Sums.{sum_by-cons, sum_by-append}
+use Rattle.std.proofs.lemmas.List.Sums.{sum_by-cons, sum_by-append, sum_by-le-sum_by}
 use Rattle.std.proofs.lemmas.Grind.{flat_map-append}
 use Rattle.lfs_block.specs.Disk.{Disk}
 use Rattle.lfs_meta.specs.Name.{Name, IsName}
@@ -47,10 +47,6 @@ use Rattle.lfs_edit.proofs.WrittenLemmas.{part_uses, sum_thread, one_le, parts_o
 
 -- ---- sums
 
-pub sum_le : {X : Type 0} (f g : X → ℕ) → ((x : X) → f x ≤ g x) → (xs : List X) → sum_by f xs ≤ sum_by g xs
-sum_le f g le [] = omega arith
-sum_le f g le (x ∷ xs) = omega (arith, le x, sum_le f g le xs, sum_by-cons f x xs, sum_by-cons g x xs)
-
 pub sum_zero : {X : Type 0} (f : X → ℕ) (xs : List X) → ((x : X) → Contains xs x → f x ≡ 0) → sum_by f xs ≡ 0
 sum_zero f [] none = refl
 sum_zero f (x ∷ xs) none = omega (arith, sum_by-cons f x xs, none x (contains_first x xs), sum_zero f xs (λ y there. none y (contains-cons x xs y there)))
@@ -68,7 +64,7 @@ new_times v n pair = if is_new_to v pair then pair_times n pair else 0
 pairs_within : (n : ℕ) (v : Volume) → total (pair_times n) v.directories ≤ uses n v
 pairs_within n v =
     let each : (p : Part) → pair_times n p.pair ≤ part_uses n p = λ p. omega arith in
-    omega (arith, sum_le (λ (p : Part). pair_times n p.pair) (part_uses n) each (thread v.directories), sum_thread n v.directories)
+    omega (arith, sum_by-le-sum_by (λ (p : Part). pair_times n p.pair) (part_uses n) (thread v.directories) each, sum_thread n v.directories)
 
 pub not_new : (v : Volume) (p : Part) → Contains (thread v.directories) p → is_new_to v p.pair ≡ false
 not_new v p there =
@@ -88,7 +84,7 @@ abbrev set_total : (Pair → ℕ) → List Part → ℕ
 set_total g ps = sum_by (λ p. if p.dirty then g p.pair else 0) ps
 
 set_within : (g : Pair → ℕ) (ps : List Part) → set_total g ps ≤ parts_total g ps
-set_within g ps = sum_le (λ (p : Part). if p.dirty then g p.pair else 0) (λ (p : Part). g p.pair) (λ p. by p.dirty (g p.pair)) ps
+set_within g ps = sum_by-le-sum_by (λ (p : Part). if p.dirty then g p.pair else 0) (λ (p : Part). g p.pair) ps (λ p. by p.dirty (g p.pair))
   where
     by : (t : Bool) (m : ℕ) → (if t then m else 0) ≤ m
     by true m = omega arith

@@ -32,13 +32,13 @@ use Rattle.lfs_edit.specs.Laws.{NeedIsTheSame, NeedIsExact}
 -- ---- what decides how a part is cut
 
 -- its pair, what its entries weigh, and whether it is set
-abbrev Shadow : Type 0
+abbrev pub Shadow : Type 0
 Shadow = Pair × List ℕ × Bool
 
-abbrev shadow : Part → Shadow
+abbrev pub shadow : Part → Shadow
 shadow p = (p.pair, map weight p.entries, p.dirty)
 
-abbrev shadows : Directory → List Shadow
+abbrev pub shadows : Directory → List Shadow
 shadows d = map shadow (parts d)
 
 itself : (es : List Entry) → AllZip (λ (e : Entry) (w : ℕ). weight e ≡ w) es (map weight es)
@@ -125,7 +125,7 @@ link_by : (e f : Entry) → WeighSame e f → (p q : Part) (ps : List Part) (t :
 link_by e f same p q ps true rest = ap (λ (ws : List ℕ). (p.pair, ws, p.dirty || true) ∷ map shadow (q ∷ ps)) (place_weights e f same p.entries)
 link_by e f same p q ps false rest = ap (λ (ss : List Shadow). shadow p ∷ ss) rest
 
-link_shadows : (e f : Entry) → WeighSame e f → (p : Part) (ps : List Part) → shadows (link_parts e p ps) ≡ shadows (link_parts f p ps)
+pub link_shadows : (e f : Entry) → WeighSame e f → (p : Part) (ps : List Part) → shadows (link_parts e p ps) ≡ shadows (link_parts f p ps)
 unfolding link_parts
 link_shadows e f same p [] = ap (λ (ws : List ℕ). (p.pair, ws, p.dirty || true) ∷ []) (place_weights e f same p.entries)
 link_shadows e f same p (q ∷ ps) =
@@ -145,7 +145,7 @@ change_shadows_of : (n : Name) (g h : Entry → Entry) → ((e : Entry) → weig
 change_shadows_of n g h same [] = refl
 change_shadows_of n g h same (p ∷ ps) = rw (change_weights n g h same p.entries, change_shadows_of n g h same ps) refl
 
-change_shadows : (n : Name) (g h : Entry → Entry) → ((e : Entry) → weight (g e) ≡ weight (h e)) → (d : Directory) → shadows (change_in n g d) ≡ shadows (change_in n h d)
+pub change_shadows : (n : Name) (g h : Entry → Entry) → ((e : Entry) → weight (g e) ≡ weight (h e)) → (d : Directory) → shadows (change_in n g d) ≡ shadows (change_in n h d)
 change_shadows n g h same d = change_shadows_of n g h same (parts d)
 
 -- in the directory at a pair
@@ -153,7 +153,7 @@ in_by : (f g : Directory → Directory) → ((d : Directory) → shadows (f d) �
 in_by f g same d true = same d
 in_by f g same d false = refl
 
-in_shadows : (k : Pair) (f g : Directory → Directory) → ((d : Directory) → shadows (f d) ≡ shadows (g d)) → (ds : List Directory) → map shadows (in_directory k f ds) ≡ map shadows (in_directory k g ds)
+pub in_shadows : (k : Pair) (f g : Directory → Directory) → ((d : Directory) → shadows (f d) ≡ shadows (g d)) → (ds : List Directory) → map shadows (in_directory k f ds) ≡ map shadows (in_directory k g ds)
 in_shadows k f g same [] = refl
 in_shadows k f g same (d ∷ ds) = rw (in_by f g same d (begins_at k d), in_shadows k f g same ds) refl
 
@@ -198,10 +198,10 @@ first_of : (d : Directory) → first_pair (shadows d) ≡ d.first.pair
 unfolding first_pair
 first_of d = refl
 
-begins_by_shadows : (k : Pair) (d e : Directory) → shadows d ≡ shadows e → begins_at k d ≡ begins_at k e
+pub begins_by_shadows : (k : Pair) (d e : Directory) → shadows d ≡ shadows e → begins_at k d ≡ begins_at k e
 begins_by_shadows k d e same = ap (λ (p : Pair). same_pair k (unordered p)) (sym (first_of d) ∙ ap first_pair same ∙ first_of e)
 
-last_by_shadows : (d e : Directory) → shadows d ≡ shadows e → shadows (touch_last d) ≡ shadows (touch_last e)
+pub last_by_shadows : (d e : Directory) → shadows d ≡ shadows e → shadows (touch_last d) ≡ shadows (touch_last e)
 unfolding last_of
 last_by_shadows d e same = touch_shadows d.first d.more ∙ ap last_of same ∙ sym (touch_shadows e.first e.more)
 
@@ -218,7 +218,7 @@ added_by v k new other d e ds es false alike same rest added =
     let one = λ (x : Directory) (xs : List Directory). sum_by-cons (λ (y : Directory). sum_by (shadow_blocks v) (shadows y)) x xs in
     omega (arith, here, one d (add_after k new ds), one e (add_after k other es))
 
-heads_same : (x y : List Shadow) (xs ys : List (List Shadow)) → x ∷ xs ≡ y ∷ ys → (x ≡ y) × (xs ≡ ys)
+pub heads_same : (x y : List Shadow) (xs ys : List (List Shadow)) → x ∷ xs ≡ y ∷ ys → (x ≡ y) × (xs ≡ ys)
 heads_same x y xs ys h = (cc, cc)
 
 added_blocks : (v : Volume) (k : Pair) (new other : Directory) → sum_by (shadow_blocks v) (shadows new) ≡ sum_by (shadow_blocks v) (shadows other)
@@ -247,7 +247,7 @@ body_by : (bytes some others : List ℕ) (t : Bool) → body_weight (if t then I
 body_by bytes some others true = refl
 body_by bytes some others false = refl
 
-put_body : (v : Volume) (s : Supplies) (bytes : List ℕ) → body_weight (new_body v nothing bytes) ≡ body_weight (new_body v s bytes)
+pub put_body : (v : Volume) (s : Supplies) (bytes : List ℕ) → body_weight (new_body v nothing bytes) ≡ body_weight (new_body v s bytes)
 put_body v s bytes = body_by bytes [] s.blocks (nat_le (length bytes) (most_inline v.size))
 
 put_need : RunsFollowWeights Entry ℕ → (v : Volume) (b c : Body) → body_weight b ≡ body_weight c → (h : Option (Pair × Name)) (old : Option Entry) → dirty_need (put_file v b h old) ≡ dirty_need (put_file v c h old)

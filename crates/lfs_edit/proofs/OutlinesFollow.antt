@@ -58,14 +58,14 @@ target_outlined (Some e) = target_same e
 -- ---- where a path belongs to
 
 -- a name in the directory that an entry leads to
-abbrev home_in : Name → Option Entry → Option (Pair × Name)
+abbrev pub home_in : Name → Option Entry → Option (Pair × Name)
 home_in n o = option_and_then (λ e. option_map (λ (k : Pair). (k, n)) (target e)) o
 
 home_by : (n : Name) (o : Option Entry) → home_in n (option_map outlined_entry o) ≡ home_in n o
 home_by n None = refl
 home_by n (Some e) = ap (λ (o : Option Pair). option_map {U = Pair × Name} (λ (k : Pair). (k, n)) o) (target_same e)
 
-abbrev home_split : Volume → Option (Path × Name) → Option (Pair × Name)
+abbrev pub home_split : Volume → Option (Path × Name) → Option (Pair × Name)
 home_split v o = option_and_then (λ (s : Path × Name). home_in s.1 (entry_at v s.0)) o
 
 home_from : (v : Volume) (o : Option (Path × Name)) → home_split (outlined v) o ≡ home_split v o

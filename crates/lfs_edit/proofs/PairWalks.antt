@@ -17,6 +17,7 @@ use Rattle.lfs_edit.specs.Verdict.{walk_refusal_at, walk_refusal}
 use Rattle.lfs_edit.specs.PairWalk.{pair_at, name_in, WalksGoByPairs}
 use Rattle.lfs_edit.specs.WalkRefusal.{goes_on, refuses_at, walk_from, walk_all, WalksAreRefusedByPairs}
 use Rattle.lfs_edit.proofs.OneEdge.{entry_under}
+use Rattle.lfs_edit.proofs.OutlinesFollow.{home_in, home_split}
 use Rattle.lfs_edit.proofs.Walks.{walk-snoc, step_by_target}
 
 -- ---- which directory a path leads to
@@ -46,19 +47,12 @@ last_at v path n =
     ∙ step_by_target target (entry_in v.directories) n (entry_at v path)
     ∙ ap (option_and_then (λ (k : Pair). entry_in v.directories k n)) (leads_to v path)
 
--- a name in the directory that an entry leads to
-abbrev home_in : Name → Option Entry → Option (Pair × Name)
-home_in n o = option_and_then (λ e. option_map (λ (k : Pair). (k, n)) (target e)) o
-
 abbrev with_name : Name → Option Pair → Option (Pair × Name)
 with_name n o = option_map (λ (k : Pair). (k, n)) o
 
 home_leads : (n : Name) (o : Option Entry) → home_in n o ≡ with_name n (option_and_then target o)
 home_leads n None = refl
 home_leads n (Some e) = refl
-
-abbrev home_split : Volume → Option (Path × Name) → Option (Pair × Name)
-home_split v o = option_and_then (λ (s : Path × Name). home_in s.1 (entry_at v s.0)) o
 
 home_by : (v : Volume) (o : Option (Path × Name)) → home_split v o ≡ option_and_then (name_in v.directories) o
 home_by v None = refl

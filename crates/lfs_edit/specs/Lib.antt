@@ -45,3 +45,4 @@ pub mod PairWalk
 pub mod WalkRefusal
 pub mod Splitting
 pub mod PlansWritten
+pub mod OutlineCarried

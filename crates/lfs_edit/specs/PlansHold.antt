@@ -1,16 +1,18 @@
 -- What a written outline of an accepted command leaves, and which blocks it is written to (own).
-use Rattle.std.specs.Prelude.{◌≡◌, ℕ, ◌+◌, ◌<◌, ◌≤◌, ◌==◌, ◌&&◌, not, nat_le, Bool, false, List, [], All, Contains, if◌then◌else◌, length, map, take}
+use Rattle.std.specs.Prelude.{◌≡◌, ℕ, ◌+◌, ◌<◌, ◌≤◌, ◌==◌, ◌&&◌, not, nat_le, Bool, false, List, [], All, Contains, if◌then◌else◌, length, map, take, slice_index_or}
 use Rattle.std.specs.List.{filter}
 use Rattle.lfs_block.specs.Change.{Change}
 use Rattle.lfs_block.specs.Disk.{Disk}
 use Rattle.lfs_block.specs.Patch.{ChangeSet, applied}
+use Rattle.lfs_meta.specs.Attribute.{Attributes}
 use Rattle.lfs_meta.specs.Body.{Pair}
 use Rattle.lfs_meta.specs.Writing.{other_number}
 use Rattle.lfs_fs.specs.Pair.{same_pair}
 use Rattle.lfs_fs.specs.Directory.{Part, thread}
 use Rattle.lfs_fs.specs.Outlined.{outlined}
 use Rattle.lfs_fs.specs.Volume.{Volume}
-use Rattle.lfs_fs.specs.Thread.{links}
+use Rattle.lfs_fs.specs.Thread.{Link, links}
+use Rattle.lfs_fs.specs.Used.{Marks}
 use Rattle.lfs_fs.specs.Uses.{times, uses}
 use Rattle.lfs_fs.specs.Free.{free_blocks}
 use Rattle.lfs_fs.specs.Sound.{IsSound}
@@ -25,7 +27,7 @@ use Rattle.lfs_edit.specs.Clean.{clean}
 use Rattle.lfs_edit.specs.Accepted.{IsAccepted, AreChosen}
 use Rattle.lfs_edit.specs.Need.{changed_parts, need}
 use Rattle.lfs_edit.specs.Planned.{HasOneOf}
-use Rattle.lfs_edit.specs.WrittenLinks.{changed_blocks, links_blocks, set_uses}
+use Rattle.lfs_edit.specs.WrittenLinks.{changed_blocks, links_blocks, set_uses, AreWritten}
 use Rattle.lfs_edit.specs.OutlineLaws.{WritesOutline}
 
 -- the law: where a patch writes the outline of what an accepted command leaves, cut, the patched image holds it
@@ -48,6 +50,15 @@ content_blocks v (RmAttr p k) s = []
 -- a pair whose first block the volume doesn't use
 abbrev pub is_new_to : Volume → Pair → Bool
 is_new_to v pair = uses pair.0 v == 0
+
+-- a pair whose first block a table doesn't mark
+abbrev pub is_unmarked : List Bool → Pair → Bool
+is_unmarked used pair = not (slice_index_or used pair.0 false)
+
+-- the law: a table of the blocks that the volume uses tells its pairs from new ones
+abbrev pub TablesTellNew : Type 0
+TablesTellNew = (v : Volume) (used : List Bool) → Marks used (λ b. uses b v) → (d : Disk) (bytes : List ℕ) (attributes : Attributes) (base : List Change) (ls : List Link) (cs : List Change)
+    → AreWritten d bytes attributes (is_unmarked used) base ls cs → AreWritten d bytes attributes (is_new_to v) base ls cs
 
 -- the parts that are set in w whose pairs v has
 abbrev pub rewritten_parts : Volume → Volume → List Part

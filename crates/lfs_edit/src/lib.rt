@@ -37,8 +37,9 @@ pub use laws::{
 };
 pub use outline_laws::{
     commands_are_written, cuts_keep_outlines, laid_contents_are_there, least_blocks_are_free,
-    links_are_written_in_turn, outlines_are_judged_alike, outlines_are_written, outlines_follow,
-    plans_are_frugal, plans_hold, written_blocks_are_taken,
+    links_are_written_in_turn, outlines_are_carried, outlines_are_judged_alike,
+    outlines_are_written, outlines_follow, plans_are_frugal, plans_hold, tables_tell_new_pairs,
+    written_blocks_are_taken,
 };
 pub use planning::plan;
 pub use refusal::Refusal;

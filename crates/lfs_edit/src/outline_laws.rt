@@ -3,11 +3,12 @@
 ghost use Rattle.lfs_edit.specs.CutOutline.{CutsOutline};
 ghost use Rattle.lfs_edit.specs.EditedOutline.{OutlinesFollow};
 ghost use Rattle.lfs_edit.specs.JudgedAlike.{OutlinesAreJudgedAlike, OutlinesTakeSameRoom, PairsAreChosenAlike};
+ghost use Rattle.lfs_edit.specs.OutlineCarried.{LargeIsTheSame, OutlinesAreCarried};
 ghost use Rattle.lfs_edit.specs.OutlineLaws.{LinksAreAdded, LinksAreFree, LinksAreLeft, NoLinksAreWritten, OutlinesAreWritten};
-ghost use Rattle.lfs_edit.specs.PlansHold.{BlocksAreTaken, BlocksAreWrittenOnce, LeastAreFree, PlansAreFrugal, PlansHold, RewrittenAreChanged};
+ghost use Rattle.lfs_edit.specs.PlansHold.{BlocksAreTaken, BlocksAreWrittenOnce, LeastAreFree, PlansAreFrugal, PlansHold, RewrittenAreChanged, TablesTellNew};
 ghost use Rattle.lfs_edit.specs.PlansWritten.{CommandsAreWritten, LaidAreThere};
 
-use crate::laws::{commands_are_frugal, cuts_follow, written_volumes_are_held};
+use crate::laws::{commands_are_frugal, cuts_follow, need_is_exact, written_volumes_are_held};
 use lfs_block::applied_patches_change_their_blocks;
 use lfs_file::{
     chains_stay_on_their_blocks, contents_have_their_length, files_have_one_chain,
@@ -39,6 +40,17 @@ pub fn outlines_are_judged_alike()
     ensures judged { OutlinesAreJudgedAlike }
     ensures room { OutlinesTakeSameRoom }
 {}
+
+/// A law: what is worked out on the edited outline holds of the volume: how it is cut, which pairs are enough, what it needs, and
+/// whether an entry is too large (`carried`), which doesn't depend on what the command gets (`large`). Takes no memory.
+///
+/// Source: own.
+pub fn outlines_are_carried()
+    ensures carried { OutlinesAreCarried }
+    ensures large { LargeIsTheSame }
+{
+    need_is_exact();
+}
 
 /// A law: links are written one after another, none at first (`none`): one that is set by changes of its pair's blocks, where none of
 /// those written before uses one of them (`added`), so that there is no change of them yet (`free`), and one that isn't set by
@@ -91,6 +103,13 @@ pub fn written_blocks_are_taken()
 pub fn least_blocks_are_free()
     ensures free { LeastAreFree }
     ensures changed { RewrittenAreChanged }
+{}
+
+/// A law: a table of the blocks that a volume uses tells its pairs from new ones. Takes no memory.
+///
+/// Source: own.
+pub fn tables_tell_new_pairs()
+    ensures { TablesTellNew }
 {}
 
 /// A law: a file's contents that are laid in blocks are there when the links are written. Takes no memory.
