@@ -20,24 +20,29 @@ use Rattle.lfs_edit.specs.WrittenLinks.{changed_blocks, set_uses, CanBeMade, IsF
 
 -- the law: a link that is set is written behind others, where no two of them, nor the base, use one block
 abbrev pub LinksAreAdded : Type 0
-LinksAreAdded = (d : Disk) (bytes : List ℕ) (attributes : Attributes) (is_new : Pair → Bool) (base : List Change) (ls : List Link) (l : Link) (old new : List Change)
+LinksAreAdded = (d : Disk) (bytes : List ℕ) (attributes : Attributes) (is_new : Pair → Bool)
+    (base : List Change) (ls : List Link) (l : Link) (old new : List Change)
     → l.part.dirty ≡ true → ((n : ℕ) → times n (changed_blocks base) + set_uses n (ls ++ l ∷ []) ≤ 1)
-    → AreWritten d bytes attributes is_new base ls old → AddsLink d bytes attributes is_new l old new → AreWritten d bytes attributes is_new base (ls ++ l ∷ []) new
+    → AreWritten d bytes attributes is_new base ls old → AddsLink d bytes attributes is_new l old new
+    → AreWritten d bytes attributes is_new base (ls ++ l ∷ []) new
 
 -- the law: there is no change of its pair's blocks before
 abbrev pub LinksAreFree : Type 0
-LinksAreFree = (d : Disk) (bytes : List ℕ) (attributes : Attributes) (is_new : Pair → Bool) (base : List Change) (ls : List Link) (l : Link) (old : List Change)
+LinksAreFree = (d : Disk) (bytes : List ℕ) (attributes : Attributes) (is_new : Pair → Bool)
+    (base : List Change) (ls : List Link) (l : Link) (old : List Change)
     → l.part.dirty ≡ true → ((n : ℕ) → times n (changed_blocks base) + set_uses n (ls ++ l ∷ []) ≤ 1)
     → AreWritten d bytes attributes is_new base ls old → IsFreeFor d l.part.pair old
 
 -- the law: the base alone writes no link
 abbrev pub NoLinksAreWritten : Type 0
-NoLinksAreWritten = (d : Disk) (bytes : List ℕ) (attributes : Attributes) (is_new : Pair → Bool) (base : List Change) → IsRising base → AllByRecursion (CanBeMade d) base
+NoLinksAreWritten = (d : Disk) (bytes : List ℕ) (attributes : Attributes) (is_new : Pair → Bool)
+    (base : List Change) → IsRising base → AllByRecursion (CanBeMade d) base
     → AreWritten d bytes attributes is_new base [] base
 
 -- the law: one that isn't set asks for no change
 abbrev pub LinksAreLeft : Type 0
-LinksAreLeft = (d : Disk) (bytes : List ℕ) (attributes : Attributes) (is_new : Pair → Bool) (base : List Change) (ls : List Link) (l : Link) (cs : List Change)
+LinksAreLeft = (d : Disk) (bytes : List ℕ) (attributes : Attributes) (is_new : Pair → Bool)
+    (base : List Change) (ls : List Link) (l : Link) (cs : List Change)
     → l.part.dirty ≡ false → AreWritten d bytes attributes is_new base ls cs → AreWritten d bytes attributes is_new base (ls ++ l ∷ []) cs
 
 -- a chain is there, by its last block and its length, with its contents
@@ -48,7 +53,8 @@ IsThere r (Directory_at pair) = Unit {0}
 
 -- A patch writes the outline of the volume w over the volume v that an image holds: its links, beside other changes of blocks that v
 -- doesn't use. The chains of w are there, and its root's attributes stay where the root's first part does.
-pub record WritesOutline (d : Disk) (v w : Volume) (held : HoldsLinks (reading_of d) v) (is_new : Pair → Bool) (base : List Change) (p : ChangeSet) : Type 0 where
+pub record WritesOutline (d : Disk) (v w : Volume) (held : HoldsLinks (reading_of d) v)
+    (is_new : Pair → Bool) (base : List Change) (p : ChangeSet) : Type 0 where
   pub disk : IsDisk d
   pub patch : IsPatch p
   pub stands : AgreesOld p d

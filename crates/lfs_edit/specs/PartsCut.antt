@@ -21,7 +21,8 @@ runs_by room superblock p = runs_at room superblock p.pair p.entries
 abbrev pub parts_cut : ℕ → ℕ → List Pair → Part → List Part
 parts_cut room superblock pairs p =
     if p.dirty
-    then record { pair = p.pair; entries = first_run (runs_by room superblock p); delta = p.delta; dirty = true } ∷ more_parts pairs (later_runs (runs_by room superblock p))
+    then record { pair = p.pair; entries = first_run (runs_by room superblock p); delta = p.delta; dirty = true }
+    ∷ more_parts pairs (later_runs (runs_by room superblock p))
     else p ∷ []
 
 -- the links that a link becomes; the last one has its tail
@@ -35,4 +36,5 @@ DirectoriesAreCutByPart = (chosen : Part → List Pair) (v : Volume) (d : Direct
 
 -- the law: a thread is cut link by link
 abbrev pub LinksAreCutByLink : Type 0
-LinksAreCutByLink = (chosen : Part → List Pair) (v : Volume) (ds : List Directory) → links (map (cut_directory chosen v) ds) ≡ flat_map (cut_link chosen v) (links ds)
+LinksAreCutByLink = (chosen : Part → List Pair) (v : Volume) (ds : List Directory)
+    → links (map (cut_directory chosen v) ds) ≡ flat_map (cut_link chosen v) (links ds)

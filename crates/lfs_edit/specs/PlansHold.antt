@@ -32,7 +32,8 @@ use Rattle.lfs_edit.specs.OutlineLaws.{WritesOutline}
 
 -- the law: where a patch writes the outline of what an accepted command leaves, cut, the patched image holds it
 abbrev pub PlansHold : Type 0
-PlansHold = (d : Disk) (v : Volume) (held : HoldsLinks (reading_of d) v) (c : Command) (s : Supplies) (chosen : Part → List Pair) (is_new : Pair → Bool) (base : List Change) (p : ChangeSet)
+PlansHold = (d : Disk) (v : Volume) (held : HoldsLinks (reading_of d) v) (c : Command) (s : Supplies)
+    (chosen : Part → List Pair) (is_new : Pair → Bool) (base : List Change) (p : ChangeSet)
     → IsAccepted v c s → AreChosen v c s chosen → WritesOutline d v (cut chosen (edited v c s)) held is_new base p
     → Holds (reading_of (applied p d)) (clean (cut chosen (edited v c s)))
 
@@ -57,7 +58,8 @@ is_unmarked used pair = not (slice_index_or used pair.0 false)
 
 -- the law: a table of the blocks that the volume uses tells its pairs from new ones
 abbrev pub TablesTellNew : Type 0
-TablesTellNew = (v : Volume) (used : List Bool) → Marks used (λ b. uses b v) → (d : Disk) (bytes : List ℕ) (attributes : Attributes) (base : List Change) (ls : List Link) (cs : List Change)
+TablesTellNew = (v : Volume) (used : List Bool) → Marks used (λ b. uses b v)
+    → (d : Disk) (bytes : List ℕ) (attributes : Attributes) (base : List Change) (ls : List Link) (cs : List Change)
     → AreWritten d bytes attributes (is_unmarked used) base ls cs → AreWritten d bytes attributes (is_new_to v) base ls cs
 
 -- the parts that are set in w whose pairs v has
@@ -86,7 +88,9 @@ TakesLeast v c s chosen = (n : ℕ) → supply_uses v c s n + new_pair_uses chos
 -- the law: then they are free, each taken once
 abbrev pub LeastAreFree : Type 0
 LeastAreFree = (v : Volume) (c : Command) (s : Supplies) (chosen : Part → List Pair) → IsSound v → TakesLeast v c s chosen
-    → AreFree v c s × ((b : ℕ) → uses b v + supply_uses v c s b + new_pair_uses chosen (edited v c s) b ≤ 1) × ((b : ℕ) → 0 < new_pair_uses chosen (edited v c s) b → b < v.count)
+    → AreFree v c s
+    × ((b : ℕ) → uses b v + supply_uses v c s b + new_pair_uses chosen (edited v c s) b ≤ 1)
+    × ((b : ℕ) → 0 < new_pair_uses chosen (edited v c s) b → b < v.count)
 
 -- the law: the parts that are rewritten are those that are changed, where the pair of the supplies is none of the volume's
 abbrev pub RewrittenAreChanged : Type 0
@@ -101,6 +105,7 @@ pub record NamesLeast (v : Volume) (c : Command) (s : Supplies) (numbers : List 
 
 -- the law: so many blocks are changed
 abbrev pub PlansAreFrugal : Type 0
-PlansAreFrugal = (d : Disk) (v : Volume) (held : HoldsLinks (reading_of d) v) (c : Command) (s : Supplies) (chosen : Part → List Pair) (base : List Change) (p : ChangeSet)
+PlansAreFrugal = (d : Disk) (v : Volume) (held : HoldsLinks (reading_of d) v) (c : Command) (s : Supplies)
+    (chosen : Part → List Pair) (base : List Change) (p : ChangeSet)
     → IsAccepted v c s → AreChosen v c s chosen → TakesLeast v c s chosen → changed_blocks base ≡ content_blocks v c s
     → WritesOutline d v (cut chosen (edited v c s)) held (is_new_to v) base p → NamesLeast v c s (changed_blocks p.changes)

@@ -31,7 +31,8 @@ NewIsThere r v (SetAttr p k value) s = Unit {0}
 NewIsThere r v (RmAttr p k) s = Unit {0}
 
 -- A patch writes for a command: blocks of new contents, which are there, and the links of the outline of what the command leaves, cut.
-pub record WritesCommand (d : Disk) (v : Volume) (held : HoldsLinks (reading_of d) v) (c : Command) (s : Supplies) (chosen : Part → List Pair) (is_new : Pair → Bool) (base : List Change) (p : ChangeSet) : Type 0 where
+pub record WritesCommand (d : Disk) (v : Volume) (held : HoldsLinks (reading_of d) v) (c : Command) (s : Supplies)
+    (chosen : Part → List Pair) (is_new : Pair → Bool) (base : List Change) (p : ChangeSet) : Type 0 where
   pub disk : IsDisk d
   pub patch : IsPatch p
   pub stands : AgreesOld p d
@@ -41,8 +42,10 @@ pub record WritesCommand (d : Disk) (v : Volume) (held : HoldsLinks (reading_of 
 
 -- the law: for an accepted command nothing else is to be shown
 abbrev pub CommandsAreWritten : Type 0
-CommandsAreWritten = (d : Disk) (v : Volume) (held : HoldsLinks (reading_of d) v) (c : Command) (s : Supplies) (chosen : Part → List Pair) (is_new : Pair → Bool) (base : List Change) (p : ChangeSet)
-    → IsAccepted v c s → AreChosen v c s chosen → WritesCommand d v held c s chosen is_new base p → WritesOutline d v (cut chosen (edited v c s)) held is_new base p
+CommandsAreWritten = (d : Disk) (v : Volume) (held : HoldsLinks (reading_of d) v) (c : Command) (s : Supplies)
+    (chosen : Part → List Pair) (is_new : Pair → Bool) (base : List Change) (p : ChangeSet)
+    → IsAccepted v c s → AreChosen v c s chosen → WritesCommand d v held c s chosen is_new base p
+    → WritesOutline d v (cut chosen (edited v c s)) held is_new base p
 
 -- the changes of contents lay a file's bytes in blocks
 pub record LaysContents (d : Disk) (bytes blocks : List ℕ) (base : List Change) : Type 0 where
@@ -61,7 +64,8 @@ LaysNew d v (RmAttr p k) s base = Unit {0}
 
 -- the law: contents that are laid are there when the links are written
 abbrev pub LaidAreThere : Type 0
-LaidAreThere = (d : Disk) (v : Volume) (held : HoldsLinks (reading_of d) v) (c : Command) (s : Supplies) (chosen : Part → List Pair) (is_new : Pair → Bool) (base : List Change) (p : ChangeSet)
+LaidAreThere = (d : Disk) (v : Volume) (held : HoldsLinks (reading_of d) v) (c : Command) (s : Supplies)
+    (chosen : Part → List Pair) (is_new : Pair → Bool) (base : List Change) (p : ChangeSet)
     → IsDisk d → IsPatch p → AgreesOld p d → AreFree v c s → changed_blocks base ≡ content_blocks v c s → LaysNew d v c s base
     → AreWritten d held.bytes (cut chosen (edited v c s)).attributes is_new base (links (outlined (cut chosen (edited v c s))).directories) p.changes
     → NewIsThere (reading_of (applied p d)) v c s

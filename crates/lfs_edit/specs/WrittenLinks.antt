@@ -108,7 +108,8 @@ pub record MakesLink (d : Disk) (bytes : List ℕ) (attributes : Attributes) (cs
 
 -- Changes of blocks of the pairs of links that are set, beside those in `base`, and no others, which stay. They make the pairs
 -- of the links that are set hold them.
-pub record AreWritten (d : Disk) (bytes : List ℕ) (attributes : Attributes) (is_new : Pair → Bool) (base : List Change) (ls : List Link) (cs : List Change) : Type 0 where
+pub record AreWritten (d : Disk) (bytes : List ℕ) (attributes : Attributes) (is_new : Pair → Bool)
+    (base : List Change) (ls : List Link) (cs : List Change) : Type 0 where
   pub rising : IsRising cs
   pub made : AllByRecursion (CanBeMade d) cs
   pub named : (n : ℕ) → times n (changed_blocks cs) ≡ times n (changed_blocks base) + times n (links_blocks d is_new ls)

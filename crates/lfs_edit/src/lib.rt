@@ -27,6 +27,7 @@ mod thread_edit;
 mod walk_laws;
 mod weighing;
 mod writing;
+mod written_laws;
 
 pub use command::Command;
 pub use contents::file_contents;
@@ -36,14 +37,16 @@ pub use laws::{
     written_volumes_are_held,
 };
 pub use outline_laws::{
-    commands_are_written, cuts_keep_outlines, laid_contents_are_there, least_blocks_are_free,
-    links_are_written_in_turn, outlines_are_carried, outlines_are_judged_alike,
-    outlines_are_written, outlines_follow, plans_are_frugal, plans_hold, tables_tell_new_pairs,
-    written_blocks_are_taken,
+    cuts_keep_outlines, outlines_are_carried, outlines_are_judged_alike, outlines_follow,
 };
 pub use planning::plan;
 pub use refusal::Refusal;
 pub use walk_laws::{parts_are_cut_by_themselves, walks_go_by_pairs};
+pub use written_laws::{
+    commands_are_written, laid_contents_are_there, least_blocks_are_free,
+    links_are_written_in_turn, outlines_are_written, plans_are_frugal, plans_hold,
+    tables_tell_new_pairs, written_blocks_are_taken,
+};
 
 #[cfg(test)]
 mod tests;

@@ -1,20 +1,11 @@
-//! Laws of outlines, volumes less the contents of their chains: each function does nothing, and its contract is the law.
+//! Laws of outlines, volumes less the contents of their chains: each function does nothing but call laws, and its contract is the law.
 
 ghost use Rattle.lfs_edit.specs.CutOutline.{CutsOutline};
 ghost use Rattle.lfs_edit.specs.EditedOutline.{OutlinesFollow};
 ghost use Rattle.lfs_edit.specs.JudgedAlike.{OutlinesAreJudgedAlike, OutlinesTakeSameRoom, PairsAreChosenAlike};
 ghost use Rattle.lfs_edit.specs.OutlineCarried.{LargeIsTheSame, OutlinesAreCarried};
-ghost use Rattle.lfs_edit.specs.OutlineLaws.{LinksAreAdded, LinksAreFree, LinksAreLeft, NoLinksAreWritten, OutlinesAreWritten};
-ghost use Rattle.lfs_edit.specs.PlansHold.{BlocksAreTaken, BlocksAreWrittenOnce, LeastAreFree, PlansAreFrugal, PlansHold, RewrittenAreChanged, TablesTellNew};
-ghost use Rattle.lfs_edit.specs.PlansWritten.{CommandsAreWritten, LaidAreThere};
 
-use crate::laws::{commands_are_frugal, cuts_follow, need_is_exact, written_volumes_are_held};
-use lfs_block::applied_patches_change_their_blocks;
-use lfs_file::{
-    chains_stay_on_their_blocks, contents_have_their_length, files_have_one_chain,
-    laid_blocks_are_chains,
-};
-use lfs_fs::{both_sides_hold, entries_are_cut_greedily};
+use crate::laws::need_is_exact;
 
 /// A law: the outline of the volume that a command leaves is what the command makes of the outline. Takes no memory.
 ///
@@ -50,97 +41,4 @@ pub fn outlines_are_carried()
     ensures large { LargeIsTheSame }
 {
     need_is_exact();
-}
-
-/// A law: links are written one after another, none at first (`none`): one that is set by changes of its pair's blocks, where none of
-/// those written before uses one of them (`added`), so that there is no change of them yet (`free`), and one that isn't set by
-/// no change (`left`). Takes no memory.
-///
-/// Source: own.
-pub fn links_are_written_in_turn()
-    ensures none { NoLinksAreWritten }
-    ensures free { LinksAreFree }
-    ensures added { LinksAreAdded }
-    ensures left { LinksAreLeft }
-{}
-
-/// A law: where a patch writes the links of an outline, the chains of its volume are there, and nothing else that the old volume
-/// used is written, the patch writes the volume. Takes no memory.
-///
-/// Source: own.
-pub fn outlines_are_written()
-    ensures { OutlinesAreWritten }
-{
-    applied_patches_change_their_blocks();
-}
-
-/// A law: where a patch writes the outline of what an accepted command leaves, cut, the patched image holds it. Takes no memory.
-///
-/// Source: own.
-pub fn plans_hold()
-    ensures { PlansHold }
-{
-    cuts_follow();
-    commands_are_frugal();
-    written_volumes_are_held();
-    both_sides_hold();
-    outlines_are_written();
-}
-
-/// A law: the blocks that are written for an accepted command are those that it takes and one of the pair of each part that it
-/// rewrites (`taken`), none of them twice (`once`). Takes no memory.
-///
-/// Source: own.
-pub fn written_blocks_are_taken()
-    ensures taken { BlocksAreTaken }
-    ensures once { BlocksAreWrittenOnce }
-{}
-
-/// A law: the least free blocks are free (`free`), and the parts that a command rewrites are those that it changes (`changed`). Takes
-/// no memory.
-///
-/// Source: own.
-pub fn least_blocks_are_free()
-    ensures free { LeastAreFree }
-    ensures changed { RewrittenAreChanged }
-{}
-
-/// A law: a table of the blocks that a volume uses tells its pairs from new ones. Takes no memory.
-///
-/// Source: own.
-pub fn tables_tell_new_pairs()
-    ensures { TablesTellNew }
-{}
-
-/// A law: a file's contents that are laid in blocks are there when the links are written. Takes no memory.
-///
-/// Source: own.
-pub fn laid_contents_are_there()
-    ensures { LaidAreThere }
-{
-    laid_blocks_are_chains();
-    applied_patches_change_their_blocks();
-}
-
-/// A law: where a command takes the least free blocks, as many are changed as it needs and one more for each part that it rewrites, and
-/// these are they. Takes no memory.
-///
-/// Source: own.
-pub fn plans_are_frugal()
-    ensures { PlansAreFrugal }
-{}
-
-/// A law: where an accepted command's new contents and the links of what it leaves, cut, are written, its outline is: the chains of
-/// the volume stay, and so do the root's attributes where its first part does. Takes no memory.
-///
-/// Source: own.
-pub fn commands_are_written()
-    ensures { CommandsAreWritten }
-{
-    cuts_follow();
-    entries_are_cut_greedily();
-    applied_patches_change_their_blocks();
-    files_have_one_chain();
-    contents_have_their_length();
-    chains_stay_on_their_blocks();
 }

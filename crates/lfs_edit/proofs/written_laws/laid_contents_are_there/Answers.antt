@@ -1,5 +1,5 @@
 use Rattle.lfs_edit.proofs.LaidContents.{laid_are_there}
-use Rattle.lfs_edit.proofs.outline_laws.laid_contents_are_there.Goals as goal
+use Rattle.lfs_edit.proofs.written_laws.laid_contents_are_there.Goals as goal
 
 pub returns : goal.returns
 returns c =

@@ -1,5 +1,5 @@
 use Rattle.lfs_edit.proofs.PlansHold.{plans_hold}
-use Rattle.lfs_edit.proofs.outline_laws.plans_hold.Goals as goal
+use Rattle.lfs_edit.proofs.written_laws.plans_hold.Goals as goal
 
 pub returns : goal.returns
 returns c =

@@ -1,5 +1,5 @@
 use Rattle.lfs_edit.proofs.CommandsWritten.{commands_are_written}
-use Rattle.lfs_edit.proofs.outline_laws.commands_are_written.Goals as goal
+use Rattle.lfs_edit.proofs.written_laws.commands_are_written.Goals as goal
 
 pub returns : goal.returns
 returns c =

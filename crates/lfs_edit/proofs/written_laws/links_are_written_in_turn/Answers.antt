@@ -1,5 +1,5 @@
 use Rattle.lfs_edit.proofs.LinksAdded.{links_are_added, links_are_free, links_are_left, no_links_are_written}
-use Rattle.lfs_edit.proofs.outline_laws.links_are_written_in_turn.Goals as goal
+use Rattle.lfs_edit.proofs.written_laws.links_are_written_in_turn.Goals as goal
 
 pub returns-clause-added : goal.returns-clause-added
 returns-clause-added c = links_are_added

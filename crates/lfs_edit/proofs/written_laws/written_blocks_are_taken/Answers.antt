@@ -1,5 +1,5 @@
 use Rattle.lfs_edit.proofs.NamedBlocks.{blocks_are_taken, blocks_are_written_once}
-use Rattle.lfs_edit.proofs.outline_laws.written_blocks_are_taken.Goals as goal
+use Rattle.lfs_edit.proofs.written_laws.written_blocks_are_taken.Goals as goal
 
 pub returns-clause-taken : goal.returns-clause-taken
 returns-clause-taken c = blocks_are_taken
