@@ -13,7 +13,7 @@ use Rattle.lfs_fs.specs.Entry.{Entry, target, is_named}
 use Rattle.lfs_fs.specs.Directory.{Part, Directory, parts, entries, begins_at, thread}
 use Rattle.lfs_fs.specs.Volume.{Volume}
 use Rattle.lfs_fs.specs.Tree.{entry_in, tree}
-use Rattle.lfs_fs.specs.Uses.{pair_uses, entry_uses, directory_uses}
+use Rattle.lfs_fs.specs.Uses.{pair_uses, entry_uses, directory_uses, uses}
 use Rattle.lfs_fs.specs.Named.{leads_to, names_of}
 use Rattle.lfs_fs.specs.State.{delta_of}
 use Rattle.lfs_fs.specs.Sound.{IsSound, StartsAtRoot, Rise, IsProper}
@@ -95,6 +95,9 @@ clean_sound v sound =
 
 pub clean_tree : (v : Volume) (p : Path) → tree (clean v) p ≡ tree v p
 clean_tree v p = tree_same v (clean v) (clean_edges v.directories) refl p
+
+pub clean_uses_all : (b : ℕ) (v : Volume) → uses b (clean v) ≡ uses b v
+clean_uses_all b v = sum_mapped (directory_uses b) (each_part cleaned) (clean_uses b) v.directories
 
 pub cleans_follow : CleansFollow
 cleans_follow v w c h = record {

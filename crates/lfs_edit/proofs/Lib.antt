@@ -109,3 +109,4 @@ pub mod LaidContents
 pub mod LargeParts
 pub mod OutlinesCarried
 pub mod TablesTell
+pub mod FreeAfterHeld

@@ -60,3 +60,8 @@ UsesAfter = (v : Volume) (c : Command) (s : Supplies) (chosen : Part → List Pa
 abbrev pub FreeAfter : Type 0
 FreeAfter = (v : Volume) (c : Command) (s : Supplies) (chosen : Part → List Pair) → IsAccepted v c s → AreChosen v c s chosen
     → free_blocks (cut chosen (edited v c s)) ≡ free_after v c s chosen
+
+-- and so they are in the volume that the image then holds
+abbrev pub FreeAfterHeld : Type 0
+FreeAfterHeld = (v : Volume) (c : Command) (s : Supplies) (chosen : Part → List Pair) → IsAccepted v c s → AreChosen v c s chosen
+    → free_blocks (clean (cut chosen (edited v c s))) ≡ free_after v c s chosen

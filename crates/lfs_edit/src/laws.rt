@@ -1,6 +1,6 @@
 //! Laws of commands: each function does nothing but call laws, and its contract is the law.
 
-ghost use Rattle.lfs_edit.specs.Laws.{CleansFollow, CommandsAreFrugal, CommandsFollow, CutsAreFrugal, CutsFollow, FewPartsChange, FreeAfter, NeedIsExact, NeedIsTheSame, UsesAfter};
+ghost use Rattle.lfs_edit.specs.Laws.{CleansFollow, CommandsAreFrugal, CommandsFollow, CutsAreFrugal, CutsFollow, FewPartsChange, FreeAfter, FreeAfterHeld, NeedIsExact, NeedIsTheSame, UsesAfter};
 ghost use Rattle.lfs_edit.specs.Written.{HeldAreClean, WrittenAreHeld};
 
 use lfs_file::chains_stay_on_their_blocks;
@@ -53,12 +53,14 @@ pub fn need_is_exact()
 }
 
 /// A law: the free blocks after a command are those before it without its supplies and its new pairs, with the blocks of
-/// contents that it removed or replaced and of a directory that it removed. Takes no memory.
+/// contents that it removed or replaced and of a directory that it removed (`free`), and so they are in the volume that the image
+/// then holds (`held`). Takes no memory.
 ///
 /// Source: own.
 pub fn free_after()
     ensures uses { UsesAfter }
     ensures free { FreeAfter }
+    ensures held { FreeAfterHeld }
 {
     names_are_ordered();
     entries_are_cut_greedily();
