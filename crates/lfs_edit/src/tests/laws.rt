@@ -1,8 +1,11 @@
 //! Calls of the laws.
 
 use crate::{
-    commands_are_frugal, commands_follow, cuts_follow, free_after, need_is_exact,
-    written_volumes_are_held,
+    commands_are_frugal, commands_are_written, commands_follow, cuts_follow, cuts_keep_outlines,
+    free_after, laid_contents_are_there, least_blocks_are_free, links_are_written_in_turn,
+    need_is_exact, outlines_are_carried, outlines_are_judged_alike, outlines_are_written,
+    outlines_follow, parts_are_cut_by_themselves, plans_are_frugal, plans_hold,
+    tables_tell_new_pairs, walks_go_by_pairs, written_blocks_are_taken, written_volumes_are_held,
 };
 
 #[test]
@@ -13,4 +16,27 @@ fn laws_are_called() {
     need_is_exact();
     free_after();
     written_volumes_are_held();
+}
+
+#[test]
+fn laws_of_outlines_are_called() {
+    outlines_follow();
+    cuts_keep_outlines();
+    outlines_are_judged_alike();
+    outlines_are_carried();
+    walks_go_by_pairs();
+    parts_are_cut_by_themselves();
+}
+
+#[test]
+fn laws_of_what_is_written_are_called() {
+    links_are_written_in_turn();
+    outlines_are_written();
+    commands_are_written();
+    laid_contents_are_there();
+    plans_hold();
+    plans_are_frugal();
+    tables_tell_new_pairs();
+    least_blocks_are_free();
+    written_blocks_are_taken();
 }
