@@ -5,7 +5,7 @@ use crate::tests::memory_host::MemoryHost;
 use crate::tests::playing::Print::{Contents, Nothing, Text};
 use crate::tests::playing::{Run, play, play_on_new};
 use lfs_block::Image;
-use lfs_fs::{Row, mount};
+use lfs_fs::{Mounted, mount};
 use std::alloc::{AllocError, Global};
 use std::process::Abort;
 use std::test::Fail;
@@ -248,22 +248,14 @@ fn names_stand_in_order(rt: HostRuntime) -> Result<(), Fail> {
     Ok(())
 }
 
-/// The one name of a row's path; nothing where it has none.
-fn name_of(row: &Row) -> &[u8] {
-    match row.path.names() {
-        [name] => name.as_slice(),
-        _ => b"",
-    }
-}
-
-/// The names of the rows of the image with these files.
+/// The names of the rows of the image with these files, the root's first.
 const ROWS: [&[u8]; 4] = [b"", b"ab", b"a", b"b"];
 
 /// Asserts that rows have these names.
-fn have_names(rt: &impl Abort, rows: &[Row]) {
-    assert_eq!(rt; rows.len(), ROWS.len());
-    for (row, name) in rows.iter().zip(&ROWS) {
-        assert!(rt; name_of(row) == *name);
+fn have_names(rt: &impl Abort, mounted: &Mounted) {
+    assert_eq!(rt; mounted.rows().count(), ROWS.len());
+    for (row, name) in mounted.rows().zip(&ROWS) {
+        assert!(rt; row.name == *name);
     }
 }
 
@@ -273,7 +265,7 @@ fn rows_come_in_order(rt: HostRuntime) -> Result<(), Fail> {
     let bytes = host.copy()?.ok_or("an image")?;
     let image = Image::new(bytes, 512).map_err(|refused| refused.0)?;
     let mounted = mount(rt.alloc(), &image)?;
-    have_names(&rt, mounted.rows());
+    have_names(&rt, &mounted);
     Ok(())
 }
 
