@@ -112,9 +112,11 @@ pub record IsWalkTo (v : Volume) (rows queue : List Row) (opened : List Bool) : 
   pub done : All (IsOpened v opened (row_paths rows ++ row_paths queue)) (row_paths rows)
   pub reached : (k : Pair) → 1 ≤ times_opened v k opened → Reached v k
   -- each name of what was opened is of what was opened or of what waits
-  pub counts : (k : Pair) → leads_to k (Some root) + flagged (names_of k) v.directories opened ≡ times_opened v k opened + sum_by (λ r. leads_to k (target r.entry)) queue
+  pub counts : (k : Pair) → leads_to k (Some root) + flagged (names_of k) v.directories opened
+      ≡ times_opened v k opened + sum_by (λ r. leads_to k (target r.entry)) queue
   -- what was opened is listed or waits
-  pub tally : (f : Entry → ℕ) → f (top v) + flagged (λ d. sum_by f (entries d)) v.directories opened ≡ sum_by (λ r. f r.entry) rows + sum_by (λ r. f r.entry) queue
+  pub tally : (f : Entry → ℕ) → f (top v) + flagged (λ d. sum_by f (entries d)) v.directories opened
+      ≡ sum_by (λ r. f r.entry) rows + sum_by (λ r. f r.entry) queue
   -- what was listed of directories was opened
   pub folders : count_by (λ r. leads r.entry) rows ≡ flagged (λ d. 1) v.directories opened
 
@@ -130,7 +132,8 @@ abbrev pub Follow : Path → List Listed → List Row → Type 0
 Follow q [] [] = Unit {0}
 Follow q [] (r ∷ rs) = ⊥
 Follow q (x ∷ xs) [] = ⊥
-Follow q (x ∷ xs) (r ∷ rs) = (p : Path) × Begins p q × Begins p r.path × (x.depth ≡ length r.path) × ((after : Path) → Begins p after → row_after after x ≡ r) × Follow p xs rs
+Follow q (x ∷ xs) (r ∷ rs) = (p : Path) × Begins p q × Begins p r.path
+    × (x.depth ≡ length r.path) × ((after : Path) → Begins p after → row_after after x ≡ r) × Follow p xs rs
 
 -- an order of places is listed, others wait, and directories were opened
 pub record IsWalking (v : Volume) (table : List (Pair × ℕ)) (order waiting : List Place) (opened : List Bool) : Type 0 where

@@ -66,9 +66,11 @@ impl Walk {
     /// Lists a place, and lets what stands below it wait.
     pub(crate) fn list(&mut self, outline: &Outline, place: Place) -> Result<(), MountFault>
         requires walking { IsWalking outline.now self.old.table.entries self.old.order.items (place ∷ reverse self.old.waiting.items) self.old.opened.items }
-        ensures listed { OnOk result (IsWalking outline.now self.new.table.entries self.new.order.items (reverse self.new.waiting.items) self.new.opened.items) }
+        ensures listed { OnOk result (IsWalking outline.now
+            self.new.table.entries self.new.order.items (reverse self.new.waiting.items) self.new.opened.items) }
         ensures refused { IfErr result (λ fault. WalkCause outline.now fault) }
-        ensures less { OnOk result (work outline.now self.new.waiting.items self.new.opened.items ≤ work outline.now self.old.waiting.items self.old.opened.items) }
+        ensures less { OnOk result (work outline.now self.new.waiting.items self.new.opened.items
+            ≤ work outline.now self.old.waiting.items self.old.opened.items) }
     {
         if let Some(pair) = target_of(outline, place) {
             self.enter(outline, place.depth + 1, pair)?;
