@@ -53,7 +53,8 @@ ChainsStay = (d e : Disk) (head len : ℕ) (blocks : List ℕ) → AgreeOn block
 
 -- and so does what `chain_of` finds
 abbrev pub FoundStay : Type 0
-FoundStay = (d e : Disk) (head len : ℕ) (blocks : List ℕ) → IsDisk d → AgreeOn blocks d e → chain_of d head len ≡ Some blocks → chain_of e head len ≡ Some blocks
+FoundStay = (d e : Disk) (head len : ℕ) (blocks : List ℕ) → IsDisk d → AgreeOn blocks d e
+    → chain_of d head len ≡ Some blocks → chain_of e head len ≡ Some blocks
 
 -- and the content of its file
 abbrev pub ContentStays : Type 0
