@@ -11,7 +11,8 @@ use crate::thread_pairs::thread_of;
 use lfs_block::{Blocks, MountFault};
 use std::alloc::Global;
 
-/// Judges an image: its outline, what stands at each path and its free blocks, or a cause for which it doesn't mount. Where several causes hold, the answer is one of them. `Memory` says only that a growth was refused.
+/// Judges an image: its outline, what stands at each path and its free blocks, or a cause for which it doesn't mount. Where
+/// several causes hold, the answer is one of them. `Memory` says only that a growth was refused.
 ///
 /// Source: own.
 pub fn mount<B: Blocks>(alloc: Global, blocks: &B) -> Result<Mounted, MountFault>
