@@ -1,5 +1,5 @@
 -- Blocks of an image, and of its pairs.
-use Rattle.std.proofs.Common.{◌≡◌, ◌⊎◌, ◌+◌, ◌*◌, ◌<◌, ◌≤◌, ℕ, zero, suc, drop, take, Bool, true, false, List, [], ◌∷◌, length, refl, arith, inl, inr, if◌then◌else◌}
+use Rattle.std.proofs.Common.{◌≡◌, ◌⊎◌, ◌+◌, ◌*◌, ◌<◌, ◌≤◌, ℕ, zero, suc, drop, take, List, [], ◌∷◌, length, refl, arith, inl, inr}
 use Rattle.std.proofs.Math.Nat.{mul-le-mul_right}
 use Rattle.std.proofs.lemmas.List.{length-take-le, length-drop}
 use Rattle.lfs_block.specs.Bytes.{IsBytes}

@@ -1,10 +1,9 @@
 -- What is read of a file at a path of a mounted image, and why nothing is.
-use Rattle.std.proofs.Common.{◌≡◌, ◌≢◌, ◌⊎◌, List, [], ◌∷◌, ◌++◌, ℕ, Option, Some, None, refl, ap, sym, ◌∙◌, subst, append_assoc, inl, inr}
-use Rattle.std.specs.Prelude.{All, Contains, is_none}
+use Rattle.std.proofs.Common.{◌≡◌, ◌⊎◌, List, [], ◌∷◌, ◌++◌, ℕ, Option, Some, None, refl, ap, sym, ◌∙◌, subst, append_assoc, inl, inr}
+use Rattle.std.specs.Prelude.{is_none}
 use Rattle.std.specs.List.{AllByRecursion}
 use Rattle.std.specs.Option.{option_map}
 use Rattle.std.proofs.lemmas.Option.{none-some}
-use Rattle.std.proofs.lemmas.List.Elements.{All-contains}
 use Rattle.lfs_block.specs.Disk.{Disk, IsDisk}
 use Rattle.lfs_meta.specs.Attribute.{Attributes}
 use Rattle.lfs_fs.specs.Path.{Path, IsPathText, IsNoPath}

@@ -1,5 +1,5 @@
 -- The last part of a directory, changed at its index.
-use Rattle.std.proofs.Common.{◌≡◌, ℕ, ◌+◌, ◌-◌, ◌<◌, suc, true, List, [], ◌∷◌, length, refl, ap, sym, ◌∙◌, arith}
+use Rattle.std.proofs.Common.{◌≡◌, ℕ, ◌+◌, true, List, [], ◌∷◌, length, refl, ap, ◌∙◌, arith}
 use Rattle.std.specs.Prelude.{slice_set, slice_index_or}
 use Rattle.lfs_fs.specs.Directory.{Part, Directory, parts}
 use Rattle.lfs_edit.specs.DirectoryEdit.{touch, behind, touch_last_of, absorb_in, taking_up}

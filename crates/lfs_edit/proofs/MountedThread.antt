@@ -2,8 +2,8 @@
 use Rattle.std.proofs.Common.{◌≡◌, List, [], ◌∷◌, map, refl, ap, ◌∙◌}
 use Rattle.lfs_block.specs.Disk.{Disk}
 use Rattle.lfs_meta.specs.Body.{Pair}
-use Rattle.lfs_fs.specs.Directory.{Part, Directory, thread}
-use Rattle.lfs_fs.specs.Outlined.{outlined, outlined_part, outlined_directories}
+use Rattle.lfs_fs.specs.Directory.{Part, thread}
+use Rattle.lfs_fs.specs.Outlined.{outlined_part}
 use Rattle.lfs_fs.specs.Volume.{Volume}
 use Rattle.lfs_fs.specs.Mounted.{MountedValue, IsMountOf}
 use Rattle.lfs_edit.proofs.OutlineDirectories.{thread_outlined}

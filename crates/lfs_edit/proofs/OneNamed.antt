@@ -1,11 +1,11 @@
 -- The one entry of a name in the parts of a directory.
-use Rattle.std.proofs.Common.{◌≡◌, ℕ, ◌+◌, ◌<◌, ◌≤◌, suc, zero, Bool, true, false, ◌||◌, List, [], ◌∷◌, ◌++◌, length, map, refl, ap, sym, ◌∙◌, arith, cond}
-use Rattle.std.specs.Prelude.{if◌then◌else◌, count_by, find, flat_map, sum_by, slice_index_or, None}
+use Rattle.std.proofs.Common.{◌≡◌, ℕ, ◌+◌, ◌<◌, ◌≤◌, suc, zero, Bool, true, false, List, [], ◌∷◌, length, map, refl, ap, sym, ◌∙◌, arith, cond}
+use Rattle.std.specs.Prelude.{if◌then◌else◌, count_by, find, flat_map, slice_index_or, None}
 use Rattle.std.specs.List.{list_any}
 use Rattle.std.proofs.lemmas.List.Sums.{sum_by-append}
 use Rattle.lfs_meta.specs.Name.{Name}
 use Rattle.lfs_fs.specs.Entry.{Entry, is_named}
-use Rattle.lfs_fs.specs.Directory.{Part, Directory, entries}
+use Rattle.lfs_fs.specs.Directory.{Part}
 use Rattle.lfs_edit.specs.EntryEdit.{changed}
 use Rattle.lfs_edit.specs.DirectoryEdit.{touch, has_name, change_in}
 use Rattle.lfs_edit.proofs.OneElement.{where_passes, where_none, none_counted, count_cases}

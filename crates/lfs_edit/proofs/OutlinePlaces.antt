@@ -1,8 +1,7 @@
 -- Entries of an outline with one put among them.
-use Rattle.std.proofs.Common.{◌≡◌, ◌≤◌, ℕ, ◌+◌, suc, Bool, true, false, not, List, [], ◌∷◌, length, refl, ap, sym, ◌∙◌, arith}
+use Rattle.std.proofs.Common.{◌≡◌, Bool, true, false, not, List, [], ◌∷◌, refl, ap, ◌∙◌}
 use Rattle.std.specs.Prelude.{insert, if◌then◌else◌}
 use Rattle.std.specs.List.{prefix_len}
-use Rattle.lfs_meta.specs.Name.{Name}
 use Rattle.lfs_fs.specs.Entry.{Entry}
 use Rattle.lfs_fs.specs.NameOrder.{precedes}
 use Rattle.lfs_edit.specs.EntryEdit.{place}

@@ -1,6 +1,6 @@
 -- Entries found by name, part by part, and along a path.
 use Rattle.std.proofs.Common.{◌≡◌, ℕ, ◌+◌, ◌<◌, Bool, List, [], ◌∷◌, Option, Some, None, refl, ap, sym, ◌∙◌, drop, length, get_or}
-use Rattle.std.specs.Prelude.{find, flat_map}
+use Rattle.std.specs.Prelude.{find}
 use Rattle.std.specs.Option.{option_or}
 use Rattle.std.proofs.lemmas.List.Concat.{flat_map-cons}
 use Rattle.std.proofs.lemmas.List.Folds.{find-append}
@@ -10,11 +10,9 @@ use Rattle.lfs_fs.specs.Entry.{Entry, target}
 use Rattle.lfs_fs.specs.Directory.{Part, Directory}
 use Rattle.lfs_fs.specs.Tree.{entry_in}
 use Rattle.lfs_fs.proofs.ItemLemmas.{drop_at}
+use Rattle.lfs_fs.specs.Gathering.{part_entries}
 
 -- ---- the entries of parts
-
-abbrev pub part_entries : List Part → List Entry
-part_entries ps = flat_map (λ p. p.entries) ps
 
 in_parts : (test : Entry → Bool) (p : Part) (ps : List Part) → find test (part_entries (p ∷ ps)) ≡ option_or (find test p.entries) (find test (part_entries ps))
 in_parts test p ps = ap (find test) (flat_map-cons (λ (q : Part). q.entries) p ps) ∙ find-append test p.entries (part_entries ps)

@@ -1,6 +1,5 @@
 pub mod NameOrderLemmas
 pub mod PathOrderLemmas
-pub mod PathLemmas
 pub mod PathTextLemmas
 pub mod ApartLemmas
 pub mod EntryAtLemmas

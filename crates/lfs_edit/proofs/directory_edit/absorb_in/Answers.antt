@@ -1,6 +1,6 @@
 -- The last part takes up the delta where it stands.
-use Rattle.std.proofs.Common.{◌≡◌, ℕ, ◌-◌, List, length, ap, sym, refl, ◌∙◌, arith, vec_len, rules}
-use Rattle.lfs_fs.specs.Directory.{Part, Directory}
+use Rattle.std.proofs.Common.{◌-◌, ap, sym, refl, ◌∙◌, arith, vec_len, rules}
+use Rattle.lfs_fs.specs.Directory.{Directory}
 use Rattle.lfs_edit.specs.DirectoryEdit.{taking_up, absorb_in}
 use Rattle.lfs_edit.proofs.LastParts.{absorbed_last, changed_among, changed_alone}
 use Rattle.lfs_edit.proofs.directory_edit.absorb_in.Goals as goal

@@ -1,8 +1,8 @@
 -- The one part that has the name is changed where it stands.
-use Rattle.std.proofs.Common.{◌≡◌, ℕ, ◌≤◌, List, Some, true, count_by, length, subst, ap, sym, ◌∙◌, arith}
+use Rattle.std.proofs.Common.{◌≡◌, ◌≤◌, Some, true, count_by, subst, ap, sym, ◌∙◌, arith}
 use Rattle.std.specs.List.{position}
 use Rattle.std.proofs.lemmas.List.Quantifiers.{position-Some}
-use Rattle.lfs_fs.specs.Entry.{Entry, is_named}
+use Rattle.lfs_fs.specs.Entry.{is_named}
 use Rattle.lfs_fs.specs.Directory.{Part}
 use Rattle.lfs_edit.specs.EntryChange.{entry_change}
 use Rattle.lfs_edit.specs.EntryEdit.{changed}

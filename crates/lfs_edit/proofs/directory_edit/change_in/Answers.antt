@@ -1,9 +1,9 @@
 -- The one part that has the name is the first or one of the others.
-use Rattle.std.proofs.Common.{◌≡◌, ℕ, ◌≤◌, List, true, false, count_by, subst, ap, sym, ◌∙◌}
-use Rattle.lfs_fs.specs.Entry.{Entry, is_named}
-use Rattle.lfs_fs.specs.Directory.{Part, Directory, entries}
+use Rattle.std.proofs.Common.{◌≤◌, count_by, subst, ap, sym, ◌∙◌}
+use Rattle.lfs_fs.specs.Entry.{is_named}
+use Rattle.lfs_fs.specs.Directory.{Directory, entries}
 use Rattle.lfs_edit.specs.EntryChange.{entry_change}
-use Rattle.lfs_edit.specs.DirectoryEdit.{has_name, change_in}
+use Rattle.lfs_edit.specs.DirectoryEdit.{change_in}
 use Rattle.lfs_edit.proofs.OneNamed.{changed_in_first, changed_in_more}
 use Rattle.lfs_edit.proofs.directory_edit.change_in.Goals as goal
 

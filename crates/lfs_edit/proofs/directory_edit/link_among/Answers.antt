@@ -1,8 +1,7 @@
 -- The part where the name belongs is set at its place.
-use Rattle.std.proofs.Common.{◌≡◌, List, ◌∷◌, length, ap, sym, ◌∙◌}
+use Rattle.std.proofs.Common.{ap, ◌∙◌}
 use Rattle.lfs_meta.specs.Name.{Name}
 use Rattle.lfs_fs.specs.Entry.{Entry}
-use Rattle.lfs_fs.specs.Directory.{Part}
 use Rattle.lfs_edit.specs.DirectoryEdit.{has_greater}
 use Rattle.lfs_edit.proofs.LinkedParts.{first_or_last, linked_by}
 use Rattle.lfs_edit.proofs.directory_edit.link_among.Goals as goal

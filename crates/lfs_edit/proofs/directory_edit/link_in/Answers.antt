@@ -1,10 +1,9 @@
 -- The entry goes into the first part where it belongs there, else into one of the others.
-use Rattle.std.proofs.Common.{◌≡◌, ◌<◌, true, false, List, ◌∷◌, length, ap, sym, ◌∙◌, ◌⊎◌, subst}
+use Rattle.std.proofs.Common.{◌≡◌, ◌<◌, true, false, length, ap, sym, ◌∙◌, ◌⊎◌, subst}
 use Rattle.lfs_meta.specs.Name.{Name}
 use Rattle.lfs_fs.specs.Entry.{Entry}
 use Rattle.lfs_fs.specs.Directory.{Directory}
-use Rattle.lfs_edit.specs.DirectoryEdit.{has_greater, link_in, touch}
-use Rattle.lfs_edit.specs.EntryEdit.{place}
+use Rattle.lfs_edit.specs.DirectoryEdit.{has_greater, link_in}
 use Rattle.lfs_edit.proofs.LinkedParts.{linked_first, linked_later}
 use Rattle.lfs_edit.proofs.directory_edit.link_in.Goals as goal
 

@@ -1,5 +1,5 @@
 -- One more part is gone through.
-use Rattle.std.proofs.Common.{◌≡◌, ap, sym, ◌∙◌, slice_set, arith}
+use Rattle.std.proofs.Common.{ap, sym, ◌∙◌, slice_set, arith}
 use Rattle.std.proofs.lemmas.List.Edits.{map_over_more}
 use Rattle.lfs_fs.specs.Directory.{Part}
 use Rattle.lfs_edit.specs.EntryEdit.{without}

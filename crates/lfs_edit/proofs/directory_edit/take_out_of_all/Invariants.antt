@@ -1,5 +1,5 @@
 -- The parts behind are still to be gone through.
-use Rattle.std.proofs.Common.{◌≡◌, List, ◌++◌, map, take, drop}
+use Rattle.std.proofs.Common.{◌≡◌, ◌++◌, map, take, drop}
 use Rattle.lfs_edit.specs.EntryEdit.{without}
 use Rattle.lfs_edit.specs.DirectoryEdit.{has_name, touch}
 use Rattle.lfs_edit.proofs.directory_edit.take_out_of_all.Given as goal

@@ -1,6 +1,5 @@
 -- The last part is set where it stands.
-use Rattle.std.proofs.Common.{◌≡◌, ℕ, ◌-◌, List, true, length, ap, sym, refl, ◌∙◌, arith, vec_len, rules}
-use Rattle.lfs_fs.specs.Directory.{Part, Directory}
+use Rattle.std.proofs.Common.{◌-◌, true, ap, sym, refl, ◌∙◌, arith, vec_len, rules}
 use Rattle.lfs_edit.specs.DirectoryEdit.{touch, touch_last}
 use Rattle.lfs_edit.proofs.LastParts.{touched_last, changed_among, changed_alone}
 use Rattle.lfs_edit.proofs.directory_edit.touch_last.Goals as goal

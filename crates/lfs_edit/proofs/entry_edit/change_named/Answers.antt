@@ -1,7 +1,7 @@
 -- The one entry of the name is changed where it stands.
 use Rattle.std.proofs.Common.{ap, sym, ◌∙◌}
 use Rattle.std.specs.List.{position}
-use Rattle.lfs_fs.specs.Entry.{Entry, is_named}
+use Rattle.lfs_fs.specs.Entry.{is_named}
 use Rattle.lfs_edit.specs.EntryChange.{entry_change}
 use Rattle.lfs_edit.proofs.OneIndex.{at_position, at_no_position}
 use Rattle.lfs_edit.proofs.entry_edit.change_named.Goals as goal

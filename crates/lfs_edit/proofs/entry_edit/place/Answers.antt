@@ -1,5 +1,5 @@
 -- The entry goes in behind those that have no greater name.
-use Rattle.std.proofs.Common.{◌≡◌, ℕ, Bool, not, List, length, ap, sym, ◌∙◌, arith}
+use Rattle.std.proofs.Common.{ℕ, Bool, not, List, ap, ◌∙◌, arith}
 use Rattle.std.specs.Prelude.{insert}
 use Rattle.std.specs.List.{prefix_len}
 use Rattle.lfs_fs.specs.Entry.{Entry}

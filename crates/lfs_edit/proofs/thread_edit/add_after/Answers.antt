@@ -2,7 +2,6 @@
 use Rattle.std.proofs.Common.{ap, sym, ◌∙◌}
 use Rattle.std.specs.List.{position}
 use Rattle.lfs_fs.specs.Directory.{begins_at}
-use Rattle.lfs_fs.specs.Directory.{Directory}
 use Rattle.lfs_edit.specs.DirectoryEdit.{touch_last}
 use Rattle.lfs_edit.proofs.AddedDirectories.{added_behind, not_added}
 use Rattle.lfs_edit.proofs.thread_edit.add_after.Goals as goal

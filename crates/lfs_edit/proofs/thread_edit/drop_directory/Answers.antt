@@ -1,8 +1,7 @@
 -- The directory of the pair is taken out where it stands.
 use Rattle.std.proofs.Common.{ap, sym, ◌∙◌, arith}
 use Rattle.std.specs.List.{position}
-use Rattle.lfs_fs.specs.Directory.{Directory, begins_at}
-use Rattle.lfs_edit.specs.DirectoryEdit.{absorb}
+use Rattle.lfs_fs.specs.Directory.{begins_at}
 use Rattle.lfs_edit.specs.Edited.{empty_directory}
 use Rattle.lfs_edit.proofs.TakenDirectories.{taken_behind, none_taken, first_stays}
 use Rattle.lfs_edit.proofs.thread_edit.drop_directory.Goals as goal

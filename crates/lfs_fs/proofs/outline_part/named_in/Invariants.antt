@@ -1,7 +1,7 @@
 use Rattle.std.proofs.Common.{◌≡◌, drop}
 use Rattle.std.specs.Prelude.{find}
 use Rattle.lfs_fs.specs.Entry.{is_named}
-use Rattle.lfs_fs.proofs.FindLemmas.{part_entries}
+use Rattle.lfs_fs.specs.Gathering.{part_entries}
 use Rattle.lfs_fs.proofs.outline_part.named_in.Given as goal
 
 -- what is named is in the parts that are left

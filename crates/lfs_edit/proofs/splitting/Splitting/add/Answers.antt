@@ -1,6 +1,5 @@
 -- The entry goes into the last run or into another one.
-use Rattle.std.proofs.Common.{◌≡◌, ℕ, List, [], ◌∷◌, ◌++◌, ap, sym, ◌∙◌, map, Vec, Global}
-use Rattle.lfs_fs.specs.Entry.{Entry}
+use Rattle.std.proofs.Common.{◌≡◌, [], ◌∷◌, ◌++◌, ap, sym, ◌∙◌, map}
 use Rattle.lfs_edit.proofs.RunSplits.{stays_in, goes_on}
 use Rattle.lfs_edit.proofs.splitting.Splitting.add.Goals as goal
 use Rattle.lfs_edit.proofs.splitting.Splitting.add.Goals.{then-not-run_takes+in_ok-next_run, else-not-run_takes}

@@ -2,7 +2,8 @@ use Rattle.std.proofs.Common.{◌≡◌, List, ap, ◌∙◌}
 use Rattle.std.specs.Prelude.{find}
 use Rattle.lfs_fs.specs.Entry.{is_named}
 use Rattle.lfs_fs.specs.Directory.{Part, Directory}
-use Rattle.lfs_fs.proofs.FindLemmas.{part_entries, found_first, missed_first}
+use Rattle.lfs_fs.specs.Gathering.{part_entries}
+use Rattle.lfs_fs.proofs.FindLemmas.{found_first, missed_first}
 use Rattle.lfs_fs.proofs.outline_directory.OutlineDirectory.named.Goals as goal
 
 pub returns-in-Some : goal.returns-in-Some
