@@ -7,7 +7,7 @@ use crate::mounted::Mounted;
 use crate::path::Path;
 use crate::row_body::RowBody;
 use crate::{
-    both_sides_hold, entries_are_cut_greedily, entries_weigh_as_stored,
+    Delta, both_sides_hold, entries_are_cut_greedily, entries_weigh_as_stored,
     formatted_volumes_are_sound, fronts_begin_each_other, images_mount_to_one_tree,
     images_without_cause_mount, links_make_their_directories, lone_superblocks_mount, mount,
     mounted_images_have_no_cause, names_are_ordered, paths_are_ordered, rows_are_unique,
@@ -469,4 +469,20 @@ fn laws_are_called(_rt: HostRuntime) {
     same_readings_hold_the_same();
     stored_links_stay();
     texts_spell_one_path();
+}
+
+// a delta of an unfinished move of entry 2 of the pair {2, 3}
+const MOVED: [u8; 12] = [0, 8, 0xf0, 0x4f, 2, 0, 0, 0, 3, 0, 0, 0];
+
+#[test]
+fn deltas_are_joined_bit_by_bit(rt: HostRuntime) {
+    let delta = Delta::of(&MOVED);
+    assert_eq!(rt; delta.to_bytes(), MOVED);
+    assert_eq!(rt; delta.joined(&Delta::none()).to_bytes(), MOVED);
+    assert_eq!(rt; delta.joined(&delta).to_bytes(), [0; 12]);
+    let other = Delta::of(&[0, 8, 0xf0, 0x4f, 4, 0, 0, 0, 5, 0, 0, 0x80]);
+    assert_eq!(rt;
+        delta.joined(&other).to_bytes(),
+        [0, 0, 0, 0, 6, 0, 0, 0, 6, 0, 0, 0x80]
+    );
 }
