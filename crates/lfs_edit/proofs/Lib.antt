@@ -110,3 +110,4 @@ pub mod LargeParts
 pub mod OutlinesCarried
 pub mod TablesTell
 pub mod FreeAfterHeld
+pub mod WalkSteps

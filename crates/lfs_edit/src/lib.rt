@@ -25,6 +25,7 @@ mod splitting;
 mod superblock;
 mod thread_edit;
 mod walk_laws;
+mod walking;
 mod weighing;
 mod writing;
 mod written_laws;
