@@ -111,3 +111,4 @@ pub mod OutlinesCarried
 pub mod TablesTell
 pub mod FreeAfterHeld
 pub mod WalkSteps
+pub mod HomeSteps

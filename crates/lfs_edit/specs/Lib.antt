@@ -46,3 +46,4 @@ pub mod WalkRefusal
 pub mod Splitting
 pub mod PlansWritten
 pub mod OutlineCarried
+pub mod HomeChecks

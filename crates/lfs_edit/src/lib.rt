@@ -12,6 +12,7 @@ mod file_part;
 mod file_place;
 mod file_planning;
 mod formatting;
+mod home;
 mod laws;
 mod outline_laws;
 mod paths;
