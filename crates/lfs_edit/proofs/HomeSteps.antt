@@ -1,5 +1,5 @@
 -- Where a path's last name belongs to, by the walk to it.
-use Rattle.std.proofs.Common.{◌≡◌, ◌≢◌, false, List, [], ◌∷◌, ◌++◌, Option, Some, None, refl, ap, sym, ◌∙◌, map, Bor}
+use Rattle.std.proofs.Common.{◌≡◌, false, List, [], ◌∷◌, ◌++◌, Option, Some, None, refl, ap, ◌∙◌, map, Bor}
 use Rattle.std.specs.Option.{option_and_then, option_map}
 use Rattle.std.proofs.lemmas.List.{map-append}
 use Rattle.lfs_meta.specs.Name.{Name}
@@ -17,7 +17,7 @@ use Rattle.lfs_edit.specs.Verdict.{first_refusal, refuse_if, is_root, walk_refus
 use Rattle.lfs_edit.specs.WalkRefusal.{walk_all}
 use Rattle.lfs_edit.proofs.PairWalks.{walks_go_by_pairs, walks_are_refused_by_pairs}
 
-split_behind : (front : Path) (n : Name) → split_last (front ++ n ∷ []) ≡ Some (front, n)
+pub split_behind : (front : Path) (n : Name) → split_last (front ++ n ∷ []) ≡ Some (front, n)
 split_behind [] n = refl
 split_behind (m ∷ front) n = ap (behind_name m) (split_behind front n)
 

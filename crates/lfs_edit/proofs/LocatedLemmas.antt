@@ -23,7 +23,7 @@ use Rattle.lfs_fs.specs.Mounted.{MountedValue, IsMountOf}
 use Rattle.lfs_fs.specs.Stored.{IsStored, HoldsLinks}
 use Rattle.lfs_edit.specs.declared.refusal.Refusal.{Refusal}
 use Rattle.lfs_edit.specs.declared.refusal.Refusal.TheVariants.{NotFound, NotADirectory}
-use Rattle.lfs_edit.specs.Home.{split_last, behind_name, home_of}
+use Rattle.lfs_edit.specs.Home.{home_of}
 use Rattle.lfs_edit.specs.Verdict.{first_refusal, refuse_if, walk_refusal_at, walk_refusal}
 use Rattle.lfs_edit.specs.Place.{Found, PlaceOf, Home, At, Nowhere, place_of, onwards, past_name, leads_to, from_pair, search, walked, at_home, entry_part, located}
 use Rattle.lfs_edit.specs.FileLocated.{tail_behind}
@@ -35,6 +35,7 @@ use Rattle.lfs_edit.proofs.Placed.{led_directory}
 use Rattle.lfs_edit.proofs.ThreadFrom.{pairs_of, Starts, starts}
 use Rattle.lfs_edit.proofs.Searched.{Searched, search_along}
 use Rattle.lfs_edit.proofs.MountedThread.{mounted_pairs, mounted_thread}
+use Rattle.lfs_edit.proofs.HomeSteps.{split_behind}
 
 -- ---- what an entry shows
 
@@ -78,12 +79,8 @@ walked_on v front k n e j walked here leads = record {
 
 -- ---- the home of a path
 
-split_front : (front : Path) (n : Name) → split_last (front ++ n ∷ []) ≡ Some (front, n)
-split_front [] n = refl
-split_front (m ∷ front) n = ap (behind_name m) (split_front front n)
-
 home_behind : (v : Volume) (front : Path) (k : Pair) (n : Name) → IsWalked v front k → home_of v (front ++ n ∷ []) ≡ Some (k, n)
-home_behind v front k n walked = rw (split_front front n, walked.at, walked.leads) refl
+home_behind v front k n walked = rw (split_behind front n, walked.at, walked.leads) refl
 
 -- ---- the links of a directory
 

@@ -1,5 +1,5 @@
 -- The walk goes to the directory of the last name.
-use Rattle.std.proofs.Common.{◌≡◌, List, [], ◌∷◌, ◌++◌, map, ap, sym, ◌∙◌, Bor}
+use Rattle.std.proofs.Common.{◌≡◌, List, map, ap, sym, ◌∙◌, Bor}
 use Rattle.std.proofs.lemmas.Result.{err_from_is_err_and}
 use Rattle.lfs_meta.specs.Name.{Name}
 use Rattle.lfs_fs.specs.Directory.{Directory}
