@@ -35,10 +35,12 @@ pub mod BothSidesLemmas
 pub mod AlikeLemmas
 pub mod ItemLemmas
 pub mod UsedLemmas
+pub mod MarkingLemmas
 pub mod NameTestLemmas
 pub mod StateLemmas
 pub mod ThreadReadLemmas
 pub mod OutlinedLemmas
+pub mod SoundOutlineLemmas
 pub mod OutlinedFaultLemmas
 pub mod KeepingLemmas
 pub mod GatheringLemmas

@@ -16,6 +16,7 @@ pub mod Sound
 pub mod Thread
 pub mod Row
 pub mod Outlined
+pub mod SoundOutlines
 pub mod AsStored
 pub mod OutlineHeld
 pub mod RowHeld
@@ -36,6 +37,7 @@ pub mod ThreadCause
 pub mod Cause
 pub mod Holds
 pub mod Used
+pub mod MarksMore
 pub mod Gathering
 pub mod ThreadRead
 pub mod Judged

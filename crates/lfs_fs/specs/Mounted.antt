@@ -25,6 +25,13 @@ pub record IsMountOf (d : Disk) (m : MountedValue) : Type 0 where
   pub rows : AreRows (entry_at m.outline) m.rows
   pub free : m.free ≡ free_blocks volume
 
+-- the outline of a sound volume that the image holds
+pub record IsOutlineOf (d : Disk) (o : Volume) : Type 0 where
+  pub volume : Volume
+  pub holds : Holds (reading_of d) volume
+  pub sound : IsSound volume
+  pub outline : o ≡ outlined volume
+
 -- the law: of an image one answer is right
 abbrev pub MountsAreOne : Type 0
 MountsAreOne = (d : Disk) (m n : MountedValue) → IsMountOf d m → IsMountOf d n → m ≡ n

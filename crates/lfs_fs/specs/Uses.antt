@@ -22,6 +22,10 @@ entry_uses b e = body_uses b e.body
 abbrev pub pair_uses : ℕ → Part → ℕ
 pair_uses b p = times b (p.pair.0 ∷ p.pair.1 ∷ [])
 
+-- by a part's pair and its files' chains
+abbrev pub part_uses : ℕ → Part → ℕ
+part_uses b p = pair_uses b p + sum_by (entry_uses b) p.entries
+
 -- by its parts' pairs and its files' chains
 abbrev pub directory_uses : ℕ → Directory → ℕ
 directory_uses b d = sum_by (pair_uses b) (parts d) + sum_by (entry_uses b) (entries d)

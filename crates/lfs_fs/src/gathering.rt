@@ -1,6 +1,7 @@
 //! What is gathered of an image before its tree is walked.
 
 ghost use Rattle.std.specs.Prelude.{◌≡◌, IfOk, IfErr};
+ghost use Rattle.lfs_meta.specs.Fits.{RiseFrom};
 ghost use Rattle.lfs_fs.specs.Cause.{HasCause};
 ghost use Rattle.lfs_fs.specs.Gathered.{IsGathered};
 
@@ -24,7 +25,8 @@ pub(crate) struct Gathered {
 
 /// The attributes of an entry.
 fn attributes_of(entry: Entry) -> Vec<Attribute>
-    ensures { result.items ≡ entry.attributes }
+    ensures value { result.items ≡ entry.attributes }
+    ensures rise { RiseFrom 0 result.items }
 {
     entry.attributes
 }

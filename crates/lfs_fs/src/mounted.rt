@@ -1,15 +1,13 @@
 //! A mounted image.
 
-ghost use Rattle.std.specs.Prelude.{◌≡◌, ◌<◌, ◌≤◌, ◌^◌, length, take, IfOk};
-ghost use Rattle.lfs_fs.specs.Unused.{unused};
-
 use crate::found::Found;
 use crate::limits::Limits;
 use crate::outline::Outline;
 use crate::path::Path;
 use crate::place::Place;
 use crate::rows::Rows;
-use std::alloc::{AllocError, Global};
+use crate::used_blocks::UsedBlocks;
+use std::alloc::Global;
 use std::marker::Model;
 
 /// What is known of an image that mounts: its outline, the places of what stands at each path, and its free blocks.
@@ -20,7 +18,7 @@ pub struct Mounted {
     outline: Outline,
     order: Vec<Place>,
     thread: Vec<(u32, u32)>,
-    used: Vec<bool>,
+    used: UsedBlocks,
 }
 
 impl Model for Mounted {
@@ -36,30 +34,12 @@ impl Model for Mounted {
     ghost view = { λ m. record {
       outline = m.outline;
       rows = rows_of m.outline m.order.items;
-      free = unused m.used.items;
+      free = unused m.used;
     } };
 
-    ghost invariant = { λ m. (length m.used.items < 2 ^ 32) × ArePlaces m.outline m.order.items
+    ghost invariant = { λ m. ArePlaces m.outline m.order.items
         × AreCounted m.outline (rows_of m.outline m.order.items)
         × (m.thread.items ≡ map (λ p. p.pair) (thread_parts m.outline.directories)) };
-}
-
-/// The `n` least blocks whose flags aren't set.
-fn lowest_unused(alloc: Global, used: &[bool], n: u32) -> Result<Vec<u32>, AllocError>
-    requires flags { length used.now < 2 ^ 32 }
-    requires enough { n ≤ length (unused used.now) }
-    ensures { IfOk result (λ blocks. blocks.items ≡ take n (unused used.now)) }
-{
-    let mut lowest = Vec::with_capacity(alloc, n as usize)?;
-    for (block, used) in used.iter().enumerate() {
-        if lowest.len() == n as usize {
-            break;
-        }
-        if !*used {
-            lowest.push(block as u32)?;
-        }
-    }
-    Ok(lowest)
 }
 
 impl Mounted {
@@ -80,13 +60,12 @@ impl Mounted {
         outline: Outline,
         order: Vec<Place>,
         thread: Vec<(u32, u32)>,
-        used: Vec<bool>,
+        used: UsedBlocks,
     ) -> Mounted
         requires places { ArePlaces outline order.items }
-        requires flags { length used.items < 2 ^ 32 }
         requires thread { thread.items ≡ map (λ p. p.pair) (thread_parts outline.directories) }
         requires counted { AreCounted outline (rows_of outline order.items) }
-        ensures { result ≡ record { outline = outline; rows = rows_of outline order.items; free = unused used.items } }
+        ensures { result ≡ record { outline = outline; rows = rows_of outline order.items; free = unused used } }
     {
         Mounted {
             outline,
@@ -101,6 +80,13 @@ impl Mounted {
         ensures { result.now ≡ self.now.outline }
     {
         &self.outline
+    }
+
+    /// The image's volume less the contents of its chains, without what else is known. Takes no memory.
+    pub fn into_outline(self) -> Outline
+        ensures { result ≡ self.outline }
+    {
+        self.outline
     }
 
     /// What stands at each path, in the order of paths: the root's row first. Takes no memory.
@@ -128,7 +114,7 @@ impl Mounted {
     pub fn free_count(&self) -> u32
         ensures { result ≡ length self.now.free }
     {
-        self.used.iter().filter(|used| !**used).count() as u32
+        self.used.free_count()
     }
 
     /// The `n` least free blocks, rising. `None` says only that a growth was refused.
@@ -136,7 +122,7 @@ impl Mounted {
         requires { n ≤ length self.now.free }
         ensures { IfSome result (λ blocks. blocks.items ≡ take n self.now.free) }
     {
-        lowest_unused(alloc, &self.used, n).ok()
+        self.used.lowest_free(alloc, n)
     }
 
     /// The number of directories, the root among them: of rows that show one. Takes no memory.

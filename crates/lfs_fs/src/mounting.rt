@@ -8,6 +8,7 @@ use crate::gathering::{Gathered, gather};
 use crate::mounted::Mounted;
 use crate::order::order_of;
 use crate::thread_pairs::thread_of;
+use crate::used_blocks::UsedBlocks;
 use lfs_block::{Blocks, MountFault};
 use std::alloc::Global;
 
@@ -23,5 +24,6 @@ pub fn mount<B: Blocks>(alloc: Global, blocks: &B) -> Result<Mounted, MountFault
     let order = order_of(alloc, &outline)?;
     let thread = thread_of(alloc, &outline)?;
     prove!(used.len() == blocks.count() as usize);
+    let used = UsedBlocks::new(used);
     Ok(Mounted::new(outline, order, thread, used))
 }

@@ -61,4 +61,4 @@ returns-clause-gathered g c =
     let len : length c.directories_of.new.used ≡ c.in_ok-used.used.len = omega (arith, c.in_ok-directories.ensures.kept.len, c.read_thread.auto.used, c.as_mut_slice-table.ensures.len) in
     let table : (with_items c.in_ok-used.used c.directories_of.new.used).items ≡ c.directories_of.new.used = with_items_is c.in_ok-used.used c.directories_of.new.used len in
     let kept = subst (λ (used : List Bool). KeepsParts (reading_of d) limits c.read_thread.new.used used c.take_first.new.parts.items c.in_ok-directories.directories.items) (sym table) c.in_ok-directories.ensures.kept in
-    gathered d c.in_ok-parts.parts.items c.take_first.new.parts.items c.read_thread.new.used c.in-Some.superblock limits c.in_ok-directories.directories.items _ c.in_ok-parts.ensures.read state c.in-Some.ensures.taken judged kept (rw (c.size-size.ensures.value, c.count-count.ensures, c.attributes_of.ensures) refl)
+    gathered d c.in_ok-parts.parts.items c.take_first.new.parts.items c.read_thread.new.used c.in-Some.superblock limits c.in_ok-directories.directories.items _ c.in_ok-parts.ensures.read state c.in-Some.ensures.taken judged kept (rw (c.size-size.ensures.value, c.count-count.ensures, c.attributes_of.ensures.value) refl)

@@ -1,6 +1,8 @@
 -- Each refusal has its cause, and what is answered is what the image mounts to.
+use Rattle.std.proofs.Common.{Bool, List, ap, ◌∙◌}
 use Rattle.std.proofs.lemmas.Result.{err_from_is_err_and}
 use Rattle.lfs_fs.specs.Placed.{rows_of}
+use Rattle.lfs_fs.specs.Unused.{unused}
 use Rattle.lfs_fs.proofs.MountLemmas.{walkable, walk_cause, mounted_by}
 use Rattle.lfs_fs.proofs.mounting.mount.Goals as goal
 
@@ -18,4 +20,5 @@ returns-clause-mounted g c =
     let d = g.B.Blocks.disk c.args.blocks.now in
     let gathered = c.in_ok-outline.field-0 in
     let found = c.in_ok-outline.ensures.gathered in
-    mounted_by d gathered found (rows_of gathered.outline c.in_ok-order.order.items) c.new.result c.in_ok-order.ensures.listed c.new.ensures
+    mounted_by d gathered found (rows_of gathered.outline c.in_ok-order.order.items) c.new.result c.in_ok-order.ensures.listed
+    (c.new.ensures ∙ ap (λ (flags : List Bool). record { outline = gathered.outline; rows = rows_of gathered.outline c.in_ok-order.order.items; free = unused flags }) c.new-used.ensures)

@@ -10,19 +10,19 @@ use Rattle.lfs_fs.proofs.mounted.Mounted.files.Goals as goal
 pub overflow_sub-result : goal.overflow_sub-result
 overflow_sub-result c =
     let m = c.self.inside in
-    let left = files_left m.outline m.order.items c.self.invariant.2 in
+    let left = files_left m.outline m.order.items c.self.invariant.1 in
     omega (arith, left.0, c.directory_count.ensures, c.len.ensures, m.order.ok.0)
 
 pub returns-clause-outline : goal.returns-clause-outline
 returns-clause-outline c =
     let m = c.self.inside in
-    let left = files_left m.outline m.order.items c.self.invariant.2 in
+    let left = files_left m.outline m.order.items c.self.invariant.1 in
     let same : files_of m.outline ≡ files_of c.args.self.now.outline = ap (λ (x : MountedValue). files_of x.outline) c.self.view_is in
     omega (arith, left.1, c.directory_count.ensures, c.len.ensures, m.order.ok.0, same)
 
 pub returns-clause-rows : goal.returns-clause-rows
 returns-clause-rows c =
     let m = c.self.inside in
-    let left = files_left m.outline m.order.items c.self.invariant.2 in
+    let left = files_left m.outline m.order.items c.self.invariant.1 in
     let same = ap (λ (x : MountedValue). count_by (λ (r : Row). not (leads r.entry)) x.rows) c.self.view_is in
     omega (arith, left.2, c.directory_count.ensures, c.len.ensures, m.order.ok.0, same)

@@ -1,6 +1,6 @@
 use Rattle.std.proofs.Common.{◌≡◌, ◌++◌, ◌-◌, ◌≤◌, length, take, drop}
 use Rattle.lfs_fs.specs.Unused.{unused, unused_from}
-use Rattle.lfs_fs.proofs.mounted.lowest_unused.Given as goal
+use Rattle.lfs_fs.proofs.used_blocks.lowest_unused.Given as goal
 
 -- with the least of the blocks that are left they are the least
 abbrev pub invariant-loop-block : goal.invariant-loop-block

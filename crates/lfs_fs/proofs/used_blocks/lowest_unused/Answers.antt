@@ -2,8 +2,8 @@ use Rattle.std.proofs.Common.{◌≡◌, ◌+◌, ◌++◌, ◌-◌, ◌<◌, �
 use Rattle.std.proofs.lemmas.List.{length_push}
 use Rattle.lfs_fs.specs.Unused.{unused, unused_from}
 use Rattle.lfs_fs.proofs.UnusedLemmas.{lowest_more_used, lowest_more_unused}
-use Rattle.lfs_fs.proofs.mounted.lowest_unused.Goals as goal
-use Rattle.lfs_fs.proofs.mounted.lowest_unused.Goals.{then-not-used+in_ok-push, else-not-used}
+use Rattle.lfs_fs.proofs.used_blocks.lowest_unused.Goals as goal
+use Rattle.lfs_fs.proofs.used_blocks.lowest_unused.Goals.{then-not-used+in_ok-push, else-not-used}
 
 pub loop-block-preserved : goal.loop-block-preserved
 loop-block-preserved c =
