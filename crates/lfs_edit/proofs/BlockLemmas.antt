@@ -17,13 +17,13 @@ block_len d n disk below =
     let left : d.size ≤ length (drop (n * d.size) d.bytes) = omega (arith, length-drop (n * d.size) d.bytes, disk.len, rows) in
     length-take-le d.size (drop (n * d.size) d.bytes) left
 
-take_bytes : (n : ℕ) (xs : List ℕ) → IsBytes xs → IsBytes (take n xs)
+pub take_bytes : (n : ℕ) (xs : List ℕ) → IsBytes xs → IsBytes (take n xs)
 take_bytes zero xs all i = omega arith
 take_bytes (suc n) [] all i = omega arith
 take_bytes (suc n) (x ∷ xs) all zero = all 0
 take_bytes (suc n) (x ∷ xs) all (suc i) = take_bytes n xs (λ k. all (suc k)) i
 
-drop_bytes : (n : ℕ) (xs : List ℕ) → IsBytes xs → IsBytes (drop n xs)
+pub drop_bytes : (n : ℕ) (xs : List ℕ) → IsBytes xs → IsBytes (drop n xs)
 drop_bytes zero xs all i = all i
 drop_bytes (suc n) [] all i = omega arith
 drop_bytes (suc n) (x ∷ xs) all i = drop_bytes n xs (λ k. all (suc k)) i

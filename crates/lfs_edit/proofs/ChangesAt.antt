@@ -96,10 +96,10 @@ changes_all P d (b ∷ blocks) [] N C make numbers news = tt
 changes_all P d (b ∷ blocks) (new ∷ contents) N C make numbers news =
     (make b new (All-head N b blocks numbers) (All-head C new contents news), changes_all P d blocks contents N C make (All-tail N b blocks numbers) (All-tail C new contents news))
 
-rising_head : (b : ℕ) (blocks : List ℕ) → AllPairs ◌<◌ (b ∷ blocks) → All (λ m. b < m) blocks
+pub rising_head : (b : ℕ) (blocks : List ℕ) → AllPairs ◌<◌ (b ∷ blocks) → All (λ m. b < m) blocks
 rising_head b blocks rising = λ k d lt. rising 0 (suc k) d (omega arith) (omega (arith, lt))
 
-rising_tail : (b : ℕ) (blocks : List ℕ) → AllPairs ◌<◌ (b ∷ blocks) → AllPairs ◌<◌ blocks
+pub rising_tail : (b : ℕ) (blocks : List ℕ) → AllPairs ◌<◌ (b ∷ blocks) → AllPairs ◌<◌ blocks
 rising_tail b blocks rising = λ i j d less lt. rising (suc i) (suc j) d (omega (arith, less)) (omega (arith, lt))
 
 pub any_content : (contents : List (List ℕ)) → All (λ c. Unit {0}) contents

@@ -37,7 +37,7 @@ use Rattle.lfs_edit.proofs.MvFollows.{Moves, mv_follows}
 -- ---- what is there
 
 -- something is there
-is_there : (v : Volume) (p : Path) → is_none (tree v p) ≡ false → (e : Entry) × (entry_at v p ≡ Some e)
+pub is_there : (v : Volume) (p : Path) → is_none (tree v p) ≡ false → (e : Entry) × (entry_at v p ≡ Some e)
 is_there v p h = by (entry_at v p) refl h
   where
     by : (o : Option Entry) → entry_at v p ≡ o → is_none (option_map node o) ≡ false → (e : Entry) × (entry_at v p ≡ Some e)

@@ -76,7 +76,7 @@ unmarked (p ∷ ps) clean =
     omega (arith, ap (λ (t : Bool). cond {A = ℕ} t 1 0) (All-head (λ (q : Part). q.dirty ≡ false) p ps clean), unmarked ps (All-tail (λ (q : Part). q.dirty ≡ false) p ps clean), sum_by-cons (λ (q : Part). cond {A = ℕ} q.dirty 1 0) p ps)
 
 -- the number of parts of a kind, by directories
-count_thread : (f : Part → Bool) (ds : List Directory) → count_by f (thread ds) ≡ sum_by (λ d. count_by f (parts d)) ds
+pub count_thread : (f : Part → Bool) (ds : List Directory) → count_by f (thread ds) ≡ sum_by (λ d. count_by f (parts d)) ds
 count_thread f [] = refl
 count_thread f (d ∷ ds) =
     omega (arith, ap (count_by f) (flat_map-cons parts d ds), sum_by-append (λ (p : Part). cond {A = ℕ} (f p) 1 0) (parts d) (thread ds), count_thread f ds, sum_by-cons (λ (e : Directory). count_by f (parts e)) d ds)
@@ -100,12 +100,12 @@ count_splits pair (p ∷ ps) =
 
 -- ---- the commands
 
-set_few : (v : Volume) (p : Path) (f : Attributes → Attributes) → NamesAreOrdered → IsSound v → IsClean v → (h : Option (Pair × Name)) → home_of v p ≡ h → marks (thread (set_attributes v f h).directories) ≤ 2
+pub set_few : (v : Volume) (p : Path) (f : Attributes → Attributes) → NamesAreOrdered → IsSound v → IsClean v → (h : Option (Pair × Name)) → home_of v p ≡ h → marks (thread (set_attributes v f h).directories) ≤ 2
 set_few v p f ordered sound clean None is = omega (arith, marks_touch_first v.directories, unmarked (thread v.directories) clean)
 set_few v p f ordered sound clean (Some h) is =
     omega (arith, marks_change v.limits h.0 h.1 (with_entry_attributes f) v.directories ordered (sound_is_good v sound) (home_once v p h sound is), unmarked (thread v.directories) clean)
 
-put_few : (v : Volume) (p : Path) (body : Body) → NamesAreOrdered → IsSound v → IsClean v → (h : Option (Pair × Name)) (old : Option Entry) → home_of v p ≡ h → marks (thread (put_file v body h old).directories) ≤ 2
+pub put_few : (v : Volume) (p : Path) (body : Body) → NamesAreOrdered → IsSound v → IsClean v → (h : Option (Pair × Name)) (old : Option Entry) → home_of v p ≡ h → marks (thread (put_file v body h old).directories) ≤ 2
 put_few v p body ordered sound clean None old is = omega (arith, unmarked (thread v.directories) clean)
 put_few v p body ordered sound clean (Some h) None is = omega (arith, marks_link h.0 (new_entry h.1 body) v.directories (home_once v p h sound is), unmarked (thread v.directories) clean)
 put_few v p body ordered sound clean (Some h) (Some e) is =
@@ -115,14 +115,14 @@ drop_few : (k : Option Pair) (ds : List Directory) → marks (thread ds) ≤ 1 �
 drop_few None ds few = omega (arith, few)
 drop_few (Some j) ds few = omega (arith, few, marks_drop j ds)
 
-remove_few : (v : Volume) (p : Path) → NamesAreOrdered → IsSound v → IsClean v → (h : Option (Pair × Name)) (old : Option Entry) → home_of v p ≡ h → marks (thread (remove_entry v h old).directories) ≤ 2
+pub remove_few : (v : Volume) (p : Path) → NamesAreOrdered → IsSound v → IsClean v → (h : Option (Pair × Name)) (old : Option Entry) → home_of v p ≡ h → marks (thread (remove_entry v h old).directories) ≤ 2
 remove_few v p ordered sound clean None old is = omega (arith, unmarked (thread v.directories) clean)
 remove_few v p ordered sound clean (Some h) None is = omega (arith, unmarked (thread v.directories) clean)
 remove_few v p ordered sound clean (Some h) (Some e) is =
     drop_few (target e) (unlink h.0 h.1 v.directories)
     (omega (arith, marks_unlink v.limits h.0 h.1 v.directories ordered (sound_is_good v sound) (home_once v p h sound is), unmarked (thread v.directories) clean))
 
-move_few : (v : Volume) (p q : Path) → NamesAreOrdered → IsSound v → IsClean v → (from to : Option (Pair × Name)) (old : Option Entry) → home_of v p ≡ from → home_of v q ≡ to → entry_at v p ≡ old
+pub move_few : (v : Volume) (p q : Path) → NamesAreOrdered → IsSound v → IsClean v → (from to : Option (Pair × Name)) (old : Option Entry) → home_of v p ≡ from → home_of v q ≡ to → entry_at v p ≡ old
     → ((h : Pair × Name) (e : Entry) → home_of v p ≡ Some h → entry_at v p ≡ Some e → entry_in v.directories h.0 h.1 ≡ Some e) → marks (thread (move_entry v from to old).directories) ≤ 2
 move_few v p q ordered sound clean None to old is goes here there = omega (arith, unmarked (thread v.directories) clean)
 move_few v p q ordered sound clean (Some h) None old is goes here there = omega (arith, unmarked (thread v.directories) clean)
@@ -164,7 +164,7 @@ make_few v p s sound clean new (Some h) is =
     one_mark pair = refl
 
 -- the entry at a path is the one under its last name at home
-at_home : (v : Volume) (p : Path) → IsPlaced v p → (h : Pair × Name) (e : Entry) → home_of v p ≡ Some h → entry_at v p ≡ Some e → entry_in v.directories h.0 h.1 ≡ Some e
+pub at_home : (v : Volume) (p : Path) → IsPlaced v p → (h : Pair × Name) (e : Entry) → home_of v p ≡ Some h → entry_at v p ≡ Some e → entry_in v.directories h.0 h.1 ≡ Some e
 at_home v p at h e is here =
     let same : (at.home.pair, at.home.name) ≡ h = same_Some (at.home.pair, at.home.name) h (sym at.home.home ∙ is) in
     subst (λ (x : Pair × Name). entry_in v.directories x.0 x.1 ≡ Some e) same (sym at.edge ∙ here)

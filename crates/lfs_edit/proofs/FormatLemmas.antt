@@ -17,7 +17,7 @@ use Rattle.lfs_meta.specs.Writing.{log_written, part_in, stored_part}
 use Rattle.lfs_fs.specs.Header.{IsHeader}
 use Rattle.lfs_fs.specs.LoneSuperblock.{LoneSuperblockMounts, IsLoneSuperblock}
 use Rattle.lfs_fs.specs.Pair.{root}
-use Rattle.lfs_edit.specs.SuperblockBytes.{superblock_bytes, new_superblock}
+use Rattle.lfs_edit.specs.SuperblockBytes.{superblock_bytes, new_limits, new_superblock}
 use Rattle.lfs_edit.specs.Formatted.{disk_with, root_block, IsFormatted}
 
 IsBytes-append : (xs ys : List ℕ) → IsBytes xs → IsBytes ys → IsBytes (xs ++ ys)
@@ -31,7 +31,7 @@ IsBytes-erased (suc n) zero = omega arith
 IsBytes-erased (suc n) (suc i) = IsBytes-erased n i
 
 -- the superblock's words are read back
-is_header : (size count : ℕ) → size < 2 ^ 32 → count < 2 ^ 32 → IsHeader size count (superblock_bytes size count)
+is_header : (size count : ℕ) → size < 2 ^ 32 → count < 2 ^ 32 → IsHeader size count (superblock_bytes size count new_limits)
 is_header size count size_fits count_fits = record {
   version = refl;
   size_is = from_le_bytes-to_le_bytes_4 size size_fits;
@@ -43,7 +43,7 @@ is_header size count size_fits count_fits = record {
 abbrev root_part : ℕ → ℕ → StoredPart
 root_part size count = stored_part (new_superblock size count ∷ []) End (replicate 12 0)
 
-is_lone : (size count : ℕ) → IsLoneSuperblock (root_part size count) (superblock_bytes size count) []
+is_lone : (size count : ℕ) → IsLoneSuperblock (root_part size count) (superblock_bytes size count new_limits) []
 is_lone size count = record { is = refl; len = refl; tail = refl; delta = refl }
 
 -- the root block, and erased ones behind it
@@ -69,7 +69,7 @@ whole size count first lone geometry len bytes is part =
     record {
       content = ap (λ (b : List ℕ). b ++ rest) is;
       disk = is_disk;
-      mount = lone disk (root_part size count) (superblock_bytes size count) [] is_disk held (is_lone size count)
+      mount = lone disk (root_part size count) (superblock_bytes size count new_limits) [] is_disk held (is_lone size count)
           (is_header size count (omega (arith, geometry.size_fits.1)) (omega (arith, geometry.count_fits.1))) tt;
     }
 

@@ -5,23 +5,29 @@ use Rattle.std.specs.List.{list_any}
 use Rattle.std.proofs.lemmas.Bool.Decides.{nat_tests}
 use Rattle.std.proofs.lemmas.List.{length-append, length-map, length-take-le}
 use Rattle.std.proofs.lemmas.List.Elements.{All-weaker, All-contains_itself}
+use Rattle.lfs_block.specs.Change.{Change}
 use Rattle.lfs_block.specs.Disk.{Disk}
 use Rattle.lfs_meta.specs.Writing.{other_number}
+use Rattle.lfs_meta.specs.Attribute.{Attributes}
+use Rattle.lfs_meta.specs.Body.{Pair}
 use Rattle.lfs_fs.specs.Directory.{Part}
+use Rattle.lfs_fs.specs.Outlined.{outlined}
+use Rattle.lfs_fs.specs.Thread.{links}
 use Rattle.lfs_fs.specs.Volume.{Volume}
 use Rattle.lfs_fs.specs.Free.{free_blocks}
 use Rattle.lfs_fs.specs.Uses.{times}
 use Rattle.lfs_edit.specs.declared.refusal.Refusal.{Refusal}
 use Rattle.lfs_edit.specs.declared.refusal.Refusal.TheVariants.{EntryTooLarge, NoSpace}
 use Rattle.lfs_edit.specs.Command.{Command}
-use Rattle.lfs_edit.specs.Supplies.{nothing}
+use Rattle.lfs_edit.specs.Supplies.{Supplies, nothing}
 use Rattle.lfs_edit.specs.Edited.{edited}
 use Rattle.lfs_edit.specs.Cut.{cut}
 use Rattle.lfs_edit.specs.Need.{dirty_parts, need}
 use Rattle.lfs_edit.specs.Verdict.{first_refusal, refuse_if, checks, is_too_large, room_checks, verdict}
-use Rattle.lfs_edit.specs.Planned.{HasOneOf}
-use Rattle.lfs_edit.specs.WrittenLinks.{changed_blocks}
-use Rattle.lfs_edit.specs.PlansHold.{is_new_to, rewritten_parts, rewritten_blocks, PlansAreFrugal}
+use Rattle.lfs_edit.specs.Accepted.{AreChosen, IsAccepted}
+use Rattle.lfs_edit.specs.Planned.{HasOneOf, TakesLeast}
+use Rattle.lfs_edit.specs.WrittenLinks.{AreWritten, changed_blocks}
+use Rattle.lfs_edit.specs.PlansHold.{content_blocks, is_new_to, rewritten_parts, rewritten_blocks, PlansAreFrugal}
 use Rattle.lfs_edit.proofs.BlockLemmas.{other_is_one}
 use Rattle.lfs_edit.proofs.Homes.{first_passes, test_passes}
 use Rattle.lfs_edit.proofs.KeptLinks.{contains_first, contains-cons}
@@ -32,7 +38,7 @@ use Rattle.lfs_edit.proofs.WrittenLemmas.{contains-map, times_there}
 
 -- ---- lists with the same numbers
 
-one_is : (x n : ℕ) → x ≡ n → cond {A = ℕ} (x == n) 1 0 ≡ 1
+pub one_is : (x n : ℕ) → x ≡ n → cond {A = ℕ} (x == n) 1 0 ≡ 1
 one_is x n same = grind (arith, nat_tests)
 
 pub times_contains : (n : ℕ) (xs : List ℕ) → 1 ≤ times n xs → Contains xs n
@@ -87,7 +93,7 @@ later_passes [] more h = h
 later_passes (None ∷ rs) more h = later_passes rs more h
 later_passes (Some r ∷ rs) more h = cc
 
-enough_free : (v : Volume) (c : Command) → verdict v c ≡ None → need v c ≤ length (free_blocks v)
+pub enough_free : (v : Volume) (c : Command) → verdict v c ≡ None → need v c ≤ length (free_blocks v)
 enough_free v c h =
     let small = first_passes (refuse_if (list_any (is_too_large (edited v c nothing)) (dirty_parts (edited v c nothing))) EntryTooLarge) _ (later_passes (checks v c) (room_checks v c) h) in
     let free = first_passes (refuse_if (nat_lt (length (free_blocks v)) (need v c)) (NoSpace (need v c) (length (free_blocks v)))) _ small.1 in
@@ -104,22 +110,29 @@ one_of d p numbers inside = elim (other_is_one d p.pair) [
   | inr one ↦ (1, p.pair.1, omega arith, refl, subst (Contains numbers) one inside)
 ]
 
+-- they are the least free ones, as many as the command needs, and one of the pair of each part that it rewrites
+pub changed_named : (d : Disk) (v : Volume) (c : Command) (s : Supplies) (chosen : Part → List Pair) (bytes : List ℕ) (attributes : Attributes) (base cs : List Change)
+    → IsAccepted v c s → AreChosen v c s chosen → TakesLeast v c s chosen → changed_blocks base ≡ content_blocks v c s
+    → AreWritten d bytes attributes (is_new_to v) base (links (outlined (cut chosen (edited v c s))).directories) cs
+    → (n : ℕ) → times n (changed_blocks cs) ≡ times n (take (need v c) (free_blocks v) ++ rewritten_blocks d v (edited v c s))
+changed_named d v c s chosen bytes attributes base cs ok pairs least contents written n =
+    omega (
+      arith,
+      written.named n,
+      ap (times n) contents,
+      ap (times n) (blocks_outlined d (is_new_to v) (cut chosen (edited v c s))),
+      blocks_are_taken d v c s chosen ok pairs n,
+      least n,
+      times_append n (take (need v c) (free_blocks v)) (rewritten_blocks d v (edited v c s)),
+    )
+
 pub plans_are_frugal : PlansAreFrugal
 plans_are_frugal d v held c s chosen base p ok pairs least contents writes =
     let w : Volume = edited v c s in
     let numbers : List ℕ = changed_blocks p.changes in
     let taken : List ℕ = take (need v c) (free_blocks v) in
     let old : List ℕ = rewritten_blocks d v w in
-    let named : (n : ℕ) → times n numbers ≡ times n (taken ++ old) = λ n.
-    omega (
-      arith,
-      writes.written.named n,
-      ap (times n) contents,
-      ap (times n) (blocks_outlined d (is_new_to v) (cut chosen w)),
-      blocks_are_taken d v c s chosen ok pairs n,
-      least n,
-      times_append n taken old,
-    ) in
+    let named = changed_named d v c s chosen held.bytes (cut chosen w).attributes base p.changes ok pairs least contents writes.written in
     let len : length numbers ≡ length (taken ++ old) = same_length numbers (taken ++ old) named in
     let many : length old ≡ length (rewritten_parts v w) = length-map (rewritten_parts v w) (λ (q : Part). other_number d q.pair) in
     let all : length taken ≡ need v c = length-take-le (need v c) (free_blocks v) (enough_free v c ok.unrefused) in

@@ -34,7 +34,7 @@ large_by v p =
     ap (λ (t : Bool). p.dirty && ((is_first p && nat_lt (room v) (superblock_weight v.attributes)) || t))
     (any_over (λ (e : Entry). nat_lt (room v) (weight e)) (λ (w : ℕ). nat_lt (room v) w) weight (λ e. refl) p.entries)
 
-any_set : (f : Part → Bool) (ps : List Part) → list_any f (filter (λ p. p.dirty) ps) ≡ list_any (λ p. p.dirty && f p) ps
+pub any_set : (f : Part → Bool) (ps : List Part) → list_any f (filter (λ p. p.dirty) ps) ≡ list_any (λ p. p.dirty && f p) ps
 any_set f [] = refl
 any_set f (p ∷ ps) = by p.dirty (any_set f ps)
   where

@@ -27,7 +27,7 @@ use Rattle.lfs_edit.proofs.WrittenLemmas.{one_le}
 -- ---- the least free blocks
 
 -- a number is zero, or is not
-none_or_some : (n : ℕ) → (n ≡ 0) ⊎ (1 ≤ n)
+pub none_or_some : (n : ℕ) → (n ≡ 0) ⊎ (1 ≤ n)
 none_or_some zero = inl refl
 none_or_some (suc n) = inr (omega arith)
 
@@ -74,7 +74,7 @@ none_made_by v (SetAttr p k value) s = refl
 none_made_by v (RmAttr p k) s = refl
 
 -- a new pair is that of the supplies
-new_is_supplied : (v : Volume) (c : Command) (s : Supplies) (p : Part) → Contains (thread (edited v c s).directories) p → is_new_to v p.pair ≡ true → same_pair p.pair s.pair ≡ true
+pub new_is_supplied : (v : Volume) (c : Command) (s : Supplies) (p : Part) → Contains (thread (edited v c s).directories) p → is_new_to v p.pair ≡ true → same_pair p.pair s.pair ≡ true
 new_is_supplied v c s p there new =
     let le : new_elsewhere v s p.pair ≤ total (new_elsewhere v s) (edited v c s).directories = one_le (λ (x : Part). new_elsewhere v s x.pair) (thread (edited v c s).directories) p there in
     let none : new_elsewhere v s p.pair ≡ 0 = omega (arith, le, edited_total (new_elsewhere v s) v c s, none_before v s, none_made_by v c s) in

@@ -48,7 +48,7 @@ All-unmap P f [] all = All-nil (λ x. P (f x))
 All-unmap P f (x ∷ xs) all = All-cons (λ y. P (f y)) x xs (All-head P (f x) (map f xs) all) (All-unmap P f xs (All-tail P (f x) (map f xs) all))
 
 -- numbers of blocks
-abbrev BlocksFit : ℕ → Pair → Type 0
+abbrev pub BlocksFit : ℕ → Pair → Type 0
 BlocksFit count q = (q.0 < count) × (q.1 < count)
 
 numbers_fit : (count : ℕ) (q : Pair) → count ≤ 65536 → BlocksFit count q → NumbersFit q.0 q.1
@@ -65,7 +65,7 @@ tail_to_fits : (count : ℕ) → count ≤ 65536 → (ds : List Directory) → A
 tail_to_fits count few [] below = tt
 tail_to_fits count few (d ∷ ds) below = numbers_fit count d.first.pair few (All-head (λ (x : Part). BlocksFit count x.pair) d.first (d.more ++ thread ds) below)
 
-tails_fit : (count : ℕ) → count ≤ 65536 → (ds : List Directory) → All (λ q. BlocksFit count q.pair) (thread ds) → All (λ l. TailFits l.tail) (links ds)
+pub tails_fit : (count : ℕ) → count ≤ 65536 → (ds : List Directory) → All (λ q. BlocksFit count q.pair) (thread ds) → All (λ l. TailFits l.tail) (links ds)
 tails_fit count few [] below = All-nil (λ (l : Link). TailFits l.tail)
 tails_fit count few (d ∷ ds) below =
     let split = all_split (λ (x : Part). BlocksFit count x.pair) (parts d) (thread ds) below in

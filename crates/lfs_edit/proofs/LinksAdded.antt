@@ -81,7 +81,7 @@ set_is d is_new p t is = ap (λ (x : Bool). if x then written_blocks d is_new p.
 -- ---- one more link
 
 -- the blocks of a link that was written before stay
-pair_stays : (d : Disk) (pair : Pair) (old new : List Change) (part : StoredPart) → block_after d new pair.0 ≡ block_after d old pair.0 → block_after d new pair.1 ≡ block_after d old pair.1 → part_after d old pair ≡ Some part → part_after d new pair ≡ Some part
+pub pair_stays : (d : Disk) (pair : Pair) (old new : List Change) (part : StoredPart) → block_after d new pair.0 ≡ block_after d old pair.0 → block_after d new pair.1 ≡ block_after d old pair.1 → part_after d old pair ≡ Some part → part_after d new pair ≡ Some part
 pair_stays d pair old new part first second holds =
     ap (λ (b : List ℕ). part_in b (block_after d new pair.1)) first ∙ ap (part_in (block_after d old pair.0)) second ∙ holds
 
@@ -135,7 +135,7 @@ links_are_left d bytes attributes is_new base ls l cs unset written = record {
 }
 
 -- what is written of links is within the uses of their pairs
-written_uses : (d : Disk) (is_new : Pair → Bool) (n : ℕ) (ls : List Link) → times n (links_blocks d is_new ls) ≤ set_uses n ls
+pub written_uses : (d : Disk) (is_new : Pair → Bool) (n : ℕ) (ls : List Link) → times n (links_blocks d is_new ls) ≤ set_uses n ls
 written_uses d is_new n [] = omega arith
 written_uses d is_new n (l ∷ ls) =
     omega (arith, times_append n (set_blocks d is_new l.part) (links_blocks d is_new ls), one_by l.part.dirty refl, written_uses d is_new n ls, sum_by-cons (one_use n) l ls)

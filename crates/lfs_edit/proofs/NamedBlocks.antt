@@ -51,7 +51,7 @@ pub sum_zero : {X : Type 0} (f : X → ℕ) (xs : List X) → ((x : X) → Conta
 sum_zero f [] none = refl
 sum_zero f (x ∷ xs) none = omega (arith, sum_by-cons f x xs, none x (contains_first x xs), sum_zero f xs (λ y there. none y (contains-cons x xs y there)))
 
-times_flat : {X : Type 0} (n : ℕ) (f : X → List ℕ) (xs : List X) → times n (flat_map f xs) ≡ sum_by (λ x. times n (f x)) xs
+pub times_flat : {X : Type 0} (n : ℕ) (f : X → List ℕ) (xs : List X) → times n (flat_map f xs) ≡ sum_by (λ x. times n (f x)) xs
 times_flat n f [] = refl
 times_flat n f (x ∷ xs) = omega (arith, times_append n (f x) (flat_map f xs), times_flat n f xs, sum_by-cons (λ y. times n (f y)) x xs)
 
@@ -228,7 +228,7 @@ set_written d v n (p ∷ ps) =
 
 -- ---- the blocks that are written
 
-chosen_is_new : (v : Volume) (c : Command) (s : Supplies) (chosen : Part → List Pair) → AreChosen v c s chosen → (p : Part) → Contains (thread (edited v c s).directories) p
+pub chosen_is_new : (v : Volume) (c : Command) (s : Supplies) (chosen : Part → List Pair) → AreChosen v c s chosen → (p : Part) → Contains (thread (edited v c s).directories) p
     → (q : Pair) → Contains (new_pairs chosen p) q → is_new_to v q ≡ true
 chosen_is_new v c s chosen pairs p there q inside =
     let one : pair_times q.0 q ≤ sum_by (pair_times q.0) (new_pairs chosen p) = one_le (pair_times q.0) (new_pairs chosen p) q inside in

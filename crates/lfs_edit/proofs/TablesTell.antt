@@ -16,7 +16,7 @@ told : (t : Bool) (n : ℕ) → cond {A = ℕ} t 1 0 ≡ n → not t ≡ (n == 0
 told true n h = ap (λ (m : ℕ). m == 0) h
 told false n h = ap (λ (m : ℕ). m == 0) h
 
-told_so : (v : Volume) (used : List Bool) → Marks used (λ b. uses b v) → (pair : Pair) → is_unmarked used pair ≡ is_new_to v pair
+pub told_so : (v : Volume) (used : List Bool) → Marks used (λ b. uses b v) → (pair : Pair) → is_unmarked used pair ≡ is_new_to v pair
 told_so v used marks pair = told (slice_index_or used pair.0 false) (uses pair.0 v) (marks pair.0)
 
 part_alike : (d : Disk) (f g : Pair → Bool) → ((pair : Pair) → f pair ≡ g pair) → (p : Part) → set_blocks d f p ≡ set_blocks d g p

@@ -40,6 +40,10 @@ pub mod JudgedAlike
 pub mod WrittenLinks
 pub mod OutlineLaws
 pub mod PlansHold
+pub mod CommandsSet
+pub mod NeedsSmall
+pub mod PairWritten
+pub mod CutWritten
 pub mod PartsCut
 pub mod PairWalk
 pub mod WalkRefusal
@@ -47,3 +51,12 @@ pub mod Splitting
 pub mod PlansWritten
 pub mod OutlineCarried
 pub mod HomeChecks
+pub mod NamedCommand
+pub mod Editable
+pub mod SetParts
+pub mod Growth
+pub mod Chosen
+pub mod Carried
+pub mod CarryingLaws
+pub mod CutParts
+pub mod Laid

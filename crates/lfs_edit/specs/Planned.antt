@@ -7,19 +7,21 @@ use Rattle.lfs_meta.specs.Body.{Pair}
 use Rattle.lfs_fs.specs.Directory.{Part}
 use Rattle.lfs_fs.specs.Volume.{Volume}
 use Rattle.lfs_fs.specs.Free.{free_blocks}
+use Rattle.lfs_fs.specs.Uses.{times}
 use Rattle.lfs_fs.specs.Sound.{IsSound}
 use Rattle.lfs_fs.specs.Reading.{reading_of}
 use Rattle.lfs_fs.specs.Holds.{Holds}
 use Rattle.lfs_edit.specs.declared.refusal.Refusal.{Refusal}
 use Rattle.lfs_edit.specs.declared.refusal.Refusal.TheVariants.{BadPath, EntryTooLarge, OnePartOnly, Memory}
 use Rattle.lfs_edit.specs.Command.{Command, Asked, Spells, SpellsNone}
-use Rattle.lfs_edit.specs.Supplies.{Supplies, nothing}
+use Rattle.lfs_edit.specs.Supplies.{Supplies, nothing, supply_uses}
 use Rattle.lfs_edit.specs.Edited.{edited}
-use Rattle.lfs_edit.specs.Cut.{cut, runs}
+use Rattle.lfs_edit.specs.Cut.{cut, runs, new_pair_uses}
 use Rattle.lfs_edit.specs.Need.{need, data_blocks, dirty_parts, changed_parts}
 use Rattle.lfs_edit.specs.Verdict.{checks, first_refusal, refuse_if, is_too_large, verdict}
 use Rattle.lfs_edit.specs.Clean.{clean}
 use Rattle.lfs_edit.specs.Accepted.{IsAccepted, AreChosen}
+use Rattle.lfs_edit.specs.Freed.{free_after}
 use Rattle.lfs_edit.specs.PartWritten.{numbers_of}
 
 -- one of the numbers is a block of the part's pair
@@ -32,6 +34,10 @@ pub record IsFrugal (v : Volume) (c : Command) (s : Supplies) (numbers : List �
   pub free : All (Contains numbers) (take (need v c) (free_blocks v))
   pub changed : All (HasOneOf numbers) (changed_parts s (edited v c s))
   pub len : length numbers ≡ need v c + length (changed_parts s (edited v c s))
+
+-- the blocks that a command takes are the least free ones
+abbrev pub TakesLeast : Volume → Command → Supplies → (Part → List Pair) → Type 0
+TakesLeast v c s chosen = (n : ℕ) → supply_uses v c s n + new_pair_uses chosen (edited v c s) n ≡ times n (take (need v c) (free_blocks v))
 
 -- A patch of an image carries out a command that is asked for: on the volume that the image holds no check refuses the
 -- command, the patch stands in the image, and the patched image holds the edited volume.
@@ -49,6 +55,14 @@ pub record Plans (d : Disk) (asked : Asked) (p : ChangeSet) : Type 0 where
   pub stands : AgreesOld p d
   pub after : Holds (reading_of (applied p d)) (clean (cut chosen (edited volume command supplies)))
   pub frugal : IsFrugal volume command supplies (numbers_of p)
+
+-- The same where the blocks that the command takes are the least free ones, which the patch names, and what is free then are the blocks
+-- that were, without them, and those of what was removed or replaced.
+pub record PlansLeast (d : Disk) (asked : Asked) (p : ChangeSet) : Type 0 where
+  pub plans : Plans d asked p
+  pub taken : TakesLeast plans.volume plans.command plans.supplies plans.chosen
+  pub free : free_blocks (clean (cut plans.chosen (edited plans.volume plans.command plans.supplies)))
+      ≡ free_after plans.volume plans.command plans.supplies plans.chosen
 
 -- A command that is asked for is refused on the sound volume that an image holds.
 pub record IsRefused (d : Disk) (asked : Asked) (r : Refusal) : Type 0 where

@@ -26,7 +26,7 @@ use Rattle.lfs_edit.specs.Cut.{cut, new_pair_uses}
 use Rattle.lfs_edit.specs.Clean.{clean}
 use Rattle.lfs_edit.specs.Accepted.{IsAccepted, AreChosen}
 use Rattle.lfs_edit.specs.Need.{changed_parts, need}
-use Rattle.lfs_edit.specs.Planned.{HasOneOf}
+use Rattle.lfs_edit.specs.Planned.{HasOneOf, TakesLeast}
 use Rattle.lfs_edit.specs.WrittenLinks.{changed_blocks, links_blocks, set_uses, AreWritten}
 use Rattle.lfs_edit.specs.OutlineLaws.{WritesOutline}
 
@@ -80,10 +80,6 @@ abbrev pub BlocksAreTaken : Type 0
 BlocksAreTaken = (d : Disk) (v : Volume) (c : Command) (s : Supplies) (chosen : Part → List Pair) → IsAccepted v c s → AreChosen v c s chosen
     → (n : ℕ) → times n (content_blocks v c s) + times n (links_blocks d (is_new_to v) (links (cut chosen (edited v c s)).directories))
     ≡ supply_uses v c s n + new_pair_uses chosen (edited v c s) n + times n (rewritten_blocks d v (edited v c s))
-
--- the blocks that a command takes are the least free ones
-abbrev pub TakesLeast : Volume → Command → Supplies → (Part → List Pair) → Type 0
-TakesLeast v c s chosen = (n : ℕ) → supply_uses v c s n + new_pair_uses chosen (edited v c s) n ≡ times n (take (need v c) (free_blocks v))
 
 -- the law: then they are free, each taken once
 abbrev pub LeastAreFree : Type 0

@@ -67,7 +67,6 @@ pub record CanBeWritten (d : Disk) (bytes : List ℕ) (attributes : Attributes) 
   pub apart : l.part.pair.0 ≢ l.part.pair.1
   pub first : l.part.pair.0 < d.count
   pub second : l.part.pair.1 < d.count
-  pub fit : All (λ e. EntryFits (stored_entry e)) l.part.entries
   pub whole : AllByRecursion IsWhole (stored_entries bytes attributes l.part)
   pub few : length (stored_entries bytes attributes l.part) ≤ 1000
   pub room : weights (stored_entries bytes attributes l.part) + 40 ≤ d.size

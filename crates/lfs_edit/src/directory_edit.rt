@@ -16,7 +16,7 @@ use lfs_fs::{Delta, OutlineDirectory, OutlineEntry, OutlinePart, precedes};
 use std::alloc::{AllocError, Global};
 
 /// Whether a part has an entry of a name.
-fn has_name(part: &OutlinePart, name: &[u8]) -> bool
+pub(crate) fn has_name(part: &OutlinePart, name: &[u8]) -> bool
     ensures { result ≡ has_name name.now part.now }
 {
     part.entries

@@ -2,8 +2,6 @@
 
 ghost use Rattle.std.specs.Prelude.{◌≡◌, ◌<◌, ◌^◌, Some, None, true, not, length, nat_le, if◌then◌else◌, IfOk, IfErr, OnOk};
 ghost use Rattle.std.specs.List.{prefix_len, AllByRecursion};
-ghost use Rattle.lfs_block.specs.Geometry.{IsBlockSize};
-ghost use Rattle.lfs_file.specs.Capacity.{least_blocks};
 ghost use Rattle.lfs_meta.specs.declared.kind.Kind.TheVariants.{File};
 ghost use Rattle.lfs_meta.specs.BodyHeld.{body_held};
 ghost use Rattle.lfs_meta.specs.Fits.{BodyFits};
@@ -19,38 +17,14 @@ ghost use Rattle.lfs_edit.specs.FilePlace.{found_in, is_after};
 ghost use Rattle.lfs_edit.specs.Place.{picks};
 ghost use Rattle.lfs_edit.specs.Supplies.{most_inline};
 
+use crate::data_blocks::most_inline;
 use crate::file_part::FilePart;
 use crate::picking::{is_after, picked};
 use crate::place::leads_to;
 use crate::refusal::Refusal;
-use lfs_file::blocks_for;
 use lfs_fs::Limits;
 use lfs_meta::{Body, Entry, Kind, Part, names_are_decided};
 use std::alloc::{AllocError, Global};
-
-/// The most bytes that a struct's tag can hold.
-const MOST_HELD: u32 = 1_022;
-
-/// The most bytes of a file that stand in its entry, in blocks of this size.
-fn most_inline(size: u32) -> u32
-    ensures { result ≡ most_inline size }
-{
-    (size / 8).min(MOST_HELD)
-}
-
-/// How many blocks a file of `len` bytes takes beside its entry: none where its contents stand there. The caller owes a block
-/// size that images have, and a length below 2^32.
-pub(crate) fn data_count(size: u32, len: usize) -> u32
-    requires size { IsBlockSize size }
-    requires len { len < 2 ^ 32 }
-    ensures { result ≡ (if nat_le len (most_inline size) then 0 else least_blocks size len) }
-{
-    if len <= most_inline(size) as usize {
-        0
-    } else {
-        blocks_for(len as u32, size)
-    }
-}
 
 /// What stands in the entry of a file of these bytes, whose contents, where they don't stand there, are in these blocks: its
 /// head is the last of them. The caller owes fewer than 2^32 bytes. The only refusal is `Memory`.

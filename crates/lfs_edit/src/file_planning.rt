@@ -18,7 +18,8 @@ ghost use Rattle.lfs_edit.specs.FilePlace.{found_in};
 ghost use Rattle.lfs_edit.specs.PartWritten.{AreContents};
 ghost use Rattle.lfs_edit.specs.Planned.{Plans, RefusesPlan};
 
-use crate::file_edit::{check_file, data_count, file_body, with_file};
+use crate::data_blocks::data_count;
+use crate::file_edit::{check_file, file_body, with_file};
 use crate::file_part::FilePart;
 use crate::file_place::locate_file;
 use crate::paths::{last_of, names_of};

@@ -1,6 +1,8 @@
 //! Laws of commands: each function does nothing but call laws, and its contract is the law.
 
+ghost use Rattle.lfs_edit.specs.CommandsSet.{CommandsSetAPart};
 ghost use Rattle.lfs_edit.specs.Laws.{CleansFollow, CommandsAreFrugal, CommandsFollow, CutsAreFrugal, CutsFollow, FewPartsChange, FreeAfter, FreeAfterHeld, NeedIsExact, NeedIsTheSame, UsesAfter};
+ghost use Rattle.lfs_edit.specs.NeedsSmall.{NeedsAreSmall};
 ghost use Rattle.lfs_edit.specs.Written.{HeldAreClean, WrittenAreHeld};
 
 use lfs_file::chains_stay_on_their_blocks;
@@ -50,6 +52,25 @@ pub fn need_is_exact()
 {
     names_are_ordered();
     entries_are_cut_greedily();
+}
+
+/// A law: an accepted command sets a part whose pair the volume has, so that at least one block is written. Takes no memory.
+///
+/// Source: own.
+pub fn commands_set_a_part()
+    ensures { CommandsSetAPart }
+{
+    names_are_ordered();
+}
+
+/// A law: what a command needs that no check refuses, those on room aside, is a number of 32 bits, where the volume is without
+/// marks and no part of it has more than 65,536 entries. Takes no memory.
+///
+/// Source: own.
+pub fn needs_are_small()
+    ensures { NeedsAreSmall }
+{
+    names_are_ordered();
 }
 
 /// A law: the free blocks after a command are those before it without its supplies and its new pairs, with the blocks of

@@ -4,13 +4,11 @@ ghost use Rattle.std.specs.Prelude.{◌≡◌, ◌-◌, ◌≤◌, length, IfErr
 ghost use Rattle.lfs_meta.specs.Weighing.{weights};
 ghost use Rattle.lfs_edit.specs.Room.{FitsOne, RefusesRoom, has_too_large};
 
+use crate::block_room::KEPT;
 use crate::refusal::Refusal;
 use lfs_block::{Blocks, Image};
 use lfs_meta::{Entry, Part, cut, lists_have_a_run, runs_are_greedy, weight};
 use std::alloc::Global;
-
-/// The bytes of a block that entries can't take: revision, tail, delta and checksum.
-const KEPT: u32 = 40;
 
 /// Whether an entry weighs more than this room.
 fn has_too_large(entries: &[Entry], room: u32) -> bool

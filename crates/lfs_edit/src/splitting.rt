@@ -4,12 +4,10 @@ ghost use Rattle.std.specs.Prelude.{◌≡◌, ◌+◌, ◌<◌, ◌≤◌, ◌^
 ghost use Rattle.lfs_meta.specs.Runs.{runs_after, run_takes};
 ghost use Rattle.lfs_fs.specs.Weight.{weight};
 
+use crate::runs::run_takes;
 use crate::weighing::weight;
 use lfs_fs::OutlineEntry;
 use std::alloc::{AllocError, Global};
-
-/// The most entries of one pair.
-const MOST_ENTRIES: usize = 1_000;
 
 /// Runs of entries, the last of which is at work.
 #[derive(Drop)]
@@ -22,14 +20,6 @@ struct Splitting {
     taken: u32,
     // how many entries it has, with what stood before them
     len: usize,
-}
-
-/// Whether a run that weighs `taken` and has `len` entries takes one more of weight `next`.
-fn run_takes(room: u32, taken: u32, len: usize, next: u32) -> bool
-    requires { taken + next < 2 ^ 32 }
-    ensures { result ≡ run_takes room taken len next }
-{
-    taken + next <= room && len < MOST_ENTRIES
 }
 
 impl Splitting {

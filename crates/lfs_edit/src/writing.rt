@@ -18,7 +18,12 @@ use lfs_meta::{Part, parts_depend_on_their_blocks, rewrite};
 use std::alloc::{AllocError, Global};
 
 /// The change of one block of an image. The caller owes that there is such a block.
-fn change_of(alloc: Global, image: &Image, number: u32, new: Vec<u8>) -> Result<Record, AllocError>
+pub(crate) fn change_of(
+    alloc: Global,
+    image: &Image,
+    number: u32,
+    new: Vec<u8>,
+) -> Result<Record, AllocError>
     requires { number < image.now.count }
     ensures change { IfOk result (λ change. change ≡ change_at image.now number new.items) }
     ensures bytes { IsBytes new.items }
@@ -28,7 +33,7 @@ fn change_of(alloc: Global, image: &Image, number: u32, new: Vec<u8>) -> Result<
 }
 
 /// The changes of some blocks of an image. The caller owes that there are such blocks, and as many contents.
-fn changes_of(
+pub(crate) fn changes_of(
     alloc: Global,
     image: &Image,
     blocks: &[u32],
@@ -57,7 +62,7 @@ fn place_of(changes: &[Record], number: u32) -> usize
 }
 
 /// Puts a change among others, which rise by number.
-fn add(changes: &mut Vec<Record>, change: Record) -> Result<(), AllocError>
+pub(crate) fn add(changes: &mut Vec<Record>, change: Record) -> Result<(), AllocError>
     ensures { OnOk result (changes.new.items ≡ with_change change changes.old.items) }
 {
     let at = place_of(changes, change.number);

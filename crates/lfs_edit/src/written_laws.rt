@@ -1,16 +1,19 @@
 //! Laws of what is written of an outline: each function does nothing but call laws, and its contract is the law.
 
+ghost use Rattle.lfs_edit.specs.CutWritten.{CutLinksCanBeAdded, CutLinksCanBeWritten, HeldBytesAreMade, NewPairsAreFresh};
 ghost use Rattle.lfs_edit.specs.OutlineLaws.{LinksAreAdded, LinksAreFree, LinksAreLeft, NoLinksAreWritten, OutlinesAreWritten};
 ghost use Rattle.lfs_edit.specs.PlansHold.{BlocksAreTaken, BlocksAreWrittenOnce, LeastAreFree, PlansAreFrugal, PlansHold, RewrittenAreChanged, TablesTellNew};
 ghost use Rattle.lfs_edit.specs.PlansWritten.{CommandsAreWritten, LaidAreThere};
 
-use crate::laws::{commands_are_frugal, cuts_follow, written_volumes_are_held};
+use crate::laws::{commands_are_frugal, commands_follow, cuts_follow, written_volumes_are_held};
 use lfs_block::applied_patches_change_their_blocks;
 use lfs_file::{
     chains_stay_on_their_blocks, contents_have_their_length, files_have_one_chain,
     laid_blocks_are_chains,
 };
 use lfs_fs::{both_sides_hold, entries_are_cut_greedily};
+use lfs_meta::{live_blocks_are_read, names_are_decided};
+use lfs_tag::laws::blocks_have_a_log;
 
 /// A law: links are written one after another, none at first (`none`): one that is set by changes of its pair's blocks, where none of
 /// those written before uses one of them (`added`), so that there is no change of them yet (`free`), and one that isn't set by
@@ -103,4 +106,30 @@ pub fn commands_are_written()
     files_have_one_chain();
     contents_have_their_length();
     chains_stay_on_their_blocks();
+}
+
+/// A law: the links that are set of what an accepted command leaves, cut, may be written (`written`). A part in a new
+/// pair has no share of the global state (`fresh`). So all of them can be written behind the changes of new
+/// contents, as a table of the blocks that the volume uses tells its pairs from new ones (`added`). Takes no memory.
+///
+/// Source: own.
+pub fn cut_links_can_be_written()
+    ensures written { CutLinksCanBeWritten }
+    ensures fresh { NewPairsAreFresh }
+    ensures added { CutLinksCanBeAdded }
+{
+    names_are_decided();
+    commands_follow();
+    cuts_follow();
+}
+
+/// A law: the struct of the superblock of an image that holds a sound volume is the one that is made of the volume's size, count and
+/// limits. Takes no memory.
+///
+/// Source: own.
+pub fn held_superblocks_are_made()
+    ensures { HeldBytesAreMade }
+{
+    live_blocks_are_read();
+    blocks_have_a_log();
 }

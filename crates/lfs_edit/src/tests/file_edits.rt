@@ -1,6 +1,6 @@
 //! How many blocks files take beside their entries.
 
-use crate::file_edit::data_count;
+use crate::data_blocks::data_count;
 
 #[test]
 fn inline_limit(rt: HostRuntime) {

@@ -1,11 +1,12 @@
 //! Calls of the laws.
 
 use crate::{
-    commands_are_frugal, commands_are_written, commands_follow, cuts_follow, cuts_keep_outlines,
-    free_after, laid_contents_are_there, least_blocks_are_free, links_are_written_in_turn,
-    need_is_exact, outlines_are_carried, outlines_are_judged_alike, outlines_are_written,
-    outlines_follow, parts_are_cut_by_themselves, plans_are_frugal, plans_hold,
-    tables_tell_new_pairs, walks_go_by_pairs, written_blocks_are_taken, written_volumes_are_held,
+    commands_are_frugal, commands_are_written, commands_follow, cut_links_can_be_written,
+    cuts_follow, cuts_keep_outlines, free_after, held_superblocks_are_made,
+    laid_contents_are_there, least_blocks_are_free, links_are_written_in_turn, need_is_exact,
+    outlines_are_carried, outlines_are_judged_alike, outlines_are_written, outlines_follow,
+    parts_are_cut_by_themselves, plans_are_frugal, plans_hold, tables_tell_new_pairs,
+    walks_go_by_pairs, written_blocks_are_taken, written_volumes_are_held,
 };
 
 #[test]
@@ -39,4 +40,6 @@ fn laws_of_what_is_written_are_called() {
     tables_tell_new_pairs();
     least_blocks_are_free();
     written_blocks_are_taken();
+    cut_links_can_be_written();
+    held_superblocks_are_made();
 }

@@ -1,0 +1,119 @@
+-- What is cut is written, and the patch carries the command out.
+use Rattle.std.proofs.Common.{◌≡◌, ◌+◌, ◌<◌, ◌≤◌, ℕ, Bool, List, length, map, take, drop, refl, ap, sym, ◌∙◌, subst, arith}
+use Rattle.std.specs.Prelude.{All, AllPairs}
+use Rattle.std.proofs.lemmas.List.{length-take-le}
+use Rattle.lfs_block.specs.Patch.{ChangeSet, IsPatch}
+use Rattle.lfs_fs.specs.Thread.{links}
+use Rattle.lfs_fs.specs.Free.{free_blocks}
+use Rattle.lfs_fs.specs.Volume.{Volume}
+use Rattle.lfs_edit.specs.Command.{Command}
+use Rattle.lfs_edit.specs.Carried.{IsFinished, supplies_of}
+use Rattle.lfs_edit.specs.Clean.{clean}
+use Rattle.lfs_edit.specs.SuperblockBytes.{volume_bytes}
+use Rattle.lfs_edit.specs.WrittenLinks.{AreWritten}
+use Rattle.lfs_edit.specs.Need.{data_blocks, need}
+use Rattle.lfs_edit.specs.NamedCommand.{named_command}
+use Rattle.lfs_edit.specs.PairWritten.{CanBeAdded}
+use Rattle.lfs_edit.specs.PlansHold.{is_unmarked}
+use Rattle.lfs_edit.proofs.CarryingLemmas.{finish, within_need}
+use Rattle.lfs_edit.proofs.FreeBlocks.{taken_below, taken_rise}
+use Rattle.lfs_edit.proofs.WritingLemmas.{at_hand, can_be_added, contents_are, contents_below, contents_many, contents_rise, writes_over}
+use Rattle.lfs_edit.proofs.carrying.written.Goals as goal
+
+pub slice_bounds-laid_for-end : goal.slice_bounds-laid_for-end
+slice_bounds-laid_for-end c =
+    let d = c.args.image.now in
+    let cut' = c.requires.cut in
+    let known = at_hand c.carrying_laws.ensures c.held_superblocks_are_made.ensures d c.size-size.ensures.disk (named_command c.args.command.now) c.args.used.now c.args.blocks.now c.args.outline.now cut' in
+    let is = c.data_blocks-count.ensures cut'.ready.volume (known.held.size ∙ sym c.size-size.ensures.value) in
+    sym (contents_many d (named_command c.args.command.now) c.args.used.now c.args.blocks.now c.args.outline.now cut' c.data_blocks-count.result is)
+
+pub laid_for-requires-clause-rising : goal.laid_for-requires-clause-rising
+laid_for-requires-clause-rising c =
+    let d = c.args.image.now in
+    let cut' = c.requires.cut in
+    let known = at_hand c.carrying_laws.ensures c.held_superblocks_are_made.ensures d c.size-size.ensures.disk (named_command c.args.command.now) c.args.used.now c.args.blocks.now c.args.outline.now cut' in
+    let is = c.data_blocks-count.ensures cut'.ready.volume (known.held.size ∙ sym c.size-size.ensures.value) in
+    contents_rise d (named_command c.args.command.now) c.args.used.now c.args.blocks.now c.args.outline.now cut' c.data_blocks-count.result is
+
+pub laid_for-requires-clause-below : goal.laid_for-requires-clause-below
+laid_for-requires-clause-below c =
+    let d = c.args.image.now in
+    let cut' = c.requires.cut in
+    let known = at_hand c.carrying_laws.ensures c.held_superblocks_are_made.ensures d c.size-size.ensures.disk (named_command c.args.command.now) c.args.used.now c.args.blocks.now c.args.outline.now cut' in
+    let is = c.data_blocks-count.ensures cut'.ready.volume (known.held.size ∙ sym c.size-size.ensures.value) in
+    subst (λ (n : ℕ). All (λ b. b < n) (take c.data_blocks-count.result c.args.blocks.now)) known.held.count
+    (contents_below d (named_command c.args.command.now) c.args.used.now c.args.blocks.now c.args.outline.now cut' c.data_blocks-count.result is)
+
+pub laid_for-requires-clause-many : goal.laid_for-requires-clause-many
+laid_for-requires-clause-many c v size =
+    let d = c.args.image.now in
+    let cut' = c.requires.cut in
+    let known = at_hand c.carrying_laws.ensures c.held_superblocks_are_made.ensures d c.size-size.ensures.disk (named_command c.args.command.now) c.args.used.now c.args.blocks.now c.args.outline.now cut' in
+    let is = c.data_blocks-count.ensures cut'.ready.volume (known.held.size ∙ sym c.size-size.ensures.value) in
+    contents_many d (named_command c.args.command.now) c.args.used.now c.args.blocks.now c.args.outline.now cut' c.data_blocks-count.result is
+    ∙ c.data_blocks-count.ensures v (size ∙ sym c.size-size.ensures.value)
+
+pub write_links-requires-clause-rise : goal.write_links-requires-clause-rise
+write_links-requires-clause-rise c =
+    let d = c.args.image.now in
+    (at_hand c.carrying_laws.ensures c.held_superblocks_are_made.ensures d c.size-size.ensures.disk (named_command c.args.command.now)
+    c.args.used.now c.args.blocks.now c.args.outline.now c.requires.cut).root
+
+pub write_links-requires-clause-can : goal.write_links-requires-clause-can
+write_links-requires-clause-can c =
+    let d = c.args.image.now in
+    let command = named_command c.args.command.now in
+    let used = c.args.used.now in
+    let blocks = c.args.blocks.now in
+    let w = c.args.outline.now in
+    let cut' = c.requires.cut in
+    let v = cut'.ready.volume in
+    let laws = c.carrying_laws.ensures in
+    let known = at_hand laws c.held_superblocks_are_made.ensures d c.size-size.ensures.disk command used blocks w cut' in
+    let is = c.data_blocks-count.ensures v (known.held.size ∙ sym c.size-size.ensures.value) in
+    let contents = ap (λ (k : ℕ). take k blocks) is ∙ contents_are d command used blocks w cut' in
+    let laid = c.in_ok-base.ensures v (supplies_of v command) known.held.size (sym contents) in
+    subst (λ (flags : List Bool). CanBeAdded d (volume_bytes w) w.attributes (is_unmarked flags) c.in_ok-base.base.items (links w.directories)) (sym c.flags.ensures)
+    (can_be_added laws c.cut_links_can_be_written.ensures.added d c.size-size.ensures.disk command used blocks w cut' known c.in_ok-base.base.items laid)
+
+pub of-requires : goal.of-requires
+of-requires c =
+    let d = c.args.image.now in
+    let command = named_command c.args.command.now in
+    let used = c.args.used.now in
+    let blocks = c.args.blocks.now in
+    let w = c.args.outline.now in
+    let cut' = c.requires.cut in
+    let v = cut'.ready.volume in
+    let laws = c.carrying_laws.ensures in
+    let known = at_hand laws c.held_superblocks_are_made.ensures d c.size-size.ensures.disk command used blocks w cut' in
+    let is = c.data_blocks-count.ensures v (known.held.size ∙ sym c.size-size.ensures.value) in
+    let contents = ap (λ (k : ℕ). take k blocks) is ∙ contents_are d command used blocks w cut' in
+    let laid = c.in_ok-base.ensures v (supplies_of v command) known.held.size (sym contents) in
+    let written = subst (λ (flags : List Bool). AreWritten d (volume_bytes w) w.attributes (is_unmarked flags) c.in_ok-base.base.items (links w.directories) c.in_ok-changes.changes.items)
+    c.flags.ensures c.in_ok-changes.ensures in
+    let writes = writes_over laws c.commands_set_a_part.ensures d command used blocks w cut' known c.in_ok-base.base.items c.in_ok-changes.changes.items laid written in
+    subst (λ (n : ℕ). IsPatch (record { size = n; changes = c.in_ok-changes.changes.items })) (sym c.size-size.ensures.value) writes.patch
+
+pub returns : goal.returns
+returns c =
+    let d = c.args.image.now in
+    let command = named_command c.args.command.now in
+    let used = c.args.used.now in
+    let blocks = c.args.blocks.now in
+    let w = c.args.outline.now in
+    let cut' = c.requires.cut in
+    let v = cut'.ready.volume in
+    let laws = c.carrying_laws.ensures in
+    let known = at_hand laws c.held_superblocks_are_made.ensures d c.size-size.ensures.disk command used blocks w cut' in
+    let is = c.data_blocks-count.ensures v (known.held.size ∙ sym c.size-size.ensures.value) in
+    let contents = ap (λ (k : ℕ). take k blocks) is ∙ contents_are d command used blocks w cut' in
+    let laid = c.in_ok-base.ensures v (supplies_of v command) known.held.size (sym contents) in
+    let written = subst (λ (flags : List Bool). AreWritten d (volume_bytes w) w.attributes (is_unmarked flags) c.in_ok-base.base.items (links w.directories) c.in_ok-changes.changes.items)
+    c.flags.ensures c.in_ok-changes.ensures in
+    let writes = writes_over laws c.commands_set_a_part.ensures d command used blocks w cut' known c.in_ok-base.base.items c.in_ok-changes.changes.items laid written in
+    let p : ChangeSet = record { size = d.size; changes = c.in_ok-changes.changes.items } in
+    let same : c.of.result ≡ p = c.of.ensures ∙ ap (λ (n : ℕ). record { size = n; changes = c.in_ok-changes.changes.items }) c.size-size.ensures.value in
+    subst (λ (x : ChangeSet). IsFinished d command x (clean w)) (sym same)
+    (finish laws d command used blocks cut'.before w p c.size-size.ensures.disk cut'.ready cut'.cuts (λ held. c.held_superblocks_are_made.ensures d v held c.size-size.ensures.disk cut'.ready.sound) writes)

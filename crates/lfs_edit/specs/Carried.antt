@@ -1,0 +1,112 @@
+-- How a command is carried out on the outline of an image (own).
+use Rattle.std.specs.Prelude.{ℕ, ◌≡◌, ◌+◌, Bool, List, [], ◌∷◌, Option, None, All, drop, nat_lt, length, take, sum_by}
+use Rattle.lfs_block.specs.Change.{Change}
+use Rattle.lfs_block.specs.Disk.{Disk}
+use Rattle.lfs_block.specs.Patch.{ChangeSet, IsPatch, AgreesOld, applied}
+use Rattle.lfs_meta.specs.Body.{Pair}
+use Rattle.lfs_fs.specs.Directory.{Part, thread}
+use Rattle.lfs_fs.specs.Mounted.{IsOutlineOf}
+use Rattle.lfs_fs.specs.Thread.{links}
+use Rattle.lfs_fs.specs.Volume.{Volume}
+use Rattle.lfs_fs.specs.Free.{free_blocks}
+use Rattle.lfs_fs.specs.Outlined.{outlined}
+use Rattle.lfs_fs.specs.Sound.{IsSound}
+use Rattle.lfs_fs.specs.Used.{Marks}
+use Rattle.lfs_fs.specs.Uses.{times, uses}
+use Rattle.lfs_fs.specs.Reading.{reading_of}
+use Rattle.lfs_fs.specs.Holds.{Holds}
+use Rattle.lfs_edit.specs.declared.refusal.Refusal.{Refusal}
+use Rattle.lfs_edit.specs.declared.refusal.Refusal.TheVariants.{EntryTooLarge, NoSpace}
+use Rattle.lfs_edit.specs.Command.{Command, Asked, Spells, HasNames}
+use Rattle.lfs_edit.specs.Supplies.{Supplies}
+use Rattle.lfs_edit.specs.EditedOutline.{edited_outline}
+use Rattle.lfs_edit.specs.Cut.{cut, HasEnough, new_pair_uses}
+use Rattle.lfs_edit.specs.Need.{need, data_blocks, directory_blocks, part_blocks, dirty_parts}
+use Rattle.lfs_edit.specs.Verdict.{checks, first_refusal, refuse_if, verdict}
+use Rattle.lfs_edit.specs.OutlineCarried.{has_too_large}
+use Rattle.lfs_edit.specs.Planned.{PlansLeast, RefusesPlan}
+use Rattle.lfs_edit.specs.PlansHold.{content_blocks, is_unmarked}
+use Rattle.lfs_edit.specs.PlansWritten.{LaysNew}
+use Rattle.lfs_edit.specs.SuperblockBytes.{volume_bytes}
+use Rattle.lfs_edit.specs.WrittenLinks.{AreWritten, changed_blocks}
+
+-- the first two of some blocks as a pair, which isn't the root's where they are fewer
+abbrev pub least_pair : List ℕ → Pair
+least_pair [] = (0, 0)
+least_pair (a ∷ []) = (0, 0)
+least_pair (a ∷ b ∷ more) = (a, b)
+
+-- what a command takes for what it makes: the first of the free blocks
+abbrev pub least_supplies : Volume → Command → List ℕ → Supplies
+least_supplies v c free = record { blocks = take (data_blocks v c) free; pair = least_pair free }
+
+-- how many those are
+abbrev pub made_blocks : Volume → Command → ℕ
+made_blocks v c = data_blocks v c + directory_blocks c
+
+-- the checks on room, on the outline that a command leaves before its parts are cut, where it takes so many blocks for what it makes
+abbrev pub room_checks_on : Volume → ℕ → List ℕ → List (Option Refusal)
+room_checks_on o made free =
+    refuse_if (has_too_large o) EntryTooLarge
+    ∷ refuse_if (nat_lt (length free) (made + sum_by (part_blocks o) (dirty_parts o)))
+    (NoSpace (made + sum_by (part_blocks o) (dirty_parts o)) (length free))
+    ∷ []
+
+-- an outline of the volume that an image holds, on which no check refuses a command, those on room aside
+pub record IsJudged (d : Disk) (c : Command) (o : Volume) : Type 0 where
+  pub outline : IsOutlineOf d o
+  pub names : HasNames c
+  pub unrefused : first_refusal (checks o c) ≡ None
+
+-- An outline is what a command leaves of that of the volume that an image holds, where it takes the least free blocks. No check refuses
+-- the command, a table marks the blocks that the volume uses, and as many of the least free blocks are at hand as it needs.
+pub record IsReady (d : Disk) (c : Command) (used : List Bool) (blocks : List ℕ) (o : Volume) : Type 0 where
+  pub volume : Volume
+  pub holds : Holds (reading_of d) volume
+  pub sound : IsSound volume
+  pub names : HasNames c
+  pub unrefused : verdict volume c ≡ None
+  pub marks : Marks used (λ b. uses b volume)
+  pub outline : o ≡ edited_outline (outlined volume) c (least_supplies volume c (free_blocks volume))
+  pub least : blocks ≡ take (need volume c) (free_blocks volume)
+
+-- ---- what is made of it
+
+-- the supplies of a command that is ready
+abbrev pub supplies_of : Volume → Command → Supplies
+supplies_of v c = least_supplies v c (free_blocks v)
+
+-- Pairs are chosen for the parts of an outline that take more than a block: as many as each needs, of these blocks.
+pub record AreChosenOf (o : Volume) (chosen : Part → List Pair) (blocks : List ℕ) : Type 0 where
+  pub enough : All (HasEnough chosen o) (thread o.directories)
+  pub uses : (b : ℕ) → new_pair_uses chosen o b ≡ times b blocks
+
+-- An outline is cut, with pairs of these blocks.
+pub record IsCutOver (old : Volume) (blocks : List ℕ) (new : Volume) : Type 0 where
+  pub chosen : Part → List Pair
+  pub are : AreChosenOf old chosen blocks
+  pub is : new ≡ cut chosen old
+
+-- An outline that is ready is cut.
+pub record IsCutReady (d : Disk) (c : Command) (used : List Bool) (blocks : List ℕ) (o : Volume) : Type 0 where
+  pub before : Volume
+  pub ready : IsReady d c used blocks before
+  pub cuts : IsCutOver before (drop (made_blocks ready.volume c) blocks) o
+
+-- A patch writes an outline over the volume of an image: blocks of a file's new contents, and the links that are set.
+pub record WritesOver (d : Disk) (v : Volume) (c : Command) (used : List Bool) (o : Volume) (p : ChangeSet) : Type 0 where
+  pub patch : IsPatch p
+  pub stands : AgreesOld p d
+  pub base : List Change
+  pub contents : changed_blocks base ≡ content_blocks v c (supplies_of v c)
+  pub lays : LaysNew d v c (supplies_of v c) base
+  pub written : AreWritten d (volume_bytes o) o.attributes (is_unmarked used) base (links o.directories) p.changes
+
+-- a command is refused on the volume that an image holds, however it is spelled
+abbrev pub IsRefusedBy : Disk → Command → Refusal → Type 0
+IsRefusedBy d c r = (asked : Asked) → Spells asked c → RefusesPlan d asked r
+
+-- A patch carries a command out, however it is spelled, and an outline is that of the patched image.
+pub record IsFinished (d : Disk) (c : Command) (p : ChangeSet) (o : Volume) : Type 0 where
+  pub plans : (asked : Asked) → Spells asked c → PlansLeast d asked p
+  pub outline : IsOutlineOf (applied p d) o

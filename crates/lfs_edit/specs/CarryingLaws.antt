@@ -1,0 +1,29 @@
+-- The laws that carrying a command out stands on (own).
+use Rattle.lfs_fs.specs.Stored.{HeldAreHeldByLinks}
+use Rattle.lfs_edit.specs.EditedOutline.{OutlinesFollow}
+use Rattle.lfs_edit.specs.JudgedAlike.{OutlinesAreJudgedAlike}
+use Rattle.lfs_edit.specs.Laws.{CleansFollow, CommandsFollow, CutsFollow, FewPartsChange, FreeAfterHeld}
+use Rattle.lfs_edit.specs.OutlineCarried.{LargeIsTheSame, OutlinesAreCarried}
+use Rattle.lfs_edit.specs.PlansHold.{LeastAreFree, PlansAreFrugal, PlansHold, RewrittenAreChanged, TablesTellNew}
+use Rattle.lfs_edit.specs.Written.{HeldAreClean}
+use Rattle.lfs_edit.specs.PlansWritten.{CommandsAreWritten, LaidAreThere}
+
+pub record CarryingLaws : Type 0 where
+  pub command : CommandsFollow
+  pub few : FewPartsChange
+  pub marks : HeldAreClean
+  pub outlines : OutlinesFollow
+  pub judged : OutlinesAreJudgedAlike
+  pub carried : OutlinesAreCarried
+  pub large : LargeIsTheSame
+  pub least : LeastAreFree
+  pub changed : RewrittenAreChanged
+  pub tell : TablesTellNew
+  pub laid : LaidAreThere
+  pub written : CommandsAreWritten
+  pub hold : PlansHold
+  pub frugal : PlansAreFrugal
+  pub freed : FreeAfterHeld
+  pub follow : CutsFollow
+  pub clean : CleansFollow
+  pub by_links : HeldAreHeldByLinks

@@ -1,0 +1,146 @@
+//! Commands that are carried out on the outline of an image.
+
+ghost use Rattle.std.specs.Prelude.{◌≡◌, ◌+◌, ◌<◌, ◌≤◌, ◌^◌, ◌⊎◌, None, Some, nat_lt, length, take, sum_by, IfOk, IfErr, OnOk};
+ghost use Rattle.std.specs.List.{filter};
+ghost use Rattle.lfs_block.specs.Geometry.{IsBlockSize};
+ghost use Rattle.lfs_block.specs.Patch.{applied};
+ghost use Rattle.lfs_fs.specs.Mounted.{IsOutlineOf};
+ghost use Rattle.lfs_fs.specs.Unused.{unused};
+ghost use Rattle.lfs_fs.specs.Volume.{Volume};
+ghost use Rattle.lfs_edit.specs.declared.refusal.Refusal.TheVariants.{Memory};
+ghost use Rattle.lfs_edit.specs.AskedFor.{asked_for};
+ghost use Rattle.lfs_edit.specs.Carried.{IsCutOver, IsCutReady, IsFinished, IsJudged, IsReady, IsRefusedBy, least_supplies, room_checks_on};
+ghost use Rattle.lfs_edit.specs.Chosen.{HasPairsOnce};
+ghost use Rattle.lfs_edit.specs.Clean.{clean};
+ghost use Rattle.lfs_edit.specs.Cut.{runs};
+ghost use Rattle.lfs_edit.specs.Editable.{IsEditable};
+ghost use Rattle.lfs_edit.specs.EditedOutline.{edited_outline};
+ghost use Rattle.lfs_edit.specs.NamedCommand.{contents_len, named_command};
+ghost use Rattle.lfs_edit.specs.Need.{data_blocks, dirty_parts, part_blocks};
+ghost use Rattle.lfs_edit.specs.Planned.{Plans, RefusesPlan};
+ghost use Rattle.lfs_edit.specs.Verdict.{first_refusal};
+
+use crate::carrying_laws::carrying_laws;
+use crate::choosing::choose;
+use crate::cleaning::clean;
+use crate::cutting::cut;
+use crate::editing::edit;
+use crate::laws::commands_set_a_part;
+use crate::laying::laid_for;
+use crate::leading::leading_pair;
+use crate::link_writing::write_links;
+use crate::made_blocks::{data_blocks, directory_blocks};
+use crate::named_command::NamedCommand;
+use crate::refusal::Refusal;
+use crate::room_check::needed;
+use crate::supplying::least_supplies;
+use crate::written_laws::{cut_links_can_be_written, held_superblocks_are_made};
+use lfs_block::{Blocks, Image, Patch};
+use lfs_fs::{Outline, UsedBlocks};
+use std::alloc::{AllocError, Global};
+
+/// What a command makes of an outline with the least free blocks. The caller owes what `edit` asks, a block size that images have, and
+/// contents of fewer than 2^32 bytes. Where memory is wanting, the outline is of no use.
+fn edit_least(
+    alloc: Global,
+    outline: &mut Outline,
+    command: &NamedCommand<'_>,
+    used: &UsedBlocks,
+) -> Result<(), AllocError>
+    requires editable { IsEditable outline.old (named_command command.now) }
+    requires size { IsBlockSize outline.old.size }
+    requires len { contents_len command.now < 2 ^ 32 }
+    ensures { OnOk result (outline.new
+        ≡ edited_outline outline.old (named_command command.now) (least_supplies outline.old (named_command command.now) (unused used.now))) }
+{
+    let count = data_blocks(outline.size, command);
+    let supplies = least_supplies(alloc, used, count)?;
+    edit(alloc, outline, command, supplies)?;
+    Ok(())
+}
+
+/// The least free blocks, as many as a command needs: `EntryTooLarge` where some part that is set has an entry that weighs more than a
+/// block has room for, else `NoSpace` where fewer are free. The caller owes what `needed` asks.
+fn needed_blocks(
+    alloc: Global,
+    outline: &Outline,
+    made: u32,
+    used: &UsedBlocks,
+) -> Result<Vec<u32>, Refusal>
+    requires size { outline.now.size ≤ 65536 }
+    requires small { made + sum_by (part_blocks outline.now) (dirty_parts outline.now) < 2 ^ 32 }
+    ensures blocks { IfOk result (λ blocks. blocks.items ≡ take (made + sum_by (part_blocks outline.now) (dirty_parts outline.now)) (unused used.now)) }
+    ensures unrefused { OnOk result (first_refusal (room_checks_on outline.now made (unused used.now)) ≡ None) }
+    ensures refused { IfErr result (λ r. (r ≡ Memory) ⊎ (first_refusal (room_checks_on outline.now made (unused used.now)) ≡ Some r)) }
+{
+    let need = needed(outline, made, used)?;
+    used.lowest_free(alloc, need).ok_or(Refusal::Memory)
+}
+
+/// Cuts the parts of an outline that are set, into pairs of new blocks, of which the part of the pair `leading` gets the first. The caller
+/// owes what `choose` asks. Want of memory leaves the outline of no use.
+fn cut_over(
+    alloc: Global,
+    outline: &mut Outline,
+    leading: Option<(u32, u32)>,
+    blocks: &[u32],
+) -> Result<(), AllocError>
+    requires size { outline.old.size ≤ 65536 }
+    requires needed { length blocks.now ≡ sum_by (part_blocks outline.old) (dirty_parts outline.old) }
+    requires once { HasPairsOnce outline.old }
+    requires few { length (filter (λ p. nat_lt 1 (length (runs outline.old p))) (dirty_parts outline.old)) ≤ 2 }
+    ensures { OnOk result (IsCutOver outline.old blocks.now outline.new) }
+{
+    let rows = choose(alloc, outline, leading, blocks)?;
+    cut(alloc, outline, &rows)?;
+    Ok(())
+}
+
+/// The patch that writes an outline that is cut: a file's new contents in the first of the blocks, and its links that are set.
+fn written(
+    alloc: Global,
+    image: &Image,
+    outline: &Outline,
+    command: &NamedCommand<'_>,
+    used: &UsedBlocks,
+    blocks: &[u32],
+) -> Result<Patch, AllocError>
+    requires cut { IsCutReady image.now (named_command command.now) used.now blocks.now outline.now }
+    requires len { contents_len command.now < 2 ^ 32 }
+    ensures { IfOk result (λ patch. IsFinished image.now (named_command command.now) patch (clean outline.now)) }
+{
+    carrying_laws();
+    cut_links_can_be_written();
+    held_superblocks_are_made();
+    commands_set_a_part();
+    let size = image.size();
+    let count = data_blocks(size, command) as usize;
+    let base = laid_for(alloc, image, command, &blocks[..count])?;
+    let changes = write_links(alloc, image, outline, used.flags(), base)?;
+    Ok(Patch::of(size, changes))
+}
+
+/// Cuts an outline that is ready, writes it, and takes the marks of the command off. Where memory is wanting, the outline is of no use.
+fn carry_ready(
+    alloc: Global,
+    image: &Image,
+    outline: &mut Outline,
+    command: &NamedCommand<'_>,
+    used: &UsedBlocks,
+    blocks: &[u32],
+    leading: Option<(u32, u32)>,
+) -> Result<Patch, AllocError>
+    requires ready { IsReady image.now (named_command command.now) used.now blocks.now outline.old }
+    requires len { contents_len command.now < 2 ^ 32 }
+    ensures { IfOk result (λ patch. IsFinished image.now (named_command command.now) patch outline.new) }
+{
+    carrying_laws();
+    let size = image.size();
+    let data = data_blocks(size, command) as usize;
+    let made = data + directory_blocks(command) as usize;
+    let (_, new) = blocks.split_at(made);
+    cut_over(alloc, outline, leading, new)?;
+    let patch = written(alloc, image, outline, command, used, blocks)?;
+    clean(outline);
+    Ok(patch)
+}

@@ -1,0 +1,34 @@
+//! The laws that carrying a command out stands on.
+
+ghost use Rattle.lfs_edit.specs.CarryingLaws.{CarryingLaws};
+
+use crate::laws::{
+    commands_follow, cuts_follow, free_after, need_is_exact, written_volumes_are_held,
+};
+use crate::outline_laws::{outlines_are_carried, outlines_are_judged_alike, outlines_follow};
+use crate::written_laws::{
+    commands_are_written, laid_contents_are_there, least_blocks_are_free, plans_are_frugal,
+    plans_hold, tables_tell_new_pairs,
+};
+use lfs_fs::both_sides_hold;
+
+/// The laws that carrying a command out stands on. Takes no memory.
+pub(crate) fn carrying_laws()
+    ensures { CarryingLaws }
+{
+    both_sides_hold();
+    outlines_are_judged_alike();
+    outlines_are_carried();
+    least_blocks_are_free();
+    tables_tell_new_pairs();
+    laid_contents_are_there();
+    commands_are_written();
+    plans_hold();
+    plans_are_frugal();
+    free_after();
+    cuts_follow();
+    commands_follow();
+    need_is_exact();
+    written_volumes_are_held();
+    outlines_follow();
+}

@@ -1,0 +1,63 @@
+//! Copies of entries.
+
+ghost use Rattle.std.specs.Prelude.{◌≡◌, ◌<◌, IfOk, length};
+ghost use Rattle.lfs_fs.specs.OutlineHeld.{outline_body_held};
+ghost use Rattle.lfs_edit.specs.Edited.{renamed};
+
+use lfs_fs::{OutlineBody, OutlineEntry};
+use lfs_meta::Attribute;
+use std::alloc::{AllocError, Global};
+
+/// A copy of an attribute.
+fn copied_attribute(alloc: Global, attribute: &Attribute) -> Result<Attribute, AllocError>
+    ensures { IfOk result (λ copy. copy ≡ attribute.now) }
+{
+    Ok(Attribute {
+        kind: attribute.kind,
+        value: Vec::from_slice(alloc, &attribute.value)?,
+    })
+}
+
+/// A copy of attributes.
+pub(crate) fn copied_attributes(
+    alloc: Global,
+    attributes: &[Attribute],
+) -> Result<Vec<Attribute>, AllocError>
+    ensures { IfOk result (λ copy. copy.items ≡ attributes.now) }
+{
+    let mut copy = Vec::with_capacity(alloc, attributes.len())?;
+    for attribute in attributes {
+        copy.push(copied_attribute(alloc, attribute)?)?;
+    }
+    Ok(copy)
+}
+
+/// A copy of what says where contents are.
+fn copied_body(alloc: Global, body: &OutlineBody) -> Result<OutlineBody, AllocError>
+    ensures { IfOk result (λ copy. outline_body_held copy ≡ outline_body_held body.now) }
+{
+    Ok(match body {
+        OutlineBody::Held(bytes) => OutlineBody::Held(Vec::from_slice(alloc, bytes)?),
+        OutlineBody::Linked { blocks, size } => OutlineBody::Linked {
+            blocks: Vec::from_slice(alloc, blocks)?,
+            size: *size,
+        },
+        OutlineBody::Leads(first, second) => OutlineBody::Leads(*first, *second),
+    })
+}
+
+/// A copy of an entry under another name. The caller owes a name of at most 1,022 bytes.
+pub(crate) fn renamed(
+    alloc: Global,
+    entry: &OutlineEntry,
+    name: &[u8],
+) -> Result<OutlineEntry, AllocError>
+    requires { length name.now < 1023 }
+    ensures { IfOk result (λ copy. copy ≡ renamed name.now entry.now) }
+{
+    Ok(OutlineEntry {
+        name: Vec::from_slice(alloc, name)?,
+        body: copied_body(alloc, &entry.body)?,
+        attributes: copied_attributes(alloc, &entry.attributes)?,
+    })
+}
