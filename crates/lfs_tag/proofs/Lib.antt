@@ -7,3 +7,4 @@ pub mod ReadLoop
 pub mod Puts
 pub mod Erased
 pub mod Items
+pub mod TagCounts

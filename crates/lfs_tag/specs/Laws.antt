@@ -1,5 +1,5 @@
 -- Laws of logs (own).
-use Rattle.std.specs.Prelude.{◌≡◌, ◌≢◌, ◌↔◌, true, ℕ, ◌+◌, ◌<◌, ◌≤◌, ◌^◌, List, [], ◌∷◌, ◌++◌, length, drop}
+use Rattle.std.specs.Prelude.{◌≡◌, ◌≢◌, ◌↔◌, true, ℕ, ◌+◌, ◌*◌, ◌<◌, ◌≤◌, ◌^◌, List, [], ◌∷◌, ◌++◌, length, drop}
 use Rattle.std.specs.List.{AllByRecursion}
 use Rattle.lfs_block.specs.Bytes.{IsBytes}
 use Rattle.lfs_block.specs.Disk.{put_at}
@@ -28,6 +28,10 @@ BlocksHaveALog = (block : List ℕ) → 4 ≤ length block → IsBytes block →
 abbrev pub LogTagsAreItems : Type 0
 LogTagsAreItems = (block : List ℕ) (commits : List Commit) (rest : List ℕ) → IsLog block commits rest
     → AllByRecursion IsItem (log_tags commits)
+
+-- Each tag of a block's log takes four bytes of the block, and more where it has data.
+abbrev pub LogTagsAreFew : Type 0
+LogTagsAreFew = (block : List ℕ) → IsBytes block → 4 * length (log_tags (log_of block).commits) ≤ length block
 
 -- The test of erased bytes says whether they are.
 abbrev pub ErasedIsDecided : Type 0

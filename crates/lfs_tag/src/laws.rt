@@ -1,6 +1,6 @@
 //! Laws of logs. Each function does nothing: its contract is the law.
 
-ghost use Rattle.lfs_tag.specs.Laws.{OneLog, LogIsRead, BlocksHaveALog, LogTagsAreItems, ErasedIsDecided, ErasedHoldsNoCommit, FinalWordKind, ErasedBlock, FirstCommit, NextCommit, WrittenLength};
+ghost use Rattle.lfs_tag.specs.Laws.{OneLog, LogIsRead, BlocksHaveALog, LogTagsAreItems, LogTagsAreFew, ErasedIsDecided, ErasedHoldsNoCommit, FinalWordKind, ErasedBlock, FirstCommit, NextCommit, WrittenLength};
 
 /// A block of bytes has one log.
 pub fn one_log()
@@ -20,6 +20,11 @@ pub fn blocks_have_a_log()
 /// The tags of a log's commits are valid, no checksums', and have as much data as they say.
 pub fn log_tags_are_items()
     ensures { LogTagsAreItems }
+{}
+
+/// Each tag of a block's log takes four bytes of the block, and more where it has data.
+pub fn log_tags_are_few()
+    ensures { LogTagsAreFew }
 {}
 
 /// The test of erased bytes says whether they are.

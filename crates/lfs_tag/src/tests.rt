@@ -182,6 +182,7 @@ fn laws_of_logs(_rt: HostRuntime) {
     laws::log_is_read();
     laws::blocks_have_a_log();
     laws::log_tags_are_items();
+    laws::log_tags_are_few();
     laws::erased_is_decided();
     laws::erased_holds_no_commit();
     laws::erased_block();
