@@ -50,16 +50,19 @@ drop_bytes zero xs all i = all i
 drop_bytes (suc n) [] all i = omega arith
 drop_bytes (suc n) (x ∷ xs) all i = drop_bytes n xs (λ k. all (suc k)) i
 
+pub block_bytes : (d : Disk) (n : ℕ) → IsDisk d → IsBytes (block_of d n)
+block_bytes d n disk = take_bytes d.size (drop (n * d.size) d.bytes) (drop_bytes (n * d.size) d.bytes disk.bytes)
+
 -- the tags that a block's log has
 block_items : BlocksHaveALog → LogTagsAreItems → (d : Disk) (n : ℕ) (log : LogSeen) (tags : List Item) → IsDisk d → n < d.count
     → log ≡ log_seen (block_of d n) → log.tags ≡ tags → AllByRecursion IsItem tags
 block_items logs items d n log tags disk below is same =
     let block : List ℕ = block_of d n in
-    let there = logs block (block_len d n disk below) (take_bytes d.size (drop (n * d.size) d.bytes) (drop_bytes (n * d.size) d.bytes disk.bytes)) in
+    let there = logs block (block_len d n disk below) (block_bytes d n disk) in
     let these : log_tags (log_of block).commits ≡ tags = sym (ap (λ (l : LogSeen). l.tags) is) ∙ same in
     subst (AllByRecursion IsItem) these (items block (log_of block).commits (log_of block).rest there)
 
-same_tags : (log : LogSeen) (tags : List Item) → ◌≡◌ {A = Option (List Item)} (Some log.tags) (Some tags) → log.tags ≡ tags
+pub same_tags : (log : LogSeen) (tags : List Item) → ◌≡◌ {A = Option (List Item)} (Some log.tags) (Some tags) → log.tags ≡ tags
 same_tags log tags is = cc
 
 live_items : BlocksHaveALog → LogTagsAreItems → (d : Disk) (pair : Pair) (live : LiveBlock) (tags : List Item) → IsDisk d → pair.0 < d.count → pair.1 < d.count

@@ -13,6 +13,8 @@ pub mod TagWordLemmas
 pub mod UnreadLemmas
 pub mod PartlessLemmas
 pub mod HeldPartLemmas
+pub mod ReplayCounts
+pub mod HeldCounts
 pub mod WeighingLemmas
 pub mod WholeLemmas
 pub mod WrittenLemmas

@@ -119,7 +119,7 @@ acted-fits SetDelta t p item all = all
 
 -- ---- logs
 
-taken : (b : Bool) (p q : RawPart) → (if b then None else Some p) ≡ Some q → p ≡ q
+pub taken : (b : Bool) (p q : RawPart) → (if b then None else Some p) ≡ Some q → p ≡ q
 taken true p q e = cc
 taken false p q e = cc
 

@@ -21,11 +21,11 @@ all_whole-cons e es w ws here there =
     ap (option_and_then (λ (v : StoredEntry). option_map (λ (vs : List StoredEntry). v ∷ vs) (all_whole es))) here
     ∙ ap (option_map (λ (vs : List StoredEntry). w ∷ vs)) there
 
-and_then-split : {A B : Type 0} (f : A → Option B) (o : Option A) (y : B) → option_and_then f o ≡ Some y → (x : A) × (o ≡ Some x) × (f x ≡ Some y)
+pub and_then-split : {A B : Type 0} (f : A → Option B) (o : Option A) (y : B) → option_and_then f o ≡ Some y → (x : A) × (o ≡ Some x) × (f x ≡ Some y)
 and_then-split f None y e = cc
 and_then-split f (Some x) y e = (x, refl, e)
 
-map-split : {A B : Type 0} (f : A → B) (o : Option A) (y : B) → option_map f o ≡ Some y → (x : A) × (o ≡ Some x) × (f x ≡ y)
+pub map-split : {A B : Type 0} (f : A → B) (o : Option A) (y : B) → option_map f o ≡ Some y → (x : A) × (o ≡ Some x) × (f x ≡ y)
 map-split f None y e = cc
 map-split f (Some x) y e = (x, refl, cc)
 

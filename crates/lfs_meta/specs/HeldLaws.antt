@@ -1,5 +1,5 @@
 -- What pairs hold, and why they hold nothing.
-use Rattle.std.specs.Prelude.{◌≡◌, ◌<◌, Some, None, All}
+use Rattle.std.specs.Prelude.{◌≡◌, ◌<◌, ◌≤◌, Some, None, All, length}
 use Rattle.lfs_block.specs.Disk.{Disk, IsDisk}
 use Rattle.lfs_block.specs.declared.mount_fault.MountFault.{MountFault}
 use Rattle.lfs_meta.specs.Body.{Pair}
@@ -23,3 +23,7 @@ pub record IsHeldEntry (e : StoredEntry) : Type 0 where
 abbrev pub HeldPartsAreWhole : Type 0
 HeldPartsAreWhole = (d : Disk) (pair : Pair) (p : StoredPart) → IsDisk d → pair.0 < d.count → pair.1 < d.count
     → stored_part_of d pair ≡ Some p → All IsHeldEntry p.entries
+
+-- a part that a pair of the disk holds has no more entries than the largest block has bytes
+abbrev pub HeldPartsHaveFewEntries : Type 0
+HeldPartsHaveFewEntries = (d : Disk) (pair : Pair) (p : StoredPart) → IsDisk d → stored_part_of d pair ≡ Some p → length p.entries ≤ 65536

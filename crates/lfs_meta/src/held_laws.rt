@@ -1,8 +1,8 @@
 //! Laws of what pairs hold: each function does nothing, and its contract is the law.
 
-ghost use Rattle.lfs_meta.specs.HeldLaws.{PairsWithoutAPartHaveACause, HeldPartsAreWhole};
+ghost use Rattle.lfs_meta.specs.HeldLaws.{PairsWithoutAPartHaveACause, HeldPartsAreWhole, HeldPartsHaveFewEntries};
 
-use lfs_tag::laws::{blocks_have_a_log, log_tags_are_items};
+use lfs_tag::laws::{blocks_have_a_log, log_tags_are_few, log_tags_are_items};
 
 /// A pair that holds no part all of whose entries are whole has a cause.
 pub fn pairs_without_a_part_have_a_cause()
@@ -17,6 +17,14 @@ pub fn held_parts_are_whole()
     log_tags_are_items();
 }
 
+/// A part that a pair of a disk holds has at most 65,536 entries: each tag takes four bytes of its block, and adds at most
+/// one entry, or names one whose id is below 1,024.
+pub fn held_parts_have_few_entries()
+    ensures { HeldPartsHaveFewEntries }
+{
+    log_tags_are_few();
+}
+
 #[cfg(test)]
 mod tests {
     use super::*;
@@ -24,6 +32,7 @@ mod tests {
     #[test]
     fn laws_of_what_is_held(_rt: HostRuntime) {
         held_parts_are_whole();
+        held_parts_have_few_entries();
         pairs_without_a_part_have_a_cause();
     }
 }

@@ -40,7 +40,9 @@ pub use attribute::{Attribute, remove_attribute, set_attribute};
 pub use body::Body;
 pub use cutting::cut;
 pub use entry::Entry;
-pub use held_laws::{held_parts_are_whole, pairs_without_a_part_have_a_cause};
+pub use held_laws::{
+    held_parts_are_whole, held_parts_have_few_entries, pairs_without_a_part_have_a_cause,
+};
 pub use kind::Kind;
 pub use laws::{
     live_blocks_are_read, names_are_decided, parts_depend_on_their_blocks, replayed_parts_fit,
