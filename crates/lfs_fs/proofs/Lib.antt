@@ -26,6 +26,7 @@ pub mod RowShownLemmas
 pub mod RootMountLemmas
 pub mod SuperblockLemmas
 pub mod OneMountLemmas
+pub mod OutliningLemmas
 pub mod PrefixLemmas
 pub mod StoredLemmas
 pub mod CountLemmas

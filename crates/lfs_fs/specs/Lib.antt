@@ -46,6 +46,7 @@ pub mod Mounts
 pub mod Formatted
 pub mod LoneSuperblock
 pub mod Mounted
+pub mod Outlining
 pub mod RowShown
 pub mod Header
 pub mod Stored

@@ -10,9 +10,9 @@ use crate::{
     Delta, both_sides_hold, entries_are_cut_greedily, entries_weigh_as_stored,
     formatted_volumes_are_sound, fronts_begin_each_other, images_mount_to_one_tree,
     images_without_cause_mount, links_make_their_directories, lone_superblocks_mount, mount,
-    mounted_images_have_no_cause, names_are_ordered, outlines_are_sound, paths_are_ordered,
-    rows_are_unique, rows_show_the_tree, same_readings_hold_the_same, stored_links_stay,
-    texts_spell_one_path,
+    mounted_images_have_no_cause, names_are_ordered, outline_of, outlines_are_sound,
+    paths_are_ordered, rows_are_unique, rows_show_the_tree, same_readings_hold_the_same,
+    stored_links_stay, texts_spell_one_path,
 };
 use lfs_block::{Image, MountFault};
 use std::alloc::{AllocError, Global};
@@ -417,6 +417,16 @@ fn outline_tells_its_blocks(rt: HostRuntime) -> Result<(), Fail> {
     assert_eq!(rt; used.free_count(), 2);
     assert_eq!(rt; used.flags().get(5).copied(), Some(true));
     assert_eq!(rt; used.flags().get(6).copied(), Some(false));
+    Ok(())
+}
+
+#[test]
+fn outline_is_read_again(rt: HostRuntime) -> Result<(), Fail> {
+    let image = image_of(rt.alloc(), 8, &TREE_HEADS)?;
+    let _mounted = mount(rt.alloc(), &image)?;
+    let outline = outline_of(rt.alloc(), &image)?;
+    assert_eq!(rt; outline.count, 8);
+    assert_eq!(rt; outline.directories.len(), 2);
     Ok(())
 }
 
