@@ -1,13 +1,16 @@
--- The checksum of a byte by a table: shifting bits out is linear over the exclusive or.
-use Rattle.std.proofs.Common.{◌≡◌, ℕ, ◌+◌, ◌*◌, ◌/◌, ◌%◌, ◌^◌, ◌<◌, ◌==◌, if◌then◌else◌, refl, ap, sym, ◌∙◌, arith, suc, zero, bit_and, zero-add}
-use Rattle.std.specs.Prelude.{bit_xor, List, map, slice_index_or}
-use Rattle.std.specs.List.{range_with_len}
-use Rattle.lfs_block.specs.declared.checksum.TheConstants.{TABLE}
+-- The checksum of bytes by tables: shifting bits out is linear over the exclusive or.
+use Rattle.std.proofs.Common.{◌≡◌, ℕ, ◌+◌, ◌*◌, ◌/◌, ◌%◌, ◌^◌, ◌<◌, ◌==◌, if◌then◌else◌, refl, ap, ap₂, sym, ◌∙◌, arith, suc, zero, bit_and, zero-add}
+use Rattle.std.specs.Prelude.{bit_xor, List, [], ◌∷◌, ◌++◌, length, take, drop, map, slice_index_or}
+use Rattle.std.specs.List.{range_with_len, fold}
+use Rattle.std.specs.Simd.{first_chunks}
+use Rattle.std.proofs.lemmas.List.Sums.{fold-append}
+use Rattle.lfs_block.specs.declared.checksum_tables.TheConstants.{TABLES}
 use Rattle.std.specs.Int.Bits.{xor_assoc, xor_shifted}
 use Rattle.std.proofs.lemmas.Nat.{xor_comm, xor_shr, xor_mod}
 use Rattle.std.proofs.lemmas.Grind.{and_numeral}
-use Rattle.std.proofs.lemmas.List.FromFn.{get_or-map-range_with_len}
-use Rattle.lfs_block.specs.Checksum.{crc_bit, crc_bits, crc_byte}
+use Rattle.std.proofs.lemmas.List.{get_or-map, length-map, take-append-drop, drop-take, take-take}
+use Rattle.std.proofs.lemmas.List.FromFn.{length-range_with_len, get_or-range_with_len}
+use Rattle.lfs_block.specs.Checksum.{crc_bit, crc_bits, crc_shifted, crc_byte, crc}
 
 abbrev polynomial : ℕ
 polynomial = 0xedb88320
@@ -21,6 +24,16 @@ xor_middle a b c d =
 
 xor_zero : (a : ℕ) → bit_xor a 0 ≡ a
 xor_zero a = xor_comm a 0
+
+-- pairs four with four, one by one, before the rest
+four_and_rest : (a b c d x y z w r : ℕ)
+    → bit_xor (bit_xor a (bit_xor b (bit_xor c d))) (bit_xor x (bit_xor y (bit_xor z (bit_xor w r))))
+    ≡ bit_xor (bit_xor a x) (bit_xor (bit_xor b y) (bit_xor (bit_xor c z) (bit_xor (bit_xor d w) r)))
+four_and_rest a b c d x y z w r =
+    xor_middle a (bit_xor b (bit_xor c d)) x (bit_xor y (bit_xor z (bit_xor w r)))
+    ∙ ap (bit_xor (bit_xor a x))
+    (xor_middle b (bit_xor c d) y (bit_xor z (bit_xor w r))
+    ∙ ap (bit_xor (bit_xor b y)) (xor_middle c d z (bit_xor w r) ∙ ap (bit_xor (bit_xor c z)) (sym (xor_assoc d w r))))
 
 abbrev reduced : ℕ → ℕ → ℕ
 reduced low high = if low == 1 then bit_xor high polynomial else high
@@ -71,24 +84,158 @@ crc_bits-split x =
     ∙ ap (λ y. bit_xor y (crc_bits (x % 256))) (ap crc_bits shift ∙ crc_bits-shifted (x / 256))
     ∙ xor_comm (x / 256) (crc_bits (x % 256))
 
--- the table is what eight bits shifted out leave of each byte
-pub table-is : TABLE ≡ map crc_bits (range_with_len 0 256)
-unfolding crc_bits crc_bit
-table-is = refl
+pub crc_shifted-xor : (n a b : ℕ) → crc_shifted n (bit_xor a b) ≡ bit_xor (crc_shifted n a) (crc_shifted n b)
+unfolding crc_shifted
+crc_shifted-xor zero a b = refl
+crc_shifted-xor (suc n) a b = ap (crc_shifted n) (crc_bits-xor a b) ∙ crc_shifted-xor n (crc_bits a) (crc_bits b)
 
-table_word : (i j : ℕ) → i < 256 → i ≡ j → slice_index_or TABLE i 0 ≡ crc_bits j
-table_word i j lt is = ap (λ t. slice_index_or t i 0) table-is ∙ get_or-map-range_with_len crc_bits 0 256 i j 0 lt (zero-add i ∙ is)
+-- the low byte is shifted out first
+crc_shifted-split : (n x : ℕ) → crc_shifted (suc n) x ≡ bit_xor (crc_shifted (suc n) (x % 256)) (crc_shifted n (x / 256))
+unfolding crc_shifted
+crc_shifted-split n x = ap (crc_shifted n) (crc_bits-split x) ∙ crc_shifted-xor n (crc_bits (x % 256)) (x / 256)
+
+-- one byte more
+pub crc_byte-split : (c b : ℕ) → b < 2 ^ 8 → crc_byte c b ≡ bit_xor (crc_shifted 1 (bit_xor (c % 256) b)) (c / 256)
+unfolding crc_byte crc_shifted
+crc_byte-split c b byte =
+    let byte_gone : b / 2 ^ 8 ≡ 0 = omega arith in
+    let byte_stays : b % 2 ^ 8 ≡ b = omega arith in
+    let low : bit_xor c b % 256 ≡ bit_xor (c % 256) b = xor_mod c b 8 ∙ ap (bit_xor (c % 2 ^ 8)) byte_stays in
+    let high : bit_xor c b / 256 ≡ c / 256 = xor_shr c b 8 ∙ ap (bit_xor (c / 2 ^ 8)) byte_gone ∙ xor_zero (c / 256) in
+    crc_bits-split (bit_xor c b)
+    ∙ ap (λ l. bit_xor (crc_bits l) (bit_xor c b / 256)) low
+    ∙ ap (bit_xor (crc_bits (bit_xor (c % 256) b))) high
+
+-- the checksum is that of the start value and that of the bytes, by exclusive or
+crc-split : (c : ℕ) (bytes : List ℕ) → crc c bytes ≡ bit_xor (crc_shifted (length bytes) c) (crc 0 bytes)
+unfolding crc_shifted crc_byte
+crc-split c [] = sym (xor_zero c)
+crc-split c (b ∷ bytes) =
+    crc-split (crc_bits (bit_xor c b)) bytes
+    ∙ ap (λ x. bit_xor (crc_shifted (length bytes) x) (crc 0 bytes)) (crc_bits-xor c b)
+    ∙ ap (λ x. bit_xor x (crc 0 bytes)) (crc_shifted-xor (length bytes) (crc_bits c) (crc_bits b))
+    ∙ xor_assoc (crc_shifted (length bytes) (crc_bits c)) (crc_shifted (length bytes) (crc_bits b)) (crc 0 bytes)
+    ∙ ap (bit_xor (crc_shifted (length bytes) (crc_bits c))) (sym (crc-split (crc_bits b) bytes))
+
+-- the first byte is shifted out by the bytes behind it
+crc-first : (b : ℕ) (bytes : List ℕ) → crc 0 (b ∷ bytes) ≡ bit_xor (crc_shifted (suc (length bytes)) b) (crc 0 bytes)
+unfolding crc_shifted crc_byte
+crc-first b bytes = crc-split (crc_bits b) bytes
+
+-- a word of 32 bits by its bytes
+crc_shifted-word : (c : ℕ) → c < 2 ^ 32
+    → crc_shifted 8 c
+    ≡ bit_xor (crc_shifted 8 (c % 256)) (bit_xor (crc_shifted 7 (c / 256 % 256)) (bit_xor (crc_shifted 6 (c / 65536 % 256)) (crc_shifted 5 (c / 16777216 % 256))))
+crc_shifted-word c fits =
+    let third : c / 256 / 256 ≡ c / 65536 = omega arith in
+    let fourth : c / 65536 / 256 ≡ c / 16777216 % 256 = omega arith in
+    crc_shifted-split 7 c
+    ∙ ap (bit_xor (crc_shifted 8 (c % 256)))
+    (crc_shifted-split 6 (c / 256)
+    ∙ ap (bit_xor (crc_shifted 7 (c / 256 % 256)))
+    (ap (crc_shifted 6) third ∙ crc_shifted-split 5 (c / 65536)
+    ∙ ap (λ x. bit_xor (crc_shifted 6 (c / 65536 % 256)) (crc_shifted 5 x)) fourth))
+
+-- eight bytes more: the first four meet those of the checksum
+crc-eight : (c a0 a1 a2 a3 a4 a5 a6 a7 : ℕ) → c < 2 ^ 32
+    → crc c (a0 ∷ a1 ∷ a2 ∷ a3 ∷ a4 ∷ a5 ∷ a6 ∷ a7 ∷ [])
+    ≡ bit_xor (bit_xor (bit_xor (bit_xor (bit_xor (bit_xor (bit_xor (crc_shifted 8 (bit_xor (c % 256) a0)) (crc_shifted 7 (bit_xor (c / 256 % 256) a1)))
+    (crc_shifted 6 (bit_xor (c / 65536 % 256) a2))) (crc_shifted 5 (bit_xor (c / 16777216 % 256) a3))) (crc_shifted 4 a4)) (crc_shifted 3 a5)) (crc_shifted 2 a6)) (crc_shifted 1 a7)
+crc-eight c a0 a1 a2 a3 a4 a5 a6 a7 fits =
+    let c0 : ℕ = c % 256 in
+    let c1 : ℕ = c / 256 % 256 in
+    let c2 : ℕ = c / 65536 % 256 in
+    let c3 : ℕ = c / 16777216 % 256 in
+    let low : crc 0 (a4 ∷ a5 ∷ a6 ∷ a7 ∷ []) ≡ bit_xor (crc_shifted 4 a4) (bit_xor (crc_shifted 3 a5) (bit_xor (crc_shifted 2 a6) (crc_shifted 1 a7))) =
+    crc-first a4 (a5 ∷ a6 ∷ a7 ∷ [])
+    ∙ ap (bit_xor (crc_shifted 4 a4)) (crc-first a5 (a6 ∷ a7 ∷ []) ∙ ap (bit_xor (crc_shifted 3 a5))
+    (crc-first a6 (a7 ∷ []) ∙ ap (bit_xor (crc_shifted 2 a6)) (crc-first a7 [] ∙ xor_zero (crc_shifted 1 a7)))) in
+    let all : crc 0 (a0 ∷ a1 ∷ a2 ∷ a3 ∷ a4 ∷ a5 ∷ a6 ∷ a7 ∷ [])
+    ≡ bit_xor (crc_shifted 8 a0) (bit_xor (crc_shifted 7 a1) (bit_xor (crc_shifted 6 a2) (bit_xor (crc_shifted 5 a3) (crc 0 (a4 ∷ a5 ∷ a6 ∷ a7 ∷ []))))) =
+    crc-first a0 (a1 ∷ a2 ∷ a3 ∷ a4 ∷ a5 ∷ a6 ∷ a7 ∷ [])
+    ∙ ap (bit_xor (crc_shifted 8 a0)) (crc-first a1 (a2 ∷ a3 ∷ a4 ∷ a5 ∷ a6 ∷ a7 ∷ []) ∙ ap (bit_xor (crc_shifted 7 a1))
+    (crc-first a2 (a3 ∷ a4 ∷ a5 ∷ a6 ∷ a7 ∷ []) ∙ ap (bit_xor (crc_shifted 6 a2)) (crc-first a3 (a4 ∷ a5 ∷ a6 ∷ a7 ∷ [])))) in
+    crc-split c (a0 ∷ a1 ∷ a2 ∷ a3 ∷ a4 ∷ a5 ∷ a6 ∷ a7 ∷ [])
+    ∙ ap₂ bit_xor (crc_shifted-word c fits) (all ∙ ap (λ x. bit_xor (crc_shifted 8 a0) (bit_xor (crc_shifted 7 a1) (bit_xor (crc_shifted 6 a2) (bit_xor (crc_shifted 5 a3) x)))) low)
+    ∙ four_and_rest (crc_shifted 8 c0) (crc_shifted 7 c1) (crc_shifted 6 c2) (crc_shifted 5 c3) (crc_shifted 8 a0) (crc_shifted 7 a1) (crc_shifted 6 a2) (crc_shifted 5 a3)
+    (bit_xor (crc_shifted 4 a4) (bit_xor (crc_shifted 3 a5) (bit_xor (crc_shifted 2 a6) (crc_shifted 1 a7))))
+    ∙ simp (← crc_shifted-xor) (simp xor_assoc)
+
+eight-are : (bytes : List ℕ) → length bytes ≡ 8
+    → bytes
+    ≡ slice_index_or bytes 0 0 ∷ slice_index_or bytes 1 0 ∷ slice_index_or bytes 2 0 ∷ slice_index_or bytes 3 0
+    ∷ slice_index_or bytes 4 0 ∷ slice_index_or bytes 5 0 ∷ slice_index_or bytes 6 0 ∷ slice_index_or bytes 7 0 ∷ []
+eight-are [] len = absurd cc
+eight-are (_ ∷ []) len = absurd cc
+eight-are (_ ∷ _ ∷ []) len = absurd cc
+eight-are (_ ∷ _ ∷ _ ∷ []) len = absurd cc
+eight-are (_ ∷ _ ∷ _ ∷ _ ∷ []) len = absurd cc
+eight-are (_ ∷ _ ∷ _ ∷ _ ∷ _ ∷ []) len = absurd cc
+eight-are (_ ∷ _ ∷ _ ∷ _ ∷ _ ∷ _ ∷ []) len = absurd cc
+eight-are (_ ∷ _ ∷ _ ∷ _ ∷ _ ∷ _ ∷ _ ∷ []) len = absurd cc
+eight-are (_ ∷ _ ∷ _ ∷ _ ∷ _ ∷ _ ∷ _ ∷ _ ∷ []) len = refl
+eight-are (_ ∷ _ ∷ _ ∷ _ ∷ _ ∷ _ ∷ _ ∷ _ ∷ _ ∷ bytes) len = absurd (omega arith)
+
+-- so many rows, each what one byte more shifted out leaves of the row before
+rows : ℕ → List ℕ → List (List ℕ)
+rows zero row = []
+rows (suc n) row = map crc_bits row ∷ rows n (map crc_bits row)
+
+-- the tables are what one byte shifted out and more leave of each byte
+tables-are : TABLES ≡ rows 8 (range_with_len 0 256)
+unfolding crc_bits crc_bit rows
+tables-are = refl
+
+rows_word : (n k i : ℕ) (row : List ℕ) → k < n → i < length row → slice_index_or (slice_index_or (rows n row) k []) i 0 ≡ crc_shifted (suc k) (slice_index_or row i 0)
+unfolding rows crc_shifted
+rows_word zero k i row hk hi = absurd (omega arith)
+rows_word (suc n) zero i row hk hi = get_or-map crc_bits row i 0 0 hi
+rows_word (suc n) (suc k) i row hk hi =
+    rows_word n k i (map crc_bits row) (omega arith) (rw (length-map row crc_bits) hi)
+    ∙ ap (crc_shifted (suc k)) (get_or-map crc_bits row i 0 0 hi)
+
+-- the word of a byte in each table
+pub tables_word : (tables : List (List ℕ)) (k i : ℕ) → k < 8 → i < 256 → tables ≡ TABLES
+    → slice_index_or (slice_index_or tables k []) i 0 ≡ crc_shifted (suc k) i
+tables_word tables k i hk hi is =
+    ap (λ t. slice_index_or (slice_index_or t k []) i 0) (is ∙ tables-are)
+    ∙ rows_word 8 k i (range_with_len 0 256) hk (rw (length-range_with_len 0 256) hi)
+    ∙ ap (crc_shifted (suc k)) (get_or-range_with_len 0 256 i 0 hi ∙ zero-add i)
 
 -- one byte more, by the table
-pub add-byte : (table : List ℕ) (c b : ℕ) → c < 2 ^ 32 → b < 2 ^ 8 → table ≡ TABLE
-    → bit_xor (slice_index_or table (bit_and (bit_xor c b) 255) 0) (c / 256) ≡ crc_byte c b
-unfolding crc_byte
-add-byte table c b fits byte is =
-    let masked : bit_and (bit_xor c b) 255 ≡ bit_xor c b % 256 = and_numeral (bit_xor c b) 254 refl in
-    let within : bit_and (bit_xor c b) 255 < 256 = omega (arith, masked) in
-    let byte_gone : b / 2 ^ 8 ≡ 0 = omega arith in
-    let shifted : bit_xor c b / 256 ≡ c / 256 = xor_shr c b 8 ∙ ap (bit_xor (c / 2 ^ 8)) byte_gone ∙ xor_zero (c / 256) in
-    ap (λ t. bit_xor (slice_index_or t (bit_and (bit_xor c b) 255) 0) (c / 256)) is
-    ∙ ap (λ w. bit_xor w (c / 256)) (table_word (bit_and (bit_xor c b) 255) (bit_xor c b % 256) within masked)
-    ∙ ap (bit_xor (crc_bits (bit_xor c b % 256))) (sym shifted)
-    ∙ sym (crc_bits-split (bit_xor c b))
+pub add-byte : (c b word : ℕ) → b < 2 ^ 8 → word ≡ crc_shifted 1 (bit_xor (bit_and c 255) b) → bit_xor word (c / 256) ≡ crc_byte c b
+add-byte c b word byte is =
+    let masked : bit_and c 255 ≡ c % 256 = and_numeral c 254 refl in
+    ap (λ w. bit_xor w (c / 256)) (is ∙ ap (λ l. crc_shifted 1 (bit_xor l b)) masked) ∙ sym (crc_byte-split c b byte)
+
+-- eight bytes more, by the tables
+pub add-eight : (c : ℕ) (own bytes : List ℕ) (w0 w1 w2 w3 w4 w5 w6 w7 : ℕ) → c < 2 ^ 32 → length bytes ≡ 8
+    → own ≡ c % 256 ∷ c / 256 % 256 ∷ c / 65536 % 256 ∷ c / 16777216 % 256 ∷ []
+    → w0 ≡ crc_shifted 8 (bit_xor (slice_index_or own 0 0) (slice_index_or bytes 0 0))
+    → w1 ≡ crc_shifted 7 (bit_xor (slice_index_or own 1 0) (slice_index_or bytes 1 0))
+    → w2 ≡ crc_shifted 6 (bit_xor (slice_index_or own 2 0) (slice_index_or bytes 2 0))
+    → w3 ≡ crc_shifted 5 (bit_xor (slice_index_or own 3 0) (slice_index_or bytes 3 0))
+    → w4 ≡ crc_shifted 4 (slice_index_or bytes 4 0) → w5 ≡ crc_shifted 3 (slice_index_or bytes 5 0)
+    → w6 ≡ crc_shifted 2 (slice_index_or bytes 6 0) → w7 ≡ crc_shifted 1 (slice_index_or bytes 7 0)
+    → bit_xor (bit_xor (bit_xor (bit_xor (bit_xor (bit_xor (bit_xor w0 w1) w2) w3) w4) w5) w6) w7 ≡ crc c bytes
+add-eight c own bytes w0 w1 w2 w3 w4 w5 w6 w7 fits len is e0 e1 e2 e3 e4 e5 e6 e7 =
+    rw (e0, e1, e2, e3, e4, e5, e6, e7, is) (sym (crc-eight c _ _ _ _ _ _ _ _ fits) ∙ ap (crc c) (sym (eight-are bytes len)))
+
+take-more : (m n : ℕ) (bytes : List ℕ) → take m bytes ++ take n (drop m bytes) ≡ take (m + n) bytes
+take-more m n bytes =
+    ap₂ ◌++◌ (sym (take-take m (m + n) bytes (omega arith))) (sym (drop-take m n bytes))
+    ∙ take-append-drop m (take (m + n) bytes)
+
+-- chunks of eight bytes and the rest are the whole
+pub crc-chunks : (n start : ℕ) (bytes : List ℕ) → fold crc start (first_chunks 8 n bytes) ≡ crc start (take (n * 8) bytes)
+crc-chunks zero start bytes = refl
+crc-chunks (suc n) start bytes =
+    crc-chunks n (crc start (take 8 bytes)) (drop 8 bytes)
+    ∙ sym (fold-append crc_byte start (take 8 bytes) (take (n * 8) (drop 8 bytes)))
+    ∙ ap (crc start) (take-more 8 (n * 8) bytes ∙ ap (λ (m : ℕ). take m bytes) (omega arith))
+
+pub crc-parts : (start : ℕ) (bytes : List ℕ) → crc (fold crc start (first_chunks 8 (length bytes / 8) bytes)) (drop (length bytes / 8 * 8) bytes) ≡ crc start bytes
+crc-parts start bytes =
+    ap (λ s. crc s (drop (length bytes / 8 * 8) bytes)) (crc-chunks (length bytes / 8) start bytes)
+    ∙ sym (fold-append crc_byte start (take (length bytes / 8 * 8) bytes) (drop (length bytes / 8 * 8) bytes))
+    ∙ ap (crc start) (take-append-drop (length bytes / 8 * 8) bytes)

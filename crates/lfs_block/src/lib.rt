@@ -4,6 +4,7 @@
 
 mod blocks;
 mod checksum;
+mod checksum_tables;
 mod geometry;
 mod image;
 mod image_fault;

@@ -1,4 +1,4 @@
-use Rattle.std.proofs.Common.{ap, rules, sym, ◌∙◌}
+use Rattle.std.proofs.Common.{ap, rules, ◌∙◌}
 use Rattle.std.proofs.lemmas.Iterator.{YieldsList-from_slice, cases_from_all}
 use borrow.Author.Tests.{tests}
 use Rattle.lfs_block.specs.Patch.{ChangeSet}
