@@ -1,5 +1,6 @@
 pub mod Steps
 pub mod Sums
+pub mod Covered
 pub mod Codec
 pub mod Commits
 pub mod Logs

@@ -1,8 +1,8 @@
 -- The reading functions without their bounds: each reads one thing more, and the rest is read by itself.
-use Rattle.std.proofs.Common.{◌≡◌, ◌≢◌, ℕ, zero, suc, ◌+◌, ◌^◌, ◌<◌, ◌≤◌, Bool, true, false, cond, ltb, leb, eqb, ◌&&◌, List, [], ◌∷◌, length, take, drop, Option, Some, None, option_map, refl, sym, ap, ◌∙◌, arith, bit_xor, eq-eqb}
+use Rattle.std.proofs.Common.{◌≡◌, ◌≢◌, ℕ, zero, suc, ◌+◌, ◌^◌, ◌<◌, ◌≤◌, Bool, true, false, cond, ltb, leb, eqb, ◌&&◌, List, [], ◌∷◌, ◌++◌, length, take, drop, Option, Some, None, option_map, refl, sym, ap, ◌∙◌, arith, bit_xor, eq-eqb}
 use Rattle.std.specs.Int.{w32, from_be_bytes}
 use Rattle.std.proofs.lemmas.Bool.{ltb-false}
-use Rattle.std.proofs.lemmas.List.{length-drop}
+use Rattle.std.proofs.lemmas.List.{take-append-drop, length-take, length-append}
 use Rattle.lfs_block.specs.Checksum.{crc}
 use Rattle.lfs_tag.specs.Tag.{main_kind, data_len}
 use Rattle.lfs_tag.specs.Commit.{Item, word_after, next_word}
@@ -24,17 +24,33 @@ map_some f (Some x) y e = (x, refl, cc)
 pub kind_test : (k : ℕ) → k ≢ 5 → eqb k 5 ≡ false
 kind_test k h = grind arith
 
+-- the tag's word, its data and the rest are the bytes
+pub record TagCut (bytes : List ℕ) (f : TagFront) : Type 0 where
+  pub parts : bytes ≡ f.stored ++ (f.item.content ++ f.rest)
+  pub len : length f.stored ≡ 4
+
+pub tag_cut : (prev : ℕ) (bytes : List ℕ) (f : TagFront) → tag_at prev bytes ≡ Some f → TagCut bytes f
+unfolding tag_at
+tag_cut prev bytes f e =
+    let word : ℕ = bit_xor (from_be_bytes w32 (take 4 bytes)) prev in
+    let behind : List ℕ = drop 4 bytes in
+    let n : ℕ = data_len word in
+    let found : TagFront = record { stored = take 4 bytes; item = record { word = word; content = take n behind }; rest = drop n behind } in
+    let a = guard_none (ltb (length bytes) 4) (tag_behind (take 4 bytes) word behind) f e in
+    let long : 4 ≤ length bytes = ltb-false _ _ a.0 in
+    let b = guard_some (ltb word (2 ^ 31) && leb n (length behind)) found f a.1 in
+    let cut : take 4 bytes ++ (take n behind ++ drop n behind) ≡ bytes = ap (λ (x : List ℕ). take 4 bytes ++ x) (take-append-drop n behind) ∙ take-append-drop 4 bytes in
+    let four : length (take 4 bytes) ≡ 4 = omega (arith, length-take 4 bytes) in
+    record {
+      parts = sym cut ∙ ap (λ (g : TagFront). g.stored ++ (g.item.content ++ g.rest)) b.1;
+      len = ap (λ (g : TagFront). length g.stored) (sym b.1) ∙ four;
+    }
+
 -- a tag takes four bytes or more
 pub tag_at-shorter : (prev : ℕ) (bytes : List ℕ) (f : TagFront) → tag_at prev bytes ≡ Some f → length f.rest + 4 ≤ length bytes
-unfolding tag_at
 tag_at-shorter prev bytes f e =
-    let word : ℕ = bit_xor (from_be_bytes w32 (take 4 bytes)) prev in
-    let a = guard_none (ltb (length bytes) 4) (tag_behind (take 4 bytes) word (drop 4 bytes)) f e in
-    let long : 4 ≤ length bytes = ltb-false _ _ a.0 in
-    let b = guard_some (ltb word (2 ^ 31) && leb (data_len word) (length (drop 4 bytes)))
-    (record { stored = take 4 bytes; item = record { word = word; content = take (data_len word) (drop 4 bytes) }; rest = drop (data_len word) (drop 4 bytes) }) f a.1 in
-    let len : length f.rest ≡ length (drop (data_len word) (drop 4 bytes)) = sym (ap (λ (g : TagFront). length g.rest) b.1) in
-    omega (arith, len, length-drop (data_len word) (drop 4 bytes), length-drop 4 bytes)
+    let cut = tag_cut prev bytes f e in
+    omega (arith, cut.len, ap length cut.parts, length-append f.stored (f.item.content ++ f.rest), length-append f.item.content f.rest)
 
 -- ---- commits
 

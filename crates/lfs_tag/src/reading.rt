@@ -104,22 +104,18 @@ fn closed<'a>(sum: u32, found: Found<'a>) -> Option<Committed<'a>>
     })
 }
 
-/// The commit at the front of `bytes`, behind the word `prev`, where `sum` is the checksum of what it covers so far.
-pub(crate) fn commit_at<'a>(
-    mut sum: u32,
-    mut prev: u32,
-    mut bytes: &'a [u8],
-) -> Option<Committed<'a>>
+/// The commit at the front of `bytes`, behind the word `prev`, where `sum` is the checksum of what it covers before them.
+pub(crate) fn commit_at<'a>(sum: u32, mut prev: u32, bytes: &'a [u8]) -> Option<Committed<'a>>
     ensures { option_map commit_found result ≡ option_map commit_seen (commit_at sum prev bytes.entry.now) }
 {
-    while let Some(found) = tag_at(prev, bytes) {
-        let covered = crc32(sum, found.stored);
+    let mut rest = bytes;
+    while let Some(found) = tag_at(prev, rest) {
         if found.tag.main_kind() == CHECKSUM {
-            return closed(covered, found);
+            let (covered, _) = bytes.split_at(bytes.len() - rest.len() + 4);
+            return closed(crc32(sum, covered), found);
         }
-        sum = crc32(covered, found.content);
         prev = found.tag.word();
-        bytes = found.rest;
+        rest = found.rest;
     }
     None
 }
