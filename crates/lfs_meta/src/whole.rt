@@ -148,7 +148,7 @@ pub(crate) fn all_whole(alloc: Global, drafts: &[EntryDraft<'_>]) -> Result<Vec<
     ensures whole { IfOk result (λ entries. AllByRecursion IsWhole entries.items) }
     ensures refused { IfErr result (λ fault. EntriesCause fault drafts.now) }
 {
-    let mut entries = Vec::new(alloc);
+    let mut entries = Vec::with_capacity(alloc, drafts.len()).map_err(|_| MountFault::Memory)?;
     for draft in drafts {
         let entry = whole(alloc, draft)?;
         keep(&mut entries, entry)?;

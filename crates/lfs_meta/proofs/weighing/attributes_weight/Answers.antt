@@ -1,5 +1,5 @@
 -- Attributes that rise are small enough to be summed.
-use Rattle.std.proofs.Common.{◌<◌, ◌≤◌, arith}
+use Rattle.std.proofs.Common.{arith}
 use Rattle.lfs_meta.proofs.FitsLemmas.{attributes_weight-small}
 use Rattle.lfs_meta.proofs.weighing.attributes_weight.Goals as goal
 

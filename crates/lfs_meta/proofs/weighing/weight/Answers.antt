@@ -1,5 +1,5 @@
 -- What fits is small enough to be summed.
-use Rattle.std.proofs.Common.{◌≡◌, ◌<◌, ◌≤◌, arith, ap, ◌∙◌, subst, sym}
+use Rattle.std.proofs.Common.{◌<◌, arith, subst, sym}
 use Rattle.lfs_meta.specs.BodyHeld.{body_held}
 use Rattle.lfs_meta.specs.Fits.{RiseFrom}
 use Rattle.lfs_meta.proofs.FitsLemmas.{body_bytes-small}
