@@ -33,7 +33,7 @@ fn walk_back<B: Blocks>(
     ensures below { IfOk result (λ chain. All (λ b. b < (B.disk blocks.now).count) chain.items) }
     ensures refused { IfErr result (λ fault. WalkCause fault (B.disk blocks.now) head count) }
 {
-    let mut chain = Vec::new(alloc);
+    let mut chain = Vec::with_capacity(alloc, count as usize).map_err(|_| MountFault::Memory)?;
     let mut block = head;
     for _ in 0..count {
         if block >= blocks.count() {

@@ -23,7 +23,7 @@ loop-preserved g c =
     let d = g.B.Blocks.disk c.args.blocks.now in
     let items = c.loop.chain.items in
     let left = c.args.count - (c.loop.counter + 1) in
-    let ok : is_ok c.push.result ≡ true = ◌∙◌ {A = Bool} (sym c.map_err.ensures.variant) (ap is_ok c.in_ok-map_err.was) in
+    let ok : is_ok c.push.result ≡ true = ◌∙◌ {A = Bool} (sym c.map_err-in-loop.ensures.variant) (ap is_ok c.in_ok-map_err.was) in
     let pushed : c.push.new.self.items ≡ items ++ c.loop.block ∷ [] = pushed_when (is_ok c.push.result) items c.push.new.self.items c.loop.block c.push.ensures.items ok in
     let before : pointer (block_of d c.loop.block) 0 ≡ c.pointer_at-block.result = first_of _ _ _ c.pointer_at-block.ensures c.block.ensures in
     record {
