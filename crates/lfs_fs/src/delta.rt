@@ -74,6 +74,7 @@ impl Delta {
             rest: self.rest ^ other.rest,
         }
     }
+
     /// The type of an unfinished move, 0 where there is none.
     pub(crate) fn move_type(&self) -> u32
         ensures { result ≡ move_type self.now }

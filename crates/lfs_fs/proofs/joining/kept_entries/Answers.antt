@@ -15,7 +15,7 @@ use Rattle.lfs_fs.proofs.joining.kept_entries.Goals as goal
 pub returns-in_err-next-clause-refused : goal.returns-in_err-next-clause-refused
 returns-in_err-next-clause-refused g c =
     let r = reading_of (g.B.Blocks.disk c.args.blocks.now) in
-    let p = err_from_is_err_and c.from_residual.result c.from_residual.ensures.1 in
+    let p = err_from_is_err_and c.from_residual-in_err-next.result c.from_residual-in_err-next.ensures.1 in
     let h = subst (KeepsTo r c.args.limits c.args.used.now (part_entries c.args.before.now) c.args.entries.items c.each.used c.each.kept.items) c.in-Some.ensures.steps.0 c.each.invariant.keeps in
     rw (p.1, p.2) (next_refuses c.in_err-next.field-0.0 r c.args.limits c.args.used.now (part_entries c.args.before.now) c.args.entries.items c.each.used c.each.kept.items c.in-Some.entry (into_iter_items c.next.new.self) h c.in_err-next.ensures.refused)
 
