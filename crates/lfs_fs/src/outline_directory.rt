@@ -32,7 +32,7 @@ impl OutlineDirectory {
     ghost use Rattle.lfs_fs.specs.Entry.{is_named};
 
     /// One of its parts. Takes no memory.
-    pub fn part(&self, index: usize) -> Option<&OutlinePart>
+    pub(crate) fn part(&self, index: usize) -> Option<&OutlinePart>
         ensures { option_map (λ p. p.now) result ≡ slice_get (parts self.now) index }
     {
         if index == 0 {
@@ -43,7 +43,7 @@ impl OutlineDirectory {
     }
 
     /// The first of its entries that has a name. Takes no memory.
-    pub fn named(&self, name: &[u8]) -> Option<&OutlineEntry>
+    pub(crate) fn named(&self, name: &[u8]) -> Option<&OutlineEntry>
         ensures { option_map (λ e. e.now) result ≡ find (is_named name.now) (entries self.now) }
     {
         match self.first.named(name) {

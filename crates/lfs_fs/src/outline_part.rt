@@ -41,7 +41,7 @@ impl OutlinePart {
     ghost use Rattle.lfs_fs.specs.Entry.{is_named};
 
     /// One of its entries. Takes no memory.
-    pub fn entry(&self, index: usize) -> Option<&OutlineEntry>
+    pub(crate) fn entry(&self, index: usize) -> Option<&OutlineEntry>
         ensures { option_map (λ e. e.now) result ≡ slice_get self.now.entries index }
     {
         self.entries.get(index)
