@@ -19,7 +19,7 @@ mod tests;
 
 pub use blocks::Blocks;
 pub use checksum::crc32;
-pub use geometry::geometry_ok;
+pub use geometry::{MAX_IMAGE_LENGTH, geometry_ok};
 pub use image::Image;
 pub use image_fault::ImageFault;
 pub use mount_fault::MountFault;

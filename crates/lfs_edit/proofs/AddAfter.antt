@@ -78,7 +78,8 @@ add_effect k new ds once zero =
 -- ---- what is found
 
 -- the directory added
-new_found : (k : Pair) (new : Directory) (ds : List Directory) (d : Directory) → find (begins_at k) ds ≡ Some d → find (begins_at (key new)) ds ≡ None → find (begins_at (key new)) (add_after k new ds) ≡ Some new
+new_found : (k : Pair) (new : Directory) (ds : List Directory) (d : Directory) → find (begins_at k) ds ≡ Some d → find (begins_at (key new)) ds ≡ None
+    → find (begins_at (key new)) (add_after k new ds) ≡ Some new
 unfolding add_after
 new_found k new [] d found fresh = cc
 new_found k new (x ∷ ds) d found fresh = go (begins_at k x) found (begins_at (key new) x) refl fresh (new_found k new ds d)
@@ -106,7 +107,8 @@ edges_added k new (d ∷ ds) j m empty fresh =
     go true at later = same_first_entries j m d (touch_last d) ds (new ∷ ds) (keeps_touch_last d).pairs (entries_touch_last d) (empty_first j m new ds empty at)
     go false at later = same_first_entries j m d d ds (add_after k new ds) refl refl later
 
-pub add_edges : (k : Pair) (new : Directory) (ds : List Directory) → entries new ≡ [] → count_by (begins_at (key new)) ds ≡ 0 → (j : Pair) (m : Name) → entry_in (add_after k new ds) j m ≡ entry_in ds j m
+pub add_edges : (k : Pair) (new : Directory) (ds : List Directory) → entries new ≡ [] → count_by (begins_at (key new)) ds ≡ 0 → (j : Pair) (m : Name)
+    → entry_in (add_after k new ds) j m ≡ entry_in ds j m
 add_edges k new ds empty fresh j m =
     edges_added k new ds j m empty (λ at. ap (λ (p : Pair). find (begins_at p) ds) ((same_pair_decides j (key new)).0 at) ∙ none_counted (begins_at (key new)) ds fresh)
 

@@ -11,7 +11,8 @@ rise_from limit least [] low rise fit = tt
 rise_from limit least (a ∷ more) low rise fit = (
   All-head (λ (b : ℕ × List ℕ). least ≤ b.0) a more low,
   All-head AttributeFits a more fit,
-  rise_from limit (a.0 + 1) more (All-weaker (λ (b : ℕ × List ℕ). a.0 < b.0) (λ (b : ℕ × List ℕ). a.0 + 1 ≤ b.0) (λ b less. omega (arith, less)) more rise.1) rise.2 (All-tail AttributeFits a more fit),
+  rise_from limit (a.0 + 1) more (All-weaker (λ (b : ℕ × List ℕ). a.0 < b.0) (λ (b : ℕ × List ℕ). a.0 + 1 ≤ b.0) (λ b less. omega (arith, less)) more rise.1) rise.2
+      (All-tail AttributeFits a more fit),
 )
 
 pub attributes_rise : (limit : ℕ) (attributes : Attributes) → AreAttributes limit attributes → All AttributeFits attributes → RiseFrom 0 attributes

@@ -1,11 +1,10 @@
 -- A patch that writes what a command leaves of an outline carries the command out.
-use Rattle.std.proofs.Common.{◌≡◌, ◌+◌, ◌-◌, ◌<◌, ◌≤◌, ◌++◌, ℕ, Bool, true, false, List, [], ◌∷◌, length, map, take, drop, refl, ap, sym, ◌∙◌, subst, arith, Option, Some, None}
-use Rattle.std.specs.Prelude.{All, Contains, nat_lt, sum_by}
+use Rattle.std.proofs.Common.{◌≡◌, ◌+◌, ◌<◌, ◌≤◌, ℕ, Bool, true, false, List, [], ◌∷◌, length, map, take, drop, refl, ap, sym, ◌∙◌, subst, arith}
+use Rattle.std.specs.Prelude.{All, Contains, sum_by}
 use Rattle.std.proofs.lemmas.Bool.Decides.{nat_tests}
 use Rattle.std.proofs.lemmas.List.{length-take-le, take-take, take_all}
 use Rattle.std.proofs.lemmas.List.Elements.{All-contains_itself, All-weaker}
 use Rattle.std.proofs.lemmas.List.Sums.{sum_by-take-drop}
-use Rattle.lfs_block.specs.Change.{Change}
 use Rattle.lfs_block.specs.Disk.{Disk, IsDisk}
 use Rattle.lfs_block.specs.Patch.{ChangeSet, applied}
 use Rattle.lfs_meta.specs.Body.{Pair}
@@ -18,14 +17,11 @@ use Rattle.lfs_fs.specs.Reading.{reading_of}
 use Rattle.lfs_fs.specs.Holds.{Holds}
 use Rattle.lfs_fs.specs.Sound.{IsSound}
 use Rattle.lfs_fs.specs.Stored.{HoldsLinks}
-use Rattle.lfs_fs.specs.Thread.{Link, links}
-use Rattle.lfs_fs.specs.Used.{Marks}
+use Rattle.lfs_fs.specs.Thread.{links}
 use Rattle.lfs_fs.specs.Uses.{times, uses}
 use Rattle.lfs_fs.specs.Volume.{Volume}
-use Rattle.lfs_edit.specs.declared.refusal.Refusal.{Refusal}
-use Rattle.lfs_edit.specs.declared.refusal.Refusal.TheVariants.{EntryTooLarge, NoSpace}
 use Rattle.lfs_edit.specs.Accepted.{AreChosen, Follows, IsAccepted}
-use Rattle.lfs_edit.specs.Carried.{AreChosenOf, IsCutOver, IsFinished, IsReady, WritesOver, least_pair, made_blocks, supplies_of}
+use Rattle.lfs_edit.specs.Carried.{IsCutOver, IsFinished, IsReady, WritesOver, least_pair, made_blocks, supplies_of}
 use Rattle.lfs_edit.specs.CarryingLaws.{CarryingLaws}
 use Rattle.lfs_edit.specs.Clean.{clean, cleaned}
 use Rattle.lfs_edit.specs.Command.{Asked, Command, Spells}
@@ -33,16 +29,14 @@ use Rattle.lfs_edit.specs.Cut.{cut, new_pair_uses}
 use Rattle.lfs_edit.specs.CutOutline.{for_parts}
 use Rattle.lfs_edit.specs.DirectoryEdit.{each_part}
 use Rattle.lfs_edit.specs.Edited.{edited}
-use Rattle.lfs_edit.specs.EditedOutline.{edited_outline}
 use Rattle.lfs_edit.specs.Need.{changed_parts, data_blocks, need}
-use Rattle.lfs_edit.specs.OutlineCarried.{IsCarried, has_too_large}
+use Rattle.lfs_edit.specs.OutlineCarried.{IsCarried}
 use Rattle.lfs_edit.specs.OutlineLaws.{WritesOutline}
-use Rattle.lfs_edit.specs.Planned.{HasOneOf, IsFrugal, PlansLeast, TakesLeast}
+use Rattle.lfs_edit.specs.Planned.{HasOneOf, IsFrugal, Plans, TakesLeast}
 use Rattle.lfs_edit.specs.PlansHold.{NamesLeast, is_new_to, is_unmarked, rewritten_parts}
 use Rattle.lfs_edit.specs.PlansWritten.{WritesCommand}
-use Rattle.lfs_edit.specs.Supplies.{AreFree, Supplies, nothing, supply_uses}
+use Rattle.lfs_edit.specs.Supplies.{AreFree, Supplies, supply_uses}
 use Rattle.lfs_edit.specs.SuperblockBytes.{volume_bytes}
-use Rattle.lfs_edit.specs.Verdict.{checks, first_refusal, refuse_if, room_checks, verdict}
 use Rattle.lfs_edit.specs.WrittenLinks.{AreWritten, changed_blocks}
 use Rattle.lfs_edit.proofs.Decided.{same_pair_decides}
 use Rattle.lfs_edit.proofs.FreeBlocks.{taken_unused}
@@ -246,23 +240,21 @@ finish laws d c used blocks o w p disk ready cuts says writes = record { plans =
       len = least.len ∙ ap (λ (ps : List Part). need v c + length ps) rewritten;
     }
 
-    plans : (asked : Asked) → Spells asked c → PlansLeast d asked p
+    plans : (asked : Asked) → Spells asked c → Plans d asked p
     plans asked spells = record {
-      plans = record {
-        volume = v;
-        holds = ready.holds;
-        command = c;
-        spells = spells;
-        supplies = s;
-        blocks = length-take-le (data_blocks v c) (free_blocks v) (omega (arith, within_need v c, enough_free v c ready.unrefused));
-        accepted = accepted;
-        chosen = chosen;
-        pairs = pairs;
-        patch = writes.patch;
-        stands = writes.stands;
-        after = holds;
-        frugal = frugal;
-      };
+      volume = v;
+      holds = ready.holds;
+      command = c;
+      spells = spells;
+      supplies = s;
+      blocks = length-take-le (data_blocks v c) (free_blocks v) (omega (arith, within_need v c, enough_free v c ready.unrefused));
+      accepted = accepted;
+      chosen = chosen;
+      pairs = pairs;
+      patch = writes.patch;
+      stands = writes.stands;
+      after = holds;
+      frugal = frugal;
       taken = taken;
       free = laws.freed v c s chosen accepted pairs;
     }

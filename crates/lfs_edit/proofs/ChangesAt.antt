@@ -10,7 +10,17 @@ use Rattle.lfs_block.specs.Disk.{Disk, IsDisk, block_of}
 use Rattle.lfs_block.specs.Patch.{Stands}
 use Rattle.lfs_edit.specs.PartWritten.{change_at, changes_at, with_change}
 use Rattle.lfs_edit.proofs.BlockLemmas.{block_len}
-use Rattle.lfs_edit.proofs.StoredPlaces.{insert_first, insert_later}
+
+-- ---- an element put behind those in front that pass a test
+
+pub insert_first : {X : Type 0} (t : X → Bool) (x y : X) (xs : List X) → t x ≡ false → insert (x ∷ xs) (prefix_len t (x ∷ xs)) y ≡ y ∷ x ∷ xs
+insert_first t x y xs stops = rw stops refl
+
+pub insert_later : {X : Type 0} (t : X → Bool) (x y : X) (xs : List X) → t x ≡ true → insert (x ∷ xs) (prefix_len t (x ∷ xs)) y ≡ x ∷ insert xs (prefix_len t xs) y
+insert_later {X} t x y xs passes = rw passes (ap (λ (n : ℕ). insert (x ∷ xs) n y) one_more)
+  where
+    one_more : 1 + prefix_len t xs ≡ suc (prefix_len t xs)
+    one_more = omega arith
 
 -- ---- a change among others
 
@@ -35,27 +45,6 @@ with_all P c (e ∷ es) this others = by (nat_lt e.number c.number) (with_all P 
     by : (t : Bool) → AllByRecursion P (with_change c es) → AllByRecursion P (if t then e ∷ with_change c es else c ∷ e ∷ es)
     by true later = (others.0, later)
     by false later = (this, others)
-
-pub with_parts : (P : Change → Type 0) (c : Change) (cs : List Change) → AllByRecursion P (with_change c cs) → P c × AllByRecursion P cs
-unfolding with_change
-with_parts P c [] all = all
-with_parts P c (e ∷ es) all = by (nat_lt e.number c.number) all (with_parts P c es)
-  where
-    by : (t : Bool) → AllByRecursion P (if t then e ∷ with_change c es else c ∷ e ∷ es) → (AllByRecursion P (with_change c es) → P c × AllByRecursion P es) → P c × (P e × AllByRecursion P es)
-    by true h later = let rest = later h.1 in (rest.0, (h.0, rest.1))
-    by false h later = h
-
-pub with_length : (c : Change) (cs : List Change) → length (with_change c cs) ≡ 1 + length cs
-unfolding with_change
-with_length c [] = refl
-with_length c (e ∷ es) = by (nat_lt e.number c.number) (with_length c es)
-  where
-    by : (t : Bool) → length (with_change c es) ≡ 1 + length es → length (if t then e ∷ with_change c es else c ∷ e ∷ es) ≡ 1 + length (e ∷ es)
-    by true later = omega (arith, later)
-    by false later = omega arith
-
-pub with_some : (c : Change) (cs : List Change) → with_change c cs ≢ []
-with_some c cs none = let no : ⊥ = omega (arith, with_length c cs, ap length none) in absurd no
 
 less_all : (a b : ℕ) (cs : List Change) → a < b → AllByRecursion (λ e. b < e.number) cs → AllByRecursion (λ e. a < e.number) cs
 less_all a b [] lt more = more
@@ -117,14 +106,6 @@ pub changes_numbers : (d : Disk) (blocks : List ℕ) (contents : List (List ℕ)
 changes_numbers d [] contents many = refl
 changes_numbers d (b ∷ blocks) [] many = let no : ⊥ = omega (arith, many) in absurd no
 changes_numbers d (b ∷ blocks) (new ∷ contents) many = ap (λ (ns : List ℕ). b ∷ ns) (changes_numbers d blocks contents (omega (arith, many)))
-
--- where each change's new bytes stand, so do the contents
-pub changes_stand : (d e : Disk) (blocks : List ℕ) (contents : List (List ℕ)) → length contents ≡ length blocks → AllByRecursion (λ c. block_of e c.number ≡ c.new) (changes_at d blocks contents) → map (block_of e) blocks ≡ contents
-changes_stand d e [] [] many stand = refl
-changes_stand d e [] (new ∷ contents) many stand = let no : ⊥ = omega (arith, many) in absurd no
-changes_stand d e (b ∷ blocks) [] many stand = let no : ⊥ = omega (arith, many) in absurd no
-changes_stand d e (b ∷ blocks) (new ∷ contents) many stand =
-    ap (λ (c : List ℕ). c ∷ map (block_of e) blocks) stand.0 ∙ ap (λ (cs : List (List ℕ)). new ∷ cs) (changes_stand d e blocks contents (omega (arith, many)) stand.1)
 
 -- ---- blocks that have no change
 

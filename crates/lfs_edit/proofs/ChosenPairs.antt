@@ -58,7 +58,8 @@ first_is_all : (p : Part) (rows : List PairRow) → count_by (λ r. same_pair p.
 first_is_all p [] few = refl
 first_is_all p (r ∷ rows) few = by (same_pair p.pair r.0) refl (first_is_all p rows)
   where
-    by : (t : Bool) → same_pair p.pair r.0 ≡ t → (count_by (λ x. same_pair p.pair x.0) rows ≤ 1 → chosen_for rows p ≡ all_for rows p.pair) → (if t then r.1 else chosen_for rows p) ≡ (if t then r.1 else []) ++ all_for rows p.pair
+    by : (t : Bool) → same_pair p.pair r.0 ≡ t → (count_by (λ x. same_pair p.pair x.0) rows ≤ 1 → chosen_for rows p ≡ all_for rows p.pair)
+        → (if t then r.1 else chosen_for rows p) ≡ (if t then r.1 else []) ++ all_for rows p.pair
     by true is rest =
         let none : count_by (λ x. same_pair p.pair x.0) rows ≡ 0 =
         omega (arith, few, sum_by-cons (λ (x : PairRow). cond {A = ℕ} (same_pair p.pair x.0) 1 0) r rows, ap (λ (t : Bool). cond {A = ℕ} t 1 0) is) in
@@ -90,7 +91,12 @@ few_rows bytes superblock ps gs rows same is k once =
     let all : count_by (λ (r : PairRow). same_pair k r.0) rows ≡ sum_by (λ p. sum_by f (growth_of bytes superblock p)) ps = over_parts f bytes superblock ps gs rows same is in
     let le : sum_by (λ p. sum_by f (growth_of bytes superblock p)) ps ≤ count_by (λ p. same_pair p.pair k) ps =
     sum_by-le-sum_by (λ p. sum_by f (growth_of bytes superblock p)) (λ p. cond {A = ℕ} (same_pair p.pair k) 1 0) ps
-    (λ p. omega (arith, one_growth f (growth bytes superblock p) (grows bytes superblock p), at_most (grows bytes superblock p) (same_pair k p.pair), ap (λ (t : Bool). cond {A = ℕ} t 1 0) (either_way k p.pair))) in
+    (λ p. omega (
+      arith,
+      one_growth f (growth bytes superblock p) (grows bytes superblock p),
+      at_most (grows bytes superblock p) (same_pair k p.pair),
+      ap (λ (t : Bool). cond {A = ℕ} t 1 0) (either_way k p.pair),
+    )) in
     omega (arith, all, le, once)
   where
     at_most : (t u : Bool) → cond {A = ℕ} t (cond {A = ℕ} u 1 0) 0 ≤ cond {A = ℕ} u 1 0
@@ -263,7 +269,8 @@ pub in_order : (v : Volume) (bytes superblock : ℕ) (ds : List Directory) (foun
     → found ≡ growths_of bytes superblock (thread ds)
     → IsPermutation found ordered → gs ≡ ordered → IsPermutation (growths_of bytes superblock (thread v.directories)) gs
 in_order v bytes superblock ds found ordered gs all is same put =
-    subst (λ (xs : List Growth). IsPermutation xs gs) (is ∙ ap (λ (es : List Directory). growths_of bytes superblock (thread es)) all) (subst (λ (xs : List Growth). IsPermutation found xs) (sym put) same)
+    subst (λ (xs : List Growth). IsPermutation xs gs) (is ∙ ap (λ (es : List Directory). growths_of bytes superblock (thread es)) all)
+    (subst (λ (xs : List Growth). IsPermutation found xs) (sym put) same)
 
 chosen_all : (v : Volume) (bytes superblock : ℕ) (blocks : List ℕ) (rows : List PairRow) → (of_v : AreRowsOf v bytes superblock blocks rows)
     → (p : Part) → chosen_for rows p ≡ all_for rows p.pair

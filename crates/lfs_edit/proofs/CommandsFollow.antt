@@ -115,7 +115,8 @@ made_follows v p s ordered ok =
 
 -- ---- files put
 
-body_by : (v : Volume) (p : Path) (bytes : List ℕ) (s : Supplies) → AreFree v (Put p bytes) s → length bytes ≤ v.limits.file → (t : Bool) → nat_le (length bytes) (most_inline v.size) ≡ t → IsNewBody v (if t then Inline bytes else Chain s.blocks bytes) bytes
+body_by : (v : Volume) (p : Path) (bytes : List ℕ) (s : Supplies) → AreFree v (Put p bytes) s → length bytes ≤ v.limits.file → (t : Bool)
+    → nat_le (length bytes) (most_inline v.size) ≡ t → IsNewBody v (if t then Inline bytes else Chain s.blocks bytes) bytes
 body_by v p bytes s free small true is = record {
   leads = refl;
   shows = λ a. refl;
@@ -181,7 +182,8 @@ removed_follows v p s ordered ok =
     let bare = first_passes (refuse_if (not (is_bare v (option_and_then target (entry_at v p)))) NotEmpty) _ there.1 in
     let at = is_placed v p ok.sound (All-head (All IsName) p [] ok.names) (test_passes (is_root p) IsRoot below.0) walk.0 in
     let e = is_there v p (test_passes (is_none (tree v p)) NotFound there.0) in
-    let empty : is_bare v (option_and_then target (entry_at v p)) ≡ true = not_false (is_bare v (option_and_then target (entry_at v p))) (test_passes (not (is_bare v (option_and_then target (entry_at v p)))) NotEmpty bare.0) in
+    let empty : is_bare v (option_and_then target (entry_at v p)) ≡ true =
+    not_false (is_bare v (option_and_then target (entry_at v p))) (test_passes (not (is_bare v (option_and_then target (entry_at v p)))) NotEmpty bare.0) in
     puts_carry v (Rm p) s p None (λ b. entry_uses b e.0 + target_uses_of v (target e.0) b) (λ b. 0) (λ q. refl)
     (λ b. ap (λ (o : Option Entry). unwrap_or (option_map (entry_uses b) o) 0 + target_uses_of v (option_and_then target o) b) e.1) (λ b. refl)
     (subst (λ (o : Option Entry). Puts v (remove_entry v (home_of v p) o) p None (λ b. entry_uses b e.0 + target_uses_of v (target e.0) b) (λ b. 0)) (sym e.1)

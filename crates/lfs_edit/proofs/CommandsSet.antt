@@ -1,10 +1,9 @@
 -- An accepted command sets a part whose pair the volume has.
-use Rattle.std.proofs.Common.{suc, zero, ◌≡◌, ◌⊎◌, ℕ, ◌+◌, ◌≤◌, ◌&&◌, ◌||◌, not, Bool, true, false, cond, List, [], ◌∷◌, ◌++◌, length, refl, ap, sym, ◌∙◌, subst, arith, map, inl, inr, Option, Some, None}
-use Rattle.std.specs.Prelude.{All, if◌then◌else◌, sum_by, count_by, find, is_none, is_some}
+use Rattle.std.proofs.Common.{suc, zero, ◌≡◌, ◌⊎◌, ℕ, ◌+◌, ◌≤◌, ◌&&◌, ◌||◌, not, Bool, true, false, cond, List, [], ◌∷◌, ◌++◌, refl, ap, sym, ◌∙◌, subst, arith, map, inl, inr, Option, Some, None}
+use Rattle.std.specs.Prelude.{All, if◌then◌else◌, sum_by, count_by, find, is_none}
 use Rattle.std.specs.List.{list_any}
 use Rattle.std.specs.Option.{option_map}
 use Rattle.std.proofs.lemmas.Bool.Decides.{nat_tests}
-use Rattle.std.proofs.lemmas.Option.{none-some}
 use Rattle.std.proofs.lemmas.List.Elements.{All-nil, All-cons, All-head, All-tail}
 use Rattle.std.proofs.lemmas.List.Sums.{sum_by-cons, sum_by-append, length-filter}
 use Rattle.lfs_meta.specs.Name.{Name, IsName}
@@ -27,22 +26,22 @@ use Rattle.lfs_edit.specs.Supplies.{Supplies, new_body}
 use Rattle.lfs_edit.specs.Home.{home_of}
 use Rattle.lfs_edit.specs.Edited.{with_body, with_entry_attributes, renamed, new_entry, empty_directory, set_attributes, make_directory, put_file, drop_target, remove_entry, move_entry, edited}
 use Rattle.lfs_edit.specs.Accepted.{IsAccepted}
-use Rattle.lfs_edit.specs.PlansHold.{is_new_to, rewritten_parts}
+use Rattle.lfs_edit.specs.PlansHold.{is_new_to}
 use Rattle.lfs_edit.specs.CommandsSet.{CommandsSetAPart}
-use Rattle.lfs_edit.specs.declared.refusal.Refusal.TheVariants.{IsRoot, NotFound, IntoItself, NotADirectory}
+use Rattle.lfs_edit.specs.declared.refusal.Refusal.TheVariants.{IsRoot, NotFound, IntoItself}
 use Rattle.lfs_edit.specs.Verdict.{refuse_if, walk_refusal, is_root, lies_below}
 use Rattle.lfs_edit.proofs.CommandsFollow.{is_there, neither}
 use Rattle.lfs_edit.proofs.DirectoryEdits.{entries_of, pairs, keeps_link, keeps_unlink, keeps_change}
 use Rattle.lfs_edit.proofs.EdgeEdits.{sound_is_good}
 use Rattle.lfs_edit.proofs.EntriesThere.{stands_at_home}
-use Rattle.lfs_edit.proofs.FewParts.{home_once, count_thread, at_home}
+use Rattle.lfs_edit.proofs.FewParts.{home_once, count_thread}
 use Rattle.lfs_edit.proofs.Found.{found_le, found_passes}
 use Rattle.lfs_edit.proofs.Homes.{first_passes, test_passes}
 use Rattle.lfs_edit.proofs.InDirectory.{KeepsAllParts, find_here}
 use Rattle.lfs_edit.proofs.LinksAdded.{first_used}
 use Rattle.lfs_edit.proofs.OnePath.{entry_found}
 use Rattle.lfs_edit.proofs.OneElement.{found_one, found_has, count_cases}
-use Rattle.lfs_edit.proofs.Placed.{IsPlaced, is_placed}
+use Rattle.lfs_edit.proofs.Placed.{is_placed}
 use Rattle.lfs_edit.proofs.ThreadEdits.{unlink_effect}
 use Rattle.lfs_edit.proofs.WrittenLemmas.{part_uses, sum_thread}
 
@@ -120,7 +119,8 @@ each_sets : (old : Pair → Bool) (n : Name) (f : List Entry → List Entry) (ps
     → 1 ≤ count old (map (λ p. touch (has_name n p) f p) ps)
 each_sets old n f [] olds there = absurd (omega (arith, there))
 each_sets old n f (p ∷ ps) olds there = elim (named_or_none n p.entries) [
-  | inl is ↦ first_set old (touch (has_name n p) f p) (map (λ q. touch (has_name n q) f q) ps) (ap (λ (t : Bool). p.dirty || t) is ∙ touched p.dirty) (All-head (λ x. old x ≡ true) p.pair (pairs ps) olds)
+  | inl is ↦ first_set old (touch (has_name n p) f p) (map (λ q. touch (has_name n q) f q) ps) (ap (λ (t : Bool). p.dirty || t) is ∙ touched p.dirty)
+      (All-head (λ x. old x ≡ true) p.pair (pairs ps) olds)
   | inr none ↦
       (let split = sum_by-append (λ (e : Entry). cond {A = ℕ} (is_named n e) 1 0) p.entries (entries_of ps) in
       let later = each_sets old n f ps (All-tail (λ x. old x ≡ true) p.pair (pairs ps) olds) (omega (arith, there, none, split)) in
@@ -267,7 +267,8 @@ entry_removed v p h is e there =
     drop_target_keeps (old_to v) (target e) (unlink h.0 h.1 v.directories) (old_in (old_to v) h.0 (unlink_in h.1) v.directories (keeps_unlink h.1) (have_old v))
     (unlink_one (old_to v) h.0 h.1 v.directories e (have_old v) (sym (stands_at_home v p h.0 h.1 is) ∙ there))
 
-entry_moved : (v : Volume) (p q : Path) → NamesAreOrdered → IsSound v → (h g : Pair × Name) → home_of v p ≡ Some h → home_of v q ≡ Some g → (e : Entry) → entry_at v p ≡ Some e → sets v (move_entry v (Some h) (Some g) (Some e))
+entry_moved : (v : Volume) (p q : Path) → NamesAreOrdered → IsSound v → (h g : Pair × Name) → home_of v p ≡ Some h → home_of v q ≡ Some g → (e : Entry) → entry_at v p ≡ Some e
+    → sets v (move_entry v (Some h) (Some g) (Some e))
 entry_moved v p q ordered sound h g is goes e there =
     let ds : List Directory = unlink h.0 h.1 v.directories in
     let effect = unlink_effect v.limits h.0 h.1 e v.directories ordered (sound_is_good v sound) (home_once v p h sound is) (sym (stands_at_home v p h.0 h.1 is) ∙ there) in

@@ -71,13 +71,15 @@ body_there chains empty long d disk (Ctz head size) (Chain blocks bytes) stands 
 body_there chains empty long d disk (Stored_inline stored) (Chain blocks bytes) stands = absurd stands
 body_there chains empty long d disk (Leads first second) (Chain blocks bytes) stands = absurd stands
 
-entries_there : FoundAreChains → EmptyIsFound → ContentHasLength → (d : Disk) → IsDisk d → (ss : List StoredEntry) (es : List Entry) → AllZip (Stands (reading_of d)) ss es → OfBodies (IsThere (reading_of d)) es
+entries_there : FoundAreChains → EmptyIsFound → ContentHasLength → (d : Disk) → IsDisk d → (ss : List StoredEntry) (es : List Entry) → AllZip (Stands (reading_of d)) ss es
+    → OfBodies (IsThere (reading_of d)) es
 entries_there chains empty long d disk ss [] all = All-nil (λ (e : Entry). IsThere (reading_of d) e.body)
 entries_there chains empty long d disk [] (e ∷ es) all = absurd all
 entries_there chains empty long d disk (s ∷ ss) (e ∷ es) all =
     All-cons (λ (x : Entry). IsThere (reading_of d) x.body) e es (body_there chains empty long d disk s.body e.body all.0.body) (entries_there chains empty long d disk ss es all.1)
 
-parts_there : FoundAreChains → EmptyIsFound → ContentHasLength → (d : Disk) → IsDisk d → (v : Volume) → HoldsLinks (reading_of d) v → All (λ p. OfBodies (IsThere (reading_of d)) p.entries) (thread v.directories)
+parts_there : FoundAreChains → EmptyIsFound → ContentHasLength → (d : Disk) → IsDisk d → (v : Volume) → HoldsLinks (reading_of d) v
+    → All (λ p. OfBodies (IsThere (reading_of d)) p.entries) (thread v.directories)
 parts_there chains empty long d disk v held =
     subst (All (λ (p : Part). OfBodies (IsThere (reading_of d)) p.entries)) (parts_of_links v.directories)
     (All-map (λ (p : Part). OfBodies (IsThere (reading_of d)) p.entries) (λ (l : Link). l.part) (links v.directories)
@@ -187,7 +189,8 @@ move_attributes v (Some h) (Some k) None = refl
 move_attributes v (Some h) (Some k) (Some e) = refl
 
 -- the root's first part is set where its attributes are
-first_set : (chosen : Part → List Pair) (x : Volume) (ds : List Directory) → StartsAtRoot ds → (q : Part) × Contains (thread (map (cut_directory chosen x) (touch_first ds))) q × (q.pair ≡ root) × (q.dirty ≡ true)
+first_set : (chosen : Part → List Pair) (x : Volume) (ds : List Directory) → StartsAtRoot ds
+    → (q : Part) × Contains (thread (map (cut_directory chosen x) (touch_first ds))) q × (q.pair ≡ root) × (q.dirty ≡ true)
 first_set chosen x [] starts = absurd starts
 first_set chosen x (d ∷ ds) starts =
     let touched : Directory = record { first = record { pair = d.first.pair; entries = d.first.entries; delta = d.first.delta; dirty = true }; more = d.more } in

@@ -1,38 +1,39 @@
 -- What is read of a file at a path of a mounted image, and why nothing is.
-use Rattle.std.proofs.Common.{◌≡◌, ◌⊎◌, List, [], ◌∷◌, ◌++◌, ℕ, Option, Some, None, refl, ap, sym, ◌∙◌, subst, append_assoc, inl, inr}
+use Rattle.std.proofs.Common.{◌≡◌, ◌⊎◌, List, [], ◌∷◌, ◌++◌, ℕ, nat_lt, Bool, false, arith, Option, Some, None, refl, ap, sym, ◌∙◌, subst, append_assoc, inl, inr}
 use Rattle.std.specs.Prelude.{is_none}
 use Rattle.std.specs.List.{AllByRecursion}
 use Rattle.std.specs.Option.{option_map}
+use Rattle.std.proofs.lemmas.Bool.Decides.{nat_tests}
 use Rattle.std.proofs.lemmas.Option.{none-some}
 use Rattle.lfs_block.specs.Disk.{Disk, IsDisk}
 use Rattle.lfs_meta.specs.Attribute.{Attributes}
-use Rattle.lfs_fs.specs.Path.{Path, IsPathText, IsNoPath}
+use Rattle.lfs_meta.specs.Body.{Pair}
+use Rattle.lfs_fs.specs.Path.{Path, IsPathText}
 use Rattle.lfs_fs.specs.Graph.{step, walk}
-use Rattle.lfs_fs.specs.Entry.{Entry, target}
+use Rattle.lfs_fs.specs.Entry.{Entry, Body, Inline, Chain, Directory_at, body_target, target}
 use Rattle.lfs_fs.specs.Volume.{Volume}
-use Rattle.lfs_fs.specs.Tree.{Node, File, Dir, entry_in, entry_at, node, top, tree}
-use Rattle.lfs_fs.specs.Reading.{reading_of}
-use Rattle.lfs_fs.specs.Outlined.{outlined_entry}
-use Rattle.lfs_fs.specs.declared.found.Found.{Found}
-use Rattle.lfs_fs.specs.declared.found.Found.TheVariants as case
-use Rattle.lfs_fs.specs.Seen.{seen}
+use Rattle.lfs_fs.specs.Tree.{Node, File, Dir, entry_in, entry_at, node, node_of, top, tree}
+use Rattle.lfs_fs.specs.Outlined.{outlined}
 use Rattle.lfs_fs.specs.RowShown.{HasBlocks, RowsShowTheTree, shown_body, shown_node}
 use Rattle.lfs_fs.specs.Mounted.{MountedValue, IsMountOf}
-use Rattle.lfs_fs.specs.Stored.{HeldAreHeldByLinks, HoldsLinks}
 use Rattle.lfs_edit.specs.declared.refusal.Refusal.{Refusal}
-use Rattle.lfs_edit.specs.declared.refusal.Refusal.TheVariants.{NotFound, NotADirectory, BadPath, AttrTooLarge, NoAttr, EntryTooLarge, OnePartOnly, Memory, Exists, IsADirectory, NotEmpty, NameTooLong, FileTooLarge, IntoItself, IsRoot, NoSpace}
+use Rattle.lfs_edit.specs.declared.refusal.Refusal.TheVariants.{NotFound, NotADirectory, BadPath, AttrTooLarge, NoAttr, EntryTooLarge, Memory, Exists, IsADirectory, NotEmpty, NameTooLong, FileTooLarge, IntoItself, IsRoot, NoSpace}
+use Rattle.lfs_edit.specs.Command.{SetAttr}
 use Rattle.lfs_edit.specs.Contents.{IsContents, HasNoFile, RefusesContents, reading_checks}
-use Rattle.lfs_edit.specs.Located.{IsPlace, IsPlaceOr}
-use Rattle.lfs_edit.specs.Place.{Found as PlaceFound, At, Nowhere, located}
-use Rattle.lfs_edit.specs.Verdict.{first_refusal, refuse_if, walk_refusal_at, walk_refusal, is_directory}
-use Rattle.lfs_edit.proofs.LocatedLemmas.{mounted_place, shows_directory}
+use Rattle.lfs_edit.specs.HomeChecks.{entry_checks, there_checks}
+use Rattle.lfs_edit.specs.JudgedAlike.{OutlinesAreJudgedAlike}
+use Rattle.lfs_edit.specs.Verdict.{checks, first_refusal, refuse_if, walk_refusal_at, walk_refusal, is_directory}
 use Rattle.lfs_edit.proofs.VerdictKinds.{IsOfVerdict, MayBeOfVerdict, of_first, of_test, of_walk}
-use Rattle.lfs_edit.proofs.OutlinesFollow.{entry_at_outlined}
 use Rattle.lfs_edit.proofs.Verdicts.{refused_first}
 use Rattle.lfs_edit.proofs.Walks.{walk-append, walk-none, step_some}
-use Rattle.lfs_edit.proofs.MountedThread.{mounted_pairs}
 
 -- ---- the walk of a path where something is
+
+-- what leads to a directory is one
+shows_directory : (b : Body) (a : Attributes) (k : Pair) → body_target b ≡ Some k → node_of b a ≡ Dir a
+shows_directory (Inline bytes) a k leads = absurd (none-some k leads)
+shows_directory (Chain blocks bytes) a k leads = absurd (none-some k leads)
+shows_directory (Directory_at pair) a k leads = refl
 
 -- what a walk goes on from
 walked_on : (v : Volume) (o : Option Entry) (ns : Path) (e : Entry) → walk target (entry_in v.directories) o ns ≡ Some e → (f : Entry) × (o ≡ Some f)
@@ -69,7 +70,6 @@ of_reading t path = (of_walk t [] path, (of_test (is_none (t path)) NotFound tt,
 refused_by : (d : Disk) (text : List ℕ) (r : Refusal) → IsOfVerdict r → HasNoFile d text r → RefusesContents d text r
 unfolding IsOfVerdict
 refused_by d text BadPath of refused = absurd of
-refused_by d text OnePartOnly of refused = absurd of
 refused_by d text Memory of refused = absurd of
 refused_by d text NotFound of refused = refused
 refused_by d text Exists of refused = refused
@@ -90,31 +90,46 @@ no_file : (d : Disk) (text : List ℕ) (r : Refusal) → HasNoFile d text r → 
 no_file d text r refused =
     refused_by d text r (subst MayBeOfVerdict refused.refused (of_first (reading_checks (tree refused.volume) refused.path) (of_reading (tree refused.volume) refused.path))) refused
 
-module _ (shows : RowsShowTheTree) (links : HeldAreHeldByLinks) (d : Disk) (disk : IsDisk d) (m : MountedValue) (is : IsMountOf d m) (text : List ℕ) (path : Path) (spelled : IsPathText text path) where
+-- ---- the first checks on an outline
+
+-- a check that never refuses may stand at the end
+passes : (a b : Option Refusal) (r : Refusal) → first_refusal (a ∷ b ∷ refuse_if false r ∷ []) ≡ first_refusal (a ∷ b ∷ [])
+passes None None r = refl
+passes None (Some q) r = refl
+passes (Some p) b r = refl
+
+-- so the first checks on what is there are those of a command that sets an attribute to no bytes
+of_command : (v : Volume) (p : Path) → first_refusal (checks v (SetAttr p 0 [])) ≡ first_refusal (there_checks v p)
+of_command v p =
+    ap (λ (t : Bool). first_refusal (walk_refusal (tree v) [] p ∷ refuse_if (is_none (tree v p)) NotFound ∷ refuse_if t AttrTooLarge ∷ [])) (short v.limits.attribute)
+    ∙ passes (walk_refusal (tree v) [] p) (refuse_if (is_none (tree v p)) NotFound) AttrTooLarge
+  where
+    short : (n : ℕ) → nat_lt n 0 ≡ false
+    short n = grind (arith, nat_tests)
+
+there_alike : OutlinesAreJudgedAlike → (v : Volume) (p : Path) → first_refusal (there_checks v p) ≡ first_refusal (there_checks (outlined v) p)
+there_alike alike v p = sym (of_command v p) ∙ ap first_refusal (sym (alike v (SetAttr p 0 [])).checked) ∙ of_command (outlined v) p
+
+-- a path of a name isn't the root's
+entry_is_there : (v : Volume) (p : Path) → (p ≡ [] → ⊥) → first_refusal (entry_checks v p) ≡ first_refusal (there_checks v p)
+entry_is_there v [] below = absurd (below refl)
+entry_is_there v (n ∷ ns) below = refl
+
+module _ (shows : RowsShowTheTree) (d : Disk) (disk : IsDisk d) (m : MountedValue) (is : IsMountOf d m) (text : List ℕ) (path : Path) (spelled : IsPathText text path) where
   -- a check refuses
   refused_check : (r : Refusal) → first_refusal (reading_checks (tree is.volume) path) ≡ Some r → RefusesContents d text r
   refused_check r refused = no_file d text r (record { volume = is.volume; holds = is.holds; sound = is.sound; path = path; spelled = spelled; refused = refused })
 
-  nowhere : (r : Refusal) → first_refusal (walk_refusal (tree is.volume) [] path ∷ refuse_if (is_none (tree is.volume path)) NotFound ∷ []) ≡ Some r → RefusesContents d text r
-  nowhere r refused =
-      refused_check r
-      (refused_first (walk_refusal (tree is.volume) [] path ∷ refuse_if (is_none (tree is.volume path)) NotFound ∷ []) (refuse_if (is_directory (tree is.volume path)) IsADirectory ∷ []) r refused)
+  -- where the path is the root's
+  pub refused_root : path ≡ [] → RefusesContents d text IsADirectory
+  refused_root root = refused_check IsADirectory (ap (λ (p : Path). first_refusal (reading_checks (tree is.volume) p)) root)
 
   -- where nothing is at the path
-  pub refused_missing : (r : Refusal) → entry_at m.outline path ≡ None
-      → (r ≡ Memory) ⊎ (located (reading_of d) (mounted_pairs m) path ≡ Nowhere r) ⊎ ((found : PlaceFound) × (located (reading_of d) (mounted_pairs m) path ≡ At found)) → RefusesContents d text r
-  refused_missing r none why = elim why [
-    | inl memory ↦ subst (RefusesContents d text) (sym memory) tt
-    | inr other ↦ elim other [
-      | inl is_nowhere ↦ nowhere r (subst (IsPlaceOr (reading_of d) is.volume held path) is_nowhere (mounted_place d m is held path))
-      | inr at ↦
-          let place : IsPlace (reading_of d) is.volume held path at.0 = subst (IsPlaceOr (reading_of d) is.volume held path) at.1 (mounted_place d m is held path) in
-          absurd (none-some (outlined_entry place.entry) (sym none ∙ ap (λ (v : Volume). entry_at v path) is.outline ∙ entry_at_outlined is.volume path ∙ ap (option_map outlined_entry) place.at))
-    ]
-  ]
-    where
-      held : HoldsLinks (reading_of d) is.volume
-      held = links (reading_of d) is.volume is.holds
+  pub refused_missing : OutlinesAreJudgedAlike → (r : Refusal) → (path ≡ [] → ⊥) → first_refusal (entry_checks m.outline path) ≡ Some r → RefusesContents d text r
+  refused_missing alike r below refused =
+      refused_check r
+      (refused_first (there_checks is.volume path) (refuse_if (is_directory (tree is.volume path)) IsADirectory ∷ []) r
+      (there_alike alike is.volume path ∙ ap (λ (v : Volume). first_refusal (there_checks v path)) (sym is.outline) ∙ sym (entry_is_there m.outline path below) ∙ refused))
 
   module _ (e : Entry) (at : entry_at m.outline path ≡ Some e) where
     here : (tree is.volume path ≡ Some (shown_node d e)) × HasBlocks d e.body
@@ -142,15 +157,3 @@ module _ (shows : RowsShowTheTree) (links : HeldAreHeldByLinks) (d : Disk) (disk
           subst (RefusesContents d text) (sym directory.0)
           (refused_check IsADirectory (directory_refused (tree is.volume) path e.attributes (reached is.volume path (Dir e.attributes) there_is) there_is))
     ]
-
--- what is found has the same body in any volume
-pub same_body : (v w : Volume) (found : Found) → (seen v found).body ≡ (seen w found).body
-same_body v w case.Root = refl
-same_body v w (case.Entry entry) = refl
-
--- of the text
-pub refused_text : (d : Disk) (text : List ℕ) (r : Refusal) → (r ≡ Memory) ⊎ ((r ≡ BadPath) × IsNoPath text) → RefusesContents d text r
-refused_text d text r why = elim why [
-  | inl memory ↦ subst (RefusesContents d text) (sym memory) tt
-  | inr bad ↦ subst (RefusesContents d text) (sym bad.0) bad.1
-]

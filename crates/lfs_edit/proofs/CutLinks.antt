@@ -26,7 +26,8 @@ abbrev tail_before : List Part → Tail → Tail
 tail_before [] tail = tail
 tail_before (p ∷ ps) tail = hard_to p.pair
 
-in_front : (old : List Link) (p : Part) (ps : List Part) (tail : Tail) → IsKept old (record { part = p; tail = tail_before ps tail }) → All (IsKept old) (links_in ps tail) → All (IsKept old) (links_of p ps tail)
+in_front : (old : List Link) (p : Part) (ps : List Part) (tail : Tail) → IsKept old (record { part = p; tail = tail_before ps tail }) → All (IsKept old) (links_in ps tail)
+    → All (IsKept old) (links_of p ps tail)
 in_front old p [] tail here rest = All-cons (IsKept old) (record { part = p; tail = tail }) [] here rest
 in_front old p (q ∷ ps) tail here rest = All-cons (IsKept old) (record { part = p; tail = hard_to q.pair }) (links_of q ps tail) here rest
 

@@ -105,7 +105,8 @@ AreNamed es = All (λ e. IsName e.name) es
 parts_named : (ps : List Part) → AreNamed (entries_of ps) → All (λ p. AreNamed p.entries) ps
 parts_named [] all = All-nil (λ (p : Part). AreNamed p.entries)
 parts_named (p ∷ ps) all =
-    All-cons (λ (q : Part). AreNamed q.entries) p ps (All-left (λ (e : Entry). IsName e.name) p.entries (entries_of ps) all) (parts_named ps (All-right (λ (e : Entry). IsName e.name) p.entries (entries_of ps) all))
+    All-cons (λ (q : Part). AreNamed q.entries) p ps (All-left (λ (e : Entry). IsName e.name) p.entries (entries_of ps) all)
+    (parts_named ps (All-right (λ (e : Entry). IsName e.name) p.entries (entries_of ps) all))
 
 thread_named : (ds : List Directory) → All (λ d. AreNamed (entries d)) ds → All (λ p. AreNamed p.entries) (thread ds)
 thread_named [] all = All-nil (λ (p : Part). AreNamed p.entries)

@@ -89,7 +89,8 @@ cut_entries join chosen v p enough = cut_entries_by join chosen v p p.dirty enou
 
 cut_uses_by : (b : ℕ) (chosen : Part → List Pair) (v : Volume) (p : Part) (set : Bool) → (set ≡ true → length (chosen p) ≡ length (later_runs (runs v p)))
     → sum_by (pair_uses b) (head_by v p set ∷ tail_by chosen v p set) ≡ pair_uses b p + sum_by (pair_times b) (if set then chosen p else [])
-cut_uses_by b chosen v p true enough = sum_by-cons (pair_uses b) (head_by v p true) (tail_by chosen v p true) ∙ ap (λ n. pair_uses b p + n) (more_uses b (chosen p) (later_runs (runs v p)) (enough refl))
+cut_uses_by b chosen v p true enough = sum_by-cons (pair_uses b) (head_by v p true) (tail_by chosen v p true)
+    ∙ ap (λ n. pair_uses b p + n) (more_uses b (chosen p) (later_runs (runs v p)) (enough refl))
 cut_uses_by b chosen v p false enough = sum_by-cons (pair_uses b) p []
 
 cut_uses : (b : ℕ) (chosen : Part → List Pair) (v : Volume) (p : Part) → HasEnough chosen v p → sum_by (pair_uses b) (cut_part chosen v p) ≡ pair_uses b p + sum_by (pair_times b) (new_pairs chosen p)
@@ -174,7 +175,8 @@ pub enough_each : (chosen : Part → List Pair) (v : Volume) (ds : List Director
 enough_each chosen v [] enough = All-nil (λ d. All (HasEnough chosen v) (parts d))
 enough_each chosen v (d ∷ ds) enough =
     let both : All (HasEnough chosen v) (parts d ++ thread ds) = subst (All (HasEnough chosen v)) (flat_map-cons parts d ds) enough in
-    All-cons (λ e. All (HasEnough chosen v) (parts e)) d ds (All-left (HasEnough chosen v) (parts d) (thread ds) both) (enough_each chosen v ds (All-right (HasEnough chosen v) (parts d) (thread ds) both))
+    All-cons (λ e. All (HasEnough chosen v) (parts e)) d ds (All-left (HasEnough chosen v) (parts d) (thread ds) both)
+    (enough_each chosen v ds (All-right (HasEnough chosen v) (parts d) (thread ds) both))
 
 pub cut_uses_all : RunsJoin Entry → (b : ℕ) (chosen : Part → List Pair) (v : Volume) (ds : List Directory) → All (λ d. All (HasEnough chosen v) (parts d)) ds
     → sum_by (directory_uses b) (cut_all chosen v ds) ≡ sum_by (directory_uses b) ds + pairs_for chosen b (thread ds)
@@ -235,7 +237,8 @@ cut_all_entries P join chosen v (d ∷ ds) enough h =
     (subst P (sym (cut_directory_entries join chosen v d (All-head (λ e. All (HasEnough chosen v) (parts e)) d ds enough))) (All-head (λ e. P (entries e)) d ds h))
     (cut_all_entries P join chosen v ds (All-tail (λ e. All (HasEnough chosen v) (parts e)) d ds enough) (All-tail (λ e. P (entries e)) d ds h))
 
-pub cut_good : RunsJoin Entry → (limits : Limits) (chosen : Part → List Pair) (v : Volume) (ds : List Directory) → All (HasEnough chosen v) (thread ds) → AreGood limits ds → AreGood limits (cut_all chosen v ds)
+pub cut_good : RunsJoin Entry → (limits : Limits) (chosen : Part → List Pair) (v : Volume) (ds : List Directory) → All (HasEnough chosen v) (thread ds) → AreGood limits ds
+    → AreGood limits (cut_all chosen v ds)
 cut_good join limits chosen v ds enough good = record {
   order = cut_all_entries Rise join chosen v ds (enough_each chosen v ds enough) good.order;
   proper = cut_all_entries (All (IsProper limits)) join chosen v ds (enough_each chosen v ds enough) good.proper;
@@ -258,5 +261,6 @@ cut_edges_each join chosen v (d ∷ ds) enough k n =
     edge_by join chosen v k n d ds (begins_at k d) refl (All-head (λ e. All (HasEnough chosen v) (parts e)) d ds enough)
     (cut_edges_each join chosen v ds (All-tail (λ e. All (HasEnough chosen v) (parts e)) d ds enough) k n)
 
-pub cut_edges : RunsJoin Entry → (chosen : Part → List Pair) (v : Volume) (ds : List Directory) → All (HasEnough chosen v) (thread ds) → (k : Pair) (n : Name) → entry_in (cut_all chosen v ds) k n ≡ entry_in ds k n
+pub cut_edges : RunsJoin Entry → (chosen : Part → List Pair) (v : Volume) (ds : List Directory) → All (HasEnough chosen v) (thread ds) → (k : Pair) (n : Name)
+    → entry_in (cut_all chosen v ds) k n ≡ entry_in ds k n
 cut_edges join chosen v ds enough = cut_edges_each join chosen v ds (enough_each chosen v ds enough)

@@ -45,7 +45,8 @@ cut_sound join chosen w sound enough once within =
 
 -- ---- a command
 
-chosen_once : (v : Volume) (c : Command) (s : Supplies) (chosen : Part → List Pair) → Carries v c s → AreChosen v c s chosen → (b : ℕ) → uses b (edited v c s) + new_pair_uses chosen (edited v c s) b ≤ 1
+chosen_once : (v : Volume) (c : Command) (s : Supplies) (chosen : Part → List Pair) → Carries v c s → AreChosen v c s chosen → (b : ℕ)
+    → uses b (edited v c s) + new_pair_uses chosen (edited v c s) b ≤ 1
 chosen_once v c s chosen carries pairs b = omega (arith, carries.uses b, pairs.once b)
 
 pub cuts_follow : NamesAreOrdered → RunsJoin Entry → CutsFollow

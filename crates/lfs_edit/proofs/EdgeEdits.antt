@@ -42,7 +42,8 @@ pub record IsBalanced (v : Volume) (old x : Option Entry) (gone came : Counts) :
   pub comes : (k : Pair) → 0 < came.directories k → option_and_then target x ≡ Some k
 
 pub edge_sound : (v : Volume) (ds : List Directory) (front : Path) (k : Pair) (n : Name) (x : Option Entry) (gone came : Counts) → OneEdge v (with_directories v ds) front k n x
-    → Alike v (with_directories v ds) (entry_at v (front ++ n ∷ [])) x → Effect gone came v.directories ds → AreGood v.limits ds → IsBalanced v (entry_at v (front ++ n ∷ [])) x gone came → IsSound (with_directories v ds)
+    → Alike v (with_directories v ds) (entry_at v (front ++ n ∷ [])) x → Effect gone came v.directories ds → AreGood v.limits ds
+    → IsBalanced v (entry_at v (front ++ n ∷ [])) x gone came → IsSound (with_directories v ds)
 edge_sound v ds front k n x gone came edge alike effect good even =
     sound_after v (with_directories v ds) gone came edge.sound effect good edge.sound.root_attributes refl
     (record {

@@ -1,7 +1,7 @@
 -- What an outline that can be edited keeps to.
-use Rattle.std.proofs.Common.{◌≡◌, ◌≤◌, ◌<◌, ◌++◌, ◌&&◌, ◌||◌, ℕ, Bool, true, false, List, [], ◌∷◌, length, refl, ap, sym, ◌∙◌, subst, arith, true≢false, Option, Some, None}
+use Rattle.std.proofs.Common.{◌≡◌, ◌≤◌, ◌<◌, ◌&&◌, ◌||◌, ℕ, Bool, true, false, List, [], ◌∷◌, length, refl, ap, sym, ◌∙◌, arith, true≢false, Option, Some, None}
 use Rattle.std.specs.Prelude.{count_by, cond, if◌then◌else◌, nat_lt, is_none}
-use Rattle.std.specs.Option.{option_and_then, option_map}
+use Rattle.std.specs.Option.{option_and_then, option_map, unwrap_or}
 use Rattle.std.proofs.lemmas.Option.{same_Some}
 use Rattle.std.proofs.lemmas.Bool.Decides.{nat_tests}
 use Rattle.std.proofs.lemmas.List.Elements.{All-weaker}
@@ -24,6 +24,7 @@ use Rattle.lfs_edit.specs.PairWalk.{pair_at, name_in}
 use Rattle.lfs_edit.specs.ThreadEdit.{in_directory}
 use Rattle.lfs_edit.specs.Verdict.{is_directory, is_root, last_length, refuse_if, walk_refusal}
 use Rattle.lfs_edit.proofs.DirectoryEdits.{begins_same}
+use Rattle.lfs_edit.proofs.EntriesThere.{stands_at_home}
 use Rattle.lfs_edit.proofs.Homes.{Splits, first_passes, path_splits, test_passes}
 use Rattle.lfs_edit.proofs.InDirectory.{KeepsAllParts}
 use Rattle.lfs_edit.proofs.Marks.{named_once}
@@ -55,30 +56,20 @@ begins_kept j k f (d ∷ ds) keeps =
 
 -- ---- homes
 
--- what stands at a path stands under its last name at home
-home_by : (v : Volume) (front : Path) (n : Name) (k : Option Pair) (h : Pair × Name) → pair_at v.directories root front ≡ k → option_map {U = Pair × Name} (λ (j : Pair). (j, n)) k ≡ Some h
-    → (entry_at v (front ++ n ∷ []) ≡ entry_in v.directories h.0 h.1) × (n ≡ h.1)
-home_by v front n None h leads is = cc
-home_by v front n (Some k) h leads is =
-    let same : (k, n) ≡ h = same_Some (k, n) h is in
-    subst (λ (x : Pair × Name). (entry_at v (front ++ n ∷ []) ≡ entry_in v.directories x.0 x.1) × (n ≡ x.1)) same
-    ((walks_go_by_pairs v).last front n ∙ ap (option_and_then (λ (j : Pair). entry_in v.directories j n)) leads, refl)
+-- the name of a home is the last one
+home_by : (n : Name) (k : Option Pair) (h : Pair × Name) → option_map {U = Pair × Name} (λ (j : Pair). (j, n)) k ≡ Some h → n ≡ h.1
+home_by n None h is = cc
+home_by n (Some k) h is = ap (λ (x : Pair × Name). x.1) (same_Some (k, n) h is)
 
-home_at : (v : Volume) (p : Path) (h : Pair × Name) (s : Splits p) → home_of v p ≡ Some h → (entry_at v p ≡ entry_in v.directories h.0 h.1) × (last_length p ≡ length h.1)
+home_at : (v : Volume) (p : Path) (h : Pair × Name) (s : Splits p) → home_of v p ≡ Some h → last_length p ≡ length h.1
 home_at v p h s is =
-    let by = home_by v s.front s.name (pair_at v.directories root s.front) h refl
-    (ap (option_and_then (name_in v.directories)) (sym s.split) ∙ sym ((walks_go_by_pairs v).home p) ∙ is) in (
-      ap (entry_at v) s.whole ∙ by.0,
-      ap (λ (x : Option (Path × Name)). Rattle.std.specs.Option.unwrap_or (option_map (λ (s : Path × Name). length s.1) x) 0) s.split ∙ ap length by.1,
-    )
-
-pub entry_home : (v : Volume) (p : Path) (h : Pair × Name) → home_of v p ≡ Some h → entry_at v p ≡ entry_in v.directories h.0 h.1
-entry_home v [] h is = cc
-entry_home v (n ∷ ns) h is = (home_at v (n ∷ ns) h (path_splits (n ∷ ns) refl) is).0
+    ap (λ (x : Option (Path × Name)). unwrap_or (option_map (λ (s : Path × Name). length s.1) x) 0) s.split
+    ∙ ap length (home_by s.name (pair_at v.directories root s.front) h
+    (ap (option_and_then (name_in v.directories)) (sym s.split) ∙ sym ((walks_go_by_pairs v).home p) ∙ is))
 
 pub last_home : (v : Volume) (p : Path) (h : Pair × Name) → home_of v p ≡ Some h → last_length p ≡ length h.1
 last_home v [] h is = cc
-last_home v (n ∷ ns) h is = (home_at v (n ∷ ns) h (path_splits (n ∷ ns) refl) is).1
+last_home v (n ∷ ns) h is = home_at v (n ∷ ns) h (path_splits (n ∷ ns) refl) is
 
 -- ---- what the checks leave
 
@@ -109,7 +100,7 @@ put_short o p bytes h editable is = by (entry_at o p) refl
         let len = last_home o p h is in
         grind (arith, nat_tests)
     by (Some e) some =
-        omega (arith, entry_short o editable.sound h.0 h.1 e (sym (entry_home o p h is) ∙ some), editable.limits.name.1)
+        omega (arith, entry_short o editable.sound h.0 h.1 e (sym (stands_at_home o p h.0 h.1 is) ∙ some), editable.limits.name.1)
 
 -- what is moved is there
 pub moved_there : (o : Volume) (p q : Path) (h : Pair × Name) → IsEditable o (Mv p q) → home_of o p ≡ Some h → (e : Entry) × (entry_in o.directories h.0 h.1 ≡ Some e)
@@ -123,4 +114,4 @@ moved_there o p q h editable is = by (entry_at o p) refl
 
     by : (e : Option Entry) → entry_at o p ≡ e → (e : Entry) × (entry_in o.directories h.0 h.1 ≡ Some e)
     by None none = absurd (true≢false (ap (λ (x : Option Entry). is_none (option_map node x)) (sym none) ∙ passed))
-    by (Some e) some = (e, sym (entry_home o p h is) ∙ some)
+    by (Some e) some = (e, sym (stands_at_home o p h.0 h.1 is) ∙ some)

@@ -80,7 +80,8 @@ Rise-place e (f ∷ xs) ordered fresh rise = go (precedes e.name f.name) refl (R
   where
     go : (b : Bool) → precedes e.name f.name ≡ b → Rise (place e xs) → Rise (if b then e ∷ f ∷ xs else f ∷ place e xs)
     go true before later_rise =
-        let later : All (λ g. precedes e.name g.name ≡ true) xs = All-weaker (λ (g : Entry). precedes f.name g.name ≡ true) (λ g. precedes e.name g.name ≡ true) (λ g h. ordered.transitive e.name f.name g.name before h) xs rise.0 in
+        let later : All (λ g. precedes e.name g.name ≡ true) xs = All-weaker (λ (g : Entry). precedes f.name g.name ≡ true) (λ g. precedes e.name g.name ≡ true)
+        (λ g h. ordered.transitive e.name f.name g.name before h) xs rise.0 in
         (All-cons (λ (g : Entry). precedes e.name g.name ≡ true) f xs before later, rise)
     go false not_before later_rise =
         let other : is_named e.name f ≡ false = grind arith in

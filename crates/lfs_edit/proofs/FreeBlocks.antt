@@ -32,12 +32,14 @@ kept_passes t b a (suc n) some = by (t a) refl some (kept_passes t b (a + 1) n)
     later : (1 ≤ times b (filter t (range_with_len (a + 1) n)) → (t b ≡ true) × (b < a + 1 + n)) → 1 ≤ times b (filter t (range_with_len (a + 1) n)) → (t b ≡ true) × (b < a + suc n)
     later rest there = let r = rest there in (r.0, omega (arith, r.1))
 
-    this : (s : Bool) → (a == b) ≡ s → t a ≡ true → 1 ≤ (if s then 1 else 0) + times b (filter t (range_with_len (a + 1) n)) → (1 ≤ times b (filter t (range_with_len (a + 1) n)) → (t b ≡ true) × (b < a + 1 + n))
+    this : (s : Bool) → (a == b) ≡ s → t a ≡ true → 1 ≤ (if s then 1 else 0) + times b (filter t (range_with_len (a + 1) n))
+        → (1 ≤ times b (filter t (range_with_len (a + 1) n)) → (t b ≡ true) × (b < a + 1 + n))
         → (t b ≡ true) × (b < a + suc n)
     this true same is there rest = let equal : a ≡ b = grind (arith, nat_tests, same) in (subst (λ (x : ℕ). t x ≡ true) equal is, omega (arith, equal))
     this false other is there rest = later rest (omega (arith, there))
 
-    by : (s : Bool) → t a ≡ s → 1 ≤ times b (if s then a ∷ filter t (range_with_len (a + 1) n) else filter t (range_with_len (a + 1) n)) → (1 ≤ times b (filter t (range_with_len (a + 1) n)) → (t b ≡ true) × (b < a + 1 + n))
+    by : (s : Bool) → t a ≡ s → 1 ≤ times b (if s then a ∷ filter t (range_with_len (a + 1) n) else filter t (range_with_len (a + 1) n))
+        → (1 ≤ times b (filter t (range_with_len (a + 1) n)) → (t b ≡ true) × (b < a + 1 + n))
         → (t b ≡ true) × (b < a + suc n)
     by true is there rest = this (a == b) refl is (omega (arith, there, count_cases (λ x. x == b) a (filter t (range_with_len (a + 1) n)))) rest
     by false is there rest = later rest there

@@ -137,11 +137,17 @@ plans_are_frugal d v held c s chosen base p ok pairs least contents writes =
     let many : length old ≡ length (rewritten_parts v w) = length-map (rewritten_parts v w) (λ (q : Part). other_number d q.pair) in
     let all : length taken ≡ need v c = length-take-le (need v c) (free_blocks v) (enough_free v c ok.unrefused) in
     record {
-      free = All-weaker (Contains taken) (Contains numbers) (λ n there. times_contains n numbers (omega (arith, named n, times_append n taken old, times_there n taken there))) taken (All-contains_itself taken);
+      free = All-weaker (Contains taken) (Contains numbers) (λ n there. times_contains n numbers (omega (arith, named n, times_append n taken old, times_there n taken there)))
+          taken (All-contains_itself taken);
       rewritten = All-weaker (Contains (rewritten_parts v w)) (HasOneOf numbers)
           (λ q there. one_of d q numbers
           (times_contains (other_number d q.pair) numbers
-          (omega (arith, named (other_number d q.pair), times_append (other_number d q.pair) taken old, times_there (other_number d q.pair) old (contains-map (λ (x : Part). other_number d x.pair) (rewritten_parts v w) q there)))))
+          (omega (
+            arith,
+            named (other_number d q.pair),
+            times_append (other_number d q.pair) taken old,
+            times_there (other_number d q.pair) old (contains-map (λ (x : Part). other_number d x.pair) (rewritten_parts v w) q there),
+          ))))
           (rewritten_parts v w) (All-contains_itself (rewritten_parts v w));
       len = omega (arith, len, length-append taken old, many, all);
     }

@@ -230,12 +230,14 @@ by_part p (Some ws) s has is some' =
     subst (λ (q : StoredPart). All StoredHas q.entries) same (all_have p.entries ws has is)
 
 -- the contents of a part that a pair holds are bytes
-pub held_have : LiveBlocksAreRead → BlocksHaveALog → (d : Disk) (pair : Pair) (s : StoredPart) → IsDisk d → pair.0 < d.count → pair.1 < d.count → stored_part_of d pair ≡ Some s → All StoredHas s.entries
+pub held_have : LiveBlocksAreRead → BlocksHaveALog → (d : Disk) (pair : Pair) (s : StoredPart) → IsDisk d → pair.0 < d.count → pair.1 < d.count
+    → stored_part_of d pair ≡ Some s → All StoredHas s.entries
 held_have read logs d pair s disk first second is =
     option_and_then_some whole_part (option_and_then replay (tags_of d pair)) s is
     (λ p there whole_is. option_and_then_some replay (tags_of d pair) p there
     (λ tags tags_are replayed. by_part p (all_whole p.entries) s
-    (replay_has empty_part p tags replayed (live_has logs d pair (live_block (block_of d pair.0) (block_of d pair.1)) tags disk first second (read (block_of d pair.0) (block_of d pair.1)) tags_are) empty_has)
+    (replay_has empty_part p tags replayed (live_has logs d pair (live_block (block_of d pair.0) (block_of d pair.1)) tags disk first second
+    (read (block_of d pair.0) (block_of d pair.1)) tags_are) empty_has)
     refl whole_is))
 
 -- ---- words

@@ -45,7 +45,8 @@ abbrev pub entry_of : Name → Option Directory → Option Entry
 entry_of n = option_and_then (λ d. find (is_named n) (entries d))
 
 -- f leaves what stands under the name
-same_entry : (m : Name) (f : Directory → Directory) (o : Option Directory) → ((d : Directory) → find (is_named m) (entries (f d)) ≡ find (is_named m) (entries d)) → entry_of m (option_map f o) ≡ entry_of m o
+same_entry : (m : Name) (f : Directory → Directory) (o : Option Directory) → ((d : Directory) → find (is_named m) (entries (f d)) ≡ find (is_named m) (entries d))
+    → entry_of m (option_map f o) ≡ entry_of m o
 same_entry m f None same = refl
 same_entry m f (Some d) same = same d
 

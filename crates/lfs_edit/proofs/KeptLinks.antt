@@ -49,7 +49,8 @@ weaker old more there ls kept = All-weaker (IsKept old) (IsKept more) (λ l h. e
 
 -- one edit after another
 pub keep_twice : (ds es fs : List Directory) → KeepLinks ds es → KeepLinks es fs → KeepLinks ds fs
-keep_twice ds es fs first second = All-weaker (IsKept (links es)) (IsKept (links ds)) (λ l h. elim h [ inl set ↦ inl set | inr was ↦ All-contains (IsKept (links ds)) (links es) l first was ]) (links fs) second
+keep_twice ds es fs first second = All-weaker (IsKept (links es)) (IsKept (links ds))
+    (λ l h. elim h [ inl set ↦ inl set | inr was ↦ All-contains (IsKept (links ds)) (links es) l first was ]) (links fs) second
 
 itself : (ls : List Link) → All (IsKept ls) ls
 itself ls = All-weaker (Contains ls) (IsKept ls) (λ l h. inr h) ls (All-contains_itself ls)
@@ -82,7 +83,11 @@ each_kept f h p [] tail = All-cons (IsKept (links_of p [] tail)) (record { part 
 each_kept f h p (q ∷ ps) tail =
     All-cons (IsKept (links_of p (q ∷ ps) tail)) (record { part = f p; tail = hard_to (f q).pair }) (links_of (f q) (map f ps) tail)
     (one_kept f h p (hard_to q.pair) (hard_to (f q).pair) (links_of q ps tail) (ap hard_to (h.pair q)))
-    (weaker (links_of q ps tail) (links_of p (q ∷ ps) tail) (contains-cons (record { part = p; tail = hard_to q.pair }) (links_of q ps tail)) (links_of (f q) (map f ps) tail) (each_kept f h q ps tail))
+    (weaker (links_of q ps tail) (links_of p (q ∷ ps) tail) (contains-cons (record {
+      part = p;
+      tail =
+          hard_to q.pair;
+    }) (links_of q ps tail)) (links_of (f q) (map f ps) tail) (each_kept f h q ps tail))
 
 -- A directory changed so that its first pair stays, whatever its last tail.
 abbrev pub KeepsPair : (Directory → Directory) → Type 0
@@ -193,9 +198,11 @@ link_here e p q ps tail =
     (weaker (links_of q ps tail) (links_of p (q ∷ ps) tail) (contains-cons (record { part = p; tail = hard_to q.pair }) (links_of q ps tail)) (links_of q ps tail) (itself (links_of q ps tail)))
 
 link_by : (e : Entry) (p q : Part) (ps : List Part) (tail : Tail) (t : Bool) → All (IsKept (links_of q ps tail)) (links_of (link_parts e q ps).first (link_parts e q ps).more tail)
-    → (d : Directory) → d ≡ (if t then record { first = touch true (place e) p; more = q ∷ ps } else behind p (link_parts e q ps)) → All (IsKept (links_of p (q ∷ ps) tail)) (links_of d.first d.more tail)
+    → (d : Directory) → d ≡ (if t then record { first = touch true (place e) p; more = q ∷ ps } else behind p (link_parts e q ps))
+    → All (IsKept (links_of p (q ∷ ps) tail)) (links_of d.first d.more tail)
 link_by e p q ps tail true rest d is = subst (λ (x : Directory). All (IsKept (links_of p (q ∷ ps) tail)) (links_of x.first x.more tail)) (sym is) (link_here e p q ps tail)
-link_by e p q ps tail false rest d is = subst (λ (x : Directory). All (IsKept (links_of p (q ∷ ps) tail)) (links_of x.first x.more tail)) (sym is) (behind_kept p q ps tail (link_parts e q ps) (link_pair e q ps) rest)
+link_by e p q ps tail false rest d is = subst (λ (x : Directory). All (IsKept (links_of p (q ∷ ps) tail)) (links_of x.first x.more tail)) (sym is)
+    (behind_kept p q ps tail (link_parts e q ps) (link_pair e q ps) rest)
 
 link_parts_kept : (e : Entry) (p : Part) (ps : List Part) (tail : Tail) → All (IsKept (links_of p ps tail)) (links_of (link_parts e p ps).first (link_parts e p ps).more tail)
 unfolding link_parts
@@ -220,7 +227,11 @@ touch_last_kept p (q ∷ ps) tail now =
     let d : Directory = touch_last_of q ps in
     All-cons (IsKept (links_of p (q ∷ ps) tail)) (record { part = p; tail = hard_to d.first.pair }) (links_of d.first d.more now)
     (inr (0, omega arith, ap (λ (a : Pair). record { part = p; tail = hard_to a }) (sym (touch_last_pair q ps))))
-    (weaker (links_of q ps tail) (links_of p (q ∷ ps) tail) (contains-cons (record { part = p; tail = hard_to q.pair }) (links_of q ps tail)) (links_of d.first d.more now) (touch_last_kept q ps tail now))
+    (weaker (links_of q ps tail) (links_of p (q ∷ ps) tail) (contains-cons (record {
+      part = p;
+      tail =
+          hard_to q.pair;
+    }) (links_of q ps tail)) (links_of d.first d.more now) (touch_last_kept q ps tail now))
 
 absorb_pair : (delta : ℕ) (p : Part) (ps : List Part) → (absorb_in delta p ps).first.pair ≡ p.pair
 unfolding absorb_in
@@ -234,7 +245,11 @@ absorb_kept delta p (q ∷ ps) tail now =
     let d : Directory = absorb_in delta q ps in
     All-cons (IsKept (links_of p (q ∷ ps) tail)) (record { part = p; tail = hard_to d.first.pair }) (links_of d.first d.more now)
     (inr (0, omega arith, ap (λ (a : Pair). record { part = p; tail = hard_to a }) (sym (absorb_pair delta q ps))))
-    (weaker (links_of q ps tail) (links_of p (q ∷ ps) tail) (contains-cons (record { part = p; tail = hard_to q.pair }) (links_of q ps tail)) (links_of d.first d.more now) (absorb_kept delta q ps tail now))
+    (weaker (links_of q ps tail) (links_of p (q ∷ ps) tail) (contains-cons (record {
+      part = p;
+      tail =
+          hard_to q.pair;
+    }) (links_of q ps tail)) (links_of d.first d.more now) (absorb_kept delta q ps tail now))
 
 -- a thread changed behind its first directory, where that one's tail stays
 later_kept : (d : Directory) (ds es : List Directory) → tail_to es ≡ tail_to ds → KeepLinks ds es → KeepLinks (d ∷ ds) (d ∷ es)
@@ -271,7 +286,8 @@ unfolding add_after
 added_tail k new [] = refl
 added_tail k new (d ∷ ds) = added_tail_by k new d ds (begins_at k d)
 
-added_by : (k : Pair) (new d : Directory) (ds : List Directory) (t : Bool) → AllSet new → KeepLinks ds (add_after k new ds) → KeepLinks (d ∷ ds) (if t then touch_last d ∷ new ∷ ds else d ∷ add_after k new ds)
+added_by : (k : Pair) (new d : Directory) (ds : List Directory) (t : Bool) → AllSet new → KeepLinks ds (add_after k new ds)
+    → KeepLinks (d ∷ ds) (if t then touch_last d ∷ new ∷ ds else d ∷ add_after k new ds)
 added_by k new d ds true set rest = added_here d new ds set
 added_by k new d ds false set rest = later_kept d ds (add_after k new ds) (added_tail k new ds) rest
 
@@ -312,7 +328,8 @@ drop_kept k (d ∷ ds) = take_kept k d ds
 -- ---- the first part
 
 first_kept : (p : Part) (ps : List Part) (tail : Tail) → All (IsKept (links_of p ps tail)) (links_of (record { pair = p.pair; entries = p.entries; delta = p.delta; dirty = true }) ps tail)
-first_kept p [] tail = All-cons (IsKept (links_of p [] tail)) (record { part = record { pair = p.pair; entries = p.entries; delta = p.delta; dirty = true }; tail = tail }) [] (inl refl) (All-nil (IsKept (links_of p [] tail)))
+first_kept p [] tail = All-cons (IsKept (links_of p [] tail)) (record { part = record { pair = p.pair; entries = p.entries; delta = p.delta; dirty = true }; tail = tail }) []
+    (inl refl) (All-nil (IsKept (links_of p [] tail)))
 first_kept p (q ∷ ps) tail =
     All-cons (IsKept (links_of p (q ∷ ps) tail)) (record { part = record { pair = p.pair; entries = p.entries; delta = p.delta; dirty = true }; tail = hard_to q.pair }) (links_of q ps tail)
     (inl refl)
@@ -321,5 +338,11 @@ first_kept p (q ∷ ps) tail =
 pub touch_first_kept : (ds : List Directory) → KeepLinks ds (touch_first ds)
 touch_first_kept [] = All-nil (IsKept [])
 touch_first_kept (d ∷ ds) =
-    joined_kept (links_of d.first d.more (tail_to ds)) (links_of (record { pair = d.first.pair; entries = d.first.entries; delta = d.first.delta; dirty = true }) d.more (tail_to ds)) (links ds) (links ds)
+    joined_kept (links_of d.first d.more (tail_to ds)) (links_of (record {
+      pair = d.first.pair;
+      entries = d.first.entries;
+      delta = d.first.delta;
+      dirty =
+          true;
+    }) d.more (tail_to ds)) (links ds) (links ds)
     (first_kept d.first d.more (tail_to ds)) (itself (links ds))

@@ -129,7 +129,8 @@ remove_bodies P v None old all = all
 remove_bodies P v (Some h) None all = all
 remove_bodies P v (Some h) (Some e) all = dropped_bodies P (target e) (unlink h.0 h.1 v.directories) (unlink_bodies P h.0 h.1 v.directories all)
 
-move_bodies : (P : Body → Type 0) (v : Volume) (from to : Option (Pair × Name)) (old : Option Entry) → ((e : Entry) → old ≡ Some e → P e.body) → Bodies P v.directories → Bodies P (move_entry v from to old).directories
+move_bodies : (P : Body → Type 0) (v : Volume) (from to : Option (Pair × Name)) (old : Option Entry) → ((e : Entry) → old ≡ Some e → P e.body) → Bodies P v.directories
+    → Bodies P (move_entry v from to old).directories
 move_bodies P v None to old known all = all
 move_bodies P v (Some h) None old known all = all
 move_bodies P v (Some h) (Some k) None known all = all
@@ -145,7 +146,8 @@ OfNew P v (Mv p q) s = Unit {0}
 OfNew P v (SetAttr p k value) s = Unit {0}
 OfNew P v (RmAttr p k) s = Unit {0}
 
-pub edited_bodies : (P : Body → Type 0) (v : Volume) (c : Command) (s : Supplies) → ((pair : Pair) → P (Directory_at pair)) → OfNew P v c s → Bodies P v.directories → Bodies P (edited v c s).directories
+pub edited_bodies : (P : Body → Type 0) (v : Volume) (c : Command) (s : Supplies) → ((pair : Pair) → P (Directory_at pair)) → OfNew P v c s → Bodies P v.directories
+    → Bodies P (edited v c s).directories
 edited_bodies P v (Mkdir p) s leads new all = make_bodies P v s.pair (home_of v p) (leads s.pair) all
 edited_bodies P v (Put p bytes) s leads new all = put_bodies P v (new_body v s bytes) (home_of v p) (entry_at v p) new all
 edited_bodies P v (Rm p) s leads new all = remove_bodies P v (home_of v p) (entry_at v p) all
@@ -153,7 +155,8 @@ edited_bodies P v (Mv p q) s leads new all = move_bodies P v (home_of v p) (home
 edited_bodies P v (SetAttr p k value) s leads new all = set_bodies P v (set_attribute k value) (home_of v p) all
 edited_bodies P v (RmAttr p k) s leads new all = set_bodies P v (remove_attribute k) (home_of v p) all
 
-pub cut_bodies : RunsJoin Entry → (P : Body → Type 0) (chosen : Part → List Pair) (w : Volume) → All (HasEnough chosen w) (thread w.directories) → Bodies P w.directories → Bodies P (cut chosen w).directories
+pub cut_bodies : RunsJoin Entry → (P : Body → Type 0) (chosen : Part → List Pair) (w : Volume) → All (HasEnough chosen w) (thread w.directories) → Bodies P w.directories
+    → Bodies P (cut chosen w).directories
 cut_bodies join P chosen w enough all = cut_all_entries (OfBodies P) join chosen w w.directories (enough_each chosen w w.directories enough) all
 
 -- ---- by parts, and by links
@@ -177,7 +180,8 @@ link_has P ds all l there e inside =
 joined_bodies : (P : Body → Type 0) (ps : List Part) → All (λ p. OfBodies P p.entries) ps → OfBodies P (entries_of ps)
 joined_bodies P [] all = All-nil (λ (e : Entry). P e.body)
 joined_bodies P (p ∷ ps) all =
-    All-append (λ (e : Entry). P e.body) p.entries (entries_of ps) (All-head (λ (q : Part). OfBodies P q.entries) p ps all) (joined_bodies P ps (All-tail (λ (q : Part). OfBodies P q.entries) p ps all))
+    All-append (λ (e : Entry). P e.body) p.entries (entries_of ps) (All-head (λ (q : Part). OfBodies P q.entries) p ps all)
+    (joined_bodies P ps (All-tail (λ (q : Part). OfBodies P q.entries) p ps all))
 
 pub by_parts : (P : Body → Type 0) (ds : List Directory) → All (λ p. OfBodies P p.entries) (thread ds) → Bodies P ds
 by_parts P [] all = All-nil (λ (d : Directory). OfBodies P (entries d))

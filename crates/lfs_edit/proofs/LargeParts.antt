@@ -89,14 +89,16 @@ added_by : (v : Volume) (k : Pair) (new other d e : Directory) (ds es : List Dir
     → any_large v (map shadows (add_after k new ds)) ≡ any_large v (map shadows (add_after k other es))
     → any_large v (map shadows (if t then touch_last d ∷ new ∷ ds else d ∷ add_after k new ds)) ≡ any_large v (map shadows (if t then touch_last e ∷ other ∷ es else e ∷ add_after k other es))
 added_by v k new other d e ds es true bare same rest added =
-    both_or (list_any (large_shadow v) (shadows (touch_last d))) (list_any (large_shadow v) (shadows (touch_last e))) (any_large v (shadows new ∷ map shadows ds)) (any_large v (shadows other ∷ map shadows es))
+    both_or (list_any (large_shadow v) (shadows (touch_last d))) (list_any (large_shadow v) (shadows (touch_last e))) (any_large v (shadows new ∷ map shadows ds))
+    (any_large v (shadows other ∷ map shadows es))
     (ap (list_any (large_shadow v)) (last_by_shadows d e same))
     (both_or (list_any (large_shadow v) (shadows new)) (list_any (large_shadow v) (shadows other)) (any_large v (map shadows ds)) (any_large v (map shadows es)) bare (ap (any_large v) rest))
 added_by v k new other d e ds es false bare same rest added =
     both_or (list_any (large_shadow v) (shadows d)) (list_any (large_shadow v) (shadows e)) (any_large v (map shadows (add_after k new ds))) (any_large v (map shadows (add_after k other es)))
     (ap (list_any (large_shadow v)) same) added
 
-added_large : (v : Volume) (k : Pair) (new other : Directory) → list_any (large_shadow v) (shadows new) ≡ list_any (large_shadow v) (shadows other) → (ds es : List Directory) → map shadows ds ≡ map shadows es
+added_large : (v : Volume) (k : Pair) (new other : Directory) → list_any (large_shadow v) (shadows new) ≡ list_any (large_shadow v) (shadows other) → (ds es : List Directory)
+    → map shadows ds ≡ map shadows es
     → any_large v (map shadows (add_after k new ds)) ≡ any_large v (map shadows (add_after k other es))
 unfolding add_after
 added_large v k new other bare [] [] same = refl

@@ -5,7 +5,7 @@ use Rattle.std.specs.Option.{option_map}
 use Rattle.std.proofs.lemmas.Option.{none-some}
 use Rattle.lfs_meta.specs.Name.{Name}
 use Rattle.lfs_fs.specs.Path.{Path}
-use Rattle.lfs_edit.specs.AttributeEdit.{last_name}
+use Rattle.lfs_edit.specs.Home.{last_name}
 use Rattle.lfs_edit.specs.Home.{split_last, behind_name}
 
 last_later : (n m : Name) (ns : Path) → last_name (n ∷ m ∷ ns) ≡ last_name (m ∷ ns)

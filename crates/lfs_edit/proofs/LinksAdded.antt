@@ -70,7 +70,8 @@ set_use n l set = ap (λ (t : Bool). if t then pair_uses n l.part else 0) set
 uses_behind : (n : ℕ) (ls : List Link) (l : Link) → set_uses n (ls ++ l ∷ []) ≡ set_uses n ls + one_use n l
 uses_behind n ls l = omega (arith, sum_by-append (one_use n) ls (l ∷ []), sum_by-cons (one_use n) l [])
 
-blocks_behind : (d : Disk) (is_new : Pair → Bool) (n : ℕ) (ls : List Link) (l : Link) → times n (links_blocks d is_new (ls ++ l ∷ [])) ≡ times n (links_blocks d is_new ls) + times n (set_blocks d is_new l.part)
+blocks_behind : (d : Disk) (is_new : Pair → Bool) (n : ℕ) (ls : List Link) (l : Link)
+    → times n (links_blocks d is_new (ls ++ l ∷ [])) ≡ times n (links_blocks d is_new ls) + times n (set_blocks d is_new l.part)
 blocks_behind d is_new n ls l =
     let split : links_blocks d is_new (ls ++ l ∷ []) ≡ links_blocks d is_new ls ++ (set_blocks d is_new l.part ++ []) = flat_map-append (λ (x : Link). set_blocks d is_new x.part) ls (l ∷ []) in
     omega (arith, ap (times n) split, times_append n (links_blocks d is_new ls) (set_blocks d is_new l.part ++ []), times_append n (set_blocks d is_new l.part) [])
@@ -81,12 +82,14 @@ set_is d is_new p t is = ap (λ (x : Bool). if x then written_blocks d is_new p.
 -- ---- one more link
 
 -- the blocks of a link that was written before stay
-pub pair_stays : (d : Disk) (pair : Pair) (old new : List Change) (part : StoredPart) → block_after d new pair.0 ≡ block_after d old pair.0 → block_after d new pair.1 ≡ block_after d old pair.1 → part_after d old pair ≡ Some part → part_after d new pair ≡ Some part
+pub pair_stays : (d : Disk) (pair : Pair) (old new : List Change) (part : StoredPart) → block_after d new pair.0 ≡ block_after d old pair.0
+    → block_after d new pair.1 ≡ block_after d old pair.1 → part_after d old pair ≡ Some part → part_after d new pair ≡ Some part
 pair_stays d pair old new part first second holds =
     ap (λ (b : List ℕ). part_in b (block_after d new pair.1)) first ∙ ap (part_in (block_after d old pair.0)) second ∙ holds
 
 -- what the last link writes is of no block of an earlier one
-apart_from : (d : Disk) (is_new : Pair → Bool) (ls : List Link) (l m : Link) (n : ℕ) → l.part.dirty ≡ true → Contains ls m → m.part.dirty ≡ true → 1 ≤ pair_uses n m.part → set_uses n (ls ++ l ∷ []) ≤ 1
+apart_from : (d : Disk) (is_new : Pair → Bool) (ls : List Link) (l m : Link) (n : ℕ) → l.part.dirty ≡ true → Contains ls m → m.part.dirty ≡ true → 1 ≤ pair_uses n m.part
+    → set_uses n (ls ++ l ∷ []) ≤ 1
     → times n (written_blocks d is_new l.part.pair) ≡ 0
 apart_from d is_new ls l m n set there set_before used once =
     let before : one_use n m ≤ set_uses n ls = one_le (one_use n) ls m there in

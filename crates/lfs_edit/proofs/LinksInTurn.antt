@@ -1,5 +1,5 @@
 -- Links written one after another, a list of them behind another.
-use Rattle.std.proofs.Common.{◌≡◌, ℕ, ◌+◌, ◌<◌, ◌≤◌, Bool, true, false, List, [], ◌∷◌, ◌++◌, ap, sym, ◌∙◌, subst, arith, inl, inr, length, drop, get_or}
+use Rattle.std.proofs.Common.{◌≡◌, ℕ, ◌+◌, ◌<◌, ◌≤◌, Bool, true, List, [], ◌∷◌, ◌++◌, ap, sym, ◌∙◌, subst, arith, inl, inr, length, drop, get_or}
 use Rattle.std.specs.Prelude.{Contains}
 use Rattle.std.proofs.lemmas.Grind.{flat_map-append}
 use Rattle.std.proofs.lemmas.List.{drop_more}
@@ -18,7 +18,7 @@ use Rattle.lfs_edit.specs.WrittenLinks.{changed_blocks, block_after, links_block
 use Rattle.lfs_edit.proofs.ChangesAt.{overlaid_none}
 use Rattle.lfs_edit.proofs.KeptLinks.{contains_first, contains_left, contains_right}
 use Rattle.lfs_edit.proofs.LeastBlocks.{none_or_some}
-use Rattle.lfs_edit.proofs.LinksAdded.{times_append, first_used, second_used, one_use, set_use, pair_stays, written_uses, links_are_added, links_are_free, links_are_left, no_links_are_written}
+use Rattle.lfs_edit.proofs.LinksAdded.{times_append, first_used, second_used, one_use, set_use, pair_stays, written_uses, links_are_added, links_are_free, no_links_are_written}
 use Rattle.lfs_edit.proofs.OutlinesWritten.{none_named}
 use Rattle.lfs_edit.proofs.WrittenLemmas.{one_le}
 
@@ -112,9 +112,6 @@ module _ (d : Disk) (bytes : List ℕ) (attributes : Attributes) (is_new : Pair 
       → AreWritten d bytes attributes is_new old (l ∷ []) new
   one_written old new l can set adds = links_are_added d bytes attributes is_new old [] l old new set can.once (none_written old (l ∷ []) can) adds
 
-  pub one_left : (old : List Change) (l : Link) → CanBeAdded d bytes attributes is_new old (l ∷ []) → l.part.dirty ≡ false → AreWritten d bytes attributes is_new old (l ∷ []) old
-  one_left old l can unset = links_are_left d bytes attributes is_new old [] l old unset (none_written old (l ∷ []) can)
-
   -- ---- those of a list that come first
 
   pub can_first : (cs : List Change) (all front behind : List Link) → all ≡ front ++ behind → CanBeAdded d bytes attributes is_new cs all → CanBeAdded d bytes attributes is_new cs front
@@ -124,7 +121,8 @@ module _ (d : Disk) (bytes : List ℕ) (attributes : Attributes) (is_new : Pair 
       → CanBeAdded d bytes attributes is_new mid behind
   can_later cs mid all front behind is can written = can_behind cs mid front behind (subst (CanBeAdded d bytes attributes is_new cs) is can) written
 
-  pub written_whole : (cs mid new : List Change) (all front behind : List Link) → all ≡ front ++ behind → CanBeAdded d bytes attributes is_new cs all → AreWritten d bytes attributes is_new cs front mid
+  pub written_whole : (cs mid new : List Change) (all front behind : List Link) → all ≡ front ++ behind → CanBeAdded d bytes attributes is_new cs all
+      → AreWritten d bytes attributes is_new cs front mid
       → AreWritten d bytes attributes is_new mid behind new → AreWritten d bytes attributes is_new cs all new
   written_whole cs mid new all front behind is can first later =
       subst (λ (ls : List Link). AreWritten d bytes attributes is_new cs ls new) (sym is) (both_written cs mid new front behind (subst (CanBeAdded d bytes attributes is_new cs) is can) first later)

@@ -39,7 +39,8 @@ first_stored r bytes attributes p (q ∷ ps) tail ls all = record {
   stored = All-head (IsStored r bytes attributes) (record { part = p; tail = hard_to q.pair }) (links_of q ps tail ++ ls) all;
 }
 
-superblock_has : LiveBlocksAreRead → BlocksHaveALog → (d : Disk) → IsDisk d → (bytes : List ℕ) (attributes : Attributes) (p : Part) → p.pair ≡ root → PartStored (reading_of d) bytes attributes p → IsBytes bytes
+superblock_has : LiveBlocksAreRead → BlocksHaveALog → (d : Disk) → IsDisk d → (bytes : List ℕ) (attributes : Attributes) (p : Part) → p.pair ≡ root
+    → PartStored (reading_of d) bytes attributes p → IsBytes bytes
 superblock_has read logs d disk bytes attributes p pair first =
     let st = first.stored in
     let two = disk.geometry.count_fits.0 in

@@ -109,7 +109,8 @@ marks_in k f ds d found once one = omega (arith, one, marks_thread ds, marks_thr
 pub marks_link : (k : Pair) (e : Entry) (ds : List Directory) → count_by (begins_at k) ds ≡ 1 → marks (thread (link k e ds)) ≤ marks (thread ds) + 1
 marks_link k e ds once = let found = found_one (begins_at k) ds once in marks_in k (link_in e) ds found.0 found.1 once (marks_link_in e found.0)
 
-pub marks_unlink : (limits : Limits) (k : Pair) (n : Name) (ds : List Directory) → NamesAreOrdered → AreGood limits ds → count_by (begins_at k) ds ≡ 1 → marks (thread (unlink k n ds)) ≤ marks (thread ds) + 1
+pub marks_unlink : (limits : Limits) (k : Pair) (n : Name) (ds : List Directory) → NamesAreOrdered → AreGood limits ds → count_by (begins_at k) ds ≡ 1
+    → marks (thread (unlink k n ds)) ≤ marks (thread ds) + 1
 marks_unlink limits k n ds ordered good once =
     let found = found_one (begins_at k) ds once in
     marks_in k (unlink_in n) ds found.0 found.1 once (marks_unlink_in n found.0 ordered (found_has (λ (d : Directory). Rise (entries d)) (begins_at k) ds found.0 found.1 good.order))
@@ -149,4 +150,14 @@ marks_drop k (d ∷ ds) = omega (arith, marks_taken k d ds, marks_thread (d ∷ 
 
 pub marks_touch_first : (ds : List Directory) → marks (thread (touch_first ds)) ≤ marks (thread ds) + 1
 marks_touch_first [] = omega arith
-marks_touch_first (d ∷ ds) = omega (arith, marks_cons d.first (d.more ++ thread ds), marks_cons (record { pair = d.first.pair; entries = d.first.entries; delta = d.first.delta; dirty = true }) (d.more ++ thread ds))
+marks_touch_first (d ∷ ds) = omega (
+  arith,
+  marks_cons d.first (d.more ++ thread ds),
+  marks_cons (record {
+    pair = d.first.pair;
+    entries = d.first.entries;
+    delta =
+        d.first.delta;
+    dirty = true;
+  }) (d.more ++ thread ds),
+)

@@ -35,7 +35,8 @@ pub record Moves (v w : Volume) (p q : Path) : Type 0 where
   pub at : (path : Path) → tree w path ≡ moved p q (tree v) path
 
 -- A path at which nothing is doesn't lie at or below one at which something is, unless strictly below.
-outside_by : (v : Volume) (p q : Path) (e : Entry) → entry_at v p ≡ Some e → entry_at v q ≡ None → (o : Option Path) → below p q ≡ o → unwrap_or (option_map (λ (r : Path). nat_lt 0 (length r)) o) false ≡ false → o ≡ None
+outside_by : (v : Volume) (p q : Path) (e : Entry) → entry_at v p ≡ Some e → entry_at v q ≡ None → (o : Option Path) → below p q ≡ o
+    → unwrap_or (option_map (λ (r : Path). nat_lt 0 (length r)) o) false ≡ false → o ≡ None
 outside_by v p q e here free None is apart = refl
 outside_by v p q e here free (Some []) is apart =
     let same : q ≡ p = below_some p q [] is ∙ append-nil p in
@@ -49,7 +50,8 @@ outside v p q e here free apart = outside_by v p q e here free (below p q) refl 
 apart : (ds : List Directory) (k j : Pair) (n m : Name) (e : Entry) → entry_in ds k n ≡ Some e → entry_in ds j m ≡ None → (k ≡ j) × (n ≡ m) → ⊥
 apart ds k j n m e one none both = none-some e (sym none ∙ ap (λ (x : Pair). entry_in ds x m) (sym both.0) ∙ ap (entry_in ds k) (sym both.1) ∙ one)
 
-pub mv_follows : (v : Volume) (p q : Path) (e : Entry) → NamesAreOrdered → IsSound v → (from : IsPlaced v p) → (to : IsPlaced v q) → entry_at v p ≡ Some e → entry_at v q ≡ None → lies_below p q ≡ false → length to.home.name ≤ v.limits.name
+pub mv_follows : (v : Volume) (p q : Path) (e : Entry) → NamesAreOrdered → IsSound v → (from : IsPlaced v p) → (to : IsPlaced v q) → entry_at v p ≡ Some e
+    → entry_at v q ≡ None → lies_below p q ≡ false → length to.home.name ≤ v.limits.name
     → Moves v (move_entry v (home_of v p) (home_of v q) (Some e)) p q
 mv_follows v p q e ordered sound from to here free off fits =
     let k = from.home.pair in

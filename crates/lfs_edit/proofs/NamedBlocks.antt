@@ -94,7 +94,8 @@ set_append : (g : Pair → ℕ) (ps qs : List Part) → set_total g (ps ++ qs) �
 set_append g ps qs = sum_by-append (λ (p : Part). if p.dirty then g p.pair else 0) ps qs
 
 -- where the other pairs count nothing, a directory that is added counts alone
-added_alone : (g : Pair → ℕ) (k : Pair) (new : Directory) (ds : List Directory) (d : Directory) → find (begins_at k) ds ≡ Some d → total g ds ≡ 0 → set_total g (thread (add_after k new ds)) ≡ set_total g (parts new)
+added_alone : (g : Pair → ℕ) (k : Pair) (new : Directory) (ds : List Directory) (d : Directory) → find (begins_at k) ds ≡ Some d → total g ds ≡ 0
+    → set_total g (thread (add_after k new ds)) ≡ set_total g (parts new)
 unfolding add_after
 added_alone g k new [] d found none = cc
 added_alone g k new (e ∷ ds) d found none = by (begins_at k e) found (λ later. added_alone g k new ds d later (omega (arith, none, total_cons g e ds)))
@@ -232,7 +233,8 @@ pub chosen_is_new : (v : Volume) (c : Command) (s : Supplies) (chosen : Part →
     → (q : Pair) → Contains (new_pairs chosen p) q → is_new_to v q ≡ true
 chosen_is_new v c s chosen pairs p there q inside =
     let one : pair_times q.0 q ≤ sum_by (pair_times q.0) (new_pairs chosen p) = one_le (pair_times q.0) (new_pairs chosen p) q inside in
-    let all : sum_by (pair_times q.0) (new_pairs chosen p) ≤ new_pair_uses chosen (edited v c s) q.0 = one_le (λ (x : Part). sum_by (pair_times q.0) (new_pairs chosen x)) (thread (edited v c s).directories) p there in
+    let all : sum_by (pair_times q.0) (new_pairs chosen p) ≤ new_pair_uses chosen (edited v c s) q.0 =
+    one_le (λ (x : Part). sum_by (pair_times q.0) (new_pairs chosen x)) (thread (edited v c s).directories) p there in
     new_is v q (omega (arith, one, all, pairs.once q.0, first_used q))
 
 links_written : (d : Disk) (is_new : Pair → Bool) (ds : List Directory) → links_blocks d is_new (links ds) ≡ flat_map (set_blocks d is_new) (thread ds)

@@ -46,7 +46,8 @@ itself [] = tt
 itself (e ∷ es) = (refl, itself es)
 
 -- weights alone decide how many runs there are
-runs_by_weights : RunsFollowWeights Entry ℕ → (space weight' number : ℕ) (es : List Entry) → length (runs_after weight space weight' number es) ≡ length (runs_after (λ (w : ℕ). w) space weight' number (map weight es))
+runs_by_weights : RunsFollowWeights Entry ℕ → (space weight' number : ℕ) (es : List Entry)
+    → length (runs_after weight space weight' number es) ≡ length (runs_after (λ (w : ℕ). w) space weight' number (map weight es))
 runs_by_weights follow space weight' number es =
     sym (AllZip-long (AllZip (λ (e : Entry) (w : ℕ). weight e ≡ w)) (runs_after weight space weight' number es) (runs_after (λ (w : ℕ). w) space weight' number (map weight es))
     (follow weight (λ (w : ℕ). w) space weight' number es (map weight es) (itself es)))
@@ -71,7 +72,8 @@ blocks_by follow v p = ap (λ (n : ℕ). 2 * (n - 1)) (runs_same_by follow v p.e
 
 -- ---- sums over the parts that are set
 
-set_first : (f : Part → ℕ) (p : Part) (ps : List Part) (t : Bool) → sum_by f (if t then p ∷ filter (λ q. q.dirty) ps else filter (λ q. q.dirty) ps) ≡ (if t then f p else 0) + sum_by f (filter (λ q. q.dirty) ps)
+set_first : (f : Part → ℕ) (p : Part) (ps : List Part) (t : Bool) → sum_by f (if t then p ∷ filter (λ q. q.dirty) ps else filter (λ q. q.dirty) ps) ≡ (if t then f p else 0)
+    + sum_by f (filter (λ q. q.dirty) ps)
 set_first f p ps true = sum_by-cons f p (filter (λ q. q.dirty) ps)
 set_first f p ps false = omega arith
 
@@ -86,7 +88,13 @@ set_blocks follow v p false = refl
 sum_shadows : RunsFollowWeights Entry ℕ → (v : Volume) (ps : List Part) → sum_by (λ p. if p.dirty then part_blocks v p else 0) ps ≡ sum_by (shadow_blocks v) (map shadow ps)
 sum_shadows follow v [] = refl
 sum_shadows follow v (p ∷ ps) =
-    omega (arith, sum_by-cons (λ (q : Part). if q.dirty then part_blocks v q else 0) p ps, sum_by-cons (shadow_blocks v) (shadow p) (map shadow ps), set_blocks follow v p p.dirty, sum_shadows follow v ps)
+    omega (
+      arith,
+      sum_by-cons (λ (q : Part). if q.dirty then part_blocks v q else 0) p ps,
+      sum_by-cons (shadow_blocks v) (shadow p) (map shadow ps),
+      set_blocks follow v p p.dirty,
+      sum_shadows follow v ps,
+    )
 
 -- the blocks of new parts, by the shadows of directories
 abbrev all_blocks : Volume → List Directory → ℕ
@@ -96,7 +104,13 @@ thread_blocks : (v : Volume) (ds : List Directory) → sum_by (shadow_blocks v) 
 thread_blocks v [] = refl
 thread_blocks v (d ∷ ds) =
     let split : map shadow (thread (d ∷ ds)) ≡ shadows d ++ map shadow (thread ds) = ap (map shadow) (flat_map-cons parts d ds) ∙ map-append shadow (parts d) (thread ds) in
-    omega (arith, ap (sum_by (shadow_blocks v)) split, sum_by-append (shadow_blocks v) (shadows d) (map shadow (thread ds)), thread_blocks v ds, sum_by-cons (λ (e : Directory). sum_by (shadow_blocks v) (shadows e)) d ds)
+    omega (
+      arith,
+      ap (sum_by (shadow_blocks v)) split,
+      sum_by-append (shadow_blocks v) (shadows d) (map shadow (thread ds)),
+      thread_blocks v ds,
+      sum_by-cons (λ (e : Directory). sum_by (shadow_blocks v) (shadows e)) d ds,
+    )
 
 dirty_blocks : RunsFollowWeights Entry ℕ → (v : Volume) (ds : List Directory) → sum_by (part_blocks v) (filter (λ p. p.dirty) (thread ds)) ≡ all_blocks v ds
 dirty_blocks follow v ds = sum_set (part_blocks v) (thread ds) ∙ sum_shadows follow v (thread ds) ∙ thread_blocks v ds
@@ -121,7 +135,8 @@ place_weights e f same (x ∷ xs) =
     ∙ ap (λ (n : Name). map weight (if precedes n x.name then f ∷ x ∷ xs else x ∷ place f xs)) same.name
 
 link_by : (e f : Entry) → WeighSame e f → (p q : Part) (ps : List Part) (t : Bool) → shadows (link_parts e q ps) ≡ shadows (link_parts f q ps)
-    → shadows (if t then record { first = touch true (place e) p; more = q ∷ ps } else behind p (link_parts e q ps)) ≡ shadows (if t then record { first = touch true (place f) p; more = q ∷ ps } else behind p (link_parts f q ps))
+    → shadows (if t then record { first = touch true (place e) p; more = q ∷ ps } else behind p (link_parts e q ps)) ≡ shadows
+    (if t then record { first = touch true (place f) p; more = q ∷ ps } else behind p (link_parts f q ps))
 link_by e f same p q ps true rest = ap (λ (ws : List ℕ). (p.pair, ws, p.dirty || true) ∷ map shadow (q ∷ ps)) (place_weights e f same p.entries)
 link_by e f same p q ps false rest = ap (λ (ss : List Shadow). shadow p ∷ ss) rest
 
@@ -153,7 +168,8 @@ in_by : (f g : Directory → Directory) → ((d : Directory) → shadows (f d) �
 in_by f g same d true = same d
 in_by f g same d false = refl
 
-pub in_shadows : (k : Pair) (f g : Directory → Directory) → ((d : Directory) → shadows (f d) ≡ shadows (g d)) → (ds : List Directory) → map shadows (in_directory k f ds) ≡ map shadows (in_directory k g ds)
+pub in_shadows : (k : Pair) (f g : Directory → Directory) → ((d : Directory) → shadows (f d) ≡ shadows (g d)) → (ds : List Directory)
+    → map shadows (in_directory k f ds) ≡ map shadows (in_directory k g ds)
 in_shadows k f g same [] = refl
 in_shadows k f g same (d ∷ ds) = rw (in_by f g same d (begins_at k d), in_shadows k f g same ds) refl
 
@@ -161,7 +177,12 @@ in_shadows k f g same (d ∷ ds) = rw (in_by f g same d (begins_at k d), in_shad
 blocks_of_shadows : (v : Volume) (ds : List Directory) → all_blocks v ds ≡ sum_by (λ ss. sum_by (shadow_blocks v) ss) (map shadows ds)
 blocks_of_shadows v [] = refl
 blocks_of_shadows v (d ∷ ds) =
-    omega (arith, sum_by-cons (λ (e : Directory). sum_by (shadow_blocks v) (shadows e)) d ds, sum_by-cons (λ (ss : List Shadow). sum_by (shadow_blocks v) ss) (shadows d) (map shadows ds), blocks_of_shadows v ds)
+    omega (
+      arith,
+      sum_by-cons (λ (e : Directory). sum_by (shadow_blocks v) (shadows e)) d ds,
+      sum_by-cons (λ (ss : List Shadow). sum_by (shadow_blocks v) ss) (shadows d) (map shadows ds),
+      blocks_of_shadows v ds,
+    )
 
 same_blocks : (v : Volume) (ds es : List Directory) → map shadows ds ≡ map shadows es → all_blocks v ds ≡ all_blocks v es
 same_blocks v ds es same = blocks_of_shadows v ds ∙ ap (sum_by (λ ss. sum_by (shadow_blocks v) ss)) same ∙ sym (blocks_of_shadows v es)
@@ -169,7 +190,8 @@ same_blocks v ds es same = blocks_of_shadows v ds ∙ ap (sum_by (λ ss. sum_by 
 -- ---- a directory that is added
 
 -- a directory without entries needs no block, wherever it is
-bare_runs : (v : Volume) (pair : Pair) (t : Bool) → 2 * (length (if t then runs_after (λ (w : ℕ). w) (room v) (superblock_weight v.attributes) 1 [] else runs_after (λ (w : ℕ). w) (room v) 0 0 []) - 1) ≡ 0
+bare_runs : (v : Volume) (pair : Pair) (t : Bool) → 2 * (length (if t then runs_after (λ (w : ℕ). w) (room v) (superblock_weight v.attributes) 1 [] else runs_after
+    (λ (w : ℕ). w) (room v) 0 0 []) - 1) ≡ 0
 unfolding runs_after
 bare_runs v pair true = refl
 bare_runs v pair false = refl
@@ -250,7 +272,8 @@ body_by bytes some others false = refl
 pub put_body : (v : Volume) (s : Supplies) (bytes : List ℕ) → body_weight (new_body v nothing bytes) ≡ body_weight (new_body v s bytes)
 put_body v s bytes = body_by bytes [] s.blocks (nat_le (length bytes) (most_inline v.size))
 
-put_need : RunsFollowWeights Entry ℕ → (v : Volume) (b c : Body) → body_weight b ≡ body_weight c → (h : Option (Pair × Name)) (old : Option Entry) → dirty_need (put_file v b h old) ≡ dirty_need (put_file v c h old)
+put_need : RunsFollowWeights Entry ℕ → (v : Volume) (b c : Body) → body_weight b ≡ body_weight c → (h : Option (Pair × Name)) (old : Option Entry)
+    → dirty_need (put_file v b h old) ≡ dirty_need (put_file v c h old)
 put_need follow v b c same None old = refl
 put_need follow v b c same (Some h) None =
     alike_need follow v (link h.0 (new_entry h.1 b) v.directories) (link h.0 (new_entry h.1 c) v.directories)

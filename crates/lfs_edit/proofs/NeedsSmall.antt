@@ -1,9 +1,8 @@
 -- What a command needs is a number of 32 bits.
-use Rattle.std.proofs.Common.{◌≡◌, ℕ, ◌+◌, ◌*◌, ◌-◌, ◌^◌, ◌≤◌, ◌<◌, zero, suc, ◌||◌, ◌&&◌, not, Bool, true, false, cond, List, [], ◌∷◌, ◌++◌, length, refl, ap, sym, ◌∙◌, subst, arith, map, Option, Some, None}
-use Rattle.std.specs.Prelude.{All, if◌then◌else◌, sum_by, count_by, nat_le, nat_lt, is_none}
+use Rattle.std.proofs.Common.{◌≡◌, ℕ, ◌+◌, ◌*◌, ◌-◌, ◌≤◌, zero, suc, ◌&&◌, not, Bool, true, false, cond, List, [], ◌∷◌, ◌++◌, length, refl, ap, sym, ◌∙◌, subst, arith, map, Option, Some, None}
+use Rattle.std.specs.Prelude.{All, if◌then◌else◌, sum_by, nat_le, nat_lt, is_none}
 use Rattle.std.specs.List.{filter, list_any}
 use Rattle.std.proofs.lemmas.Bool.Decides.{nat_tests}
-use Rattle.std.proofs.lemmas.List.{length-map}
 use Rattle.std.proofs.lemmas.List.Elements.{All-append, All-nil, All-cons, All-head, All-tail}
 use Rattle.std.proofs.lemmas.List.Sums.{sum_by-cons}
 use Rattle.lfs_meta.specs.Name.{Name}
@@ -23,22 +22,22 @@ use Rattle.lfs_fs.specs.Superblock.{IsLimits}
 use Rattle.lfs_fs.specs.Tree.{entry_at, tree}
 use Rattle.lfs_edit.specs.EntryEdit.{place, without, changed}
 use Rattle.lfs_edit.specs.DirectoryEdit.{touch, has_name, unlink_in, change_in, behind, link_parts, link_in, touch_last_of, touch_last, absorb_in, absorb, taking_up}
-use Rattle.lfs_edit.specs.ThreadEdit.{in_directory, link, unlink, change, add_after, take_out, drop_directory, touch_first}
+use Rattle.lfs_edit.specs.ThreadEdit.{in_directory, link, unlink, change, add_after, take_out, touch_first}
 use Rattle.lfs_edit.specs.Command.{Command, Mkdir, Put, Rm, Mv, SetAttr, RmAttr}
 use Rattle.lfs_edit.specs.Supplies.{nothing, most_inline, new_body}
 use Rattle.lfs_edit.specs.Home.{home_of}
 use Rattle.lfs_edit.specs.Edited.{with_body, with_entry_attributes, renamed, new_entry, empty_directory, set_attributes, make_directory, put_file, drop_target, remove_entry, move_entry, edited}
 use Rattle.lfs_edit.specs.Clean.{IsClean}
-use Rattle.lfs_edit.specs.Cut.{room, runs, is_first}
-use Rattle.lfs_edit.specs.Need.{need, data_blocks, directory_blocks, part_blocks, dirty_parts}
-use Rattle.lfs_edit.specs.NeedsSmall.{HasFewEntries, NeedsAreSmall}
+use Rattle.lfs_edit.specs.Cut.{room, is_first}
+use Rattle.lfs_edit.specs.Need.{data_blocks, directory_blocks, part_blocks}
+use Rattle.lfs_edit.specs.NeedsSmall.{NeedsAreSmall}
 use Rattle.lfs_edit.specs.declared.refusal.Refusal.TheVariants.{IsRoot, IsADirectory, NameTooLong, FileTooLarge}
 use Rattle.lfs_edit.specs.Verdict.{refuse_if, first_refusal, checks, walk_refusal, is_root, is_directory, last_length}
 use Rattle.lfs_edit.proofs.EntriesThere.{stands_at_home}
 use Rattle.lfs_edit.proofs.FewParts.{home_once, unmarked, set_few, put_few, remove_few, move_few}
 use Rattle.lfs_edit.proofs.Homes.{first_passes, test_passes}
 use Rattle.lfs_edit.proofs.Marks.{marks, marks_link, marks_add_after}
-use Rattle.lfs_edit.proofs.RunCounts.{onto_length, length_by}
+use Rattle.lfs_edit.proofs.RunCounts.{length_by}
 
 -- ---- runs
 

@@ -1,5 +1,5 @@
 -- What stands at each path after one edge of a sound volume is replaced.
-use Rattle.std.proofs.Common.{◌≡◌, [], ◌∷◌, ◌++◌, Option, Some, None, ap, sym, ◌∙◌, append_assoc, inl, inr}
+use Rattle.std.proofs.Common.{◌≡◌, [], ◌∷◌, ◌++◌, Option, Some, None, ap, sym, ◌∙◌, inl, inr}
 use Rattle.std.specs.Option.{option_and_then, option_map}
 use Rattle.std.proofs.lemmas.Option.{none-some, option_and_then_some}
 use Rattle.lfs_meta.specs.Name.{Name}
@@ -38,7 +38,8 @@ pub top_same : (v w : Volume) → w.attributes ≡ v.attributes → Some (top w)
 top_same v w same = ap (λ (a : Attributes). Some (topped a)) same
 
 -- the entry under a name in the place that a path leads to
-pub entry_under : (v : Volume) (front : Path) (holder : Entry) (k : Pair) (n : Name) → entry_at v front ≡ Some holder → target holder ≡ Some k → entry_at v (front ++ n ∷ []) ≡ entry_in v.directories k n
+pub entry_under : (v : Volume) (front : Path) (holder : Entry) (k : Pair) (n : Name) → entry_at v front ≡ Some holder → target holder ≡ Some k
+    → entry_at v (front ++ n ∷ []) ≡ entry_in v.directories k n
 entry_under v front holder k n here leads =
     walk-snoc target (entry_in v.directories) (Some (top v)) front n
     ∙ ap (step target (entry_in v.directories) n) here
@@ -93,13 +94,6 @@ entries_after {v} {w} {front} {k} {n} {x} c alike = by_last_name (λ (p : Path).
             ∙ sym (put_at_other (front ++ n ∷ []) x (entry_at v) (p ++ m ∷ []) different)
       ])
     ]
-
--- below the edge
-pub entries_below : {v w : Volume} {front : Path} {k : Pair} {n : Name} {x : Option Entry} → OneEdge v w front k n x
-    → Alike v w (entry_at v (front ++ n ∷ [])) x → (m : Name) (rest : Path) → entry_at w (front ++ n ∷ m ∷ rest) ≡ entry_at v (front ++ n ∷ m ∷ rest)
-entries_below {v} {w} {front} {k} {n} {x} c alike m rest =
-    entries_after c alike (front ++ n ∷ m ∷ rest)
-    ∙ put_at_other (front ++ n ∷ []) x (entry_at v) (front ++ n ∷ m ∷ rest) (λ is. longer (front ++ n ∷ []) m rest (append_assoc front (n ∷ []) (m ∷ rest) ∙ sym is))
 
 pub tree_after : {v w : Volume} {front : Path} {k : Pair} {n : Name} {x : Option Entry} → OneEdge v w front k n x
     → Alike v w (entry_at v (front ++ n ∷ [])) x → (p : Path) → tree w p ≡ put_at (front ++ n ∷ []) (option_map node x) (tree v) p

@@ -61,7 +61,8 @@ pub changed_in_first : (n : Name) (f : Entry → Entry) (p new : Part) (ps : Lis
 changed_in_first n f p new ps has once is =
     let none : count_by (has_name n) ps ≡ 0 = omega (arith, count_parts n p ps, some_counted (is_named n) p.entries has, few_have n ps) in
     rw has (ap (λ (d : Part × List Part). record { first = d.0; more = d.1 })
-    (ap (λ (q : Part). (q, ps)) is ∙ ap (λ (qs : List Part). (touch true (changed n f) p, qs)) (sym (where_none (has_name n) (touch true (changed n f)) ps (none_counted (has_name n) ps none)) ∙ where_named n f ps)))
+    (ap (λ (q : Part). (q, ps)) is ∙ ap (λ (qs : List Part). (touch true (changed n f) p, qs))
+    (sym (where_none (has_name n) (touch true (changed n f)) ps (none_counted (has_name n) ps none)) ∙ where_named n f ps)))
 
 pub changed_in_more : (n : Name) (f : Entry → Entry) (p : Part) (ps new : List Part) → has_name n p ≡ false → new ≡ map (λ q. touch (has_name n q) (changed n f) q) ps
     → record { first = p; more = new } ≡ change_in n f (record { first = p; more = ps })

@@ -66,7 +66,8 @@ found_names i d n e h leads =
     omega (arith, few, leads_once i (target e) leads)
 
 -- two entries of one directory that lead to one place have one name
-one_name : (i : Pair) (d : Directory) (n m : Name) (e f : Entry) → find (is_named n) (entries d) ≡ Some e → find (is_named m) (entries d) ≡ Some f → target e ≡ Some i → target f ≡ Some i → names_of i d ≤ 1 → n ≡ m
+one_name : (i : Pair) (d : Directory) (n m : Name) (e f : Entry) → find (is_named n) (entries d) ≡ Some e → find (is_named m) (entries d) ≡ Some f → target e ≡ Some i
+    → target f ≡ Some i → names_of i d ≤ 1 → n ≡ m
 one_name i d n m e f h k leads leads' once = elim (same_name_or_not n m) [
   | inl same ↦ same
   | inr different ↦ (
@@ -77,7 +78,8 @@ one_name i d n m e f h k leads leads' once = elim (same_name_or_not n m) [
 ]
 
 -- two edges that lead to one place are one
-one_edge : (ds : List Directory) (k j i : Pair) (n m : Name) (e f : Entry) → sum_by (names_of i) ds ≤ 1 → entry_in ds k n ≡ Some e → entry_in ds j m ≡ Some f → target e ≡ Some i → target f ≡ Some i → (k ≡ j) × (n ≡ m)
+one_edge : (ds : List Directory) (k j i : Pair) (n m : Name) (e f : Entry) → sum_by (names_of i) ds ≤ 1 → entry_in ds k n ≡ Some e → entry_in ds j m ≡ Some f
+    → target e ≡ Some i → target f ≡ Some i → (k ≡ j) × (n ≡ m)
 one_edge ds k j i n m e f once h h' leads leads' =
     let a = entry_found ds k n e h in
     let b = entry_found ds j m f h' in

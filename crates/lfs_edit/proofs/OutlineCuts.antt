@@ -29,7 +29,8 @@ onto_outlined e (run ∷ rs) = refl
 runs_by : (space taken number : ℕ) (e : Entry) (es : List Entry) (t : Bool)
     → runs_after weight space (taken + weight e) (number + 1) (outlined_entries es) ≡ outlined_runs (runs_after weight space (taken + weight e) (number + 1) es)
     → runs_after weight space (weight e) 1 (outlined_entries es) ≡ outlined_runs (runs_after weight space (weight e) 1 es)
-    → (if t then onto (outlined_entry e) (runs_after weight space (taken + weight e) (number + 1) (outlined_entries es)) else [] ∷ onto (outlined_entry e) (runs_after weight space (weight e) 1 (outlined_entries es)))
+    → (if t then onto (outlined_entry e) (runs_after weight space (taken + weight e) (number + 1) (outlined_entries es)) else [] ∷ onto (outlined_entry e)
+    (runs_after weight space (weight e) 1 (outlined_entries es)))
     ≡ outlined_runs (if t then onto e (runs_after weight space (taken + weight e) (number + 1) es) else [] ∷ onto e (runs_after weight space (weight e) 1 es))
 runs_by space taken number e es true here later =
     ap (onto (outlined_entry e)) here ∙ onto_outlined e (runs_after weight space (taken + weight e) (number + 1) es)
@@ -94,13 +95,15 @@ parts_outlined chosen v (p ∷ ps) =
 
 directory_outlined : (chosen : Part → List Pair) (v : Volume) (d : Directory) → cut_directory chosen (outlined v) (outlined_directory d) ≡ outlined_directory (cut_directory (for_parts chosen) v d)
 directory_outlined chosen v d =
-    ap (λ (p : Part). record { first = p; more = cut_tail chosen (outlined v) (outlined_part d.first) ++ flat_map (cut_part chosen (outlined v)) (outlined_parts d.more) }) (head_outlined v d.first d.first.dirty)
+    ap (λ (p : Part). record { first = p; more = cut_tail chosen (outlined v) (outlined_part d.first) ++ flat_map (cut_part chosen (outlined v)) (outlined_parts d.more) })
+    (head_outlined v d.first d.first.dirty)
     ∙ ap (λ (ps : List Part). record { first = outlined_part (cut_head v d.first); more = ps })
     (ap (λ (ps : List Part). ps ++ flat_map (cut_part chosen (outlined v)) (outlined_parts d.more)) (tail_outlined chosen v d.first d.first.dirty)
     ∙ ap (λ (ps : List Part). outlined_parts (cut_tail (for_parts chosen) v d.first) ++ ps) (parts_outlined chosen v d.more)
     ∙ sym (map-append outlined_part (cut_tail (for_parts chosen) v d.first) (flat_map (cut_part (for_parts chosen) v) d.more)))
 
-directories_outlined : (chosen : Part → List Pair) (v : Volume) (ds : List Directory) → map (cut_directory chosen (outlined v)) (outlined_directories ds) ≡ outlined_directories (map (cut_directory (for_parts chosen) v) ds)
+directories_outlined : (chosen : Part → List Pair) (v : Volume) (ds : List Directory)
+    → map (cut_directory chosen (outlined v)) (outlined_directories ds) ≡ outlined_directories (map (cut_directory (for_parts chosen) v) ds)
 directories_outlined chosen v [] = refl
 directories_outlined chosen v (d ∷ ds) =
     cons_same (cut_directory chosen (outlined v) (outlined_directory d)) (outlined_directory (cut_directory (for_parts chosen) v d))

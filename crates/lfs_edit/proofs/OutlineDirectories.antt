@@ -73,7 +73,11 @@ touch_place : (e : Entry) (p : Part) → touch true (place (outlined_entry e)) (
 touch_place e p = ap (with_entries p true) (place_outlined e p.entries)
 
 link_by : (e : Entry) (p q : Part) (ps : List Part) (t : Bool) → link_parts (outlined_entry e) (outlined_part q) (outlined_parts ps) ≡ outlined_directory (link_parts e q ps)
-    → (if t then record { first = touch true (place (outlined_entry e)) (outlined_part p); more = outlined_part q ∷ outlined_parts ps } else behind (outlined_part p) (link_parts (outlined_entry e) (outlined_part q) (outlined_parts ps)))
+    → (if t then record {
+      first = touch true (place (outlined_entry e)) (outlined_part p);
+      more =
+          outlined_part q ∷ outlined_parts ps;
+    } else behind (outlined_part p) (link_parts (outlined_entry e) (outlined_part q) (outlined_parts ps)))
     ≡ outlined_directory (if t then record { first = touch true (place e) p; more = q ∷ ps } else behind p (link_parts e q ps))
 link_by e p q ps true rest = ap (λ (x : Part). record { first = x; more = outlined_part q ∷ outlined_parts ps }) (touch_place e p)
 link_by e p q ps false rest = ap (behind (outlined_part p)) rest
@@ -82,7 +86,11 @@ link_parts_outlined : (e : Entry) (p : Part) (ps : List Part) → link_parts (ou
 unfolding link_parts
 link_parts_outlined e p [] = ap (λ (x : Part). record { first = x; more = [] }) (touch_place e p)
 link_parts_outlined e p (q ∷ ps) =
-    ap (λ (t : Bool). if t then record { first = touch true (place (outlined_entry e)) (outlined_part p); more = outlined_part q ∷ outlined_parts ps } else behind (outlined_part p) (link_parts (outlined_entry e) (outlined_part q) (outlined_parts ps)))
+    ap (λ (t : Bool). if t then record {
+      first = touch true (place (outlined_entry e)) (outlined_part p);
+      more =
+          outlined_part q ∷ outlined_parts ps;
+    } else behind (outlined_part p) (link_parts (outlined_entry e) (outlined_part q) (outlined_parts ps)))
     (any_later_outlined e.name p.entries)
     ∙ link_by e p q ps (list_any (λ f. precedes e.name f.name) p.entries) (link_parts_outlined e q ps)
 

@@ -95,7 +95,8 @@ changed_by f g same e false = refl
 pub changed_outlined : (n : Name) (f g : Entry → Entry) → Outlines f g → (es : List Entry) → changed n g (outlined_entries es) ≡ outlined_entries (changed n f es)
 changed_outlined n f g same [] = refl
 changed_outlined n f g same (e ∷ es) =
-    cons_same (if is_named n e then g (outlined_entry e) else outlined_entry e) (outlined_entry (if is_named n e then f e else e)) (changed n g (outlined_entries es)) (outlined_entries (changed n f es))
+    cons_same (if is_named n e then g (outlined_entry e) else outlined_entry e) (outlined_entry (if is_named n e then f e else e)) (changed n g (outlined_entries es))
+    (outlined_entries (changed n f es))
     (changed_by f g same e (is_named n e)) (changed_outlined n f g same es)
 
 pub sum_uses_outlined : (b : ℕ) (es : List Entry) → sum_by (entry_uses b) (outlined_entries es) ≡ sum_by (entry_uses b) es

@@ -5,7 +5,7 @@ use Rattle.std.specs.List.{prefix_len}
 use Rattle.lfs_fs.specs.Entry.{Entry}
 use Rattle.lfs_fs.specs.NameOrder.{precedes}
 use Rattle.lfs_edit.specs.EntryEdit.{place}
-use Rattle.lfs_edit.proofs.StoredPlaces.{insert_first, insert_later}
+use Rattle.lfs_edit.proofs.ChangesAt.{insert_first, insert_later}
 
 -- it goes behind the entries that have no greater name
 pub insert_placed : (e : Entry) (es : List Entry) → insert es (prefix_len (λ f. not (precedes e.name f.name)) es) e ≡ place e es

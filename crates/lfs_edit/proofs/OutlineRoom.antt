@@ -39,7 +39,8 @@ dirty_over [] = refl
 dirty_over (p ∷ ps) = by p.dirty (dirty_over ps)
   where
     by : (t : Bool) → filter (λ p. p.dirty) (outlined_parts ps) ≡ outlined_parts (filter (λ p. p.dirty) ps)
-        → (if t then outlined_part p ∷ filter (λ p. p.dirty) (outlined_parts ps) else filter (λ p. p.dirty) (outlined_parts ps)) ≡ outlined_parts (if t then p ∷ filter (λ p. p.dirty) ps else filter (λ p. p.dirty) ps)
+        → (if t then outlined_part p ∷ filter (λ p. p.dirty) (outlined_parts ps) else filter (λ p. p.dirty) (outlined_parts ps)) ≡ outlined_parts
+        (if t then p ∷ filter (λ p. p.dirty) ps else filter (λ p. p.dirty) ps)
     by true rest = ap (λ (xs : List Part). outlined_part p ∷ xs) rest
     by false rest = rest
 

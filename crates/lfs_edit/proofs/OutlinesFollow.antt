@@ -24,7 +24,8 @@ use Rattle.lfs_edit.proofs.OutlineDirectories.{entries_outlined, link_outlined, 
 -- ---- the tree
 
 -- the entry under a name in a directory that may be there
-in_found : (n : Name) (o : Option Directory) → option_and_then (λ d. find (is_named n) (entries d)) (option_map outlined_directory o) ≡ option_map outlined_entry (option_and_then (λ d. find (is_named n) (entries d)) o)
+in_found : (n : Name) (o : Option Directory) → option_and_then (λ d. find (is_named n) (entries d)) (option_map outlined_directory o) ≡ option_map outlined_entry
+    (option_and_then (λ d. find (is_named n) (entries d)) o)
 in_found n None = refl
 in_found n (Some d) = ap (find (is_named n)) (entries_outlined d) ∙ find_outlined n (entries d)
 
@@ -35,7 +36,8 @@ entry_in_outlined ds k n = ap (option_and_then (λ (d : Directory). find (is_nam
 abbrev under : List Directory → Name → Option Entry → Option Entry
 under ds n o = option_and_then (λ e. option_and_then (λ k. entry_in ds k n) (target e)) o
 
-under_target : (ds : List Directory) (n : Name) (o : Option Pair) → option_and_then (λ k. entry_in (outlined_directories ds) k n) o ≡ option_map outlined_entry (option_and_then (λ k. entry_in ds k n) o)
+under_target : (ds : List Directory) (n : Name) (o : Option Pair) → option_and_then (λ k. entry_in (outlined_directories ds) k n) o ≡ option_map outlined_entry
+    (option_and_then (λ k. entry_in ds k n) o)
 under_target ds n None = refl
 under_target ds n (Some k) = entry_in_outlined ds k n
 
@@ -44,7 +46,8 @@ under_outlined ds n None = refl
 under_outlined ds n (Some e) =
     ap (option_and_then (λ (k : Pair). entry_in (outlined_directories ds) k n)) (target_same e) ∙ under_target ds n (target e)
 
-walk_outlined : (ds : List Directory) (o : Option Entry) (path : Path) → walk target (entry_in (outlined_directories ds)) (option_map outlined_entry o) path ≡ option_map outlined_entry (walk target (entry_in ds) o path)
+walk_outlined : (ds : List Directory) (o : Option Entry) (path : Path)
+    → walk target (entry_in (outlined_directories ds)) (option_map outlined_entry o) path ≡ option_map outlined_entry (walk target (entry_in ds) o path)
 walk_outlined ds o [] = refl
 walk_outlined ds o (n ∷ ns) = ap (λ (x : Option Entry). walk target (entry_in (outlined_directories ds)) x ns) (under_outlined ds n o) ∙ walk_outlined ds (under ds n o) ns
 
@@ -81,7 +84,8 @@ with_outlined : (v : Volume) (ds es : List Directory) → es ≡ outlined_direct
 with_outlined v ds es same = ap (with_directories (outlined v)) (sym same)
 
 set_outlined : (v : Volume) (f : Attributes → Attributes) (h : Option (Pair × Name)) → outlined (set_attributes v f h) ≡ set_attributes (outlined v) f h
-set_outlined v f None = ap (λ (ds : List Directory). record { size = v.size; count = v.count; limits = v.limits; attributes = f v.attributes; directories = ds }) (sym (touch_first_outlined v.directories))
+set_outlined v f None = ap (λ (ds : List Directory). record { size = v.size; count = v.count; limits = v.limits; attributes = f v.attributes; directories = ds })
+    (sym (touch_first_outlined v.directories))
 set_outlined v f (Some h) =
     with_outlined v (change h.0 h.1 (with_entry_attributes f) v.directories) (change h.0 h.1 (with_entry_attributes f) (outlined_directories v.directories))
     (change_outlined h.0 h.1 (with_entry_attributes f) (with_entry_attributes f) (λ e. refl) v.directories)
@@ -93,10 +97,12 @@ make_outlined v pair (Some h) =
     with_outlined v (add_after h.0 (empty_directory pair) (link h.0 e v.directories)) (add_after h.0 (empty_directory pair) (link h.0 e (outlined_directories v.directories)))
     (ap (add_after h.0 (empty_directory pair)) (link_outlined h.0 e v.directories) ∙ add_outlined h.0 (empty_directory pair) (link h.0 e v.directories))
 
-put_outlined : (v : Volume) (body : Body) (h : Option (Pair × Name)) (old : Option Entry) → outlined (put_file v body h old) ≡ put_file (outlined v) (outlined_body body) h (option_map outlined_entry old)
+put_outlined : (v : Volume) (body : Body) (h : Option (Pair × Name)) (old : Option Entry)
+    → outlined (put_file v body h old) ≡ put_file (outlined v) (outlined_body body) h (option_map outlined_entry old)
 put_outlined v body None old = refl
 put_outlined v body (Some h) None =
-    with_outlined v (link h.0 (new_entry h.1 body) v.directories) (link h.0 (new_entry h.1 (outlined_body body)) (outlined_directories v.directories)) (link_outlined h.0 (new_entry h.1 body) v.directories)
+    with_outlined v (link h.0 (new_entry h.1 body) v.directories) (link h.0 (new_entry h.1 (outlined_body body)) (outlined_directories v.directories))
+    (link_outlined h.0 (new_entry h.1 body) v.directories)
 put_outlined v body (Some h) (Some e) =
     with_outlined v (change h.0 h.1 (with_body body) v.directories) (change h.0 h.1 (with_body (outlined_body body)) (outlined_directories v.directories))
     (change_outlined h.0 h.1 (with_body body) (with_body (outlined_body body)) (λ x. refl) v.directories)

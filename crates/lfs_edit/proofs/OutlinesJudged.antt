@@ -69,7 +69,8 @@ some_same v p = shown is_some (λ b a. refl) v p
 none_same : (v : Volume) (p : Path) → is_none (tree (outlined v) p) ≡ is_none (tree v p)
 none_same v p = shown is_none (λ b a. refl) v p
 
-bare_found : (o : Option Directory) → unwrap_or (option_map (λ (d : Directory). length (entries d) == 0) (option_map outlined_directory o)) true ≡ unwrap_or (option_map (λ (d : Directory). length (entries d) == 0) o) true
+bare_found : (o : Option Directory) → unwrap_or (option_map (λ (d : Directory). length (entries d) == 0) (option_map outlined_directory o)) true ≡ unwrap_or
+    (option_map (λ (d : Directory). length (entries d) == 0) o) true
 bare_found None = refl
 bare_found (Some d) = ap (λ (n : ℕ). n == 0) (ap length (entries_outlined d) ∙ length-map (entries d) outlined_entry)
 
@@ -205,7 +206,8 @@ freed_same v (RmAttr p k) b = refl
 pub outlines_are_judged_alike : OutlinesAreJudgedAlike
 outlines_are_judged_alike v c = record {
   checked = checks_same v c;
-  judged = ap (λ (rs : List (Option Refusal)). first_refusal (rs ++ room_checks (outlined v) c)) (checks_same v c) ∙ ap (λ (rs : List (Option Refusal)). first_refusal (checks v c ++ rs)) (room_same v c);
+  judged = ap (λ (rs : List (Option Refusal)). first_refusal (rs ++ room_checks (outlined v) c)) (checks_same v c)
+      ∙ ap (λ (rs : List (Option Refusal)). first_refusal (checks v c ++ rs)) (room_same v c);
   needed = need_same v c;
   freed = freed_same v c;
 }

@@ -115,7 +115,8 @@ entries_stand r (e ∷ es) there = (
 )
 
 -- what the pair of a link holds in the patched image
-read_after : AppliedBlocks → (d : Disk) (v w : Volume) (held : HoldsLinks (reading_of d) v) (is_new : Pair → Bool) (base : List Change) (p : ChangeSet) → WritesOutline d v w held is_new base p → (pair : Pair)
+read_after : AppliedBlocks → (d : Disk) (v w : Volume) (held : HoldsLinks (reading_of d) v) (is_new : Pair → Bool) (base : List Change) (p : ChangeSet)
+    → WritesOutline d v w held is_new base p → (pair : Pair)
     → stored_part_of (applied p d) pair ≡ part_in (block_after d p.changes pair.0) (block_after d p.changes pair.1)
 read_after blocks d v w held is_new base p writes pair =
     ap (λ (b : List ℕ). part_in b (block_of (applied p d) pair.1)) (blocks p d pair.0 writes.disk writes.patch writes.stands)

@@ -75,7 +75,8 @@ unfolding add_after
 add_total g k new [] = omega arith
 add_total g k new (d ∷ ds) = by (begins_at k d) (add_total g k new ds)
   where
-    by : (t : Bool) → total g (add_after k new ds) ≤ total g ds + parts_total g (parts new) → total g (if t then touch_last d ∷ new ∷ ds else d ∷ add_after k new ds) ≤ total g (d ∷ ds) + parts_total g (parts new)
+    by : (t : Bool) → total g (add_after k new ds) ≤ total g ds + parts_total g (parts new)
+        → total g (if t then touch_last d ∷ new ∷ ds else d ∷ add_after k new ds) ≤ total g (d ∷ ds) + parts_total g (parts new)
     by true rest = omega (arith, total_cons g (touch_last d) (new ∷ ds), total_cons g new ds, total_cons g d ds, last_total g d)
     by false rest = omega (arith, rest, total_cons g d (add_after k new ds), total_cons g d ds)
 

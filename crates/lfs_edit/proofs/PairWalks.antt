@@ -31,7 +31,8 @@ step_by : (ds : List Directory) (n : Name) (ns : Path) (o : Option Pair)
 step_by ds n ns None = refl
 step_by ds n ns (Some k) = refl
 
-leads_from : (ds : List Directory) (here : Option Entry) (path : Path) → option_and_then target (walk target (entry_in ds) here path) ≡ option_and_then (λ k. pair_at ds k path) (option_and_then target here)
+leads_from : (ds : List Directory) (here : Option Entry) (path : Path)
+    → option_and_then target (walk target (entry_in ds) here path) ≡ option_and_then (λ k. pair_at ds k path) (option_and_then target here)
 leads_from ds here [] = some_again (option_and_then target here)
 leads_from ds here (n ∷ ns) =
     leads_from ds (step target (entry_in ds) n here) ns
@@ -64,7 +65,8 @@ walks_go_by_pairs v = record { leads = leads_to v; last = last_at v; home = λ p
 -- ---- why a walk is refused
 
 -- a directory is there
-front_is : (v : Volume) (front : Path) (b : Body) (n : Name) (a : Attributes) (k : Pair) (rest : Option Refusal) → entry_at v front ≡ Some (record { name = n; body = b; attributes = a }) → body_target b ≡ Some k
+front_is : (v : Volume) (front : Path) (b : Body) (n : Name) (a : Attributes) (k : Pair) (rest : Option Refusal)
+    → entry_at v front ≡ Some (record { name = n; body = b; attributes = a }) → body_target b ≡ Some k
     → walk_refusal_at (tree v front) rest ≡ rest
 front_is v front (Inline bytes) n a k rest at leads = cc
 front_is v front (Chain blocks bytes) n a k rest at leads = cc
@@ -113,11 +115,13 @@ all_from ds k (m ∷ []) n = by (entry_in ds k m)
     by (Some e) = led (target e)
 all_from ds k (m ∷ l ∷ path) n = by (entry_in ds k m) (λ j. all_from ds j (l ∷ path) n)
   where
-    led : (o : Option Pair) → ((j : Pair) → walk_from ds j (l ∷ path ++ n ∷ []) ≡ walk_all ds j (l ∷ path)) → goes_on (λ j. walk_from ds j (l ∷ path ++ n ∷ [])) o ≡ goes_on (λ j. walk_all ds j (l ∷ path)) o
+    led : (o : Option Pair) → ((j : Pair) → walk_from ds j (l ∷ path ++ n ∷ []) ≡ walk_all ds j (l ∷ path))
+        → goes_on (λ j. walk_from ds j (l ∷ path ++ n ∷ [])) o ≡ goes_on (λ j. walk_all ds j (l ∷ path)) o
     led None later = refl
     led (Some j) later = later j
 
-    by : (o : Option Entry) → ((j : Pair) → walk_from ds j (l ∷ path ++ n ∷ []) ≡ walk_all ds j (l ∷ path)) → refuses_at (λ j. walk_from ds j (l ∷ path ++ n ∷ [])) o ≡ refuses_at (λ j. walk_all ds j (l ∷ path)) o
+    by : (o : Option Entry) → ((j : Pair) → walk_from ds j (l ∷ path ++ n ∷ []) ≡ walk_all ds j (l ∷ path))
+        → refuses_at (λ j. walk_from ds j (l ∷ path ++ n ∷ [])) o ≡ refuses_at (λ j. walk_all ds j (l ∷ path)) o
     by None later = refl
     by (Some e) later = led (target e) later
 

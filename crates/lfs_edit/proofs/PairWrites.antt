@@ -10,19 +10,26 @@ use Rattle.lfs_block.specs.Disk.{Disk, IsDisk, block_of, put}
 use Rattle.lfs_block.specs.PatchLaws.{BlockPut, BlockPutOther}
 use Rattle.lfs_meta.specs.Attribute.{Attributes}
 use Rattle.lfs_meta.specs.Body.{Pair}
+use Rattle.lfs_meta.specs.Entry.{StoredEntry}
 use Rattle.lfs_meta.specs.LiveBlock.{stored_part_of}
 use Rattle.lfs_meta.specs.Part.{StoredPart}
 use Rattle.lfs_meta.specs.Writing.{other_number, part_in, stored_part}
 use Rattle.lfs_fs.specs.Thread.{Link}
 use Rattle.lfs_fs.specs.Uses.{times}
 use Rattle.lfs_edit.specs.PairWritten.{AddsChange, IsLinkStored}
-use Rattle.lfs_edit.specs.PartWritten.{change_at, with_change}
-use Rattle.lfs_edit.specs.Place.{Found}
+use Rattle.lfs_edit.specs.PartWritten.{Found, change_at, with_change}
 use Rattle.lfs_edit.specs.WrittenLinks.{changed_blocks, block_after, link_part, CanBeMade, IsFreeFor, AddsPart, AddsLink}
 use Rattle.lfs_edit.proofs.BlockLemmas.{block_bytes, other_is_one}
 use Rattle.lfs_edit.proofs.ChangesAt.{change_whole, overlaid_none, with_all, with_rising}
 use Rattle.lfs_edit.proofs.LinksAdded.{times_cons}
 use Rattle.lfs_edit.proofs.OutlinesWritten.{none_named}
+
+-- the part that is read back, by the view of what was written
+pub back_is : (d : Disk) (n : ℕ) (new : List ℕ) (seen part : Found) (es : List StoredEntry) → seen ≡ part → es ≡ seen.1.entries
+    → stored_part_of (put n new d) seen.0 ≡ Some (stored_part es seen.1.tail seen.1.delta)
+    → stored_part_of (put n new d) part.0 ≡ Some part.1
+back_is d n new seen part es same is read =
+    subst (λ (x : Found). stored_part_of (put n new d) x.0 ≡ Some x.1) same (read ∙ ap (λ (xs : List StoredEntry). Some (stored_part xs seen.1.tail seen.1.delta)) is)
 
 -- ---- one change more
 
@@ -54,7 +61,8 @@ overlaid_other c (e ∷ es) n below apart = by (nat_lt e.number c.number) (overl
     by true later = ap (λ (bytes : List ℕ). if e.number == n then e.new else bytes) later
     by false later = let other : (c.number == n) ≡ false = grind (arith, nat_tests) in rw other refl
 
-pub change_added : (d : Disk) (c : Change) (old : List Change) → IsRising old → AllByRecursion (CanBeMade d) old → CanBeMade d c → times c.number (changed_blocks old) ≡ 0 → AddsChange d c old (with_change c old)
+pub change_added : (d : Disk) (c : Change) (old : List Change) → IsRising old → AllByRecursion (CanBeMade d) old → CanBeMade d c → times c.number (changed_blocks old) ≡ 0
+    → AddsChange d c old (with_change c old)
 change_added d c old rising made this none =
     let apart : AllByRecursion (λ e. e.number ≢ c.number) old = none_named c.number old none in
     record {
@@ -139,7 +147,8 @@ pub link_filled : (d : Disk) (bytes : List ℕ) (attributes : Attributes) (is_ne
 link_filled d bytes attributes is_new l part old cs new none stored adds = record {
   delta = replicate 12 0;
   delta_is = sym none;
-  adds = subst (λ (t : Bool). AddsPart d l.part.pair (if t then l.part.pair.0 ∷ l.part.pair.1 ∷ [] else other_number d l.part.pair ∷ []) (link_part bytes attributes l (replicate 12 0)) old cs) (sym new)
+  adds = subst (λ (t : Bool). AddsPart d l.part.pair (if t then l.part.pair.0 ∷ l.part.pair.1 ∷ [] else other_number d l.part.pair ∷ [])
+      (link_part bytes attributes l (replicate 12 0)) old cs) (sym new)
       (subst (λ (s : StoredPart). AddsPart d l.part.pair (l.part.pair.0 ∷ l.part.pair.1 ∷ []) (stored_part s.entries s.tail (replicate 12 0)) old cs) stored.part_is
       (subst (λ (k : Pair). AddsPart d k (k.0 ∷ k.1 ∷ []) (stored_part part.1.entries part.1.tail (replicate 12 0)) old cs) stored.pair adds));
 }

@@ -62,7 +62,8 @@ fits_by v es false light = runs_fit weight (room v) 0 0 es (omega arith) (omega 
 runs_fit_part : (v : Volume) (p : Part) → is_too_large v p ≡ false → FirstFits weight (room v) (front_weight v.attributes p) (front_count p) (runs v p)
 runs_fit_part v p light = fits_by v p.entries (is_first p) light
 
-more_fit : (v : Volume) (pairs : List Pair) (rs : List (List Entry)) → ((q : Pair) → Contains pairs q → same_pair q root ≡ false) → All (RunFits weight (room v)) rs → All (FitsWhenSet v) (more_parts pairs rs)
+more_fit : (v : Volume) (pairs : List Pair) (rs : List (List Entry)) → ((q : Pair) → Contains pairs q → same_pair q root ≡ false) → All (RunFits weight (room v)) rs
+    → All (FitsWhenSet v) (more_parts pairs rs)
 more_fit v pairs [] other fit = All-nil (FitsWhenSet v)
 more_fit v [] (run ∷ rs) other fit = All-nil (FitsWhenSet v)
 more_fit v (pair ∷ pairs) (run ∷ rs) other fit =
@@ -109,7 +110,8 @@ none_of f (q ∷ ps) none p there set = by q.dirty refl none (λ none' later. no
       | inr later ↦ rest none' later
     ]
 
-pub cut_fits : (chosen : Part → List Pair) (w : Volume) → has_too_large w ≡ false → ((p : Part) → Contains (thread w.directories) p → (q : Pair) → Contains (new_pairs chosen p) q → same_pair q root ≡ false)
+pub cut_fits : (chosen : Part → List Pair) (w : Volume) → has_too_large w ≡ false
+    → ((p : Part) → Contains (thread w.directories) p → (q : Pair) → Contains (new_pairs chosen p) q → same_pair q root ≡ false)
     → All (FitsWhenSet w) (thread (cut chosen w).directories)
 cut_fits chosen w light other =
     subst (All (FitsWhenSet w)) (sym (cut_thread chosen w w.directories))

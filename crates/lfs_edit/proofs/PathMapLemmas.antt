@@ -36,7 +36,8 @@ no_names p n q h = let same : length (p ++ n ∷ q) ≡ 0 = ap length h in omega
 
 -- ---- what is left below a path
 
-below_by : (same : Bool) (n m : Name) (ns path rest : Path) → (same ≡ true → n ≡ m) → (below ns path ≡ Some rest → path ≡ ns ++ rest) → (if same then below ns path else None) ≡ Some rest → m ∷ path ≡ n ∷ (ns ++ rest)
+below_by : (same : Bool) (n m : Name) (ns path rest : Path) → (same ≡ true → n ≡ m) → (below ns path ≡ Some rest → path ≡ ns ++ rest)
+    → (if same then below ns path else None) ≡ Some rest → m ∷ path ≡ n ∷ (ns ++ rest)
 below_by true n m ns path rest is more h = ap (λ x. x ∷ path) (sym (is refl)) ∙ ap (λ x. n ∷ x) (more h)
 below_by false n m ns path rest is more h = absurd (none-some rest h)
 
@@ -52,7 +53,8 @@ below-append (n ∷ ns) rest = ap (λ (b : Bool). if b then below ns (ns ++ rest
 pub below_self : (at : Path) → below at at ≡ Some []
 below_self at = ap (below at) (sym (append-nil at)) ∙ below-append at []
 
-front_by : (same : Bool) (ns path more : Path) → (below ns (path ++ more) ≡ None → below ns path ≡ None) → (if same then below ns (path ++ more) else None) ≡ None → (if same then below ns path else None) ≡ None
+front_by : (same : Bool) (ns path more : Path) → (below ns (path ++ more) ≡ None → below ns path ≡ None) → (if same then below ns (path ++ more) else None) ≡ None
+    → (if same then below ns path else None) ≡ None
 front_by true ns path more f h = f h
 front_by false ns path more f h = refl
 
@@ -95,7 +97,8 @@ mapped_by f true x y = refl
 mapped_by f false x y = refl
 
 -- a map through which the values go
-pub put_at_mapped : {X Y : Type 0} (f : X → Y) (at : Path) (x : Option X) (tree : Path → Option X) (path : Path) → option_map f (put_at at x tree path) ≡ put_at at (option_map f x) (λ p. option_map f (tree p)) path
+pub put_at_mapped : {X Y : Type 0} (f : X → Y) (at : Path) (x : Option X) (tree : Path → Option X) (path : Path)
+    → option_map f (put_at at x tree path) ≡ put_at at (option_map f x) (λ p. option_map f (tree p)) path
 put_at_mapped f at x tree path = mapped_by f (same_path at path) x (tree path)
 
 -- at the new path and below it

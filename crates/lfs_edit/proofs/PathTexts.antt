@@ -137,7 +137,8 @@ one_split [] [] free_p free_q is = refl
 one_split [] (q ∷ qs) free_p free_q is = absurd (cc)
 one_split (p ∷ ps) [] free_p free_q is = absurd (cc)
 one_split (p ∷ ps) (q ∷ qs) free_p free_q is =
-    let first = one_piece_first p q (flat_map (λ n. 47 ∷ n) ps) (flat_map (λ n. 47 ∷ n) qs) (All-head HasNoSlash p ps free_p) (All-head HasNoSlash q qs free_q) (behind_pieces ps) (behind_pieces qs) (ap (drop 1) is) in
+    let first = one_piece_first p q (flat_map (λ n. 47 ∷ n) ps) (flat_map (λ n. 47 ∷ n) qs) (All-head HasNoSlash p ps free_p) (All-head HasNoSlash q qs free_q)
+    (behind_pieces ps) (behind_pieces qs) (ap (drop 1) is) in
     let rest = one_split ps qs (All-tail HasNoSlash p ps free_p) (All-tail HasNoSlash q qs free_q) first.1 in
     ap (λ n. n ∷ ps) first.0 ∙ ap (λ ns. q ∷ ns) rest
 

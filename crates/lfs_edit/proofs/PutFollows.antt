@@ -35,7 +35,8 @@ pub record IsNewBody (v : Volume) (body : Body) (bytes : List ℕ) : Type 0 wher
 new_proper : (v : Volume) (n : Name) (body : Body) (bytes : List ℕ) → IsName n → length n ≤ v.limits.name → IsNewBody v body bytes → IsProper v.limits (new_entry n body)
 new_proper v n body bytes name fits new = record { name = name; name_fits = fits; file_fits = new.len; attributes = tt }
 
-pub new_file_follows : (v : Volume) (p : Path) (body : Body) (bytes : List ℕ) → NamesAreOrdered → IsSound v → (at : IsPlaced v p) → entry_at v p ≡ None → length at.home.name ≤ v.limits.name → IsNewBody v body bytes
+pub new_file_follows : (v : Volume) (p : Path) (body : Body) (bytes : List ℕ) → NamesAreOrdered → IsSound v → (at : IsPlaced v p) → entry_at v p ≡ None
+    → length at.home.name ≤ v.limits.name → IsNewBody v body bytes
     → Puts v (put_file v body (home_of v p) None) p (Some (File bytes [])) (λ b. 0) (λ b. body_uses b body)
 new_file_follows v p body bytes ordered sound at fresh fits new =
     let k = at.home.pair in
@@ -81,7 +82,8 @@ new_file_follows v p body bytes ordered sound at fresh fits new =
 put_proper : (v : Volume) (body : Body) (bytes : List ℕ) (e : Entry) → IsNewBody v body bytes → IsProper v.limits e → IsProper v.limits (with_body body e)
 put_proper v body bytes e new proper = record { name = proper.name; name_fits = proper.name_fits; file_fits = new.len; attributes = proper.attributes }
 
-pub old_file_follows : (v : Volume) (p : Path) (body : Body) (bytes : List ℕ) (e : Entry) → NamesAreOrdered → IsSound v → (at : IsPlaced v p) → entry_at v p ≡ Some e → target e ≡ None → IsNewBody v body bytes
+pub old_file_follows : (v : Volume) (p : Path) (body : Body) (bytes : List ℕ) (e : Entry) → NamesAreOrdered → IsSound v → (at : IsPlaced v p) → entry_at v p ≡ Some e
+    → target e ≡ None → IsNewBody v body bytes
     → Puts v (put_file v body (home_of v p) (Some e)) p (Some (File bytes e.attributes)) (λ b. entry_uses b e) (λ b. body_uses b body)
 old_file_follows v p body bytes e ordered sound at here file new =
     let k = at.home.pair in

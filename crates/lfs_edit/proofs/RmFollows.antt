@@ -97,11 +97,13 @@ bare_by (Some x) d is h =
     nil_from_length (entries d) (ap (λ (y : Directory). length (entries y)) (sym (same_Some x d is)) ∙ len)
 
 -- a directory that is found stays found, and stays empty, when an entry is taken out of another or the same
-still_empty : (ds : List Directory) (k : Pair) (n : Name) (j : Pair) (d : Directory) → find (begins_at j) ds ≡ Some d → entries d ≡ [] → (g : Directory) × (find (begins_at j) (unlink k n ds) ≡ Some g) × (entries g ≡ []) × ((b : ℕ) → directory_uses b g ≡ directory_uses b d)
+still_empty : (ds : List Directory) (k : Pair) (n : Name) (j : Pair) (d : Directory) → find (begins_at j) ds ≡ Some d → entries d ≡ []
+    → (g : Directory) × (find (begins_at j) (unlink k n ds) ≡ Some g) × (entries g ≡ []) × ((b : ℕ) → directory_uses b g ≡ directory_uses b d)
 still_empty ds k n j d found empty = elim (same_pair_or_not j k) [
   | inl is ↦ (
     unlink_in n d,
-    ap (λ (x : Pair). find (begins_at x) (unlink k n ds)) is ∙ find_here k (unlink_in n) ds (keeps_unlink n) ∙ ap (option_map (unlink_in n)) (ap (λ (x : Pair). find (begins_at x) ds) (sym is) ∙ found),
+    ap (λ (x : Pair). find (begins_at x) (unlink k n ds)) is ∙ find_here k (unlink_in n) ds (keeps_unlink n)
+        ∙ ap (option_map (unlink_in n)) (ap (λ (x : Pair). find (begins_at x) ds) (sym is) ∙ found),
     entries_unlink n d ∙ ap (without n) empty,
     λ b. omega (arith, pair_uses_same b d (unlink_in n d) (keeps_unlink n d).pairs, ap (sum_by (entry_uses b)) (entries_unlink n d ∙ ap (without n) empty), ap (sum_by (entry_uses b)) empty),
   )
@@ -127,7 +129,8 @@ directory_gone v p e j ordered sound at here leads bare =
     let once : count_by (begins_at j) v.directories ≡ 1 = led_directory v sound p e j here leads in
     let was : (d : Directory) × (find (begins_at j) v.directories ≡ Some d) = found_one (begins_at j) v.directories once in
     let was_empty : entries was.0 ≡ [] = bare_by (find (begins_at j) v.directories) was.0 was.1 bare in
-    let now : (g : Directory) × (find (begins_at j) unlinked ≡ Some g) × (entries g ≡ []) × ((b : ℕ) → directory_uses b g ≡ directory_uses b was.0) = still_empty v.directories k n j was.0 was.1 was_empty in
+    let now : (g : Directory) × (find (begins_at j) unlinked ≡ Some g) × (entries g ≡ []) × ((b : ℕ) → directory_uses b g ≡ directory_uses b was.0) =
+    still_empty v.directories k n j was.0 was.1 was_empty in
     let other = other_than_root v p e j sound at here leads in
     let starts : StartsAtRoot unlinked = first.starts sound.starts in
     let once_now : count_by (begins_at j) unlinked ≡ 1 = omega (arith, first.directories j, once) in
@@ -161,7 +164,14 @@ directory_gone v p e j ordered sound at here leads bare =
             comes = λ i some. let no : ⊥ = omega arith in absurd no;
           });
       frame = record { size = refl; count = refl; limits = refl };
-      uses = λ b. omega (arith, first.uses b, second.uses b, now.3 b, ap (λ (o : Option Pair). target_uses_of v o b) leads, ap (λ (o : Option Directory). unwrap_or (option_map (directory_uses b) o) 0) was.1);
+      uses = λ b. omega (
+        arith,
+        first.uses b,
+        second.uses b,
+        now.3 b,
+        ap (λ (o : Option Pair). target_uses_of v o b) leads,
+        ap (λ (o : Option Directory). unwrap_or (option_map (directory_uses b) o) 0) was.1,
+      );
       at = λ q. tree_after one alike q ∙ ap (λ (x : Path). put_at x None (tree v) q) (sym at.home.whole);
     }
 
@@ -175,4 +185,5 @@ gone_by v p e ordered sound at here (Some j) is bare = directory_gone v p e j or
 pub rm_follows : (v : Volume) (p : Path) (e : Entry) → NamesAreOrdered → IsSound v → (at : IsPlaced v p) → entry_at v p ≡ Some e → is_bare v (target e) ≡ true
     → Puts v (remove_entry v (home_of v p) (Some e)) p None (λ b. entry_uses b e + target_uses_of v (target e) b) (λ b. 0)
 rm_follows v p e ordered sound at here bare =
-    subst (λ (h : Option (Pair × Name)). Puts v (remove_entry v h (Some e)) p None (λ b. entry_uses b e + target_uses_of v (target e) b) (λ b. 0)) (sym at.home.home) (gone_by v p e ordered sound at here (target e) refl bare)
+    subst (λ (h : Option (Pair × Name)). Puts v (remove_entry v h (Some e)) p None (λ b. entry_uses b e + target_uses_of v (target e) b) (λ b. 0)) (sym at.home.home)
+    (gone_by v p e ordered sound at here (target e) refl bare)

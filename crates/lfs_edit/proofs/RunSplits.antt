@@ -12,9 +12,6 @@ with_none : (runs : List (List Entry)) → with_run [] runs ≡ runs
 with_none [] = refl
 with_none (run ∷ runs) = refl
 
-pub first : (room taken len : ℕ) (all : List Entry) → taken ≤ 330244 → len ≤ 1000 → IsSplitTo (runs_after weight room taken len all) room [] [] taken len all
-first room taken len all light few = record { is = sym (with_none (runs_after weight room taken len all)); light = light; few = few }
-
 -- an entry at the head of the rest goes to the end of the run
 with_onto : (run : List Entry) (e : Entry) (runs : List (List Entry)) → 1 ≤ length runs → with_run run (onto e runs) ≡ with_run (run ++ e ∷ []) runs
 unfolding onto
@@ -44,7 +41,8 @@ pub left_more : (whole : List (List Entry)) (room : ℕ) (runs : List (List Entr
 left_more whole room runs run taken len e left small takes to = record {
   is = to.is ∙ ap (λ (rs : List (List Entry)). runs ++ with_run run rs) (step_by room taken len e left false takes)
       ∙ ap (λ (r : List Entry). runs ++ r ∷ onto e (runs_after weight room (weight e) 1 left)) (append-nil run)
-      ∙ ap (λ (rs : List (List Entry)). runs ++ run ∷ rs) (sym (with_none (onto e (runs_after weight room (weight e) 1 left))) ∙ with_onto [] e (runs_after weight room (weight e) 1 left) (some_run weight room (weight e) 1 left))
+      ∙ ap (λ (rs : List (List Entry)). runs ++ run ∷ rs) (sym (with_none (onto e (runs_after weight room (weight e) 1 left)))
+      ∙ with_onto [] e (runs_after weight room (weight e) 1 left) (some_run weight room (weight e) 1 left))
       ∙ sym (append_assoc runs (run ∷ []) (with_run (e ∷ []) (runs_after weight room (weight e) 1 left)));
   light = omega (arith, small);
   few = omega arith;
@@ -65,7 +63,8 @@ stays_in whole room runs run run' taken len next e left small weighs takes is to
     rw (is, weighs) (taken_more whole room runs run taken len e left small (ap (run_takes room taken len) (sym weighs) ∙ takes) to)
 
 -- another one does
-pub goes_on : (whole : List (List Entry)) (room : ℕ) (runs runs' : List (List Entry)) (run fresh run' : List Entry) (taken len taken' len' next : ℕ) (e : Entry) (left : List Entry) → next ≡ weight e → next ≤ 264708
+pub goes_on : (whole : List (List Entry)) (room : ℕ) (runs runs' : List (List Entry)) (run fresh run' : List Entry) (taken len taken' len' next : ℕ) (e : Entry)
+    (left : List Entry) → next ≡ weight e → next ≤ 264708
     → run_takes room taken len next ≡ false → runs' ≡ runs ++ run ∷ [] → fresh ≡ [] → taken' ≡ 0 → len' ≡ 0 → run' ≡ fresh ++ e ∷ []
     → IsSplitTo whole room runs run taken len (e ∷ left) → IsSplitTo whole room runs' run' (taken' + next) (len' + 1) left
 goes_on whole room runs runs' run fresh run' taken len taken' len' next e left weighs small takes are empty no_weight no_entry is to =

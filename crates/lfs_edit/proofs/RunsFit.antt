@@ -14,7 +14,8 @@ pub record FirstFits {E : Type 0} (weigh : E → ℕ) (space taken number : ℕ)
   pub count : number + length (first_run rs) ≤ 1000
   pub later : All (RunFits weigh space) (later_runs rs)
 
-onto_fits : {E : Type 0} (weigh : E → ℕ) (space taken number : ℕ) (e : E) (rs : List (List E)) → FirstFits weigh space (taken + weigh e) (number + 1) rs → FirstFits weigh space taken number (onto e rs)
+onto_fits : {E : Type 0} (weigh : E → ℕ) (space taken number : ℕ) (e : E) (rs : List (List E)) → FirstFits weigh space (taken + weigh e) (number + 1) rs
+    → FirstFits weigh space taken number (onto e rs)
 unfolding onto
 onto_fits weigh space taken number e [] fits = record { weight = omega (arith, fits.weight, sum_by-cons weigh e []); count = omega (arith, fits.count); later = All-nil (RunFits weigh space) }
 onto_fits weigh space taken number e (run ∷ rs) fits = record { weight = omega (arith, fits.weight, sum_by-cons weigh e run); count = omega (arith, fits.count); later = fits.later }
@@ -36,7 +37,8 @@ runs_fit weigh space taken number [] light few all = record { weight = omega (ar
 runs_fit {E} weigh space taken number (e ∷ es) light few all =
     let this : weigh e ≤ space = All-head (λ x. weigh x ≤ space) e es all in
     let rest : All (λ x. weigh x ≤ space) es = All-tail (λ x. weigh x ≤ space) e es all in
-    by (run_takes space taken number (weigh e)) refl (λ light' few'. runs_fit weigh space (taken + weigh e) (number + 1) es light' few' rest) (runs_fit weigh space (weigh e) 1 es this (omega arith) rest)
+    by (run_takes space taken number (weigh e)) refl (λ light' few'. runs_fit weigh space (taken + weigh e) (number + 1) es light' few' rest)
+    (runs_fit weigh space (weigh e) 1 es this (omega arith) rest)
   where
     by : (t : Bool) → run_takes space taken number (weigh e) ≡ t
         → (taken + weigh e ≤ space → number + 1 ≤ 1000 → FirstFits weigh space (taken + weigh e) (number + 1) (runs_after weigh space (taken + weigh e) (number + 1) es))

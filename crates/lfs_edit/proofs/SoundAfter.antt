@@ -60,7 +60,8 @@ reached_at v w gone came sound effect even k there zero none =
     even.stay k stays (at_counted (Reached v) k v.directories sound.reached (omega arith))
 reached_at v w gone came sound effect even k there (suc n) some = even.come k (omega arith)
 
-pub sound_after : (v w : Volume) (gone came : Counts) → IsSound v → Effect gone came v.directories w.directories → AreGood w.limits w.directories → AreAttributes w.limits.attribute w.attributes → w.count ≡ v.count → IsEven v w gone came → IsSound w
+pub sound_after : (v w : Volume) (gone came : Counts) → IsSound v → Effect gone came v.directories w.directories → AreGood w.limits w.directories
+    → AreAttributes w.limits.attribute w.attributes → w.count ≡ v.count → IsEven v w gone came → IsSound w
 sound_after v w gone came sound effect good attributes count even = record {
   starts = effect.starts sound.starts;
   order = good.order;
@@ -71,7 +72,8 @@ sound_after v w gone came sound effect good attributes count even = record {
   names = λ k.
       let after = effect.names k in let dirs = effect.directories k in let before = sound.names k in let even' = even.names k in
       omega arith;
-  reached = λ i d within. reached_at v w gone came sound effect even (key (get_or w.directories i d)) (counted w.directories (get_or w.directories i d) (i, within, get_or_default w.directories i (get_or w.directories i d) d within)) (came.directories (key (get_or w.directories i d))) refl;
+  reached = λ i d within. reached_at v w gone came sound effect even (key (get_or w.directories i d))
+      (counted w.directories (get_or w.directories i d) (i, within, get_or_default w.directories i (get_or w.directories i d) d within)) (came.directories (key (get_or w.directories i d))) refl;
   settled = effect.delta ∙ sound.settled;
 }
   where

@@ -23,7 +23,15 @@ sum_both f g (x ∷ xs) = omega (arith, sum_by-cons (λ y. f y + g y) x xs, sum_
 pub sum_counted : {X : Type 0} (t : X → Bool) (n : ℕ) (xs : List X) → sum_by (λ x. cond {A = ℕ} (t x) n 0) xs ≡ count_by t xs * n
 sum_counted t n [] = omega arith
 sum_counted t n (x ∷ xs) =
-    omega (arith, sum_by-cons (λ y. cond {A = ℕ} (t y) n 0) x xs, by (t x), sum_counted t n xs, ap (λ (k : ℕ). k * n) (sum_by-cons (λ y. cond {A = ℕ} (t y) 1 0) x xs), spread (cond {A = ℕ} (t x) 1 0) (count_by t xs))
+    omega (
+      arith,
+      sum_by-cons (λ y. cond {A = ℕ} (t y) n 0) x xs,
+      by (t x),
+      sum_counted t n xs,
+      ap (λ (k : ℕ). k * n) (sum_by-cons (λ y. cond {A =
+          ℕ} (t y) 1 0) x xs),
+      spread (cond {A = ℕ} (t x) 1 0) (count_by t xs),
+    )
   where
     by : (b : Bool) → cond {A = ℕ} b n 0 ≡ cond {A = ℕ} b 1 0 * n
     by true = omega arith

@@ -1,16 +1,14 @@
 -- The least free blocks as what a command takes for what it makes.
-use Rattle.std.proofs.Common.{◌≡◌, ◌+◌, ◌<◌, ◌≤◌, ℕ, Bool, true, false, List, [], ◌∷◌, length, take, refl, ap, sym, ◌∙◌, arith, cond, inl, inr}
-use Rattle.std.specs.Prelude.{nat_le, if◌then◌else◌, count_by}
+use Rattle.std.proofs.Common.{◌≡◌, ◌≤◌, ℕ, Bool, true, false, List, [], ◌∷◌, length, take, refl, ap, ◌∙◌, arith, inl, inr}
+use Rattle.std.specs.Prelude.{nat_le, if◌then◌else◌}
 use Rattle.lfs_fs.specs.Free.{free_blocks}
 use Rattle.lfs_fs.specs.Sound.{IsSound}
-use Rattle.lfs_fs.specs.Uses.{times, body_uses, uses}
+use Rattle.lfs_fs.specs.Uses.{times, body_uses}
 use Rattle.lfs_fs.specs.Entry.{Chain, Inline}
 use Rattle.lfs_fs.specs.Volume.{Volume}
-use Rattle.lfs_edit.specs.Accepted.{IsAccepted}
 use Rattle.lfs_edit.specs.Carried.{least_pair, least_supplies, made_blocks}
 use Rattle.lfs_edit.specs.Command.{Command, Mkdir, Put, Rm, Mv, SetAttr, RmAttr}
-use Rattle.lfs_edit.specs.Need.{data_blocks, need}
-use Rattle.lfs_edit.specs.Supplies.{AreFree, most_inline, new_body, supply_uses}
+use Rattle.lfs_edit.specs.Supplies.{AreFree, most_inline, supply_uses}
 use Rattle.lfs_file.specs.Capacity.{least_blocks}
 use Rattle.lfs_edit.proofs.FreeBlocks.{taken_free, taken_once}
 use Rattle.lfs_edit.proofs.LeastBlocks.{none_or_some}

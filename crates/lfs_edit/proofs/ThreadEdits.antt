@@ -44,7 +44,8 @@ link_other k e ds =
 pub link_effect : (k : Pair) (e : Entry) (ds : List Directory) → count_by (begins_at k) ds ≡ 1 → Effect none (of_entry e) ds (link k e ds)
 link_effect k e ds once =
     let found = found_one (begins_at k) ds once in
-    let sum : (g : Entry → ℕ) → sum_by g (entries (link_in e found.0)) + 0 ≡ sum_by g (entries found.0) + g e = λ g. omega (arith, ap (sum_by g) (entries_link e found.0), sum_place g e (entries found.0)) in
+    let sum : (g : Entry → ℕ) → sum_by g (entries (link_in e found.0)) + 0 ≡ sum_by g (entries found.0) + g e =
+    λ g. omega (arith, ap (sum_by g) (entries_link e found.0), sum_place g e (entries found.0)) in
     effect_in none (of_entry e) k (link_in e) ds found.0 (keeps_link e) found.1 once (λ b. sum (entry_uses b)) (λ j. sum (λ (x : Entry). leads_to j (target x))) (λ j. refl)
 
 pub link_good : (limits : Limits) (k : Pair) (e : Entry) (ds : List Directory) → NamesAreOrdered → AreGood limits ds → count_by (begins_at k) ds ≡ 1 → entry_in ds k e.name ≡ None → IsProper limits e
@@ -79,7 +80,8 @@ unlink_effect limits k n e ds ordered good once is =
     let found = found_one (begins_at k) ds once in
     let there = entry_there k n ds found.0 (Some e) found.1 is in
     let one = once_named n (entries found.0) e ordered (found_has (λ (d : Directory). Rise (entries d)) (begins_at k) ds found.0 found.1 good.order) there in
-    let sum : (g : Entry → ℕ) → sum_by g (entries (unlink_in n found.0)) + g e ≡ sum_by g (entries found.0) + 0 = λ g. omega (arith, ap (sum_by g) (entries_unlink n found.0), sum_others g (is_named n) (entries found.0) e there one) in
+    let sum : (g : Entry → ℕ) → sum_by g (entries (unlink_in n found.0)) + g e ≡ sum_by g (entries found.0) + 0 =
+    λ g. omega (arith, ap (sum_by g) (entries_unlink n found.0), sum_others g (is_named n) (entries found.0) e there one) in
     effect_in (of_entry e) none k (unlink_in n) ds found.0 (keeps_unlink n) found.1 once (λ b. sum (entry_uses b)) (λ j. sum (λ (x : Entry). leads_to j (target x))) (λ j. refl)
 
 pub unlink_good : (limits : Limits) (k : Pair) (n : Name) (ds : List Directory) → AreGood limits ds → AreGood limits (unlink k n ds)
@@ -108,7 +110,8 @@ change_other k n f ds keeps =
     (λ m differ d. ap (find (is_named m)) (entries_change n f d)
     ∙ find_where_other (is_named n) (is_named m) f (entries d) (λ x named. ap (bytes_eq m) (keeps x)) (has_other_name m n differ))
 
-pub change_effect : (limits : Limits) (k : Pair) (n : Name) (f : Entry → Entry) (e : Entry) (ds : List Directory) → NamesAreOrdered → AreGood limits ds → count_by (begins_at k) ds ≡ 1 → entry_in ds k n ≡ Some e
+pub change_effect : (limits : Limits) (k : Pair) (n : Name) (f : Entry → Entry) (e : Entry) (ds : List Directory) → NamesAreOrdered → AreGood limits ds
+    → count_by (begins_at k) ds ≡ 1 → entry_in ds k n ≡ Some e
     → Effect (of_entry e) (of_entry (f e)) ds (change k n f ds)
 change_effect limits k n f e ds ordered good once is =
     let found = found_one (begins_at k) ds once in

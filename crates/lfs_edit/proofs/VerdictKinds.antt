@@ -10,7 +10,7 @@ use Rattle.lfs_fs.specs.Path.{Path}
 use Rattle.lfs_fs.specs.Tree.{Node, File, Dir, entry_at, tree}
 use Rattle.lfs_fs.specs.Volume.{Volume}
 use Rattle.lfs_edit.specs.declared.refusal.Refusal.{Refusal}
-use Rattle.lfs_edit.specs.declared.refusal.Refusal.TheVariants.{NotFound, NotADirectory, BadPath, AttrTooLarge, NoAttr, EntryTooLarge, OnePartOnly, Memory, Exists, IsADirectory, NotEmpty, NameTooLong, FileTooLarge, IntoItself, IsRoot, NoSpace}
+use Rattle.lfs_edit.specs.declared.refusal.Refusal.TheVariants.{NotFound, NotADirectory, BadPath, AttrTooLarge, NoAttr, EntryTooLarge, Memory, Exists, IsADirectory, NotEmpty, NameTooLong, FileTooLarge, IntoItself, IsRoot, NoSpace}
 use Rattle.lfs_edit.specs.Command.{Asked, Command, Mkdir, Put, Rm, Mv, SetAttr, RmAttr}
 use Rattle.lfs_edit.specs.Edited.{edited}
 use Rattle.lfs_edit.specs.Need.{dirty_parts, need}
@@ -18,10 +18,9 @@ use Rattle.lfs_edit.specs.Planned.{IsRefused, RefusesPlan}
 use Rattle.lfs_edit.specs.Supplies.{nothing}
 use Rattle.lfs_edit.specs.Verdict.{checks, first_refusal, has_attribute, is_bare, is_directory, is_root, is_too_large, last_length, lies_below, refuse_if, room_checks, walk_refusal, walk_refusal_at}
 
--- a refusal of a verdict: neither of the text of a path, nor of a further part, nor of memory
+-- a refusal of a verdict: neither of the text of a path, nor of memory
 unfoldable pub IsOfVerdict : Refusal → Type 0
 IsOfVerdict BadPath = ⊥
-IsOfVerdict OnePartOnly = ⊥
 IsOfVerdict Memory = ⊥
 IsOfVerdict r = Unit {0}
 
@@ -57,12 +56,31 @@ of_checks : (v : Volume) (c : Command) → AllByRecursion MayBeOfVerdict (checks
 unfolding IsOfVerdict
 of_checks v (Mkdir p) =
     (of_test (is_root p) IsRoot tt, (of_walk (tree v) [] p, (of_test (is_some (tree v p)) Exists tt, (of_test (nat_lt v.limits.name (last_length p)) NameTooLong tt, tt))))
-of_checks v (Put p bytes) =
-    (of_test (is_root p) IsRoot tt, (of_walk (tree v) [] p, (of_test (is_directory (tree v p)) IsADirectory tt, (of_test (is_none (tree v p) && nat_lt v.limits.name (last_length p)) NameTooLong tt, (of_test (nat_lt v.limits.file (length bytes)) FileTooLarge tt, tt)))))
+of_checks v (Put p bytes) = (
+  of_test (is_root p) IsRoot tt,
+  (
+    of_walk (tree v) [] p,
+    (
+      of_test (is_directory (tree v p)) IsADirectory tt,
+      (of_test (is_none (tree v p) && nat_lt v.limits.name (last_length p)) NameTooLong tt, (of_test (nat_lt v.limits.file (length bytes)) FileTooLarge tt, tt)),
+    ),
+  ),
+)
 of_checks v (Rm p) =
     (of_test (is_root p) IsRoot tt, (of_walk (tree v) [] p, (of_test (is_none (tree v p)) NotFound tt, (of_test (not (is_bare v (option_and_then target (entry_at v p)))) NotEmpty tt, tt))))
-of_checks v (Mv p q) =
-    (of_test (is_root p || is_root q) IsRoot tt, (of_walk (tree v) [] p, (of_test (is_none (tree v p)) NotFound tt, (of_test (lies_below p q) IntoItself tt, (of_walk (tree v) [] q, (of_test (is_some (tree v q)) Exists tt, (of_test (nat_lt v.limits.name (last_length q)) NameTooLong tt, tt)))))))
+of_checks v (Mv p q) = (
+  of_test (is_root p || is_root q) IsRoot tt,
+  (
+    of_walk (tree v) [] p,
+    (
+      of_test (is_none (tree v p)) NotFound tt,
+      (
+        of_test (lies_below p q) IntoItself tt,
+        (of_walk (tree v) [] q, (of_test (is_some (tree v q)) Exists tt, (of_test (nat_lt v.limits.name (last_length q)) NameTooLong tt, tt))),
+      ),
+    ),
+  ),
+)
 of_checks v (SetAttr p k value) =
     (of_walk (tree v) [] p, (of_test (is_none (tree v p)) NotFound tt, (of_test (nat_lt v.limits.attribute (length value)) AttrTooLarge tt, tt)))
 of_checks v (RmAttr p k) =
@@ -70,13 +88,14 @@ of_checks v (RmAttr p k) =
 
 of_room : (v : Volume) (c : Command) → AllByRecursion MayBeOfVerdict (room_checks v c)
 unfolding IsOfVerdict
-of_room v c =
-    (of_test (list_any (is_too_large (edited v c nothing)) (dirty_parts (edited v c nothing))) EntryTooLarge tt, (of_test (nat_lt (length (free_blocks v)) (need v c)) (NoSpace (need v c) (length (free_blocks v))) tt, tt))
+of_room v c = (
+  of_test (list_any (is_too_large (edited v c nothing)) (dirty_parts (edited v c nothing))) EntryTooLarge tt,
+  (of_test (nat_lt (length (free_blocks v)) (need v c)) (NoSpace (need v c) (length (free_blocks v))) tt, tt),
+)
 
 refuses_by : (d : Disk) (asked : Asked) (r : Refusal) → IsOfVerdict r → IsRefused d asked r → RefusesPlan d asked r
 unfolding IsOfVerdict
 refuses_by d asked BadPath of refused = absurd of
-refuses_by d asked OnePartOnly of refused = absurd of
 refuses_by d asked Memory of refused = absurd of
 refuses_by d asked NotFound of refused = refused
 refuses_by d asked Exists of refused = refused

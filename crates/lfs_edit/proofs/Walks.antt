@@ -24,7 +24,8 @@ pub walk-append : {K N E : Type 0} (target : E → Option K) (edge : K → N →
 walk-append target edge here [] q = refl
 walk-append target edge here (n ∷ p) q = walk-append target edge (step target edge n here) p q
 
-pub walk-snoc : {K N E : Type 0} (target : E → Option K) (edge : K → N → Option E) (here : Option E) (p : List N) (n : N) → walk target edge here (p ++ n ∷ []) ≡ step target edge n (walk target edge here p)
+pub walk-snoc : {K N E : Type 0} (target : E → Option K) (edge : K → N → Option E) (here : Option E) (p : List N) (n : N)
+    → walk target edge here (p ++ n ∷ []) ≡ step target edge n (walk target edge here p)
 walk-snoc target edge here p n = walk-append target edge here p (n ∷ [])
 
 pub walk-none : {K N E : Type 0} (target : E → Option K) (edge : K → N → Option E) (p : List N) → walk target edge None p ≡ None
@@ -36,7 +37,8 @@ led_same edge other n same None = refl
 led_same edge other n same (Some k) = same k
 
 -- along the same edges
-pub walk_same : {K N E : Type 0} (target : E → Option K) (edge other : K → N → Option E) → ((k : K) (n : N) → other k n ≡ edge k n) → (here : Option E) (p : List N) → walk target other here p ≡ walk target edge here p
+pub walk_same : {K N E : Type 0} (target : E → Option K) (edge other : K → N → Option E) → ((k : K) (n : N) → other k n ≡ edge k n) → (here : Option E) (p : List N)
+    → walk target other here p ≡ walk target edge here p
 walk_same target edge other same here [] = refl
 walk_same target edge other same None (n ∷ p) = walk_same target edge other same None p
 walk_same target edge other same (Some e) (n ∷ p) =
@@ -47,25 +49,30 @@ led_some edge n f None h = absurd (none-some f h)
 led_some edge n f (Some k) h = (k, refl, h)
 
 -- where a step comes from
-pub step_some : {K N E : Type 0} (target : E → Option K) (edge : K → N → Option E) (n : N) (here : Option E) (f : E) → step target edge n here ≡ Some f → (e : E) × (k : K) × (here ≡ Some e) × (target e ≡ Some k) × (edge k n ≡ Some f)
+pub step_some : {K N E : Type 0} (target : E → Option K) (edge : K → N → Option E) (n : N) (here : Option E) (f : E) → step target edge n here ≡ Some f
+    → (e : E) × (k : K) × (here ≡ Some e) × (target e ≡ Some k) × (edge k n ≡ Some f)
 step_some target edge n None f h = absurd (none-some f h)
 step_some target edge n (Some e) f h = let led = led_some edge n f (target e) h in (e, led.0, refl, led.1, led.2)
 
 -- a step goes by what the entry leads to
-pub step_by_target : {K N E : Type 0} (target : E → Option K) (edge : K → N → Option E) (n : N) (here : Option E) → step target edge n here ≡ option_and_then (λ k. edge k n) (option_and_then target here)
+pub step_by_target : {K N E : Type 0} (target : E → Option K) (edge : K → N → Option E) (n : N) (here : Option E)
+    → step target edge n here ≡ option_and_then (λ k. edge k n) (option_and_then target here)
 step_by_target target edge n None = refl
 step_by_target target edge n (Some e) = refl
 
 -- steps from entries that lead to one place
-pub step_alike : {K N E : Type 0} (target : E → Option K) (edge : K → N → Option E) (n : N) (here there : Option E) → option_and_then target here ≡ option_and_then target there → step target edge n here ≡ step target edge n there
+pub step_alike : {K N E : Type 0} (target : E → Option K) (edge : K → N → Option E) (n : N) (here there : Option E)
+    → option_and_then target here ≡ option_and_then target there → step target edge n here ≡ step target edge n there
 step_alike target edge n here there same = step_by_target target edge n here ∙ ap (option_and_then (λ k. edge k n)) same ∙ sym (step_by_target target edge n there)
 
-led_along : {K N E : Type 0} (edge other : K → N → Option E) (n : N) (o : Option K) → ((k : K) → o ≡ Some k → other k n ≡ edge k n) → option_and_then (λ k. other k n) o ≡ option_and_then (λ k. edge k n) o
+led_along : {K N E : Type 0} (edge other : K → N → Option E) (n : N) (o : Option K) → ((k : K) → o ≡ Some k → other k n ≡ edge k n)
+    → option_and_then (λ k. other k n) o ≡ option_and_then (λ k. edge k n) o
 led_along edge other n None same = refl
 led_along edge other n (Some k) same = same k refl
 
 -- steps along the same edge
-pub step_same : {K N E : Type 0} (target : E → Option K) (edge other : K → N → Option E) (n : N) (here : Option E) → ((e : E) (k : K) → here ≡ Some e → target e ≡ Some k → other k n ≡ edge k n) → step target other n here ≡ step target edge n here
+pub step_same : {K N E : Type 0} (target : E → Option K) (edge other : K → N → Option E) (n : N) (here : Option E)
+    → ((e : E) (k : K) → here ≡ Some e → target e ≡ Some k → other k n ≡ edge k n) → step target other n here ≡ step target edge n here
 step_same target edge other n None same = refl
 step_same target edge other n (Some e) same = led_along edge other n (target e) (λ k is. same e k refl is)
 
@@ -92,7 +99,8 @@ back_to_top target edge top once q m e f k he hf te tf =
 -- paths that lead to one place are one
 pub one_walk : {K N E : Type 0} (target : E → Option K) (edge : K → N → Option E) (top : E) → LeadOnce target edge top
     → (p q : List N) (e f : E) (k : K) → walk target edge (Some top) p ≡ Some e → walk target edge (Some top) q ≡ Some f → target e ≡ Some k → target f ≡ Some k → p ≡ q
-one_walk {K} {N} {E} target edge top once = by_last_name (λ (p : List N). (q : List N) (e f : E) (k : K) → walk target edge (Some top) p ≡ Some e → walk target edge (Some top) q ≡ Some f → target e ≡ Some k → target f ≡ Some k → p ≡ q) none more
+one_walk {K} {N} {E} target edge top once = by_last_name (λ (p : List N). (q : List N) (e f : E) (k : K) → walk target edge (Some top) p ≡ Some e
+    → walk target edge (Some top) q ≡ Some f → target e ≡ Some k → target f ≡ Some k → p ≡ q) none more
   where
     none : (q : List N) (e f : E) (k : K) → Some top ≡ Some e → walk target edge (Some top) q ≡ Some f → target e ≡ Some k → target f ≡ Some k → [] ≡ q
     none q e f k he hf te tf = elim (last_name q) [

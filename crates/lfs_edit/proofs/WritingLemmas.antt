@@ -1,11 +1,11 @@
 -- What is owed where an outline that is ready and cut is written.
-use Rattle.std.proofs.Common.{◌≡◌, ◌≢◌, ◌+◌, ◌<◌, ◌≤◌, ◌++◌, ℕ, Bool, true, List, [], ◌∷◌, length, map, take, drop, refl, ap, sym, ◌∙◌, subst, arith}
-use Rattle.std.specs.Prelude.{All, AllPairs, Contains}
+use Rattle.std.proofs.Common.{◌≡◌, ◌≢◌, ◌<◌, ◌≤◌, ◌++◌, ℕ, Bool, List, [], ◌∷◌, length, map, take, refl, ap, sym, ◌∙◌, subst, arith}
+use Rattle.std.specs.Prelude.{All, AllPairs}
 use Rattle.std.specs.List.{AllByRecursion}
 use Rattle.std.proofs.lemmas.List.{length-take-le, take-take}
 use Rattle.lfs_block.specs.Change.{Change, IsBlockChange}
 use Rattle.lfs_block.specs.Disk.{Disk, IsDisk}
-use Rattle.lfs_block.specs.Patch.{AgreesOld, ChangeSet, IsPatch, Stands}
+use Rattle.lfs_block.specs.Patch.{Stands}
 use Rattle.lfs_meta.specs.Body.{Pair}
 use Rattle.lfs_meta.specs.Writing.{other_number}
 use Rattle.lfs_fs.specs.Directory.{Part}
@@ -18,7 +18,7 @@ use Rattle.lfs_fs.specs.Thread.{links}
 use Rattle.lfs_fs.specs.Uses.{times}
 use Rattle.lfs_fs.specs.Volume.{Volume}
 use Rattle.lfs_edit.specs.Accepted.{Follows}
-use Rattle.lfs_edit.specs.Carried.{IsCutReady, WritesOver, made_blocks, supplies_of}
+use Rattle.lfs_edit.specs.Carried.{IsCutReady, WritesOver, supplies_of}
 use Rattle.lfs_edit.specs.CarryingLaws.{CarryingLaws}
 use Rattle.lfs_edit.specs.Command.{Command}
 use Rattle.lfs_edit.specs.Cut.{cut}

@@ -149,7 +149,8 @@ chain_by found content d e disk (Chain blocks bytes) size count stays = λ head 
 entry_used : (b : ℕ) (p : Part) (x : Entry) → Contains p.entries x → 0 < entry_uses b x → 0 < part_uses b p
 entry_used b p x there used = let le = one_le (entry_uses b) p.entries x there in omega (arith, le, used)
 
-part_stays : PartsDependOnTheirBlocks → FoundStay → ContentStays → (d e : Disk) (v w : Volume) (held : HoldsLinks (reading_of d) v) → IsEditOf v w → Writes d e v w held → (p : Part) → Contains (thread v.directories) p
+part_stays : PartsDependOnTheirBlocks → FoundStay → ContentStays → (d e : Disk) (v w : Volume) (held : HoldsLinks (reading_of d) v) → IsEditOf v w → Writes d e v w held
+    → (p : Part) → Contains (thread v.directories) p
     → Contains (thread w.directories) p → p.dirty ≡ false → PartStays (reading_of d) (reading_of e) p
 part_stays depend found content d e v w held edit writes p was there unset =
     let stays = block_stays d e v w held edit writes p was there unset in
@@ -165,19 +166,22 @@ part_stays depend found content d e v w held edit writes p was there unset =
 clean_itself : (l : Link) → l.part.dirty ≡ false → l ≡ cleaned_link l
 clean_itself l unset = ap (λ (t : Bool). record { part = record { pair = l.part.pair; entries = l.part.entries; delta = l.part.delta; dirty = t }; tail = l.tail }) unset
 
-link_stored_by : PartsDependOnTheirBlocks → FoundStay → ContentStays → StoredLinksStay → SuperblockIsOfTheRoot → (d e : Disk) (v w : Volume) (held : HoldsLinks (reading_of d) v) → IsEditOf v w → Writes d e v w held
+link_stored_by : PartsDependOnTheirBlocks → FoundStay → ContentStays → StoredLinksStay → SuperblockIsOfTheRoot
+    → (d e : Disk) (v w : Volume) (held : HoldsLinks (reading_of d) v) → IsEditOf v w → Writes d e v w held
     → (l : Link) → Contains (links w.directories) l → Contains (links v.directories) l → l.part.dirty ≡ false → IsStored (reading_of e) held.bytes w.attributes (cleaned_link l)
 link_stored_by depend found content stay elsewhere d e v w held edit writes l there was unset =
     let before : IsStored (reading_of d) held.bytes v.attributes l = All-contains (IsStored (reading_of d) held.bytes v.attributes) (links v.directories) l held.each was in
     let after : IsStored (reading_of e) held.bytes v.attributes l =
-    stay (reading_of d) (reading_of e) held.bytes v.attributes l (part_stays depend found content d e v w held edit writes l.part (part_there v.directories l was) (part_there w.directories l there) unset) before in
+    stay (reading_of d) (reading_of e) held.bytes v.attributes l (part_stays depend found content d e v w held edit writes l.part (part_there v.directories l was)
+    (part_there w.directories l there) unset) before in
     let with_attributes : IsStored (reading_of e) held.bytes w.attributes l = elim (same_pair_or_not l.part.pair root) [
       | inl is ↦ subst (λ (a : Attributes). IsStored (reading_of e) held.bytes a l) (sym (writes.attributes l there is unset)) after
       | inr other ↦ elsewhere (reading_of e) held.bytes held.bytes v.attributes w.attributes l other after
     ] in
     subst (IsStored (reading_of e) held.bytes w.attributes) (clean_itself l unset) with_attributes
 
-link_stored : PartsDependOnTheirBlocks → FoundStay → ContentStays → StoredLinksStay → SuperblockIsOfTheRoot → (d e : Disk) (v w : Volume) (held : HoldsLinks (reading_of d) v) → IsEditOf v w → Writes d e v w held
+link_stored : PartsDependOnTheirBlocks → FoundStay → ContentStays → StoredLinksStay → SuperblockIsOfTheRoot → (d e : Disk) (v w : Volume) (held : HoldsLinks (reading_of d) v)
+    → IsEditOf v w → Writes d e v w held
     → (l : Link) → Contains (links w.directories) l → (t : Bool) → l.part.dirty ≡ t → IsStored (reading_of e) held.bytes w.attributes (cleaned_link l)
 link_stored depend found content stay elsewhere d e v w held edit writes l there true set = writes.written l there set
 link_stored depend found content stay elsewhere d e v w held edit writes l there false unset = elim (All-contains (IsKept (links v.directories)) (links w.directories) l edit.kept there) [

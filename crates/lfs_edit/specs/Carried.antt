@@ -11,6 +11,7 @@ use Rattle.lfs_fs.specs.Volume.{Volume}
 use Rattle.lfs_fs.specs.Free.{free_blocks}
 use Rattle.lfs_fs.specs.Outlined.{outlined}
 use Rattle.lfs_fs.specs.Sound.{IsSound}
+use Rattle.lfs_fs.specs.Unused.{unused}
 use Rattle.lfs_fs.specs.Used.{Marks}
 use Rattle.lfs_fs.specs.Uses.{times, uses}
 use Rattle.lfs_fs.specs.Reading.{reading_of}
@@ -24,7 +25,7 @@ use Rattle.lfs_edit.specs.Cut.{cut, HasEnough, new_pair_uses}
 use Rattle.lfs_edit.specs.Need.{need, data_blocks, directory_blocks, part_blocks, dirty_parts}
 use Rattle.lfs_edit.specs.Verdict.{checks, first_refusal, refuse_if, verdict}
 use Rattle.lfs_edit.specs.OutlineCarried.{has_too_large}
-use Rattle.lfs_edit.specs.Planned.{PlansLeast, RefusesPlan}
+use Rattle.lfs_edit.specs.Planned.{Plans, RefusesPlan}
 use Rattle.lfs_edit.specs.PlansHold.{content_blocks, is_unmarked}
 use Rattle.lfs_edit.specs.PlansWritten.{LaysNew}
 use Rattle.lfs_edit.specs.SuperblockBytes.{volume_bytes}
@@ -59,7 +60,18 @@ pub record IsJudged (d : Disk) (c : Command) (o : Volume) : Type 0 where
   pub unrefused : first_refusal (checks o c) ≡ None
 
 -- An outline is what a command leaves of that of the volume that an image holds, where it takes the least free blocks. No check refuses
--- the command, a table marks the blocks that the volume uses, and as many of the least free blocks are at hand as it needs.
+-- the command, those on room aside, and a table marks the blocks that the volume uses.
+pub record IsUnweighed (d : Disk) (c : Command) (used : List Bool) (o : Volume) : Type 0 where
+  pub volume : Volume
+  pub holds : Holds (reading_of d) volume
+  pub sound : IsSound volume
+  pub names : HasNames c
+  pub unrefused : first_refusal (checks volume c) ≡ None
+  pub marks : Marks used (λ b. uses b volume)
+  pub free : unused used ≡ free_blocks volume
+  pub outline : o ≡ edited_outline (outlined volume) c (least_supplies volume c (free_blocks volume))
+
+-- The same where no check refuses the command, and as many of the least free blocks are at hand as it needs.
 pub record IsReady (d : Disk) (c : Command) (used : List Bool) (blocks : List ℕ) (o : Volume) : Type 0 where
   pub volume : Volume
   pub holds : Holds (reading_of d) volume
@@ -108,5 +120,5 @@ IsRefusedBy d c r = (asked : Asked) → Spells asked c → RefusesPlan d asked r
 
 -- A patch carries a command out, however it is spelled, and an outline is that of the patched image.
 pub record IsFinished (d : Disk) (c : Command) (p : ChangeSet) (o : Volume) : Type 0 where
-  pub plans : (asked : Asked) → Spells asked c → PlansLeast d asked p
+  pub plans : (asked : Asked) → Spells asked c → Plans d asked p
   pub outline : IsOutlineOf (applied p d) o

@@ -1,11 +1,9 @@
 -- What an accepted command leaves, cut, can be written (own).
-use Rattle.std.specs.Prelude.{◌≡◌, Bool, true, List, All, Contains}
+use Rattle.std.specs.Prelude.{◌≡◌, Bool, true, List, Contains}
 use Rattle.std.specs.List.{AllByRecursion}
 use Rattle.lfs_block.specs.Change.{Change, IsRising}
 use Rattle.lfs_block.specs.Disk.{Disk, IsDisk}
 use Rattle.lfs_meta.specs.Body.{Pair}
-use Rattle.lfs_meta.specs.Fits.{EntryFits}
-use Rattle.lfs_fs.specs.AsStored.{stored_entry}
 use Rattle.lfs_fs.specs.Directory.{Part}
 use Rattle.lfs_fs.specs.Outlined.{outlined}
 use Rattle.lfs_fs.specs.Reading.{reading_of}

@@ -1,7 +1,7 @@
 -- The numbers of refusals (own).
 use Rattle.std.specs.Prelude.{ℕ}
 use Rattle.lfs_edit.specs.declared.refusal.Refusal.{Refusal}
-use Rattle.lfs_edit.specs.declared.refusal.Refusal.TheVariants.{NotFound, Exists, NotADirectory, IsADirectory, NotEmpty, BadPath, NameTooLong, FileTooLarge, AttrTooLarge, NoAttr, IntoItself, IsRoot, EntryTooLarge, OnePartOnly, NoSpace, Memory}
+use Rattle.lfs_edit.specs.declared.refusal.Refusal.TheVariants.{NotFound, Exists, NotADirectory, IsADirectory, NotEmpty, BadPath, NameTooLong, FileTooLarge, AttrTooLarge, NoAttr, IntoItself, IsRoot, EntryTooLarge, NoSpace, Memory}
 
 abbrev pub refusal_number : Refusal → ℕ
 refusal_number NotFound = 30
@@ -19,4 +19,3 @@ refusal_number IsRoot = 41
 refusal_number EntryTooLarge = 42
 refusal_number (NoSpace needed free) = 43
 refusal_number Memory = 44
-refusal_number OnePartOnly = 45

@@ -18,6 +18,10 @@ abbrev pub split_last : Path → Option (Path × Name)
 split_last [] = None
 split_last (n ∷ ns) = behind_name n (split_last ns)
 
+-- the last name of a path; the root has none
+abbrev pub last_name : Path → Option Name
+last_name p = option_map (λ (s : Path × Name). s.1) (split_last p)
+
 -- the directory that a path's last name belongs to, and that name
 abbrev pub home_of : Volume → Path → Option (Pair × Name)
 home_of v path =

@@ -22,17 +22,7 @@ pub mod Laws
 pub mod Written
 pub mod AskedFor
 pub mod Planned
-pub mod Place
-pub mod FilePlace
-pub mod FilePart
-pub mod Located
-pub mod FileLocated
-pub mod AttributeEdit
-pub mod Room
 pub mod PartWritten
-pub mod FileEdit
-pub mod FileAllowed
-pub mod PlanLaws
 pub mod EntryChange
 pub mod EditedOutline
 pub mod CutOutline

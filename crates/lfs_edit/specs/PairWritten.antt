@@ -14,7 +14,7 @@ use Rattle.lfs_fs.specs.Directory.{Part}
 use Rattle.lfs_fs.specs.State.{little_endian}
 use Rattle.lfs_fs.specs.Thread.{Link}
 use Rattle.lfs_fs.specs.Uses.{times}
-use Rattle.lfs_edit.specs.Place.{Found}
+use Rattle.lfs_edit.specs.PartWritten.{Found}
 use Rattle.lfs_edit.specs.WrittenLinks.{changed_blocks, block_after, set_uses, stored_entries, CanBeMade, CanBeWritten}
 
 -- a part with the tail behind it

@@ -1,6 +1,6 @@
 -- What is planned for a command that is asked for, and why none is (own).
-use Rattle.std.specs.Prelude.{ℕ, ◌≡◌, ◌+◌, ◌++◌, Bool, true, List, [], ◌∷◌, Option, Some, None, All, Contains, nat_lt, length, take}
-use Rattle.std.specs.List.{list_any, Any}
+use Rattle.std.specs.Prelude.{ℕ, ◌≡◌, ◌+◌, List, [], ◌∷◌, Some, All, Contains, length, take}
+use Rattle.std.specs.List.{Any}
 use Rattle.lfs_block.specs.Disk.{Disk}
 use Rattle.lfs_block.specs.Patch.{ChangeSet, IsPatch, AgreesOld, applied}
 use Rattle.lfs_meta.specs.Body.{Pair}
@@ -12,13 +12,13 @@ use Rattle.lfs_fs.specs.Sound.{IsSound}
 use Rattle.lfs_fs.specs.Reading.{reading_of}
 use Rattle.lfs_fs.specs.Holds.{Holds}
 use Rattle.lfs_edit.specs.declared.refusal.Refusal.{Refusal}
-use Rattle.lfs_edit.specs.declared.refusal.Refusal.TheVariants.{BadPath, EntryTooLarge, OnePartOnly, Memory}
+use Rattle.lfs_edit.specs.declared.refusal.Refusal.TheVariants.{BadPath, Memory}
 use Rattle.lfs_edit.specs.Command.{Command, Asked, Spells, SpellsNone}
-use Rattle.lfs_edit.specs.Supplies.{Supplies, nothing, supply_uses}
+use Rattle.lfs_edit.specs.Supplies.{Supplies, supply_uses}
 use Rattle.lfs_edit.specs.Edited.{edited}
-use Rattle.lfs_edit.specs.Cut.{cut, runs, new_pair_uses}
-use Rattle.lfs_edit.specs.Need.{need, data_blocks, dirty_parts, changed_parts}
-use Rattle.lfs_edit.specs.Verdict.{checks, first_refusal, refuse_if, is_too_large, verdict}
+use Rattle.lfs_edit.specs.Cut.{cut, new_pair_uses}
+use Rattle.lfs_edit.specs.Need.{need, data_blocks, changed_parts}
+use Rattle.lfs_edit.specs.Verdict.{verdict}
 use Rattle.lfs_edit.specs.Clean.{clean}
 use Rattle.lfs_edit.specs.Accepted.{IsAccepted, AreChosen}
 use Rattle.lfs_edit.specs.Freed.{free_after}
@@ -40,7 +40,9 @@ abbrev pub TakesLeast : Volume → Command → Supplies → (Part → List Pair)
 TakesLeast v c s chosen = (n : ℕ) → supply_uses v c s n + new_pair_uses chosen (edited v c s) n ≡ times n (take (need v c) (free_blocks v))
 
 -- A patch of an image carries out a command that is asked for: on the volume that the image holds no check refuses the
--- command, the patch stands in the image, and the patched image holds the edited volume.
+-- command, the patch stands in the image, and the patched image holds the edited volume. The blocks that the command takes are the
+-- least free ones, which the patch names, and what is free then are the blocks that were, without them, and those of what was
+-- removed or replaced.
 pub record Plans (d : Disk) (asked : Asked) (p : ChangeSet) : Type 0 where
   pub volume : Volume
   pub holds : Holds (reading_of d) volume
@@ -55,14 +57,8 @@ pub record Plans (d : Disk) (asked : Asked) (p : ChangeSet) : Type 0 where
   pub stands : AgreesOld p d
   pub after : Holds (reading_of (applied p d)) (clean (cut chosen (edited volume command supplies)))
   pub frugal : IsFrugal volume command supplies (numbers_of p)
-
--- The same where the blocks that the command takes are the least free ones, which the patch names, and what is free then are the blocks
--- that were, without them, and those of what was removed or replaced.
-pub record PlansLeast (d : Disk) (asked : Asked) (p : ChangeSet) : Type 0 where
-  pub plans : Plans d asked p
-  pub taken : TakesLeast plans.volume plans.command plans.supplies plans.chosen
-  pub free : free_blocks (clean (cut plans.chosen (edited plans.volume plans.command plans.supplies)))
-      ≡ free_after plans.volume plans.command plans.supplies plans.chosen
+  pub taken : TakesLeast volume command supplies chosen
+  pub free : free_blocks (clean (cut chosen (edited volume command supplies))) ≡ free_after volume command supplies chosen
 
 -- A command that is asked for is refused on the sound volume that an image holds.
 pub record IsRefused (d : Disk) (asked : Asked) (r : Refusal) : Type 0 where
@@ -73,27 +69,8 @@ pub record IsRefused (d : Disk) (asked : Asked) (r : Refusal) : Type 0 where
   pub spells : Spells asked command
   pub refused : verdict volume command ≡ Some r
 
--- some part that the command sets has more than one run
-abbrev pub is_cut : Volume → Command → Bool
-is_cut v c = list_any (λ p. nat_lt 1 (length (runs (edited v c nothing) p))) (dirty_parts (edited v c nothing))
-
--- the checks that come before those on room, and the one on entries
-abbrev pub early_checks : Volume → Command → List (Option Refusal)
-early_checks v c = checks v c ++ refuse_if (list_any (is_too_large (edited v c nothing)) (dirty_parts (edited v c nothing))) EntryTooLarge ∷ []
-
--- No check before the one on free blocks refuses the command, and it asks for a further part, which isn't made so far.
-pub record IsOfOnePart (d : Disk) (asked : Asked) : Type 0 where
-  pub volume : Volume
-  pub holds : Holds (reading_of d) volume
-  pub sound : IsSound volume
-  pub command : Command
-  pub spells : Spells asked command
-  pub unrefused : first_refusal (early_checks volume command) ≡ None
-  pub cut : is_cut volume command ≡ true
-
--- why nothing is planned: a text that spells no path, the verdict, a further part, or want of memory
+-- why nothing is planned: a text that spells no path, the verdict, or want of memory
 abbrev pub RefusesPlan : Disk → Asked → Refusal → Type 0
 RefusesPlan d asked BadPath = SpellsNone asked
-RefusesPlan d asked OnePartOnly = IsOfOnePart d asked
 RefusesPlan d asked Memory = Unit {0}
 RefusesPlan d asked r = IsRefused d asked r

@@ -1,5 +1,5 @@
 -- Links of an outline as they are written: changes of an image, one after another (own).
-use Rattle.std.specs.Prelude.{ℕ, ◌≡◌, ◌≢◌, ◌<◌, ◌≤◌, ◌+◌, All, Bool, true, List, [], ◌∷◌, Option, Some, if◌then◌else◌, length, map, flat_map, sum_by, Contains}
+use Rattle.std.specs.Prelude.{ℕ, ◌≡◌, ◌≢◌, ◌<◌, ◌≤◌, ◌+◌, Bool, true, List, [], ◌∷◌, Option, Some, if◌then◌else◌, length, map, flat_map, sum_by, Contains}
 use Rattle.std.specs.List.{AllByRecursion}
 use Rattle.lfs_block.specs.Disk.{Disk, block_of}
 use Rattle.lfs_block.specs.Change.{Change, IsRising, IsBlockChange, overlaid}
@@ -8,7 +8,7 @@ use Rattle.lfs_meta.specs.Attribute.{Attributes}
 use Rattle.lfs_meta.specs.Body.{Pair}
 use Rattle.lfs_meta.specs.Entry.{StoredEntry}
 use Rattle.lfs_meta.specs.Part.{StoredPart}
-use Rattle.lfs_meta.specs.Fits.{EntryFits, TailFits}
+use Rattle.lfs_meta.specs.Fits.{TailFits}
 use Rattle.lfs_meta.specs.Spelling.{IsWhole}
 use Rattle.lfs_meta.specs.Weighing.{weights}
 use Rattle.lfs_meta.specs.Writing.{other_number, part_in, stored_part}

@@ -25,7 +25,7 @@ use crate::choosing::choose;
 use crate::cleaning::clean;
 use crate::cutting::cut;
 use crate::editing::edit;
-use crate::laws::commands_set_a_part;
+use crate::laws::{commands_set_a_part, held_volumes_have_few_entries, needs_are_small};
 use crate::laying::laid_for;
 use crate::leading::leading_pair;
 use crate::link_writing::write_links;
@@ -36,7 +36,7 @@ use crate::room_check::needed;
 use crate::supplying::least_supplies;
 use crate::written_laws::{cut_links_can_be_written, held_superblocks_are_made};
 use lfs_block::{Blocks, Image, Patch};
-use lfs_fs::{Outline, UsedBlocks};
+use lfs_fs::{Outline, UsedBlocks, names_are_ordered, outlines_are_sound};
 use std::alloc::{AllocError, Global};
 
 /// What a command makes of an outline with the least free blocks. The caller owes what `edit` asks, a block size that images have, and
@@ -143,4 +143,32 @@ fn carry_ready(
     let patch = written(alloc, image, outline, command, used, blocks)?;
     clean(outline);
     Ok(patch)
+}
+
+/// Carries out a command on an outline on which no check refuses it, those on room aside: `EntryTooLarge` where some part that it sets
+/// then has an entry that weighs more than a block has room for, else `NoSpace` where fewer blocks are free than it needs. Where it is
+/// refused, the outline is of no use. `Memory` says only that a growth was refused.
+pub(crate) fn carry_judged(
+    alloc: Global,
+    image: &Image,
+    outline: &mut Outline,
+    command: &NamedCommand<'_>,
+) -> Result<Patch, Refusal>
+    requires judged { IsJudged image.now (named_command command.now) outline.old }
+    ensures finished { IfOk result (λ patch. IsFinished image.now (named_command command.now) patch outline.new) }
+    ensures refused { IfErr result (λ r. (r ≡ Memory) ⊎ IsRefusedBy image.now (named_command command.now) r) }
+{
+    carrying_laws();
+    outlines_are_sound();
+    names_are_ordered();
+    needs_are_small();
+    held_volumes_have_few_entries();
+    let size = image.size();
+    let used = outline.used_blocks(alloc)?;
+    let before = leading_pair(outline, command);
+    edit_least(alloc, outline, command, &used)?;
+    let leading = before.or_else(|| leading_pair(outline, command));
+    let made = data_blocks(size, command) + directory_blocks(command);
+    let blocks = needed_blocks(alloc, outline, made, &used)?;
+    Ok(carry_ready(alloc, image, outline, command, &used, &blocks, leading)?)
 }

@@ -1,37 +1,23 @@
 //! The contents of a file.
 
-ghost use Rattle.std.specs.Prelude.{◌≡◌, ◌⊎◌, ◌<◌, ◌≤◌, All, IfOk, IfErr, length, map};
+ghost use Rattle.std.specs.Prelude.{◌≡◌, ◌⊎◌, ◌<◌, ◌≤◌, All, IfOk, IfErr, length};
 ghost use Rattle.lfs_file.specs.Content.{content};
 ghost use Rattle.lfs_meta.specs.Attribute.{Attributes};
 ghost use Rattle.lfs_fs.specs.Mounted.{IsMountOf};
-ghost use Rattle.lfs_fs.specs.Reading.{reading_of};
 ghost use Rattle.lfs_fs.specs.OutlineHeld.{outline_body_held};
 ghost use Rattle.lfs_fs.specs.RowShown.{HasBlocks, shown_body};
-ghost use Rattle.lfs_fs.specs.Seen.{seen};
-ghost use Rattle.lfs_fs.specs.Volume.{Volume};
 ghost use Rattle.lfs_fs.specs.Tree.{Dir, File};
 ghost use Rattle.lfs_edit.specs.declared.refusal.Refusal.TheVariants.{IsADirectory, Memory};
 ghost use Rattle.lfs_edit.specs.Contents.{IsContents, RefusesContents};
-ghost use Rattle.lfs_edit.specs.Place.{At, Found as PlaceFound, Nowhere, located};
 
+use crate::outline_laws::outlines_are_judged_alike;
 use crate::paths::names_of;
-use crate::place::locate;
 use crate::refusal::Refusal;
+use crate::standing::entry_there;
 use lfs_block::Blocks;
 use lfs_file::read_file;
-use lfs_fs::{Found, Mounted, OutlineBody, Path, both_sides_hold, rows_show_the_tree};
+use lfs_fs::{Mounted, OutlineBody, rows_show_the_tree};
 use std::alloc::{AllocError, Global};
-
-/// The path of these names.
-fn path_of(alloc: Global, names: &[&[u8]]) -> Result<Path, AllocError>
-    ensures { IfOk result (λ path. path ≡ map (λ n. n.now) names.now) }
-{
-    let mut parts = Vec::with_capacity(alloc, names.len())?;
-    for name in names {
-        parts.push(Vec::from_slice(alloc, name)?)?;
-    }
-    Ok(Path::new(parts))
-}
 
 /// The contents of a file of `size` bytes in these blocks. The caller owes that they are on the disk, and no more than it
 /// has.
@@ -67,34 +53,6 @@ fn contents_of<B: Blocks>(alloc: Global, disk: &B, body: &OutlineBody) -> Result
     }
 }
 
-/// The contents of what stands at a path: `IsADirectory` where it is a directory, else `Memory` alone. The caller owes what
-/// `contents_of` asks.
-fn contents_found<B: Blocks>(alloc: Global, disk: &B, found: Found<'_>) -> Result<Vec<u8>, Refusal>
-    requires { (v : Volume) → HasBlocks (B.disk disk.now) (seen v found).body }
-    ensures bytes { IfOk result (λ bytes. (v : Volume) (a : Attributes) → shown_body (B.disk disk.now) (seen v found.entry).body a ≡ File bytes.items a) }
-    ensures refused { IfErr result (λ refusal. (refusal ≡ Memory)
-        ⊎ ((refusal ≡ IsADirectory) × ((v : Volume) (a : Attributes) → shown_body (B.disk disk.now) (seen v found.entry).body a ≡ Dir a))) }
-{
-    match found {
-        Found::Root => Err(Refusal::IsADirectory),
-        Found::Entry(entry) => contents_of(alloc, disk, &entry.body),
-    }
-}
-
-/// Why nothing is at a path, where nothing is.
-fn missing<B: Blocks>(alloc: Global, disk: &B, thread: &[(u32, u32)], names: &[&[u8]]) -> Refusal
-    requires root { 1 < (B.disk disk.now).count }
-    requires within { All (λ p. (p.0 < (B.disk disk.now).count) × (p.1 < (B.disk disk.now).count)) thread.now }
-    ensures { (result ≡ Memory)
-        ⊎ (located (reading_of (B.disk disk.now)) thread.now (map (λ n. n.now) names.now) ≡ Nowhere result)
-        ⊎ ((found : PlaceFound) × (located (reading_of (B.disk disk.now)) thread.now (map (λ n. n.now) names.now) ≡ At found)) }
-{
-    match locate(alloc, disk, thread, names) {
-        Ok(_) => Refusal::NotFound,
-        Err(refusal) => refusal,
-    }
-}
-
 /// The contents of the file at a path of a mounted image. The caller owes that `mounted` is the mount of the disk.
 /// `BadPath` where the text spells no path; else the first of these that holds: a front of the path isn't there
 /// (`NotFound`) or is a file (`NotADirectory`); nothing is at the path (`NotFound`); a directory is (`IsADirectory`). `Memory`
@@ -112,11 +70,12 @@ pub fn file_contents<B: Blocks>(
     ensures refused { IfErr result (λ refusal. RefusesContents (B.disk disk.now) path.now refusal) }
 {
     rows_show_the_tree();
-    both_sides_hold();
+    outlines_are_judged_alike();
     let _within_limits = disk.size();
     let names = names_of(alloc, path)?;
-    let Some(found) = mounted.find(&path_of(alloc, &names)?) else {
-        return Err(missing(alloc, disk, mounted.thread(), &names));
-    };
-    contents_found(alloc, disk, found)
+    if names.is_empty() {
+        return Err(Refusal::IsADirectory);
+    }
+    let entry = entry_there(mounted.outline(), &names)?;
+    contents_of(alloc, disk, &entry.body)
 }

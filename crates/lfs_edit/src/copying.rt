@@ -1,6 +1,7 @@
 //! Copies of entries.
 
-ghost use Rattle.std.specs.Prelude.{◌≡◌, ◌<◌, IfOk, length};
+ghost use Rattle.std.specs.Prelude.{◌≡◌, ◌<◌, All, IfOk, length};
+ghost use Rattle.lfs_meta.specs.Fits.{AttributeFits};
 ghost use Rattle.lfs_fs.specs.OutlineHeld.{outline_body_held};
 ghost use Rattle.lfs_edit.specs.Edited.{renamed};
 
@@ -18,12 +19,13 @@ fn copied_attribute(alloc: Global, attribute: &Attribute) -> Result<Attribute, A
     })
 }
 
-/// A copy of attributes.
+/// A copy of attributes. Each of them fits into a tag.
 pub(crate) fn copied_attributes(
     alloc: Global,
     attributes: &[Attribute],
 ) -> Result<Vec<Attribute>, AllocError>
-    ensures { IfOk result (λ copy. copy.items ≡ attributes.now) }
+    ensures same { IfOk result (λ copy. copy.items ≡ attributes.now) }
+    ensures fit { IfOk result (λ copy. All AttributeFits copy.items) }
 {
     let mut copy = Vec::with_capacity(alloc, attributes.len())?;
     for attribute in attributes {

@@ -2,12 +2,12 @@
 
 ghost use Rattle.lfs_edit.specs.CommandsSet.{CommandsSetAPart};
 ghost use Rattle.lfs_edit.specs.Laws.{CleansFollow, CommandsAreFrugal, CommandsFollow, CutsAreFrugal, CutsFollow, FewPartsChange, FreeAfter, FreeAfterHeld, NeedIsExact, NeedIsTheSame, UsesAfter};
-ghost use Rattle.lfs_edit.specs.NeedsSmall.{NeedsAreSmall};
+ghost use Rattle.lfs_edit.specs.NeedsSmall.{HeldHaveFewEntries, NeedsAreSmall};
 ghost use Rattle.lfs_edit.specs.Written.{HeldAreClean, WrittenAreHeld};
 
 use lfs_file::chains_stay_on_their_blocks;
-use lfs_fs::{entries_are_cut_greedily, names_are_ordered, stored_links_stay};
-use lfs_meta::parts_depend_on_their_blocks;
+use lfs_fs::{both_sides_hold, entries_are_cut_greedily, names_are_ordered, stored_links_stay};
+use lfs_meta::{held_parts_have_few_entries, parts_depend_on_their_blocks};
 
 /// A law: on a sound volume, a command that no check refuses, on supplies that are free, leaves a sound volume of the same
 /// size, count and limits, whose tree is the command's equation at every path. Takes no memory.
@@ -71,6 +71,16 @@ pub fn needs_are_small()
     ensures { NeedsAreSmall }
 {
     names_are_ordered();
+}
+
+/// A law: no part of a volume that an image holds has more than 65,536 entries. Takes no memory.
+///
+/// Source: own.
+pub fn held_volumes_have_few_entries()
+    ensures { HeldHaveFewEntries }
+{
+    both_sides_hold();
+    held_parts_have_few_entries();
 }
 
 /// A law: the free blocks after a command are those before it without its supplies and its new pairs, with the blocks of

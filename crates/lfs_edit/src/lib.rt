@@ -1,11 +1,11 @@
 //! New images and changes of images.
 #![tactic(auto)]
 
-mod attribute_edit;
 mod bare;
 mod block_room;
 mod carrying;
 mod carrying_laws;
+mod carrying_out;
 mod choosing;
 mod cleaning;
 mod command;
@@ -17,10 +17,6 @@ mod directory_edit;
 mod editing;
 mod entry_change;
 mod entry_edit;
-mod file_edit;
-mod file_part;
-mod file_place;
-mod file_planning;
 mod formatting;
 mod growth;
 mod home;
@@ -31,16 +27,13 @@ mod leading;
 mod link_writing;
 mod made_blocks;
 mod named_command;
+mod naming;
 mod new_blocks;
 mod new_pairs;
 mod outline_laws;
 mod paths;
-mod picking;
-mod place;
-mod plan_laws;
 mod planning;
 mod refusal;
-mod room;
 mod room_check;
 mod runs;
 mod set_parts;
@@ -58,12 +51,13 @@ mod weighing;
 mod writing;
 mod written_laws;
 
+pub use carrying_out::carry_out;
 pub use command::Command;
 pub use contents::file_contents;
 pub use formatting::format;
 pub use laws::{
     commands_are_frugal, commands_follow, commands_set_a_part, cuts_follow, free_after,
-    need_is_exact, needs_are_small, written_volumes_are_held,
+    held_volumes_have_few_entries, need_is_exact, needs_are_small, written_volumes_are_held,
 };
 pub use outline_laws::{
     cuts_keep_outlines, outlines_are_carried, outlines_are_judged_alike, outlines_follow,

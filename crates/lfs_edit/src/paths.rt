@@ -6,7 +6,7 @@ ghost use Rattle.std.specs.Option.{option_map};
 ghost use Rattle.lfs_meta.specs.Name.{is_name};
 ghost use Rattle.lfs_fs.specs.Path.{IsPathText, IsNoPath};
 ghost use Rattle.lfs_edit.specs.declared.refusal.Refusal.TheVariants.{Memory, BadPath};
-ghost use Rattle.lfs_edit.specs.AttributeEdit.{last_name};
+ghost use Rattle.lfs_edit.specs.Home.{last_name};
 
 use crate::refusal::Refusal;
 use bstr::ByteSlice;

@@ -55,9 +55,6 @@ pub enum Refusal {
         /// How many blocks are free.
         free: u32,
     },
-    /// The command asks for a further part of a directory, which isn't made so far.
-    #[error("OnePartOnly")]
-    OnePartOnly,
     /// A growth of memory was refused.
     #[error("Memory")]
     Memory,
@@ -67,7 +64,7 @@ impl Refusal {
     ghost use Rattle.std.specs.Prelude.{◌≡◌};
     ghost use Rattle.lfs_edit.specs.Faults.{refusal_number};
 
-    /// The refusal's number, from 30 to 45.
+    /// The refusal's number, from 30 to 44.
     pub fn number(self) -> u8
         ensures { result ≡ refusal_number self }
     {
@@ -87,7 +84,6 @@ impl Refusal {
             Refusal::EntryTooLarge => 42,
             Refusal::NoSpace { .. } => 43,
             Refusal::Memory => 44,
-            Refusal::OnePartOnly => 45,
         }
     }
 }

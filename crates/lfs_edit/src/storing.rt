@@ -1,8 +1,7 @@
 //! How the parts of an outline are stored.
 
-ghost use Rattle.std.specs.Prelude.{◌≡◌, ◌++◌, map, All, IfOk, OnOk};
+ghost use Rattle.std.specs.Prelude.{◌≡◌, ◌++◌, map, IfOk, OnOk};
 ghost use Rattle.lfs_meta.specs.BodyHeld.{body_held};
-ghost use Rattle.lfs_meta.specs.Fits.{AttributeFits};
 ghost use Rattle.lfs_fs.specs.AsStored.{head_of, stored_body, stored_entry, stored_kind};
 ghost use Rattle.lfs_fs.specs.OutlineHeld.{outline_body_held};
 ghost use Rattle.lfs_fs.specs.Sound.{AreAttributes};
@@ -10,36 +9,14 @@ ghost use Rattle.lfs_fs.specs.Superblock.{superblock_entry};
 ghost use Rattle.lfs_edit.specs.SuperblockBytes.{volume_bytes};
 ghost use Rattle.lfs_edit.specs.WrittenLinks.{stored_entries};
 
+use crate::copying::copied_attributes;
 use crate::superblock::superblock;
 use lfs_fs::{Outline, OutlineBody, OutlineEntry, OutlinePart};
-use lfs_meta::{Attribute, Body, Entry, Kind};
+use lfs_meta::{Body, Entry, Kind};
 use std::alloc::{AllocError, Global};
 
 /// The pair at which the thread begins.
 const ROOT: (u32, u32) = (0, 1);
-
-/// A copy of an attribute.
-fn stored_attribute(alloc: Global, attribute: &Attribute) -> Result<Attribute, AllocError>
-    ensures { IfOk result (λ stored. stored ≡ attribute.now) }
-{
-    let value = Vec::from_slice(alloc, &attribute.value)?;
-    Ok(Attribute {
-        kind: attribute.kind,
-        value,
-    })
-}
-
-/// A copy of attributes. Each of them fits into a tag.
-fn stored_attributes(alloc: Global, attributes: &[Attribute]) -> Result<Vec<Attribute>, AllocError>
-    ensures same { IfOk result (λ stored. stored.items ≡ attributes.now) }
-    ensures fit { IfOk result (λ stored. All AttributeFits stored.items) }
-{
-    let mut stored = Vec::new(alloc);
-    'each: for attribute in attributes {
-        stored.push(stored_attribute(alloc, attribute)?)?;
-    }
-    Ok(stored)
-}
 
 /// Whether a body is a file's or a directory's.
 fn stored_kind(body: &OutlineBody) -> Kind
@@ -77,7 +54,7 @@ pub(crate) fn stored_entry(alloc: Global, entry: &OutlineEntry) -> Result<Entry,
     ensures { IfOk result (λ stored. stored ≡ stored_entry entry.now) }
 {
     let body = stored_body(alloc, &entry.body)?;
-    let attributes = stored_attributes(alloc, &entry.attributes)?;
+    let attributes = copied_attributes(alloc, &entry.attributes)?;
     Ok(Entry {
         name: Vec::from_slice(alloc, &entry.name)?,
         kind: stored_kind(&entry.body),
@@ -106,7 +83,7 @@ fn superblock_of(alloc: Global, outline: &Outline) -> Result<Entry, AllocError>
     requires { AreAttributes outline.now.limits.attribute outline.now.attributes }
     ensures { IfOk result (λ stored. stored ≡ superblock_entry (volume_bytes outline.now) outline.now.attributes) }
 {
-    let attributes = stored_attributes(alloc, &outline.attributes)?;
+    let attributes = copied_attributes(alloc, &outline.attributes)?;
     superblock(
         alloc,
         outline.size,

@@ -90,6 +90,10 @@ put_len old new i p put = ap length put.all ∙ length_push (take i old) p ∙ a
 pub put_is : (old new : List ChangeSet) (i : ℕ) (p q : ChangeSet) → IsPut old new i p → q ≡ get_or new i q → q ≡ p
 put_is old new i p q put read = read ∙ ap (λ (xs : List ChangeSet). get_or xs i q) put.all ∙ get_or_push (take i old) p q i (length-take-le i old put.within)
 
+-- so the image that it makes is made of it
+pub put_makes : (d e : Disk) (old new : List ChangeSet) (i : ℕ) (p q : ChangeSet) → IsPut old new i p → q ≡ get_or new i q → e ≡ applied q d → e ≡ applied p d
+put_makes d e old new i p q put read is = is ∙ ap (λ (x : ChangeSet). applied x d) (put_is old new i p q put read)
+
 pub done_at : Make → Follow → (asked : Asked) (d e : Disk) (old new : List ChangeSet) (i : ℕ) (p q : ChangeSet) → IsPut old new i p → q ≡ get_or new i q → IsHistoryAt d old i → i < most_changes
     → Plans d asked p → e ≡ applied q d → MovesTo (Does asked) (history_at d old i) e new (i + 1)
 done_at law follow asked d e old new i p q put read h room plans is =
@@ -97,7 +101,7 @@ done_at law follow asked d e old new i p q put read h room plans is =
     let all : take (i + 1) new ≡ new = take_all (i + 1) new (omega arith) in
     let none : drop (i + 1) new ≡ [] = drop_all (i + 1) new (omega arith) in
     let made : take (i + 1) new ≡ take i old ++ p ∷ [] = all ∙ put.all in
-    let to : e ≡ applied p d = is ∙ ap (λ (x : ChangeSet). applied x d) (put_is old new i p q put read) in
+    let to : e ≡ applied p d = put_makes d e old new i p q put read is in
     let few : length (take i old) < most_changes = let a = length-take-le i old put.within in omega arith in
     let pushes : Pushes p (history_at d old i) (history_at e new (i + 1)) = record {
       past = ap (λ (ps : List ChangeSet). past_of ps e) (latest (take i old) (take (i + 1) new) p made)

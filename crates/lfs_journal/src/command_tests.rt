@@ -1,10 +1,9 @@
 //! Sessions by example, with commands.
 
 use crate::tests::{
-    are_same, cannot_redo, cannot_undo, has_image, new_image, new_session, replies_to,
+    are_same, cannot_redo, cannot_undo, copy_of, has_image, new_image, new_session, replies_to,
 };
 use crate::{Session, Step, StepFault};
-use lfs_block::{Blocks, Image};
 use lfs_edit::{Command, Refusal};
 use std::alloc::Global;
 use std::test::Fail;
@@ -37,15 +36,6 @@ fn full_session(alloc: Global) -> Result<Session, Fail> {
         change(alloc, &mut session, &[1])?;
     }
     Ok(session)
-}
-
-/// A copy of an image.
-fn copy_of(alloc: Global, image: &Image) -> Result<Image, Fail> {
-    let mut bytes = Vec::new(alloc);
-    for n in 0..image.count() {
-        bytes.extend_from_slice(image.block(n))?;
-    }
-    Ok(Image::new(bytes, image.size()).map_err(|refused| refused.0)?)
 }
 
 #[test]

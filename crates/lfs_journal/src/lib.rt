@@ -1,12 +1,16 @@
 //! An image with its changes, each of which can be taken back exactly.
 #![tactic(auto)]
 
+mod carried;
 #[cfg(test)]
 mod command_tests;
+#[cfg(test)]
+mod foreign_tests;
 mod laws;
 #[cfg(test)]
+mod part_tests;
+#[cfg(test)]
 mod plan_tests;
-mod remounting;
 mod replacing;
 mod session;
 mod step;
@@ -14,6 +18,8 @@ mod step_fault;
 mod stepping;
 #[cfg(test)]
 mod tests;
+#[cfg(test)]
+mod tree_tests;
 mod unmounted;
 
 pub use laws::{

@@ -1,13 +1,10 @@
 //! Commands that are carried out and refused, on images of few blocks.
 
 use crate::StepFault::Refused;
-use crate::tests::new_session;
+use crate::tests::{free_of, new_session, replies, small_session};
 use crate::{Session, StepFault};
-use lfs_block::Image;
-use lfs_edit::{Command, Refusal, format};
-use lfs_fs::mount;
+use lfs_edit::{Command, Refusal};
 use std::alloc::Global;
-use std::process::Abort;
 use std::test::Fail;
 
 // the command that sets an attribute of what is at a path
@@ -29,24 +26,6 @@ fn put<'a>(path: &'a [u8], bytes: &'a [u8]) -> Command<'a> {
     Command::Put { path, bytes }
 }
 
-// a session of a new image of four blocks of 256 bytes
-fn small_session(alloc: Global) -> Result<Session, Fail> {
-    let bytes = format(alloc, 256, 4)?;
-    let image = Image::new(bytes, 256).map_err(|refused| refused.0)?;
-    Ok(Session::fresh(alloc, image).map_err(|unmounted| unmounted.fault)?)
-}
-
-// asserts how a session replies to a command
-fn replies(
-    rt: &impl Abort,
-    alloc: Global,
-    session: &mut Session,
-    command: &Command<'_>,
-    reply: Result<(), StepFault>,
-) {
-    assert_eq!(rt; session.command(alloc, command), reply);
-}
-
 #[test]
 fn attributes_are_removed_once(rt: HostRuntime) -> Result<(), Fail> {
     let alloc = rt.alloc();
@@ -63,7 +42,7 @@ fn attributes_are_removed_once(rt: HostRuntime) -> Result<(), Fail> {
 
 // how a small session replies to the command that gives the root a value of this length
 fn reply_for(alloc: Global, len: usize) -> Result<Result<(), StepFault>, Fail> {
-    let mut session = small_session(alloc)?;
+    let mut session = small_session(alloc, 4)?;
     let value = vec![in alloc; 7; len]?;
     let command = Command::SetAttr {
         path: b"/",
@@ -114,11 +93,6 @@ fn reply_to_file(
     Ok(session.command(alloc, &put(path, &bytes)))
 }
 
-// the number of blocks that are free then
-fn free_of(alloc: Global, session: &Session) -> Result<u32, Fail> {
-    Ok(mount(alloc, session.image())?.free_count())
-}
-
 // paths, lengths of files, replies, and how many blocks are free then; the blocks that a file has are free only behind the
 // command
 const FILES: [(&[u8], usize, Result<(), StepFault>, u32); 11] = [
@@ -147,7 +121,7 @@ const FILES: [(&[u8], usize, Result<(), StepFault>, u32); 11] = [
 
 #[test]
 fn files_are_put(rt: HostRuntime) -> Result<(), Fail> {
-    let mut session = small_session(rt.alloc())?;
+    let mut session = small_session(rt.alloc(), 4)?;
     for (path, len, reply, free) in &FILES {
         let replied = reply_to_file(rt.alloc(), &mut session, path, *len)?;
         assert_eq!(rt; replied, *reply, "{len}");
@@ -158,7 +132,7 @@ fn files_are_put(rt: HostRuntime) -> Result<(), Fail> {
 
 #[test]
 fn files_keep_their_attributes(rt: HostRuntime) -> Result<(), Fail> {
-    let mut session = small_session(rt.alloc())?;
+    let mut session = small_session(rt.alloc(), 4)?;
     let nothing = Err(Refused(Refusal::NoAttr));
     assert_eq!(rt; session.command(rt.alloc(), &put(b"/a", &[1])), Ok(()));
     assert_eq!(rt; session.command(rt.alloc(), &set(b"/a", &[2])), Ok(()));
@@ -174,7 +148,7 @@ fn reply_at_length(
     path_len: usize,
     len: usize,
 ) -> Result<Result<(), StepFault>, Fail> {
-    let mut session = small_session(alloc)?;
+    let mut session = small_session(alloc, 4)?;
     let mut path = vec![in alloc; b'/'; 1]?;
     path.resize(path_len, b'a')?;
     reply_to_file(alloc, &mut session, &path, len)
@@ -184,8 +158,12 @@ fn reply_at_length(
 const LENGTHS: [(usize, usize, Result<(), StepFault>); 5] = [
     (257, 0, Err(Refused(Refusal::NameTooLong))),
     (210, 0, Err(Refused(Refusal::EntryTooLarge))),
-    (209, 0, Err(Refused(Refusal::OnePartOnly))),
-    (201, 600, Err(Refused(Refusal::OnePartOnly))),
+    (209, 0, Ok(())),
+    (
+        201,
+        600,
+        Err(Refused(Refusal::NoSpace { need: 5, free: 2 })),
+    ),
     (169, 0, Ok(())),
 ];
 

@@ -1,6 +1,6 @@
 //! An image with its changes.
 
-use crate::remounting::remount;
+use crate::carried::{Change, carried};
 use crate::replacing::replace_from;
 use crate::step_fault::StepFault;
 use crate::unmounted::Unmounted;
@@ -8,8 +8,8 @@ use lfs_block::{
     Image, Patch, applied_patches_change_their_blocks, applied_patches_revert,
     reverted_patches_apply_again,
 };
-use lfs_edit::{Command, cuts_follow, plan};
-use lfs_fs::mount;
+use lfs_edit::{Command, cuts_follow};
+use lfs_fs::{Outline, mount};
 use std::alloc::Global;
 use std::marker::Model;
 
@@ -17,24 +17,27 @@ use std::marker::Model;
 const MOST_CHANGES: usize = 1_000;
 
 /// An image with its changes, up to 1,000, each of which can be taken back exactly, and made again. Its meaning is a
-/// `History`: each image that was and can be again, all of which mount.
+/// `History`: each image that was and can be again, all of which mount. Between commands it keeps the image's outline, which
+/// is read again only behind a change that was taken back or made again, and where memory was wanting.
 ///
 /// Source: own.
 #[derive(Drop)]
 pub struct Session {
     image: Image,
+    outline: Option<Outline>,
     patches: Vec<Patch>,
     done: usize,
 }
 
 impl Model for Session {
-    ghost use Rattle.lfs_journal.specs.History.{History, history_at, IsHistoryAt};
+    ghost use Rattle.lfs_journal.specs.History.{History, history_at};
+    ghost use Rattle.lfs_journal.specs.Known.{IsSession};
 
     ghost Value = { History };
 
     ghost view = { λ s. history_at s.image s.patches.items s.done };
 
-    ghost invariant = { λ s. IsHistoryAt s.image s.patches.items s.done };
+    ghost invariant = { λ s. IsSession s.image s.outline s.patches.items s.done };
 }
 
 impl Session {
@@ -55,8 +58,9 @@ impl Session {
         ensures handed_back { IfErr result (λ unmounted. unmounted.image ≡ image) }
     {
         match mount(alloc, &image) {
-            Ok(_) => Ok(Session {
+            Ok(mounted) => Ok(Session {
                 image,
+                outline: Some(mounted.into_outline()),
                 patches: Vec::new(alloc),
                 done: 0,
             }),
@@ -78,6 +82,7 @@ impl Session {
     {
         let Session {
             image,
+            outline: _,
             patches: _,
             done: _,
         } = self;
@@ -85,7 +90,7 @@ impl Session {
     }
 
     /// Carries a command out, as a change that can be taken back; what was undone is dropped. Any refusal leaves all as
-    /// it was: `JournalFull` where 1,000 changes were made, then what `plan` refuses, or `Memory`.
+    /// it was: `JournalFull` where 1,000 changes were made, then what `carry_out` refuses, or `Memory`.
     pub fn command(&mut self, alloc: Global, command: &Command<'_>) -> Result<(), StepFault>
         ensures done { OnOk result (Does (asked_for command.now) self.old self.new) }
         ensures refused { IfErr result (λ fault. Takes (Do (asked_for command.now)) (Some fault) self.old self.new) }
@@ -97,10 +102,10 @@ impl Session {
         if self.done >= MOST_CHANGES {
             return Err(StepFault::JournalFull);
         }
-        let mounted = remount(alloc, &self.image)?;
-        let patch = plan(alloc, &self.image, &mounted, command)?;
+        let Change { patch, outline } = carried(alloc, &self.image, &mut self.outline, command)?;
         replace_from(&mut self.patches, self.done, patch)?;
         self.patches[self.done].apply(&mut self.image);
+        self.outline = Some(outline);
         self.done += 1;
         Ok(())
     }
@@ -116,6 +121,7 @@ impl Session {
             return Err(StepFault::NothingToUndo);
         }
         self.patches[self.done - 1].revert(&mut self.image);
+        self.outline = None;
         self.done -= 1;
         Ok(())
     }
@@ -132,6 +138,7 @@ impl Session {
             return Err(StepFault::NothingToRedo);
         }
         self.patches[self.done].apply(&mut self.image);
+        self.outline = None;
         self.done += 1;
         Ok(())
     }

@@ -1,8 +1,9 @@
 //! Sessions by example, apart from commands.
 
 use crate::{Session, Step, StepFault, run_steps};
-use lfs_block::{Blocks, Image, MountFault};
-use lfs_edit::{Refusal, format};
+use lfs_block::{Blocks, Image, MountFault, geometry_ok};
+use lfs_edit::{Command, Refusal, format};
+use lfs_fs::mount;
 use std::alloc::{AllocError, Global};
 use std::process::Abort;
 use std::test::Fail;
@@ -17,6 +18,41 @@ pub(crate) fn new_image(alloc: Global) -> Result<Image, Fail> {
 pub(crate) fn new_session(alloc: Global) -> Result<Session, Fail> {
     let image = new_image(alloc)?;
     Ok(Session::fresh(alloc, image).map_err(|unmounted| unmounted.fault)?)
+}
+
+/// A session of a new image of so many blocks of 256 bytes.
+pub(crate) fn small_session(alloc: Global, count: u32) -> Result<Session, Fail> {
+    if !geometry_ok(256, count) {
+        return Err(Fail::new("no image has so many blocks"));
+    }
+    let bytes = format(alloc, 256, count)?;
+    let image = Image::new(bytes, 256).map_err(|refused| refused.0)?;
+    Ok(Session::fresh(alloc, image).map_err(|unmounted| unmounted.fault)?)
+}
+
+/// A copy of an image.
+pub(crate) fn copy_of(alloc: Global, image: &Image) -> Result<Image, Fail> {
+    let mut bytes = Vec::new(alloc);
+    for n in 0..image.count() {
+        bytes.extend_from_slice(image.block(n))?;
+    }
+    Ok(Image::new(bytes, image.size()).map_err(|refused| refused.0)?)
+}
+
+/// The number of blocks of a session's image that are free.
+pub(crate) fn free_of(alloc: Global, session: &Session) -> Result<u32, Fail> {
+    Ok(mount(alloc, session.image())?.free_count())
+}
+
+/// Asserts how a session replies to a command.
+pub(crate) fn replies(
+    rt: &impl Abort,
+    alloc: Global,
+    session: &mut Session,
+    command: &Command<'_>,
+    reply: Result<(), StepFault>,
+) {
+    assert_eq!(rt; session.command(alloc, command), reply);
 }
 
 /// Whether two images are the same, byte for byte.

@@ -2,6 +2,7 @@ pub mod Bytes
 pub mod Change
 pub mod Fault
 pub mod Query
+pub mod Deed
 pub mod Outcome
 pub mod Summary
 pub mod Task

@@ -2,7 +2,7 @@
 use Rattle.std.specs.Prelude.{◌≡◌, ℕ, List, [], ◌∷◌, Ok, IsErr}
 use Rattle.hex.specs.Hex.{decode_of, decode_sized}
 use Rattle.lfsed.specs.declared.step.Step.{Step}
-use Rattle.lfsed.specs.declared.step.Step.TheVariants.{Format, Check, Cat, Put, SetAttr, RmAttr}
+use Rattle.lfsed.specs.declared.step.Step.TheVariants.{Format, Check, Cat, Mkdir, Put, Rm, Mv, SetAttr, RmAttr}
 use Rattle.lfsed.specs.declared.task.Task.{Task}
 use Rattle.lfsed.specs.declared.task.Task.TheVariants as task
 
@@ -30,7 +30,10 @@ abbrev pub AsksFor : Task → Step → Type 0
 AsksFor (task.Format n) (Format count) = count ≡ n
 AsksFor task.Check Check = Unit {0}
 AsksFor (task.Cat text) (Cat path) = path.now ≡ text.now
+AsksFor (task.Mkdir text) (Mkdir path) = path.now ≡ text.now
 AsksFor (task.Put text) (Put path) = path.now ≡ text.now
+AsksFor (task.Rm text) (Rm path) = path.now ≡ text.now
+AsksFor (task.Mv from_text to_text) (Mv from to) = (from.now ≡ from_text.now) × (to.now ≡ to_text.now)
 AsksFor (task.SetAttr text digits value_digits) (SetAttr path kind value) =
     (path.now ≡ text.now) × SpellsByte digits.now kind × SpellsBytes value_digits.now value.now
 AsksFor (task.RmAttr text digits) (RmAttr path kind) = (path.now ≡ text.now) × SpellsByte digits.now kind

@@ -32,6 +32,10 @@ enum Argument {
     Image,
     /// A path within the image.
     Path,
+    /// The path of what is moved.
+    From,
+    /// The path that it gets.
+    To,
     /// An attribute's kind.
     Kind,
     /// An attribute's value.
@@ -46,7 +50,7 @@ struct CommandRow {
 }
 
 /// The program's commands, in the order of its help. Each takes the block size and the image's file name.
-const COMMANDS: [CommandRow; 6] = [
+const COMMANDS: [CommandRow; 9] = [
     CommandRow {
         name: "format",
         about: "Write a new image, in place of a file of this name",
@@ -63,9 +67,29 @@ const COMMANDS: [CommandRow; 6] = [
         arguments: &[Argument::Block, Argument::Image, Argument::Path],
     },
     CommandRow {
+        name: "mkdir",
+        about: "Make a directory",
+        arguments: &[Argument::Block, Argument::Image, Argument::Path],
+    },
+    CommandRow {
         name: "put",
         about: "Put a file, in place of one of this path; its contents are read from standard input",
         arguments: &[Argument::Block, Argument::Image, Argument::Path],
+    },
+    CommandRow {
+        name: "rm",
+        about: "Remove a file or an empty directory",
+        arguments: &[Argument::Block, Argument::Image, Argument::Path],
+    },
+    CommandRow {
+        name: "mv",
+        about: "Move a file, or a directory with all that is below it",
+        arguments: &[
+            Argument::Block,
+            Argument::Image,
+            Argument::From,
+            Argument::To,
+        ],
     },
     CommandRow {
         name: "setattr",
@@ -90,7 +114,22 @@ const COMMANDS: [CommandRow; 6] = [
     },
 ];
 
-/// An argument as clap takes it. A word may begin with a hyphen where it stands for a path, a kind or a value.
+/// What is said of a path.
+const PATH: &str = "Path of a file or a directory in the image, from / on";
+
+/// What is said of the path of what is moved.
+const FROM: &str = "Path of what is moved, from / on";
+
+/// What is said of the path that it gets.
+const TO: &str = "Path that it gets, from / on; nothing may be there";
+
+/// What is said of a kind.
+const KIND: &str = "Kind of the attribute, in two hexadecimal digits";
+
+/// What is said of a value.
+const VALUE: &str = "Value of the attribute, in two hexadecimal digits for each byte; may be empty";
+
+/// An argument as clap takes it.
 fn clap_argument<'a>(alloc: Global, argument: Argument) -> Arg<'a> {
     match argument {
         Argument::Block => Arg::new(alloc, "block")
@@ -106,28 +145,17 @@ fn clap_argument<'a>(alloc: Global, argument: Argument) -> Arg<'a> {
             .required(true)
             .help("Number of blocks, from 2 to 65536; at most 67108864 bytes in all"),
         Argument::Image => word(alloc, "image", "IMAGE", "File of the image"),
-        Argument::Path => word(
-            alloc,
-            "path",
-            "PATH",
-            "Path of a file or a directory in the image, from / on",
-        )
-        .allow_hyphen_values(true),
-        Argument::Kind => word(
-            alloc,
-            "kind",
-            "KIND",
-            "Kind of the attribute, in two hexadecimal digits",
-        )
-        .allow_hyphen_values(true),
-        Argument::Value => word(
-            alloc,
-            "hex",
-            "HEX",
-            "Value of the attribute, in two hexadecimal digits for each byte; may be empty",
-        )
-        .allow_hyphen_values(true),
+        Argument::Path => any_word(alloc, "path", "PATH", PATH),
+        Argument::From => any_word(alloc, "from", "FROM", FROM),
+        Argument::To => any_word(alloc, "to", "TO", TO),
+        Argument::Kind => any_word(alloc, "kind", "KIND", KIND),
+        Argument::Value => any_word(alloc, "hex", "HEX", VALUE),
     }
+}
+
+/// A word that must be there, and may begin with a hyphen.
+fn any_word<'a>(alloc: Global, id: &'a str, name: &'a str, help: &'a str) -> Arg<'a> {
+    word(alloc, id, name, help).allow_hyphen_values(true)
 }
 
 /// A word that must be there.
@@ -161,18 +189,27 @@ pub fn command_line<'a>(alloc: Global) -> Result<Command<'a>, AllocError> {
     Ok(program)
 }
 
-/// What the words that were matched ask for. `None` where they ask for nothing.
-pub fn requested<'a>(matches: &ArgMatches<'a>) -> Option<Request<'a>> {
-    let (name, options) = matches.subcommand()?;
-    let task = match name {
+/// What a command's words ask to be done.
+fn task_of<'a>(name: &str, options: &ArgMatches<'a>) -> Option<Task<'a>> {
+    Some(match name {
         "format" => Task::Format {
             count: options.get_one::<u32>("count")?,
         },
         "cat" => Task::Cat {
             path: options.get_str("path")?,
         },
+        "mkdir" => Task::Mkdir {
+            path: options.get_str("path")?,
+        },
         "put" => Task::Put {
             path: options.get_str("path")?,
+        },
+        "rm" => Task::Rm {
+            path: options.get_str("path")?,
+        },
+        "mv" => Task::Mv {
+            from: options.get_str("from")?,
+            to: options.get_str("to")?,
         },
         "setattr" => Task::SetAttr {
             path: options.get_str("path")?,
@@ -184,9 +221,14 @@ pub fn requested<'a>(matches: &ArgMatches<'a>) -> Option<Request<'a>> {
             kind: options.get_str("kind")?,
         },
         _ => Task::Check,
-    };
+    })
+}
+
+/// What the words that were matched ask for. `None` where they ask for nothing.
+pub fn requested<'a>(matches: &ArgMatches<'a>) -> Option<Request<'a>> {
+    let (name, options) = matches.subcommand()?;
     Some(Request {
-        task,
+        task: task_of(name, options)?,
         size: options.get_one::<u32>("block")?,
         image: options.get_str("image")?,
     })

@@ -4,6 +4,7 @@
 mod changing;
 mod cli;
 mod command_line;
+mod deed;
 mod digits;
 mod fault;
 mod host;

@@ -1,20 +1,20 @@
 //! One step on an image.
 
-ghost use Rattle.std.specs.Prelude.{◌≡◌, [], false, IfOk, IfErr};
+ghost use Rattle.std.specs.Prelude.{◌≡◌, false, IfOk, IfErr};
 ghost use Rattle.lfs_edit.specs.Formatted.{IsFormatted};
 ghost use Rattle.lfsed.specs.Fault.{status_of};
 ghost use Rattle.lfsed.specs.Outcome.{Answers, RefusesFormat, SendsText, blames_output, given};
-ghost use Rattle.lfsed.specs.declared.step.Step.TheVariants.{Format};
+ghost use Rattle.lfsed.specs.Deed.{Make, deed_of};
 
 use crate::changing::changed;
+use crate::deed::{Deed, deed_of};
 use crate::fault::Fault;
 use crate::laws::{changed_bytes_are_equations, changed_bytes_are_taken_back};
 use crate::outcome::Outcome;
-use crate::query::Query;
 use crate::querying::queried;
 use crate::step::Step;
 use lfs_block::{ImageFault, geometry_ok};
-use lfs_edit::{Command, format};
+use lfs_edit::format;
 use lfs_sink::Sink;
 use std::alloc::Global;
 
@@ -35,35 +35,23 @@ pub fn run<S: Sink>(
     out: &mut S,
 ) -> Outcome
     requires { S.failed out.old ≡ false }
-    ensures answers { Answers step.now (given size image.items journal.items input.now) result }
-    ensures sent { SendsText step.now (given size image.items journal.items input.now) result.fault (S.sent out.old) (S.sent out.new) }
+    ensures answers { Answers (deed_of step.now input.now) (given size image.items journal.items) result }
+    ensures sent { SendsText (deed_of step.now input.now) (given size image.items journal.items) result.fault (S.sent out.old) (S.sent out.new) }
     ensures failed { S.failed out.new ≡ blames_output result.fault }
     ensures status { result.status ≡ status_of result.fault }
 {
     changed_bytes_are_equations();
     changed_bytes_are_taken_back();
-    match *step {
-        Step::Format { count } => formatted(alloc, size, count, image, journal),
-        Step::Check => queried(alloc, &Query::Check, size, image, journal, out),
-        Step::Cat { path } => queried(alloc, &Query::Cat { path }, size, image, journal, out),
-        Step::Put { path } => {
-            let command = Command::Put { path, bytes: input };
-            changed(alloc, &command, size, image, journal)
-        }
-        Step::SetAttr { path, kind, value } => {
-            let command = Command::SetAttr { path, kind, value };
-            changed(alloc, &command, size, image, journal)
-        }
-        Step::RmAttr { path, kind } => {
-            let command = Command::RmAttr { path, kind };
-            changed(alloc, &command, size, image, journal)
-        }
+    match deed_of(step, input) {
+        Deed::Make { count } => formatted(alloc, size, count, image, journal),
+        Deed::Ask(query) => queried(alloc, &query, size, image, journal, out),
+        Deed::Change(command) => changed(alloc, &command, size, image, journal),
     }
 }
 
 /// A new image with no journal.
 fn formatted(alloc: Global, size: u32, count: u32, image: Vec<u8>, journal: Vec<u8>) -> Outcome
-    ensures answers { Answers (Format count) (given size image.items journal.items []) result }
+    ensures answers { Answers (Make count) (given size image.items journal.items) result }
     ensures failed { blames_output result.fault ≡ false }
     ensures status { result.status ≡ status_of result.fault }
 {

@@ -17,10 +17,27 @@ pub enum Step<'a> {
         /// The text of the file's path.
         path: &'a [u8],
     },
+    /// Makes a directory.
+    Mkdir {
+        /// The text of the directory's path.
+        path: &'a [u8],
+    },
     /// Puts a file, whose contents are what the step reads.
     Put {
         /// The text of the file's path.
         path: &'a [u8],
+    },
+    /// Removes a file or an empty directory.
+    Rm {
+        /// The text of the path.
+        path: &'a [u8],
+    },
+    /// Moves what is at a path, with all that is below it.
+    Mv {
+        /// The text of its path.
+        from: &'a [u8],
+        /// The text of the path that it gets.
+        to: &'a [u8],
     },
     /// Sets an attribute of what is at a path.
     SetAttr {

@@ -21,10 +21,27 @@ pub enum Task<'a> {
         /// The path.
         path: &'a str,
     },
+    /// A directory.
+    Mkdir {
+        /// The path.
+        path: &'a str,
+    },
     /// A file, whose contents come from standard input.
     Put {
         /// The path.
         path: &'a str,
+    },
+    /// Nothing in place of a file or an empty directory.
+    Rm {
+        /// The path.
+        path: &'a str,
+    },
+    /// What is at a path at another one.
+    Mv {
+        /// Its path.
+        from: &'a str,
+        /// The path that it gets.
+        to: &'a str,
     },
     /// An attribute of what is at a path.
     SetAttr {
@@ -72,8 +89,18 @@ impl<'a> Task<'a> {
             Task::Cat { path } => Step::Cat {
                 path: path.as_bytes(),
             },
+            Task::Mkdir { path } => Step::Mkdir {
+                path: path.as_bytes(),
+            },
             Task::Put { path } => Step::Put {
                 path: path.as_bytes(),
+            },
+            Task::Rm { path } => Step::Rm {
+                path: path.as_bytes(),
+            },
+            Task::Mv { from, to } => Step::Mv {
+                from: from.as_bytes(),
+                to: to.as_bytes(),
             },
             Task::SetAttr { path, kind, .. } => Step::SetAttr {
                 path: path.as_bytes(),

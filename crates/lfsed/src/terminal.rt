@@ -1,11 +1,12 @@
 //! The system as a host.
 
 use crate::host::{Host, HostFault, ReadFault};
+use lfs_block::MAX_IMAGE_LENGTH;
 use lfs_sink::{Out, Sink};
 use std::alloc::Global;
 use std::fmt::Display;
-use std::io::{ErrorKind, Printer, Read};
-use std::{fs, io};
+use std::fs::{self, File};
+use std::io::{self, ErrorKind, Printer, Read};
 
 /// The system's files, standard output and standard error.
 ///
@@ -34,9 +35,18 @@ fn read_fault(error: io::Error) -> ReadFault {
     }
 }
 
+/// The bytes of a file. Room for as many as an image has at most is made at once, so that they aren't moved as they come.
+fn bytes_of(rt: &HostRuntime, alloc: Global, name: &str) -> io::Result<Vec<u8>> {
+    let mut file = File::open(rt, name)?;
+    let len = file.metadata()?.len().min(MAX_IMAGE_LENGTH);
+    let mut bytes = Vec::with_capacity(alloc, len as usize)?;
+    file.read_to_end(&mut bytes)?;
+    Ok(bytes)
+}
+
 impl Host for Terminal<'_> {
-    fn read(&mut self, _alloc: Global, name: &str) -> Result<Vec<u8>, ReadFault> {
-        fs::read(self.rt, name).map_err(read_fault)
+    fn read(&mut self, alloc: Global, name: &str) -> Result<Vec<u8>, ReadFault> {
+        bytes_of(self.rt, alloc, name).map_err(read_fault)
     }
 
     fn input(&mut self, alloc: Global) -> Result<Vec<u8>, ReadFault> {

@@ -3,6 +3,7 @@
 mod changes;
 mod commands;
 mod digits;
+mod directories;
 mod faults;
 mod files;
 mod host_faults;

@@ -3,10 +3,11 @@
 use crate::{
     commands_are_frugal, commands_are_written, commands_follow, cut_links_can_be_written,
     cuts_follow, cuts_keep_outlines, free_after, held_superblocks_are_made,
-    laid_contents_are_there, least_blocks_are_free, links_are_written_in_turn, need_is_exact,
-    outlines_are_carried, outlines_are_judged_alike, outlines_are_written, outlines_follow,
-    parts_are_cut_by_themselves, plans_are_frugal, plans_hold, tables_tell_new_pairs,
-    walks_go_by_pairs, written_blocks_are_taken, written_volumes_are_held,
+    held_volumes_have_few_entries, laid_contents_are_there, least_blocks_are_free,
+    links_are_written_in_turn, need_is_exact, needs_are_small, outlines_are_carried,
+    outlines_are_judged_alike, outlines_are_written, outlines_follow, parts_are_cut_by_themselves,
+    plans_are_frugal, plans_hold, tables_tell_new_pairs, walks_go_by_pairs,
+    written_blocks_are_taken, written_volumes_are_held,
 };
 
 #[test]
@@ -16,6 +17,8 @@ fn laws_are_called() {
     commands_are_frugal();
     need_is_exact();
     free_after();
+    needs_are_small();
+    held_volumes_have_few_entries();
     written_volumes_are_held();
 }
 

@@ -3,7 +3,7 @@
 use crate::Refusal;
 use std::test::Fail;
 
-const ROWS: [(Refusal, u8, &str); 16] = [
+const ROWS: [(Refusal, u8, &str); 15] = [
     (Refusal::NotFound, 30, "NotFound"),
     (Refusal::Exists, 31, "Exists"),
     (Refusal::NotADirectory, 32, "NotADirectory"),
@@ -23,7 +23,6 @@ const ROWS: [(Refusal, u8, &str); 16] = [
         "NoSpace need 4 free 2",
     ),
     (Refusal::Memory, 44, "Memory"),
-    (Refusal::OnePartOnly, 45, "OnePartOnly"),
 ];
 
 #[test]

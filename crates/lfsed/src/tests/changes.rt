@@ -15,7 +15,14 @@ use std::process::Abort;
 use std::test::Fail;
 
 /// Steps that change an image.
-const STEPS: [Step<'static>; 2] = [
+const STEPS: [Step<'static>; 6] = [
+    Step::Mkdir { path: b"/d" },
+    Step::Put { path: b"/f" },
+    Step::Rm { path: b"/d" },
+    Step::Mv {
+        from: b"/d",
+        to: b"/e",
+    },
     Step::SetAttr {
         path: b"/",
         kind: 0x74,
@@ -67,11 +74,18 @@ fn refuse(
     Ok(())
 }
 
+/// Asserts that each step is refused so.
+fn refuse_each(rt: &impl Abort, alloc: Global, row: &Refused) -> Result<(), AllocError> {
+    for step in &STEPS {
+        refuse(rt, alloc, step, row)?;
+    }
+    Ok(())
+}
+
 #[test]
 fn image_comes_before_mounting_and_that_before_the_journal(rt: HostRuntime) -> Result<(), Fail> {
     for row in &REFUSED {
-        refuse(&rt, rt.alloc(), &STEPS[0], row)?;
-        refuse(&rt, rt.alloc(), &STEPS[1], row)?;
+        refuse_each(&rt, rt.alloc(), row)?;
     }
     Ok(())
 }

@@ -8,7 +8,7 @@ use lfs_journal::StepFault;
 use std::test::Fail;
 
 /// Each fault, its number, its status and its name.
-const FAULTS: [(Fault, u8, u8, &str); 46] = [
+const FAULTS: [(Fault, u8, u8, &str); 45] = [
     (Fault::Image(ImageFault::ImageLength), 1, 3, "ImageLength"),
     (Fault::Image(ImageFault::BadGeometry), 2, 3, "BadGeometry"),
     (
@@ -91,7 +91,6 @@ const FAULTS: [(Fault, u8, u8, &str); 46] = [
         "NoSpace need 2 free 0",
     ),
     (Fault::Refused(Refusal::Memory), 44, 4, "Memory"),
-    (Fault::Refused(Refusal::OnePartOnly), 45, 1, "OnePartOnly"),
     (
         Fault::Step(StepFault::Refused(Refusal::NotEmpty)),
         34,

@@ -285,7 +285,7 @@ fn put_long(
 const LONG: [(&str, usize, u8); 3] = [("a", 80, 0), ("c", 80, 0), ("b", 130, 1)];
 
 #[test]
-fn a_third_part_is_not_made(rt: HostRuntime) -> Result<(), Fail> {
+fn a_third_part_takes_more_blocks_than_are_free(rt: HostRuntime) -> Result<(), Fail> {
     let mut host = MemoryHost::new(rt.alloc());
     assert_eq!(rt; host.run("lfsed format --block=256 --count=4 a.img")?, 0);
     for (letter, len, status) in &LONG {
@@ -295,7 +295,7 @@ fn a_third_part_is_not_made(rt: HostRuntime) -> Result<(), Fail> {
             "{letter}"
         );
     }
-    assert!(rt; host.complained.as_str() == "lfsed: 45 OnePartOnly\n");
+    assert!(rt; host.complained.as_str() == "lfsed: 43 NoSpace need 4 free 2\n");
     Ok(())
 }
 

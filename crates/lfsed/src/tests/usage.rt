@@ -7,7 +7,7 @@ use std::process::Abort;
 use std::test::Fail;
 
 /// Command lines that are refused, and how what is complained begins.
-const REFUSED: [(&str, &str); 17] = [
+const REFUSED: [(&str, &str); 20] = [
     (
         "lfsed",
         "error: 'lfsed' requires a subcommand but one was not provided\n",
@@ -41,6 +41,18 @@ const REFUSED: [(&str, &str); 17] = [
     (
         "lfsed check a.img b.img",
         "error: unexpected argument 'b.img' found\n",
+    ),
+    (
+        "lfsed mkdir a.img",
+        "error: the following required arguments were not provided:\n  <PATH>\n",
+    ),
+    (
+        "lfsed rm a.img /a /b",
+        "error: unexpected argument '/b' found\n",
+    ),
+    (
+        "lfsed mv a.img /a",
+        "error: the following required arguments were not provided:\n  <TO>\n",
     ),
     (
         "lfsed setattr a.img / 74",
@@ -98,7 +110,10 @@ Commands:
   format   Write a new image, in place of a file of this name
   check    Judge an image; print its geometry, free blocks, directories and files
   cat      Print the contents of a file
+  mkdir    Make a directory
   put      Put a file, in place of one of this path; its contents are read from standard input
+  rm       Remove a file or an empty directory
+  mv       Move a file, or a directory with all that is below it
   setattr  Set an attribute of a file or a directory
   rmattr   Remove an attribute of a file or a directory
 
@@ -147,6 +162,19 @@ Options:
   -h, --help           Print help
 ";
 
+const MKDIR_HELP: &str = "Make a directory
+
+Usage: lfsed mkdir [OPTIONS] <IMAGE> <PATH>
+
+Arguments:
+  <IMAGE>  File of the image
+  <PATH>   Path of a file or a directory in the image, from / on
+
+Options:
+      --block <BYTES>  Size of a block, a multiple of 16 from 256 to 65536 [default: 4096]
+  -h, --help           Print help
+";
+
 const PUT_HELP: &str =
     "Put a file, in place of one of this path; its contents are read from standard input
 
@@ -155,6 +183,33 @@ Usage: lfsed put [OPTIONS] <IMAGE> <PATH>
 Arguments:
   <IMAGE>  File of the image
   <PATH>   Path of a file or a directory in the image, from / on
+
+Options:
+      --block <BYTES>  Size of a block, a multiple of 16 from 256 to 65536 [default: 4096]
+  -h, --help           Print help
+";
+
+const RM_HELP: &str = "Remove a file or an empty directory
+
+Usage: lfsed rm [OPTIONS] <IMAGE> <PATH>
+
+Arguments:
+  <IMAGE>  File of the image
+  <PATH>   Path of a file or a directory in the image, from / on
+
+Options:
+      --block <BYTES>  Size of a block, a multiple of 16 from 256 to 65536 [default: 4096]
+  -h, --help           Print help
+";
+
+const MV_HELP: &str = "Move a file, or a directory with all that is below it
+
+Usage: lfsed mv [OPTIONS] <IMAGE> <FROM> <TO>
+
+Arguments:
+  <IMAGE>  File of the image
+  <FROM>   Path of what is moved, from / on
+  <TO>     Path that it gets, from / on; nothing may be there
 
 Options:
       --block <BYTES>  Size of a block, a multiple of 16 from 256 to 65536 [default: 4096]
@@ -191,12 +246,15 @@ Options:
 ";
 
 /// What asks for help, and what is printed.
-const HELPS: [Run; 7] = [
+const HELPS: [Run; 10] = [
     ("lfsed --help", 0, 0, "", Print::Text(HELP)),
     ("lfsed format --help", 0, 0, "", Print::Text(FORMAT_HELP)),
     ("lfsed check --help", 0, 0, "", Print::Text(CHECK_HELP)),
     ("lfsed cat --help", 0, 0, "", Print::Text(CAT_HELP)),
+    ("lfsed mkdir --help", 0, 0, "", Print::Text(MKDIR_HELP)),
     ("lfsed put --help", 0, 0, "", Print::Text(PUT_HELP)),
+    ("lfsed rm --help", 0, 0, "", Print::Text(RM_HELP)),
+    ("lfsed mv --help", 0, 0, "", Print::Text(MV_HELP)),
     ("lfsed setattr --help", 0, 0, "", Print::Text(SETATTR_HELP)),
     ("lfsed rmattr --help", 0, 0, "", Print::Text(RMATTR_HELP)),
 ];

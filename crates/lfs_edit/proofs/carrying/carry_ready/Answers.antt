@@ -1,11 +1,7 @@
 -- An outline that is ready can be cut, and what is cut can be written.
-use Rattle.std.proofs.Common.{◌≡◌, ◌+◌, ◌≤◌, ℕ, List, length, drop, refl, ap, sym, ◌∙◌, subst, arith}
-use Rattle.std.specs.Prelude.{sum_by}
-use Rattle.std.proofs.lemmas.List.{length-drop}
-use Rattle.lfs_fs.specs.Volume.{Volume}
+use Rattle.std.proofs.Common.{◌≡◌, ◌+◌, ℕ, List, drop, ap, sym, ◌∙◌, subst, arith}
 use Rattle.lfs_edit.specs.Carried.{IsCutOver, made_blocks}
 use Rattle.lfs_edit.specs.NamedCommand.{named_command}
-use Rattle.lfs_edit.specs.Need.{dirty_parts, part_blocks}
 use Rattle.lfs_edit.proofs.ReadyLemmas.{known_ready}
 use Rattle.lfs_edit.proofs.carrying.carry_ready.Goals as goal
 

@@ -1,22 +1,16 @@
 -- What is cut is written, and the patch carries the command out.
-use Rattle.std.proofs.Common.{◌≡◌, ◌+◌, ◌<◌, ◌≤◌, ℕ, Bool, List, length, map, take, drop, refl, ap, sym, ◌∙◌, subst, arith}
-use Rattle.std.specs.Prelude.{All, AllPairs}
-use Rattle.std.proofs.lemmas.List.{length-take-le}
+use Rattle.std.proofs.Common.{◌≡◌, ◌<◌, ℕ, Bool, List, take, ap, sym, ◌∙◌, subst}
+use Rattle.std.specs.Prelude.{All}
 use Rattle.lfs_block.specs.Patch.{ChangeSet, IsPatch}
 use Rattle.lfs_fs.specs.Thread.{links}
-use Rattle.lfs_fs.specs.Free.{free_blocks}
-use Rattle.lfs_fs.specs.Volume.{Volume}
-use Rattle.lfs_edit.specs.Command.{Command}
 use Rattle.lfs_edit.specs.Carried.{IsFinished, supplies_of}
 use Rattle.lfs_edit.specs.Clean.{clean}
 use Rattle.lfs_edit.specs.SuperblockBytes.{volume_bytes}
 use Rattle.lfs_edit.specs.WrittenLinks.{AreWritten}
-use Rattle.lfs_edit.specs.Need.{data_blocks, need}
 use Rattle.lfs_edit.specs.NamedCommand.{named_command}
 use Rattle.lfs_edit.specs.PairWritten.{CanBeAdded}
 use Rattle.lfs_edit.specs.PlansHold.{is_unmarked}
-use Rattle.lfs_edit.proofs.CarryingLemmas.{finish, within_need}
-use Rattle.lfs_edit.proofs.FreeBlocks.{taken_below, taken_rise}
+use Rattle.lfs_edit.proofs.CarryingLemmas.{finish}
 use Rattle.lfs_edit.proofs.WritingLemmas.{at_hand, can_be_added, contents_are, contents_below, contents_many, contents_rise, writes_over}
 use Rattle.lfs_edit.proofs.carrying.written.Goals as goal
 

@@ -12,11 +12,18 @@ growths_of-growths-requires c =
     ≡ length (growths_of c.block_room-room.result.bytes c.block_room-room.result.superblock (thread c.args.outline.now.directories)) =
     ap (λ (ds : List Directory). length (growths_of c.block_room-room.result.bytes c.block_room-room.result.superblock (thread ds)))
     (c.deref.ensures.value ∙ ap (λ (v : Volume). v.directories) c.outline.view_is) in
-    omega (arith, all, c.requires.few, grown_count c.args.outline.now c.block_room-room.result.bytes c.block_room-room.result.superblock c.block_room-room.ensures.bytes c.block_room-room.ensures.superblock)
+    omega (
+      arith,
+      all,
+      c.requires.few,
+      grown_count c.args.outline.now c.block_room-room.result.bytes c.block_room-room.result.superblock c.block_room-room.ensures.bytes
+          c.block_room-room.ensures.superblock,
+    )
 
 pub rows_of-requires-clause-enough : goal.rows_of-requires-clause-enough
 rows_of-requires-clause-enough c =
-    let order = in_order c.args.outline.now c.block_room-room.result.bytes c.block_room-room.result.superblock c.deref.result.now c.growths_of-growths.result.items c.put_first.new.growths.items c.deref-2.result.now
+    let order = in_order c.args.outline.now c.block_room-room.result.bytes c.block_room-room.result.superblock c.deref.result.now c.growths_of-growths.result.items
+    c.put_first.new.growths.items c.deref-2.result.now
     (c.deref.ensures.value ∙ ap (λ (v : Volume). v.directories) c.outline.view_is) c.growths_of-growths.ensures c.put_first.ensures c.deref-2.ensures.0 in
     grown_need c.args.outline.now c.block_room-room.result.bytes c.block_room-room.result.superblock c.deref-2.result.now
     c.block_room-room.ensures.bytes c.block_room-room.ensures.superblock order

@@ -1,67 +1,81 @@
--- What stands at a path is what the tree has there.
-use Rattle.std.proofs.Common.{◌≡◌, Some, None, ap, sym, ◌∙◌, map, Bor, inl, inr, subst}
-use Rattle.std.specs.Option.{option_map}
-use Rattle.std.proofs.lemmas.Result.{IfOk-weaker, IfErr-weaker}
-use Rattle.lfs_block.specs.Disk.{Disk}
+-- What stands at a path of the outline is what the tree has there.
+use Rattle.std.proofs.Common.{◌≡◌, List, [], Some, ap, sym, ◌∙◌, map, length, Bor, subst}
+use Rattle.std.specs.Vec.{vec_len}
+use Rattle.std.proofs.lemmas.List.{nil_from_length, length-map}
+use Rattle.std.proofs.lemmas.Bool.{eqb-true, eqb-false}
+use Rattle.std.proofs.lemmas.Result.{IfOk-weaker, IfErr-weaker, err_from_is_err_and}
 use Rattle.lfs_meta.specs.Name.{Name}
+use Rattle.lfs_fs.specs.Entry.{Entry}
 use Rattle.lfs_fs.specs.Path.{Path}
-use Rattle.lfs_fs.specs.Reading.{reading_of}
 use Rattle.lfs_fs.specs.RowShown.{HasBlocks}
-use Rattle.lfs_fs.specs.Seen.{seen}
 use Rattle.lfs_fs.specs.Tree.{entry_at}
-use Rattle.lfs_edit.proofs.ContentsLemmas.{refused_missing, same_body, has_blocks, found_contents, refused_contents}
-use Rattle.lfs_edit.proofs.MountedThread.{mounted_pairs}
-use Rattle.lfs_edit.proofs.PlanLemmas.{same_located}
-use Rattle.lfs_edit.proofs.ThreadWithin.{mounted_within}
+use Rattle.lfs_fs.specs.Volume.{Volume}
+use Rattle.lfs_edit.specs.HomeChecks.{entry_checks}
+use Rattle.lfs_edit.specs.Verdict.{first_refusal}
+use Rattle.lfs_edit.proofs.ContentsLemmas.{refused_root, refused_missing, has_blocks, found_contents, refused_contents}
 use Rattle.lfs_edit.proofs.contents.file_contents.Goals as goal
 
-pub missing-requires-clause-within : goal.missing-requires-clause-within
-missing-requires-clause-within g c = rw c.thread.ensures (mounted_within (g.B.Blocks.disk c.args.disk.now) c.args.mounted.now c.requires.mounted).1
+pub returns-then-is_empty-clause-refused : goal.returns-then-is_empty-clause-refused
+returns-then-is_empty-clause-refused g c =
+    let names = c.in_ok-names.names.items in
+    let path : Path = map (λ (n : Bor Name). n.now) names in
+    let none : names ≡ [] = nil_from_length names (sym c.in_ok-names.names.ok.0 ∙ eqb-true (vec_len c.in_ok-names.names) 0 (sym c.is_empty.ensures ∙ c.if-is_empty.true)) in
+    refused_root c.rows_show_the_tree.ensures (g.B.Blocks.disk c.args.disk.now)
+    c.size-within_limits.ensures.disk c.args.mounted.now c.requires.mounted c.args.path.now path c.in_ok-names.ensures.spelled
+    (ap (map (λ (n : Bor Name). n.now)) none)
 
-pub returns-in_default-clause-refused : goal.returns-in_default-clause-refused
-returns-in_default-clause-refused g c =
-    let path : Path = map (λ (n : Bor Name). n.now) c.in_ok-names.names.items in
-    let d : Disk = g.B.Blocks.disk c.args.disk.now in
-    let same = same_located (reading_of d) c.thread.result.now (mounted_pairs c.args.mounted.now) c.deref-in_default.result.now c.in_ok-names.names.items c.thread.ensures c.deref-in_default.ensures.value in
-    let is_path : c.in_ok-path_of.field-0 ≡ path = c.in_ok-path_of.ensures ∙ ap (map (λ (n : Bor Name). n.now)) c.deref.ensures.value in
-    let none : entry_at c.args.mounted.now.outline path ≡ None =
-    ap (entry_at c.args.mounted.now.outline) (sym is_path) ∙ sym c.find-2.ensures ∙ ap (option_map (seen c.args.mounted.now.outline)) c.in_default.is in
-    refused_missing c.rows_show_the_tree.ensures c.both_sides_hold.ensures.links d c.size-within_limits.ensures.disk c.args.mounted.now c.requires.mounted c.args.path.now path c.in_ok-names.ensures.spelled
-    c.missing.result none
-    (elim c.missing.ensures [ inl memory ↦ inl memory | inr other ↦ elim other [ inl nowhere ↦ inr (inl (sym same ∙ nowhere)) | inr at ↦ inr (inr (at.0, sym same ∙ at.1)) ] ])
+pub returns-in_err-entry-clause-refused : goal.returns-in_err-entry-clause-refused
+returns-in_err-entry-clause-refused g c =
+    let names = c.in_ok-names.names.items in
+    let path : Path = map (λ (n : Bor Name). n.now) names in
+    let p = err_from_is_err_and c.from_residual-in_err-entry.result c.from_residual-in_err-entry.ensures.1 in
+    let walked : first_refusal (entry_checks c.args.mounted.now.outline path) ≡ Some c.in_err-entry.field-0.0 =
+    ap (λ (v : Volume). first_refusal (entry_checks v path)) (sym c.outline.ensures)
+    ∙ ap (λ (ns : List (Bor Name)). first_refusal (entry_checks c.outline.result.now (map (λ (n : Bor Name). n.now) ns))) (sym c.deref.ensures.value)
+    ∙ c.in_err-entry.ensures.refused in
+    rw (p.1, p.2) (
+    refused_missing c.rows_show_the_tree.ensures (g.B.Blocks.disk c.args.disk.now)
+    c.size-within_limits.ensures.disk c.args.mounted.now c.requires.mounted c.args.path.now path c.in_ok-names.ensures.spelled
+    c.outlines_are_judged_alike.ensures.judged c.in_err-entry.field-0.0
+    (λ root. eqb-false (vec_len c.in_ok-names.names) 0 (sym c.is_empty.ensures ∙ c.if-is_empty.false) (c.in_ok-names.names.ok.0 ∙ sym (length-map names (λ (n : Bor Name). n.now)) ∙ ap length root))
+    walked)
 
-pub contents_found-requires : goal.contents_found-requires
-contents_found-requires g c v =
+pub contents_of-requires : goal.contents_of-requires
+contents_of-requires g c =
     let path : Path = map (λ (n : Bor Name). n.now) c.in_ok-names.names.items in
-    let d : Disk = g.B.Blocks.disk c.args.disk.now in
-    let is_path : c.in_ok-path_of.field-0 ≡ path = c.in_ok-path_of.ensures ∙ ap (map (λ (n : Bor Name). n.now)) c.deref.ensures.value in
-    let at : entry_at c.args.mounted.now.outline path ≡ Some (seen c.args.mounted.now.outline c.in-Some.found) =
-    ap (entry_at c.args.mounted.now.outline) (sym is_path) ∙ sym c.find-2.ensures ∙ ap (option_map (seen c.args.mounted.now.outline)) c.in-Some.is in
-    subst (HasBlocks d) (same_body c.args.mounted.now.outline v c.in-Some.found)
-    (has_blocks c.rows_show_the_tree.ensures c.both_sides_hold.ensures.links d c.size-within_limits.ensures.disk c.args.mounted.now c.requires.mounted c.args.path.now path c.in_ok-names.ensures.spelled
-    (seen c.args.mounted.now.outline c.in-Some.found) at)
+    let at : entry_at c.args.mounted.now.outline path ≡ Some c.in_ok-entry.entry.now =
+    ap (λ (v : Volume). entry_at v path) (sym c.outline.ensures)
+    ∙ ap (λ (ns : List (Bor Name)). entry_at c.outline.result.now (map (λ (n : Bor Name). n.now) ns)) (sym c.deref.ensures.value)
+    ∙ c.in_ok-entry.ensures.there in
+    subst (λ (e : Entry). HasBlocks (g.B.Blocks.disk c.args.disk.now) e.body) (sym c.entry.view_is)
+    (has_blocks c.rows_show_the_tree.ensures (g.B.Blocks.disk c.args.disk.now)
+    c.size-within_limits.ensures.disk c.args.mounted.now c.requires.mounted c.args.path.now path c.in_ok-names.ensures.spelled
+    c.in_ok-entry.entry.now at)
 
 pub returns-clause-found : goal.returns-clause-found
 returns-clause-found g c =
     let path : Path = map (λ (n : Bor Name). n.now) c.in_ok-names.names.items in
-    let d : Disk = g.B.Blocks.disk c.args.disk.now in
-    let is_path : c.in_ok-path_of.field-0 ≡ path = c.in_ok-path_of.ensures ∙ ap (map (λ (n : Bor Name). n.now)) c.deref.ensures.value in
-    let at : entry_at c.args.mounted.now.outline path ≡ Some (seen c.args.mounted.now.outline c.in-Some.found) =
-    ap (entry_at c.args.mounted.now.outline) (sym is_path) ∙ sym c.find-2.ensures ∙ ap (option_map (seen c.args.mounted.now.outline)) c.in-Some.is in
-    IfOk-weaker c.contents_found.result _ _
-    (λ bytes same. found_contents c.rows_show_the_tree.ensures c.both_sides_hold.ensures.links d c.size-within_limits.ensures.disk c.args.mounted.now c.requires.mounted c.args.path.now path c.in_ok-names.ensures.spelled
-    (seen c.args.mounted.now.outline c.in-Some.found) at bytes.items (same c.args.mounted.now.outline))
-    c.contents_found.ensures.bytes
+    let at : entry_at c.args.mounted.now.outline path ≡ Some c.in_ok-entry.entry.now =
+    ap (λ (v : Volume). entry_at v path) (sym c.outline.ensures)
+    ∙ ap (λ (ns : List (Bor Name)). entry_at c.outline.result.now (map (λ (n : Bor Name). n.now) ns)) (sym c.deref.ensures.value)
+    ∙ c.in_ok-entry.ensures.there in
+    let body = ap (λ (e : Entry). e.body) c.entry.view_is in
+    IfOk-weaker c.contents_of.result _ _
+    (λ bytes same. found_contents c.rows_show_the_tree.ensures (g.B.Blocks.disk c.args.disk.now)
+    c.size-within_limits.ensures.disk c.args.mounted.now c.requires.mounted c.args.path.now path c.in_ok-names.ensures.spelled
+    c.in_ok-entry.entry.now at bytes.items (rw (sym body) same))
+    c.contents_of.ensures.bytes
 
 pub returns-clause-refused : goal.returns-clause-refused
 returns-clause-refused g c =
     let path : Path = map (λ (n : Bor Name). n.now) c.in_ok-names.names.items in
-    let d : Disk = g.B.Blocks.disk c.args.disk.now in
-    let is_path : c.in_ok-path_of.field-0 ≡ path = c.in_ok-path_of.ensures ∙ ap (map (λ (n : Bor Name). n.now)) c.deref.ensures.value in
-    let at : entry_at c.args.mounted.now.outline path ≡ Some (seen c.args.mounted.now.outline c.in-Some.found) =
-    ap (entry_at c.args.mounted.now.outline) (sym is_path) ∙ sym c.find-2.ensures ∙ ap (option_map (seen c.args.mounted.now.outline)) c.in-Some.is in
-    IfErr-weaker c.contents_found.result _ _
-    (λ refusal why. refused_contents c.rows_show_the_tree.ensures c.both_sides_hold.ensures.links d c.size-within_limits.ensures.disk c.args.mounted.now c.requires.mounted c.args.path.now path c.in_ok-names.ensures.spelled
-    (seen c.args.mounted.now.outline c.in-Some.found) at refusal
-    (elim why [ inl memory ↦ inl memory | inr directory ↦ inr (directory.0, directory.1 c.args.mounted.now.outline) ]))
-    c.contents_found.ensures.refused
+    let at : entry_at c.args.mounted.now.outline path ≡ Some c.in_ok-entry.entry.now =
+    ap (λ (v : Volume). entry_at v path) (sym c.outline.ensures)
+    ∙ ap (λ (ns : List (Bor Name)). entry_at c.outline.result.now (map (λ (n : Bor Name). n.now) ns)) (sym c.deref.ensures.value)
+    ∙ c.in_ok-entry.ensures.there in
+    let body = ap (λ (e : Entry). e.body) c.entry.view_is in
+    IfErr-weaker c.contents_of.result _ _
+    (λ refusal why. refused_contents c.rows_show_the_tree.ensures (g.B.Blocks.disk c.args.disk.now)
+    c.size-within_limits.ensures.disk c.args.mounted.now c.requires.mounted c.args.path.now path c.in_ok-names.ensures.spelled
+    c.in_ok-entry.entry.now at refusal (rw (sym body) why))
+    c.contents_of.ensures.refused

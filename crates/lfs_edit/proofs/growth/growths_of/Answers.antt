@@ -9,7 +9,8 @@ use Rattle.lfs_edit.proofs.growth.growths_of.Goals as goal
 
 pub note_directory-requires : goal.note_directory-requires
 note_directory-requires c =
-    let room = room_for_one (λ (d : Directory). growths_of c.args.room.bytes c.args.room.superblock (parts d)) c.args.directories.now c.each.directory-index c.directory-item.result c.each.growths.items
+    let room = room_for_one (λ (d : Directory). growths_of c.args.room.bytes c.args.room.superblock (parts d))
+    c.args.directories.now c.each.directory-index c.directory-item.result c.each.growths.items
     (growths_of c.args.room.bytes c.args.room.superblock (thread c.args.directories.now)) c.each-test.true c.directory-item.is c.each.invariant in
     omega (arith, room, c.requires)
 
@@ -20,7 +21,8 @@ each-init c =
 
 pub each-preserved : goal.each-preserved
 each-preserved c =
-    ap (λ (gs : List Growth). gs ++ flat_map (λ (d : Directory). growths_of c.args.room.bytes c.args.room.superblock (parts d)) (drop (c.each.directory-index + 1) c.args.directories.now)) c.note_directory.ensures
+    ap (λ (gs : List Growth). gs ++ flat_map (λ (d : Directory). growths_of c.args.room.bytes c.args.room.superblock (parts d))
+    (drop (c.each.directory-index + 1) c.args.directories.now)) c.note_directory.ensures
     ∙ one_gathered (λ (d : Directory). growths_of c.args.room.bytes c.args.room.superblock (parts d)) c.args.directories.now c.each.directory-index c.directory-item.result c.each.growths.items
     (growths_of c.args.room.bytes c.args.room.superblock (thread c.args.directories.now)) c.each-test.true c.directory-item.is c.each.invariant
 

@@ -1,5 +1,5 @@
 -- The changes lay the file.
-use Rattle.std.proofs.Common.{rules, List, ℕ, ap, map, subst, sym, ◌≡◌, ◌∙◌, Vec, Global}
+use Rattle.std.proofs.Common.{rules, ℕ, ap, map, subst, sym, ◌≡◌, ◌∙◌, Vec, Global}
 use Rattle.lfs_file.specs.Laying.{laid}
 use Rattle.lfs_edit.specs.Laid.{AreLaid}
 use Rattle.lfs_edit.specs.PartWritten.{changes_at}

@@ -3,7 +3,7 @@ use Rattle.std.proofs.Common.{◌≡◌, ◌≢◌, ℕ, List, [], ◌∷◌, So
 use Rattle.std.specs.Prelude.{replicate}
 use Rattle.lfs_meta.specs.Entry.{StoredEntry}
 use Rattle.lfs_meta.specs.Writing.{part_in, stored_part}
-use Rattle.lfs_edit.specs.Place.{Found}
+use Rattle.lfs_edit.specs.PartWritten.{Found}
 use Rattle.lfs_edit.specs.WrittenLinks.{AddsPart, IsFreeFor}
 use Rattle.lfs_edit.proofs.PairWrites.{second_free, pair_filled}
 use Rattle.lfs_edit.proofs.link_writing.fill_pair.Goals as goal

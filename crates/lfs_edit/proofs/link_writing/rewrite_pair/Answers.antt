@@ -1,10 +1,9 @@
 -- The block of the pair that isn't live is changed.
 use Rattle.std.proofs.Common.{◌≡◌, ℕ, ◌<◌, ap, sym, ◌∙◌, subst}
 use Rattle.lfs_meta.specs.Writing.{other_number}
-use Rattle.lfs_edit.specs.Place.{Found}
+use Rattle.lfs_edit.specs.PartWritten.{Found}
 use Rattle.lfs_edit.proofs.BlockLemmas.{other_below}
-use Rattle.lfs_edit.proofs.PairWrites.{other_free, pair_rewritten}
-use Rattle.lfs_edit.proofs.PartWrites.{back_is}
+use Rattle.lfs_edit.proofs.PairWrites.{back_is, other_free, pair_rewritten}
 use Rattle.lfs_edit.proofs.link_writing.rewrite_pair.Goals as goal
 
 pub add_change-requires-clause-free : goal.add_change-requires-clause-free

@@ -1,11 +1,43 @@
--- Each command puts a file, or is an edit of an attribute, with a value or without.
+-- What is judged on the outline of a mount is carried out on one that is read again, which is the same.
+use Rattle.std.proofs.Common.{subst, sym, ◌∙◌}
+use Rattle.std.proofs.lemmas.Result.{IfOk-weaker, IfErr-weaker, err_from_is_err_and}
+use Rattle.lfs_block.specs.Disk.{Disk}
+use Rattle.lfs_fs.specs.Mounted.{IsMountOf, IsOutlineOf, MountedValue}
+use Rattle.lfs_edit.specs.AskedFor.{asked_for}
+use Rattle.lfs_edit.specs.Carried.{IsJudged}
+use Rattle.lfs_edit.specs.NamedCommand.{named_command}
+use Rattle.lfs_edit.proofs.JudgedLemmas.{may_be_refused, refused_on}
 use Rattle.lfs_edit.proofs.planning.plan.Goals as goal
 
-pub returns-in-Put-clause-refused : goal.returns-in-Put-clause-refused
-returns-in-Put-clause-refused c = rw c.in-Put.is c.file_patch.ensures.refused
+outline_of_mount : (d : Disk) (m : MountedValue) → IsMountOf d m → IsOutlineOf d m.outline
+outline_of_mount d m is = record { volume = is.volume; holds = is.holds; sound = is.sound; outline = is.outline }
 
-pub returns-in-SetAttr-clause-refused : goal.returns-in-SetAttr-clause-refused
-returns-in-SetAttr-clause-refused c = rw c.in-SetAttr.is c.attribute_patch.ensures.refused
+pub returns-in_err-judge-clause-refused : goal.returns-in_err-judge-clause-refused
+returns-in_err-judge-clause-refused c =
+    let p = err_from_is_err_and c.from_residual-in_err-judge.result c.from_residual-in_err-judge.ensures.1 in
+    rw (p.1, p.2) (
+    refused_on c.outlines_are_judged_alike.ensures.judged c.args.image.now c.outline.result.now
+    (subst (IsOutlineOf c.args.image.now) (sym c.outline.ensures) (outline_of_mount c.args.image.now c.args.mounted.now c.requires.mounted))
+    (asked_for c.args.command.now) (named_command c.in_ok-command.command) c.in_ok-command.ensures.spelled c.in_err-judge.field-0.0 c.in_err-judge.ensures.refused)
 
-pub returns-in-RmAttr-clause-refused : goal.returns-in-RmAttr-clause-refused
-returns-in-RmAttr-clause-refused c = rw c.in-RmAttr.is c.attribute_patch-in-RmAttr.ensures.refused
+pub outline_of-requires : goal.outline_of-requires
+outline_of-requires c = record { outline = (c.args.mounted.now.outline, outline_of_mount c.args.image.now c.args.mounted.now c.requires.mounted) }
+
+pub carry_judged-requires : goal.carry_judged-requires
+carry_judged-requires c =
+    let same = c.in_ok-outline.ensures.only c.args.mounted.now.outline (outline_of_mount c.args.image.now c.args.mounted.now c.requires.mounted) in
+    record {
+      judged = subst (IsJudged c.args.image.now (named_command c.in_ok-command.command)) (c.outline.ensures ∙ sym same) (record {
+        outline = subst (IsOutlineOf c.args.image.now) (sym c.outline.ensures) (outline_of_mount c.args.image.now c.args.mounted.now c.requires.mounted);
+        names = c.in_ok-command.ensures.spelled.0;
+        unrefused = c.in_ok-judge.ensures.unrefused;
+      });
+    }
+
+pub returns-clause-planned : goal.returns-clause-planned
+returns-clause-planned c =
+    IfOk-weaker c.carry_judged.result _ _ (λ patch finished. finished.plans (asked_for c.args.command.now) c.in_ok-command.ensures.spelled) c.carry_judged.ensures.finished
+
+pub returns-clause-refused : goal.returns-clause-refused
+returns-clause-refused c =
+    IfErr-weaker c.carry_judged.result _ _ (λ r refused. may_be_refused c.args.image.now (named_command c.in_ok-command.command) r refused (asked_for c.args.command.now) c.in_ok-command.ensures.spelled) c.carry_judged.ensures.refused

@@ -1,32 +1,34 @@
 -- The planned patch is put at the place, and made.
-use Rattle.std.proofs.Common.{◌+◌, ◌<◌, List, length, take, refl, ap, ◌∙◌, subst, arith}
+use Rattle.std.proofs.Common.{◌+◌, ◌<◌, List, length, take, ap, sym, ◌∙◌, subst, arith}
 use Rattle.std.proofs.lemmas.Result.{err_from_is_err_and}
 use Rattle.std.proofs.lemmas.List.{length-take-le}
+use Rattle.lfs_block.specs.Disk.{Disk}
 use Rattle.lfs_block.specs.Patch.{ChangeSet}
+use Rattle.lfs_fs.specs.Mounted.{IsOutlineOf}
 use Rattle.lfs_edit.specs.AskedFor.{asked_for}
 use Rattle.lfs_edit.specs.Planned.{RefusesPlan}
 use Rattle.lfs_journal.specs.History.{History, history_at, most_changes}
 use Rattle.lfs_journal.specs.Steps.{Does}
-use Rattle.lfs_journal.proofs.PlaceLemmas.{done_at}
+use Rattle.lfs_journal.proofs.PlaceLemmas.{IsPut, put_makes, done_at}
 use Rattle.lfs_journal.proofs.session.Session.command.Goals as goal
 
 pub returns-in_err-patch-clause-refused : goal.returns-in_err-patch-clause-refused
 returns-in_err-patch-clause-refused c =
     let s = c.self.inside in
-    let p = err_from_is_err_and c.from_residual-in_err-patch.result c.from_residual-in_err-patch.ensures.1 in
-    let within = c.self.invariant.within in
+    let p = err_from_is_err_and c.from_residual.result c.from_residual.ensures.1 in
+    let within = c.self.invariant.at.within in
     let made : length (take s.done s.patches.items) < most_changes = let len = length-take-le s.done s.patches.items within in omega arith in
     rw (p.1, p.2) (
       subst (λ (h : History). length h.done < most_changes) c.self.view_is made,
       subst (λ (h : History). RefusesPlan h.present (asked_for c.args.command.now) c.in_err-patch.field-0.0) c.self.view_is c.in_err-patch.ensures.refused,
-      refl,
+      c.self.view_is,
     )
 
 pub returns-in_err-replace_from-clause-refused : goal.returns-in_err-replace_from-clause-refused
 returns-in_err-replace_from-clause-refused c =
     let s = c.self.inside in
     let p = err_from_is_err_and c.from_residual-in_err-replace_from.result c.from_residual-in_err-replace_from.ensures.1 in
-    let within = c.self.invariant.within in
+    let within = c.self.invariant.at.within in
     let made : length (take s.done s.patches.items) < most_changes = let len = length-take-le s.done s.patches.items within in omega arith in
     rw (p.1, p.2) (
       subst (λ (h : History). length h.done < most_changes) c.self.view_is made,
@@ -47,9 +49,16 @@ invariant_of-self-2 c =
     let made = c.applied_patches_change_their_blocks.ensures in
     let back = c.applied_patches_revert.ensures in
     let follow = c.cuts_follow.ensures in
-    (done_at (record { disk = made.disk; agrees = back.agrees; back = back.back }) (record { cut = follow.cut; clean = follow.clean }) (asked_for c.args.command.now)
-    s.image c.apply.new.image s.patches.items c.replace_from.new.patches.items s.done c.in_ok-patch.patch c.index.result.now
-    (record { all = c.in_ok-replace_from.ensures.done; within = c.self.invariant.within }) c.index.ensures c.self.invariant (omega arith) c.in_ok-patch.ensures.planned c.apply.ensures.applied).keeps
+    let change = c.in_ok-patch.field-0 in
+    let put : IsPut s.patches.items c.replace_from.new.patches.items s.done change.patch = record { all = c.in_ok-replace_from.ensures.done; within = c.self.invariant.at.within } in
+    record {
+      at = (done_at (record { disk = made.disk; agrees = back.agrees; back = back.back }) (record { cut = follow.cut; clean = follow.clean }) (asked_for c.args.command.now)
+          s.image c.apply.new.image s.patches.items c.replace_from.new.patches.items s.done change.patch c.index.result.now
+          put c.index.ensures c.self.invariant.at (omega arith) c.in_ok-patch.ensures.planned c.apply.ensures.applied).keeps;
+      known = subst (λ (e : Disk). IsOutlineOf e change.outline)
+          (sym (put_makes s.image c.apply.new.image s.patches.items c.replace_from.new.patches.items s.done change.patch c.index.result.now put c.index.ensures c.apply.ensures.applied))
+          c.in_ok-patch.ensures.outline;
+    }
 
 pub returns-clause-done : goal.returns-clause-done
 returns-clause-done c =
@@ -57,7 +66,9 @@ returns-clause-done c =
     let made = c.applied_patches_change_their_blocks.ensures in
     let back = c.applied_patches_revert.ensures in
     let follow = c.cuts_follow.ensures in
+    let change = c.in_ok-patch.field-0 in
+    let put : IsPut s.patches.items c.replace_from.new.patches.items s.done change.patch = record { all = c.in_ok-replace_from.ensures.done; within = c.self.invariant.at.within } in
     let to = done_at (record { disk = made.disk; agrees = back.agrees; back = back.back }) (record { cut = follow.cut; clean = follow.clean }) (asked_for c.args.command.now)
-    s.image c.apply.new.image s.patches.items c.replace_from.new.patches.items s.done c.in_ok-patch.patch c.index.result.now
-    (record { all = c.in_ok-replace_from.ensures.done; within = c.self.invariant.within }) c.index.ensures c.self.invariant (omega arith) c.in_ok-patch.ensures.planned c.apply.ensures.applied in
+    s.image c.apply.new.image s.patches.items c.replace_from.new.patches.items s.done change.patch c.index.result.now
+    put c.index.ensures c.self.invariant.at (omega arith) c.in_ok-patch.ensures.planned c.apply.ensures.applied in
     subst (λ (old : History). Does (asked_for c.args.command.now) old (history_at c.apply.new.image c.replace_from.new.patches.items (s.done + 1))) c.self.view_is to.moves

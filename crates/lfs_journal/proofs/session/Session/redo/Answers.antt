@@ -8,20 +8,23 @@ use Rattle.lfs_journal.proofs.session.Session.redo.Goals as goal
 pub invariant_of-self : goal.invariant_of-self
 invariant_of-self c =
     let s = c.self.inside in
-    let within = c.self.invariant.within in
+    let within = c.self.invariant.at.within in
     let made = c.applied_patches_change_their_blocks.ensures in
     let back = c.applied_patches_revert.ensures in
     let at = is_at s.patches.items s.done (s.done + 1) c.index.result.now refl (omega arith) c.index.ensures in
-    (redone_at (record { disk = made.disk; agrees = back.agrees; back = back.back }) s.image c.apply.new.image s.patches.items s.done (s.done + 1) c.index.result.now
-    at c.self.invariant c.apply.ensures.applied).keeps
+    record {
+      at = (redone_at (record { disk = made.disk; agrees = back.agrees; back = back.back }) s.image c.apply.new.image s.patches.items s.done (s.done + 1) c.index.result.now
+          at c.self.invariant.at c.apply.ensures.applied).keeps;
+      known = tt;
+    }
 
 pub returns-clause-done : goal.returns-clause-done
 returns-clause-done c =
     let s = c.self.inside in
-    let within = c.self.invariant.within in
+    let within = c.self.invariant.at.within in
     let made = c.applied_patches_change_their_blocks.ensures in
     let back = c.applied_patches_revert.ensures in
     let at = is_at s.patches.items s.done (s.done + 1) c.index.result.now refl (omega arith) c.index.ensures in
     let to = redone_at (record { disk = made.disk; agrees = back.agrees; back = back.back }) s.image c.apply.new.image s.patches.items s.done (s.done + 1) c.index.result.now
-    at c.self.invariant c.apply.ensures.applied in
+    at c.self.invariant.at c.apply.ensures.applied in
     subst (λ (old : History). Redoes old (history_at c.apply.new.image s.patches.items (s.done + 1))) c.self.view_is to.moves

@@ -8,25 +8,28 @@ use Rattle.lfs_journal.proofs.session.Session.undo.Goals as goal
 pub revert-requires : goal.revert-requires
 revert-requires c =
     let s = c.self.inside in
-    let within = c.self.invariant.within in
+    let within = c.self.invariant.at.within in
     let at = is_at s.patches.items (s.done - 1) s.done c.index.result.now (omega arith) (omega arith) c.index.ensures in
-    (made_agrees s.image s.patches.items (s.done - 1) s.done c.index.result.now at c.self.invariant).1
+    (made_agrees s.image s.patches.items (s.done - 1) s.done c.index.result.now at c.self.invariant.at).1
 
 pub invariant_of-self : goal.invariant_of-self
 invariant_of-self c =
     let s = c.self.inside in
-    let within = c.self.invariant.within in
+    let within = c.self.invariant.at.within in
     let law = c.reverted_patches_apply_again.ensures in
     let at = is_at s.patches.items (s.done - 1) s.done c.index.result.now (omega arith) (omega arith) c.index.ensures in
-    (undone_at (record { disk = law.disk; agrees = law.agrees; again = law.again }) s.image c.revert.new.image s.patches.items (s.done - 1) s.done c.index.result.now
-    at c.self.invariant c.revert.ensures.reverted).keeps
+    record {
+      at = (undone_at (record { disk = law.disk; agrees = law.agrees; again = law.again }) s.image c.revert.new.image s.patches.items (s.done - 1) s.done c.index.result.now
+          at c.self.invariant.at c.revert.ensures.reverted).keeps;
+      known = tt;
+    }
 
 pub returns-clause-done : goal.returns-clause-done
 returns-clause-done c =
     let s = c.self.inside in
-    let within = c.self.invariant.within in
+    let within = c.self.invariant.at.within in
     let law = c.reverted_patches_apply_again.ensures in
     let at = is_at s.patches.items (s.done - 1) s.done c.index.result.now (omega arith) (omega arith) c.index.ensures in
     let to = undone_at (record { disk = law.disk; agrees = law.agrees; again = law.again }) s.image c.revert.new.image s.patches.items (s.done - 1) s.done c.index.result.now
-    at c.self.invariant c.revert.ensures.reverted in
+    at c.self.invariant.at c.revert.ensures.reverted in
     subst (λ (old : History). Undoes old (history_at c.revert.new.image s.patches.items (s.done - 1))) c.self.view_is to.moves

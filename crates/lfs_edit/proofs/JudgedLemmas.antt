@@ -1,0 +1,231 @@
+-- A command that no check refuses, those on room aside: it can be edited, and then is refused for want of room, or ready to be cut.
+use Rattle.std.proofs.Common.{◌≡◌, ◌+◌, ◌<◌, ◌^◌, ◌++◌, ◌&&◌, ℕ, Bool, false, List, [], ◌∷◌, length, map, take, refl, ap, sym, ◌∙◌, subst, arith, inl, inr, Option, Some, None}
+use Rattle.std.specs.Prelude.{◌⊎◌, Contains, is_none, nat_lt, sum_by}
+use Rattle.std.proofs.lemmas.Bool.Decides.{nat_tests}
+use Rattle.std.proofs.lemmas.List.{take_all}
+use Rattle.lfs_block.specs.Disk.{Disk, IsDisk}
+use Rattle.lfs_fs.specs.Free.{free_blocks}
+use Rattle.lfs_fs.specs.Holds.{Holds}
+use Rattle.lfs_fs.specs.Mounted.{IsOutlineOf}
+use Rattle.lfs_fs.specs.NameOrder.{NamesAreOrdered}
+use Rattle.lfs_fs.specs.Outlined.{outlined}
+use Rattle.lfs_fs.specs.Pair.{root, same_pair}
+use Rattle.lfs_fs.specs.Path.{Path}
+use Rattle.lfs_fs.specs.Reading.{reading_of}
+use Rattle.lfs_fs.specs.Sound.{IsSound}
+use Rattle.lfs_fs.specs.SoundOutlines.{OutlinesAreSound}
+use Rattle.lfs_fs.specs.Stored.{HoldsLinks}
+use Rattle.lfs_fs.specs.Superblock.{IsLimits}
+use Rattle.lfs_fs.specs.Tree.{tree}
+use Rattle.lfs_fs.specs.Unused.{unused}
+use Rattle.lfs_fs.specs.Used.{Marks}
+use Rattle.lfs_fs.specs.Uses.{uses}
+use Rattle.lfs_fs.specs.Volume.{Volume}
+use Rattle.lfs_edit.specs.declared.named_command.NamedCommand.{NamedCommand}
+use Rattle.lfs_edit.specs.declared.named_command.NamedCommand.TheVariants as case
+use Rattle.lfs_edit.specs.declared.refusal.Refusal.{Refusal}
+use Rattle.lfs_edit.specs.declared.refusal.Refusal.TheVariants.{EntryTooLarge, FileTooLarge, IsADirectory, IsRoot, Memory, NameTooLong, NoSpace}
+use Rattle.lfs_edit.specs.Carried.{IsJudged, IsReady, IsRefusedBy, IsUnweighed, least_pair, least_supplies, made_blocks, room_checks_on, supplies_of}
+use Rattle.lfs_edit.specs.CarryingLaws.{CarryingLaws}
+use Rattle.lfs_edit.specs.Command.{Asked, Command, Mkdir, Mv, Put, Rm, RmAttr, SetAttr, Spells}
+use Rattle.lfs_edit.specs.Editable.{IsEditable}
+use Rattle.lfs_edit.specs.Edited.{edited}
+use Rattle.lfs_edit.specs.EditedOutline.{edited_outline}
+use Rattle.lfs_edit.specs.NamedCommand.{contents_len, named_command}
+use Rattle.lfs_edit.specs.Need.{data_blocks, dirty_parts, need, part_blocks}
+use Rattle.lfs_edit.specs.NeedsSmall.{HeldHaveFewEntries, NeedsAreSmall}
+use Rattle.lfs_edit.specs.OutlineCarried.{IsCarried, has_too_large}
+use Rattle.lfs_edit.specs.JudgedAlike.{OutlinesAreJudgedAlike}
+use Rattle.lfs_edit.specs.Planned.{RefusesPlan}
+use Rattle.lfs_edit.specs.Supplies.{nothing}
+use Rattle.lfs_edit.specs.Verdict.{checks, first_refusal, is_directory, is_root, last_length, refuse_if, room_checks, verdict, walk_refusal}
+use Rattle.lfs_edit.proofs.EditableLemmas.{begin_once, each_named_once}
+use Rattle.lfs_edit.proofs.EditedSizes.{edited_size}
+use Rattle.lfs_edit.proofs.FreeBlocks.{taken_unused}
+use Rattle.lfs_edit.proofs.Homes.{first_passes, test_passes}
+use Rattle.lfs_edit.proofs.KeptLinks.{contains_first}
+use Rattle.lfs_edit.proofs.OutlineRoom.{free_outlined, uses_outlined}
+use Rattle.lfs_edit.proofs.PartsFit.{not_root}
+use Rattle.lfs_edit.proofs.VerdictKinds.{refuses}
+use Rattle.lfs_edit.proofs.Verdicts.{refused_first}
+
+-- ---- checks that refuse
+
+-- a check that refuses on the outline does so on the volume
+pub refused_on : OutlinesAreJudgedAlike → (d : Disk) (o : Volume) → IsOutlineOf d o → (asked : Asked) (c : Command) → Spells asked c
+    → (r : Refusal) → first_refusal (checks o c) ≡ Some r → RefusesPlan d asked r
+refused_on alike d o is asked c spells r refused =
+    refuses d asked r (record {
+      volume = is.volume;
+      holds = is.holds;
+      sound = is.sound;
+      command = c;
+      spells = spells;
+      refused = refused_first (checks is.volume c) (room_checks is.volume c) r
+          (ap first_refusal (sym (alike is.volume c).checked) ∙ ap (λ (v : Volume). first_refusal (checks v c)) (sym is.outline) ∙ refused);
+    })
+
+-- want of memory may be answered to any command
+pub may_be_refused : (d : Disk) (c : Command) (r : Refusal) → (r ≡ Memory) ⊎ IsRefusedBy d c r → IsRefusedBy d c r
+may_be_refused d c r (inl memory) = subst (IsRefusedBy d c) (sym memory) (λ asked spells. tt)
+may_be_refused d c r (inr refused) = refused
+
+-- ---- before the edit
+
+-- an image holds limits of the format
+limits_held : (d : Disk) (v : Volume) → Holds (reading_of d) v → IsLimits v.limits
+limits_held d v holds = subst (λ (x : Volume). IsLimits x.limits) (sym holds.is) holds.limits
+
+pub editable : OutlinesAreSound → CarryingLaws → NamesAreOrdered → (d : Disk) (c : Command) (o : Volume) → IsJudged d c o → IsEditable o c
+editable sound laws ordered d c o judged = record {
+  sound = outline_sound;
+  limits = subst (λ (x : Volume). IsLimits x.limits) (sym is) (limits_held d v judged.outline.holds);
+  names = judged.names;
+  unrefused = judged.unrefused;
+  begins = begin_once o outline_sound;
+  named = each_named_once o ordered outline_sound;
+}
+  where
+    v : Volume
+    v = judged.outline.volume
+
+    is : o ≡ outlined v
+    is = judged.outline.outline
+
+    outline_sound : IsSound o
+    outline_sound = subst IsSound (sym is) (sound v judged.outline.sound)
+
+-- the contents that are put have less than 2^32 bytes, since no file is longer than its limit
+put_short : (o : Volume) (p : Path) (bytes : List ℕ) → IsLimits o.limits → first_refusal (checks o (Put p bytes)) ≡ None → length bytes < 2 ^ 32
+put_short o p bytes limits passes =
+    let below = first_passes (refuse_if (is_root p) IsRoot) _ passes in
+    let walk = first_passes (walk_refusal (tree o) [] p) _ below.1 in
+    let file = first_passes (refuse_if (is_directory (tree o p)) IsADirectory) _ walk.1 in
+    let short = first_passes (refuse_if (is_none (tree o p) && nat_lt o.limits.name (last_length p)) NameTooLong) _ file.1 in
+    let small = first_passes (refuse_if (nat_lt o.limits.file (length bytes)) FileTooLarge) _ short.1 in
+    let fits : nat_lt o.limits.file (length bytes) ≡ false = test_passes (nat_lt o.limits.file (length bytes)) FileTooLarge small.0 in
+    let limit = limits.file.1 in
+    grind (arith, nat_tests)
+
+pub contents_short : (o : Volume) (c : NamedCommand) → IsEditable o (named_command c) → contents_len c < 2 ^ 32
+contents_short o (case.Mkdir path) editable = omega arith
+contents_short o (case.Put path bytes) editable = put_short o (map (λ n. n.now) path.items) bytes.now editable.limits editable.unrefused
+contents_short o (case.Rm path) editable = omega arith
+contents_short o (case.Mv from to) editable = omega arith
+contents_short o (case.SetAttr path kind value) editable = omega arith
+contents_short o (case.RmAttr path kind) editable = omega arith
+
+-- ---- the edit
+
+data_same : (v w : Volume) (c : Command) → v.size ≡ w.size → data_blocks v c ≡ data_blocks w c
+data_same v w (Mkdir p) same = refl
+data_same v w (Put p bytes) same = ap (λ (n : ℕ). data_blocks (record { size = n; count = v.count; limits = v.limits; attributes = v.attributes; directories = v.directories }) (Put p bytes)) same
+data_same v w (Rm p) same = refl
+data_same v w (Mv p q) same = refl
+data_same v w (SetAttr p k value) same = refl
+data_same v w (RmAttr p k) same = refl
+
+least_same : (v o : Volume) (c : Command) (free : List ℕ) → o.size ≡ v.size → least_supplies o c free ≡ least_supplies v c free
+least_same v o c free same = ap (λ (n : ℕ). record { blocks = take n free; pair = least_pair free }) (data_same o v c same)
+
+pub unweighed : CarryingLaws → (d : Disk) (c : Command) (o new : Volume) (used : List Bool) → IsJudged d c o
+    → Marks used (λ b. uses b o) → unused used ≡ free_blocks o → new ≡ edited_outline o c (least_supplies o c (unused used)) → IsUnweighed d c used new
+unweighed laws d c o new used judged marks free edits = record {
+  volume = v;
+  holds = judged.outline.holds;
+  sound = judged.outline.sound;
+  names = judged.names;
+  unrefused = ap first_refusal (sym (laws.judged v c).checked ∙ ap (λ (x : Volume). checks x c) (sym is)) ∙ judged.unrefused;
+  marks = λ b. marks b ∙ ap (uses b) is ∙ uses_outlined b v;
+  free = unused_is;
+  outline = edits ∙ ap (edited_outline o c) (ap (least_supplies o c) unused_is ∙ least_same v o c (free_blocks v) (ap (λ (x : Volume). x.size) is))
+      ∙ ap (λ (x : Volume). edited_outline x c (supplies_of v c)) is;
+}
+  where
+    v : Volume
+    v = judged.outline.volume
+
+    is : o ≡ outlined v
+    is = judged.outline.outline
+
+    unused_is : unused used ≡ free_blocks v
+    unused_is = free ∙ ap free_blocks is ∙ free_outlined v
+
+-- ---- behind the edit
+
+-- the least two free blocks are no pair of the root
+least_by : (v : Volume) → IsSound v → (free : List ℕ) → ((b : ℕ) → Contains free b → uses b v ≡ 0) → same_pair (least_pair free) root ≡ false
+least_by v sound [] none = refl
+least_by v sound (a ∷ []) none = refl
+least_by v sound (a ∷ b ∷ more) none = not_root v sound (a, b) (none a (contains_first a (b ∷ more)))
+
+least_not_root : (v : Volume) → IsSound v → same_pair (least_pair (free_blocks v)) root ≡ false
+least_not_root v sound =
+    least_by v sound (free_blocks v)
+    (λ b free. taken_unused v (length (free_blocks v)) b (subst (λ (xs : List ℕ). Contains xs b) (sym (take_all (length (free_blocks v)) (free_blocks v) (omega arith))) free))
+
+first_both : (rs more : List (Option Refusal)) → first_refusal rs ≡ None → first_refusal (rs ++ more) ≡ first_refusal more
+first_both [] more none = refl
+first_both (None ∷ rs) more none = first_both rs more none
+first_both (Some r ∷ rs) more none = cc
+
+-- what is known of such an outline
+pub record IsWeighed (d : Disk) (c : Command) (used : List Bool) (o : Volume) (u : IsUnweighed d c used o) : Type 0 where
+  pub size : u.volume.size ≡ d.size
+  pub frame : o.size ≡ d.size
+  pub needed : made_blocks u.volume c + sum_by (part_blocks o) (dirty_parts o) ≡ need u.volume c
+  pub small : need u.volume c < 2 ^ 32
+  pub judged : first_refusal (room_checks_on o (made_blocks u.volume c) (unused used)) ≡ verdict u.volume c
+
+pub weighed : CarryingLaws → NeedsAreSmall → HeldHaveFewEntries → (d : Disk) (c : Command) (used : List Bool) (o : Volume)
+    → IsDisk d → (u : IsUnweighed d c used o) → IsWeighed d c used o u
+weighed laws small few d c used o disk u = record {
+  size = held.size;
+  frame = ap (λ (x : Volume). x.size) is ∙ edited_size v c (supplies_of v c) ∙ held.size;
+  needed = sym carried.needed;
+  small = small v c u.sound (laws.marks (reading_of d) v held) (limits_held d v u.holds) (few d v disk u.holds) u.unrefused;
+  judged = judged;
+}
+  where
+    v : Volume
+    v = u.volume
+
+    is : o ≡ outlined (edited v c (supplies_of v c))
+    is = u.outline ∙ sym (laws.outlines v c (supplies_of v c))
+
+    held : HoldsLinks (reading_of d) v
+    held = laws.by_links (reading_of d) v u.holds
+
+    carried : IsCarried v c (supplies_of v c) (λ p. []) o
+    carried = subst (IsCarried v c (supplies_of v c) (λ p. [])) (sym u.outline) (laws.carried v c (supplies_of v c) (λ p. []))
+
+    large : has_too_large (edited v c nothing) ≡ has_too_large o
+    large = carried.large (least_not_root v u.sound)
+
+    rows : room_checks v c ≡ room_checks_on o (made_blocks v c) (unused used)
+    rows =
+        ap (λ (t : Bool). refuse_if t EntryTooLarge ∷ refuse_if (nat_lt (length (free_blocks v)) (need v c)) (NoSpace (need v c) (length (free_blocks v))) ∷ []) large
+        ∙ ap (λ (n : ℕ). refuse_if (has_too_large o) EntryTooLarge ∷ refuse_if (nat_lt (length (free_blocks v)) n) (NoSpace n (length (free_blocks v))) ∷ []) carried.needed
+        ∙ ap (λ (free : List ℕ). room_checks_on o (made_blocks v c) free) (sym u.free)
+
+    judged : first_refusal (room_checks_on o (made_blocks v c) (unused used)) ≡ verdict v c
+    judged = ap first_refusal (sym rows) ∙ sym (first_both (checks v c) (room_checks v c) u.unrefused)
+
+pub refused_by : (d : Disk) (c : Command) (used : List Bool) (o : Volume) (u : IsUnweighed d c used o) (r : Refusal) → IsWeighed d c used o u
+    → first_refusal (room_checks_on o (made_blocks u.volume c) (unused used)) ≡ Some r → IsRefusedBy d c r
+refused_by d c used o u r known refused asked spells =
+    refuses d asked r (record { volume = u.volume; holds = u.holds; sound = u.sound; command = c; spells = spells; refused = sym known.judged ∙ refused })
+
+pub ready : (d : Disk) (c : Command) (used : List Bool) (o : Volume) (u : IsUnweighed d c used o) (blocks : List ℕ) → IsWeighed d c used o u
+    → first_refusal (room_checks_on o (made_blocks u.volume c) (unused used)) ≡ None
+    → blocks ≡ take (made_blocks u.volume c + sum_by (part_blocks o) (dirty_parts o)) (unused used) → IsReady d c used blocks o
+ready d c used o u blocks known passes least = record {
+  volume = u.volume;
+  holds = u.holds;
+  sound = u.sound;
+  names = u.names;
+  unrefused = sym known.judged ∙ passes;
+  marks = u.marks;
+  outline = u.outline;
+  least = least ∙ ap (λ (n : ℕ). take n (unused used)) known.needed ∙ ap (take (need u.volume c)) u.free;
+}

@@ -1,0 +1,12 @@
+-- A command that is refused for want of room leaves an outline that is read again, which is the one that was.
+use Rattle.std.proofs.Common.{inr}
+use Rattle.lfs_edit.specs.NamedCommand.{named_command}
+use Rattle.lfs_edit.proofs.JudgedLemmas.{may_be_refused}
+use Rattle.lfs_edit.proofs.carrying_out.carry_or_restore.Goals as goal
+
+pub returns-in_ok-outline-in-Err : goal.returns-in_ok-outline-in-Err
+returns-in_ok-outline-in-Err c = record {
+  finished = tt;
+  refused = may_be_refused c.args.image.now (named_command c.args.command.now) c.in-Err.refusal c.in-Err.ensures.refused;
+  unchanged = inr (c.in_ok-outline-in-Err.ensures.only c.args.outline.now c.requires.judged.outline);
+}

@@ -1,0 +1,83 @@
+//! Commands that are carried out on an image and the outline of its volume.
+
+ghost use Rattle.std.specs.Prelude.{◌≡◌, ◌⊎◌, IfOk, IfErr};
+ghost use Rattle.lfs_block.specs.Patch.{applied};
+ghost use Rattle.lfs_fs.specs.Mounted.{IsOutlineOf};
+ghost use Rattle.lfs_edit.specs.declared.refusal.Refusal.TheVariants.{Memory};
+ghost use Rattle.lfs_edit.specs.AskedFor.{asked_for};
+ghost use Rattle.lfs_edit.specs.Carried.{IsFinished, IsJudged, IsRefusedBy};
+ghost use Rattle.lfs_edit.specs.NamedCommand.{named_command};
+ghost use Rattle.lfs_edit.specs.Planned.{Plans, RefusesPlan};
+
+use crate::carrying::carry_judged;
+use crate::command::Command;
+use crate::judging::judge;
+use crate::named_command::NamedCommand;
+use crate::naming::by_names;
+use crate::outline_laws::outlines_are_judged_alike;
+use crate::refusal::Refusal;
+use lfs_block::{Image, Patch};
+use lfs_fs::{Outline, outline_of};
+use std::alloc::Global;
+
+/// Carries out a command that no check refuses, those on room aside. Where it is refused for want of room, the outline is read again, so
+/// that it is as it was.
+fn carry_or_restore(
+    alloc: Global,
+    image: &Image,
+    outline: &mut Outline,
+    command: &NamedCommand<'_>,
+) -> Result<Patch, Refusal>
+    requires judged { IsJudged image.now (named_command command.now) outline.old }
+    ensures finished { IfOk result (λ patch. IsFinished image.now (named_command command.now) patch outline.new) }
+    ensures refused { IfErr result (λ r. IsRefusedBy image.now (named_command command.now) r) }
+    ensures unchanged { IfErr result (λ r. (r ≡ Memory) ⊎ (outline.new ≡ outline.old)) }
+{
+    match carry_judged(alloc, image, outline, command) {
+        Ok(patch) => Ok(patch),
+        Err(Refusal::Memory) => Err(Refusal::Memory),
+        Err(refusal) => {
+            *outline = outline_of(alloc, image)?;
+            Err(refusal)
+        }
+    }
+}
+
+/// Carries out a command on an image and the outline of its volume: the patch of the image, and the outline of the patched image. The
+/// caller owes that `outline` is the image's. `BadPath` where a text spells no path; else the first of these that holds:
+///
+/// - to make a directory: the path is the root's (`IsRoot`); a front of it isn't there (`NotFound`) or is a file
+///   (`NotADirectory`); something is at it (`Exists`); its last name is longer than the limit (`NameTooLong`);
+/// - to put a file's contents: the path is the root's (`IsRoot`); a front of it isn't there (`NotFound`) or is a file
+///   (`NotADirectory`); a directory is at it (`IsADirectory`); nothing is at it, and its last name is longer than the limit
+///   (`NameTooLong`); the contents are longer than the limit (`FileTooLarge`);
+/// - to remove a file or a directory: the path is the root's (`IsRoot`); a front of it isn't there (`NotFound`) or is a file
+///   (`NotADirectory`); nothing is at it (`NotFound`); a directory that has an entry is (`NotEmpty`);
+/// - to move: one of the paths is the root's (`IsRoot`); a front of the first isn't there (`NotFound`) or is a file
+///   (`NotADirectory`); nothing is at it (`NotFound`); the second lies strictly below it (`IntoItself`); then of the second what
+///   is said of a directory that is made;
+/// - to set or remove an attribute: a front of the path isn't there (`NotFound`) or is a file (`NotADirectory`); nothing is at it
+///   (`NotFound`); the value is longer than the limit (`AttrTooLarge`), or there is no attribute of the kind (`NoAttr`);
+/// - then of each: an entry of a part that is changed weighs more than a block has room for (`EntryTooLarge`); fewer blocks are free
+///   than the command needs (`NoSpace`).
+///
+/// `Memory` says only that a growth was refused; the outline is of no use then. Any other refusal leaves it as it was.
+///
+/// Source: own.
+pub fn carry_out(
+    alloc: Global,
+    image: &Image,
+    outline: &mut Outline,
+    command: &Command<'_>,
+) -> Result<Patch, Refusal>
+    requires outline { IsOutlineOf image.now outline.old }
+    ensures planned { IfOk result (λ patch. Plans image.now (asked_for command.now) patch) }
+    ensures outline { IfOk result (λ patch. IsOutlineOf (applied patch image.now) outline.new) }
+    ensures refused { IfErr result (λ r. RefusesPlan image.now (asked_for command.now) r) }
+    ensures unchanged { IfErr result (λ r. (r ≡ Memory) ⊎ (outline.new ≡ outline.old)) }
+{
+    outlines_are_judged_alike();
+    let command = by_names(alloc, command)?;
+    judge(outline, &command)?;
+    carry_or_restore(alloc, image, outline, &command)
+}
