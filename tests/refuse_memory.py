@@ -68,8 +68,26 @@ def rows(runs):
     runs.row(["put", "a.img", "/f"], file, bytes(3))
 
 
+def directory_rows(runs):
+    new = runs.row(["format", "--count=8", "a.img"], None)
+    made = runs.row(["mkdir", "a.img", "/d"], new)
+    filled = runs.row(["put", "a.img", "/d/x"], made, bytes(65))
+    runs.row(["rm", "a.img", "/d"], filled)
+    runs.row(["rm", "a.img", "/d/x"], filled)
+    runs.row(["rm", "a.img", "/d"], made)
+    runs.row(["mv", "a.img", "/d", "/d/e"], filled)
+    runs.row(["mv", "a.img", "/d/x", "/y"], filled)
+    runs.row(["mv", "a.img", "/d", "/e"], filled)
+    parted = new
+    for letter in "ac":
+        parted = runs.row(["put", "a.img", "/" + 200 * letter], parted)
+    runs.row(["mkdir", "a.img", "/" + 200 * "b"], parted)
+    runs.row(["mkdir", "a.img", "/" + 200 * "b"], runs.row(["put", "a.img", "/a"], parted, bytes(513)))
+
+
 subprocess.run([HOME / "bin/lfsed", "--help"], stdout=subprocess.DEVNULL, check=True)
 with tempfile.TemporaryDirectory() as folder:
     tried = Runs(pathlib.Path(folder))
     rows(tried)
+    directory_rows(tried)
 sys.exit(1 if tried.wrong else 0)
