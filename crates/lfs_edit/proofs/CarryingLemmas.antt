@@ -20,31 +20,32 @@ use Rattle.lfs_fs.specs.Stored.{HoldsLinks}
 use Rattle.lfs_fs.specs.Thread.{links}
 use Rattle.lfs_fs.specs.Uses.{times, uses}
 use Rattle.lfs_fs.specs.Volume.{Volume}
-use Rattle.lfs_edit.specs.Accepted.{AreChosen, Follows, IsAccepted}
-use Rattle.lfs_edit.specs.Carried.{IsCutOver, IsFinished, IsReady, WritesOver, least_pair, made_blocks, supplies_of}
+use Rattle.lfs_command.specs.Accepted.{AreChosen, Follows, IsAccepted}
+use Rattle.lfs_draft.specs.LeastSupplies.{least_pair, made_blocks}
+use Rattle.lfs_edit.specs.Carried.{IsCutOver, IsFinished, IsReady, WritesOver, supplies_of}
 use Rattle.lfs_edit.specs.CarryingLaws.{CarryingLaws}
-use Rattle.lfs_edit.specs.Clean.{clean, cleaned}
-use Rattle.lfs_edit.specs.Command.{Asked, Command, Spells}
-use Rattle.lfs_edit.specs.Cut.{cut, new_pair_uses}
-use Rattle.lfs_edit.specs.CutOutline.{for_parts}
-use Rattle.lfs_edit.specs.DirectoryEdit.{each_part}
-use Rattle.lfs_edit.specs.Edited.{edited}
-use Rattle.lfs_edit.specs.Need.{changed_parts, data_blocks, need}
-use Rattle.lfs_edit.specs.OutlineCarried.{IsCarried}
-use Rattle.lfs_edit.specs.OutlineLaws.{WritesOutline}
-use Rattle.lfs_edit.specs.Planned.{HasOneOf, IsFrugal, Plans, TakesLeast}
-use Rattle.lfs_edit.specs.PlansHold.{NamesLeast, is_new_to, is_unmarked, rewritten_parts}
-use Rattle.lfs_edit.specs.PlansWritten.{WritesCommand}
-use Rattle.lfs_edit.specs.Supplies.{AreFree, Supplies, supply_uses}
-use Rattle.lfs_edit.specs.SuperblockBytes.{volume_bytes}
-use Rattle.lfs_edit.specs.WrittenLinks.{AreWritten, changed_blocks}
-use Rattle.lfs_edit.proofs.Decided.{same_pair_decides}
-use Rattle.lfs_edit.proofs.FreeBlocks.{taken_unused}
-use Rattle.lfs_edit.proofs.FrugalPlans.{enough_free}
-use Rattle.lfs_edit.proofs.KeptLinks.{contains_first}
-use Rattle.lfs_edit.proofs.LinksAdded.{first_used}
+use Rattle.lfs_command.specs.Clean.{clean, cleaned}
+use Rattle.lfs_command.specs.Command.{Asked, Command, Spells}
+use Rattle.lfs_command.specs.Cut.{cut, new_pair_uses}
+use Rattle.lfs_law.specs.CutOutline.{for_parts}
+use Rattle.lfs_command.specs.DirectoryEdit.{each_part}
+use Rattle.lfs_command.specs.Edited.{edited}
+use Rattle.lfs_command.specs.Need.{changed_parts, data_blocks, need}
+use Rattle.lfs_law.specs.OutlineCarried.{IsCarried}
+use Rattle.lfs_law.specs.OutlineLaws.{WritesOutline}
+use Rattle.lfs_command.specs.Planned.{HasOneOf, IsFrugal, Plans, TakesLeast}
+use Rattle.lfs_law.specs.PlansHold.{NamesLeast, is_new_to, is_unmarked, rewritten_parts}
+use Rattle.lfs_law.specs.PlansWritten.{WritesCommand}
+use Rattle.lfs_command.specs.Supplies.{AreFree, Supplies, supply_uses}
+use Rattle.lfs_law.specs.SuperblockBytes.{volume_bytes}
+use Rattle.lfs_law.specs.WrittenLinks.{AreWritten, changed_blocks}
+use Rattle.lfs_law.proofs.Decided.{same_pair_decides}
+use Rattle.lfs_law.proofs.FreeBlocks.{taken_unused}
+use Rattle.lfs_law.proofs.FrugalPlans.{enough_free}
+use Rattle.lfs_law.proofs.KeptLinks.{contains_first}
+use Rattle.lfs_law.proofs.LinksAdded.{first_used}
 use Rattle.lfs_edit.proofs.Supplied.{supplies_taken}
-use Rattle.lfs_edit.proofs.WrittenLemmas.{one_le, part_uses, sum_thread}
+use Rattle.lfs_law.proofs.WrittenLemmas.{one_le, part_uses, sum_thread}
 
 -- ---- marks are taken off an outline as off its volume
 

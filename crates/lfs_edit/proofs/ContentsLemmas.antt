@@ -16,16 +16,16 @@ use Rattle.lfs_fs.specs.Tree.{Node, File, Dir, entry_in, entry_at, node, node_of
 use Rattle.lfs_fs.specs.Outlined.{outlined}
 use Rattle.lfs_fs.specs.RowShown.{HasBlocks, RowsShowTheTree, shown_body, shown_node}
 use Rattle.lfs_fs.specs.Mounted.{MountedValue, IsMountOf}
-use Rattle.lfs_edit.specs.declared.refusal.Refusal.{Refusal}
-use Rattle.lfs_edit.specs.declared.refusal.Refusal.TheVariants.{NotFound, NotADirectory, BadPath, AttrTooLarge, NoAttr, EntryTooLarge, Memory, Exists, IsADirectory, NotEmpty, NameTooLong, FileTooLarge, IntoItself, IsRoot, NoSpace}
-use Rattle.lfs_edit.specs.Command.{SetAttr}
+use Rattle.lfs_command.specs.declared.refusal.Refusal.{Refusal}
+use Rattle.lfs_command.specs.declared.refusal.Refusal.TheVariants.{NotFound, NotADirectory, BadPath, AttrTooLarge, NoAttr, EntryTooLarge, Memory, Exists, IsADirectory, NotEmpty, NameTooLong, FileTooLarge, IntoItself, IsRoot, NoSpace}
+use Rattle.lfs_command.specs.Command.{SetAttr}
 use Rattle.lfs_edit.specs.Contents.{IsContents, HasNoFile, RefusesContents, reading_checks}
-use Rattle.lfs_edit.specs.HomeChecks.{entry_checks, there_checks}
-use Rattle.lfs_edit.specs.JudgedAlike.{OutlinesAreJudgedAlike}
-use Rattle.lfs_edit.specs.Verdict.{checks, first_refusal, refuse_if, walk_refusal_at, walk_refusal, is_directory}
+use Rattle.lfs_law.specs.HomeChecks.{entry_checks, there_checks}
+use Rattle.lfs_law.specs.JudgedAlike.{OutlinesAreJudgedAlike}
+use Rattle.lfs_command.specs.Verdict.{checks, first_refusal, refuse_if, walk_refusal_at, walk_refusal, is_directory}
 use Rattle.lfs_edit.proofs.VerdictKinds.{IsOfVerdict, MayBeOfVerdict, of_first, of_test, of_walk}
 use Rattle.lfs_edit.proofs.Verdicts.{refused_first}
-use Rattle.lfs_edit.proofs.Walks.{walk-append, walk-none, step_some}
+use Rattle.lfs_law.proofs.Walks.{walk-append, walk-none, step_some}
 
 -- ---- the walk of a path where something is
 

@@ -6,10 +6,10 @@ use Rattle.lfs_meta.specs.Name.{Name}
 use Rattle.lfs_fs.specs.Entry.{Body, Entry}
 use Rattle.lfs_fs.specs.Tree.{entry_at}
 use Rattle.lfs_fs.specs.Volume.{Volume}
-use Rattle.lfs_edit.specs.Command.{Command, Mkdir, Put, Rm, Mv, SetAttr, RmAttr}
-use Rattle.lfs_edit.specs.Edited.{edited, make_directory, move_entry, put_file, remove_entry, set_attributes}
-use Rattle.lfs_edit.specs.Home.{home_of}
-use Rattle.lfs_edit.specs.Supplies.{Supplies, new_body}
+use Rattle.lfs_command.specs.Command.{Command, Mkdir, Put, Rm, Mv, SetAttr, RmAttr}
+use Rattle.lfs_command.specs.Edited.{edited, make_directory, move_entry, put_file, remove_entry, set_attributes}
+use Rattle.lfs_command.specs.Home.{home_of}
+use Rattle.lfs_command.specs.Supplies.{Supplies, new_body}
 
 make_size : (v : Volume) (pair : Pair) (h : Option (Pair × Name)) → (make_directory v pair h).size ≡ v.size
 make_size v pair None = refl

@@ -9,17 +9,17 @@ use Rattle.lfs_fs.specs.Entry.{Entry}
 use Rattle.lfs_fs.specs.Outlined.{outlined, outlined_entry, outlined_part}
 use Rattle.lfs_fs.specs.Volume.{Volume}
 use Rattle.lfs_fs.specs.Weight.{superblock_weight, weight}
-use Rattle.lfs_edit.specs.Accepted.{IsAccepted}
-use Rattle.lfs_edit.specs.Command.{Command}
-use Rattle.lfs_edit.specs.Cut.{is_first, room, runs}
-use Rattle.lfs_edit.specs.Edited.{edited}
-use Rattle.lfs_edit.specs.Laws.{CommandsFollow}
-use Rattle.lfs_edit.specs.Need.{dirty_parts}
-use Rattle.lfs_edit.specs.PlansHold.{is_new_to, rewritten_parts}
-use Rattle.lfs_edit.specs.Supplies.{Supplies}
-use Rattle.lfs_edit.proofs.FreshPairs.{edited_zero}
-use Rattle.lfs_edit.proofs.KeptLinks.{contains_first, contains-cons}
-use Rattle.lfs_edit.proofs.OutlineDirectories.{thread_outlined}
+use Rattle.lfs_command.specs.Accepted.{IsAccepted}
+use Rattle.lfs_command.specs.Command.{Command}
+use Rattle.lfs_command.specs.Cut.{is_first, room, runs}
+use Rattle.lfs_command.specs.Edited.{edited}
+use Rattle.lfs_law.specs.Laws.{CommandsFollow}
+use Rattle.lfs_command.specs.Need.{dirty_parts}
+use Rattle.lfs_law.specs.PlansHold.{is_new_to, rewritten_parts}
+use Rattle.lfs_command.specs.Supplies.{Supplies}
+use Rattle.lfs_law.proofs.FreshPairs.{edited_zero}
+use Rattle.lfs_law.proofs.KeptLinks.{contains_first, contains-cons}
+use Rattle.lfs_law.proofs.OutlineDirectories.{thread_outlined}
 
 -- a part takes more than a block
 abbrev pub is_more : Volume → Part → Bool

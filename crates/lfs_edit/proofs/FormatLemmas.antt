@@ -17,7 +17,7 @@ use Rattle.lfs_meta.specs.Writing.{log_written, part_in, stored_part}
 use Rattle.lfs_fs.specs.Header.{IsHeader}
 use Rattle.lfs_fs.specs.LoneSuperblock.{LoneSuperblockMounts, IsLoneSuperblock}
 use Rattle.lfs_fs.specs.Pair.{root}
-use Rattle.lfs_edit.specs.SuperblockBytes.{superblock_bytes, new_limits, new_superblock}
+use Rattle.lfs_law.specs.SuperblockBytes.{superblock_bytes, new_limits, new_superblock}
 use Rattle.lfs_edit.specs.Formatted.{disk_with, root_block, IsFormatted}
 
 IsBytes-append : (xs ys : List ℕ) → IsBytes xs → IsBytes ys → IsBytes (xs ++ ys)

@@ -21,31 +21,33 @@ use Rattle.lfs_fs.specs.Unused.{unused}
 use Rattle.lfs_fs.specs.Used.{Marks}
 use Rattle.lfs_fs.specs.Uses.{uses}
 use Rattle.lfs_fs.specs.Volume.{Volume}
-use Rattle.lfs_edit.specs.declared.named_command.NamedCommand.{NamedCommand}
-use Rattle.lfs_edit.specs.declared.named_command.NamedCommand.TheVariants as case
-use Rattle.lfs_edit.specs.declared.refusal.Refusal.{Refusal}
-use Rattle.lfs_edit.specs.declared.refusal.Refusal.TheVariants.{EntryTooLarge, FileTooLarge, IsADirectory, IsRoot, Memory, NameTooLong, NoSpace}
-use Rattle.lfs_edit.specs.Carried.{IsJudged, IsReady, IsRefusedBy, IsUnweighed, least_pair, least_supplies, made_blocks, room_checks_on, supplies_of}
+use Rattle.lfs_command.specs.declared.named_command.NamedCommand.{NamedCommand}
+use Rattle.lfs_command.specs.declared.named_command.NamedCommand.TheVariants as case
+use Rattle.lfs_command.specs.declared.refusal.Refusal.{Refusal}
+use Rattle.lfs_command.specs.declared.refusal.Refusal.TheVariants.{EntryTooLarge, FileTooLarge, IsADirectory, IsRoot, Memory, NameTooLong, NoSpace}
+use Rattle.lfs_draft.specs.LeastSupplies.{least_pair, least_supplies, made_blocks}
+use Rattle.lfs_draft.specs.RoomChecks.{room_checks_on}
+use Rattle.lfs_edit.specs.Carried.{IsJudged, IsReady, IsRefusedBy, IsUnweighed, supplies_of}
 use Rattle.lfs_edit.specs.CarryingLaws.{CarryingLaws}
-use Rattle.lfs_edit.specs.Command.{Asked, Command, Mkdir, Mv, Put, Rm, RmAttr, SetAttr, Spells}
-use Rattle.lfs_edit.specs.Editable.{IsEditable}
-use Rattle.lfs_edit.specs.Edited.{edited}
-use Rattle.lfs_edit.specs.EditedOutline.{edited_outline}
-use Rattle.lfs_edit.specs.NamedCommand.{contents_len, named_command}
-use Rattle.lfs_edit.specs.Need.{data_blocks, dirty_parts, need, part_blocks}
-use Rattle.lfs_edit.specs.NeedsSmall.{HeldHaveFewEntries, NeedsAreSmall}
-use Rattle.lfs_edit.specs.OutlineCarried.{IsCarried, has_too_large}
-use Rattle.lfs_edit.specs.JudgedAlike.{OutlinesAreJudgedAlike}
-use Rattle.lfs_edit.specs.Planned.{RefusesPlan}
-use Rattle.lfs_edit.specs.Supplies.{nothing}
-use Rattle.lfs_edit.specs.Verdict.{checks, first_refusal, is_directory, is_root, last_length, refuse_if, room_checks, verdict, walk_refusal}
-use Rattle.lfs_edit.proofs.EditableLemmas.{begin_once, each_named_once}
+use Rattle.lfs_command.specs.Command.{Asked, Command, Mkdir, Mv, Put, Rm, RmAttr, SetAttr, Spells}
+use Rattle.lfs_draft.specs.Editable.{IsEditable}
+use Rattle.lfs_command.specs.Edited.{edited}
+use Rattle.lfs_law.specs.EditedOutline.{edited_outline}
+use Rattle.lfs_command.specs.NamedCommand.{contents_len, named_command}
+use Rattle.lfs_command.specs.Need.{data_blocks, dirty_parts, need, part_blocks}
+use Rattle.lfs_law.specs.NeedsSmall.{HeldHaveFewEntries, NeedsAreSmall}
+use Rattle.lfs_law.specs.OutlineCarried.{IsCarried, has_too_large}
+use Rattle.lfs_law.specs.JudgedAlike.{OutlinesAreJudgedAlike}
+use Rattle.lfs_command.specs.Planned.{RefusesPlan}
+use Rattle.lfs_command.specs.Supplies.{nothing}
+use Rattle.lfs_command.specs.Verdict.{checks, first_refusal, is_directory, is_root, last_length, refuse_if, room_checks, verdict, walk_refusal}
+use Rattle.lfs_draft.proofs.EditableLemmas.{begin_once, each_named_once}
 use Rattle.lfs_edit.proofs.EditedSizes.{edited_size}
-use Rattle.lfs_edit.proofs.FreeBlocks.{taken_unused}
-use Rattle.lfs_edit.proofs.Homes.{first_passes, test_passes}
-use Rattle.lfs_edit.proofs.KeptLinks.{contains_first}
-use Rattle.lfs_edit.proofs.OutlineRoom.{free_outlined, uses_outlined}
-use Rattle.lfs_edit.proofs.PartsFit.{not_root}
+use Rattle.lfs_law.proofs.FreeBlocks.{taken_unused}
+use Rattle.lfs_law.proofs.Homes.{first_passes, test_passes}
+use Rattle.lfs_law.proofs.KeptLinks.{contains_first}
+use Rattle.lfs_law.proofs.OutlineRoom.{free_outlined, uses_outlined}
+use Rattle.lfs_law.proofs.PartsFit.{not_root}
 use Rattle.lfs_edit.proofs.VerdictKinds.{refuses}
 use Rattle.lfs_edit.proofs.Verdicts.{refused_first}
 

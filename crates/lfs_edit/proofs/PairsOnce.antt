@@ -7,9 +7,9 @@ use Rattle.lfs_fs.specs.Pair.{same_pair}
 use Rattle.lfs_fs.specs.Directory.{Part, thread}
 use Rattle.lfs_fs.specs.Volume.{Volume}
 use Rattle.lfs_fs.specs.Uses.{pair_uses, times, uses}
-use Rattle.lfs_edit.specs.Chosen.{HasPairsOnce}
-use Rattle.lfs_edit.proofs.Decided.{same_pair_decides}
-use Rattle.lfs_edit.proofs.WrittenLemmas.{part_uses, sum_thread}
+use Rattle.lfs_draft.specs.Chosen.{HasPairsOnce}
+use Rattle.lfs_law.proofs.Decided.{same_pair_decides}
+use Rattle.lfs_law.proofs.WrittenLemmas.{part_uses, sum_thread}
 
 block_used : (p : Part) (n : ℕ) → n ≡ p.pair.0 → 1 ≤ pair_uses n p
 block_used p n is = subst (λ (b : ℕ). 1 ≤ pair_uses b p) (sym is) (first p.pair)

@@ -9,19 +9,20 @@ use Rattle.lfs_fs.specs.Outlined.{outlined}
 use Rattle.lfs_fs.specs.Reading.{reading_of}
 use Rattle.lfs_fs.specs.Stored.{HoldsLinks}
 use Rattle.lfs_fs.specs.Volume.{Volume}
-use Rattle.lfs_edit.specs.Accepted.{Follows, IsAccepted}
-use Rattle.lfs_edit.specs.Carried.{IsReady, made_blocks, supplies_of}
+use Rattle.lfs_command.specs.Accepted.{Follows, IsAccepted}
+use Rattle.lfs_draft.specs.LeastSupplies.{made_blocks}
+use Rattle.lfs_edit.specs.Carried.{IsReady, supplies_of}
 use Rattle.lfs_edit.specs.CarryingLaws.{CarryingLaws}
-use Rattle.lfs_edit.specs.Chosen.{HasPairsOnce}
-use Rattle.lfs_edit.specs.Command.{Command}
-use Rattle.lfs_edit.specs.Edited.{edited}
-use Rattle.lfs_edit.specs.Need.{dirty_parts, need, part_blocks}
-use Rattle.lfs_edit.specs.OutlineCarried.{IsCarried}
-use Rattle.lfs_edit.specs.PlansHold.{rewritten_parts}
+use Rattle.lfs_draft.specs.Chosen.{HasPairsOnce}
+use Rattle.lfs_command.specs.Command.{Command}
+use Rattle.lfs_command.specs.Edited.{edited}
+use Rattle.lfs_command.specs.Need.{dirty_parts, need, part_blocks}
+use Rattle.lfs_law.specs.OutlineCarried.{IsCarried}
+use Rattle.lfs_law.specs.PlansHold.{rewritten_parts}
 use Rattle.lfs_edit.proofs.CarryingLemmas.{pairs_differ, within_need}
 use Rattle.lfs_edit.proofs.FewGrow.{few_are_more, is_more}
-use Rattle.lfs_edit.proofs.FrugalPlans.{enough_free}
-use Rattle.lfs_edit.proofs.OutlineRoom.{outlines_take_same_room}
+use Rattle.lfs_law.proofs.FrugalPlans.{enough_free}
+use Rattle.lfs_law.proofs.OutlineRoom.{outlines_take_same_room}
 use Rattle.lfs_edit.proofs.PairsOnce.{pairs_once}
 use Rattle.lfs_edit.proofs.Supplied.{supplies_free}
 

@@ -6,12 +6,12 @@ use Rattle.lfs_fs.specs.Sound.{IsSound}
 use Rattle.lfs_fs.specs.Uses.{times, body_uses}
 use Rattle.lfs_fs.specs.Entry.{Chain, Inline}
 use Rattle.lfs_fs.specs.Volume.{Volume}
-use Rattle.lfs_edit.specs.Carried.{least_pair, least_supplies, made_blocks}
-use Rattle.lfs_edit.specs.Command.{Command, Mkdir, Put, Rm, Mv, SetAttr, RmAttr}
-use Rattle.lfs_edit.specs.Supplies.{AreFree, most_inline, supply_uses}
+use Rattle.lfs_draft.specs.LeastSupplies.{least_pair, least_supplies, made_blocks}
+use Rattle.lfs_command.specs.Command.{Command, Mkdir, Put, Rm, Mv, SetAttr, RmAttr}
+use Rattle.lfs_command.specs.Supplies.{AreFree, most_inline, supply_uses}
 use Rattle.lfs_file.specs.Capacity.{least_blocks}
-use Rattle.lfs_edit.proofs.FreeBlocks.{taken_free, taken_once}
-use Rattle.lfs_edit.proofs.LeastBlocks.{none_or_some}
+use Rattle.lfs_law.proofs.FreeBlocks.{taken_free, taken_once}
+use Rattle.lfs_law.proofs.LeastBlocks.{none_or_some}
 
 pair_taken : (free : List ℕ) (n : ℕ) → 2 ≤ length free → times n ((least_pair free).0 ∷ (least_pair free).1 ∷ []) ≡ times n (take 2 free)
 pair_taken [] n enough = absurd (omega arith)

@@ -9,14 +9,14 @@ use Rattle.lfs_fs.specs.Free.{free_blocks}
 use Rattle.lfs_fs.specs.Path.{Path}
 use Rattle.lfs_fs.specs.Tree.{Node, File, Dir, entry_at, tree}
 use Rattle.lfs_fs.specs.Volume.{Volume}
-use Rattle.lfs_edit.specs.declared.refusal.Refusal.{Refusal}
-use Rattle.lfs_edit.specs.declared.refusal.Refusal.TheVariants.{NotFound, NotADirectory, BadPath, AttrTooLarge, NoAttr, EntryTooLarge, Memory, Exists, IsADirectory, NotEmpty, NameTooLong, FileTooLarge, IntoItself, IsRoot, NoSpace}
-use Rattle.lfs_edit.specs.Command.{Asked, Command, Mkdir, Put, Rm, Mv, SetAttr, RmAttr}
-use Rattle.lfs_edit.specs.Edited.{edited}
-use Rattle.lfs_edit.specs.Need.{dirty_parts, need}
-use Rattle.lfs_edit.specs.Planned.{IsRefused, RefusesPlan}
-use Rattle.lfs_edit.specs.Supplies.{nothing}
-use Rattle.lfs_edit.specs.Verdict.{checks, first_refusal, has_attribute, is_bare, is_directory, is_root, is_too_large, last_length, lies_below, refuse_if, room_checks, walk_refusal, walk_refusal_at}
+use Rattle.lfs_command.specs.declared.refusal.Refusal.{Refusal}
+use Rattle.lfs_command.specs.declared.refusal.Refusal.TheVariants.{NotFound, NotADirectory, BadPath, AttrTooLarge, NoAttr, EntryTooLarge, Memory, Exists, IsADirectory, NotEmpty, NameTooLong, FileTooLarge, IntoItself, IsRoot, NoSpace}
+use Rattle.lfs_command.specs.Command.{Asked, Command, Mkdir, Put, Rm, Mv, SetAttr, RmAttr}
+use Rattle.lfs_command.specs.Edited.{edited}
+use Rattle.lfs_command.specs.Need.{dirty_parts, need}
+use Rattle.lfs_command.specs.Planned.{IsRefused, RefusesPlan}
+use Rattle.lfs_command.specs.Supplies.{nothing}
+use Rattle.lfs_command.specs.Verdict.{checks, first_refusal, has_attribute, is_bare, is_directory, is_root, is_too_large, last_length, lies_below, refuse_if, room_checks, walk_refusal, walk_refusal_at}
 
 -- a refusal of a verdict: neither of the text of a path, nor of memory
 unfoldable pub IsOfVerdict : Refusal → Type 0

@@ -1,8 +1,8 @@
 -- The first check that refuses.
 use Rattle.std.proofs.Common.{◌≡◌, Bool, false, List, [], ◌∷◌, ◌++◌, Option, Some, None, refl, sym}
 use Rattle.std.proofs.lemmas.Option.{none-some}
-use Rattle.lfs_edit.specs.declared.refusal.Refusal.{Refusal}
-use Rattle.lfs_edit.specs.Verdict.{refuse_if, first_refusal}
+use Rattle.lfs_command.specs.declared.refusal.Refusal.{Refusal}
+use Rattle.lfs_command.specs.Verdict.{refuse_if, first_refusal}
 
 -- checks behind one that refuses don't matter
 pub refused_first : (rs more : List (Option Refusal)) (r : Refusal) → first_refusal rs ≡ Some r → first_refusal (rs ++ more) ≡ Some r

@@ -17,26 +17,26 @@ use Rattle.lfs_fs.specs.Stored.{HoldsLinks}
 use Rattle.lfs_fs.specs.Thread.{links}
 use Rattle.lfs_fs.specs.Uses.{times}
 use Rattle.lfs_fs.specs.Volume.{Volume}
-use Rattle.lfs_edit.specs.Accepted.{Follows}
+use Rattle.lfs_command.specs.Accepted.{Follows}
 use Rattle.lfs_edit.specs.Carried.{IsCutReady, WritesOver, supplies_of}
 use Rattle.lfs_edit.specs.CarryingLaws.{CarryingLaws}
-use Rattle.lfs_edit.specs.Command.{Command}
-use Rattle.lfs_edit.specs.Cut.{cut}
-use Rattle.lfs_edit.specs.CommandsSet.{CommandsSetAPart}
-use Rattle.lfs_edit.specs.CutOutline.{for_parts}
-use Rattle.lfs_edit.specs.CutWritten.{CutLinksCanBeAdded, HeldBytesAreMade}
-use Rattle.lfs_edit.specs.Edited.{edited}
-use Rattle.lfs_edit.specs.Laid.{AreLaidFor}
-use Rattle.lfs_edit.specs.Need.{data_blocks, need}
-use Rattle.lfs_edit.specs.PairWritten.{CanBeAdded}
-use Rattle.lfs_edit.specs.PlansHold.{is_new_to, is_unmarked, rewritten_blocks, rewritten_parts}
-use Rattle.lfs_edit.specs.Supplies.{Supplies}
-use Rattle.lfs_edit.specs.SuperblockBytes.{volume_bytes}
-use Rattle.lfs_edit.specs.WrittenLinks.{AreWritten, CanBeMade, changed_blocks}
+use Rattle.lfs_command.specs.Command.{Command}
+use Rattle.lfs_command.specs.Cut.{cut}
+use Rattle.lfs_law.specs.CommandsSet.{CommandsSetAPart}
+use Rattle.lfs_law.specs.CutOutline.{for_parts}
+use Rattle.lfs_law.specs.CutWritten.{CutLinksCanBeAdded, HeldBytesAreMade}
+use Rattle.lfs_command.specs.Edited.{edited}
+use Rattle.lfs_write.specs.Laid.{AreLaidFor}
+use Rattle.lfs_command.specs.Need.{data_blocks, need}
+use Rattle.lfs_law.specs.PairWritten.{CanBeAdded}
+use Rattle.lfs_law.specs.PlansHold.{is_new_to, is_unmarked, rewritten_blocks, rewritten_parts}
+use Rattle.lfs_command.specs.Supplies.{Supplies}
+use Rattle.lfs_law.specs.SuperblockBytes.{volume_bytes}
+use Rattle.lfs_law.specs.WrittenLinks.{AreWritten, CanBeMade, changed_blocks}
 use Rattle.lfs_edit.proofs.CarryingLemmas.{IsTaken, same_bytes, taken_of, within_need}
-use Rattle.lfs_edit.proofs.FreeBlocks.{taken_below, taken_rise}
-use Rattle.lfs_edit.proofs.FrugalPlans.{changed_named, enough_free, one_is}
-use Rattle.lfs_edit.proofs.LinksAdded.{times_append, times_cons}
+use Rattle.lfs_law.proofs.FreeBlocks.{taken_below, taken_rise}
+use Rattle.lfs_law.proofs.FrugalPlans.{changed_named, enough_free, one_is}
+use Rattle.lfs_law.proofs.LinksAdded.{times_append, times_cons}
 
 -- ---- the blocks of the contents
 

@@ -16,42 +16,20 @@ use Rattle.lfs_fs.specs.Used.{Marks}
 use Rattle.lfs_fs.specs.Uses.{times, uses}
 use Rattle.lfs_fs.specs.Reading.{reading_of}
 use Rattle.lfs_fs.specs.Holds.{Holds}
-use Rattle.lfs_edit.specs.declared.refusal.Refusal.{Refusal}
-use Rattle.lfs_edit.specs.declared.refusal.Refusal.TheVariants.{EntryTooLarge, NoSpace}
-use Rattle.lfs_edit.specs.Command.{Command, Asked, Spells, HasNames}
-use Rattle.lfs_edit.specs.Supplies.{Supplies}
-use Rattle.lfs_edit.specs.EditedOutline.{edited_outline}
-use Rattle.lfs_edit.specs.Cut.{cut, HasEnough, new_pair_uses}
-use Rattle.lfs_edit.specs.Need.{need, data_blocks, directory_blocks, part_blocks, dirty_parts}
-use Rattle.lfs_edit.specs.Verdict.{checks, first_refusal, refuse_if, verdict}
-use Rattle.lfs_edit.specs.OutlineCarried.{has_too_large}
-use Rattle.lfs_edit.specs.Planned.{Plans, RefusesPlan}
-use Rattle.lfs_edit.specs.PlansHold.{content_blocks, is_unmarked}
-use Rattle.lfs_edit.specs.PlansWritten.{LaysNew}
-use Rattle.lfs_edit.specs.SuperblockBytes.{volume_bytes}
-use Rattle.lfs_edit.specs.WrittenLinks.{AreWritten, changed_blocks}
-
--- the first two of some blocks as a pair, which isn't the root's where they are fewer
-abbrev pub least_pair : List ℕ → Pair
-least_pair [] = (0, 0)
-least_pair (a ∷ []) = (0, 0)
-least_pair (a ∷ b ∷ more) = (a, b)
-
--- what a command takes for what it makes: the first of the free blocks
-abbrev pub least_supplies : Volume → Command → List ℕ → Supplies
-least_supplies v c free = record { blocks = take (data_blocks v c) free; pair = least_pair free }
-
--- how many those are
-abbrev pub made_blocks : Volume → Command → ℕ
-made_blocks v c = data_blocks v c + directory_blocks c
-
--- the checks on room, on the outline that a command leaves before its parts are cut, where it takes so many blocks for what it makes
-abbrev pub room_checks_on : Volume → ℕ → List ℕ → List (Option Refusal)
-room_checks_on o made free =
-    refuse_if (has_too_large o) EntryTooLarge
-    ∷ refuse_if (nat_lt (length free) (made + sum_by (part_blocks o) (dirty_parts o)))
-    (NoSpace (made + sum_by (part_blocks o) (dirty_parts o)) (length free))
-    ∷ []
+use Rattle.lfs_command.specs.declared.refusal.Refusal.{Refusal}
+use Rattle.lfs_command.specs.declared.refusal.Refusal.TheVariants.{EntryTooLarge, NoSpace}
+use Rattle.lfs_command.specs.Command.{Command, Asked, Spells, HasNames}
+use Rattle.lfs_command.specs.Supplies.{Supplies}
+use Rattle.lfs_law.specs.EditedOutline.{edited_outline}
+use Rattle.lfs_command.specs.Cut.{cut, HasEnough, new_pair_uses}
+use Rattle.lfs_command.specs.Need.{need, data_blocks, directory_blocks, part_blocks, dirty_parts}
+use Rattle.lfs_command.specs.Verdict.{checks, first_refusal, refuse_if, verdict}
+use Rattle.lfs_draft.specs.LeastSupplies.{least_supplies, made_blocks}
+use Rattle.lfs_command.specs.Planned.{Plans, RefusesPlan}
+use Rattle.lfs_law.specs.PlansHold.{content_blocks, is_unmarked}
+use Rattle.lfs_law.specs.PlansWritten.{LaysNew}
+use Rattle.lfs_law.specs.SuperblockBytes.{volume_bytes}
+use Rattle.lfs_law.specs.WrittenLinks.{AreWritten, changed_blocks}
 
 -- an outline of the volume that an image holds, on which no check refuses a command, those on room aside
 pub record IsJudged (d : Disk) (c : Command) (o : Volume) : Type 0 where

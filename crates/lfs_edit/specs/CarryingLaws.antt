@@ -1,12 +1,12 @@
 -- The laws that carrying a command out stands on (own).
 use Rattle.lfs_fs.specs.Stored.{HeldAreHeldByLinks}
-use Rattle.lfs_edit.specs.EditedOutline.{OutlinesFollow}
-use Rattle.lfs_edit.specs.JudgedAlike.{OutlinesAreJudgedAlike}
-use Rattle.lfs_edit.specs.Laws.{CleansFollow, CommandsFollow, CutsFollow, FewPartsChange, FreeAfterHeld}
-use Rattle.lfs_edit.specs.OutlineCarried.{LargeIsTheSame, OutlinesAreCarried}
-use Rattle.lfs_edit.specs.PlansHold.{LeastAreFree, PlansAreFrugal, PlansHold, RewrittenAreChanged, TablesTellNew}
-use Rattle.lfs_edit.specs.Written.{HeldAreClean}
-use Rattle.lfs_edit.specs.PlansWritten.{CommandsAreWritten, LaidAreThere}
+use Rattle.lfs_law.specs.EditedOutline.{OutlinesFollow}
+use Rattle.lfs_law.specs.JudgedAlike.{OutlinesAreJudgedAlike}
+use Rattle.lfs_law.specs.Laws.{CleansFollow, CommandsFollow, CutsFollow, FewPartsChange, FreeAfterHeld}
+use Rattle.lfs_law.specs.OutlineCarried.{LargeIsTheSame, OutlinesAreCarried}
+use Rattle.lfs_law.specs.PlansHold.{LeastAreFree, PlansAreFrugal, PlansHold, RewrittenAreChanged, TablesTellNew}
+use Rattle.lfs_law.specs.Written.{HeldAreClean}
+use Rattle.lfs_law.specs.PlansWritten.{CommandsAreWritten, LaidAreThere}
 
 pub record CarryingLaws : Type 0 where
   pub command : CommandsFollow

@@ -8,9 +8,9 @@ use Rattle.lfs_fs.specs.Tree.{Node, File, tree}
 use Rattle.lfs_fs.specs.Sound.{IsSound}
 use Rattle.lfs_fs.specs.Reading.{reading_of}
 use Rattle.lfs_fs.specs.Holds.{Holds}
-use Rattle.lfs_edit.specs.declared.refusal.Refusal.{Refusal}
-use Rattle.lfs_edit.specs.declared.refusal.Refusal.TheVariants.{NotFound, IsADirectory, BadPath, Memory}
-use Rattle.lfs_edit.specs.Verdict.{first_refusal, refuse_if, walk_refusal, is_directory}
+use Rattle.lfs_command.specs.declared.refusal.Refusal.{Refusal}
+use Rattle.lfs_command.specs.declared.refusal.Refusal.TheVariants.{NotFound, IsADirectory, BadPath, Memory}
+use Rattle.lfs_command.specs.Verdict.{first_refusal, refuse_if, walk_refusal, is_directory}
 
 -- The text spells a path, at which the tree of the image has a file with these bytes.
 pub record IsContents (d : Disk) (text bytes : List ℕ) : Type 0 where

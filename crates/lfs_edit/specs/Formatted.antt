@@ -8,7 +8,7 @@ use Rattle.lfs_meta.specs.Writing.{log_written, stored_part}
 use Rattle.lfs_fs.specs.Formatted.{formatted_volume}
 use Rattle.lfs_fs.specs.Mounted.{MountedValue, IsMountOf}
 use Rattle.lfs_fs.specs.Tree.{top}
-use Rattle.lfs_edit.specs.SuperblockBytes.{new_superblock}
+use Rattle.lfs_law.specs.SuperblockBytes.{new_superblock}
 
 -- the image of these bytes
 abbrev pub disk_with : ℕ → ℕ → List ℕ → Disk

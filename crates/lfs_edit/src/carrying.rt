@@ -7,36 +7,31 @@ ghost use Rattle.lfs_block.specs.Patch.{applied};
 ghost use Rattle.lfs_fs.specs.Mounted.{IsOutlineOf};
 ghost use Rattle.lfs_fs.specs.Unused.{unused};
 ghost use Rattle.lfs_fs.specs.Volume.{Volume};
-ghost use Rattle.lfs_edit.specs.declared.refusal.Refusal.TheVariants.{Memory};
-ghost use Rattle.lfs_edit.specs.AskedFor.{asked_for};
-ghost use Rattle.lfs_edit.specs.Carried.{IsCutOver, IsCutReady, IsFinished, IsJudged, IsReady, IsRefusedBy, least_supplies, room_checks_on};
-ghost use Rattle.lfs_edit.specs.Chosen.{HasPairsOnce};
-ghost use Rattle.lfs_edit.specs.Clean.{clean};
-ghost use Rattle.lfs_edit.specs.Cut.{runs};
-ghost use Rattle.lfs_edit.specs.Editable.{IsEditable};
-ghost use Rattle.lfs_edit.specs.EditedOutline.{edited_outline};
-ghost use Rattle.lfs_edit.specs.NamedCommand.{contents_len, named_command};
-ghost use Rattle.lfs_edit.specs.Need.{data_blocks, dirty_parts, part_blocks};
-ghost use Rattle.lfs_edit.specs.Planned.{Plans, RefusesPlan};
-ghost use Rattle.lfs_edit.specs.Verdict.{first_refusal};
+ghost use Rattle.lfs_command.specs.declared.refusal.Refusal.TheVariants.{Memory};
+ghost use Rattle.lfs_command.specs.AskedFor.{asked_for};
+ghost use Rattle.lfs_draft.specs.LeastSupplies.{least_supplies};
+ghost use Rattle.lfs_draft.specs.RoomChecks.{room_checks_on};
+ghost use Rattle.lfs_edit.specs.Carried.{IsCutOver, IsCutReady, IsFinished, IsJudged, IsReady, IsRefusedBy};
+ghost use Rattle.lfs_draft.specs.Chosen.{HasPairsOnce};
+ghost use Rattle.lfs_command.specs.Clean.{clean};
+ghost use Rattle.lfs_command.specs.Cut.{runs};
+ghost use Rattle.lfs_draft.specs.Editable.{IsEditable};
+ghost use Rattle.lfs_law.specs.EditedOutline.{edited_outline};
+ghost use Rattle.lfs_command.specs.NamedCommand.{contents_len, named_command};
+ghost use Rattle.lfs_command.specs.Need.{data_blocks, dirty_parts, part_blocks};
+ghost use Rattle.lfs_command.specs.Planned.{Plans, RefusesPlan};
+ghost use Rattle.lfs_command.specs.Verdict.{first_refusal};
 
 use crate::carrying_laws::carrying_laws;
-use crate::choosing::choose;
-use crate::cleaning::clean;
-use crate::cutting::cut;
-use crate::editing::edit;
-use crate::laws::{commands_set_a_part, held_volumes_have_few_entries, needs_are_small};
-use crate::laying::laid_for;
-use crate::leading::leading_pair;
-use crate::link_writing::write_links;
-use crate::made_blocks::{data_blocks, directory_blocks};
-use crate::named_command::NamedCommand;
-use crate::refusal::Refusal;
-use crate::room_check::needed;
-use crate::supplying::least_supplies;
-use crate::written_laws::{cut_links_can_be_written, held_superblocks_are_made};
 use lfs_block::{Blocks, Image, Patch};
+use lfs_command::{NamedCommand, Refusal, data_blocks, directory_blocks};
+use lfs_draft::{choose, clean, cut, edit, leading_pair, least_supplies, needed};
 use lfs_fs::{Outline, UsedBlocks, names_are_ordered, outlines_are_sound};
+use lfs_law::{
+    commands_set_a_part, cut_links_can_be_written, held_superblocks_are_made,
+    held_volumes_have_few_entries, needs_are_small,
+};
+use lfs_write::{laid_for, write_links};
 use std::alloc::{AllocError, Global};
 
 /// What a command makes of an outline with the least free blocks. The caller owes what `edit` asks, a block size that images have, and

@@ -2,15 +2,12 @@
 
 ghost use Rattle.lfs_edit.specs.CarryingLaws.{CarryingLaws};
 
-use crate::laws::{
-    commands_follow, cuts_follow, free_after, need_is_exact, written_volumes_are_held,
-};
-use crate::outline_laws::{outlines_are_carried, outlines_are_judged_alike, outlines_follow};
-use crate::written_laws::{
-    commands_are_written, laid_contents_are_there, least_blocks_are_free, plans_are_frugal,
-    plans_hold, tables_tell_new_pairs,
-};
 use lfs_fs::both_sides_hold;
+use lfs_law::{
+    commands_are_written, commands_follow, cuts_follow, free_after, laid_contents_are_there,
+    least_blocks_are_free, need_is_exact, outlines_are_carried, outlines_are_judged_alike,
+    outlines_follow, plans_are_frugal, plans_hold, tables_tell_new_pairs, written_volumes_are_held,
+};
 
 /// The laws that carrying a command out stands on. Takes no memory.
 pub(crate) fn carrying_laws()

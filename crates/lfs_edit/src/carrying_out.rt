@@ -3,21 +3,18 @@
 ghost use Rattle.std.specs.Prelude.{◌≡◌, ◌⊎◌, IfOk, IfErr};
 ghost use Rattle.lfs_block.specs.Patch.{applied};
 ghost use Rattle.lfs_fs.specs.Mounted.{IsOutlineOf};
-ghost use Rattle.lfs_edit.specs.declared.refusal.Refusal.TheVariants.{Memory};
-ghost use Rattle.lfs_edit.specs.AskedFor.{asked_for};
+ghost use Rattle.lfs_command.specs.declared.refusal.Refusal.TheVariants.{Memory};
+ghost use Rattle.lfs_command.specs.AskedFor.{asked_for};
 ghost use Rattle.lfs_edit.specs.Carried.{IsFinished, IsJudged, IsRefusedBy};
-ghost use Rattle.lfs_edit.specs.NamedCommand.{named_command};
-ghost use Rattle.lfs_edit.specs.Planned.{Plans, RefusesPlan};
+ghost use Rattle.lfs_command.specs.NamedCommand.{named_command};
+ghost use Rattle.lfs_command.specs.Planned.{Plans, RefusesPlan};
 
 use crate::carrying::carry_judged;
-use crate::command::Command;
-use crate::judging::judge;
-use crate::named_command::NamedCommand;
-use crate::naming::by_names;
-use crate::outline_laws::outlines_are_judged_alike;
-use crate::refusal::Refusal;
 use lfs_block::{Image, Patch};
+use lfs_command::{Command, NamedCommand, Refusal, by_names};
+use lfs_draft::judge;
 use lfs_fs::{Outline, outline_of};
+use lfs_law::outlines_are_judged_alike;
 use std::alloc::Global;
 
 /// Carries out a command that no check refuses, those on room aside. Where it is refused for want of room, the outline is read again, so

@@ -7,16 +7,15 @@ ghost use Rattle.lfs_fs.specs.Mounted.{IsMountOf};
 ghost use Rattle.lfs_fs.specs.OutlineHeld.{outline_body_held};
 ghost use Rattle.lfs_fs.specs.RowShown.{HasBlocks, shown_body};
 ghost use Rattle.lfs_fs.specs.Tree.{Dir, File};
-ghost use Rattle.lfs_edit.specs.declared.refusal.Refusal.TheVariants.{IsADirectory, Memory};
+ghost use Rattle.lfs_command.specs.declared.refusal.Refusal.TheVariants.{IsADirectory, Memory};
 ghost use Rattle.lfs_edit.specs.Contents.{IsContents, RefusesContents};
 
-use crate::outline_laws::outlines_are_judged_alike;
-use crate::paths::names_of;
-use crate::refusal::Refusal;
-use crate::standing::entry_there;
 use lfs_block::Blocks;
+use lfs_command::{Refusal, names_of};
+use lfs_draft::entry_there;
 use lfs_file::read_file;
 use lfs_fs::{Mounted, OutlineBody, rows_show_the_tree};
+use lfs_law::outlines_are_judged_alike;
 use std::alloc::{AllocError, Global};
 
 /// The contents of a file of `size` bytes in these blocks. The caller owes that they are on the disk, and no more than it

@@ -5,10 +5,10 @@ ghost use Rattle.lfs_block.specs.Bytes.{IsBytes};
 ghost use Rattle.lfs_block.specs.Geometry.{IsGeometry};
 ghost use Rattle.lfs_edit.specs.Formatted.{IsFormatted};
 
-use crate::refusal::Refusal;
-use crate::superblock::new_superblock;
+use lfs_command::Refusal;
 use lfs_fs::lone_superblocks_mount;
 use lfs_meta::{Tail, first_block};
+use lfs_write::new_superblock;
 use std::alloc::{AllocError, Global};
 
 /// Bytes filled up with erased ones.

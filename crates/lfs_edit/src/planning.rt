@@ -2,17 +2,15 @@
 
 ghost use Rattle.std.specs.Prelude.{IfOk, IfErr};
 ghost use Rattle.lfs_fs.specs.Mounted.{IsMountOf};
-ghost use Rattle.lfs_edit.specs.AskedFor.{asked_for};
-ghost use Rattle.lfs_edit.specs.Planned.{Plans, RefusesPlan};
+ghost use Rattle.lfs_command.specs.AskedFor.{asked_for};
+ghost use Rattle.lfs_command.specs.Planned.{Plans, RefusesPlan};
 
 use crate::carrying::carry_judged;
-use crate::command::Command;
-use crate::judging::judge;
-use crate::naming::by_names;
-use crate::outline_laws::outlines_are_judged_alike;
-use crate::refusal::Refusal;
 use lfs_block::{Image, Patch};
+use lfs_command::{Command, Refusal, by_names};
+use lfs_draft::judge;
 use lfs_fs::{Mounted, outline_of};
+use lfs_law::outlines_are_judged_alike;
 use std::alloc::Global;
 
 /// The patch that carries out a command on an image, or why there is none, as `carry_out` has it. The caller owes that `mounted` is

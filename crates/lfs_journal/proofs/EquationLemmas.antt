@@ -7,11 +7,11 @@ use Rattle.lfs_fs.specs.Volume.{Volume}
 use Rattle.lfs_fs.specs.Tree.{Node, tree}
 use Rattle.lfs_fs.specs.Reading.{reading_of}
 use Rattle.lfs_fs.specs.Holds.{VolumesAreOne}
-use Rattle.lfs_edit.specs.Equation.{equation}
-use Rattle.lfs_edit.specs.Edited.{edited}
-use Rattle.lfs_edit.specs.Cut.{cut}
-use Rattle.lfs_edit.specs.Clean.{clean}
-use Rattle.lfs_edit.specs.Accepted.{Follows}
+use Rattle.lfs_command.specs.Equation.{equation}
+use Rattle.lfs_command.specs.Edited.{edited}
+use Rattle.lfs_command.specs.Cut.{cut}
+use Rattle.lfs_command.specs.Clean.{clean}
+use Rattle.lfs_command.specs.Accepted.{Follows}
 use Rattle.lfs_journal.specs.Laws.{IsCarriedOut, CommandsAreEquations, CommandsPushEquations}
 use Rattle.lfs_journal.proofs.MoveLemmas.{Follow}
 

@@ -6,13 +6,13 @@ use Rattle.std.proofs.lemmas.List.{reverse-append}
 use Rattle.lfs_block.specs.Disk.{Disk, IsDisk}
 use Rattle.lfs_block.specs.Patch.{ChangeSet, IsPatch, AgreesOld, AgreesNew, applied, reverted}
 use Rattle.lfs_block.specs.PatchLaws.{AppliedIsDisk, AppliedAgrees, AppliedRevertsBack, RevertedIsDisk, RevertedAgrees, RevertedAppliesAgain}
-use Rattle.lfs_edit.specs.Command.{Asked}
-use Rattle.lfs_edit.specs.Laws.{CutsFollow, CleansFollow}
-use Rattle.lfs_edit.specs.Edited.{edited}
-use Rattle.lfs_edit.specs.Cut.{cut}
-use Rattle.lfs_edit.specs.Clean.{clean}
-use Rattle.lfs_edit.specs.Accepted.{Follows}
-use Rattle.lfs_edit.specs.Planned.{Plans}
+use Rattle.lfs_command.specs.Command.{Asked}
+use Rattle.lfs_law.specs.Laws.{CutsFollow, CleansFollow}
+use Rattle.lfs_command.specs.Edited.{edited}
+use Rattle.lfs_command.specs.Cut.{cut}
+use Rattle.lfs_command.specs.Clean.{clean}
+use Rattle.lfs_command.specs.Accepted.{Follows}
+use Rattle.lfs_command.specs.Planned.{Plans}
 use Rattle.lfs_journal.specs.History.{History, IsHistory, IsMounted, past_of, future_of, GoesBack, GoesOn, most_changes}
 use Rattle.lfs_journal.specs.Moves.{Pushes, Undoes, Redoes, Forgets}
 

@@ -1,6 +1,6 @@
 -- The numbers of faults of steps (own).
 use Rattle.std.specs.Prelude.{ℕ}
-use Rattle.lfs_edit.specs.Faults.{refusal_number}
+use Rattle.lfs_command.specs.Faults.{refusal_number}
 use Rattle.lfs_journal.specs.declared.step_fault.StepFault.{StepFault}
 use Rattle.lfs_journal.specs.declared.step_fault.StepFault.TheVariants.{Refused, NothingToUndo, NothingToRedo, JournalFull}
 

@@ -9,10 +9,10 @@ use Rattle.lfs_fs.specs.Tree.{Node}
 use Rattle.lfs_fs.specs.Reading.{reading_of}
 use Rattle.lfs_fs.specs.Holds.{Holds}
 use Rattle.lfs_fs.specs.Mounts.{Mounts}
-use Rattle.lfs_edit.specs.Command.{Command, Asked, Spells}
-use Rattle.lfs_edit.specs.Equation.{equation}
-use Rattle.lfs_edit.specs.Accepted.{Follows}
-use Rattle.lfs_edit.specs.Planned.{Plans}
+use Rattle.lfs_command.specs.Command.{Command, Asked, Spells}
+use Rattle.lfs_command.specs.Equation.{equation}
+use Rattle.lfs_command.specs.Accepted.{Follows}
+use Rattle.lfs_command.specs.Planned.{Plans}
 use Rattle.lfs_journal.specs.History.{History, IsHistory}
 use Rattle.lfs_journal.specs.Steps.{Step, Do, Undo, Redo, Reply, Does, Run}
 

@@ -1,5 +1,5 @@
 -- What a step of the code asks for (own).
-use Rattle.lfs_edit.specs.AskedFor.{asked_for}
+use Rattle.lfs_command.specs.AskedFor.{asked_for}
 use Rattle.lfs_journal.specs.declared.step.Step.{Step as Written}
 use Rattle.lfs_journal.specs.declared.step.Step.TheVariants as case
 use Rattle.lfs_journal.specs.Steps.{Step, Do, Undo, Redo, Forget}

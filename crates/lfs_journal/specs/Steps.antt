@@ -1,8 +1,8 @@
 -- Steps of a session, their replies, and runs of them (own).
 use Rattle.std.specs.Prelude.{◌≡◌, ◌<◌, ◌≤◌, List, [], ◌∷◌, Option, Some, None, length}
 use Rattle.lfs_block.specs.Patch.{ChangeSet}
-use Rattle.lfs_edit.specs.Command.{Asked}
-use Rattle.lfs_edit.specs.Planned.{Plans, RefusesPlan}
+use Rattle.lfs_command.specs.Command.{Asked}
+use Rattle.lfs_command.specs.Planned.{Plans, RefusesPlan}
 use Rattle.lfs_journal.specs.declared.step_fault.StepFault.{StepFault}
 use Rattle.lfs_journal.specs.declared.step_fault.StepFault.TheVariants.{Refused, NothingToUndo, NothingToRedo, JournalFull}
 use Rattle.lfs_journal.specs.History.{History, most_changes}

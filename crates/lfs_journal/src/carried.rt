@@ -3,8 +3,8 @@
 ghost use Rattle.std.specs.Prelude.{IfOk, IfErr};
 ghost use Rattle.lfs_block.specs.Patch.{applied};
 ghost use Rattle.lfs_fs.specs.Mounted.{IsOutlineOf};
-ghost use Rattle.lfs_edit.specs.AskedFor.{asked_for};
-ghost use Rattle.lfs_edit.specs.Planned.{Plans, RefusesPlan};
+ghost use Rattle.lfs_command.specs.AskedFor.{asked_for};
+ghost use Rattle.lfs_command.specs.Planned.{Plans, RefusesPlan};
 ghost use Rattle.lfs_journal.specs.History.{IsMounted};
 ghost use Rattle.lfs_journal.specs.Known.{IsKnown};
 

@@ -5,8 +5,8 @@ ghost use Rattle.lfs_journal.specs.Laws.{CommandsAreEquations, CommandsPushEquat
 use lfs_block::{
     applied_patches_change_their_blocks, applied_patches_revert, reverted_patches_apply_again,
 };
-use lfs_edit::cuts_follow;
 use lfs_fs::images_mount_to_one_tree;
+use lfs_law::cuts_follow;
 
 /// A law: a patch that is planned for a command leaves an image that mounts, to the tree that is the command's equation of
 /// the tree before, with the same size, count and limits. Takes no memory.

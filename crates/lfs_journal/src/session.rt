@@ -8,8 +8,9 @@ use lfs_block::{
     Image, Patch, applied_patches_change_their_blocks, applied_patches_revert,
     reverted_patches_apply_again,
 };
-use lfs_edit::{Command, cuts_follow};
+use lfs_edit::Command;
 use lfs_fs::{Outline, mount};
+use lfs_law::cuts_follow;
 use std::alloc::Global;
 use std::marker::Model;
 
@@ -43,7 +44,7 @@ impl Model for Session {
 impl Session {
     ghost use Rattle.std.specs.Prelude.{◌≡◌, [], Some, IfOk, IfErr, OnOk, OnErr};
     ghost use Rattle.lfs_fs.specs.Cause.{HasCause};
-    ghost use Rattle.lfs_edit.specs.AskedFor.{asked_for};
+    ghost use Rattle.lfs_command.specs.AskedFor.{asked_for};
     ghost use Rattle.lfs_journal.specs.declared.step_fault.StepFault.TheVariants.{NothingToUndo, NothingToRedo};
     ghost use Rattle.lfs_journal.specs.History.{IsHistory, fresh_history};
     ghost use Rattle.lfs_journal.specs.Moves.{Undoes, Redoes, Forgets};

@@ -53,7 +53,7 @@ impl From<Refusal> for StepFault {
 
 impl From<AllocError> for StepFault {
     ghost use Rattle.std.specs.Prelude.{◌≡◌};
-    ghost use Rattle.lfs_edit.specs.declared.refusal.Refusal.TheVariants.{Memory};
+    ghost use Rattle.lfs_command.specs.declared.refusal.Refusal.TheVariants.{Memory};
     ghost use Rattle.lfs_journal.specs.declared.step_fault.StepFault.TheVariants.{Refused};
 
     ghost from_gives = { λ error fault. fault ≡ Refused Memory };

@@ -1,6 +1,6 @@
 //! Attributes of an entry.
 
-use crate::{Body, Entry, Kind};
+use crate::{Body, Entry, Kind, copied_attributes};
 use std::test::Fail;
 
 #[test]
@@ -23,6 +23,12 @@ fn attributes_are_set_and_removed(rt: HostRuntime) -> Result<(), Fail> {
     for (attribute, (kind, value)) in entry.attributes.iter().zip(kinds) {
         assert_eq!(rt; attribute.kind, kind);
         assert!(rt; attribute.value.as_slice() == value, "{kind}");
+    }
+    let copies = copied_attributes(alloc, &entry.attributes)?;
+    assert_eq!(rt; copies.len(), 2);
+    for (copy, (kind, value)) in copies.iter().zip(kinds) {
+        assert_eq!(rt; copy.kind, kind);
+        assert!(rt; copy.value.as_slice() == value, "copy of {kind}");
     }
     entry.remove_attribute(0x10);
     assert!(rt; entry.attributes.len() == 1 && entry.has_attribute(0x74));

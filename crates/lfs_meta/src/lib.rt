@@ -3,6 +3,7 @@
 
 mod action;
 mod attribute;
+mod attribute_copies;
 mod attribute_ref;
 mod attributes;
 mod body;
@@ -37,6 +38,7 @@ mod whole;
 mod writing;
 
 pub use attribute::{Attribute, remove_attribute, set_attribute};
+pub use attribute_copies::copied_attributes;
 pub use body::Body;
 pub use cutting::cut;
 pub use entry::Entry;

@@ -2,7 +2,7 @@
 use Rattle.std.proofs.Common.{◌≡◌, ℕ, List, [], Option, Some, None, Result, Ok, Err, IfErr, OnOk, OnErr, inr, sym, subst, ap, ◌∙◌}
 use Rattle.std.specs.Result.{result_err}
 use Rattle.lfs_block.specs.Disk.{Disk, IsDisk}
-use Rattle.lfs_edit.specs.Command.{Asked}
+use Rattle.lfs_command.specs.Command.{Asked}
 use Rattle.lfs_journal.specs.declared.step_fault.StepFault.{StepFault}
 use Rattle.lfs_journal.specs.declared.step_fault.StepFault.TheVariants.{Refused as Refused_step, NothingToUndo, NothingToRedo, JournalFull}
 use Rattle.lfs_journal.specs.History.{History, IsMounted, fresh_history}

@@ -3,7 +3,7 @@ use Rattle.std.proofs.Common.{◌≡◌, ℕ, List, [], ◌∷◌, refl, sym, �
 use Rattle.lfs_block.specs.Disk.{Disk, IsDisk}
 use Rattle.lfs_block.specs.Patch.{applied}
 use Rattle.lfs_block.specs.PatchLaws.{IsDiskAs, AppliedIsDisk}
-use Rattle.lfs_edit.specs.Command.{Asked}
+use Rattle.lfs_command.specs.Command.{Asked}
 use Rattle.lfs_journal.specs.History.{fresh_history}
 use Rattle.lfs_journal.specs.Laws.{IsCarriedOut, CommandsPushEquations, UndoAndRedoKeepImages, images}
 use Rattle.lfsed.specs.declared.outcome.Outcome.{Outcome}

@@ -3,8 +3,8 @@ use Rattle.std.specs.Prelude.{◌≡◌, ◌≢◌, ◌⊎◌, ℕ, List, [], Op
 use Rattle.lfs_block.specs.Disk.{Disk, IsDisk}
 use Rattle.lfs_block.specs.ImageFault.{IsNoImage}
 use Rattle.lfs_fs.specs.Cause.{HasCause}
-use Rattle.lfs_edit.specs.declared.refusal.Refusal.TheVariants.{Memory}
-use Rattle.lfs_edit.specs.Command.{Asked}
+use Rattle.lfs_command.specs.declared.refusal.Refusal.TheVariants.{Memory}
+use Rattle.lfs_command.specs.Command.{Asked}
 use Rattle.lfs_journal.specs.declared.step_fault.StepFault.{StepFault}
 use Rattle.lfs_journal.specs.declared.step_fault.StepFault.TheVariants.{Refused as Refused_step}
 use Rattle.lfs_journal.specs.History.{History, IsMounted, fresh_history}

@@ -1,8 +1,8 @@
 -- What a step does with an image (own).
 use Rattle.std.specs.Prelude.{ℕ, List}
-use Rattle.lfs_edit.specs.Command as asked
-use Rattle.lfs_edit.specs.Command.{Asked}
-use Rattle.lfs_edit.specs.AskedFor.{asked_for}
+use Rattle.lfs_command.specs.Command as asked
+use Rattle.lfs_command.specs.Command.{Asked}
+use Rattle.lfs_command.specs.AskedFor.{asked_for}
 use Rattle.lfsed.specs.declared.deed.Deed.{Deed as Written}
 use Rattle.lfsed.specs.declared.deed.Deed.TheVariants as written
 use Rattle.lfsed.specs.declared.query.Query.{Query}

@@ -3,8 +3,8 @@ use Rattle.std.specs.Prelude.{ℕ, Bool, ◌&&◌, ◌||◌, ◌==◌, if◌then
 use Rattle.lfs_block.specs.declared.mount_fault.MountFault.{MountFault}
 use Rattle.lfs_block.specs.declared.mount_fault.MountFault.TheVariants.{Memory as No_memory}
 use Rattle.lfs_block.specs.Faults.{image_fault_number, mount_fault_number}
-use Rattle.lfs_edit.specs.declared.refusal.Refusal.TheVariants.{Memory}
-use Rattle.lfs_edit.specs.Faults.{refusal_number}
+use Rattle.lfs_command.specs.declared.refusal.Refusal.TheVariants.{Memory}
+use Rattle.lfs_command.specs.Faults.{refusal_number}
 use Rattle.lfs_journal.specs.declared.step_fault.StepFault.{StepFault}
 use Rattle.lfs_journal.specs.declared.step_fault.StepFault.TheVariants.{Refused as Refused_step}
 use Rattle.lfs_journal.specs.Faults.{step_fault_number}

@@ -7,7 +7,7 @@ use Rattle.lfs_fs.specs.Tree.{Node}
 use Rattle.lfs_fs.specs.Reading.{reading_of}
 use Rattle.lfs_fs.specs.Holds.{Holds}
 use Rattle.lfs_fs.specs.Mounts.{Mounts}
-use Rattle.lfs_edit.specs.Command.{Asked}
+use Rattle.lfs_command.specs.Command.{Asked}
 use Rattle.lfs_journal.specs.History.{History}
 use Rattle.lfs_journal.specs.Steps.{Step, Reply, Run}
 use Rattle.lfs_journal.specs.Laws.{IsCarriedOut, IsUndoOrRedo, images}

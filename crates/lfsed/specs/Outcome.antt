@@ -3,7 +3,7 @@ use Rattle.std.specs.Prelude.{ℕ, ◌≡◌, Bool, true, false, List, [], Optio
 use Rattle.std.specs.Io.KnownBytes.{Keeps}
 use Rattle.lfs_block.specs.Geometry.{IsGeometry}
 use Rattle.lfs_block.specs.declared.image_fault.ImageFault.TheVariants.{BadGeometry}
-use Rattle.lfs_edit.specs.Faults.{refusal_number}
+use Rattle.lfs_command.specs.Faults.{refusal_number}
 use Rattle.lfs_edit.specs.Formatted.{IsFormatted}
 use Rattle.lfsed.specs.declared.fault.Fault.{Fault}
 use Rattle.lfsed.specs.declared.fault.Fault.TheVariants.{Image, Refused, CannotWrite}

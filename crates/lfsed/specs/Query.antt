@@ -5,8 +5,8 @@ use Rattle.lfs_block.specs.Disk.{Disk, IsDisk}
 use Rattle.lfs_block.specs.ImageFault.{IsNoImage}
 use Rattle.lfs_fs.specs.Cause.{HasCause}
 use Rattle.lfs_fs.specs.Mounted.{MountedValue, IsMountOf}
-use Rattle.lfs_edit.specs.declared.refusal.Refusal.{Refusal}
-use Rattle.lfs_edit.specs.Faults.{refusal_number}
+use Rattle.lfs_command.specs.declared.refusal.Refusal.{Refusal}
+use Rattle.lfs_command.specs.Faults.{refusal_number}
 use Rattle.lfs_edit.specs.Contents.{IsContents, RefusesContents}
 use Rattle.lfsed.specs.declared.fault.Fault.{Fault}
 use Rattle.lfsed.specs.declared.fault.Fault.TheVariants.{Image, Mount, Refused, CannotWrite}

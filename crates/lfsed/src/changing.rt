@@ -1,7 +1,7 @@
 //! One command on an image.
 
 ghost use Rattle.std.specs.Prelude.{◌≡◌, [], false, None, IfErr, OnOk, OnErr};
-ghost use Rattle.lfs_edit.specs.AskedFor.{asked_for};
+ghost use Rattle.lfs_command.specs.AskedFor.{asked_for};
 ghost use Rattle.lfs_journal.specs.History.{IsMounted, fresh_history};
 ghost use Rattle.lfs_journal.specs.Steps.{Takes, Do};
 ghost use Rattle.lfsed.specs.Change.{AnswersChange, AnswersImage, RefusesImage};

@@ -2,7 +2,7 @@
 
 ghost use Rattle.std.specs.Prelude.{◌≡◌, ◌⊎◌, IsErr, IfOk, IfErr};
 ghost use Rattle.hex.specs.Hex.{decode_of, decode_sized};
-ghost use Rattle.lfs_edit.specs.declared.refusal.Refusal.TheVariants.{Memory};
+ghost use Rattle.lfs_command.specs.declared.refusal.Refusal.TheVariants.{Memory};
 ghost use Rattle.lfsed.specs.declared.fault.Fault.TheVariants.{Refused, BadHex};
 ghost use Rattle.lfsed.specs.Task.{SpellsByte, SpellsBytes};
 

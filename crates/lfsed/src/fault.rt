@@ -127,7 +127,7 @@ impl From<FromHexError> for Fault {
 
 impl From<AllocError> for Fault {
     ghost use Rattle.std.specs.Prelude.{◌≡◌};
-    ghost use Rattle.lfs_edit.specs.declared.refusal.Refusal.TheVariants.{Memory};
+    ghost use Rattle.lfs_command.specs.declared.refusal.Refusal.TheVariants.{Memory};
     ghost use Rattle.lfsed.specs.declared.fault.Fault.TheVariants.{Refused};
 
     ghost from_gives = { λ error fault. fault ≡ Refused Memory };

@@ -1,6 +1,6 @@
 //! Calls of the laws.
 
-use crate::{
+use lfs_law::{
     commands_are_frugal, commands_are_written, commands_follow, cut_links_can_be_written,
     cuts_follow, cuts_keep_outlines, free_after, held_superblocks_are_made,
     held_volumes_have_few_entries, laid_contents_are_there, least_blocks_are_free,

@@ -3,10 +3,11 @@ use Rattle.std.proofs.Common.{◌≡◌, ◌+◌, ℕ, take, ap, sym, ◌∙◌,
 use Rattle.std.specs.Prelude.{sum_by}
 use Rattle.std.proofs.lemmas.Result.{err_from_is_err_and}
 use Rattle.lfs_fs.specs.Unused.{unused}
-use Rattle.lfs_edit.specs.Carried.{made_blocks, room_checks_on}
-use Rattle.lfs_edit.specs.NamedCommand.{named_command}
-use Rattle.lfs_edit.specs.Need.{dirty_parts, part_blocks}
-use Rattle.lfs_edit.specs.Verdict.{first_refusal}
+use Rattle.lfs_draft.specs.LeastSupplies.{made_blocks}
+use Rattle.lfs_draft.specs.RoomChecks.{room_checks_on}
+use Rattle.lfs_command.specs.NamedCommand.{named_command}
+use Rattle.lfs_command.specs.Need.{dirty_parts, part_blocks}
+use Rattle.lfs_command.specs.Verdict.{first_refusal}
 use Rattle.lfs_edit.proofs.JudgedLemmas.{contents_short, editable, ready, refused_by, unweighed, weighed}
 use Rattle.lfs_edit.proofs.carrying.carry_judged.Goals as goal
 

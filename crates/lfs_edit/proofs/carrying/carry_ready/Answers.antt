@@ -1,7 +1,8 @@
 -- An outline that is ready can be cut, and what is cut can be written.
 use Rattle.std.proofs.Common.{◌≡◌, ◌+◌, ℕ, List, drop, ap, sym, ◌∙◌, subst, arith}
-use Rattle.lfs_edit.specs.Carried.{IsCutOver, made_blocks}
-use Rattle.lfs_edit.specs.NamedCommand.{named_command}
+use Rattle.lfs_draft.specs.LeastSupplies.{made_blocks}
+use Rattle.lfs_edit.specs.Carried.{IsCutOver}
+use Rattle.lfs_command.specs.NamedCommand.{named_command}
 use Rattle.lfs_edit.proofs.ReadyLemmas.{known_ready}
 use Rattle.lfs_edit.proofs.carrying.carry_ready.Goals as goal
 

@@ -4,12 +4,12 @@ use Rattle.std.specs.Prelude.{All}
 use Rattle.lfs_block.specs.Patch.{ChangeSet, IsPatch}
 use Rattle.lfs_fs.specs.Thread.{links}
 use Rattle.lfs_edit.specs.Carried.{IsFinished, supplies_of}
-use Rattle.lfs_edit.specs.Clean.{clean}
-use Rattle.lfs_edit.specs.SuperblockBytes.{volume_bytes}
-use Rattle.lfs_edit.specs.WrittenLinks.{AreWritten}
-use Rattle.lfs_edit.specs.NamedCommand.{named_command}
-use Rattle.lfs_edit.specs.PairWritten.{CanBeAdded}
-use Rattle.lfs_edit.specs.PlansHold.{is_unmarked}
+use Rattle.lfs_command.specs.Clean.{clean}
+use Rattle.lfs_law.specs.SuperblockBytes.{volume_bytes}
+use Rattle.lfs_law.specs.WrittenLinks.{AreWritten}
+use Rattle.lfs_command.specs.NamedCommand.{named_command}
+use Rattle.lfs_law.specs.PairWritten.{CanBeAdded}
+use Rattle.lfs_law.specs.PlansHold.{is_unmarked}
 use Rattle.lfs_edit.proofs.CarryingLemmas.{finish}
 use Rattle.lfs_edit.proofs.WritingLemmas.{at_hand, can_be_added, contents_are, contents_below, contents_many, contents_rise, writes_over}
 use Rattle.lfs_edit.proofs.carrying.written.Goals as goal

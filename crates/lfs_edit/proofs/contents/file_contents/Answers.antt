@@ -10,8 +10,8 @@ use Rattle.lfs_fs.specs.Path.{Path}
 use Rattle.lfs_fs.specs.RowShown.{HasBlocks}
 use Rattle.lfs_fs.specs.Tree.{entry_at}
 use Rattle.lfs_fs.specs.Volume.{Volume}
-use Rattle.lfs_edit.specs.HomeChecks.{entry_checks}
-use Rattle.lfs_edit.specs.Verdict.{first_refusal}
+use Rattle.lfs_law.specs.HomeChecks.{entry_checks}
+use Rattle.lfs_command.specs.Verdict.{first_refusal}
 use Rattle.lfs_edit.proofs.ContentsLemmas.{refused_root, refused_missing, has_blocks, found_contents, refused_contents}
 use Rattle.lfs_edit.proofs.contents.file_contents.Goals as goal
 

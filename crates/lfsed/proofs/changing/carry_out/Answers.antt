@@ -2,7 +2,7 @@ use Rattle.std.proofs.Common.{◌≡◌, true, ◌==◌, length, sym, ◌∙◌,
 use Rattle.std.proofs.lemmas.Bool.Decides.{nat_tests}
 use Rattle.std.proofs.lemmas.List.{nil_from_length}
 use Rattle.std.proofs.lemmas.Result.{err_from_is_err_and}
-use Rattle.lfs_edit.specs.AskedFor.{asked_for}
+use Rattle.lfs_command.specs.AskedFor.{asked_for}
 use Rattle.lfsed.proofs.ChangeLemmas.{refused_image}
 use Rattle.lfsed.proofs.changing.carry_out.Goals as goal
 

@@ -1,4 +1,4 @@
-use Rattle.lfs_edit.specs.AskedFor.{asked_for}
+use Rattle.lfs_command.specs.AskedFor.{asked_for}
 use Rattle.lfsed.proofs.ChangeLemmas.{change_answers}
 use Rattle.lfsed.proofs.changing.changed.Goals as goal
 

@@ -1,5 +1,5 @@
 use Rattle.std.proofs.Common.{ℕ, List, ap, subst, ◌∙◌}
-use Rattle.lfs_edit.specs.AskedFor.{asked_for}
+use Rattle.lfs_command.specs.AskedFor.{asked_for}
 use Rattle.lfsed.proofs.ChangeLemmas.{IsReported, IsKept, image_answers}
 use Rattle.lfsed.proofs.changing.changed_image.Goals as goal
 

@@ -5,8 +5,8 @@ use Rattle.std.proofs.lemmas.List.{length-take-le}
 use Rattle.lfs_block.specs.Disk.{Disk}
 use Rattle.lfs_block.specs.Patch.{ChangeSet}
 use Rattle.lfs_fs.specs.Mounted.{IsOutlineOf}
-use Rattle.lfs_edit.specs.AskedFor.{asked_for}
-use Rattle.lfs_edit.specs.Planned.{RefusesPlan}
+use Rattle.lfs_command.specs.AskedFor.{asked_for}
+use Rattle.lfs_command.specs.Planned.{RefusesPlan}
 use Rattle.lfs_journal.specs.History.{History, history_at, most_changes}
 use Rattle.lfs_journal.specs.Steps.{Does}
 use Rattle.lfs_journal.proofs.PlaceLemmas.{IsPut, put_makes, done_at}

@@ -1,0 +1,3 @@
+pub mod VerdictRows
+pub mod PathTexts
+pub mod LastNames

@@ -1,0 +1,51 @@
+-- A text that spells no path is one of the command's.
+use Rattle.std.proofs.Common.{◌≡◌, ◌⊎◌, ℕ, List, [], ◌∷◌, refl, arith, inl, inr}
+use Rattle.std.specs.List.{Any}
+use Rattle.std.proofs.lemmas.Result.{err_from_is_err_and}
+use Rattle.lfs_fs.specs.Path.{IsNoPath}
+use Rattle.lfs_command.specs.declared.refusal.Refusal.{Refusal}
+use Rattle.lfs_command.specs.declared.refusal.Refusal.TheVariants.{Memory, BadPath}
+use Rattle.lfs_command.proofs.naming.by_names.Goals as goal
+
+-- a refusal for a text is one for texts of which it is the first
+first : (text : List ℕ) (texts : List (List ℕ)) (r : Refusal) → (r ≡ Memory) ⊎ ((r ≡ BadPath) × IsNoPath text) → (r ≡ Memory) ⊎ ((r ≡ BadPath) × Any IsNoPath (text ∷ texts))
+first text texts r why = elim why [ inl memory ↦ inl memory | inr bad ↦ inr (bad.0, (0, text, omega arith, refl, bad.1)) ]
+
+-- or the second
+second : (front text : List ℕ) (texts : List (List ℕ)) (r : Refusal) → (r ≡ Memory) ⊎ ((r ≡ BadPath) × IsNoPath text) → (r ≡ Memory) ⊎ ((r ≡ BadPath) × Any IsNoPath (front ∷ text ∷ texts))
+second front text texts r why = elim why [ inl memory ↦ inl memory | inr bad ↦ inr (bad.0, (1, text, omega arith, refl, bad.1)) ]
+
+pub returns-in_err-path-in-Mkdir-clause-refused : goal.returns-in_err-path-in-Mkdir-clause-refused
+returns-in_err-path-in-Mkdir-clause-refused c =
+    let p = err_from_is_err_and c.from_residual.result c.from_residual.ensures.1 in
+    rw (p.1, p.2, c.in-Mkdir.is) (first _ [] _ c.in_err-path-in-Mkdir.ensures.refused)
+
+pub returns-in_err-path-in-Put-clause-refused : goal.returns-in_err-path-in-Put-clause-refused
+returns-in_err-path-in-Put-clause-refused c =
+    let p = err_from_is_err_and c.from_residual-in_err-path-in-Put.result c.from_residual-in_err-path-in-Put.ensures.1 in
+    rw (p.1, p.2, c.in-Put.is) (first _ [] _ c.in_err-path-in-Put.ensures.refused)
+
+pub returns-in_err-path-in-Rm-clause-refused : goal.returns-in_err-path-in-Rm-clause-refused
+returns-in_err-path-in-Rm-clause-refused c =
+    let p = err_from_is_err_and c.from_residual-in_err-path-in-Rm.result c.from_residual-in_err-path-in-Rm.ensures.1 in
+    rw (p.1, p.2, c.in-Rm.is) (first _ [] _ c.in_err-path-in-Rm.ensures.refused)
+
+pub returns-in_err-from-in-Mv-clause-refused : goal.returns-in_err-from-in-Mv-clause-refused
+returns-in_err-from-in-Mv-clause-refused c =
+    let p = err_from_is_err_and c.from_residual-in_err-from-in-Mv.result c.from_residual-in_err-from-in-Mv.ensures.1 in
+    rw (p.1, p.2, c.in-Mv.is) (first _ (c.in-Mv.to.now ∷ []) _ c.in_err-from-in-Mv.ensures.refused)
+
+pub returns-in_err-to-in-Mv-clause-refused : goal.returns-in_err-to-in-Mv-clause-refused
+returns-in_err-to-in-Mv-clause-refused c =
+    let p = err_from_is_err_and c.from_residual-in_err-to-in-Mv.result c.from_residual-in_err-to-in-Mv.ensures.1 in
+    rw (p.1, p.2, c.in-Mv.is) (second _ _ [] _ c.in_err-to-in-Mv.ensures.refused)
+
+pub returns-in_err-path-in-SetAttr-clause-refused : goal.returns-in_err-path-in-SetAttr-clause-refused
+returns-in_err-path-in-SetAttr-clause-refused c =
+    let p = err_from_is_err_and c.from_residual-in_err-path-in-SetAttr.result c.from_residual-in_err-path-in-SetAttr.ensures.1 in
+    rw (p.1, p.2, c.in-SetAttr.is) (first _ [] _ c.in_err-path-in-SetAttr.ensures.refused)
+
+pub returns-in_err-path-in-RmAttr-clause-refused : goal.returns-in_err-path-in-RmAttr-clause-refused
+returns-in_err-path-in-RmAttr-clause-refused c =
+    let p = err_from_is_err_and c.from_residual-in_err-path-in-RmAttr.result c.from_residual-in_err-path-in-RmAttr.ensures.1 in
+    rw (p.1, p.2, c.in-RmAttr.is) (first _ [] _ c.in_err-path-in-RmAttr.ensures.refused)

@@ -1,0 +1,76 @@
+-- What is planned for a command that is asked for, and why none is (own).
+use Rattle.std.specs.Prelude.{ℕ, ◌≡◌, ◌+◌, List, [], ◌∷◌, Some, All, Contains, length, take}
+use Rattle.std.specs.List.{Any}
+use Rattle.lfs_block.specs.Disk.{Disk}
+use Rattle.lfs_block.specs.Patch.{ChangeSet, IsPatch, AgreesOld, applied}
+use Rattle.lfs_meta.specs.Body.{Pair}
+use Rattle.lfs_fs.specs.Directory.{Part}
+use Rattle.lfs_fs.specs.Volume.{Volume}
+use Rattle.lfs_fs.specs.Free.{free_blocks}
+use Rattle.lfs_fs.specs.Uses.{times}
+use Rattle.lfs_fs.specs.Sound.{IsSound}
+use Rattle.lfs_fs.specs.Reading.{reading_of}
+use Rattle.lfs_fs.specs.Holds.{Holds}
+use Rattle.lfs_command.specs.declared.refusal.Refusal.{Refusal}
+use Rattle.lfs_command.specs.declared.refusal.Refusal.TheVariants.{BadPath, Memory}
+use Rattle.lfs_command.specs.Command.{Command, Asked, Spells, SpellsNone}
+use Rattle.lfs_command.specs.Supplies.{Supplies, supply_uses}
+use Rattle.lfs_command.specs.Edited.{edited}
+use Rattle.lfs_command.specs.Cut.{cut, new_pair_uses}
+use Rattle.lfs_command.specs.Need.{need, data_blocks, changed_parts}
+use Rattle.lfs_command.specs.Verdict.{verdict}
+use Rattle.lfs_command.specs.Clean.{clean}
+use Rattle.lfs_command.specs.Accepted.{IsAccepted, AreChosen}
+use Rattle.lfs_command.specs.Freed.{free_after}
+use Rattle.lfs_command.specs.PartWritten.{numbers_of}
+
+-- one of the numbers is a block of the part's pair
+abbrev pub HasOneOf : List ℕ → Part → Type 0
+HasOneOf numbers p = Any (Contains numbers) (p.pair.0 ∷ p.pair.1 ∷ [])
+
+-- the blocks that are written: the least free ones, as many as the command needs, and one of each part's pair that it
+-- changes
+pub record IsFrugal (v : Volume) (c : Command) (s : Supplies) (numbers : List ℕ) : Type 0 where
+  pub free : All (Contains numbers) (take (need v c) (free_blocks v))
+  pub changed : All (HasOneOf numbers) (changed_parts s (edited v c s))
+  pub len : length numbers ≡ need v c + length (changed_parts s (edited v c s))
+
+-- the blocks that a command takes are the least free ones
+abbrev pub TakesLeast : Volume → Command → Supplies → (Part → List Pair) → Type 0
+TakesLeast v c s chosen = (n : ℕ) → supply_uses v c s n + new_pair_uses chosen (edited v c s) n ≡ times n (take (need v c) (free_blocks v))
+
+-- A patch of an image carries out a command that is asked for: on the volume that the image holds no check refuses the
+-- command, the patch stands in the image, and the patched image holds the edited volume. The blocks that the command takes are the
+-- least free ones, which the patch names, and what is free then are the blocks that were, without them, and those of what was
+-- removed or replaced.
+pub record Plans (d : Disk) (asked : Asked) (p : ChangeSet) : Type 0 where
+  pub volume : Volume
+  pub holds : Holds (reading_of d) volume
+  pub command : Command
+  pub spells : Spells asked command
+  pub supplies : Supplies
+  pub blocks : length supplies.blocks ≡ data_blocks volume command
+  pub accepted : IsAccepted volume command supplies
+  pub chosen : Part → List Pair
+  pub pairs : AreChosen volume command supplies chosen
+  pub patch : IsPatch p
+  pub stands : AgreesOld p d
+  pub after : Holds (reading_of (applied p d)) (clean (cut chosen (edited volume command supplies)))
+  pub frugal : IsFrugal volume command supplies (numbers_of p)
+  pub taken : TakesLeast volume command supplies chosen
+  pub free : free_blocks (clean (cut chosen (edited volume command supplies))) ≡ free_after volume command supplies chosen
+
+-- A command that is asked for is refused on the sound volume that an image holds.
+pub record IsRefused (d : Disk) (asked : Asked) (r : Refusal) : Type 0 where
+  pub volume : Volume
+  pub holds : Holds (reading_of d) volume
+  pub sound : IsSound volume
+  pub command : Command
+  pub spells : Spells asked command
+  pub refused : verdict volume command ≡ Some r
+
+-- why nothing is planned: a text that spells no path, the verdict, or want of memory
+abbrev pub RefusesPlan : Disk → Asked → Refusal → Type 0
+RefusesPlan d asked BadPath = SpellsNone asked
+RefusesPlan d asked Memory = Unit {0}
+RefusesPlan d asked r = IsRefused d asked r

@@ -1,0 +1,34 @@
+//! How many blocks a file's contents take.
+
+ghost use Rattle.std.specs.Prelude.{◌≡◌, ◌<◌, ◌^◌, nat_le, if◌then◌else◌};
+ghost use Rattle.lfs_block.specs.Geometry.{IsBlockSize};
+ghost use Rattle.lfs_file.specs.Capacity.{least_blocks};
+ghost use Rattle.lfs_command.specs.Supplies.{most_inline};
+
+use lfs_file::blocks_for;
+
+/// The most bytes that a struct's tag can hold.
+const MOST_HELD: u32 = 1_022;
+
+/// The most bytes of a file that stand in its entry, in blocks of this size.
+///
+/// Source: own.
+pub fn most_inline(size: u32) -> u32
+    ensures { result ≡ most_inline size }
+{
+    (size / 8).min(MOST_HELD)
+}
+
+/// How many blocks a file of `len` bytes takes beside its entry: none where its contents stand there. The caller owes a block
+/// size that images have, and a length below 2^32.
+pub(crate) fn data_count(size: u32, len: usize) -> u32
+    requires size { IsBlockSize size }
+    requires len { len < 2 ^ 32 }
+    ensures { result ≡ (if nat_le len (most_inline size) then 0 else least_blocks size len) }
+{
+    if len <= most_inline(size) as usize {
+        0
+    } else {
+        blocks_for(len as u32, size)
+    }
+}

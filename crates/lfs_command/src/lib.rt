@@ -1,0 +1,22 @@
+//! What commands mean: what each makes of a volume, what it needs, and what it is refused for; and the commands that are asked
+//! for, their texts taken apart into names.
+#![tactic(auto)]
+
+mod command;
+mod contents_blocks;
+mod made_blocks;
+mod named_command;
+mod naming;
+mod paths;
+mod refusal;
+
+pub use command::Command;
+pub use contents_blocks::most_inline;
+pub use made_blocks::{data_blocks, directory_blocks};
+pub use named_command::NamedCommand;
+pub use naming::by_names;
+pub use paths::{last_of, names_of};
+pub use refusal::Refusal;
+
+#[cfg(test)]
+mod tests;

@@ -1,0 +1,100 @@
+//! Why a new image or a change is refused.
+
+use std::alloc::AllocError;
+use thiserror::Error;
+
+/// Why a new image or a change is refused.
+///
+/// Source: own.
+#[derive(Clone, Copy, Debug, PartialEq, Eq, Error)]
+pub enum Refusal {
+    /// Nothing is at the path, or at a front of it.
+    #[error("NotFound")]
+    NotFound,
+    /// Something is at the path already.
+    #[error("Exists")]
+    Exists,
+    /// A file is at a front of the path.
+    #[error("NotADirectory")]
+    NotADirectory,
+    /// A directory is at the path of a file.
+    #[error("IsADirectory")]
+    IsADirectory,
+    /// The directory to be removed has an entry.
+    #[error("NotEmpty")]
+    NotEmpty,
+    /// The text spells no path.
+    #[error("BadPath")]
+    BadPath,
+    /// The new name is longer than the image's limit.
+    #[error("NameTooLong")]
+    NameTooLong,
+    /// The contents are longer than the image's limit.
+    #[error("FileTooLarge")]
+    FileTooLarge,
+    /// The attribute's value is longer than the image's limit.
+    #[error("AttrTooLarge")]
+    AttrTooLarge,
+    /// There is no attribute of that kind.
+    #[error("NoAttr")]
+    NoAttr,
+    /// A directory can't be moved to a place below itself.
+    #[error("IntoItself")]
+    IntoItself,
+    /// The root can't be made, put, removed or moved.
+    #[error("IsRoot")]
+    IsRoot,
+    /// An entry of a part that the command sets is larger than a block has room for.
+    #[error("EntryTooLarge")]
+    EntryTooLarge,
+    /// The command needs more new blocks than are free.
+    #[error("NoSpace need {need} free {free}")]
+    NoSpace {
+        /// How many new blocks the command needs.
+        need: u32,
+        /// How many blocks are free.
+        free: u32,
+    },
+    /// A growth of memory was refused.
+    #[error("Memory")]
+    Memory,
+}
+
+impl Refusal {
+    ghost use Rattle.std.specs.Prelude.{◌≡◌};
+    ghost use Rattle.lfs_command.specs.Faults.{refusal_number};
+
+    /// The refusal's number, from 30 to 44.
+    pub fn number(self) -> u8
+        ensures { result ≡ refusal_number self }
+    {
+        match self {
+            Refusal::NotFound => 30,
+            Refusal::Exists => 31,
+            Refusal::NotADirectory => 32,
+            Refusal::IsADirectory => 33,
+            Refusal::NotEmpty => 34,
+            Refusal::BadPath => 35,
+            Refusal::NameTooLong => 36,
+            Refusal::FileTooLarge => 37,
+            Refusal::AttrTooLarge => 38,
+            Refusal::NoAttr => 39,
+            Refusal::IntoItself => 40,
+            Refusal::IsRoot => 41,
+            Refusal::EntryTooLarge => 42,
+            Refusal::NoSpace { .. } => 43,
+            Refusal::Memory => 44,
+        }
+    }
+}
+
+impl From<AllocError> for Refusal {
+    ghost use Rattle.std.specs.Prelude.{◌≡◌};
+    ghost use Rattle.lfs_command.specs.declared.refusal.Refusal.TheVariants.{Memory};
+
+    ghost from_gives = { λ error refusal. refusal ≡ Memory };
+
+    fn from(_error: AllocError) -> Refusal {
+        Refusal::Memory
+    }
+}

@@ -1,0 +1,71 @@
+-- The one entry of a name in the parts of a directory.
+use Rattle.std.proofs.Common.{◌≡◌, ℕ, ◌+◌, ◌<◌, ◌≤◌, suc, zero, Bool, true, false, List, [], ◌∷◌, length, map, refl, ap, sym, ◌∙◌, arith, cond}
+use Rattle.std.specs.Prelude.{if◌then◌else◌, count_by, find, flat_map, slice_index_or, None}
+use Rattle.std.specs.List.{list_any}
+use Rattle.std.proofs.lemmas.List.Sums.{sum_by-append}
+use Rattle.lfs_meta.specs.Name.{Name}
+use Rattle.lfs_fs.specs.Entry.{Entry, is_named}
+use Rattle.lfs_fs.specs.Directory.{Part}
+use Rattle.lfs_command.specs.EntryEdit.{changed}
+use Rattle.lfs_command.specs.DirectoryEdit.{touch, has_name, change_in}
+use Rattle.lfs_law.proofs.OneElement.{where_passes, where_none, none_counted, count_cases}
+
+-- what is there is counted, what isn't is not
+some_counted : {X : Type 0} (t : X → Bool) (xs : List X) → list_any t xs ≡ true → 1 ≤ count_by t xs
+some_counted t [] has = cc
+some_counted t (x ∷ xs) has = grind (arith, count_cases t x xs, some_counted t xs)
+
+none_found : {X : Type 0} (t : X → Bool) (xs : List X) → list_any t xs ≡ false → find t xs ≡ None
+none_found t [] none = refl
+none_found t (x ∷ xs) none = grind (arith, none_found t xs)
+
+-- entries that all parts have
+abbrev pub all_entries : List Part → List Entry
+all_entries ps = flat_map (λ p. p.entries) ps
+
+count_parts : (n : Name) (p : Part) (ps : List Part) → count_by (is_named n) (all_entries (p ∷ ps)) ≡ count_by (is_named n) p.entries + count_by (is_named n) (all_entries ps)
+count_parts n p ps = sum_by-append (λ (x : Entry). cond {A = ℕ} (is_named n x) 1 0) p.entries (all_entries ps)
+
+-- the parts that have it are one at most, and each has it once at most
+pub few_have : (n : Name) (ps : List Part) → count_by (has_name n) ps ≤ count_by (is_named n) (all_entries ps)
+few_have n [] = omega arith
+few_have n (p ∷ ps) = grind (arith, count_cases (has_name n) p ps, count_parts n p ps, some_counted (is_named n) p.entries, few_have n ps)
+
+pub few_in : (n : Name) (ps : List Part) (i : ℕ) (d : Part) → i < length ps → count_by (is_named n) (slice_index_or ps i d).entries ≤ count_by (is_named n) (all_entries ps)
+few_in n [] i d within = absurd (omega arith)
+few_in n (p ∷ ps) zero d within = omega (arith, count_parts n p ps)
+few_in n (p ∷ ps) (suc i) d within = omega (arith, count_parts n p ps, few_in n ps i d (omega arith))
+
+-- a part without the name stays
+pub untouched : (n : Name) (f : Entry → Entry) (p : Part) → has_name n p ≡ false → touch false (changed n f) p ≡ p
+untouched n f p none = by p.dirty refl
+  where
+    by : (b : Bool) → p.dirty ≡ b → touch false (changed n f) p ≡ p
+    by true is = rw (where_none (is_named n) f p.entries (none_found (is_named n) p.entries none), is) refl
+    by false is = rw (where_none (is_named n) f p.entries (none_found (is_named n) p.entries none), is) refl
+
+-- a change of the parts that have the name is one of all
+pub where_named : (n : Name) (f : Entry → Entry) (ps : List Part) → where_passes (has_name n) (touch true (changed n f)) ps ≡ map (λ p. touch (has_name n p) (changed n f) p) ps
+where_named n f [] = refl
+where_named n f (p ∷ ps) = by (has_name n p) refl (where_named n f ps)
+  where
+    by : (b : Bool) → has_name n p ≡ b → where_passes (has_name n) (touch true (changed n f)) ps ≡ map (λ q. touch (has_name n q) (changed n f) q) ps
+        → (if b then touch true (changed n f) p else p) ∷ where_passes (has_name n) (touch true (changed n f)) ps ≡ touch b (changed n f) p ∷ map (λ q. touch (has_name n q) (changed n f) q) ps
+    by true is rest = ap (λ (qs : List Part). touch true (changed n f) p ∷ qs) rest
+    by false is rest = ap (λ (q : Part). q ∷ where_passes (has_name n) (touch true (changed n f)) ps) (sym (untouched n f p is)) ∙ ap (λ (qs : List Part). touch false (changed n f) p ∷ qs) rest
+
+-- ---- the first part, and the others
+
+pub changed_in_first : (n : Name) (f : Entry → Entry) (p new : Part) (ps : List Part) → has_name n p ≡ true → count_by (is_named n) (all_entries (p ∷ ps)) ≤ 1 → new ≡ touch true (changed n f) p
+    → record { first = new; more = ps } ≡ change_in n f (record { first = p; more = ps })
+changed_in_first n f p new ps has once is =
+    let none : count_by (has_name n) ps ≡ 0 = omega (arith, count_parts n p ps, some_counted (is_named n) p.entries has, few_have n ps) in
+    rw has (ap (λ (d : Part × List Part). record { first = d.0; more = d.1 })
+    (ap (λ (q : Part). (q, ps)) is ∙ ap (λ (qs : List Part). (touch true (changed n f) p, qs))
+    (sym (where_none (has_name n) (touch true (changed n f)) ps (none_counted (has_name n) ps none)) ∙ where_named n f ps)))
+
+pub changed_in_more : (n : Name) (f : Entry → Entry) (p : Part) (ps new : List Part) → has_name n p ≡ false → new ≡ map (λ q. touch (has_name n q) (changed n f) q) ps
+    → record { first = p; more = new } ≡ change_in n f (record { first = p; more = ps })
+changed_in_more n f p ps new none are =
+    rw none (ap (λ (d : Part × List Part). record { first = d.0; more = d.1 })
+    (ap (λ (q : Part). (q, new)) (sym (untouched n f p none)) ∙ ap (λ (qs : List Part). (touch false (changed n f) p, qs)) are))

@@ -1,0 +1,240 @@
+//! Edits of a directory: which of its parts is set, and to what.
+
+ghost use Rattle.std.specs.Prelude.{◌≡◌, ◌≤◌, ◌-◌, ◌<◌, ◌⊎◌, true, false, List, ◌∷◌, count_by, flat_map, length, map, MatchBool, OnOk, OnErr};
+ghost use Rattle.std.specs.List.{position};
+ghost use Rattle.std.specs.Option.{unwrap_or};
+ghost use Rattle.lfs_fs.specs.Directory.{Part, entries, parts as parts_of};
+ghost use Rattle.lfs_fs.specs.Entry.{is_named};
+ghost use Rattle.lfs_fs.specs.State.{delta_of};
+ghost use Rattle.lfs_draft.specs.EntryChange.{ChangeFits, entry_change};
+ghost use Rattle.lfs_command.specs.EntryEdit.{changed, place, without};
+ghost use Rattle.lfs_command.specs.DirectoryEdit.{absorb, absorb_in, change_in, has_greater, has_name, link_in, link_parts, taking_up, touch, touch_last, unlink_in};
+
+use crate::entry_change::EntryChange;
+use crate::entry_edit::{change_named, place, take_out};
+use lfs_fs::{Delta, OutlineDirectory, OutlineEntry, OutlinePart, precedes};
+use std::alloc::{AllocError, Global};
+
+/// Whether a part has an entry of a name.
+pub(crate) fn has_name(part: &OutlinePart, name: &[u8]) -> bool
+    ensures { result ≡ has_name name.now part.now }
+{
+    part.entries
+        .iter()
+        .any(|entry| name == entry.name.as_slice())
+}
+
+/// Whether an entry of a part has a greater name.
+fn has_greater(part: &OutlinePart, name: &[u8]) -> bool
+    ensures { result ≡ has_greater name.now part.now }
+{
+    part.entries.iter().any(|entry| precedes(name, &entry.name))
+}
+
+/// Puts an entry into a part, which is set. Want of memory changes nothing.
+fn place_in(part: &mut OutlinePart, entry: OutlineEntry) -> Result<(), AllocError>
+    ensures placed { OnOk result (part.new ≡ touch true (place entry) part.old) }
+    ensures unchanged { OnErr result (part.new ≡ part.old) }
+{
+    place(&mut part.entries, entry)?;
+    part.dirty = true;
+    Ok(())
+}
+
+/// Takes the entries of a name out of a part, which is set where it had one. Takes no memory.
+fn take_out_of(part: &mut OutlinePart, name: &[u8])
+    ensures { part.new ≡ touch (has_name name.now part.old) (without name.now) part.old }
+{
+    if has_name(part, name) {
+        part.dirty = true;
+    }
+    take_out(&mut part.entries, name);
+}
+
+/// The place of the first part that has a greater name.
+fn first_greater(parts: &[OutlinePart], name: &[u8]) -> Option<usize>
+    ensures { result ≡ position (has_greater name.now) parts.now }
+{
+    parts.iter().position(|part| has_greater(part, name))
+}
+
+/// The place of the part where a name belongs: the first one that has a greater name, else the last one.
+fn home_among(parts: &[OutlinePart], name: &[u8]) -> usize
+    requires { 0 < length parts.now }
+    ensures { result ≡ unwrap_or (position (has_greater name.now) parts.now) (length parts.now - 1) }
+{
+    first_greater(parts, name).unwrap_or(parts.len() - 1)
+}
+
+/// Puts an entry into the part where its name belongs, which is set. The caller owes a part. Want of memory changes nothing.
+fn link_among(parts: &mut Vec<OutlinePart>, entry: OutlineEntry) -> Result<(), AllocError>
+    requires { 0 < length parts.old.items }
+    ensures linked { OnOk result ((p : Part) (ps : List Part) → parts.old.items ≡ p ∷ ps → parts.new.items ≡ parts_of (link_parts entry p ps)) }
+    ensures unchanged { OnErr result (parts.new.items ≡ parts.old.items) }
+{
+    let at = home_among(parts, &entry.name);
+    place_in(&mut parts[at], entry)?;
+    Ok(())
+}
+
+/// Whether a name belongs into a directory's first part: there is no other, or it has a greater name.
+fn belongs_first(directory: &OutlineDirectory, name: &[u8]) -> bool
+    ensures { MatchBool result
+        ((length directory.now.more ≡ 0) ⊎ (has_greater name.now directory.now.first ≡ true))
+        ((0 < length directory.now.more) × (has_greater name.now directory.now.first ≡ false)) }
+{
+    directory.more.is_empty() || has_greater(&directory.first, name)
+}
+
+/// Puts an entry into the part of a directory where its name belongs, which is set. Want of memory changes nothing.
+pub(crate) fn link_in(
+    directory: &mut OutlineDirectory,
+    entry: OutlineEntry,
+) -> Result<(), AllocError>
+    ensures linked { OnOk result (directory.new ≡ link_in entry directory.old) }
+    ensures unchanged { OnErr result (directory.new ≡ directory.old) }
+{
+    if belongs_first(directory, &entry.name) {
+        place_in(&mut directory.first, entry)?;
+    } else {
+        link_among(&mut directory.more, entry)?;
+    }
+    Ok(())
+}
+
+/// Takes the entries of a name out of parts; each that had one is set. Takes no memory.
+fn take_out_of_all(parts: &mut Vec<OutlinePart>, name: &[u8])
+    ensures { parts.new.items ≡ map (λ p. touch (has_name name.now p) (without name.now) p) parts.old.items }
+{
+    for part in parts.iter_mut() {
+        take_out_of(part, name);
+    }
+}
+
+/// Takes the entries of a name out of a directory; each part that had one is set. Takes no memory.
+pub(crate) fn unlink_in(directory: &mut OutlineDirectory, name: &[u8])
+    ensures { directory.new ≡ unlink_in name.now directory.old }
+{
+    take_out_of(&mut directory.first, name);
+    take_out_of_all(&mut directory.more, name);
+}
+
+/// Changes the entry of a name of a part, which is set. The caller owes that no two entries have the name, and what
+/// `change_entry` asks. Want of memory changes nothing.
+fn change_in_part(
+    alloc: Global,
+    part: &mut OutlinePart,
+    name: &[u8],
+    change: EntryChange,
+) -> Result<(), AllocError>
+    requires once { count_by (is_named name.now) part.old.entries ≤ 1 }
+    requires fits { ChangeFits change }
+    ensures changed { OnOk result (part.new ≡ touch true (changed name.now (entry_change change.entry)) part.old) }
+    ensures unchanged { OnErr result (part.new ≡ part.old) }
+{
+    change_named(alloc, &mut part.entries, name, change)?;
+    part.dirty = true;
+    Ok(())
+}
+
+/// The place of the first part that has an entry of a name.
+fn first_with(parts: &[OutlinePart], name: &[u8]) -> Option<usize>
+    ensures { result ≡ position (has_name name.now) parts.now }
+{
+    parts.iter().position(|part| has_name(part, name))
+}
+
+/// Changes the entry of a name in the part of some that has it, which is set. The caller owes what `change_in` asks. Want of
+/// memory changes nothing.
+fn change_among(
+    alloc: Global,
+    parts: &mut Vec<OutlinePart>,
+    name: &[u8],
+    change: EntryChange,
+) -> Result<(), AllocError>
+    requires once { count_by (is_named name.now) (flat_map (λ p. p.entries) parts.old.items) ≤ 1 }
+    requires fits { ChangeFits change }
+    ensures changed { OnOk result (parts.new.items
+        ≡ map (λ p. touch (has_name name.now p) (changed name.now (entry_change change.entry)) p) parts.old.items) }
+    ensures unchanged { OnErr result (parts.new.items ≡ parts.old.items) }
+{
+    if let Some(at) = first_with(parts, name) {
+        change_in_part(alloc, &mut parts[at], name, change)?;
+    }
+    Ok(())
+}
+
+/// Changes the entry of a name of a directory; the part that has it is set. The caller owes that no two entries have the name,
+/// and what `change_entry` asks. Want of memory changes nothing.
+pub(crate) fn change_in(
+    alloc: Global,
+    directory: &mut OutlineDirectory,
+    name: &[u8],
+    change: EntryChange,
+) -> Result<(), AllocError>
+    requires once { count_by (is_named name.now) (entries directory.old) ≤ 1 }
+    requires fits { ChangeFits change }
+    ensures changed { OnOk result (directory.new ≡ change_in name.now (entry_change change.entry) directory.old) }
+    ensures unchanged { OnErr result (directory.new ≡ directory.old) }
+{
+    if has_name(&directory.first, name) {
+        change_in_part(alloc, &mut directory.first, name, change)?;
+    } else {
+        change_among(alloc, &mut directory.more, name, change)?;
+    }
+    Ok(())
+}
+
+/// Sets a part. Takes no memory.
+pub(crate) fn touch(part: &mut OutlinePart)
+    ensures { part.new ≡ touch true (λ es. es) part.old }
+{
+    part.dirty = true;
+}
+
+/// Sets the last part of a directory, for the sake of its tail. Takes no memory.
+pub(crate) fn touch_last(directory: &mut OutlineDirectory)
+    ensures { directory.new ≡ touch_last directory.old }
+{
+    match directory.more.last_mut() {
+        Some(part) => touch(part),
+        None => touch(&mut directory.first),
+    }
+}
+
+/// Sets a part, which takes up a delta. Takes no memory.
+fn absorb_into(part: &mut OutlinePart, delta: &Delta)
+    ensures { part.new ≡ taking_up delta.now part.old }
+{
+    part.delta = part.delta.joined(delta);
+    part.dirty = true;
+}
+
+/// Sets the last part of a directory, for the sake of its tail and of a delta that it takes up. Takes no memory.
+fn absorb_in(directory: &mut OutlineDirectory, delta: &Delta)
+    ensures { directory.new ≡ absorb_in delta.now directory.old.first directory.old.more }
+{
+    match directory.more.last_mut() {
+        Some(part) => absorb_into(part, delta),
+        None => absorb_into(&mut directory.first, delta),
+    }
+}
+
+/// The deltas of parts together. Takes no memory.
+fn delta_of_parts(parts: &[OutlinePart]) -> Delta
+    ensures { result ≡ delta_of parts.now }
+{
+    let mut delta = Delta::none();
+    'each: for part in parts {
+        delta = delta.joined(&part.delta);
+    }
+    delta
+}
+
+/// Sets the last part of a directory, which takes up the deltas of one that goes. Takes no memory.
+pub(crate) fn absorb(directory: &mut OutlineDirectory, gone: &OutlineDirectory)
+    ensures { directory.new ≡ absorb directory.old gone.now }
+{
+    let delta = gone.first.delta.joined(&delta_of_parts(&gone.more));
+    absorb_in(directory, &delta);
+}

@@ -1,0 +1,192 @@
+//! What a command makes of an outline.
+
+ghost use Rattle.std.specs.Prelude.{◌≡◌, ◌<◌, ◌^◌, None, Some, length, map, IfOk, OnOk};
+ghost use Rattle.lfs_meta.specs.Fits.{BodyFits};
+ghost use Rattle.lfs_fs.specs.AsStored.{stored_body};
+ghost use Rattle.lfs_fs.specs.OutlineHeld.{outline_body_held};
+ghost use Rattle.lfs_fs.specs.Outlined.{outlined_body};
+ghost use Rattle.lfs_fs.specs.Tree.{entry_at, entry_in};
+ghost use Rattle.lfs_fs.specs.Volume.{Volume};
+ghost use Rattle.lfs_command.specs.Command.{Mkdir, Mv, Put, Rm, RmAttr, SetAttr};
+ghost use Rattle.lfs_draft.specs.Editable.{IsEditable};
+ghost use Rattle.lfs_law.specs.EditedOutline.{edited_outline};
+ghost use Rattle.lfs_command.specs.Home.{home_of};
+ghost use Rattle.lfs_law.specs.HomeChecks.{home_checks};
+ghost use Rattle.lfs_command.specs.NamedCommand.{named_command};
+ghost use Rattle.lfs_command.specs.Supplies.{new_body, nothing};
+ghost use Rattle.lfs_command.specs.Verdict.{first_refusal, last_length};
+
+use crate::entry_change::EntryChange;
+use crate::home::{Home, home_of};
+use crate::supplies::Supplies;
+use crate::thread_changes::{make_directory, move_entry, put_file, remove, target_of};
+use crate::thread_edit::{change, touch_first};
+use lfs_command::{NamedCommand, most_inline};
+use lfs_fs::{Outline, OutlineBody};
+use lfs_meta::{remove_attribute, set_attribute};
+use std::alloc::{AllocError, Global};
+
+/// Where the last name of a path belongs to. The caller owes that no check refuses that.
+fn home<'a>(outline: &Outline, path: &[&'a [u8]]) -> Home<'a>
+    requires { first_refusal (home_checks outline.now (map (λ n. n.now) path.now)) ≡ None }
+    ensures home { home_of outline.now (map (λ n. n.now) path.now) ≡ Some (result.pair, result.name.now) }
+    ensures entry { entry_at outline.now (map (λ n. n.now) path.now) ≡ entry_in outline.now.directories result.pair result.name.now }
+    ensures len { last_length (map (λ n. n.now) path.now) ≡ length result.name.now }
+{
+    match home_of(outline, path) {
+        Ok(home) => home,
+        Err(_) => unreachable!(),
+    }
+}
+
+/// Makes a directory of the pair of some supplies.
+fn mkdir(
+    alloc: Global,
+    outline: &mut Outline,
+    path: &[&[u8]],
+    supplies: Supplies,
+) -> Result<(), AllocError>
+    requires { IsEditable outline.old (Mkdir (map (λ n. n.now) path.now)) }
+    ensures { OnOk result (outline.new ≡ edited_outline outline.old (Mkdir (map (λ n. n.now) path.now)) supplies) }
+{
+    let home = home(outline, path);
+    make_directory(alloc, &mut outline.directories, home, supplies.pair)?;
+    Ok(())
+}
+
+/// Where a file's contents are put: into its entry, or into the blocks of some supplies. The caller owes fewer than 2^32 bytes.
+fn new_body(
+    alloc: Global,
+    size: u32,
+    bytes: &[u8],
+    supplies: Supplies,
+) -> Result<OutlineBody, AllocError>
+    requires { length bytes.now < 2 ^ 32 }
+    ensures fits { IfOk result (λ body. BodyFits (stored_body (outline_body_held body))) }
+    ensures body { IfOk result (λ body. (v : Volume) → v.size ≡ size → outline_body_held body ≡ outlined_body (new_body v supplies bytes.now)) }
+{
+    if bytes.len() <= most_inline(size) as usize {
+        return Ok(OutlineBody::Held(Vec::from_slice(alloc, bytes)?));
+    }
+    prove!(supplies.blocks.last().copied().unwrap_or(0) <= u32::MAX);
+    Ok(OutlineBody::Linked {
+        blocks: supplies.blocks,
+        size: bytes.len() as u32,
+    })
+}
+
+/// Puts a file's contents, into the blocks of some supplies where they don't stand in its entry.
+fn put(
+    alloc: Global,
+    outline: &mut Outline,
+    path: &[&[u8]],
+    bytes: &[u8],
+    supplies: Supplies,
+) -> Result<(), AllocError>
+    requires { IsEditable outline.old (Put (map (λ n. n.now) path.now) bytes.now) }
+    ensures { OnOk result (outline.new ≡ edited_outline outline.old (Put (map (λ n. n.now) path.now) bytes.now) supplies) }
+{
+    let home = home(outline, path);
+    let body = new_body(alloc, outline.size, bytes, supplies)?;
+    put_file(alloc, &mut outline.directories, home, body)?;
+    Ok(())
+}
+
+/// Removes a file or a directory without entries. Takes no memory.
+fn rm(outline: &mut Outline, path: &[&[u8]])
+    requires { IsEditable outline.old (Rm (map (λ n. n.now) path.now)) }
+    ensures { outline.new ≡ edited_outline outline.old (Rm (map (λ n. n.now) path.now)) nothing }
+{
+    let home = home(outline, path);
+    let leads_to = target_of(&outline.directories, home);
+    remove(&mut outline.directories, home, leads_to);
+}
+
+/// Moves what is at a path.
+fn mv(alloc: Global, outline: &mut Outline, from: &[&[u8]], to: &[&[u8]]) -> Result<(), AllocError>
+    requires { IsEditable outline.old (Mv (map (λ n. n.now) from.now) (map (λ n. n.now) to.now)) }
+    ensures { OnOk result (outline.new ≡ edited_outline outline.old (Mv (map (λ n. n.now) from.now) (map (λ n. n.now) to.now)) nothing) }
+{
+    let source = home(outline, from);
+    let target = home(outline, to);
+    move_entry(alloc, &mut outline.directories, source, target)?;
+    Ok(())
+}
+
+/// Sets an attribute.
+fn set_attr(
+    alloc: Global,
+    outline: &mut Outline,
+    path: &[&[u8]],
+    kind: u8,
+    value: &[u8],
+) -> Result<(), AllocError>
+    requires { IsEditable outline.old (SetAttr (map (λ n. n.now) path.now) kind value.now) }
+    ensures { OnOk result (outline.new ≡ edited_outline outline.old (SetAttr (map (λ n. n.now) path.now) kind value.now) nothing) }
+{
+    if path.is_empty() {
+        set_attribute(&mut outline.attributes, alloc, kind, value)?;
+        touch_first(&mut outline.directories);
+        return Ok(());
+    }
+    let home = home(outline, path);
+    let change_of = EntryChange::SetAttribute { kind, value };
+    change(
+        alloc,
+        &mut outline.directories,
+        home.pair,
+        home.name,
+        change_of,
+    )?;
+    Ok(())
+}
+
+/// Removes an attribute.
+fn rm_attr(alloc: Global, outline: &mut Outline, path: &[&[u8]], kind: u8) -> Result<(), AllocError>
+    requires { IsEditable outline.old (RmAttr (map (λ n. n.now) path.now) kind) }
+    ensures { OnOk result (outline.new ≡ edited_outline outline.old (RmAttr (map (λ n. n.now) path.now) kind) nothing) }
+{
+    if path.is_empty() {
+        remove_attribute(&mut outline.attributes, kind);
+        touch_first(&mut outline.directories);
+        return Ok(());
+    }
+    let home = home(outline, path);
+    let change_of = EntryChange::RemoveAttribute { kind };
+    change(
+        alloc,
+        &mut outline.directories,
+        home.pair,
+        home.name,
+        change_of,
+    )?;
+    Ok(())
+}
+
+/// What a command makes of an outline with these supplies. The caller owes a sound outline on which no check refuses the command.
+/// Where memory is wanting, the outline is of no use.
+///
+/// Source: own.
+pub fn edit(
+    alloc: Global,
+    outline: &mut Outline,
+    command: &NamedCommand<'_>,
+    supplies: Supplies,
+) -> Result<(), AllocError>
+    requires { IsEditable outline.old (named_command command.now) }
+    ensures { OnOk result (outline.new ≡ edited_outline outline.old (named_command command.now) supplies) }
+{
+    match command {
+        NamedCommand::Mkdir { path } => mkdir(alloc, outline, path, supplies),
+        NamedCommand::Put { path, bytes } => put(alloc, outline, path, bytes, supplies),
+        NamedCommand::Rm { path } => {
+            rm(outline, path);
+            Ok(())
+        }
+        NamedCommand::Mv { from, to } => mv(alloc, outline, from, to),
+        NamedCommand::SetAttr { path, kind, value } => {
+            set_attr(alloc, outline, path, *kind, value)
+        }
+        NamedCommand::RmAttr { path, kind } => rm_attr(alloc, outline, path, *kind),
+    }
+}

@@ -1,0 +1,156 @@
+//! What commands make of the directories of an outline, in the order of the thread.
+
+ghost use Rattle.std.specs.Prelude.{◌≡◌, ◌≤◌, ◌<◌, Some, count_by, length, IfOk, OnOk};
+ghost use Rattle.std.specs.Option.{option_and_then};
+ghost use Rattle.lfs_meta.specs.Fits.{BodyFits};
+ghost use Rattle.lfs_fs.specs.AsStored.{stored_body};
+ghost use Rattle.lfs_fs.specs.Directory.{begins_at};
+ghost use Rattle.lfs_fs.specs.Entry.{Directory_at, Entry, target};
+ghost use Rattle.lfs_fs.specs.OutlineHeld.{outline_body_held};
+ghost use Rattle.lfs_fs.specs.Tree.{entry_in};
+ghost use Rattle.lfs_fs.specs.Volume.{Volume};
+ghost use Rattle.lfs_command.specs.Edited.{drop_target, empty_directory, new_entry, put_file, renamed, with_directories};
+ghost use Rattle.lfs_draft.specs.Editable.{BeginOnce, NamedOnce};
+ghost use Rattle.lfs_command.specs.ThreadEdit.{add_after, link, unlink};
+
+use crate::copying::renamed;
+use crate::entry_change::EntryChange;
+use crate::home::Home;
+use crate::thread_edit::{add_after, change, drop_directory, link, unlink};
+use lfs_fs::{Delta, OutlineBody, OutlineDirectory, OutlineEntry, OutlinePart, entry_in};
+use std::alloc::{AllocError, Global};
+
+/// An entry without attributes. The caller owes a name of at most 1,022 bytes, and a body that fits into a tag.
+fn new_entry(alloc: Global, name: &[u8], body: OutlineBody) -> Result<OutlineEntry, AllocError>
+    requires name { length name.now < 1023 }
+    requires body { BodyFits (stored_body (outline_body_held body)) }
+    ensures { IfOk result (λ entry. entry ≡ new_entry name.now (outline_body_held body)) }
+{
+    Ok(OutlineEntry {
+        name: Vec::from_slice(alloc, name)?,
+        body,
+        attributes: Vec::new(alloc),
+    })
+}
+
+/// A directory without entries. Takes no memory.
+fn empty_directory(alloc: Global, pair: (u32, u32)) -> OutlineDirectory
+    ensures { result ≡ empty_directory pair }
+{
+    OutlineDirectory {
+        first: OutlinePart {
+            pair,
+            entries: Vec::new(alloc),
+            delta: Delta::none(),
+            dirty: true,
+        },
+        more: Vec::new(alloc),
+    }
+}
+
+/// Puts a new directory under a name, and into the thread behind the directory that has the name.
+pub(crate) fn make_directory(
+    alloc: Global,
+    directories: &mut Vec<OutlineDirectory>,
+    home: Home<'_>,
+    pair: (u32, u32),
+) -> Result<(), AllocError>
+    requires once { BeginOnce directories.old.items }
+    requires name { length home.name.now < 1023 }
+    ensures { OnOk result (directories.new.items
+        ≡ add_after home.entry.pair (empty_directory pair) (link home.entry.pair (new_entry home.entry.name.now (Directory_at pair)) directories.old.items)) }
+{
+    let entry = new_entry(alloc, home.name, OutlineBody::Leads(pair.0, pair.1))?;
+    link(directories, home.pair, entry)?;
+    add_after(directories, home.pair, empty_directory(alloc, pair))?;
+    Ok(())
+}
+
+/// Puts a file under a name: a new one, or another body of the entry that is there.
+pub(crate) fn put_file(
+    alloc: Global,
+    directories: &mut Vec<OutlineDirectory>,
+    home: Home<'_>,
+    body: OutlineBody,
+) -> Result<(), AllocError>
+    requires once { BeginOnce directories.old.items }
+    requires named { NamedOnce directories.old.items }
+    requires name { length home.name.now < 1023 }
+    requires body { BodyFits (stored_body (outline_body_held body)) }
+    ensures { OnOk result ((v : Volume) → v.directories ≡ directories.old.items
+        → with_directories v directories.new.items
+        ≡ put_file v (outline_body_held body) (Some (home.entry.pair, home.entry.name.now)) (entry_in directories.old.items home.entry.pair home.entry.name.now)) }
+{
+    if entry_in(directories, home.pair, home.name).is_some() {
+        change(
+            alloc,
+            directories,
+            home.pair,
+            home.name,
+            EntryChange::Body(body),
+        )?;
+    } else {
+        let entry = new_entry(alloc, home.name, body)?;
+        link(directories, home.pair, entry)?;
+    }
+    Ok(())
+}
+
+/// The directory that the entry of a name leads to. Takes no memory.
+pub(crate) fn target_of(directories: &[OutlineDirectory], home: Home<'_>) -> Option<(u32, u32)>
+    ensures { result ≡ option_and_then target (entry_in directories.now home.entry.pair home.entry.name.now) }
+{
+    entry_in(directories, home.pair, home.name)?.target()
+}
+
+/// Takes the entry of a name out, with the directory that it leads to. Takes no memory.
+pub(crate) fn remove(
+    directories: &mut Vec<OutlineDirectory>,
+    home: Home<'_>,
+    leads_to: Option<(u32, u32)>,
+)
+    requires once { BeginOnce directories.old.items }
+    ensures { directories.new.items ≡ drop_target leads_to (unlink home.entry.pair home.entry.name.now directories.old.items) }
+{
+    unlink(directories, home.pair, home.name);
+    if let Some(pair) = leads_to {
+        drop_directory(directories, pair);
+    }
+}
+
+/// A copy of the entry of a name under another name. The caller owes that it is there, and another name of at most 1,022 bytes.
+fn copied(
+    alloc: Global,
+    directories: &[OutlineDirectory],
+    home: Home<'_>,
+    name: &[u8],
+) -> Result<OutlineEntry, AllocError>
+    requires there { (e : Entry) × (entry_in directories.now home.pair home.name.now ≡ Some e) }
+    requires name { length name.now < 1023 }
+    ensures { IfOk result (λ copy. (e : Entry) → entry_in directories.now home.entry.pair home.entry.name.now ≡ Some e → copy ≡ renamed name.now e) }
+{
+    match entry_in(directories, home.pair, home.name) {
+        Some(entry) => renamed(alloc, entry, name),
+        None => unreachable!(),
+    }
+}
+
+/// Takes the entry of a name out, and puts it under another name. The caller owes that it is there, and another name of at most
+/// 1,022 bytes.
+pub(crate) fn move_entry(
+    alloc: Global,
+    directories: &mut Vec<OutlineDirectory>,
+    from: Home<'_>,
+    to: Home<'_>,
+) -> Result<(), AllocError>
+    requires once { BeginOnce directories.old.items }
+    requires there { (e : Entry) × (entry_in directories.old.items from.pair from.name.now ≡ Some e) }
+    requires name { length to.name.now < 1023 }
+    ensures { OnOk result ((e : Entry) → entry_in directories.old.items from.entry.pair from.entry.name.now ≡ Some e
+        → directories.new.items ≡ link to.entry.pair (renamed to.entry.name.now e) (unlink from.entry.pair from.entry.name.now directories.old.items)) }
+{
+    let entry = copied(alloc, directories, from, to.name)?;
+    unlink(directories, from.pair, from.name);
+    link(directories, to.pair, entry)?;
+    Ok(())
+}

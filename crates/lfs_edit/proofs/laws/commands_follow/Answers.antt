@@ -1,5 +1,0 @@
-use Rattle.lfs_edit.proofs.CommandsFollow.{commands_follow}
-use Rattle.lfs_edit.proofs.laws.commands_follow.Goals as goal
-
-pub returns : goal.returns
-returns c = commands_follow c.names_are_ordered.ensures

@@ -1,5 +1,0 @@
-use Rattle.lfs_edit.proofs.CommandsSet.{commands_set_a_part}
-use Rattle.lfs_edit.proofs.laws.commands_set_a_part.Goals as goal
-
-pub returns : goal.returns
-returns c = commands_set_a_part c.names_are_ordered.ensures

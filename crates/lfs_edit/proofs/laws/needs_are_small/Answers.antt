@@ -1,5 +1,0 @@
-use Rattle.lfs_edit.proofs.NeedsSmall.{needs_are_small}
-use Rattle.lfs_edit.proofs.laws.needs_are_small.Goals as goal
-
-pub returns : goal.returns
-returns c = needs_are_small c.names_are_ordered.ensures

@@ -1,5 +1,0 @@
-use Rattle.lfs_edit.proofs.MadeBytes.{held_bytes_are_made}
-use Rattle.lfs_edit.proofs.written_laws.held_superblocks_are_made.Goals as goal
-
-pub returns : goal.returns
-returns c = held_bytes_are_made c.live_blocks_are_read.ensures c.blocks_have_a_log.ensures

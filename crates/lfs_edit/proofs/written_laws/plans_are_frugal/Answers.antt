@@ -1,5 +1,0 @@
-use Rattle.lfs_edit.proofs.FrugalPlans.{plans_are_frugal}
-use Rattle.lfs_edit.proofs.written_laws.plans_are_frugal.Goals as goal
-
-pub returns : goal.returns
-returns c = plans_are_frugal

@@ -1,0 +1,69 @@
+-- Contents that are laid in blocks are there when the links are written.
+use Rattle.std.proofs.Common.{◌≡◌, ℕ, ◌-◌, ◌<◌, Bool, true, false, List, [], ◌∷◌, length, refl, ap, sym, ◌∙◌, arith, map, Some}
+use Rattle.std.specs.Prelude.{Contains, slice_get, nat_le, if◌then◌else◌}
+use Rattle.std.proofs.lemmas.List.Elements.{All-weaker, All-contains_itself}
+use Rattle.std.proofs.lemmas.Option.{slice_get-get_or, unwrap_or-slice_get}
+use Rattle.lfs_block.specs.Change.{Change}
+use Rattle.lfs_block.specs.Disk.{Disk, IsDisk, block_of}
+use Rattle.lfs_block.specs.Patch.{applied}
+use Rattle.lfs_block.specs.PatchLaws.{AppliedBlocks, AppliedIsDisk}
+use Rattle.lfs_file.specs.Capacity.{least_blocks}
+use Rattle.lfs_file.specs.Laws.{LaidIsContent, LaidIsFound}
+use Rattle.lfs_file.specs.Laying.{IsLaid, laid}
+use Rattle.lfs_fs.specs.AsStored.{head_of}
+use Rattle.lfs_fs.specs.Entry.{Inline, Chain}
+use Rattle.lfs_fs.specs.Uses.{times}
+use Rattle.lfs_fs.specs.Reading.{reading_of}
+use Rattle.lfs_command.specs.Command.{Mkdir, Put, Rm, Mv, SetAttr, RmAttr}
+use Rattle.lfs_command.specs.Supplies.{most_inline, supply_uses}
+use Rattle.lfs_law.specs.WrittenLinks.{changed_blocks, block_after}
+use Rattle.lfs_law.specs.OutlineLaws.{IsThere}
+use Rattle.lfs_law.specs.PlansHold.{content_blocks}
+use Rattle.lfs_law.specs.PlansWritten.{LaysContents, LaidAreThere}
+use Rattle.lfs_law.proofs.KeptLinks.{contains_first, contains-cons}
+use Rattle.lfs_law.proofs.NamedBlocks.{supplies_once}
+use Rattle.lfs_law.proofs.OutlineEntries.{cons_same}
+use Rattle.lfs_law.proofs.WrittenLemmas.{times_there}
+
+-- the last block of a chain is its head
+head_is : (blocks : List ℕ) → 0 < length blocks → slice_get blocks (length blocks - 1) ≡ Some (head_of blocks)
+head_is blocks some = slice_get-get_or blocks (length blocks - 1) 0 (omega (arith, some)) ∙ ap Some (sym (unwrap_or-slice_get blocks (length blocks - 1) 0))
+
+map_on : (f g : ℕ → List ℕ) (xs : List ℕ) → ((x : ℕ) → Contains xs x → f x ≡ g x) → map f xs ≡ map g xs
+map_on f g [] same = refl
+map_on f g (x ∷ xs) same = cons_same (f x) (g x) (map f xs) (map g xs) (same x (contains_first x xs)) (map_on f g xs (λ y there. same y (contains-cons x xs y there)))
+
+-- in an image of the same size whose blocks are those after the changes
+laid_there : LaidIsFound → LaidIsContent → (d e : Disk) (bytes blocks : List ℕ) (base : List Change) → IsDisk e → e.size ≡ d.size → LaysContents d bytes blocks base
+    → ((n : ℕ) → Contains blocks n → n < e.count) → ((n : ℕ) → Contains blocks n → block_of e n ≡ block_after d base n) → IsThere (reading_of e) (Chain blocks bytes)
+laid_there found content d e bytes blocks base disk size lays below same =
+    let is : IsLaid e (head_of blocks) bytes blocks = record {
+      count = lays.count ∙ ap (λ (n : ℕ). least_blocks n (length bytes)) (sym size);
+      last = head_is blocks;
+      below = All-weaker (Contains blocks) (λ (b : ℕ). b < e.count) below blocks (All-contains_itself blocks);
+      apart = lays.apart;
+      same = map_on (block_of e) (block_after d base) blocks same ∙ lays.same ∙ ap (λ (n : ℕ). laid n bytes blocks) (sym size);
+    } in
+    (found e (head_of blocks) bytes blocks disk is, sym (content e (head_of blocks) bytes blocks disk is))
+
+body_by : (d e : Disk) (bytes blocks : List ℕ) (t : Bool) → (t ≡ false → IsThere (reading_of e) (Chain blocks bytes)) → IsThere (reading_of e) (if t then Inline bytes else Chain blocks bytes)
+body_by d e bytes blocks true there = tt
+body_by d e bytes blocks false there = there refl
+
+pub laid_are_there : LaidIsFound → LaidIsContent → AppliedIsDisk → AppliedBlocks → LaidAreThere
+laid_are_there found content applied_disk applied_blocks d v held (Mkdir path) s chosen is_new base p disk patch stands free named lays written = tt
+laid_are_there found content applied_disk applied_blocks d v held (Rm path) s chosen is_new base p disk patch stands free named lays written = tt
+laid_are_there found content applied_disk applied_blocks d v held (Mv from to) s chosen is_new base p disk patch stands free named lays written = tt
+laid_are_there found content applied_disk applied_blocks d v held (SetAttr path k value) s chosen is_new base p disk patch stands free named lays written = tt
+laid_are_there found content applied_disk applied_blocks d v held (RmAttr path k) s chosen is_new base p disk patch stands free named lays written = tt
+laid_are_there found content applied_disk applied_blocks d v held (Put path bytes) s chosen is_new base p disk patch stands free named lays written =
+    let after = applied_disk p d disk patch stands in
+    body_by d (applied p d) bytes s.blocks (nat_le (length bytes) (most_inline v.size))
+    (λ chain.
+    let blocks_are : content_blocks v (Put path bytes) s ≡ s.blocks = ap (λ (t : Bool). if t then [] else s.blocks) chain in
+    let some : (n : ℕ) → Contains s.blocks n → 0 < times n (changed_blocks base) = λ n there. omega (arith, times_there n s.blocks there, ap (times n) (named ∙ blocks_are)) in
+    laid_there found content d (applied p d) bytes s.blocks base after.disk after.size (lays chain)
+    (λ n there.
+    let taken : 0 < supply_uses v (Put path bytes) s n = omega (arith, supplies_once v (Put path bytes) s n, times_there n s.blocks there, ap (times n) blocks_are) in
+    omega (arith, free.within n taken, after.count, held.count))
+    (λ n there. applied_blocks p d n disk patch stands ∙ written.kept n (some n there)))

@@ -1,0 +1,126 @@
+-- The least free blocks are free, and the parts that a command rewrites are those that it changes.
+use Rattle.std.proofs.Common.{◌≡◌, ◌⊎◌, ℕ, zero, suc, ◌+◌, ◌<◌, ◌≤◌, Bool, true, false, cond, List, [], ◌∷◌, take, refl, ap, sym, ◌∙◌, subst, arith, inl, inr}
+use Rattle.std.specs.Prelude.{All, Contains, ◌&&◌, not, if◌then◌else◌}
+use Rattle.std.specs.List.{filter}
+use Rattle.std.proofs.lemmas.List.Elements.{All-contains}
+use Rattle.lfs_meta.specs.Body.{Pair}
+use Rattle.lfs_fs.specs.Pair.{same_pair}
+use Rattle.lfs_fs.specs.Directory.{Part, thread}
+use Rattle.lfs_fs.specs.Volume.{Volume}
+use Rattle.lfs_fs.specs.Free.{free_blocks}
+use Rattle.lfs_fs.specs.Uses.{times, uses}
+use Rattle.lfs_command.specs.Command.{Command, Mkdir, Put, Rm, Mv, SetAttr, RmAttr}
+use Rattle.lfs_command.specs.Supplies.{Supplies, supply_uses}
+use Rattle.lfs_command.specs.Edited.{edited}
+use Rattle.lfs_command.specs.Cut.{new_pair_uses}
+use Rattle.lfs_command.specs.Need.{need}
+use Rattle.lfs_command.specs.Accepted.{IsAccepted}
+use Rattle.lfs_law.specs.PlansHold.{is_new_to, LeastAreFree, RewrittenAreChanged}
+use Rattle.lfs_law.proofs.Decided.{same_pair_decides}
+use Rattle.lfs_law.proofs.FreeBlocks.{taken_once, taken_free}
+use Rattle.lfs_law.proofs.KeptLinks.{contains_first, contains-cons}
+use Rattle.lfs_law.proofs.LinksAdded.{first_used}
+use Rattle.lfs_law.proofs.NamedBlocks.{sum_zero, not_new, new_is}
+use Rattle.lfs_law.proofs.PairTotals.{total, made_total, edited_total}
+use Rattle.lfs_law.proofs.WrittenLemmas.{one_le}
+
+-- ---- the least free blocks
+
+-- a number is zero, or is not
+pub none_or_some : (n : ℕ) → (n ≡ 0) ⊎ (1 ≤ n)
+none_or_some zero = inl refl
+none_or_some (suc n) = inr (omega arith)
+
+pub least_are_free : LeastAreFree
+least_are_free v c s chosen sound least = (
+  record { once = λ b. omega (arith, once b); within = λ b some. within b (omega (arith, some, least b)) },
+  once,
+  λ b some. within b (omega (arith, some, least b)),
+)
+  where
+    within : (b : ℕ) → 1 ≤ times b (take (need v c) (free_blocks v)) → b < v.count
+    within b some = (taken_free v (need v c) b some).1
+
+    once : (b : ℕ) → uses b v + supply_uses v c s b + new_pair_uses chosen (edited v c s) b ≤ 1
+    once b = elim (none_or_some (times b (take (need v c) (free_blocks v)))) [
+      | inl none ↦ omega (arith, none, least b, sound.once b)
+      | inr some ↦ omega (arith, least b, taken_once v (need v c) b, (taken_free v (need v c) b some).0)
+    ]
+
+-- ---- the parts that are rewritten
+
+-- one, where a pair is new and isn't the pair of the supplies
+abbrev new_elsewhere : Volume → Supplies → Pair → ℕ
+new_elsewhere v s pair = if is_new_to v pair then (if same_pair pair s.pair then 0 else 1) else 0
+
+none_before : (v : Volume) (s : Supplies) → total (new_elsewhere v s) v.directories ≡ 0
+none_before v s =
+    sum_zero (λ (p : Part). new_elsewhere v s p.pair) (thread v.directories)
+    (λ p there. ap (λ (t : Bool). cond {A = ℕ} t (cond {A = ℕ} (same_pair p.pair s.pair) 0 1) 0) (not_new v p there))
+
+none_made : (v : Volume) (s : Supplies) → new_elsewhere v s s.pair ≡ 0
+none_made v s = by (is_new_to v s.pair)
+  where
+    by : (t : Bool) → cond {A = ℕ} t (cond {A = ℕ} (same_pair s.pair s.pair) 0 1) 0 ≡ 0
+    by true = ap (λ (u : Bool). cond {A = ℕ} u 0 1) ((same_pair_decides s.pair s.pair).1 refl)
+    by false = refl
+
+none_made_by : (v : Volume) (c : Command) (s : Supplies) → made_total (new_elsewhere v s) c s ≡ 0
+none_made_by v (Mkdir p) s = none_made v s
+none_made_by v (Put p bytes) s = refl
+none_made_by v (Rm p) s = refl
+none_made_by v (Mv p q) s = refl
+none_made_by v (SetAttr p k value) s = refl
+none_made_by v (RmAttr p k) s = refl
+
+-- a new pair is that of the supplies
+pub new_is_supplied : (v : Volume) (c : Command) (s : Supplies) (p : Part) → Contains (thread (edited v c s).directories) p → is_new_to v p.pair ≡ true → same_pair p.pair s.pair ≡ true
+new_is_supplied v c s p there new =
+    let le : new_elsewhere v s p.pair ≤ total (new_elsewhere v s) (edited v c s).directories = one_le (λ (x : Part). new_elsewhere v s x.pair) (thread (edited v c s).directories) p there in
+    let none : new_elsewhere v s p.pair ≡ 0 = omega (arith, le, edited_total (new_elsewhere v s) v c s, none_before v s, none_made_by v c s) in
+    by (same_pair p.pair s.pair) (sym (ap (λ (t : Bool). cond {A = ℕ} t (cond {A = ℕ} (same_pair p.pair s.pair) 0 1) 0) new) ∙ none)
+  where
+    by : (t : Bool) → cond {A = ℕ} t 0 1 ≡ 0 → t ≡ true
+    by true h = refl
+    by false h = let no : ⊥ = omega (arith, h) in absurd no
+
+-- one for the pair of the supplies
+abbrev supplied_total : Supplies → Pair → ℕ
+supplied_total s pair = if same_pair pair s.pair then 1 else 0
+
+-- where a command makes no directory, and the volume hasn't the pair of the supplies, no part has it
+not_supplied : (v : Volume) (c : Command) (s : Supplies) → made_total (supplied_total s) c s ≡ 0 → All (λ p. same_pair p.pair s.pair ≡ false) (thread v.directories)
+    → (p : Part) → Contains (thread (edited v c s).directories) p → same_pair p.pair s.pair ≡ true → ⊥
+not_supplied v c s none others p there same =
+    let before : total (supplied_total s) v.directories ≡ 0 =
+    sum_zero (λ (x : Part). supplied_total s x.pair) (thread v.directories)
+    (λ x inside. ap (λ (t : Bool). cond {A = ℕ} t 1 0) (All-contains (λ (y : Part). same_pair y.pair s.pair ≡ false) (thread v.directories) x others inside)) in
+    let le : supplied_total s p.pair ≤ total (supplied_total s) (edited v c s).directories = one_le (λ (x : Part). supplied_total s x.pair) (thread (edited v c s).directories) p there in
+    let one : supplied_total s p.pair ≡ 1 = ap (λ (t : Bool). cond {A = ℕ} t 1 0) same in
+    omega (arith, before, le, one, none, edited_total (supplied_total s) v c s)
+
+supplied_is_new : (v : Volume) (c : Command) (s : Supplies) → IsAccepted v c s → All (λ p. same_pair p.pair s.pair ≡ false) (thread v.directories)
+    → (p : Part) → Contains (thread (edited v c s).directories) p → same_pair p.pair s.pair ≡ true → is_new_to v p.pair ≡ true
+supplied_is_new v (Mkdir path) s ok others p there same =
+    let is : p.pair ≡ s.pair = (same_pair_decides p.pair s.pair).0 same in
+    subst (λ (k : Pair). is_new_to v k ≡ true) (sym is) (new_is v s.pair (omega (arith, ok.free.once s.pair.0, first_used s.pair)))
+supplied_is_new v (Put path bytes) s ok others p there same = absurd (not_supplied v (Put path bytes) s refl others p there same)
+supplied_is_new v (Rm path) s ok others p there same = absurd (not_supplied v (Rm path) s refl others p there same)
+supplied_is_new v (Mv from to) s ok others p there same = absurd (not_supplied v (Mv from to) s refl others p there same)
+supplied_is_new v (SetAttr path k value) s ok others p there same = absurd (not_supplied v (SetAttr path k value) s refl others p there same)
+supplied_is_new v (RmAttr path k) s ok others p there same = absurd (not_supplied v (RmAttr path k) s refl others p there same)
+
+same_test : (a b : Bool) → (a ≡ true → b ≡ true) → (b ≡ true → a ≡ true) → a ≡ b
+same_test true b there back = sym (there refl)
+same_test false true there back = back refl
+same_test false false there back = refl
+
+filter_on : (f g : Part → Bool) (ps : List Part) → ((p : Part) → Contains ps p → f p ≡ g p) → filter f ps ≡ filter g ps
+filter_on f g [] same = refl
+filter_on f g (p ∷ ps) same = rw (same p (contains_first p ps), filter_on f g ps (λ q there. same q (contains-cons p ps q there))) refl
+
+pub rewritten_are_changed : RewrittenAreChanged
+rewritten_are_changed v c s ok others =
+    filter_on (λ p. p.dirty && not (is_new_to v p.pair)) (λ p. p.dirty && not (same_pair p.pair s.pair)) (thread (edited v c s).directories)
+    (λ p there. ap (λ (t : Bool). p.dirty && not t)
+    (same_test (is_new_to v p.pair) (same_pair p.pair s.pair) (new_is_supplied v c s p there) (supplied_is_new v c s ok others p there)))

@@ -1,0 +1,113 @@
+-- What is moved follows its equation.
+use Rattle.std.proofs.Common.{◌≡◌, ℕ, ◌≤◌, nat_lt, false, List, [], ◌∷◌, ◌++◌, refl, ap, sym, ◌∙◌, subst, arith, length, append-nil, Option, Some, None}
+use Rattle.std.specs.Prelude.{count_by}
+use Rattle.std.specs.Option.{option_map, unwrap_or}
+use Rattle.std.proofs.lemmas.Bool.Decides.{nat_tests}
+use Rattle.std.proofs.lemmas.Option.{none-some}
+use Rattle.lfs_meta.specs.Name.{Name}
+use Rattle.lfs_meta.specs.Body.{Pair}
+use Rattle.lfs_fs.specs.NameOrder.{NamesAreOrdered}
+use Rattle.lfs_fs.specs.Path.{Path}
+use Rattle.lfs_fs.specs.Entry.{Entry}
+use Rattle.lfs_fs.specs.Directory.{Directory, begins_at}
+use Rattle.lfs_fs.specs.Volume.{Volume}
+use Rattle.lfs_fs.specs.Tree.{entry_at, entry_in, tree}
+use Rattle.lfs_fs.specs.Uses.{uses}
+use Rattle.lfs_fs.specs.Sound.{IsSound, IsProper}
+use Rattle.lfs_command.specs.PathMap.{below, moved}
+use Rattle.lfs_command.specs.ThreadEdit.{link, unlink}
+use Rattle.lfs_command.specs.Home.{home_of}
+use Rattle.lfs_command.specs.Edited.{with_directories, renamed, move_entry}
+use Rattle.lfs_command.specs.Verdict.{lies_below}
+use Rattle.lfs_law.proofs.Effect.{Effect, AreGood, none, of_entry, of_both, in_a_row}
+use Rattle.lfs_law.proofs.MovedEdge.{MovedEdge, tree_moved, reached_moved}
+use Rattle.lfs_law.proofs.PathMapLemmas.{below_some}
+use Rattle.lfs_law.proofs.SoundAfter.{sound_after}
+use Rattle.lfs_law.proofs.ThreadEdits.{link_edge, link_other, link_effect, link_good, unlink_edge, unlink_other, unlink_effect, unlink_good}
+use Rattle.lfs_law.proofs.EdgeEdits.{SameFrame, sound_is_good}
+use Rattle.lfs_law.proofs.Placed.{IsPlaced, proper_entry}
+
+-- a sound volume in the same frame, with the same uses of blocks, whose tree is moved
+pub record Moves (v w : Volume) (p q : Path) : Type 0 where
+  pub sound : IsSound w
+  pub frame : SameFrame v w
+  pub uses : (b : ℕ) → uses b w ≡ uses b v
+  pub at : (path : Path) → tree w path ≡ moved p q (tree v) path
+
+-- A path at which nothing is doesn't lie at or below one at which something is, unless strictly below.
+outside_by : (v : Volume) (p q : Path) (e : Entry) → entry_at v p ≡ Some e → entry_at v q ≡ None → (o : Option Path) → below p q ≡ o
+    → unwrap_or (option_map (λ (r : Path). nat_lt 0 (length r)) o) false ≡ false → o ≡ None
+outside_by v p q e here free None is apart = refl
+outside_by v p q e here free (Some []) is apart =
+    let same : q ≡ p = below_some p q [] is ∙ append-nil p in
+    absurd (none-some e (sym free ∙ ap (entry_at v) same ∙ here))
+outside_by v p q e here free (Some (n ∷ r)) is apart = let no : ⊥ = grind (arith, nat_tests) in absurd no
+
+outside : (v : Volume) (p q : Path) (e : Entry) → entry_at v p ≡ Some e → entry_at v q ≡ None → lies_below p q ≡ false → below p q ≡ None
+outside v p q e here free apart = outside_by v p q e here free (below p q) refl apart
+
+-- where one edge is and the other isn't, they are two
+apart : (ds : List Directory) (k j : Pair) (n m : Name) (e : Entry) → entry_in ds k n ≡ Some e → entry_in ds j m ≡ None → (k ≡ j) × (n ≡ m) → ⊥
+apart ds k j n m e one none both = none-some e (sym none ∙ ap (λ (x : Pair). entry_in ds x m) (sym both.0) ∙ ap (entry_in ds k) (sym both.1) ∙ one)
+
+pub mv_follows : (v : Volume) (p q : Path) (e : Entry) → NamesAreOrdered → IsSound v → (from : IsPlaced v p) → (to : IsPlaced v q) → entry_at v p ≡ Some e
+    → entry_at v q ≡ None → lies_below p q ≡ false → length to.home.name ≤ v.limits.name
+    → Moves v (move_entry v (home_of v p) (home_of v q) (Some e)) p q
+mv_follows v p q e ordered sound from to here free off fits =
+    let k = from.home.pair in
+    let n = from.home.name in
+    let j = to.home.pair in
+    let m = to.home.name in
+    let x : Entry = renamed m e in
+    let edge : entry_in v.directories k n ≡ Some e = sym from.edge ∙ here in
+    let no_edge : entry_in v.directories j m ≡ None = sym to.edge ∙ free in
+    let two = apart v.directories k j n m e edge no_edge in
+    let good : AreGood v.limits v.directories = sound_is_good v sound in
+    let unlinked : List Directory = unlink k n v.directories in
+    let first : Effect (of_entry e) none v.directories unlinked = unlink_effect v.limits k n e v.directories ordered good from.once edge in
+    let once : count_by (begins_at j) unlinked ≡ 1 = omega (arith, first.directories j, to.once) in
+    let fresh : entry_in unlinked j m ≡ None = unlink_other k n v.directories j m (λ both. two (sym both.0, sym both.1)) ∙ no_edge in
+    let was : IsProper v.limits e = proper_entry v sound k n e edge in
+    let proper : IsProper v.limits x = record { name = to.home.named; name_fits = fits; file_fits = was.file_fits; attributes = was.attributes } in
+    let ds : List Directory = link j x unlinked in
+    let w : Volume = with_directories v ds in
+    let second : Effect none (of_entry x) unlinked ds = link_effect j x unlinked once in
+    let moves : MovedEdge v w from.home.front to.home.front k j n m e x = record {
+      sound = sound;
+      holder = from.home.above;
+      holder_at = from.home.at;
+      holder_leads = from.home.leads;
+      taker = to.home.above;
+      taker_at = to.home.at;
+      taker_leads = to.home.leads;
+      from = ap (entry_at v) (sym from.home.whole) ∙ here;
+      to = ap (entry_at v) (sym to.home.whole) ∙ free;
+      outside = ap (λ (y : Path). below y (to.home.front ++ m ∷ [])) (sym from.home.whole) ∙ ap (below p) (sym to.home.whole) ∙ outside v p q e here free off;
+      attributes = refl;
+      gone = link_other j x unlinked k n two ∙ unlink_edge k n v.directories;
+      came = link_edge j x unlinked once fresh;
+      leads = refl;
+      shows = refl;
+      others = λ i l not_from not_to. link_other j x unlinked i l not_to ∙ unlink_other k n v.directories i l not_from;
+    } in
+    let follows : Moves v w p q = record {
+      sound = sound_after v w (of_both (of_entry e) none) (of_both none (of_entry x)) sound
+          (in_a_row (of_entry e) none none (of_entry x) v.directories unlinked ds first second)
+          (link_good v.limits j x unlinked ordered (unlink_good v.limits k n v.directories good) once fresh proper)
+          sound.root_attributes refl
+          (record {
+            once = λ b. omega (arith, sound.once b);
+            within = λ b less. let no : ⊥ = omega arith in absurd no;
+            names = λ i. omega arith;
+            stay = λ i gone reached. reached_moved moves i reached;
+            come = λ i some. let no : ⊥ = omega arith in absurd no;
+          });
+      frame = record { size = refl; count = refl; limits = refl };
+      uses = λ b. omega (arith, first.uses b, second.uses b);
+      at = λ path.
+          tree_moved moves path
+          ∙ ap (λ (y : Path). moved y (to.home.front ++ m ∷ []) (tree v) path) (sym from.home.whole)
+          ∙ ap (λ (y : Path). moved p y (tree v) path) (sym to.home.whole);
+    } in
+    subst (λ (h : Option (Pair × Name)). Moves v (move_entry v h (home_of v q) (Some e)) p q) (sym from.home.home)
+    (subst (λ (h : Option (Pair × Name)). Moves v (move_entry v (Some (k, n)) h (Some e)) p q) (sym to.home.home) follows)

@@ -1,0 +1,154 @@
+-- Where the links of an outline are written, its volume is.
+use Rattle.std.proofs.Common.{◌≡◌, ◌≢◌, ℕ, ◌==◌, Bool, true, false, cond, List, [], ◌∷◌, ◌++◌, length, refl, ap, sym, ◌∙◌, subst, arith, map, Some}
+use Rattle.std.specs.Prelude.{Contains}
+use Rattle.std.specs.List.{AllZip, AllByRecursion}
+use Rattle.std.proofs.lemmas.Bool.Decides.{nat_tests}
+use Rattle.std.proofs.lemmas.List.{length-replicate, map-append}
+use Rattle.std.proofs.lemmas.List.Folds.{flat_map-map}
+use Rattle.std.proofs.lemmas.List.Sums.{sum_by-cons}
+use Rattle.lfs_block.specs.Change.{Change}
+use Rattle.lfs_block.specs.Disk.{Disk, block_of}
+use Rattle.lfs_block.specs.Patch.{ChangeSet, applied}
+use Rattle.lfs_block.specs.PatchLaws.{AppliedBlocks, AppliedIsDisk}
+use Rattle.lfs_meta.specs.declared.kind.Kind.TheVariants.{Super}
+use Rattle.lfs_meta.specs.declared.tail.Tail.{Tail}
+use Rattle.lfs_meta.specs.Body.{Pair}
+use Rattle.lfs_meta.specs.LiveBlock.{stored_part_of}
+use Rattle.lfs_meta.specs.Writing.{part_in}
+use Rattle.lfs_fs.specs.AsStored.{head_of, stored_kind, stored_body, stored_entry}
+use Rattle.lfs_fs.specs.Entry.{Body, Inline, Chain, Directory_at, Entry}
+use Rattle.lfs_fs.specs.Directory.{Part, Directory}
+use Rattle.lfs_fs.specs.Outlined.{outlined_body, outlined_part, outlined_directories, outlined}
+use Rattle.lfs_fs.specs.Volume.{Volume}
+use Rattle.lfs_fs.specs.Thread.{Link, links_of, links, tail_to, hard_to}
+use Rattle.lfs_fs.specs.Uses.{times, pair_uses}
+use Rattle.lfs_fs.specs.Reading.{Reading, reading_of}
+use Rattle.lfs_fs.specs.Stored.{BodyStands, Stands, IsStored, HoldsLinks}
+use Rattle.lfs_law.specs.Written.{cleaned_link}
+use Rattle.lfs_law.specs.WrittenLinks.{changed_blocks, block_after, set_blocks, links_blocks, set_uses, link_part, MakesLink}
+use Rattle.lfs_law.specs.OutlineLaws.{IsThere, WritesOutline, OutlinesAreWritten}
+use Rattle.lfs_law.proofs.ChangesAt.{overlaid_none}
+use Rattle.lfs_law.proofs.KeptLinks.{contains_first, contains-cons}
+use Rattle.lfs_law.proofs.LinksAdded.{times_cons, times_append, written_within, one_use, set_is}
+use Rattle.lfs_law.proofs.OutlineEntries.{outlined_entries}
+use Rattle.lfs_law.proofs.OutlineDirectories.{outlined_parts}
+use Rattle.lfs_law.proofs.WrittenLemmas.{contains-map, part_there}
+
+-- ---- the links of an outline
+
+abbrev pub outlined_link : Link → Link
+outlined_link l = record { part = outlined_part l.part; tail = l.tail }
+
+links_of_outlined : (p : Part) (ps : List Part) (tail : Tail) → links_of (outlined_part p) (outlined_parts ps) tail ≡ map outlined_link (links_of p ps tail)
+links_of_outlined p [] tail = refl
+links_of_outlined p (q ∷ ps) tail = ap (λ (ls : List Link). record { part = outlined_part p; tail = hard_to q.pair } ∷ ls) (links_of_outlined q ps tail)
+
+tail_outlined : (ds : List Directory) → tail_to (outlined_directories ds) ≡ tail_to ds
+tail_outlined [] = refl
+tail_outlined (d ∷ ds) = refl
+
+pub links_outlined : (ds : List Directory) → links (outlined_directories ds) ≡ map outlined_link (links ds)
+links_outlined [] = refl
+links_outlined (d ∷ ds) =
+    ap (λ (t : Tail). links_of (outlined_part d.first) (outlined_parts d.more) t ++ links (outlined_directories ds)) (tail_outlined ds)
+    ∙ ap (λ (ls : List Link). ls ++ links (outlined_directories ds)) (links_of_outlined d.first d.more (tail_to ds))
+    ∙ ap (λ (ls : List Link). map outlined_link (links_of d.first d.more (tail_to ds)) ++ ls) (links_outlined ds)
+    ∙ sym (map-append outlined_link (links_of d.first d.more (tail_to ds)) (links ds))
+
+-- they are written to the same blocks
+pub blocks_outlined : (d : Disk) (is_new : Pair → Bool) (w : Volume) → links_blocks d is_new (links (outlined w).directories) ≡ links_blocks d is_new (links w.directories)
+blocks_outlined d is_new w =
+    ap (links_blocks d is_new) (links_outlined w.directories) ∙ flat_map-map (λ (l : Link). set_blocks d is_new l.part) outlined_link (links w.directories)
+
+set_uses_mapped : (n : ℕ) (ls : List Link) → set_uses n (map outlined_link ls) ≡ set_uses n ls
+set_uses_mapped n [] = refl
+set_uses_mapped n (l ∷ ls) = omega (arith, sum_by-cons (one_use n) (outlined_link l) (map outlined_link ls), sum_by-cons (one_use n) l ls, set_uses_mapped n ls)
+
+pub set_uses_outlined : (n : ℕ) (w : Volume) → set_uses n (links (outlined w).directories) ≡ set_uses n (links w.directories)
+set_uses_outlined n w = ap (set_uses n) (links_outlined w.directories) ∙ set_uses_mapped n (links w.directories)
+
+pub outline_there : (w : Volume) (l : Link) → Contains (links w.directories) l → Contains (links (outlined w).directories) (outlined_link l)
+outline_there w l there =
+    subst (λ (ls : List Link). Contains ls (outlined_link l)) (sym (links_outlined w.directories)) (contains-map outlined_link (links w.directories) l there)
+
+-- ---- what isn't written
+
+pub none_named : (n : ℕ) (cs : List Change) → times n (changed_blocks cs) ≡ 0 → AllByRecursion (λ c. c.number ≢ n) cs
+none_named n [] none = tt
+none_named n (c ∷ cs) none = (λ same. differ same (omega (arith, none, times_cons n c.number (changed_blocks cs))), none_named n cs (omega (arith, none, times_cons n c.number (changed_blocks cs))))
+  where
+    differ : c.number ≡ n → cond {A = ℕ} (c.number == n) 1 0 ≡ 0 → ⊥
+    differ same zero_is = let one : cond {A = ℕ} (c.number == n) 1 0 ≡ 1 = grind (arith, nat_tests) in omega (arith, one, zero_is)
+
+set_by : (d : Disk) (is_new : Pair → Bool) (n : ℕ) (p : Part) (t : Bool) → p.dirty ≡ t → (p.dirty ≡ true → pair_uses n p ≡ 0) → times n (set_blocks d is_new p) ≡ 0
+set_by d is_new n p true is unused = omega (arith, ap (times n) (set_is d is_new p true is), unused is, written_within d is_new p.pair n)
+set_by d is_new n p false is unused = ap (times n) (set_is d is_new p false is)
+
+unwritten : (d : Disk) (is_new : Pair → Bool) (n : ℕ) (ls : List Link) → ((l : Link) → Contains ls l → l.part.dirty ≡ true → pair_uses n l.part ≡ 0) → times n (links_blocks d is_new ls) ≡ 0
+unwritten d is_new n [] unused = refl
+unwritten d is_new n (l ∷ ls) unused =
+    omega (
+      arith,
+      times_append n (set_blocks d is_new l.part) (links_blocks d is_new ls),
+      set_by d is_new n l.part l.part.dirty refl (unused l (contains_first l ls)),
+      unwritten d is_new n ls (λ m there. unused m (contains-cons l ls m there)),
+    )
+
+-- ---- what is
+
+file_or_directory : (b : Body) → stored_kind b ≢ Super
+file_or_directory (Inline bytes) = λ h. cc
+file_or_directory (Chain blocks bytes) = λ h. cc
+file_or_directory (Directory_at pair) = λ h. cc
+
+body_stands : (r : Reading) (b : Body) → IsThere r b → BodyStands r (stored_body (outlined_body b)) b
+body_stands r (Inline bytes) there = refl
+body_stands r (Chain blocks bytes) there =
+    subst (λ (n : ℕ). (r.chain (head_of blocks) n ≡ Some blocks) × (bytes ≡ r.content n blocks)) (sym (length-replicate (length bytes) 0)) there
+body_stands r (Directory_at pair) there = refl
+
+entries_stand : (r : Reading) (es : List Entry) → ((e : Entry) → Contains es e → IsThere r e.body) → AllZip (Stands r) (map stored_entry (outlined_entries es)) es
+entries_stand r [] there = tt
+entries_stand r (e ∷ es) there = (
+  record { kind = file_or_directory (outlined_body e.body); name = refl; attributes = refl; body = body_stands r e.body (there e (contains_first e es)) },
+  entries_stand r es (λ f inside. there f (contains-cons e es f inside)),
+)
+
+-- what the pair of a link holds in the patched image
+read_after : AppliedBlocks → (d : Disk) (v w : Volume) (held : HoldsLinks (reading_of d) v) (is_new : Pair → Bool) (base : List Change) (p : ChangeSet)
+    → WritesOutline d v w held is_new base p → (pair : Pair)
+    → stored_part_of (applied p d) pair ≡ part_in (block_after d p.changes pair.0) (block_after d p.changes pair.1)
+read_after blocks d v w held is_new base p writes pair =
+    ap (λ (b : List ℕ). part_in b (block_of (applied p d) pair.1)) (blocks p d pair.0 writes.disk writes.patch writes.stands)
+    ∙ ap (part_in (block_after d p.changes pair.0)) (blocks p d pair.1 writes.disk writes.patch writes.stands)
+
+link_stored : AppliedBlocks → (d : Disk) (v w : Volume) (held : HoldsLinks (reading_of d) v) (is_new : Pair → Bool) (base : List Change) (p : ChangeSet) → WritesOutline d v w held is_new base p
+    → (l : Link) → Contains (links w.directories) l → l.part.dirty ≡ true → IsStored (reading_of (applied p d)) held.bytes w.attributes (cleaned_link l)
+link_stored blocks d v w held is_new base p writes l there set =
+    let made : MakesLink d held.bytes w.attributes p.changes (outlined_link l) = writes.written.makes (outlined_link l) (outline_there w l there) set in
+    record {
+      stored = link_part held.bytes w.attributes (outlined_link l) made.delta;
+      read = read_after blocks d v w held is_new base p writes l.part.pair ∙ made.part;
+      others = map stored_entry (outlined_entries l.part.entries);
+      entries = refl;
+      stands = entries_stand (reading_of (applied p d)) l.part.entries (writes.there l there);
+      tail = refl;
+      delta = made.delta_is;
+      clean = refl;
+    }
+
+pub outlines_are_written : AppliedIsDisk → AppliedBlocks → OutlinesAreWritten
+outlines_are_written disk blocks d v w held is_new base p writes =
+    let after = disk p d writes.disk writes.patch writes.stands in
+    record {
+      old_disk = writes.disk;
+      new_disk = after.disk;
+      size = after.size;
+      count = after.count;
+      stays = λ n used none.
+          let apart : times n (links_blocks d is_new (links w.directories)) ≡ 0 = unwritten d is_new n (links w.directories) (λ l there set. none l.part (part_there w.directories l there) set) in
+          let unnamed : times n (changed_blocks p.changes) ≡ 0 = omega (arith, writes.written.named n, writes.unused n used, apart, ap (times n) (blocks_outlined d is_new w)) in
+          blocks p d n writes.disk writes.patch writes.stands ∙ overlaid_none p.changes n (block_of d n) (none_named n p.changes unnamed);
+      written = link_stored blocks d v w held is_new base p writes;
+      attributes = writes.attributes;
+    }

@@ -1,0 +1,107 @@
+-- What a written outline of an accepted command leaves, and which blocks it is written to (own).
+use Rattle.std.specs.Prelude.{◌≡◌, ℕ, ◌+◌, ◌<◌, ◌≤◌, ◌==◌, ◌&&◌, not, nat_le, Bool, false, List, [], All, Contains, if◌then◌else◌, length, map, take, slice_index_or}
+use Rattle.std.specs.List.{filter}
+use Rattle.lfs_block.specs.Change.{Change}
+use Rattle.lfs_block.specs.Disk.{Disk}
+use Rattle.lfs_block.specs.Patch.{ChangeSet, applied}
+use Rattle.lfs_meta.specs.Attribute.{Attributes}
+use Rattle.lfs_meta.specs.Body.{Pair}
+use Rattle.lfs_meta.specs.Writing.{other_number}
+use Rattle.lfs_fs.specs.Pair.{same_pair}
+use Rattle.lfs_fs.specs.Directory.{Part, thread}
+use Rattle.lfs_fs.specs.Outlined.{outlined}
+use Rattle.lfs_fs.specs.Volume.{Volume}
+use Rattle.lfs_fs.specs.Thread.{Link, links}
+use Rattle.lfs_fs.specs.Used.{Marks}
+use Rattle.lfs_fs.specs.Uses.{times, uses}
+use Rattle.lfs_fs.specs.Free.{free_blocks}
+use Rattle.lfs_fs.specs.Sound.{IsSound}
+use Rattle.lfs_fs.specs.Reading.{reading_of}
+use Rattle.lfs_fs.specs.Holds.{Holds}
+use Rattle.lfs_fs.specs.Stored.{HoldsLinks}
+use Rattle.lfs_command.specs.Command.{Command, Mkdir, Put, Rm, Mv, SetAttr, RmAttr}
+use Rattle.lfs_command.specs.Supplies.{Supplies, AreFree, most_inline, supply_uses}
+use Rattle.lfs_command.specs.Edited.{edited}
+use Rattle.lfs_command.specs.Cut.{cut, new_pair_uses}
+use Rattle.lfs_command.specs.Clean.{clean}
+use Rattle.lfs_command.specs.Accepted.{IsAccepted, AreChosen}
+use Rattle.lfs_command.specs.Need.{changed_parts, need}
+use Rattle.lfs_command.specs.Planned.{HasOneOf, TakesLeast}
+use Rattle.lfs_law.specs.WrittenLinks.{changed_blocks, links_blocks, set_uses, AreWritten}
+use Rattle.lfs_law.specs.OutlineLaws.{WritesOutline}
+
+-- the law: where a patch writes the outline of what an accepted command leaves, cut, the patched image holds it
+abbrev pub PlansHold : Type 0
+PlansHold = (d : Disk) (v : Volume) (held : HoldsLinks (reading_of d) v) (c : Command) (s : Supplies)
+    (chosen : Part → List Pair) (is_new : Pair → Bool) (base : List Change) (p : ChangeSet)
+    → IsAccepted v c s → AreChosen v c s chosen → WritesOutline d v (cut chosen (edited v c s)) held is_new base p
+    → Holds (reading_of (applied p d)) (clean (cut chosen (edited v c s)))
+
+-- ---- which blocks are written
+
+-- the blocks of a file's new contents, where they don't stand in its entry
+abbrev pub content_blocks : Volume → Command → Supplies → List ℕ
+content_blocks v (Mkdir p) s = []
+content_blocks v (Put p bytes) s = if nat_le (length bytes) (most_inline v.size) then [] else s.blocks
+content_blocks v (Rm p) s = []
+content_blocks v (Mv p q) s = []
+content_blocks v (SetAttr p k value) s = []
+content_blocks v (RmAttr p k) s = []
+
+-- a pair whose first block the volume doesn't use
+abbrev pub is_new_to : Volume → Pair → Bool
+is_new_to v pair = uses pair.0 v == 0
+
+-- a pair whose first block a table doesn't mark
+abbrev pub is_unmarked : List Bool → Pair → Bool
+is_unmarked used pair = not (slice_index_or used pair.0 false)
+
+-- the law: a table of the blocks that the volume uses tells its pairs from new ones
+abbrev pub TablesTellNew : Type 0
+TablesTellNew = (v : Volume) (used : List Bool) → Marks used (λ b. uses b v)
+    → (d : Disk) (bytes : List ℕ) (attributes : Attributes) (base : List Change) (ls : List Link) (cs : List Change)
+    → AreWritten d bytes attributes (is_unmarked used) base ls cs → AreWritten d bytes attributes (is_new_to v) base ls cs
+
+-- the parts that are set in w whose pairs v has
+abbrev pub rewritten_parts : Volume → Volume → List Part
+rewritten_parts v w = filter (λ p. p.dirty && not (is_new_to v p.pair)) (thread w.directories)
+
+-- those of their blocks that aren't live, one of each pair
+abbrev pub rewritten_blocks : Disk → Volume → Volume → List ℕ
+rewritten_blocks d v w = map (λ p. other_number d p.pair) (rewritten_parts v w)
+
+-- the law: no block is written twice
+abbrev pub BlocksAreWrittenOnce : Type 0
+BlocksAreWrittenOnce = (v : Volume) (c : Command) (s : Supplies) (chosen : Part → List Pair) → IsAccepted v c s → AreChosen v c s chosen
+    → (n : ℕ) → times n (content_blocks v c s) + set_uses n (links (outlined (cut chosen (edited v c s))).directories) ≤ 1
+
+-- the law: what is written are the blocks that the command takes, and one of each pair of the volume whose part it sets
+abbrev pub BlocksAreTaken : Type 0
+BlocksAreTaken = (d : Disk) (v : Volume) (c : Command) (s : Supplies) (chosen : Part → List Pair) → IsAccepted v c s → AreChosen v c s chosen
+    → (n : ℕ) → times n (content_blocks v c s) + times n (links_blocks d (is_new_to v) (links (cut chosen (edited v c s)).directories))
+    ≡ supply_uses v c s n + new_pair_uses chosen (edited v c s) n + times n (rewritten_blocks d v (edited v c s))
+
+-- the law: then they are free, each taken once
+abbrev pub LeastAreFree : Type 0
+LeastAreFree = (v : Volume) (c : Command) (s : Supplies) (chosen : Part → List Pair) → IsSound v → TakesLeast v c s chosen
+    → AreFree v c s
+    × ((b : ℕ) → uses b v + supply_uses v c s b + new_pair_uses chosen (edited v c s) b ≤ 1)
+    × ((b : ℕ) → 0 < new_pair_uses chosen (edited v c s) b → b < v.count)
+
+-- the law: the parts that are rewritten are those that are changed, where the pair of the supplies is none of the volume's
+abbrev pub RewrittenAreChanged : Type 0
+RewrittenAreChanged = (v : Volume) (c : Command) (s : Supplies) → IsAccepted v c s → All (λ p. same_pair p.pair s.pair ≡ false) (thread v.directories)
+    → rewritten_parts v (edited v c s) ≡ changed_parts s (edited v c s)
+
+-- The blocks that are changed: the least free ones, as many as the command needs, and one of the pair of each part that it rewrites.
+pub record NamesLeast (v : Volume) (c : Command) (s : Supplies) (numbers : List ℕ) : Type 0 where
+  pub free : All (Contains numbers) (take (need v c) (free_blocks v))
+  pub rewritten : All (HasOneOf numbers) (rewritten_parts v (edited v c s))
+  pub len : length numbers ≡ need v c + length (rewritten_parts v (edited v c s))
+
+-- the law: so many blocks are changed
+abbrev pub PlansAreFrugal : Type 0
+PlansAreFrugal = (d : Disk) (v : Volume) (held : HoldsLinks (reading_of d) v) (c : Command) (s : Supplies)
+    (chosen : Part → List Pair) (base : List Change) (p : ChangeSet)
+    → IsAccepted v c s → AreChosen v c s chosen → TakesLeast v c s chosen → changed_blocks base ≡ content_blocks v c s
+    → WritesOutline d v (cut chosen (edited v c s)) held (is_new_to v) base p → NamesLeast v c s (changed_blocks p.changes)

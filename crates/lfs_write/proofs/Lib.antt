@@ -1,0 +1,4 @@
+pub mod LaidLemmas
+pub mod PairWrites
+pub mod LinksInTurn
+pub mod AttributesRise

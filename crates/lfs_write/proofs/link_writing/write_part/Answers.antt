@@ -1,0 +1,28 @@
+-- The table says whether the pair is new.
+use Rattle.std.proofs.Common.{◌≡◌, true, ap, sym, ◌∙◌}
+use Rattle.lfs_fs.specs.Directory.{Part}
+use Rattle.lfs_law.specs.PairWritten.{link_to}
+use Rattle.lfs_law.specs.PlansHold.{is_unmarked}
+use Rattle.lfs_law.specs.SuperblockBytes.{volume_bytes}
+use Rattle.lfs_write.proofs.PairWrites.{link_filled, link_rewritten}
+use Rattle.lfs_write.proofs.link_writing.write_part.Goals as goal
+use Rattle.lfs_write.proofs.link_writing.write_part.Goals.{then-is_unmarked+in_ok-fill_pair, else-is_unmarked+in_ok-rewrite_pair}
+
+pub returns : goal.returns
+returns c =
+    let d = c.args.image.now in
+    let bytes = volume_bytes c.args.outline.now in
+    let attributes = c.args.outline.now.attributes in
+    let is_new = is_unmarked c.args.used.now in
+    let l = link_to c.args.part.now c.args.tail in
+    let stored = c.in_ok-stored.stored in
+    let old = c.args.changes.now.items in
+    let told : c.is_unmarked.result ≡ is_new c.args.part.now.pair = c.is_unmarked.ensures ∙ ap (λ (p : Part). is_new p.pair) c.part.view_is in
+    elim c.if-is_unmarked.branch [
+      | then-is_unmarked+in_ok-fill_pair w ↦
+          (let new : is_new c.args.part.now.pair ≡ true = sym told ∙ w.if-is_unmarked.true in
+          rw w.changes-is (link_filled d bytes attributes is_new l stored old w.fill_pair.new.changes.items new (c.requires.fresh new) c.in_ok-stored.ensures w.in_ok-fill_pair.ensures))
+      | else-is_unmarked+in_ok-rewrite_pair w ↦
+          rw w.changes-is (link_rewritten d bytes attributes is_new l stored old w.rewrite_pair.new.changes.items (sym told
+          ∙ w.if-is_unmarked.false) c.in_ok-stored.ensures w.in_ok-rewrite_pair.ensures)
+    ]

@@ -1,0 +1,13 @@
+-- The outline's attributes rise, and each of them fits.
+use Rattle.std.proofs.Common.{ap, sym, ◌∙◌, subst}
+use Rattle.lfs_fs.specs.Sound.{AreAttributes}
+use Rattle.lfs_fs.specs.Volume.{Volume}
+use Rattle.lfs_write.proofs.AttributesRise.{attributes_rise}
+use Rattle.lfs_write.proofs.storing.superblock_of.Goals as goal
+
+pub superblock-requires : goal.superblock-requires
+superblock-requires c =
+    let limit = c.args.outline.now.limits.attribute in
+    attributes_rise limit c.in_ok-attributes.attributes.items
+    (subst (AreAttributes limit) (sym (c.in_ok-attributes.ensures.same ∙ c.deref.ensures.value ∙ ap (λ (v : Volume). v.attributes) c.outline.view_is)) c.requires)
+    c.in_ok-attributes.ensures.fit

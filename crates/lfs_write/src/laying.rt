@@ -1,0 +1,61 @@
+//! The changes that lay a file's contents in new blocks.
+
+ghost use Rattle.std.specs.Prelude.{◌≡◌, ◌<◌, ◌^◌, All, AllPairs, length, IfOk};
+ghost use Rattle.lfs_file.specs.Capacity.{least_blocks};
+ghost use Rattle.lfs_fs.specs.Volume.{Volume};
+ghost use Rattle.lfs_write.specs.Laid.{AreLaid, AreLaidFor};
+ghost use Rattle.lfs_command.specs.NamedCommand.{named_command};
+ghost use Rattle.lfs_command.specs.Need.{data_blocks};
+ghost use Rattle.lfs_command.specs.Supplies.{Supplies};
+
+use crate::writing::changes_of;
+use lfs_block::{Blocks, Image, Record};
+use lfs_command::{NamedCommand, most_inline};
+use lfs_file::{laid_blocks_are_whole, lay};
+use std::alloc::{AllocError, Global};
+
+/// The changes that lay a file of these bytes in these blocks. The caller owes blocks of the image that rise strictly, as many as the
+/// bytes take, and fewer than 2^32.
+fn laid(
+    alloc: Global,
+    image: &Image,
+    bytes: &[u8],
+    blocks: &[u32],
+) -> Result<Vec<Record>, AllocError>
+    requires rising { AllPairs ◌<◌ blocks.now }
+    requires below { All (λ b. b < image.now.count) blocks.now }
+    requires many { length blocks.now ≡ least_blocks image.now.size (length bytes.now) }
+    requires few { length blocks.now < 2 ^ 32 }
+    ensures { IfOk result (λ changes. AreLaid image.now bytes.now blocks.now changes.items) }
+{
+    laid_blocks_are_whole();
+    let size = image.size();
+    let contents = lay(alloc, bytes, blocks, size).ok_or(AllocError)?;
+    let changes = changes_of(alloc, image, blocks, contents)?;
+    Ok(changes)
+}
+
+/// The changes that lay what a command puts into these blocks: none where it puts no contents there. The caller owes what `laid` asks,
+/// and as many blocks as the command's contents take.
+///
+/// Source: own.
+pub fn laid_for(
+    alloc: Global,
+    image: &Image,
+    command: &NamedCommand<'_>,
+    blocks: &[u32],
+) -> Result<Vec<Record>, AllocError>
+    requires rising { AllPairs ◌<◌ blocks.now }
+    requires below { All (λ b. b < image.now.count) blocks.now }
+    requires many { (v : Volume) → v.size ≡ image.now.size → length blocks.now ≡ data_blocks v (named_command command.now) }
+    requires few { length blocks.now < 2 ^ 32 }
+    ensures { IfOk result (λ changes. (v : Volume) (s : Supplies) → v.size ≡ image.now.size → s.blocks ≡ blocks.now
+        → AreLaidFor image.now v (named_command command.now) s changes.items) }
+{
+    match command {
+        NamedCommand::Put { bytes, .. } if bytes.len() > most_inline(image.size()) as usize => {
+            laid(alloc, image, bytes, blocks)
+        }
+        _ => Ok(Vec::new(alloc)),
+    }
+}

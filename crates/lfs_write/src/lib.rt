@@ -1,0 +1,15 @@
+//! What is written of an outline: the superblock, its parts and their links, and the contents of files.
+#![tactic(auto)]
+
+mod laying;
+mod link_writing;
+mod storing;
+mod superblock;
+mod writing;
+
+pub use laying::laid_for;
+pub use link_writing::write_links;
+pub use superblock::new_superblock;
+
+#[cfg(test)]
+mod tests;

@@ -1,0 +1,260 @@
+//! The links of an outline that are set, written as changes of an image.
+
+ghost use Rattle.std.specs.Prelude.{◌≡◌, ◌<◌, [], ◌∷◌, true, replicate, length, IfOk, OnOk};
+ghost use Rattle.std.specs.List.{AllByRecursion};
+ghost use Rattle.lfs_block.specs.Change.{IsRising};
+ghost use Rattle.lfs_meta.specs.Writing.{other_number, stored_part};
+ghost use Rattle.lfs_fs.specs.Sound.{AreAttributes};
+ghost use Rattle.lfs_fs.specs.Thread.{hard_to, links, links_of, soft_to};
+ghost use Rattle.lfs_fs.specs.Uses.{times};
+ghost use Rattle.lfs_law.specs.PairWritten.{AddsChange, CanBeAdded, FitsPair, IsLinkStored, link_to};
+ghost use Rattle.lfs_command.specs.PartWritten.{change_at};
+ghost use Rattle.lfs_law.specs.PlansHold.{is_unmarked};
+ghost use Rattle.lfs_law.specs.SuperblockBytes.{volume_bytes};
+ghost use Rattle.lfs_law.specs.WrittenLinks.{AddsLink, AddsPart, AreWritten, CanBeMade, CanBeWritten, IsFreeFor, changed_blocks};
+
+use crate::storing::stored_entries;
+use crate::writing::{add, change_of};
+use lfs_block::{Blocks, Image, Record, put_blocks_stand};
+use lfs_fs::{Outline, OutlineDirectory, OutlinePart};
+use lfs_meta::{Part, Tail, first_block, rewrite};
+use std::alloc::{AllocError, Global};
+
+/// Puts the change of a block of an image among others, which rise by number. The caller owes that there is such a block, as many
+/// bytes as it has, and that no other change is of it.
+fn add_change(
+    alloc: Global,
+    image: &Image,
+    number: u32,
+    new: Vec<u8>,
+    changes: &mut Vec<Record>,
+) -> Result<(), AllocError>
+    requires within { number < image.now.count }
+    requires len { length new.items ≡ image.now.size }
+    requires rising { IsRising changes.old.items }
+    requires made { AllByRecursion (CanBeMade image.now) changes.old.items }
+    requires free { times number (changed_blocks changes.old.items) ≡ 0 }
+    ensures { OnOk result (AddsChange image.now (change_at image.now number new.items) changes.old.items changes.new.items) }
+{
+    let _size = image.size();
+    let change = change_of(alloc, image, number, new)?;
+    add(changes, change)?;
+    Ok(())
+}
+
+/// Puts the change that makes a pair hold a part among others: of its block that isn't live. The caller owes what `FitsPair` says, and
+/// that no other change is of the pair's blocks.
+fn rewrite_pair(
+    alloc: Global,
+    image: &Image,
+    part: &Part,
+    changes: &mut Vec<Record>,
+) -> Result<(), AllocError>
+    requires fits { FitsPair image.now part.now }
+    requires free { IsFreeFor image.now part.now.0 changes.old.items }
+    ensures { OnOk result (AddsPart image.now part.now.0 (other_number image.now part.now.0 ∷ []) part.now.1 changes.old.items changes.new.items) }
+{
+    put_blocks_stand();
+    let _size = image.size();
+    let Ok((number, new)) = rewrite(
+        alloc,
+        image,
+        part.pair,
+        &part.entries,
+        part.tail,
+        part.delta,
+    ) else {
+        return Err(AllocError);
+    };
+    add_change(alloc, image, number, new, changes)?;
+    Ok(())
+}
+
+/// Puts the changes that make a new pair hold a part among others: of both its blocks, the second of which is erased. The part's delta
+/// is zero then. The caller owes what `FitsPair` says, and that no other change is of the pair's blocks.
+fn fill_pair(
+    alloc: Global,
+    image: &Image,
+    part: &Part,
+    changes: &mut Vec<Record>,
+) -> Result<(), AllocError>
+    requires fits { FitsPair image.now part.now }
+    requires free { IsFreeFor image.now part.now.0 changes.old.items }
+    ensures { OnOk result (AddsPart image.now part.now.0 (part.now.0.0 ∷ part.now.0.1 ∷ [])
+        (stored_part part.now.1.entries part.now.1.tail (replicate 12 0)) changes.old.items changes.new.items) }
+{
+    let size = image.size();
+    let Some(block) = first_block(alloc, size, &part.entries, part.tail) else {
+        return Err(AllocError);
+    };
+    let erased = vec![in alloc; 0xff; size as usize]?;
+    add_change(alloc, image, part.pair.0, block, changes)?;
+    add_change(alloc, image, part.pair.1, erased, changes)?;
+    Ok(())
+}
+
+/// A link as its part is stored. The caller owes attributes of the root that rise strictly by kind.
+fn stored_link(
+    alloc: Global,
+    outline: &Outline,
+    part: &OutlinePart,
+    tail: Tail,
+) -> Result<Part, AllocError>
+    requires { AreAttributes outline.now.limits.attribute outline.now.attributes }
+    ensures { IfOk result (λ stored. IsLinkStored (volume_bytes outline.now) outline.now.attributes (link_to part.now tail) stored) }
+{
+    let entries = stored_entries(alloc, outline, part)?;
+    Ok(Part {
+        pair: part.pair,
+        entries,
+        tail,
+        delta: part.delta.to_bytes(),
+    })
+}
+
+/// Whether a table doesn't mark the first block of a pair.
+fn is_unmarked(used: &[bool], pair: (u32, u32)) -> bool
+    ensures { result ≡ is_unmarked used.now pair }
+{
+    !used.get(pair.0 as usize).copied().unwrap_or(false)
+}
+
+/// Puts the changes that make a part's pair hold it among others: of one block of a pair that the table marks, of both blocks of
+/// another one. The caller owes attributes of the root that rise strictly by kind, a link that can be written, that a new pair has no
+/// share of the global state, and that no other change is of the pair's blocks.
+fn write_part(
+    alloc: Global,
+    image: &Image,
+    outline: &Outline,
+    used: &[bool],
+    part: &OutlinePart,
+    tail: Tail,
+    changes: &mut Vec<Record>,
+) -> Result<(), AllocError>
+    requires rise { AreAttributes outline.now.limits.attribute outline.now.attributes }
+    requires may { CanBeWritten image.now (volume_bytes outline.now) outline.now.attributes (link_to part.now tail) }
+    requires fresh { is_unmarked used.now part.now.pair ≡ true → part.now.delta ≡ 0 }
+    requires free { IsFreeFor image.now part.now.pair changes.old.items }
+    ensures { OnOk result (AddsLink image.now (volume_bytes outline.now) outline.now.attributes (is_unmarked used.now) (link_to part.now tail)
+        changes.old.items changes.new.items) }
+{
+    let stored = stored_link(alloc, outline, part, tail)?;
+    if is_unmarked(used, part.pair) {
+        fill_pair(alloc, image, &stored, changes)?;
+    } else {
+        rewrite_pair(alloc, image, &stored, changes)?;
+    }
+    Ok(())
+}
+
+/// Writes a link, where its part is set; else it costs a look at that mark. The caller owes attributes of the root that rise strictly by
+/// kind, and what `CanBeAdded` says.
+fn write_link(
+    alloc: Global,
+    image: &Image,
+    outline: &Outline,
+    used: &[bool],
+    part: &OutlinePart,
+    tail: Tail,
+    changes: &mut Vec<Record>,
+) -> Result<(), AllocError>
+    requires rise { AreAttributes outline.now.limits.attribute outline.now.attributes }
+    requires can { CanBeAdded image.now (volume_bytes outline.now) outline.now.attributes (is_unmarked used.now)
+        changes.old.items (link_to part.now tail ∷ []) }
+    ensures { OnOk result (AreWritten image.now (volume_bytes outline.now) outline.now.attributes (is_unmarked used.now)
+        changes.old.items (link_to part.now tail ∷ []) changes.new.items) }
+{
+    if part.dirty {
+        write_part(alloc, image, outline, used, part, tail, changes)?;
+    }
+    Ok(())
+}
+
+/// The tail to another part of the same directory.
+fn hard_to(part: &OutlinePart) -> Tail
+    ensures { result ≡ hard_to part.now.pair }
+{
+    Tail::Hard(part.pair.0, part.pair.1)
+}
+
+/// The tail to the first part of another directory.
+fn soft_to(part: &OutlinePart) -> Tail
+    ensures { result ≡ soft_to part.now.pair }
+{
+    Tail::Soft(part.pair.0, part.pair.1)
+}
+
+/// Writes the links of a directory, the last of which has a tail: a part goes on with a hard tail to the next one. The caller owes what
+/// `write_link` asks, of all of them.
+fn write_directory(
+    alloc: Global,
+    image: &Image,
+    outline: &Outline,
+    used: &[bool],
+    directory: &OutlineDirectory,
+    tail: Tail,
+    changes: &mut Vec<Record>,
+) -> Result<(), AllocError>
+    requires rise { AreAttributes outline.now.limits.attribute outline.now.attributes }
+    requires can { CanBeAdded image.now (volume_bytes outline.now) outline.now.attributes (is_unmarked used.now)
+        changes.old.items (links_of directory.now.first directory.now.more tail) }
+    ensures { OnOk result (AreWritten image.now (volume_bytes outline.now) outline.now.attributes (is_unmarked used.now)
+        changes.old.items (links_of directory.now.first directory.now.more tail) changes.new.items) }
+{
+    let mut part = &directory.first;
+    'each: for next in &directory.more {
+        let to_next = hard_to(next);
+        write_link(alloc, image, outline, used, part, to_next, changes)?;
+        part = next;
+    }
+    write_link(alloc, image, outline, used, part, tail, changes)?;
+    Ok(())
+}
+
+/// The changes that write the links of an outline whose parts are set, beside those in `base`: a part goes on with a hard tail to the
+/// next one of its directory, the last of a directory with a soft one to the next directory, and the last of all with none. A pair whose
+/// first block the table marks takes one change, another one two. The caller owes attributes of the root that rise strictly by kind, and
+/// what `CanBeAdded` says of the links.
+///
+/// Source: own.
+pub fn write_links(
+    alloc: Global,
+    image: &Image,
+    outline: &Outline,
+    used: &[bool],
+    base: Vec<Record>,
+) -> Result<Vec<Record>, AllocError>
+    requires rise { AreAttributes outline.now.limits.attribute outline.now.attributes }
+    requires can { CanBeAdded image.now (volume_bytes outline.now) outline.now.attributes (is_unmarked used.now) base.items (links outline.now.directories) }
+    ensures { IfOk result (λ changes. AreWritten image.now (volume_bytes outline.now) outline.now.attributes (is_unmarked used.now)
+        base.items (links outline.now.directories) changes.items) }
+{
+    let Some((first, more)) = outline.directories.split_first() else {
+        return Ok(base);
+    };
+    let mut changes = base;
+    let mut directory = first;
+    'each: for next in more {
+        let to_next = soft_to(&next.first);
+        write_directory(
+            alloc,
+            image,
+            outline,
+            used,
+            directory,
+            to_next,
+            &mut changes,
+        )?;
+        directory = next;
+    }
+    write_directory(
+        alloc,
+        image,
+        outline,
+        used,
+        directory,
+        Tail::End,
+        &mut changes,
+    )?;
+    Ok(changes)
+}

@@ -1,0 +1,72 @@
+//! The superblock that is written.
+
+ghost use Rattle.std.specs.Prelude.{◌≡◌, IfOk};
+ghost use Rattle.lfs_meta.specs.Fits.{RiseFrom};
+ghost use Rattle.lfs_fs.specs.Superblock.{superblock_entry};
+ghost use Rattle.lfs_law.specs.SuperblockBytes.{new_superblock, superblock_bytes};
+
+use byteorder::{ByteOrder, LittleEndian};
+use lfs_fs::Limits;
+use lfs_meta::{Attribute, Body, Entry, Kind};
+use std::alloc::{AllocError, Global};
+
+/// Version 2.0 of the format.
+const VERSION: u32 = 0x0002_0000;
+/// The largest name of a new image, in bytes.
+const LARGEST_NAME: u32 = 255;
+/// The largest file of a new image, in bytes.
+const LARGEST_FILE: u32 = 2_147_483_647;
+/// The largest attribute of a new image, in bytes.
+const LARGEST_ATTRIBUTE: u32 = 1_022;
+
+/// The superblock's struct.
+fn superblock_bytes(size: u32, count: u32, limits: Limits) -> [u8; 24]
+    ensures { result ≡ superblock_bytes size count limits }
+{
+    let words = [
+        VERSION,
+        size,
+        count,
+        limits.name,
+        limits.file,
+        limits.attribute,
+    ];
+    let mut bytes = [0; 24];
+    LittleEndian::write_u32_into(&words, &mut bytes);
+    bytes
+}
+
+/// The superblock of an image of `count` blocks of `size` bytes. The caller owes attributes that rise strictly by kind.
+pub(crate) fn superblock(
+    alloc: Global,
+    size: u32,
+    count: u32,
+    limits: Limits,
+    attributes: Vec<Attribute>,
+) -> Result<Entry, AllocError>
+    requires { RiseFrom 0 attributes.items }
+    ensures { IfOk result (λ entry. entry ≡ superblock_entry (superblock_bytes size count limits) attributes.items) }
+{
+    let bytes = superblock_bytes(size, count, limits);
+    Ok(Entry {
+        name: Vec::from_slice(alloc, b"littlefs")?,
+        kind: Kind::Super,
+        body: Body::Inline(Vec::from_slice(alloc, &bytes)?),
+        attributes,
+    })
+}
+
+/// The superblock of a new image of `count` blocks of `size` bytes, without attributes.
+///
+/// Source: SPEC.md, "0x0ff superblock".
+pub fn new_superblock(alloc: Global, size: u32, count: u32) -> Result<Entry, AllocError>
+    ensures { IfOk result (λ entry. entry ≡ new_superblock size count) }
+{
+    let limits = Limits {
+        name: LARGEST_NAME,
+        file: LARGEST_FILE,
+        attribute: LARGEST_ATTRIBUTE,
+    };
+    let attributes = Vec::new(alloc);
+    superblock(alloc, size, count, limits, attributes)
+}

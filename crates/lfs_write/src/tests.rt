@@ -1,0 +1,3 @@
+//! How parts are stored.
+
+mod storing;
