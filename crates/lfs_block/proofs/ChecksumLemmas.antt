@@ -5,6 +5,7 @@ use Rattle.std.specs.List.{range_with_len, fold}
 use Rattle.std.specs.Simd.{first_chunks}
 use Rattle.std.proofs.lemmas.List.Sums.{fold-append}
 use Rattle.lfs_block.specs.declared.checksum_tables.TheConstants.{TABLES}
+use Rattle.std.specs.Int.{w32, from_le_bytes}
 use Rattle.std.specs.Int.Bits.{xor_assoc, xor_shifted}
 use Rattle.std.proofs.lemmas.Nat.{xor_comm, xor_shr, xor_mod}
 use Rattle.std.proofs.lemmas.Grind.{and_numeral}
@@ -208,8 +209,8 @@ add-byte c b word byte is =
     let masked : bit_and c 255 ≡ c % 256 = and_numeral c 254 refl in
     ap (λ w. bit_xor w (c / 256)) (is ∙ ap (λ l. crc_shifted 1 (bit_xor l b)) masked) ∙ sym (crc_byte-split c b byte)
 
--- eight bytes more, by the tables
-pub add-eight : (c : ℕ) (own bytes : List ℕ) (w0 w1 w2 w3 w4 w5 w6 w7 : ℕ) → c < 2 ^ 32 → length bytes ≡ 8
+-- eight bytes more, by the tables, where the first four meet those of the checksum one by one
+add-words : (c : ℕ) (own bytes : List ℕ) (w0 w1 w2 w3 w4 w5 w6 w7 : ℕ) → c < 2 ^ 32 → length bytes ≡ 8
     → own ≡ c % 256 ∷ c / 256 % 256 ∷ c / 65536 % 256 ∷ c / 16777216 % 256 ∷ []
     → w0 ≡ crc_shifted 8 (bit_xor (slice_index_or own 0 0) (slice_index_or bytes 0 0))
     → w1 ≡ crc_shifted 7 (bit_xor (slice_index_or own 1 0) (slice_index_or bytes 1 0))
@@ -218,8 +219,45 @@ pub add-eight : (c : ℕ) (own bytes : List ℕ) (w0 w1 w2 w3 w4 w5 w6 w7 : ℕ)
     → w4 ≡ crc_shifted 4 (slice_index_or bytes 4 0) → w5 ≡ crc_shifted 3 (slice_index_or bytes 5 0)
     → w6 ≡ crc_shifted 2 (slice_index_or bytes 6 0) → w7 ≡ crc_shifted 1 (slice_index_or bytes 7 0)
     → bit_xor (bit_xor (bit_xor (bit_xor (bit_xor (bit_xor (bit_xor w0 w1) w2) w3) w4) w5) w6) w7 ≡ crc c bytes
-add-eight c own bytes w0 w1 w2 w3 w4 w5 w6 w7 fits len is e0 e1 e2 e3 e4 e5 e6 e7 =
+add-words c own bytes w0 w1 w2 w3 w4 w5 w6 w7 fits len is e0 e1 e2 e3 e4 e5 e6 e7 =
     rw (e0, e1, e2, e3, e4, e5, e6, e7, is) (sym (crc-eight c _ _ _ _ _ _ _ _ fits) ∙ ap (crc c) (sym (eight-are bytes len)))
+
+-- a byte of two words that meet
+met-byte : (c w k : ℕ) → bit_xor c w / 2 ^ k % 2 ^ 8 ≡ bit_xor (c / 2 ^ k % 2 ^ 8) (w / 2 ^ k % 2 ^ 8)
+met-byte c w k = ap (λ (x : ℕ). x % 2 ^ 8) (xor_shr c w k) ∙ xor_mod (c / 2 ^ k) (w / 2 ^ k) 8
+
+-- the last four of eight go to the front
+last-first : (a b c d e f g h : ℕ)
+    → bit_xor (bit_xor (bit_xor (bit_xor (bit_xor (bit_xor (bit_xor e f) g) h) a) b) c) d
+    ≡ bit_xor (bit_xor (bit_xor (bit_xor (bit_xor (bit_xor (bit_xor a b) c) d) e) f) g) h
+last-first a b c d e f g h =
+    let front : ℕ = bit_xor (bit_xor (bit_xor a b) c) d in
+    let behind : ℕ = bit_xor (bit_xor (bit_xor e f) g) h in
+    let apart : bit_xor (bit_xor (bit_xor (bit_xor behind a) b) c) d ≡ bit_xor behind front = simp xor_assoc in
+    let joined : bit_xor front behind ≡ bit_xor (bit_xor (bit_xor (bit_xor front e) f) g) h = simp xor_assoc in
+    apart ∙ xor_comm behind front ∙ joined
+
+-- eight bytes more, by the tables, where the first four meet those of the checksum as one word
+pub add-eight : (c w : ℕ) (met bytes : List ℕ) (w0 w1 w2 w3 w4 w5 w6 w7 : ℕ) → c < 2 ^ 32 → length bytes ≡ 8 → ((i : ℕ) → slice_index_or bytes i 0 < 256)
+    → w ≡ from_le_bytes w32 (slice_index_or bytes 0 0 ∷ slice_index_or bytes 1 0 ∷ slice_index_or bytes 2 0 ∷ slice_index_or bytes 3 0 ∷ [])
+    → met ≡ bit_xor c w % 256 ∷ bit_xor c w / 256 % 256 ∷ bit_xor c w / 65536 % 256 ∷ bit_xor c w / 16777216 % 256 ∷ []
+    → w4 ≡ crc_shifted 4 (slice_index_or bytes 4 0) → w5 ≡ crc_shifted 3 (slice_index_or bytes 5 0)
+    → w6 ≡ crc_shifted 2 (slice_index_or bytes 6 0) → w7 ≡ crc_shifted 1 (slice_index_or bytes 7 0)
+    → w0 ≡ crc_shifted 8 (slice_index_or met 0 0) → w1 ≡ crc_shifted 7 (slice_index_or met 1 0)
+    → w2 ≡ crc_shifted 6 (slice_index_or met 2 0) → w3 ≡ crc_shifted 5 (slice_index_or met 3 0)
+    → bit_xor (bit_xor (bit_xor (bit_xor (bit_xor (bit_xor (bit_xor w4 w5) w6) w7) w0) w1) w2) w3 ≡ crc c bytes
+add-eight c w met bytes w0 w1 w2 w3 w4 w5 w6 w7 fits len each is meets e4 e5 e6 e7 e0 e1 e2 e3 =
+    let b0 : w % 256 ≡ slice_index_or bytes 0 0 = omega (arith, is, each 0, each 1, each 2, each 3) in
+    let b1 : w / 256 % 256 ≡ slice_index_or bytes 1 0 = omega (arith, is, each 0, each 1, each 2, each 3) in
+    let b2 : w / 65536 % 256 ≡ slice_index_or bytes 2 0 = omega (arith, is, each 0, each 1, each 2, each 3) in
+    let b3 : w / 16777216 % 256 ≡ slice_index_or bytes 3 0 = omega (arith, is, each 0, each 1, each 2, each 3) in
+    last-first w0 w1 w2 w3 w4 w5 w6 w7
+    ∙ add-words c (c % 256 ∷ c / 256 % 256 ∷ c / 65536 % 256 ∷ c / 16777216 % 256 ∷ []) bytes w0 w1 w2 w3 w4 w5 w6 w7 fits len refl
+    (e0 ∙ ap (λ (l : List ℕ). crc_shifted 8 (slice_index_or l 0 0)) meets ∙ ap (crc_shifted 8) (xor_mod c w 8 ∙ ap (bit_xor (c % 256)) b0))
+    (e1 ∙ ap (λ (l : List ℕ). crc_shifted 7 (slice_index_or l 1 0)) meets ∙ ap (crc_shifted 7) (met-byte c w 8 ∙ ap (bit_xor (c / 256 % 256)) b1))
+    (e2 ∙ ap (λ (l : List ℕ). crc_shifted 6 (slice_index_or l 2 0)) meets ∙ ap (crc_shifted 6) (met-byte c w 16 ∙ ap (bit_xor (c / 65536 % 256)) b2))
+    (e3 ∙ ap (λ (l : List ℕ). crc_shifted 5 (slice_index_or l 3 0)) meets ∙ ap (crc_shifted 5) (met-byte c w 24 ∙ ap (bit_xor (c / 16777216 % 256)) b3))
+    e4 e5 e6 e7
 
 take-more : (m n : ℕ) (bytes : List ℕ) → take m bytes ++ take n (drop m bytes) ≡ take (m + n) bytes
 take-more m n bytes =

@@ -21,19 +21,17 @@ fn add_byte(checksum: u32, byte: u8) -> u32
     shifted(0, (checksum & 0xff) as u8 ^ byte) ^ (checksum >> 8)
 }
 
-/// The checksum after eight more bytes, of which the first four meet its own.
+/// The checksum after eight more bytes, of which the first four meet its own as one word.
 fn add_eight(checksum: u32, bytes: &[u8; 8]) -> u32
     ensures { result ≡ crc checksum bytes.now }
 {
-    let own = checksum.to_le_bytes();
-    shifted(7, own[0] ^ bytes[0])
-        ^ shifted(6, own[1] ^ bytes[1])
-        ^ shifted(5, own[2] ^ bytes[2])
-        ^ shifted(4, own[3] ^ bytes[3])
-        ^ shifted(3, bytes[4])
+    let behind = shifted(3, bytes[4])
         ^ shifted(2, bytes[5])
         ^ shifted(1, bytes[6])
-        ^ shifted(0, bytes[7])
+        ^ shifted(0, bytes[7]);
+    let word = checksum ^ u32::from_le_bytes([bytes[0], bytes[1], bytes[2], bytes[3]]);
+    let met = word.to_le_bytes();
+    behind ^ shifted(7, met[0]) ^ shifted(6, met[1]) ^ shifted(5, met[2]) ^ shifted(4, met[3])
 }
 
 /// The checksum after more bytes, one by one.
