@@ -9,3 +9,4 @@ pub mod Puts
 pub mod Erased
 pub mod Items
 pub mod TagCounts
+pub mod ErasedEights

@@ -1,6 +1,7 @@
 //! The log of a block.
 
 ghost use Rattle.std.specs.Prelude.{◌≡◌};
+ghost use Rattle.std.specs.List.{list_all};
 ghost use Rattle.lfs_tag.specs.LogSeen.{is_erased};
 
 use crate::reading::{CHECKSUM_START, commit_at};
@@ -9,11 +10,33 @@ use crate::tags::Tags;
 use lfs_block::crc32;
 use std::marker::Model;
 
-/// Whether each byte is 0xff.
-fn is_erased(bytes: &[u8]) -> bool
+/// Whether each of eight bytes is 0xff: whether they are the greatest number.
+fn is_erased_eight(bytes: &[u8; 8]) -> bool
+    ensures { result ≡ is_erased bytes.now }
+{
+    u64::from_le_bytes(*bytes) == u64::MAX
+}
+
+/// Whether each byte of each eight is 0xff.
+fn are_erased_eights(eights: &[[u8; 8]]) -> bool
+    ensures { result ≡ list_all is_erased eights.now }
+{
+    eights.iter().all(|eight| is_erased_eight(eight))
+}
+
+/// Whether each byte is 0xff, one by one.
+fn are_erased_bytes(bytes: &[u8]) -> bool
     ensures { result ≡ is_erased bytes.now }
 {
     bytes.iter().all(|byte| *byte == 0xff)
+}
+
+/// Whether each byte is 0xff, eight by eight.
+fn is_erased(bytes: &[u8]) -> bool
+    ensures { result ≡ is_erased bytes.now }
+{
+    let (eights, rest) = bytes.as_chunks::<8>();
+    are_erased_eights(eights) && are_erased_bytes(rest)
 }
 
 /// The log of a block: its longest front of valid commits. Its meaning is what is read of it, with the tags of all its
