@@ -73,7 +73,7 @@ impl Walk {
             ≤ work outline.now self.old.waiting.items self.old.opened.items) }
     {
         if let Some(pair) = target_of(outline, place) {
-            self.enter(outline, place.depth + 1, pair)?;
+            self.enter(outline, usize::from(place.depth) + 1, pair)?;
         }
         push(&mut self.order, place)
     }

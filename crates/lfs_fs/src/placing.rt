@@ -1,6 +1,6 @@
 //! Places of entries, looked up and listed.
 
-ghost use Rattle.std.specs.Prelude.{◌≡◌, ◌++◌, OnOk, IfErr, IfSome, length, reverse, slice_get};
+ghost use Rattle.std.specs.Prelude.{◌≡◌, ◌++◌, OnOk, IfOk, IfErr, IfSome, length, reverse, slice_get};
 ghost use Rattle.std.specs.Option.{option_map};
 ghost use Rattle.lfs_block.specs.declared.mount_fault.MountFault.TheVariants as MountFault;
 ghost use Rattle.lfs_fs.specs.Entry.{target};
@@ -23,9 +23,9 @@ pub(crate) fn entry_in_directories<'a>(
     ensures { option_map (λ e. e.now) result ≡ entry_in_directories directories.now place }
 {
     directories
-        .get(place.directory)?
-        .part(place.part)?
-        .entry(place.entry)
+        .get(usize::from(place.directory))?
+        .part(usize::from(place.part))?
+        .entry(usize::from(place.entry))
 }
 
 /// The directory to which the entry at a place leads, as a set of blocks.
@@ -41,10 +41,10 @@ pub(crate) fn target_of(outline: &Outline, place: Place) -> Option<(u32, u32)>
 /// Puts the places of a part's entries on a stack, the first one last: `Memory` where the growth is refused.
 fn push_part(
     stack: &mut Vec<Place>,
-    depth: usize,
-    directory: usize,
-    part: usize,
-    len: usize,
+    depth: u16,
+    directory: u16,
+    part: u16,
+    len: u16,
 ) -> Result<(), MountFault>
     ensures pushed { OnOk result (reverse stack.new.items ≡ places_from depth directory part 0 len ++ reverse stack.old.items) }
     ensures refused { IfErr result (λ fault. fault ≡ MountFault.Memory) }
@@ -65,17 +65,47 @@ fn push_part(
     Ok(())
 }
 
-/// The number of entries of a directory's part; none where there is no such part.
-fn part_len(directory: &OutlineDirectory, part: usize) -> usize
-    ensures { IfSome (slice_get (parts directory.now) part) (λ p. result ≡ length p.entries) }
+/// A number of a place: `Memory` where a place has no room for it.
+fn number(value: usize) -> Result<u16, MountFault>
+    ensures number { IfOk result (λ number. number ≡ value) }
+    ensures refused { IfErr result (λ fault. fault ≡ MountFault.Memory) }
 {
-    match directory.part(part) {
-        Some(part) => part.len(),
-        None => 0,
+    u16::try_from(value).map_err(|_| MountFault::Memory)
+}
+
+/// The number of entries of a directory's part; none where there is no such part. `Memory` where a place has no room for it.
+fn part_len(directory: &OutlineDirectory, part: u16) -> Result<u16, MountFault>
+    ensures len { IfOk result (λ len. IfSome (slice_get (parts directory.now) part) (λ p. len ≡ length p.entries)) }
+    ensures refused { IfErr result (λ fault. fault ≡ MountFault.Memory) }
+{
+    match directory.part(usize::from(part)) {
+        Some(part) => number(part.len()),
+        None => Ok(0),
     }
 }
 
-/// Puts the places of a directory's entries on a stack, the first one last: `Memory` where the growth is refused.
+/// Puts the places of a directory's entries on a stack, the first one last: `Memory` where the growth is refused, or a
+/// place has no room for a number.
+fn push_parts(
+    stack: &mut Vec<Place>,
+    depth: u16,
+    index: u16,
+    directory: &OutlineDirectory,
+) -> Result<(), MountFault>
+    ensures pushed { OnOk result (reverse stack.new.items ≡ places_in depth index 0 (parts directory.now) ++ reverse stack.old.items) }
+    ensures refused { IfErr result (λ fault. fault ≡ MountFault.Memory) }
+{
+    let mut part = number(directory.len())?;
+    while part > 0 {
+        part -= 1;
+        let len = part_len(directory, part)?;
+        push_part(stack, depth, index, part, len)?;
+    }
+    Ok(())
+}
+
+/// Puts the places of a directory's entries on a stack, the first one last: `Memory` where the growth is refused, or a
+/// place has no room for a number.
 pub(crate) fn push_directory(
     stack: &mut Vec<Place>,
     depth: usize,
@@ -85,10 +115,5 @@ pub(crate) fn push_directory(
     ensures pushed { OnOk result (reverse stack.new.items ≡ places_in depth index 0 (parts directory.now) ++ reverse stack.old.items) }
     ensures refused { IfErr result (λ fault. fault ≡ MountFault.Memory) }
 {
-    let mut part = directory.len();
-    while part > 0 {
-        part -= 1;
-        push_part(stack, depth, index, part, part_len(directory, part))?;
-    }
-    Ok(())
+    push_parts(stack, number(depth)?, number(index)?, directory)
 }

@@ -55,7 +55,7 @@ fn row_at<'a>(outline: &'a Outline, place: Place) -> Option<Row<'a>>
         return Some(root_row(outline));
     }
     let entry = entry_in_directories(&outline.directories, place)?;
-    Some(entry.row(place.depth))
+    Some(entry.row(usize::from(place.depth)))
 }
 
 impl<'a> Rows<'a> {

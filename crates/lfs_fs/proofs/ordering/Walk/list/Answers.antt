@@ -1,5 +1,6 @@
-use Rattle.std.proofs.Common.{◌≡◌, ◌∷◌, ◌++◌, [], reverse, refl, arith, sym, ◌∙◌}
+use Rattle.std.proofs.Common.{◌≡◌, ◌+◌, ◌∷◌, ◌++◌, [], ℕ, reverse, refl, arith, subst, sym, ◌∙◌}
 use Rattle.std.proofs.lemmas.Result.{err_from_is_err_and, on_ok_weaker}
+use Rattle.lfs_fs.specs.Ordered.{Enters}
 use Rattle.lfs_fs.proofs.WalkingLemmas.{walking_file, walking_directory, walking_fault, work_less}
 use Rattle.lfs_fs.proofs.ordering.Walk.list.Goals as goal
 use Rattle.lfs_fs.proofs.ordering.Walk.list.Goals.{in-Some+in_ok-enter, in_default}
@@ -18,8 +19,10 @@ returns-clause-listed c =
     let x = c.args.place in
     elim c.match-target_of.branch [
       | in-Some+in_ok-enter w ↦
+          let entered = subst (λ (n : ℕ). Enters o.directories old.table.entries w.in-Some.pair (n + 1) old.opened.items w.enter.new.self.opened.items
+          old.waiting.items w.enter.new.self.waiting.items) w.from.ensures w.in_ok-enter.ensures.entered in
           let step = walking_directory o old.table.entries old.order.items x (reverse old.waiting.items) old.opened.items w.enter.new.self.opened.items w.in-Some.pair old.waiting.items w.enter.new.self.waiting.items
-          (sym c.target_of.ensures ∙ w.in-Some.is) refl w.in_ok-enter.ensures.entered c.requires.walking in
+          (sym c.target_of.ensures ∙ w.in-Some.is) refl entered c.requires.walking in
           on_ok_weaker c.push.result (λ (pushed : c.push.new.items.items ≡ c.match-target_of.self.order.items ++ x ∷ []). rw (pushed, w.self-is, w.in_ok-enter.ensures.order, w.in_ok-enter.ensures.table) step) c.push.ensures.pushed
       | in_default w ↦
           let step = walking_file o old.table.entries old.order.items x (reverse old.waiting.items) old.opened.items (sym c.target_of.ensures ∙ w.in_default.is) c.requires.walking in
@@ -32,6 +35,8 @@ returns-clause-less c =
     let old = c.args.self.now in
     elim c.match-target_of.branch [
       | in-Some+in_ok-enter w ↦
-          on_ok_weaker c.push.result (λ _. rw w.self-is (work_less o old.table.entries c.args.place old.opened.items w.enter.new.self.opened.items w.in-Some.pair old.waiting.items w.enter.new.self.waiting.items w.in_ok-enter.ensures.entered)) c.push.ensures.pushed
+          let entered = subst (λ (n : ℕ). Enters o.directories old.table.entries w.in-Some.pair (n + 1) old.opened.items w.enter.new.self.opened.items
+          old.waiting.items w.enter.new.self.waiting.items) w.from.ensures w.in_ok-enter.ensures.entered in
+          on_ok_weaker c.push.result (λ _. rw w.self-is (work_less o old.table.entries c.args.place old.opened.items w.enter.new.self.opened.items w.in-Some.pair old.waiting.items w.enter.new.self.waiting.items entered)) c.push.ensures.pushed
       | in_default w ↦ on_ok_weaker c.push.result (λ _. rw w.self-is (omega arith)) c.push.ensures.pushed
     ]

@@ -1,7 +1,7 @@
 use Rattle.std.proofs.Common.{◌≡◌, ◌++◌, ◌≤◌, length, drop, reverse}
 use Rattle.lfs_fs.specs.Directory.{parts}
 use Rattle.lfs_fs.specs.Placed.{places_in}
-use Rattle.lfs_fs.proofs.placing.push_directory.Given as goal
+use Rattle.lfs_fs.proofs.placing.push_parts.Given as goal
 
 -- the places of the parts from this one on wait
 abbrev pub invariant-loop-part : goal.invariant-loop-part
