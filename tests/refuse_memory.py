@@ -16,7 +16,7 @@ class Runs:
 
     def __init__(self, folder):
         self.image, self.hit, self.library = folder / "a.img", folder / "hit", folder / "refuse.so"
-        self.wrong = 0
+        self.ran = self.wrong = 0
         subprocess.run(["cc", "-shared", "-fPIC", "-O1", "-o", self.library, HOME / "tests/refuse.c", "-ldl"], check=True)
 
     def run(self, words, image, contents, at):
@@ -36,7 +36,7 @@ class Runs:
     def row(self, words, image, contents=b""):
         """Refuses each request of a run in turn; answers the image that the run leaves with ample memory."""
         ample = self.run(words, image, contents, 0)
-        at, memory = 0, 0
+        at, memory, is_right = 0, 0, True
         while at == 0 or self.hit.exists():
             at += 1
             status, printed, complained, after = ended = self.run(words, image, contents, at)
@@ -45,7 +45,8 @@ class Runs:
             memory += 1
             if (status, complained, after) != (4, b"lfsed: 44 Memory\n", image) or not ample[1].startswith(printed):
                 print(f"{' '.join(words)}: request {at} refused: status {status}, {complained!r}")
-                self.wrong += 1
+                is_right = False
+        self.ran, self.wrong = self.ran + 1, self.wrong + (not is_right)
         said = ample[2].decode().strip() or f"status {ample[0]}"
         print(f"{' '.join(words)}, {len(contents)} bytes: {said}; {at - 1} requests, {memory} end with 44")
         return ample[3]
@@ -90,4 +91,5 @@ with tempfile.TemporaryDirectory() as folder:
     tried = Runs(pathlib.Path(folder))
     rows(tried)
     directory_rows(tried)
+print(f"{tried.ran - tried.wrong} passed, {tried.wrong} failed")
 sys.exit(1 if tried.wrong else 0)

@@ -4,11 +4,28 @@ use crate::task::Task;
 use clap::{Arg, ArgMatches, Command, value_parser};
 use std::alloc::{AllocError, Global};
 
+/// The program's version.
+const VERSION: &str = "0.1.0";
+
 /// What the statuses mean.
 const STATUSES: &str = "Status: 0 done; 1 the change is refused; 2 the command line is refused;
 3 the image is refused; 4 out of memory, or a file is not read or written.";
 
 /// What a command line asks for.
+///
+/// Source: own.
+#[derive(Drop)]
+pub enum Wish<'a> {
+    /// What the fault of a number means.
+    Explanation {
+        /// The number.
+        number: u32,
+    },
+    /// A step on an image.
+    Step(Request<'a>),
+}
+
+/// What is asked for on an image.
 ///
 /// Source: own.
 #[derive(Drop)]
@@ -40,6 +57,8 @@ enum Argument {
     Kind,
     /// An attribute's value.
     Value,
+    /// A fault's number.
+    Number,
 }
 
 /// A command of the program.
@@ -49,8 +68,8 @@ struct CommandRow {
     arguments: &'static [Argument],
 }
 
-/// The program's commands, in the order of its help. Each takes the block size and the image's file name.
-const COMMANDS: [CommandRow; 9] = [
+/// The program's commands, in the order of its help. Each but the last takes the block size and the image's file name.
+const COMMANDS: [CommandRow; 10] = [
     CommandRow {
         name: "format",
         about: "Write a new image, in place of a file of this name",
@@ -112,6 +131,11 @@ const COMMANDS: [CommandRow; 9] = [
             Argument::Kind,
         ],
     },
+    CommandRow {
+        name: "explain",
+        about: "Say what a fault means, and what to do",
+        arguments: &[Argument::Number],
+    },
 ];
 
 /// What is said of a path.
@@ -133,6 +157,7 @@ const VALUE: &str = "Value of the attribute, in two hexadecimal digits for each 
 fn clap_argument<'a>(alloc: Global, argument: Argument) -> Arg<'a> {
     match argument {
         Argument::Block => Arg::new(alloc, "block")
+            .short('b')
             .long("block")
             .value_name("BYTES")
             .value_parser(value_parser!(u32).range(256..=65_536))
@@ -150,6 +175,9 @@ fn clap_argument<'a>(alloc: Global, argument: Argument) -> Arg<'a> {
         Argument::To => any_word(alloc, "to", "TO", TO),
         Argument::Kind => any_word(alloc, "kind", "KIND", KIND),
         Argument::Value => any_word(alloc, "hex", "HEX", VALUE),
+        Argument::Number => {
+            word(alloc, "number", "NUMBER", "Number of the fault").value_parser(value_parser!(u32))
+        }
     }
 }
 
@@ -179,10 +207,10 @@ fn clap_command<'a>(alloc: Global, row: &CommandRow) -> Result<Command<'a>, Allo
 pub fn command_line<'a>(alloc: Global) -> Result<Command<'a>, AllocError> {
     let mut program = Command::new(alloc, "lfsed")
         .bin_name("lfsed")?
+        .version(VERSION)
         .about("Edit littlefs images of disk version 2.0")
         .after_help(STATUSES)
-        .subcommand_required(true)
-        .disable_help_subcommand(true);
+        .subcommand_required(true);
     for row in &COMMANDS {
         program = program.subcommand(clap_command(alloc, row)?)?;
     }
@@ -225,11 +253,16 @@ fn task_of<'a>(name: &str, options: &ArgMatches<'a>) -> Option<Task<'a>> {
 }
 
 /// What the words that were matched ask for. `None` where they ask for nothing.
-pub fn requested<'a>(matches: &ArgMatches<'a>) -> Option<Request<'a>> {
+pub fn wished<'a>(matches: &ArgMatches<'a>) -> Option<Wish<'a>> {
     let (name, options) = matches.subcommand()?;
-    Some(Request {
+    if name == "explain" {
+        return Some(Wish::Explanation {
+            number: options.get_one::<u32>("number")?,
+        });
+    }
+    Some(Wish::Step(Request {
         task: task_of(name, options)?,
         size: options.get_one::<u32>("block")?,
         image: options.get_str("image")?,
-    })
+    }))
 }

@@ -1,5 +1,6 @@
 //! The system as a host.
 
+use crate::files::{kept, name_anew, opened, replace, says_kept, written};
 use crate::host::{Host, HostFault, ReadFault};
 use lfs_block::MAX_IMAGE_LENGTH;
 use lfs_sink::{Out, Sink};
@@ -15,6 +16,14 @@ use std::io::{self, ErrorKind, Printer, Read};
 pub struct Terminal<'a> {
     rt: &'a HostRuntime,
     out: Out<Printer<'a, HostRuntime>>,
+    /// The image's file, kept for this run.
+    image: Option<File>,
+    /// The new image's file, kept for this run.
+    new_image: Option<File>,
+    /// What the system said when it refused something last.
+    said: Option<io::Error>,
+    /// Whether that was about standard input.
+    is_input: bool,
 }
 
 impl<'a> Terminal<'a> {
@@ -23,46 +32,106 @@ impl<'a> Terminal<'a> {
         Terminal {
             rt,
             out: Out::new(io::writer(rt)),
+            image: None,
+            new_image: None,
+            said: None,
+            is_input: false,
         }
     }
-}
 
-/// What an error of reading means.
-fn read_fault(error: io::Error) -> ReadFault {
-    match error.kind() {
-        ErrorKind::OutOfMemory => ReadFault::Memory,
-        _ => ReadFault::CannotRead,
+    /// What an error of reading means, which is kept.
+    fn read_fault(&mut self, error: io::Error) -> ReadFault {
+        if error.kind() == ErrorKind::OutOfMemory {
+            return ReadFault::Memory;
+        }
+        self.said = Some(error);
+        ReadFault::CannotRead
+    }
+
+    /// What was refused, which is kept.
+    fn refused(&mut self, error: io::Error) -> HostFault {
+        self.said = Some(error);
+        HostFault
     }
 }
 
-/// The bytes of a file. Room for as many as an image has at most is made at once, so that they aren't moved as they come.
-fn bytes_of(rt: &HostRuntime, alloc: Global, name: &str) -> io::Result<Vec<u8>> {
-    let mut file = File::open(rt, name)?;
-    let len = file.metadata()?.len().min(MAX_IMAGE_LENGTH);
+/// The name of the file that a name leads to.
+fn target_of(rt: &HostRuntime, alloc: Global, name: &str) -> io::Result<String> {
+    match fs::symlink_metadata(rt, name) {
+        Ok(found) if found.is_symlink() => Ok(fs::canonicalize(rt, name)?.into_string()),
+        _ => Ok(name.to_string(alloc)?),
+    }
+}
+
+/// The bytes of a file, `most` of them and one more at most. Room for as many as it has is made at once, so that they
+/// aren't moved as they come.
+fn bytes_of(rt: &HostRuntime, alloc: Global, name: &str, most: u64) -> io::Result<Vec<u8>> {
+    let file = opened(rt, name)?;
+    let len = file.metadata()?.len().min(most);
     let mut bytes = Vec::with_capacity(alloc, len as usize)?;
-    file.read_to_end(&mut bytes)?;
+    file.take(most.saturating_add(1)).read_to_end(&mut bytes)?;
     Ok(bytes)
 }
 
 impl Host for Terminal<'_> {
-    fn read(&mut self, alloc: Global, name: &str) -> Result<Vec<u8>, ReadFault> {
-        bytes_of(self.rt, alloc, name).map_err(read_fault)
+    fn target(&mut self, alloc: Global, name: &str) -> Result<String, ReadFault> {
+        target_of(self.rt, alloc, name).map_err(|error| self.read_fault(error))
     }
 
-    fn input(&mut self, alloc: Global) -> Result<Vec<u8>, ReadFault> {
-        let mut bytes = Vec::new(alloc);
-        match self.rt.reader().read_to_end(&mut bytes) {
-            Ok(_) => Ok(bytes),
-            Err(error) => Err(read_fault(error)),
+    fn keep(&mut self, name: &str) -> Result<bool, HostFault> {
+        match kept(self.rt, name) {
+            Ok(file) => {
+                self.image = Some(file);
+                Ok(true)
+            }
+            Err(error) if says_kept(&error) => {
+                self.said = Some(error);
+                Ok(false)
+            }
+            Err(error) => Err(self.refused(error)),
         }
     }
 
-    fn write(&mut self, name: &str, bytes: &[u8]) -> Result<(), HostFault> {
-        fs::write(self.rt, name, bytes).map_err(|_| HostFault)
+    fn read(&mut self, alloc: Global, name: &str, most: u64) -> Result<Vec<u8>, ReadFault> {
+        bytes_of(self.rt, alloc, name, most).map_err(|error| self.read_fault(error))
+    }
+
+    fn input(&mut self, alloc: Global, most: u64) -> Result<Vec<u8>, ReadFault> {
+        let mut bytes = Vec::new(alloc);
+        match self
+            .rt
+            .reader()
+            .take(most.saturating_add(1))
+            .read_to_end(&mut bytes)
+        {
+            Ok(_) => Ok(bytes),
+            Err(error) => {
+                self.is_input = true;
+                Err(self.read_fault(error))
+            }
+        }
+    }
+
+    fn write(&mut self, name: &str, bytes: &[u8], like: &str) -> Result<(), HostFault> {
+        match written(self.rt, name, bytes, like) {
+            Ok(file) => {
+                self.new_image = Some(file);
+                Ok(())
+            }
+            Err(error) => Err(self.refused(error)),
+        }
     }
 
     fn rename(&mut self, from: &str, to: &str) -> Result<(), HostFault> {
-        fs::rename(self.rt, from, to).map_err(|_| HostFault)
+        let renamed = match self.image {
+            Some(_) => replace(self.rt, from, to),
+            None => name_anew(self.rt, from, to),
+        };
+        renamed.map_err(|error| self.refused(error))
+    }
+
+    fn remove(&mut self, name: &str) {
+        let _ = fs::remove_file(self.rt, name);
     }
 
     fn print(&mut self, bytes: &[u8]) -> Option<usize> {
@@ -83,5 +152,16 @@ impl Host for Terminal<'_> {
 
     fn complain<D: Display + Drop>(&mut self, text: D) {
         let _ = self.rt.eprint(text);
+    }
+
+    fn complain_of(&mut self, image: &str) {
+        let file = if self.is_input {
+            "standard input"
+        } else {
+            image
+        };
+        if let Some(error) = &self.said {
+            let _ = self.rt.eprint(format_args!("lfsed: {file}: {error}\n"));
+        }
     }
 }

@@ -7,8 +7,6 @@ use crate::run::run;
 use crate::step::Step;
 use crate::tests::images::{NEW, begins_with, filled};
 use crate::tests::memory_host::MemoryHost;
-use crate::tests::playing::Print::Nothing;
-use crate::tests::playing::{RunOn, play_each};
 use lfs_block::{ImageFault, MountFault};
 use std::alloc::{AllocError, Global};
 use std::process::Abort;
@@ -87,48 +85,5 @@ fn image_comes_before_mounting_and_that_before_the_journal(rt: HostRuntime) -> R
     for row in &REFUSED {
         refuse_each(&rt, rt.alloc(), row)?;
     }
-    Ok(())
-}
-
-/// Images that are refused.
-const REFUSED_IMAGES: [RunOn; 3] = [
-    (
-        &NEW,
-        4_095,
-        (
-            "lfsed setattr --block=512 a.img / 74 01",
-            0,
-            3,
-            "lfsed: 1 ImageLength\n",
-            Nothing,
-        ),
-    ),
-    (
-        &[],
-        4_096,
-        (
-            "lfsed setattr --block=512 a.img / 74 01",
-            0,
-            3,
-            "lfsed: 3 NoValidCommit\n",
-            Nothing,
-        ),
-    ),
-    (
-        &NEW,
-        3_584,
-        (
-            "lfsed setattr --block=512 a.img / 74 01",
-            0,
-            3,
-            "lfsed: 11 Geometry\n",
-            Nothing,
-        ),
-    ),
-];
-
-#[test]
-fn a_refused_image_stays_as_it_was(rt: HostRuntime) -> Result<(), Fail> {
-    play_each(&rt, &REFUSED_IMAGES)?;
     Ok(())
 }

@@ -24,6 +24,8 @@ pub struct MemoryHost {
     pub room: usize,
     /// Whether `a.img` is a folder.
     pub is_folder: bool,
+    /// Whether another run keeps `a.img`.
+    pub is_kept: bool,
     /// Whether reading standard input fails.
     pub input_fails: bool,
     /// Whether writing a file fails.
@@ -49,6 +51,7 @@ impl MemoryHost {
             complained: String::new(alloc),
             room: 65_536,
             is_folder: false,
+            is_kept: false,
             input_fails: false,
             write_fails: false,
             rename_fails: false,
@@ -91,7 +94,18 @@ impl MemoryHost {
 }
 
 impl Host for MemoryHost {
-    fn read(&mut self, alloc: Global, name: &str) -> Result<Vec<u8>, ReadFault> {
+    fn target(&mut self, alloc: Global, name: &str) -> Result<String, ReadFault> {
+        name.to_string(alloc).map_err(|_| ReadFault::Memory)
+    }
+
+    fn keep(&mut self, name: &str) -> Result<bool, HostFault> {
+        match self.image {
+            Some(_) if name == "a.img" => Ok(!self.is_kept),
+            _ => Err(HostFault),
+        }
+    }
+
+    fn read(&mut self, alloc: Global, name: &str, _most: u64) -> Result<Vec<u8>, ReadFault> {
         match &self.image {
             Some(bytes) if name == "a.img" => {
                 Vec::from_slice(alloc, bytes.as_slice()).map_err(|_| ReadFault::Memory)
@@ -100,7 +114,7 @@ impl Host for MemoryHost {
         }
     }
 
-    fn input(&mut self, alloc: Global) -> Result<Vec<u8>, ReadFault> {
+    fn input(&mut self, alloc: Global, _most: u64) -> Result<Vec<u8>, ReadFault> {
         if self.input_fails {
             return Err(ReadFault::CannotRead);
         }
@@ -113,7 +127,7 @@ impl Host for MemoryHost {
         Ok(bytes)
     }
 
-    fn write(&mut self, name: &str, bytes: &[u8]) -> Result<(), HostFault> {
+    fn write(&mut self, name: &str, bytes: &[u8], _like: &str) -> Result<(), HostFault> {
         if self.write_fails || name != "a.img.new" {
             return Err(HostFault);
         }
@@ -132,6 +146,12 @@ impl Host for MemoryHost {
         }
         self.image = self.new_image.take();
         Ok(())
+    }
+
+    fn remove(&mut self, name: &str) {
+        if name == "a.img.new" {
+            self.new_image = None;
+        }
     }
 
     fn print(&mut self, bytes: &[u8]) -> Option<usize> {
@@ -153,4 +173,6 @@ impl Host for MemoryHost {
     fn complain<D: Display + Drop>(&mut self, text: D) {
         let _ = write!(self.complained, "{text}");
     }
+
+    fn complain_of(&mut self, _image: &str) {}
 }

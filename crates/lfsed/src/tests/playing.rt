@@ -19,9 +19,6 @@ pub enum Print {
 /// complains; what it prints.
 pub type Run = (&'static str, usize, u8, &'static str, Print);
 
-/// A run on `a.img`, which is these bytes, with 0xff behind them up to a length.
-pub type RunOn = (&'static [u8], usize, Run);
-
 /// Whether these bytes were printed.
 fn is_printed(print: &Print, printed: &[u8]) -> bool {
     match print {
@@ -38,12 +35,12 @@ fn is_printed(print: &Print, printed: &[u8]) -> bool {
 }
 
 /// Asserts that a host holds what a run is to leave: what it said, and no further file. Where it is refused `a.img` is
-/// as it was; where the host failed, `a.img.new` may be there.
+/// as it was.
 fn is_left(rt: &impl Abort, host: &MemoryHost, run: &Run, old: Option<&[u8]>) {
     let (line, _, status, complaint, print) = run;
     assert!(rt; host.complained.as_str() == *complaint, "{line}");
     assert!(rt; is_printed(print, host.printed.as_slice()), "{line}");
-    assert!(rt; *status == 4 || host.new_image.is_none(), "{line}");
+    assert!(rt; host.new_image.is_none(), "{line}");
     assert!(rt; *status == 0 || host.image.as_deref() == old, "{line}");
 }
 
@@ -74,13 +71,4 @@ pub fn play_on_new(
     let mut host = MemoryHost::with(rt.alloc(), &NEW, 4_096)?;
     play(rt, &mut host, runs)?;
     Ok(host)
-}
-
-/// Plays each run on an image of its own.
-pub fn play_each(rt: &(impl Abort + AllocGlobal), runs: &[RunOn]) -> Result<(), AllocError> {
-    for (root, len, run) in runs {
-        let mut host = MemoryHost::with(rt.alloc(), root, *len)?;
-        play_one(rt, &mut host, run)?;
-    }
-    Ok(())
 }

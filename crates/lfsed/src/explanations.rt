@@ -1,0 +1,268 @@
+//! What the faults mean, and what to do.
+
+/// What a fault means, and what to do.
+///
+/// Source: own.
+#[derive(Clone, Copy, Debug)]
+pub struct Explanation {
+    /// The fault's number.
+    pub number: u8,
+    /// Its name.
+    pub name: &'static str,
+    /// What it means and what to do.
+    pub text: &'static str,
+}
+
+/// The faults in the order of their numbers. docs/FAULTS.md has the same table.
+const EXPLANATIONS: [Explanation; 43] = [
+    Explanation {
+        number: 1,
+        name: "ImageLength",
+        text: "The file's length is no multiple of the block size, or the file is longer than any image. \
+         Give the block size that the image was made with (`--block`), and check that the file was \
+         copied as a whole.",
+    },
+    Explanation {
+        number: 2,
+        name: "BadGeometry",
+        text: "The block size, the number of blocks or the length is out of its limit. A block has 256 to \
+         65536 bytes, an image 2 to 65536 blocks and at most 67108864 bytes.",
+    },
+    Explanation {
+        number: 3,
+        name: "NoValidCommit",
+        text: "Neither block of a pair that the thread names holds a commit whose checksum is right. The \
+         image is damaged, or `--block` isn't its block size.",
+    },
+    Explanation {
+        number: 4,
+        name: "UnknownTag",
+        text: "A commit has a tag of a type that disk version 2.0 doesn't have. The image was written by a \
+         later version, or is damaged.",
+    },
+    Explanation {
+        number: 5,
+        name: "BadTag",
+        text: "A tag names an entry that isn't there, or has a length that its type doesn't take. The image \
+         is damaged.",
+    },
+    Explanation {
+        number: 6,
+        name: "IncompleteEntry",
+        text: "An entry has no name, or nothing that says where its contents are. The image is damaged.",
+    },
+    Explanation {
+        number: 7,
+        name: "BadName",
+        text: "The name of a file or a directory is empty, `.` or `..`, or has a slash or a byte 0 in it. \
+         Rename it with what wrote the image.",
+    },
+    Explanation {
+        number: 8,
+        name: "BadSkipList",
+        text: "A file's blocks don't hang together as its size wants. The file is damaged; what wrote the \
+         image may still remove it.",
+    },
+    Explanation {
+        number: 9,
+        name: "NoSuperblock",
+        text: "The first entry of blocks 0 and 1 is no superblock. The file is no littlefs image, or \
+         `--block` isn't its block size.",
+    },
+    Explanation {
+        number: 10,
+        name: "Version",
+        text: "The image is of another disk version than 2.0. Write it again with a littlefs that keeps \
+         version 2.0.",
+    },
+    Explanation {
+        number: 11,
+        name: "Geometry",
+        text: "The superblock states another block size or number of blocks than the image has. The second \
+         line says which: give that block size (`--block`), or the whole file.",
+    },
+    Explanation {
+        number: 12,
+        name: "Limits",
+        text: "One of the superblock's limits, on names, files or attributes, is out of its range. The \
+         image is damaged, or was made for a littlefs with other limits.",
+    },
+    Explanation {
+        number: 13,
+        name: "OrderFault",
+        text: "The names of a directory don't stand in their order. The image is damaged, or was written by \
+         something that orders them otherwise.",
+    },
+    Explanation {
+        number: 14,
+        name: "BlockRange",
+        text: "A pair of blocks that is named lies past the image's end. The image is damaged or cut off.",
+    },
+    Explanation {
+        number: 15,
+        name: "BlockTwice",
+        text: "Two things use one block, or two names lead to one directory. The image is damaged; nothing \
+         of it may be changed safely.",
+    },
+    Explanation {
+        number: 16,
+        name: "MissingDirectory",
+        text: "An entry leads to a pair of blocks at which no directory begins. The image is damaged.",
+    },
+    Explanation {
+        number: 17,
+        name: "Orphan",
+        text: "A directory can't be reached from the root: a device lost its power while it made or removed \
+         it. Mount the image once with littlefs itself, for writing, which mends it.",
+    },
+    Explanation {
+        number: 18,
+        name: "UnfinishedMove",
+        text: "A device lost its power while it moved something. Mount the image once with littlefs itself, \
+         for writing, which ends the move.",
+    },
+    Explanation {
+        number: 19,
+        name: "SuperblockElsewhere",
+        text: "A superblock stands where none may be. The image is damaged.",
+    },
+    Explanation {
+        number: 20,
+        name: "BadSize",
+        text: "A name, a file or an attribute is larger than the superblock's limits allow. The image is \
+         damaged, or its limits were changed.",
+    },
+    Explanation {
+        number: 21,
+        name: "UnknownState",
+        text: "The image's global state says something that disk version 2.0 doesn't know. It was written \
+         by a later version, or is damaged.",
+    },
+    Explanation {
+        number: 30,
+        name: "NotFound",
+        text: "Nothing is at the path, or one of the directories on the way isn't there. Look at the \
+         spelling; a path begins with `/`.",
+    },
+    Explanation {
+        number: 31,
+        name: "Exists",
+        text: "Something is at the path already. Remove it first, or take another path.",
+    },
+    Explanation {
+        number: 32,
+        name: "NotADirectory",
+        text: "A file stands on the way, where the path wants a directory.",
+    },
+    Explanation {
+        number: 33,
+        name: "IsADirectory",
+        text: "A directory is at the path, where a file is put or printed.",
+    },
+    Explanation {
+        number: 34,
+        name: "NotEmpty",
+        text: "The directory has an entry still. Remove what is in it first.",
+    },
+    Explanation {
+        number: 35,
+        name: "BadPath",
+        text: "The text is no path. A path is `/` before each name, and `/` alone for the root; a name \
+         isn't empty, `.` or `..`, and has no byte 0.",
+    },
+    Explanation {
+        number: 36,
+        name: "NameTooLong",
+        text: "The new name is longer than the image's limit, which is 255 bytes in an image that lfsed \
+         made.",
+    },
+    Explanation {
+        number: 37,
+        name: "FileTooLarge",
+        text: "The contents are longer than the image's limit, which is 2147483647 bytes in an image that \
+         lfsed made.",
+    },
+    Explanation {
+        number: 38,
+        name: "AttrTooLarge",
+        text: "The value is longer than the image's limit, which is 1022 bytes in an image that lfsed made.",
+    },
+    Explanation {
+        number: 39,
+        name: "NoAttr",
+        text: "There is no attribute of that kind to be removed.",
+    },
+    Explanation {
+        number: 40,
+        name: "IntoItself",
+        text: "A directory can't be moved to a place below itself.",
+    },
+    Explanation {
+        number: 41,
+        name: "IsRoot",
+        text: "The root can't be made, put, moved or removed.",
+    },
+    Explanation {
+        number: 42,
+        name: "EntryTooLarge",
+        text: "An entry with its attributes takes more than a block has room for. Take smaller attributes, \
+         or an image of larger blocks.",
+    },
+    Explanation {
+        number: 43,
+        name: "NoSpace",
+        text: "The change needs more new blocks than are free; both numbers are said. Remove something, or \
+         make an image of more blocks.",
+    },
+    Explanation {
+        number: 44,
+        name: "Memory",
+        text: "A growth of memory was refused. Nothing was changed; give the program more memory.",
+    },
+    Explanation {
+        number: 50,
+        name: "JournalFormat",
+        text: "The bytes are no journal of this program.",
+    },
+    Explanation {
+        number: 53,
+        name: "NothingToUndo",
+        text: "No change was made that isn't taken back already.",
+    },
+    Explanation {
+        number: 54,
+        name: "NothingToRedo",
+        text: "No change was taken back since the last one that was made.",
+    },
+    Explanation {
+        number: 55,
+        name: "JournalFull",
+        text: "As many changes were made as a session keeps, 1000. Forget them, and go on.",
+    },
+    Explanation {
+        number: 60,
+        name: "CannotRead",
+        text: "A file, or standard input, can't be read. The second line says which, and what the system \
+         said.",
+    },
+    Explanation {
+        number: 61,
+        name: "CannotWrite",
+        text: "A file, or standard output, can't be written, or another run is changing the image. The \
+         second line says which, and what the system said. The image is as it was.",
+    },
+    Explanation {
+        number: 64,
+        name: "BadHex",
+        text: "A kind isn't two hexadecimal digits, or a value isn't two for each byte.",
+    },
+];
+
+/// What the fault of a number means; nothing where no fault has it. Takes no memory.
+///
+/// Source: own.
+pub fn explained(number: u32) -> Option<&'static Explanation> {
+    EXPLANATIONS
+        .iter()
+        .find(|explanation| u32::from(explanation.number) == number)
+}

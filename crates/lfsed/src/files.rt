@@ -1,0 +1,128 @@
+//! Files that runs of the program don't take from each other.
+
+use std::fs::{self, File, TryLockError};
+use std::io::{self, ErrorKind, Read, Write};
+use std::os::unix::fs::MetadataExt;
+
+/// How often a file is tried for that other runs replace meanwhile.
+const MOST_TRIES: u32 = 1_000;
+
+/// What is said of a folder, a device or the like.
+fn is_no_file() -> io::Error {
+    io::Error::new(ErrorKind::InvalidInput, "not a regular file")
+}
+
+/// What is said of a file that another run keeps.
+fn is_kept() -> io::Error {
+    io::Error::new(ErrorKind::ResourceBusy, "another run is changing it")
+}
+
+/// A file that is read. Only a regular one is opened.
+pub fn opened(rt: &HostRuntime, name: &str) -> io::Result<File> {
+    if !fs::metadata(rt, name)?.is_file() {
+        return Err(is_no_file());
+    }
+    File::open(rt, name)
+}
+
+/// Keeps a file for this run, as long as it is open.
+fn lock(file: &File) -> io::Result<()> {
+    match file.try_lock() {
+        Ok(()) => Ok(()),
+        Err(TryLockError::WouldBlock) => Err(is_kept()),
+        Err(TryLockError::Error(error)) => Err(error),
+    }
+}
+
+/// Whether a name leads to an open file still, and not through a link.
+fn leads_to(rt: &HostRuntime, name: &str, file: &File) -> io::Result<bool> {
+    let named = fs::symlink_metadata(rt, name)?;
+    let open = file.metadata()?;
+    Ok(named.dev() == open.dev() && named.ino() == open.ino())
+}
+
+/// The file of a name, kept for this run.
+pub fn kept(rt: &HostRuntime, name: &str) -> io::Result<File> {
+    for _ in 0..MOST_TRIES {
+        let file = opened(rt, name)?;
+        lock(&file)?;
+        if leads_to(rt, name, &file)? {
+            return Ok(file);
+        }
+    }
+    Err(is_kept())
+}
+
+/// Whether an error says that another run keeps the file.
+pub fn says_kept(error: &io::Error) -> bool {
+    error.kind() == ErrorKind::ResourceBusy
+}
+
+/// Takes away what an earlier run left under a name: a regular file that no run keeps.
+fn take_leftover_away(rt: &HostRuntime, name: &str) -> io::Result<()> {
+    if !fs::symlink_metadata(rt, name)?.is_file() {
+        return Err(is_no_file());
+    }
+    let left = File::open(rt, name)?;
+    lock(&left)?;
+    if leads_to(rt, name, &left)? {
+        fs::remove_file(rt, name)?;
+    }
+    Ok(())
+}
+
+/// A new file, kept for this run. What an earlier run left under the name is replaced.
+fn created(rt: &HostRuntime, name: &str) -> io::Result<File> {
+    for _ in 0..MOST_TRIES {
+        match File::create_new(rt, name) {
+            Ok(file) => {
+                lock(&file)?;
+                if leads_to(rt, name, &file)? {
+                    return Ok(file);
+                }
+            }
+            Err(error) if error.kind() == ErrorKind::AlreadyExists => {
+                take_leftover_away(rt, name)?;
+            }
+            Err(error) => return Err(error),
+        }
+    }
+    Err(is_kept())
+}
+
+/// Fills a new file, with the rights of the file `like` where there is one, and waits until the disk has it.
+fn fill(rt: &HostRuntime, file: &mut File, bytes: &[u8], like: &str) -> io::Result<()> {
+    match fs::metadata(rt, like) {
+        Ok(old) => file.set_permissions(old.permissions())?,
+        Err(error) if error.kind() == ErrorKind::NotFound => {}
+        Err(error) => return Err(error),
+    }
+    file.write_all(bytes)?;
+    file.sync_all()
+}
+
+/// A new file of these bytes, kept for this run. Where it can't be filled it is taken away again.
+pub fn written(rt: &HostRuntime, name: &str, bytes: &[u8], like: &str) -> io::Result<File> {
+    let mut file = created(rt, name)?;
+    match fill(rt, &mut file, bytes, like) {
+        Ok(()) => Ok(file),
+        Err(error) => {
+            let _ = fs::remove_file(rt, name);
+            Err(error)
+        }
+    }
+}
+
+/// Gives a file another name, in place of a regular file.
+pub fn replace(rt: &HostRuntime, from: &str, to: &str) -> io::Result<()> {
+    if !fs::symlink_metadata(rt, to)?.is_file() {
+        return Err(is_no_file());
+    }
+    fs::rename(rt, from, to)
+}
+
+/// Gives a file a name that no file has.
+pub fn name_anew(rt: &HostRuntime, from: &str, to: &str) -> io::Result<()> {
+    fs::hard_link(rt, from, to)?;
+    fs::remove_file(rt, from)
+}

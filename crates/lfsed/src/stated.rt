@@ -1,0 +1,28 @@
+//! The geometry that an image states of itself.
+
+use byteorder::{ByteOrder, LittleEndian};
+
+/// What stands in front of the superblock's fields.
+const MAGIC: &[u8] = b"littlefs";
+
+/// The block size and count that a superblock states.
+#[derive(Clone, Copy, Debug)]
+pub struct Stated {
+    /// The size of a block, in bytes.
+    pub size: u32,
+    /// The number of blocks.
+    pub count: u32,
+}
+
+/// The geometry that the superblock at the front of block 0 states, whatever the size of a block is; nothing where there
+/// is no superblock. Takes no memory.
+pub fn stated_in(image: &[u8]) -> Option<Stated> {
+    let front = image.get(8..32)?;
+    if !front.starts_with(MAGIC) {
+        return None;
+    }
+    Some(Stated {
+        size: LittleEndian::read_u32(&front[16..20]),
+        count: LittleEndian::read_u32(&front[20..24]),
+    })
+}

@@ -1,0 +1,30 @@
+//! Why a run ends early, and what is told of it.
+
+use crate::fault::Fault;
+use crate::stated::Stated;
+use std::alloc::AllocError;
+
+/// Why a run ends without having done what it was asked for, and the geometry that the image's superblock states, where
+/// that is why.
+#[derive(Clone, Copy, Debug)]
+pub struct Stop {
+    /// The fault.
+    pub fault: Fault,
+    /// What the superblock states.
+    pub stated: Option<Stated>,
+}
+
+impl From<Fault> for Stop {
+    fn from(fault: Fault) -> Stop {
+        Stop {
+            fault,
+            stated: None,
+        }
+    }
+}
+
+impl From<AllocError> for Stop {
+    fn from(error: AllocError) -> Stop {
+        Stop::from(Fault::from(error))
+    }
+}

@@ -1,0 +1,44 @@
+#!/usr/bin/env python3
+"""Compares what the program explains of each fault with docs/FAULTS.md, and the faults of the other documents with both."""
+import pathlib
+import re
+import subprocess
+import sys
+
+HOME = pathlib.Path(__file__).resolve().parent.parent
+
+
+def table(name):
+    """The rows of a document's tables that begin with a number: number, name, text."""
+    rows = re.findall(r"^\| (\d+) \| (\w+) \| (.*) \|$", (HOME / name).read_text(), re.MULTILINE)
+    return {int(number): (fault, text) for number, fault, text in rows}
+
+
+def explained(number):
+    """What the program prints for a number, and its status."""
+    ended = subprocess.run([HOME / "bin/lfsed", "explain", str(number)], stdout=subprocess.PIPE, stderr=subprocess.PIPE, text=True)
+    return ended.returncode, ended.stdout
+
+
+def main():
+    faults, ran, wrong = table("docs/FAULTS.md"), 0, 0
+    for number in range(1, 256):
+        wanted = (2, "")
+        if number in faults:
+            name, text = faults[number]
+            wanted = (0, f"{number} {name}\n{text}\n")
+        ran, is_wrong = ran + 1, explained(number) != wanted
+        wrong += is_wrong
+        if is_wrong:
+            print(f"{number}: wanted {wanted}, found {explained(number)}")
+    for document in "README.md", "docs/FORMAT.md":
+        for number, (name, _) in table(document).items():
+            ran, is_wrong = ran + 1, faults.get(number, ("", ""))[0] != name
+            wrong += is_wrong
+            if is_wrong:
+                print(f"{document}: {number} {name}")
+    print(f"{ran - wrong} passed, {wrong} failed")
+    return 1 if wrong else 0
+
+
+sys.exit(main())

@@ -1,0 +1,164 @@
+#!/usr/bin/env python3
+"""Runs the program on real files: faults of files, links, rights, leftovers, and pairs of runs on one image."""
+import os
+import pathlib
+import resource
+import shutil
+import signal
+import subprocess
+import sys
+import tempfile
+
+HOME = pathlib.Path(__file__).resolve().parent.parent
+NOT_READ, NOT_WRITTEN = "lfsed: 60 CannotRead", "lfsed: 61 CannotWrite"
+NOBODY = 65_534
+
+
+class Files:
+    """A folder with an image, and what was found wrong in it."""
+
+    def __init__(self, program, folder):
+        self.program, self.folder, self.ran, self.wrong = program, folder, 0, 0
+        self.image = folder / "a.img"
+        self.must(["format", "--block", "512", "--count", "64", "a.img"])
+
+    def start(self, words, **how):
+        """Starts the program in the folder."""
+        pipes = {"stdin": subprocess.PIPE, "stdout": subprocess.PIPE, "stderr": subprocess.PIPE}
+        return subprocess.Popen([self.program, *words], cwd=self.folder, **{**pipes, **how})
+
+    def run(self, words, bytes_in=b"", **how):
+        """Runs the program; answers its status and the lines of standard error."""
+        started = self.start(words, **how)
+        _, said = started.communicate(bytes_in, timeout=60)
+        return started.returncode, said.decode().splitlines()
+
+    def must(self, words, bytes_in=b""):
+        """Runs what sets the scene."""
+        status, said = self.run(words, bytes_in)
+        assert status == 0, (words, status, said)
+
+    def check(self, what, is_right, found=""):
+        """Counts one thing that is to be so."""
+        self.ran += 1
+        if not is_right:
+            self.wrong += 1
+            print(f"wrong: {what}: {found}")
+
+    def put(self, name, **how):
+        """Puts a small file."""
+        return self.run(["put", "--block", "512", "a.img", name], b"contents", **how)
+
+    def holds(self, name, image="a.img"):
+        """Whether an image has a file."""
+        return self.run(["cat", "--block", "512", image, name])[0] == 0
+
+    def refused(self, what, words, first, second, **how):
+        """A run that ends with 4, these lines and unchanged files."""
+        before = self.listing()
+        status, said = self.run(words, b"contents", **how)
+        self.check(f"{what}: status", status == 4, status)
+        self.check(f"{what}: first line", said[:1] == [first], said)
+        self.check(f"{what}: second line", second in "".join(said[1:]), said)
+        self.check(f"{what}: files", self.listing() == before, self.listing())
+
+    def listing(self):
+        """Each file of the folder with its bytes."""
+        files = sorted(self.folder.rglob("*"))
+        return {file: file.read_bytes() if file.is_file() else None for file in files}
+
+
+def what_is_no_image(files):
+    check = ["check", "--block", "512"]
+    put = ["put", "--block", "512"]
+    (files.folder / "folder").mkdir()
+    os.mkfifo(files.folder / "pipe")
+    for name, said in ("none.img", "none.img: No such file"), ("folder", "folder: not a regular file"):
+        files.refused(f"check {name}", [*check, name], NOT_READ, said)
+        files.refused(f"put {name}", [*put, name, "/x"], NOT_READ, said)
+    for name in "pipe", "/dev/zero":
+        files.refused(f"check {name}", [*check, name], NOT_READ, "not a regular file")
+    files.refused("format folder", ["format", "--block", "512", "--count", "8", "folder"], NOT_WRITTEN, "folder: ")
+    with open("/dev/full", "wb") as full:
+        files.refused("full output", [*check, "a.img"], NOT_WRITTEN, "", stdout=full)
+    status, said = files.run([*check[:2], "1024", "a.img"])
+    files.check("another block size", said[1:] == ["lfsed: a.img: its superblock states 64 blocks of 512 bytes"], (status, said))
+
+
+def links_and_rights(files):
+    link = files.folder / "link.img"
+    link.symlink_to("a.img")
+    files.must(["put", "--block", "512", "link.img", "/by-link"], b"contents")
+    files.check("a link stays", link.is_symlink())
+    files.check("a link's target is changed", files.holds("/by-link"))
+    files.image.chmod(0o600)
+    files.must(["put", "--block", "512", "a.img", "/mode"], b"contents")
+    files.check("rights stay", files.image.stat().st_mode & 0o777 == 0o600, oct(files.image.stat().st_mode))
+    files.run(["format", "--block", "512", "--count", "8", "new.img"], preexec_fn=lambda: os.umask(0o027))
+    made = files.folder / "new.img"
+    files.check("a new image has the umask's rights", made.stat().st_mode & 0o777 == 0o640, oct(made.stat().st_mode))
+
+
+def leftovers(files):
+    left = files.folder / "a.img.new"
+    left.write_bytes(b"left over")
+    files.check("a leftover is replaced", files.put("/leftover")[0] == 0 and files.holds("/leftover"))
+    files.check("nothing is left over", not left.exists())
+    other = files.folder / "other"
+    other.write_bytes(b"other")
+    left.symlink_to("other")
+    files.refused("a link in the way", ["mkdir", "--block", "512", "a.img", "/d"], NOT_WRITTEN, "a.img: not a regular file")
+    left.unlink()
+    left.mkdir()
+    files.refused("a folder in the way", ["mkdir", "--block", "512", "a.img", "/d"], NOT_WRITTEN, "a.img: not a regular file")
+    left.rmdir()
+
+
+def disks_that_refuse(files):
+    def small():
+        signal.signal(signal.SIGXFSZ, signal.SIG_IGN)
+        resource.setrlimit(resource.RLIMIT_FSIZE, (8_192, 8_192))
+
+    mkdir = ["mkdir", "--block", "512", "a.img", "/d"]
+    files.refused("a full disk", mkdir, NOT_WRITTEN, "a.img: ", preexec_fn=small)
+    if os.geteuid() == 0:
+        files.folder.chmod(0o555)
+        files.image.chmod(0o644)
+        files.refused("a read-only folder", mkdir, NOT_WRITTEN, "a.img: Permission denied", user=NOBODY)
+        files.image.chmod(0o600)
+        files.refused("an unreadable image", mkdir, NOT_READ, "a.img: Permission denied", user=NOBODY)
+        files.folder.chmod(0o755)
+
+
+def pairs_of_runs(files):
+    """Two runs on one image at a time: each change is in the image, or was refused with 61."""
+    files.must(["format", "--block", "512", "--count", "1024", "a.img"])
+    for pair in range(100):
+        names = [f"/{pair}{letter}" for letter in "ab"]
+        runs = [files.start(["put", "--block", "512", "a.img", name]) for name in names]
+        said = [run.communicate(b"contents", timeout=60)[1].decode() for run in runs]
+        for name, run, text in zip(names, runs, said):
+            accepted = run.returncode == 0
+            told = accepted or run.returncode == 4 and text.startswith(NOT_WRITTEN)
+            files.check(f"pair {pair}", told and files.holds(name) == accepted, (run.returncode, text))
+    files.check("the image of all pairs", files.run(["check", "--block", "512", "a.img"])[0] == 0)
+    files.check("nothing is left of pairs", not (files.folder / "a.img.new").exists())
+
+
+def main():
+    subprocess.run([HOME / "bin/lfsed", "--help"], stdout=subprocess.DEVNULL, check=True)
+    ran = wrong = 0
+    with tempfile.TemporaryDirectory() as programs:
+        os.chmod(programs, 0o755)
+        program = shutil.copy(HOME / "crates/lfsed/out/lfsed", programs)
+        for scene in what_is_no_image, links_and_rights, leftovers, disks_that_refuse, pairs_of_runs:
+            with tempfile.TemporaryDirectory() as folder:
+                os.chmod(folder, 0o755)
+                files = Files(program, pathlib.Path(folder))
+                scene(files)
+                ran, wrong = ran + files.ran, wrong + files.wrong
+    print(f"{ran - wrong} passed, {wrong} failed")
+    return 1 if wrong else 0
+
+
+sys.exit(main())

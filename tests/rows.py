@@ -1,0 +1,490 @@
+#!/usr/bin/env python3
+"""Runs the program on rows: what each command line prints, complains and ends with, and what it leaves of the image.
+
+A row is the words behind the program's name, how many bytes of contents come from standard input, the status, what is
+complained, and what is printed: a text, or so many bytes of contents."""
+import pathlib
+import subprocess
+import sys
+import tempfile
+
+HOME = pathlib.Path(__file__).resolve().parent.parent
+
+# The first bytes of a new image of 8 blocks of 512 bytes, computed by another program, as those below.
+NEW = bytes.fromhex(
+    "01000000f00ffff76c6974746c6566732fe00010000002000002000008000000ff000000ffffff7ffe030000701ffc08"
+    "c895baf9ffffffffffffffffffffffff"
+)
+
+# The same with the name littlefx.
+OTHER_NAME = bytes.fromhex(
+    "01000000f00ffff76c6974746c6566782fe00010000002000002000008000000ff000000ffffff7ffe030000701ffc08"
+    "04a548ceffffffffffffffffffffffff"
+)
+
+# The same with the version 0x00020001.
+OTHER_VERSION = bytes.fromhex(
+    "01000000f00ffff76c6974746c6566732fe00010010002000002000008000000ff000000ffffff7ffe030000701ffc08"
+    "d5680ff8ffffffffffffffffffffffff"
+)
+
+# The same with a greatest name of 0.
+NO_NAMES = bytes.fromhex(
+    "01000000f00ffff76c6974746c6566732fe0001000000200000200000800000000000000ffffff7ffe030000701ffc08"
+    "1faccbf4ffffffffffffffffffffffff"
+)
+
+# The same with a greatest name of 3.
+SHORT_NAMES = bytes.fromhex(
+    "01000000f00ffff76c6974746c6566732fe0001000000200000200000800000003000000ffffff7ffe030000701ffc08"
+    "ed1803ddffffffffffffffffffffffff"
+)
+
+# The same with a soft tail to the pair {2,3}.
+WITH_TAIL = bytes.fromhex(
+    "01000000f00ffff76c6974746c6566732fe00010000002000002000008000000ff000000ffffff7ffe030000401ffc10"
+    "02000000030000003000000c6b805cd9"
+)
+
+# The same, where the files b and a were created behind the superblock and deleted again.
+WITH_DELETED = bytes.fromhex(
+    "01000000f00ffff76c6974746c6566732fe00010000002000002000008000000ff000000ffffff7ffe03000060000418"
+    "400000016220000001600000004000000161200000016fe00c0000000c001ffff80e66e23f73ffffffffffffffffffff"
+)
+
+# The superblock and a file f of 600 bytes whose last block is 3.
+TO_ITSELF = bytes.fromhex(
+    "01000000f00ffff76c6974746c6566732fe00010000002000002000008000000ff000000ffffff7ffe03000020000419"
+    "66203000090300000058020000702ff807d92ede1effffffffffffffffffffff"
+)
+
+# The superblock and a file f of 100 bytes whose last block is 8.
+HEAD_PAST = bytes.fromhex(
+    "01000000f00ffff76c6974746c6566732fe00010000002000002000008000000ff000000ffffff7ffe03000020000419"
+    "66203000090800000064000000702ff807ccddb12affffffffffffffffffffff"
+)
+
+# The superblock and files a and b of 100 bytes, the last block of both 2.
+SHARED = bytes.fromhex(
+    "01000000f00ffff76c6974746c6566732fe00010000002000002000008000000ff000000ffffff7ffe03000020000419"
+    "6120300009020000006400000020300c0962203000090200000064000000702ff406a7acfdefffffffffffffffffffff"
+)
+
+# The superblock and a file f of no bytes whose last block is said to be 9.
+EMPTY_WITH_HEAD = bytes.fromhex(
+    "01000000f00ffff76c6974746c6566732fe00010000002000002000008000000ff000000ffffff7ffe03000020000419"
+    "66203000090900000000000000702ff807e23fb5e5ffffffffffffffffffffff"
+)
+
+# The superblock and empty files a and ab, in this order.
+SHORT_FIRST = bytes.fromhex(
+    "01000000f00ffff76c6974746c6566732fe00010000002000002000008000000ff000000ffffff7ffe03000020000419"
+    "612000000120000c02616220000002701ff40d23b033ebffffffffffffffffff"
+)
+
+# How block 1 begins after `setattr / 74 0102` on a new image of 8 blocks of 512 bytes.
+WITH_ATTRIBUTE = bytes.fromhex(
+    "02000000f00ffff76c6974746c6566732fe00010000002000002000008000000ff000000ffffff7ffe0300001750001a"
+    "0102674ffc08fed4859e"
+)
+
+# How block 0 begins after `rmattr / 74` on that image.
+WITHOUT_ATTRIBUTE = bytes.fromhex(
+    "03000000f00ffff76c6974746c6566732fe00010000002000002000008000000ff000000ffffff7ffe030000701ffc08"
+    "704cd982"
+)
+
+# Images, which are these bytes with 0xff behind them up to a length, and what is said of each.
+JUDGED = [
+    (NEW, 4_095, ("check --block 512 a.img", 0, 3, "lfsed: 1 ImageLength\n", "")),
+    (NEW, 512, ("check --block 512 a.img", 0, 3, "lfsed: 2 BadGeometry\n", "")),
+    (b"", 4_096, ("check --block 512 a.img", 0, 3, "lfsed: 3 NoValidCommit\n", "")),
+    (OTHER_NAME, 4_096, ("check --block 512 a.img", 0, 3, "lfsed: 9 NoSuperblock\n", "")),
+    (OTHER_VERSION, 4_096, ("check --block 512 a.img", 0, 3, "lfsed: 10 Version\n", "")),
+    (NEW, 3_584, ("check --block 512 a.img", 0, 3, "lfsed: 11 Geometry\nlfsed: a.img: its superblock states 8 blocks of 512 bytes\n", "")),
+    (NO_NAMES, 4_096, ("check --block 512 a.img", 0, 3, "lfsed: 12 Limits\n", "")),
+    (WITH_TAIL, 4_096, ("check --block 512 a.img", 0, 3, "lfsed: 3 NoValidCommit\n", "")),
+    (HEAD_PAST, 4_096, ("check --block 512 a.img", 0, 3, "lfsed: 8 BadSkipList\n", "")),
+    (SHARED, 4_096, ("check --block 512 a.img", 0, 3, "lfsed: 15 BlockTwice\n", "")),
+    (SHORT_FIRST, 4_096, ("check --block 512 a.img", 0, 3, "lfsed: 13 OrderFault\n", "")),
+    (b"", 0, ("check a.img", 0, 3, "lfsed: 2 BadGeometry\n", "")),
+    (WITH_DELETED, 4_096, ("check --block 512 a.img", 0, 0, "", "block 512, count 8, free 6, directories 1, files 0\n")),
+    (NEW, 4_095, ("setattr --block=512 a.img / 74 01", 0, 3, "lfsed: 1 ImageLength\n", "")),
+    (b"", 4_096, ("setattr --block=512 a.img / 74 01", 0, 3, "lfsed: 3 NoValidCommit\n", "")),
+    (NEW, 3_584, ("setattr --block=512 a.img / 74 01", 0, 3, "lfsed: 11 Geometry\nlfsed: a.img: its superblock states 8 blocks of 512 bytes\n", "")),
+]
+
+# A new image of 8 blocks.
+EIGHT = [
+    ("format --block 512 --count 8 a.img", 0, 0, "", ""),
+    ("check --block 512 a.img", 0, 0, "", "block 512, count 8, free 6, directories 1, files 0\n"),
+]
+
+# A new image of 2 blocks.
+TWO = [
+    ("format --block 512 --count 2 a.img", 0, 0, "", ""),
+    ("check --block 512 a.img", 0, 0, "", "block 512, count 2, free 0, directories 1, files 0\n"),
+]
+
+# Files at the limit up to which their contents stand in the entry, each on an image of its own.
+INLINE = [
+    [
+        ("put --block=512 a.img /f", 0, 0, "", ""),
+        ("check --block=512 a.img", 0, 0, "", "block 512, count 8, free 6, directories 1, files 1\n"),
+        ("cat --block=512 a.img /f", 0, 0, "", 0),
+    ],
+    [
+        ("put --block=512 a.img /f", 64, 0, "", ""),
+        ("check --block=512 a.img", 0, 0, "", "block 512, count 8, free 6, directories 1, files 1\n"),
+        ("cat --block=512 a.img /f", 0, 0, "", 64),
+    ],
+    [
+        ("put --block=512 a.img /f", 65, 0, "", ""),
+        ("check --block=512 a.img", 0, 0, "", "block 512, count 8, free 5, directories 1, files 1\n"),
+        ("cat --block=512 a.img /f", 0, 0, "", 65),
+    ],
+]
+
+# A file that takes all blocks.
+FULL = [
+    ("put --block=512 a.img /f", 3_041, 1, "lfsed: 43 NoSpace need 7 free 6\n", ""),
+    ("put --block=512 a.img /f", 3_040, 0, "", ""),
+    ("check --block=512 a.img", 0, 0, "", "block 512, count 8, free 0, directories 1, files 1\n"),
+    ("cat --block=512 a.img /f", 0, 0, "", 3_040),
+    ("put --block=512 a.img /f", 3_040, 1, "lfsed: 43 NoSpace need 6 free 0\n", ""),
+    ("cat --block=512 a.img /f", 0, 0, "", 3_040),
+]
+
+# A replaced file keeps its attributes.
+REPLACED = [
+    ("put --block=512 a.img /f", 513, 0, "", ""),
+    ("setattr --block=512 a.img /f 74 01", 0, 0, "", ""),
+    ("check --block=512 a.img", 0, 0, "", "block 512, count 8, free 4, directories 1, files 1\n"),
+    ("cat --block=512 a.img /f", 0, 0, "", 513),
+    ("put --block=512 a.img /f", 3, 0, "", ""),
+    ("check --block=512 a.img", 0, 0, "", "block 512, count 8, free 6, directories 1, files 1\n"),
+    ("cat --block=512 a.img /f", 0, 0, "", 3),
+    ("rmattr --block=512 a.img /f 74", 0, 0, "", ""),
+    ("rmattr --block=512 a.img /f 74", 0, 1, "lfsed: 39 NoAttr\n", ""),
+]
+
+# What is no file is not read.
+NOT_READ = [
+    ("put --block=512 a.img /g", 3, 0, "", ""),
+    ("cat --block=512 a.img /", 0, 1, "lfsed: 33 IsADirectory\n", ""),
+    ("cat --block=512 a.img /f", 0, 1, "lfsed: 30 NotFound\n", ""),
+    ("cat --block=512 a.img /f/g", 0, 1, "lfsed: 30 NotFound\n", ""),
+    ("cat --block=512 a.img /g/f", 0, 1, "lfsed: 32 NotADirectory\n", ""),
+    ("cat --block=512 a.img g", 0, 1, "lfsed: 35 BadPath\n", ""),
+]
+
+# What can be no file is not put.
+NOT_PUT = [
+    ("put --block=512 a.img /g", 3, 0, "", ""),
+    ("put --block=512 a.img /", 3, 1, "lfsed: 41 IsRoot\n", ""),
+    ("put --block=512 a.img /f/g", 3, 1, "lfsed: 30 NotFound\n", ""),
+    ("put --block=512 a.img /g/f", 3, 1, "lfsed: 32 NotADirectory\n", ""),
+    ("put --block=512 a.img f/", 3, 1, "lfsed: 35 BadPath\n", ""),
+]
+
+# Files whose names stand in order, a name before its beginnings.
+NAMES = [
+    ("put --block=512 a.img /ab", 0, 0, "", ""),
+    ("put --block=512 a.img /a", 0, 0, "", ""),
+    ("put --block=512 a.img /b", 0, 0, "", ""),
+    ("check --block=512 a.img", 0, 0, "", "block 512, count 8, free 6, directories 1, files 3\n"),
+]
+
+# An image that keeps names up to 3 bytes.
+LIMITED = [
+    ("put --block=512 a.img /abc", 0, 0, "", ""),
+    ("put --block=512 a.img /abcd", 0, 1, "lfsed: 36 NameTooLong\n", ""),
+]
+
+# A chain that comes back.
+CIRCLE = [
+    ("check --block 512 a.img", 0, 3, "lfsed: 8 BadSkipList\n", ""),
+]
+
+# More bytes than an image may have.
+TOO_MANY = [
+    ("format --block 65536 --count 65536 a.img", 0, 3, "lfsed: 2 BadGeometry\n", ""),
+]
+
+# An empty file whose entry names a block.
+EMPTY = [
+    ("cat --block=512 a.img /f", 0, 0, "", ""),
+    ("setattr --block=512 a.img /f 74 01", 0, 0, "", ""),
+]
+
+# Commands that a new image refuses.
+REFUSED = [
+    ("rmattr --block=512 a.img / 74", 0, 1, "lfsed: 39 NoAttr\n", ""),
+    ("setattr --block=512 a.img /x 74 01", 0, 1, "lfsed: 30 NotFound\n", ""),
+    ("rmattr --block=512 a.img /x 74", 0, 1, "lfsed: 30 NotFound\n", ""),
+    ("setattr --block=512 a.img /x/y 74 01", 0, 1, "lfsed: 30 NotFound\n", ""),
+    ("rmattr --block=512 a.img /x/y 74", 0, 1, "lfsed: 30 NotFound\n", ""),
+    ("setattr --block=512 a.img  74 01", 0, 1, "lfsed: 35 BadPath\n", ""),
+    ("rmattr --block=512 a.img  74", 0, 1, "lfsed: 35 BadPath\n", ""),
+    ("setattr --block=512 a.img a 74 01", 0, 1, "lfsed: 35 BadPath\n", ""),
+    ("rmattr --block=512 a.img a 74", 0, 1, "lfsed: 35 BadPath\n", ""),
+    ("setattr --block=512 a.img -a 74 01", 0, 1, "lfsed: 35 BadPath\n", ""),
+    ("rmattr --block=512 a.img -a 74", 0, 1, "lfsed: 35 BadPath\n", ""),
+    ("setattr --block=512 a.img /a/ 74 01", 0, 1, "lfsed: 35 BadPath\n", ""),
+    ("rmattr --block=512 a.img /a/ 74", 0, 1, "lfsed: 35 BadPath\n", ""),
+    ("setattr --block=512 a.img // 74 01", 0, 1, "lfsed: 35 BadPath\n", ""),
+    ("rmattr --block=512 a.img // 74", 0, 1, "lfsed: 35 BadPath\n", ""),
+    ("setattr --block=512 a.img /. 74 01", 0, 1, "lfsed: 35 BadPath\n", ""),
+    ("rmattr --block=512 a.img /. 74", 0, 1, "lfsed: 35 BadPath\n", ""),
+    ("setattr --block=512 a.img /.. 74 01", 0, 1, "lfsed: 35 BadPath\n", ""),
+    ("rmattr --block=512 a.img /.. 74", 0, 1, "lfsed: 35 BadPath\n", ""),
+]
+
+# An attribute of the root is set.
+SET = [
+    ("setattr --block=512 a.img / 74 0102", 0, 0, "", ""),
+]
+
+# It is removed.
+REMOVE = [
+    ("rmattr --block=512 a.img / 74", 0, 0, "", ""),
+]
+
+# What is said of it then.
+REMOVED = [
+    ("rmattr --block=512 a.img / 74", 0, 1, "lfsed: 39 NoAttr\n", ""),
+    ("check --block=512 a.img", 0, 0, "", "block 512, count 8, free 6, directories 1, files 0\n"),
+]
+
+# What is moved goes with what is below.
+MOVED = [
+    ("mkdir --block=512 a.img /a", 0, 0, "", ""),
+    ("put --block=512 a.img /a/x", 65, 0, "", ""),
+    ("check --block=512 a.img", 0, 0, "", "block 512, count 8, free 3, directories 2, files 1\n"),
+    ("mv --block=512 a.img /a /z", 0, 0, "", ""),
+    ("cat --block=512 a.img /z/x", 0, 0, "", 65),
+    ("cat --block=512 a.img /a/x", 0, 1, "lfsed: 30 NotFound\n", ""),
+    ("mv --block=512 a.img /z/x /-x", 0, 0, "", ""),
+    ("cat --block=512 a.img /-x", 0, 0, "", 65),
+    ("check --block=512 a.img", 0, 0, "", "block 512, count 8, free 3, directories 2, files 1\n"),
+    ("rm --block=512 a.img /z", 0, 0, "", ""),
+    ("rm --block=512 a.img /-x", 0, 0, "", ""),
+    ("cat --block=512 a.img /-x", 0, 1, "lfsed: 30 NotFound\n", ""),
+    ("check --block=512 a.img", 0, 0, "", "block 512, count 8, free 6, directories 1, files 0\n"),
+]
+
+# What is refused of directories.
+NOT_MOVED = [
+    ("mkdir --block=512 a.img /a", 0, 0, "", ""),
+    ("mkdir --block=512 a.img /a", 0, 1, "lfsed: 31 Exists\n", ""),
+    ("mkdir --block=512 a.img /", 0, 1, "lfsed: 41 IsRoot\n", ""),
+    ("mkdir --block=512 a.img a", 0, 1, "lfsed: 35 BadPath\n", ""),
+    ("mkdir --block=512 a.img /b/c", 0, 1, "lfsed: 30 NotFound\n", ""),
+    ("put --block=512 a.img /a/x", 3, 0, "", ""),
+    ("rm --block=512 a.img /a", 0, 1, "lfsed: 34 NotEmpty\n", ""),
+    ("rm --block=512 a.img /", 0, 1, "lfsed: 41 IsRoot\n", ""),
+    ("mv --block=512 a.img /a /a/b", 0, 1, "lfsed: 40 IntoItself\n", ""),
+    ("mv --block=512 a.img /a/x /a", 0, 1, "lfsed: 31 Exists\n", ""),
+    ("mv --block=512 a.img /a/x /a/x/y", 0, 1, "lfsed: 40 IntoItself\n", ""),
+    ("mv --block=512 a.img /b /c", 0, 1, "lfsed: 30 NotFound\n", ""),
+]
+
+# Digits that are none are refused before files are read.
+BAD_DIGITS = [
+    ("setattr a.img / 74 0", 0, 2, "lfsed: 64 BadHex\n", ""),
+    ("setattr a.img / 74 0g", 0, 2, "lfsed: 64 BadHex\n", ""),
+    ("setattr a.img / 74 -1", 0, 2, "lfsed: 64 BadHex\n", ""),
+    ("setattr a.img / 7 00", 0, 2, "lfsed: 64 BadHex\n", ""),
+    ("setattr a.img / 7x 00", 0, 2, "lfsed: 64 BadHex\n", ""),
+    ("setattr a.img /  ", 0, 2, "lfsed: 64 BadHex\n", ""),
+    ("rmattr a.img / 7", 0, 2, "lfsed: 64 BadHex\n", ""),
+    ("rmattr a.img / x7", 0, 2, "lfsed: 64 BadHex\n", ""),
+    ("rmattr a.img / 0x74", 0, 2, "lfsed: 64 BadHex\n", ""),
+    ("rmattr a.img / -7", 0, 2, "lfsed: 64 BadHex\n", ""),
+]
+
+# Good digits and any path, where there is no image.
+NO_IMAGE = [
+    ("setattr a.img / 7F ", 0, 4, "lfsed: 60 CannotRead\n", ""),
+    ("setattr a.img -a 7f 0Aff", 0, 4, "lfsed: 60 CannotRead\n", ""),
+    ("setattr a.img  00 00", 0, 4, "lfsed: 60 CannotRead\n", ""),
+    ("rmattr a.img -a Ff", 0, 4, "lfsed: 60 CannotRead\n", ""),
+]
+
+# Command lines that are refused, and how what is complained begins.
+USAGE = [
+    ("explain 22", "error: invalid value '22' for '<NUMBER>': no fault has this number\n\nFor more information, try '--help'.\n"),
+    ("", "error: 'lfsed' requires a subcommand but one was not provided\n"),
+    ("frob", "error: unrecognized subcommand 'frob'\n"),
+    ("check -b 260 a.img", "error: invalid value '260' for '--block <BYTES>': 260 is not a multiple of 16\n\nFor more information, try '--help'.\n"),
+    ("format a.img", "error: the following required arguments were not provided:\n  --count <N>\n"),
+    ("format --count 8", "error: the following required arguments were not provided:\n  <IMAGE>\n"),
+    ("format --count 1 a.img", "error: invalid value '1' for '--count <N>': 1 is not in 2..=65536\n"),
+    ("format --count eight a.img", "error: invalid value 'eight' for '--count <N>': invalid digit found in string\n"),
+    ("format --block 255 --count 8 a.img", "error: invalid value '255' for '--block <BYTES>': 255 is not in 256..=65536\n"),
+    ("check --block 65537 a.img", "error: invalid value '65537' for '--block <BYTES>': 65537 is not in 256..=65536\n"),
+    ("check a.img b.img", "error: unexpected argument 'b.img' found\n"),
+    ("mkdir a.img", "error: the following required arguments were not provided:\n  <PATH>\n"),
+    ("rm a.img /a /b", "error: unexpected argument '/b' found\n"),
+    ("mv a.img /a", "error: the following required arguments were not provided:\n  <TO>\n"),
+    ("setattr a.img / 74", "error: the following required arguments were not provided:\n  <HEX>\n"),
+    ("rmattr a.img /", "error: the following required arguments were not provided:\n  <KIND>\n"),
+    ("rmattr a.img / 74 00", "error: unexpected argument '00' found\n"),
+    ("setattr --block 255 a.img / 7 0", "error: invalid value '255' for '--block <BYTES>': 255 is not in 256..=65536\n"),
+    ("undo a.img", "error: unrecognized subcommand 'undo'\n"),
+    ("redo a.img", "error: unrecognized subcommand 'redo'\n"),
+    ("forget a.img", "error: unrecognized subcommand 'forget'\n"),
+]
+
+# Help, the version and an explanation.
+HELPS = [
+    ("explain 41", 0, 0, "", "41 IsRoot\nThe root can't be made, put, moved or removed.\n"),
+    ("--help", 0, 0, "", "Edit littlefs images of disk version 2.0\n\nUsage: lfsed <COMMAND>\n\nCommands:\n  format   Write a new image, in place of a file of this name\n  check    Judge an image; print its geometry, free blocks, directories and files\n  cat      Print the contents of a file\n  mkdir    Make a directory\n  put      Put a file, in place of one of this path; its contents are read from standard input\n  rm       Remove a file or an empty directory\n  mv       Move a file, or a directory with all that is below it\n  setattr  Set an attribute of a file or a directory\n  rmattr   Remove an attribute of a file or a directory\n  explain  Say what a fault means, and what to do\n  help     Print this message or the help of the given subcommand(s)\n\nOptions:\n  -h, --help     Print help\n  -V, --version  Print version\n\nStatus: 0 done; 1 the change is refused; 2 the command line is refused;\n3 the image is refused; 4 out of memory, or a file is not read or written.\n"),
+    ("help", 0, 0, "", "Edit littlefs images of disk version 2.0\n\nUsage: lfsed <COMMAND>\n\nCommands:\n  format   Write a new image, in place of a file of this name\n  check    Judge an image; print its geometry, free blocks, directories and files\n  cat      Print the contents of a file\n  mkdir    Make a directory\n  put      Put a file, in place of one of this path; its contents are read from standard input\n  rm       Remove a file or an empty directory\n  mv       Move a file, or a directory with all that is below it\n  setattr  Set an attribute of a file or a directory\n  rmattr   Remove an attribute of a file or a directory\n  explain  Say what a fault means, and what to do\n  help     Print this message or the help of the given subcommand(s)\n\nOptions:\n  -h, --help     Print help\n  -V, --version  Print version\n\nStatus: 0 done; 1 the change is refused; 2 the command line is refused;\n3 the image is refused; 4 out of memory, or a file is not read or written.\n"),
+    ("help mv", 0, 0, "", "Move a file, or a directory with all that is below it\n\nUsage: lfsed mv [OPTIONS] <IMAGE> <FROM> <TO>\n\nArguments:\n  <IMAGE>  File of the image\n  <FROM>   Path of what is moved, from / on\n  <TO>     Path that it gets, from / on; nothing may be there\n\nOptions:\n  -b, --block <BYTES>  Size of a block, a multiple of 16 from 256 to 65536 [default: 4096]\n  -h, --help           Print help\n"),
+    ("--version", 0, 0, "", "lfsed 0.1.0\n"),
+    ("-V", 0, 0, "", "lfsed 0.1.0\n"),
+    ("format --help", 0, 0, "", "Write a new image, in place of a file of this name\n\nUsage: lfsed format [OPTIONS] --count <N> <IMAGE>\n\nArguments:\n  <IMAGE>  File of the image\n\nOptions:\n  -b, --block <BYTES>  Size of a block, a multiple of 16 from 256 to 65536 [default: 4096]\n      --count <N>      Number of blocks, from 2 to 65536; at most 67108864 bytes in all\n  -h, --help           Print help\n"),
+    ("check --help", 0, 0, "", "Judge an image; print its geometry, free blocks, directories and files\n\nUsage: lfsed check [OPTIONS] <IMAGE>\n\nArguments:\n  <IMAGE>  File of the image\n\nOptions:\n  -b, --block <BYTES>  Size of a block, a multiple of 16 from 256 to 65536 [default: 4096]\n  -h, --help           Print help\n"),
+    ("cat --help", 0, 0, "", "Print the contents of a file\n\nUsage: lfsed cat [OPTIONS] <IMAGE> <PATH>\n\nArguments:\n  <IMAGE>  File of the image\n  <PATH>   Path of a file or a directory in the image, from / on\n\nOptions:\n  -b, --block <BYTES>  Size of a block, a multiple of 16 from 256 to 65536 [default: 4096]\n  -h, --help           Print help\n"),
+    ("mkdir --help", 0, 0, "", "Make a directory\n\nUsage: lfsed mkdir [OPTIONS] <IMAGE> <PATH>\n\nArguments:\n  <IMAGE>  File of the image\n  <PATH>   Path of a file or a directory in the image, from / on\n\nOptions:\n  -b, --block <BYTES>  Size of a block, a multiple of 16 from 256 to 65536 [default: 4096]\n  -h, --help           Print help\n"),
+    ("put --help", 0, 0, "", "Put a file, in place of one of this path; its contents are read from standard input\n\nUsage: lfsed put [OPTIONS] <IMAGE> <PATH>\n\nArguments:\n  <IMAGE>  File of the image\n  <PATH>   Path of a file or a directory in the image, from / on\n\nOptions:\n  -b, --block <BYTES>  Size of a block, a multiple of 16 from 256 to 65536 [default: 4096]\n  -h, --help           Print help\n"),
+    ("rm --help", 0, 0, "", "Remove a file or an empty directory\n\nUsage: lfsed rm [OPTIONS] <IMAGE> <PATH>\n\nArguments:\n  <IMAGE>  File of the image\n  <PATH>   Path of a file or a directory in the image, from / on\n\nOptions:\n  -b, --block <BYTES>  Size of a block, a multiple of 16 from 256 to 65536 [default: 4096]\n  -h, --help           Print help\n"),
+    ("mv --help", 0, 0, "", "Move a file, or a directory with all that is below it\n\nUsage: lfsed mv [OPTIONS] <IMAGE> <FROM> <TO>\n\nArguments:\n  <IMAGE>  File of the image\n  <FROM>   Path of what is moved, from / on\n  <TO>     Path that it gets, from / on; nothing may be there\n\nOptions:\n  -b, --block <BYTES>  Size of a block, a multiple of 16 from 256 to 65536 [default: 4096]\n  -h, --help           Print help\n"),
+    ("setattr --help", 0, 0, "", "Set an attribute of a file or a directory\n\nUsage: lfsed setattr [OPTIONS] <IMAGE> <PATH> <KIND> <HEX>\n\nArguments:\n  <IMAGE>  File of the image\n  <PATH>   Path of a file or a directory in the image, from / on\n  <KIND>   Kind of the attribute, in two hexadecimal digits\n  <HEX>    Value of the attribute, in two hexadecimal digits for each byte; may be empty\n\nOptions:\n  -b, --block <BYTES>  Size of a block, a multiple of 16 from 256 to 65536 [default: 4096]\n  -h, --help           Print help\n"),
+    ("rmattr --help", 0, 0, "", "Remove an attribute of a file or a directory\n\nUsage: lfsed rmattr [OPTIONS] <IMAGE> <PATH> <KIND>\n\nArguments:\n  <IMAGE>  File of the image\n  <PATH>   Path of a file or a directory in the image, from / on\n  <KIND>   Kind of the attribute, in two hexadecimal digits\n\nOptions:\n  -b, --block <BYTES>  Size of a block, a multiple of 16 from 256 to 65536 [default: 4096]\n  -h, --help           Print help\n"),
+]
+
+
+def contents(length):
+    """The contents of a file, as they come from standard input."""
+    return bytes(n % 251 for n in range(length))
+
+
+class Folder:
+    """A folder with an image, in which rows are run, and how many of them were right and wrong."""
+
+    def __init__(self):
+        self.room = tempfile.TemporaryDirectory()
+        self.image = pathlib.Path(self.room.name) / "a.img"
+        self.right = self.wrong = 0
+
+    def be(self, front, length):
+        """Makes the image these bytes, with 0xff behind them up to a length."""
+        self.image.write_bytes(front.ljust(length, b"\xff"))
+
+    def run(self, words, length=0):
+        """Runs the program; answers its status, what it complained and what it printed."""
+        command = [HOME / "crates/lfsed/out/lfsed", *words.split(" ")] if words else [HOME / "crates/lfsed/out/lfsed"]
+        ended = subprocess.run(command, cwd=self.room.name, input=contents(length), capture_output=True, timeout=60)
+        return ended.returncode, ended.stderr.decode(), ended.stdout
+
+    def check(self, what, is_right, found=""):
+        """Counts one thing that is to be so."""
+        self.right, self.wrong = self.right + is_right, self.wrong + (not is_right)
+        if not is_right:
+            print(f"wrong: {what}: {found}")
+
+    def old(self):
+        """The image's bytes, where there is one."""
+        return self.image.read_bytes() if self.image.exists() else None
+
+    def play(self, rows):
+        """Runs rows one after another. Where one is refused the image stays as it was, and no other file is there."""
+        for words, length, status, complaint, printed in rows:
+            before = self.old()
+            ended = self.run(words, length)
+            wanted = printed.encode() if isinstance(printed, str) else contents(printed)
+            self.check(words, ended == (status, complaint, wanted), ended)
+            files = [self.image] if self.old() is not None else []
+            kept = (status == 0 or self.old() == before) and list(self.image.parent.iterdir()) == files
+            self.check(f"{words}: files", kept)
+
+    def begins(self, words, front):
+        """Runs words that are refused, and compares how what is complained begins."""
+        status, complained, printed = self.run(words)
+        self.check(words or "no words", status == 2 and complained.startswith(front) and not printed, complained)
+
+    def holds(self, what, at, part):
+        """Whether bytes stand at a place of the image."""
+        self.check(f"{what}: at {at}", self.old()[at:].startswith(part), self.old()[at:][:len(part)])
+
+
+def verdicts(folder):
+    for front, length, row in JUDGED:
+        folder.be(front, length)
+        folder.play([row])
+    for rows, length in (EIGHT, 4_096), (TWO, 1_024):
+        folder.image.unlink()
+        folder.play(rows)
+        folder.check("length", len(folder.old()) == length)
+    folder.be(b"old", 3)
+    folder.play([("format --block=512 --count=8 a.img", 0, 0, "", "")])
+    folder.check("an old image is replaced", folder.old() == NEW.ljust(4_096, b"\xff"))
+    folder.be(TO_ITSELF.ljust(1_536, b"\xff") + b"\3\0\0\0", 4_096)
+    folder.play(CIRCLE)
+    folder.be(EMPTY_WITH_HEAD, 4_096)
+    folder.play(EMPTY)
+    folder.check("the head stays", b"\x09\0\0\0\0\0\0\0" in folder.old()[512:])
+    folder.image.unlink()
+    folder.play(TOO_MANY)
+
+
+def files(folder):
+    for rows in [*INLINE, REPLACED, NOT_READ, NOT_PUT]:
+        folder.be(NEW, 4_096)
+        folder.play(rows)
+    folder.be(NEW, 4_096)
+    folder.play(FULL)
+    folder.check("head and size", bytes([7, 0, 0, 0, 0xE0, 0x0B, 0, 0]) in folder.old()[512:])
+    folder.holds("pointers", 3_072, bytes([5, 0, 0, 0, 4, 0, 0, 0, 2, 0, 0, 0]))
+    folder.holds("pointers", 3_584, bytes([6, 0, 0, 0]))
+    folder.be(NEW, 4_096)
+    folder.play(NAMES)
+    for at, part in (512, bytes([4, 0, 0, 0])), (560, b"ab"), (570, b"a"), (579, b"b"):
+        folder.holds("names in order", at, part)
+    folder.be(SHORT_NAMES, 4_096)
+    folder.play(LIMITED)
+    folder.holds("names are limited", 544, bytes([3, 0, 0, 0]))
+    folder.image.unlink()
+    folder.play([("format --block=256 --count=4 a.img", 0, 0, "", "")])
+    for name, status, said in (80 * "a", 0, ""), (80 * "c", 0, ""), (130 * "b", 1, "lfsed: 43 NoSpace need 4 free 2\n"):
+        folder.play([(f"put --block=256 a.img /{name}", 0, status, said, "")])
+
+
+def changes(folder):
+    folder.be(NEW, 4_096)
+    folder.play(REFUSED)
+    folder.play(SET)
+    folder.holds("block 0", 0, NEW)
+    folder.holds("block 1", 512, WITH_ATTRIBUTE)
+    folder.play(REMOVE)
+    folder.holds("block 0", 0, WITHOUT_ATTRIBUTE)
+    folder.holds("block 1", 512, WITH_ATTRIBUTE)
+    folder.play(REMOVED)
+    for rows in MOVED, NOT_MOVED, BAD_DIGITS:
+        folder.be(NEW, 4_096)
+        folder.play(rows)
+
+
+def command_lines(folder):
+    folder.play([*BAD_DIGITS, *HELPS])
+    for words, length, status, complaint, printed in NO_IMAGE:
+        ended = folder.run(words, length)
+        folder.check(words, ended[0] == status and ended[1].startswith(complaint) and ended[2] == printed.encode(), ended)
+    for words, front in USAGE:
+        folder.begins(words, front)
+
+
+def main():
+    subprocess.run([HOME / "bin/lfsed", "--help"], stdout=subprocess.DEVNULL, check=True)
+    right = wrong = 0
+    for scene in verdicts, files, changes, command_lines:
+        folder = Folder()
+        scene(folder)
+        right, wrong = right + folder.right, wrong + folder.wrong
+    print(f"{right} passed, {wrong} failed")
+    return 1 if wrong else 0
+
+
+sys.exit(main())
