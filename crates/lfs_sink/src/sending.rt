@@ -13,6 +13,7 @@ pub fn send<S: Sink>(out: &mut S, text: &[u8]) -> bool
     requires { S.failed out.old ≡ false }
     ensures sent { Sends result (S.sent out.old) (S.sent out.new) text.now }
     ensures failed { S.failed out.new ≡ not result }
+    ensures kept { S.kept out.new ≡ S.kept out.old }
 {
     let mut rest = text;
     'rest: while !rest.is_empty() {

@@ -3,13 +3,18 @@
 ghost use Rattle.std.specs.Prelude.{◌≡◌, ℕ, ◌<◌, ◌≤◌, Bool, false, List, Option, length, take, IfSome, MatchOption, is_none};
 ghost use Rattle.std.specs.Io.KnownBytes.{Appends, Keeps};
 
-/// What takes bytes. Its meaning is the bytes that went out so far, where they are known, and whether it has failed.
+/// What takes bytes. Its meaning is the bytes that went out so far, where they are known, whether it has failed, and what
+/// no write changes of it.
 ///
 /// Source: own.
 pub trait Sink {
     ghost sent: { Self → Option (List ℕ) };
 
     ghost failed: { Self → Bool };
+
+    ghost Kept: { Type 0 } = { Unit {0} };
+
+    ghost kept: { Self → Self.Kept };
 
     /// Sends the first bytes of `bytes`, at least one, and answers how many, or has failed and sends none. The caller
     /// owes a byte, and that it has not failed before.
@@ -19,5 +24,6 @@ pub trait Sink {
         ensures count { IfSome result (λ n. (0 < n) × (n ≤ length bytes.now)) }
         ensures sent { MatchOption result (Keeps (sent self.old) (sent self.new))
             (λ n. Appends (sent self.old) (sent self.new) (take n bytes.now)) }
-        ensures failed { failed self.new ≡ is_none result };
+        ensures failed { failed self.new ≡ is_none result }
+        ensures kept { kept self.new ≡ kept self.old };
 }

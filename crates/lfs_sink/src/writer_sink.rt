@@ -49,6 +49,8 @@ impl<W: Write> Sink for Out<W> {
 
     ghost failed = { λ out. out.has_failed };
 
+    ghost kept = { λ _. tt };
+
     fn write(&mut self, bytes: &[u8]) -> Option<usize> {
         'tries: for _ in 0..u64::MAX {
             match self.writer.write(bytes) {

@@ -6,4 +6,8 @@ pub mod Deed
 pub mod Outcome
 pub mod Summary
 pub mod Task
+pub mod Files
+pub mod Kind
+pub mod Program
+pub mod Words
 pub mod Laws

@@ -1,5 +1,10 @@
 //! The command line.
 
+ghost use Rattle.std.specs.Prelude.{IfSome};
+ghost use Rattle.clap.specs.Words.{found_of};
+ghost use Rattle.lfsed.specs.Words.{IsTask, IsWish};
+
+use crate::request::{Request, Wish};
 use crate::task::Task;
 use clap::{Arg, ArgMatches, Command, value_parser};
 use std::alloc::{AllocError, Global};
@@ -10,33 +15,6 @@ const VERSION: &str = "0.1.0";
 /// What the statuses mean.
 const STATUSES: &str = "Status: 0 done; 1 the change is refused; 2 the command line is refused;
 3 the image is refused; 4 out of memory, or a file is not read or written.";
-
-/// What a command line asks for.
-///
-/// Source: own.
-#[derive(Drop)]
-pub enum Wish<'a> {
-    /// What the fault of a number means.
-    Explanation {
-        /// The number.
-        number: u32,
-    },
-    /// A step on an image.
-    Step(Request<'a>),
-}
-
-/// What is asked for on an image.
-///
-/// Source: own.
-#[derive(Drop)]
-pub struct Request<'a> {
-    /// What is to be done.
-    pub task: Task<'a>,
-    /// The block size, in bytes.
-    pub size: u32,
-    /// The image's file name.
-    pub image: &'a str,
-}
 
 /// What a command takes on its command line.
 #[derive(Clone, Copy)]
@@ -218,7 +196,9 @@ pub fn command_line<'a>(alloc: Global) -> Result<Command<'a>, AllocError> {
 }
 
 /// What a command's words ask to be done.
-fn task_of<'a>(name: &str, options: &ArgMatches<'a>) -> Option<Task<'a>> {
+fn task_of<'a>(name: &str, options: &ArgMatches<'a>) -> Option<Task<'a>>
+    ensures { IfSome result (λ task. IsTask task name.now (found_of options.now)) }
+{
     Some(match name {
         "format" => Task::Format {
             count: options.get_one::<u32>("count")?,
@@ -248,12 +228,15 @@ fn task_of<'a>(name: &str, options: &ArgMatches<'a>) -> Option<Task<'a>> {
             path: options.get_str("path")?,
             kind: options.get_str("kind")?,
         },
-        _ => Task::Check,
+        "check" => Task::Check,
+        _ => return None,
     })
 }
 
 /// What the words that were matched ask for. `None` where they ask for nothing.
-pub fn wished<'a>(matches: &ArgMatches<'a>) -> Option<Wish<'a>> {
+pub fn wished<'a>(matches: &ArgMatches<'a>) -> Option<Wish<'a>>
+    ensures { IfSome result (λ wish. IsWish wish matches.now) }
+{
     let (name, options) = matches.subcommand()?;
     if name == "explain" {
         return Some(Wish::Explanation {

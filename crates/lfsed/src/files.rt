@@ -121,8 +121,14 @@ pub fn replace(rt: &HostRuntime, from: &str, to: &str) -> io::Result<()> {
     fs::rename(rt, from, to)
 }
 
-/// Gives a file a name that no file has.
+/// Gives a file a name that no file has. Where its own can't be taken away it keeps that alone.
 pub fn name_anew(rt: &HostRuntime, from: &str, to: &str) -> io::Result<()> {
     fs::hard_link(rt, from, to)?;
-    fs::remove_file(rt, from)
+    match fs::remove_file(rt, from) {
+        Ok(()) => Ok(()),
+        Err(error) => {
+            let _ = fs::remove_file(rt, to);
+            Err(error)
+        }
+    }
 }

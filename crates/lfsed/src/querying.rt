@@ -34,6 +34,7 @@ pub fn queried<S: Sink>(
     ensures answers { AnswersQuery result.fault query.now size image.items journal.items result }
     ensures sent { SendsQuery query.now size image.items result.fault (S.sent out.old) (S.sent out.new) }
     ensures failed { S.failed out.new ≡ blames_output result.fault }
+    ensures kept { S.kept out.new ≡ S.kept out.old }
     ensures status { result.status ≡ status_of result.fault }
 {
     match Image::new(image, size) {
@@ -56,6 +57,7 @@ fn report<S: Sink>(
     ensures refused { IfErr result (λ fault. RefusesReport query.now image.now fault) }
     ensures sent { SendsReport query.now image.now (result_err result) (S.sent out.old) (S.sent out.new) }
     ensures failed { S.failed out.new ≡ blames_output (result_err result) }
+    ensures kept { S.kept out.new ≡ S.kept out.old }
 {
     let text = answer(alloc, query, image)?;
     if send(out, text.as_slice()) {

@@ -38,6 +38,7 @@ pub fn run<S: Sink>(
     ensures answers { Answers (deed_of step.now input.now) (given size image.items journal.items) result }
     ensures sent { SendsText (deed_of step.now input.now) (given size image.items journal.items) result.fault (S.sent out.old) (S.sent out.new) }
     ensures failed { S.failed out.new ≡ blames_output result.fault }
+    ensures kept { S.kept out.new ≡ S.kept out.old }
     ensures status { result.status ≡ status_of result.fault }
 {
     changed_bytes_are_equations();

@@ -15,6 +15,10 @@ pub struct Stop {
 }
 
 impl From<Fault> for Stop {
+    ghost use Rattle.std.specs.Prelude.{◌≡◌};
+
+    ghost from_gives = { λ fault stop. stop.fault ≡ fault };
+
     fn from(fault: Fault) -> Stop {
         Stop {
             fault,
@@ -24,6 +28,12 @@ impl From<Fault> for Stop {
 }
 
 impl From<AllocError> for Stop {
+    ghost use Rattle.std.specs.Prelude.{◌≡◌};
+    ghost use Rattle.lfs_command.specs.declared.refusal.Refusal.TheVariants.{Memory};
+    ghost use Rattle.lfsed.specs.declared.fault.Fault.TheVariants.{Refused};
+
+    ghost from_gives = { λ error stop. stop.fault ≡ Refused Memory };
+
     fn from(error: AllocError) -> Stop {
         Stop::from(Fault::from(error))
     }

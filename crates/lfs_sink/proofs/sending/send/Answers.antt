@@ -16,4 +16,5 @@ rest-preserved g c =
       c.split_at.ensures.back ∙ ap (drop k) at ∙ drop-drop k n text,
       sends_more _ _ _ text c.rest.rest.now n k at c.rest.invariant.3 c.in-Some.ensures.sent,
       search rules,
+      c.in-Some.ensures.kept ∙ c.rest.invariant.5,
     )
