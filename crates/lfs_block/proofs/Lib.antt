@@ -1,5 +1,7 @@
+pub mod ChangeLemmas
 pub mod ChecksumLemmas
 pub mod DiskLemmas
 pub mod PatchLemmas
+pub mod OverlayLemmas
 pub mod PutLemmas
 pub mod WritingLemmas

@@ -13,15 +13,19 @@ use Rattle.lfs_block.proofs.PutLemmas.{block_of-put, block_of-put_other, put-is_
 
 -- ---- each of some changes
 
-each-both : (P Q R : Change → Type 0) → ((c : Change) → P c → Q c → R c) → (cs : List Change) → AllByRecursion P cs → AllByRecursion Q cs → AllByRecursion R cs
+pub each-both : (P Q R : Change → Type 0) → ((c : Change) → P c → Q c → R c) → (cs : List Change) → AllByRecursion P cs → AllByRecursion Q cs → AllByRecursion R cs
 each-both P Q R join [] these those = tt
 each-both P Q R join (c ∷ cs) these those = (join c these.0 those.0, each-both P Q R join cs these.1 those.1)
 
-each-flipped : (P Q : Change → Type 0) → ((c : Change) → P c → Q (flip c)) → (cs : List Change) → AllByRecursion P cs → AllByRecursion Q (map flip cs)
+pub each-one : (P Q : Change → Type 0) → ((c : Change) → P c → Q c) → (cs : List Change) → AllByRecursion P cs → AllByRecursion Q cs
+each-one P Q turn [] each = tt
+each-one P Q turn (c ∷ cs) each = (turn c each.0, each-one P Q turn cs each.1)
+
+pub each-flipped : (P Q : Change → Type 0) → ((c : Change) → P c → Q (flip c)) → (cs : List Change) → AllByRecursion P cs → AllByRecursion Q (map flip cs)
 each-flipped P Q turn [] each = tt
 each-flipped P Q turn (c ∷ cs) each = (turn c each.0, each-flipped P Q turn cs each.1)
 
-each-unflipped : (P Q : Change → Type 0) → ((c : Change) → Q (flip c) → P c) → (cs : List Change) → AllByRecursion Q (map flip cs) → AllByRecursion P cs
+pub each-unflipped : (P Q : Change → Type 0) → ((c : Change) → Q (flip c) → P c) → (cs : List Change) → AllByRecursion Q (map flip cs) → AllByRecursion P cs
 each-unflipped P Q turn [] each = tt
 each-unflipped P Q turn (c ∷ cs) each = (turn c each.0, each-unflipped P Q turn cs each.1)
 
@@ -31,11 +35,11 @@ flip-twice : (cs : List Change) → map flip (map flip cs) ≡ cs
 flip-twice [] = refl
 flip-twice (c ∷ cs) = ap (λ (es : List Change). c ∷ es) (flip-twice cs)
 
-flip-rising : (cs : List Change) → IsRising cs → IsRising (map flip cs)
+pub flip-rising : (cs : List Change) → IsRising cs → IsRising (map flip cs)
 flip-rising [] rising = tt
 flip-rising (c ∷ cs) rising = (each-flipped (λ e. c.number < e.number) (λ e. c.number < e.number) (λ e lt. lt) cs rising.0, flip-rising cs rising.1)
 
-flip-whole : (size : ℕ) (c : Change) → IsBlockChange size c → IsBlockChange size (flip c)
+pub flip-whole : (size : ℕ) (c : Change) → IsBlockChange size c → IsBlockChange size (flip c)
 flip-whole size c whole = record { old = whole.new; new = whole.old; old_bytes = whole.new_bytes; new_bytes = whole.old_bytes }
 
 pub flipped-twice : (p : ChangeSet) → flipped (flipped p) ≡ p

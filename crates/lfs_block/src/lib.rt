@@ -9,11 +9,13 @@ mod geometry;
 mod image;
 mod image_fault;
 mod mount_fault;
+mod overlay;
 mod patch;
 mod patch_laws;
 #[cfg(test)]
 mod patch_tests;
 mod record;
+mod side;
 #[cfg(test)]
 mod tests;
 
@@ -23,10 +25,11 @@ pub use geometry::{MAX_IMAGE_LENGTH, geometry_ok};
 pub use image::Image;
 pub use image_fault::ImageFault;
 pub use mount_fault::MountFault;
+pub use overlay::Overlay;
 pub use patch::Patch;
 pub use patch_laws::{
-    applied_patches_change_their_blocks, applied_patches_revert, changes_change_their_blocks,
-    flipped_patches_are_patches, images_are_their_blocks, put_blocks_stand,
-    reverted_patches_apply_again,
+    agreeing_patches_fit, applied_patches_change_their_blocks, applied_patches_revert,
+    changes_change_their_blocks, flipped_patches_are_patches, images_are_their_blocks,
+    put_blocks_stand, reverted_patches_apply_again,
 };
 pub use record::Record;

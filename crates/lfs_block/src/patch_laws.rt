@@ -1,5 +1,6 @@
 //! What holds of every change of an image. A function here does nothing: its contract is the law.
 
+ghost use Rattle.lfs_block.specs.OverlayLaws.{AgreedNewFits, AgreedOldFits};
 ghost use Rattle.lfs_block.specs.PatchLaws.{AppliedAgrees, AppliedBlocks, AppliedIsDisk, AppliedRevertsBack, BlockPut, BlockPutOther, ChangedBlocks, ChangedIsDisk, DisksAreTheirBlocks, FlippedIsPatch, FlippedTwice, PatchFits, PutIsDisk, RevertedAgrees, RevertedAppliesAgain, RevertedIsDisk};
 
 /// Law: a block that is put into an image is the image's block of that number, the other blocks stay, and it is an
@@ -49,6 +50,12 @@ pub fn reverted_patches_apply_again()
     ensures again { RevertedAppliesAgain }
 {}
 
+/// Law: a patch that was made of an image, or that makes it, is one of blocks of the image's size and below its count.
+pub fn agreeing_patches_fit()
+    ensures old { AgreedOldFits }
+    ensures new { AgreedNewFits }
+{}
+
 #[cfg(test)]
 mod tests {
     use super::*;
@@ -62,5 +69,6 @@ mod tests {
         applied_patches_change_their_blocks();
         applied_patches_revert();
         reverted_patches_apply_again();
+        agreeing_patches_fit();
     }
 }

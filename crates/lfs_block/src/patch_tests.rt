@@ -3,8 +3,9 @@
 ghost use Rattle.std.specs.Prelude.{◌≡◌, ◌<◌, IfOk};
 ghost use Rattle.lfs_block.specs.Change.{IsBlockChange};
 
-use crate::{Blocks, Image, Patch, Record};
+use crate::{Blocks, Image, Overlay, Patch, Record, agreeing_patches_fit};
 use std::alloc::Global;
+use std::process::Abort;
 use std::test::Fail;
 
 /// The image of 1,024 bytes whose fourths are filled with these, cut into blocks of `size` bytes.
@@ -81,5 +82,28 @@ fn agrees_with_its_own_image(rt: HostRuntime) -> Result<(), Fail> {
         let patch = patch_of(rt.alloc(), 1, second)?;
         assert_eq!(rt; patch.agrees_old(&image), agrees, "{name}");
     }
+    Ok(())
+}
+
+/// Asserts that blocks are filled with these.
+fn are_filled(rt: &impl Abort, blocks: &impl Blocks, fills: [u8; 4]) {
+    assert_eq!(rt; blocks.size(), 256);
+    assert_eq!(rt; blocks.count(), 4);
+    for n in 0..blocks.count() {
+        let fill = fills.get(n as usize);
+        assert!(rt; blocks.block(n).iter().all(|byte| Some(byte) == fill));
+    }
+}
+
+#[test]
+fn overlays_show_what_patches_make(rt: HostRuntime) -> Result<(), Fail> {
+    agreeing_patches_fit();
+    let patch = patch_of(rt.alloc(), 1, 3)?;
+    let old = image_of(rt.alloc(), [0, 1, 2, 3], 256)?;
+    assert!(rt; patch.agrees_old(&old));
+    are_filled(&rt, &Overlay::after(&old, &patch), [0, 8, 2, 9]);
+    let new = image_of(rt.alloc(), [0, 8, 2, 9], 256)?;
+    assert!(rt; patch.agrees_new(&new));
+    are_filled(&rt, &Overlay::before(&new, &patch), [0, 1, 2, 3]);
     Ok(())
 }

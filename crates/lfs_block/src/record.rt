@@ -1,5 +1,6 @@
 //! The change of one block.
 
+use crate::side::Side;
 use std::marker::Model;
 
 /// What one block holds before a command and after it.
@@ -21,4 +22,19 @@ impl Model for Record {
     ghost Value = { Change };
 
     ghost view = { λ r. record { number = r.number; old = r.old.items; new = r.new.items } };
+}
+
+impl Record {
+    ghost use Rattle.std.specs.Prelude.{◌≡◌};
+    ghost use Rattle.lfs_block.specs.Overlay.{side_of};
+
+    /// The block's bytes on one side of the change. Takes no memory.
+    pub(crate) fn side(&self, side: Side) -> &[u8]
+        ensures { result.now ≡ side_of side self.now }
+    {
+        match side {
+            Side::Old => &self.old,
+            Side::New => &self.new,
+        }
+    }
 }

@@ -1,0 +1,12 @@
+//! The two sides of a change.
+
+/// Before a change, or after it.
+///
+/// Source: own.
+#[derive(Clone, Copy, Debug, PartialEq, Eq)]
+pub enum Side {
+    /// Before it.
+    Old,
+    /// After it.
+    New,
+}
