@@ -13,8 +13,6 @@ mod joining;
 mod keeping;
 mod limits;
 mod listed_row;
-#[cfg(test)]
-mod logs;
 mod lone_superblock;
 mod marking;
 mod mounted;
@@ -44,8 +42,6 @@ mod sound_outlines;
 mod state;
 mod stored;
 mod superblock;
-#[cfg(test)]
-mod tests;
 mod thread;
 mod thread_pairs;
 mod thread_reading;

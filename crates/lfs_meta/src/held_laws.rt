@@ -24,15 +24,3 @@ pub fn held_parts_have_few_entries()
 {
     log_tags_are_few();
 }
-
-#[cfg(test)]
-mod tests {
-    use super::*;
-
-    #[test]
-    fn laws_of_what_is_held(_rt: HostRuntime) {
-        held_parts_are_whole();
-        held_parts_have_few_entries();
-        pairs_without_a_part_have_a_cause();
-    }
-}

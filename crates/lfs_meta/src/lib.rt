@@ -8,14 +8,10 @@ mod attribute_ref;
 mod attributes;
 mod body;
 mod body_ref;
-#[cfg(test)]
-mod count_tests;
 mod cutting;
 mod edits;
 mod entry;
 mod entry_draft;
-#[cfg(test)]
-mod entry_tests;
 mod held_laws;
 mod kind;
 mod laws;
@@ -23,16 +19,10 @@ mod live_block;
 mod name;
 mod part;
 mod part_draft;
-#[cfg(test)]
-mod part_tests;
 mod read;
 mod replay;
 mod runs;
 mod tail;
-#[cfg(test)]
-mod tail_tests;
-#[cfg(test)]
-mod tests;
 mod weighing;
 mod whole;
 mod writing;

@@ -32,18 +32,3 @@ pub fn lists_have_a_run<E>()
 pub fn runs_follow_weights<E, F>()
     ensures { RunsFollowWeights E F }
 {}
-
-#[cfg(test)]
-mod tests {
-    use super::*;
-
-    #[test]
-    fn laws_of_runs(_rt: HostRuntime) {
-        runs_are_greedy::<u8>();
-        runs_are_the_only_ones::<u8>();
-        runs_join::<u8>();
-        runs_behind_first::<u8>();
-        lists_have_a_run::<u8>();
-        runs_follow_weights::<u8, u16>();
-    }
-}

@@ -4,7 +4,7 @@ ghost use Rattle.std.specs.Prelude.{◌≡◌, ◌+◌, ◌<◌, ◌≤◌, ◌^
 ghost use Rattle.lfs_meta.specs.BodyHeld.{body_held};
 ghost use Rattle.lfs_meta.specs.Fits.{RiseFrom};
 ghost use Rattle.lfs_meta.specs.Spelling.{body_bytes};
-ghost use Rattle.lfs_meta.specs.Weighing.{attributes_weight, weight, weights};
+ghost use Rattle.lfs_meta.specs.Weighing.{attributes_weight, weight};
 
 use crate::attribute::Attribute;
 use crate::body::Body;
@@ -67,18 +67,4 @@ pub fn weight(entry: &Entry) -> u32
     let named = WORD_LEN + entry.name.len() as u32;
     let embodied = WORD_LEN + body_len(&entry.body) as u32;
     named + embodied + attributes_weight(&entry.attributes)
-}
-
-/// The bytes that entries take of a block. The caller owes at most 1,000 of them. Takes no memory.
-///
-/// Source: own.
-pub(crate) fn weights(entries: &[Entry]) -> u32
-    requires { length entries.now ≤ 1000 }
-    ensures { result ≡ weights entries.now }
-{
-    let mut sum = 0;
-    for entry in entries {
-        sum += weight(entry);
-    }
-    sum
 }

@@ -1,9 +1,8 @@
 //! Tails of which one number or both are null. The blocks' bytes were put together by a program of their own, tag by tag.
 
-use crate::part_tests::image_of;
-use crate::{Tail, read_pair};
+use crate::images::read;
 use lfs_block::MountFault;
-use std::alloc::Global;
+use lfs_meta::Tail;
 use std::test::Fail;
 
 // Revision 1: 0x00100001 `a`, 0x20100000, and the tail's tag.
@@ -40,19 +39,11 @@ const ROWS: [(&str, &[u8], Result<Tail, MountFault>); 6] = [
     ),
 ];
 
-// the tail of a part, or the fault
-fn tail_of(alloc: Global, log: &[u8]) -> Result<Result<Tail, MountFault>, Fail> {
-    let image = image_of(alloc, log, b"")?;
-    match read_pair(alloc, &image, (0, 1)) {
-        Ok(part) => Ok(Ok(part.tail)),
-        Err(fault) => Ok(Err(fault)),
-    }
-}
-
 #[test]
 fn tails_with_null_numbers(rt: HostRuntime) -> Result<(), Fail> {
-    for (case, log, tail) in ROWS {
-        assert_eq!(rt; tail_of(rt.alloc(), log)?, tail, "{case}");
+    for (case, log, wanted) in &ROWS {
+        let answer = read(rt.alloc(), log, b"")?;
+        assert_eq!(rt; answer.map(|part| part.tail), *wanted, "{case}");
     }
     Ok(())
 }

@@ -1,6 +1,6 @@
 use Rattle.std.proofs.Common.{◌≡◌, ◌≤◌, ◌*◌, take}
 use Rattle.lfs_meta.specs.Weighing.{weights}
-use Rattle.lfs_meta.proofs.weighing.weights.Given as goal
+use Rattle.lfs_read_tests.proofs.writing.weights.Given as goal
 
 abbrev pub invariant-loop-entry : goal.invariant-loop-entry
 invariant-loop-entry l = record {

@@ -1,0 +1,122 @@
+//! Pairs as they are written. The blocks' bytes were put together by a program of their own, tag by tag.
+
+ghost use Rattle.std.specs.Prelude.{◌≡◌, ◌≤◌, length};
+ghost use Rattle.lfs_meta.specs.Weighing.{weights};
+
+use crate::images::{block_of, pair_of, part_of, read};
+use lfs_block::{Blocks, Image, MountFault};
+use lfs_meta::{Entry, Tail, first_block, read_pair, rewrite, weight};
+use std::alloc::{AllocError, Global};
+use std::process::Abort;
+use std::test::Fail;
+
+// Revision 0xffffffff: a file `a` with a skip list and two attributes, a directory, a file `z` with contents.
+pub(crate) const THREE_ENTRIES: &[u8] = b"\
+    \xff\xff\xff\xff\xff\xef\xff\xfea 0\x00\x09\x07\x00\x00\x00\xe0\x0b\x00\x00\x11 \x00\x0bone\
+    \x06@\x00\x037`\x04\x03dir  \x00\x0b\x04\x00\x00\x00\x05\x00\x00\x00 \x10\x0c\x09z \x00\x00\
+    \x04hello\x10\x10\x00\x04\xff`\x0f\xf4\x06K=\xbb)\xff\xff\xff";
+// The same behind revision 0, with a hard tail of 6 and 7 and a delta.
+const REWRITTEN: &[u8] = b"\
+    \x00\x00\x00\x00\xff\xef\xff\xfea 0\x00\x09\x07\x00\x00\x00\xe0\x0b\x00\x00\x11 \x00\x0bone\
+    \x06@\x00\x037`\x04\x03dir  \x00\x0b\x04\x00\x00\x00\x05\x00\x00\x00 \x10\x0c\x09z \x00\x00\
+    \x04hello\x10\x10\x00\x04\xffP\x1f\xf4\x09\x06\x00\x00\x00\x07\x00\x00\x00\x1f\xe0\x00\x04\
+    \x00\x00\xf0O\x02\x00\x00\x00\x03\x00\x00\x00/\xf0\x00\x06\xba\xec\x9e\xd3\xff\xff\xff\xff\
+    \xff\xff";
+// The same behind revision 1, with a soft tail of 6 and 7.
+const FIRST_BLOCK: &[u8] = b"\
+    \x01\x00\x00\x00\xff\xef\xff\xfea 0\x00\x09\x07\x00\x00\x00\xe0\x0b\x00\x00\x11 \x00\x0bone\
+    \x06@\x00\x037`\x04\x03dir  \x00\x0b\x04\x00\x00\x00\x05\x00\x00\x00 \x10\x0c\x09z \x00\x00\
+    \x04hello\x10\x10\x00\x04\xffP\x0f\xf4\x09\x06\x00\x00\x00\x07\x00\x00\x000\x00\x00\x02\xc1\
+    \x8a\xd6\xca\xff\xff\xff\xff\xff\xff";
+// Revision 0xfffffffe: a file `z`.
+const LAST_BUT_ONE: &[u8] =
+    b"\xfe\xff\xff\xff\xff\xef\xff\xfez \x00\x00\x01p\x1f\xfc\x04(\xd8M\xf6";
+
+const DELTA: [u8; 12] = [0, 0, 0xf0, 0x4f, 2, 0, 0, 0, 3, 0, 0, 0];
+
+/// What the three entries weigh.
+const WEIGHTS: [u32; 3] = [28, 19, 19];
+
+/// Asserts what entries weigh.
+fn weigh(rt: &impl Abort, entries: &[Entry], wanted: &[u32]) {
+    assert_eq!(rt; entries.len(), wanted.len());
+    for (entry, wanted) in entries.iter().zip(wanted) {
+        assert_eq!(rt; weight(entry), *wanted);
+    }
+}
+
+#[test]
+fn entries_have_weights(rt: HostRuntime) -> Result<(), Fail> {
+    let part = part_of(rt.alloc(), THREE_ENTRIES)?;
+    weigh(&rt, &part.entries, &WEIGHTS);
+    Ok(())
+}
+
+/// The bytes that at most 1,000 entries take of a block.
+fn weights(entries: &[Entry]) -> u32
+    requires { length entries.now ≤ 1000 }
+    ensures { result ≡ weights entries.now }
+{
+    let mut sum = 0;
+    for entry in entries {
+        sum += weight(entry);
+    }
+    sum
+}
+
+/// A block of 256 bytes with the three entries and a last byte of 0.
+fn three_entries(alloc: Global) -> Result<Vec<u8>, AllocError> {
+    let mut block = block_of(alloc, 256, THREE_ENTRIES)?;
+    if let Some(last) = block.last_mut() {
+        *last = 0;
+    }
+    Ok(block)
+}
+
+/// The pair of an image, rewritten with its own entries, a hard tail and a delta.
+fn rewritten(rt: &impl Abort, alloc: Global, image: &Image) -> Result<(u32, Vec<u8>), MountFault> {
+    let _fits_the_limits = image.size();
+    let part = read_pair(alloc, image, (0, 1))?;
+    let entries = &part.entries;
+    assert!(rt; entries.len() <= 1_000);
+    assert!(rt; weights(entries) <= 216);
+    rewrite(alloc, image, (0, 1), entries, Tail::Hard(6, 7), DELTA)
+}
+
+/// Asserts that bytes are a block with this log.
+fn is_block(rt: &impl Abort, alloc: Global, bytes: &[u8], log: &[u8]) -> Result<(), AllocError> {
+    let block = block_of(alloc, 256, log)?;
+    assert_eq!(rt; bytes, block.as_slice());
+    Ok(())
+}
+
+#[test]
+fn rewrites_the_block_that_is_not_live(rt: HostRuntime) -> Result<(), Fail> {
+    let first = three_entries(rt.alloc())?;
+    let image = pair_of(rt.alloc(), &first, LAST_BUT_ONE)?;
+    let (number, bytes) = rewritten(&rt, rt.alloc(), &image)?;
+    assert_eq!(rt; number, 1);
+    is_block(&rt, rt.alloc(), &bytes, REWRITTEN)?;
+    Ok(())
+}
+
+#[test]
+fn a_rewritten_pair_is_read(rt: HostRuntime) -> Result<(), Fail> {
+    let first = three_entries(rt.alloc())?;
+    let part = read(rt.alloc(), &first, REWRITTEN)??;
+    let (tail, delta) = (part.tail, part.delta);
+    assert_eq!(rt; tail, Tail::Hard(6, 7));
+    assert_eq!(rt; delta, DELTA);
+    Ok(())
+}
+
+#[test]
+fn first_block_of_a_new_pair(rt: HostRuntime) -> Result<(), Fail> {
+    let image = pair_of(rt.alloc(), THREE_ENTRIES, b"")?;
+    let part = read_pair(rt.alloc(), &image, (0, 1))?;
+    assert!(rt; part.entries.len() <= 1_000);
+    assert!(rt; weights(&part.entries) <= 216);
+    let block = first_block(rt.alloc(), 256, &part.entries, Tail::Soft(6, 7)).ok_or("no memory")?;
+    is_block(&rt, rt.alloc(), &block, FIRST_BLOCK)?;
+    Ok(())
+}
