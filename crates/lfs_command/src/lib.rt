@@ -17,6 +17,3 @@ pub use named_command::NamedCommand;
 pub use naming::by_names;
 pub use paths::{last_of, names_of};
 pub use refusal::Refusal;
-
-#[cfg(test)]
-mod tests;

@@ -15,3 +15,4 @@ pub mod GrowthLemmas
 pub mod SumLemmas
 pub mod ChosenPairs
 pub mod CutPartLemmas
+pub mod NoHome

@@ -7,3 +7,4 @@ pub mod SetParts
 pub mod Growth
 pub mod Chosen
 pub mod CutParts
+pub mod Leading

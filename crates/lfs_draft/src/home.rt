@@ -1,6 +1,6 @@
 //! Where the last name of a path belongs to in an outline.
 
-ghost use Rattle.std.specs.Prelude.{◌≡◌, None, Some, map, IfOk, IfErr, OnOk};
+ghost use Rattle.std.specs.Prelude.{◌≡◌, None, Some, map, IfOk, IfErr, OnErr, OnOk};
 ghost use Rattle.lfs_command.specs.Home.{home_of};
 ghost use Rattle.lfs_law.specs.HomeChecks.{home_checks};
 ghost use Rattle.lfs_command.specs.Verdict.{first_refusal};
@@ -24,6 +24,7 @@ pub(crate) fn home_of<'a>(outline: &Outline, names: &[&'a [u8]]) -> Result<Home<
     ensures home { IfOk result (λ home. home_of outline.now (map (λ n. n.now) names.now) ≡ Some (home.pair, home.name.now)) }
     ensures unrefused { OnOk result (first_refusal (home_checks outline.now (map (λ n. n.now) names.now)) ≡ None) }
     ensures refused { IfErr result (λ r. first_refusal (home_checks outline.now (map (λ n. n.now) names.now)) ≡ Some r) }
+    ensures none { OnErr result (home_of outline.now (map (λ n. n.now) names.now) ≡ None) }
 {
     let Some((name, fronts)) = names.split_last() else {
         return Err(Refusal::IsRoot);

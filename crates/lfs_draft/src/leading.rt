@@ -1,22 +1,57 @@
 //! Which part of an outline has the entry that a command is about.
 
+ghost use Rattle.std.specs.Prelude.{◌≡◌, find, map};
+ghost use Rattle.std.specs.Option.{option_map};
+ghost use Rattle.lfs_fs.specs.Directory.{begins_at, parts};
+ghost use Rattle.lfs_command.specs.DirectoryEdit.{has_name};
+ghost use Rattle.lfs_command.specs.NamedCommand.{named_command};
+ghost use Rattle.lfs_draft.specs.Leading.{leading_pair, pair_in, path_of};
+
 use crate::directory_edit::has_name;
 use crate::home::home_of;
-use crate::thread_edit::directory_of;
+use crate::thread_edit::begins_at;
 use lfs_command::NamedCommand;
-use lfs_fs::{Outline, OutlineDirectory};
+use lfs_fs::{Outline, OutlineDirectory, OutlinePart};
+
+/// The first of these parts that has an entry of a name. Takes no memory.
+fn part_among<'a>(parts: &'a [OutlinePart], name: &[u8]) -> Option<&'a OutlinePart>
+    ensures { option_map (λ p. p.now) result ≡ find (has_name name.now) parts.now }
+{
+    parts.iter().find(|part| has_name(part, name))
+}
+
+/// The first part of a directory that has an entry of a name. Takes no memory.
+fn part_in<'a>(directory: &'a OutlineDirectory, name: &[u8]) -> Option<&'a OutlinePart>
+    ensures { option_map (λ p. p.now) result ≡ find (has_name name.now) (parts directory.now) }
+{
+    if has_name(&directory.first, name) {
+        Some(&directory.first)
+    } else {
+        part_among(&directory.more, name)
+    }
+}
 
 /// The pair of the part of a directory that has an entry of a name. Takes no memory.
-fn pair_in(directory: &OutlineDirectory, name: &[u8]) -> Option<(u32, u32)> {
-    if has_name(&directory.first, name) {
-        return Some(directory.first.pair);
-    }
-    let part = directory.more.iter().find(|part| has_name(part, name))?;
+fn pair_in(directory: &OutlineDirectory, name: &[u8]) -> Option<(u32, u32)>
+    ensures { result ≡ pair_in name.now directory.now }
+{
+    let part = part_in(directory, name)?;
     Some(part.pair)
 }
 
+/// The first of these directories that begins at a pair. Takes no memory.
+fn beginning_at(directories: &[OutlineDirectory], pair: (u32, u32)) -> Option<&OutlineDirectory>
+    ensures { option_map (λ d. d.now) result ≡ find (begins_at pair) directories.now }
+{
+    directories
+        .iter()
+        .find(|directory| begins_at(pair, directory))
+}
+
 /// The path of a command; of a move the one from which.
-fn path_of<'b, 'a>(command: &'b NamedCommand<'a>) -> &'b [&'a [u8]] {
+fn path_of<'b, 'a>(command: &'b NamedCommand<'a>) -> &'b [&'a [u8]]
+    ensures { map (λ n. n.now) result.now ≡ path_of (named_command command.now) }
+{
     match command {
         NamedCommand::Mkdir { path }
         | NamedCommand::Put { path, .. }
@@ -30,8 +65,10 @@ fn path_of<'b, 'a>(command: &'b NamedCommand<'a>) -> &'b [&'a [u8]] {
 /// The pair of the part that has the entry at a command's path; none where nothing is there. Takes no memory.
 ///
 /// Source: own.
-pub fn leading_pair(outline: &Outline, command: &NamedCommand<'_>) -> Option<(u32, u32)> {
+pub fn leading_pair(outline: &Outline, command: &NamedCommand<'_>) -> Option<(u32, u32)>
+    ensures { result ≡ leading_pair outline.now (named_command command.now) }
+{
     let home = home_of(outline, path_of(command)).ok()?;
-    let at = directory_of(&outline.directories, home.pair)?;
-    pair_in(&outline.directories[at], home.name)
+    let directory = beginning_at(&outline.directories, home.pair)?;
+    pair_in(directory, home.name)
 }

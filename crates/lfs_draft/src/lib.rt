@@ -40,6 +40,3 @@ pub use room_check::needed;
 pub use standing::entry_there;
 pub use supplies::Supplies;
 pub use supplying::least_supplies;
-
-#[cfg(test)]
-mod tests;

@@ -14,7 +14,7 @@ use lfs_fs::{OutlineDirectory, OutlineEntry};
 use std::alloc::{AllocError, Global};
 
 /// Whether a directory begins at a pair, the lesser block of which stands first.
-fn begins_at(pair: (u32, u32), directory: &OutlineDirectory) -> bool
+pub(crate) fn begins_at(pair: (u32, u32), directory: &OutlineDirectory) -> bool
     ensures { result ≡ begins_at pair directory.now }
 {
     let (first, second) = directory.first.pair;

@@ -13,6 +13,3 @@ pub use contents::file_contents;
 pub use formatting::format;
 pub use lfs_command::{Command, Refusal};
 pub use planning::plan;
-
-#[cfg(test)]
-mod tests;

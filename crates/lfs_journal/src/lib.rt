@@ -2,24 +2,12 @@
 #![tactic(auto)]
 
 mod carried;
-#[cfg(test)]
-mod command_tests;
-#[cfg(test)]
-mod foreign_tests;
 mod laws;
-#[cfg(test)]
-mod part_tests;
-#[cfg(test)]
-mod plan_tests;
 mod replacing;
 mod session;
 mod step;
 mod step_fault;
 mod stepping;
-#[cfg(test)]
-mod tests;
-#[cfg(test)]
-mod tree_tests;
 mod unmounted;
 
 pub use laws::{

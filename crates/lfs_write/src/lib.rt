@@ -10,6 +10,3 @@ mod writing;
 pub use laying::laid_for;
 pub use link_writing::write_links;
 pub use superblock::new_superblock;
-
-#[cfg(test)]
-mod tests;

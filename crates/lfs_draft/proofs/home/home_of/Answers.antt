@@ -9,6 +9,7 @@ use Rattle.lfs_fs.specs.Volume.{Volume}
 use Rattle.lfs_law.specs.PairWalk.{pair_at}
 use Rattle.lfs_law.specs.WalkRefusal.{walk_all}
 use Rattle.lfs_law.proofs.HomeSteps.{names_are, is_home, unrefused, refused}
+use Rattle.lfs_draft.proofs.NoHome.{no_home}
 use Rattle.lfs_draft.proofs.home.home_of.Goals as goal
 
 pub returns-in_err-pair-clause-refused : goal.returns-in_err-pair-clause-refused
@@ -18,6 +19,16 @@ returns-in_err-pair-clause-refused c =
     let p = err_from_is_err_and c.from_residual.result c.from_residual.ensures.1 in
     rw (p.1, p.2) (
     refused c.args.outline.now (map (λ (x : Bor Name). x.now) c.args.names.now) front c.in-Some.name.now.now c.in_err-pair.field-0.0
+    (names_are c.args.names.now c.in-Some.fronts.now c.in-Some.name.now c.in-Some.ensures.cases.0)
+    (ap (λ (ds : List Directory). walk_all ds root front) (sym same) ∙ c.in_err-pair.ensures.refused))
+
+pub returns-in_err-pair-clause-none : goal.returns-in_err-pair-clause-none
+returns-in_err-pair-clause-none c =
+    let front : Path = map (λ (x : Bor Name). x.now) c.in-Some.fronts.now in
+    let same : c.deref.result.now ≡ c.args.outline.now.directories = c.deref.ensures.value ∙ ap (λ (v : Volume). v.directories) c.outline.view_is in
+    let p = err_from_is_err_and c.from_residual.result c.from_residual.ensures.1 in
+    rw p.1 (
+    no_home c.args.outline.now (map (λ (x : Bor Name). x.now) c.args.names.now) front c.in-Some.name.now.now c.in_err-pair.field-0.0
     (names_are c.args.names.now c.in-Some.fronts.now c.in-Some.name.now c.in-Some.ensures.cases.0)
     (ap (λ (ds : List Directory). walk_all ds root front) (sym same) ∙ c.in_err-pair.ensures.refused))
 

@@ -1,13 +1,14 @@
 //! Commands on images that others have written: their bytes come from an encoder of their own.
 
-use crate::Session;
-use crate::StepFault::Refused;
-use crate::tests::replies;
-use crate::tree_tests::{Standing, are_listed, stand};
-use lfs_block::{Image, crc32};
+use crate::images::{replies, session_of};
+use crate::standing::{Standing, are_listed, stand};
+use lfs_block::crc32;
 use lfs_edit::{Command, Refusal};
 use lfs_fs::mount;
+use lfs_journal::Session;
+use lfs_journal::StepFault::Refused;
 use std::alloc::{AllocError, Global};
+use std::process::Abort;
 use std::test::Fail;
 
 // the root's pair in blocks of 512 bytes, of which there are eight
@@ -56,21 +57,16 @@ const HEAVY_PART: &[u8] = b"\
     nnnnnnnnnnnnnnnnnnnnnnnnnnnnnnnnnnnnnnnnnnnnnnnnnnnnnnnnnnnnnnnnnnnnnnnnnnnnnnnn \x00\x00ip\
     \x1f\xf8\x04@\xbe\xb2G";
 
-// a session of an image whose blocks begin so, and are erased behind that
-fn session_of(alloc: Global, size: u32, fronts: &[&[u8]]) -> Result<Session, Fail> {
-    let mut bytes = Vec::new(alloc);
-    for front in fronts {
-        bytes.extend_from_slice(&block_of(alloc, size, front)?)?;
-    }
-    let image = Image::new(bytes, size).map_err(|refused| refused.0)?;
-    Ok(Session::fresh(alloc, image).map_err(|unmounted| unmounted.fault)?)
-}
-
-// a block that begins so
-fn block_of(alloc: Global, size: u32, front: &[u8]) -> Result<Vec<u8>, AllocError> {
-    let mut block = Vec::from_slice(alloc, front)?;
-    block.resize(size as usize, 0xff)?;
-    Ok(block)
+// asserts that a session carries a command out, and where the directories stand then
+fn leads_to(
+    rt: &impl Abort,
+    alloc: Global,
+    session: &mut Session,
+    command: &Command<'_>,
+    standing: &Standing,
+) -> Result<(), Fail> {
+    replies(rt, alloc, session, command, Ok(()));
+    stand(rt, alloc, session, standing)
 }
 
 // where a directory stands that was made in a new image
@@ -81,8 +77,7 @@ fn a_new_directory_is_empty_where_a_log_stood(rt: HostRuntime) -> Result<(), Fai
     let fronts = [NEW_ROOT, b"", b"", OLD_LOG, b"", b"", b"", b""];
     let mut session = session_of(rt.alloc(), 512, &fronts)?;
     let command = Command::Mkdir { path: b"/a" };
-    replies(&rt, rt.alloc(), &mut session, &command, Ok(()));
-    stand(&rt, rt.alloc(), &session, &MADE)?;
+    leads_to(&rt, rt.alloc(), &mut session, &command, &MADE)?;
     are_listed(&rt, rt.alloc(), &session, &[(0, b""), (1, b"a")])
 }
 
@@ -103,8 +98,7 @@ fn a_removed_directory_leaves_its_delta(rt: HostRuntime) -> Result<(), Fail> {
     ];
     let mut session = session_of(rt.alloc(), 512, &fronts)?;
     let command = Command::Rm { path: b"/a" };
-    replies(&rt, rt.alloc(), &mut session, &command, Ok(()));
-    stand(&rt, rt.alloc(), &session, &SECOND)
+    leads_to(&rt, rt.alloc(), &mut session, &command, &SECOND)
 }
 
 // where the parts of a root stand once a directory was made in it, whose second part was too heavy
@@ -115,8 +109,7 @@ fn a_heavy_part_is_cut_where_it_gets_a_tail(rt: HostRuntime) -> Result<(), Fail>
     let fronts = [HEAVY_ROOT, b"", HEAVY_PART, b"", b"", b"", b"", b""];
     let mut session = session_of(rt.alloc(), 256, &fronts)?;
     let command = Command::Mkdir { path: b"/b" };
-    replies(&rt, rt.alloc(), &mut session, &command, Ok(()));
-    stand(&rt, rt.alloc(), &session, &CUT)
+    leads_to(&rt, rt.alloc(), &mut session, &command, &CUT)
 }
 
 #[test]
@@ -163,18 +156,22 @@ fn full_root(alloc: Global) -> Result<Vec<u8>, AllocError> {
     Ok(bytes)
 }
 
-// how many entries the parts of the root of a session's image have
-fn entry_counts(alloc: Global, session: &Session) -> Result<Vec<usize>, Fail> {
+// asserts how many entries the two parts of the root of a session's image have
+fn have_entries(
+    rt: &impl Abort,
+    alloc: Global,
+    session: &Session,
+    first: usize,
+    second: usize,
+) -> Result<(), Fail> {
     let mounted = mount(alloc, session.image())?;
-    let mut counts = Vec::new(alloc);
-    let Some(root) = mounted.outline().directories.first() else {
-        return Ok(counts);
-    };
-    counts.push(root.first.entries.len())?;
+    let root = mounted.outline().directories.first().ok_or("no root")?;
+    assert_eq!(rt; root.first.entries.len(), first);
+    assert_eq!(rt; root.more.len(), 1);
     for part in &root.more {
-        counts.push(part.entries.len())?;
+        assert_eq!(rt; part.entries.len(), second);
     }
-    Ok(counts)
+    Ok(())
 }
 
 // where the parts of a root with a thousand files stand
@@ -188,9 +185,6 @@ fn a_thousand_files_take_two_parts(rt: HostRuntime) -> Result<(), Fail> {
         path: b"/0999",
         bytes: b"",
     };
-    replies(&rt, rt.alloc(), &mut session, &command, Ok(()));
-    stand(&rt, rt.alloc(), &session, &THOUSAND)?;
-    let counts = entry_counts(rt.alloc(), &session)?;
-    assert_eq!(rt; counts.as_slice(), [999, 1].as_slice());
-    Ok(())
+    leads_to(&rt, rt.alloc(), &mut session, &command, &THOUSAND)?;
+    have_entries(&rt, rt.alloc(), &session, 999, 1)
 }

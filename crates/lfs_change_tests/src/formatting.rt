@@ -1,6 +1,6 @@
 //! New images, whose bytes were computed by another program.
 
-use crate::format;
+use lfs_edit::format;
 use std::test::Fail;
 
 // block 0 of a new image of 8 blocks of 512 bytes, up to where it is erased: revision 1, the tags 0x0ff00008 `littlefs` and

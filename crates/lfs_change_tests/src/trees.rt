@@ -1,11 +1,14 @@
 //! Commands on directories: which blocks they take, and where directories and their parts stand.
 
-use crate::StepFault::Refused;
-use crate::tests::{copy_of, free_of, has_image, new_image, new_session, replies, small_session};
-use crate::{Session, StepFault};
+use crate::images::{
+    Row, carries_out, copy_of, free_of, fresh, has_image, new_image, new_session, replies,
+    replies_in_turn, small_session,
+};
+use crate::standing::{Standing, are_listed, stand};
 use lfs_block::Image;
 use lfs_edit::{Command, Refusal};
-use lfs_fs::{Mounted, RowBody, mount};
+use lfs_journal::StepFault::Refused;
+use lfs_journal::{Session, StepFault};
 use std::alloc::{AllocError, Global};
 use std::process::Abort;
 use std::test::Fail;
@@ -24,43 +27,19 @@ const BLOCKS: [(Command<'static>, u32); 4] = [
     (Command::Rm { path: b"/a" }, 6),
 ];
 
+// asserts how many blocks are free behind commands
+fn leave_free(rt: &impl Abort, alloc: Global, session: &mut Session) -> Result<(), Fail> {
+    for (command, free) in &BLOCKS {
+        replies(rt, alloc, session, command, Ok(()));
+        assert_eq!(rt; free_of(alloc, session)?, *free);
+    }
+    Ok(())
+}
+
 #[test]
 fn directories_take_blocks_and_give_them_back(rt: HostRuntime) -> Result<(), Fail> {
     let mut session = new_session(rt.alloc())?;
-    for (command, free) in &BLOCKS {
-        replies(&rt, rt.alloc(), &mut session, command, Ok(()));
-        assert_eq!(rt; free_of(rt.alloc(), &session)?, *free);
-    }
-    Ok(())
-}
-
-// the pairs of the directories of a mounted image, in the order of paths
-fn pairs_of(alloc: Global, mounted: &Mounted) -> Result<Vec<(u32, u32)>, AllocError> {
-    let mut pairs = Vec::new(alloc);
-    for row in mounted.rows() {
-        if let RowBody::Dir(first, second) = row.body {
-            pairs.push((first, second))?;
-        }
-    }
-    Ok(pairs)
-}
-
-// the pairs of a thread, those of the directories in the order of paths, and how many blocks are free
-pub(crate) type Standing = (&'static [(u32, u32)], &'static [(u32, u32)], u32);
-
-// asserts where the directories of a session's image stand
-pub(crate) fn stand(
-    rt: &impl Abort,
-    alloc: Global,
-    session: &Session,
-    standing: &Standing,
-) -> Result<(), Fail> {
-    let (thread, directories, free) = standing;
-    let mounted = mount(alloc, session.image())?;
-    assert_eq!(rt; mounted.thread(), *thread);
-    assert_eq!(rt; pairs_of(alloc, &mounted)?.as_slice(), *directories);
-    assert_eq!(rt; mounted.free_count(), *free);
-    Ok(())
+    leave_free(&rt, rt.alloc(), &mut session)
 }
 
 // three directories, one below another
@@ -69,34 +48,6 @@ const MADE: [Command<'static>; 3] = [
     Command::Mkdir { path: b"/b" },
     Command::Mkdir { path: b"/a/c" },
 ];
-
-// a session of a new image with these
-fn made_session(rt: &impl Abort, alloc: Global) -> Result<Session, Fail> {
-    let mut session = new_session(alloc)?;
-    for command in &MADE {
-        replies(rt, alloc, &mut session, command, Ok(()));
-    }
-    Ok(session)
-}
-
-// depths and names, in the order of paths
-const MOVED: [(usize, &[u8]); 4] = [(0, b""), (1, b"b"), (1, b"z"), (2, b"c")];
-
-// asserts the paths of an image of a session
-pub(crate) fn are_listed(
-    rt: &impl Abort,
-    alloc: Global,
-    session: &Session,
-    listed: &[(usize, &[u8])],
-) -> Result<(), Fail> {
-    let mounted = mount(alloc, session.image())?;
-    assert_eq!(rt; mounted.rows().count(), listed.len());
-    for (row, (depth, name)) in mounted.rows().zip(listed) {
-        assert_eq!(rt; row.depth, *depth);
-        assert_eq!(rt; row.name, *name);
-    }
-    Ok(())
-}
 
 // where they stand
 const THREE: Standing = (
@@ -113,21 +64,30 @@ const THREE_MOVED: Standing = (
 // and the second alone
 const SECOND: Standing = (&[(0, 1), (4, 5)], &[(0, 1), (4, 5)], 4);
 
-#[test]
-fn a_directory_is_moved_with_what_is_below(rt: HostRuntime) -> Result<(), Fail> {
-    let mut session = made_session(&rt, rt.alloc())?;
-    stand(&rt, rt.alloc(), &session, &THREE)?;
+// depths and names once the first is moved, in the order of paths
+const MOVED: [(usize, &[u8]); 4] = [(0, b""), (1, b"b"), (1, b"z"), (2, b"c")];
+
+// asserts that three directories stand there, also once the first is moved
+fn are_moved(rt: &impl Abort, alloc: Global, session: &mut Session) -> Result<(), Fail> {
+    stand(rt, alloc, session, &THREE)?;
     let command = Command::Mv {
         from: b"/a",
         to: b"/z",
     };
-    replies(&rt, rt.alloc(), &mut session, &command, Ok(()));
-    stand(&rt, rt.alloc(), &session, &THREE_MOVED)?;
-    are_listed(&rt, rt.alloc(), &session, &MOVED)
+    replies(rt, alloc, session, &command, Ok(()));
+    stand(rt, alloc, session, &THREE_MOVED)?;
+    are_listed(rt, alloc, session, &MOVED)
+}
+
+#[test]
+fn a_directory_is_moved_with_what_is_below(rt: HostRuntime) -> Result<(), Fail> {
+    let mut session = new_session(rt.alloc())?;
+    carries_out(&rt, rt.alloc(), &mut session, &MADE);
+    are_moved(&rt, rt.alloc(), &mut session)
 }
 
 // what is removed of them, and the replies
-const REMOVED: [(Command<'static>, Result<(), StepFault>); 3] = [
+const REMOVED: [Row; 3] = [
     (Command::Rm { path: b"/a" }, Err(Refused(Refusal::NotEmpty))),
     (Command::Rm { path: b"/a/c" }, Ok(())),
     (Command::Rm { path: b"/a" }, Ok(())),
@@ -135,10 +95,9 @@ const REMOVED: [(Command<'static>, Result<(), StepFault>); 3] = [
 
 #[test]
 fn a_directory_is_removed_once_it_is_empty(rt: HostRuntime) -> Result<(), Fail> {
-    let mut session = made_session(&rt, rt.alloc())?;
-    for (command, reply) in &REMOVED {
-        replies(&rt, rt.alloc(), &mut session, command, *reply);
-    }
+    let mut session = new_session(rt.alloc())?;
+    carries_out(&rt, rt.alloc(), &mut session, &MADE);
+    replies_in_turn(&rt, rt.alloc(), &mut session, &REMOVED);
     stand(&rt, rt.alloc(), &session, &SECOND)
 }
 
@@ -176,9 +135,7 @@ const REFUSED: [(Command<'static>, Refusal); 6] = [
 #[test]
 fn what_is_refused_changes_nothing(rt: HostRuntime) -> Result<(), Fail> {
     let mut session = new_session(rt.alloc())?;
-    for command in &FILLED {
-        replies(&rt, rt.alloc(), &mut session, command, Ok(()));
-    }
+    carries_out(&rt, rt.alloc(), &mut session, &FILLED);
     let filled = copy_of(rt.alloc(), session.image())?;
     for (command, refusal) in &REFUSED {
         let reply = Err(Refused(*refusal));
@@ -191,23 +148,31 @@ fn what_is_refused_changes_nothing(rt: HostRuntime) -> Result<(), Fail> {
 // the path of one name, a letter so many times
 fn long_path(alloc: Global, letter: u8, len: usize) -> Result<Vec<u8>, AllocError> {
     let mut path = vec![in alloc; b'/'; 1]?;
-    for _ in 0..len {
-        path.push(letter)?;
-    }
+    path.resize(len.saturating_add(1), letter)?;
     Ok(path)
+}
+
+// asserts that a session takes an empty file of 80 times a letter
+fn takes_long_file(
+    rt: &impl Abort,
+    alloc: Global,
+    session: &mut Session,
+    letter: u8,
+) -> Result<(), Fail> {
+    let path = long_path(alloc, letter, 80)?;
+    let command = Command::Put {
+        path: &path,
+        bytes: b"",
+    };
+    replies(rt, alloc, session, &command, Ok(()));
+    Ok(())
 }
 
 // a session of an image of so many blocks of 256 bytes, with empty files of 80 letters `a` and of 80 letters `c`
 fn long_session(rt: &impl Abort, alloc: Global, count: u32) -> Result<Session, Fail> {
     let mut session = small_session(alloc, count)?;
-    for letter in [b'a', b'c'] {
-        let path = long_path(alloc, letter, 80)?;
-        let command = Command::Put {
-            path: &path,
-            bytes: b"",
-        };
-        replies(rt, alloc, &mut session, &command, Ok(()));
-    }
+    takes_long_file(rt, alloc, &mut session, b'a')?;
+    takes_long_file(rt, alloc, &mut session, b'c')?;
     Ok(session)
 }
 
@@ -238,31 +203,35 @@ const DIRECTORIES: [Cut; 2] = [
     ),
 ];
 
-// asserts how the root is cut by a command on images of so many blocks
-fn are_cut(
-    rt: &impl Abort,
-    alloc: Global,
-    command: &Command<'_>,
-    cuts: &[Cut],
-) -> Result<(), Fail> {
-    for (count, reply, standing) in cuts {
-        let mut session = long_session(rt, alloc, *count)?;
-        replies(rt, alloc, &mut session, command, *reply);
-        stand(rt, alloc, &session, standing)?;
+// asserts how the root is cut by a command on an image of so many blocks
+fn is_cut(rt: &impl Abort, alloc: Global, command: &Command<'_>, cut: &Cut) -> Result<(), Fail> {
+    let (count, reply, standing) = cut;
+    let mut session = long_session(rt, alloc, *count)?;
+    replies(rt, alloc, &mut session, command, *reply);
+    stand(rt, alloc, &session, standing)
+}
+
+#[test]
+fn a_part_is_cut_that_has_got_a_file(rt: HostRuntime) -> Result<(), Fail> {
+    let path = long_path(rt.alloc(), b'b', 130)?;
+    let command = Command::Put {
+        path: &path,
+        bytes: b"",
+    };
+    for cut in &FILES {
+        is_cut(&rt, rt.alloc(), &command, cut)?;
     }
     Ok(())
 }
 
 #[test]
-fn a_part_that_has_grown_is_cut(rt: HostRuntime) -> Result<(), Fail> {
+fn a_part_is_cut_that_has_got_a_directory(rt: HostRuntime) -> Result<(), Fail> {
     let path = long_path(rt.alloc(), b'b', 130)?;
-    let file = Command::Put {
-        path: &path,
-        bytes: b"",
-    };
-    are_cut(&rt, rt.alloc(), &file, &FILES)?;
-    let directory = Command::Mkdir { path: &path };
-    are_cut(&rt, rt.alloc(), &directory, &DIRECTORIES)
+    let command = Command::Mkdir { path: &path };
+    for cut in &DIRECTORIES {
+        is_cut(&rt, rt.alloc(), &command, cut)?;
+    }
+    Ok(())
 }
 
 // commands, of which one is refused
@@ -297,19 +266,30 @@ fn next_image(
     command: &Command<'_>,
     reply: Result<(), StepFault>,
 ) -> Result<Image, Fail> {
-    let mut session = Session::fresh(alloc, image).map_err(|unmounted| unmounted.fault)?;
+    let mut session = fresh(alloc, image)?;
     replies(rt, alloc, &mut session, command, reply);
     Ok(session.into_image())
 }
 
-#[test]
-fn one_session_does_what_many_do(rt: HostRuntime) -> Result<(), Fail> {
-    let mut session = new_session(rt.alloc())?;
-    let mut image = new_image(rt.alloc())?;
+// asserts that a session does what sessions for one command each do, beginning with an image
+fn does_what_many_do(
+    rt: &impl Abort,
+    alloc: Global,
+    session: &mut Session,
+    first: Image,
+) -> Result<(), Fail> {
+    let mut image = first;
     for command in &LIST {
-        let reply = session.command(rt.alloc(), command);
-        image = next_image(&rt, rt.alloc(), image, command, reply)?;
-        has_image(&rt, &session, &image);
+        let reply = session.command(alloc, command);
+        image = next_image(rt, alloc, image, command, reply)?;
+        has_image(rt, session, &image);
     }
     Ok(())
+}
+
+#[test]
+fn one_session_does_what_many_do(rt: HostRuntime) -> Result<(), Fail> {
+    let image = new_image(rt.alloc())?;
+    let mut session = new_session(rt.alloc())?;
+    does_what_many_do(&rt, rt.alloc(), &mut session, image)
 }

@@ -1,0 +1,12 @@
+-- At most two parts are at most two that grow.
+use Rattle.std.proofs.Common.{arith, length}
+use Rattle.std.specs.Prelude.{nat_lt}
+use Rattle.lfs_fs.specs.Directory.{thread}
+use Rattle.lfs_command.specs.Cut.{runs}
+use Rattle.lfs_change_tests.proofs.NeedLemmas.{few_pass}
+use Rattle.lfs_change_tests.proofs.cutting.rows_of.Goals as goal
+
+pub choose-requires-clause-few : goal.choose-requires-clause-few
+choose-requires-clause-few g c =
+    let o = c.args.outline.now in
+    omega (arith, c.requires.parts, few_pass (λ p. nat_lt 1 (length (runs o p))) (λ p. p.dirty) (thread o.directories))

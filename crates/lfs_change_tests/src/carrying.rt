@@ -1,0 +1,53 @@
+//! Plans of commands, and files that are read.
+
+use crate::images::{carries_out, new_image, new_session};
+use lfs_block::{Image, Patch};
+use lfs_edit::{Command, Refusal, file_contents, plan};
+use lfs_fs::mount;
+use std::alloc::Global;
+use std::process::Abort;
+use std::test::Fail;
+
+// a file that takes one block beside its entry
+const PUT: [Command<'static>; 1] = [Command::Put {
+    path: b"/a",
+    bytes: &[7; 65],
+}];
+
+// asserts which blocks a patch writes
+fn writes(rt: &impl Abort, patch: &Patch, numbers: &[u32]) {
+    assert_eq!(rt; patch.records().len(), numbers.len());
+    for (record, number) in patch.records().iter().zip(numbers) {
+        assert_eq!(rt; record.number, *number);
+    }
+}
+
+#[test]
+fn a_plan_writes_the_root_and_the_least_free_block(rt: HostRuntime) -> Result<(), Fail> {
+    let image = new_image(rt.alloc())?;
+    let mounted = mount(rt.alloc(), &image)?;
+    for command in &PUT {
+        let patch = plan(rt.alloc(), &image, &mounted, command)?;
+        writes(&rt, &patch, &[1, 2]);
+    }
+    Ok(())
+}
+
+// asserts what is read of an image with that file
+fn are_read(rt: &impl Abort, alloc: Global, image: &Image) -> Result<(), Fail> {
+    let mounted = mount(alloc, image)?;
+    let bytes = file_contents(alloc, image, &mounted, b"/a")?;
+    assert!(rt; bytes.as_slice() == [7; 65].as_slice());
+    let nowhere = file_contents(alloc, image, &mounted, b"/b").err();
+    assert_eq!(rt; nowhere, Some(Refusal::NotFound));
+    let root = file_contents(alloc, image, &mounted, b"/").err();
+    assert_eq!(rt; root, Some(Refusal::IsADirectory));
+    Ok(())
+}
+
+#[test]
+fn files_are_read_as_they_were_put(rt: HostRuntime) -> Result<(), Fail> {
+    let mut session = new_session(rt.alloc())?;
+    carries_out(&rt, rt.alloc(), &mut session, &PUT);
+    are_read(&rt, rt.alloc(), session.image())
+}

@@ -1,0 +1,63 @@
+//! Calls of the laws.
+
+use lfs_journal::{
+    commands_are_equations, commands_push_equations, redo_is_exact, runs_keep_histories,
+    undo_and_redo_keep_images, undo_is_exact,
+};
+use lfs_law::{
+    commands_are_frugal, commands_are_written, commands_follow, commands_set_a_part,
+    cut_links_can_be_written, cuts_follow, cuts_keep_outlines, free_after,
+    held_superblocks_are_made, held_volumes_have_few_entries, laid_contents_are_there,
+    least_blocks_are_free, links_are_written_in_turn, need_is_exact, needs_are_small,
+    outlines_are_carried, outlines_are_judged_alike, outlines_are_written, outlines_follow,
+    parts_are_cut_by_themselves, plans_are_frugal, plans_hold, tables_tell_new_pairs,
+    walks_go_by_pairs, written_blocks_are_taken, written_volumes_are_held,
+};
+
+#[test]
+fn laws_are_called() {
+    commands_follow();
+    cuts_follow();
+    commands_are_frugal();
+    need_is_exact();
+    commands_set_a_part();
+    free_after();
+    needs_are_small();
+    held_volumes_have_few_entries();
+    written_volumes_are_held();
+}
+
+#[test]
+fn laws_of_outlines_are_called() {
+    outlines_follow();
+    cuts_keep_outlines();
+    outlines_are_judged_alike();
+    outlines_are_carried();
+    walks_go_by_pairs();
+    parts_are_cut_by_themselves();
+}
+
+#[test]
+fn laws_of_what_is_written_are_called() {
+    links_are_written_in_turn();
+    outlines_are_written();
+    commands_are_written();
+    laid_contents_are_there();
+    plans_hold();
+    plans_are_frugal();
+    tables_tell_new_pairs();
+    least_blocks_are_free();
+    written_blocks_are_taken();
+    cut_links_can_be_written();
+    held_superblocks_are_made();
+}
+
+#[test]
+fn laws_of_histories_are_called() {
+    commands_are_equations();
+    runs_keep_histories();
+    undo_is_exact();
+    redo_is_exact();
+    commands_push_equations();
+    undo_and_redo_keep_images();
+}

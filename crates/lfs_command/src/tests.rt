@@ -1,5 +1,0 @@
-//! Refusals, texts of paths, and blocks of contents.
-
-mod file_edits;
-mod paths;
-mod refusals;

@@ -1,4 +1,0 @@
-//! New images, and calls of the laws.
-
-mod formatting;
-mod laws;

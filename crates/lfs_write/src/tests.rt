@@ -1,3 +1,0 @@
-//! How parts are stored.
-
-mod storing;
