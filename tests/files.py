@@ -1,5 +1,5 @@
 #!/usr/bin/env python3
-"""Runs the program on real files: faults of files, links, rights, leftovers, and pairs of runs on one image."""
+"""Runs the program on real files: faults of files, calls that fail, links, rights, leftovers, and pairs of runs on one image."""
 import os
 import pathlib
 import resource
@@ -62,6 +62,14 @@ class Files:
         self.check(f"{what}: second line", second in "".join(said[1:]), said)
         self.check(f"{what}: files", self.listing() == before, self.listing())
 
+    def put_back(self, listing):
+        """Makes the folder what a listing says."""
+        for file, found in self.listing().items():
+            if file not in listing:
+                file.unlink()
+            elif found != listing[file]:
+                file.write_bytes(listing[file])
+
     def listing(self):
         """Each file of the folder with its bytes."""
         files = sorted(self.folder.rglob("*"))
@@ -80,9 +88,62 @@ def what_is_no_image(files):
         files.refused(f"check {name}", [*check, name], NOT_READ, "not a regular file")
     files.refused("format folder", ["format", "--block", "512", "--count", "8", "folder"], NOT_WRITTEN, "folder: ")
     with open("/dev/full", "wb") as full:
-        files.refused("full output", [*check, "a.img"], NOT_WRITTEN, "", stdout=full)
+        files.refused("full output", [*check, "a.img"], NOT_WRITTEN, "lfsed: standard output: No space left", stdout=full)
+        files.refused("full help", ["--help"], NOT_WRITTEN, "lfsed: standard output: No space left", stdout=full)
+        files.refused("full explanation", ["explain", "41"], NOT_WRITTEN, "lfsed: standard output: No space left", stdout=full)
     status, said = files.run([*check[:2], "1024", "a.img"])
     files.check("another block size", said[1:] == ["lfsed: a.img: its superblock states 64 blocks of 512 bytes"], (status, said))
+
+
+def output_that_nobody_reads(files):
+    ours, theirs = os.pipe()
+    os.close(ours)
+    with os.fdopen(theirs, "wb") as pipe:
+        files.refused("a broken pipe", ["check", "--block", "512", "a.img"], NOT_WRITTEN, "lfsed: standard output: Broken pipe", stdout=pipe)
+        status, said = files.run(["mkdir", "--block", "512", "a.img", "/piped"], stdout=pipe)
+        files.check("a change prints nothing", status == 0 and not said, (status, said))
+
+
+# Runs, and for each the calls of the C library that it makes.
+RUNS_THAT_CALL = (
+    (["check", "a.img"], "open read write statx"),
+    (["put", "a.img", "/f"], "open read write statx flock fchmod fsync rename"),
+    (["put", "link.img", "/f"], "open read write statx flock fchmod fsync rename realpath"),
+    (["format", "--count", "8", "a.img"], "open write statx flock fchmod fsync rename"),
+    (["format", "--count", "8", "new.img"], "open write statx flock fsync link"),
+)
+
+
+def calls_that_fail(files):
+    """Each call of each run fails in turn: the run ends with 60 or 61 and a second line, and no file has changed."""
+    hit, library = files.folder.parent / (files.folder.name + ".hit"), files.folder.parent / (files.folder.name + ".so")
+    subprocess.run(["cc", "-shared", "-fPIC", "-O1", "-o", library, HOME / "tests/refuse.c", "-ldl"], check=True)
+    library.chmod(0o755)
+    (files.folder / "link.img").symlink_to("a.img")
+    for (command, *words), calls in RUNS_THAT_CALL:
+        for call in calls.split():
+            fail_in_turn(files, [command, "--block", "512", *words], call, library, hit)
+    library.unlink()
+
+
+def fail_in_turn(files, words, call, library, hit):
+    """Each call of a name fails in turn in a run. What the run leaves is put back behind each."""
+    at, is_hit = 0, True
+    before = files.listing()
+    while is_hit:
+        at += 1
+        env = dict(os.environ, LD_PRELOAD=str(library), FAIL_CALL=call, FAIL_AT=str(at), HIT_FILE=str(hit))
+        status, said = files.run(words, b"contents", env=env)
+        is_hit = hit.exists()
+        hit.unlink(missing_ok=True)
+        if is_hit:
+            is_told = status == 4 and said[:1] in ([NOT_READ], [NOT_WRITTEN]) and len(said) == 2 and files.listing() == before
+            # That a new image's name can't be asked for takes nothing from anybody: the image takes no file's place.
+            is_new = status == 0 and call == "statx" and words[-1] == "new.img"
+            files.check(f"{call} {at} fails in {words}", is_told or is_new, (status, said))
+        else:
+            files.check(f"{words} without a fault", status == 0 and at > 1, (status, said, call))
+        files.put_back(before)
 
 
 def links_and_rights(files):
@@ -145,13 +206,24 @@ def pairs_of_runs(files):
     files.check("nothing is left of pairs", not (files.folder / "a.img.new").exists())
 
 
+SCENES = (
+    what_is_no_image,
+    output_that_nobody_reads,
+    calls_that_fail,
+    links_and_rights,
+    leftovers,
+    disks_that_refuse,
+    pairs_of_runs,
+)
+
+
 def main():
     subprocess.run([HOME / "bin/lfsed", "--help"], stdout=subprocess.DEVNULL, check=True)
     ran = wrong = 0
     with tempfile.TemporaryDirectory() as programs:
         os.chmod(programs, 0o755)
         program = shutil.copy(HOME / "crates/lfsed/out/lfsed", programs)
-        for scene in what_is_no_image, links_and_rights, leftovers, disks_that_refuse, pairs_of_runs:
+        for scene in SCENES:
             with tempfile.TemporaryDirectory() as folder:
                 os.chmod(folder, 0o755)
                 files = Files(program, pathlib.Path(folder))

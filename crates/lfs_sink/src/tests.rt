@@ -46,6 +46,11 @@ impl Write for Scripted<'_> {
     }
 }
 
+/// Whether one of the replies is a failure.
+fn has_failure(replies: &[Reply]) -> bool {
+    replies.iter().any(|reply| matches!(reply, Reply::Fails))
+}
+
 #[test]
 fn writers_that_misbehave(rt: HostRuntime) -> Result<(), Fail> {
     let rows = [
@@ -66,7 +71,9 @@ fn writers_that_misbehave(rt: HostRuntime) -> Result<(), Fail> {
         let mut out = Out::new(&mut writer);
         assert_eq!(rt; send(&mut out, b"littlefs"), whole);
         assert_eq!(rt; out.has_failed(), !whole);
+        assert_eq!(rt; out.error().is_some(), !whole && has_failure(&replies));
         assert!(rt; !out.flush());
+        assert!(rt; out.error().is_some());
         assert!(rt; writer.written.as_slice() == text.as_bytes());
     }
     Ok(())

@@ -4,7 +4,7 @@ ghost use Rattle.std.specs.Prelude.{◌≡◌, false};
 ghost use Rattle.std.specs.Io.KnownBytes.{Keeps};
 
 use crate::sink::Sink;
-use std::io::{ErrorKind, Write};
+use std::io::{self, ErrorKind, Write};
 
 /// A sink over one of std's writers. A write that is interrupted is tried again. The sink fails where the writer fails
 /// or takes no byte.
@@ -14,6 +14,8 @@ use std::io::{ErrorKind, Write};
 pub struct Out<W> {
     writer: W,
     has_failed: bool,
+    /// What the writer said when it failed last.
+    said: Option<io::Error>,
 }
 
 impl<W: Write> Out<W> {
@@ -25,6 +27,7 @@ impl<W: Write> Out<W> {
         Out {
             writer,
             has_failed: false,
+            said: None,
         }
     }
 
@@ -35,12 +38,23 @@ impl<W: Write> Out<W> {
         self.has_failed
     }
 
+    /// What the writer said when it failed last, in a write or a flush; nothing where it took no byte. Takes no memory.
+    pub fn error(&self) -> Option<&io::Error> {
+        self.said.as_ref()
+    }
+
     /// Flushes the writer, and answers whether that went well. Takes no memory.
     pub fn flush(&mut self) -> bool
         ensures failed { ⟦<Out<W> as Sink>⟧.failed self.new ≡ ⟦<Out<W> as Sink>⟧.failed self.old }
         ensures sent { Keeps (⟦<Out<W> as Sink>⟧.sent self.old) (⟦<Out<W> as Sink>⟧.sent self.new) }
     {
-        self.writer.flush().is_ok()
+        match self.writer.flush() {
+            Ok(()) => true,
+            Err(error) => {
+                self.said = Some(error);
+                false
+            }
+        }
     }
 }
 
@@ -58,6 +72,7 @@ impl<W: Write> Sink for Out<W> {
                 Ok(count) => return Some(count),
                 Err(error) => {
                     if error.kind() != ErrorKind::Interrupted {
+                        self.said = Some(error);
                         break;
                     }
                 }

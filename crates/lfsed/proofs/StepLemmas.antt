@@ -1,22 +1,22 @@
 -- How steps end, by what was read, run and written.
 use Rattle.std.proofs.Common.{◌≡◌, ℕ, List, [], Option, Some, None, Result, Ok, Err, IsErr, ◌⊎◌, refl, sym, ap, subst, ◌∙◌, inl, inr}
-use Rattle.lfsed.specs.declared.fault.Fault.{Fault}
+use Rattle.lfs_step.specs.declared.fault.Fault.{Fault}
 use Rattle.lfsed.specs.declared.kind.Kind.{Kind}
 use Rattle.lfsed.specs.declared.kind.Kind.TheVariants.{Makes, Asks, Changes}
-use Rattle.lfsed.specs.declared.outcome.Outcome.{Outcome}
-use Rattle.lfsed.specs.declared.step.Step.{Step}
+use Rattle.lfs_step.specs.declared.outcome.Outcome.{Outcome}
+use Rattle.lfs_step.specs.declared.step.Step.{Step}
 use Rattle.lfsed.specs.declared.stop.Stop.{Stop}
-use Rattle.lfsed.specs.declared.step.Step.TheVariants.{Format, Check, Cat, Mkdir, Put, Rm, Mv, SetAttr, RmAttr}
-use Rattle.lfsed.specs.Deed.{Deed, deed_of}
+use Rattle.lfs_step.specs.declared.step.Step.TheVariants.{Format, Check, Cat, Mkdir, Put, Rm, Mv, SetAttr, RmAttr}
+use Rattle.lfs_step.specs.Deed.{Deed, deed_of}
 use Rattle.lfsed.specs.Files.{Files, IsTarget, KeepsOthers, ReadsFile, Replaces}
 use Rattle.lfsed.specs.Kind.{kind_of}
-use Rattle.lfsed.specs.Outcome.{Answers, Given, SendsText, given}
+use Rattle.lfs_step.specs.Outcome.{Answers, Given, SendsText, given}
 use Rattle.lfsed.specs.Program.{EndsStep, HandsImage, HandsInput, IsOfHost, LeavesFiles, Runs, RunsStep, SaysBefore, Scene, SparesFiles, StopsStep, NamesNoStep, most_image, new_name, stopped_by}
-use Rattle.lfsed.specs.Task.{SpellsNoKind, digits_of}
+use Rattle.lfsed.specs.Asking.{SpellsNoKind, digits_of}
 use Rattle.hex.specs.Hex.{decode_of}
 use Rattle.lfs_command.specs.declared.refusal.Refusal.TheVariants.{Memory}
-use Rattle.lfsed.specs.declared.fault.Fault.TheVariants.{Refused, BadHex}
-use Rattle.lfsed.specs.declared.task.Task.{Task}
+use Rattle.lfs_step.specs.declared.fault.Fault.TheVariants.{Refused, BadHex}
+use Rattle.lfs_words.specs.declared.task.Task.{Task}
 use Rattle.lfsed.proofs.FileLemmas.{keeps_same, keeps_target, reads_target, replaces_target}
 
 abbrev IsChange : Kind → Type 0

@@ -1,8 +1,8 @@
 -- Whether a step makes an image, asks something of one or changes it (own).
 use Rattle.lfsed.specs.declared.kind.Kind.{Kind}
 use Rattle.lfsed.specs.declared.kind.Kind.TheVariants.{Makes, Asks, Changes}
-use Rattle.lfsed.specs.declared.step.Step.{Step}
-use Rattle.lfsed.specs.declared.step.Step.TheVariants.{Format, Check, Cat}
+use Rattle.lfs_step.specs.declared.step.Step.{Step}
+use Rattle.lfs_step.specs.declared.step.Step.TheVariants.{Format, Check, Cat}
 
 -- the kind of a step
 abbrev pub kind_of : Step → Kind

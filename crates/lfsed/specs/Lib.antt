@@ -1,13 +1,5 @@
-pub mod Bytes
-pub mod Change
-pub mod Fault
-pub mod Query
-pub mod Deed
-pub mod Outcome
-pub mod Summary
-pub mod Task
 pub mod Files
 pub mod Kind
+pub mod Asking
 pub mod Program
 pub mod Words
-pub mod Laws

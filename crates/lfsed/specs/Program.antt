@@ -2,22 +2,22 @@
 use Rattle.std.specs.Prelude.{ℕ, ◌≡◌, ◌⊎◌, ◌++◌, ◌%◌, List, [], Option, Some, None, Result, Ok, Err, IsErr, codes}
 use Rattle.hex.specs.Hex.{decode_of}
 use Rattle.lfs_command.specs.declared.refusal.Refusal.TheVariants.{Memory}
-use Rattle.lfsed.specs.declared.fault.Fault.{Fault}
-use Rattle.lfsed.specs.declared.fault.Fault.TheVariants.{Refused, CannotRead, CannotWrite, BadHex}
+use Rattle.lfs_step.specs.declared.fault.Fault.{Fault}
+use Rattle.lfs_step.specs.declared.fault.Fault.TheVariants.{Refused, CannotRead, CannotWrite, BadHex}
 use Rattle.lfsed.specs.declared.kind.Kind.{Kind}
 use Rattle.lfsed.specs.declared.kind.Kind.TheVariants.{Makes, Asks, Changes}
-use Rattle.lfsed.specs.declared.outcome.Outcome.{Outcome}
-use Rattle.lfsed.specs.declared.request.Request.{Request}
-use Rattle.lfsed.specs.declared.step.Step.{Step}
-use Rattle.lfsed.specs.declared.step.Step.TheVariants.{Put}
+use Rattle.lfs_step.specs.declared.outcome.Outcome.{Outcome}
+use Rattle.lfs_words.specs.declared.request.Request.{Request}
+use Rattle.lfs_step.specs.declared.step.Step.{Step}
+use Rattle.lfs_step.specs.declared.step.Step.TheVariants.{Put}
 use Rattle.lfsed.specs.declared.stop.Stop.{Stop}
-use Rattle.lfsed.specs.declared.task.Task.{Task}
-use Rattle.lfsed.specs.Deed.{Deed, deed_of}
-use Rattle.lfsed.specs.Fault.{status_of}
+use Rattle.lfs_words.specs.declared.task.Task.{Task}
+use Rattle.lfs_step.specs.Deed.{Deed, deed_of}
+use Rattle.lfs_step.specs.Fault.{status_of}
 use Rattle.lfsed.specs.Files.{Files, KeepsOthers, ReadsFile, ReadsInput, Replaces}
 use Rattle.lfsed.specs.Kind.{kind_of}
-use Rattle.lfsed.specs.Outcome.{Answers, Given, SendsText, given}
-use Rattle.lfsed.specs.Task.{AsksFor, SpellsNoKind, digits_of}
+use Rattle.lfs_step.specs.Outcome.{Answers, Given, SendsText, given}
+use Rattle.lfsed.specs.Asking.{AsksFor, SpellsNoKind, digits_of}
 
 -- what is known of a host: its files, what is left on standard input, and what was printed
 pub record Scene : Type 0 where

@@ -4,19 +4,21 @@ ghost use Rattle.std.specs.Prelude.{◌≡◌, IfOk, map};
 ghost use Rattle.lfsed.specs.Program.{scene};
 ghost use Rattle.lfsed.specs.Words.{EndsWords, ended_with};
 
-use crate::command_line::{command_line, wished};
 use crate::explanations::explained;
-use crate::fault::Fault;
 use crate::host::Host;
 use crate::printing::print;
-use crate::request::Wish;
 use crate::serving::{USAGE, served};
-use crate::telling::{MORE, tell};
+use crate::telling::{MORE, tell_of_image};
 use clap::Error;
 use clap::error::ErrorKind;
 use lfs_edit::Refusal;
+use lfs_step::Fault;
+use lfs_words::{Wish, command_line, wished};
 use std::alloc::Global;
 use std::convert::AsStr;
+
+/// What a step without an image writes.
+const OUTPUT: &str = "standard output";
 
 /// Does what the words of a command line ask for, the program's name first among them, and answers the status that the
 /// program ends with. A fault is told on standard error.
@@ -28,7 +30,7 @@ pub fn cli<H: Host, W: AsStr>(alloc: Global, host: &mut H, words: &[W]) -> u8
 {
     match done(alloc, host, words) {
         Ok(status) => status,
-        Err(fault) => tell(host, fault),
+        Err(fault) => tell_of_image(host, OUTPUT, fault),
     }
 }
 

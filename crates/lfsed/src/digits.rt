@@ -3,11 +3,12 @@
 ghost use Rattle.std.specs.Prelude.{◌≡◌, ◌⊎◌, IsErr, IfOk, IfErr};
 ghost use Rattle.hex.specs.Hex.{decode_of, decode_sized};
 ghost use Rattle.lfs_command.specs.declared.refusal.Refusal.TheVariants.{Memory};
-ghost use Rattle.lfsed.specs.declared.fault.Fault.TheVariants.{Refused, BadHex};
-ghost use Rattle.lfsed.specs.Task.{SpellsByte, SpellsBytes};
+ghost use Rattle.lfs_step.specs.declared.fault.Fault.TheVariants.{Refused, BadHex};
+ghost use Rattle.lfsed.specs.Asking.{SpellsByte, SpellsBytes, fault_of_hex};
 
-use crate::fault::Fault;
-use hex::FromHex;
+use hex::{FromHex, FromHexError};
+use lfs_edit::Refusal;
+use lfs_step::Fault;
 use std::alloc::Global;
 
 /// The byte that two hexadecimal digits in either case are. `BadHex` for every other text. Takes no memory.
@@ -31,5 +32,18 @@ pub fn bytes_of(alloc: Global, text: &str) -> Result<Vec<u8>, Fault>
     ensures bytes { IfOk result (λ bytes. SpellsBytes text.now bytes.items) }
     ensures refused { IfErr result (λ fault. (fault ≡ Refused Memory) ⊎ ((fault ≡ BadHex) × IsErr (decode_of text.now))) }
 {
-    Ok(hex::decode(alloc, text)?)
+    match hex::decode(alloc, text) {
+        Ok(bytes) => Ok(bytes),
+        Err(error) => Err(fault_of(error)),
+    }
+}
+
+/// What digits that are no bytes are refused with.
+fn fault_of(error: FromHexError) -> Fault
+    ensures { result ≡ fault_of_hex error }
+{
+    match error {
+        FromHexError::OutOfMemory => Fault::Refused(Refusal::Memory),
+        _ => Fault::BadHex,
+    }
 }

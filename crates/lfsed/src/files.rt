@@ -71,13 +71,27 @@ fn take_leftover_away(rt: &HostRuntime, name: &str) -> io::Result<()> {
     Ok(())
 }
 
+/// Whether a name leads to a new file, which is kept for this run. Where that can't be known the file is taken away, but
+/// not where another run keeps it as a leftover, and takes it away itself.
+fn is_held(rt: &HostRuntime, name: &str, file: &File) -> io::Result<bool> {
+    let held = match lock(file) {
+        Ok(()) => leads_to(rt, name, file),
+        Err(error) => Err(error),
+    };
+    if let Err(error) = &held
+        && !says_kept(error)
+    {
+        let _ = fs::remove_file(rt, name);
+    }
+    held
+}
+
 /// A new file, kept for this run. What an earlier run left under the name is replaced.
 fn created(rt: &HostRuntime, name: &str) -> io::Result<File> {
     for _ in 0..MOST_TRIES {
         match File::create_new(rt, name) {
             Ok(file) => {
-                lock(&file)?;
-                if leads_to(rt, name, &file)? {
+                if is_held(rt, name, &file)? {
                     return Ok(file);
                 }
             }

@@ -91,8 +91,8 @@ pub trait Host {
     fn complain<D: Display + Drop>(&mut self, text: D)
         ensures kept { (files self.new ≡ files self.old) × (typed self.new ≡ typed self.old) × (printed self.new ≡ printed self.old) };
 
-    /// Writes a line to standard error: which file was refused last, the image of this name or another, and what the
-    /// system said. Nothing where it said nothing.
+    /// Writes a line to standard error: what was refused last, the image of this name, standard input or standard output,
+    /// and what the system said. Nothing where it said nothing.
     fn complain_of(&mut self, image: &str)
         ensures kept { (files self.new ≡ files self.old) × (typed self.new ≡ typed self.old) × (printed self.new ≡ printed self.old) };
 }

@@ -3,7 +3,7 @@
 ghost use Rattle.std.specs.Prelude.{◌≡◌};
 ghost use Rattle.lfsed.specs.Kind.{kind_of};
 
-use crate::step::Step;
+use lfs_step::Step;
 
 /// What a step is to an image.
 ///

@@ -1,41 +1,29 @@
 //! An editor for images of littlefs.
 #![tactic(auto)]
 
-mod changing;
+mod asking;
 mod cli;
-mod command_line;
-mod deed;
 mod digits;
 mod explanations;
-mod fault;
 mod files;
 mod host;
 mod kind;
-mod laws;
-mod outcome;
 mod output;
 mod printing;
-mod query;
-mod querying;
 mod replacing;
-mod request;
-mod run;
 mod serving;
 mod stated;
-mod step;
 mod stop;
-mod summary;
-mod task;
 mod telling;
 mod terminal;
 
 use crate::cli::cli as run_words;
-use crate::fault::Fault;
 use crate::host::Host;
 use crate::serving::USAGE;
 use crate::telling::tell;
 use crate::terminal::Terminal;
 use lfs_edit::Refusal;
+use lfs_step::Fault;
 use std::io::ErrorKind;
 use std::process::ExitCode;
 use std::{env, io};

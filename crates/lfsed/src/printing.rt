@@ -3,10 +3,10 @@
 ghost use Rattle.std.specs.Prelude.{◌≡◌, IfErr};
 ghost use Rattle.lfsed.specs.Program.{IsOfHost};
 
-use crate::fault::Fault;
 use crate::host::Host;
 use crate::output::Output;
 use lfs_sink::send;
+use lfs_step::Fault;
 
 /// Writes a text to standard output, and hands it on.
 ///

@@ -4,8 +4,8 @@ ghost use Rattle.std.specs.Prelude.{◌≡◌, IfErr, IfOk, MatchResult, string_
 ghost use Rattle.lfsed.specs.Files.{KeepsOthers, Replaces};
 ghost use Rattle.lfsed.specs.Program.{IsOfHost, new_name};
 
-use crate::fault::Fault;
 use crate::host::Host;
+use lfs_step::Fault;
 use std::alloc::{AllocError, Global};
 
 /// What stands behind the name of a file in the name of what is to become it.

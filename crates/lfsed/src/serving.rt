@@ -1,30 +1,28 @@
 //! What is asked for on an image's file.
 
 ghost use Rattle.std.specs.Prelude.{◌≡◌, [], Some, IfErr, IfOk, string_bytes};
-ghost use Rattle.lfsed.specs.Deed.{deed_of};
-ghost use Rattle.lfsed.specs.Fault.{status_of};
+ghost use Rattle.lfs_step.specs.Deed.{deed_of};
+ghost use Rattle.lfs_step.specs.Fault.{status_of};
 ghost use Rattle.lfsed.specs.Files.{IsTarget, ReadsFile};
 ghost use Rattle.lfsed.specs.Kind.{kind_of};
-ghost use Rattle.lfsed.specs.Outcome.{Answers, SendsText, given};
+ghost use Rattle.lfs_step.specs.Outcome.{Answers, SendsText, given};
 ghost use Rattle.lfsed.specs.Program.{EndsRequest, EndsStep, EndsTask, HandsInput, IsOfHost, Runs, most_image, scene, stopped_by, usage};
 ghost use Rattle.lfsed.specs.declared.kind.Kind.TheVariants.{Makes, Asks, Changes};
 
+use crate::asking::{digits_of, step_of};
 use crate::digits::bytes_of;
-use crate::fault::Fault;
 use crate::host::{Host, ReadFault};
 use crate::kind::{Kind, kind_of};
-use crate::outcome::Outcome;
 use crate::output::Output;
 use crate::printing::flush;
 use crate::replacing::replace;
-use crate::request::Request;
-use crate::run::run;
 use crate::stated::{Stated, stated_in};
-use crate::step::Step;
 use crate::stop::Stop;
-use crate::telling::{MORE, tell};
+use crate::telling::{MORE, tell_of_image};
 use lfs_block::{MAX_IMAGE_LENGTH, MountFault};
 use lfs_edit::Refusal;
+use lfs_step::{Fault, Outcome, Step, run};
+use lfs_words::Request;
 use std::alloc::Global;
 
 /// What a block size is a multiple of, in bytes.
@@ -69,10 +67,7 @@ fn tell_of<H: Host>(host: &mut H, image: &str, stop: &Stop) -> u8
     ensures status { result ≡ status_of (Some stop.now.fault) }
     ensures kept { (H.files host.new ≡ H.files host.old) × (H.typed host.new ≡ H.typed host.old) × (H.printed host.new ≡ H.printed host.old) }
 {
-    let status = tell(host, stop.fault);
-    if let Fault::CannotRead | Fault::CannotWrite = stop.fault {
-        host.complain_of(image);
-    }
+    let status = tell_of_image(host, image, stop.fault);
     if let Some(stated) = stop.stated {
         host.complain(format_args!(
             "lfsed: {image}: its superblock states {} blocks of {} bytes\n",
@@ -88,8 +83,8 @@ fn done<H: Host>(alloc: Global, host: &mut H, request: &Request<'_>) -> Result<(
         (scene (H.files host.old) (H.typed host.old) (H.printed host.old))
         (scene (H.files host.new) (H.typed host.new) (H.printed host.new)) (stopped_by result) }
 {
-    let value = bytes_of(alloc, request.task.digits())?;
-    let step = request.task.step(value.as_slice())?;
+    let value = bytes_of(alloc, digits_of(&request.task))?;
+    let step = step_of(&request.task, value.as_slice())?;
     stepped(alloc, host, request.size, request.image, &step)
 }
 

@@ -1,7 +1,7 @@
 //! Why a run ends early, and what is told of it.
 
-use crate::fault::Fault;
 use crate::stated::Stated;
+use lfs_step::Fault;
 use std::alloc::AllocError;
 
 /// Why a run ends without having done what it was asked for, and the geometry that the image's superblock states, where
@@ -30,7 +30,7 @@ impl From<Fault> for Stop {
 impl From<AllocError> for Stop {
     ghost use Rattle.std.specs.Prelude.{◌≡◌};
     ghost use Rattle.lfs_command.specs.declared.refusal.Refusal.TheVariants.{Memory};
-    ghost use Rattle.lfsed.specs.declared.fault.Fault.TheVariants.{Refused};
+    ghost use Rattle.lfs_step.specs.declared.fault.Fault.TheVariants.{Refused};
 
     ghost from_gives = { λ error stop. stop.fault ≡ Refused Memory };
 

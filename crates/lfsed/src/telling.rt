@@ -1,10 +1,10 @@
 //! What is told on standard error.
 
 ghost use Rattle.std.specs.Prelude.{◌≡◌, Some};
-ghost use Rattle.lfsed.specs.Fault.{status_of};
+ghost use Rattle.lfs_step.specs.Fault.{status_of};
 
-use crate::fault::Fault;
 use crate::host::Host;
+use lfs_step::Fault;
 
 /// What ends the text on a command line that is refused.
 pub const MORE: &str = "\n\nFor more information, try '--help'.\n";
@@ -19,4 +19,19 @@ pub fn tell<H: Host>(host: &mut H, fault: Fault) -> u8
     let number = fault.number();
     host.complain(format_args!("lfsed: {number} {fault}\n"));
     fault.status()
+}
+
+/// Tells a fault, and where the host refused something what that was: the image of this name, standard input or
+/// standard output. Answers the fault's status.
+///
+/// Source: own.
+pub fn tell_of_image<H: Host>(host: &mut H, image: &str, fault: Fault) -> u8
+    ensures status { result ≡ status_of (Some fault) }
+    ensures kept { (H.files host.new ≡ H.files host.old) × (H.typed host.new ≡ H.typed host.old) × (H.printed host.new ≡ H.printed host.old) }
+{
+    let status = tell(host, fault);
+    if let Fault::CannotRead | Fault::CannotWrite = fault {
+        host.complain_of(image);
+    }
+    status
 }

@@ -9,6 +9,17 @@ use std::fmt::Display;
 use std::fs::{self, File};
 use std::io::{self, ErrorKind, Printer, Read};
 
+/// What the system refused.
+#[derive(Clone, Copy)]
+enum Subject {
+    /// A file, or to give it another name.
+    File,
+    /// To read standard input.
+    Input,
+    /// To print.
+    Output,
+}
+
 /// The system's files, standard output and standard error.
 ///
 /// Source: own.
@@ -22,8 +33,8 @@ pub struct Terminal<'a> {
     new_image: Option<File>,
     /// What the system said when it refused something last.
     said: Option<io::Error>,
-    /// Whether that was about standard input.
-    is_input: bool,
+    /// What that was about.
+    subject: Subject,
 }
 
 impl<'a> Terminal<'a> {
@@ -35,7 +46,7 @@ impl<'a> Terminal<'a> {
             image: None,
             new_image: None,
             said: None,
-            is_input: false,
+            subject: Subject::File,
         }
     }
 
@@ -46,6 +57,13 @@ impl<'a> Terminal<'a> {
         }
         self.said = Some(error);
         ReadFault::CannotRead
+    }
+
+    /// Says what the system said of something, where it said something.
+    fn say_of(&self, name: &str, said: Option<&io::Error>) {
+        if let Some(error) = said {
+            let _ = self.rt.eprint(format_args!("lfsed: {name}: {error}\n"));
+        }
     }
 
     /// What was refused, which is kept.
@@ -59,7 +77,9 @@ impl<'a> Terminal<'a> {
 fn target_of(rt: &HostRuntime, alloc: Global, name: &str) -> io::Result<String> {
     match fs::symlink_metadata(rt, name) {
         Ok(found) if found.is_symlink() => Ok(fs::canonicalize(rt, name)?.into_string()),
-        _ => Ok(name.to_string(alloc)?),
+        Ok(_) => Ok(name.to_string(alloc)?),
+        Err(error) if error.kind() == ErrorKind::NotFound => Ok(name.to_string(alloc)?),
+        Err(error) => Err(error),
     }
 }
 
@@ -106,7 +126,7 @@ impl Host for Terminal<'_> {
         {
             Ok(_) => Ok(bytes),
             Err(error) => {
-                self.is_input = true;
+                self.subject = Subject::Input;
                 Err(self.read_fault(error))
             }
         }
@@ -136,16 +156,20 @@ impl Host for Terminal<'_> {
 
     fn print(&mut self, bytes: &[u8]) -> Option<usize> {
         if self.out.has_failed() {
-            None
-        } else {
-            self.out.write(bytes)
+            return None;
         }
+        let count = self.out.write(bytes);
+        if count.is_none() {
+            self.subject = Subject::Output;
+        }
+        count
     }
 
     fn flush(&mut self) -> Result<(), HostFault> {
         if self.out.flush() {
             Ok(())
         } else {
+            self.subject = Subject::Output;
             Err(HostFault)
         }
     }
@@ -155,13 +179,10 @@ impl Host for Terminal<'_> {
     }
 
     fn complain_of(&mut self, image: &str) {
-        let file = if self.is_input {
-            "standard input"
-        } else {
-            image
-        };
-        if let Some(error) = &self.said {
-            let _ = self.rt.eprint(format_args!("lfsed: {file}: {error}\n"));
+        match self.subject {
+            Subject::File => self.say_of(image, self.said.as_ref()),
+            Subject::Input => self.say_of("standard input", self.said.as_ref()),
+            Subject::Output => self.say_of("standard output", self.out.error()),
         }
     }
 }

@@ -1,8 +1,5 @@
 //! Runs of the program on a host in memory.
 
-mod changes;
-mod digits;
-mod faults;
 mod host_faults;
 mod images;
 mod memory_host;

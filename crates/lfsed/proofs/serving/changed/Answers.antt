@@ -1,7 +1,7 @@
 use Rattle.std.proofs.Common.{rules, ◌≡◌, ℕ, List, [], Option, Some, None, sym, ap, subst, ◌∙◌, refl, string_bytes}
 use Rattle.lfsed.specs.Program.{HandsInput, IsOfHost, Runs, Scene, most_image, new_name, scene, stopped_by}
-use Rattle.lfsed.specs.Deed.{deed_of}
-use Rattle.lfsed.specs.Outcome.{given}
+use Rattle.lfs_step.specs.Deed.{deed_of}
+use Rattle.lfs_step.specs.Outcome.{given}
 use Rattle.lfsed.proofs.FileLemmas.{kept_under, read_under, replaced_under}
 use Rattle.lfsed.proofs.StepLemmas.{Handed, change_leaves, change_spares, ends_behind, ends_refused, handed_ran, hands_file, stays_printed}
 use Rattle.lfsed.proofs.serving.changed.Goals as goal

@@ -1,7 +1,7 @@
 use Rattle.std.proofs.Common.{rules, ◌≡◌, Option, Some, refl, sym, ap, subst, ◌∙◌, inl, inr}
 use Rattle.std.proofs.lemmas.Result.{err_from_is_err_and}
 use Rattle.lfsed.specs.Program.{NamesNoStep, scene, stopped_by}
-use Rattle.lfsed.specs.declared.fault.Fault.{Fault}
+use Rattle.lfs_step.specs.declared.fault.Fault.{Fault}
 use Rattle.lfsed.proofs.StepLemmas.{no_bytes, no_kind, stopped_at}
 use Rattle.lfsed.proofs.serving.done.Goals as goal
 

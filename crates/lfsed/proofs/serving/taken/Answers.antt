@@ -1,6 +1,6 @@
 use Rattle.std.proofs.Common.{refl, Some, None}
-use Rattle.lfsed.specs.Deed.{deed_of}
-use Rattle.lfsed.specs.Outcome.{given}
+use Rattle.lfs_step.specs.Deed.{deed_of}
+use Rattle.lfs_step.specs.Outcome.{given}
 use Rattle.std.proofs.Common.{[]}
 use Rattle.lfsed.proofs.StepLemmas.{runs_with}
 use Rattle.lfsed.proofs.serving.taken.Goals as goal

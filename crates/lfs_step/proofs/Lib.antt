@@ -1,0 +1,3 @@
+pub mod ChangeLemmas
+pub mod LawLemmas
+pub mod OutcomeLemmas

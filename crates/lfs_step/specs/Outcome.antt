@@ -1,0 +1,68 @@
+-- The outcome of a run (own).
+use Rattle.std.specs.Prelude.{ℕ, ◌≡◌, Bool, true, false, List, [], Option, Some, None}
+use Rattle.std.specs.Io.KnownBytes.{Keeps}
+use Rattle.lfs_block.specs.Geometry.{IsGeometry}
+use Rattle.lfs_block.specs.declared.image_fault.ImageFault.TheVariants.{BadGeometry}
+use Rattle.lfs_command.specs.Faults.{refusal_number}
+use Rattle.lfs_edit.specs.Formatted.{IsFormatted}
+use Rattle.lfs_step.specs.declared.fault.Fault.{Fault}
+use Rattle.lfs_step.specs.declared.fault.Fault.TheVariants.{Image, Refused, CannotWrite}
+use Rattle.lfs_step.specs.declared.outcome.Outcome.{Outcome}
+use Rattle.lfs_step.specs.Bytes.{image_of}
+use Rattle.lfs_step.specs.Change.{ChangesBytes, RefusesChange}
+use Rattle.lfs_step.specs.Query.{RefusesQuery, SendsReport}
+use Rattle.lfs_step.specs.Deed.{Deed, Make, Ask, Change}
+
+-- what a step is given, beside what it reads: the size of a block, the bytes of the image and of the journal
+pub record Given : Type 0 where
+  pub size : ℕ
+  pub image : List ℕ
+  pub journal : List ℕ
+
+-- the same, from its parts
+abbrev pub given : ℕ → List ℕ → List ℕ → Given
+given size image journal = record { size = size; image = image; journal = journal }
+
+-- why no new image is made: its geometry, or want of memory
+abbrev pub RefusesFormat : ℕ → ℕ → Fault → Type 0
+RefusesFormat size count (Image BadGeometry) = ¬ IsGeometry size count
+RefusesFormat size count (Refused refusal) = refusal_number refusal ≡ 44
+RefusesFormat size count _ = ⊥
+
+-- the first fault of a deed that holds, or want of memory
+abbrev pub Refuses : Deed → Given → Fault → Type 0
+Refuses (Make count) g fault = RefusesFormat g.size count fault
+Refuses (Ask query) g fault = RefusesQuery query g.size g.image fault
+Refuses (Change asked) g fault = RefusesChange asked g.size g.image g.journal fault
+
+-- image and journal are those that the step was given
+abbrev pub KeepsBoth : Given → Outcome → Type 0
+KeepsBoth g outcome = (outcome.image.items ≡ g.image) × (outcome.journal.items ≡ g.journal)
+
+-- the image and the journal once a deed is done: a new image and no journal, those that were given, or the image that a
+-- command leaves
+abbrev pub AnswersDone : Deed → Given → Outcome → Type 0
+AnswersDone (Make count) g outcome = IsFormatted g.size count outcome.image.items × (outcome.journal.items ≡ [])
+AnswersDone (Ask query) g outcome = KeepsBoth g outcome
+AnswersDone (Change asked) g outcome = ChangesBytes asked g.size g.image g.journal outcome
+
+-- what is answered; with a fault, image and journal are those that were given
+abbrev pub AnswersBy : Option Fault → Deed → Given → Outcome → Type 0
+AnswersBy None deed g outcome = AnswersDone deed g outcome
+AnswersBy (Some fault) deed g outcome =
+    (outcome.image.items ≡ g.image) × (outcome.journal.items ≡ g.journal) × Refuses deed g fault
+
+-- the same by the outcome's own fault
+abbrev pub Answers : Deed → Given → Outcome → Type 0
+Answers deed g outcome = AnswersBy outcome.fault deed g outcome
+
+-- what goes out of a deed's text; only a query has one
+abbrev pub SendsText : Deed → Given → Option Fault → Option (List ℕ) → Option (List ℕ) → Type 0
+SendsText (Make count) g fault old new = Keeps old new
+SendsText (Ask query) g fault old new = SendsReport query (image_of g.size g.image) fault old new
+SendsText (Change asked) g fault old new = Keeps old new
+
+-- the fault is that standard output failed
+abbrev pub blames_output : Option Fault → Bool
+blames_output (Some CannotWrite) = true
+blames_output _ = false

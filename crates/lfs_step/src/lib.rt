@@ -1,0 +1,21 @@
+//! One step on the bytes of an image and its journal.
+#![tactic(auto)]
+
+mod changing;
+mod deed;
+mod fault;
+mod laws;
+mod outcome;
+mod query;
+mod querying;
+mod running;
+mod step;
+mod summary;
+
+pub use deed::{Deed, deed_of};
+pub use fault::Fault;
+pub use laws::{changed_bytes_are_equations, changed_bytes_are_taken_back};
+pub use outcome::Outcome;
+pub use query::Query;
+pub use running::run;
+pub use step::Step;

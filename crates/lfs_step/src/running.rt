@@ -1,0 +1,74 @@
+//! One step on an image.
+
+ghost use Rattle.std.specs.Prelude.{◌≡◌, false, IfOk, IfErr};
+ghost use Rattle.lfs_edit.specs.Formatted.{IsFormatted};
+ghost use Rattle.lfs_step.specs.Fault.{status_of};
+ghost use Rattle.lfs_step.specs.Outcome.{Answers, RefusesFormat, SendsText, blames_output, given};
+ghost use Rattle.lfs_step.specs.Deed.{Make, deed_of};
+
+use crate::changing::changed;
+use crate::deed::{Deed, deed_of};
+use crate::fault::Fault;
+use crate::laws::{changed_bytes_are_equations, changed_bytes_are_taken_back};
+use crate::outcome::Outcome;
+use crate::querying::queried;
+use crate::step::Step;
+use lfs_block::{ImageFault, geometry_ok};
+use lfs_edit::format;
+use lfs_sink::Sink;
+use std::alloc::Global;
+
+/// Takes one step on an image and its journal, with blocks of `size` bytes. `input` is what the step reads: the
+/// contents of a file that is put. What it says goes to `out`, and the caller owes that this has not failed. With a
+/// fault the image and the journal are those that were handed in, and nothing goes out but where `out` itself failed.
+/// No journal is read so far: a step that changes the image answers an empty one, and is refused with `JournalFormat`
+/// where the journal isn't empty. Takes memory.
+///
+/// Source: own.
+pub fn run<S: Sink>(
+    alloc: Global,
+    step: &Step<'_>,
+    size: u32,
+    image: Vec<u8>,
+    journal: Vec<u8>,
+    input: &[u8],
+    out: &mut S,
+) -> Outcome
+    requires { S.failed out.old ≡ false }
+    ensures answers { Answers (deed_of step.now input.now) (given size image.items journal.items) result }
+    ensures sent { SendsText (deed_of step.now input.now) (given size image.items journal.items) result.fault (S.sent out.old) (S.sent out.new) }
+    ensures failed { S.failed out.new ≡ blames_output result.fault }
+    ensures kept { S.kept out.new ≡ S.kept out.old }
+    ensures status { result.status ≡ status_of result.fault }
+{
+    changed_bytes_are_equations();
+    changed_bytes_are_taken_back();
+    match deed_of(step, input) {
+        Deed::Make { count } => formatted(alloc, size, count, image, journal),
+        Deed::Ask(query) => queried(alloc, &query, size, image, journal, out),
+        Deed::Change(command) => changed(alloc, &command, size, image, journal),
+    }
+}
+
+/// A new image with no journal.
+fn formatted(alloc: Global, size: u32, count: u32, image: Vec<u8>, journal: Vec<u8>) -> Outcome
+    ensures answers { Answers (Make count) (given size image.items journal.items) result }
+    ensures failed { blames_output result.fault ≡ false }
+    ensures status { result.status ≡ status_of result.fault }
+{
+    match new_image(alloc, size, count) {
+        Ok(new) => Outcome::new(new, Vec::new(alloc), None),
+        Err(fault) => Outcome::new(image, journal, Some(fault)),
+    }
+}
+
+/// The bytes of a new image.
+fn new_image(alloc: Global, size: u32, count: u32) -> Result<Vec<u8>, Fault>
+    ensures made { IfOk result (λ bytes. IsFormatted size count bytes.items) }
+    ensures refused { IfErr result (λ fault. RefusesFormat size count fault) }
+{
+    if !geometry_ok(size, count) {
+        return Err(Fault::Image(ImageFault::BadGeometry));
+    }
+    Ok(format(alloc, size, count)?)
+}

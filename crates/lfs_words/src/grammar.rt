@@ -1,0 +1,192 @@
+//! What a command line may say.
+
+use clap::{Arg, Command, value_parser};
+use std::alloc::{AllocError, Global};
+
+/// The program's version.
+const VERSION: &str = "0.1.0";
+
+/// What the statuses mean.
+const STATUSES: &str = "Status: 0 done; 1 the change is refused; 2 the command line is refused;
+3 the image is refused; 4 out of memory, or a file is not read or written.";
+
+/// What a command takes on its command line.
+#[derive(Clone, Copy)]
+enum Argument {
+    /// The block size.
+    Block,
+    /// The number of blocks.
+    Count,
+    /// The image's file name.
+    Image,
+    /// A path within the image.
+    Path,
+    /// The path of what is moved.
+    From,
+    /// The path that it gets.
+    To,
+    /// An attribute's kind.
+    Kind,
+    /// An attribute's value.
+    Value,
+    /// A fault's number.
+    Number,
+}
+
+/// A command of the program.
+struct CommandRow {
+    name: &'static str,
+    about: &'static str,
+    arguments: &'static [Argument],
+}
+
+/// The program's commands, in the order of its help. Each but the last takes the block size and the image's file name.
+const COMMANDS: [CommandRow; 10] = [
+    CommandRow {
+        name: "format",
+        about: "Write a new image, in place of a file of this name",
+        arguments: &[Argument::Block, Argument::Image, Argument::Count],
+    },
+    CommandRow {
+        name: "check",
+        about: "Judge an image; print its geometry, free blocks, directories and files",
+        arguments: &[Argument::Block, Argument::Image],
+    },
+    CommandRow {
+        name: "cat",
+        about: "Print the contents of a file",
+        arguments: &[Argument::Block, Argument::Image, Argument::Path],
+    },
+    CommandRow {
+        name: "mkdir",
+        about: "Make a directory",
+        arguments: &[Argument::Block, Argument::Image, Argument::Path],
+    },
+    CommandRow {
+        name: "put",
+        about: "Put a file, in place of one of this path; its contents are read from standard input",
+        arguments: &[Argument::Block, Argument::Image, Argument::Path],
+    },
+    CommandRow {
+        name: "rm",
+        about: "Remove a file or an empty directory",
+        arguments: &[Argument::Block, Argument::Image, Argument::Path],
+    },
+    CommandRow {
+        name: "mv",
+        about: "Move a file, or a directory with all that is below it",
+        arguments: &[
+            Argument::Block,
+            Argument::Image,
+            Argument::From,
+            Argument::To,
+        ],
+    },
+    CommandRow {
+        name: "setattr",
+        about: "Set an attribute of a file or a directory",
+        arguments: &[
+            Argument::Block,
+            Argument::Image,
+            Argument::Path,
+            Argument::Kind,
+            Argument::Value,
+        ],
+    },
+    CommandRow {
+        name: "rmattr",
+        about: "Remove an attribute of a file or a directory",
+        arguments: &[
+            Argument::Block,
+            Argument::Image,
+            Argument::Path,
+            Argument::Kind,
+        ],
+    },
+    CommandRow {
+        name: "explain",
+        about: "Say what a fault means, and what to do",
+        arguments: &[Argument::Number],
+    },
+];
+
+/// What is said of a path.
+const PATH: &str = "Path of a file or a directory in the image, from / on";
+
+/// What is said of the path of what is moved.
+const FROM: &str = "Path of what is moved, from / on";
+
+/// What is said of the path that it gets.
+const TO: &str = "Path that it gets, from / on; nothing may be there";
+
+/// What is said of a kind.
+const KIND: &str = "Kind of the attribute, in two hexadecimal digits";
+
+/// What is said of a value.
+const VALUE: &str = "Value of the attribute, in two hexadecimal digits for each byte; may be empty";
+
+/// An argument as clap takes it.
+fn clap_argument<'a>(alloc: Global, argument: Argument) -> Arg<'a> {
+    match argument {
+        Argument::Block => Arg::new(alloc, "block")
+            .short('b')
+            .long("block")
+            .value_name("BYTES")
+            .value_parser(value_parser!(u32).range(256..=65_536))
+            .default_value("4096")
+            .help("Size of a block, a multiple of 16 from 256 to 65536"),
+        Argument::Count => Arg::new(alloc, "count")
+            .long("count")
+            .value_name("N")
+            .value_parser(value_parser!(u32).range(2..=65_536))
+            .required(true)
+            .help("Number of blocks, from 2 to 65536; at most 67108864 bytes in all"),
+        Argument::Image => word(alloc, "image", "IMAGE", "File of the image"),
+        Argument::Path => any_word(alloc, "path", "PATH", PATH),
+        Argument::From => any_word(alloc, "from", "FROM", FROM),
+        Argument::To => any_word(alloc, "to", "TO", TO),
+        Argument::Kind => any_word(alloc, "kind", "KIND", KIND),
+        Argument::Value => any_word(alloc, "hex", "HEX", VALUE),
+        Argument::Number => {
+            word(alloc, "number", "NUMBER", "Number of the fault").value_parser(value_parser!(u32))
+        }
+    }
+}
+
+/// A word that must be there, and may begin with a hyphen.
+fn any_word<'a>(alloc: Global, id: &'a str, name: &'a str, help: &'a str) -> Arg<'a> {
+    word(alloc, id, name, help).allow_hyphen_values(true)
+}
+
+/// A word that must be there.
+fn word<'a>(alloc: Global, id: &'a str, name: &'a str, help: &'a str) -> Arg<'a> {
+    Arg::new(alloc, id)
+        .value_name(name)
+        .required(true)
+        .help(help)
+}
+
+/// A command as clap takes it.
+fn clap_command<'a>(alloc: Global, row: &CommandRow) -> Result<Command<'a>, AllocError> {
+    let mut command = Command::new(alloc, row.name).about(row.about);
+    for argument in row.arguments {
+        command = command.arg(clap_argument(alloc, *argument))?;
+    }
+    Ok(command)
+}
+
+/// The program's command line: its commands, each with what it takes.
+///
+/// Source: own.
+pub fn command_line<'a>(alloc: Global) -> Result<Command<'a>, AllocError> {
+    let mut program = Command::new(alloc, "lfsed")
+        .bin_name("lfsed")?
+        .version(VERSION)
+        .about("Edit littlefs images of disk version 2.0")
+        .after_help(STATUSES)
+        .subcommand_required(true);
+    for row in &COMMANDS {
+        program = program.subcommand(clap_command(alloc, row)?)?;
+    }
+    Ok(program)
+}

@@ -1,5 +1,0 @@
-use Rattle.lfsed.proofs.LawLemmas.{bytes_are_equations}
-use Rattle.lfsed.proofs.laws.changed_bytes_are_equations.Goals as goal
-
-pub returns : goal.returns
-returns c = bytes_are_equations c.commands_push_equations.ensures c.applied_patches_change_their_blocks.ensures.disk
