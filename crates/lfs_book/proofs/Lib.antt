@@ -1,0 +1,6 @@
+pub mod Fields
+pub mod Changes
+pub mod Patches
+pub mod Heads
+pub mod Books
+pub mod Loops

@@ -1,0 +1,12 @@
+use Rattle.std.proofs.Common.{subst}
+use Rattle.std.specs.List.{AllByRecursion}
+use Rattle.std.proofs.lemmas.List.{take-append-drop}
+use Rattle.lfs_book.specs.Book.{IsPatchOf}
+use Rattle.lfs_book.proofs.Patches.{patches_few}
+use Rattle.lfs_book.proofs.writing.write_journal.Goals as goal
+
+pub bytes_of-requires-clause-few : goal.bytes_of-requires-clause-few
+bytes_of-requires-clause-few c =
+    let patches = c.args.patches.now in
+    patches_few c.args.size c.args.count patches c.requires.book.geometry.count_fits.1
+    (subst (AllByRecursion (IsPatchOf c.args.size c.args.count)) (take-append-drop c.args.done patches) c.requires.book.each)

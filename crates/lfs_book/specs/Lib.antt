@@ -1,0 +1,5 @@
+pub mod Book
+pub mod Reading
+pub mod Faults
+pub mod Laws
+pub mod HeadSeen

@@ -1,0 +1,54 @@
+//! Why bytes are no journal.
+
+use std::alloc::{AllocError, AllocFailed};
+use thiserror::Error;
+
+/// Why bytes are not read as a journal.
+///
+/// Source: own.
+#[derive(Clone, Copy, Debug, PartialEq, Eq, Error)]
+pub enum JournalFault {
+    /// The bytes are no journal.
+    #[error("JournalFormat")]
+    JournalFormat,
+    /// A growth of memory was refused.
+    #[error("Memory")]
+    Memory,
+}
+
+impl JournalFault {
+    ghost use Rattle.std.specs.Prelude.{◌≡◌};
+    ghost use Rattle.lfs_book.specs.Faults.{journal_fault_number};
+
+    /// The fault's number: 50, and 44 for `Memory`.
+    pub fn number(self) -> u8
+        ensures { result ≡ journal_fault_number self }
+    {
+        match self {
+            JournalFault::JournalFormat => 50,
+            JournalFault::Memory => 44,
+        }
+    }
+}
+
+impl From<AllocError> for JournalFault {
+    ghost use Rattle.std.specs.Prelude.{◌≡◌};
+    ghost use Rattle.lfs_book.specs.declared.journal_fault.JournalFault.TheVariants.{Memory};
+
+    ghost from_gives = { λ error fault. fault ≡ Memory };
+
+    fn from(_error: AllocError) -> JournalFault {
+        JournalFault::Memory
+    }
+}
+
+impl<T: Drop> From<AllocFailed<T>> for JournalFault {
+    ghost use Rattle.std.specs.Prelude.{◌≡◌};
+    ghost use Rattle.lfs_book.specs.declared.journal_fault.JournalFault.TheVariants.{Memory};
+
+    ghost from_gives = { λ failed fault. fault ≡ Memory };
+
+    fn from(_failed: AllocFailed<T>) -> JournalFault {
+        JournalFault::Memory
+    }
+}

@@ -1,0 +1,15 @@
+//! The journal of an image: which changes were made and which were taken back, as a value and as bytes.
+#![tactic(auto)]
+
+mod journal;
+mod journal_fault;
+mod laws;
+mod reading;
+#[cfg(test)]
+mod tests;
+mod writing;
+
+pub use journal::Journal;
+pub use journal_fault::JournalFault;
+pub use laws::books_are_read_once;
+pub use writing::write_journal;

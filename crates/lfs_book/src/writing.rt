@@ -1,0 +1,113 @@
+//! Journals as they are written.
+
+ghost use Rattle.std.specs.Prelude.{◌≡◌, ◌<◌, ◌^◌, ◌++◌, length, flat_map, All, IfOk, OnOk, IfSome, codes};
+ghost use Rattle.std.specs.Int.{w32, to_le_bytes};
+ghost use Rattle.lfs_book.specs.Book.{IsBookOf, book_of, change_bytes, patch_bytes, journal_bytes};
+
+use crate::reading::VERSION;
+use lfs_block::{Patch, Record};
+use std::alloc::{AllocError, Global};
+
+/// Adds a number of four bytes, the lowest first.
+fn put_word(out: &mut Vec<u8>, word: u32) -> Result<(), AllocError>
+    ensures { OnOk result (out.new.items ≡ out.old.items ++ to_le_bytes w32 word) }
+{
+    out.extend_from_slice(&word.to_le_bytes())
+}
+
+/// Adds the change of one block.
+fn put_record(out: &mut Vec<u8>, change: &Record) -> Result<(), AllocError>
+    ensures { OnOk result (out.new.items ≡ out.old.items ++ change_bytes change.now) }
+{
+    put_word(out, change.number)?;
+    out.extend_from_slice(&change.old)?;
+    out.extend_from_slice(&change.new)
+}
+
+/// Adds the changes of one block each.
+fn put_records(out: &mut Vec<u8>, records: &[Record]) -> Result<(), AllocError>
+    ensures { OnOk result (out.new.items ≡ out.old.items ++ flat_map change_bytes records.now) }
+{
+    for record in records {
+        put_record(out, record)?;
+    }
+    Ok(())
+}
+
+/// Adds a change.
+fn put_patch(out: &mut Vec<u8>, patch: &Patch) -> Result<(), AllocError>
+    requires { length patch.now.changes < 2 ^ 32 }
+    ensures { OnOk result (out.new.items ≡ out.old.items ++ patch_bytes patch.now) }
+{
+    let records = patch.records();
+    put_word(out, records.len() as u32)?;
+    put_records(out, records)
+}
+
+/// Adds changes.
+fn put_patches(out: &mut Vec<u8>, patches: &[Patch]) -> Result<(), AllocError>
+    requires { All (λ p. length p.changes < 2 ^ 32) patches.now }
+    ensures { OnOk result (out.new.items ≡ out.old.items ++ flat_map patch_bytes patches.now) }
+{
+    for patch in patches {
+        put_patch(out, patch)?;
+    }
+    Ok(())
+}
+
+/// Adds what stands before the changes: the letters and the version, the block size and the number of blocks, how many
+/// changes are done and how many are undone.
+fn put_head(
+    out: &mut Vec<u8>,
+    size: u32,
+    count: u32,
+    done: u32,
+    undone: u32,
+) -> Result<(), AllocError>
+    ensures { OnOk result (out.new.items ≡ out.old.items ++ codes "lfsj" ++ to_le_bytes w32 1 ++ to_le_bytes w32 size
+        ++ to_le_bytes w32 count ++ to_le_bytes w32 done ++ to_le_bytes w32 undone) }
+{
+    out.extend_from_slice(b"lfsj")?;
+    put_word(out, VERSION)?;
+    put_word(out, size)?;
+    put_word(out, count)?;
+    put_word(out, done)?;
+    put_word(out, undone)
+}
+
+/// A journal's bytes: of its changes, the first `done` are done. The number of blocks of each fits a word.
+fn bytes_of(
+    alloc: Global,
+    size: u32,
+    count: u32,
+    patches: &[Patch],
+    done: usize,
+) -> Result<Vec<u8>, AllocError>
+    requires book { IsBookOf size count patches.now done }
+    requires few { All (λ p. length p.changes < 2 ^ 32) patches.now }
+    ensures { IfOk result (λ bytes. bytes.items ≡ journal_bytes (book_of size count patches.now done)) }
+{
+    let mut out = Vec::new(alloc);
+    let undone = patches.len() - done;
+    put_head(&mut out, size, count, done as u32, undone as u32)?;
+    put_patches(&mut out, patches)?;
+    Ok(out)
+}
+
+/// The bytes of the journal of an image of `count` blocks of `size` bytes: of its changes, the first `done` are done, and
+/// the others undone, in the order in which they are made again. The caller owes that they are a journal. `None` where
+/// memory is refused.
+///
+/// Source: own.
+pub fn write_journal(
+    alloc: Global,
+    size: u32,
+    count: u32,
+    patches: &[Patch],
+    done: usize,
+) -> Option<Vec<u8>>
+    requires { IsBookOf size count patches.now done }
+    ensures { IfSome result (λ bytes. bytes.items ≡ journal_bytes (book_of size count patches.now done)) }
+{
+    bytes_of(alloc, size, count, patches, done).ok()
+}
