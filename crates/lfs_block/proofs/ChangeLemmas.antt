@@ -1,5 +1,6 @@
 -- The change of a block among changes whose numbers rise.
-use Rattle.std.proofs.Common.{◌≡◌, ◌≢◌, ◌⊎◌, ℕ, zero, suc, ◌<◌, ◌≤◌, ◌==◌, Bool, true, false, nat_lt, List, [], ◌∷◌, length, map, Option, Some, None}
+use Rattle.std.proofs.Common.{◌≡◌, ◌≢◌, ◌⊎◌, ℕ, zero, suc, ◌<◌, ◌≤◌, ◌==◌, Bool, true, false, nat_lt, List, [], ◌∷◌, length, map, Option}
+use Rattle.std.proofs.Common.{Some, None}
 use Rattle.std.proofs.Common.{slice_index_or, cond, option_map, refl, ap, sym, subst, ◌∙◌, arith, inl, inr}
 use Rattle.std.specs.List.Sorted.{IsPartitionedBy, IsPartitionPoint}
 use Rattle.std.proofs.lemmas.Bool.{cases_eq, cond-true, cond-false, eq-eqb, ne_eqb}
@@ -24,7 +25,8 @@ change-found (c ∷ cs) n (suc i) d before within is =
     ∙ change-found cs n i d (λ k less. before (suc k) (omega (arith, less))) (omega (arith, within)) is
 
 -- where no number is n
-pub change-missing : (cs : List Change) (n : ℕ) (d : Change) → ((k : ℕ) → k < length cs → (slice_index_or cs k d).number ≢ n) → change_of n cs ≡ None
+pub change-missing : (cs : List Change) (n : ℕ) (d : Change) → ((k : ℕ) → k < length cs → (slice_index_or cs k d).number ≢ n)
+    → change_of n cs ≡ None
 change-missing [] n d other = refl
 change-missing (c ∷ cs) n d other =
     change-past c cs n (other 0 (omega arith)) ∙ change-missing cs n d (λ k less. other (suc k) (omega (arith, less)))

@@ -1,5 +1,6 @@
 -- The checksum of bytes by tables: shifting bits out is linear over the exclusive or.
-use Rattle.std.proofs.Common.{◌≡◌, ℕ, ◌+◌, ◌*◌, ◌/◌, ◌%◌, ◌^◌, ◌<◌, ◌==◌, if◌then◌else◌, refl, ap, ap₂, sym, ◌∙◌, arith, suc, zero, bit_and, zero-add}
+use Rattle.std.proofs.Common.{◌≡◌, ℕ, ◌+◌, ◌*◌, ◌/◌, ◌%◌, ◌^◌, ◌<◌, ◌==◌, if◌then◌else◌, refl, ap, ap₂, sym, ◌∙◌, arith, suc, zero, bit_and}
+use Rattle.std.proofs.Common.{zero-add}
 use Rattle.std.specs.Prelude.{bit_xor, List, [], ◌∷◌, ◌++◌, length, take, drop, map, slice_index_or}
 use Rattle.std.specs.List.{range_with_len, fold}
 use Rattle.std.specs.Simd.{first_chunks}
@@ -126,7 +127,8 @@ crc-first b bytes = crc-split (crc_bits b) bytes
 -- a word of 32 bits by its bytes
 crc_shifted-word : (c : ℕ) → c < 2 ^ 32
     → crc_shifted 8 c
-    ≡ bit_xor (crc_shifted 8 (c % 256)) (bit_xor (crc_shifted 7 (c / 256 % 256)) (bit_xor (crc_shifted 6 (c / 65536 % 256)) (crc_shifted 5 (c / 16777216 % 256))))
+    ≡ bit_xor (crc_shifted 8 (c % 256)) (bit_xor (crc_shifted 7 (c / 256 % 256))
+    (bit_xor (crc_shifted 6 (c / 65536 % 256)) (crc_shifted 5 (c / 16777216 % 256))))
 crc_shifted-word c fits =
     let third : c / 256 / 256 ≡ c / 65536 = omega arith in
     let fourth : c / 65536 / 256 ≡ c / 16777216 % 256 = omega arith in
@@ -140,25 +142,31 @@ crc_shifted-word c fits =
 -- eight bytes more: the first four meet those of the checksum
 crc-eight : (c a0 a1 a2 a3 a4 a5 a6 a7 : ℕ) → c < 2 ^ 32
     → crc c (a0 ∷ a1 ∷ a2 ∷ a3 ∷ a4 ∷ a5 ∷ a6 ∷ a7 ∷ [])
-    ≡ bit_xor (bit_xor (bit_xor (bit_xor (bit_xor (bit_xor (bit_xor (crc_shifted 8 (bit_xor (c % 256) a0)) (crc_shifted 7 (bit_xor (c / 256 % 256) a1)))
-    (crc_shifted 6 (bit_xor (c / 65536 % 256) a2))) (crc_shifted 5 (bit_xor (c / 16777216 % 256) a3))) (crc_shifted 4 a4)) (crc_shifted 3 a5)) (crc_shifted 2 a6)) (crc_shifted 1 a7)
+    ≡ bit_xor (bit_xor (bit_xor (bit_xor (bit_xor (bit_xor (bit_xor (crc_shifted 8 (bit_xor (c % 256) a0))
+    (crc_shifted 7 (bit_xor (c / 256 % 256) a1)))
+    (crc_shifted 6 (bit_xor (c / 65536 % 256) a2))) (crc_shifted 5 (bit_xor (c / 16777216 % 256) a3))) (crc_shifted 4 a4))
+    (crc_shifted 3 a5)) (crc_shifted 2 a6)) (crc_shifted 1 a7)
 crc-eight c a0 a1 a2 a3 a4 a5 a6 a7 fits =
     let c0 : ℕ = c % 256 in
     let c1 : ℕ = c / 256 % 256 in
     let c2 : ℕ = c / 65536 % 256 in
     let c3 : ℕ = c / 16777216 % 256 in
-    let low : crc 0 (a4 ∷ a5 ∷ a6 ∷ a7 ∷ []) ≡ bit_xor (crc_shifted 4 a4) (bit_xor (crc_shifted 3 a5) (bit_xor (crc_shifted 2 a6) (crc_shifted 1 a7))) =
+    let low : crc 0 (a4 ∷ a5 ∷ a6 ∷ a7 ∷ []) ≡ bit_xor (crc_shifted 4 a4)
+    (bit_xor (crc_shifted 3 a5) (bit_xor (crc_shifted 2 a6) (crc_shifted 1 a7))) =
     crc-first a4 (a5 ∷ a6 ∷ a7 ∷ [])
     ∙ ap (bit_xor (crc_shifted 4 a4)) (crc-first a5 (a6 ∷ a7 ∷ []) ∙ ap (bit_xor (crc_shifted 3 a5))
     (crc-first a6 (a7 ∷ []) ∙ ap (bit_xor (crc_shifted 2 a6)) (crc-first a7 [] ∙ xor_zero (crc_shifted 1 a7)))) in
     let all : crc 0 (a0 ∷ a1 ∷ a2 ∷ a3 ∷ a4 ∷ a5 ∷ a6 ∷ a7 ∷ [])
-    ≡ bit_xor (crc_shifted 8 a0) (bit_xor (crc_shifted 7 a1) (bit_xor (crc_shifted 6 a2) (bit_xor (crc_shifted 5 a3) (crc 0 (a4 ∷ a5 ∷ a6 ∷ a7 ∷ []))))) =
+    ≡ bit_xor (crc_shifted 8 a0) (bit_xor (crc_shifted 7 a1) (bit_xor (crc_shifted 6 a2)
+    (bit_xor (crc_shifted 5 a3) (crc 0 (a4 ∷ a5 ∷ a6 ∷ a7 ∷ []))))) =
     crc-first a0 (a1 ∷ a2 ∷ a3 ∷ a4 ∷ a5 ∷ a6 ∷ a7 ∷ [])
     ∙ ap (bit_xor (crc_shifted 8 a0)) (crc-first a1 (a2 ∷ a3 ∷ a4 ∷ a5 ∷ a6 ∷ a7 ∷ []) ∙ ap (bit_xor (crc_shifted 7 a1))
     (crc-first a2 (a3 ∷ a4 ∷ a5 ∷ a6 ∷ a7 ∷ []) ∙ ap (bit_xor (crc_shifted 6 a2)) (crc-first a3 (a4 ∷ a5 ∷ a6 ∷ a7 ∷ [])))) in
     crc-split c (a0 ∷ a1 ∷ a2 ∷ a3 ∷ a4 ∷ a5 ∷ a6 ∷ a7 ∷ [])
-    ∙ ap₂ bit_xor (crc_shifted-word c fits) (all ∙ ap (λ x. bit_xor (crc_shifted 8 a0) (bit_xor (crc_shifted 7 a1) (bit_xor (crc_shifted 6 a2) (bit_xor (crc_shifted 5 a3) x)))) low)
-    ∙ four_and_rest (crc_shifted 8 c0) (crc_shifted 7 c1) (crc_shifted 6 c2) (crc_shifted 5 c3) (crc_shifted 8 a0) (crc_shifted 7 a1) (crc_shifted 6 a2) (crc_shifted 5 a3)
+    ∙ ap₂ bit_xor (crc_shifted-word c fits) (all ∙ ap (λ x. bit_xor (crc_shifted 8 a0)
+    (bit_xor (crc_shifted 7 a1) (bit_xor (crc_shifted 6 a2) (bit_xor (crc_shifted 5 a3) x)))) low)
+    ∙ four_and_rest (crc_shifted 8 c0) (crc_shifted 7 c1) (crc_shifted 6 c2) (crc_shifted 5 c3) (crc_shifted 8 a0) (crc_shifted 7 a1)
+    (crc_shifted 6 a2) (crc_shifted 5 a3)
     (bit_xor (crc_shifted 4 a4) (bit_xor (crc_shifted 3 a5) (bit_xor (crc_shifted 2 a6) (crc_shifted 1 a7))))
     ∙ simp (← crc_shifted-xor) (simp xor_assoc)
 
@@ -187,7 +195,8 @@ tables-are : TABLES ≡ rows 8 (range_with_len 0 256)
 unfolding crc_bits crc_bit rows
 tables-are = refl
 
-rows_word : (n k i : ℕ) (row : List ℕ) → k < n → i < length row → slice_index_or (slice_index_or (rows n row) k []) i 0 ≡ crc_shifted (suc k) (slice_index_or row i 0)
+rows_word : (n k i : ℕ) (row : List ℕ) → k < n → i < length row → slice_index_or (slice_index_or (rows n row) k []) i 0
+    ≡ crc_shifted (suc k) (slice_index_or row i 0)
 unfolding rows crc_shifted
 rows_word zero k i row hk hi = absurd (omega arith)
 rows_word (suc n) zero i row hk hi = get_or-map crc_bits row i 0 0 hi
@@ -238,7 +247,8 @@ last-first a b c d e f g h =
     apart ∙ xor_comm behind front ∙ joined
 
 -- eight bytes more, by the tables, where the first four meet those of the checksum as one word
-pub add-eight : (c w : ℕ) (met bytes : List ℕ) (w0 w1 w2 w3 w4 w5 w6 w7 : ℕ) → c < 2 ^ 32 → length bytes ≡ 8 → ((i : ℕ) → slice_index_or bytes i 0 < 256)
+pub add-eight : (c w : ℕ) (met bytes : List ℕ) (w0 w1 w2 w3 w4 w5 w6 w7 : ℕ) → c < 2 ^ 32 → length bytes ≡ 8
+    → ((i : ℕ) → slice_index_or bytes i 0 < 256)
     → w ≡ from_le_bytes w32 (slice_index_or bytes 0 0 ∷ slice_index_or bytes 1 0 ∷ slice_index_or bytes 2 0 ∷ slice_index_or bytes 3 0 ∷ [])
     → met ≡ bit_xor c w % 256 ∷ bit_xor c w / 256 % 256 ∷ bit_xor c w / 65536 % 256 ∷ bit_xor c w / 16777216 % 256 ∷ []
     → w4 ≡ crc_shifted 4 (slice_index_or bytes 4 0) → w5 ≡ crc_shifted 3 (slice_index_or bytes 5 0)
@@ -254,9 +264,12 @@ add-eight c w met bytes w0 w1 w2 w3 w4 w5 w6 w7 fits len each is meets e4 e5 e6 
     last-first w0 w1 w2 w3 w4 w5 w6 w7
     ∙ add-words c (c % 256 ∷ c / 256 % 256 ∷ c / 65536 % 256 ∷ c / 16777216 % 256 ∷ []) bytes w0 w1 w2 w3 w4 w5 w6 w7 fits len refl
     (e0 ∙ ap (λ (l : List ℕ). crc_shifted 8 (slice_index_or l 0 0)) meets ∙ ap (crc_shifted 8) (xor_mod c w 8 ∙ ap (bit_xor (c % 256)) b0))
-    (e1 ∙ ap (λ (l : List ℕ). crc_shifted 7 (slice_index_or l 1 0)) meets ∙ ap (crc_shifted 7) (met-byte c w 8 ∙ ap (bit_xor (c / 256 % 256)) b1))
-    (e2 ∙ ap (λ (l : List ℕ). crc_shifted 6 (slice_index_or l 2 0)) meets ∙ ap (crc_shifted 6) (met-byte c w 16 ∙ ap (bit_xor (c / 65536 % 256)) b2))
-    (e3 ∙ ap (λ (l : List ℕ). crc_shifted 5 (slice_index_or l 3 0)) meets ∙ ap (crc_shifted 5) (met-byte c w 24 ∙ ap (bit_xor (c / 16777216 % 256)) b3))
+    (e1 ∙ ap (λ (l : List ℕ). crc_shifted 7 (slice_index_or l 1 0)) meets
+    ∙ ap (crc_shifted 7) (met-byte c w 8 ∙ ap (bit_xor (c / 256 % 256)) b1))
+    (e2 ∙ ap (λ (l : List ℕ). crc_shifted 6 (slice_index_or l 2 0)) meets
+    ∙ ap (crc_shifted 6) (met-byte c w 16 ∙ ap (bit_xor (c / 65536 % 256)) b2))
+    (e3 ∙ ap (λ (l : List ℕ). crc_shifted 5 (slice_index_or l 3 0)) meets
+    ∙ ap (crc_shifted 5) (met-byte c w 24 ∙ ap (bit_xor (c / 16777216 % 256)) b3))
     e4 e5 e6 e7
 
 take-more : (m n : ℕ) (bytes : List ℕ) → take m bytes ++ take n (drop m bytes) ≡ take (m + n) bytes
@@ -272,7 +285,8 @@ crc-chunks (suc n) start bytes =
     ∙ sym (fold-append crc_byte start (take 8 bytes) (take (n * 8) (drop 8 bytes)))
     ∙ ap (crc start) (take-more 8 (n * 8) bytes ∙ ap (λ (m : ℕ). take m bytes) (omega arith))
 
-pub crc-parts : (start : ℕ) (bytes : List ℕ) → crc (fold crc start (first_chunks 8 (length bytes / 8) bytes)) (drop (length bytes / 8 * 8) bytes) ≡ crc start bytes
+pub crc-parts : (start : ℕ) (bytes : List ℕ) → crc (fold crc start (first_chunks 8 (length bytes / 8) bytes))
+    (drop (length bytes / 8 * 8) bytes) ≡ crc start bytes
 crc-parts start bytes =
     ap (λ s. crc s (drop (length bytes / 8 * 8) bytes)) (crc-chunks (length bytes / 8) start bytes)
     ∙ sym (fold-append crc_byte start (take (length bytes / 8 * 8) bytes) (drop (length bytes / 8 * 8) bytes))

@@ -1,5 +1,6 @@
 -- What the blocks of an overlay hold.
-use Rattle.std.proofs.Common.{◌≡◌, ◌≢◌, ℕ, ◌<◌, ◌==◌, List, [], ◌∷◌, map, Option, Some, None, option_map, refl, ap, sym, subst, ◌∙◌, inl, inr}
+use Rattle.std.proofs.Common.{◌≡◌, ◌≢◌, ℕ, ◌<◌, ◌==◌, List, [], ◌∷◌, map, Option, Some, None, option_map, refl, ap, sym, subst, ◌∙◌, inl}
+use Rattle.std.proofs.Common.{inr}
 use Rattle.std.specs.List.{AllByRecursion}
 use Rattle.std.proofs.lemmas.Bool.{cases_eq}
 use Rattle.lfs_block.specs.Change.{Change, IsBlockChange, IsRising, change_of, flip, overlaid}
@@ -11,7 +12,8 @@ use Rattle.lfs_block.specs.PatchLaws.{FitsDisk, IsDiskAs}
 use Rattle.lfs_block.specs.declared.side.Side.{Side}
 use Rattle.lfs_block.specs.declared.side.Side.TheVariants.{Old, New}
 use Rattle.lfs_block.proofs.ChangeLemmas.{change-here, change-past, held_by, overlaid-by}
-use Rattle.lfs_block.proofs.PatchLemmas.{changed-blocks, changed-is_disk, each-both, each-flipped, each-one, each-unflipped, flip-rising, flip-whole}
+use Rattle.lfs_block.proofs.PatchLemmas.{changed-blocks, changed-is_disk, each-both, each-flipped, each-one, each-unflipped, flip-rising}
+use Rattle.lfs_block.proofs.PatchLemmas.{flip-whole}
 
 -- a patch that fits a disk lies on it
 pub lies : (p : ChangeSet) (d : Disk) (size : ℕ) (cs : List Change) → IsPatch p → FitsPatch p d → IsDisk d → size ≡ d.size → cs ≡ p.changes

@@ -1,5 +1,6 @@
 -- What a change of some blocks leaves, and that its reverse undoes it.
-use Rattle.std.proofs.Common.{◌≡◌, ◌≢◌, ◌↔◌, ℕ, ◌<◌, ◌==◌, Bool, true, false, IsTrue, List, [], ◌∷◌, length, map, refl, ap, sym, subst, ◌∙◌, arith, inl, inr}
+use Rattle.std.proofs.Common.{◌≡◌, ◌≢◌, ◌↔◌, ℕ, ◌<◌, ◌==◌, Bool, true, false, IsTrue, List, [], ◌∷◌, length, map, refl, ap, sym, subst, ◌∙◌}
+use Rattle.std.proofs.Common.{arith, inl, inr}
 use Rattle.std.specs.Bool.{MatchBool}
 use Rattle.std.specs.List.{AllByRecursion, AllWithin, HoldsAt}
 use Rattle.std.proofs.lemmas.Bool.{cases_eq, cond-true, cond-false, eq-eqb, false≢true, ne_eqb}
@@ -13,7 +14,8 @@ use Rattle.lfs_block.proofs.PutLemmas.{block_of-put, block_of-put_other, put-is_
 
 -- ---- each of some changes
 
-pub each-both : (P Q R : Change → Type 0) → ((c : Change) → P c → Q c → R c) → (cs : List Change) → AllByRecursion P cs → AllByRecursion Q cs → AllByRecursion R cs
+pub each-both : (P Q R : Change → Type 0) → ((c : Change) → P c → Q c → R c) → (cs : List Change) → AllByRecursion P cs
+    → AllByRecursion Q cs → AllByRecursion R cs
 each-both P Q R join [] these those = tt
 each-both P Q R join (c ∷ cs) these those = (join c these.0 those.0, each-both P Q R join cs these.1 those.1)
 
@@ -21,11 +23,13 @@ pub each-one : (P Q : Change → Type 0) → ((c : Change) → P c → Q c) → 
 each-one P Q turn [] each = tt
 each-one P Q turn (c ∷ cs) each = (turn c each.0, each-one P Q turn cs each.1)
 
-pub each-flipped : (P Q : Change → Type 0) → ((c : Change) → P c → Q (flip c)) → (cs : List Change) → AllByRecursion P cs → AllByRecursion Q (map flip cs)
+pub each-flipped : (P Q : Change → Type 0) → ((c : Change) → P c → Q (flip c)) → (cs : List Change) → AllByRecursion P cs
+    → AllByRecursion Q (map flip cs)
 each-flipped P Q turn [] each = tt
 each-flipped P Q turn (c ∷ cs) each = (turn c each.0, each-flipped P Q turn cs each.1)
 
-pub each-unflipped : (P Q : Change → Type 0) → ((c : Change) → Q (flip c) → P c) → (cs : List Change) → AllByRecursion Q (map flip cs) → AllByRecursion P cs
+pub each-unflipped : (P Q : Change → Type 0) → ((c : Change) → Q (flip c) → P c) → (cs : List Change) → AllByRecursion Q (map flip cs)
+    → AllByRecursion P cs
 each-unflipped P Q turn [] each = tt
 each-unflipped P Q turn (c ∷ cs) each = (turn c each.0, each-unflipped P Q turn cs each.1)
 
@@ -37,7 +41,10 @@ flip-twice (c ∷ cs) = ap (λ (es : List Change). c ∷ es) (flip-twice cs)
 
 pub flip-rising : (cs : List Change) → IsRising cs → IsRising (map flip cs)
 flip-rising [] rising = tt
-flip-rising (c ∷ cs) rising = (each-flipped (λ e. c.number < e.number) (λ e. c.number < e.number) (λ e lt. lt) cs rising.0, flip-rising cs rising.1)
+flip-rising (c ∷ cs) rising = (
+  each-flipped (λ e. c.number < e.number) (λ e. c.number < e.number) (λ e lt. lt) cs rising.0,
+  flip-rising cs rising.1,
+)
 
 pub flip-whole : (size : ℕ) (c : Change) → IsBlockChange size c → IsBlockChange size (flip c)
 flip-whole size c whole = record { old = whole.new; new = whole.old; old_bytes = whole.new_bytes; new_bytes = whole.old_bytes }
@@ -73,12 +80,15 @@ overlaid-each : (held : ℕ → List ℕ) (cs : List Change) → IsRising cs →
 overlaid-each held [] rising = tt
 overlaid-each held (c ∷ cs) rising = (
   overlaid-here c cs c.number (held c.number) refl,
-  each-both (λ e. c.number < e.number) (λ e. overlaid cs e.number (held e.number) ≡ e.new) (λ e. overlaid (c ∷ cs) e.number (held e.number) ≡ e.new)
-      (λ e less is. overlaid-past c cs e.number (held e.number) (λ same. absurd (omega (arith, less, same))) ∙ is) cs rising.0 (overlaid-each held cs rising.1),
+  each-both (λ e. c.number < e.number) (λ e. overlaid cs e.number (held e.number) ≡ e.new)
+      (λ e. overlaid (c ∷ cs) e.number (held e.number) ≡ e.new)
+      (λ e less is. overlaid-past c cs e.number (held e.number) (λ same. absurd (omega (arith, less, same))) ∙ is) cs rising.0
+      (overlaid-each held cs rising.1),
 )
 
 -- changes and their reverse leave a block as it was
-overlaid-back : (d : Disk) (cs : List Change) (n : ℕ) → AllByRecursion (Stands d) cs → overlaid (map flip cs) n (overlaid cs n (block_of d n)) ≡ block_of d n
+overlaid-back : (d : Disk) (cs : List Change) (n : ℕ) → AllByRecursion (Stands d) cs
+    → overlaid (map flip cs) n (overlaid cs n (block_of d n)) ≡ block_of d n
 overlaid-back d [] n stand = refl
 overlaid-back d (c ∷ cs) n stand =
     let now : List ℕ = overlaid (c ∷ cs) n (block_of d n) in
@@ -95,7 +105,8 @@ overlaid-back d (c ∷ cs) n stand =
 pub changed-is_disk : (d : Disk) (cs : List Change) → IsDisk d → AllByRecursion (FitsDisk d) cs → IsDiskAs d (put_all cs d)
 changed-is_disk d [] disk fits = record { disk = disk; size = refl; count = refl }
 changed-is_disk d (c ∷ cs) disk fits =
-    let next = changed-is_disk (put c.number c.new d) cs (put-is_disk d c.number c.new disk fits.0.0 fits.0.1.new fits.0.1.new_bytes) fits.1 in
+    let next = changed-is_disk (put c.number c.new d) cs (put-is_disk d c.number c.new disk fits.0.0 fits.0.1.new
+    fits.0.1.new_bytes) fits.1 in
     record { disk = next.disk; size = next.size; count = next.count }
 
 pub changed-blocks : (d : Disk) (cs : List Change) (n : ℕ) → IsDisk d → IsRising cs → AllByRecursion (FitsDisk d) cs
@@ -120,9 +131,11 @@ changed-blocks d (c ∷ cs) n disk rising fits =
 
 -- ---- a patch
 
-fits-of : (size : ℕ) (d : Disk) (cs : List Change) → size ≡ d.size → AllByRecursion (IsBlockChange size) cs → AllByRecursion (Stands d) cs → AllByRecursion (FitsDisk d) cs
+fits-of : (size : ℕ) (d : Disk) (cs : List Change) → size ≡ d.size → AllByRecursion (IsBlockChange size) cs → AllByRecursion (Stands d) cs
+    → AllByRecursion (FitsDisk d) cs
 fits-of size d cs same whole stand =
-    each-both (IsBlockChange size) (Stands d) (FitsDisk d) (λ c is stands. (stands.0, subst (λ (k : ℕ). IsBlockChange k c) same is)) cs whole stand
+    each-both (IsBlockChange size) (Stands d) (FitsDisk d) (λ c is stands. (stands.0, subst (λ (k : ℕ). IsBlockChange k c) same is)) cs
+    whole stand
 
 pub patch-fits : (p : ChangeSet) (d : Disk) → IsPatch p → AgreesOld p d → AllByRecursion (FitsDisk d) p.changes
 patch-fits p d is agrees = fits-of p.size d p.changes agrees.size is.whole agrees.stand
@@ -130,7 +143,8 @@ patch-fits p d is agrees = fits-of p.size d p.changes agrees.size is.whole agree
 pub applied-is_disk : (p : ChangeSet) (d : Disk) → IsDisk d → IsPatch p → AgreesOld p d → IsDiskAs d (applied p d)
 applied-is_disk p d disk is agrees = changed-is_disk d p.changes disk (patch-fits p d is agrees)
 
-pub applied-blocks : (p : ChangeSet) (d : Disk) (n : ℕ) → IsDisk d → IsPatch p → AgreesOld p d → block_of (applied p d) n ≡ overlaid p.changes n (block_of d n)
+pub applied-blocks : (p : ChangeSet) (d : Disk) (n : ℕ) → IsDisk d → IsPatch p → AgreesOld p d
+    → block_of (applied p d) n ≡ overlaid p.changes n (block_of d n)
 applied-blocks p d n disk is agrees = changed-blocks d p.changes n disk is.rising (patch-fits p d is agrees)
 
 pub applied-agrees : (p : ChangeSet) (d : Disk) → IsDisk d → IsPatch p → AgreesOld p d → AgreesNew p (applied p d)
@@ -141,7 +155,8 @@ applied-agrees p d disk is agrees =
     record {
       size = agrees.size ∙ sym after.size;
       stand = each-flipped (λ c. Stands (applied p d) (flip c)) (Stands (applied p d)) (λ c stands. stands) p.changes
-          (each-both (FitsDisk d) (λ c. overlaid p.changes c.number (block_of d c.number) ≡ c.new) (λ c. Stands (applied p d) (flip c)) named p.changes
+          (each-both (FitsDisk d) (λ c. overlaid p.changes c.number (block_of d c.number) ≡ c.new)
+          (λ c. Stands (applied p d) (flip c)) named p.changes
           (patch-fits p d is agrees) (overlaid-each (block_of d) p.changes is.rising));
     }
 
@@ -163,11 +178,13 @@ reverted-is_disk p d disk is agrees = applied-is_disk (flipped p) d disk (flippe
 
 pub reverted-agrees : (p : ChangeSet) (d : Disk) → IsDisk d → IsPatch p → AgreesNew p d → AgreesOld p (reverted p d)
 reverted-agrees p d disk is agrees =
-    subst (λ (q : ChangeSet). AgreesOld q (reverted p d)) (flipped-twice p) (applied-agrees (flipped p) d disk (flipped-is_patch p is) agrees)
+    subst (λ (q : ChangeSet). AgreesOld q (reverted p d)) (flipped-twice p)
+    (applied-agrees (flipped p) d disk (flipped-is_patch p is) agrees)
 
 pub reverted-again : (p : ChangeSet) (d : Disk) → IsDisk d → IsPatch p → AgreesNew p d → applied p (reverted p d) ≡ d
 reverted-again p d disk is agrees =
-    subst (λ (q : ChangeSet). applied q (reverted p d) ≡ d) (flipped-twice p) (applied-back (flipped p) d disk (flipped-is_patch p is) agrees)
+    subst (λ (q : ChangeSet). applied q (reverted p d) ≡ d) (flipped-twice p)
+    (applied-back (flipped p) d disk (flipped-is_patch p is) agrees)
 
 -- ---- whether an image is what a patch makes
 

@@ -1,9 +1,11 @@
 -- The blocks of a disk of which one was put.
-use Rattle.std.proofs.Common.{◌≡◌, ◌≢◌, ℕ, zero, suc, ◌+◌, ◌-◌, ◌*◌, ◌<◌, ◌≤◌, List, [], ◌∷◌, ◌++◌, length, take, drop, ap, sym, ◌∙◌, arith, inl, inr, append_assoc, length-append}
+use Rattle.std.proofs.Common.{◌≡◌, ◌≢◌, ℕ, zero, suc, ◌+◌, ◌-◌, ◌*◌, ◌<◌, ◌≤◌, List, [], ◌∷◌, ◌++◌, length, take, drop, ap, sym, ◌∙◌, arith}
+use Rattle.std.proofs.Common.{inl, inr, append_assoc, length-append}
 use Rattle.std.proofs.Math.Nat.{mul-le-mul_right}
 use Rattle.std.proofs.Math.Seq.{take-append_seam}
 use Rattle.std.proofs.lemmas.Bool.{cases_lt, cases_order}
-use Rattle.std.proofs.lemmas.List.{drop_at, drop-append-le, take-append-le, drop-take, take-take, length-take, length-drop, get_or-drop, get_or-take, get_or_past}
+use Rattle.std.proofs.lemmas.List.{drop_at, drop-append-le, take-append-le, drop-take, take-take, length-take, length-drop, get_or-drop}
+use Rattle.std.proofs.lemmas.List.{get_or-take, get_or_past}
 use Rattle.std.proofs.lemmas.Slice.{drop-append-drop}
 use Rattle.lfs_block.specs.Bytes.{IsBytes}
 use Rattle.lfs_block.specs.Disk.{Disk, IsDisk, block_of, put}
@@ -26,7 +28,8 @@ block_of-put d n new disk within len =
     ∙ take-append_seam new rest
 
 -- a block within the front
-before : (size at from : ℕ) (bytes more : List ℕ) → from + size ≤ at → at ≤ length bytes → take size (drop from (take at bytes ++ more)) ≡ take size (drop from bytes)
+before : (size at from : ℕ) (bytes more : List ℕ) → from + size ≤ at → at ≤ length bytes
+    → take size (drop from (take at bytes ++ more)) ≡ take size (drop from bytes)
 before size at from bytes more le within =
     let front_len : length (take at bytes) ≡ at = omega (arith, length-take at bytes) in
     let left_len : length (drop from (take at bytes)) ≡ at - from = omega (arith, length-drop from (take at bytes), front_len) in
@@ -38,7 +41,8 @@ before size at from bytes more le within =
     ∙ take-take size (at - from) (drop from bytes) (omega arith)
 
 -- the other blocks
-pub block_of-put_other : (d : Disk) (n m : ℕ) (new : List ℕ) → IsDisk d → n < d.count → m ≢ n → length new ≡ d.size → block_of (put n new d) m ≡ block_of d m
+pub block_of-put_other : (d : Disk) (n m : ℕ) (new : List ℕ) → IsDisk d → n < d.count → m ≢ n → length new ≡ d.size
+    → block_of (put n new d) m ≡ block_of d m
 block_of-put_other d n m new disk within other len =
     let at : ℕ = n * d.size in
     let front : List ℕ = take at d.bytes in
@@ -82,7 +86,15 @@ put-is_disk d n new disk within len bytes =
     let rest : List ℕ = drop (at + length new) d.bytes in
     record {
       geometry = disk.geometry;
-      len = omega (arith, length-append (front ++ new) rest, length-append front new, length-take at d.bytes, length-drop (at + length new) d.bytes, room d n disk within, disk.len);
+      len = omega (
+        arith,
+        length-append (front ++ new) rest,
+        length-append front new,
+        length-take at d.bytes,
+        length-drop (at + length new) d.bytes,
+        room d n disk within,
+        disk.len,
+      );
       bytes = IsBytes-append (front ++ new) rest
           (IsBytes-append front new (IsBytes-take at d.bytes disk.bytes) bytes)
           (IsBytes-drop (at + length new) d.bytes disk.bytes);

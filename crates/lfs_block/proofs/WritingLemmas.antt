@@ -22,7 +22,8 @@ pub record IsAt (cs : List Change) (i : ℕ) (c : Change) : Type 0 where
   pub is : c ≡ get_or cs i c
 
 -- a record that is read of those of a patch
-pub at-read : (p q : ChangeSet) (rs : List Change) (i : ℕ) (c : Change) → q ≡ p → rs ≡ q.changes → i < length rs → c ≡ get_or rs i c → IsAt p.changes i c
+pub at-read : (p q : ChangeSet) (rs : List Change) (i : ℕ) (c : Change) → q ≡ p → rs ≡ q.changes → i < length rs → c ≡ get_or rs i c
+    → IsAt p.changes i c
 at-read p q rs i c seen same within is =
     subst (λ (es : List Change). IsAt es i c) (same ∙ ap (λ (r : ChangeSet). r.changes) seen) (record { within = within; is = is })
 
@@ -38,21 +39,25 @@ changed-none cs d disk fits = record { fits = fits; whole = refl; disk = record 
 
 next-fits : (cs : List Change) (i : ℕ) (c : Change) (first now : Disk) → IsChangedTo cs i first now → IsAt cs i c → FitsDisk now c
 next-fits cs i c first now so_far at =
-    let here : FitsDisk first c = subst (FitsDisk first) (sym at.is) (All-get_or (FitsDisk first) cs i c at.within (All-from_recursion (FitsDisk first) cs so_far.fits)) in
+    let here : FitsDisk first c = subst (FitsDisk first) (sym at.is) (All-get_or (FitsDisk first) cs i c at.within
+    (All-from_recursion (FitsDisk first) cs so_far.fits)) in
     (subst (λ (k : ℕ). c.number < k) (sym so_far.disk.count) here.0, subst (λ (k : ℕ). IsBlockChange k c) (sym so_far.disk.size) here.1)
 
 -- what writing the change at i asks, where its number and bytes are read of r
-pub next-writes : (cs : List Change) (i : ℕ) (r c : Change) (bytes : List ℕ) (first now : Disk) → IsChangedTo cs i first now → IsAt cs i c → r ≡ c → bytes ≡ r.new
+pub next-writes : (cs : List Change) (i : ℕ) (r c : Change) (bytes : List ℕ) (first now : Disk) → IsChangedTo cs i first now → IsAt cs i c
+    → r ≡ c → bytes ≡ r.new
     → (r.number < now.count) × (length bytes ≡ now.size)
 next-writes cs i r c bytes first now so_far at seen read =
     let fits : FitsDisk now r = subst (FitsDisk now) (sym seen) (next-fits cs i c first now so_far at) in
     (fits.0, ap length read ∙ fits.1.new)
 
-pub next-put : (r c : Change) (bytes : List ℕ) (now next : Disk) → r ≡ c → bytes ≡ r.new → next ≡ put r.number bytes now → next ≡ put c.number c.new now
+pub next-put : (r c : Change) (bytes : List ℕ) (now next : Disk) → r ≡ c → bytes ≡ r.new → next ≡ put r.number bytes now
+    → next ≡ put c.number c.new now
 next-put r c bytes now next seen read put_is =
     put_is ∙ ap (λ (bs : List ℕ). put r.number bs now) read ∙ ap (λ (e : Change). put e.number e.new now) seen
 
-pub changed-next : (cs : List Change) (i : ℕ) (c : Change) (first now next : Disk) → IsChangedTo cs i first now → IsAt cs i c → next ≡ put c.number c.new now
+pub changed-next : (cs : List Change) (i : ℕ) (c : Change) (first now next : Disk) → IsChangedTo cs i first now → IsAt cs i c
+    → next ≡ put c.number c.new now
     → IsChangedTo cs (i + 1) first next
 changed-next cs i c first now next so_far at put_is =
     let rest : List Change = drop (i + 1) cs in

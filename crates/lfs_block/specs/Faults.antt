@@ -3,7 +3,10 @@ use Rattle.std.specs.Prelude.{ℕ}
 use Rattle.lfs_block.specs.declared.image_fault.ImageFault.{ImageFault}
 use Rattle.lfs_block.specs.declared.image_fault.ImageFault.TheVariants.{ImageLength, BadGeometry}
 use Rattle.lfs_block.specs.declared.mount_fault.MountFault.{MountFault}
-use Rattle.lfs_block.specs.declared.mount_fault.MountFault.TheVariants.{NoValidCommit, UnknownTag, BadTag, IncompleteEntry, BadName, BadSkipList, NoSuperblock, Version, Geometry, Limits, OrderFault, BlockRange, BlockTwice, MissingDirectory, Orphan, UnfinishedMove, SuperblockElsewhere, BadSize, UnknownState, Memory}
+use Rattle.lfs_block.specs.declared.mount_fault.MountFault.TheVariants.{NoValidCommit, UnknownTag, BadTag, IncompleteEntry, BadName}
+use Rattle.lfs_block.specs.declared.mount_fault.MountFault.TheVariants.{BadSkipList, NoSuperblock, Version, Geometry, Limits, OrderFault}
+use Rattle.lfs_block.specs.declared.mount_fault.MountFault.TheVariants.{BlockRange, BlockTwice, MissingDirectory, Orphan, UnfinishedMove}
+use Rattle.lfs_block.specs.declared.mount_fault.MountFault.TheVariants.{SuperblockElsewhere, BadSize, UnknownState, Memory}
 
 abbrev pub image_fault_number : ImageFault → ℕ
 image_fault_number ImageLength = 1

@@ -18,7 +18,8 @@ BlockPut = (d : Disk) (n : ℕ) (new : List ℕ) → IsDisk d → n < d.count �
 
 -- the other blocks
 abbrev pub BlockPutOther : Type 0
-BlockPutOther = (d : Disk) (n m : ℕ) (new : List ℕ) → IsDisk d → n < d.count → m ≢ n → length new ≡ d.size → block_of (put n new d) m ≡ block_of d m
+BlockPutOther = (d : Disk) (n m : ℕ) (new : List ℕ) → IsDisk d → n < d.count → m ≢ n → length new ≡ d.size
+    → block_of (put n new d) m ≡ block_of d m
 
 -- an image of which a block is put is an image
 abbrev pub PutIsDisk : Type 0

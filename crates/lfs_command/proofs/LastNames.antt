@@ -18,15 +18,18 @@ last_later n m ns = by (split_last (m ∷ ns)) refl
         by_rest None h = absurd (none-some ([], k) (sym h))
         by_rest (Some s) h = absurd (none-some (k ∷ s.0, s.1) (sym h))
 
-    by : (o : Option (Path × Name)) → split_last (m ∷ ns) ≡ o → option_map (λ (s : Path × Name). s.1) (behind_name n o) ≡ option_map (λ (s : Path × Name). s.1) o
+    by : (o : Option (Path × Name)) → split_last (m ∷ ns) ≡ o → option_map (λ (s : Path × Name). s.1) (behind_name n o)
+        ≡ option_map (λ (s : Path × Name). s.1) o
     by None is = absurd (some_last m ns is)
     by (Some s) is = refl
 
-last_at : (x : Bor Name) (xs : List (Bor Name)) → option_map (λ (b : Bor Name). b.now) (slice_get (x ∷ xs) (length xs)) ≡ last_name (map (λ (b : Bor Name). b.now) (x ∷ xs))
+last_at : (x : Bor Name) (xs : List (Bor Name)) → option_map (λ (b : Bor Name). b.now) (slice_get (x ∷ xs) (length xs))
+    ≡ last_name (map (λ (b : Bor Name). b.now) (x ∷ xs))
 last_at x [] = refl
 last_at x (y ∷ xs) = last_at y xs ∙ sym (last_later x.now y.now (map (λ (b : Bor Name). b.now) xs))
 
-pub last_is : (xs : List (Bor Name)) → option_map (λ (b : Bor Name). b.now) (slice_get xs (length xs - 1)) ≡ last_name (map (λ (b : Bor Name). b.now) xs)
+pub last_is : (xs : List (Bor Name)) → option_map (λ (b : Bor Name). b.now) (slice_get xs (length xs - 1))
+    ≡ last_name (map (λ (b : Bor Name). b.now) xs)
 last_is [] = refl
 last_is (x ∷ xs) =
     let less : length (x ∷ xs) - 1 ≡ length xs = omega arith in

@@ -1,5 +1,7 @@
 -- A text that is cut at its slashes, and the one path that it spells.
-use Rattle.std.proofs.Common.{◌≡◌, ◌≢◌, ◌↔◌, ℕ, zero, suc, ◌+◌, ◌-◌, ◌<◌, ◌≤◌, ◌&&◌, Bool, true, false, List, Bor, map, [], ◌∷◌, ◌++◌, length, take, drop, get_or, cond, refl, ap, sym, ◌∙◌, subst, arith, inl, inr, append-nil, take_all, length-drop, take-append-drop, drop-drop}
+use Rattle.std.proofs.Common.{◌≡◌, ◌≢◌, ◌↔◌, ℕ, zero, suc, ◌+◌, ◌-◌, ◌<◌, ◌≤◌, ◌&&◌, Bool, true, false, List, Bor, map, [], ◌∷◌, ◌++◌}
+use Rattle.std.proofs.Common.{length, take, drop, get_or, cond, refl, ap, sym, ◌∙◌, subst, arith, inl, inr, append-nil, take_all}
+use Rattle.std.proofs.Common.{length-drop, take-append-drop, drop-drop}
 use Rattle.std.specs.Prelude.{All, flat_map, bytes_eq, nat_le}
 use Rattle.std.specs.List.{list_all}
 use Rattle.std.proofs.lemmas.Bool.{cases_lt, and_parts, and_from, leb-true, le-leb, both_ways}
@@ -68,11 +70,14 @@ part_more hay last i le l =
 part_rest : (hay : List ℕ) (last i : ℕ) → last ≤ i → part last i hay ++ drop i hay ≡ drop last hay
 part_rest hay last i le =
     let at : last + (i - last) ≡ i = omega arith in
-    ap (λ n. part last i hay ++ drop n hay) (sym at) ∙ ap (λ xs. part last i hay ++ xs) (sym (drop-drop (i - last) last hay)) ∙ take-append-drop (i - last) (drop last hay)
+    ap (λ n. part last i hay ++ drop n hay) (sym at) ∙ ap (λ xs. part last i hay ++ xs) (sym (drop-drop (i - last) last hay))
+    ∙ take-append-drop (i - last) (drop last hay)
 
-free_on : (hay : List ℕ) (last i : ℕ) → last ≤ i → HasNoSlash (part last i hay) → occurs_at hay (47 ∷ []) i ≡ false → HasNoSlash (part last (i + 1) hay)
+free_on : (hay : List ℕ) (last i : ℕ) → last ≤ i → HasNoSlash (part last i hay) → occurs_at hay (47 ∷ []) i ≡ false
+    → HasNoSlash (part last (i + 1) hay)
 free_on hay last i le free miss = elim (cases_lt i (length hay)) [
-  | inl l ↦ subst HasNoSlash (sym (part_more hay last i le l)) (All-push (λ b. b ≢ 47) (part last i hay) (get_or hay i 0) free (no_slash_there hay i l miss))
+  | inl l ↦ subst HasNoSlash (sym (part_more hay last i le l)) (All-push (λ b. b ≢ 47) (part last i hay) (get_or hay i 0) free
+      (no_slash_there hay i l miss))
   | inr over ↦ subst HasNoSlash (part_all hay last i over ∙ sym (part_all hay last (i + 1) (omega arith))) free
 ]
 
@@ -80,7 +85,8 @@ free_on hay last i le free miss = elim (cases_lt i (length hay)) [
 
 -- the pieces from a place on, which is behind the last slash
 abbrev SplitFrom : List ℕ → ℕ → ℕ → Type 0
-SplitFrom hay n i = (last : ℕ) → last ≤ i → i + n ≡ length hay + 1 → HasNoSlash (part last i hay) → IsSplit (drop last hay) (split_at hay 1 last (matches_from hay (47 ∷ []) 0 i n))
+SplitFrom hay n i = (last : ℕ) → last ≤ i → i + n ≡ length hay + 1 → HasNoSlash (part last i hay)
+    → IsSplit (drop last hay) (split_at hay 1 last (matches_from hay (47 ∷ []) 0 i n))
 
 one_piece : (piece : List ℕ) → HasNoSlash piece → IsSplit piece (piece ∷ [])
 one_piece piece free = record {
@@ -88,7 +94,8 @@ one_piece piece free = record {
   apart = All-cons HasNoSlash piece [] free (All-nil HasNoSlash);
 }
 
-piece_before : (piece rest : List ℕ) (pieces : List Name) → HasNoSlash piece → IsSplit rest pieces → IsSplit (piece ++ 47 ∷ rest) (piece ∷ pieces)
+piece_before : (piece rest : List ℕ) (pieces : List Name) → HasNoSlash piece → IsSplit rest pieces
+    → IsSplit (piece ++ 47 ∷ rest) (piece ∷ pieces)
 piece_before piece rest pieces free split = record {
   joined = ap (λ xs. 47 ∷ piece ++ xs) split.joined;
   apart = All-cons HasNoSlash piece pieces free split.apart;
@@ -100,7 +107,8 @@ split_from hay zero i last le count free = one_piece (drop last hay) (subst HasN
 split_from hay (suc n) i last le count free = by (occurs_at hay (47 ∷ []) i) refl (split_from hay n (i + 1))
   where
     by : (here : Bool) → occurs_at hay (47 ∷ []) i ≡ here → SplitFrom hay n (i + 1)
-        → IsSplit (drop last hay) (split_at hay 1 last (cond here (i ∷ matches_from hay (47 ∷ []) 0 (i + 1) n) (matches_from hay (47 ∷ []) 0 (i + 1) n)))
+        → IsSplit (drop last hay) (split_at hay 1 last (cond here (i ∷ matches_from hay (47 ∷ []) 0 (i + 1) n)
+        (matches_from hay (47 ∷ []) 0 (i + 1) n)))
     by true here later =
         let cut : part last i hay ++ 47 ∷ drop (i + 1) hay ≡ drop last hay =
         ap (λ xs. part last i hay ++ xs) (sym (slash_there hay i here)) ∙ part_rest hay last i le in
@@ -110,7 +118,8 @@ split_from hay (suc n) i last le count free = by (occurs_at hay (47 ∷ []) i) r
     by false miss later = later last (omega arith) (omega (arith, count)) (free_on hay last i le free miss)
 
 pub split_all : (hay : List ℕ) → IsSplit hay (split_at hay 1 0 (matches hay (47 ∷ []) 0))
-split_all hay = split_from hay (length hay + 1 - 0) 0 0 (omega arith) (omega arith) (subst HasNoSlash (sym (part_none hay 0)) (All-nil (λ b. b ≢ 47)))
+split_all hay = split_from hay (length hay + 1 - 0) 0 0 (omega arith) (omega arith)
+    (subst HasNoSlash (sym (part_none hay 0)) (All-nil (λ b. b ≢ 47)))
 
 -- ---- one text has one path
 
@@ -123,13 +132,17 @@ behind_pieces : (ps : List Name) → IsBehind (flat_map (λ p. 47 ∷ p) ps)
 behind_pieces [] = tt
 behind_pieces (p ∷ ps) = refl
 
-one_piece_first : (x y : Name) (xs ys : List ℕ) → HasNoSlash x → HasNoSlash y → IsBehind xs → IsBehind ys → x ++ xs ≡ y ++ ys → (x ≡ y) × (xs ≡ ys)
+one_piece_first : (x y : Name) (xs ys : List ℕ) → HasNoSlash x → HasNoSlash y → IsBehind xs → IsBehind ys → x ++ xs ≡ y ++ ys
+    → (x ≡ y) × (xs ≡ ys)
 one_piece_first [] [] xs ys free_x free_y behind_x behind_y is = (refl, is)
-one_piece_first [] (b ∷ y) xs ys free_x free_y behind_x behind_y is = absurd (All-head (λ c. c ≢ 47) b y free_y (subst IsBehind is behind_x))
-one_piece_first (a ∷ x) [] xs ys free_x free_y behind_x behind_y is = absurd (All-head (λ c. c ≢ 47) a x free_x (subst IsBehind (sym is) behind_y))
+one_piece_first [] (b ∷ y) xs ys free_x free_y behind_x behind_y is =
+    absurd (All-head (λ c. c ≢ 47) b y free_y (subst IsBehind is behind_x))
+one_piece_first (a ∷ x) [] xs ys free_x free_y behind_x behind_y is =
+    absurd (All-head (λ c. c ≢ 47) a x free_x (subst IsBehind (sym is) behind_y))
 one_piece_first (a ∷ x) (b ∷ y) xs ys free_x free_y behind_x behind_y is =
     let heads : a ≡ b = ap (λ zs. get_or zs 0 0) is in
-    let rest = one_piece_first x y xs ys (All-tail (λ c. c ≢ 47) a x free_x) (All-tail (λ c. c ≢ 47) b y free_y) behind_x behind_y (ap (drop 1) is) in
+    let rest = one_piece_first x y xs ys (All-tail (λ c. c ≢ 47) a x free_x) (All-tail (λ c. c ≢ 47) b y free_y) behind_x behind_y
+    (ap (drop 1) is) in
     (ap (λ c. c ∷ x) heads ∙ ap (λ z. b ∷ z) rest.0, rest.1)
 
 one_split : (ps qs : List Name) → All HasNoSlash ps → All HasNoSlash qs → flat_map (λ p. 47 ∷ p) ps ≡ flat_map (λ p. 47 ∷ p) qs → ps ≡ qs
@@ -137,7 +150,8 @@ one_split [] [] free_p free_q is = refl
 one_split [] (q ∷ qs) free_p free_q is = absurd (cc)
 one_split (p ∷ ps) [] free_p free_q is = absurd (cc)
 one_split (p ∷ ps) (q ∷ qs) free_p free_q is =
-    let first = one_piece_first p q (flat_map (λ n. 47 ∷ n) ps) (flat_map (λ n. 47 ∷ n) qs) (All-head HasNoSlash p ps free_p) (All-head HasNoSlash q qs free_q)
+    let first = one_piece_first p q (flat_map (λ n. 47 ∷ n) ps) (flat_map (λ n. 47 ∷ n) qs) (All-head HasNoSlash p ps free_p)
+    (All-head HasNoSlash q qs free_q)
     (behind_pieces ps) (behind_pieces qs) (ap (drop 1) is) in
     let rest = one_split ps qs (All-tail HasNoSlash p ps free_p) (All-tail HasNoSlash q qs free_q) first.1 in
     ap (λ n. n ∷ ps) first.0 ∙ ap (λ ns. q ∷ ns) rest
@@ -163,13 +177,15 @@ text_of_pieces rest [] joined = absurd (cc)
 text_of_pieces rest (p ∷ ps) joined = joined
 
 -- pieces that are names are the path
-pub path_of_pieces : NamesAreDecided → (rest : List ℕ) (ps : List (Bor Name)) → IsSplit rest (map (λ p. p.now) ps) → list_all (λ p. is_name p.now) ps ≡ true
+pub path_of_pieces : NamesAreDecided → (rest : List ℕ) (ps : List (Bor Name)) → IsSplit rest (map (λ p. p.now) ps)
+    → list_all (λ p. is_name p.now) ps ≡ true
     → IsPathText (47 ∷ rest) (map (λ p. p.now) ps)
 path_of_pieces law rest ps split names =
     ((are_names_decides law (map (λ p. p.now) ps)).0 (sym (names_seen ps) ∙ names), text_of_pieces rest (map (λ p. p.now) ps) split.joined)
 
 -- where one of them is no name, there is no path
-pub no_path_of_pieces : NamesAreDecided → (rest : List ℕ) (ps : List (Bor Name)) → rest ≢ [] → IsSplit rest (map (λ p. p.now) ps) → list_all (λ p. is_name p.now) ps ≡ false
+pub no_path_of_pieces : NamesAreDecided → (rest : List ℕ) (ps : List (Bor Name)) → rest ≢ [] → IsSplit rest (map (λ p. p.now) ps)
+    → list_all (λ p. is_name p.now) ps ≡ false
     → IsNoPath (47 ∷ rest)
 no_path_of_pieces law rest ps some' split others [] spells = some' (ap (drop 1) spells.1)
 no_path_of_pieces law rest ps some' split others (n ∷ ns) spells =

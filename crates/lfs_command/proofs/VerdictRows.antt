@@ -24,7 +24,13 @@ use Rattle.lfs_command.specs.Verdict.{verdict}
 -- ---- small volumes
 
 abbrev volume : ℕ → ℕ → List Directory → Volume
-volume size count ds = record { size = size; count = count; limits = record { name = 255; file = 2147483647; attribute = 1022 }; attributes = []; directories = ds }
+volume size count ds = record {
+  size = size;
+  count = count;
+  limits = record { name = 255; file = 2147483647; attribute = 1022 };
+  attributes = [];
+  directories = ds;
+}
 
 abbrev part : Pair → List Entry → Part
 part pair es = record { pair = pair; entries = es; delta = 0; dirty = false }
@@ -57,7 +63,8 @@ weights_of_runs v c = map (λ p. map (sum_by weight) (runs (edited v c nothing) 
 
 -- ---- a full root
 
-two_files_fill_the_root : (superblock_weight [] ≡ 40) × (sum_by weight (file (letters_a 80) ∷ file (letters_c 80) ∷ []) ≡ 176) × (room (full_root 4) ≡ 216)
+two_files_fill_the_root : (superblock_weight [] ≡ 40) × (sum_by weight (file (letters_a 80) ∷ file (letters_c 80) ∷ []) ≡ 176)
+    × (room (full_root 4) ≡ 216)
 two_files_fill_the_root = (refl, refl, refl)
 
 one_more_file_needs_four_blocks : verdict (full_root 4) (Put (letters_b 130 ∷ []) []) ≡ Some (NoSpace 4 2)

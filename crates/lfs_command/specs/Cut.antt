@@ -40,7 +40,11 @@ cut_tail chosen v p = if p.dirty then more_parts (chosen p) (later_runs (runs v 
 
 -- both for each part of a directory
 abbrev pub cut_directory : (Part → List Pair) → Volume → Directory → Directory
-cut_directory chosen v d = record { first = cut_head v d.first; more = cut_tail chosen v d.first ++ flat_map (λ p. cut_head v p ∷ cut_tail chosen v p) d.more }
+cut_directory chosen v d = record {
+  first = cut_head v d.first;
+  more =
+      cut_tail chosen v d.first ++ flat_map (λ p. cut_head v p ∷ cut_tail chosen v p) d.more;
+}
 
 -- and for all directories
 abbrev pub cut : (Part → List Pair) → Volume → Volume

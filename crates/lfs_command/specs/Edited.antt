@@ -38,13 +38,20 @@ with_directories v ds = record { size = v.size; count = v.count; limits = v.limi
 
 -- attributes changed, of the root where there is no home
 abbrev pub set_attributes : Volume → (Attributes → Attributes) → Option (Pair × Name) → Volume
-set_attributes v f None = record { size = v.size; count = v.count; limits = v.limits; attributes = f v.attributes; directories = touch_first v.directories }
+set_attributes v f None = record {
+  size = v.size;
+  count = v.count;
+  limits = v.limits;
+  attributes = f v.attributes;
+  directories = touch_first v.directories;
+}
 set_attributes v f (Some h) = with_directories v (change h.0 h.1 (with_entry_attributes f) v.directories)
 
 -- a directory linked at home, and put into the thread behind it
 abbrev pub make_directory : Volume → Pair → Option (Pair × Name) → Volume
 make_directory v pair None = v
-make_directory v pair (Some h) = with_directories v (add_after h.0 (empty_directory pair) (link h.0 (new_entry h.1 (Directory_at pair)) v.directories))
+make_directory v pair (Some h) = with_directories v (add_after h.0 (empty_directory pair)
+    (link h.0 (new_entry h.1 (Directory_at pair)) v.directories))
 
 -- a new file linked, or an old one's body replaced
 abbrev pub put_file : Volume → Body → Option (Pair × Name) → Option Entry → Volume

@@ -1,7 +1,9 @@
 -- The numbers of refusals (own).
 use Rattle.std.specs.Prelude.{ℕ}
 use Rattle.lfs_command.specs.declared.refusal.Refusal.{Refusal}
-use Rattle.lfs_command.specs.declared.refusal.Refusal.TheVariants.{NotFound, Exists, NotADirectory, IsADirectory, NotEmpty, BadPath, NameTooLong, FileTooLarge, AttrTooLarge, NoAttr, IntoItself, IsRoot, EntryTooLarge, NoSpace, Memory}
+use Rattle.lfs_command.specs.declared.refusal.Refusal.TheVariants.{NotFound, Exists, NotADirectory, IsADirectory, NotEmpty, BadPath}
+use Rattle.lfs_command.specs.declared.refusal.Refusal.TheVariants.{NameTooLong, FileTooLarge, AttrTooLarge, NoAttr, IntoItself, IsRoot}
+use Rattle.lfs_command.specs.declared.refusal.Refusal.TheVariants.{EntryTooLarge, NoSpace, Memory}
 
 abbrev pub refusal_number : Refusal → ℕ
 refusal_number NotFound = 30

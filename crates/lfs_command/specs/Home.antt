@@ -25,4 +25,5 @@ last_name p = option_map (λ (s : Path × Name). s.1) (split_last p)
 -- the directory that a path's last name belongs to, and that name
 abbrev pub home_of : Volume → Path → Option (Pair × Name)
 home_of v path =
-    option_and_then (λ (s : Path × Name). option_and_then (λ e. option_map (λ (k : Pair). (k, s.1)) (target e)) (entry_at v s.0)) (split_last path)
+    option_and_then (λ (s : Path × Name). option_and_then (λ e. option_map (λ (k : Pair). (k, s.1)) (target e)) (entry_at v s.0))
+    (split_last path)

@@ -40,4 +40,7 @@ drop_directory k (d ∷ ds) = take_out k d ds
 -- the first part set, for the sake of the root's attributes, which stand in the superblock entry
 abbrev pub touch_first : List Directory → List Directory
 touch_first [] = []
-touch_first (d ∷ ds) = record { first = record { pair = d.first.pair; entries = d.first.entries; delta = d.first.delta; dirty = true }; more = d.more } ∷ ds
+touch_first (d ∷ ds) = record {
+  first = record { pair = d.first.pair; entries = d.first.entries; delta = d.first.delta; dirty = true };
+  more = d.more;
+} ∷ ds

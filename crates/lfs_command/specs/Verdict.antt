@@ -1,5 +1,6 @@
 -- Why a command is refused (own).
-use Rattle.std.specs.Prelude.{ℕ, ◌==◌, Bool, true, false, not, ◌&&◌, ◌||◌, List, [], ◌∷◌, ◌++◌, Option, Some, None, nat_lt, if◌then◌else◌, length, find, is_some, is_none}
+use Rattle.std.specs.Prelude.{ℕ, ◌==◌, Bool, true, false, not, ◌&&◌, ◌||◌, List, [], ◌∷◌, ◌++◌, Option, Some, None, nat_lt, if◌then◌else◌}
+use Rattle.std.specs.Prelude.{length, find, is_some, is_none}
 use Rattle.std.specs.List.{list_any}
 use Rattle.std.specs.Option.{option_and_then, option_map, unwrap_or}
 use Rattle.lfs_meta.specs.Name.{Name}
@@ -12,7 +13,9 @@ use Rattle.lfs_fs.specs.Volume.{Volume}
 use Rattle.lfs_fs.specs.Tree.{Node, File, Dir, entry_at, tree}
 use Rattle.lfs_fs.specs.Free.{free_blocks}
 use Rattle.lfs_command.specs.declared.refusal.Refusal.{Refusal}
-use Rattle.lfs_command.specs.declared.refusal.Refusal.TheVariants.{NotFound, Exists, NotADirectory, IsADirectory, NotEmpty, NameTooLong, FileTooLarge, AttrTooLarge, NoAttr, IntoItself, IsRoot, EntryTooLarge, NoSpace}
+use Rattle.lfs_command.specs.declared.refusal.Refusal.TheVariants.{NotFound, Exists, NotADirectory, IsADirectory, NotEmpty, NameTooLong}
+use Rattle.lfs_command.specs.declared.refusal.Refusal.TheVariants.{FileTooLarge, AttrTooLarge, NoAttr, IntoItself, IsRoot, EntryTooLarge}
+use Rattle.lfs_command.specs.declared.refusal.Refusal.TheVariants.{NoSpace}
 use Rattle.lfs_command.specs.PathMap.{below}
 use Rattle.lfs_command.specs.Command.{Command, Mkdir, Put, Rm, Mv, SetAttr, RmAttr}
 use Rattle.lfs_command.specs.Equation.{attributes_of}

@@ -14,15 +14,18 @@ use Rattle.lfs_draft.proofs.OneIndex.{nowhere}
 abbrev pub put_behind : Directory → List Directory → ℕ → Directory → List Directory
 put_behind new ds i d = slice_set (insert ds (suc i) new) i (touch_last (slice_index_or (insert ds (suc i) new) i d))
 
-added_at : (k : Pair) (new : Directory) (ds : List Directory) (i : ℕ) (d : Directory) → i < length ds → begins_at k (slice_index_or ds i d) ≡ true
+added_at : (k : Pair) (new : Directory) (ds : List Directory) (i : ℕ) (d : Directory) → i < length ds
+    → begins_at k (slice_index_or ds i d) ≡ true
     → ((j : ℕ) → j < i → begins_at k (slice_index_or ds j d) ≡ false) → put_behind new ds i d ≡ add_after k new ds
 unfolding add_after
 added_at k new [] i d within passes before = absurd (omega arith)
 added_at k new (e ∷ es) zero d within passes before = rw passes refl
 added_at k new (e ∷ es) (suc i) d within passes before =
-    rw (before 0 (omega arith)) (ap (λ (ds : List Directory). e ∷ ds) (added_at k new es i d (omega arith) passes (λ j below. before (suc j) (omega arith))))
+    rw (before 0 (omega arith)) (ap (λ (ds : List Directory). e ∷ ds) (added_at k new es i d (omega arith) passes
+    (λ j below. before (suc j) (omega arith))))
 
-pub added_behind : (k : Pair) (new : Directory) (ds all : List Directory) (i : ℕ) (d after : Directory) → position (begins_at k) ds ≡ Some i → all ≡ insert ds (i + 1) new
+pub added_behind : (k : Pair) (new : Directory) (ds all : List Directory) (i : ℕ) (d after : Directory) → position (begins_at k) ds ≡ Some i
+    → all ≡ insert ds (i + 1) new
     → after ≡ touch_last (slice_index_or all i d) → slice_set all i after ≡ add_after k new ds
 added_behind k new ds all i d after found put touched =
     let here = position-Some (begins_at k) ds i d found in

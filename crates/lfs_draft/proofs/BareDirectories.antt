@@ -29,7 +29,8 @@ pub none_behind_first : (d : Directory) → (length d.first.entries == 0) ≡ tr
     → list_all (λ p. length p.entries == 0) d.more ≡ (length (entries d) == 0)
 none_behind_first d first = by d.first.entries first (none_in_all d.more)
   where
-    by : (es : List Entry) → (length es == 0) ≡ true → list_all (λ p. length p.entries == 0) d.more ≡ (length (flat_map (λ p. p.entries) d.more) == 0)
+    by : (es : List Entry) → (length es == 0) ≡ true → list_all (λ p. length p.entries == 0) d.more
+        ≡ (length (flat_map (λ p. p.entries) d.more) == 0)
         → list_all (λ p. length p.entries == 0) d.more ≡ (length (es ++ flat_map (λ p. p.entries) d.more) == 0)
     by [] none later = later
     by (e ∷ es) none later = absurd (grind (arith, nat_tests))

@@ -31,7 +31,8 @@ head_stays bytes superblock p is = rw is refl
 no_tail : (bytes superblock : ℕ) (rows : List PairRow) (p : Part) → p.dirty ≡ false → tail_by bytes superblock rows p ≡ []
 no_tail bytes superblock rows p is = rw is refl
 
-all_stay : (bytes superblock : ℕ) (rows : List PairRow) (ps : List Part) → list_any (λ p. p.dirty) ps ≡ false → cut_all bytes superblock rows ps ≡ ps
+all_stay : (bytes superblock : ℕ) (rows : List PairRow) (ps : List Part) → list_any (λ p. p.dirty) ps ≡ false
+    → cut_all bytes superblock rows ps ≡ ps
 all_stay bytes superblock rows [] none = refl
 all_stay bytes superblock rows (p ∷ ps) none =
     let both = either_false p.dirty (list_any (λ q. q.dirty) ps) none in
@@ -43,15 +44,19 @@ pub none_set : (bytes superblock : ℕ) (rows : List PairRow) (d : Directory) �
     → d ≡ directory_by bytes superblock rows d
 none_set bytes superblock rows d none =
     let both = either_false d.first.dirty (list_any (λ q. q.dirty) d.more) none in
-    sym (ap (λ (p : Part). record { first = p; more = tail_by bytes superblock rows d.first ++ cut_all bytes superblock rows d.more }) (head_stays bytes superblock d.first both.0)
-    ∙ ap (λ (qs : List Part). record { first = d.first; more = qs ++ cut_all bytes superblock rows d.more }) (no_tail bytes superblock rows d.first both.0)
+    sym (ap (λ (p : Part). record { first = p; more = tail_by bytes superblock rows d.first ++ cut_all bytes superblock rows d.more })
+    (head_stays bytes superblock d.first both.0)
+    ∙ ap (λ (qs : List Part). record { first = d.first; more = qs ++ cut_all bytes superblock rows d.more })
+    (no_tail bytes superblock rows d.first both.0)
     ∙ ap (λ (qs : List Part). record { first = d.first; more = qs }) (all_stay bytes superblock rows d.more both.1))
 
 -- ---- the new parts of a part that keeps its first run
 
-pub tail_made : (bytes superblock : ℕ) (rows : List PairRow) (p q : Part) (pairs : List Pair) (others : List (List Entry)) (made : List Part)
+pub tail_made : (bytes superblock : ℕ) (rows : List PairRow) (p q : Part) (pairs : List Pair) (others : List (List Entry))
+    (made : List Part)
     → p.dirty ≡ true → q ≡ with_first_run bytes superblock p
-    → others ≡ later_runs (runs_by bytes superblock p) → pairs ≡ chosen_for rows q → made ≡ more_parts pairs others → made ≡ tail_by bytes superblock rows p
+    → others ≡ later_runs (runs_by bytes superblock p) → pairs ≡ chosen_for rows q → made ≡ more_parts pairs others
+    → made ≡ tail_by bytes superblock rows p
 tail_made bytes superblock rows p q pairs others made set first later are is =
     is ∙ ap (λ (qs : List Pair). more_parts qs others) (are ∙ same_choice rows q p (ap (λ (x : Part). x.pair) first))
     ∙ ap (more_parts (chosen_for rows p)) later

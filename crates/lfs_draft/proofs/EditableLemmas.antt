@@ -1,5 +1,6 @@
 -- What an outline that can be edited keeps to.
-use Rattle.std.proofs.Common.{◌≡◌, ◌≤◌, ◌<◌, ◌&&◌, ◌||◌, ℕ, Bool, true, false, List, [], ◌∷◌, length, refl, ap, sym, ◌∙◌, arith, true≢false, Option, Some, None}
+use Rattle.std.proofs.Common.{◌≡◌, ◌≤◌, ◌<◌, ◌&&◌, ◌||◌, ℕ, Bool, true, false, List, [], ◌∷◌, length, refl, ap, sym, ◌∙◌, arith, true≢false}
+use Rattle.std.proofs.Common.{Option, Some, None}
 use Rattle.std.specs.Prelude.{count_by, cond, if◌then◌else◌, nat_lt, is_none}
 use Rattle.std.specs.Option.{option_and_then, option_map, unwrap_or}
 use Rattle.std.proofs.lemmas.Option.{same_Some}
@@ -47,12 +48,19 @@ count_in : (j k : Pair) (f : Directory → Directory) (d : Directory) (b : Bool)
 count_in j k f d true keeps = ap (λ (b : Bool). cond {A = ℕ} b 1 0) (begins_same j d (f d) (keeps d).pairs)
 count_in j k f d false keeps = refl
 
-pub begins_kept : (j k : Pair) (f : Directory → Directory) (ds : List Directory) → KeepsAllParts f → count_by (begins_at j) (in_directory k f ds) ≡ count_by (begins_at j) ds
+pub begins_kept : (j k : Pair) (f : Directory → Directory) (ds : List Directory) → KeepsAllParts f
+    → count_by (begins_at j) (in_directory k f ds) ≡ count_by (begins_at j) ds
 begins_kept j k f [] keeps = refl
 begins_kept j k f (d ∷ ds) keeps =
     let g : Directory → ℕ = λ e. cond {A = ℕ} (begins_at j e) 1 0 in
     let changed : Directory = if begins_at k d then f d else d in
-    omega (arith, sum_by-cons g changed (in_directory k f ds), sum_by-cons g d ds, count_in j k f d (begins_at k d) keeps, begins_kept j k f ds keeps)
+    omega (
+      arith,
+      sum_by-cons g changed (in_directory k f ds),
+      sum_by-cons g d ds,
+      count_in j k f d (begins_at k d) keeps,
+      begins_kept j k f ds keeps,
+    )
 
 -- ---- homes
 
@@ -82,7 +90,8 @@ entry_short o sound k n e is =
     omega (arith, same, proper.name_fits)
 
 -- a file's name is within the limits: it is there, or was checked
-pub put_short : (o : Volume) (p : Path) (bytes : List ℕ) (h : Pair × Name) → IsEditable o (Put p bytes) → home_of o p ≡ Some h → length h.1 < 1023
+pub put_short : (o : Volume) (p : Path) (bytes : List ℕ) (h : Pair × Name) → IsEditable o (Put p bytes) → home_of o p ≡ Some h
+    → length h.1 < 1023
 put_short o p bytes h editable is = by (entry_at o p) refl
   where
     passed : (is_none (tree o p) && nat_lt o.limits.name (last_length p)) ≡ false
@@ -95,7 +104,8 @@ put_short o p bytes h editable is = by (entry_at o p) refl
 
     by : (e : Option Entry) → entry_at o p ≡ e → length h.1 < 1023
     by None none =
-        let long : nat_lt o.limits.name (last_length p) ≡ false = ap (λ (x : Option Entry). is_none (option_map node x) && nat_lt o.limits.name (last_length p)) (sym none) ∙ passed in
+        let long : nat_lt o.limits.name (last_length p) ≡ false = ap (λ (x : Option Entry).
+        is_none (option_map node x) && nat_lt o.limits.name (last_length p)) (sym none) ∙ passed in
         let limit = editable.limits.name.1 in
         let len = last_home o p h is in
         grind (arith, nat_tests)
@@ -103,7 +113,8 @@ put_short o p bytes h editable is = by (entry_at o p) refl
         omega (arith, entry_short o editable.sound h.0 h.1 e (sym (stands_at_home o p h.0 h.1 is) ∙ some), editable.limits.name.1)
 
 -- what is moved is there
-pub moved_there : (o : Volume) (p q : Path) (h : Pair × Name) → IsEditable o (Mv p q) → home_of o p ≡ Some h → (e : Entry) × (entry_in o.directories h.0 h.1 ≡ Some e)
+pub moved_there : (o : Volume) (p q : Path) (h : Pair × Name) → IsEditable o (Mv p q) → home_of o p ≡ Some h
+    → (e : Entry) × (entry_in o.directories h.0 h.1 ≡ Some e)
 moved_there o p q h editable is = by (entry_at o p) refl
   where
     passed : is_none (tree o p) ≡ false

@@ -19,12 +19,14 @@ unfolding absorb_in
 absorbed_last delta p [] = refl
 absorbed_last delta p (q ∷ ps) = ap (behind p) (absorbed_last delta q ps)
 
-set_last : (f : Part → Part) (p : Part) (ps : List Part) (d : Part) → slice_set (p ∷ ps) (length ps) (f (slice_index_or (p ∷ ps) (length ps) d)) ≡ parts (last_changed f p ps)
+set_last : (f : Part → Part) (p : Part) (ps : List Part) (d : Part) → slice_set (p ∷ ps) (length ps)
+    (f (slice_index_or (p ∷ ps) (length ps) d)) ≡ parts (last_changed f p ps)
 set_last f p [] d = refl
 set_last f p (q ∷ ps) d = ap (λ (qs : List Part). p ∷ qs) (set_last f q ps d)
 
 -- where there are more parts, the last of them
-pub changed_among : (f : Part → Part) (p : Part) (ps : List Part) (i : ℕ) (old new : Part) → i + 1 ≡ length ps → old ≡ slice_index_or ps i old → new ≡ f old
+pub changed_among : (f : Part → Part) (p : Part) (ps : List Part) (i : ℕ) (old new : Part) → i + 1 ≡ length ps
+    → old ≡ slice_index_or ps i old → new ≡ f old
     → record { first = p; more = slice_set ps i new } ≡ last_changed f p ps
 changed_among f p [] i old new at taken written = absurd (omega (arith, at))
 changed_among f p (q ∷ qs) i old new at taken written =
@@ -35,6 +37,7 @@ changed_among f p (q ∷ qs) i old new at taken written =
     ∙ set_last f q qs old)
 
 -- else the first
-pub changed_alone : (f : Part → Part) (p new : Part) (ps : List Part) → length ps ≡ 0 → new ≡ f p → record { first = new; more = ps } ≡ last_changed f p ps
+pub changed_alone : (f : Part → Part) (p new : Part) (ps : List Part) → length ps ≡ 0 → new ≡ f p
+    → record { first = new; more = ps } ≡ last_changed f p ps
 changed_alone f p new [] none written = ap (λ (q : Part). record { first = q; more = [] }) written
 changed_alone f p new (q ∷ qs) none written = absurd (omega (arith, none))

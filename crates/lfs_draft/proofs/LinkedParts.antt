@@ -35,24 +35,28 @@ later {X} t x y ys is = by (nat_lt (position_or_len t (y ∷ ys)) (length (y ∷
 pub linked_at : (e : Entry) (p : Part) (ps : List Part) (d : Part) → slice_set (p ∷ ps) (first_or_last (has_greater e.name) (p ∷ ps))
     (touch true (place e) (slice_index_or (p ∷ ps) (first_or_last (has_greater e.name) (p ∷ ps)) d)) ≡ parts (link_parts e p ps)
 unfolding link_parts
-linked_at e p [] d = ap (λ (i : ℕ). slice_set (p ∷ []) i (touch true (place e) (slice_index_or (p ∷ []) i d))) (alone (has_greater e.name) p)
+linked_at e p [] d = ap (λ (i : ℕ). slice_set (p ∷ []) i (touch true (place e) (slice_index_or (p ∷ []) i d)))
+    (alone (has_greater e.name) p)
 linked_at e p (q ∷ qs) d = by (has_greater e.name p) refl (linked_at e q qs d)
   where
     set_at : List Part → ℕ → List Part
     set_at xs i = slice_set xs i (touch true (place e) (slice_index_or xs i d))
 
     by : (b : Bool) → has_greater e.name p ≡ b → set_at (q ∷ qs) (first_or_last (has_greater e.name) (q ∷ qs)) ≡ parts (link_parts e q qs)
-        → set_at (p ∷ q ∷ qs) (first_or_last (has_greater e.name) (p ∷ q ∷ qs)) ≡ parts (if b then record { first = touch true (place e) p; more = q ∷ qs } else behind p (link_parts e q qs))
+        → set_at (p ∷ q ∷ qs) (first_or_last (has_greater e.name) (p ∷ q ∷ qs))
+        ≡ parts (if b then record { first = touch true (place e) p; more = q ∷ qs } else behind p (link_parts e q qs))
     by true is more = ap (set_at (p ∷ q ∷ qs)) (here (has_greater e.name) p (q ∷ qs) is)
     by false is more = ap (set_at (p ∷ q ∷ qs)) (later (has_greater e.name) p q qs is) ∙ ap (λ (ps : List Part). p ∷ ps) more
 
 -- the same of what was found, taken and written back
-pub linked_by : (e : Entry) (p : Part) (ps all : List Part) (i : ℕ) (old new : Part) → all ≡ p ∷ ps → i ≡ first_or_last (has_greater e.name) all
+pub linked_by : (e : Entry) (p : Part) (ps all : List Part) (i : ℕ) (old new : Part) → all ≡ p ∷ ps
+    → i ≡ first_or_last (has_greater e.name) all
     → old ≡ slice_index_or all i old → new ≡ touch true (place e) old → slice_set all i new ≡ parts (link_parts e p ps)
 linked_by e p ps all i old new are at taken written =
     ap (slice_set all i) (written ∙ ap (touch true (place e)) taken)
     ∙ ap (λ (k : ℕ). slice_set all k (touch true (place e) (slice_index_or all k old))) at
-    ∙ ap (λ (xs : List Part). slice_set xs (first_or_last (has_greater e.name) xs) (touch true (place e) (slice_index_or xs (first_or_last (has_greater e.name) xs) old))) are
+    ∙ ap (λ (xs : List Part). slice_set xs (first_or_last (has_greater e.name) xs)
+    (touch true (place e) (slice_index_or xs (first_or_last (has_greater e.name) xs) old))) are
     ∙ linked_at e p ps old
 
 -- ---- the first part, and the others

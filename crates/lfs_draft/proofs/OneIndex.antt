@@ -1,5 +1,6 @@
 -- The one element of a list that passes a test, changed at its index.
-use Rattle.std.proofs.Common.{◌≡◌, ℕ, ◌<◌, ◌≤◌, suc, zero, Bool, true, false, cond, List, [], ◌∷◌, Some, None, length, refl, ap, sym, ◌∙◌, arith}
+use Rattle.std.proofs.Common.{◌≡◌, ℕ, ◌<◌, ◌≤◌, suc, zero, Bool, true, false, cond, List, [], ◌∷◌, Some, None, length, refl, ap, sym, ◌∙◌}
+use Rattle.std.proofs.Common.{arith}
 use Rattle.std.specs.Prelude.{if◌then◌else◌, count_by, find, nat_lt, slice_set, slice_index_or}
 use Rattle.std.specs.List.{position, position_or_len}
 use Rattle.std.proofs.lemmas.List.Quantifiers.{position-Some}
@@ -7,13 +8,15 @@ use Rattle.std.proofs.lemmas.Option.{none-some}
 use Rattle.lfs_law.proofs.OneElement.{where_passes, where_none, none_counted, count_cases}
 
 -- what passes at an index is counted
-counted_at : {X : Type 0} (t : X → Bool) (xs : List X) (i : ℕ) (d : X) → i < length xs → t (slice_index_or xs i d) ≡ true → 1 ≤ count_by t xs
+counted_at : {X : Type 0} (t : X → Bool) (xs : List X) (i : ℕ) (d : X) → i < length xs → t (slice_index_or xs i d) ≡ true
+    → 1 ≤ count_by t xs
 counted_at t [] i d within passes = absurd (omega arith)
 counted_at t (x ∷ xs) zero d within passes = grind (arith, count_cases t x xs)
 counted_at t (x ∷ xs) (suc i) d within passes = omega (arith, count_cases t x xs, counted_at t xs i d (omega arith) passes)
 
 -- where no other passes
-pub where_at : {X : Type 0} (t : X → Bool) (f : X → X) (xs : List X) (i : ℕ) (d : X) → i < length xs → t (slice_index_or xs i d) ≡ true → count_by t xs ≤ 1
+pub where_at : {X : Type 0} (t : X → Bool) (f : X → X) (xs : List X) (i : ℕ) (d : X) → i < length xs → t (slice_index_or xs i d) ≡ true
+    → count_by t xs ≤ 1
     → slice_set xs i (f (slice_index_or xs i d)) ≡ where_passes t f xs
 where_at t f [] i d within passes once = absurd (omega arith)
 where_at t f (x ∷ xs) zero d within passes once =
@@ -28,7 +31,8 @@ where_at {X = X} t f (x ∷ xs) (suc i) d within passes once = by (t x) refl (λ
 
 -- ---- by the place that is found
 
-pub at_position : {X : Type 0} (t : X → Bool) (f : X → X) (xs : List X) (i : ℕ) (d y : X) → position t xs ≡ Some i → count_by t xs ≤ 1 → y ≡ f (slice_index_or xs i d)
+pub at_position : {X : Type 0} (t : X → Bool) (f : X → X) (xs : List X) (i : ℕ) (d y : X) → position t xs ≡ Some i → count_by t xs ≤ 1
+    → y ≡ f (slice_index_or xs i d)
     → slice_set xs i y ≡ where_passes t f xs
 at_position t f xs i d y found once is =
     let here = position-Some t xs i d found in

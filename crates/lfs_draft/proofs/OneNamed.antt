@@ -1,5 +1,6 @@
 -- The one entry of a name in the parts of a directory.
-use Rattle.std.proofs.Common.{◌≡◌, ℕ, ◌+◌, ◌<◌, ◌≤◌, suc, zero, Bool, true, false, List, [], ◌∷◌, length, map, refl, ap, sym, ◌∙◌, arith, cond}
+use Rattle.std.proofs.Common.{◌≡◌, ℕ, ◌+◌, ◌<◌, ◌≤◌, suc, zero, Bool, true, false, List, [], ◌∷◌, length, map, refl, ap, sym, ◌∙◌, arith}
+use Rattle.std.proofs.Common.{cond}
 use Rattle.std.specs.Prelude.{if◌then◌else◌, count_by, find, flat_map, slice_index_or, None}
 use Rattle.std.specs.List.{list_any}
 use Rattle.std.proofs.lemmas.List.Sums.{sum_by-append}
@@ -23,7 +24,8 @@ none_found t (x ∷ xs) none = grind (arith, none_found t xs)
 abbrev pub all_entries : List Part → List Entry
 all_entries ps = flat_map (λ p. p.entries) ps
 
-count_parts : (n : Name) (p : Part) (ps : List Part) → count_by (is_named n) (all_entries (p ∷ ps)) ≡ count_by (is_named n) p.entries + count_by (is_named n) (all_entries ps)
+count_parts : (n : Name) (p : Part) (ps : List Part) → count_by (is_named n) (all_entries (p ∷ ps))
+    ≡ count_by (is_named n) p.entries + count_by (is_named n) (all_entries ps)
 count_parts n p ps = sum_by-append (λ (x : Entry). cond {A = ℕ} (is_named n x) 1 0) p.entries (all_entries ps)
 
 -- the parts that have it are one at most, and each has it once at most
@@ -31,7 +33,8 @@ pub few_have : (n : Name) (ps : List Part) → count_by (has_name n) ps ≤ coun
 few_have n [] = omega arith
 few_have n (p ∷ ps) = grind (arith, count_cases (has_name n) p ps, count_parts n p ps, some_counted (is_named n) p.entries, few_have n ps)
 
-pub few_in : (n : Name) (ps : List Part) (i : ℕ) (d : Part) → i < length ps → count_by (is_named n) (slice_index_or ps i d).entries ≤ count_by (is_named n) (all_entries ps)
+pub few_in : (n : Name) (ps : List Part) (i : ℕ) (d : Part) → i < length ps
+    → count_by (is_named n) (slice_index_or ps i d).entries ≤ count_by (is_named n) (all_entries ps)
 few_in n [] i d within = absurd (omega arith)
 few_in n (p ∷ ps) zero d within = omega (arith, count_parts n p ps)
 few_in n (p ∷ ps) (suc i) d within = omega (arith, count_parts n p ps, few_in n ps i d (omega arith))
@@ -45,18 +48,23 @@ untouched n f p none = by p.dirty refl
     by false is = rw (where_none (is_named n) f p.entries (none_found (is_named n) p.entries none), is) refl
 
 -- a change of the parts that have the name is one of all
-pub where_named : (n : Name) (f : Entry → Entry) (ps : List Part) → where_passes (has_name n) (touch true (changed n f)) ps ≡ map (λ p. touch (has_name n p) (changed n f) p) ps
+pub where_named : (n : Name) (f : Entry → Entry) (ps : List Part) → where_passes (has_name n) (touch true (changed n f)) ps
+    ≡ map (λ p. touch (has_name n p) (changed n f) p) ps
 where_named n f [] = refl
 where_named n f (p ∷ ps) = by (has_name n p) refl (where_named n f ps)
   where
-    by : (b : Bool) → has_name n p ≡ b → where_passes (has_name n) (touch true (changed n f)) ps ≡ map (λ q. touch (has_name n q) (changed n f) q) ps
-        → (if b then touch true (changed n f) p else p) ∷ where_passes (has_name n) (touch true (changed n f)) ps ≡ touch b (changed n f) p ∷ map (λ q. touch (has_name n q) (changed n f) q) ps
+    by : (b : Bool) → has_name n p ≡ b → where_passes (has_name n) (touch true (changed n f)) ps
+        ≡ map (λ q. touch (has_name n q) (changed n f) q) ps
+        → (if b then touch true (changed n f) p else p) ∷ where_passes (has_name n) (touch true (changed n f)) ps
+        ≡ touch b (changed n f) p ∷ map (λ q. touch (has_name n q) (changed n f) q) ps
     by true is rest = ap (λ (qs : List Part). touch true (changed n f) p ∷ qs) rest
-    by false is rest = ap (λ (q : Part). q ∷ where_passes (has_name n) (touch true (changed n f)) ps) (sym (untouched n f p is)) ∙ ap (λ (qs : List Part). touch false (changed n f) p ∷ qs) rest
+    by false is rest = ap (λ (q : Part). q ∷ where_passes (has_name n) (touch true (changed n f)) ps) (sym (untouched n f p is))
+        ∙ ap (λ (qs : List Part). touch false (changed n f) p ∷ qs) rest
 
 -- ---- the first part, and the others
 
-pub changed_in_first : (n : Name) (f : Entry → Entry) (p new : Part) (ps : List Part) → has_name n p ≡ true → count_by (is_named n) (all_entries (p ∷ ps)) ≤ 1 → new ≡ touch true (changed n f) p
+pub changed_in_first : (n : Name) (f : Entry → Entry) (p new : Part) (ps : List Part) → has_name n p ≡ true
+    → count_by (is_named n) (all_entries (p ∷ ps)) ≤ 1 → new ≡ touch true (changed n f) p
     → record { first = new; more = ps } ≡ change_in n f (record { first = p; more = ps })
 changed_in_first n f p new ps has once is =
     let none : count_by (has_name n) ps ≡ 0 = omega (arith, count_parts n p ps, some_counted (is_named n) p.entries has, few_have n ps) in
@@ -64,7 +72,8 @@ changed_in_first n f p new ps has once is =
     (ap (λ (q : Part). (q, ps)) is ∙ ap (λ (qs : List Part). (touch true (changed n f) p, qs))
     (sym (where_none (has_name n) (touch true (changed n f)) ps (none_counted (has_name n) ps none)) ∙ where_named n f ps)))
 
-pub changed_in_more : (n : Name) (f : Entry → Entry) (p : Part) (ps new : List Part) → has_name n p ≡ false → new ≡ map (λ q. touch (has_name n q) (changed n f) q) ps
+pub changed_in_more : (n : Name) (f : Entry → Entry) (p : Part) (ps new : List Part) → has_name n p ≡ false
+    → new ≡ map (λ q. touch (has_name n q) (changed n f) q) ps
     → record { first = p; more = new } ≡ change_in n f (record { first = p; more = ps })
 changed_in_more n f p ps new none are =
     rw none (ap (λ (d : Part × List Part). record { first = d.0; more = d.1 })

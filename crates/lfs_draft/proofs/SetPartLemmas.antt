@@ -22,10 +22,13 @@ any_thread f (d ∷ ds) = list_any-append f (parts d) (thread ds) ∙ ap (λ (b 
 pub any_large_part : (v : Volume) (bytes superblock : ℕ) → bytes ≡ room v → superblock ≡ superblock_weight v.attributes
     → list_any (has_too_large_by bytes superblock) v.directories ≡ has_too_large v
 any_large_part v bytes superblock is weighs =
-    rw (is, weighs) (sym (any_thread (is_set_too_large (room v) (superblock_weight v.attributes)) v.directories) ∙ sym (any_set (is_too_large v) (thread v.directories)))
+    rw (is, weighs) (sym (any_thread (is_set_too_large (room v) (superblock_weight v.attributes)) v.directories)
+    ∙ sym (any_set (is_too_large v) (thread v.directories)))
 
-sum_set_by : (f : Part → ℕ) (p : Part) (ps : List Part) (t : Bool) → sum_by f (filter (λ q. q.dirty) ps) ≡ sum_by (λ q. if q.dirty then f q else 0) ps
-    → sum_by f (if t then p ∷ filter (λ q. q.dirty) ps else filter (λ q. q.dirty) ps) ≡ (if t then f p else 0) + sum_by (λ q. if q.dirty then f q else 0) ps
+sum_set_by : (f : Part → ℕ) (p : Part) (ps : List Part) (t : Bool) → sum_by f (filter (λ q. q.dirty) ps)
+    ≡ sum_by (λ q. if q.dirty then f q else 0) ps
+    → sum_by f (if t then p ∷ filter (λ q. q.dirty) ps else filter (λ q. q.dirty) ps)
+    ≡ (if t then f p else 0) + sum_by (λ q. if q.dirty then f q else 0) ps
 sum_set_by f p ps true rest = omega (arith, rest, sum_by-cons f p (filter (λ (q : Part). q.dirty) ps))
 sum_set_by f p ps false rest = omega (arith, rest)
 
@@ -36,9 +39,16 @@ sum_set f (p ∷ ps) = sum_set_by f p ps p.dirty (sum_set f ps) ∙ sym (sum_by-
 pub sum_thread : (f : Part → ℕ) (ds : List Directory) → sum_by f (thread ds) ≡ sum_by (λ d. sum_by f (parts d)) ds
 sum_thread f [] = refl
 sum_thread f (d ∷ ds) =
-    omega (arith, ap (sum_by f) (flat_map-cons parts d ds), sum_by-append f (parts d) (thread ds), sum_thread f ds, sum_by-cons (λ (e : Directory). sum_by f (parts e)) d ds)
+    omega (
+      arith,
+      ap (sum_by f) (flat_map-cons parts d ds),
+      sum_by-append f (parts d) (thread ds),
+      sum_thread f ds,
+      sum_by-cons (λ (e : Directory). sum_by f (parts e)) d ds,
+    )
 
 pub all_blocks : (v : Volume) (bytes superblock : ℕ) → bytes ≡ room v → superblock ≡ superblock_weight v.attributes
     → sum_by (set_blocks_of bytes superblock) v.directories ≡ sum_by (part_blocks v) (dirty_parts v)
 all_blocks v bytes superblock is weighs =
-    rw (is, weighs) (sym (sum_thread (set_blocks (room v) (superblock_weight v.attributes)) v.directories) ∙ sym (sum_set (part_blocks v) (thread v.directories)))
+    rw (is, weighs) (sym (sum_thread (set_blocks (room v) (superblock_weight v.attributes)) v.directories)
+    ∙ sym (sum_set (part_blocks v) (thread v.directories)))

@@ -13,7 +13,13 @@ sum_same f g (x ∷ xs) same = omega (arith, sum_by-cons f x xs, sum_by-cons g x
 pub sum_flat : {X Y : Type 0} (h : Y → ℕ) (f : X → List Y) (xs : List X) → sum_by h (flat_map f xs) ≡ sum_by (λ x. sum_by h (f x)) xs
 sum_flat h f [] = refl
 sum_flat h f (x ∷ xs) =
-    omega (arith, ap (sum_by h) (flat_map-cons f x xs), sum_by-append h (f x) (flat_map f xs), sum_flat h f xs, sum_by-cons (λ y. sum_by h (f y)) x xs)
+    omega (
+      arith,
+      ap (sum_by h) (flat_map-cons f x xs),
+      sum_by-append h (f x) (flat_map f xs),
+      sum_flat h f xs,
+      sum_by-cons (λ y. sum_by h (f y)) x xs,
+    )
 
 pub sum_both : {X : Type 0} (f g : X → ℕ) (xs : List X) → sum_by (λ x. f x + g x) xs ≡ sum_by f xs + sum_by g xs
 sum_both f g [] = refl
@@ -40,7 +46,8 @@ sum_counted t n (x ∷ xs) =
     spread : (a b : ℕ) → (a + b) * n ≡ a * n + b * n
     spread a b = grind arith
 
-none_passes : {X : Type 0} (f : X → ℕ) (t : X → Bool) (xs : List X) → count_by t xs ≡ 0 → ((x : X) → t x ≡ false → f x ≡ 0) → sum_by f xs ≡ 0
+none_passes : {X : Type 0} (f : X → ℕ) (t : X → Bool) (xs : List X) → count_by t xs ≡ 0 → ((x : X) → t x ≡ false → f x ≡ 0)
+    → sum_by f xs ≡ 0
 none_passes f t [] none zero = refl
 none_passes f t (x ∷ xs) none zero = by (t x) refl (λ few. none_passes f t xs few zero)
   where
@@ -59,7 +66,8 @@ sum_one f t [] x there once passes zero = absurd (none_there there)
     none_there there = omega arith
 sum_one {X} f t (y ∷ ys) x there once passes zero = elim (contains_cases y ys x there) [
   | inl here ↦
-      (let one : cond {A = ℕ} (t y) 1 0 ≡ 1 = ap (λ (z : X). cond {A = ℕ} (t z) 1 0) (sym here) ∙ ap (λ (b : Bool). cond {A = ℕ} b 1 0) passes in
+      (let one : cond {A = ℕ} (t y) 1 0 ≡ 1 = ap (λ (z : X). cond {A = ℕ} (t z) 1 0) (sym here)
+      ∙ ap (λ (b : Bool). cond {A = ℕ} b 1 0) passes in
       let none : count_by t ys ≡ 0 = omega (arith, once, one, sum_by-cons (λ z. cond {A = ℕ} (t z) 1 0) y ys) in
       omega (arith, sum_by-cons f y ys, none_passes f t ys none zero, ap f here))
   | inr later ↦

@@ -10,17 +10,22 @@ use Rattle.lfs_command.specs.ThreadEdit.{take_out, drop_directory}
 use Rattle.lfs_law.proofs.OneElement.{none_later, none_counted, count_cases}
 use Rattle.lfs_draft.proofs.OneIndex.{nowhere}
 
-taken_at : (k : Pair) (d : Directory) (ds : List Directory) (i : ℕ) (e g : Directory) → i < length ds → begins_at k (slice_index_or ds i g) ≡ true
+taken_at : (k : Pair) (d : Directory) (ds : List Directory) (i : ℕ) (e g : Directory) → i < length ds
+    → begins_at k (slice_index_or ds i g) ≡ true
     → ((j : ℕ) → j < i → begins_at k (slice_index_or ds j g) ≡ false)
-    → slice_set (remove (d ∷ ds) (suc i)) i (absorb (slice_index_or (remove (d ∷ ds) (suc i)) i e) (slice_index_or ds i g)) ≡ take_out k d ds
+    → slice_set (remove (d ∷ ds) (suc i)) i (absorb (slice_index_or (remove (d ∷ ds) (suc i)) i e) (slice_index_or ds i g))
+    ≡ take_out k d ds
 unfolding take_out
 taken_at k d [] i e g within passes before = absurd (omega arith)
 taken_at k d (x ∷ xs) zero e g within passes before = rw passes refl
 taken_at k d (x ∷ xs) (suc i) e g within passes before =
-    rw (before 0 (omega arith)) (ap (λ (ds : List Directory). d ∷ ds) (taken_at k x xs i e g (omega arith) passes (λ j below. before (suc j) (omega arith))))
+    rw (before 0 (omega arith)) (ap (λ (ds : List Directory). d ∷ ds) (taken_at k x xs i e g (omega arith) passes
+    (λ j below. before (suc j) (omega arith))))
 
-pub taken_behind : (k : Pair) (all rest : List Directory) (at : ℕ) (gone now after : Directory) → position (begins_at k) all ≡ Some at → 0 < at → rest ≡ remove all at
-    → gone ≡ slice_index_or all at gone → now ≡ slice_index_or rest (at - 1) now → after ≡ absorb now gone → slice_set rest (at - 1) after ≡ drop_directory k all
+pub taken_behind : (k : Pair) (all rest : List Directory) (at : ℕ) (gone now after : Directory) → position (begins_at k) all ≡ Some at
+    → 0 < at → rest ≡ remove all at
+    → gone ≡ slice_index_or all at gone → now ≡ slice_index_or rest (at - 1) now → after ≡ absorb now gone
+    → slice_set rest (at - 1) after ≡ drop_directory k all
 taken_behind k [] rest at gone now after found behind taken was is set =
     let here = position-Some (begins_at k) [] at gone found in
     absurd (omega (arith, here.0))
@@ -49,7 +54,8 @@ none_taken k [] none = refl
 none_taken k (d ∷ ds) none = not_taken k d ds (none_later (begins_at k) d ds (nowhere (begins_at k) (d ∷ ds) none))
 
 -- where the first one does and no other, all stay
-pub first_stays : (k : Pair) (ds : List Directory) (at : ℕ) (e : Directory) → position (begins_at k) ds ≡ Some at → at ≤ 0 → count_by (begins_at k) ds ≤ 1 → ds ≡ drop_directory k ds
+pub first_stays : (k : Pair) (ds : List Directory) (at : ℕ) (e : Directory) → position (begins_at k) ds ≡ Some at → at ≤ 0
+    → count_by (begins_at k) ds ≤ 1 → ds ≡ drop_directory k ds
 first_stays k [] at e found first once = refl
 first_stays k (d ∷ ds) zero e found first once =
     let here = position-Some (begins_at k) (d ∷ ds) zero e found in

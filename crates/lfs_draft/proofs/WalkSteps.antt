@@ -20,7 +20,8 @@ names_from ns i = map (λ (n : Bor Name). n.now) (drop i ns)
 next_name : (ns : List (Bor Name)) (i : ℕ) (d : Bor Name) → i < length ns → names_from ns i ≡ (get_or ns i d).now ∷ names_from ns (i + 1)
 next_name ns i d within = ap (map (λ (n : Bor Name). n.now)) (drop_more ns i d within)
 
-pub leads_more : (ds : List Directory) (k j : Pair) (ns : List (Bor Name)) (i : ℕ) (d : Bor Name) → i < length ns → option_and_then target (entry_in ds k (get_or ns i d).now) ≡ Some j
+pub leads_more : (ds : List Directory) (k j : Pair) (ns : List (Bor Name)) (i : ℕ) (d : Bor Name) → i < length ns
+    → option_and_then target (entry_in ds k (get_or ns i d).now) ≡ Some j
     → pair_at ds j (names_from ns (i + 1)) ≡ pair_at ds k (names_from ns i)
 leads_more ds k j ns i d within leads =
     sym (ap (pair_at ds k) (next_name ns i d within) ∙ ap (option_and_then (λ (m : Pair). pair_at ds m (names_from ns (i + 1)))) leads)
@@ -33,7 +34,9 @@ went : (f : Pair → Option Refusal) (o : Option Entry) (j : Pair) → option_an
 went f None j leads = absurd (none-some j leads)
 went f (Some e) j leads = led f (target e) j leads
 
-pub refuses_more : (ds : List Directory) (k j : Pair) (ns : List (Bor Name)) (i : ℕ) (d : Bor Name) → i < length ns → option_and_then target (entry_in ds k (get_or ns i d).now) ≡ Some j
+pub refuses_more : (ds : List Directory) (k j : Pair) (ns : List (Bor Name)) (i : ℕ) (d : Bor Name) → i < length ns
+    → option_and_then target (entry_in ds k (get_or ns i d).now) ≡ Some j
     → walk_all ds j (names_from ns (i + 1)) ≡ walk_all ds k (names_from ns i)
 refuses_more ds k j ns i d within leads =
-    sym (ap (walk_all ds k) (next_name ns i d within) ∙ went (λ m. walk_all ds m (names_from ns (i + 1))) (entry_in ds k (get_or ns i d).now) j leads)
+    sym (ap (walk_all ds k) (next_name ns i d within) ∙ went (λ m. walk_all ds m (names_from ns (i + 1)))
+    (entry_in ds k (get_or ns i d).now) j leads)

@@ -8,11 +8,21 @@ use Rattle.lfs_draft.specs.Chosen.{PairRow, chosen_for}
 
 -- the part with its first run
 abbrev pub with_first_run : ℕ → ℕ → Part → Part
-with_first_run room superblock p = record { pair = p.pair; entries = first_run (runs_by room superblock p); delta = p.delta; dirty = p.dirty }
+with_first_run room superblock p = record {
+  pair = p.pair;
+  entries = first_run (runs_by room superblock p);
+  delta = p.delta;
+  dirty = p.dirty;
+}
 
 -- a part that is set keeps its first run
 abbrev pub head_by : ℕ → ℕ → Part → Part
-head_by room superblock p = if p.dirty then record { pair = p.pair; entries = first_run (runs_by room superblock p); delta = p.delta; dirty = true } else p
+head_by room superblock p = if p.dirty then record {
+  pair = p.pair;
+  entries = first_run (runs_by room superblock p);
+  delta = p.delta;
+  dirty = true;
+} else p
 
 -- the other runs go to new parts, in the pairs of its row
 abbrev pub tail_by : ℕ → ℕ → List PairRow → Part → List Part

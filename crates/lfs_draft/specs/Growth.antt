@@ -10,7 +10,8 @@ grows room superblock p = p.dirty && nat_lt 1 (length (runs_by room superblock p
 
 -- its pair with the number of its new parts
 abbrev pub growth_of : ℕ → ℕ → Part → List Growth
-growth_of room superblock p = if grows room superblock p then record { pair = p.pair; len = length (runs_by room superblock p) - 1 } ∷ [] else []
+growth_of room superblock p = if grows room superblock p then record { pair = p.pair; len = length (runs_by room superblock p) - 1 }
+    ∷ [] else []
 
 -- those of some parts
 abbrev pub growths_of : ℕ → ℕ → List Part → List Growth

@@ -1,5 +1,6 @@
 -- A patch that writes what a command leaves of an outline carries the command out.
-use Rattle.std.proofs.Common.{◌≡◌, ◌+◌, ◌<◌, ◌≤◌, ℕ, Bool, true, false, List, [], ◌∷◌, length, map, take, drop, refl, ap, sym, ◌∙◌, subst, arith}
+use Rattle.std.proofs.Common.{◌≡◌, ◌+◌, ◌<◌, ◌≤◌, ℕ, Bool, true, false, List, [], ◌∷◌, length, map, take, drop, refl, ap, sym, ◌∙◌, subst}
+use Rattle.std.proofs.Common.{arith}
 use Rattle.std.specs.Prelude.{All, Contains, sum_by}
 use Rattle.std.proofs.lemmas.Bool.Decides.{nat_tests}
 use Rattle.std.proofs.lemmas.List.{length-take-le, take-take, take_all}
@@ -56,7 +57,8 @@ parts_cleaned (p ∷ ps) = ap (λ (qs : List Part). outlined_part (cleaned p) �
 directory_cleaned : (d : Directory) → outlined_directory (each_part cleaned d) ≡ each_part cleaned (outlined_directory d)
 directory_cleaned d = ap (λ (ps : List Part). record { first = cleaned (outlined_part d.first); more = ps }) (parts_cleaned d.more)
 
-directories_cleaned : (ds : List Directory) → map outlined_directory (map (each_part cleaned) ds) ≡ map (each_part cleaned) (map outlined_directory ds)
+directories_cleaned : (ds : List Directory) → map outlined_directory (map (each_part cleaned) ds)
+    ≡ map (each_part cleaned) (map outlined_directory ds)
 directories_cleaned [] = refl
 directories_cleaned (d ∷ ds) =
     ap (λ (e : Directory). e ∷ map outlined_directory (map (each_part cleaned) ds)) (directory_cleaned d)
@@ -64,31 +66,37 @@ directories_cleaned (d ∷ ds) =
 
 pub outlined_clean : (w : Volume) → outlined (clean w) ≡ clean (outlined w)
 outlined_clean w =
-    ap (λ (ds : List Directory). record { size = w.size; count = w.count; limits = w.limits; attributes = w.attributes; directories = ds }) (directories_cleaned w.directories)
+    ap (λ (ds : List Directory). record { size = w.size; count = w.count; limits = w.limits; attributes = w.attributes; directories = ds })
+    (directories_cleaned w.directories)
 
 -- ---- the pair of the supplies
 
 -- the blocks of a part of a sound volume differ
 blocks_differ : (v : Volume) → IsSound v → (p : Part) → Contains (thread v.directories) p → p.pair.0 ≡ p.pair.1 → ⊥
 blocks_differ v sound p there same =
-    let le : part_uses p.pair.0 p ≤ sum_by (part_uses p.pair.0) (thread v.directories) = one_le (part_uses p.pair.0) (thread v.directories) p there in
+    let le : part_uses p.pair.0 p ≤ sum_by (part_uses p.pair.0) (thread v.directories) =
+    one_le (part_uses p.pair.0) (thread v.directories) p there in
     let twice : 2 ≤ times p.pair.0 (p.pair.0 ∷ p.pair.1 ∷ []) = grind (arith, nat_tests) in
     omega (arith, le, twice, sum_thread p.pair.0 v.directories, sound.once p.pair.0)
 
 -- no part of a sound volume is in the first two of blocks that it doesn't use
-differs_by : (v : Volume) → IsSound v → (p : Part) → Contains (thread v.directories) p → (free : List ℕ) → ((b : ℕ) → Contains free b → uses b v ≡ 0) → p.pair ≡ least_pair free → ⊥
+differs_by : (v : Volume) → IsSound v → (p : Part) → Contains (thread v.directories) p → (free : List ℕ)
+    → ((b : ℕ) → Contains free b → uses b v ≡ 0) → p.pair ≡ least_pair free → ⊥
 differs_by v sound p there [] none is = blocks_differ v sound p there (ap (λ (q : Pair). q.0) is ∙ sym (ap (λ (q : Pair). q.1) is))
 differs_by v sound p there (a ∷ []) none is = blocks_differ v sound p there (ap (λ (q : Pair). q.0) is ∙ sym (ap (λ (q : Pair). q.1) is))
 differs_by v sound p there (a ∷ b ∷ more) none is =
-    let le : part_uses p.pair.0 p ≤ sum_by (part_uses p.pair.0) (thread v.directories) = one_le (part_uses p.pair.0) (thread v.directories) p there in
+    let le : part_uses p.pair.0 p ≤ sum_by (part_uses p.pair.0) (thread v.directories) =
+    one_le (part_uses p.pair.0) (thread v.directories) p there in
     let first : uses p.pair.0 v ≡ 0 = ap (λ (q : Pair). uses q.0 v) is ∙ none a (contains_first a (b ∷ more)) in
     omega (arith, le, first, first_used p.pair, sum_thread p.pair.0 v.directories)
 
-pair_differs : (v : Volume) → IsSound v → (p : Part) → Contains (thread v.directories) p → same_pair p.pair (least_pair (free_blocks v)) ≡ false
+pair_differs : (v : Volume) → IsSound v → (p : Part) → Contains (thread v.directories) p
+    → same_pair p.pair (least_pair (free_blocks v)) ≡ false
 pair_differs v sound p there = by (same_pair p.pair (least_pair (free_blocks v))) refl
   where
     none : (b : ℕ) → Contains (free_blocks v) b → uses b v ≡ 0
-    none b free = taken_unused v (length (free_blocks v)) b (subst (λ (xs : List ℕ). Contains xs b) (sym (take_all (length (free_blocks v)) (free_blocks v) (omega arith))) free)
+    none b free = taken_unused v (length (free_blocks v)) b (subst (λ (xs : List ℕ). Contains xs b)
+        (sym (take_all (length (free_blocks v)) (free_blocks v) (omega arith))) free)
 
     by : (t : Bool) → same_pair p.pair (least_pair (free_blocks v)) ≡ t → t ≡ false
     by true is = absurd (differs_by v sound p there (free_blocks v) none ((same_pair_decides p.pair (least_pair (free_blocks v))).0 is))
@@ -101,7 +109,8 @@ pairs_differ v sound =
 
 -- ---- the blocks that a command takes
 
-parted : (free : List ℕ) (made n all : ℕ) → made ≤ all → times n (take made free) + times n (drop made (take all free)) ≡ times n (take all free)
+parted : (free : List ℕ) (made n all : ℕ) → made ≤ all → times n (take made free) + times n (drop made (take all free))
+    ≡ times n (take all free)
 parted free made n all few =
     ap (λ (xs : List ℕ). times n xs + times n (drop made (take all free))) (sym (take-take made all free few))
     ∙ sum_by-take-drop _ (take all free) made
@@ -123,9 +132,15 @@ pub record IsTaken (v : Volume) (c : Command) (chosen : Part → List Pair) (w :
   pub pairs : AreChosen v c (supplies_of v c) chosen
   pub same : outlined (cut chosen (edited v c (supplies_of v c))) ≡ w
 
-pub taken_of : (laws : CarryingLaws) (d : Disk) (c : Command) (used : List Bool) (blocks : List ℕ) (o w : Volume) (ready : IsReady d c used blocks o)
+pub taken_of : (laws : CarryingLaws) (d : Disk) (c : Command) (used : List Bool) (blocks : List ℕ) (o w : Volume)
+    (ready : IsReady d c used blocks o)
     (cuts : IsCutOver o (drop (made_blocks ready.volume c) blocks) w) → IsTaken ready.volume c (for_parts cuts.chosen) w
-taken_of laws d c used blocks o w ready cuts = record { taken = taken; accepted = accepted; pairs = pairs; same = carried.after ∙ sym cuts.is }
+taken_of laws d c used blocks o w ready cuts = record {
+  taken = taken;
+  accepted = accepted;
+  pairs = pairs;
+  same = carried.after ∙ sym cuts.is;
+}
   where
     v : Volume
     v = ready.volume
@@ -144,7 +159,8 @@ taken_of laws d c used blocks o w ready cuts = record { taken = taken; accepted 
 
     taken : TakesLeast v c s chosen
     taken n =
-        let made : supply_uses v c s n ≡ times n (take (made_blocks v c) (free_blocks v)) = supplies_taken v c (free_blocks v) n (omega (arith, within_need v c, enough)) in
+        let made : supply_uses v c s n ≡ times n (take (made_blocks v c) (free_blocks v)) =
+        supplies_taken v c (free_blocks v) n (omega (arith, within_need v c, enough)) in
         let new : new_pair_uses chosen (edited v c s) n ≡ times n (drop (made_blocks v c) (take (need v c) (free_blocks v))) =
         sym (carried.pairs n) ∙ cuts.are.uses n ∙ ap (λ (xs : List ℕ). times n (drop (made_blocks v c) xs)) ready.least in
         omega (arith, made, new, parted (free_blocks v) (made_blocks v c) n (need v c) (within_need v c))
@@ -209,8 +225,10 @@ finish laws d c used blocks o w p disk ready cuts says writes = record { plans =
     written : AreWritten d held.bytes after.attributes (is_new_to v) writes.base (links (outlined after).directories) p.changes
     written =
         laws.tell v used ready.marks d held.bytes after.attributes writes.base (links (outlined after).directories) p.changes
-        (subst (λ (x : Volume). AreWritten d held.bytes x.attributes (is_unmarked used) writes.base (links x.directories) p.changes) (sym same)
-        (subst (λ (bs : List ℕ). AreWritten d bs w.attributes (is_unmarked used) writes.base (links w.directories) p.changes) bytes writes.written))
+        (subst (λ (x : Volume). AreWritten d held.bytes x.attributes (is_unmarked used) writes.base (links x.directories) p.changes)
+        (sym same)
+        (subst (λ (bs : List ℕ). AreWritten d bs w.attributes (is_unmarked used) writes.base (links w.directories) p.changes) bytes
+        writes.written))
 
     command : WritesCommand d v held c s chosen (is_new_to v) writes.base p
     command = record {
@@ -219,7 +237,8 @@ finish laws d c used blocks o w p disk ready cuts says writes = record { plans =
       stands = writes.stands;
       contents = writes.contents;
       written = written;
-      there = laws.laid d v held c s chosen (is_new_to v) writes.base p disk writes.patch writes.stands accepted.free writes.contents writes.lays written;
+      there = laws.laid d v held c s chosen (is_new_to v) writes.base p disk writes.patch writes.stands accepted.free writes.contents
+          writes.lays written;
     }
 
     volume : WritesOutline d v after held (is_new_to v) writes.base p

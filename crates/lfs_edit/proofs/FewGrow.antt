@@ -27,7 +27,8 @@ is_more o p = nat_lt 1 (length (runs o p))
 
 -- one without entries doesn't
 bare_by : (o : Volume) (p : Part) (t : Bool) → p.entries ≡ []
-    → nat_lt 1 (length (if t then runs_after weight (room o) (superblock_weight o.attributes) 1 p.entries else runs_after weight (room o) 0 0 p.entries)) ≡ false
+    → nat_lt 1 (length (if t then runs_after weight (room o) (superblock_weight o.attributes) 1 p.entries else runs_after weight
+    (room o) 0 0 p.entries)) ≡ false
 unfolding runs_after
 bare_by o p true none = rw none refl
 bare_by o p false none = rw none refl
@@ -39,7 +40,13 @@ empty_list (e ∷ es) is = absurd (omega (arith, is))
 sum_le : {X : Type 0} (f g : X → ℕ) (xs : List X) → ((x : X) → Contains xs x → f x ≤ g x) → sum_by f xs ≤ sum_by g xs
 sum_le f g [] le = omega arith
 sum_le f g (x ∷ xs) le =
-    omega (arith, sum_by-cons f x xs, sum_by-cons g x xs, le x (contains_first x xs), sum_le f g xs (λ y there. le y (contains-cons x xs y there)))
+    omega (
+      arith,
+      sum_by-cons f x xs,
+      sum_by-cons g x xs,
+      le x (contains_first x xs),
+      sum_le f g xs (λ y there. le y (contains-cons x xs y there)),
+    )
 
 sum_map : {X Y : Type 0} (f : Y → ℕ) (g : X → Y) (xs : List X) → sum_by f (map g xs) ≡ sum_by (λ x. f (g x)) xs
 sum_map f g [] = refl
@@ -64,7 +71,8 @@ filter_both f g (x ∷ xs) =
 
 -- ---- the parts that a command leaves
 
-more_by : CommandsFollow → (v : Volume) (c : Command) (s : Supplies) → IsAccepted v c s → (p : Part) → Contains (thread (edited v c s).directories) p
+more_by : CommandsFollow → (v : Volume) (c : Command) (s : Supplies) → IsAccepted v c s → (p : Part)
+    → Contains (thread (edited v c s).directories) p
     → is_new_to v p.pair ≡ true → is_more (outlined (edited v c s)) (outlined_part p) ≡ false
 more_by follow v c s ok p there new =
     let bare : p.entries ≡ [] = empty_list p.entries (edited_zero (λ q. length q.entries) (λ pair. refl) follow v c s ok p there new) in
@@ -72,12 +80,15 @@ more_by follow v c s ok p there new =
 
 -- those of its outline that take more than a block are among those that it rewrites
 pub few_are_more : CommandsFollow → (v : Volume) (c : Command) (s : Supplies) → IsAccepted v c s
-    → length (filter (is_more (outlined (edited v c s))) (dirty_parts (outlined (edited v c s)))) ≤ length (rewritten_parts v (edited v c s))
+    → length (filter (is_more (outlined (edited v c s))) (dirty_parts (outlined (edited v c s))))
+    ≤ length (rewritten_parts v (edited v c s))
 few_are_more follow v c s ok =
     let w : Volume = edited v c s in
     let o : Volume = outlined w in
-    let le : sum_by (λ p. cond {A = ℕ} (p.dirty && is_more o (outlined_part p)) 1 0) (thread w.directories) ≤ sum_by (λ p. cond {A = ℕ} (p.dirty && not (is_new_to v p.pair)) 1 0) (thread w.directories) =
-    sum_le (λ (p : Part). cond {A = ℕ} (p.dirty && is_more o (outlined_part p)) 1 0) (λ (p : Part). cond {A = ℕ} (p.dirty && not (is_new_to v p.pair)) 1 0) (thread w.directories)
+    let le : sum_by (λ p. cond {A = ℕ} (p.dirty && is_more o (outlined_part p)) 1 0) (thread w.directories)
+    ≤ sum_by (λ p. cond {A = ℕ} (p.dirty && not (is_new_to v p.pair)) 1 0) (thread w.directories) =
+    sum_le (λ (p : Part). cond {A = ℕ} (p.dirty && is_more o (outlined_part p)) 1 0)
+    (λ (p : Part). cond {A = ℕ} (p.dirty && not (is_new_to v p.pair)) 1 0) (thread w.directories)
     (λ p there. at_most p.dirty (is_more o (outlined_part p)) (is_new_to v p.pair) (more_by follow v c s ok p there)) in
     omega (
       arith,

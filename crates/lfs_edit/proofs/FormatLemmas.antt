@@ -1,5 +1,6 @@
 -- A root block filled up with erased bytes is a new image.
-use Rattle.std.proofs.Common.{◌≡◌, ℕ, ◌-◌, ◌*◌, ◌<◌, ◌≤◌, ◌^◌, List, [], ◌∷◌, ◌++◌, length, take, drop, refl, ap, sym, ◌∙◌, arith, subst, length-append, zero, suc, Some}
+use Rattle.std.proofs.Common.{◌≡◌, ℕ, ◌-◌, ◌*◌, ◌<◌, ◌≤◌, ◌^◌, List, [], ◌∷◌, ◌++◌, length, take, drop, refl, ap, sym, ◌∙◌, arith, subst}
+use Rattle.std.proofs.Common.{length-append, zero, suc, Some}
 use Rattle.std.specs.Prelude.{replicate}
 use Rattle.std.proofs.Math.Nat.{mul-le-mul_left}
 use Rattle.std.proofs.Math.Seq.{take-append_seam, drop-append_seam}
@@ -56,11 +57,16 @@ whole size count first lone geometry len bytes is part =
     let two : size * 2 ≤ size * count = mul-le-mul_left size geometry.count_fits.0 in
     let rest_len : length rest ≡ size * count - size = length-replicate (size * count - size) 255 in
     let all_len : length (first ++ rest) ≡ count * size = omega (arith, length-append first rest, rest_len, len, two) in
-    let is_disk : IsDisk disk = record { geometry = geometry; len = all_len; bytes = IsBytes-append first rest bytes (IsBytes-erased (size * count - size)) } in
+    let is_disk : IsDisk disk = record {
+      geometry = geometry;
+      len = all_len;
+      bytes = IsBytes-append first rest bytes (IsBytes-erased (size * count - size));
+    } in
     let no_blocks : 0 * size ≡ 0 = omega arith in
     let one_block : 1 * size ≡ length first = omega (arith, len) in
     let zero_is : block_of disk 0 ≡ first =
-    ap (λ (k : ℕ). take size (drop k (first ++ rest))) no_blocks ∙ ap (λ (k : ℕ). take k (first ++ rest)) (sym len) ∙ take-append_seam first rest in
+    ap (λ (k : ℕ). take size (drop k (first ++ rest))) no_blocks ∙ ap (λ (k : ℕ). take k (first ++ rest)) (sym len)
+    ∙ take-append_seam first rest in
     let one_is : block_of disk 1 ≡ replicate size 0xff =
     ap (λ (k : ℕ). take size (drop k (first ++ rest))) one_block ∙ ap (take size) (drop-append_seam first rest)
     ∙ take-replicate size (size * count - size) 255 (omega (arith, two)) in

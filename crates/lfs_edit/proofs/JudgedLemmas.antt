@@ -1,5 +1,6 @@
 -- A command that no check refuses, those on room aside: it can be edited, and then is refused for want of room, or ready to be cut.
-use Rattle.std.proofs.Common.{◌≡◌, ◌+◌, ◌<◌, ◌^◌, ◌++◌, ◌&&◌, ℕ, Bool, false, List, [], ◌∷◌, length, map, take, refl, ap, sym, ◌∙◌, subst, arith, inl, inr, Option, Some, None}
+use Rattle.std.proofs.Common.{◌≡◌, ◌+◌, ◌<◌, ◌^◌, ◌++◌, ◌&&◌, ℕ, Bool, false, List, [], ◌∷◌, length, map, take, refl, ap, sym, ◌∙◌, subst}
+use Rattle.std.proofs.Common.{arith, inl, inr, Option, Some, None}
 use Rattle.std.specs.Prelude.{◌⊎◌, Contains, is_none, nat_lt, sum_by}
 use Rattle.std.proofs.lemmas.Bool.Decides.{nat_tests}
 use Rattle.std.proofs.lemmas.List.{take_all}
@@ -24,7 +25,8 @@ use Rattle.lfs_fs.specs.Volume.{Volume}
 use Rattle.lfs_command.specs.declared.named_command.NamedCommand.{NamedCommand}
 use Rattle.lfs_command.specs.declared.named_command.NamedCommand.TheVariants as case
 use Rattle.lfs_command.specs.declared.refusal.Refusal.{Refusal}
-use Rattle.lfs_command.specs.declared.refusal.Refusal.TheVariants.{EntryTooLarge, FileTooLarge, IsADirectory, IsRoot, Memory, NameTooLong, NoSpace}
+use Rattle.lfs_command.specs.declared.refusal.Refusal.TheVariants.{EntryTooLarge, FileTooLarge, IsADirectory, IsRoot, Memory, NameTooLong}
+use Rattle.lfs_command.specs.declared.refusal.Refusal.TheVariants.{NoSpace}
 use Rattle.lfs_draft.specs.LeastSupplies.{least_pair, least_supplies, made_blocks}
 use Rattle.lfs_draft.specs.RoomChecks.{room_checks_on}
 use Rattle.lfs_edit.specs.Carried.{IsJudged, IsReady, IsRefusedBy, IsUnweighed, supplies_of}
@@ -40,7 +42,8 @@ use Rattle.lfs_law.specs.OutlineCarried.{IsCarried, has_too_large}
 use Rattle.lfs_law.specs.JudgedAlike.{OutlinesAreJudgedAlike}
 use Rattle.lfs_command.specs.Planned.{RefusesPlan}
 use Rattle.lfs_command.specs.Supplies.{nothing}
-use Rattle.lfs_command.specs.Verdict.{checks, first_refusal, is_directory, is_root, last_length, refuse_if, room_checks, verdict, walk_refusal}
+use Rattle.lfs_command.specs.Verdict.{checks, first_refusal, is_directory, is_root, last_length, refuse_if, room_checks, verdict}
+use Rattle.lfs_command.specs.Verdict.{walk_refusal}
 use Rattle.lfs_draft.proofs.EditableLemmas.{begin_once, each_named_once}
 use Rattle.lfs_edit.proofs.EditedSizes.{edited_size}
 use Rattle.lfs_law.proofs.FreeBlocks.{taken_unused}
@@ -98,7 +101,8 @@ editable sound laws ordered d c o judged = record {
     outline_sound = subst IsSound (sym is) (sound v judged.outline.sound)
 
 -- the contents that are put have less than 2^32 bytes, since no file is longer than its limit
-put_short : (o : Volume) (p : Path) (bytes : List ℕ) → IsLimits o.limits → first_refusal (checks o (Put p bytes)) ≡ None → length bytes < 2 ^ 32
+put_short : (o : Volume) (p : Path) (bytes : List ℕ) → IsLimits o.limits → first_refusal (checks o (Put p bytes)) ≡ None
+    → length bytes < 2 ^ 32
 put_short o p bytes limits passes =
     let below = first_passes (refuse_if (is_root p) IsRoot) _ passes in
     let walk = first_passes (walk_refusal (tree o) [] p) _ below.1 in
@@ -121,7 +125,8 @@ contents_short o (case.RmAttr path kind) editable = omega arith
 
 data_same : (v w : Volume) (c : Command) → v.size ≡ w.size → data_blocks v c ≡ data_blocks w c
 data_same v w (Mkdir p) same = refl
-data_same v w (Put p bytes) same = ap (λ (n : ℕ). data_blocks (record { size = n; count = v.count; limits = v.limits; attributes = v.attributes; directories = v.directories }) (Put p bytes)) same
+data_same v w (Put p bytes) same = ap (λ (n : ℕ). data_blocks (record
+    { size = n; count = v.count; limits = v.limits; attributes = v.attributes; directories = v.directories }) (Put p bytes)) same
 data_same v w (Rm p) same = refl
 data_same v w (Mv p q) same = refl
 data_same v w (SetAttr p k value) same = refl
@@ -131,7 +136,8 @@ least_same : (v o : Volume) (c : Command) (free : List ℕ) → o.size ≡ v.siz
 least_same v o c free same = ap (λ (n : ℕ). record { blocks = take n free; pair = least_pair free }) (data_same o v c same)
 
 pub unweighed : CarryingLaws → (d : Disk) (c : Command) (o new : Volume) (used : List Bool) → IsJudged d c o
-    → Marks used (λ b. uses b o) → unused used ≡ free_blocks o → new ≡ edited_outline o c (least_supplies o c (unused used)) → IsUnweighed d c used new
+    → Marks used (λ b. uses b o) → unused used ≡ free_blocks o → new ≡ edited_outline o c (least_supplies o c (unused used))
+    → IsUnweighed d c used new
 unweighed laws d c o new used judged marks free edits = record {
   volume = v;
   holds = judged.outline.holds;
@@ -140,7 +146,8 @@ unweighed laws d c o new used judged marks free edits = record {
   unrefused = ap first_refusal (sym (laws.judged v c).checked ∙ ap (λ (x : Volume). checks x c) (sym is)) ∙ judged.unrefused;
   marks = λ b. marks b ∙ ap (uses b) is ∙ uses_outlined b v;
   free = unused_is;
-  outline = edits ∙ ap (edited_outline o c) (ap (least_supplies o c) unused_is ∙ least_same v o c (free_blocks v) (ap (λ (x : Volume). x.size) is))
+  outline = edits ∙ ap (edited_outline o c) (ap (least_supplies o c) unused_is
+      ∙ least_same v o c (free_blocks v) (ap (λ (x : Volume). x.size) is))
       ∙ ap (λ (x : Volume). edited_outline x c (supplies_of v c)) is;
 }
   where
@@ -156,7 +163,8 @@ unweighed laws d c o new used judged marks free edits = record {
 -- ---- behind the edit
 
 -- the least two free blocks are no pair of the root
-least_by : (v : Volume) → IsSound v → (free : List ℕ) → ((b : ℕ) → Contains free b → uses b v ≡ 0) → same_pair (least_pair free) root ≡ false
+least_by : (v : Volume) → IsSound v → (free : List ℕ) → ((b : ℕ) → Contains free b → uses b v ≡ 0)
+    → same_pair (least_pair free) root ≡ false
 least_by v sound [] none = refl
 least_by v sound (a ∷ []) none = refl
 least_by v sound (a ∷ b ∷ more) none = not_root v sound (a, b) (none a (contains_first a (b ∷ more)))
@@ -164,7 +172,8 @@ least_by v sound (a ∷ b ∷ more) none = not_root v sound (a, b) (none a (cont
 least_not_root : (v : Volume) → IsSound v → same_pair (least_pair (free_blocks v)) root ≡ false
 least_not_root v sound =
     least_by v sound (free_blocks v)
-    (λ b free. taken_unused v (length (free_blocks v)) b (subst (λ (xs : List ℕ). Contains xs b) (sym (take_all (length (free_blocks v)) (free_blocks v) (omega arith))) free))
+    (λ b free. taken_unused v (length (free_blocks v)) b (subst (λ (xs : List ℕ). Contains xs b)
+    (sym (take_all (length (free_blocks v)) (free_blocks v) (omega arith))) free))
 
 first_both : (rs more : List (Option Refusal)) → first_refusal rs ≡ None → first_refusal (rs ++ more) ≡ first_refusal more
 first_both [] more none = refl
@@ -206,17 +215,27 @@ weighed laws small few d c used o disk u = record {
 
     rows : room_checks v c ≡ room_checks_on o (made_blocks v c) (unused used)
     rows =
-        ap (λ (t : Bool). refuse_if t EntryTooLarge ∷ refuse_if (nat_lt (length (free_blocks v)) (need v c)) (NoSpace (need v c) (length (free_blocks v))) ∷ []) large
-        ∙ ap (λ (n : ℕ). refuse_if (has_too_large o) EntryTooLarge ∷ refuse_if (nat_lt (length (free_blocks v)) n) (NoSpace n (length (free_blocks v))) ∷ []) carried.needed
+        ap (λ (t : Bool). refuse_if t EntryTooLarge ∷ refuse_if (nat_lt (length (free_blocks v)) (need v c))
+        (NoSpace (need v c) (length (free_blocks v))) ∷ []) large
+        ∙ ap (λ (n : ℕ). refuse_if (has_too_large o) EntryTooLarge ∷ refuse_if (nat_lt (length (free_blocks v)) n)
+        (NoSpace n (length (free_blocks v))) ∷ []) carried.needed
         ∙ ap (λ (free : List ℕ). room_checks_on o (made_blocks v c) free) (sym u.free)
 
     judged : first_refusal (room_checks_on o (made_blocks v c) (unused used)) ≡ verdict v c
     judged = ap first_refusal (sym rows) ∙ sym (first_both (checks v c) (room_checks v c) u.unrefused)
 
-pub refused_by : (d : Disk) (c : Command) (used : List Bool) (o : Volume) (u : IsUnweighed d c used o) (r : Refusal) → IsWeighed d c used o u
+pub refused_by : (d : Disk) (c : Command) (used : List Bool) (o : Volume) (u : IsUnweighed d c used o) (r : Refusal)
+    → IsWeighed d c used o u
     → first_refusal (room_checks_on o (made_blocks u.volume c) (unused used)) ≡ Some r → IsRefusedBy d c r
 refused_by d c used o u r known refused asked spells =
-    refuses d asked r (record { volume = u.volume; holds = u.holds; sound = u.sound; command = c; spells = spells; refused = sym known.judged ∙ refused })
+    refuses d asked r (record {
+      volume = u.volume;
+      holds = u.holds;
+      sound = u.sound;
+      command = c;
+      spells = spells;
+      refused = sym known.judged ∙ refused;
+    })
 
 pub ready : (d : Disk) (c : Command) (used : List Bool) (o : Volume) (u : IsUnweighed d c used o) (blocks : List ℕ) → IsWeighed d c used o u
     → first_refusal (room_checks_on o (made_blocks u.volume c) (unused used)) ≡ None

@@ -36,14 +36,16 @@ pub record IsKnown (d : Disk) (c : Command) (blocks : List ℕ) (v o : Volume) :
   pub once : HasPairsOnce o
   pub few : length (filter (is_more o) (dirty_parts o)) ≤ 2
 
-pub known_ready : (laws : CarryingLaws) (d : Disk) (c : Command) (used : List Bool) (blocks : List ℕ) (o : Volume) (ready : IsReady d c used blocks o) → IsKnown d c blocks ready.volume o
+pub known_ready : (laws : CarryingLaws) (d : Disk) (c : Command) (used : List Bool) (blocks : List ℕ) (o : Volume)
+    (ready : IsReady d c used blocks o) → IsKnown d c blocks ready.volume o
 known_ready laws d c used blocks o ready = record {
   outline = is;
   size = held.size;
   frame = ap (λ (x : Volume). x.size) is ∙ follows.size ∙ held.size;
   made = omega (arith, long, within_need v c);
   needed = long ∙ carried.needed;
-  once = subst HasPairsOnce (sym is) (pairs_once (outlined w) (λ b. omega (arith, (outlines_take_same_room w).used b, follows.sound.once b)));
+  once = subst HasPairsOnce (sym is) (pairs_once (outlined w) (λ b. omega
+      (arith, (outlines_take_same_room w).used b, follows.sound.once b)));
   few = subst (λ (x : Volume). length (filter (is_more x) (dirty_parts x)) ≤ 2) (sym is)
       (omega (arith, few_are_more laws.command v c (supplies_of v c) accepted, few));
 }
@@ -82,4 +84,8 @@ known_ready laws d c used blocks o ready = record {
 
     few : length (rewritten_parts v w) ≤ 2
     few =
-        omega (arith, ap length (laws.changed v c (supplies_of v c) accepted (pairs_differ v ready.sound)), laws.few v c (supplies_of v c) accepted (laws.marks (reading_of d) v held))
+        omega (
+          arith,
+          ap length (laws.changed v c (supplies_of v c) accepted (pairs_differ v ready.sound)),
+          laws.few v c (supplies_of v c) accepted (laws.marks (reading_of d) v held),
+        )

@@ -19,12 +19,14 @@ pair_taken (a ∷ []) n enough = absurd (omega (arith, enough))
 pair_taken (a ∷ b ∷ more) n enough = refl
 
 body_taken : (free : List ℕ) (n len least : ℕ) (bytes : List ℕ) (t : Bool)
-    → body_uses n (if t then Inline bytes else Chain (take (if t then 0 else least) free) bytes) ≡ times n (take (if t then 0 else least) free)
+    → body_uses n (if t then Inline bytes else Chain (take (if t then 0 else least) free) bytes)
+    ≡ times n (take (if t then 0 else least) free)
 body_taken free n len least bytes true = refl
 body_taken free n len least bytes false = refl
 
 -- what a command takes of them are the first of them
-pub supplies_taken : (v : Volume) (c : Command) (free : List ℕ) (n : ℕ) → made_blocks v c ≤ length free → supply_uses v c (least_supplies v c free) n ≡ times n (take (made_blocks v c) free)
+pub supplies_taken : (v : Volume) (c : Command) (free : List ℕ) (n : ℕ) → made_blocks v c ≤ length free
+    → supply_uses v c (least_supplies v c free) n ≡ times n (take (made_blocks v c) free)
 supplies_taken v (Mkdir p) free n enough = pair_taken free n enough
 supplies_taken v (Put p bytes) free n enough =
     body_taken free n (length bytes) (least_blocks v.size (length bytes)) bytes (nat_le (length bytes) (most_inline v.size))
@@ -35,7 +37,8 @@ supplies_taken v (SetAttr p k value) free n enough = refl
 supplies_taken v (RmAttr p k) free n enough = refl
 
 -- they are free
-pub supplies_free : (v : Volume) (c : Command) → IsSound v → made_blocks v c ≤ length (free_blocks v) → AreFree v c (least_supplies v c (free_blocks v))
+pub supplies_free : (v : Volume) (c : Command) → IsSound v → made_blocks v c ≤ length (free_blocks v)
+    → AreFree v c (least_supplies v c (free_blocks v))
 supplies_free v c sound enough = record {
   once = λ b. elim (none_or_some (times b (take (made_blocks v c) (free_blocks v)))) [
     | inl none ↦ omega (arith, none, taken b, sound.once b)

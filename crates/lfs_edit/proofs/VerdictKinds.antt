@@ -10,13 +10,16 @@ use Rattle.lfs_fs.specs.Path.{Path}
 use Rattle.lfs_fs.specs.Tree.{Node, File, Dir, entry_at, tree}
 use Rattle.lfs_fs.specs.Volume.{Volume}
 use Rattle.lfs_command.specs.declared.refusal.Refusal.{Refusal}
-use Rattle.lfs_command.specs.declared.refusal.Refusal.TheVariants.{NotFound, NotADirectory, BadPath, AttrTooLarge, NoAttr, EntryTooLarge, Memory, Exists, IsADirectory, NotEmpty, NameTooLong, FileTooLarge, IntoItself, IsRoot, NoSpace}
+use Rattle.lfs_command.specs.declared.refusal.Refusal.TheVariants.{NotFound, NotADirectory, BadPath, AttrTooLarge, NoAttr, EntryTooLarge}
+use Rattle.lfs_command.specs.declared.refusal.Refusal.TheVariants.{Memory, Exists, IsADirectory, NotEmpty, NameTooLong, FileTooLarge}
+use Rattle.lfs_command.specs.declared.refusal.Refusal.TheVariants.{IntoItself, IsRoot, NoSpace}
 use Rattle.lfs_command.specs.Command.{Asked, Command, Mkdir, Put, Rm, Mv, SetAttr, RmAttr}
 use Rattle.lfs_command.specs.Edited.{edited}
 use Rattle.lfs_command.specs.Need.{dirty_parts, need}
 use Rattle.lfs_command.specs.Planned.{IsRefused, RefusesPlan}
 use Rattle.lfs_command.specs.Supplies.{nothing}
-use Rattle.lfs_command.specs.Verdict.{checks, first_refusal, has_attribute, is_bare, is_directory, is_root, is_too_large, last_length, lies_below, refuse_if, room_checks, walk_refusal, walk_refusal_at}
+use Rattle.lfs_command.specs.Verdict.{checks, first_refusal, has_attribute, is_bare, is_directory, is_root, is_too_large, last_length}
+use Rattle.lfs_command.specs.Verdict.{lies_below, refuse_if, room_checks, walk_refusal, walk_refusal_at}
 
 -- a refusal of a verdict: neither of the text of a path, nor of memory
 unfoldable pub IsOfVerdict : Refusal → Type 0
@@ -48,26 +51,46 @@ of_first [] all = tt
 of_first (None ∷ rs) all = of_first rs all.1
 of_first (Some r ∷ rs) all = all.0
 
-of_both : (rs qs : List (Option Refusal)) → AllByRecursion MayBeOfVerdict rs → AllByRecursion MayBeOfVerdict qs → AllByRecursion MayBeOfVerdict (rs ++ qs)
+of_both : (rs qs : List (Option Refusal)) → AllByRecursion MayBeOfVerdict rs → AllByRecursion MayBeOfVerdict qs
+    → AllByRecursion MayBeOfVerdict (rs ++ qs)
 of_both [] qs these those = those
 of_both (r ∷ rs) qs these those = (these.0, of_both rs qs these.1 those)
 
 of_checks : (v : Volume) (c : Command) → AllByRecursion MayBeOfVerdict (checks v c)
 unfolding IsOfVerdict
-of_checks v (Mkdir p) =
-    (of_test (is_root p) IsRoot tt, (of_walk (tree v) [] p, (of_test (is_some (tree v p)) Exists tt, (of_test (nat_lt v.limits.name (last_length p)) NameTooLong tt, tt))))
+of_checks v (Mkdir p) = (
+  of_test (is_root p) IsRoot tt,
+  (
+    of_walk (tree v) [] p,
+    (
+      of_test (is_some (tree v p)) Exists tt,
+      (of_test (nat_lt v.limits.name (last_length p)) NameTooLong tt, tt),
+    ),
+  ),
+)
 of_checks v (Put p bytes) = (
   of_test (is_root p) IsRoot tt,
   (
     of_walk (tree v) [] p,
     (
       of_test (is_directory (tree v p)) IsADirectory tt,
-      (of_test (is_none (tree v p) && nat_lt v.limits.name (last_length p)) NameTooLong tt, (of_test (nat_lt v.limits.file (length bytes)) FileTooLarge tt, tt)),
+      (
+        of_test (is_none (tree v p) && nat_lt v.limits.name (last_length p)) NameTooLong tt,
+        (of_test (nat_lt v.limits.file (length bytes)) FileTooLarge tt, tt),
+      ),
     ),
   ),
 )
-of_checks v (Rm p) =
-    (of_test (is_root p) IsRoot tt, (of_walk (tree v) [] p, (of_test (is_none (tree v p)) NotFound tt, (of_test (not (is_bare v (option_and_then target (entry_at v p)))) NotEmpty tt, tt))))
+of_checks v (Rm p) = (
+  of_test (is_root p) IsRoot tt,
+  (
+    of_walk (tree v) [] p,
+    (
+      of_test (is_none (tree v p)) NotFound tt,
+      (of_test (not (is_bare v (option_and_then target (entry_at v p)))) NotEmpty tt, tt),
+    ),
+  ),
+)
 of_checks v (Mv p q) = (
   of_test (is_root p || is_root q) IsRoot tt,
   (
@@ -76,13 +99,30 @@ of_checks v (Mv p q) = (
       of_test (is_none (tree v p)) NotFound tt,
       (
         of_test (lies_below p q) IntoItself tt,
-        (of_walk (tree v) [] q, (of_test (is_some (tree v q)) Exists tt, (of_test (nat_lt v.limits.name (last_length q)) NameTooLong tt, tt))),
+        (
+          of_walk (tree v) [] q,
+          (
+            of_test (is_some (tree v q)) Exists tt,
+            (
+              of_test (nat_lt v.limits.name (last_length q)) NameTooLong tt,
+              tt,
+            ),
+          ),
+        ),
       ),
     ),
   ),
 )
-of_checks v (SetAttr p k value) =
-    (of_walk (tree v) [] p, (of_test (is_none (tree v p)) NotFound tt, (of_test (nat_lt v.limits.attribute (length value)) AttrTooLarge tt, tt)))
+of_checks v (SetAttr p k value) = (
+  of_walk (tree v) [] p,
+  (
+    of_test (is_none (tree v p)) NotFound tt,
+    (
+      of_test (nat_lt v.limits.attribute (length value)) AttrTooLarge tt,
+      tt,
+    ),
+  ),
+)
 of_checks v (RmAttr p k) =
     (of_walk (tree v) [] p, (of_test (is_none (tree v p)) NotFound tt, (of_test (not (has_attribute k (tree v p))) NoAttr tt, tt)))
 
@@ -117,4 +157,5 @@ refuses d asked r refused =
     let v = refused.volume in
     let c = refused.command in
     refuses_by d asked r
-    (subst MayBeOfVerdict refused.refused (of_first (checks v c ++ room_checks v c) (of_both (checks v c) (room_checks v c) (of_checks v c) (of_room v c)))) refused
+    (subst MayBeOfVerdict refused.refused (of_first (checks v c ++ room_checks v c)
+    (of_both (checks v c) (room_checks v c) (of_checks v c) (of_room v c)))) refused

@@ -48,17 +48,20 @@ contents_are d c used blocks w cut' =
     ap (take (data_blocks v c)) cut'.ready.least ∙ take-take (data_blocks v c) (need v c) (free_blocks v) (omega (arith, within_need v c))
 
 -- so they rise, are the volume's, and as many as the contents take
-pub contents_rise : (d : Disk) (c : Command) (used : List Bool) (blocks : List ℕ) (w : Volume) (cut' : IsCutReady d c used blocks w) (count : ℕ)
+pub contents_rise : (d : Disk) (c : Command) (used : List Bool) (blocks : List ℕ) (w : Volume) (cut' : IsCutReady d c used blocks w)
+    (count : ℕ)
     → count ≡ data_blocks cut'.ready.volume c → AllPairs ◌<◌ (take count blocks)
 contents_rise d c used blocks w cut' count is =
     rw (is, contents_are d c used blocks w cut') (taken_rise cut'.ready.volume (data_blocks cut'.ready.volume c))
 
-pub contents_below : (d : Disk) (c : Command) (used : List Bool) (blocks : List ℕ) (w : Volume) (cut' : IsCutReady d c used blocks w) (count : ℕ)
+pub contents_below : (d : Disk) (c : Command) (used : List Bool) (blocks : List ℕ) (w : Volume) (cut' : IsCutReady d c used blocks w)
+    (count : ℕ)
     → count ≡ data_blocks cut'.ready.volume c → All (λ b. b < cut'.ready.volume.count) (take count blocks)
 contents_below d c used blocks w cut' count is =
     rw (is, contents_are d c used blocks w cut') (taken_below cut'.ready.volume (data_blocks cut'.ready.volume c))
 
-pub contents_many : (d : Disk) (c : Command) (used : List Bool) (blocks : List ℕ) (w : Volume) (cut' : IsCutReady d c used blocks w) (count : ℕ)
+pub contents_many : (d : Disk) (c : Command) (used : List Bool) (blocks : List ℕ) (w : Volume) (cut' : IsCutReady d c used blocks w)
+    (count : ℕ)
     → count ≡ data_blocks cut'.ready.volume c → length (take count blocks) ≡ count
 contents_many d c used blocks w cut' count is =
     let v : Volume = cut'.ready.volume in
@@ -92,13 +95,15 @@ pub record IsAtHand (d : Disk) (c : Command) (v w : Volume) (chosen : Part → L
   pub bytes : volume_bytes w ≡ held.bytes
   pub root : AreAttributes w.limits.attribute w.attributes
 
-pub at_hand : (laws : CarryingLaws) → HeldBytesAreMade → (d : Disk) → IsDisk d → (c : Command) (used : List Bool) (blocks : List ℕ) (w : Volume) (ready : IsCutReady d c used blocks w)
+pub at_hand : (laws : CarryingLaws) → HeldBytesAreMade → (d : Disk) → IsDisk d
+    → (c : Command) (used : List Bool) (blocks : List ℕ) (w : Volume) (ready : IsCutReady d c used blocks w)
     → IsAtHand d c ready.ready.volume w (for_parts ready.cuts.chosen)
 at_hand laws made d disk c used blocks w ready = record {
   all = all;
   held = held;
   says = made d v held disk ready.ready.sound;
-  bytes = ap volume_bytes (sym all.same) ∙ same_bytes v (outlined after) follows.size follows.count follows.limits ∙ sym (made d v held disk ready.ready.sound);
+  bytes = ap volume_bytes (sym all.same) ∙ same_bytes v (outlined after) follows.size follows.count follows.limits
+      ∙ sym (made d v held disk ready.ready.sound);
   root = subst (λ (x : Volume). AreAttributes x.limits.attribute x.attributes) all.same follows.sound.root_attributes;
 }
   where
@@ -121,19 +126,24 @@ at_hand laws made d disk c used blocks w ready = record {
     follows = laws.follow v c (supplies_of v c) chosen all.accepted all.pairs
 
 -- its links can be written behind changes that lay what the command puts into the blocks of its supplies
-pub can_be_added : (laws : CarryingLaws) → CutLinksCanBeAdded → (d : Disk) → IsDisk d → (c : Command) (used : List Bool) (blocks : List ℕ) (w : Volume) (ready : IsCutReady d c used blocks w)
-    → IsAtHand d c ready.ready.volume w (for_parts ready.cuts.chosen) → (base : List Change) → AreLaidFor d ready.ready.volume c (supplies_of ready.ready.volume c) base
+pub can_be_added : (laws : CarryingLaws) → CutLinksCanBeAdded → (d : Disk) → IsDisk d
+    → (c : Command) (used : List Bool) (blocks : List ℕ) (w : Volume) (ready : IsCutReady d c used blocks w)
+    → IsAtHand d c ready.ready.volume w (for_parts ready.cuts.chosen) → (base : List Change)
+    → AreLaidFor d ready.ready.volume c (supplies_of ready.ready.volume c) base
     → CanBeAdded d (volume_bytes w) w.attributes (is_unmarked used) base (links w.directories)
 can_be_added laws can d disk c used blocks w ready known base laid =
     let v : Volume = ready.ready.volume in
     let chosen : Part → List Pair = for_parts ready.cuts.chosen in
     subst (λ (bs : List ℕ). CanBeAdded d bs w.attributes (is_unmarked used) base (links w.directories)) (sym known.bytes)
     (subst (λ (x : Volume). CanBeAdded d known.held.bytes x.attributes (is_unmarked used) base (links x.directories)) known.all.same
-    (can d v known.held c (supplies_of v c) chosen used base disk known.all.accepted known.all.pairs ready.ready.marks laid.rising laid.made laid.contents))
+    (can d v known.held c (supplies_of v c) chosen used base disk known.all.accepted known.all.pairs ready.ready.marks laid.rising laid.made
+    laid.contents))
 
 -- what is written then is a patch of the image
-pub writes_over : (laws : CarryingLaws) → CommandsSetAPart → (d : Disk) (c : Command) (used : List Bool) (blocks : List ℕ) (w : Volume) (ready : IsCutReady d c used blocks w)
-    → IsAtHand d c ready.ready.volume w (for_parts ready.cuts.chosen) → (base cs : List Change) → AreLaidFor d ready.ready.volume c (supplies_of ready.ready.volume c) base
+pub writes_over : (laws : CarryingLaws) → CommandsSetAPart → (d : Disk) (c : Command) (used : List Bool) (blocks : List ℕ) (w : Volume)
+    (ready : IsCutReady d c used blocks w)
+    → IsAtHand d c ready.ready.volume w (for_parts ready.cuts.chosen) → (base cs : List Change)
+    → AreLaidFor d ready.ready.volume c (supplies_of ready.ready.volume c) base
     → AreWritten d (volume_bytes w) w.attributes (is_unmarked used) base (links w.directories) cs
     → WritesOver d ready.ready.volume c used w (record { size = d.size; changes = cs })
 writes_over laws some d c used blocks w ready known base cs laid written = record {
@@ -160,16 +170,19 @@ writes_over laws some d c used blocks w ready known base cs laid written = recor
     old : AreWritten d (volume_bytes w) after.attributes (is_new_to v) base (links (outlined after).directories) cs
     old =
         laws.tell v used ready.ready.marks d (volume_bytes w) after.attributes base (links (outlined after).directories) cs
-        (subst (λ (x : Volume). AreWritten d (volume_bytes w) x.attributes (is_unmarked used) base (links x.directories) cs) (sym known.all.same) written)
+        (subst (λ (x : Volume). AreWritten d (volume_bytes w) x.attributes (is_unmarked used) base (links x.directories) cs)
+        (sym known.all.same) written)
 
     named : (n : ℕ) → times n (changed_blocks cs) ≡ times n (take (need v c) (free_blocks v) ++ rewritten_blocks d v (edited v c s))
-    named = changed_named d v c s chosen (volume_bytes w) after.attributes base cs known.all.accepted known.all.pairs known.all.taken laid.contents old
+    named = changed_named d v c s chosen (volume_bytes w) after.attributes base cs known.all.accepted known.all.pairs known.all.taken
+        laid.contents old
 
     by : (ps : List Part) → rewritten_parts v (edited v c s) ≡ ps → 1 ≤ length ps → cs ≡ [] → ⊥
     by [] is many none = absurd (omega (arith, many))
     by (p ∷ ps) is many none =
         let n : ℕ = other_number d p.pair in
-        let there : rewritten_blocks d v (edited v c s) ≡ n ∷ map (λ (q : Part). other_number d q.pair) ps = ap (map (λ (q : Part). other_number d q.pair)) is in
+        let there : rewritten_blocks d v (edited v c s) ≡ n ∷ map (λ (q : Part). other_number d q.pair) ps =
+        ap (map (λ (q : Part). other_number d q.pair)) is in
         absurd (omega (
           arith,
           named n,

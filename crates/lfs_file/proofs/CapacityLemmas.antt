@@ -1,5 +1,6 @@
 -- The least number of blocks that hold a file.
-use Rattle.std.proofs.Common.{◌≡◌, ℕ, zero, suc, ◌+◌, ◌-◌, ◌*◌, ◌%◌, ◌<◌, ◌≤◌, ◌==◌, cond, Bool, true, false, refl, ap, ◌∙◌, map, sum, ◌⊎◌, inl, inr, arith}
+use Rattle.std.proofs.Common.{◌≡◌, ℕ, zero, suc, ◌+◌, ◌-◌, ◌*◌, ◌%◌, ◌<◌, ◌≤◌, ◌==◌, cond, Bool, true, false, refl, ap, ◌∙◌, map, sum, ◌⊎◌}
+use Rattle.std.proofs.Common.{inl, inr, arith}
 use borrow.Author.Count.{below_more}
 use Rattle.std.specs.Int.Count.{count_trailing_zeros}
 use Rattle.std.specs.List.{range_with_len}
@@ -11,7 +12,8 @@ use Rattle.lfs_file.specs.Capacity.{pointers, capacity, room, IsLeast, least_fro
 
 pub room_more : (size n : ℕ) → room size (n + 1) ≡ room size n + capacity size n
 room_more size n =
-    ap sum (map-range_with_len_more (capacity size) 0 n n (omega arith)) ∙ sum_by_push (λ x. x) (map (capacity size) (range_with_len 0 n)) (capacity size n)
+    ap sum (map-range_with_len_more (capacity size) 0 n n (omega arith))
+    ∙ sum_by_push (λ x. x) (map (capacity size) (range_with_len 0 n)) (capacity size n)
 
 few_at : (b : Bool) (t : ℕ) → t ≤ 32 → cond b 0 (t + 1) ≤ 33
 few_at true t h = omega arith
@@ -54,7 +56,8 @@ room_grows size (suc (suc n)) big =
     let held_by : 2 * suc (suc n) ≤ room size (n + 1 + 1) = omega arith in
     rw number at held_by
 
-least_from_is : (size len n steps m : ℕ) → n + steps ≡ m → ((k : ℕ) → k < n → room size k < len) → len ≤ room size m → IsLeast size len (least_from size len n steps)
+least_from_is : (size len n steps m : ℕ) → n + steps ≡ m → ((k : ℕ) → k < n → room size k < len) → len ≤ room size m
+    → IsLeast size len (least_from size len n steps)
 unfolding least_from
 least_from_is size len n zero m is below enough =
     let same : m ≡ n = omega arith in

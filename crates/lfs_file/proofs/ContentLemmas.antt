@@ -1,5 +1,6 @@
 -- The content of a file: what it depends on, and its length.
-use Rattle.std.proofs.Common.{◌≡◌, ℕ, zero, suc, ◌+◌, ◌-◌, ◌*◌, ◌<◌, ◌≤◌, List, [], length, map, take, drop, All, refl, sym, ap, ◌∙◌, arith, add-one, zero-add, slice_index}
+use Rattle.std.proofs.Common.{◌≡◌, ℕ, zero, suc, ◌+◌, ◌-◌, ◌*◌, ◌<◌, ◌≤◌, List, [], length, map, take, drop, All, refl, sym, ap, ◌∙◌, arith}
+use Rattle.std.proofs.Common.{add-one, zero-add, slice_index}
 use Rattle.std.specs.List.{range_with_len, sum_by, concat}
 use Rattle.std.proofs.Math.Nat.{mul-le-mul_right}
 use Rattle.std.proofs.lemmas.List.{length-take-le, length-drop}
@@ -30,19 +31,25 @@ length-block d b is lt =
     let room_left : d.size ≤ length (drop (b * d.size) d.bytes) = omega (arith, length-drop (b * d.size) d.bytes, is.len, rows) in
     length-take-le d.size (drop (b * d.size) d.bytes) room_left
 
-part_len : (d : Disk) (blocks : List ℕ) (n : ℕ) → IsDisk d → slice_index blocks n < d.count → length (data_part d blocks n) ≡ capacity d.size n
+part_len : (d : Disk) (blocks : List ℕ) (n : ℕ) → IsDisk d → slice_index blocks n < d.count
+    → length (data_part d blocks n) ≡ capacity d.size n
 part_len d blocks n is below =
-    length-drop (4 * pointers n) (block_of d (slice_index blocks n)) ∙ ap (λ l. l - 4 * pointers n) (length-block d (slice_index blocks n) is below)
+    length-drop (4 * pointers n) (block_of d (slice_index blocks n)) ∙ ap (λ l. l - 4 * pointers n)
+    (length-block d (slice_index blocks n) is below)
 
 -- the parts of the first n blocks are as long as the room in them
 parts_len : (d : Disk) (blocks : List ℕ) (n : ℕ) → IsDisk d → All (λ b. b < d.count) blocks → n ≤ length blocks
     → sum_by length (map (data_part d blocks) (range_with_len 0 n)) ≡ room d.size n
 parts_len d blocks zero is below within = refl
 parts_len d blocks (suc n) is below within =
-    let earlier : sum_by length (map (data_part d blocks) (range_with_len 0 n)) ≡ room d.size n = parts_len d blocks n is below (omega (arith, within)) in
+    let earlier : sum_by length (map (data_part d blocks) (range_with_len 0 n)) ≡ room d.size n =
+    parts_len d blocks n is below (omega (arith, within)) in
     let last : length (data_part d blocks n) ≡ capacity d.size n = part_len d blocks n is (below n 0 (omega (arith, within))) in
-    let more : sum_by length (map (data_part d blocks) (range_with_len 0 (n + 1))) ≡ sum_by length (map (data_part d blocks) (range_with_len 0 n)) + length (data_part d blocks n) = sum_by-map-range_with_len_more length (data_part d blocks) 0 n n (zero-add n) in
-    let all : sum_by length (map (data_part d blocks) (range_with_len 0 (n + 1))) ≡ room d.size (n + 1) = more ∙ ap (λ s. s + length (data_part d blocks n)) earlier ∙ ap (λ l. room d.size n + l) last ∙ sym (room_more d.size n) in
+    let more : sum_by length (map (data_part d blocks) (range_with_len 0 (n + 1)))
+    ≡ sum_by length (map (data_part d blocks) (range_with_len 0 n)) + length (data_part d blocks n) =
+    sum_by-map-range_with_len_more length (data_part d blocks) 0 n n (zero-add n) in
+    let all : sum_by length (map (data_part d blocks) (range_with_len 0 (n + 1))) ≡ room d.size (n + 1) =
+    more ∙ ap (λ s. s + length (data_part d blocks n)) earlier ∙ ap (λ l. room d.size n + l) last ∙ sym (room_more d.size n) in
     let number : n + 1 ≡ suc n = add-one n in
     rw number at all
 
@@ -53,7 +60,8 @@ length-parts d blocks n is below within =
     let parts = map (data_part d blocks) (range_with_len 0 n) in
     ap length (concat_is parts) ∙ length-flat_map (λ x. x) parts ∙ parts_len d blocks n is below within
 
-pub length-content : (d : Disk) (head len : ℕ) (blocks : List ℕ) → IsDisk d → IsChain d head len blocks → length (content d len blocks) ≡ len
+pub length-content : (d : Disk) (head len : ℕ) (blocks : List ℕ) → IsDisk d → IsChain d head len blocks
+    → length (content d len blocks) ≡ len
 unfolding content
 length-content d head len blocks is chain =
     let whole = length-parts d blocks (length blocks) is chain.below (omega arith) in

@@ -1,5 +1,6 @@
 -- Laid blocks are bytes.
-use Rattle.std.proofs.Common.{◌≡◌, ℕ, zero, suc, ◌+◌, ◌-◌, ◌^◌, List, [], ◌∷◌, ◌++◌, length, take, drop, replicate, sym, subst, arith, add-one, slice_index, All}
+use Rattle.std.proofs.Common.{◌≡◌, ℕ, zero, suc, ◌+◌, ◌-◌, ◌^◌, List, [], ◌∷◌, ◌++◌, length, take, drop, replicate, sym, subst, arith}
+use Rattle.std.proofs.Common.{add-one, slice_index, All}
 use Rattle.std.specs.Int.{w32, to_le_bytes}
 use Rattle.std.proofs.lemmas.List.Elements.{All-from_get_or}
 use Rattle.lfs_block.specs.Bytes.{IsBytes}
@@ -41,16 +42,19 @@ IsBytes-pointers blocks n zero = subst IsBytes (sym (pointers-none blocks n)) (�
 IsBytes-pointers blocks n (suc k) =
     let number : k + 1 ≡ suc k = add-one k in
     rw number at (subst IsBytes (sym (pointers-more blocks n k))
-    (IsBytes-append (laid_pointers blocks n k) (to_le_bytes w32 (slice_index blocks (n - 2 ^ k))) (IsBytes-pointers blocks n k) (IsBytes-word (slice_index blocks (n - 2 ^ k)))))
+    (IsBytes-append (laid_pointers blocks n k) (to_le_bytes w32 (slice_index blocks (n - 2 ^ k))) (IsBytes-pointers blocks n k)
+    (IsBytes-word (slice_index blocks (n - 2 ^ k)))))
 
 IsBytes-filled : (size n : ℕ) (part blocks : List ℕ) → IsBytes part → IsBytes (filled size part blocks n)
 unfolding filled
 IsBytes-filled size n part blocks all =
     IsBytes-append (laid_pointers blocks n (pointers n) ++ part) (replicate (capacity size n - length part) 0xff)
-    (IsBytes-append (laid_pointers blocks n (pointers n)) part (IsBytes-pointers blocks n (pointers n)) all) (IsBytes-fill (capacity size n - length part))
+    (IsBytes-append (laid_pointers blocks n (pointers n)) part (IsBytes-pointers blocks n (pointers n)) all)
+    (IsBytes-fill (capacity size n - length part))
 
 pub laid-bytes : (size : ℕ) (bytes blocks : List ℕ) → IsBytes bytes → All IsBytes (laid size bytes blocks)
 laid-bytes size bytes blocks all =
     All-from_get_or IsBytes (laid size bytes blocks) []
     (λ n within. subst IsBytes (sym (get_or-laid size bytes blocks n (omega (arith, within, length-laid size bytes blocks))))
-    (IsBytes-filled size n (share_of size bytes n) blocks (IsBytes-take (capacity size n) (drop (room size n) bytes) (IsBytes-drop (room size n) bytes all))))
+    (IsBytes-filled size n (share_of size bytes n) blocks (IsBytes-take (capacity size n) (drop (room size n) bytes)
+    (IsBytes-drop (room size n) bytes all))))

@@ -1,5 +1,6 @@
 -- Laid blocks on a disk are the chain of their file.
-use Rattle.std.proofs.Common.{◌≡◌, ℕ, zero, suc, ◌+◌, ◌-◌, ◌*◌, ◌^◌, ◌<◌, ◌≤◌, min, List, [], ◌∷◌, ◌++◌, length, map, take, drop, replicate, get_or, refl, sym, ap, ◌∙◌, subst, inl, inr, arith, add-one, zero-add, slice_index, All, Some}
+use Rattle.std.proofs.Common.{◌≡◌, ℕ, zero, suc, ◌+◌, ◌-◌, ◌*◌, ◌^◌, ◌<◌, ◌≤◌, min, List, [], ◌∷◌, ◌++◌, length, map, take, drop, replicate}
+use Rattle.std.proofs.Common.{get_or, refl, sym, ap, ◌∙◌, subst, inl, inr, arith, add-one, zero-add, slice_index, All, Some}
 use Rattle.std.specs.List.{range_with_len, concat}
 use Rattle.std.proofs.Math.Seq.{take-add}
 use Rattle.std.proofs.lemmas.List.{append-nil, get_or-map, length-take, length-drop, take_all}
@@ -25,9 +26,11 @@ unfolding laid
 length-laid size bytes blocks = length-map-range_with_len (λ n. filled size (share_of size bytes n) blocks n) 0 (length blocks)
 
 -- laid block n
-pub get_or-laid : (size : ℕ) (bytes blocks : List ℕ) (n : ℕ) → n < length blocks → get_or (laid size bytes blocks) n [] ≡ filled size (share_of size bytes n) blocks n
+pub get_or-laid : (size : ℕ) (bytes blocks : List ℕ) (n : ℕ) → n < length blocks
+    → get_or (laid size bytes blocks) n [] ≡ filled size (share_of size bytes n) blocks n
 unfolding laid
-get_or-laid size bytes blocks n within = get_or-map-range_with_len (λ n. filled size (share_of size bytes n) blocks n) 0 (length blocks) n n [] within (zero-add n)
+get_or-laid size bytes blocks n within = get_or-map-range_with_len (λ n. filled size (share_of size bytes n) blocks n) 0
+    (length blocks) n n [] within (zero-add n)
 
 pub laid-whole_blocks : (size : ℕ) (bytes blocks : List ℕ) → IsBlockSize size → All (λ block. length block ≡ size) (laid size bytes blocks)
 laid-whole_blocks size bytes blocks fits =
@@ -41,23 +44,28 @@ on_disk : (d : Disk) (head : ℕ) (bytes blocks : List ℕ) → IsLaid d head by
 on_disk d head bytes blocks is n within =
     sym (get_or-map (block_of d) blocks n 0 [] within) ∙ ap (λ all. get_or all n []) is.same ∙ get_or-laid d.size bytes blocks n within
 
-pub laid-chain : (d : Disk) (head : ℕ) (bytes blocks : List ℕ) → IsDisk d → IsLaid d head bytes blocks → IsChain d head (length bytes) blocks
+pub laid-chain : (d : Disk) (head : ℕ) (bytes blocks : List ℕ) → IsDisk d → IsLaid d head bytes blocks
+    → IsChain d head (length bytes) blocks
 laid-chain d head bytes blocks disk is = record {
-  least = subst (λ (n : ℕ). IsLeast d.size (length bytes) n) (sym is.count) (least_blocks-is d.size (length bytes) (omega (arith, disk.geometry.size_fits.0)));
+  least = subst (λ (n : ℕ). IsLeast d.size (length bytes) n) (sym is.count)
+      (least_blocks-is d.size (length bytes) (omega (arith, disk.geometry.size_fits.0)));
   last = is.last;
   below = is.below;
   apart = is.apart;
   back = λ n i later within lt.
       ap (λ block. pointer block i) (on_disk d head bytes blocks is n within)
-      ∙ pointer-filled d.size n i (share_of d.size bytes n) blocks lt (omega (arith, is.below (n - 2 ^ i) 0 (omega (arith, within)), disk.geometry.count_fits.1));
+      ∙ pointer-filled d.size n i (share_of d.size bytes n) blocks lt (omega
+      (arith, is.below (n - 2 ^ i) 0 (omega (arith, within)), disk.geometry.count_fits.1));
 }
 
-pub laid-found : (d : Disk) (head : ℕ) (bytes blocks : List ℕ) → IsDisk d → IsLaid d head bytes blocks → chain_of d head (length bytes) ≡ Some blocks
+pub laid-found : (d : Disk) (head : ℕ) (bytes blocks : List ℕ) → IsDisk d → IsLaid d head bytes blocks
+    → chain_of d head (length bytes) ≡ Some blocks
 laid-found d head bytes blocks disk is =
     chain-found d head (length bytes) blocks (omega (arith, disk.geometry.size_fits.0)) (laid-chain d head bytes blocks disk is)
 
 -- of a part with what fills its block, the file has the part
-cut_part : (k held : ℕ) (rest part fill : List ℕ) → length rest ≡ k → part ≡ take held rest → fill ≡ replicate (held - length part) 0xff → take k (part ++ fill) ≡ part
+cut_part : (k held : ℕ) (rest part fill : List ℕ) → length rest ≡ k → part ≡ take held rest → fill ≡ replicate (held - length part) 0xff
+    → take k (part ++ fill) ≡ part
 cut_part k held rest part fill long is fills =
     let parted : length part ≡ min held (length rest) = ap length is ∙ length-take held rest in
     take-append k part fill
@@ -85,9 +93,11 @@ front_held d head bytes blocks disk is (suc n) within =
     let number : n + 1 ≡ suc n = add-one n in
     let earlier : take len front ≡ take (room size n) bytes = front_held d head bytes blocks disk is n (omega (arith, within)) in
     let held : length front ≡ room size n = length-parts d blocks n disk is.below (omega (arith, within)) in
-    let here : next ≡ part ++ fill = ap (drop (4 * pointers n)) (on_disk d head bytes blocks is n (omega (arith, within))) ∙ data-filled size n part blocks in
+    let here : next ≡ part ++ fill = ap (drop (4 * pointers n)) (on_disk d head bytes blocks is n (omega (arith, within)))
+    ∙ data-filled size n part blocks in
     let whole : concat (map (data_part d blocks) (range_with_len 0 (n + 1))) ≡ front ++ next =
-    ap concat (map-range_with_len_more (data_part d blocks) 0 n n (omega arith)) ∙ concat-append (map (data_part d blocks) (range_with_len 0 n)) (next ∷ [])
+    ap concat (map-range_with_len_more (data_part d blocks) 0 n n (omega arith))
+    ∙ concat-append (map (data_part d blocks) (range_with_len 0 n)) (next ∷ [])
     ∙ ap (λ xs. front ++ xs) (concat-cons next [] ∙ append-nil next) in
     let all : take len (concat (map (data_part d blocks) (range_with_len 0 (n + 1)))) ≡ take (room size (n + 1)) bytes =
     ap (take len) whole ∙ take-append len front next
@@ -97,7 +107,8 @@ front_held d head bytes blocks disk is (suc n) within =
     ∙ sym (take-add (room size n) (capacity size n) bytes) ∙ ap (λ k. take k bytes) (sym (room_more size n)) in
     rw number at all
 
-pub laid-content : (d : Disk) (head : ℕ) (bytes blocks : List ℕ) → IsDisk d → IsLaid d head bytes blocks → content d (length bytes) blocks ≡ bytes
+pub laid-content : (d : Disk) (head : ℕ) (bytes blocks : List ℕ) → IsDisk d → IsLaid d head bytes blocks
+    → content d (length bytes) blocks ≡ bytes
 unfolding content
 laid-content d head bytes blocks disk is =
     front_held d head bytes blocks disk is (length blocks) (omega arith)

@@ -1,11 +1,13 @@
 -- The blocks that are laid for a file.
-use Rattle.std.proofs.Common.{◌≡◌, ℕ, zero, suc, ◌+◌, ◌-◌, ◌*◌, ◌^◌, ◌<◌, ◌≤◌, min, List, [], ◌∷◌, ◌++◌, length, map, take, drop, replicate, refl, sym, ap, ◌∙◌, subst, arith, slice_index, Bool, true, cond, Some, Result, Ok, Err, IfOk}
+use Rattle.std.proofs.Common.{◌≡◌, ℕ, zero, suc, ◌+◌, ◌-◌, ◌*◌, ◌^◌, ◌<◌, ◌≤◌, min, List, [], ◌∷◌, ◌++◌, length, map, take, drop, replicate}
+use Rattle.std.proofs.Common.{refl, sym, ap, ◌∙◌, subst, arith, slice_index, Bool, true, cond, Some, Result, Ok, Err, IfOk}
 use Rattle.std.specs.Int.{w32, to_le_bytes, from_le_bytes}
 use Rattle.std.specs.List.{range_with_len, concat}
 use Rattle.std.specs.Result.{result_ok}
 use Rattle.std.proofs.lemmas.Bool.{cond-true}
 use Rattle.std.proofs.Math.Seq.{take-append_seam, drop-append_seam, drop-append-add}
-use Rattle.std.proofs.lemmas.List.{append_assoc, append-nil, map-append, take_min, drop_min, drop-drop, length-append, length-replicate, length-take, take_all}
+use Rattle.std.proofs.lemmas.List.{append_assoc, append-nil, map-append, take_min, drop_min, drop-drop, length-append, length-replicate}
+use Rattle.std.proofs.lemmas.List.{length-take, take_all}
 use Rattle.std.proofs.lemmas.List.FromFn.{map-range_with_len_more}
 use Rattle.std.proofs.lemmas.List.Folds.{concat-append}
 use Rattle.std.proofs.lemmas.Nat.{from_le_bytes-to_le_bytes_4}
@@ -24,7 +26,8 @@ unfolding laid_pointers
 pointers-none blocks n = refl
 
 -- one pointer more
-pub pointers-more : (blocks : List ℕ) (n k : ℕ) → laid_pointers blocks n (k + 1) ≡ laid_pointers blocks n k ++ to_le_bytes w32 (slice_index blocks (n - 2 ^ k))
+pub pointers-more : (blocks : List ℕ) (n k : ℕ) → laid_pointers blocks n (k + 1)
+    ≡ laid_pointers blocks n k ++ to_le_bytes w32 (slice_index blocks (n - 2 ^ k))
 unfolding laid_pointers word
 pointers-more blocks n k =
     ap concat (map-range_with_len_more (word blocks n) 0 k k (omega arith))
@@ -53,27 +56,31 @@ word_at f rest four (suc i) a (suc p) lt =
     let others = concat (map f (range_with_len (a + 1) p)) in
     let place : a + 1 + i ≡ a + suc i = omega arith in
     let later : 4 * suc i ≡ length (f a) + 4 * i = omega (arith, four a) in
-    ap (λ xs. take 4 (drop (4 * suc i) xs)) (ap (λ xs. xs ++ rest) (concat-cons (f a) (map f (range_with_len (a + 1) p))) ∙ append_assoc (f a) others rest)
+    ap (λ xs. take 4 (drop (4 * suc i) xs)) (ap (λ xs. xs ++ rest) (concat-cons (f a) (map f (range_with_len (a + 1) p)))
+    ∙ append_assoc (f a) others rest)
     ∙ ap (λ k. take 4 (drop k (f a ++ (others ++ rest)))) later
     ∙ ap (take 4) (drop-append-add (f a) (others ++ rest) (4 * i))
     ∙ word_at f rest four i (a + 1) p (omega (arith, lt)) ∙ ap f place
 
 -- a block as the code fills it
 pub filled-from : (size n k held : ℕ) (part blocks : List ℕ) (front more block : List ℕ) → 132 ≤ size → length part ≤ capacity size n
-    → k ≡ pointers n → front ≡ laid_pointers blocks n k → more ≡ front ++ part → held ≡ length more → block ≡ take size more ++ replicate (size - held) 0xff
+    → k ≡ pointers n → front ≡ laid_pointers blocks n k → more ≡ front ++ part → held ≡ length more
+    → block ≡ take size more ++ replicate (size - held) 0xff
     → block ≡ filled size part blocks n
 unfolding filled
 filled-from size n k held part blocks front more block big fits is first then long_is whole =
     let few : pointers n ≤ 33 = pointers_few n in
     let ptrs = laid_pointers blocks n (pointers n) in
     let begins : more ≡ ptrs ++ part = then ∙ ap (λ xs. xs ++ part) (first ∙ ap (laid_pointers blocks n) is) in
-    let long : length more ≡ 4 * pointers n + length part = ap length begins ∙ length-append ptrs part ∙ ap (λ l. l + length part) (length-pointers blocks n (pointers n)) in
+    let long : length more ≡ 4 * pointers n + length part = ap length begins ∙ length-append ptrs part
+    ∙ ap (λ l. l + length part) (length-pointers blocks n (pointers n)) in
     let left : size - held ≡ capacity size n - length part = omega (arith, long) in
     whole ∙ ap (λ xs. xs ++ replicate (size - held) 0xff) (take_all size more (omega (arith, long, fits, few, big)) ∙ begins)
     ∙ ap (λ m. (ptrs ++ part) ++ replicate m 0xff) left
 
 -- a filled block has the block size
-pub length-filled : (size n : ℕ) (part blocks : List ℕ) → 132 ≤ size → length part ≤ capacity size n → length (filled size part blocks n) ≡ size
+pub length-filled : (size n : ℕ) (part blocks : List ℕ) → 132 ≤ size → length part ≤ capacity size n
+    → length (filled size part blocks n) ≡ size
 unfolding filled
 length-filled size n part blocks big fits =
     let few : pointers n ≤ 33 = pointers_few n in
@@ -100,7 +107,8 @@ pointer-filled size n i part blocks lt fits =
     ∙ from_le_bytes-to_le_bytes_4 (slice_index blocks (n - 2 ^ i)) fits
 
 -- what stands behind the pointers of a filled block
-pub data-filled : (size n : ℕ) (part blocks : List ℕ) → drop (4 * pointers n) (filled size part blocks n) ≡ part ++ replicate (capacity size n - length part) 0xff
+pub data-filled : (size n : ℕ) (part blocks : List ℕ) → drop (4 * pointers n) (filled size part blocks n)
+    ≡ part ++ replicate (capacity size n - length part) 0xff
 unfolding filled
 data-filled size n part blocks =
     let ptrs = laid_pointers blocks n (pointers n) in
@@ -114,7 +122,8 @@ value_kept P (Ok y) x is holds = subst P (cc) holds
 value_kept P (Err e) x is holds = absurd (cc)
 
 -- one block more
-pub laid-more : {X : Type 0} (view : X → List ℕ) (f : ℕ → List ℕ) (n : ℕ) (ok : Bool) (all new : List X) (x : X) → map view all ≡ map f (range_with_len 0 n)
+pub laid-more : {X : Type 0} (view : X → List ℕ) (f : ℕ → List ℕ) (n : ℕ) (ok : Bool) (all new : List X) (x : X)
+    → map view all ≡ map f (range_with_len 0 n)
     → true ≡ ok → new ≡ cond ok (all ++ x ∷ []) all → view x ≡ f n → map view new ≡ map f (range_with_len 0 (n + 1))
 laid-more view f n ok all new x before passed pushed is =
     ap (map view) (pushed ∙ cond-true ok (all ++ x ∷ []) all (sym passed))
@@ -124,12 +133,14 @@ laid-more view f n ok all new x before passed pushed is =
     ∙ sym (map-range_with_len_more f 0 n n (omega arith))
 
 -- the bytes that go into block n, and those that are left
-pub part-next : (size n held cut : ℕ) (bytes rest part : List ℕ) → rest ≡ drop (room size n) bytes → held ≡ capacity size n → cut ≡ min held (length rest) → part ≡ take cut rest
+pub part-next : (size n held cut : ℕ) (bytes rest part : List ℕ) → rest ≡ drop (room size n) bytes → held ≡ capacity size n
+    → cut ≡ min held (length rest) → part ≡ take cut rest
     → part ≡ share_of size bytes n
 part-next size n held cut bytes rest part left holds cuts is =
     is ∙ ap (λ k. take k rest) cuts ∙ take_min held rest ∙ ap (λ k. take k rest) holds ∙ ap (take (capacity size n)) left
 
-pub rest-next : (size n held cut : ℕ) (bytes rest later : List ℕ) → rest ≡ drop (room size n) bytes → held ≡ capacity size n → cut ≡ min held (length rest) → later ≡ drop cut rest
+pub rest-next : (size n held cut : ℕ) (bytes rest later : List ℕ) → rest ≡ drop (room size n) bytes → held ≡ capacity size n
+    → cut ≡ min held (length rest) → later ≡ drop cut rest
     → later ≡ drop (room size (n + 1)) bytes
 rest-next size n held cut bytes rest later left holds cuts is =
     is ∙ ap (λ k. drop k rest) cuts ∙ drop_min held rest ∙ ap (λ k. drop k rest) holds ∙ ap (drop (capacity size n)) left
@@ -140,7 +151,8 @@ pub part_fits : (size n : ℕ) (bytes : List ℕ) → length (share_of size byte
 part_fits size n bytes = omega (arith, length-take (capacity size n) (drop (room size n) bytes))
 
 -- all blocks
-pub laid-whole : (size n : ℕ) (bytes blocks : List ℕ) (all : List (List ℕ)) → all ≡ map (λ k. filled size (share_of size bytes k) blocks k) (range_with_len 0 n) → n ≡ length blocks
+pub laid-whole : (size n : ℕ) (bytes blocks : List ℕ) (all : List (List ℕ))
+    → all ≡ map (λ k. filled size (share_of size bytes k) blocks k) (range_with_len 0 n) → n ≡ length blocks
     → all ≡ laid size bytes blocks
 unfolding laid
 laid-whole size n bytes blocks all is end = is ∙ ap (λ k. map (λ k. filled size (share_of size bytes k) blocks k) (range_with_len 0 k)) end

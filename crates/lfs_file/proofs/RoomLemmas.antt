@@ -1,5 +1,7 @@
--- The room in the first blocks of a file in closed form: each of n blocks gives up 8 bytes, but for the first one and for each one bit of n - 1.
-use Rattle.std.proofs.Common.{◌≡◌, ℕ, zero, suc, ◌+◌, ◌-◌, ◌*◌, ◌/◌, ◌%◌, ◌^◌, ◌<◌, ◌≤◌, ◌==◌, false, count_ones, refl, sym, ap, ◌∙◌, inl, inr, arith}
+-- The room in the first blocks of a file in closed form: each of n blocks gives up 8 bytes, but for the first one and for each one bit of n
+-- - 1.
+use Rattle.std.proofs.Common.{◌≡◌, ℕ, zero, suc, ◌+◌, ◌-◌, ◌*◌, ◌/◌, ◌%◌, ◌^◌, ◌<◌, ◌≤◌, ◌==◌, false, count_ones, refl, sym, ap, ◌∙◌, inl}
+use Rattle.std.proofs.Common.{inr, arith}
 use Rattle.std.specs.Int.Count.{count_trailing_zeros, ones_step, under}
 use Rattle.std.proofs.lemmas.Nat.{div-add-mod', ones-le}
 use Rattle.std.proofs.lemmas.Bool.{cond-false, ne_eqb}
@@ -19,7 +21,8 @@ ones_after (suc w) n fits =
       | inl even ↦
           let digit : (n + 1) % 2 ≡ 1 = omega (arith, even.1) in
           let half : count_ones ((n + 1) / 2) ≡ count_ones (n / 2) = ap count_ones (omega (arith, even.1)) in
-          let zeros : under ((n + 1) % 2) (count_trailing_zeros w ((n + 1) / 2)) ≡ 0 = ap (λ d. under d (count_trailing_zeros w ((n + 1) / 2))) digit in
+          let zeros : under ((n + 1) % 2) (count_trailing_zeros w ((n + 1) / 2)) ≡ 0 =
+          ap (λ d. under d (count_trailing_zeros w ((n + 1) / 2))) digit in
           omega (arith, even.1)
       | inr odd ↦
           let digit : (n + 1) % 2 ≡ 0 = omega (arith, odd.1) in
@@ -28,7 +31,8 @@ ones_after (suc w) n fits =
           let zeros : under ((n + 1) % 2) (count_trailing_zeros w ((n + 1) / 2)) ≡ suc (count_trailing_zeros w (n / 2 + 1)) =
           ap (λ d. under d (count_trailing_zeros w ((n + 1) / 2))) digit ∙ ap (λ k. suc (count_trailing_zeros w k)) half in
           let power : 2 ^ suc w ≡ 2 ^ w * 2 = pow-suc 2 w in
-          let rest : count_ones (n / 2 + 1) + count_trailing_zeros w (n / 2 + 1) ≡ count_ones (n / 2) + 1 = ones_after w (n / 2) (omega (arith, fits, half)) in
+          let rest : count_ones (n / 2 + 1) + count_trailing_zeros w (n / 2 + 1) ≡ count_ones (n / 2) + 1 =
+          ones_after w (n / 2) (omega (arith, fits, half)) in
           omega (arith, odd.1)
     ]
 
@@ -36,7 +40,8 @@ ones_after (suc w) n fits =
 pointers_after : (n : ℕ) → n + 1 < 2 ^ 32 → pointers (n + 1) + count_ones (n + 1) ≡ count_ones n + 2
 pointers_after n fits =
     let later : (n + 1 == 0) ≡ false = ne_eqb (n + 1) 0 (λ none. absurd (omega (arith, none))) in
-    let count : pointers (n + 1) ≡ count_trailing_zeros 32 (n + 1) + 1 = cond-false (n + 1 == 0) 0 (count_trailing_zeros 32 (n + 1) + 1) later in
+    let count : pointers (n + 1) ≡ count_trailing_zeros 32 (n + 1) + 1 =
+    cond-false (n + 1 == 0) 0 (count_trailing_zeros 32 (n + 1) + 1) later in
     omega (arith, ones_after 32 n fits)
 
 -- the bytes that n + 1 blocks hold
@@ -65,8 +70,11 @@ room_rises size j (suc i) =
 -- n + 1 blocks are the least where they hold a file that n blocks do not hold
 least_next : (size len n : ℕ) → 8 ≤ size → len ≤ room size (n + 1) → room size n < len → n + 1 ≡ least_blocks size len
 least_next size len n big holds less =
-    least_is size len (n + 1) big
-    (holds, λ k below. let number : k + (n - k) ≡ n = omega (arith, below) in let rises : room size k ≤ room size (k + (n - k)) = room_rises size k (n - k) in omega (arith, less, ap (room size) number))
+    least_is size len (n + 1) big (
+      holds,
+      λ k below. let number : k + (n - k) ≡ n = omega (arith, below) in
+          let rises : room size k ≤ room size (k + (n - k)) = room_rises size k (n - k) in omega (arith, less, ap (room size) number),
+    )
 
 pub least-none : (size : ℕ) → 8 ≤ size → 0 ≡ least_blocks size 0
 least-none size big = least_is size 0 0 big (omega arith, λ k below. absurd (omega (arith, below)))
@@ -86,19 +94,23 @@ less_held share (suc n) len big fits long =
     rw number at less
 
 -- a file that its last share of n + 1 leaves to the bytes of the ones takes n + 1 blocks
-pub least-fits : (share len n over : ℕ) → 248 ≤ share → n < 2 ^ 32 → (n + 1) * share + over + 9 ≡ len → over < 4 * count_ones n → n + 1 ≡ least_blocks (share + 8) len
+pub least-fits : (share len n over : ℕ) → 248 ≤ share → n < 2 ^ 32 → (n + 1) * share + over + 9 ≡ len → over < 4 * count_ones n
+    → n + 1 ≡ least_blocks (share + 8) len
 least-fits share len n over big fits is less =
     let row : suc n * share ≡ n * share + share = suc-mul n share in
     let rows : (n + 1) * share ≡ suc n * share = ap (λ k. k * share) (omega arith) in
-    least_next (share + 8) len n (omega (arith, big)) (omega (arith, room_is share n big fits, is, less)) (less_held share n len big (omega (arith, fits)) (omega (arith, big, is, row, rows)))
+    least_next (share + 8) len n (omega (arith, big)) (omega (arith, room_is share n big fits, is, less))
+    (less_held share n len big (omega (arith, fits)) (omega (arith, big, is, row, rows)))
 
 -- and another one takes one block more
-pub least-more : (share len n over : ℕ) → 248 ≤ share → n + 1 < 2 ^ 32 → (n + 1) * share + over + 9 ≡ len → over < share → 4 * count_ones n ≤ over → n + 2 ≡ least_blocks (share + 8) len
+pub least-more : (share len n over : ℕ) → 248 ≤ share → n + 1 < 2 ^ 32 → (n + 1) * share + over + 9 ≡ len → over < share
+    → 4 * count_ones n ≤ over → n + 2 ≡ least_blocks (share + 8) len
 least-more share len n over big fits is within enough =
     let row : suc (n + 1) * share ≡ (n + 1) * share + share = suc-mul (n + 1) share in
     let rows : (n + 1 + 1) * share ≡ suc (n + 1) * share = ap (λ k. k * share) (omega arith) in
     let number : n + 2 ≡ n + 1 + 1 = omega arith in
-    number ∙ least_next (share + 8) len (n + 1) (omega (arith, big)) (omega (arith, room_is share (n + 1) big fits, is, within, row, rows)) (omega (arith, room_is share n big (omega (arith, fits)), is, enough))
+    number ∙ least_next (share + 8) len (n + 1) (omega (arith, big)) (omega (arith, room_is share (n + 1) big fits, is, within, row, rows))
+    (omega (arith, room_is share n big (omega (arith, fits)), is, enough))
 
 -- a division by a share, and its rest
 record IsParted (share m : ℕ) : Type 0 where
@@ -116,12 +128,14 @@ is_parted share m some =
       less = less;
       few = div-le_self m share;
       some = λ enough. elim (eqb_tells (m / share) 0) [
-        | inl none ↦ let nothing : m / share * share ≡ 0 = ap (λ k. k * share) none.1 ∙ omega arith in absurd (omega (arith, nothing, again, less, enough))
+        | inl none ↦ let nothing : m / share * share ≡ 0 = ap (λ k. k * share) none.1 ∙ omega arith in
+            absurd (omega (arith, nothing, again, less, enough))
         | inr more ↦ omega (arith, more.1)
       ];
     }
 
-pub least-whole : (size len : ℕ) → 256 ≤ size → size < len → len < 2 ^ 32 → (len - 9) % (size - 8) < 4 * count_ones ((len - 9) / (size - 8) - 1)
+pub least-whole : (size len : ℕ) → 256 ≤ size → size < len → len < 2 ^ 32
+    → (len - 9) % (size - 8) < 4 * count_ones ((len - 9) / (size - 8) - 1)
     → (len - 9) / (size - 8) ≡ least_blocks size len
 least-whole size len big long fits less =
     let share = size - 8 in
@@ -130,10 +144,12 @@ least-whole size len big long fits less =
     let sizes : share + 8 ≡ size = omega (arith, big) in
     let rows : ((len - 9) / share - 1 + 1) * share ≡ (len - 9) / share * share = ap (λ k. k * share) (sym whole) in
     whole
-    ∙ least-fits share len ((len - 9) / share - 1) ((len - 9) % share) (omega (arith, big)) (omega (arith, parted.few, fits)) (omega (arith, rows, parted.again, long, big)) less
+    ∙ least-fits share len ((len - 9) / share - 1) ((len - 9) % share) (omega (arith, big)) (omega (arith, parted.few, fits))
+    (omega (arith, rows, parted.again, long, big)) less
     ∙ ap (λ s. least_blocks s len) sizes
 
-pub least-one_more : (size len : ℕ) → 256 ≤ size → size < len → len < 2 ^ 32 → 4 * count_ones ((len - 9) / (size - 8) - 1) ≤ (len - 9) % (size - 8)
+pub least-one_more : (size len : ℕ) → 256 ≤ size → size < len → len < 2 ^ 32
+    → 4 * count_ones ((len - 9) / (size - 8) - 1) ≤ (len - 9) % (size - 8)
     → (len - 9) / (size - 8) + 1 ≡ least_blocks size len
 least-one_more size len big long fits enough =
     let share = size - 8 in
@@ -143,5 +159,6 @@ least-one_more size len big long fits enough =
     let sizes : share + 8 ≡ size = omega (arith, big) in
     let rows : ((len - 9) / share - 1 + 1) * share ≡ (len - 9) / share * share = ap (λ k. k * share) (sym whole) in
     next
-    ∙ least-more share len ((len - 9) / share - 1) ((len - 9) % share) (omega (arith, big)) (omega (arith, whole, parted.few, fits)) (omega (arith, rows, parted.again, long, big)) parted.less enough
+    ∙ least-more share len ((len - 9) / share - 1) ((len - 9) % share) (omega (arith, big)) (omega (arith, whole, parted.few, fits))
+    (omega (arith, rows, parted.again, long, big)) parted.less enough
     ∙ ap (λ s. least_blocks s len) sizes

@@ -1,6 +1,9 @@
 -- What walks back from a head, and the chain that it finds.
-use Rattle.std.proofs.Common.{◌≡◌, ℕ, zero, suc, ◌+◌, ◌-◌, ◌<◌, ◌≤◌, eqb, true, false, cond, List, [], ◌∷◌, ◌++◌, length, get_or, take, All, Option, Some, None, refl, sym, ap, ◌∙◌, subst, inl, inr, arith, add-one, slice_index, slice_get, reverse, ltb, ◌&&◌}
-use Rattle.std.proofs.lemmas.List.{append_assoc, reverse-append, length-append, length-reverse, get_or-reverse, take_more, take_all, length_push, get_or_push, get_or_append_left, get_or_default, nil_from_length}
+use Rattle.std.proofs.Common.{◌≡◌, ℕ, zero, suc, ◌+◌, ◌-◌, ◌<◌, ◌≤◌, eqb, true, false, cond, List, [], ◌∷◌, ◌++◌, length, get_or, take, All}
+use Rattle.std.proofs.Common.{Option, Some, None, refl, sym, ap, ◌∙◌, subst, inl, inr, arith, add-one, slice_index, slice_get, reverse, ltb}
+use Rattle.std.proofs.Common.{◌&&◌}
+use Rattle.std.proofs.lemmas.List.{append_assoc, reverse-append, length-append, length-reverse, get_or-reverse, take_more, take_all}
+use Rattle.std.proofs.lemmas.List.{length_push, get_or_push, get_or_append_left, get_or_default, nil_from_length}
 use Rattle.std.proofs.lemmas.Option.{slice_get-get_or, get_or_from_slice_get}
 use Rattle.std.proofs.lemmas.Bool.{and_left, le-ltb, cond-true, cond-false, cases_Bool, ne_eqb, eqb-true}
 use Rattle.std.proofs.lemmas.Map.Keys.{IsDistinct-from_apart}
@@ -20,7 +23,8 @@ pub length-walk : (d : Disk) (block n : ℕ) → length (walk d block n) ≡ n
 unfolding walk
 length-walk d block zero = refl
 length-walk d block (suc n) =
-    length_push (walk d (pointer (block_of d block) 0) n) block ∙ ap (λ k. k + 1) (length-walk d (pointer (block_of d block) 0) n) ∙ add-one n
+    length_push (walk d (pointer (block_of d block) 0) n) block ∙ ap (λ k. k + 1) (length-walk d (pointer (block_of d block) 0) n)
+    ∙ add-one n
 
 -- the last block of a walk is the one that it starts from
 last-walk : (d : Disk) (block n : ℕ) → get_or (walk d block (suc n)) n 0 ≡ block
@@ -71,8 +75,10 @@ walk-whole d head len blocks is (suc n) same =
 pub chain-found : (d : Disk) (head len : ℕ) (blocks : List ℕ) → 8 ≤ d.size → IsChain d head len blocks → chain_of d head len ≡ Some blocks
 unfolding chain_of
 chain-found d head len blocks big is =
-    let whole : walk d head (least_blocks d.size len) ≡ blocks = walk-whole d head len blocks is (least_blocks d.size len) (least_is d.size len (length blocks) big is.least) in
-    let passes : is_linked d blocks ≡ true = linked-from d blocks (λ n within. linked_at-from d blocks n (linked d head len blocks is n within)) in
+    let whole : walk d head (least_blocks d.size len) ≡ blocks = walk-whole d head len blocks is (least_blocks d.size len)
+    (least_is d.size len (length blocks) big is.least) in
+    let passes : is_linked d blocks ≡ true = linked-from d blocks (λ n within.
+    linked_at-from d blocks n (linked d head len blocks is n within)) in
     ap (λ w. cond (is_linked d w) (Some w) None) whole ∙ cond-true (is_linked d blocks) (Some blocks) None passes
 
 -- a walk of the least length that passes the tests is a chain
@@ -111,7 +117,8 @@ pub chain-empty : (d : Disk) (head : ℕ) → chain_of d head 0 ≡ Some []
 unfolding chain_of least_blocks least_from walk is_linked
 chain-empty d head = refl
 
-pub chain-is_one : (d : Disk) (head len : ℕ) (these those : List ℕ) → 8 ≤ d.size → IsChain d head len these → IsChain d head len those → these ≡ those
+pub chain-is_one : (d : Disk) (head len : ℕ) (these those : List ℕ) → 8 ≤ d.size → IsChain d head len these → IsChain d head len those
+    → these ≡ those
 chain-is_one d head len these those big this that =
     let a : chain_of d head len ≡ Some these = chain-found d head len these big this in
     let b : chain_of d head len ≡ Some those = chain-found d head len those big that in
@@ -122,7 +129,8 @@ pub chain-fits : (d : Disk) (head len : ℕ) (blocks : List ℕ) → IsChain d h
 chain-fits d head len blocks is =
     length-le_from_distinct_below blocks d.count
     (IsDistinct-from_apart eqb blocks (λ i j e lt within. ne_eqb _ _ (is.apart i j e lt within)))
-    (λ q among. let found = Contains-from_any {eq = eqb} eqb-true q blocks among in subst (λ (b : ℕ). b < d.count) found.2 (is.below found.0 q found.1))
+    (λ q among. let found = Contains-from_any {eq = eqb} eqb-true q blocks among in
+    subst (λ (b : ℕ). b < d.count) found.2 (is.below found.0 q found.1))
 
 pub chain-stays : (d e : Disk) (head len : ℕ) (blocks : List ℕ) → AgreeOn blocks d e → IsChain d head len blocks → IsChain e head len blocks
 chain-stays d e head len blocks agree is = record {
@@ -133,7 +141,8 @@ chain-stays d e head len blocks agree is = record {
   back = λ n i later within lt. ap (λ b. pointer b i) (sym (agree.same n 0 within)) ∙ is.back n i later within lt;
 }
 
-pub found-stays : (d e : Disk) (head len : ℕ) (blocks : List ℕ) → 8 ≤ d.size → AgreeOn blocks d e → chain_of d head len ≡ Some blocks → chain_of e head len ≡ Some blocks
+pub found-stays : (d e : Disk) (head len : ℕ) (blocks : List ℕ) → 8 ≤ d.size → AgreeOn blocks d e → chain_of d head len ≡ Some blocks
+    → chain_of e head len ≡ Some blocks
 found-stays d e head len blocks big agree found =
     chain-found e head len blocks (subst (λ (size : ℕ). 8 ≤ size) agree.size big)
     (chain-stays d e head len blocks agree (found-chain d head len blocks big found))
@@ -150,14 +159,17 @@ from_none d head len big none = record {
 }
 
 -- a walk that fails a test
-pub none-unlinked : (d : Disk) (head len n : ℕ) (blocks : List ℕ) → 8 ≤ d.size → n ≡ least_blocks d.size len → blocks ≡ walk d head n → is_linked d blocks ≡ false
+pub none-unlinked : (d : Disk) (head len n : ℕ) (blocks : List ℕ) → 8 ≤ d.size → n ≡ least_blocks d.size len → blocks ≡ walk d head n
+    → is_linked d blocks ≡ false
     → NoChain d head len
 unfolding chain_of
 none-unlinked d head len n blocks big is walked fails =
     from_none d head len big
-    (ap (λ w. cond (is_linked d w) (Some w) None) (sym (walked ∙ ap (walk d head) is)) ∙ cond-false (is_linked d blocks) (Some blocks) None fails)
+    (ap (λ w. cond (is_linked d w) (Some w) None) (sym (walked ∙ ap (walk d head) is))
+    ∙ cond-false (is_linked d blocks) (Some blocks) None fails)
 
-found-too_many : (d : Disk) (head len : ℕ) (found : Option (List ℕ)) → 8 ≤ d.size → d.count < least_blocks d.size len → chain_of d head len ≡ found → chain_of d head len ≡ None
+found-too_many : (d : Disk) (head len : ℕ) (found : Option (List ℕ)) → 8 ≤ d.size → d.count < least_blocks d.size len
+    → chain_of d head len ≡ found → chain_of d head len ≡ None
 found-too_many d head len None big many is = is
 found-too_many d head len (Some blocks) big many is =
     let chain = found-chain d head len blocks big is in
@@ -168,14 +180,17 @@ pub none-too_many : (d : Disk) (head len : ℕ) → 8 ≤ d.size → d.count < l
 none-too_many d head len big many = from_none d head len big (found-too_many d head len (chain_of d head len) big many refl)
 
 -- a walk that passes the tests
-pub walked-chain : (d : Disk) (head len n : ℕ) (blocks : List ℕ) → 8 ≤ d.size → n ≡ least_blocks d.size len → blocks ≡ walk d head n → is_linked d blocks ≡ true
+pub walked-chain : (d : Disk) (head len n : ℕ) (blocks : List ℕ) → 8 ≤ d.size → n ≡ least_blocks d.size len → blocks ≡ walk d head n
+    → is_linked d blocks ≡ true
     → chain_of d head len ≡ Some blocks
 unfolding chain_of
 walked-chain d head len n blocks big is walked passes =
-    ap (λ w. cond (is_linked d w) (Some w) None) (sym (walked ∙ ap (walk d head) is)) ∙ cond-true (is_linked d blocks) (Some blocks) None passes
+    ap (λ w. cond (is_linked d w) (Some w) None) (sym (walked ∙ ap (walk d head) is))
+    ∙ cond-true (is_linked d blocks) (Some blocks) None passes
 
 -- one block more of a walk
-pub walk-more : (d : Disk) (block m left before : ℕ) (items more whole : List ℕ) → m ≡ suc left → pointer (block_of d block) 0 ≡ before → more ≡ items ++ block ∷ []
+pub walk-more : (d : Disk) (block m left before : ℕ) (items more whole : List ℕ) → m ≡ suc left → pointer (block_of d block) 0 ≡ before
+    → more ≡ items ++ block ∷ []
     → whole ≡ walk d block m ++ reverse items → whole ≡ walk d before left ++ reverse more
 unfolding walk
 walk-more d block m left before items more whole is points pushed so_far =
@@ -185,17 +200,20 @@ walk-more d block m left before items more whole is points pushed so_far =
     ∙ ap (λ xs. walk d before left ++ xs) (sym (ap reverse pushed ∙ reverse-append items (block ∷ [])))
 
 -- a walk that comes to a block past the disk's end fails the tests
-pub walk-past : (d : Disk) (head n block m left : ℕ) (rest : List ℕ) → m ≡ suc left → walk d head n ≡ walk d block m ++ rest → d.count ≤ block
+pub walk-past : (d : Disk) (head n block m left : ℕ) (rest : List ℕ) → m ≡ suc left → walk d head n ≡ walk d block m ++ rest
+    → d.count ≤ block
     → is_linked d (walk d head n) ≡ false
 unfolding is_linked_at
 walk-past d head n block m left rest is whole past =
     let front : length (walk d block m) ≡ suc left = length-walk d block m ∙ is in
     let last : get_or (walk d block m) left 0 ≡ block = ap (λ k. get_or (walk d block k) left 0) is ∙ last-walk d block left in
-    let here : get_or (walk d block m ++ rest) left 0 ≡ block = get_or_append_left (walk d block m) rest 0 left (omega (arith, front)) ∙ last in
+    let here : get_or (walk d block m ++ rest) left 0 ≡ block = get_or_append_left (walk d block m) rest 0 left (omega (arith, front))
+    ∙ last in
     let within : left < length (walk d block m ++ rest) = omega (arith, length-append (walk d block m) rest, front) in
     let same : slice_index (walk d head n) left ≡ block = ap (λ xs. get_or xs left 0) whole ∙ here in
     linked-false d (walk d head n) left (omega (arith, ap length whole, within))
-    (and_left (ltb (slice_index (walk d head n) left) d.count && _) _ (and_left (ltb (slice_index (walk d head n) left) d.count) _ (le-ltb _ _ (omega (arith, same, past)))))
+    (and_left (ltb (slice_index (walk d head n) left) d.count && _) _ (and_left (ltb (slice_index (walk d head n) left) d.count) _
+    (le-ltb _ _ (omega (arith, same, past)))))
 
 pub All-reverse : (P : ℕ → Type 0) (xs : List ℕ) → All P xs → All P (reverse xs)
 All-reverse P xs all k e within =
@@ -208,7 +226,8 @@ unfolding walk
 walk-none d block n items none = ap (λ m. walk d block m ++ items) none
 
 -- a refused walk is a refused chain
-pub ChainCause-from_walk : (fault : MountFault) (d : Disk) (head len n : ℕ) → 8 ≤ d.size → n ≡ least_blocks d.size len → WalkCause fault d head n → ChainCause fault d head len
+pub ChainCause-from_walk : (fault : MountFault) (d : Disk) (head len n : ℕ) → 8 ≤ d.size → n ≡ least_blocks d.size len
+    → WalkCause fault d head n → ChainCause fault d head len
 ChainCause-from_walk BadSkipList d head len n big is fails =
     let no = none-unlinked d head len n (walk d head n) big is refl fails in (no.none, no.no)
 ChainCause-from_walk Memory d head len n big is fails = tt

@@ -30,7 +30,8 @@ EmptyIsFound = (d : Disk) (head : ℕ) → chain_of d head 0 ≡ Some []
 
 -- a file has one chain at most
 abbrev pub ChainsAreOne : Type 0
-ChainsAreOne = (d : Disk) (head len : ℕ) (these those : List ℕ) → IsDisk d → IsChain d head len these → IsChain d head len those → these ≡ those
+ChainsAreOne = (d : Disk) (head len : ℕ) (these those : List ℕ) → IsDisk d → IsChain d head len these → IsChain d head len those
+    → these ≡ those
 
 -- the blocks of a chain are on the disk, and differ
 abbrev pub ChainsDiffer : Type 0
@@ -82,8 +83,10 @@ LaidIsChain = (d : Disk) (head : ℕ) (bytes blocks : List ℕ) → IsDisk d →
 
 -- they are the chain that is found
 abbrev pub LaidIsFound : Type 0
-LaidIsFound = (d : Disk) (head : ℕ) (bytes blocks : List ℕ) → IsDisk d → IsLaid d head bytes blocks → chain_of d head (length bytes) ≡ Some blocks
+LaidIsFound = (d : Disk) (head : ℕ) (bytes blocks : List ℕ) → IsDisk d → IsLaid d head bytes blocks
+    → chain_of d head (length bytes) ≡ Some blocks
 
 -- and its content is the bytes
 abbrev pub LaidIsContent : Type 0
-LaidIsContent = (d : Disk) (head : ℕ) (bytes blocks : List ℕ) → IsDisk d → IsLaid d head bytes blocks → content d (length bytes) blocks ≡ bytes
+LaidIsContent = (d : Disk) (head : ℕ) (bytes blocks : List ℕ) → IsDisk d → IsLaid d head bytes blocks
+    → content d (length bytes) blocks ≡ bytes

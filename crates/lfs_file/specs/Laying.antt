@@ -1,5 +1,6 @@
 -- The blocks of a file as they are written (littlefs disk version 2.0).
-use Rattle.std.specs.Prelude.{◌≡◌, ◌≢◌, ℕ, ◌-◌, ◌^◌, ◌<◌, List, ◌++◌, length, map, slice_index, slice_get, take, drop, replicate, Some, All, AllPairs}
+use Rattle.std.specs.Prelude.{◌≡◌, ◌≢◌, ℕ, ◌-◌, ◌^◌, ◌<◌, List, ◌++◌, length, map, slice_index, slice_get, take, drop, replicate, Some, All}
+use Rattle.std.specs.Prelude.{AllPairs}
 use Rattle.std.specs.Int.{w32, to_le_bytes}
 use Rattle.std.specs.List.{concat, range_with_len}
 use Rattle.lfs_block.specs.Disk.{Disk, block_of}
@@ -21,7 +22,8 @@ share_of size bytes n = take (capacity size n) (drop (room size n) bytes)
 unfoldable pub laid : ℕ → List ℕ → List ℕ → List (List ℕ)
 laid size bytes blocks = map (λ n. filled size (share_of size bytes n) blocks n) (range_with_len 0 (length blocks))
 
--- these blocks of the disk have what is laid in them for a file of these bytes; they are as many as it takes, they differ, and the last one is the head
+-- these blocks of the disk have what is laid in them for a file of these bytes; they are as many as it takes, they differ, and the last one
+-- is the head
 pub record IsLaid (d : Disk) (head : ℕ) (bytes blocks : List ℕ) : Type 0 where
   pub count : length blocks ≡ least_blocks d.size (length bytes)
   pub last : 0 < length blocks → slice_get blocks (length blocks - 1) ≡ Some head

@@ -1,6 +1,7 @@
 -- The chain of a file: its blocks from block 0 on, of which each names blocks before it, and the file's entry the last
 -- one, its head (DESIGN.md, "CTZ skip-lists").
-use Rattle.std.specs.Prelude.{◌≡◌, ◌≢◌, ℕ, zero, suc, ◌-◌, ◌^◌, ◌<◌, ◌==◌, nat_lt, Bool, false, not, ◌&&◌, ◌||◌, if◌then◌else◌, List, [], ◌∷◌, ◌++◌, length, Option, Some, None, All, AllPairs, slice_index, slice_get}
+use Rattle.std.specs.Prelude.{◌≡◌, ◌≢◌, ℕ, zero, suc, ◌-◌, ◌^◌, ◌<◌, ◌==◌, nat_lt, Bool, false, not, ◌&&◌, ◌||◌, if◌then◌else◌, List, []}
+use Rattle.std.specs.Prelude.{◌∷◌, ◌++◌, length, Option, Some, None, All, AllPairs, slice_index, slice_get}
 use Rattle.std.specs.List.{list_all, range_with_len}
 use Rattle.lfs_block.specs.Disk.{Disk, block_of}
 use Rattle.lfs_block.specs.declared.mount_fault.MountFault.{MountFault}
@@ -15,7 +16,8 @@ pub record IsChain (d : Disk) (head len : ℕ) (blocks : List ℕ) : Type 0 wher
   pub below : All (λ b. b < d.count) blocks
   pub apart : AllPairs ◌≢◌ blocks
   -- pointer i of block n names the block 2 ^ i before it
-  pub back : (n i : ℕ) → 0 < n → n < length blocks → i < pointers n → pointer (block_of d (slice_index blocks n)) i ≡ slice_index blocks (n - 2 ^ i)
+  pub back : (n i : ℕ) → 0 < n → n < length blocks → i < pointers n → pointer (block_of d (slice_index blocks n)) i
+      ≡ slice_index blocks (n - 2 ^ i)
 
 -- n blocks, of which the last is this one, and each names the one before it by its first pointer (own)
 unfoldable pub walk : Disk → ℕ → ℕ → List ℕ
@@ -24,7 +26,8 @@ walk d block (suc n) = walk d (pointer (block_of d block) 0) n ++ block ∷ []
 
 -- each pointer of block n names the block that it has to (own)
 unfoldable pub points_back : Disk → List ℕ → ℕ → Bool
-points_back d blocks n = list_all (λ i. pointer (block_of d (slice_index blocks n)) i == slice_index blocks (n - 2 ^ i)) (range_with_len 0 (pointers n))
+points_back d blocks n = list_all (λ i. pointer (block_of d (slice_index blocks n)) i == slice_index blocks (n - 2 ^ i))
+    (range_with_len 0 (pointers n))
 
 -- block n is on the disk, is block 0 only where n is 0, and points back as it has to (own)
 unfoldable pub is_linked_at : Disk → List ℕ → ℕ → Bool

@@ -27,7 +27,8 @@ other_bytes n m before = differ_by (bytes_eq n m) n m (bytes_eq-Decides n m).0 b
 
 -- ---- paths
 
-precedes_by : (b : Bool) (n m : Name) (p q : Path) → (apart p q ≡ true → path_precedes p q ≡ true) → (if b then apart p q else precedes n m) ≡ true → (if b then path_precedes p q else precedes n m) ≡ true
+precedes_by : (b : Bool) (n m : Name) (p q : Path) → (apart p q ≡ true → path_precedes p q ≡ true)
+    → (if b then apart p q else precedes n m) ≡ true → (if b then path_precedes p q else precedes n m) ≡ true
 precedes_by true n m p q rest h = rest h
 precedes_by false n m p q rest h = h
 
@@ -36,7 +37,8 @@ apart_precedes [] q h = cc
 apart_precedes (n ∷ p) [] h = cc
 apart_precedes (n ∷ p) (m ∷ q) h = precedes_by (bytes_eq n m) n m p q (apart_precedes p q) h
 
-below_by : (b : Bool) (n m : Name) (p x q : Path) → (apart p q ≡ true → apart (p ++ x) q ≡ true) → (if b then apart p q else precedes n m) ≡ true → (if b then apart (p ++ x) q else precedes n m) ≡ true
+below_by : (b : Bool) (n m : Name) (p x q : Path) → (apart p q ≡ true → apart (p ++ x) q ≡ true)
+    → (if b then apart p q else precedes n m) ≡ true → (if b then apart (p ++ x) q else precedes n m) ≡ true
 below_by true n m p x q rest h = rest h
 below_by false n m p x q rest h = h
 
@@ -49,7 +51,8 @@ apart_below (n ∷ p) x (m ∷ q) h = below_by (bytes_eq n m) n m p x q (apart_b
 -- two names below one path
 pub apart_names : (p : Path) (n m : Name) → precedes n m ≡ true → apart (p ++ n ∷ []) (p ++ m ∷ []) ≡ true
 apart_names [] n m before = ap (λ (b : Bool). if b then apart [] [] else precedes n m) (other_bytes n m before) ∙ before
-apart_names (a ∷ p) n m before = ap (λ (b : Bool). if b then apart (p ++ n ∷ []) (p ++ m ∷ []) else precedes a a) (same_bytes a) ∙ apart_names p n m before
+apart_names (a ∷ p) n m before = ap (λ (b : Bool). if b then apart (p ++ n ∷ []) (p ++ m ∷ []) else precedes a a) (same_bytes a)
+    ∙ apart_names p n m before
 
 -- a path comes before what stands below it
 pub below_precedes : (p : Path) (n : Name) → path_precedes p (p ++ n ∷ []) ≡ true
@@ -78,14 +81,22 @@ apart-append (p ∷ ps) qs h k between =
 -- paths that are apart rise
 pub rise_apart : (ps : List Path) → AreApart ps → PathsRise ps
 rise_apart [] h = tt
-rise_apart (p ∷ ps) h = (All-weaker (λ (q : Path). apart p q ≡ true) (λ (q : Path). path_precedes p q ≡ true) (λ q before. apart_precedes p q before) ps h.0, rise_apart ps h.1)
+rise_apart (p ∷ ps) h = (
+  All-weaker (λ (q : Path). apart p q ≡ true) (λ (q : Path). path_precedes p q ≡ true)
+      (λ q before. apart_precedes p q before) ps h.0,
+  rise_apart ps h.1,
+)
 
 -- paths put in behind one, which comes before them
-pub rise-insert : (ps : List Path) (p : Path) (more qs : List Path) → PathsRise (ps ++ p ∷ qs) → PathsRise (more ++ qs) → All (λ q. path_precedes p q ≡ true) more → PathsRise (ps ++ p ∷ (more ++ qs))
+pub rise-insert : (ps : List Path) (p : Path) (more qs : List Path) → PathsRise (ps ++ p ∷ qs) → PathsRise (more ++ qs)
+    → All (λ q. path_precedes p q ≡ true) more → PathsRise (ps ++ p ∷ (more ++ qs))
 rise-insert [] p more qs h k after = (All-append (λ (q : Path). path_precedes p q ≡ true) more qs after h.0, k)
 rise-insert (a ∷ ps) p more qs h k after =
     let P : Path → Type 0 = λ (q : Path). path_precedes a q ≡ true in
     let both = All-both P ps (p ∷ qs) h.0 in
     let first = All-head P p qs both.1 in
-    let later : All P more = All-weaker (λ (q : Path). path_precedes p q ≡ true) P (λ q before. path_transitive a p q first before) more after in
-    (All-append P ps (p ∷ (more ++ qs)) both.0 (All-cons P p (more ++ qs) first (All-append P more qs later (All-tail P p qs both.1))), rise-insert ps p more qs h.1 k after)
+    let later : All P more = All-weaker (λ (q : Path). path_precedes p q ≡ true) P
+    (λ q before. path_transitive a p q first before) more after in (
+      All-append P ps (p ∷ (more ++ qs)) both.0 (All-cons P p (more ++ qs) first (All-append P more qs later (All-tail P p qs both.1))),
+      rise-insert ps p more qs h.1 k after,
+    )

@@ -28,7 +28,8 @@ first_of_directory : (p : Part) (ps : List Part) (tail : Tail) (rest : List Link
 first_of_directory p [] tail rest = refl
 first_of_directory p (q ∷ ps) tail rest = refl
 
-chained_directory : (p : Part) (ps : List Part) (tail : Tail) (rest : List Link) → next tail ≡ first_pair rest → Chained rest → Chained (links_of p ps tail ++ rest)
+chained_directory : (p : Part) (ps : List Part) (tail : Tail) (rest : List Link) → next tail ≡ first_pair rest → Chained rest
+    → Chained (links_of p ps tail ++ rest)
 chained_directory p [] tail rest is chained = (is, chained)
 chained_directory p (q ∷ ps) tail rest is chained = (sym (first_of_directory q ps tail rest), chained_directory q ps tail rest is chained)
 
@@ -47,11 +48,13 @@ next_is_tail (d ∷ ds) = refl
 
 pub links_chained : (ds : List Directory) → Chained (links ds)
 links_chained [] = tt
-links_chained (d ∷ ds) = chained_directory d.first d.more (tail_to ds) (links ds) (next_is_tail ds ∙ sym (first_of_links ds)) (links_chained ds)
+links_chained (d ∷ ds) = chained_directory d.first d.more (tail_to ds) (links ds) (next_is_tail ds ∙ sym (first_of_links ds))
+    (links_chained ds)
 
 -- ---- chained links are those of their directories
 
-begins_by : (hard : Bool) (p : Part) (ds : List Directory) → begins_with (if hard then joined_to p ds else record { first = p; more = [] } ∷ ds) ≡ Some p.pair
+begins_by : (hard : Bool) (p : Part) (ds : List Directory) → begins_with
+    (if hard then joined_to p ds else record { first = p; more = [] } ∷ ds) ≡ Some p.pair
 begins_by true p [] = refl
 begins_by true p (d ∷ ds) = refl
 begins_by false p ds = refl
@@ -64,19 +67,25 @@ tail_to_some : (ds : List Directory) (p : Pair) → begins_with ds ≡ Some p �
 tail_to_some [] p is = cc
 tail_to_some (d ∷ ds) p is = let same : d.first.pair ≡ p = cc in ap soft_to same
 
-links_joined : (part : Part) (ds : List Directory) (p : Pair) → begins_with ds ≡ Some p → links (joined_to part ds) ≡ record { part = part; tail = hard_to p } ∷ links ds
+links_joined : (part : Part) (ds : List Directory) (p : Pair) → begins_with ds ≡ Some p
+    → links (joined_to part ds) ≡ record { part = part; tail = hard_to p } ∷ links ds
 links_joined part [] p is = cc
-links_joined part (d ∷ ds) p is = let same : d.first.pair ≡ p = cc in ap (λ (q : Pair). record { part = part; tail = hard_to q } ∷ links (d ∷ ds)) same
+links_joined part (d ∷ ds) p is = let same : d.first.pair ≡ p = cc in
+    ap (λ (q : Pair). record { part = part; tail = hard_to q } ∷ links (d ∷ ds)) same
 
-links_before : (part : Part) (tail : Tail) (ds : List Directory) → next tail ≡ begins_with ds → links (if is_hard tail then joined_to part ds else record { first = part; more = [] } ∷ ds) ≡ record { part = part; tail = tail } ∷ links ds
+links_before : (part : Part) (tail : Tail) (ds : List Directory) → next tail ≡ begins_with ds
+    → links (if is_hard tail then joined_to part ds else record { first = part; more = [] } ∷ ds)
+    ≡ record { part = part; tail = tail } ∷ links ds
 links_before part End [] is = refl
 links_before part End (d ∷ ds) is = cc
-links_before part (Soft first second) ds is = ap (λ (t : Tail). record { part = part; tail = t } ∷ links ds) (tail_to_some ds (first, second) (sym is))
+links_before part (Soft first second) ds is = ap (λ (t : Tail). record { part = part; tail = t } ∷ links ds)
+    (tail_to_some ds (first, second) (sym is))
 links_before part (Hard first second) ds is = links_joined part ds (first, second) (sym is)
 
 pub links_of_pieces : (ls : List Link) → Chained ls → links (pieces ls) ≡ ls
 links_of_pieces [] chained = refl
-links_of_pieces (l ∷ ls) chained = links_before l.part l.tail (pieces ls) (chained.0 ∙ sym (pieces_begin ls)) ∙ ap (λ x. l ∷ x) (links_of_pieces ls chained.1)
+links_of_pieces (l ∷ ls) chained = links_before l.part l.tail (pieces ls) (chained.0 ∙ sym (pieces_begin ls))
+    ∙ ap (λ x. l ∷ x) (links_of_pieces ls chained.1)
 
 -- ---- the pairs of links follow one another
 
@@ -87,15 +96,18 @@ pair_of l = l.part.pair
 abbrev pub IsStep : (Pair → Option Pair) → Link → Type 0
 IsStep step l = step (pair_of l) ≡ next l.tail
 
-pub pairs_follow : (step : Pair → Option Pair) (from : Option Pair) (ls : List Link) → from ≡ first_pair ls → Chained ls → All (IsStep step) ls → Follow step from (map pair_of ls) × (after step from (map pair_of ls) ≡ None)
+pub pairs_follow : (step : Pair → Option Pair) (from : Option Pair) (ls : List Link) → from ≡ first_pair ls → Chained ls
+    → All (IsStep step) ls → Follow step from (map pair_of ls) × (after step from (map pair_of ls) ≡ None)
 pairs_follow step from [] is chained steps = (tt, is)
 pairs_follow step from (l ∷ ls) is chained steps =
-    let rest = pairs_follow step (step (pair_of l)) ls (All-head (IsStep step) l ls steps ∙ chained.0) chained.1 (All-tail (IsStep step) l ls steps) in
+    let rest = pairs_follow step (step (pair_of l)) ls (All-head (IsStep step) l ls steps ∙ chained.0) chained.1
+    (All-tail (IsStep step) l ls steps) in
     ((is, rest.0), rest.1)
 
 -- ---- a volume uses the blocks of the pairs of its links
 
-named_by_directory : (b : ℕ) (p : Part) (ps : List Part) (tail : Tail) → sum_by (pair_names b) (map pair_of (links_of p ps tail)) ≡ sum_by (pair_uses b) (p ∷ ps)
+named_by_directory : (b : ℕ) (p : Part) (ps : List Part) (tail : Tail)
+    → sum_by (pair_names b) (map pair_of (links_of p ps tail)) ≡ sum_by (pair_uses b) (p ∷ ps)
 named_by_directory b p [] tail = refl
 named_by_directory b p (q ∷ ps) tail =
     let rest : sum_by (pair_names b) (map pair_of (links_of q ps tail)) ≡ sum_by (pair_uses b) (q ∷ ps) = named_by_directory b q ps tail in
@@ -104,10 +116,13 @@ named_by_directory b p (q ∷ ps) tail =
 pub pairs_used : (b : ℕ) (ds : List Directory) → pairs_name b (map pair_of (links ds)) ≤ sum_by (directory_uses b) ds
 pairs_used b [] = omega arith
 pairs_used b (d ∷ ds) =
-    let here : sum_by (pair_names b) (map pair_of (links_of d.first d.more (tail_to ds))) ≡ sum_by (pair_uses b) (parts d) = named_by_directory b d.first d.more (tail_to ds) in
+    let here : sum_by (pair_names b) (map pair_of (links_of d.first d.more (tail_to ds))) ≡ sum_by (pair_uses b) (parts d) =
+    named_by_directory b d.first d.more (tail_to ds) in
     let rest : sum_by (pair_names b) (map pair_of (links ds)) ≤ sum_by (directory_uses b) ds = pairs_used b ds in
-    let both : sum_by (pair_names b) (map pair_of (links (d ∷ ds))) ≡ sum_by (pair_names b) (map pair_of (links_of d.first d.more (tail_to ds))) + sum_by (pair_names b) (map pair_of (links ds)) =
-    ap (sum_by (pair_names b)) (map-append pair_of (links_of d.first d.more (tail_to ds)) (links ds)) ∙ sum_by-append (pair_names b) (map pair_of (links_of d.first d.more (tail_to ds))) (map pair_of (links ds)) in
+    let both : sum_by (pair_names b) (map pair_of (links (d ∷ ds))) ≡ sum_by (pair_names b)
+    (map pair_of (links_of d.first d.more (tail_to ds))) + sum_by (pair_names b) (map pair_of (links ds)) =
+    ap (sum_by (pair_names b)) (map-append pair_of (links_of d.first d.more (tail_to ds)) (links ds))
+    ∙ sum_by-append (pair_names b) (map pair_of (links_of d.first d.more (tail_to ds))) (map pair_of (links ds)) in
     omega (arith, here, rest, both, sum_by-cons (directory_uses b) d ds)
 
 -- ---- the pairs of links are those of the parts

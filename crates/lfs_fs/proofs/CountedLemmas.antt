@@ -19,7 +19,13 @@ one_of false = refl
 -- each passes or doesn't
 both_counts : {X : Type 0} (p : X → Bool) (xs : List X) → count_by p xs + count_by (λ x. not (p x)) xs ≡ length xs
 both_counts p [] = refl
-both_counts {X} p (x ∷ xs) = omega (arith, both_counts p xs, one_of (p x), sum_by-cons (λ (y : X). cond {A = ℕ} (p y) 1 0) x xs, sum_by-cons (λ (y : X). cond {A = ℕ} (not (p y)) 1 0) x xs)
+both_counts {X} p (x ∷ xs) = omega (
+  arith,
+  both_counts p xs,
+  one_of (p x),
+  sum_by-cons (λ (y : X). cond {A = ℕ} (p y) 1 0) x xs,
+  sum_by-cons (λ (y : X). cond {A = ℕ} (not (p y)) 1 0) x xs,
+)
 
 length_rows : (q : Path) (xs : List Listed) → length (rows_after q xs) ≡ length xs
 length_rows q [] = refl
@@ -27,7 +33,8 @@ length_rows q (x ∷ xs) = omega (arith, length_rows (path_after q x.depth x.ent
 
 -- the places that aren't of directories are of files
 pub files_left : (v : Volume) (places : List Place) → AreCounted v (rows_of v places)
-    → (length v.directories ≤ length places) × (length places - length v.directories ≡ files_of v) × (length places - length v.directories ≡ count_by (λ (r : Row). not (leads r.entry)) (rows_of v places))
+    → (length v.directories ≤ length places) × (length places - length v.directories ≡ files_of v)
+    × (length places - length v.directories ≡ count_by (λ (r : Row). not (leads r.entry)) (rows_of v places))
 files_left v places counted =
     let all = both_counts (λ (r : Row). leads r.entry) (rows_of v places) in
     let len : length (rows_of v places) ≡ length places = length_rows [] (map (listed_at v) places) ∙ length-map places (listed_at v) in

@@ -60,25 +60,40 @@ limits_of f = (header_of f.bytes f.attributes).limits
 
 -- ---- stored entries
 
-unfoldable pub stored_on : (d : Disk) (f : HasFound d) (p : Pair) (s : StoredPart) (i : ℕ) (e : StoredEntry) → Contains f.pairs p → (reading_of d).part p ≡ Some s → slice_get s.entries i ≡ Some e → StoredOn (reading_of d) e
-stored_on d f p s i e there read member = record { front = f.pairs; is_front = f.is_thread.front; pair = p; there = there; part = s; read = read; index = i; member = member }
+unfoldable pub stored_on : (d : Disk) (f : HasFound d) (p : Pair) (s : StoredPart) (i : ℕ) (e : StoredEntry) → Contains f.pairs p
+    → (reading_of d).part p ≡ Some s → slice_get s.entries i ≡ Some e → StoredOn (reading_of d) e
+stored_on d f p s i e there read member = record {
+  front = f.pairs;
+  is_front = f.is_thread.front;
+  pair = p;
+  there = there;
+  part = s;
+  read = read;
+  index = i;
+  member = member;
+}
 
 -- the blocks of a pair of a front are the disk's
 pub pair_below : (r : Reading) (ps : List Pair) (p : Pair) → IsFront r ps → Contains ps p → (p.0 < r.count) × (p.1 < r.count)
 pair_below r ps p front there =
-    let itself = names_itself p in
-    (front.within p.0 (omega (arith, element_le (pair_names p.0) ps p there)), front.within p.1 (omega (arith, element_le (pair_names p.1) ps p there)))
+    let itself = names_itself p in (
+      front.within p.0 (omega (arith, element_le (pair_names p.0) ps p there)),
+      front.within p.1 (omega (arith, element_le (pair_names p.1) ps p there)),
+    )
 
 held_entry : (d : Disk) (e : StoredEntry) → IsClear d → StoredOn (reading_of d) e → IsHeldEntry e
 held_entry d e c s =
     let below = pair_below (reading_of d) s.front s.pair s.is_front s.there in
     all_got IsHeldEntry s.part.entries s.index e (c.held d s.pair s.part c.disk below.0 below.1 s.read) s.member
 
-chain_there : (d : Disk) (e : StoredEntry) (head size : ℕ) (o : Option (List ℕ)) → IsClear d → StoredOn (reading_of d) e → e.body ≡ Ctz head size → (reading_of d).chain head size ≡ o → IsSome o
-chain_there d e head size None c s is found = absurd (c.none fault.BadSkipList tt (record { entry = e; stored = s; head = head; size = size; is_chain = is; none = found }))
+chain_there : (d : Disk) (e : StoredEntry) (head size : ℕ) (o : Option (List ℕ)) → IsClear d → StoredOn (reading_of d) e
+    → e.body ≡ Ctz head size → (reading_of d).chain head size ≡ o → IsSome o
+chain_there d e head size None c s is found = absurd (c.none fault.BadSkipList tt
+    (record { entry = e; stored = s; head = head; size = size; is_chain = is; none = found }))
 chain_there d e head size (Some blocks) c s is found = refl
 
-pub entry_resolved : (d : Disk) (e : StoredEntry) → IsClear d → (s : StoredOn (reading_of d) e) → (s.pair ≢ root) ⊎ (0 < s.index) → IsResolved (reading_of d) e
+pub entry_resolved : (d : Disk) (e : StoredEntry) → IsClear d → (s : StoredOn (reading_of d) e) → (s.pair ≢ root) ⊎ (0 < s.index)
+    → IsResolved (reading_of d) e
 entry_resolved d e c s elsewhere = (
   λ kind. c.none fault.SuperblockElsewhere tt (record { entry = e; stored = s; kind = kind; elsewhere = elsewhere }),
   λ head size is. chain_there d e head size ((reading_of d).chain head size) c s is refl,
@@ -87,9 +102,17 @@ entry_resolved d e c s elsewhere = (
 -- ---- limits
 
 not_over : (d : Disk) (e : StoredEntry) → IsClear d → (f : HasFound d) → StoredOn (reading_of d) e → IsOversized (limits_of f) e → ⊥
-not_over d e c f s over = c.none fault.BadSize tt (record { bytes = f.bytes; attributes = f.attributes; superblock = f.superblock; entry = e; stored = s; over = over })
+not_over d e c f s over = c.none fault.BadSize tt (record {
+  bytes = f.bytes;
+  attributes = f.attributes;
+  superblock = f.superblock;
+  entry = e;
+  stored = s;
+  over = over;
+})
 
-value_fits : (d : Disk) (e : StoredEntry) (i : ℕ) (dflt : ℕ × List ℕ) → IsClear d → (f : HasFound d) → StoredOn (reading_of d) e → i < length e.attributes → length (get_or e.attributes i dflt).1 ≤ (limits_of f).attribute
+value_fits : (d : Disk) (e : StoredEntry) (i : ℕ) (dflt : ℕ × List ℕ) → IsClear d → (f : HasFound d) → StoredOn (reading_of d) e
+    → i < length e.attributes → length (get_or e.attributes i dflt).1 ≤ (limits_of f).attribute
 value_fits d e i dflt c f s within =
     let a : ℕ × List ℕ = get_or e.attributes i dflt in
     elim (cases_lt (limits_of f).attribute (length a.1)) [
@@ -97,10 +120,13 @@ value_fits d e i dflt c f s within =
       | inr fits ↦ fits
     ]
 
-pub attributes_fit : (d : Disk) (e : StoredEntry) → IsClear d → (f : HasFound d) → StoredOn (reading_of d) e → AreAttributes (limits_of f).attribute e.attributes
-attributes_fit d e c f s = are_attributes (limits_of f).attribute 0 e.attributes (held_entry d e c s).attributes (λ i dflt within. value_fits d e i dflt c f s within)
+pub attributes_fit : (d : Disk) (e : StoredEntry) → IsClear d → (f : HasFound d) → StoredOn (reading_of d) e
+    → AreAttributes (limits_of f).attribute e.attributes
+attributes_fit d e c f s = are_attributes (limits_of f).attribute 0 e.attributes (held_entry d e c s).attributes
+    (λ i dflt within. value_fits d e i dflt c f s within)
 
-chained_at_most : (r : Reading) (head size : ℕ) (o : Option (List ℕ)) → Lengths r → r.chain head size ≡ o → body_length (chained r size o) ≤ size
+chained_at_most : (r : Reading) (head size : ℕ) (o : Option (List ℕ)) → Lengths r → r.chain head size ≡ o
+    → body_length (chained r size o) ≤ size
 chained_at_most r head size None lengths is = omega arith
 chained_at_most r head size (Some blocks) lengths is = let same = lengths head size blocks is in omega arith
 
@@ -109,15 +135,26 @@ body_at_most r (Stored_inline bytes) lengths = omega arith
 body_at_most r (Ctz head size) lengths = chained_at_most r head size (r.chain head size) lengths refl
 body_at_most r (Leads first second) lengths = omega arith
 
-name_fits : (d : Disk) (e : StoredEntry) → IsClear d → (f : HasFound d) → StoredOn (reading_of d) e → e.kind ≢ Super → length e.name ≤ (limits_of f).name
+name_fits : (d : Disk) (e : StoredEntry) → IsClear d → (f : HasFound d) → StoredOn (reading_of d) e → e.kind ≢ Super
+    → length e.name ≤ (limits_of f).name
 name_fits d e c f s other =
-    elim (cases_lt (limits_of f).name (length e.name)) [ inl long ↦ absurd (not_over d e c f s (long_name (limits_of f) e other long)) | inr fits ↦ fits ]
+    elim (cases_lt (limits_of f).name (length e.name)) [
+      | inl long ↦ absurd
+          (not_over d e c f s (long_name (limits_of f) e other long))
+      | inr fits ↦ fits
+    ]
 
-file_fits : (d : Disk) (e : StoredEntry) → IsClear d → (f : HasFound d) → StoredOn (reading_of d) e → e.kind ≢ Super → stored_length e.body ≤ (limits_of f).file
+file_fits : (d : Disk) (e : StoredEntry) → IsClear d → (f : HasFound d) → StoredOn (reading_of d) e → e.kind ≢ Super
+    → stored_length e.body ≤ (limits_of f).file
 file_fits d e c f s other =
-    elim (cases_lt (limits_of f).file (stored_length e.body)) [ inl long ↦ absurd (not_over d e c f s (long_file (limits_of f) e other (held_entry d e c s).whole long)) | inr fits ↦ fits ]
+    elim (cases_lt (limits_of f).file (stored_length e.body)) [
+      | inl long ↦ absurd
+          (not_over d e c f s (long_file (limits_of f) e other (held_entry d e c s).whole long))
+      | inr fits ↦ fits
+    ]
 
-pub entry_proper : (d : Disk) (e : StoredEntry) → IsClear d → (f : HasFound d) → StoredOn (reading_of d) e → e.kind ≢ Super → IsProper (limits_of f) (stood_for (reading_of d) e)
+pub entry_proper : (d : Disk) (e : StoredEntry) → IsClear d → (f : HasFound d) → StoredOn (reading_of d) e → e.kind ≢ Super
+    → IsProper (limits_of f) (stood_for (reading_of d) e)
 entry_proper d e c f s other =
     let size = file_fits d e c f s other in
     let body = body_at_most (reading_of d) e.body c.lengths in
@@ -130,25 +167,33 @@ entry_proper d e c f s other =
 
 -- ---- what holds of each stored entry holds of each entry of the volume
 
-by_kind : (P : Entry → Type 0) (r : Reading) (e : StoredEntry) (kind : Kind) → (kind ≢ Super → P (stood_for r e)) → All P (resolved_as r e kind)
+by_kind : (P : Entry → Type 0) (r : Reading) (e : StoredEntry) (kind : Kind) → (kind ≢ Super → P (stood_for r e))
+    → All P (resolved_as r e kind)
 by_kind P r e File h = All-cons P (stood_for r e) [] (h (λ same. cc)) (All-nil P)
 by_kind P r e Dir h = All-cons P (stood_for r e) [] (h (λ same. cc)) (All-nil P)
 by_kind P r e Super h = All-nil P
 
-each_stored : (P : Entry → Type 0) (r : Reading) (es : List StoredEntry) → ((i : ℕ) (e : StoredEntry) → slice_get es i ≡ Some e → e.kind ≢ Super → P (stood_for r e)) → All P (flat_map (resolved r) es)
+each_stored : (P : Entry → Type 0) (r : Reading) (es : List StoredEntry)
+    → ((i : ℕ) (e : StoredEntry) → slice_get es i ≡ Some e → e.kind ≢ Super → P (stood_for r e)) → All P (flat_map (resolved r) es)
 each_stored P r [] h = All-nil P
-each_stored P r (e ∷ es) h = All-append P (resolved r e) (flat_map (resolved r) es) (by_kind P r e e.kind (h 0 e refl)) (each_stored P r es (λ i. h (suc i)))
+each_stored P r (e ∷ es) h = All-append P (resolved r e) (flat_map (resolved r) es) (by_kind P r e e.kind (h 0 e refl))
+    (each_stored P r es (λ i. h (suc i)))
 
-each_at : (P : Entry → Type 0) (d : Disk) (f : HasFound d) (p : Pair) (o : Option StoredPart) → ((e : StoredEntry) → StoredOn (reading_of d) e → e.kind ≢ Super → P (stood_for (reading_of d) e))
+each_at : (P : Entry → Type 0) (d : Disk) (f : HasFound d) (p : Pair) (o : Option StoredPart)
+    → ((e : StoredEntry) → StoredOn (reading_of d) e → e.kind ≢ Super → P (stood_for (reading_of d) e))
     → Contains f.pairs p → (reading_of d).part p ≡ o → All P (link_of (reading_of d) p o).part.entries
 each_at P d f p None h there read = All-nil P
 each_at P d f p (Some s) h there read = each_stored P (reading_of d) s.entries (λ i e member. h e (stored_on d f p s i e there read member))
 
-pub each_link : (P : Entry → Type 0) (d : Disk) (f : HasFound d) → ((e : StoredEntry) → StoredOn (reading_of d) e → e.kind ≢ Super → P (stood_for (reading_of d) e))
+pub each_link : (P : Entry → Type 0) (d : Disk) (f : HasFound d) → ((e : StoredEntry) → StoredOn (reading_of d) e → e.kind ≢ Super
+    → P (stood_for (reading_of d) e))
     → All (λ l. All P l.part.entries) (map (link_at (reading_of d)) f.pairs)
-each_link P d f h = All-map (λ (l : Link). All P l.part.entries) (link_at (reading_of d)) f.pairs (λ i dflt within. each_at P d f (get_or f.pairs i dflt) ((reading_of d).part (get_or f.pairs i dflt)) h (Contains-get_or f.pairs i dflt within) refl)
+each_link P d f h = All-map (λ (l : Link). All P l.part.entries) (link_at (reading_of d)) f.pairs
+    (λ i dflt within. each_at P d f (get_or f.pairs i dflt) ((reading_of d).part (get_or f.pairs i dflt)) h
+    (Contains-get_or f.pairs i dflt within) refl)
 
-pub each_in : (P : Entry → Type 0) (d : Disk) (f : HasFound d) → ((e : StoredEntry) → StoredOn (reading_of d) e → e.kind ≢ Super → P (stood_for (reading_of d) e)) → EachEntry P (directories_at (reading_of d) f.pairs)
+pub each_in : (P : Entry → Type 0) (d : Disk) (f : HasFound d) → ((e : StoredEntry) → StoredOn (reading_of d) e → e.kind ≢ Super
+    → P (stood_for (reading_of d) e)) → EachEntry P (directories_at (reading_of d) f.pairs)
 each_in P d f h = each_entry P (map (link_at (reading_of d)) f.pairs) (each_link P d f h)
 
 -- ---- the root's entry
@@ -164,4 +209,5 @@ pub root_there : (d : Disk) (f : HasFound d) → Contains f.pairs root
 root_there d f = thread_root (reading_of d) f.pairs f.is_thread
 
 pub root_stored : (d : Disk) (f : HasFound d) → StoredOn (reading_of d) (superblock_entry f.bytes f.attributes)
-root_stored d f = stored_on d f root f.superblock.part 0 (superblock_entry f.bytes f.attributes) (root_there d f) f.superblock.read (ap (λ es. slice_get es 0) f.superblock.is)
+root_stored d f = stored_on d f root f.superblock.part 0 (superblock_entry f.bytes f.attributes) (root_there d f) f.superblock.read
+    (ap (λ es. slice_get es 0) f.superblock.is)

@@ -1,5 +1,6 @@
 -- Sums over what is flagged.
-use Rattle.std.proofs.Common.{◌≡◌, ℕ, ◌+◌, ◌≤◌, Bool, true, false, List, [], ◌∷◌, Some, refl, ap, sym, ◌∙◌, arith, length, cond, zero, suc, set, replicate}
+use Rattle.std.proofs.Common.{◌≡◌, ℕ, ◌+◌, ◌≤◌, Bool, true, false, List, [], ◌∷◌, Some, refl, ap, sym, ◌∙◌, arith, length, cond, zero, suc}
+use Rattle.std.proofs.Common.{set, replicate}
 use Rattle.std.specs.Prelude.{sum_by, slice_get, All, ◌||◌}
 use Rattle.std.specs.List.{list_any}
 use Rattle.std.proofs.lemmas.Bool.{false≢true}
@@ -25,29 +26,44 @@ flagged_le f (x ∷ xs) (true ∷ flags) = omega (arith, flagged_le f xs flags, 
 flagged_le f (x ∷ xs) (false ∷ flags) = omega (arith, flagged_le f xs flags, sum_by-cons f x xs)
 
 -- all is flagged
-pub flagged_all : {X : Type 0} (f : X → ℕ) (xs : List X) (flags : List Bool) → length flags ≡ length xs → All (λ b. b ≡ true) flags → flagged f xs flags ≡ sum_by f xs
+pub flagged_all : {X : Type 0} (f : X → ℕ) (xs : List X) (flags : List Bool) → length flags ≡ length xs → All (λ b. b ≡ true) flags
+    → flagged f xs flags ≡ sum_by f xs
 flagged_all f [] flags same all = refl
 flagged_all f (x ∷ xs) [] same all = absurd (omega arith)
 flagged_all f (x ∷ xs) (b ∷ flags) same all =
-    omega (arith, flagged_all f xs flags (omega arith) (All-tail (λ (c : Bool). c ≡ true) b flags all), weighs f x b true (All-head (λ (c : Bool). c ≡ true) b flags all), sum_by-cons f x xs)
+    omega (
+      arith,
+      flagged_all f xs flags (omega arith) (All-tail (λ (c : Bool). c ≡ true) b flags all),
+      weighs f x b true (All-head (λ (c : Bool). c ≡ true) b flags all),
+      sum_by-cons f x xs,
+    )
 
 -- one is flagged
-pub flagged_some : {X : Type 0} (f : X → ℕ) (xs : List X) (flags : List Bool) (i : ℕ) (x : X) → slice_get xs i ≡ Some x → slice_get flags i ≡ Some true → f x ≤ flagged f xs flags
+pub flagged_some : {X : Type 0} (f : X → ℕ) (xs : List X) (flags : List Bool) (i : ℕ) (x : X) → slice_get xs i ≡ Some x
+    → slice_get flags i ≡ Some true → f x ≤ flagged f xs flags
 flagged_some f [] flags i x at is = absurd (none-some x at)
 flagged_some f (y ∷ xs) [] i x at is = absurd (none-some true is)
 flagged_some f (y ∷ xs) (b ∷ flags) zero x at is = omega (arith, weighs f y b true (same_Some b true is), ap f (same_Some y x at))
 flagged_some f (y ∷ xs) (b ∷ flags) (suc i) x at is = omega (arith, flagged_some f xs flags i x at is)
 
 -- there is room for one that isn't
-pub flagged_room : {X : Type 0} (f : X → ℕ) (xs : List X) (flags : List Bool) (i : ℕ) (x : X) → slice_get xs i ≡ Some x → slice_get flags i ≡ Some false → flagged f xs flags + f x ≤ sum_by f xs
+pub flagged_room : {X : Type 0} (f : X → ℕ) (xs : List X) (flags : List Bool) (i : ℕ) (x : X) → slice_get xs i ≡ Some x
+    → slice_get flags i ≡ Some false → flagged f xs flags + f x ≤ sum_by f xs
 flagged_room f [] flags i x at is = absurd (none-some x at)
 flagged_room f (y ∷ xs) [] i x at is = absurd (none-some false is)
-flagged_room f (y ∷ xs) (b ∷ flags) zero x at is = omega (arith, flagged_le f xs flags, weighs f y b false (same_Some b false is), ap f (same_Some y x at), sum_by-cons f y xs)
+flagged_room f (y ∷ xs) (b ∷ flags) zero x at is = omega (
+  arith,
+  flagged_le f xs flags,
+  weighs f y b false (same_Some b false is),
+  ap f (same_Some y x at),
+  sum_by-cons f y xs,
+)
 flagged_room f (y ∷ xs) (true ∷ flags) (suc i) x at is = omega (arith, flagged_room f xs flags i x at is, sum_by-cons f y xs)
 flagged_room f (y ∷ xs) (false ∷ flags) (suc i) x at is = omega (arith, flagged_room f xs flags i x at is, sum_by-cons f y xs)
 
 -- one more is flagged
-pub flagged_set : {X : Type 0} (f : X → ℕ) (xs : List X) (flags : List Bool) (i : ℕ) (x : X) → slice_get xs i ≡ Some x → slice_get flags i ≡ Some false → flagged f xs (set flags i true) ≡ flagged f xs flags + f x
+pub flagged_set : {X : Type 0} (f : X → ℕ) (xs : List X) (flags : List Bool) (i : ℕ) (x : X) → slice_get xs i ≡ Some x
+    → slice_get flags i ≡ Some false → flagged f xs (set flags i true) ≡ flagged f xs flags + f x
 flagged_set f [] flags i x at is = absurd (none-some x at)
 flagged_set f (y ∷ xs) [] i x at is = absurd (none-some false is)
 flagged_set f (y ∷ xs) (b ∷ flags) zero x at is = omega (arith, weighs f y b false (same_Some b false is), ap f (same_Some y x at))
@@ -56,7 +72,8 @@ flagged_set f (y ∷ xs) (b ∷ flags) (suc i) x at is = omega (arith, flagged_s
 -- ---- what isn't flagged
 
 -- some flag isn't set
-pub some_unset : (test : Bool → Bool) (flags : List Bool) → test true ≡ false → list_any test flags ≡ true → (i : ℕ) × (slice_get flags i ≡ Some false)
+pub some_unset : (test : Bool → Bool) (flags : List Bool) → test true ≡ false → list_any test flags ≡ true
+    → (i : ℕ) × (slice_get flags i ≡ Some false)
 some_unset test [] set any = cc
 some_unset test (true ∷ flags) set any =
     let rest = some_unset test flags set (sym (ap (λ (b : Bool). b || list_any test flags) set) ∙ any) in
@@ -66,7 +83,8 @@ some_unset test (false ∷ flags) set any = (0, refl)
 -- each flag is set
 pub all_set : (test : Bool → Bool) (flags : List Bool) → test false ≡ true → list_any test flags ≡ false → All (λ b. b ≡ true) flags
 all_set test [] unset any = All-nil (λ (b : Bool). b ≡ true)
-all_set test (true ∷ flags) unset any = All-cons (λ (b : Bool). b ≡ true) true flags refl (all_set test flags unset (all_by (test true) (list_any test flags) any))
+all_set test (true ∷ flags) unset any = All-cons (λ (b : Bool). b ≡ true) true flags refl
+    (all_set test flags unset (all_by (test true) (list_any test flags) any))
   where
     all_by : (b c : Bool) → (b || c) ≡ false → c ≡ false
     all_by true c h = cc

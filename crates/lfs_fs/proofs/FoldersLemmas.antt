@@ -22,7 +22,8 @@ abbrev pub all_joined : List Part → List Directory → List Directory
 all_joined [] ds = ds
 all_joined (p ∷ ps) ds = joined_to p (all_joined ps ds)
 
-pub outlined_cut : (hard : Bool) (p : Part) (ds : List Directory) → outlined_directories (cut_here hard p ds) ≡ cut_here hard (outlined_part p) (outlined_directories ds)
+pub outlined_cut : (hard : Bool) (p : Part) (ds : List Directory) → outlined_directories (cut_here hard p ds)
+    ≡ cut_here hard (outlined_part p) (outlined_directories ds)
 outlined_cut true p [] = refl
 outlined_cut true p (d ∷ ds) = refl
 outlined_cut false p ds = refl
@@ -32,14 +33,17 @@ pub joined_more : (ps : List Part) (p : Part) (ds : List Directory) → all_join
 joined_more [] p ds = refl
 joined_more (q ∷ ps) p ds = ap (joined_to q) (joined_more ps p ds)
 
-join_one : (q : Part) (ps : List Part) (ds : List Directory) → (some' : ℕ) → length ps ≡ suc some' → joined_to q (as_directory ps ++ ds) ≡ as_directory (q ∷ ps) ++ ds
+join_one : (q : Part) (ps : List Part) (ds : List Directory) → (some' : ℕ) → length ps ≡ suc some'
+    → joined_to q (as_directory ps ++ ds) ≡ as_directory (q ∷ ps) ++ ds
 join_one q [] ds n is = absurd (omega (arith, is))
 join_one q (p ∷ ps) ds n is = refl
 
 -- one that ends a directory
-pub joined_ends : (ps : List Part) (p : Part) (ds : List Directory) → all_joined ps (cut_here false p ds) ≡ as_directory (ps ++ p ∷ []) ++ ds
+pub joined_ends : (ps : List Part) (p : Part) (ds : List Directory) → all_joined ps (cut_here false p ds)
+    ≡ as_directory (ps ++ p ∷ []) ++ ds
 joined_ends [] p ds = refl
-joined_ends (q ∷ ps) p ds = ap (joined_to q) (joined_ends ps p ds) ∙ join_one q (ps ++ p ∷ []) ds (length ps) (omega (arith, length-append ps (p ∷ [])))
+joined_ends (q ∷ ps) p ds = ap (joined_to q) (joined_ends ps p ds) ∙ join_one q (ps ++ p ∷ []) ds (length ps)
+    (omega (arith, length-append ps (p ∷ [])))
 
 -- no directory follows
 pub joined_last : (ps : List Part) → all_joined ps [] ≡ as_directory ps
@@ -61,13 +65,16 @@ starts_at_root l ls at = starts_by (is_hard l.tail) l.part (pieces ls) at
 abbrev pub EachEntry : (Entry → Type 0) → List Directory → Type 0
 EachEntry P ds = All (λ d. All P (entries d)) ds
 
-joined_each : (P : Entry → Type 0) (hard : Bool) (p : Part) (ds : List Directory) → All P p.entries → EachEntry P ds → EachEntry P (cut_here hard p ds)
-joined_each P true p [] here rest = All-cons (λ (d : Directory). All P (entries d)) (record { first = p; more = [] }) [] (All-append P p.entries [] here (All-nil P)) rest
+joined_each : (P : Entry → Type 0) (hard : Bool) (p : Part) (ds : List Directory) → All P p.entries → EachEntry P ds
+    → EachEntry P (cut_here hard p ds)
+joined_each P true p [] here rest = All-cons (λ (d : Directory). All P (entries d)) (record { first = p; more = [] }) []
+    (All-append P p.entries [] here (All-nil P)) rest
 joined_each P true p (d ∷ ds) here rest =
     All-cons (λ (x : Directory). All P (entries x)) (record { first = p; more = parts d }) ds
     (All-append P p.entries (entries d) here (All-head (λ (x : Directory). All P (entries x)) d ds rest))
     (All-tail (λ (x : Directory). All P (entries x)) d ds rest)
-joined_each P false p ds here rest = All-cons (λ (d : Directory). All P (entries d)) (record { first = p; more = [] }) ds (All-append P p.entries [] here (All-nil P)) rest
+joined_each P false p ds here rest = All-cons (λ (d : Directory). All P (entries d)) (record { first = p; more = [] }) ds
+    (All-append P p.entries [] here (All-nil P)) rest
 
 pub each_entry : (P : Entry → Type 0) (ls : List Link) → All (λ l. All P l.part.entries) ls → EachEntry P (pieces ls)
 each_entry P [] all = All-nil (λ (d : Directory). All P (entries d))

@@ -26,7 +26,8 @@ root_is_reached size count l a = ([], top (empty_volume size count l a), refl, r
 all_of_one : {X : Type 0} (P : X → Type 0) (x : X) → P x → All P (x ∷ [])
 all_of_one P x h = All-cons P x [] h (All-nil P)
 
-pub empty_is_sound : (size count : ℕ) (l : Limits) (a : Attributes) → 2 ≤ count → AreAttributes l.attribute a → IsSound (empty_volume size count l a)
+pub empty_is_sound : (size count : ℕ) (l : Limits) (a : Attributes) → 2 ≤ count → AreAttributes l.attribute a
+    → IsSound (empty_volume size count l a)
 empty_is_sound size count l a h attributes = record {
   starts = refl;
   order = all_of_one (λ (d : Directory). Rise (entries d)) _ tt;
@@ -43,13 +44,15 @@ uses_past : (size count b : ℕ) (l : Limits) (a : Attributes) → 2 ≤ b → (
 uses_past size count b l a h = grind (arith, nat_tests)
 
 -- from block 2 on, all are free
-rest_is_free : (size count from n : ℕ) (l : Limits) (a : Attributes) → 2 ≤ from → filter (λ b. uses b (empty_volume size count l a) == 0) (range_with_len from n) ≡ range_with_len from n
+rest_is_free : (size count from n : ℕ) (l : Limits) (a : Attributes) → 2 ≤ from
+    → filter (λ b. uses b (empty_volume size count l a) == 0) (range_with_len from n) ≡ range_with_len from n
 rest_is_free size count from zero l a h = refl
 rest_is_free size count from (suc n) l a h =
     let h' : 2 ≤ from + 1 = omega arith in
     rw (uses_past size count from l a h) (ap (λ x. from ∷ x) (rest_is_free size count (from + 1) n l a h'))
 
-pub empty_leaves_the_rest : (size count : ℕ) (l : Limits) (a : Attributes) → 2 ≤ count → free_blocks (empty_volume size count l a) ≡ range_with_len 2 (count - 2)
+pub empty_leaves_the_rest : (size count : ℕ) (l : Limits) (a : Attributes) → 2 ≤ count
+    → free_blocks (empty_volume size count l a) ≡ range_with_len 2 (count - 2)
 empty_leaves_the_rest size zero l a h = absurd (omega arith)
 empty_leaves_the_rest size (suc zero) l a h = absurd (omega arith)
 empty_leaves_the_rest size (suc (suc n)) l a h =

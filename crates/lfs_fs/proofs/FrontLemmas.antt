@@ -10,7 +10,8 @@ begins_more : (p : Pair) (ps qs : List Pair) → Begins ps qs ⊎ Begins qs ps �
 begins_more p ps qs h = elim h [ inl b ↦ inl (b.0, ap (λ x. p ∷ x) b.1) | inr b ↦ inr (b.0, ap (λ x. p ∷ x) b.1) ]
 
 -- of two lists that follow one step from one start
-pub followers_begin : (step : Pair → Option Pair) (from : Option Pair) (ps qs : List Pair) → Follow step from ps → Follow step from qs → Begins ps qs ⊎ Begins qs ps
+pub followers_begin : (step : Pair → Option Pair) (from : Option Pair) (ps qs : List Pair) → Follow step from ps → Follow step from qs
+    → Begins ps qs ⊎ Begins qs ps
 followers_begin step from [] qs h k = inl (qs, refl)
 followers_begin step from (p ∷ ps) [] h k = inr (p ∷ ps, refl)
 followers_begin step from (p ∷ ps) (q ∷ qs) h k =

@@ -1,5 +1,6 @@
 -- What is refused while an image is gathered is a cause of the image.
-use Rattle.std.proofs.Common.{◌≡◌, ◌≢◌, ◌⊎◌, ℕ, ◌<◌, ◌≤◌, Bool, List, [], ◌∷◌, ◌++◌, length, map, Some, None, zero, suc, refl, ap, sym, ◌∙◌, subst, arith}
+use Rattle.std.proofs.Common.{◌≡◌, ◌≢◌, ◌⊎◌, ℕ, ◌<◌, ◌≤◌, Bool, List, [], ◌∷◌, ◌++◌, length, map, Some, None, zero, suc, refl, ap, sym, ◌∙◌}
+use Rattle.std.proofs.Common.{subst, arith}
 use Rattle.std.specs.Prelude.{Contains, slice_index_or}
 use Rattle.std.specs.List.{Any, slice_get}
 use Rattle.std.proofs.lemmas.List.Elements.{All-contains, All-head}
@@ -41,14 +42,16 @@ use Rattle.lfs_fs.proofs.GatheredLemmas.{RootRead, root_superblock, later_links,
 
 -- ---- the global state
 
-state_at : (r : Reading) (ps : List PairPart) (start : List Bool) (f : ℕ → Type 0) → IsThreadRead r ps start → f (delta_from ps) → HasState r f
+state_at : (r : Reading) (ps : List PairPart) (start : List Bool) (f : ℕ → Type 0) → IsThreadRead r ps start → f (delta_from ps)
+    → HasState r f
 state_at r ps start f h says = record {
   pairs = pairs_of ps;
   is_thread = h.is_thread;
   is = subst f (sym (state_is r ps) ∙ ap (λ x. delta_of (thread (pieces x))) (later_links r ps h.each)) says;
 }
 
-pub state_refuses : (d : Disk) (f : MountFault) (ps : List PairPart) (start : List Bool) → IsThreadRead (reading_of d) ps start → StateCause f (delta_from ps) → HasCause d f
+pub state_refuses : (d : Disk) (f : MountFault) (ps : List PairPart) (start : List Bool) → IsThreadRead (reading_of d) ps start
+    → StateCause f (delta_from ps) → HasCause d f
 state_refuses d fault.UnfinishedMove ps start h says = state_at (reading_of d) ps start (StateCause fault.UnfinishedMove) h says
 state_refuses d fault.Orphan ps start h says = inr (state_at (reading_of d) ps start (StateCause fault.Orphan) h says)
 state_refuses d fault.UnknownState ps start h says = state_at (reading_of d) ps start (StateCause fault.UnknownState) h says
@@ -59,7 +62,8 @@ state_refuses d _ ps start h says = absurd says
 first_at : (r : Reading) (p : PairPart) (ps : List PairPart) (start : List Bool) → IsThreadRead r (p ∷ ps) start → p.0 ≡ root
 first_at r p ps start h = let first : Some root ≡ Some p.0 = h.is_thread.front.follow.0 in cc
 
-no_first : (r : Reading) (s : StoredPart) (bytes : List ℕ) (attributes : Attributes) → r.part root ≡ Some s → s.entries ≡ [] → HasSuperblock r bytes attributes → ⊥
+no_first : (r : Reading) (s : StoredPart) (bytes : List ℕ) (attributes : Attributes) → r.part root ≡ Some s → s.entries ≡ []
+    → HasSuperblock r bytes attributes → ⊥
 no_first r s bytes attributes read none super =
     let part : super.part ≡ s = cc (super.read, read) in
     let first : superblock_entry bytes attributes ∷ super.others ≡ [] = sym super.is ∙ ap (λ (x : StoredPart). x.entries) part ∙ none in
@@ -72,7 +76,8 @@ none_refuses r (p ∷ ps) start h none =
     let read : r.part root ≡ Some p.1 = ap r.part (sym at) ∙ (All-head (IsPartRead r) p ps h.each).read in
     record { part = p.1; read = read; none = λ bytes attributes super. no_first r p.1 bytes attributes read none super }
 
-e_is : (r : Reading) (start : List Bool) (p : PairPart) (e : StoredEntry) (others : List StoredEntry) (rest : List PairPart) (bytes : List ℕ) (attributes : Attributes) → RootRead r start p e others rest → HasSuperblock r bytes attributes → IsSuperblock e bytes
+e_is : (r : Reading) (start : List Bool) (p : PairPart) (e : StoredEntry) (others : List StoredEntry) (rest : List PairPart)
+    (bytes : List ℕ) (attributes : Attributes) → RootRead r start p e others rest → HasSuperblock r bytes attributes → IsSuperblock e bytes
 e_is r start p e others rest bytes attributes h super =
     let part : super.part ≡ (with_entries p (e ∷ others)).1 = cc (super.read, h.part) in
     let first : superblock_entry bytes attributes ∷ super.others ≡ e ∷ others = sym super.is ∙ ap (λ (s : StoredPart). s.entries) part in
@@ -80,7 +85,8 @@ e_is r start p e others rest bytes attributes h super =
     subst (λ (x : StoredEntry). IsSuperblock x bytes) same (record { kind = refl; name = refl; body = refl; len = super.len })
 
 -- the first entry
-e_stored : (r : Reading) (start : List Bool) (p : PairPart) (e : StoredEntry) (others : List StoredEntry) (rest : List PairPart) → RootRead r start p e others rest → StoredOn r e
+e_stored : (r : Reading) (start : List Bool) (p : PairPart) (e : StoredEntry) (others : List StoredEntry) (rest : List PairPart)
+    → RootRead r start p e others rest → StoredOn r e
 e_stored r start p e others rest h = record {
   front = p.0 ∷ pairs_of rest;
   is_front = h.is_thread.front;
@@ -92,18 +98,28 @@ e_stored r start p e others rest h = record {
   member = refl;
 }
 
-says_wrong : (r : Reading) (start : List Bool) (p : PairPart) (e : StoredEntry) (others : List StoredEntry) (rest : List PairPart) (these : List ℕ → Type 0) → RootRead r start p e others rest → SaysBytes e these → SuperblockIs r these
-says_wrong r start p e others rest these h says = record { bytes = says.bytes; attributes = e.attributes; superblock = root_superblock r start p e others rest says.bytes h says.is; is = says.says }
+says_wrong : (r : Reading) (start : List Bool) (p : PairPart) (e : StoredEntry) (others : List StoredEntry) (rest : List PairPart)
+    (these : List ℕ → Type 0) → RootRead r start p e others rest → SaysBytes e these → SuperblockIs r these
+says_wrong r start p e others rest these h says = record {
+  bytes = says.bytes;
+  attributes = e.attributes;
+  superblock = root_superblock r start p e others rest says.bytes h says.is;
+  is = says.says;
+}
 
-pub superblock_refuses : (d : Disk) (f : MountFault) (start : List Bool) (p : PairPart) (e : StoredEntry) (others : List StoredEntry) (rest : List PairPart) → RootRead (reading_of d) start p e others rest → JudgedCause f d.size d.count e → HasCause d f
+pub superblock_refuses : (d : Disk) (f : MountFault) (start : List Bool) (p : PairPart) (e : StoredEntry) (others : List StoredEntry)
+    (rest : List PairPart) → RootRead (reading_of d) start p e others rest → JudgedCause f d.size d.count e → HasCause d f
 superblock_refuses d fault.NoSuperblock start p e others rest h cause = record {
   part = (with_entries p (e ∷ others)).1;
   read = h.part;
   none = λ bytes attributes super. cause bytes (e_is (reading_of d) start p e others rest bytes attributes h super);
 }
-superblock_refuses d fault.Version start p e others rest h cause = says_wrong (reading_of d) start p e others rest (HeaderCause fault.Version d.size d.count) h cause
-superblock_refuses d fault.Geometry start p e others rest h cause = says_wrong (reading_of d) start p e others rest (HeaderCause fault.Geometry d.size d.count) h cause
-superblock_refuses d fault.Limits start p e others rest h cause = says_wrong (reading_of d) start p e others rest (HeaderCause fault.Limits d.size d.count) h cause
+superblock_refuses d fault.Version start p e others rest h cause = says_wrong (reading_of d) start p e others rest
+    (HeaderCause fault.Version d.size d.count) h cause
+superblock_refuses d fault.Geometry start p e others rest h cause = says_wrong (reading_of d) start p e others rest
+    (HeaderCause fault.Geometry d.size d.count) h cause
+superblock_refuses d fault.Limits start p e others rest h cause = says_wrong (reading_of d) start p e others rest
+    (HeaderCause fault.Limits d.size d.count) h cause
 superblock_refuses d fault.BadSize start p e others rest h cause = record {
   bytes = cause.bytes;
   attributes = e.attributes;
@@ -129,7 +145,8 @@ record FoundEntry (r : Reading) (P : StoredEntry → Type 0) : Type 0 where
   elsewhere : (stored.pair ≢ root) ⊎ (0 < stored.index)
 
 -- the root's pair stands once
-not_again : (r : Reading) (start : List Bool) (p : PairPart) (e : StoredEntry) (others : List StoredEntry) (rest : List PairPart) (q : Pair) → RootRead r start p e others rest → Contains (pairs_of rest) q → q ≢ root
+not_again : (r : Reading) (start : List Bool) (p : PairPart) (e : StoredEntry) (others : List StoredEntry) (rest : List PairPart) (q : Pair)
+    → RootRead r start p e others rest → Contains (pairs_of rest) q → q ≢ root
 not_again r start p e others rest q h there same =
     let once : pairs_name 0 (p.0 ∷ pairs_of rest) ≤ 1 = h.is_thread.front.once 0 in
     let first : pair_names 0 p.0 ≡ 1 = ap (pair_names 0) h.at in
@@ -137,7 +154,9 @@ not_again r start p e others rest q h there same =
     let some : pair_names 0 q ≤ pairs_name 0 (pairs_of rest) = element_le (pair_names 0) (pairs_of rest) q there in
     omega (arith, sum_by-cons (pair_names 0) p.0 (pairs_of rest))
 
-found_entry : (r : Reading) (start : List Bool) (p : PairPart) (e : StoredEntry) (others : List StoredEntry) (rest : List PairPart) (P : StoredEntry → Type 0) → RootRead r start p e others rest → Any (λ (q : PairPart). Any P q.1.entries) (with_entries p others ∷ rest) → FoundEntry r P
+found_entry : (r : Reading) (start : List Bool) (p : PairPart) (e : StoredEntry) (others : List StoredEntry) (rest : List PairPart)
+    (P : StoredEntry → Type 0) → RootRead r start p e others rest → Any (λ (q : PairPart). Any P q.1.entries) (with_entries p others ∷ rest)
+    → FoundEntry r P
 found_entry r start p e others rest P h (zero, q, within, at, any) =
     let inner : Any P others = subst (λ (y : PairPart). Any P y.1.entries) (sym at) any in
     record {
@@ -174,12 +193,14 @@ found_entry r start p e others rest P h (suc k, q, within, at, (i, x, inside, is
       elsewhere = inl (not_again r start p e others rest q.0 h pairs);
     }
 
-no_chain_of : (r : Reading) (body : StoredBody) → HasNoChain r body → (head : ℕ) × (size : ℕ) × (body ≡ Ctz head size) × (r.chain head size ≡ None)
+no_chain_of : (r : Reading) (body : StoredBody) → HasNoChain r body → (head : ℕ) × (size : ℕ) × (body ≡ Ctz head size)
+    × (r.chain head size ≡ None)
 no_chain_of r (Stored_inline bytes) none = absurd none
 no_chain_of r (Ctz head size) none = (head, size, refl, none)
 no_chain_of r (Leads first second) none = absurd none
 
-leads_of : (r : Reading) (body : StoredBody) → LeadsPast r body → (pair : Pair) × (body ≡ Leads pair.0 pair.1) × ((r.count ≤ pair.0) ⊎ (r.count ≤ pair.1))
+leads_of : (r : Reading) (body : StoredBody) → LeadsPast r body → (pair : Pair) × (body ≡ Leads pair.0 pair.1)
+    × ((r.count ≤ pair.0) ⊎ (r.count ≤ pair.1))
 leads_of r (Stored_inline bytes) past = absurd past
 leads_of r (Ctz head size) past = absurd past
 leads_of r (Leads first second) past = ((first, second), refl, past)
@@ -197,9 +218,18 @@ record Neighbours (es : List Entry) (left right : Entry) : Type 0 where
   two_is : outlined_entry two ≡ right
 
 later_neighbours : (e : Entry) (es : List Entry) (left right : Entry) → Neighbours es left right → Neighbours (e ∷ es) left right
-later_neighbours e es left right h = record { before = e ∷ h.before; one = h.one; two = h.two; after = h.after; is = ap (λ (y : List Entry). e ∷ y) h.is; one_is = h.one_is; two_is = h.two_is }
+later_neighbours e es left right h = record {
+  before = e ∷ h.before;
+  one = h.one;
+  two = h.two;
+  after = h.after;
+  is = ap (λ (y : List Entry). e ∷ y) h.is;
+  one_is = h.one_is;
+  two_is = h.two_is;
+}
 
-neighbours : (es : List Entry) (before : List Entry) (left right : Entry) (after : List Entry) → map outlined_entry es ≡ before ++ left ∷ right ∷ after → Neighbours es left right
+neighbours : (es : List Entry) (before : List Entry) (left right : Entry) (after : List Entry)
+    → map outlined_entry es ≡ before ++ left ∷ right ∷ after → Neighbours es left right
 neighbours [] [] left right after is = cc
 neighbours [] (x ∷ before) left right after is = cc
 neighbours (e ∷ []) [] left right after is = cc
@@ -211,14 +241,16 @@ neighbours (e ∷ es) (x ∷ before) left right after is =
     let tail : map outlined_entry es ≡ before ++ left ∷ right ∷ after = cc in
     later_neighbours e es left right (neighbours es before left right after tail)
 
-any_outlined : (P : Directory → Type 0) (ds : List Directory) → Any P (outlined_directories ds) → (x : Directory) × Contains ds x × P (outlined_directory x)
+any_outlined : (P : Directory → Type 0) (ds : List Directory) → Any P (outlined_directories ds)
+    → (x : Directory) × Contains ds x × P (outlined_directory x)
 any_outlined P [] (k, f, within, at, holds) = absurd (omega arith)
 any_outlined P (d ∷ ds) (zero, f, within, at, holds) = (d, (0, omega arith, refl), subst P (sym at) holds)
 any_outlined P (d ∷ ds) (suc k, f, within, at, holds) =
     let rest = any_outlined P ds (k, f, omega arith, at, holds) in
     (rest.0, (suc rest.1.0, omega (arith, rest.1.1), rest.1.2), rest.2)
 
-misordered : (r : Reading) (pairs : List Pair) → Any (λ (d : Directory). NamesFall (entries d)) (outlined_directories (directories_at r pairs)) → MisorderedNames (volume_at r no_header pairs)
+misordered : (r : Reading) (pairs : List Pair) → Any (λ (d : Directory). NamesFall (entries d))
+    (outlined_directories (directories_at r pairs)) → MisorderedNames (volume_at r no_header pairs)
 misordered r pairs any =
     let found = any_outlined (λ (d : Directory). NamesFall (entries d)) (directories_at r pairs) any in
     let fall = found.2 in
@@ -231,12 +263,14 @@ misordered r pairs any =
       right = two.two;
       after = two.after;
       neighbours = two.is;
-      fall = ap (λ (x : Entry). precedes x.name two.two.name) two.one_is ∙ ap (λ (x : Entry). precedes fall.left.name x.name) two.two_is ∙ fall.fall;
+      fall = ap (λ (x : Entry). precedes x.name two.two.name) two.one_is ∙ ap (λ (x : Entry). precedes fall.left.name x.name) two.two_is
+          ∙ fall.fall;
     }
 
 -- ---- parts
 
-pub parts_refuse : (d : Disk) (f : MountFault) (limits : Limits) (start : List Bool) (p : PairPart) (e : StoredEntry) (others : List StoredEntry) (rest : List PairPart) → RootRead (reading_of d) start p e others rest → IsJudged d.size d.count limits e
+pub parts_refuse : (d : Disk) (f : MountFault) (limits : Limits) (start : List Bool) (p : PairPart) (e : StoredEntry)
+    (others : List StoredEntry) (rest : List PairPart) → RootRead (reading_of d) start p e others rest → IsJudged d.size d.count limits e
     → PartsCause f (reading_of d) limits start (with_entries p others ∷ rest) → HasCause d f
 parts_refuse d fault.BadSkipList limits start p e others rest h judged cause =
     let r = reading_of d in
@@ -268,12 +302,15 @@ parts_refuse d fault.OrderFault limits start p e others rest h judged cause =
       header = no_header;
       front = p.0 ∷ pairs_of rest;
       is_front = h.is_thread.front;
-      fault = misordered r (p.0 ∷ pairs_of rest) (subst (Any (λ (d : Directory). NamesFall (entries d))) (ap (λ x. outlined_directories (pieces x)) links) cause);
+      fault = misordered r (p.0 ∷ pairs_of rest) (subst (Any (λ (d : Directory). NamesFall (entries d)))
+          (ap (λ x. outlined_directories (pieces x)) links) cause);
     }
 parts_refuse d fault.BlockTwice limits start p e others rest h judged (b, twice) =
     let r = reading_of d in
-    let all = uses_are r no_header b (with_entries p others ∷ rest) (p.0 ∷ pairs_of rest) (same_links r start p e others rest h judged.is.kind) refl in
+    let all = uses_are r no_header b (with_entries p others ∷ rest) (p.0 ∷ pairs_of rest)
+    (same_links r start p e others rest h judged.is.kind) refl in
     let marks = h.marks b in
     record { header = no_header; front = p.0 ∷ pairs_of rest; is_front = h.is_thread.front; twice = inl (b, omega arith) }
 parts_refuse d fault.Memory limits start p e others rest h judged cause = tt
-parts_refuse d f limits start p e others rest h judged cause = absurd (found_entry (reading_of d) start p e others rest (EntryFault f (reading_of d) limits) h cause).holds
+parts_refuse d f limits start p e others rest h judged cause = absurd
+    (found_entry (reading_of d) start p e others rest (EntryFault f (reading_of d) limits) h cause).holds

@@ -1,5 +1,6 @@
 -- What is gathered of a thread is the volume that the image holds.
-use Rattle.std.proofs.Common.{◌≡◌, ◌≢◌, ℕ, ◌+◌, Bool, false, List, [], ◌∷◌, ◌++◌, length, map, Some, zero, suc, refl, ap, sym, ◌∙◌, subst, arith}
+use Rattle.std.proofs.Common.{◌≡◌, ◌≢◌, ℕ, ◌+◌, Bool, false, List, [], ◌∷◌, ◌++◌, length, map, Some, zero, suc, refl, ap, sym, ◌∙◌, subst}
+use Rattle.std.proofs.Common.{arith}
 use Rattle.std.specs.Prelude.{All, Contains, flat_map, sum_by, bit_xor}
 use Rattle.std.specs.List.{AllByRecursion}
 use Rattle.std.proofs.lemmas.List.Elements.{All-cons, All-nil, All-head, All-tail, All-weaker}
@@ -41,7 +42,8 @@ use Rattle.lfs_fs.proofs.OutlinedLemmas.{all_rise}
 -- ---- the first part
 
 -- a thread whose first part begins with this entry
-pub record RootRead (r : Reading) (start : List Bool) (p : PairPart) (e : StoredEntry) (others : List StoredEntry) (rest : List PairPart) : Type 0 where
+pub record RootRead (r : Reading) (start : List Bool) (p : PairPart) (e : StoredEntry) (others : List StoredEntry)
+    (rest : List PairPart) : Type 0 where
   pub at : p.0 ≡ root
   pub part : r.part root ≡ Some (with_entries p (e ∷ others)).1
   pub later : All (IsPartRead r) rest
@@ -49,7 +51,8 @@ pub record RootRead (r : Reading) (start : List Bool) (p : PairPart) (e : Stored
   pub len : length start ≡ r.count
   pub marks : Marks start (λ b. pairs_name b (p.0 ∷ pairs_of rest))
 
-pub root_read : (r : Reading) (start : List Bool) (p : PairPart) (e : StoredEntry) (others : List StoredEntry) (rest : List PairPart) → IsThreadRead r (with_entries p (e ∷ others) ∷ rest) start → RootRead r start p e others rest
+pub root_read : (r : Reading) (start : List Bool) (p : PairPart) (e : StoredEntry) (others : List StoredEntry) (rest : List PairPart)
+    → IsThreadRead r (with_entries p (e ∷ others) ∷ rest) start → RootRead r start p e others rest
 root_read r start p e others rest h =
     let first : Some root ≡ Some p.0 = h.is_thread.front.follow.0 in
     let at : p.0 ≡ root = cc in
@@ -62,7 +65,8 @@ root_read r start p e others rest h =
       marks = h.marks;
     }
 
-pub root_superblock : (r : Reading) (start : List Bool) (p : PairPart) (e : StoredEntry) (others : List StoredEntry) (rest : List PairPart) (bytes : List ℕ) → RootRead r start p e others rest → IsSuperblock e bytes → HasSuperblock r bytes e.attributes
+pub root_superblock : (r : Reading) (start : List Bool) (p : PairPart) (e : StoredEntry) (others : List StoredEntry) (rest : List PairPart)
+    (bytes : List ℕ) → RootRead r start p e others rest → IsSuperblock e bytes → HasSuperblock r bytes e.attributes
 root_superblock r start p e others rest bytes h is = record {
   part = (with_entries p (e ∷ others)).1;
   read = h.part;
@@ -77,30 +81,44 @@ pub later_links : (r : Reading) (ps : List PairPart) → All (IsPartRead r) ps �
 later_links r [] all = refl
 later_links r (p ∷ ps) all =
     let here : link_from r p ≡ link_at r p.0 = ap (link_of r p.0) (sym (All-head (IsPartRead r) p ps all).read) in
-    ap (λ (l : Link). l ∷ map (link_from r) ps) here ∙ ap (λ (ls : List Link). link_at r p.0 ∷ ls) (later_links r ps (All-tail (IsPartRead r) p ps all))
+    ap (λ (l : Link). l ∷ map (link_from r) ps) here ∙ ap (λ (ls : List Link). link_at r p.0 ∷ ls)
+    (later_links r ps (All-tail (IsPartRead r) p ps all))
 
-none_for : (r : Reading) (e : StoredEntry) (others : List StoredEntry) → e.kind ≡ Super → flat_map (resolved r) others ≡ flat_map (resolved r) (e ∷ others)
+none_for : (r : Reading) (e : StoredEntry) (others : List StoredEntry) → e.kind ≡ Super
+    → flat_map (resolved r) others ≡ flat_map (resolved r) (e ∷ others)
 none_for r e others kind = ap (λ (k : Kind). resolved_as r e k ++ flat_map (resolved r) others) (sym kind)
 
 -- a superblock stands for nothing
-pub same_links : (r : Reading) (start : List Bool) (p : PairPart) (e : StoredEntry) (others : List StoredEntry) (rest : List PairPart) → RootRead r start p e others rest → e.kind ≡ Super
+pub same_links : (r : Reading) (start : List Bool) (p : PairPart) (e : StoredEntry) (others : List StoredEntry) (rest : List PairPart)
+    → RootRead r start p e others rest → e.kind ≡ Super
     → map (link_from r) (with_entries p others ∷ rest) ≡ map (link_at r) (p.0 ∷ pairs_of rest)
 same_links r start p e others rest h kind =
     let read : r.part p.0 ≡ Some (with_entries p (e ∷ others)).1 = ap r.part h.at ∙ h.part in
     let here : link_from r (with_entries p others) ≡ link_from r (with_entries p (e ∷ others)) =
-    ap (λ (es : List Entry). record { part = record { pair = p.0; entries = es; delta = (link_from r p).part.delta; dirty = false }; tail = p.1.tail }) (none_for r e others kind) in
+    ap (λ (es : List Entry). record {
+      part = record { pair = p.0; entries = es; delta = (link_from r p).part.delta; dirty = false };
+      tail = p.1.tail;
+    }) (none_for r e others kind) in
     ap (λ (l : Link). l ∷ map (link_from r) rest) (here ∙ ap (link_of r p.0) (sym read))
     ∙ ap (λ (ls : List Link). link_at r p.0 ∷ ls) (later_links r rest h.later)
 
 -- ---- uses, deltas and pairs
 
-links_use : (r : Reading) (b : ℕ) (ps : List PairPart) → sum_by (λ (l : Link). part_uses b l.part) (map (link_from r) ps) ≡ pairs_name b (pairs_of ps) + parts_use r b ps
+links_use : (r : Reading) (b : ℕ) (ps : List PairPart) → sum_by (λ (l : Link). part_uses b l.part) (map (link_from r) ps)
+    ≡ pairs_name b (pairs_of ps) + parts_use r b ps
 links_use r b [] = refl
 links_use r b (p ∷ ps) =
     let rest = links_use r b ps in
-    omega (arith, sum_by-cons (λ (l : Link). part_uses b l.part) (link_from r p) (map (link_from r) ps), sum_by-cons (pair_names b) p.0 (pairs_of ps), sum_by-cons (λ (q : PairPart). stored_uses r b q.1.entries) p ps)
+    omega (
+      arith,
+      sum_by-cons (λ (l : Link). part_uses b l.part) (link_from r p) (map (link_from r) ps),
+      sum_by-cons (pair_names b) p.0 (pairs_of ps),
+      sum_by-cons (λ (q : PairPart). stored_uses r b q.1.entries) p ps,
+    )
 
-pub uses_are : (r : Reading) (header : Header) (b : ℕ) (ps : List PairPart) (pairs : List Pair) → map (link_from r) ps ≡ map (link_at r) pairs → pairs_of ps ≡ pairs → uses b (volume_at r header pairs) ≡ pairs_name b pairs + parts_use r b ps
+pub uses_are : (r : Reading) (header : Header) (b : ℕ) (ps : List PairPart) (pairs : List Pair)
+    → map (link_from r) ps ≡ map (link_at r) pairs → pairs_of ps ≡ pairs
+    → uses b (volume_at r header pairs) ≡ pairs_name b pairs + parts_use r b ps
 uses_are r header b ps pairs links are =
     uses_at r header b pairs
     ∙ ap (sum_by (λ (l : Link). part_uses b l.part)) (sym links)
@@ -116,14 +134,16 @@ state_is r ps = ap delta_of (thread_of_pieces (map (link_from r) ps)) ∙ deltas
 
 -- ---- entries
 
-proper_links : (r : Reading) (limits : Limits) (ps : List PairPart) → All (IsProperPart r limits) ps → All (λ (l : Link). All (IsProper limits) l.part.entries) (map (link_from r) ps)
+proper_links : (r : Reading) (limits : Limits) (ps : List PairPart) → All (IsProperPart r limits) ps
+    → All (λ (l : Link). All (IsProper limits) l.part.entries) (map (link_from r) ps)
 proper_links r limits [] all = All-nil (λ (l : Link). All (IsProper limits) l.part.entries)
 proper_links r limits (p ∷ ps) all =
     All-cons (λ (l : Link). All (IsProper limits) l.part.entries) (link_from r p) (map (link_from r) ps)
     (All-head (IsProperPart r limits) p ps all).proper
     (proper_links r limits ps (All-tail (IsProperPart r limits) p ps all))
 
-resolved_in : (r : Reading) (limits : Limits) (ps : List PairPart) (pair : Pair) (s : StoredPart) → All (IsPartRead r) ps → All (IsProperPart r limits) ps → Contains (pairs_of ps) pair → r.part pair ≡ Some s → All (IsResolved r) s.entries
+resolved_in : (r : Reading) (limits : Limits) (ps : List PairPart) (pair : Pair) (s : StoredPart) → All (IsPartRead r) ps
+    → All (IsProperPart r limits) ps → Contains (pairs_of ps) pair → r.part pair ≡ Some s → All (IsResolved r) s.entries
 resolved_in r limits [] pair s reads all there is = absurd (omega arith)
 resolved_in r limits (p ∷ ps) pair s reads all (zero, within, at) is =
     let read : r.part p.0 ≡ Some p.1 = (All-head (IsPartRead r) p ps reads).read in
@@ -139,7 +159,8 @@ later_one first ps pair (suc k, within, at) other = (k, omega arith, at)
 -- ---- all together
 
 -- what was found on the way
-pub record Found (r : Reading) (limits : Limits) (start used : List Bool) (p : PairPart) (e : StoredEntry) (others : List StoredEntry) (rest : List PairPart) (ds : List Directory) : Type 0 where
+pub record Found (r : Reading) (limits : Limits) (start used : List Bool) (p : PairPart) (e : StoredEntry) (others : List StoredEntry)
+    (rest : List PairPart) (ds : List Directory) : Type 0 where
   pub read : RootRead r start p e others rest
   pub judged : IsJudged r.size r.count limits e
   pub state : delta_from (with_entries p (e ∷ others) ∷ rest) ≡ 0
@@ -149,7 +170,9 @@ pub record Found (r : Reading) (limits : Limits) (start used : List Bool) (p : P
 abbrev pub found_volume : Reading → List ℕ → StoredEntry → PairPart → List PairPart → Volume
 found_volume r bytes e p rest = volume_at r (header_of bytes e.attributes) (p.0 ∷ pairs_of rest)
 
-pub found_holds : (r : Reading) (limits : Limits) (start used : List Bool) (p : PairPart) (e : StoredEntry) (others : List StoredEntry) (rest : List PairPart) (ds : List Directory) (h : Found r limits start used p e others rest ds) → Holds r (found_volume r h.judged.bytes e p rest)
+pub found_holds : (r : Reading) (limits : Limits) (start used : List Bool) (p : PairPart) (e : StoredEntry) (others : List StoredEntry)
+    (rest : List PairPart) (ds : List Directory) (h : Found r limits start used p e others rest ds)
+    → Holds r (found_volume r h.judged.bytes e p rest)
 unfolding root_superblock
 found_holds r limits start used p e others rest ds h = record {
   pairs = p.0 ∷ pairs_of rest;
@@ -169,17 +192,24 @@ found_holds r limits start used p e others rest ds h = record {
 }
 
 -- the directories of the volume
-pub found_directories : (r : Reading) (limits : Limits) (start used : List Bool) (p : PairPart) (e : StoredEntry) (others : List StoredEntry) (rest : List PairPart) (ds : List Directory) (h : Found r limits start used p e others rest ds) → pieces (map (link_from r) (with_entries p others ∷ rest)) ≡ directories_at r (p.0 ∷ pairs_of rest)
+pub found_directories : (r : Reading) (limits : Limits) (start used : List Bool) (p : PairPart) (e : StoredEntry)
+    (others : List StoredEntry) (rest : List PairPart) (ds : List Directory) (h : Found r limits start used p e others rest ds)
+    → pieces (map (link_from r) (with_entries p others ∷ rest)) ≡ directories_at r (p.0 ∷ pairs_of rest)
 found_directories r limits start used p e others rest ds h = ap pieces (same_links r start p e others rest h.read h.judged.is.kind)
 
-pub found_uses : (r : Reading) (limits : Limits) (start used : List Bool) (p : PairPart) (e : StoredEntry) (others : List StoredEntry) (rest : List PairPart) (ds : List Directory) (h : Found r limits start used p e others rest ds) → Marks used (λ b. uses b (found_volume r h.judged.bytes e p rest))
+pub found_uses : (r : Reading) (limits : Limits) (start used : List Bool) (p : PairPart) (e : StoredEntry) (others : List StoredEntry)
+    (rest : List PairPart) (ds : List Directory) (h : Found r limits start used p e others rest ds)
+    → Marks used (λ b. uses b (found_volume r h.judged.bytes e p rest))
 found_uses r limits start used p e others rest ds h b =
-    let all = uses_are r (header_of h.judged.bytes e.attributes) b (with_entries p others ∷ rest) (p.0 ∷ pairs_of rest) (same_links r start p e others rest h.read h.judged.is.kind) refl in
+    let all = uses_are r (header_of h.judged.bytes e.attributes) b (with_entries p others ∷ rest) (p.0 ∷ pairs_of rest)
+    (same_links r start p e others rest h.read h.judged.is.kind) refl in
     let marks = h.kept.marks b in
     let pairs = h.read.marks b in
     omega arith
 
-pub found_sound : (r : Reading) (limits : Limits) (start used : List Bool) (p : PairPart) (e : StoredEntry) (others : List StoredEntry) (rest : List PairPart) (ds : List Directory) (h : Found r limits start used p e others rest ds) → IsSoundUnwalked (found_volume r h.judged.bytes e p rest)
+pub found_sound : (r : Reading) (limits : Limits) (start used : List Bool) (p : PairPart) (e : StoredEntry) (others : List StoredEntry)
+    (rest : List PairPart) (ds : List Directory) (h : Found r limits start used p e others rest ds)
+    → IsSoundUnwalked (found_volume r h.judged.bytes e p rest)
 found_sound r limits start used p e others rest ds h =
     let whole = pieces (map (link_from r) (with_entries p others ∷ rest)) in
     let same : whole ≡ directories_at r (p.0 ∷ pairs_of rest) = found_directories r limits start used p e others rest ds h in
@@ -188,10 +218,12 @@ found_sound r limits start used p e others rest ds h =
     let len : length used ≡ r.count = h.kept.len ∙ h.read.len in
     record {
       starts = starts_at_root (link_at r p.0) (map (link_at r) (pairs_of rest)) (link_pair r p.0 (r.part p.0) ∙ h.read.at);
-      order = subst (All (λ (d : Directory). Rise (entries d))) same (all_rise whole (subst (All (λ (d : Directory). Rise (entries d))) h.kept.is h.kept.order));
+      order = subst (All (λ (d : Directory). Rise (entries d))) same (all_rise whole
+          (subst (All (λ (d : Directory). Rise (entries d))) h.kept.is h.kept.order));
       proper = subst (All (λ (d : Directory). All (IsProper (header_of h.judged.bytes e.attributes).limits) (entries d))) same
           (each_entry (IsProper (header_of h.judged.bytes e.attributes).limits) (map (link_from r) (with_entries p others ∷ rest))
-          (subst (λ (l : Limits). All (λ (x : Link). All (IsProper l) x.part.entries) (map (link_from r) (with_entries p others ∷ rest))) limits_are (proper_links r limits (with_entries p others ∷ rest) h.kept.proper)));
+          (subst (λ (l : Limits). All (λ (x : Link). All (IsProper l) x.part.entries) (map (link_from r) (with_entries p others ∷ rest)))
+          limits_are (proper_links r limits (with_entries p others ∷ rest) h.kept.proper)));
       root_attributes = subst (λ (l : Limits). AreAttributes l.attribute e.attributes) limits_are h.judged.fit;
       once = λ b. let is = marks b in let once = marked_once used b in omega arith;
       within = λ b some. let is = marks b in let within = marked_within used b (omega arith) in omega arith;
@@ -202,8 +234,11 @@ abbrev outline_with : Disk → Header → List Directory → Volume
 outline_with d h ds = record { size = d.size; count = d.count; limits = h.limits; attributes = h.attributes; directories = ds }
 
 -- what is answered
-pub gathered : (d : Disk) (parts bare : List PairPart) (start : List Bool) (e : StoredEntry) (limits : Limits) (kept : List Directory) (g : Gathered) → IsThreadRead (reading_of d) parts start → delta_from parts ≡ 0 → TakesFirst parts bare e → IsJudged d.size d.count limits e
-    → KeepsParts (reading_of d) limits start g.used.items bare kept → g.outline ≡ record { size = d.size; count = d.count; limits = limits; attributes = e.attributes; directories = kept } → IsGathered d g
+pub gathered : (d : Disk) (parts bare : List PairPart) (start : List Bool) (e : StoredEntry) (limits : Limits) (kept : List Directory)
+    (g : Gathered) → IsThreadRead (reading_of d) parts start → delta_from parts ≡ 0 → TakesFirst parts bare e
+    → IsJudged d.size d.count limits e
+    → KeepsParts (reading_of d) limits start g.used.items bare kept → g.outline
+    ≡ record { size = d.size; count = d.count; limits = limits; attributes = e.attributes; directories = kept } → IsGathered d g
 gathered d parts bare start e limits directories g read state taken judged kept outline =
     let r = reading_of d in
     let p = taken.first in
@@ -219,17 +254,22 @@ gathered d parts bare start e limits directories g read state taken judged kept 
       holds = found_holds r limits start g.used.items p e taken.others taken.rest directories h;
       sound = found_sound r limits start g.used.items p e taken.others taken.rest directories h;
       outline = outline
-          ∙ ap (λ (l : Limits). record { size = d.size; count = d.count; limits = l; attributes = e.attributes; directories = directories }) judged.limits_are
-          ∙ ap (λ (ds : List Directory). outline_with d (header_of judged.bytes e.attributes) ds) (h.kept.is ∙ ap outlined_directories same);
+          ∙ ap (λ (l : Limits). record { size = d.size; count = d.count; limits = l; attributes = e.attributes; directories = directories })
+          judged.limits_are
+          ∙ ap (λ (ds : List Directory). outline_with d (header_of judged.bytes e.attributes) ds)
+          (h.kept.is ∙ ap outlined_directories same);
       len = h.kept.len ∙ h.read.len;
       marks = found_uses r limits start g.used.items p e taken.others taken.rest directories h;
     }
 
 -- the entries are whole still where the first one is taken off
-pub whole_without : (r : Reading) (parts bare : List PairPart) (start : List Bool) (e : StoredEntry) → IsThreadRead r parts start → TakesFirst parts bare e → All (λ p. AllByRecursion IsWhole p.1.entries) bare
+pub whole_without : (r : Reading) (parts bare : List PairPart) (start : List Bool) (e : StoredEntry) → IsThreadRead r parts start
+    → TakesFirst parts bare e → All (λ p. AllByRecursion IsWhole p.1.entries) bare
 whole_without r parts bare start e read taken =
-    let each : All (IsPartRead r) (with_entries taken.first (e ∷ taken.others) ∷ taken.rest) = subst (All (IsPartRead r)) taken.was read.each in
+    let each : All (IsPartRead r) (with_entries taken.first (e ∷ taken.others) ∷ taken.rest) =
+    subst (All (IsPartRead r)) taken.was read.each in
     subst (All (λ (p : PairPart). AllByRecursion IsWhole p.1.entries)) (sym taken.is)
     (All-cons (λ (p : PairPart). AllByRecursion IsWhole p.1.entries) (with_entries taken.first taken.others) taken.rest
     (All-head (IsPartRead r) (with_entries taken.first (e ∷ taken.others)) taken.rest each).whole.1
-    (All-weaker (IsPartRead r) (λ (p : PairPart). AllByRecursion IsWhole p.1.entries) (λ p h. h.whole) taken.rest (All-tail (IsPartRead r) (with_entries taken.first (e ∷ taken.others)) taken.rest each)))
+    (All-weaker (IsPartRead r) (λ (p : PairPart). AllByRecursion IsWhole p.1.entries) (λ p h. h.whole) taken.rest
+    (All-tail (IsPartRead r) (with_entries taken.first (e ∷ taken.others)) taken.rest each)))

@@ -1,5 +1,6 @@
 -- Entries gathered, one after another: what is left decides the whole.
-use Rattle.std.proofs.Common.{◌≡◌, ℕ, ◌+◌, ◌-◌, ◌<◌, Bool, true, false, List, [], ◌∷◌, ◌++◌, length, map, Some, zero, suc, get_or, drop, refl, ap, sym, ◌∙◌, subst, arith, append_assoc, append-nil}
+use Rattle.std.proofs.Common.{◌≡◌, ℕ, ◌+◌, ◌-◌, ◌<◌, Bool, true, false, List, [], ◌∷◌, ◌++◌, length, map, Some, zero, suc, get_or, drop}
+use Rattle.std.proofs.Common.{refl, ap, sym, ◌∙◌, subst, arith, append_assoc, append-nil}
 use Rattle.std.specs.Prelude.{All, MatchBool, flat_map}
 use Rattle.std.specs.List.{Any, AllByRecursion, slice_get}
 use Rattle.std.proofs.lemmas.List.{map-append}
@@ -21,7 +22,8 @@ use Rattle.lfs_fs.specs.Outlined.{outlined_entry}
 use Rattle.lfs_fs.specs.Reading.{Reading}
 use Rattle.lfs_fs.specs.Held.{resolved}
 use Rattle.lfs_fs.specs.Holds.{IsResolved}
-use Rattle.lfs_fs.specs.Gathering.{part_entries, EndsWith, EndsAtOrAfter, EntryFault, EntryCause, EntriesCause, KeepsEntry, KeepsEntries, stored_uses}
+use Rattle.lfs_fs.specs.Gathering.{part_entries, EndsWith, EndsAtOrAfter, EntryFault, EntryCause, EntriesCause, KeepsEntry, KeepsEntries}
+use Rattle.lfs_fs.specs.Gathering.{stored_uses}
 use Rattle.lfs_fs.proofs.NameOrderLemmas.{precedes_transitive}
 
 -- ---- names in order
@@ -30,16 +32,20 @@ last_of : {X : Type 0} (P : X → Type 0) (xs : List X) (x : X) → All P (xs ++
 last_of P [] x all = All-head P x [] all
 last_of P (y ∷ xs) x all = last_of P xs x (All-tail P y (xs ++ x ∷ []) all)
 
-all_before : (es : List Entry) (last : Entry) (name : Name) → Rise (es ++ last ∷ []) → precedes last.name name ≡ true → All (λ e. precedes e.name name ≡ true) (es ++ last ∷ [])
-all_before [] last name rise before = All-cons (λ (e : Entry). precedes e.name name ≡ true) last [] before (All-nil (λ (e : Entry). precedes e.name name ≡ true))
+all_before : (es : List Entry) (last : Entry) (name : Name) → Rise (es ++ last ∷ []) → precedes last.name name ≡ true
+    → All (λ e. precedes e.name name ≡ true) (es ++ last ∷ [])
+all_before [] last name rise before = All-cons (λ (e : Entry). precedes e.name name ≡ true) last [] before
+    (All-nil (λ (e : Entry). precedes e.name name ≡ true))
 all_before (e ∷ es) last name rise before =
     let rest = all_before es last name rise.1 before in
     let here : precedes e.name last.name ≡ true = last_of (λ (f : Entry). precedes e.name f.name ≡ true) es last rise.0 in
     All-cons (λ (x : Entry). precedes x.name name ≡ true) e (es ++ last ∷ []) (precedes_transitive e.name last.name name here before) rest
 
 -- the last name decides
-pub last_decides : (es : List Entry) (last : Entry) (name : Name) (b : Bool) → EndsWith es last → Rise es → b ≡ precedes last.name name → MatchBool b (All (λ e. precedes e.name name ≡ true) es) (EndsAtOrAfter es name)
-last_decides es last name true ends rise is = subst (All (λ (e : Entry). precedes e.name name ≡ true)) (sym ends.1) (all_before ends.0 last name (subst Rise ends.1 rise) (sym is))
+pub last_decides : (es : List Entry) (last : Entry) (name : Name) (b : Bool) → EndsWith es last → Rise es → b ≡ precedes last.name name
+    → MatchBool b (All (λ e. precedes e.name name ≡ true) es) (EndsAtOrAfter es name)
+last_decides es last name true ends rise is = subst (All (λ (e : Entry). precedes e.name name ≡ true)) (sym ends.1)
+    (all_before ends.0 last name (subst Rise ends.1 rise) (sym is))
 last_decides es last name false ends rise is = record { before = ends.0; last = last; is = ends.1; fall = sym is }
 
 ends_more : (x e : Entry) (es : List Entry) → EndsWith es e → EndsWith (x ∷ es) e
@@ -59,7 +65,8 @@ pub ends_behind : (before es : List Entry) (e : Entry) → EndsWith es e → End
 ends_behind before es e (front, is) = (before ++ front, ap (λ (x : List Entry). before ++ x) is ∙ sym (append_assoc before front (e ∷ [])))
 
 -- the last entry of parts stands in the last one that has any
-pub last_at : (ps : List Part) (i : ℕ) (p : Part) (e : Entry) → i < length ps → p ≡ get_or ps i p → part_entries (drop (suc i) ps) ≡ [] → EndsWith p.entries e → EndsWith (part_entries ps) e
+pub last_at : (ps : List Part) (i : ℕ) (p : Part) (e : Entry) → i < length ps → p ≡ get_or ps i p → part_entries (drop (suc i) ps) ≡ []
+    → EndsWith p.entries e → EndsWith (part_entries ps) e
 last_at [] i p e within at none ends = absurd (omega arith)
 last_at (q ∷ ps) zero p e within at none (front, is) =
     (front, ap (λ (es : List Entry). q.entries ++ es) none ∙ append-nil q.entries ∙ ap (λ (x : Part). x.entries) (sym at) ∙ is)
@@ -75,7 +82,8 @@ rise_more (x ∷ es) e rise before = (
 -- ---- entries
 
 -- what is kept so far behind others, and the entries that are left
-pub record KeepsTo (r : Reading) (limits : Limits) (start : List Bool) (before : List Entry) (es : List StoredEntry) (used : List Bool) (kept : List Entry) (rest : List StoredEntry) : Type 0 where
+pub record KeepsTo (r : Reading) (limits : Limits) (start : List Bool) (before : List Entry) (es : List StoredEntry) (used : List Bool)
+    (kept : List Entry) (rest : List StoredEntry) : Type 0 where
   pub whole : AllByRecursion IsWhole rest
   pub rise : Rise (before ++ kept)
   pub is : kept ++ map outlined_entry (flat_map (resolved r) rest) ≡ map outlined_entry (flat_map (resolved r) es)
@@ -85,11 +93,26 @@ pub record KeepsTo (r : Reading) (limits : Limits) (start : List Bool) (before :
   pub resolved_all : All (IsResolved r) rest → All (IsResolved r) es
   pub proper : All (IsProper limits) (flat_map (resolved r) rest) → All (IsProper limits) (flat_map (resolved r) es)
 
-pub none_kept : (r : Reading) (limits : Limits) (start : List Bool) (before : List Entry) (es : List StoredEntry) → AllByRecursion IsWhole es → Rise before → KeepsTo r limits start before es start [] es
-none_kept r limits start before es whole rise = record { whole = whole; rise = subst Rise (sym (append-nil before)) rise; is = refl; len = refl; marks = λ b. refl; faults = λ fault any. any; resolved_all = λ all. all; proper = λ all. all }
+pub none_kept : (r : Reading) (limits : Limits) (start : List Bool) (before : List Entry) (es : List StoredEntry)
+    → AllByRecursion IsWhole es → Rise before → KeepsTo r limits start before es start [] es
+none_kept r limits start before es whole rise = record {
+  whole = whole;
+  rise = subst Rise (sym (append-nil before)) rise;
+  is = refl;
+  len = refl;
+  marks = λ b. refl;
+  faults = λ fault any. any;
+  resolved_all = λ all. all;
+  proper = λ all. all;
+}
 
-uses_more : (r : Reading) (b : ℕ) (e : StoredEntry) (es : List StoredEntry) → stored_uses r b (e ∷ es) ≡ stored_uses r b (e ∷ []) + stored_uses r b es
-uses_more r b e es = omega (arith, sum_by-append (entry_uses b) (resolved r e) (flat_map (resolved r) es), sum_by-append (entry_uses b) (resolved r e) [])
+uses_more : (r : Reading) (b : ℕ) (e : StoredEntry) (es : List StoredEntry)
+    → stored_uses r b (e ∷ es) ≡ stored_uses r b (e ∷ []) + stored_uses r b es
+uses_more r b e es = omega (
+  arith,
+  sum_by-append (entry_uses b) (resolved r e) (flat_map (resolved r) es),
+  sum_by-append (entry_uses b) (resolved r e) [],
+)
 
 pub any_later : {X : Type 0} (P : X → Type 0) (x : X) (xs : List X) → Any P xs → Any P (x ∷ xs)
 any_later P x xs (k, y, within, is, holds) = (suc k, y, omega arith, is, holds)
@@ -98,8 +121,10 @@ pub any_here : {X : Type 0} (P : X → Type 0) (x : X) (xs : List X) → P x →
 any_here P x xs holds = (0, x, omega arith, refl, holds)
 
 -- one entry more
-pub keeps_more : (r : Reading) (limits : Limits) (start : List Bool) (before : List Entry) (es : List StoredEntry) (used new : List Bool) (kept : List Entry) (e : StoredEntry) (rest : List StoredEntry) (next : Entry)
-    → KeepsTo r limits start before es used kept (e ∷ rest) → KeepsEntry r limits used new e next → All (λ f. precedes f.name next.name ≡ true) (before ++ kept)
+pub keeps_more : (r : Reading) (limits : Limits) (start : List Bool) (before : List Entry) (es : List StoredEntry) (used new : List Bool)
+    (kept : List Entry) (e : StoredEntry) (rest : List StoredEntry) (next : Entry)
+    → KeepsTo r limits start before es used kept (e ∷ rest) → KeepsEntry r limits used new e next
+    → All (λ f. precedes f.name next.name ≡ true) (before ++ kept)
     → KeepsTo r limits start before es new (kept ++ next ∷ []) rest
 keeps_more r limits start before es used new kept e rest next h one order = record {
   whole = h.whole.1;
@@ -116,7 +141,9 @@ keeps_more r limits start before es used new kept e rest next h one order = reco
 }
 
 -- no entry is left
-pub all_kept : (r : Reading) (limits : Limits) (start : List Bool) (before : List Entry) (es : List StoredEntry) (used : List Bool) (kept : List Entry) (rest : List StoredEntry) → rest ≡ [] → KeepsTo r limits start before es used kept rest → KeepsEntries r limits start used es kept
+pub all_kept : (r : Reading) (limits : Limits) (start : List Bool) (before : List Entry) (es : List StoredEntry) (used : List Bool)
+    (kept : List Entry) (rest : List StoredEntry) → rest ≡ [] → KeepsTo r limits start before es used kept rest
+    → KeepsEntries r limits start used es kept
 all_kept r limits start before es used kept [] is h = record {
   is = sym (append-nil kept) ∙ h.is;
   len = h.len;
@@ -127,20 +154,28 @@ all_kept r limits start before es used kept [] is h = record {
 all_kept r limits start before es used kept (e ∷ rest) is h = cc
 
 -- what refuses the next entry refuses all
-pub next_refuses : (f : MountFault) (r : Reading) (limits : Limits) (start : List Bool) (before : List Entry) (es : List StoredEntry) (used : List Bool) (kept : List Entry) (e : StoredEntry) (rest : List StoredEntry)
+pub next_refuses : (f : MountFault) (r : Reading) (limits : Limits) (start : List Bool) (before : List Entry) (es : List StoredEntry)
+    (used : List Bool) (kept : List Entry) (e : StoredEntry) (rest : List StoredEntry)
     → KeepsTo r limits start before es used kept (e ∷ rest) → EntryCause f r limits used e → EntriesCause f r limits start before es
-next_refuses fault.BlockTwice r limits start before es used kept e rest h (b, twice) = let left = h.marks b in let uses = uses_more r b e rest in (b, omega arith)
+next_refuses fault.BlockTwice r limits start before es used kept e rest h (b, twice) = let left = h.marks b in
+    let uses = uses_more r b e rest in (b, omega arith)
 next_refuses fault.Memory r limits start before es used kept e rest h cause = tt
 next_refuses fault.OrderFault r limits start before es used kept e rest h cause = absurd cause
-next_refuses fault.BadSkipList r limits start before es used kept e rest h cause = h.faults fault.BadSkipList (any_here (EntryFault fault.BadSkipList r limits) e rest cause)
-next_refuses fault.BlockRange r limits start before es used kept e rest h cause = h.faults fault.BlockRange (any_here (EntryFault fault.BlockRange r limits) e rest cause)
-next_refuses fault.SuperblockElsewhere r limits start before es used kept e rest h cause = h.faults fault.SuperblockElsewhere (any_here (EntryFault fault.SuperblockElsewhere r limits) e rest cause)
-next_refuses fault.BadSize r limits start before es used kept e rest h cause = h.faults fault.BadSize (any_here (EntryFault fault.BadSize r limits) e rest cause)
+next_refuses fault.BadSkipList r limits start before es used kept e rest h cause =
+    h.faults fault.BadSkipList (any_here (EntryFault fault.BadSkipList r limits) e rest cause)
+next_refuses fault.BlockRange r limits start before es used kept e rest h cause =
+    h.faults fault.BlockRange (any_here (EntryFault fault.BlockRange r limits) e rest cause)
+next_refuses fault.SuperblockElsewhere r limits start before es used kept e rest h cause =
+    h.faults fault.SuperblockElsewhere (any_here (EntryFault fault.SuperblockElsewhere r limits) e rest cause)
+next_refuses fault.BadSize r limits start before es used kept e rest h cause =
+    h.faults fault.BadSize (any_here (EntryFault fault.BadSize r limits) e rest cause)
 next_refuses _ r limits start before es used kept e rest h cause = absurd cause
 
 -- the next name doesn't come after the last
-pub next_falls : (r : Reading) (limits : Limits) (start : List Bool) (before : List Entry) (es : List StoredEntry) (used new : List Bool) (kept : List Entry) (e : StoredEntry) (rest : List StoredEntry) (next : Entry)
-    → KeepsTo r limits start before es used kept (e ∷ rest) → KeepsEntry r limits used new e next → EndsAtOrAfter (before ++ kept) next.name → EntriesCause fault.OrderFault r limits start before es
+pub next_falls : (r : Reading) (limits : Limits) (start : List Bool) (before : List Entry) (es : List StoredEntry) (used new : List Bool)
+    (kept : List Entry) (e : StoredEntry) (rest : List StoredEntry) (next : Entry)
+    → KeepsTo r limits start before es used kept (e ∷ rest) → KeepsEntry r limits used new e next → EndsAtOrAfter (before ++ kept) next.name
+    → EntriesCause fault.OrderFault r limits start before es
 next_falls r limits start before es used new kept e rest next h one ends = record {
   before = ends.before;
   left = ends.last;

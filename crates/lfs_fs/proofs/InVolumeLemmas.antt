@@ -1,5 +1,6 @@
 -- Each entry that is read along a thread stands in a directory of the volume.
-use Rattle.std.proofs.Common.{◌≡◌, ◌≢◌, ℕ, Bool, true, false, List, [], ◌∷◌, refl, ap, sym, subst, arith, map, Option, Some, None, zero, suc}
+use Rattle.std.proofs.Common.{◌≡◌, ◌≢◌, ℕ, Bool, true, false, List, [], ◌∷◌, refl, ap, sym, subst, arith, map, Option, Some, None, zero}
+use Rattle.std.proofs.Common.{suc}
 use Rattle.std.specs.Prelude.{Contains, flat_map, if◌then◌else◌}
 use Rattle.std.specs.List.{slice_get}
 use Rattle.std.proofs.lemmas.List.Elements.{Contains-append_left, Contains-append_right}
@@ -25,27 +26,51 @@ pub record Home (ds : List Directory) (es : List Entry) : Type 0 where
   pub all : (x : Entry) → Contains es x → Contains (entries directory) x
 
 home_joined : (p : Part) (ds : List Directory) → Home (joined_to p ds) p.entries
-home_joined p [] = record { directory = record { first = p; more = [] }; there = (0, omega arith, refl); all = λ x there. Contains-append_left p.entries [] x there }
-home_joined p (d ∷ ds) = record { directory = record { first = p; more = parts d }; there = (0, omega arith, refl); all = λ x there. Contains-append_left p.entries (entries d) x there }
+home_joined p [] = record {
+  directory = record { first = p; more = [] };
+  there = (0, omega arith, refl);
+  all = λ x there. Contains-append_left p.entries [] x there;
+}
+home_joined p (d ∷ ds) = record {
+  directory = record { first = p; more = parts d };
+  there = (0, omega arith, refl);
+  all = λ x there. Contains-append_left p.entries (entries d) x there;
+}
 
 home_later_at : (p : Part) (ds : List Directory) (d : Directory) → Contains ds d → Home (joined_to p ds) (entries d)
 home_later_at p [] d there = absurd (omega arith)
-home_later_at p (e ∷ ds) d (zero, within, is) = record { directory = record { first = p; more = parts e }; there = (0, omega arith, refl); all = λ x there. Contains-append_right p.entries (entries e) x (subst (λ (y : Directory). Contains (entries y) x) (sym is) there) }
+home_later_at p (e ∷ ds) d (zero, within, is) = record {
+  directory = record { first = p; more = parts e };
+  there = (0, omega arith, refl);
+  all = λ x there. Contains-append_right p.entries (entries e) x (subst (λ (y : Directory). Contains (entries y) x) (sym is) there);
+}
 home_later_at p (e ∷ ds) d (suc k, within, is) = record { directory = d; there = (suc k, omega arith, is); all = λ x there. there }
 
-home_step_first : (hard : Bool) (p : Part) (ds : List Directory) → Home (if hard then joined_to p ds else record { first = p; more = [] } ∷ ds) p.entries
+home_step_first : (hard : Bool) (p : Part) (ds : List Directory) → Home
+    (if hard then joined_to p ds else record { first = p; more = [] } ∷ ds) p.entries
 home_step_first true p ds = home_joined p ds
-home_step_first false p ds = record { directory = record { first = p; more = [] }; there = (0, omega arith, refl); all = λ x there. Contains-append_left p.entries [] x there }
+home_step_first false p ds = record {
+  directory = record { first = p; more = [] };
+  there = (0, omega arith, refl);
+  all = λ x there. Contains-append_left p.entries [] x there;
+}
 
-home_step_later : (hard : Bool) (p : Part) (ds : List Directory) (es : List Entry) → Home ds es → Home (if hard then joined_to p ds else record { first = p; more = [] } ∷ ds) es
+home_step_later : (hard : Bool) (p : Part) (ds : List Directory) (es : List Entry) → Home ds es
+    → Home (if hard then joined_to p ds else record { first = p; more = [] } ∷ ds) es
 home_step_later true p ds es h =
     let later = home_later_at p ds h.directory h.there in
     record { directory = later.directory; there = later.there; all = λ x there. later.all x (h.all x there) }
-home_step_later false p ds es h = record { directory = h.directory; there = contains_more h.directory (record { first = p; more = [] }) ds h.there; all = h.all }
+home_step_later false p ds es h = record {
+  directory = h.directory;
+  there =
+      contains_more h.directory (record { first = p; more = [] }) ds h.there;
+  all = h.all;
+}
 
 home : (ls : List Link) (l : Link) → Contains ls l → Home (pieces ls) l.part.entries
 home [] l there = absurd (omega arith)
-home (m ∷ ls) l (zero, within, is) = subst (λ (x : Link). Home (pieces (m ∷ ls)) x.part.entries) is (home_step_first (is_hard m.tail) m.part (pieces ls))
+home (m ∷ ls) l (zero, within, is) = subst (λ (x : Link). Home (pieces (m ∷ ls)) x.part.entries) is
+    (home_step_first (is_hard m.tail) m.part (pieces ls))
 home (m ∷ ls) l (suc k, within, is) = home_step_later (is_hard m.tail) m.part (pieces ls) l.part.entries (home ls l (k, omega arith, is))
 
 pub contains_map : {X Y : Type 0} (f : X → Y) (xs : List X) (x : X) → Contains xs x → Contains (map f xs) (f x)
@@ -53,9 +78,11 @@ contains_map f [] x there = absurd (omega arith)
 contains_map f (y ∷ xs) x (zero, within, is) = (0, omega arith, ap f is)
 contains_map f (y ∷ xs) x (suc k, within, is) = contains_more (f x) (f y) (map f xs) (contains_map f xs x (k, omega arith, is))
 
-contains_flat : {X Y : Type 0} (f : X → List Y) (xs : List X) (i : ℕ) (x : X) (y : Y) → slice_get xs i ≡ Some x → Contains (f x) y → Contains (flat_map f xs) y
+contains_flat : {X Y : Type 0} (f : X → List Y) (xs : List X) (i : ℕ) (x : X) (y : Y) → slice_get xs i ≡ Some x → Contains (f x) y
+    → Contains (flat_map f xs) y
 contains_flat f [] i x y is there = cc
-contains_flat f (z ∷ xs) zero x y is there = let same : z ≡ x = cc in Contains-append_left (f z) (flat_map f xs) y (subst (λ w. Contains (f w) y) (sym same) there)
+contains_flat f (z ∷ xs) zero x y is there = let same : z ≡ x = cc in
+    Contains-append_left (f z) (flat_map f xs) y (subst (λ w. Contains (f w) y) (sym same) there)
 contains_flat f (z ∷ xs) (suc i) x y is there = Contains-append_right (f z) (flat_map f xs) y (contains_flat f xs i x y is there)
 
 -- what a stored entry stands for
@@ -67,11 +94,13 @@ is_resolved_as r e File other = (0, omega arith, refl)
 is_resolved_as r e Dir other = (0, omega arith, refl)
 is_resolved_as r e Super other = absurd (other refl)
 
-in_link : (r : Reading) (p : Pair) (o : Option StoredPart) (s : StoredPart) (i : ℕ) (e : StoredEntry) → o ≡ Some s → slice_get s.entries i ≡ Some e → e.kind ≢ Super → Contains (link_of r p o).part.entries (entry_of r e)
+in_link : (r : Reading) (p : Pair) (o : Option StoredPart) (s : StoredPart) (i : ℕ) (e : StoredEntry) → o ≡ Some s
+    → slice_get s.entries i ≡ Some e → e.kind ≢ Super → Contains (link_of r p o).part.entries (entry_of r e)
 in_link r p None s i e is at other = cc
 in_link r p (Some t) s i e is at other =
     let same : t ≡ s = cc in
-    subst (λ (x : StoredPart). Contains (link_of r p (Some x)).part.entries (entry_of r e)) (sym same) (contains_flat (resolved r) s.entries i e (entry_of r e) at (is_resolved_as r e e.kind other))
+    subst (λ (x : StoredPart). Contains (link_of r p (Some x)).part.entries (entry_of r e)) (sym same)
+    (contains_flat (resolved r) s.entries i e (entry_of r e) at (is_resolved_as r e e.kind other))
 
 -- an entry of a directory
 pub record Stands (ds : List Directory) (e : Entry) : Type 0 where
@@ -79,8 +108,14 @@ pub record Stands (ds : List Directory) (e : Entry) : Type 0 where
   pub there : Contains ds directory
   pub member : Contains (entries directory) e
 
-pub stands : (r : Reading) (ps : List Pair) (e : StoredEntry) (s : StoredOn r e) → IsThread r ps → e.kind ≢ Super → Stands (directories_at r ps) (entry_of r e)
+pub stands : (r : Reading) (ps : List Pair) (e : StoredEntry) (s : StoredOn r e) → IsThread r ps → e.kind ≢ Super
+    → Stands (directories_at r ps) (entry_of r e)
 stands r ps e s thread other =
     let there = there_in_thread s.front ps s.pair (front_of_thread r ps s.front thread s.is_front) s.there in
     let h = home (map (link_at r) ps) (link_at r s.pair) (contains_map (link_at r) ps s.pair there) in
-    record { directory = h.directory; there = h.there; member = h.all (entry_of r e) (in_link r s.pair (r.part s.pair) s.part s.index e s.read s.member other) }
+    record {
+      directory = h.directory;
+      there = h.there;
+      member = h.all (entry_of r e)
+          (in_link r s.pair (r.part s.pair) s.part s.index e s.read s.member other);
+    }

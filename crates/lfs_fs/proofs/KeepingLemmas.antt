@@ -1,5 +1,6 @@
 -- One entry kept.
-use Rattle.std.proofs.Common.{◌≡◌, ◌≢◌, ℕ, ◌+◌, ◌<◌, ◌≤◌, Bool, true, false, List, [], ◌∷◌, ◌++◌, length, map, Option, Some, None, refl, ap, sym, ◌∙◌, subst, arith}
+use Rattle.std.proofs.Common.{◌≡◌, ◌≢◌, ℕ, ◌+◌, ◌<◌, ◌≤◌, Bool, true, false, List, [], ◌∷◌, ◌++◌, length, map, Option, Some, None, refl, ap}
+use Rattle.std.proofs.Common.{sym, ◌∙◌, subst, arith}
 use Rattle.std.specs.Prelude.{All, IsSome, sum_by, MatchBool}
 use Rattle.std.specs.List.{Any}
 use Rattle.std.proofs.lemmas.List.Elements.{All-cons, All-nil}
@@ -40,7 +41,8 @@ whole_name Super name other = absurd (other refl)
 pub long_name : (l : Limits) (e : StoredEntry) → e.kind ≢ Super → l.name < length e.name → IsOversized l e
 long_name l e other long = let same = whole_name e.kind e.name other in inl (omega arith)
 
-whole_size : (kind : Kind) (body : StoredBody) → kind ≢ Super → kind_takes_body kind body ≡ true → stored_size kind body ≡ stored_length body
+whole_size : (kind : Kind) (body : StoredBody) → kind ≢ Super → kind_takes_body kind body ≡ true
+    → stored_size kind body ≡ stored_length body
 whole_size File (Stored_inline bytes) other takes' = refl
 whole_size File (Ctz head size) other takes' = refl
 whole_size File (Leads first second) other takes' = refl
@@ -53,17 +55,26 @@ pub long_file : (l : Limits) (e : StoredEntry) → e.kind ≢ Super → IsWhole 
 long_file l e other whole long = let same = whole_size e.kind e.body other whole.body in inr (inl (omega arith))
 
 -- the attributes decide, where the name and the size fit
-pub attributes_decide : (fit : Bool) (l : Limits) (e : StoredEntry) (a : Attributes) → a ≡ e.attributes → length e.name ≤ l.name → stored_length e.body ≤ l.file → RiseFrom 0 e.attributes
-    → MatchBool fit (All (λ (x : ℕ × List ℕ). length x.1 ≤ l.attribute) a) (Any (λ (x : ℕ × List ℕ). l.attribute < length x.1) a) → MatchBool fit (IsWithin l e) (IsOversized l e)
-attributes_decide true l e a is name size rise fits = record { name = name; size = size; attributes = are_attributes l.attribute 0 e.attributes rise (subst (All (λ (x : ℕ × List ℕ). length x.1 ≤ l.attribute)) is fits) }
+pub attributes_decide : (fit : Bool) (l : Limits) (e : StoredEntry) (a : Attributes) → a ≡ e.attributes → length e.name ≤ l.name
+    → stored_length e.body ≤ l.file → RiseFrom 0 e.attributes
+    → MatchBool fit (All (λ (x : ℕ × List ℕ). length x.1 ≤ l.attribute) a) (Any (λ (x : ℕ × List ℕ). l.attribute < length x.1) a)
+    → MatchBool fit (IsWithin l e) (IsOversized l e)
+attributes_decide true l e a is name size rise fits = record {
+  name = name;
+  size = size;
+  attributes = are_attributes l.attribute 0 e.attributes rise (subst (All (λ (x : ℕ × List ℕ). length x.1 ≤ l.attribute)) is fits);
+}
 attributes_decide false l e a is name size rise long = inr (inr (subst (Any (λ (x : ℕ × List ℕ). l.attribute < length x.1)) is long))
 
 -- ---- the body
 
 -- a chain that is found is kept with its size
-pub chain_kept : (d : Disk) (old new : List Bool) (head size : ℕ) (blocks : List ℕ) → chain_of d head size ≡ Some blocks → length (content d size blocks) ≡ size → AddsBlocks old new blocks → KeepsBody (reading_of d) old new (Ctz head size) (Chain blocks (blank size))
+pub chain_kept : (d : Disk) (old new : List Bool) (head size : ℕ) (blocks : List ℕ) → chain_of d head size ≡ Some blocks
+    → length (content d size blocks) ≡ size → AddsBlocks old new blocks
+    → KeepsBody (reading_of d) old new (Ctz head size) (Chain blocks (blank size))
 chain_kept d old new head size blocks found len adds =
-    let body : resolved_body (reading_of d) (Ctz head size) ≡ Chain blocks (content d size blocks) = ap (chained (reading_of d) size) found in
+    let body : resolved_body (reading_of d) (Ctz head size) ≡ Chain blocks (content d size blocks) =
+    ap (chained (reading_of d) size) found in
     record {
       is = ap (λ n. Chain blocks (blank n)) (sym len) ∙ ap outlined_body (sym body);
       len = adds.len;
@@ -83,7 +94,8 @@ some_chain : (found : Option (List ℕ)) → (found ≡ None → ⊥) → IsSome
 some_chain None there = absurd (there refl)
 some_chain (Some blocks) there = refl
 
-chain_there : (r : Reading) (body : StoredBody) → (HasNoChain r body → ⊥) → (head size : ℕ) → body ≡ Ctz head size → IsSome (r.chain head size)
+chain_there : (r : Reading) (body : StoredBody) → (HasNoChain r body → ⊥) → (head size : ℕ) → body ≡ Ctz head size
+    → IsSome (r.chain head size)
 chain_there r body there head size is = some_chain (r.chain head size) (λ none. there (subst (HasNoChain r) (sym is) none))
 
 one_use : (r : Reading) (b : ℕ) (e : StoredEntry) → e.kind ≢ Super → stored_uses r b (e ∷ []) ≡ body_uses b (resolved_body r e.body)
@@ -91,12 +103,14 @@ one_use r b e other =
     let one : resolved r e ≡ stood_for r e ∷ [] = resolved_is r e other in
     ap (λ (es : List Entry). sum_by (entry_uses b) (es ++ [])) one ∙ omega arith
 
-pub entry_kept : (r : Reading) (l : Limits) (old new : List Bool) (e : StoredEntry) (body : Body) → NamesAreDecided → e.kind ≢ Super → IsWhole e → IsWithin l e → KeepsBody r old new e.body body
+pub entry_kept : (r : Reading) (l : Limits) (old new : List Bool) (e : StoredEntry) (body : Body) → NamesAreDecided → e.kind ≢ Super
+    → IsWhole e → IsWithin l e → KeepsBody r old new e.body body
     → KeepsEntry r l old new e (record { name = e.name; body = body; attributes = e.attributes })
 entry_kept r l old new e body law other whole within keeps =
     let one : resolved r e ≡ stood_for r e ∷ [] = resolved_is r e other in
     record {
-      is = ap (map outlined_entry) one ∙ ap (λ (x : Body). record { name = e.name; body = x; attributes = e.attributes } ∷ []) (sym keeps.is);
+      is = ap (map outlined_entry) one ∙ ap (λ (x : Body). record { name = e.name; body = x; attributes = e.attributes } ∷ [])
+          (sym keeps.is);
       len = keeps.len;
       marks = λ b. keeps.marks b ∙ ap (λ n. marked old b + n) (sym (one_use r b e other));
       resolved_one = (other, chain_there r e.body keeps.chain);

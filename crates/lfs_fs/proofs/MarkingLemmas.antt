@@ -21,10 +21,12 @@ pub marks_then : (a b c : List Bool) (u w v : ℕ → ℕ) → ((n : ℕ) → v 
 marks_then a b c u w v is first later = record {
   len = later.len ∙ first.len;
   marks = λ n within.
-      marks_by (slice_index_or b n false) (slice_index_or a n false) (slice_index_or c n false) (u n) (w n) (v n) (is n) (first.marks n within) (later.marks n (omega (arith, first.len)));
+      marks_by (slice_index_or b n false) (slice_index_or a n false) (slice_index_or c n false) (u n) (w n) (v n) (is n)
+      (first.marks n within) (later.marks n (omega (arith, first.len)));
 }
 
-parts_split : (b : ℕ) (ps : List Part) → sum_by (part_uses b) ps ≡ sum_by (pair_uses b) ps + sum_by (entry_uses b) (flat_map (λ p. p.entries) ps)
+parts_split : (b : ℕ) (ps : List Part) → sum_by (part_uses b) ps ≡ sum_by (pair_uses b) ps
+    + sum_by (entry_uses b) (flat_map (λ p. p.entries) ps)
 parts_split b [] = refl
 parts_split b (p ∷ ps) =
     let later : List Entry = flat_map (λ (q : Part). q.entries) ps in
@@ -51,7 +53,8 @@ unused_past zero b count within behind = refl
 unused_past (suc n) b count within behind = absurd (omega (arith, within (omega arith), behind))
 
 -- where no block was marked, a sound volume's are then
-pub marks_sound : (v : Volume) (new : List Bool) → IsSound v → MarksMore (replicate v.count false) new (λ b. uses b v) → Marks new (λ b. uses b v)
+pub marks_sound : (v : Volume) (new : List Bool) → IsSound v → MarksMore (replicate v.count false) new (λ b. uses b v)
+    → Marks new (λ b. uses b v)
 marks_sound v new sound more b = by (nat_lt b v.count) refl
   where
     long : length (replicate v.count false) ≡ v.count

@@ -55,19 +55,30 @@ outline_cause v fault cause = absurd cause
 
 -- what is wrong with the volume that an image holds is a cause of the image
 volume_cause : (d : Disk) (v : Volume) (fault : MountFault) → Holds (reading_of d) v → WalkCause v fault → HasCause d fault
-volume_cause d v MissingDirectory holds cause = record { header = header_of holds.bytes holds.attributes; pairs = holds.pairs; is_thread = holds.is_thread; missing = subst NamesNoDirectory holds.is cause }
+volume_cause d v MissingDirectory holds cause = record {
+  header = header_of holds.bytes holds.attributes;
+  pairs = holds.pairs;
+  is_thread = holds.is_thread;
+  missing = subst NamesNoDirectory holds.is cause;
+}
 volume_cause d v BlockTwice holds cause = record {
   header = header_of holds.bytes holds.attributes;
   front = holds.pairs;
   is_front = holds.is_thread.front;
   twice = inr (cause.0, subst (λ (w : Volume). 2 ≤ named cause.0 w) holds.is cause.1);
 }
-volume_cause d v Orphan holds cause = inl (record { header = header_of holds.bytes holds.attributes; pairs = holds.pairs; is_thread = holds.is_thread; orphan = subst LosesDirectory holds.is cause })
+volume_cause d v Orphan holds cause = inl (record {
+  header = header_of holds.bytes holds.attributes;
+  pairs = holds.pairs;
+  is_thread = holds.is_thread;
+  orphan = subst LosesDirectory holds.is cause;
+})
 volume_cause d v Memory holds cause = tt
 volume_cause d v fault holds cause = absurd cause
 
 pub walk_cause : (d : Disk) (g : Gathered) (found : IsGathered d g) (fault : MountFault) → WalkCause g.outline fault → HasCause d fault
-walk_cause d g found fault cause = volume_cause d found.volume fault found.holds (outline_cause found.volume fault (subst (λ (v : Volume). WalkCause v fault) found.outline cause))
+walk_cause d g found fault cause = volume_cause d found.volume fault found.holds
+    (outline_cause found.volume fault (subst (λ (v : Volume). WalkCause v fault) found.outline cause))
 
 -- ---- the answer
 

@@ -27,21 +27,25 @@ use Rattle.lfs_fs.specs.Holds.{Holds, IsResolved}
 use Rattle.lfs_fs.specs.Mounts.{WithoutCauseMount}
 use Rattle.lfs_fs.proofs.BothSidesLemmas.{some_part}
 use Rattle.lfs_fs.proofs.ThreadThereLemmas.{thread_there}
-use Rattle.lfs_fs.proofs.EntriesThereLemmas.{IsClear, HasFound, limits_of, stored_on, entry_resolved, attributes_fit, entry_proper, each_in, thread_root, root_there, root_stored}
+use Rattle.lfs_fs.proofs.EntriesThereLemmas.{IsClear, HasFound, limits_of, stored_on, entry_resolved, attributes_fit, entry_proper, each_in}
+use Rattle.lfs_fs.proofs.EntriesThereLemmas.{thread_root, root_there, root_stored}
 use Rattle.lfs_fs.proofs.SoundThereLemmas.{volume_of, starts, in_order, used_once, used_within, named_as_counted, not_lost, settled}
 
 -- ---- what the image holds
 
-resolved_at : (d : Disk) (c : IsClear d) (f : HasFound d) (p : Pair) (s : StoredPart) → Contains f.pairs p → p ≢ root → (reading_of d).part p ≡ Some s → All (IsResolved (reading_of d)) s.entries
+resolved_at : (d : Disk) (c : IsClear d) (f : HasFound d) (p : Pair) (s : StoredPart) → Contains f.pairs p → p ≢ root
+    → (reading_of d).part p ≡ Some s → All (IsResolved (reading_of d)) s.entries
 unfolding stored_on
 resolved_at d c f p s there other read i dflt within =
-    entry_resolved d (get_or s.entries i dflt) c (stored_on d f p s i (get_or s.entries i dflt) there read (slice_get-get_or s.entries i dflt within)) (inl other)
+    entry_resolved d (get_or s.entries i dflt) c (stored_on d f p s i (get_or s.entries i dflt) there read
+    (slice_get-get_or s.entries i dflt within)) (inl other)
 
 resolved_first : (d : Disk) (c : IsClear d) (f : HasFound d) → All (IsResolved (reading_of d)) f.superblock.others
 unfolding stored_on
 resolved_first d c f i dflt within =
     let e : StoredEntry = get_or f.superblock.others i dflt in
-    let member : slice_get f.superblock.part.entries (suc i) ≡ Some e = ap (λ es. slice_get es (suc i)) f.superblock.is ∙ slice_get-get_or f.superblock.others i dflt within in
+    let member : slice_get f.superblock.part.entries (suc i) ≡ Some e =
+    ap (λ es. slice_get es (suc i)) f.superblock.is ∙ slice_get-get_or f.superblock.others i dflt within in
     entry_resolved d e c (stored_on d f root f.superblock.part (suc i) e (root_there d f) f.superblock.read member) (inr (omega arith))
 
 -- the words of the superblock are those of the image
@@ -67,7 +71,8 @@ holds d c f fits = record {
   is = refl;
 }
 
-sound : (d : Disk) (c : IsClear d) (f : HasFound d) → All (λ x. Reached (volume_of d f) (key x)) (directories_at (reading_of d) f.pairs) → IsSound (volume_of d f)
+sound : (d : Disk) (c : IsClear d) (f : HasFound d) → All (λ x. Reached (volume_of d f) (key x)) (directories_at (reading_of d) f.pairs)
+    → IsSound (volume_of d f)
 sound d c f reached = record {
   starts = starts d f;
   order = in_order d c f;
@@ -86,12 +91,14 @@ sound d c f reached = record {
 none_refuted : {X : Type 0} (P : X → Type 0) (xs : List X) → ((x : X) → Contains xs x → ¬ ¬ P x) → ¬ ¬ All P xs
 none_refuted P [] each never = never (All-nil P)
 none_refuted P (x ∷ xs) each never =
-    each x (0, omega arith, refl) (λ here. none_refuted P xs (λ y (i, within, is). each y (suc i, omega arith, is)) (λ rest. never (All-cons P x xs here rest)))
+    each x (0, omega arith, refl) (λ here. none_refuted P xs (λ y (i, within, is). each y (suc i, omega arith, is))
+    (λ rest. never (All-cons P x xs here rest)))
 
 -- what is read mounts, unless a directory is lost
 mounts_unless : (d : Disk) (c : IsClear d) (f : HasFound d) → ¬ ¬ IsFitting d f → ¬ ¬ ((v : Volume) × Holds (reading_of d) v × IsSound v)
 mounts_unless d c f fits never =
-    fits (λ fit. none_refuted (λ (x : Directory). Reached (volume_of d f) (key x)) (directories_at (reading_of d) f.pairs) (λ x there. not_lost d x c f there)
+    fits (λ fit. none_refuted (λ (x : Directory). Reached (volume_of d f) (key x)) (directories_at (reading_of d) f.pairs)
+    (λ x there. not_lost d x c f there)
     (λ reached. never (volume_of d f, holds d c f fit, sound d c f reached)))
 
 -- the words fit, or one of them is a cause
@@ -105,10 +112,13 @@ words_fit d c f never =
     (inr (λ count. c.none fault.Limits tt (words (λ (bytes : List ℕ). ¬ IsLimits (header_of bytes []).limits)
     (λ limits. never (record { version = version; size = size; count = count; limits = limits })))))))))))
 
-root_part : (d : Disk) (ps : List Pair) → IsThread (reading_of d) ps → Contains ps root → (s : StoredPart) × ((reading_of d).part root ≡ Some s)
-root_part d ps thread there = some_part (reading_of d) root ((reading_of d).part root) refl (All-contains (λ (p : Pair). IsSome ((reading_of d).part p)) ps root thread.parts there)
+root_part : (d : Disk) (ps : List Pair) → IsThread (reading_of d) ps → Contains ps root
+    → (s : StoredPart) × ((reading_of d).part root ≡ Some s)
+root_part d ps thread there = some_part (reading_of d) root ((reading_of d).part root) refl
+    (All-contains (λ (p : Pair). IsSome ((reading_of d).part p)) ps root thread.parts there)
 
-pub without_cause_mount : PairsWithoutAPartHaveACause → HeldPartsAreWhole → NamesAreDecided → FoundAreChains → ContentHasLength → ChainsDiffer → WithoutCauseMount
+pub without_cause_mount : PairsWithoutAPartHaveACause → HeldPartsAreWhole → NamesAreDecided → FoundAreChains → ContentHasLength
+    → ChainsDiffer → WithoutCauseMount
 without_cause_mount partless held names chains lengths differ d disk none never =
     let c : IsClear d = record {
       disk = disk;
@@ -124,6 +134,12 @@ without_cause_mount partless held names chains lengths differ d disk none never 
       part = root_is.0;
       read = root_is.1;
       none = λ bytes attributes superblock.
-          let f : HasFound d = record { pairs = thread.0; is_thread = thread.1; bytes = bytes; attributes = attributes; superblock = superblock } in
+          let f : HasFound d = record {
+            pairs = thread.0;
+            is_thread = thread.1;
+            bytes = bytes;
+            attributes = attributes;
+            superblock = superblock;
+          } in
           mounts_unless d c f (words_fit d c f) (λ found. never (tree found.0, (found.0, found.1, found.2, λ p. refl)));
     })

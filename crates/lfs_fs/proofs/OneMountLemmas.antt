@@ -23,7 +23,8 @@ use Rattle.lfs_fs.proofs.FrontLemmas.{fronts_begin_each_other}
 use Rattle.lfs_fs.proofs.RowLemmas.{rows_are_unique}
 
 -- what follows a beginning of a list is what comes next in it
-pub follow_after : (step : Pair → Option Pair) (from : Option Pair) (ps : List Pair) (q : Pair) (rest : List Pair) → Follow step from (ps ++ q ∷ rest) → after step from ps ≡ Some q
+pub follow_after : (step : Pair → Option Pair) (from : Option Pair) (ps : List Pair) (q : Pair) (rest : List Pair)
+    → Follow step from (ps ++ q ∷ rest) → after step from ps ≡ Some q
 follow_after step from [] q rest h = h.0
 follow_after step from (p ∷ ps) q rest h = follow_after step (step p) ps q rest h.1
 
@@ -37,7 +38,8 @@ pub begun_by_thread : (r : Reading) (ps qs : List Pair) → IsThread r ps → Is
 begun_by_thread r ps qs h k begins = begins.1 ∙ no_more r ps begins.0 h (subst (Follow (next_pair r) (Some root)) begins.1 k.follow)
 
 pub one_thread : (r : Reading) (ps qs : List Pair) → IsThread r ps → IsThread r qs → ps ≡ qs
-one_thread r ps qs h k = elim (fronts_begin_each_other r ps qs h.front k.front) [ inl b ↦ sym (begun_by_thread r ps qs h k.front b) | inr b ↦ begun_by_thread r qs ps k h.front b ]
+one_thread r ps qs h k = elim (fronts_begin_each_other r ps qs h.front k.front)
+    [ inl b ↦ sym (begun_by_thread r ps qs h k.front b) | inr b ↦ begun_by_thread r qs ps k h.front b ]
 
 first_same : (x y : StoredEntry) (xs ys : List StoredEntry) → x ∷ xs ≡ y ∷ ys → x ≡ y
 first_same x y xs ys h = cc
@@ -63,7 +65,8 @@ one_volume r v w h k =
     ∙ sym k.is
 
 pub one_tree : TreesAreOne
-one_tree d t u (v, holds, sound, is) (w, holds', sound', is') p = is p ∙ ap (λ (x : Volume). tree x p) (one_volume (reading_of d) v w holds holds') ∙ sym (is' p)
+one_tree d t u (v, holds, sound, is) (w, holds', sound', is') p = is p
+    ∙ ap (λ (x : Volume). tree x p) (one_volume (reading_of d) v w holds holds') ∙ sym (is' p)
 
 same_value : (m n : MountedValue) → m.outline ≡ n.outline → m.rows ≡ n.rows → m.free ≡ n.free → m ≡ n
 same_value m n outline rows free =

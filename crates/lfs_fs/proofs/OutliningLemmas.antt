@@ -12,4 +12,5 @@ pub mounted_outline : (d : Disk) (m : MountedValue) → IsMountOf d m → IsOutl
 mounted_outline d m is = record { volume = is.volume; holds = is.holds; sound = is.sound; outline = is.outline }
 
 pub one_outline : VolumesAreOne → (d : Disk) (o : Volume) → IsOutlineOf d o → IsEachOutline d o
-one_outline one d o is p other = is.outline ∙ ap outlined (one (reading_of d) is.volume other.volume is.holds other.holds) ∙ sym other.outline
+one_outline one d o is p other = is.outline ∙ ap outlined (one (reading_of d) is.volume other.volume is.holds other.holds)
+    ∙ sym other.outline

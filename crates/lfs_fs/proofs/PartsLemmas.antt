@@ -1,5 +1,6 @@
 -- Parts gathered into directories, one after another: what is left decides the whole.
-use Rattle.std.proofs.Common.{◌≡◌, ℕ, ◌+◌, Bool, true, false, List, [], ◌∷◌, ◌++◌, length, map, refl, ap, sym, ◌∙◌, subst, arith, append_assoc}
+use Rattle.std.proofs.Common.{◌≡◌, ℕ, ◌+◌, Bool, true, false, List, [], ◌∷◌, ◌++◌, length, map, refl, ap, sym, ◌∙◌, subst, arith}
+use Rattle.std.proofs.Common.{append_assoc}
 use Rattle.std.specs.Prelude.{All}
 use Rattle.std.specs.List.{Any, AllByRecursion}
 use Rattle.std.proofs.lemmas.List.Elements.{All-cons, All-nil, All-tail, All-append, All-push}
@@ -17,7 +18,8 @@ use Rattle.lfs_fs.specs.Entry.{Entry}
 use Rattle.lfs_fs.specs.Sound.{Rise}
 use Rattle.lfs_fs.specs.Reading.{Reading}
 use Rattle.lfs_fs.specs.Outlined.{outlined_part}
-use Rattle.lfs_fs.specs.Gathering.{PairPart, NamesFall, EntryFault, EntriesCause, KeepsPart, link_from, stored_uses, parts_use, part_entries, as_directory, outlined_pieces, IsProperPart, KeepsParts, PartsCause}
+use Rattle.lfs_fs.specs.Gathering.{PairPart, NamesFall, EntryFault, EntriesCause, KeepsPart, link_from, stored_uses, parts_use}
+use Rattle.lfs_fs.specs.Gathering.{part_entries, as_directory, outlined_pieces, IsProperPart, KeepsParts, PartsCause}
 use Rattle.lfs_fs.proofs.GatheringLemmas.{any_later, any_here}
 use Rattle.lfs_fs.proofs.FoldersLemmas.{cut_here, all_joined, outlined_cut, joined_more, joined_ends, joined_last}
 
@@ -30,7 +32,8 @@ abbrev pub HasFault : MountFault → Reading → Limits → PairPart → Type 0
 HasFault f r limits p = Any (EntryFault f r limits) p.1.entries
 
 -- the directories so far, the parts of the one that may go on, and the parts that are left
-pub record PartsTo (r : Reading) (limits : Limits) (start : List Bool) (ps : List PairPart) (used : List Bool) (directories : List Directory) (joined : List Part) (rest : List PairPart) : Type 0 where
+pub record PartsTo (r : Reading) (limits : Limits) (start : List Bool) (ps : List PairPart) (used : List Bool)
+    (directories : List Directory) (joined : List Part) (rest : List PairPart) : Type 0 where
   pub whole : All IsWholePart rest
   pub rise : Rise (part_entries joined)
   pub rises : All (λ d. Rise (entries d)) directories
@@ -40,7 +43,8 @@ pub record PartsTo (r : Reading) (limits : Limits) (start : List Bool) (ps : Lis
   pub faults : (f : MountFault) → Any (HasFault f r limits) rest → Any (HasFault f r limits) ps
   pub proper : All (IsProperPart r limits) rest → All (IsProperPart r limits) ps
 
-pub none_gathered : (r : Reading) (limits : Limits) (start : List Bool) (ps : List PairPart) → All IsWholePart ps → PartsTo r limits start ps start [] [] ps
+pub none_gathered : (r : Reading) (limits : Limits) (start : List Bool) (ps : List PairPart) → All IsWholePart ps
+    → PartsTo r limits start ps start [] [] ps
 none_gathered r limits start ps whole = record {
   whole = whole;
   rise = tt;
@@ -53,18 +57,22 @@ none_gathered r limits start ps whole = record {
 }
 
 -- a part before those that are left
-next_piece : (r : Reading) (p : PairPart) (rest : List PairPart) (hard : Bool) → is_hard p.1.tail ≡ hard → outlined_pieces r (p ∷ rest) ≡ cut_here hard (outlined_part (link_from r p).part) (outlined_pieces r rest)
+next_piece : (r : Reading) (p : PairPart) (rest : List PairPart) (hard : Bool) → is_hard p.1.tail ≡ hard
+    → outlined_pieces r (p ∷ rest) ≡ cut_here hard (outlined_part (link_from r p).part) (outlined_pieces r rest)
 next_piece r p rest hard is =
     outlined_cut (is_hard p.1.tail) (link_from r p).part (pieces (map (link_from r) rest))
     ∙ ap (λ (b : Bool). cut_here b (outlined_part (link_from r p).part) (outlined_pieces r rest)) is
 
 rise_alone : (ps : List Part) → Rise (part_entries ps) → All (λ d. Rise (entries d)) (as_directory ps)
 rise_alone [] rise = All-nil (λ (d : Directory). Rise (entries d))
-rise_alone (p ∷ ps) rise = All-push (λ (d : Directory). Rise (entries d)) [] (record { first = p; more = ps }) (All-nil (λ (d : Directory). Rise (entries d))) rise
+rise_alone (p ∷ ps) rise = All-push (λ (d : Directory). Rise (entries d)) [] (record { first = p; more = ps })
+    (All-nil (λ (d : Directory). Rise (entries d))) rise
 
 -- one part more, kept, which directories and parts are said to hold
-gathered_so : (r : Reading) (limits : Limits) (start : List Bool) (ps : List PairPart) (used new : List Bool) (directories others : List Directory) (joined these : List Part) (p : PairPart) (rest : List PairPart) (kept : Part)
-    → PartsTo r limits start ps used directories joined (p ∷ rest) → KeepsPart r limits used new p joined kept → Rise (part_entries these) → All (λ d. Rise (entries d)) others
+gathered_so : (r : Reading) (limits : Limits) (start : List Bool) (ps : List PairPart) (used new : List Bool)
+    (directories others : List Directory) (joined these : List Part) (p : PairPart) (rest : List PairPart) (kept : Part)
+    → PartsTo r limits start ps used directories joined (p ∷ rest) → KeepsPart r limits used new p joined kept → Rise (part_entries these)
+    → All (λ d. Rise (entries d)) others
     → others ++ all_joined these (outlined_pieces r rest) ≡ directories ++ all_joined joined (outlined_pieces r (p ∷ rest))
     → PartsTo r limits start ps new others these rest
 gathered_so r limits start ps used new directories others joined these p rest kept h keeps rise rises is = record {
@@ -73,14 +81,17 @@ gathered_so r limits start ps used new directories others joined these p rest ke
   rises = rises;
   is = is ∙ h.is;
   len = keeps.len ∙ h.len;
-  marks = λ b. let marks = keeps.marks b in let left = h.marks b in omega (arith, sum_by-cons (λ (q : PairPart). stored_uses r b q.1.entries) p rest);
+  marks = λ b. let marks = keeps.marks b in let left = h.marks b in omega
+      (arith, sum_by-cons (λ (q : PairPart). stored_uses r b q.1.entries) p rest);
   faults = λ f any. h.faults f (any_later (HasFault f r limits) p rest any);
   proper = λ all. h.proper (All-cons (IsProperPart r limits) p rest keeps.proper all);
 }
 
 -- the directory goes on behind it
-pub goes_on : (r : Reading) (limits : Limits) (start : List Bool) (ps : List PairPart) (used new : List Bool) (directories : List Directory) (joined : List Part) (p : PairPart) (rest : List PairPart) (kept : Part)
-    → PartsTo r limits start ps used directories joined (p ∷ rest) → KeepsPart r limits used new p joined kept → is_hard p.1.tail ≡ true → PartsTo r limits start ps new directories (joined ++ kept ∷ []) rest
+pub goes_on : (r : Reading) (limits : Limits) (start : List Bool) (ps : List PairPart) (used new : List Bool) (directories : List Directory)
+    (joined : List Part) (p : PairPart) (rest : List PairPart) (kept : Part)
+    → PartsTo r limits start ps used directories joined (p ∷ rest) → KeepsPart r limits used new p joined kept → is_hard p.1.tail ≡ true
+    → PartsTo r limits start ps new directories (joined ++ kept ∷ []) rest
 goes_on r limits start ps used new directories joined p rest kept h keeps hard =
     gathered_so r limits start ps used new directories directories joined (joined ++ kept ∷ []) p rest kept h keeps keeps.order h.rises
     (ap (λ (ds : List Directory). directories ++ ds)
@@ -89,11 +100,14 @@ goes_on r limits start ps used new directories joined p rest kept h keeps hard =
     ∙ ap (all_joined joined) (sym (next_piece r p rest true hard))))
 
 -- the directory ends with it
-pub ends_here : (r : Reading) (limits : Limits) (start : List Bool) (ps : List PairPart) (used new : List Bool) (directories : List Directory) (joined : List Part) (p : PairPart) (rest : List PairPart) (kept : Part)
-    → PartsTo r limits start ps used directories joined (p ∷ rest) → KeepsPart r limits used new p joined kept → is_hard p.1.tail ≡ false → PartsTo r limits start ps new (directories ++ as_directory (joined ++ kept ∷ [])) [] rest
+pub ends_here : (r : Reading) (limits : Limits) (start : List Bool) (ps : List PairPart) (used new : List Bool)
+    (directories : List Directory) (joined : List Part) (p : PairPart) (rest : List PairPart) (kept : Part)
+    → PartsTo r limits start ps used directories joined (p ∷ rest) → KeepsPart r limits used new p joined kept → is_hard p.1.tail ≡ false
+    → PartsTo r limits start ps new (directories ++ as_directory (joined ++ kept ∷ [])) [] rest
 ends_here r limits start ps used new directories joined p rest kept h keeps soft =
     gathered_so r limits start ps used new directories (directories ++ as_directory (joined ++ kept ∷ [])) joined [] p rest kept h keeps tt
-    (All-append (λ (d : Directory). Rise (entries d)) directories (as_directory (joined ++ kept ∷ [])) h.rises (rise_alone (joined ++ kept ∷ []) keeps.order))
+    (All-append (λ (d : Directory). Rise (entries d)) directories (as_directory (joined ++ kept ∷ [])) h.rises
+    (rise_alone (joined ++ kept ∷ []) keeps.order))
     (append_assoc directories (as_directory (joined ++ kept ∷ [])) (outlined_pieces r rest)
     ∙ ap (λ (ds : List Directory). directories ++ ds)
     (sym (joined_ends joined kept (outlined_pieces r rest))
@@ -101,7 +115,8 @@ ends_here r limits start ps used new directories joined p rest kept h keeps soft
     ∙ ap (all_joined joined) (sym (next_piece r p rest false soft))))
 
 -- no part is left
-pub all_gathered : (r : Reading) (limits : Limits) (start : List Bool) (ps : List PairPart) (used : List Bool) (directories : List Directory) (joined : List Part) (rest : List PairPart) → length rest ≡ 0
+pub all_gathered : (r : Reading) (limits : Limits) (start : List Bool) (ps : List PairPart) (used : List Bool)
+    (directories : List Directory) (joined : List Part) (rest : List PairPart) → length rest ≡ 0
     → PartsTo r limits start ps used directories joined rest → KeepsParts r limits start used ps (directories ++ as_directory joined)
 all_gathered r limits start ps used directories joined [] none h = record {
   is = ap (λ (ds : List Directory). directories ++ ds) (sym (joined_last joined)) ∙ h.is;
@@ -156,28 +171,39 @@ any_behind P (x ∷ xs) ys any = any_later P x (xs ++ ys) (any_behind P xs ys an
 
 falls_first : (ds : List Directory) (ps : List Part) → Begun ds ps → NamesFall (part_entries ps) → Any (λ d. NamesFall (entries d)) ds
 falls_first ds ps h fall =
-    let same : entries h.first ≡ part_entries ps ++ part_entries h.more = ap part_entries h.begins ∙ flat_map-append (λ (p : Part). p.entries) ps h.more in
+    let same : entries h.first ≡ part_entries ps ++ part_entries h.more =
+    ap part_entries h.begins ∙ flat_map-append (λ (p : Part). p.entries) ps h.more in
     subst (Any (λ (d : Directory). NamesFall (entries d))) (sym h.is)
-    (any_here (λ (d : Directory). NamesFall (entries d)) h.first h.others (subst NamesFall (sym same) (fall_more (part_entries ps) (part_entries h.more) fall)))
+    (any_here (λ (d : Directory). NamesFall (entries d)) h.first h.others
+    (subst NamesFall (sym same) (fall_more (part_entries ps) (part_entries h.more) fall)))
 
 one_behind : (ps : List Part) (p : Part) → part_entries ps ++ p.entries ≡ part_entries (ps ++ p ∷ [])
 one_behind ps p = flat_map_more (λ (x : Part). x.entries) [] ps p
 
 -- what refuses the next part refuses all
-pub part_refuses : (f : MountFault) (r : Reading) (limits : Limits) (start : List Bool) (ps : List PairPart) (used : List Bool) (directories : List Directory) (joined : List Part) (p : PairPart) (rest : List PairPart)
-    → PartsTo r limits start ps used directories joined (p ∷ rest) → EntriesCause f r limits used (part_entries joined) p.1.entries → PartsCause f r limits start ps
+pub part_refuses : (f : MountFault) (r : Reading) (limits : Limits) (start : List Bool) (ps : List PairPart) (used : List Bool)
+    (directories : List Directory) (joined : List Part) (p : PairPart) (rest : List PairPart)
+    → PartsTo r limits start ps used directories joined (p ∷ rest) → EntriesCause f r limits used (part_entries joined) p.1.entries
+    → PartsCause f r limits start ps
 part_refuses fault.OrderFault r limits start ps used directories joined p rest h fall =
     let here = outlined_part (link_from r p).part in
     let others = all_joined joined (outlined_pieces r (p ∷ rest)) in
-    let begun = begun_joined joined (outlined_pieces r (p ∷ rest)) (here ∷ []) (subst (λ (ds : List Directory). Begun ds (here ∷ [])) (sym (next_piece r p rest (is_hard p.1.tail) refl)) (begun_cut (is_hard p.1.tail) here (outlined_pieces r rest))) in
+    let begun = begun_joined joined (outlined_pieces r (p ∷ rest)) (here ∷ [])
+    (subst (λ (ds : List Directory). Begun ds (here ∷ [])) (sym (next_piece r p rest (is_hard p.1.tail) refl))
+    (begun_cut (is_hard p.1.tail) here (outlined_pieces r rest))) in
     subst (Any (λ (d : Directory). NamesFall (entries d))) h.is
-    (any_behind (λ (d : Directory). NamesFall (entries d)) directories others (falls_first others (joined ++ here ∷ []) begun (subst NamesFall (one_behind joined here) fall)))
+    (any_behind (λ (d : Directory). NamesFall (entries d)) directories others
+    (falls_first others (joined ++ here ∷ []) begun (subst NamesFall (one_behind joined here) fall)))
 part_refuses fault.BlockTwice r limits start ps used directories joined p rest h (b, twice) =
     let left = h.marks b in
     (b, omega (arith, sum_by-cons (λ (q : PairPart). stored_uses r b q.1.entries) p rest))
 part_refuses fault.Memory r limits start ps used directories joined p rest h cause = tt
-part_refuses fault.BadSkipList r limits start ps used directories joined p rest h cause = h.faults fault.BadSkipList (any_here (HasFault fault.BadSkipList r limits) p rest cause)
-part_refuses fault.BlockRange r limits start ps used directories joined p rest h cause = h.faults fault.BlockRange (any_here (HasFault fault.BlockRange r limits) p rest cause)
-part_refuses fault.SuperblockElsewhere r limits start ps used directories joined p rest h cause = h.faults fault.SuperblockElsewhere (any_here (HasFault fault.SuperblockElsewhere r limits) p rest cause)
-part_refuses fault.BadSize r limits start ps used directories joined p rest h cause = h.faults fault.BadSize (any_here (HasFault fault.BadSize r limits) p rest cause)
+part_refuses fault.BadSkipList r limits start ps used directories joined p rest h cause =
+    h.faults fault.BadSkipList (any_here (HasFault fault.BadSkipList r limits) p rest cause)
+part_refuses fault.BlockRange r limits start ps used directories joined p rest h cause =
+    h.faults fault.BlockRange (any_here (HasFault fault.BlockRange r limits) p rest cause)
+part_refuses fault.SuperblockElsewhere r limits start ps used directories joined p rest h cause =
+    h.faults fault.SuperblockElsewhere (any_here (HasFault fault.SuperblockElsewhere r limits) p rest cause)
+part_refuses fault.BadSize r limits start ps used directories joined p rest h cause =
+    h.faults fault.BadSize (any_here (HasFault fault.BadSize r limits) p rest cause)
 part_refuses f r limits start ps used directories joined p rest h cause = h.faults f (any_here (HasFault f r limits) p rest cause)

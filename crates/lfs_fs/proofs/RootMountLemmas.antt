@@ -43,15 +43,18 @@ root_front r h = record { follow = (refl, tt); within = λ b named. root_names_w
 abbrev super_part : List ℕ → Attributes → StoredPart
 super_part bytes attributes = record { entries = superblock_entry bytes attributes ∷ []; tail = End; delta = replicate 12 0 }
 
-lone_part : (p : StoredPart) (bytes : List ℕ) (attributes : Attributes) → IsLoneSuperblock p bytes attributes → p ≡ super_part bytes attributes
+lone_part : (p : StoredPart) (bytes : List ℕ) (attributes : Attributes) → IsLoneSuperblock p bytes attributes
+    → p ≡ super_part bytes attributes
 lone_part p bytes attributes alone = rw (sym alone.is, sym alone.tail, sym alone.delta) refl
 
 -- ---- what it mounts to
 
-has_superblock : (r : Reading) (bytes : List ℕ) (attributes : Attributes) → length bytes ≡ 24 → r.part root ≡ Some (super_part bytes attributes) → HasSuperblock r bytes attributes
+has_superblock : (r : Reading) (bytes : List ℕ) (attributes : Attributes) → length bytes ≡ 24
+    → r.part root ≡ Some (super_part bytes attributes) → HasSuperblock r bytes attributes
 has_superblock r bytes attributes len read = record { part = super_part bytes attributes; read = read; others = []; is = refl; len = len }
 
-root_thread : (r : Reading) (bytes : List ℕ) (attributes : Attributes) → 2 ≤ r.count → r.part root ≡ Some (super_part bytes attributes) → IsThread r (root ∷ [])
+root_thread : (r : Reading) (bytes : List ℕ) (attributes : Attributes) → 2 ≤ r.count → r.part root ≡ Some (super_part bytes attributes)
+    → IsThread r (root ∷ [])
 root_thread r bytes attributes h read = record {
   front = root_front r h;
   parts = All-cons (λ (p : Pair). IsSome (r.part p)) root [] (rw read refl) (All-nil (λ (p : Pair). IsSome (r.part p)));
@@ -62,7 +65,9 @@ contains_one : (x y : Pair) → Contains (x ∷ []) y → y ≡ x
 contains_one x y (zero, within, is) = sym is
 contains_one x y (suc k, within, is) = absurd (omega arith)
 
-root_holds : (r : Reading) (bytes : List ℕ) (attributes : Attributes) → 2 ≤ r.count → length bytes ≡ 24 → r.part root ≡ Some (super_part bytes attributes) → IsHeader r.size r.count bytes → Holds r (empty_volume r.size r.count (header_of bytes attributes).limits attributes)
+root_holds : (r : Reading) (bytes : List ℕ) (attributes : Attributes) → 2 ≤ r.count → length bytes ≡ 24
+    → r.part root ≡ Some (super_part bytes attributes) → IsHeader r.size r.count bytes
+    → Holds r (empty_volume r.size r.count (header_of bytes attributes).limits attributes)
 unfolding has_superblock
 root_holds r bytes attributes h len read header = record {
   pairs = root ∷ [];
@@ -87,16 +92,21 @@ none_below ds (n ∷ path) = none_below ds path
 abbrev root_row : Volume → Row
 root_row v = record { path = []; entry = top v }
 
-only_root : (size count : ℕ) (l : LimitsOf) (a : Attributes) (path : Path) (e : Entry) → entry_at (empty_volume size count l a) path ≡ Some e → Contains (root_row (empty_volume size count l a) ∷ []) (record { path = path; entry = e })
-only_root size count l a [] e is = let same : top (empty_volume size count l a) ≡ e = cc in (0, omega arith, ap (λ (x : Entry). record { path = []; entry = x }) same)
+only_root : (size count : ℕ) (l : LimitsOf) (a : Attributes) (path : Path) (e : Entry)
+    → entry_at (empty_volume size count l a) path ≡ Some e → Contains (root_row (empty_volume size count l a) ∷ [])
+    (record { path = path; entry = e })
+only_root size count l a [] e is = let same : top (empty_volume size count l a) ≡ e = cc in
+    (0, omega arith, ap (λ (x : Entry). record { path = []; entry = x }) same)
 only_root size count l a (n ∷ path) e is = absurd (none-some e (sym (none_below (empty_volume size count l a).directories path) ∙ is))
 
-root_rows : (size count : ℕ) (l : LimitsOf) (a : Attributes) → AreRows (entry_at (empty_volume size count l a)) (root_row (empty_volume size count l a) ∷ [])
+root_rows : (size count : ℕ) (l : LimitsOf) (a : Attributes) → AreRows (entry_at (empty_volume size count l a))
+    (root_row (empty_volume size count l a) ∷ [])
 root_rows size count l a =
     let v = empty_volume size count l a in
     record {
       rise = (All-nil (λ (s : Row). path_precedes [] s.path ≡ true), tt);
-      right = All-cons (λ (r : Row). entry_at v r.path ≡ Some r.entry) (root_row v) [] refl (All-nil (λ (r : Row). entry_at v r.path ≡ Some r.entry));
+      right = All-cons (λ (r : Row). entry_at v r.path ≡ Some r.entry) (root_row v) [] refl
+          (All-nil (λ (r : Row). entry_at v r.path ≡ Some r.entry));
       whole = λ p e is. only_root size count l a p e is;
     }
 

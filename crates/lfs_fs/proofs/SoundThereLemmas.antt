@@ -1,5 +1,6 @@
 -- What is read along the thread of an image without a cause is a sound volume, but for directories that are reached.
-use Rattle.std.proofs.Common.{◌≡◌, ◌≢◌, ◌⊎◌, ℕ, ◌<◌, ◌≤◌, Bool, true, false, List, [], ◌∷◌, ◌++◌, map, get_or, Option, Some, None, zero, suc, refl, ap, sym, ◌∙◌, subst, arith}
+use Rattle.std.proofs.Common.{◌≡◌, ◌≢◌, ◌⊎◌, ℕ, ◌<◌, ◌≤◌, Bool, true, false, List, [], ◌∷◌, ◌++◌, map, get_or, Option, Some, None, zero}
+use Rattle.std.proofs.Common.{suc, refl, ap, sym, ◌∙◌, subst, arith}
 use Rattle.std.specs.Prelude.{◌==◌, All, Contains, cond, find, sum_by, count_by}
 use Rattle.std.proofs.lemmas.Bool.{cases_lt}
 use Rattle.std.proofs.lemmas.Bool.Decides.{nat_tests}
@@ -41,7 +42,8 @@ header f = header_of f.bytes f.attributes
 
 -- ---- the first directory
 
-starts_by : (r : Reading) (step : Pair → Option Pair) (ps : List Pair) → Follow step (Some root) ps → after step (Some root) ps ≡ None → StartsAtRoot (directories_at r ps)
+starts_by : (r : Reading) (step : Pair → Option Pair) (ps : List Pair) → Follow step (Some root) ps → after step (Some root) ps ≡ None
+    → StartsAtRoot (directories_at r ps)
 starts_by r step [] follow ends = cc
 starts_by r step (p ∷ ps) follow ends =
     let first : Some root ≡ Some p = follow.0 in
@@ -54,14 +56,17 @@ starts d f = starts_by (reading_of d) (next_pair (reading_of d)) f.pairs f.is_th
 -- ---- names in order
 
 -- where each two neighbours rise, each comes before all later ones
-neighbours_rise : (es : List Entry) → ((before : List Entry) (left right : Entry) (after : List Entry) → es ≡ before ++ left ∷ right ∷ after → precedes left.name right.name ≡ true) → Rise es
+neighbours_rise : (es : List Entry) → ((before : List Entry) (left right : Entry) (after : List Entry) → es ≡ before ++ left ∷ right ∷ after
+    → precedes left.name right.name ≡ true) → Rise es
 neighbours_rise [] h = tt
 neighbours_rise (e ∷ []) h = (All-nil (λ (x : Entry). precedes e.name x.name ≡ true), tt)
 neighbours_rise (e ∷ f ∷ es) h =
     let first : precedes e.name f.name ≡ true = h [] e f es refl in
-    let rest = neighbours_rise (f ∷ es) (λ before left right behind is. h (e ∷ before) left right behind (ap (λ (xs : List Entry). e ∷ xs) is)) in (
+    let rest = neighbours_rise (f ∷ es) (λ before left right behind is.
+    h (e ∷ before) left right behind (ap (λ (xs : List Entry). e ∷ xs) is)) in (
       All-cons (λ (x : Entry). precedes e.name x.name ≡ true) f es first
-          (All-weaker (λ (x : Entry). precedes f.name x.name ≡ true) (λ (x : Entry). precedes e.name x.name ≡ true) (λ x later. precedes_transitive e.name f.name x.name first later) es rest.0),
+          (All-weaker (λ (x : Entry). precedes f.name x.name ≡ true) (λ (x : Entry). precedes e.name x.name ≡ true)
+          (λ x later. precedes_transitive e.name f.name x.name first later) es rest.0),
       rest,
     )
 
@@ -78,40 +83,65 @@ in_order d c f i dflt within =
       header = header f;
       front = f.pairs;
       is_front = f.is_thread.front;
-      fault = record { directory = get_or ds i dflt; there = Contains-get_or ds i dflt within; before = before; left = left; right = right; after = behind; neighbours = is; fall = fall };
+      fault = record {
+        directory = get_or ds i dflt;
+        there = Contains-get_or ds i dflt within;
+        before = before;
+        left = left;
+        right = right;
+        after = behind;
+        neighbours = is;
+        fall = fall;
+      };
     })))
 
 -- ---- uses
 
 sum_of_none : {X : Type 0} (w : X → ℕ) (xs : List X) → All (λ x. w x ≡ 0) xs → sum_by w xs ≡ 0
 sum_of_none w [] all = refl
-sum_of_none w (x ∷ xs) all = omega (arith, All-head (λ y. w y ≡ 0) x xs all, sum_of_none w xs (All-tail (λ y. w y ≡ 0) x xs all), sum_by-cons w x xs)
+sum_of_none w (x ∷ xs) all = omega (
+  arith,
+  All-head (λ y. w y ≡ 0) x xs all,
+  sum_of_none w xs (All-tail (λ y. w y ≡ 0) x xs all),
+  sum_by-cons w x xs,
+)
 
 pub used_once : (d : Disk) (b : ℕ) → IsClear d → (f : HasFound d) → uses b (volume_of d f) ≤ 1
 used_once d b c f =
     elim (cases_lt 1 (uses b (volume_of d f))) [
-      | inl twice ↦ absurd (c.none fault.BlockTwice tt (record { header = header f; front = f.pairs; is_front = f.is_thread.front; twice = inl (b, omega arith) }))
+      | inl twice ↦ absurd (c.none fault.BlockTwice tt (record {
+        header = header f;
+        front = f.pairs;
+        is_front = f.is_thread.front;
+        twice = inl (b, omega arith);
+      }))
       | inr once ↦ once
     ]
 
 -- a block past the disk's is none of a chain's
 no_time : (b : ℕ) (xs : List ℕ) → All (λ x. x < b) xs → times b xs ≡ 0
-no_time b xs all = sum_of_none (λ (x : ℕ). cond {A = ℕ} (x == b) 1 0) xs (All-weaker (λ (x : ℕ). x < b) (λ (x : ℕ). cond {A = ℕ} (x == b) 1 0 ≡ 0) (λ x less. grind (arith, nat_tests)) xs all)
+no_time b xs all = sum_of_none (λ (x : ℕ). cond {A = ℕ} (x == b) 1 0) xs
+    (All-weaker (λ (x : ℕ). x < b) (λ (x : ℕ). cond {A = ℕ} (x == b) 1 0 ≡ 0) (λ x less. grind (arith, nat_tests)) xs all)
 
-chain_past : (d : Disk) (b head size : ℕ) (o : Option (List ℕ)) → IsClear d → d.count ≤ b → (reading_of d).chain head size ≡ o → body_uses b (chained (reading_of d) size o) ≡ 0
+chain_past : (d : Disk) (b head size : ℕ) (o : Option (List ℕ)) → IsClear d → d.count ≤ b → (reading_of d).chain head size ≡ o
+    → body_uses b (chained (reading_of d) size o) ≡ 0
 chain_past d b head size None c past is = refl
-chain_past d b head size (Some blocks) c past is = no_time b blocks (All-weaker (λ (x : ℕ). x < d.count) (λ (x : ℕ). x < b) (λ x less. omega arith) blocks (c.differ d head size blocks c.disk is).0)
+chain_past d b head size (Some blocks) c past is = no_time b blocks (All-weaker (λ (x : ℕ). x < d.count) (λ (x : ℕ). x < b)
+    (λ x less. omega arith) blocks (c.differ d head size blocks c.disk is).0)
 
 body_past : (d : Disk) (b : ℕ) (body : StoredBody) → IsClear d → d.count ≤ b → body_uses b (resolved_body (reading_of d) body) ≡ 0
 body_past d b (Stored_inline bytes) c past = refl
 body_past d b (Ctz head size) c past = chain_past d b head size ((reading_of d).chain head size) c past refl
 body_past d b (Leads first second) c past = refl
 
-pairs_alone : (r : Reading) (b : ℕ) (ps : List Pair) → All (λ (l : Link). All (λ x. entry_uses b x ≡ 0) l.part.entries) (map (link_at r) ps) → sum_by (λ (l : Link). part_uses b l.part) (map (link_at r) ps) ≡ pairs_name b ps
+pairs_alone : (r : Reading) (b : ℕ) (ps : List Pair) → All (λ (l : Link). All (λ x. entry_uses b x ≡ 0) l.part.entries) (map (link_at r) ps)
+    → sum_by (λ (l : Link). part_uses b l.part) (map (link_at r) ps) ≡ pairs_name b ps
 pairs_alone r b [] all = refl
 pairs_alone r b (p ∷ ps) all =
-    let none = sum_of_none (entry_uses b) (link_at r p).part.entries (All-head (λ (l : Link). All (λ x. entry_uses b x ≡ 0) l.part.entries) (link_at r p) (map (link_at r) ps) all) in
-    let rest = pairs_alone r b ps (All-tail (λ (l : Link). All (λ x. entry_uses b x ≡ 0) l.part.entries) (link_at r p) (map (link_at r) ps) all) in
+    let none = sum_of_none (entry_uses b) (link_at r p).part.entries (All-head (λ (l : Link). All (λ x. entry_uses b x ≡ 0) l.part.entries)
+    (link_at r p) (map (link_at r) ps) all) in
+    let rest = pairs_alone r b ps (All-tail (λ (l : Link). All (λ x. entry_uses b x ≡ 0) l.part.entries) (link_at r p)
+    (map (link_at r) ps) all) in
     let same : pair_names b (link_at r p).part.pair ≡ pair_names b p = ap (pair_names b) (link_pair r p (r.part p)) in
     omega (arith, sum_by-cons (pair_names b) p ps, sum_by-cons (λ (l : Link). part_uses b l.part) (link_at r p) (map (link_at r) ps))
 
@@ -120,7 +150,8 @@ used_within d b c f some' =
     elim (cases_lt b d.count) [
       | inl below ↦ below
       | inr past ↦
-          let alone = pairs_alone (reading_of d) b f.pairs (each_link (λ x. entry_uses b x ≡ 0) d f (λ e s other. body_past d b e.body c past)) in
+          let alone = pairs_alone (reading_of d) b f.pairs (each_link (λ x. entry_uses b x ≡ 0) d f
+          (λ e s other. body_past d b e.body c past)) in
           f.is_thread.front.within b (omega (arith, uses_at (reading_of d) (header f) b f.pairs))
     ]
 
@@ -135,13 +166,16 @@ leads_none k (Some j) never = by (same_pair k j) refl
     by false is = refl
 
 -- where no directory begins at a pair, nothing names it
-named_never : (d : Disk) (k : Pair) → IsClear d → (f : HasFound d) → count_by (begins_at k) (directories_at (reading_of d) f.pairs) ≡ 0 → named k (volume_of d f) ≡ 0
+named_never : (d : Disk) (k : Pair) → IsClear d → (f : HasFound d) → count_by (begins_at k) (directories_at (reading_of d) f.pairs) ≡ 0
+    → named k (volume_of d f) ≡ 0
 named_never d k c f none =
     let ds : List Directory = directories_at (reading_of d) f.pairs in
     let root_is = leads_none k (Some root) (λ same. let is : root ≡ k = cc in
     absurd (omega (arith, root_begins ds (starts d f), ap (λ (p : Pair). count_by (begins_at p) ds) is))) in
-    let others = sum_of_none (names_of k) ds (λ i dflt within. sum_of_none (λ (e : Entry). leads_to k (target e)) (entries (get_or ds i dflt))
-    (λ j e_dflt e_within. leads_none k (target (get_or (entries (get_or ds i dflt)) j e_dflt)) (λ leads. c.none fault.MissingDirectory tt (record {
+    let others = sum_of_none (names_of k) ds (λ i dflt within. sum_of_none (λ (e : Entry). leads_to k (target e))
+    (entries (get_or ds i dflt))
+    (λ j e_dflt e_within. leads_none k (target (get_or (entries (get_or ds i dflt)) j e_dflt))
+    (λ leads. c.none fault.MissingDirectory tt (record {
       header = header f;
       pairs = f.pairs;
       is_thread = f.is_thread;
@@ -160,7 +194,12 @@ named_never d k c f none =
 named_most : (d : Disk) (k : Pair) → IsClear d → (f : HasFound d) → named k (volume_of d f) ≤ 1
 named_most d k c f =
     elim (cases_lt 1 (named k (volume_of d f))) [
-      | inl twice ↦ absurd (c.none fault.BlockTwice tt (record { header = header f; front = f.pairs; is_front = f.is_thread.front; twice = inr (k, omega arith) }))
+      | inl twice ↦ absurd (c.none fault.BlockTwice tt (record {
+        header = header f;
+        front = f.pairs;
+        is_front = f.is_thread.front;
+        twice = inr (k, omega arith);
+      }))
       | inr once ↦ once
     ]
 
@@ -171,32 +210,44 @@ reached_named v k (path, e, at, leads) =
       | inl top' ↦
           let is : top v ≡ e = let there : Some (top v) ≡ Some e = sym (ap (entry_at v) top') ∙ at in cc in
           let same : root ≡ k = let there : Some root ≡ Some k = ap target is ∙ leads in cc in
-          let one : leads_to k (Some root) ≡ 1 = ap (λ (p : Pair). leads_to k (Some p)) same ∙ ap (λ (b : Bool). cond {A = ℕ} b 1 0) (same_pair-refl k) in
+          let one : leads_to k (Some root) ≡ 1 = ap (λ (p : Pair). leads_to k (Some p)) same
+          ∙ ap (λ (b : Bool). cond {A = ℕ} b 1 0) (same_pair-refl k) in
           omega arith
       | inr (q, n, is) ↦
           let below = stands_below v q n e (sym (ap (entry_at v) is) ∙ at) in
           names_some k v below.directory e (found (begins_at below.pair) v.directories below.directory below.begins).0 below.member leads
     ]
 
-pub named_as_counted : (d : Disk) (k : Pair) → IsClear d → (f : HasFound d) → All (λ x. Reached (volume_of d f) (key x)) (directories_at (reading_of d) f.pairs)
+pub named_as_counted : (d : Disk) (k : Pair) → IsClear d → (f : HasFound d)
+    → All (λ x. Reached (volume_of d f) (key x)) (directories_at (reading_of d) f.pairs)
     → named k (volume_of d f) ≡ count_by (begins_at k) (directories_at (reading_of d) f.pairs)
 named_as_counted d k c f reached = by (find (begins_at k) (directories_at (reading_of d) f.pairs)) refl
   where
-    by : (o : Option Directory) → find (begins_at k) (directories_at (reading_of d) f.pairs) ≡ o → named k (volume_of d f) ≡ count_by (begins_at k) (directories_at (reading_of d) f.pairs)
+    by : (o : Option Directory) → find (begins_at k) (directories_at (reading_of d) f.pairs) ≡ o
+        → named k (volume_of d f) ≡ count_by (begins_at k) (directories_at (reading_of d) f.pairs)
     by None is =
         let none = none_counted (begins_at k) (directories_at (reading_of d) f.pairs) is in
         named_never d k c f none ∙ sym none
     by (Some x) is =
         let one = found (begins_at k) (directories_at (reading_of d) f.pairs) x is in
         let same : key x ≡ k = sym (same_pair-is k (key x) one.1) in
-        let here = subst (λ (p : Pair). 1 ≤ count_by (begins_at p) (directories_at (reading_of d) f.pairs)) same (begins-itself (directories_at (reading_of d) f.pairs) x one.0) in
-        let named_once = subst (λ (p : Pair). 1 ≤ named p (volume_of d f)) same (reached_named (volume_of d f) (key x) (All-contains (λ (y : Directory). Reached (volume_of d f) (key y)) (directories_at (reading_of d) f.pairs) x reached one.0)) in
+        let here = subst (λ (p : Pair). 1 ≤ count_by (begins_at p) (directories_at (reading_of d) f.pairs)) same
+        (begins-itself (directories_at (reading_of d) f.pairs) x one.0) in
+        let named_once = subst (λ (p : Pair). 1 ≤ named p (volume_of d f)) same
+        (reached_named (volume_of d f) (key x) (All-contains (λ (y : Directory). Reached (volume_of d f) (key y))
+        (directories_at (reading_of d) f.pairs) x reached one.0)) in
         omega (arith, named_most d k c f, (count_uses k (volume_of d f)).0, used_once d k.0 c f)
 
 -- ---- directories that are reached
 
-pub not_lost : (d : Disk) (x : Directory) → IsClear d → (f : HasFound d) → Contains (directories_at (reading_of d) f.pairs) x → ¬ ¬ Reached (volume_of d f) (key x)
-not_lost d x c f there lost = c.none fault.Orphan tt (inl (record { header = header f; pairs = f.pairs; is_thread = f.is_thread; orphan = record { directory = x; there = there; lost = lost } }))
+pub not_lost : (d : Disk) (x : Directory) → IsClear d → (f : HasFound d) → Contains (directories_at (reading_of d) f.pairs) x
+    → ¬ ¬ Reached (volume_of d f) (key x)
+not_lost d x c f there lost = c.none fault.Orphan tt (inl (record {
+  header = header f;
+  pairs = f.pairs;
+  is_thread = f.is_thread;
+  orphan = record { directory = x; there = there; lost = lost };
+}))
 
 -- ---- the global state
 
@@ -211,7 +262,11 @@ settled d c f =
       | inl still ↦ elim (zero_or_not (orphan_bit state)) [
         | inl whole ↦ elim (zero_or_not state) [
           | inl is ↦ is
-          | inr other ↦ absurd (c.none fault.UnknownState tt (record { pairs = f.pairs; is_thread = f.is_thread; is = (other, still, whole) }))
+          | inr other ↦ absurd (c.none fault.UnknownState tt (record {
+            pairs = f.pairs;
+            is_thread = f.is_thread;
+            is = (other, still, whole);
+          }))
         ]
         | inr set ↦ absurd (c.none fault.Orphan tt (inr (record { pairs = f.pairs; is_thread = f.is_thread; is = (still, omega arith) })))
       ]

@@ -52,11 +52,13 @@ chain_there r s (Directory_at pair) head size h is = absurd (subst (λ (x : Stor
 is_resolved : (r : Reading) (s : StoredEntry) (e : Entry) → Stands r s e → IsResolved r s
 is_resolved r s e h = (h.kind, λ head size is. chain_there r s.body e.body head size h.body is)
 
-chain_stands : (r : Reading) (head size : ℕ) (found : Option (List ℕ)) → r.chain head size ≡ found → IsSome found → BodyStands r (Ctz head size) (chained r size found)
+chain_stands : (r : Reading) (head size : ℕ) (found : Option (List ℕ)) → r.chain head size ≡ found → IsSome found
+    → BodyStands r (Ctz head size) (chained r size found)
 chain_stands r head size None is some = cc
 chain_stands r head size (Some blocks) is some = (is, refl)
 
-body_stands : (r : Reading) (s : StoredBody) → ((head size : ℕ) → s ≡ Ctz head size → IsSome (r.chain head size)) → BodyStands r s (resolved_body r s)
+body_stands : (r : Reading) (s : StoredBody) → ((head size : ℕ) → s ≡ Ctz head size → IsSome (r.chain head size))
+    → BodyStands r s (resolved_body r s)
 body_stands r (Stored_inline bytes) there = refl
 body_stands r (Ctz head size) there = chain_stands r head size (r.chain head size) refl (there head size refl)
 body_stands r (Leads first second) there = refl
@@ -86,19 +88,23 @@ all_are_resolved r (s ∷ es) [] h = absurd h
 all_are_resolved r (s ∷ es) (f ∷ fs) h = All-cons (IsResolved r) s es (is_resolved r s f h.0) (all_are_resolved r es fs h.1)
 
 -- the superblock before them stands for nothing
-either_resolved : (r : Reading) (first : Bool) (bytes : List ℕ) (attributes : Attributes) (others : List StoredEntry) → flat_map (resolved r) (if first then superblock_entry bytes attributes ∷ others else others) ≡ flat_map (resolved r) others
+either_resolved : (r : Reading) (first : Bool) (bytes : List ℕ) (attributes : Attributes) (others : List StoredEntry)
+    → flat_map (resolved r) (if first then superblock_entry bytes attributes ∷ others else others) ≡ flat_map (resolved r) others
 either_resolved r true bytes attributes others = refl
 either_resolved r false bytes attributes others = refl
 
-others_resolved : (r : Reading) (bytes : List ℕ) (attributes : Attributes) (pair : Pair) (stored : StoredPart) (others : List StoredEntry) → stored.entries ≡ stored_before bytes attributes pair others → flat_map (resolved r) stored.entries ≡ flat_map (resolved r) others
-others_resolved r bytes attributes pair stored others is = ap (flat_map (resolved r)) is ∙ either_resolved r (same_pair pair root) bytes attributes others
+others_resolved : (r : Reading) (bytes : List ℕ) (attributes : Attributes) (pair : Pair) (stored : StoredPart) (others : List StoredEntry)
+    → stored.entries ≡ stored_before bytes attributes pair others → flat_map (resolved r) stored.entries ≡ flat_map (resolved r) others
+others_resolved r bytes attributes pair stored others is = ap (flat_map (resolved r)) is
+    ∙ either_resolved r (same_pair pair root) bytes attributes others
 
 -- ---- a link that is stored is what is read at its pair
 
 abbrev link : Pair → List Entry → ℕ → Bool → Tail → Link
 link pair entries delta dirty tail = record { part = record { pair = pair; entries = entries; delta = delta; dirty = dirty }; tail = tail }
 
-same_link : (l m : Link) → l.part.pair ≡ m.part.pair → l.part.entries ≡ m.part.entries → l.part.delta ≡ m.part.delta → l.part.dirty ≡ m.part.dirty → l.tail ≡ m.tail → l ≡ m
+same_link : (l m : Link) → l.part.pair ≡ m.part.pair → l.part.entries ≡ m.part.entries → l.part.delta ≡ m.part.delta
+    → l.part.dirty ≡ m.part.dirty → l.tail ≡ m.tail → l ≡ m
 same_link l m pair entries delta dirty tail =
     ap (λ (x : Pair). link x l.part.entries l.part.delta l.part.dirty l.tail) pair
     ∙ ap (λ (x : List Entry). link m.part.pair x l.part.delta l.part.dirty l.tail) entries
@@ -106,18 +112,23 @@ same_link l m pair entries delta dirty tail =
     ∙ ap (λ (x : Bool). link m.part.pair m.part.entries m.part.delta x l.tail) dirty
     ∙ ap (λ (x : Tail). link m.part.pair m.part.entries m.part.delta m.part.dirty x) tail
 
-pub read_at : (r : Reading) (bytes : List ℕ) (attributes : Attributes) (l : Link) → IsStored r bytes attributes l → link_at r l.part.pair ≡ l
+pub read_at : (r : Reading) (bytes : List ℕ) (attributes : Attributes) (l : Link) → IsStored r bytes attributes l
+    → link_at r l.part.pair ≡ l
 read_at r bytes attributes l h =
     ap (link_of r l.part.pair) h.read
     ∙ same_link (link_of r l.part.pair (Some h.stored)) l refl
-    (others_resolved r bytes attributes l.part.pair h.stored h.others h.entries ∙ all_resolved r h.others l.part.entries (all_resolve r h.others l.part.entries h.stands))
+    (others_resolved r bytes attributes l.part.pair h.stored h.others h.entries
+    ∙ all_resolved r h.others l.part.entries (all_resolve r h.others l.part.entries h.stands))
     h.delta (sym h.clean) h.tail
 
-pub stored_step : (r : Reading) (bytes : List ℕ) (attributes : Attributes) (l : Link) → IsStored r bytes attributes l → next_pair r l.part.pair ≡ next l.tail
+pub stored_step : (r : Reading) (bytes : List ℕ) (attributes : Attributes) (l : Link) → IsStored r bytes attributes l
+    → next_pair r l.part.pair ≡ next l.tail
 stored_step r bytes attributes l h = ap tail_of h.read ∙ ap next h.tail
 
 -- what is read at a pair is stored there
-pub stored_at : (r : Reading) (bytes : List ℕ) (attributes : Attributes) (pair : Pair) (stored : StoredPart) (others : List StoredEntry) → r.part pair ≡ Some stored → stored.entries ≡ stored_before bytes attributes pair others → All (IsResolved r) others → IsStored r bytes attributes (link_at r pair)
+pub stored_at : (r : Reading) (bytes : List ℕ) (attributes : Attributes) (pair : Pair) (stored : StoredPart) (others : List StoredEntry)
+    → r.part pair ≡ Some stored → stored.entries ≡ stored_before bytes attributes pair others → All (IsResolved r) others
+    → IsStored r bytes attributes (link_at r pair)
 stored_at r bytes attributes pair stored others read is whole =
     subst (IsStored r bytes attributes) (sym (ap (link_of r pair) read)) (record {
       stored = stored;

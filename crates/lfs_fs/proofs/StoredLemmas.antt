@@ -20,7 +20,8 @@ use Rattle.lfs_fs.proofs.OneMountLemmas.{begun_by_thread}
 
 -- a front begins the thread
 pub front_of_thread : (r : Reading) (ps qs : List Pair) → IsThread r ps → IsFront r qs → Begins qs ps
-front_of_thread r ps qs h k = elim (fronts_begin_each_other r ps qs h.front k) [ inl b ↦ ([], sym (begun_by_thread r ps qs h k b) ∙ sym (append-nil qs)) | inr b ↦ b ]
+front_of_thread r ps qs h k = elim (fronts_begin_each_other r ps qs h.front k)
+    [ inl b ↦ ([], sym (begun_by_thread r ps qs h k b) ∙ sym (append-nil qs)) | inr b ↦ b ]
 
 pub there_in_thread : (qs ps : List Pair) (p : Pair) → Begins qs ps → Contains qs p → Contains ps p
 there_in_thread qs ps p begins there = subst (λ (x : List Pair). Contains x p) (sym begins.1) (Contains-append_left qs begins.0 p there)
@@ -45,7 +46,8 @@ pub data Standing (r : Reading) (v : Volume) (holds : Holds r v) (e : StoredEntr
   First : pair ≡ root → index ≡ 0 → e ≡ superblock_entry holds.bytes holds.attributes → Standing r v holds e pair index
   Later : IsResolved r e → Standing r v holds e pair index
 
-first_or_later : (r : Reading) (v : Volume) (holds : Holds r v) (e : StoredEntry) (pair : Pair) (index : ℕ) → pair ≡ root → slice_get (superblock_entry holds.bytes holds.attributes ∷ holds.superblock.others) index ≡ Some e → Standing r v holds e pair index
+first_or_later : (r : Reading) (v : Volume) (holds : Holds r v) (e : StoredEntry) (pair : Pair) (index : ℕ) → pair ≡ root
+    → slice_get (superblock_entry holds.bytes holds.attributes ∷ holds.superblock.others) index ≡ Some e → Standing r v holds e pair index
 first_or_later r v holds e pair zero at is = let same : superblock_entry holds.bytes holds.attributes ≡ e = cc in First at refl (sym same)
 first_or_later r v holds e pair (suc index) at is = Later (all_got (IsResolved r) holds.superblock.others index e holds.resolved is)
 
@@ -54,6 +56,9 @@ standing r v holds e s =
     elim (same_or_not s.pair root) [
       | inl at ↦
           let part : s.part ≡ holds.superblock.part = cc (s.read, ap r.part at, holds.superblock.read) in
-          first_or_later r v holds e s.pair s.index at (ap (λ x. slice_get x s.index) (sym holds.superblock.is) ∙ ap (λ (x : StoredPart). slice_get x.entries s.index) (sym part) ∙ s.member)
-      | inr other ↦ Later (all_got (IsResolved r) s.part.entries s.index e (holds.resolved_later s.pair s.part (there_in_thread s.front holds.pairs s.pair (front_of_thread r holds.pairs s.front holds.is_thread s.is_front) s.there) other s.read) s.member)
+          first_or_later r v holds e s.pair s.index at (ap (λ x. slice_get x s.index) (sym holds.superblock.is)
+          ∙ ap (λ (x : StoredPart). slice_get x.entries s.index) (sym part) ∙ s.member)
+      | inr other ↦ Later (all_got (IsResolved r) s.part.entries s.index e
+          (holds.resolved_later s.pair s.part (there_in_thread s.front holds.pairs s.pair
+          (front_of_thread r holds.pairs s.front holds.is_thread s.is_front) s.there) other s.read) s.member)
     ]

@@ -19,7 +19,8 @@ above m n (a ∷ more) less rise =
     All-cons (λ (b : ℕ × List ℕ). m < b.0) a more (omega arith) (above m (a.0 + 1) more (omega arith) rise.2)
 
 -- attributes of an entry, within a limit
-pub are_attributes : (limit least : ℕ) (a : Attributes) → RiseFrom least a → All (λ (x : ℕ × List ℕ). length x.1 ≤ limit) a → AreAttributes limit a
+pub are_attributes : (limit least : ℕ) (a : Attributes) → RiseFrom least a → All (λ (x : ℕ × List ℕ). length x.1 ≤ limit) a
+    → AreAttributes limit a
 are_attributes limit least [] rise fit = tt
 are_attributes limit least (x ∷ more) rise fit = (
   All-head (λ (x : ℕ × List ℕ). length x.1 ≤ limit) x more fit,

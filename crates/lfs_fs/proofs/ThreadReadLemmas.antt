@@ -1,5 +1,6 @@
 -- Parts that are read along the tails.
-use Rattle.std.proofs.Common.{◌≡◌, ◌⊎◌, ℕ, ◌+◌, ◌<◌, ◌≤◌, Bool, true, false, List, [], ◌∷◌, ◌++◌, length, map, Option, Some, None, zero, suc, refl, ap, sym, ◌∙◌, subst, arith, get_or}
+use Rattle.std.proofs.Common.{◌≡◌, ◌⊎◌, ℕ, ◌+◌, ◌<◌, ◌≤◌, Bool, true, false, List, [], ◌∷◌, ◌++◌, length, map, Option, Some, None, zero}
+use Rattle.std.proofs.Common.{suc, refl, ap, sym, ◌∙◌, subst, arith, get_or}
 use Rattle.std.specs.Prelude.{All, IsSome, slice_index_or, if◌then◌else◌, sum_by, option_to_list}
 use Rattle.std.proofs.lemmas.Bool.Decides.{nat_tests}
 use Rattle.std.proofs.lemmas.List.{map-append, get_or_past}
@@ -9,7 +10,8 @@ use Rattle.std.specs.List.{AllByRecursion}
 use mathlib.Core.Logic.{inl, inr}
 use Rattle.lfs_block.specs.Disk.{Disk}
 use Rattle.lfs_block.specs.declared.mount_fault.MountFault.{MountFault}
-use Rattle.lfs_block.specs.declared.mount_fault.MountFault.TheVariants.{NoValidCommit, UnknownTag, BadTag, IncompleteEntry, BadName, BlockRange, BlockTwice, Memory}
+use Rattle.lfs_block.specs.declared.mount_fault.MountFault.TheVariants.{NoValidCommit, UnknownTag, BadTag, IncompleteEntry, BadName}
+use Rattle.lfs_block.specs.declared.mount_fault.MountFault.TheVariants.{BlockRange, BlockTwice, Memory}
 use Rattle.lfs_meta.specs.Body.{Pair}
 use Rattle.lfs_meta.specs.Spelling.{IsWhole}
 use Rattle.lfs_meta.specs.Cause.{PairCause, ReadCause}
@@ -53,7 +55,8 @@ marked_within used b some =
 
 -- ---- fronts
 
-pub follow_more : (step : Pair → Option Pair) (from : Option Pair) (ps : List Pair) (p : Pair) → Follow step from ps → after step from ps ≡ Some p → Follow step from (ps ++ p ∷ [])
+pub follow_more : (step : Pair → Option Pair) (from : Option Pair) (ps : List Pair) (p : Pair) → Follow step from ps
+    → after step from ps ≡ Some p → Follow step from (ps ++ p ∷ [])
 follow_more step from [] p follow is = (is, tt)
 follow_more step from (q ∷ ps) p follow is = (follow.0, follow_more step (step q) ps p follow.1 is)
 
@@ -64,17 +67,20 @@ after_more step from (q ∷ ps) p = after_more step (step q) ps p
 pub pairs_more : (b : ℕ) (ps : List Pair) (p : Pair) → pairs_name b (ps ++ p ∷ []) ≡ pairs_name b ps + pair_names b p
 pairs_more b ps p = omega (arith, sum_by-append (pair_names b) ps (p ∷ []))
 
-marked_front : (r : Reading) (ps : List Pair) (used : List Bool) → Follow (next_pair r) (Some root) ps → length used ≡ r.count → Marks used (λ b. pairs_name b ps) → IsFront r ps
+marked_front : (r : Reading) (ps : List Pair) (used : List Bool) → Follow (next_pair r) (Some root) ps → length used ≡ r.count
+    → Marks used (λ b. pairs_name b ps) → IsFront r ps
 marked_front r ps used follow len marks = record {
   follow = follow;
   within = λ b some. let is = marks b in let within = marked_within used b (omega arith) in omega arith;
   once = λ b. let is = marks b in let once = marked_once used b in omega arith;
 }
 
-front_read : (r : Reading) (ps : List PairPart) (behind : Option Pair) (used : List Bool) → IsReadTo r ps behind used → IsFront r (pairs_of ps)
+front_read : (r : Reading) (ps : List PairPart) (behind : Option Pair) (used : List Bool) → IsReadTo r ps behind used
+    → IsFront r (pairs_of ps)
 front_read r ps behind used h = marked_front r (pairs_of ps) used h.follow h.len h.marks
 
-front_more : (r : Reading) (ps : List PairPart) (p : Pair) (used new : List Bool) → IsReadTo r ps (Some p) used → AddsBlocks used new (p.0 ∷ p.1 ∷ []) → IsFront r (pairs_of ps ++ p ∷ [])
+front_more : (r : Reading) (ps : List PairPart) (p : Pair) (used new : List Bool) → IsReadTo r ps (Some p) used
+    → AddsBlocks used new (p.0 ∷ p.1 ∷ []) → IsFront r (pairs_of ps ++ p ∷ [])
 front_more r ps p used new h adds =
     marked_front r (pairs_of ps ++ p ∷ []) new
     (follow_more (next_pair r) (Some root) (pairs_of ps) p h.follow h.next_is)
@@ -86,11 +92,13 @@ front_more r ps p used new h adds =
 pub none_read : (r : Reading) (used : List Bool) → length used ≡ r.count → Marks used (λ b. 0) → IsReadTo r [] (Some root) used
 none_read r used len fresh = record { follow = tt; next_is = refl; each = All-nil (IsPartRead r); len = len; marks = fresh }
 
-pub read_more : (r : Reading) (ps : List PairPart) (p : Pair) (q : PairPart) (used new : List Bool) → IsReadTo r ps (Some p) used → AddsBlocks used new (p.0 ∷ p.1 ∷ []) → q.0 ≡ p → r.part p ≡ Some q.1 → AllByRecursion IsWhole q.1.entries
+pub read_more : (r : Reading) (ps : List PairPart) (p : Pair) (q : PairPart) (used new : List Bool) → IsReadTo r ps (Some p) used
+    → AddsBlocks used new (p.0 ∷ p.1 ∷ []) → q.0 ≡ p → r.part p ≡ Some q.1 → AllByRecursion IsWhole q.1.entries
     → IsReadTo r (ps ++ q ∷ []) (next q.1.tail) new
 read_more r ps p q used new h adds at read whole =
     let front = front_more r ps p used new h adds in
-    let pairs : pairs_of ps ++ p ∷ [] ≡ pairs_of (ps ++ q ∷ []) = ap (λ (x : Pair). pairs_of ps ++ x ∷ []) (sym at) ∙ sym (map-append (λ (x : PairPart). x.0) ps (q ∷ [])) in
+    let pairs : pairs_of ps ++ p ∷ [] ≡ pairs_of (ps ++ q ∷ []) = ap (λ (x : Pair). pairs_of ps ++ x ∷ []) (sym at)
+    ∙ sym (map-append (λ (x : PairPart). x.0) ps (q ∷ [])) in
     record {
       follow = subst (Follow (next_pair r) (Some root)) pairs front.follow;
       next_is = ap (next_after r) (sym pairs) ∙ after_more (next_pair r) (Some root) (pairs_of ps) p ∙ ap tail_of read;
@@ -106,7 +114,8 @@ pub thread_read : (r : Reading) (ps : List PairPart) (used : List Bool) → IsRe
 thread_read r ps used h = record {
   is_thread = record {
     front = front_read r ps None used h;
-    parts = All-map (λ (p : Pair). IsSome (r.part p)) (λ (x : PairPart). x.0) ps (All-weaker (IsPartRead r) (λ (x : PairPart). IsSome (r.part x.0)) (part_there r) ps h.each);
+    parts = All-map (λ (p : Pair). IsSome (r.part p)) (λ (x : PairPart). x.0) ps
+        (All-weaker (IsPartRead r) (λ (x : PairPart). IsSome (r.part x.0)) (part_there r) ps h.each);
     ends = h.next_is;
   };
   each = h.each;
@@ -122,7 +131,8 @@ added_within used new blocks b adds some =
     omega arith
 
 -- a pair that is marked has blocks of the disk
-pub pair_within : (r : Reading) (p : Pair) (used new : List Bool) → length used ≡ r.count → AddsBlocks used new (p.0 ∷ p.1 ∷ []) → (p.0 < r.count) × (p.1 < r.count)
+pub pair_within : (r : Reading) (p : Pair) (used new : List Bool) → length used ≡ r.count → AddsBlocks used new (p.0 ∷ p.1 ∷ [])
+    → (p.0 < r.count) × (p.1 < r.count)
 pair_within r p used new len adds =
     let first = added_within used new (p.0 ∷ p.1 ∷ []) p.0 adds (grind (arith, nat_tests)) in
     let second = added_within used new (p.0 ∷ p.1 ∷ []) p.1 adds (grind (arith, nat_tests)) in
@@ -130,10 +140,12 @@ pair_within r p used new len adds =
 
 -- ---- why a thread isn't read
 
-unread_by : (d : Disk) (fault : MountFault) (ps : List Pair) (p : Pair) → IsFront (reading_of d) (ps ++ p ∷ []) → PairCause fault d p → Unread d fault
+unread_by : (d : Disk) (fault : MountFault) (ps : List Pair) (p : Pair) → IsFront (reading_of d) (ps ++ p ∷ []) → PairCause fault d p
+    → Unread d fault
 unread_by d fault ps p front cause = record { front = ps ++ p ∷ []; is_front = front; pair = p; there = Contains-push ps p; cause = cause }
 
-unread_pair : (d : Disk) (fault : MountFault) (ps : List Pair) (p : Pair) → IsFront (reading_of d) (ps ++ p ∷ []) → ReadCause fault d p → HasCause d fault
+unread_pair : (d : Disk) (fault : MountFault) (ps : List Pair) (p : Pair) → IsFront (reading_of d) (ps ++ p ∷ []) → ReadCause fault d p
+    → HasCause d fault
 unread_pair d NoValidCommit ps p front cause = unread_by d NoValidCommit ps p front cause
 unread_pair d UnknownTag ps p front cause = unread_by d UnknownTag ps p front cause
 unread_pair d BadTag ps p front cause = unread_by d BadTag ps p front cause
@@ -143,7 +155,8 @@ unread_pair d Memory ps p front cause = tt
 unread_pair d _ ps p front cause = absurd cause
 
 -- the pair behind the parts so far isn't read
-pub read_refused : (d : Disk) (fault : MountFault) (ps : List PairPart) (p : Pair) (used new : List Bool) → IsReadTo (reading_of d) ps (Some p) used → AddsBlocks used new (p.0 ∷ p.1 ∷ []) → ReadCause fault d p → HasCause d fault
+pub read_refused : (d : Disk) (fault : MountFault) (ps : List PairPart) (p : Pair) (used new : List Bool)
+    → IsReadTo (reading_of d) ps (Some p) used → AddsBlocks used new (p.0 ∷ p.1 ∷ []) → ReadCause fault d p → HasCause d fault
 read_refused d fault ps p used new h adds cause = unread_pair d fault (pairs_of ps) p (front_more (reading_of d) ps p used new h adds) cause
 
 one_is_past : (count : ℕ) (p : Pair) (k x : ℕ) → k < 2 → get_or (p.0 ∷ p.1 ∷ []) k x ≡ x → count ≤ x → (count ≤ p.0) ⊎ (count ≤ p.1)
@@ -170,7 +183,8 @@ pairs_in_uses r h b ps =
     omega arith
 
 -- the pair behind the parts so far can't be marked
-pub next_refused : (d : Disk) (fault : MountFault) (ps : List PairPart) (p : Pair) (used : List Bool) → IsReadTo (reading_of d) ps (Some p) used → AreTaken fault used (p.0 ∷ p.1 ∷ []) → HasCause d fault
+pub next_refused : (d : Disk) (fault : MountFault) (ps : List PairPart) (p : Pair) (used : List Bool)
+    → IsReadTo (reading_of d) ps (Some p) used → AreTaken fault used (p.0 ∷ p.1 ∷ []) → HasCause d fault
 next_refused d BlockRange ps p used h (k, x, below, is, past) =
     let len = h.len in
     inl (record {
@@ -183,7 +197,8 @@ next_refused d BlockRange ps p used h (k, x, below, is, past) =
 next_refused d BlockTwice ps p used h (b, twice) =
     let marks = h.marks b in
     let some = pairs_in_uses (reading_of d) no_header b (pairs_of ps) in
-    let one : pairs_name b (option_to_list (next_after (reading_of d) (pairs_of ps))) ≡ pair_names b p = ap (λ (o : Option Pair). pairs_name b (option_to_list o)) h.next_is ∙ omega arith in
+    let one : pairs_name b (option_to_list (next_after (reading_of d) (pairs_of ps))) ≡ pair_names b p =
+    ap (λ (o : Option Pair). pairs_name b (option_to_list o)) h.next_is ∙ omega arith in
     record {
       header = no_header;
       front = pairs_of ps;

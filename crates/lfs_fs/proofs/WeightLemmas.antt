@@ -32,12 +32,15 @@ entries_weigh_as_stored r s e is =
 pub superblocks_weigh_as_stored : SuperblocksWeighAsStored
 superblocks_weigh_as_stored bytes attributes len = omega (arith, len)
 
-runs_resolved : (r : Reading) (runs : List (List StoredEntry)) (others : List (List Entry)) → AllZip (AllZip (Resolves r)) runs others → map (flat_map (resolved r)) runs ≡ others
+runs_resolved : (r : Reading) (runs : List (List StoredEntry)) (others : List (List Entry)) → AllZip (AllZip (Resolves r)) runs others
+    → map (flat_map (resolved r)) runs ≡ others
 runs_resolved r [] [] h = refl
 runs_resolved r [] (other ∷ others) h = absurd h
 runs_resolved r (run ∷ runs) [] h = absurd h
-runs_resolved r (run ∷ runs) (other ∷ others) h = ap (λ x. x ∷ map (flat_map (resolved r)) runs) (all_resolved r run other h.0) ∙ ap (λ x. other ∷ x) (runs_resolved r runs others h.1)
+runs_resolved r (run ∷ runs) (other ∷ others) h = ap (λ x. x ∷ map (flat_map (resolved r)) runs) (all_resolved r run other h.0)
+    ∙ ap (λ x. other ∷ x) (runs_resolved r runs others h.1)
 
 pub runs_resolve : RunsResolve
 runs_resolve r room weighs number es others =
-    runs_resolved r _ _ (runs_match (Resolves r) stored_weight weight room weighs number es (flat_map (resolved r) es) (entries_weigh_as_stored r) (each_resolves r es others))
+    runs_resolved r _ _ (runs_match (Resolves r) stored_weight weight room weighs number es (flat_map (resolved r) es)
+    (entries_weigh_as_stored r) (each_resolves r es others))

@@ -29,7 +29,8 @@ PairsAreOfParts = (r : Reading) (v : Volume) (holds : Holds r v) → holds.pairs
 
 -- the law: images that are the same at the pairs of a volume's parts hold the same volume
 abbrev pub SameReadingsHoldTheSame : Type 0
-SameReadingsHoldTheSame = (r q : Reading) (v : Volume) → q.size ≡ r.size → q.count ≡ r.count → All (SameAt r q) (map (λ p. p.pair) (thread v.directories))
+SameReadingsHoldTheSame = (r q : Reading) (v : Volume) → q.size ≡ r.size → q.count ≡ r.count
+    → All (SameAt r q) (map (λ p. p.pair) (thread v.directories))
     → Holds r v → Holds q v
 
 -- the blocks of a chain are one still, with the same content
@@ -50,5 +51,6 @@ StoredLinksStay = (r q : Reading) (bytes : List ℕ) (attributes : Attributes) (
 
 -- the law: the superblock doesn't matter to a link elsewhere than at the root's pair
 abbrev pub SuperblockIsOfTheRoot : Type 0
-SuperblockIsOfTheRoot = (r : Reading) (old_bytes new_bytes : List ℕ) (old_attributes new_attributes : Attributes) (l : Link) → l.part.pair ≢ root
+SuperblockIsOfTheRoot = (r : Reading) (old_bytes new_bytes : List ℕ) (old_attributes new_attributes : Attributes) (l : Link)
+    → l.part.pair ≢ root
     → IsStored r old_bytes old_attributes l → IsStored r new_bytes new_attributes l

@@ -2,7 +2,11 @@
 use Rattle.std.specs.Prelude.{◌⊎◌}
 use Rattle.lfs_block.specs.Disk.{Disk}
 use Rattle.lfs_block.specs.declared.mount_fault.MountFault.{MountFault}
-use Rattle.lfs_block.specs.declared.mount_fault.MountFault.TheVariants.{NoValidCommit, UnknownTag, BadTag, IncompleteEntry, BadName, BadSkipList, NoSuperblock as No_superblock, Version, Geometry, Limits, OrderFault, BlockRange, BlockTwice, MissingDirectory, Orphan, UnfinishedMove, SuperblockElsewhere as Superblock_elsewhere, BadSize, UnknownState, Memory}
+use Rattle.lfs_block.specs.declared.mount_fault.MountFault.TheVariants.{NoValidCommit, UnknownTag, BadTag, IncompleteEntry, BadName}
+use Rattle.lfs_block.specs.declared.mount_fault.MountFault.TheVariants.{BadSkipList, NoSuperblock as No_superblock, Version, Geometry}
+use Rattle.lfs_block.specs.declared.mount_fault.MountFault.TheVariants.{Limits, OrderFault, BlockRange, BlockTwice, MissingDirectory}
+use Rattle.lfs_block.specs.declared.mount_fault.MountFault.TheVariants.{Orphan, UnfinishedMove, SuperblockElsewhere as Superblock_elsewhere}
+use Rattle.lfs_block.specs.declared.mount_fault.MountFault.TheVariants.{BadSize, UnknownState, Memory}
 use Rattle.lfs_fs.specs.State.{IsUnfinishedMove, SaysOrphans, IsUnknownState}
 use Rattle.lfs_fs.specs.Reading.{reading_of}
 use Rattle.lfs_fs.specs.FrontCause.{Unread, NoChain, FrontOrder, TailRange, EntryRange, FrontTwice, SuperblockElsewhere, EntryOversized}

@@ -102,7 +102,8 @@ stored_name_length Super name = 0
 
 -- a name, a size or an attribute over its limit
 abbrev pub IsOversized : Limits → StoredEntry → Type 0
-IsOversized l e = (l.name < stored_name_length e.kind e.name) ⊎ (l.file < stored_size e.kind e.body) ⊎ Any (λ a. l.attribute < length a.1) e.attributes
+IsOversized l e = (l.name < stored_name_length e.kind e.name) ⊎ (l.file < stored_size e.kind e.body)
+    ⊎ Any (λ a. l.attribute < length a.1) e.attributes
 
 -- an entry is over the superblock's limits
 pub record EntryOversized (r : Reading) : Type 0 where

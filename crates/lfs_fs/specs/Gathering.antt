@@ -1,8 +1,10 @@
 -- What is gathered of parts that are read, one after another, and why parts are refused (own).
-use Rattle.std.specs.Prelude.{ℕ, ◌+◌, ◌≤◌, ◌≡◌, ◌⊎◌, Bool, false, List, [], ◌∷◌, ◌++◌, length, map, flat_map, sum_by, All, Some, None, bit_xor}
+use Rattle.std.specs.Prelude.{ℕ, ◌+◌, ◌≤◌, ◌≡◌, ◌⊎◌, Bool, false, List, [], ◌∷◌, ◌++◌, length, map, flat_map, sum_by, All, Some, None}
+use Rattle.std.specs.Prelude.{bit_xor}
 use Rattle.std.specs.List.{Any}
 use Rattle.lfs_block.specs.declared.mount_fault.MountFault.{MountFault}
-use Rattle.lfs_block.specs.declared.mount_fault.MountFault.TheVariants.{BadSkipList, OrderFault, BlockRange, BlockTwice, Orphan, UnfinishedMove, SuperblockElsewhere, BadSize, UnknownState, Memory}
+use Rattle.lfs_block.specs.declared.mount_fault.MountFault.TheVariants.{BadSkipList, OrderFault, BlockRange, BlockTwice, Orphan}
+use Rattle.lfs_block.specs.declared.mount_fault.MountFault.TheVariants.{UnfinishedMove, SuperblockElsewhere, BadSize, UnknownState, Memory}
 use Rattle.lfs_meta.specs.declared.kind.Kind.TheVariants.{Super}
 use Rattle.lfs_meta.specs.Name.{Name}
 use Rattle.lfs_meta.specs.Body.{Pair, StoredBody, Inline as Stored_inline, Ctz, Leads}

@@ -53,4 +53,10 @@ directories_at r ps = pieces (map (link_at r) ps)
 
 -- the volume that is read along a front
 abbrev pub volume_at : Reading → Header → List Pair → Volume
-volume_at r h ps = record { size = r.size; count = r.count; limits = h.limits; attributes = h.attributes; directories = directories_at r ps }
+volume_at r h ps = record {
+  size = r.size;
+  count = r.count;
+  limits = h.limits;
+  attributes = h.attributes;
+  directories = directories_at r ps;
+}

@@ -20,7 +20,8 @@ TreesAreOne = (d : Disk) (t u : Path → Option Node) → Mounts d t → Mounts 
 
 -- the law: an image that mounts has none of the causes
 abbrev pub MountedHaveNoCause : Type 0
-MountedHaveNoCause = (d : Disk) (t : Path → Option Node) (fault : MountFault) → IsDisk d → Mounts d t → IsOfFormat fault → HasCause d fault → ⊥
+MountedHaveNoCause = (d : Disk) (t : Path → Option Node) (fault : MountFault) → IsDisk d → Mounts d t → IsOfFormat fault → HasCause d fault
+    → ⊥
 
 -- the law: an image that has none of the causes mounts. The tree isn't searched for: it can't be that there is none
 abbrev pub WithoutCauseMount : Type 0

@@ -32,4 +32,10 @@ outlined_directories = map outlined_directory
 
 -- a volume
 abbrev pub outlined : Volume → Volume
-outlined v = record { size = v.size; count = v.count; limits = v.limits; attributes = v.attributes; directories = outlined_directories v.directories }
+outlined v = record {
+  size = v.size;
+  count = v.count;
+  limits = v.limits;
+  attributes = v.attributes;
+  directories = outlined_directories v.directories;
+}

@@ -11,7 +11,8 @@ use Rattle.lfs_fs.specs.Listed.{Listed, rows_listed}
 
 -- the entry at a place in directories
 abbrev pub entry_in_directories : List Directory → Place → Option Entry
-entry_in_directories ds p = option_and_then (λ d. option_and_then (λ x. slice_get x.entries p.entry) (slice_get (parts d) p.part)) (slice_get ds p.directory)
+entry_in_directories ds p = option_and_then (λ d. option_and_then (λ x. slice_get x.entries p.entry) (slice_get (parts d) p.part))
+    (slice_get ds p.directory)
 
 -- the entry at a place; the root's is the one of depth 0
 abbrev pub entry_placed : Volume → Place → Option Entry

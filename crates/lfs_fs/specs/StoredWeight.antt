@@ -23,4 +23,5 @@ SuperblocksWeighAsStored = (bytes : List ℕ) (attributes : Attributes) → leng
 -- the law: stored entries that aren't superblocks are cut where what they stand for is
 abbrev pub RunsResolve : Type 0
 RunsResolve = (r : Reading) (room weighs number : ℕ) (es : List StoredEntry) → All (λ s. s.kind ≢ Super) es
-    → map (flat_map (resolved r)) (runs_after stored_weight room weighs number es) ≡ runs_after weight room weighs number (flat_map (resolved r) es)
+    → map (flat_map (resolved r)) (runs_after stored_weight room weighs number es)
+    ≡ runs_after weight room weighs number (flat_map (resolved r) es)

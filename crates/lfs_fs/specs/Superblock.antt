@@ -45,7 +45,10 @@ pub record Header : Type 0 where
 
 -- by its bytes and attributes
 abbrev pub header_of : List ℕ → Attributes → Header
-header_of bytes attributes = record { limits = record { name = word_at bytes 3; file = word_at bytes 4; attribute = word_at bytes 5 }; attributes = attributes }
+header_of bytes attributes = record {
+  limits = record { name = word_at bytes 3; file = word_at bytes 4; attribute = word_at bytes 5 };
+  attributes = attributes;
+}
 
 -- the ranges of the three limits (own)
 pub record IsLimits (l : Limits) : Type 0 where

@@ -20,7 +20,8 @@ equations one law d asked p v t plans holds (w, shown, sound, is) =
     let u = plans.volume in
     let c = plans.command in
     let after : Volume = clean (cut plans.chosen (edited u c plans.supplies)) in
-    let made : Follows u c after = law.clean u (cut plans.chosen (edited u c plans.supplies)) c (law.cut u c plans.supplies plans.chosen plans.accepted plans.pairs) in
+    let made : Follows u c after = law.clean u (cut plans.chosen (edited u c plans.supplies)) c
+    (law.cut u c plans.supplies plans.chosen plans.accepted plans.pairs) in
     let follows : Follows v c after = subst (λ (x : Volume). Follows x c after) (one (reading_of d) u v plans.holds holds) made in
     let before : t ≡ tree v = fun_ext (λ (q : Path). is q ∙ ap (λ (x : Volume). tree x q) (one (reading_of d) w v shown holds)) in
     record {

@@ -9,7 +9,8 @@ use Rattle.lfs_journal.specs.Steps.{Step, Do, Undo, Redo, Forget, Reply, Takes}
 use Rattle.lfs_journal.specs.Laws.{images, IsUndoOrRedo, UndoAndRedoKeepImages, UndoIsExact}
 
 -- the nearest image of the past becomes the present one: the images are the same
-moved : (front : Disk) (past : List Disk) (x : Disk) (future : List Disk) → reverse past ++ front ∷ (x ∷ future) ≡ reverse (front ∷ past) ++ x ∷ future
+moved : (front : Disk) (past : List Disk) (x : Disk) (future : List Disk)
+    → reverse past ++ front ∷ (x ∷ future) ≡ reverse (front ∷ past) ++ x ∷ future
 moved front past x future =
     sym (ap (λ (r : List Disk). r ++ x ∷ future) (reverse-append (front ∷ []) past) ∙ append_assoc (reverse past) (front ∷ []) (x ∷ future))
 
@@ -19,7 +20,8 @@ undo_keeps_images old new u =
     ∙ moved new.present new.past old.present old.future
     ∙ ap (λ (p : List Disk). reverse p ++ old.present ∷ old.future) (sym u.past)
 
-step_keeps_images : (step : Step) (reply : Reply) (old new : History) → IsUndoOrRedo step → Takes step reply old new → images new ≡ images old
+step_keeps_images : (step : Step) (reply : Reply) (old new : History) → IsUndoOrRedo step → Takes step reply old new
+    → images new ≡ images old
 step_keeps_images Undo None old new is t = undo_keeps_images old new t
 step_keeps_images Undo (Some NothingToUndo) old new is t = ap images t.1
 step_keeps_images Redo None old new is t = sym (undo_keeps_images new old t)
@@ -48,5 +50,6 @@ same_front x y xs ys is = (cc, cc)
 pub done_is_undone : UndoIsExact
 done_is_undone asked old new (mid, does, (last, undoes, same)) =
     let front = same_front last.present old.present last.past old.past (sym undoes.past ∙ does.pushes.past) in
-    let made : last.done ≡ old.done = (same_from_push last.done old.done undoes.change does.change (sym undoes.done ∙ does.pushes.done)).0 in
+    let made : last.done ≡ old.done = (same_from_push last.done old.done undoes.change does.change
+    (sym undoes.done ∙ does.pushes.done)).0 in
     (ap (λ (h : History). h.present) same ∙ front.0, ap (λ (h : History). h.past) same ∙ front.1, ap (λ (h : History). h.done) same ∙ made)

@@ -5,7 +5,8 @@ use Rattle.std.specs.List.{AllByRecursion}
 use Rattle.std.proofs.lemmas.List.{reverse-append}
 use Rattle.lfs_block.specs.Disk.{Disk, IsDisk}
 use Rattle.lfs_block.specs.Patch.{ChangeSet, IsPatch, AgreesOld, AgreesNew, applied, reverted}
-use Rattle.lfs_block.specs.PatchLaws.{AppliedIsDisk, AppliedAgrees, AppliedRevertsBack, RevertedIsDisk, RevertedAgrees, RevertedAppliesAgain}
+use Rattle.lfs_block.specs.PatchLaws.{AppliedIsDisk, AppliedAgrees, AppliedRevertsBack, RevertedIsDisk, RevertedAgrees}
+use Rattle.lfs_block.specs.PatchLaws.{RevertedAppliesAgain}
 use Rattle.lfs_command.specs.Command.{Asked}
 use Rattle.lfs_law.specs.Laws.{CutsFollow, CleansFollow}
 use Rattle.lfs_command.specs.Edited.{edited}
@@ -63,7 +64,8 @@ undo_keeps law old new h u =
     let p = u.change in
     let turned : reverse old.done ≡ p ∷ reverse new.done = latest new.done old.done p u.done in
     let back : GoesBack (p ∷ reverse new.done) old.present = subst (λ (ps : List ChangeSet). GoesBack ps old.present) turned h.back in
-    let past : old.past ≡ past_of (p ∷ reverse new.done) old.present = h.past ∙ ap (λ (ps : List ChangeSet). past_of ps old.present) turned in
+    let past : old.past ≡ past_of (p ∷ reverse new.done) old.present = h.past
+    ∙ ap (λ (ps : List ChangeSet). past_of ps old.present) turned in
     let both : reverted p old.present ∷ past_of (reverse new.done) (reverted p old.present) ≡ new.present ∷ new.past = sym past ∙ u.past in
     let is : reverted p old.present ≡ new.present = first_same _ _ _ _ both in
     let again : applied p new.present ≡ old.present = ap (applied p) (sym is) ∙ law.again p old.present h.disk back.0 back.1 in
@@ -90,12 +92,17 @@ pub record IsBehind (p : ChangeSet) (ds : List Disk) (ps : List ChangeSet) (d e 
   pub back : GoesBack (p ∷ reverse ps) e
   pub disk : IsDisk e
 
-is_behind : Make → (p : ChangeSet) (h : History) (e : Disk) → IsHistory h → IsPatch p → AgreesOld p h.present → e ≡ applied p h.present → IsBehind p h.past h.done h.present e
+is_behind : Make → (p : ChangeSet) (h : History) (e : Disk) → IsHistory h → IsPatch p → AgreesOld p h.present → e ≡ applied p h.present
+    → IsBehind p h.past h.done h.present e
 is_behind law p h e is patch stands to =
     let back : reverted p e ≡ h.present = ap (reverted p) to ∙ law.back p h.present is.disk patch stands in
     record {
       past = ap (λ (x : List Disk). h.present ∷ x) is.past ∙ ap (λ (d : Disk). d ∷ past_of (reverse h.done) d) (sym back);
-      back = (patch, subst (AgreesNew p) (sym to) (law.agrees p h.present is.disk patch stands), subst (GoesBack (reverse h.done)) (sym back) is.back);
+      back = (
+        patch,
+        subst (AgreesNew p) (sym to) (law.agrees p h.present is.disk patch stands),
+        subst (GoesBack (reverse h.done)) (sym back) is.back,
+      );
       disk = subst IsDisk (sym to) (law.disk p h.present is.disk patch stands).disk;
     }
 
@@ -103,7 +110,8 @@ pub redo_keeps : Make → (old new : History) → IsHistory old → Redoes old n
 redo_keeps law old new h u =
     let p = u.change in
     let on : GoesOn (p ∷ new.undone) old.present = subst (λ (us : List ChangeSet). GoesOn us old.present) u.undone h.on in
-    let future : old.future ≡ future_of (p ∷ new.undone) old.present = h.future ∙ ap (λ (us : List ChangeSet). future_of us old.present) u.undone in
+    let future : old.future ≡ future_of (p ∷ new.undone) old.present = h.future
+    ∙ ap (λ (us : List ChangeSet). future_of us old.present) u.undone in
     let both : applied p old.present ∷ future_of new.undone (applied p old.present) ≡ new.present ∷ new.future = sym future ∙ u.future in
     let is : applied p old.present ≡ new.present = first_same _ _ _ _ both in
     let behind = is_behind law p old new.present h on.0 on.1 (sym is) in
@@ -126,15 +134,18 @@ pub planned_mounts : Follow → (d : Disk) (asked : Asked) (p : ChangeSet) → P
 planned_mounts law d asked p plans =
     let v = plans.volume in
     let w = cut plans.chosen (edited v plans.command plans.supplies) in
-    let follows : Follows v plans.command (clean w) = law.clean v w plans.command (law.cut v plans.command plans.supplies plans.chosen plans.accepted plans.pairs) in
+    let follows : Follows v plans.command (clean w) = law.clean v w plans.command
+    (law.cut v plans.command plans.supplies plans.chosen plans.accepted plans.pairs) in
     (clean w, plans.after, follows.sound)
 
-pub push_keeps : Make → Follow → (asked : Asked) (p : ChangeSet) (old new : History) → IsHistory old → length old.done < most_changes → Plans old.present asked p → Pushes p old new → IsHistory new
+pub push_keeps : Make → Follow → (asked : Asked) (p : ChangeSet) (old new : History) → IsHistory old → length old.done < most_changes
+    → Plans old.present asked p → Pushes p old new → IsHistory new
 push_keeps law follow asked p old new h room plans u =
     let behind = is_behind law p old new.present h plans.patch plans.stands u.present in
     let turned : reverse new.done ≡ p ∷ reverse old.done = latest old.done new.done p u.done in
     let len : length (new.done ++ new.undone) ≡ length old.done + 1 =
-    ap (λ (us : List ChangeSet). length (new.done ++ us)) u.undone ∙ ap length (append-nil new.done) ∙ ap length u.done ∙ length-append old.done (p ∷ []) in
+    ap (λ (us : List ChangeSet). length (new.done ++ us)) u.undone ∙ ap length (append-nil new.done) ∙ ap length u.done
+    ∙ length-append old.done (p ∷ []) in
     record {
       past = u.past ∙ behind.past ∙ ap (λ (ps : List ChangeSet). past_of ps new.present) (sym turned);
       future = u.future ∙ ap (λ (us : List ChangeSet). future_of us new.present) (sym u.undone);
@@ -149,7 +160,8 @@ push_keeps law follow asked p old new h room plans u =
 
 -- ---- all is forgotten
 
-pub fresh_is : (d : Disk) → IsDisk d → IsMounted d → (h : History) → h.past ≡ [] → h.present ≡ d → h.future ≡ [] → h.done ≡ [] → h.undone ≡ [] → IsHistory h
+pub fresh_is : (d : Disk) → IsDisk d → IsMounted d → (h : History) → h.past ≡ [] → h.present ≡ d → h.future ≡ [] → h.done ≡ []
+    → h.undone ≡ [] → IsHistory h
 fresh_is d disk mounts h past present future done undone =
     record {
       past = past ∙ ap (λ (ps : List ChangeSet). past_of (reverse ps) h.present) (sym done);
@@ -165,5 +177,6 @@ fresh_is d disk mounts h past present future done undone =
 
 pub forget_keeps : (old new : History) → IsHistory old → Forgets old new → IsHistory new
 forget_keeps old new h is =
-    fresh_is old.present h.disk h.mounts new (ap (λ (x : History). x.past) is) (ap (λ (x : History). x.present) is) (ap (λ (x : History). x.future) is)
+    fresh_is old.present h.disk h.mounts new (ap (λ (x : History). x.past) is) (ap (λ (x : History). x.present) is)
+    (ap (λ (x : History). x.future) is)
     (ap (λ (x : History). x.done) is) (ap (λ (x : History). x.undone) is)

@@ -18,28 +18,34 @@ pub record IsAt (changes : List ChangeSet) (i j : ℕ) (p : ChangeSet) : Type 0 
   pub taken : take j changes ≡ take i changes ++ p ∷ []
   pub left : drop i changes ≡ p ∷ drop j changes
 
-pub is_at : (changes : List ChangeSet) (i j : ℕ) (p : ChangeSet) → j ≡ i + 1 → i < length changes → p ≡ get_or changes i p → IsAt changes i j p
+pub is_at : (changes : List ChangeSet) (i j : ℕ) (p : ChangeSet) → j ≡ i + 1 → i < length changes → p ≡ get_or changes i p
+    → IsAt changes i j p
 is_at changes i j p next within is = record {
   next = next;
   within = within;
   taken = ap (λ (k : ℕ). take k changes) next ∙ take_more changes i p within ∙ ap (λ (q : ChangeSet). take i changes ++ q ∷ []) (sym is);
-  left = drop_more changes i p within ∙ ap (λ (q : ChangeSet). q ∷ drop (i + 1) changes) (sym is) ∙ ap (λ (k : ℕ). p ∷ drop k changes) (sym next);
+  left = drop_more changes i p within ∙ ap (λ (q : ChangeSet). q ∷ drop (i + 1) changes) (sym is)
+      ∙ ap (λ (k : ℕ). p ∷ drop k changes) (sym next);
 }
 
 -- the latest change that was made agrees with the image
-pub made_agrees : (d : Disk) (changes : List ChangeSet) (i j : ℕ) (p : ChangeSet) → IsAt changes i j p → IsHistoryAt d changes j → IsPatch p × AgreesNew p d
+pub made_agrees : (d : Disk) (changes : List ChangeSet) (i j : ℕ) (p : ChangeSet) → IsAt changes i j p → IsHistoryAt d changes j
+    → IsPatch p × AgreesNew p d
 made_agrees d changes i j p at h =
-    let back : GoesBack (p ∷ reverse (take i changes)) d = subst (λ (ps : List ChangeSet). GoesBack ps d) (latest (take i changes) (take j changes) p at.taken) h.history.back in
+    let back : GoesBack (p ∷ reverse (take i changes)) d = subst (λ (ps : List ChangeSet). GoesBack ps d)
+    (latest (take i changes) (take j changes) p at.taken) h.history.back in
     (back.0, back.1)
 
 -- the next change to be made agrees with the image
-pub next_agrees : (d : Disk) (changes : List ChangeSet) (i j : ℕ) (p : ChangeSet) → IsAt changes i j p → IsHistoryAt d changes i → IsPatch p × AgreesOld p d
+pub next_agrees : (d : Disk) (changes : List ChangeSet) (i j : ℕ) (p : ChangeSet) → IsAt changes i j p → IsHistoryAt d changes i
+    → IsPatch p × AgreesOld p d
 next_agrees d changes i j p at h =
     let on : GoesOn (p ∷ drop j changes) d = subst (λ (us : List ChangeSet). GoesOn us d) at.left h.history.on in
     (on.0, on.1)
 
 -- a change leads between the images on its two sides
-undoes_at : (d e : Disk) (changes : List ChangeSet) (i j : ℕ) (p : ChangeSet) → IsAt changes i j p → e ≡ reverted p d → d ≡ applied p e → Undoes (history_at d changes j) (history_at e changes i)
+undoes_at : (d e : Disk) (changes : List ChangeSet) (i j : ℕ) (p : ChangeSet) → IsAt changes i j p → e ≡ reverted p d → d ≡ applied p e
+    → Undoes (history_at d changes j) (history_at e changes i)
 undoes_at d e changes i j p at down up = record {
   past = ap (λ (ps : List ChangeSet). past_of ps d) (latest (take i changes) (take j changes) p at.taken)
       ∙ ap (λ (x : Disk). x ∷ past_of (reverse (take i changes)) x) (sym down);
@@ -54,7 +60,8 @@ pub record MovesTo (Moves : History → History → Type 0) (old : History) (e :
   pub moves : Moves old (history_at e changes i)
   pub keeps : IsHistoryAt e changes i
 
-pub undone_at : TakeBack → (d e : Disk) (changes : List ChangeSet) (i j : ℕ) (p : ChangeSet) → IsAt changes i j p → IsHistoryAt d changes j → e ≡ reverted p d → MovesTo Undoes (history_at d changes j) e changes i
+pub undone_at : TakeBack → (d e : Disk) (changes : List ChangeSet) (i j : ℕ) (p : ChangeSet) → IsAt changes i j p → IsHistoryAt d changes j
+    → e ≡ reverted p d → MovesTo Undoes (history_at d changes j) e changes i
 undone_at law d e changes i j p at h is =
     let agrees = made_agrees d changes i j p at h in
     let undoes = undoes_at d e changes i j p at is (sym (law.again p d h.history.disk agrees.0 agrees.1) ∙ ap (applied p) (sym is)) in
@@ -66,7 +73,8 @@ undone_at law d e changes i j p at h is =
       };
     }
 
-pub redone_at : Make → (d e : Disk) (changes : List ChangeSet) (i j : ℕ) (p : ChangeSet) → IsAt changes i j p → IsHistoryAt d changes i → e ≡ applied p d → MovesTo Redoes (history_at d changes i) e changes j
+pub redone_at : Make → (d e : Disk) (changes : List ChangeSet) (i j : ℕ) (p : ChangeSet) → IsAt changes i j p → IsHistoryAt d changes i
+    → e ≡ applied p d → MovesTo Redoes (history_at d changes i) e changes j
 redone_at law d e changes i j p at h is =
     let agrees = next_agrees d changes i j p at h in
     let redoes = undoes_at e d changes i j p at (sym (law.back p d h.history.disk agrees.0 agrees.1) ∙ ap (reverted p) (sym is)) is in
@@ -88,13 +96,16 @@ put_len old new i p put = ap length put.all ∙ length_push (take i old) p ∙ a
 
 -- it stands at the place
 pub put_is : (old new : List ChangeSet) (i : ℕ) (p q : ChangeSet) → IsPut old new i p → q ≡ get_or new i q → q ≡ p
-put_is old new i p q put read = read ∙ ap (λ (xs : List ChangeSet). get_or xs i q) put.all ∙ get_or_push (take i old) p q i (length-take-le i old put.within)
+put_is old new i p q put read = read ∙ ap (λ (xs : List ChangeSet). get_or xs i q) put.all
+    ∙ get_or_push (take i old) p q i (length-take-le i old put.within)
 
 -- so the image that it makes is made of it
-pub put_makes : (d e : Disk) (old new : List ChangeSet) (i : ℕ) (p q : ChangeSet) → IsPut old new i p → q ≡ get_or new i q → e ≡ applied q d → e ≡ applied p d
+pub put_makes : (d e : Disk) (old new : List ChangeSet) (i : ℕ) (p q : ChangeSet) → IsPut old new i p → q ≡ get_or new i q → e ≡ applied q d
+    → e ≡ applied p d
 put_makes d e old new i p q put read is = is ∙ ap (λ (x : ChangeSet). applied x d) (put_is old new i p q put read)
 
-pub done_at : Make → Follow → (asked : Asked) (d e : Disk) (old new : List ChangeSet) (i : ℕ) (p q : ChangeSet) → IsPut old new i p → q ≡ get_or new i q → IsHistoryAt d old i → i < most_changes
+pub done_at : Make → Follow → (asked : Asked) (d e : Disk) (old new : List ChangeSet) (i : ℕ) (p q : ChangeSet) → IsPut old new i p
+    → q ≡ get_or new i q → IsHistoryAt d old i → i < most_changes
     → Plans d asked p → e ≡ applied q d → MovesTo (Does asked) (history_at d old i) e new (i + 1)
 done_at law follow asked d e old new i p q put read h room plans is =
     let len = put_len old new i p put in
@@ -105,7 +116,8 @@ done_at law follow asked d e old new i p q put read h room plans is =
     let few : length (take i old) < most_changes = let a = length-take-le i old put.within in omega arith in
     let pushes : Pushes p (history_at d old i) (history_at e new (i + 1)) = record {
       past = ap (λ (ps : List ChangeSet). past_of ps e) (latest (take i old) (take (i + 1) new) p made)
-          ∙ ap (λ (x : Disk). x ∷ past_of (reverse (take i old)) x) (ap (reverted p) to ∙ law.back p d h.history.disk plans.patch plans.stands);
+          ∙ ap (λ (x : Disk). x ∷ past_of (reverse (take i old)) x) (ap (reverted p) to
+          ∙ law.back p d h.history.disk plans.patch plans.stands);
       present = to;
       future = ap (λ (us : List ChangeSet). future_of us e) none;
       done = made;

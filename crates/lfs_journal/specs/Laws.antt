@@ -58,7 +58,8 @@ UndoAndRedoKeepImages = (steps : List Step) (replies : List Reply) (old new : Hi
 
 -- a run leaves a history
 abbrev pub RunsKeepHistories : Type 0
-RunsKeepHistories = (steps : List Step) (replies : List Reply) (old new : History) → Run steps replies old new → IsHistory old → IsHistory new
+RunsKeepHistories = (steps : List Step) (replies : List Reply) (old new : History) → Run steps replies old new → IsHistory old
+    → IsHistory new
 
 -- what is done and undone leaves the image and the images before it
 abbrev pub UndoIsExact : Type 0

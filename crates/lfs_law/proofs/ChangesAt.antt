@@ -13,10 +13,12 @@ use Rattle.lfs_law.proofs.BlockLemmas.{block_len}
 
 -- ---- an element put behind those in front that pass a test
 
-pub insert_first : {X : Type 0} (t : X → Bool) (x y : X) (xs : List X) → t x ≡ false → insert (x ∷ xs) (prefix_len t (x ∷ xs)) y ≡ y ∷ x ∷ xs
+pub insert_first : {X : Type 0} (t : X → Bool) (x y : X) (xs : List X) → t x ≡ false
+    → insert (x ∷ xs) (prefix_len t (x ∷ xs)) y ≡ y ∷ x ∷ xs
 insert_first t x y xs stops = rw stops refl
 
-pub insert_later : {X : Type 0} (t : X → Bool) (x y : X) (xs : List X) → t x ≡ true → insert (x ∷ xs) (prefix_len t (x ∷ xs)) y ≡ x ∷ insert xs (prefix_len t xs) y
+pub insert_later : {X : Type 0} (t : X → Bool) (x y : X) (xs : List X) → t x ≡ true
+    → insert (x ∷ xs) (prefix_len t (x ∷ xs)) y ≡ x ∷ insert xs (prefix_len t xs) y
 insert_later {X} t x y xs passes = rw passes (ap (λ (n : ℕ). insert (x ∷ xs) n y) one_more)
   where
     one_more : 1 + prefix_len t xs ≡ suc (prefix_len t xs)
@@ -75,15 +77,22 @@ pub record FitsAt (d : Disk) (c : Change) : Type 0 where
   pub stands : Stands d c
   pub whole : IsBlockChange d.size c
 
-pub change_whole : (d : Disk) (b : ℕ) (new : List ℕ) → IsDisk d → b < d.count → length new ≡ d.size → IsBytes new → IsBytes (block_of d b) → FitsAt d (change_at d b new)
-change_whole d b new disk below len bytes old = record { stands = (below, refl); whole = record { old = block_len d b disk below; new = len; old_bytes = old; new_bytes = bytes } }
+pub change_whole : (d : Disk) (b : ℕ) (new : List ℕ) → IsDisk d → b < d.count → length new ≡ d.size → IsBytes new → IsBytes (block_of d b)
+    → FitsAt d (change_at d b new)
+change_whole d b new disk below len bytes old = record {
+  stands = (below, refl);
+  whole = record { old = block_len d b disk below; new = len; old_bytes = old; new_bytes = bytes };
+}
 
-pub changes_all : (P : Change → Type 0) (d : Disk) (blocks : List ℕ) (contents : List (List ℕ)) (N : ℕ → Type 0) (C : List ℕ → Type 0) → ((b : ℕ) (new : List ℕ) → N b → C new → P (change_at d b new))
+pub changes_all : (P : Change → Type 0) (d : Disk) (blocks : List ℕ) (contents : List (List ℕ)) (N : ℕ → Type 0) (C : List ℕ → Type 0)
+    → ((b : ℕ) (new : List ℕ) → N b → C new → P (change_at d b new))
     → All N blocks → All C contents → AllByRecursion P (changes_at d blocks contents)
 changes_all P d [] contents N C make numbers news = tt
 changes_all P d (b ∷ blocks) [] N C make numbers news = tt
-changes_all P d (b ∷ blocks) (new ∷ contents) N C make numbers news =
-    (make b new (All-head N b blocks numbers) (All-head C new contents news), changes_all P d blocks contents N C make (All-tail N b blocks numbers) (All-tail C new contents news))
+changes_all P d (b ∷ blocks) (new ∷ contents) N C make numbers news = (
+  make b new (All-head N b blocks numbers) (All-head C new contents news),
+  changes_all P d blocks contents N C make (All-tail N b blocks numbers) (All-tail C new contents news),
+)
 
 pub rising_head : (b : ℕ) (blocks : List ℕ) → AllPairs ◌<◌ (b ∷ blocks) → All (λ m. b < m) blocks
 rising_head b blocks rising = λ k d lt. rising 0 (suc k) d (omega arith) (omega (arith, lt))
@@ -98,17 +107,21 @@ pub changes_rising : (d : Disk) (blocks : List ℕ) (contents : List (List ℕ))
 changes_rising d [] contents rising = tt
 changes_rising d (b ∷ blocks) [] rising = tt
 changes_rising d (b ∷ blocks) (new ∷ contents) rising = (
-  changes_all (λ e. b < e.number) d blocks contents (λ m. b < m) (λ c. Unit {0}) (λ m c less any. less) (rising_head b blocks rising) (any_content contents),
+  changes_all (λ e. b < e.number) d blocks contents (λ m. b < m) (λ c. Unit {0}) (λ m c less any. less) (rising_head b blocks rising)
+      (any_content contents),
   changes_rising d blocks contents (rising_tail b blocks rising),
 )
 
-pub changes_numbers : (d : Disk) (blocks : List ℕ) (contents : List (List ℕ)) → length contents ≡ length blocks → map (λ c. c.number) (changes_at d blocks contents) ≡ blocks
+pub changes_numbers : (d : Disk) (blocks : List ℕ) (contents : List (List ℕ)) → length contents ≡ length blocks
+    → map (λ c. c.number) (changes_at d blocks contents) ≡ blocks
 changes_numbers d [] contents many = refl
 changes_numbers d (b ∷ blocks) [] many = let no : ⊥ = omega (arith, many) in absurd no
-changes_numbers d (b ∷ blocks) (new ∷ contents) many = ap (λ (ns : List ℕ). b ∷ ns) (changes_numbers d blocks contents (omega (arith, many)))
+changes_numbers d (b ∷ blocks) (new ∷ contents) many = ap (λ (ns : List ℕ). b ∷ ns)
+    (changes_numbers d blocks contents (omega (arith, many)))
 
 -- ---- blocks that have no change
 
 pub overlaid_none : (cs : List Change) (n : ℕ) (below : List ℕ) → AllByRecursion (λ c. c.number ≢ n) cs → overlaid cs n below ≡ below
 overlaid_none [] n below apart = refl
-overlaid_none (c ∷ cs) n below apart = let other : (c.number == n) ≡ false = grind (arith, nat_tests) in rw other (overlaid_none cs n below apart.1)
+overlaid_none (c ∷ cs) n below apart = let other : (c.number == n) ≡ false = grind (arith, nat_tests) in
+    rw other (overlaid_none cs n below apart.1)

@@ -68,12 +68,14 @@ clean_effect ds = record {
 
 clean_good : (v : Volume) → IsSound v → AreGood v.limits (map (each_part cleaned) v.directories)
 clean_good v sound = record {
-  order = All-map (λ (d : Directory). Rise (entries d)) (each_part cleaned) v.directories (λ i d within. subst Rise (sym (clean_entries (get_or v.directories i d))) (sound.order i d within));
+  order = All-map (λ (d : Directory). Rise (entries d)) (each_part cleaned) v.directories
+      (λ i d within. subst Rise (sym (clean_entries (get_or v.directories i d))) (sound.order i d within));
   proper = All-map (λ (d : Directory). All (IsProper v.limits) (entries d)) (each_part cleaned) v.directories
       (λ i d within. subst (All (IsProper v.limits)) (sym (clean_entries (get_or v.directories i d))) (sound.proper i d within));
 }
 
-clean_edge_by : (k : Pair) (n : Name) (d : Directory) (ds : List Directory) (t : Bool) → begins_at k d ≡ t → entry_in (map (each_part cleaned) ds) k n ≡ entry_in ds k n
+clean_edge_by : (k : Pair) (n : Name) (d : Directory) (ds : List Directory) (t : Bool) → begins_at k d ≡ t
+    → entry_in (map (each_part cleaned) ds) k n ≡ entry_in ds k n
     → entry_in (map (each_part cleaned) (d ∷ ds)) k n ≡ entry_in (d ∷ ds) k n
 clean_edge_by k n d ds true is rest = rw is (ap (find (is_named n)) (clean_entries d))
 clean_edge_by k n d ds false is rest = rw is rest

@@ -1,5 +1,6 @@
 -- Every accepted command follows its equation.
-use Rattle.std.proofs.Common.{◌≡◌, ℕ, ◌+◌, ◌<◌, ◌≤◌, nat_lt, nat_le, ◌&&◌, ◌||◌, not, Bool, true, false, List, [], ◌∷◌, refl, ap, sym, ◌∙◌, subst, arith, length, Option, Some, None}
+use Rattle.std.proofs.Common.{◌≡◌, ℕ, ◌+◌, ◌<◌, ◌≤◌, nat_lt, nat_le, ◌&&◌, ◌||◌, not, Bool, true, false, List, [], ◌∷◌, refl, ap, sym, ◌∙◌}
+use Rattle.std.proofs.Common.{subst, arith, length, Option, Some, None}
 use Rattle.std.specs.Prelude.{All, is_some, is_none, if◌then◌else◌}
 use Rattle.std.specs.Option.{option_map, option_and_then, unwrap_or}
 use Rattle.std.proofs.lemmas.Bool.Decides.{nat_tests}
@@ -13,7 +14,8 @@ use Rattle.lfs_fs.specs.Volume.{Volume}
 use Rattle.lfs_fs.specs.Tree.{Node, File, Dir, entry_at, node, node_of, tree}
 use Rattle.lfs_fs.specs.Uses.{times, body_uses, entry_uses, uses}
 use Rattle.lfs_fs.specs.Sound.{IsSound}
-use Rattle.lfs_command.specs.declared.refusal.Refusal.TheVariants.{NotFound, Exists, IsADirectory, NotEmpty, NameTooLong, FileTooLarge, AttrTooLarge, IntoItself, IsRoot}
+use Rattle.lfs_command.specs.declared.refusal.Refusal.TheVariants.{NotFound, Exists, IsADirectory, NotEmpty, NameTooLong, FileTooLarge}
+use Rattle.lfs_command.specs.declared.refusal.Refusal.TheVariants.{AttrTooLarge, IntoItself, IsRoot}
 use Rattle.lfs_command.specs.PathMap.{put_at}
 use Rattle.lfs_command.specs.Command.{Command, Mkdir, Put, Rm, Mv, SetAttr, RmAttr}
 use Rattle.lfs_command.specs.Equation.{equation, attributes_of, attributes_at, with_attributes}
@@ -64,37 +66,49 @@ pub record Carries (v : Volume) (c : Command) (s : Supplies) : Type 0 where
   pub follows : Follows v c (edited v c s)
   pub uses : (b : ℕ) → uses b (edited v c s) + freed_uses v c b ≡ uses b v + supply_uses v c s b
 
-puts_carry : (v : Volume) (c : Command) (s : Supplies) (p : Path) (x : Option Node) (gone came : ℕ → ℕ) → ((q : Path) → equation c (tree v) q ≡ put_at p x (tree v) q)
+puts_carry : (v : Volume) (c : Command) (s : Supplies) (p : Path) (x : Option Node) (gone came : ℕ → ℕ)
+    → ((q : Path) → equation c (tree v) q ≡ put_at p x (tree v) q)
     → ((b : ℕ) → freed_uses v c b ≡ gone b) → ((b : ℕ) → supply_uses v c s b ≡ came b) → Puts v (edited v c s) p x gone came → Carries v c s
 puts_carry v c s p x gone came same freed taken puts = record {
-  follows = record { sound = puts.sound; at = λ q. puts.at q ∙ sym (same q); size = puts.frame.size; count = puts.frame.count; limits = puts.frame.limits };
+  follows = record {
+    sound = puts.sound;
+    at = λ q. puts.at q ∙ sym (same q);
+    size = puts.frame.size;
+    count = puts.frame.count;
+    limits = puts.frame.limits;
+  };
   uses = λ b. omega (arith, puts.uses b, freed b, taken b);
 }
 
 -- ---- attributes
 
-attributes_set : (v : Volume) (p : Path) (f : Attributes → Attributes) → NamesAreOrdered → IsSound v → All IsName p → KeepsGood f v → walk_refusal (tree v) [] p ≡ None → is_none (tree v p) ≡ false
+attributes_set : (v : Volume) (p : Path) (f : Attributes → Attributes) → NamesAreOrdered → IsSound v → All IsName p → KeepsGood f v
+    → walk_refusal (tree v) [] p ≡ None → is_none (tree v p) ≡ false
     → Puts v (set_attributes v f (home_of v p)) p (option_map (with_attributes f) (tree v p)) (λ b. 0) (λ b. 0)
 attributes_set v [] f ordered sound names keeps walk there = root_set_follows v f sound keeps
 attributes_set v (n ∷ ns) f ordered sound names keeps walk there =
     let e = is_there v (n ∷ ns) there in
     entry_set_follows v f (n ∷ ns) e.0 ordered sound keeps (is_placed v (n ∷ ns) sound names refl walk) e.1
 
-set_follows : (v : Volume) (p : Path) (k : ℕ) (value : List ℕ) (s : Supplies) → NamesAreOrdered → IsAccepted v (SetAttr p k value) s → Carries v (SetAttr p k value) s
+set_follows : (v : Volume) (p : Path) (k : ℕ) (value : List ℕ) (s : Supplies) → NamesAreOrdered → IsAccepted v (SetAttr p k value) s
+    → Carries v (SetAttr p k value) s
 set_follows v p k value s ordered ok =
     let walk = first_passes (walk_refusal (tree v) [] p) _ ok.unrefused in
     let there = first_passes (refuse_if (is_none (tree v p)) NotFound) _ walk.1 in
     let small = first_passes (refuse_if (nat_lt v.limits.attribute (length value)) AttrTooLarge) _ there.1 in
-    puts_carry v (SetAttr p k value) s p (option_map (with_attributes (set_attribute k value)) (tree v p)) (λ b. 0) (λ b. 0) (λ q. refl) (λ b. refl) (λ b. refl)
+    puts_carry v (SetAttr p k value) s p (option_map (with_attributes (set_attribute k value)) (tree v p)) (λ b. 0) (λ b. 0) (λ q. refl)
+    (λ b. refl) (λ b. refl)
     (attributes_set v p (set_attribute k value) ordered ok.sound (All-head (All IsName) p [] ok.names)
-    (λ a good. set_good v.limits.attribute k value a (fits v.limits.attribute (length value) (test_passes (nat_lt v.limits.attribute (length value)) AttrTooLarge small.0)) good)
+    (λ a good. set_good v.limits.attribute k value a (fits v.limits.attribute (length value)
+    (test_passes (nat_lt v.limits.attribute (length value)) AttrTooLarge small.0)) good)
     walk.0 (test_passes (is_none (tree v p)) NotFound there.0))
 
 remove_follows : (v : Volume) (p : Path) (k : ℕ) (s : Supplies) → NamesAreOrdered → IsAccepted v (RmAttr p k) s → Carries v (RmAttr p k) s
 remove_follows v p k s ordered ok =
     let walk = first_passes (walk_refusal (tree v) [] p) _ ok.unrefused in
     let there = first_passes (refuse_if (is_none (tree v p)) NotFound) _ walk.1 in
-    puts_carry v (RmAttr p k) s p (option_map (with_attributes (remove_attribute k)) (tree v p)) (λ b. 0) (λ b. 0) (λ q. refl) (λ b. refl) (λ b. refl)
+    puts_carry v (RmAttr p k) s p (option_map (with_attributes (remove_attribute k)) (tree v p)) (λ b. 0) (λ b. 0) (λ q. refl) (λ b. refl)
+    (λ b. refl)
     (attributes_set v p (remove_attribute k) ordered ok.sound (All-head (All IsName) p [] ok.names)
     (λ a good. remove_good v.limits.attribute k a good)
     walk.0 (test_passes (is_none (tree v p)) NotFound there.0))
@@ -110,7 +124,8 @@ made_follows v p s ordered ok =
     let at = is_placed v p ok.sound (All-head (All IsName) p [] ok.names) (test_passes (is_root p) IsRoot below.0) walk.0 in
     puts_carry v (Mkdir p) s p (Some (Dir [])) (λ b. 0) (λ b. times b (s.pair.0 ∷ s.pair.1 ∷ [])) (λ q. refl) (λ b. refl) (λ b. refl)
     (mkdir_follows v p s.pair ordered ok.sound at (is_free v p (test_passes (is_some (tree v p)) Exists new.0))
-    (fits v.limits.name (length at.home.name) (ap (nat_lt v.limits.name) (sym at.home.len) ∙ test_passes (nat_lt v.limits.name (last_length p)) NameTooLong short.0))
+    (fits v.limits.name (length at.home.name) (ap (nat_lt v.limits.name) (sym at.home.len)
+    ∙ test_passes (nat_lt v.limits.name (last_length p)) NameTooLong short.0))
     (record { once = ok.free.once; within = ok.free.within }))
 
 -- ---- files put
@@ -132,7 +147,8 @@ body_by v p bytes s free small false is = record {
   within = λ b used. free.within b (subst (λ (t : Bool). 0 < body_uses b (if t then Inline bytes else Chain s.blocks bytes)) (sym is) used);
 }
 
-new_body_free : (v : Volume) (p : Path) (bytes : List ℕ) (s : Supplies) → AreFree v (Put p bytes) s → length bytes ≤ v.limits.file → IsNewBody v (new_body v s bytes) bytes
+new_body_free : (v : Volume) (p : Path) (bytes : List ℕ) (s : Supplies) → AreFree v (Put p bytes) s → length bytes ≤ v.limits.file
+    → IsNewBody v (new_body v s bytes) bytes
 new_body_free v p bytes s free small = body_by v p bytes s free small (nat_le (length bytes) (most_inline v.size)) refl
 
 file_leads : (b : Body) (a : Attributes) → is_directory (Some (node_of b a)) ≡ false → body_target b ≡ None
@@ -145,16 +161,21 @@ attributes_shown (Inline bytes) a = refl
 attributes_shown (Chain blocks bytes) a = refl
 attributes_shown (Directory_at pair) a = refl
 
-put_by : (v : Volume) (p : Path) (bytes : List ℕ) (body : Body) → NamesAreOrdered → IsSound v → (at : IsPlaced v p) → IsNewBody v body bytes → (o : Option Entry) → entry_at v p ≡ o
+put_by : (v : Volume) (p : Path) (bytes : List ℕ) (body : Body) → NamesAreOrdered → IsSound v → (at : IsPlaced v p) → IsNewBody v body bytes
+    → (o : Option Entry) → entry_at v p ≡ o
     → is_directory (option_map node o) ≡ false → (is_none (option_map node o) && nat_lt v.limits.name (last_length p)) ≡ false
-    → Puts v (put_file v body (home_of v p) o) p (Some (File bytes (attributes_at (option_map node o)))) (λ b. unwrap_or (option_map (entry_uses b) o) 0) (λ b. body_uses b body)
+    → Puts v (put_file v body (home_of v p) o) p (Some (File bytes (attributes_at (option_map node o))))
+    (λ b. unwrap_or (option_map (entry_uses b) o) 0) (λ b. body_uses b body)
 put_by v p bytes body ordered sound at new None is file short =
-    new_file_follows v p body bytes ordered sound at is (fits v.limits.name (length at.home.name) (ap (nat_lt v.limits.name) (sym at.home.len) ∙ short)) new
+    new_file_follows v p body bytes ordered sound at is (fits v.limits.name (length at.home.name)
+    (ap (nat_lt v.limits.name) (sym at.home.len) ∙ short)) new
 put_by v p bytes body ordered sound at new (Some e) is file short =
-    subst (λ (a : Attributes). Puts v (put_file v body (home_of v p) (Some e)) p (Some (File bytes a)) (λ b. entry_uses b e) (λ b. body_uses b body)) (sym (attributes_shown e.body e.attributes))
+    subst (λ (a : Attributes). Puts v (put_file v body (home_of v p) (Some e)) p (Some (File bytes a)) (λ b. entry_uses b e)
+    (λ b. body_uses b body)) (sym (attributes_shown e.body e.attributes))
     (old_file_follows v p body bytes e ordered sound at is (file_leads e.body e.attributes file) new)
 
-put_follows : (v : Volume) (p : Path) (bytes : List ℕ) (s : Supplies) → NamesAreOrdered → IsAccepted v (Put p bytes) s → Carries v (Put p bytes) s
+put_follows : (v : Volume) (p : Path) (bytes : List ℕ) (s : Supplies) → NamesAreOrdered → IsAccepted v (Put p bytes) s
+    → Carries v (Put p bytes) s
 put_follows v p bytes s ordered ok =
     let below = first_passes (refuse_if (is_root p) IsRoot) _ ok.unrefused in
     let walk = first_passes (walk_refusal (tree v) [] p) _ below.1 in
@@ -162,9 +183,11 @@ put_follows v p bytes s ordered ok =
     let short = first_passes (refuse_if (is_none (tree v p) && nat_lt v.limits.name (last_length p)) NameTooLong) _ file.1 in
     let small = first_passes (refuse_if (nat_lt v.limits.file (length bytes)) FileTooLarge) _ short.1 in
     let at = is_placed v p ok.sound (All-head (All IsName) p [] ok.names) (test_passes (is_root p) IsRoot below.0) walk.0 in
-    puts_carry v (Put p bytes) s p (Some (File bytes (attributes_at (tree v p)))) (λ b. content_uses v p b) (λ b. body_uses b (new_body v s bytes)) (λ q. refl) (λ b. refl) (λ b. refl)
+    puts_carry v (Put p bytes) s p (Some (File bytes (attributes_at (tree v p)))) (λ b. content_uses v p b)
+    (λ b. body_uses b (new_body v s bytes)) (λ q. refl) (λ b. refl) (λ b. refl)
     (put_by v p bytes (new_body v s bytes) ordered ok.sound at
-    (new_body_free v p bytes s ok.free (fits v.limits.file (length bytes) (test_passes (nat_lt v.limits.file (length bytes)) FileTooLarge small.0)))
+    (new_body_free v p bytes s ok.free (fits v.limits.file (length bytes)
+    (test_passes (nat_lt v.limits.file (length bytes)) FileTooLarge small.0)))
     (entry_at v p) refl (test_passes (is_directory (tree v p)) IsADirectory file.0)
     (test_passes (is_none (tree v p) && nat_lt v.limits.name (last_length p)) NameTooLong short.0))
 
@@ -183,10 +206,13 @@ removed_follows v p s ordered ok =
     let at = is_placed v p ok.sound (All-head (All IsName) p [] ok.names) (test_passes (is_root p) IsRoot below.0) walk.0 in
     let e = is_there v p (test_passes (is_none (tree v p)) NotFound there.0) in
     let empty : is_bare v (option_and_then target (entry_at v p)) ≡ true =
-    not_false (is_bare v (option_and_then target (entry_at v p))) (test_passes (not (is_bare v (option_and_then target (entry_at v p)))) NotEmpty bare.0) in
+    not_false (is_bare v (option_and_then target (entry_at v p))) (test_passes
+    (not (is_bare v (option_and_then target (entry_at v p)))) NotEmpty bare.0) in
     puts_carry v (Rm p) s p None (λ b. entry_uses b e.0 + target_uses_of v (target e.0) b) (λ b. 0) (λ q. refl)
-    (λ b. ap (λ (o : Option Entry). unwrap_or (option_map (entry_uses b) o) 0 + target_uses_of v (option_and_then target o) b) e.1) (λ b. refl)
-    (subst (λ (o : Option Entry). Puts v (remove_entry v (home_of v p) o) p None (λ b. entry_uses b e.0 + target_uses_of v (target e.0) b) (λ b. 0)) (sym e.1)
+    (λ b. ap (λ (o : Option Entry). unwrap_or (option_map (entry_uses b) o) 0 + target_uses_of v (option_and_then target o) b) e.1)
+    (λ b. refl)
+    (subst (λ (o : Option Entry). Puts v (remove_entry v (home_of v p) o) p None (λ b. entry_uses b e.0 + target_uses_of v (target e.0) b)
+    (λ b. 0)) (sym e.1)
     (rm_follows v p e.0 ordered ok.sound at e.1 (ap (λ (o : Option Entry). is_bare v (option_and_then target o)) (sym e.1) ∙ empty)))
 
 -- ---- what is moved
@@ -206,10 +232,18 @@ moved_follows v p q s ordered ok =
     let e = is_there v p (test_passes (is_none (tree v p)) NotFound there.0) in
     let moves : Moves v (edited v (Mv p q) s) p q =
     subst (λ (o : Option Entry). Moves v (move_entry v (home_of v p) (home_of v q) o) p q) (sym e.1)
-    (mv_follows v p q e.0 ordered ok.sound from to e.1 (is_free v q (test_passes (is_some (tree v q)) Exists new.0)) (test_passes (lies_below p q) IntoItself off.0)
-    (fits v.limits.name (length to.home.name) (ap (nat_lt v.limits.name) (sym to.home.len) ∙ test_passes (nat_lt v.limits.name (last_length q)) NameTooLong short.0))) in
+    (mv_follows v p q e.0 ordered ok.sound from to e.1 (is_free v q (test_passes (is_some (tree v q)) Exists new.0))
+    (test_passes (lies_below p q) IntoItself off.0)
+    (fits v.limits.name (length to.home.name) (ap (nat_lt v.limits.name) (sym to.home.len)
+    ∙ test_passes (nat_lt v.limits.name (last_length q)) NameTooLong short.0))) in
     record {
-      follows = record { sound = moves.sound; at = moves.at; size = moves.frame.size; count = moves.frame.count; limits = moves.frame.limits };
+      follows = record {
+        sound = moves.sound;
+        at = moves.at;
+        size = moves.frame.size;
+        count = moves.frame.count;
+        limits = moves.frame.limits;
+      };
       uses = λ b. omega (arith, moves.uses b);
     }
 

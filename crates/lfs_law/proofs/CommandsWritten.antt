@@ -1,5 +1,6 @@
 -- What is written for an accepted command writes the outline of what it leaves: old chains stay, and new ones are there.
-use Rattle.std.proofs.Common.{◌≡◌, ◌⊎◌, ℕ, ◌+◌, ◌<◌, ◌≤◌, Bool, true, false, List, [], ◌∷◌, length, map, refl, ap, sym, ◌∙◌, subst, arith, inl, inr, Option, Some, None}
+use Rattle.std.proofs.Common.{◌≡◌, ◌⊎◌, ℕ, ◌+◌, ◌<◌, ◌≤◌, Bool, true, false, List, [], ◌∷◌, length, map, refl, ap, sym, ◌∙◌, subst, arith}
+use Rattle.std.proofs.Common.{inl, inr, Option, Some, None}
 use Rattle.std.specs.Prelude.{All, Contains, sum_by, unwrap_or}
 use Rattle.std.specs.List.{AllZip}
 use Rattle.std.proofs.lemmas.List.Elements.{All-nil, All-cons, All-map, All-weaker, All-contains, All-contains_itself}
@@ -50,7 +51,8 @@ use Rattle.lfs_law.proofs.WrittenLemmas.{part_uses, sum_thread, one_le, two_le, 
 -- ---- chains of the volume are there
 
 -- the head of a chain is its last block, and its length is that of its contents
-chain_there : FoundAreChains → EmptyIsFound → ContentHasLength → (d : Disk) → IsDisk d → (head size : ℕ) (blocks bytes : List ℕ) → chain_of d head size ≡ Some blocks → bytes ≡ content d size blocks
+chain_there : FoundAreChains → EmptyIsFound → ContentHasLength → (d : Disk) → IsDisk d → (head size : ℕ) (blocks bytes : List ℕ)
+    → chain_of d head size ≡ Some blocks → bytes ≡ content d size blocks
     → IsThere (reading_of d) (Chain blocks bytes)
 chain_there chains empty long d disk head size blocks bytes found is =
     let chain : IsChain d head size blocks = chains d head size blocks disk found in
@@ -64,19 +66,23 @@ chain_there chains empty long d disk head size blocks bytes found is =
         let last : head_of (b ∷ bs) ≡ head = ap (λ (o : Option ℕ). unwrap_or o 0) (chain.last (omega arith)) in
         ap (λ (n : ℕ). chain_of d n size) last ∙ found
 
-body_there : FoundAreChains → EmptyIsFound → ContentHasLength → (d : Disk) → IsDisk d → (s : StoredBody) (b : Body) → BodyStands (reading_of d) s b → IsThere (reading_of d) b
+body_there : FoundAreChains → EmptyIsFound → ContentHasLength → (d : Disk) → IsDisk d → (s : StoredBody) (b : Body)
+    → BodyStands (reading_of d) s b → IsThere (reading_of d) b
 body_there chains empty long d disk s (Inline bytes) stands = tt
 body_there chains empty long d disk s (Directory_at pair) stands = tt
-body_there chains empty long d disk (Ctz head size) (Chain blocks bytes) stands = chain_there chains empty long d disk head size blocks bytes stands.0 stands.1
+body_there chains empty long d disk (Ctz head size) (Chain blocks bytes) stands =
+    chain_there chains empty long d disk head size blocks bytes stands.0 stands.1
 body_there chains empty long d disk (Stored_inline stored) (Chain blocks bytes) stands = absurd stands
 body_there chains empty long d disk (Leads first second) (Chain blocks bytes) stands = absurd stands
 
-entries_there : FoundAreChains → EmptyIsFound → ContentHasLength → (d : Disk) → IsDisk d → (ss : List StoredEntry) (es : List Entry) → AllZip (Stands (reading_of d)) ss es
+entries_there : FoundAreChains → EmptyIsFound → ContentHasLength → (d : Disk) → IsDisk d → (ss : List StoredEntry) (es : List Entry)
+    → AllZip (Stands (reading_of d)) ss es
     → OfBodies (IsThere (reading_of d)) es
 entries_there chains empty long d disk ss [] all = All-nil (λ (e : Entry). IsThere (reading_of d) e.body)
 entries_there chains empty long d disk [] (e ∷ es) all = absurd all
 entries_there chains empty long d disk (s ∷ ss) (e ∷ es) all =
-    All-cons (λ (x : Entry). IsThere (reading_of d) x.body) e es (body_there chains empty long d disk s.body e.body all.0.body) (entries_there chains empty long d disk ss es all.1)
+    All-cons (λ (x : Entry). IsThere (reading_of d) x.body) e es (body_there chains empty long d disk s.body e.body all.0.body)
+    (entries_there chains empty long d disk ss es all.1)
 
 parts_there : FoundAreChains → EmptyIsFound → ContentHasLength → (d : Disk) → IsDisk d → (v : Volume) → HoldsLinks (reading_of d) v
     → All (λ p. OfBodies (IsThere (reading_of d)) p.entries) (thread v.directories)
@@ -92,10 +98,12 @@ parts_there chains empty long d disk v held =
 abbrev Known : Reading → Reading → Volume → Body → Type 0
 Known r q v b = (IsThere r b × ((n : ℕ) → 0 < body_uses n b → 0 < uses n v)) ⊎ IsThere q b
 
-known_before : FoundAreChains → EmptyIsFound → ContentHasLength → (d : Disk) → IsDisk d → (q : Reading) (v : Volume) → HoldsLinks (reading_of d) v → Bodies (Known (reading_of d) q v) v.directories
+known_before : FoundAreChains → EmptyIsFound → ContentHasLength → (d : Disk) → IsDisk d → (q : Reading) (v : Volume)
+    → HoldsLinks (reading_of d) v → Bodies (Known (reading_of d) q v) v.directories
 known_before chains empty long d disk q v held =
     by_parts (Known (reading_of d) q v) v.directories
-    (All-weaker (Contains (thread v.directories)) (λ (p : Part). OfBodies (Known (reading_of d) q v) p.entries) in_part (thread v.directories) (All-contains_itself (thread v.directories)))
+    (All-weaker (Contains (thread v.directories)) (λ (p : Part). OfBodies (Known (reading_of d) q v) p.entries) in_part
+    (thread v.directories) (All-contains_itself (thread v.directories)))
   where
     used : (p : Part) → Contains (thread v.directories) p → (e : Entry) → Contains p.entries e → (n : ℕ) → 0 < entry_uses n e → 0 < uses n v
     used p there e inside n some =
@@ -108,7 +116,8 @@ known_before chains empty long d disk q v held =
         All-weaker (Contains p.entries) (λ (e : Entry). Known (reading_of d) q v e.body)
         (λ e inside. inl (
           All-contains (λ (x : Entry). IsThere (reading_of d) x.body) p.entries e
-              (All-contains (λ (x : Part). OfBodies (IsThere (reading_of d)) x.entries) (thread v.directories) p (parts_there chains empty long d disk v held) there) inside,
+              (All-contains (λ (x : Part). OfBodies (IsThere (reading_of d)) x.entries) (thread v.directories) p
+              (parts_there chains empty long d disk v held) there) inside,
           used p there e inside,
         ))
         p.entries (All-contains_itself p.entries)
@@ -132,11 +141,13 @@ sum_both : {X : Type 0} (f g : X → ℕ) (xs : List X) → sum_by (λ x. f x + 
 sum_both f g [] = refl
 sum_both f g (x ∷ xs) = omega (arith, sum_by-cons (λ y. f y + g y) x xs, sum_by-cons f x xs, sum_by-cons g x xs, sum_both f g xs)
 
-part_within : (d : Disk) (is_new : Pair → Bool) (n : ℕ) (p : Part) (t : Bool) → p.dirty ≡ t → times n (set_blocks d is_new p) ≤ pair_uses n p
+part_within : (d : Disk) (is_new : Pair → Bool) (n : ℕ) (p : Part) (t : Bool) → p.dirty ≡ t
+    → times n (set_blocks d is_new p) ≤ pair_uses n p
 part_within d is_new n p true is = omega (arith, ap (times n) (set_is d is_new p true is), written_within d is_new p.pair n)
 part_within d is_new n p false is = omega (arith, ap (times n) (set_is d is_new p false is))
 
-blocks_within : (d : Disk) (is_new : Pair → Bool) (n : ℕ) (ls : List Link) → times n (links_blocks d is_new ls) ≤ sum_by (λ l. pair_uses n l.part) ls
+blocks_within : (d : Disk) (is_new : Pair → Bool) (n : ℕ) (ls : List Link)
+    → times n (links_blocks d is_new ls) ≤ sum_by (λ l. pair_uses n l.part) ls
 blocks_within d is_new n [] = omega arith
 blocks_within d is_new n (l ∷ ls) =
     omega (
@@ -148,14 +159,16 @@ blocks_within d is_new n (l ∷ ls) =
     )
 
 -- a block of a chain isn't one of those of links that are written
-chain_apart : (d : Disk) (is_new : Pair → Bool) (n : ℕ) (w : Volume) (l : Link) → Contains (links w.directories) l → (e : Entry) → Contains l.part.entries e
+chain_apart : (d : Disk) (is_new : Pair → Bool) (n : ℕ) (w : Volume) (l : Link) → Contains (links w.directories) l → (e : Entry)
+    → Contains l.part.entries e
     → entry_uses n e + times n (links_blocks d is_new (links w.directories)) ≤ uses n w
 chain_apart d is_new n w l there e inside =
     let one : entry_uses n e ≤ sum_by (entry_uses n) l.part.entries = one_le (entry_uses n) l.part.entries e inside in
     let all : sum_by (entry_uses n) l.part.entries ≤ sum_by (λ (p : Part). sum_by (entry_uses n) p.entries) (thread w.directories) =
     one_le (λ (p : Part). sum_by (entry_uses n) p.entries) (thread w.directories) l.part (part_there w.directories l there) in
     let pairs : sum_by (λ (x : Link). pair_uses n x.part) (links w.directories) ≡ sum_by (pair_uses n) (thread w.directories) =
-    sym (sum_over (λ (x : Link). pair_uses n x.part) (pair_uses n) (λ (x : Link). x.part) (λ x. refl) (links w.directories)) ∙ ap (sum_by (pair_uses n)) (parts_of_links w.directories) in
+    sym (sum_over (λ (x : Link). pair_uses n x.part) (pair_uses n) (λ (x : Link). x.part) (λ x. refl) (links w.directories))
+    ∙ ap (sum_by (pair_uses n)) (parts_of_links w.directories) in
     omega (
       arith,
       one,
@@ -193,15 +206,29 @@ first_set : (chosen : Part → List Pair) (x : Volume) (ds : List Directory) →
     → (q : Part) × Contains (thread (map (cut_directory chosen x) (touch_first ds))) q × (q.pair ≡ root) × (q.dirty ≡ true)
 first_set chosen x [] starts = absurd starts
 first_set chosen x (d ∷ ds) starts =
-    let touched : Directory = record { first = record { pair = d.first.pair; entries = d.first.entries; delta = d.first.delta; dirty = true }; more = d.more } in
-    let now : Directory = cut_directory chosen x touched in
-    (now.first, contains_left (parts now) (thread (map (cut_directory chosen x) ds)) now.first (contains_first now.first now.more), starts, refl)
+    let touched : Directory = record {
+      first = record {
+        pair = d.first.pair;
+        entries = d.first.entries;
+        delta = d.first.delta;
+        dirty = true;
+      };
+      more = d.more;
+    } in
+    let now : Directory = cut_directory chosen x touched in (
+      now.first,
+      contains_left (parts now) (thread (map (cut_directory chosen x) ds)) now.first (contains_first now.first now.more),
+      starts,
+      refl,
+    )
 
 root_used : (p : Part) → p.pair ≡ root → 0 < part_uses 0 p
 root_used p is = subst (λ (n : ℕ). 0 < part_uses n p) (ap (λ (k : Pair). k.0) is) (pair_used p).0
 
-set_attributes_kept : (chosen : Part → List Pair) (v : Volume) (f : Attributes → Attributes) (h : Option (Pair × Name)) → IsSound v → IsSound (cut chosen (set_attributes v f h))
-    → (l : Link) → Contains (links (cut chosen (set_attributes v f h)).directories) l → l.part.pair ≡ root → l.part.dirty ≡ false → (set_attributes v f h).attributes ≡ v.attributes
+set_attributes_kept : (chosen : Part → List Pair) (v : Volume) (f : Attributes → Attributes) (h : Option (Pair × Name)) → IsSound v
+    → IsSound (cut chosen (set_attributes v f h))
+    → (l : Link) → Contains (links (cut chosen (set_attributes v f h)).directories) l → l.part.pair ≡ root → l.part.dirty ≡ false
+    → (set_attributes v f h).attributes ≡ v.attributes
 set_attributes_kept chosen v f (Some h) sound after l there is unset = refl
 set_attributes_kept chosen v f None sound after l there is unset =
     let w : Volume = cut chosen (set_attributes v f None) in
@@ -212,13 +239,16 @@ set_attributes_kept chosen v f None sound after l there is unset =
     absurd no
 
 attributes_kept : (chosen : Part → List Pair) (v : Volume) (c : Command) (s : Supplies) → IsSound v → IsSound (cut chosen (edited v c s))
-    → (l : Link) → Contains (links (cut chosen (edited v c s)).directories) l → l.part.pair ≡ root → l.part.dirty ≡ false → (edited v c s).attributes ≡ v.attributes
+    → (l : Link) → Contains (links (cut chosen (edited v c s)).directories) l → l.part.pair ≡ root → l.part.dirty ≡ false
+    → (edited v c s).attributes ≡ v.attributes
 attributes_kept chosen v (Mkdir p) s sound after l there is unset = make_attributes v s.pair (home_of v p)
 attributes_kept chosen v (Put p bytes) s sound after l there is unset = put_attributes v (new_body v s bytes) (home_of v p) (entry_at v p)
 attributes_kept chosen v (Rm p) s sound after l there is unset = remove_attributes v (home_of v p) (entry_at v p)
 attributes_kept chosen v (Mv p q) s sound after l there is unset = move_attributes v (home_of v p) (home_of v q) (entry_at v p)
-attributes_kept chosen v (SetAttr p k value) s sound after l there is unset = set_attributes_kept chosen v (set_attribute k value) (home_of v p) sound after l there is unset
-attributes_kept chosen v (RmAttr p k) s sound after l there is unset = set_attributes_kept chosen v (remove_attribute k) (home_of v p) sound after l there is unset
+attributes_kept chosen v (SetAttr p k value) s sound after l there is unset =
+    set_attributes_kept chosen v (set_attribute k value) (home_of v p) sound after l there is unset
+attributes_kept chosen v (RmAttr p k) s sound after l there is unset =
+    set_attributes_kept chosen v (remove_attribute k) (home_of v p) sound after l there is unset
 
 -- ---- the commands
 
@@ -250,7 +280,8 @@ commands_are_written laws applied_disk applied_blocks join cuts d v held c s cho
     unused : (n : ℕ) → 0 < uses n v → times n (changed_blocks base) ≡ 0
     unused n used = omega (arith, used, ap (times n) writes.contents, supplies_once v c s n, ok.free.once n)
 
-    block_stays : (l : Link) → Contains (links (cut chosen (edited v c s)).directories) l → (e : Entry) → Contains l.part.entries e → (n : ℕ) → 0 < entry_uses n e → 0 < uses n v
+    block_stays : (l : Link) → Contains (links (cut chosen (edited v c s)).directories) l → (e : Entry) → Contains l.part.entries e
+        → (n : ℕ) → 0 < entry_uses n e → 0 < uses n v
         → block_of (applied p d) n ≡ block_of d n
     block_stays l there e inside n some used =
         let unnamed : times n (changed_blocks p.changes) ≡ 0 =
@@ -263,19 +294,24 @@ commands_are_written laws applied_disk applied_blocks join cuts d v held c s cho
           after.sound.once n,
           some,
         ) in
-        applied_blocks p d n writes.disk writes.patch writes.stands ∙ overlaid_none p.changes n (block_of d n) (none_named n p.changes unnamed)
+        applied_blocks p d n writes.disk writes.patch writes.stands ∙ overlaid_none p.changes n (block_of d n)
+        (none_named n p.changes unnamed)
 
     known : Bodies (Known (reading_of d) (reading_of (applied p d)) v) (cut chosen (edited v c s)).directories
     known =
         cut_bodies join (Known (reading_of d) (reading_of (applied p d)) v) chosen (edited v c s) pairs.enough
-        (edited_bodies (Known (reading_of d) (reading_of (applied p d)) v) v c s (λ pair. inr tt) (new_known (reading_of d) (reading_of (applied p d)) v c s writes.there)
+        (edited_bodies (Known (reading_of d) (reading_of (applied p d)) v) v c s (λ pair. inr tt)
+        (new_known (reading_of d) (reading_of (applied p d)) v c s writes.there)
         (known_before laws.chains laws.empty laws.long d writes.disk (reading_of (applied p d)) v held))
 
-    there : (l : Link) → Contains (links (cut chosen (edited v c s)).directories) l → (e : Entry) → Contains l.part.entries e → IsThere (reading_of (applied p d)) e.body
-    there l inside e holds = elim (link_has (Known (reading_of d) (reading_of (applied p d)) v) (cut chosen (edited v c s)).directories known l inside e holds) [
-      | inl old ↦
-          let same = applied_disk p d writes.disk writes.patch writes.stands in
-          body_stays (reading_of d) (reading_of (applied p d)) e.body
-          (chain_by laws.found laws.content d (applied p d) writes.disk e.body same.size same.count (λ n some. block_stays l inside e holds n some (old.1 n some))) old.0
-      | inr new ↦ new
-    ]
+    there : (l : Link) → Contains (links (cut chosen (edited v c s)).directories) l → (e : Entry) → Contains l.part.entries e
+        → IsThere (reading_of (applied p d)) e.body
+    there l inside e holds = elim (link_has (Known (reading_of d) (reading_of (applied p d)) v)
+        (cut chosen (edited v c s)).directories known l inside e holds) [
+          | inl old ↦
+              let same = applied_disk p d writes.disk writes.patch writes.stands in
+              body_stays (reading_of d) (reading_of (applied p d)) e.body
+              (chain_by laws.found laws.content d (applied p d) writes.disk e.body same.size same.count
+              (λ n some. block_stays l inside e holds n some (old.1 n some))) old.0
+          | inr new ↦ new
+        ]

@@ -4,7 +4,8 @@ use Rattle.std.specs.Prelude.{All, Contains, if◌then◌else◌, sum_by}
 use Rattle.std.specs.List.{AllByRecursion}
 use Rattle.std.proofs.lemmas.Bool.Decides.{nat_tests}
 use Rattle.std.proofs.lemmas.List.{length-map}
-use Rattle.std.proofs.lemmas.List.Elements.{All-nil, All-cons, All-head, All-tail, All-append, All-map, All-weaker, All-contains, All-contains_itself}
+use Rattle.std.proofs.lemmas.List.Elements.{All-nil, All-cons, All-head, All-tail, All-append, All-map, All-weaker, All-contains}
+use Rattle.std.proofs.lemmas.List.Elements.{All-contains_itself}
 use Rattle.std.proofs.lemmas.List.Sums.{sum_by-cons}
 use Rattle.lfs_meta.specs.Attribute.{Attributes}
 use Rattle.lfs_meta.specs.Body.{Pair}
@@ -53,10 +54,12 @@ body_weighs n a (Directory_at pair) = refl
 entry_weighs : (e : Entry) → stored_weight (stored_entry e) ≡ weight e
 entry_weighs e = body_weighs (length e.name) (attributes_weight e.attributes) e.body
 
-superblock_weighs : (bytes : List ℕ) (attributes : Attributes) → length bytes ≡ 24 → stored_weight (superblock_entry bytes attributes) ≡ superblock_weight attributes
+superblock_weighs : (bytes : List ℕ) (attributes : Attributes) → length bytes ≡ 24
+    → stored_weight (superblock_entry bytes attributes) ≡ superblock_weight attributes
 superblock_weighs bytes attributes len = omega (arith, len)
 
-stored_weighs : (bytes : List ℕ) (attributes : Attributes) (p : Part) → length bytes ≡ 24 → weights (stored_entries bytes attributes p) ≡ front_weight attributes p + sum_by weight p.entries
+stored_weighs : (bytes : List ℕ) (attributes : Attributes) (p : Part) → length bytes ≡ 24
+    → weights (stored_entries bytes attributes p) ≡ front_weight attributes p + sum_by weight p.entries
 stored_weighs bytes attributes p len = by (is_first p)
   where
     others : weights (map stored_entry p.entries) ≡ sum_by weight p.entries
@@ -64,13 +67,20 @@ stored_weighs bytes attributes p len = by (is_first p)
 
     by : (t : Bool) → weights (if t then superblock_entry bytes attributes ∷ map stored_entry p.entries else map stored_entry p.entries)
         ≡ (if t then superblock_weight attributes else 0) + sum_by weight p.entries
-    by true = omega (arith, others, superblock_weighs bytes attributes len, sum_by-cons stored_weight (superblock_entry bytes attributes) (map stored_entry p.entries))
+    by true = omega (
+      arith,
+      others,
+      superblock_weighs bytes attributes len,
+      sum_by-cons stored_weight (superblock_entry bytes attributes) (map stored_entry p.entries),
+    )
     by false = omega (arith, others)
 
-stored_many : (bytes : List ℕ) (attributes : Attributes) (p : Part) → length (stored_entries bytes attributes p) ≡ front_count p + length p.entries
+stored_many : (bytes : List ℕ) (attributes : Attributes) (p : Part) → length (stored_entries bytes attributes p)
+    ≡ front_count p + length p.entries
 stored_many bytes attributes p = by (is_first p)
   where
-    by : (t : Bool) → length (if t then superblock_entry bytes attributes ∷ map stored_entry p.entries else map stored_entry p.entries) ≡ (if t then 1 else 0) + length p.entries
+    by : (t : Bool) → length (if t then superblock_entry bytes attributes ∷ map stored_entry p.entries else map stored_entry p.entries)
+        ≡ (if t then 1 else 0) + length p.entries
     by true = omega (arith, length-map p.entries stored_entry)
     by false = omega (arith, length-map p.entries stored_entry)
 
@@ -87,13 +97,17 @@ name_taken decided (Directory_at pair) n is = (decided n).1 is
 
 each_whole : NamesAreDecided → (es : List Entry) → All (λ e. IsName e.name) es → AllByRecursion IsWhole (map stored_entry es)
 each_whole decided [] names = tt
-each_whole decided (e ∷ es) names =
-    (record { body = body_taken e.body; name = name_taken decided e.body e.name (All-head (λ x. IsName x.name) e es names) }, each_whole decided es (All-tail (λ x. IsName x.name) e es names))
+each_whole decided (e ∷ es) names = (
+  record { body = body_taken e.body; name = name_taken decided e.body e.name (All-head (λ x. IsName x.name) e es names) },
+  each_whole decided es (All-tail (λ x. IsName x.name) e es names),
+)
 
-stored_whole : NamesAreDecided → (bytes : List ℕ) (attributes : Attributes) (p : Part) → All (λ e. IsName e.name) p.entries → AllByRecursion IsWhole (stored_entries bytes attributes p)
+stored_whole : NamesAreDecided → (bytes : List ℕ) (attributes : Attributes) (p : Part) → All (λ e. IsName e.name) p.entries
+    → AllByRecursion IsWhole (stored_entries bytes attributes p)
 stored_whole decided bytes attributes p names = by (is_first p)
   where
-    by : (t : Bool) → AllByRecursion IsWhole (if t then superblock_entry bytes attributes ∷ map stored_entry p.entries else map stored_entry p.entries)
+    by : (t : Bool) → AllByRecursion IsWhole (if t then superblock_entry bytes attributes
+        ∷ map stored_entry p.entries else map stored_entry p.entries)
     by true = (record { body = refl; name = refl }, each_whole decided p.entries names)
     by false = each_whole decided p.entries names
 
@@ -111,12 +125,14 @@ parts_named (p ∷ ps) all =
 thread_named : (ds : List Directory) → All (λ d. AreNamed (entries d)) ds → All (λ p. AreNamed p.entries) (thread ds)
 thread_named [] all = All-nil (λ (p : Part). AreNamed p.entries)
 thread_named (d ∷ ds) all =
-    All-append (λ (p : Part). AreNamed p.entries) (parts d) (thread ds) (parts_named (parts d) (All-head (λ (x : Directory). AreNamed (entries x)) d ds all))
+    All-append (λ (p : Part). AreNamed p.entries) (parts d) (thread ds)
+    (parts_named (parts d) (All-head (λ (x : Directory). AreNamed (entries x)) d ds all))
     (thread_named ds (All-tail (λ (x : Directory). AreNamed (entries x)) d ds all))
 
 sound_named : (v : Volume) → IsSound v → All (λ d. AreNamed (entries d)) v.directories
 sound_named v sound =
-    All-weaker (λ d. All (IsProper v.limits) (entries d)) (λ d. AreNamed (entries d)) (λ d proper. All-weaker (IsProper v.limits) (λ e. IsName e.name) (λ e is. is.name) (entries d) proper)
+    All-weaker (λ d. All (IsProper v.limits) (entries d)) (λ d. AreNamed (entries d))
+    (λ d proper. All-weaker (IsProper v.limits) (λ e. IsName e.name) (λ e is. is.name) (entries d) proper)
     v.directories sound.proper
 
 -- ---- a link of a sound volume
@@ -137,12 +153,14 @@ module _ (count : ℕ) (w : Volume) (sound : IsSound w) (same : w.count ≡ coun
       omega (arith, used_le p there p.pair.0, twice, sound.once p.pair.0)
     where
       two_used : (q : Pair) → q.0 ≡ q.1 → 2 ≤ times q.0 (q.0 ∷ q.1 ∷ [])
-      two_used q same' = subst (λ (n : ℕ). 2 ≤ times q.0 (q.0 ∷ n ∷ [])) same' (omega (arith, times_pair q.0 (q.0, q.0), first_used (q.0, q.0)))
+      two_used q same' = subst (λ (n : ℕ). 2 ≤ times q.0 (q.0 ∷ n ∷ [])) same'
+          (omega (arith, times_pair q.0 (q.0, q.0), first_used (q.0, q.0)))
 
   pub tails_below : count ≤ 65536 → All (λ l. TailFits l.tail) (links w.directories)
   tails_below few =
       tails_fit count few w.directories
-      (All-weaker (Contains (thread w.directories)) (λ (p : Part). BlocksFit count p.pair) pair_below (thread w.directories) (All-contains_itself (thread w.directories)))
+      (All-weaker (Contains (thread w.directories)) (λ (p : Part). BlocksFit count p.pair) pair_below (thread w.directories)
+      (All-contains_itself (thread w.directories)))
 
 -- ---- the links
 
@@ -153,11 +171,13 @@ outline_weighs : (es : List Entry) → sum_by weight (outlined_entries es) ≡ s
 outline_weighs es = sum_over weight weight outlined_entry weight_same es
 
 -- what holds of the outline of each link holds of each link of the outline
-pub by_outline : (P : Link → Type 0) (w : Volume) → ((m : Link) → Contains (links w.directories) m → P (outlined_link m)) → (l : Link) → Contains (links (outlined w).directories) l → P l
+pub by_outline : (P : Link → Type 0) (w : Volume) → ((m : Link) → Contains (links w.directories) m → P (outlined_link m)) → (l : Link)
+    → Contains (links (outlined w).directories) l → P l
 by_outline P w each l there =
     All-contains P (links (outlined w).directories) l
     (subst (All P) (sym (links_outlined w.directories))
-    (All-map P outlined_link (links w.directories) (All-weaker (Contains (links w.directories)) (λ m. P (outlined_link m)) each (links w.directories) (All-contains_itself (links w.directories)))))
+    (All-map P outlined_link (links w.directories) (All-weaker (Contains (links w.directories)) (λ m. P (outlined_link m)) each
+    (links w.directories) (All-contains_itself (links w.directories)))))
     there
 
 -- a pair that is new is of blocks that the volume doesn't use
@@ -169,7 +189,8 @@ unused v q new = zero_is (uses q.0 v) new
 
 pub cut_links_can_be_written : NamesAreDecided → CutsFollow → CutLinksCanBeWritten
 cut_links_can_be_written decided follow d v held c s chosen disk ok pairs =
-    by_outline (λ (l : Link). l.part.dirty ≡ true → CanBeWritten d held.bytes (cut chosen (edited v c s)).attributes l) (cut chosen (edited v c s)) each
+    by_outline (λ (l : Link). l.part.dirty ≡ true → CanBeWritten d held.bytes (cut chosen (edited v c s)).attributes l)
+    (cut chosen (edited v c s)) each
   where
     w : Volume
     w = cut chosen (edited v c s)
@@ -183,7 +204,8 @@ cut_links_can_be_written decided follow d v held c s chosen disk ok pairs =
     size : w.size ≡ d.size
     size = follows.size ∙ held.size
 
-    other : (p : Part) → Contains (thread (edited v c s).directories) p → (q : Pair) → Contains (new_pairs chosen p) q → same_pair q root ≡ false
+    other : (p : Part) → Contains (thread (edited v c s).directories) p → (q : Pair) → Contains (new_pairs chosen p) q
+        → same_pair q root ≡ false
     other p there q inside = not_root v ok.sound q (unused v q (chosen_is_new v c s chosen pairs p there q inside))
 
     fits : All (FitsWhenSet (edited v c s)) (thread w.directories)
@@ -192,7 +214,8 @@ cut_links_can_be_written decided follow d v held c s chosen disk ok pairs =
     each : (m : Link) → Contains (links w.directories) m → m.part.dirty ≡ true → CanBeWritten d held.bytes w.attributes (outlined_link m)
     each m there set =
         let part = part_there w.directories m there in
-        let names = outline_named m.part.entries (All-contains (λ (p : Part). AreNamed p.entries) (thread w.directories) m.part (thread_named w.directories (sound_named w follows.sound)) part) in
+        let names = outline_named m.part.entries (All-contains (λ (p : Part). AreNamed p.entries) (thread w.directories) m.part
+        (thread_named w.directories (sound_named w follows.sound)) part) in
         let room : PartFits (edited v c s) m.part = All-contains (FitsWhenSet (edited v c s)) (thread w.directories) m.part fits part set in
         let below = pair_below d.count w follows.sound count m.part part in
         record {
@@ -200,7 +223,20 @@ cut_links_can_be_written decided follow d v held c s chosen disk ok pairs =
           first = below.0;
           second = below.1;
           whole = stored_whole decided held.bytes w.attributes (outlined_link m).part names;
-          few = omega (arith, stored_many held.bytes w.attributes (outlined_link m).part, length-map m.part.entries outlined_entry, room.count);
-          room = omega (arith, stored_weighs held.bytes w.attributes (outlined_link m).part held.superblock.len, outline_weighs m.part.entries, room.weight', size, disk.geometry.size_fits.0);
-          tail = All-contains (λ (l : Link). TailFits l.tail) (links w.directories) m (tails_below d.count w follows.sound count disk.geometry.count_fits.1) there;
+          few = omega (
+            arith,
+            stored_many held.bytes w.attributes (outlined_link m).part,
+            length-map m.part.entries outlined_entry,
+            room.count,
+          );
+          room = omega (
+            arith,
+            stored_weighs held.bytes w.attributes (outlined_link m).part held.superblock.len,
+            outline_weighs m.part.entries,
+            room.weight',
+            size,
+            disk.geometry.size_fits.0,
+          );
+          tail = All-contains (λ (l : Link). TailFits l.tail) (links w.directories) m
+              (tails_below d.count w follows.sound count disk.geometry.count_fits.1) there;
         }

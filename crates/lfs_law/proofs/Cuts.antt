@@ -1,5 +1,6 @@
 -- What cutting does to the directories of a volume.
-use Rattle.std.proofs.Common.{◌≡◌, ℕ, ◌+◌, Bool, true, false, cond, List, [], ◌∷◌, ◌++◌, refl, ap, sym, ◌∙◌, subst, arith, length, append-nil, map}
+use Rattle.std.proofs.Common.{◌≡◌, ℕ, ◌+◌, Bool, true, false, cond, List, [], ◌∷◌, ◌++◌, refl, ap, sym, ◌∙◌, subst, arith, length}
+use Rattle.std.proofs.Common.{append-nil, map}
 use Rattle.std.specs.Prelude.{All, sum_by, count_by, flat_map, find, if◌then◌else◌, bit_xor}
 use Rattle.std.specs.Int.Bits.{xor_zero_l, xor_zero_r}
 use Rattle.std.proofs.lemmas.List.Elements.{All-head, All-tail, All-cons, All-nil}
@@ -28,7 +29,8 @@ use Rattle.lfs_law.proofs.Effect.{Effect, AreGood, none}
 -- ---- the runs of a part join to its entries
 
 joined_by : RunsJoin Entry → (t : Bool) (v : Volume) (p : Part)
-    → flat_map (λ run. run) (if t then runs_after weight (room v) (superblock_weight v.attributes) 1 p.entries else runs_after weight (room v) 0 0 p.entries) ≡ p.entries
+    → flat_map (λ run. run) (if t then runs_after weight (room v) (superblock_weight v.attributes) 1 p.entries else runs_after weight
+    (room v) 0 0 p.entries) ≡ p.entries
 joined_by join true v p = join weight (room v) (superblock_weight v.attributes) 1 p.entries
 joined_by join false v p = join weight (room v) 0 0 p.entries
 
@@ -48,7 +50,8 @@ cut_part chosen v p = cut_head v p ∷ cut_tail chosen v p
 abbrev pub pair_times : ℕ → Pair → ℕ
 pair_times b q = times b (q.0 ∷ q.1 ∷ [])
 
-more_entries : (pairs : List Pair) (rs : List (List Entry)) → length pairs ≡ length rs → flat_map (λ p. p.entries) (more_parts pairs rs) ≡ flat_map (λ run. run) rs
+more_entries : (pairs : List Pair) (rs : List (List Entry)) → length pairs ≡ length rs
+    → flat_map (λ p. p.entries) (more_parts pairs rs) ≡ flat_map (λ run. run) rs
 more_entries pairs [] h = refl
 more_entries [] (run ∷ rs) h = let no : ⊥ = omega arith in absurd no
 more_entries (pair ∷ pairs) (run ∷ rs) h =
@@ -56,13 +59,18 @@ more_entries (pair ∷ pairs) (run ∷ rs) h =
     flat_map-cons (λ (p : Part). p.entries) (record { pair = pair; entries = run; delta = 0; dirty = true }) (more_parts pairs rs)
     ∙ ap (λ es. run ++ es) rest ∙ sym (flat_map-cons (λ (x : List Entry). x) run rs)
 
-more_uses : (b : ℕ) (pairs : List Pair) (rs : List (List Entry)) → length pairs ≡ length rs → sum_by (pair_uses b) (more_parts pairs rs) ≡ sum_by (pair_times b) pairs
+more_uses : (b : ℕ) (pairs : List Pair) (rs : List (List Entry)) → length pairs ≡ length rs
+    → sum_by (pair_uses b) (more_parts pairs rs) ≡ sum_by (pair_times b) pairs
 more_uses b [] [] h = refl
 more_uses b (pair ∷ pairs) [] h = let no : ⊥ = omega arith in absurd no
 more_uses b [] (run ∷ rs) h = let no : ⊥ = omega arith in absurd no
 more_uses b (pair ∷ pairs) (run ∷ rs) h =
     let rest : sum_by (pair_uses b) (more_parts pairs rs) ≡ sum_by (pair_times b) pairs = more_uses b pairs rs (omega arith) in
-    omega (arith, sum_by-cons (pair_uses b) (record { pair = pair; entries = run; delta = 0; dirty = true }) (more_parts pairs rs), sum_by-cons (pair_times b) pair pairs)
+    omega (
+      arith,
+      sum_by-cons (pair_uses b) (record { pair = pair; entries = run; delta = 0; dirty = true }) (more_parts pairs rs),
+      sum_by-cons (pair_times b) pair pairs,
+    )
 
 more_delta : (pairs : List Pair) (rs : List (List Entry)) → delta_of (more_parts pairs rs) ≡ 0
 more_delta pairs [] = refl
@@ -76,7 +84,8 @@ head_by v p set = if set then record { pair = p.pair; entries = first_run (runs 
 abbrev pub tail_by : (Part → List Pair) → Volume → Part → Bool → List Part
 tail_by chosen v p set = if set then more_parts (chosen p) (later_runs (runs v p)) else []
 
-cut_entries_by : RunsJoin Entry → (chosen : Part → List Pair) (v : Volume) (p : Part) (set : Bool) → (set ≡ true → length (chosen p) ≡ length (later_runs (runs v p)))
+cut_entries_by : RunsJoin Entry → (chosen : Part → List Pair) (v : Volume) (p : Part) (set : Bool)
+    → (set ≡ true → length (chosen p) ≡ length (later_runs (runs v p)))
     → flat_map (λ q. q.entries) (head_by v p set ∷ tail_by chosen v p set) ≡ p.entries
 cut_entries_by join chosen v p true enough =
     flat_map-cons (λ (q : Part). q.entries) (head_by v p true) (tail_by chosen v p true)
@@ -84,19 +93,23 @@ cut_entries_by join chosen v p true enough =
     ∙ first_and_later (runs v p) ∙ joined join v p
 cut_entries_by join chosen v p false enough = flat_map-cons (λ (q : Part). q.entries) p [] ∙ append-nil p.entries
 
-cut_entries : RunsJoin Entry → (chosen : Part → List Pair) (v : Volume) (p : Part) → HasEnough chosen v p → flat_map (λ q. q.entries) (cut_part chosen v p) ≡ p.entries
+cut_entries : RunsJoin Entry → (chosen : Part → List Pair) (v : Volume) (p : Part) → HasEnough chosen v p
+    → flat_map (λ q. q.entries) (cut_part chosen v p) ≡ p.entries
 cut_entries join chosen v p enough = cut_entries_by join chosen v p p.dirty enough
 
-cut_uses_by : (b : ℕ) (chosen : Part → List Pair) (v : Volume) (p : Part) (set : Bool) → (set ≡ true → length (chosen p) ≡ length (later_runs (runs v p)))
+cut_uses_by : (b : ℕ) (chosen : Part → List Pair) (v : Volume) (p : Part) (set : Bool)
+    → (set ≡ true → length (chosen p) ≡ length (later_runs (runs v p)))
     → sum_by (pair_uses b) (head_by v p set ∷ tail_by chosen v p set) ≡ pair_uses b p + sum_by (pair_times b) (if set then chosen p else [])
 cut_uses_by b chosen v p true enough = sum_by-cons (pair_uses b) (head_by v p true) (tail_by chosen v p true)
     ∙ ap (λ n. pair_uses b p + n) (more_uses b (chosen p) (later_runs (runs v p)) (enough refl))
 cut_uses_by b chosen v p false enough = sum_by-cons (pair_uses b) p []
 
-cut_uses : (b : ℕ) (chosen : Part → List Pair) (v : Volume) (p : Part) → HasEnough chosen v p → sum_by (pair_uses b) (cut_part chosen v p) ≡ pair_uses b p + sum_by (pair_times b) (new_pairs chosen p)
+cut_uses : (b : ℕ) (chosen : Part → List Pair) (v : Volume) (p : Part) → HasEnough chosen v p
+    → sum_by (pair_uses b) (cut_part chosen v p) ≡ pair_uses b p + sum_by (pair_times b) (new_pairs chosen p)
 cut_uses b chosen v p enough = cut_uses_by b chosen v p p.dirty enough
 
-cut_delta_by : (chosen : Part → List Pair) (v : Volume) (p : Part) (set : Bool) → delta_of (head_by v p set ∷ tail_by chosen v p set) ≡ p.delta
+cut_delta_by : (chosen : Part → List Pair) (v : Volume) (p : Part) (set : Bool)
+    → delta_of (head_by v p set ∷ tail_by chosen v p set) ≡ p.delta
 cut_delta_by chosen v p true = ap (λ x. bit_xor p.delta x) (more_delta (chosen p) (later_runs (runs v p))) ∙ xor_zero_r p.delta
 cut_delta_by chosen v p false = xor_zero_r p.delta
 
@@ -110,7 +123,8 @@ all_entries : RunsJoin Entry → (chosen : Part → List Pair) (v : Volume) (ps 
     → flat_map (λ q. q.entries) (flat_map (cut_part chosen v) ps) ≡ flat_map (λ q. q.entries) ps
 all_entries join chosen v [] enough = refl
 all_entries join chosen v (p ∷ ps) enough =
-    let here : flat_map (λ q. q.entries) (cut_part chosen v p) ≡ p.entries = cut_entries join chosen v p (All-head (HasEnough chosen v) p ps enough) in
+    let here : flat_map (λ q. q.entries) (cut_part chosen v p) ≡ p.entries =
+    cut_entries join chosen v p (All-head (HasEnough chosen v) p ps enough) in
     let rest = all_entries join chosen v ps (All-tail (HasEnough chosen v) p ps enough) in
     ap (flat_map (λ (q : Part). q.entries)) (flat_map-cons (cut_part chosen v) p ps)
     ∙ flat_map-append (λ (q : Part). q.entries) (cut_part chosen v p) (flat_map (cut_part chosen v) ps)
@@ -128,33 +142,41 @@ all_uses b chosen v [] enough = refl
 all_uses b chosen v (p ∷ ps) enough =
     let here = cut_uses b chosen v p (All-head (HasEnough chosen v) p ps enough) in
     let rest = all_uses b chosen v ps (All-tail (HasEnough chosen v) p ps enough) in
-    let split : sum_by (pair_uses b) (flat_map (cut_part chosen v) (p ∷ ps)) ≡ sum_by (pair_uses b) (cut_part chosen v p) + sum_by (pair_uses b) (flat_map (cut_part chosen v) ps) =
-    ap (sum_by (pair_uses b)) (flat_map-cons (cut_part chosen v) p ps) ∙ sum_by-append (pair_uses b) (cut_part chosen v p) (flat_map (cut_part chosen v) ps) in
+    let split : sum_by (pair_uses b) (flat_map (cut_part chosen v) (p ∷ ps))
+    ≡ sum_by (pair_uses b) (cut_part chosen v p) + sum_by (pair_uses b) (flat_map (cut_part chosen v) ps) =
+    ap (sum_by (pair_uses b)) (flat_map-cons (cut_part chosen v) p ps) ∙ sum_by-append (pair_uses b) (cut_part chosen v p)
+    (flat_map (cut_part chosen v) ps) in
     omega (arith, sum_by-cons (pair_uses b) p ps, sum_by-cons (λ (q : Part). sum_by (pair_times b) (new_pairs chosen q)) p ps)
 
 all_deltas : (chosen : Part → List Pair) (v : Volume) (ps : List Part) → delta_of (flat_map (cut_part chosen v) ps) ≡ delta_of ps
 all_deltas chosen v [] = refl
 all_deltas chosen v (p ∷ ps) =
     ap delta_of (flat_map-cons (cut_part chosen v) p ps) ∙ delta_append (cut_part chosen v p) (flat_map (cut_part chosen v) ps)
-    ∙ ap (λ x. bit_xor x (delta_of (flat_map (cut_part chosen v) ps))) (cut_delta_by chosen v p p.dirty) ∙ ap (λ x. bit_xor p.delta x) (all_deltas chosen v ps)
+    ∙ ap (λ x. bit_xor x (delta_of (flat_map (cut_part chosen v) ps))) (cut_delta_by chosen v p p.dirty)
+    ∙ ap (λ x. bit_xor p.delta x) (all_deltas chosen v ps)
 
 -- ---- directories
 
-pub cut_parts : (chosen : Part → List Pair) (v : Volume) (d : Directory) → parts (cut_directory chosen v d) ≡ flat_map (cut_part chosen v) (parts d)
+pub cut_parts : (chosen : Part → List Pair) (v : Volume) (d : Directory)
+    → parts (cut_directory chosen v d) ≡ flat_map (cut_part chosen v) (parts d)
 cut_parts chosen v d = sym (flat_map-cons (cut_part chosen v) d.first d.more)
 
-pub cut_directory_entries : RunsJoin Entry → (chosen : Part → List Pair) (v : Volume) (d : Directory) → All (HasEnough chosen v) (parts d) → entries (cut_directory chosen v d) ≡ entries d
-cut_directory_entries join chosen v d enough = ap (flat_map (λ (p : Part). p.entries)) (cut_parts chosen v d) ∙ all_entries join chosen v (parts d) enough
+pub cut_directory_entries : RunsJoin Entry → (chosen : Part → List Pair) (v : Volume) (d : Directory) → All (HasEnough chosen v) (parts d)
+    → entries (cut_directory chosen v d) ≡ entries d
+cut_directory_entries join chosen v d enough = ap (flat_map (λ (p : Part). p.entries)) (cut_parts chosen v d)
+    ∙ all_entries join chosen v (parts d) enough
 
 cut_directory_uses : RunsJoin Entry → (b : ℕ) (chosen : Part → List Pair) (v : Volume) (d : Directory) → All (HasEnough chosen v) (parts d)
     → directory_uses b (cut_directory chosen v d) ≡ directory_uses b d + pairs_for chosen b (parts d)
 cut_directory_uses join b chosen v d enough =
     let pairs : sum_by (pair_uses b) (parts (cut_directory chosen v d)) ≡ sum_by (pair_uses b) (parts d) + pairs_for chosen b (parts d) =
     ap (sum_by (pair_uses b)) (cut_parts chosen v d) ∙ all_uses b chosen v (parts d) enough in
-    let contents : sum_by (entry_uses b) (entries (cut_directory chosen v d)) ≡ sum_by (entry_uses b) (entries d) = ap (sum_by (entry_uses b)) (cut_directory_entries join chosen v d enough) in
+    let contents : sum_by (entry_uses b) (entries (cut_directory chosen v d)) ≡ sum_by (entry_uses b) (entries d) =
+    ap (sum_by (entry_uses b)) (cut_directory_entries join chosen v d enough) in
     omega arith
 
-pub cut_begins : (k : Pair) (chosen : Part → List Pair) (v : Volume) (d : Directory) → begins_at k (cut_directory chosen v d) ≡ begins_at k d
+pub cut_begins : (k : Pair) (chosen : Part → List Pair) (v : Volume) (d : Directory)
+    → begins_at k (cut_directory chosen v d) ≡ begins_at k d
 cut_begins k chosen v d = ap (λ (q : Pair). same_pair k (unordered q)) (head_pair_by v d.first d.first.dirty)
 
 -- ---- all directories
@@ -171,40 +193,52 @@ abbrev pub cut_all : (Part → List Pair) → Volume → List Directory → List
 cut_all chosen v ds = map (cut_directory chosen v) ds
 
 -- the parts of each directory have enough pairs
-pub enough_each : (chosen : Part → List Pair) (v : Volume) (ds : List Directory) → All (HasEnough chosen v) (thread ds) → All (λ d. All (HasEnough chosen v) (parts d)) ds
+pub enough_each : (chosen : Part → List Pair) (v : Volume) (ds : List Directory) → All (HasEnough chosen v) (thread ds)
+    → All (λ d. All (HasEnough chosen v) (parts d)) ds
 enough_each chosen v [] enough = All-nil (λ d. All (HasEnough chosen v) (parts d))
 enough_each chosen v (d ∷ ds) enough =
     let both : All (HasEnough chosen v) (parts d ++ thread ds) = subst (All (HasEnough chosen v)) (flat_map-cons parts d ds) enough in
     All-cons (λ e. All (HasEnough chosen v) (parts e)) d ds (All-left (HasEnough chosen v) (parts d) (thread ds) both)
     (enough_each chosen v ds (All-right (HasEnough chosen v) (parts d) (thread ds) both))
 
-pub cut_uses_all : RunsJoin Entry → (b : ℕ) (chosen : Part → List Pair) (v : Volume) (ds : List Directory) → All (λ d. All (HasEnough chosen v) (parts d)) ds
+pub cut_uses_all : RunsJoin Entry → (b : ℕ) (chosen : Part → List Pair) (v : Volume) (ds : List Directory)
+    → All (λ d. All (HasEnough chosen v) (parts d)) ds
     → sum_by (directory_uses b) (cut_all chosen v ds) ≡ sum_by (directory_uses b) ds + pairs_for chosen b (thread ds)
 cut_uses_all join b chosen v [] enough = refl
 cut_uses_all join b chosen v (d ∷ ds) enough =
     let here = cut_directory_uses join b chosen v d (All-head (λ e. All (HasEnough chosen v) (parts e)) d ds enough) in
     let rest = cut_uses_all join b chosen v ds (All-tail (λ e. All (HasEnough chosen v) (parts e)) d ds enough) in
     let split : pairs_for chosen b (thread (d ∷ ds)) ≡ pairs_for chosen b (parts d) + pairs_for chosen b (thread ds) =
-    ap (pairs_for chosen b) (flat_map-cons parts d ds) ∙ sum_by-append (λ (p : Part). sum_by (pair_times b) (new_pairs chosen p)) (parts d) (thread ds) in
+    ap (pairs_for chosen b) (flat_map-cons parts d ds) ∙ sum_by-append (λ (p : Part). sum_by (pair_times b) (new_pairs chosen p)) (parts d)
+    (thread ds) in
     omega (arith, sum_by-cons (directory_uses b) (cut_directory chosen v d) (cut_all chosen v ds), sum_by-cons (directory_uses b) d ds)
 
-cut_names_all : RunsJoin Entry → (k : Pair) (chosen : Part → List Pair) (v : Volume) (ds : List Directory) → All (λ d. All (HasEnough chosen v) (parts d)) ds
+cut_names_all : RunsJoin Entry → (k : Pair) (chosen : Part → List Pair) (v : Volume) (ds : List Directory)
+    → All (λ d. All (HasEnough chosen v) (parts d)) ds
     → sum_by (names_of k) (cut_all chosen v ds) ≡ sum_by (names_of k) ds
 cut_names_all join k chosen v [] enough = refl
 cut_names_all join k chosen v (d ∷ ds) enough =
     let here : names_of k (cut_directory chosen v d) ≡ names_of k d =
-    ap (sum_by (λ (e : Entry). leads_to k (target e))) (cut_directory_entries join chosen v d (All-head (λ e. All (HasEnough chosen v) (parts e)) d ds enough)) in
+    ap (sum_by (λ (e : Entry). leads_to k (target e))) (cut_directory_entries join chosen v d
+    (All-head (λ e. All (HasEnough chosen v) (parts e)) d ds enough)) in
     let rest = cut_names_all join k chosen v ds (All-tail (λ e. All (HasEnough chosen v) (parts e)) d ds enough) in
     omega (arith, sum_by-cons (names_of k) (cut_directory chosen v d) (cut_all chosen v ds), sum_by-cons (names_of k) d ds)
 
-cut_count_all : (k : Pair) (chosen : Part → List Pair) (v : Volume) (ds : List Directory) → count_by (begins_at k) (cut_all chosen v ds) ≡ count_by (begins_at k) ds
+cut_count_all : (k : Pair) (chosen : Part → List Pair) (v : Volume) (ds : List Directory)
+    → count_by (begins_at k) (cut_all chosen v ds) ≡ count_by (begins_at k) ds
 cut_count_all k chosen v [] = refl
 cut_count_all k chosen v (d ∷ ds) =
-    let one : cond {A = ℕ} (begins_at k (cut_directory chosen v d)) 1 0 ≡ cond {A = ℕ} (begins_at k d) 1 0 = ap (λ (t : Bool). cond {A = ℕ} t 1 0) (cut_begins k chosen v d) in
+    let one : cond {A = ℕ} (begins_at k (cut_directory chosen v d)) 1 0 ≡ cond {A = ℕ} (begins_at k d) 1 0 =
+    ap (λ (t : Bool). cond {A = ℕ} t 1 0) (cut_begins k chosen v d) in
     let rest = cut_count_all k chosen v ds in
-    omega (arith, sum_by-cons (λ (e : Directory). cond (begins_at k e) 1 0) (cut_directory chosen v d) (cut_all chosen v ds), sum_by-cons (λ (e : Directory). cond (begins_at k e) 1 0) d ds)
+    omega (
+      arith,
+      sum_by-cons (λ (e : Directory). cond (begins_at k e) 1 0) (cut_directory chosen v d) (cut_all chosen v ds),
+      sum_by-cons (λ (e : Directory). cond (begins_at k e) 1 0) d ds,
+    )
 
-pub cut_thread : (chosen : Part → List Pair) (v : Volume) (ds : List Directory) → thread (cut_all chosen v ds) ≡ flat_map (cut_part chosen v) (thread ds)
+pub cut_thread : (chosen : Part → List Pair) (v : Volume) (ds : List Directory)
+    → thread (cut_all chosen v ds) ≡ flat_map (cut_part chosen v) (thread ds)
 cut_thread chosen v [] = refl
 cut_thread chosen v (d ∷ ds) =
     flat_map-cons parts (cut_directory chosen v d) (cut_all chosen v ds)
@@ -229,15 +263,19 @@ cut_effect join chosen v ds enough = record {
 }
 
 -- what is said of each directory's entries stays
-pub cut_all_entries : (P : List Entry → Type 0) → RunsJoin Entry → (chosen : Part → List Pair) (v : Volume) (ds : List Directory) → All (λ d. All (HasEnough chosen v) (parts d)) ds
+pub cut_all_entries : (P : List Entry → Type 0) → RunsJoin Entry → (chosen : Part → List Pair) (v : Volume) (ds : List Directory)
+    → All (λ d. All (HasEnough chosen v) (parts d)) ds
     → All (λ d. P (entries d)) ds → All (λ d. P (entries d)) (cut_all chosen v ds)
 cut_all_entries P join chosen v [] enough h = All-nil (λ d. P (entries d))
 cut_all_entries P join chosen v (d ∷ ds) enough h =
     All-cons (λ e. P (entries e)) (cut_directory chosen v d) (cut_all chosen v ds)
-    (subst P (sym (cut_directory_entries join chosen v d (All-head (λ e. All (HasEnough chosen v) (parts e)) d ds enough))) (All-head (λ e. P (entries e)) d ds h))
-    (cut_all_entries P join chosen v ds (All-tail (λ e. All (HasEnough chosen v) (parts e)) d ds enough) (All-tail (λ e. P (entries e)) d ds h))
+    (subst P (sym (cut_directory_entries join chosen v d (All-head (λ e. All (HasEnough chosen v) (parts e)) d ds enough)))
+    (All-head (λ e. P (entries e)) d ds h))
+    (cut_all_entries P join chosen v ds (All-tail (λ e. All (HasEnough chosen v) (parts e)) d ds enough)
+    (All-tail (λ e. P (entries e)) d ds h))
 
-pub cut_good : RunsJoin Entry → (limits : Limits) (chosen : Part → List Pair) (v : Volume) (ds : List Directory) → All (HasEnough chosen v) (thread ds) → AreGood limits ds
+pub cut_good : RunsJoin Entry → (limits : Limits) (chosen : Part → List Pair) (v : Volume) (ds : List Directory)
+    → All (HasEnough chosen v) (thread ds) → AreGood limits ds
     → AreGood limits (cut_all chosen v ds)
 cut_good join limits chosen v ds enough good = record {
   order = cut_all_entries Rise join chosen v ds (enough_each chosen v ds enough) good.order;
@@ -245,7 +283,8 @@ cut_good join limits chosen v ds enough good = record {
 }
 
 -- every name stands for what it stood for
-edge_by : RunsJoin Entry → (chosen : Part → List Pair) (v : Volume) (k : Pair) (n : Name) (d : Directory) (ds : List Directory) (t : Bool) → begins_at k d ≡ t → All (HasEnough chosen v) (parts d)
+edge_by : RunsJoin Entry → (chosen : Part → List Pair) (v : Volume) (k : Pair) (n : Name) (d : Directory) (ds : List Directory) (t : Bool)
+    → begins_at k d ≡ t → All (HasEnough chosen v) (parts d)
     → entry_in (cut_all chosen v ds) k n ≡ entry_in ds k n → entry_in (cut_all chosen v (d ∷ ds)) k n ≡ entry_in (d ∷ ds) k n
 edge_by join chosen v k n d ds true is enough rest =
     let after : begins_at k (cut_directory chosen v d) ≡ true = cut_begins k chosen v d ∙ is in
@@ -254,13 +293,15 @@ edge_by join chosen v k n d ds false is enough rest =
     let after : begins_at k (cut_directory chosen v d) ≡ false = cut_begins k chosen v d ∙ is in
     rw (is, after) rest
 
-cut_edges_each : RunsJoin Entry → (chosen : Part → List Pair) (v : Volume) (ds : List Directory) → All (λ d. All (HasEnough chosen v) (parts d)) ds
+cut_edges_each : RunsJoin Entry → (chosen : Part → List Pair) (v : Volume) (ds : List Directory)
+    → All (λ d. All (HasEnough chosen v) (parts d)) ds
     → (k : Pair) (n : Name) → entry_in (cut_all chosen v ds) k n ≡ entry_in ds k n
 cut_edges_each join chosen v [] enough k n = refl
 cut_edges_each join chosen v (d ∷ ds) enough k n =
     edge_by join chosen v k n d ds (begins_at k d) refl (All-head (λ e. All (HasEnough chosen v) (parts e)) d ds enough)
     (cut_edges_each join chosen v ds (All-tail (λ e. All (HasEnough chosen v) (parts e)) d ds enough) k n)
 
-pub cut_edges : RunsJoin Entry → (chosen : Part → List Pair) (v : Volume) (ds : List Directory) → All (HasEnough chosen v) (thread ds) → (k : Pair) (n : Name)
+pub cut_edges : RunsJoin Entry → (chosen : Part → List Pair) (v : Volume) (ds : List Directory) → All (HasEnough chosen v) (thread ds)
+    → (k : Pair) (n : Name)
     → entry_in (cut_all chosen v ds) k n ≡ entry_in ds k n
 cut_edges join chosen v ds enough = cut_edges_each join chosen v ds (enough_each chosen v ds enough)

@@ -27,14 +27,20 @@ use Rattle.lfs_law.proofs.CommandsFollow.{Carries, commands_carry}
 
 -- ---- a volume whose parts are cut
 
-cut_uses : RunsJoin Entry → (chosen : Part → List Pair) (w : Volume) → All (HasEnough chosen w) (thread w.directories) → (b : ℕ) → uses b (cut chosen w) ≡ uses b w + new_pair_uses chosen w b
+cut_uses : RunsJoin Entry → (chosen : Part → List Pair) (w : Volume) → All (HasEnough chosen w) (thread w.directories) → (b : ℕ)
+    → uses b (cut chosen w) ≡ uses b w + new_pair_uses chosen w b
 cut_uses join chosen w enough b = omega (arith, (cut_effect join chosen w w.directories enough).uses b)
 
 cut_sound : RunsJoin Entry → (chosen : Part → List Pair) (w : Volume) → IsSound w → All (HasEnough chosen w) (thread w.directories)
     → ((b : ℕ) → uses b w + new_pair_uses chosen w b ≤ 1) → ((b : ℕ) → 0 < new_pair_uses chosen w b → b < w.count) → IsSound (cut chosen w)
 cut_sound join chosen w sound enough once within =
-    sound_after w (cut chosen w) none (record { uses = λ b. pairs_for chosen b (thread w.directories); names = λ k. 0; directories = λ k. 0 }) sound
-    (cut_effect join chosen w w.directories enough) (cut_good join w.limits chosen w w.directories enough (sound_is_good w sound)) sound.root_attributes refl
+    sound_after w (cut chosen w) none (record {
+      uses = λ b. pairs_for chosen b (thread w.directories);
+      names = λ k. 0;
+      directories = λ k. 0;
+    }) sound
+    (cut_effect join chosen w w.directories enough) (cut_good join w.limits chosen w w.directories enough (sound_is_good w sound))
+    sound.root_attributes refl
     (record {
       once = once;
       within = within;
@@ -80,6 +86,7 @@ free_after_command ordered join v c s chosen ok pairs =
     let count : (edited v c s).count ≡ v.count = (commands_carry ordered v c s ok).follows.count in
     ap (λ (n : ℕ). filter (λ b. uses b (cut chosen (edited v c s)) == 0) (range_with_len 0 n)) count
     ∙ filter_same (λ b. uses b (cut chosen (edited v c s)) == 0) (is_free_after v c s chosen)
-    (λ b. same_test (uses b (cut chosen (edited v c s))) (freed_uses v c b) (uses b v + supply_uses v c s b + new_pair_uses chosen (edited v c s) b)
+    (λ b. same_test (uses b (cut chosen (edited v c s))) (freed_uses v c b)
+    (uses b v + supply_uses v c s b + new_pair_uses chosen (edited v c s) b)
     (uses_after ordered join v c s chosen ok pairs b) (pairs.once b))
     (range_with_len 0 v.count)

@@ -14,7 +14,8 @@ decided false d = inr (not_from_Decides false d refl)
 
 pub same_pair_decides : (p q : Pair) → Decides (same_pair p q) (p ≡ q)
 same_pair_decides p q =
-    Decides-like (same_pair p q) (λ h. ap (λ (b : ℕ). (b, p.1)) h.0 ∙ ap (λ (b : ℕ). (q.0, b)) h.1) (λ h. (ap (λ (x : Pair). x.0) h, ap (λ (x : Pair). x.1) h))
+    Decides-like (same_pair p q) (λ h. ap (λ (b : ℕ). (b, p.1)) h.0 ∙ ap (λ (b : ℕ). (q.0, b)) h.1)
+    (λ h. (ap (λ (x : Pair). x.0) h, ap (λ (x : Pair). x.1) h))
     (Decides-and (p.0 == q.0) (p.1 == q.1) (Decides-eqb p.0 q.0) (Decides-eqb p.1 q.1))
 
 pub same_pair_or_not : (p q : Pair) → (p ≡ q) ⊎ (p ≡ q → ⊥)

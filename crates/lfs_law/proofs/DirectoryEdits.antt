@@ -15,7 +15,8 @@ use Rattle.lfs_fs.specs.Directory.{Part, Directory, parts, entries, begins_at}
 use Rattle.lfs_fs.specs.Uses.{times, pair_uses}
 use Rattle.lfs_fs.specs.State.{delta_of}
 use Rattle.lfs_command.specs.EntryEdit.{place, without, changed}
-use Rattle.lfs_command.specs.DirectoryEdit.{touch, each_part, has_name, unlink_in, change_in, behind, link_parts, link_in, touch_last_of, touch_last, absorb_in, absorb}
+use Rattle.lfs_command.specs.DirectoryEdit.{touch, each_part, has_name, unlink_in, change_in, behind, link_parts, link_in, touch_last_of}
+use Rattle.lfs_command.specs.DirectoryEdit.{touch_last, absorb_in, absorb}
 use Rattle.lfs_law.proofs.EntryEdits.{place_early, place_late}
 
 -- ---- pairs
@@ -42,10 +43,17 @@ first_same d new same = cc
 
 uses_of_pairs : (b : ℕ) (ps : List Part) → sum_by (pair_uses b) ps ≡ sum_by (λ (q : Pair). times b (q.0 ∷ q.1 ∷ [])) (pairs ps)
 uses_of_pairs b [] = refl
-uses_of_pairs b (p ∷ ps) = omega (arith, sum_by-cons (pair_uses b) p ps, sum_by-cons (λ (q : Pair). times b (q.0 ∷ q.1 ∷ [])) p.pair (pairs ps), uses_of_pairs b ps)
+uses_of_pairs b (p ∷ ps) = omega (
+  arith,
+  sum_by-cons (pair_uses b) p ps,
+  sum_by-cons (λ (q : Pair). times b (q.0 ∷ q.1 ∷ [])) p.pair (pairs ps),
+  uses_of_pairs b ps,
+)
 
-pub pair_uses_same : (b : ℕ) (d new : Directory) → pairs (parts new) ≡ pairs (parts d) → sum_by (pair_uses b) (parts new) ≡ sum_by (pair_uses b) (parts d)
-pair_uses_same b d new same = uses_of_pairs b (parts new) ∙ ap (sum_by (λ (q : Pair). times b (q.0 ∷ q.1 ∷ []))) same ∙ sym (uses_of_pairs b (parts d))
+pub pair_uses_same : (b : ℕ) (d new : Directory) → pairs (parts new) ≡ pairs (parts d)
+    → sum_by (pair_uses b) (parts new) ≡ sum_by (pair_uses b) (parts d)
+pair_uses_same b d new same = uses_of_pairs b (parts new) ∙ ap (sum_by (λ (q : Pair). times b (q.0 ∷ q.1 ∷ []))) same
+    ∙ sym (uses_of_pairs b (parts d))
 
 -- ---- an entry put in
 
@@ -55,7 +63,8 @@ entries_link_parts e p [] = append-nil (place e p.entries) ∙ ap (place e) (sym
 entries_link_parts e p (q ∷ ps) = go (list_any (λ f. precedes e.name f.name) p.entries) refl (entries_link_parts e q ps)
   where
     go : (b : Bool) → list_any (λ f. precedes e.name f.name) p.entries ≡ b → entries (link_parts e q ps) ≡ place e (entries_of (q ∷ ps))
-        → entries (if b then record { first = touch true (place e) p; more = q ∷ ps } else behind p (link_parts e q ps)) ≡ place e (p.entries ++ entries_of (q ∷ ps))
+        → entries (if b then record { first = touch true (place e) p; more = q ∷ ps } else behind p (link_parts e q ps))
+        ≡ place e (p.entries ++ entries_of (q ∷ ps))
     go true some later = sym (place_early e p.entries (entries_of (q ∷ ps)) some)
     go false no_one later = ap (λ es. p.entries ++ es) later ∙ sym (place_late e p.entries (entries_of (q ∷ ps)) no_one)
 
@@ -68,7 +77,8 @@ pairs_link_parts e p [] = refl
 pairs_link_parts e p (q ∷ ps) = go (list_any (λ f. precedes e.name f.name) p.entries) (pairs_link_parts e q ps)
   where
     go : (b : Bool) → pairs (parts (link_parts e q ps)) ≡ pairs (q ∷ ps)
-        → pairs (parts (if b then record { first = touch true (place e) p; more = q ∷ ps } else behind p (link_parts e q ps))) ≡ pairs (p ∷ q ∷ ps)
+        → pairs (parts (if b then record { first = touch true (place e) p; more = q ∷ ps } else behind p (link_parts e q ps)))
+        ≡ pairs (p ∷ q ∷ ps)
     go true later = refl
     go false later = ap (λ ks. p.pair ∷ ks) later
 
@@ -78,7 +88,8 @@ delta_link_parts e p [] = refl
 delta_link_parts e p (q ∷ ps) = go (list_any (λ f. precedes e.name f.name) p.entries) (delta_link_parts e q ps)
   where
     go : (b : Bool) → delta_of (parts (link_parts e q ps)) ≡ delta_of (q ∷ ps)
-        → delta_of (parts (if b then record { first = touch true (place e) p; more = q ∷ ps } else behind p (link_parts e q ps))) ≡ delta_of (p ∷ q ∷ ps)
+        → delta_of (parts (if b then record { first = touch true (place e) p; more = q ∷ ps } else behind p (link_parts e q ps)))
+        ≡ delta_of (p ∷ q ∷ ps)
     go true later = refl
     go false later = ap (bit_xor p.delta) later
 
@@ -95,13 +106,16 @@ delta_each : (f : Part → Part) (ps : List Part) → ((p : Part) → (f p).delt
 delta_each f [] keeps = refl
 delta_each f (p ∷ ps) keeps = cc (keeps p, delta_each f ps keeps)
 
-keeps_each : (f : Part → Part) (d : Directory) → ((p : Part) → (f p).pair ≡ p.pair) → ((p : Part) → (f p).delta ≡ p.delta) → KeepsParts d (each_part f d)
+keeps_each : (f : Part → Part) (d : Directory) → ((p : Part) → (f p).pair ≡ p.pair) → ((p : Part) → (f p).delta ≡ p.delta)
+    → KeepsParts d (each_part f d)
 keeps_each f d pair delta = record { pairs = pairs_each f (parts d) pair; delta = delta_each f (parts d) delta }
 
-entries_each : (set : Part → Bool) (f : List Entry → List Entry) (ps : List Part) → f [] ≡ [] → ((xs ys : List Entry) → f (xs ++ ys) ≡ f xs ++ f ys)
+entries_each : (set : Part → Bool) (f : List Entry → List Entry) (ps : List Part) → f [] ≡ []
+    → ((xs ys : List Entry) → f (xs ++ ys) ≡ f xs ++ f ys)
     → entries_of (map (λ p. touch (set p) f p) ps) ≡ f (entries_of ps)
 entries_each set f [] empty joins = sym empty
-entries_each set f (p ∷ ps) empty joins = ap (λ es. f p.entries ++ es) (entries_each set f ps empty joins) ∙ sym (joins p.entries (entries_of ps))
+entries_each set f (p ∷ ps) empty joins = ap (λ es. f p.entries ++ es) (entries_each set f ps empty joins)
+    ∙ sym (joins p.entries (entries_of ps))
 
 pub entries_unlink : (n : Name) (d : Directory) → entries (unlink_in n d) ≡ without n (entries d)
 entries_unlink n d = entries_each (has_name n) (without n) (parts d) refl (filter-append (λ (e : Entry). not (is_named n e)))

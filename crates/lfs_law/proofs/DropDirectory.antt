@@ -25,13 +25,15 @@ use Rattle.lfs_law.proofs.InDirectory.{same_first_entries, empty_first}
 
 -- ---- behind a directory d
 
-sum_taken : (g : Directory → ℕ) (k : Pair) (d : Directory) (ds : List Directory) (gone : Directory) → ((x y : Directory) → g (absorb x y) ≡ g x) → find (begins_at k) ds ≡ Some gone
+sum_taken : (g : Directory → ℕ) (k : Pair) (d : Directory) (ds : List Directory) (gone : Directory)
+    → ((x y : Directory) → g (absorb x y) ≡ g x) → find (begins_at k) ds ≡ Some gone
     → sum_by g (take_out k d ds) + g gone ≡ sum_by g (d ∷ ds)
 unfolding take_out
 sum_taken g k d [] gone same found = cc
 sum_taken g k d (e ∷ ds) gone same found = go (begins_at k e) found (sum_taken g k e ds gone same)
   where
-    go : (b : Bool) → (if b then Some e else find (begins_at k) ds) ≡ Some gone → (find (begins_at k) ds ≡ Some gone → sum_by g (take_out k e ds) + g gone ≡ sum_by g (e ∷ ds))
+    go : (b : Bool) → (if b then Some e else find (begins_at k) ds) ≡ Some gone
+        → (find (begins_at k) ds ≡ Some gone → sum_by g (take_out k e ds) + g gone ≡ sum_by g (e ∷ ds))
         → sum_by g (if b then absorb d e ∷ ds else d ∷ take_out k e ds) + g gone ≡ sum_by g (d ∷ e ∷ ds)
     go true is later =
         let this : g e ≡ g gone = cc in
@@ -43,14 +45,16 @@ unfolding take_out
 delta_taken k d [] = refl
 delta_taken k d (e ∷ ds) = go (begins_at k e) (delta_taken k e ds)
   where
-    go : (b : Bool) → delta_of (thread (take_out k e ds)) ≡ delta_of (thread (e ∷ ds)) → delta_of (thread (if b then absorb d e ∷ ds else d ∷ take_out k e ds)) ≡ delta_of (thread (d ∷ e ∷ ds))
+    go : (b : Bool) → delta_of (thread (take_out k e ds)) ≡ delta_of (thread (e ∷ ds))
+        → delta_of (thread (if b then absorb d e ∷ ds else d ∷ take_out k e ds)) ≡ delta_of (thread (d ∷ e ∷ ds))
     go true later =
         delta_append (parts (absorb d e)) (thread ds)
         ∙ ap (λ (x : ℕ). bit_xor x (delta_of (thread ds))) (delta_absorb d e)
         ∙ xor_assoc (delta_of (parts d)) (delta_of (parts e)) (delta_of (thread ds))
         ∙ ap (bit_xor (delta_of (parts d))) (sym (delta_append (parts e) (thread ds)))
         ∙ sym (delta_append (parts d) (thread (e ∷ ds)))
-    go false later = delta_append (parts d) (thread (take_out k e ds)) ∙ ap (bit_xor (delta_of (parts d))) later ∙ sym (delta_append (parts d) (thread (e ∷ ds)))
+    go false later = delta_append (parts d) (thread (take_out k e ds)) ∙ ap (bit_xor (delta_of (parts d))) later
+        ∙ sym (delta_append (parts d) (thread (e ∷ ds)))
 
 starts_taken : (k : Pair) (d : Directory) (ds : List Directory) → d.first.pair ≡ root → StartsAtRoot (take_out k d ds)
 unfolding take_out
@@ -61,7 +65,8 @@ starts_taken k d (e ∷ ds) starts = go (begins_at k e)
     go true = first_same d (absorb d e) (pairs_absorb d e) ∙ starts
     go false = starts
 
-All-taken : (P : Directory → Type 0) (k : Pair) (d : Directory) (ds : List Directory) → ((x y : Directory) → P x → P (absorb x y)) → P d → All P ds → All P (take_out k d ds)
+All-taken : (P : Directory → Type 0) (k : Pair) (d : Directory) (ds : List Directory) → ((x y : Directory) → P x → P (absorb x y)) → P d
+    → All P ds → All P (take_out k d ds)
 unfolding take_out
 All-taken P k d [] keeps this all = All-cons P d [] this all
 All-taken P k d (e ∷ ds) keeps this all = go (begins_at k e) (All-taken P k e ds keeps (All-head P e ds all) (All-tail P e ds all))
@@ -70,22 +75,27 @@ All-taken P k d (e ∷ ds) keeps this all = go (begins_at k e) (All-taken P k e 
     go true later = All-cons P (absorb d e) ds (keeps d e this) (All-tail P e ds all)
     go false later = All-cons P d (take_out k e ds) this later
 
-edges_taken : (k : Pair) (d : Directory) (ds : List Directory) (gone : Directory) (j : Pair) (m : Name) → find (begins_at k) ds ≡ Some gone → entries gone ≡ [] → count_by (begins_at k) ds ≡ 1
+edges_taken : (k : Pair) (d : Directory) (ds : List Directory) (gone : Directory) (j : Pair) (m : Name) → find (begins_at k) ds ≡ Some gone
+    → entries gone ≡ [] → count_by (begins_at k) ds ≡ 1
     → entry_in (take_out k d ds) j m ≡ entry_in (d ∷ ds) j m
 unfolding take_out
 edges_taken k d [] gone j m found empty once = refl
 edges_taken k d (e ∷ ds) gone j m found empty once = go (begins_at k e) refl found (edges_taken k e ds gone j m)
   where
     go : (b : Bool) → begins_at k e ≡ b → (if b then Some e else find (begins_at k) ds) ≡ Some gone
-        → (find (begins_at k) ds ≡ Some gone → entries gone ≡ [] → count_by (begins_at k) ds ≡ 1 → entry_in (take_out k e ds) j m ≡ entry_in (e ∷ ds) j m)
+        → (find (begins_at k) ds ≡ Some gone → entries gone ≡ [] → count_by (begins_at k) ds ≡ 1
+        → entry_in (take_out k e ds) j m ≡ entry_in (e ∷ ds) j m)
         → entry_in (if b then absorb d e ∷ ds else d ∷ take_out k e ds) j m ≡ entry_in (d ∷ e ∷ ds) j m
     go true at is later =
         let this : e ≡ gone = cc in
         let alone : find (begins_at k) ds ≡ None = none_counted (begins_at k) ds (grind (arith, count_cases (begins_at k) e ds)) in
         let fresh : begins_at j e ≡ true → find (begins_at j) ds ≡ None =
-        λ here. ap (λ (p : Pair). find (begins_at p) ds) ((same_pair_decides j (key e)).0 here ∙ sym ((same_pair_decides k (key e)).0 at)) ∙ alone in
-        same_first_entries j m d (absorb d e) (e ∷ ds) ds (pairs_absorb d e) (entries_absorb d e) (sym (empty_first j m e ds (ap entries this ∙ empty) fresh))
-    go false at is later = same_first_entries j m d d (e ∷ ds) (take_out k e ds) refl refl (later is empty (grind (arith, count_cases (begins_at k) e ds)))
+        λ here. ap (λ (p : Pair). find (begins_at p) ds) ((same_pair_decides j (key e)).0 here ∙ sym ((same_pair_decides k (key e)).0 at))
+        ∙ alone in
+        same_first_entries j m d (absorb d e) (e ∷ ds) ds (pairs_absorb d e) (entries_absorb d e)
+        (sym (empty_first j m e ds (ap entries this ∙ empty) fresh))
+    go false at is later = same_first_entries j m d d (e ∷ ds) (take_out k e ds) refl refl
+        (later is empty (grind (arith, count_cases (begins_at k) e ds)))
 
 -- ---- in a volume
 
@@ -98,13 +108,16 @@ behind_first k d other starts = go (begins_at k d) refl
     go false is = refl
 
 -- its directory is found behind the first one
-found_behind : (k : Pair) (d : Directory) (ds : List Directory) (gone : Directory) → (k ≡ root → ⊥) → d.first.pair ≡ root → find (begins_at k) (d ∷ ds) ≡ Some gone → find (begins_at k) ds ≡ Some gone
+found_behind : (k : Pair) (d : Directory) (ds : List Directory) (gone : Directory) → (k ≡ root → ⊥) → d.first.pair ≡ root
+    → find (begins_at k) (d ∷ ds) ≡ Some gone → find (begins_at k) ds ≡ Some gone
 found_behind k d ds gone other starts found = grind (arith, behind_first k d other starts)
 
-counted_behind : (k : Pair) (d : Directory) (ds : List Directory) → (k ≡ root → ⊥) → d.first.pair ≡ root → count_by (begins_at k) (d ∷ ds) ≡ 1 → count_by (begins_at k) ds ≡ 1
+counted_behind : (k : Pair) (d : Directory) (ds : List Directory) → (k ≡ root → ⊥) → d.first.pair ≡ root
+    → count_by (begins_at k) (d ∷ ds) ≡ 1 → count_by (begins_at k) ds ≡ 1
 counted_behind k d ds other starts once = grind (arith, behind_first k d other starts, count_cases (begins_at k) d ds)
 
-pub drop_effect : (k : Pair) (gone : Directory) (ds : List Directory) → (k ≡ root → ⊥) → StartsAtRoot ds → find (begins_at k) ds ≡ Some gone → Effect (of_directory gone) none ds (drop_directory k ds)
+pub drop_effect : (k : Pair) (gone : Directory) (ds : List Directory) → (k ≡ root → ⊥) → StartsAtRoot ds → find (begins_at k) ds ≡ Some gone
+    → Effect (of_directory gone) none ds (drop_directory k ds)
 drop_effect k gone [] other starts found = absurd starts
 drop_effect k gone (d ∷ ds) other starts found =
     let there = found_behind k d ds gone other starts found in
@@ -113,16 +126,25 @@ drop_effect k gone (d ∷ ds) other starts found =
           let same : (x y : Directory) → directory_uses b (absorb x y) ≡ directory_uses b x =
           λ x y. omega (arith, pair_uses_same b x (absorb x y) (pairs_absorb x y), ap (sum_by (entry_uses b)) (entries_absorb x y)) in
           omega (arith, sum_taken (directory_uses b) k d ds gone same there);
-      names = λ j. omega (arith, sum_taken (names_of j) k d ds gone (λ x y. ap (sum_by (λ (e : Entry). leads_to j (target e))) (entries_absorb x y)) there);
+      names = λ j. omega (
+        arith,
+        sum_taken (names_of j) k d ds gone (λ x y.
+            ap (sum_by (λ (e : Entry). leads_to j (target e))) (entries_absorb x y)) there,
+      );
       directories = λ j.
           let same : (x y : Directory) → cond {A = ℕ} (begins_at j (absorb x y)) 1 0 ≡ cond (begins_at j x) 1 0 =
           λ x y. ap (λ (b : Bool). cond {A = ℕ} b 1 0) (begins_same j x (absorb x y) (pairs_absorb x y)) in
-          omega (arith, sum_taken (λ (x : Directory). cond {A = ℕ} (begins_at j x) 1 0) k d ds gone same there, sum_by-cons (λ (x : Directory). cond {A = ℕ} (begins_at j x) 1 0) gone []);
+          omega (
+            arith,
+            sum_taken (λ (x : Directory). cond {A = ℕ} (begins_at j x) 1 0) k d ds gone same there,
+            sum_by-cons (λ (x : Directory). cond {A = ℕ} (begins_at j x) 1 0) gone [],
+          );
       starts = starts_taken k d ds;
       delta = delta_taken k d ds;
     }
 
-pub drop_edges : (k : Pair) (gone : Directory) (ds : List Directory) → (k ≡ root → ⊥) → StartsAtRoot ds → find (begins_at k) ds ≡ Some gone → entries gone ≡ [] → count_by (begins_at k) ds ≡ 1
+pub drop_edges : (k : Pair) (gone : Directory) (ds : List Directory) → (k ≡ root → ⊥) → StartsAtRoot ds → find (begins_at k) ds ≡ Some gone
+    → entries gone ≡ [] → count_by (begins_at k) ds ≡ 1
     → (j : Pair) (m : Name) → entry_in (drop_directory k ds) j m ≡ entry_in ds j m
 drop_edges k gone [] other starts found empty once j m = refl
 drop_edges k gone (d ∷ ds) other starts found empty once j m =
@@ -134,6 +156,8 @@ drop_good limits k (d ∷ ds) good =
     let rises : Directory → Type 0 = λ (x : Directory). Rise (entries x) in
     let fits : Directory → Type 0 = λ (x : Directory). All (IsProper limits) (entries x) in
     record {
-      order = All-taken rises k d ds (λ x y rise. subst Rise (sym (entries_absorb x y)) rise) (All-head rises d ds good.order) (All-tail rises d ds good.order);
-      proper = All-taken fits k d ds (λ x y all. subst (All (IsProper limits)) (sym (entries_absorb x y)) all) (All-head fits d ds good.proper) (All-tail fits d ds good.proper);
+      order = All-taken rises k d ds (λ x y rise. subst Rise (sym (entries_absorb x y)) rise) (All-head rises d ds good.order)
+          (All-tail rises d ds good.order);
+      proper = All-taken fits k d ds (λ x y all. subst (All (IsProper limits)) (sym (entries_absorb x y)) all)
+          (All-head fits d ds good.proper) (All-tail fits d ds good.proper);
     }

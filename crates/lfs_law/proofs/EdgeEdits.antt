@@ -41,7 +41,8 @@ pub record IsBalanced (v : Volume) (old x : Option Entry) (gone came : Counts) :
   pub keeps : (k : Pair) → gone.directories k ≡ 0 → option_and_then target old ≡ Some k → option_and_then target x ≡ Some k
   pub comes : (k : Pair) → 0 < came.directories k → option_and_then target x ≡ Some k
 
-pub edge_sound : (v : Volume) (ds : List Directory) (front : Path) (k : Pair) (n : Name) (x : Option Entry) (gone came : Counts) → OneEdge v (with_directories v ds) front k n x
+pub edge_sound : (v : Volume) (ds : List Directory) (front : Path) (k : Pair) (n : Name) (x : Option Entry) (gone came : Counts)
+    → OneEdge v (with_directories v ds) front k n x
     → Alike v (with_directories v ds) (entry_at v (front ++ n ∷ [])) x → Effect gone came v.directories ds → AreGood v.limits ds
     → IsBalanced v (entry_at v (front ++ n ∷ [])) x gone came → IsSound (with_directories v ds)
 edge_sound v ds front k n x gone came edge alike effect good even =

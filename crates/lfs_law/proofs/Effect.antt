@@ -30,7 +30,11 @@ of_directory d = record { uses = λ b. directory_uses b d; names = λ k. names_o
 
 -- those of two
 abbrev pub of_both : Counts → Counts → Counts
-of_both c d = record { uses = λ b. c.uses b + d.uses b; names = λ k. c.names k + d.names k; directories = λ k. c.directories k + d.directories k }
+of_both c d = record {
+  uses = λ b. c.uses b + d.uses b;
+  names = λ k. c.names k + d.names k;
+  directories = λ k. c.directories k + d.directories k;
+}
 
 -- es are ds less what is in `gone`, with what is in `came`: without subtraction, after + gone ≡ before + came
 pub record Effect (gone came : Counts) (ds es : List Directory) : Type 0 where
@@ -41,7 +45,8 @@ pub record Effect (gone came : Counts) (ds es : List Directory) : Type 0 where
   pub delta : delta_of (thread es) ≡ delta_of (thread ds)
 
 -- one edit after another
-pub in_a_row : (gone came later_gone later_came : Counts) (ds es fs : List Directory) → Effect gone came ds es → Effect later_gone later_came es fs
+pub in_a_row : (gone came later_gone later_came : Counts) (ds es fs : List Directory) → Effect gone came ds es
+    → Effect later_gone later_came es fs
     → Effect (of_both gone later_gone) (of_both came later_came) ds fs
 in_a_row gone came later_gone later_came ds es fs first second = record {
   uses = λ b. omega (arith, first.uses b, second.uses b);

@@ -22,10 +22,12 @@ with_name n o = option_map (λ (k : Pair). (k, n)) o
 in_home : (ds : List Directory) (k : Pair) (n m : Name) (o : Option Pair) → with_name m o ≡ Some (k, n)
     → option_and_then (λ j. entry_in ds j m) o ≡ entry_in ds k n
 in_home ds k n m None home = absurd (none-some (k, n) home)
-in_home ds k n m (Some j) home = let same = some_pair_parts j k m n home in ap (λ (i : Pair). entry_in ds i m) same.0 ∙ ap (entry_in ds k) same.1
+in_home ds k n m (Some j) home = let same = some_pair_parts j k m n home in
+    ap (λ (i : Pair). entry_in ds i m) same.0 ∙ ap (entry_in ds k) same.1
 
 -- what stands at a path is what its last name names in the directory where that belongs
-pub stands_at_home : (v : Volume) (path : Path) (k : Pair) (n : Name) → home_of v path ≡ Some (k, n) → entry_at v path ≡ entry_in v.directories k n
+pub stands_at_home : (v : Volume) (path : Path) (k : Pair) (n : Name) → home_of v path ≡ Some (k, n)
+    → entry_at v path ≡ entry_in v.directories k n
 stands_at_home v path k n home = elim (last_name path) [
   | inl is ↦ absurd (none-some (k, n) (ap (home_of v) (sym is) ∙ home))
   | inr s ↦

@@ -34,13 +34,15 @@ has_other_name m n differ e is = go (is_named m e) refl
 -- ---- an entry put into a list
 
 -- before a greater name of the first list
-pub place_early : (e : Entry) (xs ys : List Entry) → list_any (λ f. precedes e.name f.name) xs ≡ true → place e (xs ++ ys) ≡ place e xs ++ ys
+pub place_early : (e : Entry) (xs ys : List Entry) → list_any (λ f. precedes e.name f.name) xs ≡ true
+    → place e (xs ++ ys) ≡ place e xs ++ ys
 unfolding place
 place_early e [] ys some = cc
 place_early e (f ∷ xs) ys some = grind (arith, place_early e xs ys)
 
 -- behind all names of the first list
-pub place_late : (e : Entry) (xs ys : List Entry) → list_any (λ f. precedes e.name f.name) xs ≡ false → place e (xs ++ ys) ≡ xs ++ place e ys
+pub place_late : (e : Entry) (xs ys : List Entry) → list_any (λ f. precedes e.name f.name) xs ≡ false
+    → place e (xs ++ ys) ≡ xs ++ place e ys
 unfolding place
 place_late e [] ys no_one = refl
 place_late e (f ∷ xs) ys no_one = grind (arith, place_late e xs ys)
@@ -80,22 +82,27 @@ Rise-place e (f ∷ xs) ordered fresh rise = go (precedes e.name f.name) refl (R
   where
     go : (b : Bool) → precedes e.name f.name ≡ b → Rise (place e xs) → Rise (if b then e ∷ f ∷ xs else f ∷ place e xs)
     go true before later_rise =
-        let later : All (λ g. precedes e.name g.name ≡ true) xs = All-weaker (λ (g : Entry). precedes f.name g.name ≡ true) (λ g. precedes e.name g.name ≡ true)
+        let later : All (λ g. precedes e.name g.name ≡ true) xs = All-weaker (λ (g : Entry). precedes f.name g.name ≡ true)
+        (λ g. precedes e.name g.name ≡ true)
         (λ g h. ordered.transitive e.name f.name g.name before h) xs rise.0 in
         (All-cons (λ (g : Entry). precedes e.name g.name ≡ true) f xs before later, rise)
     go false not_before later_rise =
         let other : is_named e.name f ≡ false = grind arith in
-        let differ : e.name ≡ f.name → ⊥ = λ same. grind (arith, named_so e.name f same) in
-        (All-place (λ (g : Entry). precedes f.name g.name ≡ true) e xs (comes_before e.name f.name ordered differ not_before) rise.0, later_rise)
+        let differ : e.name ≡ f.name → ⊥ = λ same. grind (arith, named_so e.name f same) in (
+          All-place (λ (g : Entry). precedes f.name g.name ≡ true) e xs (comes_before e.name f.name ordered differ not_before) rise.0,
+          later_rise,
+        )
 
 -- ---- where names rise
 
 -- what comes later has another name
-none_later : (n : Name) (e : Entry) (es : List Entry) → NamesAreOrdered → is_named n e ≡ true → All (λ f. precedes e.name f.name ≡ true) es → find (is_named n) es ≡ None
+none_later : (n : Name) (e : Entry) (es : List Entry) → NamesAreOrdered → is_named n e ≡ true → All (λ f. precedes e.name f.name ≡ true) es
+    → find (is_named n) es ≡ None
 none_later n e [] ordered is all = refl
 none_later n e (f ∷ es) ordered is all =
     let before : precedes e.name f.name ≡ true = All-head (λ (f : Entry). precedes e.name f.name ≡ true) f es all in
-    let later : find (is_named n) es ≡ None = none_later n e es ordered is (All-tail (λ (f : Entry). precedes e.name f.name ≡ true) f es all) in
+    let later : find (is_named n) es ≡ None = none_later n e es ordered is
+    (All-tail (λ (f : Entry). precedes e.name f.name ≡ true) f es all) in
     let differ : n ≡ f.name → ⊥ = λ same. grind (arith, ordered.irreflexive n, name_is n e is) in
     let other : is_named n f ≡ false = go (is_named n f) refl differ in
     grind arith
@@ -105,10 +112,18 @@ none_later n e (f ∷ es) ordered is all =
     go false same differ = refl
 
 -- one entry has a name
-pub once_named : (n : Name) (es : List Entry) (e : Entry) → NamesAreOrdered → Rise es → find (is_named n) es ≡ Some e → count_by (is_named n) es ≡ 1
+pub once_named : (n : Name) (es : List Entry) (e : Entry) → NamesAreOrdered → Rise es → find (is_named n) es ≡ Some e
+    → count_by (is_named n) es ≡ 1
 once_named n [] e ordered rise found = cc
 once_named n (f ∷ es) e ordered rise found =
-    grind (arith, sum_by-cons (λ (x : Entry). if is_named n x then 1 else 0) f es, none_later n f es ordered, count_none (is_named n) es, once_named n es e ordered rise.1, rise.0)
+    grind (
+      arith,
+      sum_by-cons (λ (x : Entry). if is_named n x then 1 else 0) f es,
+      none_later n f es ordered,
+      count_none (is_named n) es,
+      once_named n es e ordered rise.1,
+      rise.0,
+    )
 
 pub Rise-without : (n : Name) (es : List Entry) → Rise es → Rise (without n es)
 Rise-without n [] rise = tt
@@ -122,14 +137,20 @@ Rise-without n (e ∷ es) rise = go (is_named n e) (Rise-without n es rise.1)
 abbrev pub KeepsName : (Entry → Entry) → Type 0
 KeepsName f = (e : Entry) → (f e).name ≡ e.name
 
-precede_changed : (m n : Name) (f : Entry → Entry) (es : List Entry) → KeepsName f → All (λ g. precedes m g.name ≡ true) es → All (λ g. precedes m g.name ≡ true) (changed n f es)
+precede_changed : (m n : Name) (f : Entry → Entry) (es : List Entry) → KeepsName f → All (λ g. precedes m g.name ≡ true) es
+    → All (λ g. precedes m g.name ≡ true) (changed n f es)
 precede_changed m n f es keeps all =
-    All-where (λ (g : Entry). precedes m g.name ≡ true) (is_named n) f es (λ x is before. subst (λ k. precedes m k ≡ true) (sym (keeps x)) before) all
+    All-where (λ (g : Entry). precedes m g.name ≡ true) (is_named n) f es
+    (λ x is before. subst (λ k. precedes m k ≡ true) (sym (keeps x)) before) all
 
 pub Rise-changed : (n : Name) (f : Entry → Entry) (es : List Entry) → KeepsName f → Rise es → Rise (changed n f es)
 Rise-changed n f [] keeps rise = tt
 Rise-changed n f (e ∷ es) keeps rise = go (is_named n e) (Rise-changed n f es keeps rise.1)
   where
     go : (b : Bool) → Rise (changed n f es) → Rise ((if b then f e else e) ∷ changed n f es)
-    go true later = (subst (λ m. All (λ (g : Entry). precedes m g.name ≡ true) (changed n f es)) (sym (keeps e)) (precede_changed e.name n f es keeps rise.0), later)
+    go true later = (
+      subst (λ m. All (λ (g : Entry). precedes m g.name ≡ true) (changed n f es)) (sym (keeps e))
+          (precede_changed e.name n f es keeps rise.0),
+      later,
+    )
     go false later = (precede_changed e.name n f es keeps rise.0, later)

@@ -1,5 +1,6 @@
 -- A command changes at most two parts, a new directory's own aside.
-use Rattle.std.proofs.Common.{◌≡◌, ℕ, ◌+◌, ◌≤◌, ◌&&◌, ◌||◌, not, Bool, true, false, cond, List, [], ◌∷◌, length, refl, ap, sym, ◌∙◌, subst, arith, Option, Some, None}
+use Rattle.std.proofs.Common.{◌≡◌, ℕ, ◌+◌, ◌≤◌, ◌&&◌, ◌||◌, not, Bool, true, false, cond, List, [], ◌∷◌, length, refl, ap, sym, ◌∙◌, subst}
+use Rattle.std.proofs.Common.{arith, Option, Some, None}
 use Rattle.std.specs.Prelude.{All, sum_by, count_by}
 use Rattle.std.specs.Option.{option_and_then, option_map}
 use Rattle.std.proofs.lemmas.Option.{none-some, same_Some}
@@ -21,7 +22,8 @@ use Rattle.lfs_command.specs.ThreadEdit.{link, unlink, add_after}
 use Rattle.lfs_command.specs.Command.{Mkdir, Put, Rm, Mv, SetAttr, RmAttr}
 use Rattle.lfs_command.specs.Supplies.{Supplies, new_body}
 use Rattle.lfs_command.specs.Home.{split_last, home_of}
-use Rattle.lfs_command.specs.Edited.{with_body, with_entry_attributes, renamed, new_entry, empty_directory, set_attributes, make_directory, put_file, drop_target, remove_entry, move_entry, edited}
+use Rattle.lfs_command.specs.Edited.{with_body, with_entry_attributes, renamed, new_entry, empty_directory, set_attributes, make_directory}
+use Rattle.lfs_command.specs.Edited.{put_file, drop_target, remove_entry, move_entry, edited}
 use Rattle.lfs_command.specs.Clean.{IsClean}
 use Rattle.lfs_command.specs.Need.{changed_parts}
 use Rattle.lfs_command.specs.declared.refusal.Refusal.TheVariants.{IsRoot}
@@ -44,16 +46,21 @@ use Rattle.lfs_law.proofs.MkdirFollows.{IsNewPair, none_begins}
 pub home_once : (v : Volume) (p : Path) (h : Pair × Name) → IsSound v → home_of v p ≡ Some h → count_by (begins_at h.0) v.directories ≡ 1
 home_once v p h sound is = split_by (split_last p) is
   where
-    target_by : (s : Path × Name) (e : Entry) (o : Option Pair) → entry_at v s.0 ≡ Some e → target e ≡ o → option_map (λ (k : Pair). (k, s.1)) o ≡ Some h → count_by (begins_at h.0) v.directories ≡ 1
+    target_by : (s : Path × Name) (e : Entry) (o : Option Pair) → entry_at v s.0 ≡ Some e → target e ≡ o
+        → option_map (λ (k : Pair). (k, s.1)) o ≡ Some h → count_by (begins_at h.0) v.directories ≡ 1
     target_by s e None here leads is' = absurd (none-some h is')
     target_by s e (Some k) here leads is' =
-        subst (λ (x : Pair). count_by (begins_at x) v.directories ≡ 1) (ap (λ (x : Pair × Name). x.0) (same_Some (k, s.1) h is')) (led_directory v sound s.0 e k here leads)
+        subst (λ (x : Pair). count_by (begins_at x) v.directories ≡ 1) (ap (λ (x : Pair × Name). x.0) (same_Some (k, s.1) h is'))
+        (led_directory v sound s.0 e k here leads)
 
-    entry_by : (s : Path × Name) (o : Option Entry) → entry_at v s.0 ≡ o → option_and_then (λ e. option_map (λ (k : Pair). (k, s.1)) (target e)) o ≡ Some h → count_by (begins_at h.0) v.directories ≡ 1
+    entry_by : (s : Path × Name) (o : Option Entry) → entry_at v s.0 ≡ o
+        → option_and_then (λ e. option_map (λ (k : Pair). (k, s.1)) (target e)) o ≡ Some h → count_by (begins_at h.0) v.directories ≡ 1
     entry_by s None here is' = absurd (none-some h is')
     entry_by s (Some e) here is' = target_by s e (target e) here refl is'
 
-    split_by : (o : Option (Path × Name)) → option_and_then (λ (s : Path × Name). option_and_then (λ e. option_map (λ (k : Pair). (k, s.1)) (target e)) (entry_at v s.0)) o ≡ Some h → count_by (begins_at h.0) v.directories ≡ 1
+    split_by : (o : Option (Path × Name)) → option_and_then (λ (s : Path × Name).
+        option_and_then (λ e. option_map (λ (k : Pair). (k, s.1)) (target e)) (entry_at v s.0)) o ≡ Some h
+        → count_by (begins_at h.0) v.directories ≡ 1
     split_by None is' = absurd (none-some h is')
     split_by (Some s) is' = entry_by s (entry_at v s.0) refl is'
 
@@ -67,26 +74,39 @@ fewer_by false new = omega arith
 pub changed_are_marked : (s : Supplies) (w : Volume) → length (changed_parts s w) ≤ marks (thread w.directories)
 changed_are_marked s w =
     let few : count_by (λ p. p.dirty && not (same_pair p.pair s.pair)) (thread w.directories) ≤ marks (thread w.directories) =
-    sum_by-le-sum_by (λ (p : Part). cond {A = ℕ} (p.dirty && not (same_pair p.pair s.pair)) 1 0) (λ (p : Part). cond {A = ℕ} p.dirty 1 0) (thread w.directories) (λ p. fewer_by p.dirty (same_pair p.pair s.pair)) in
+    sum_by-le-sum_by (λ (p : Part). cond {A = ℕ} (p.dirty && not (same_pair p.pair s.pair)) 1 0) (λ (p : Part). cond {A = ℕ} p.dirty 1 0)
+    (thread w.directories) (λ p. fewer_by p.dirty (same_pair p.pair s.pair)) in
     omega (arith, length-filter (λ (p : Part). p.dirty && not (same_pair p.pair s.pair)) (thread w.directories), few)
 
 pub unmarked : (ps : List Part) → All (λ p. p.dirty ≡ false) ps → marks ps ≡ 0
 unmarked [] clean = refl
 unmarked (p ∷ ps) clean =
-    omega (arith, ap (λ (t : Bool). cond {A = ℕ} t 1 0) (All-head (λ (q : Part). q.dirty ≡ false) p ps clean), unmarked ps (All-tail (λ (q : Part). q.dirty ≡ false) p ps clean), sum_by-cons (λ (q : Part). cond {A = ℕ} q.dirty 1 0) p ps)
+    omega (
+      arith,
+      ap (λ (t : Bool). cond {A = ℕ} t 1 0) (All-head (λ (q : Part). q.dirty ≡ false) p ps clean),
+      unmarked ps (All-tail (λ (q : Part). q.dirty ≡ false) p ps clean),
+      sum_by-cons (λ (q : Part). cond {A = ℕ} q.dirty 1 0) p ps,
+    )
 
 -- the number of parts of a kind, by directories
 pub count_thread : (f : Part → Bool) (ds : List Directory) → count_by f (thread ds) ≡ sum_by (λ d. count_by f (parts d)) ds
 count_thread f [] = refl
 count_thread f (d ∷ ds) =
-    omega (arith, ap (count_by f) (flat_map-cons parts d ds), sum_by-append (λ (p : Part). cond {A = ℕ} (f p) 1 0) (parts d) (thread ds), count_thread f ds, sum_by-cons (λ (e : Directory). count_by f (parts e)) d ds)
+    omega (
+      arith,
+      ap (count_by f) (flat_map-cons parts d ds),
+      sum_by-append (λ (p : Part). cond {A = ℕ} (f p) 1 0) (parts d) (thread ds),
+      count_thread f ds,
+      sum_by-cons (λ (e : Directory). count_by f (parts e)) d ds,
+    )
 
 split_by : (dirty new : Bool) → cond {A = ℕ} (dirty && not new) 1 0 + cond {A = ℕ} (dirty && new) 1 0 ≡ cond {A = ℕ} dirty 1 0
 split_by true true = refl
 split_by true false = refl
 split_by false new = refl
 
-count_splits : (pair : Pair) (ps : List Part) → count_by (λ p. p.dirty && not (same_pair p.pair pair)) ps + count_by (λ p. p.dirty && same_pair p.pair pair) ps ≡ marks ps
+count_splits : (pair : Pair) (ps : List Part) → count_by (λ p. p.dirty && not (same_pair p.pair pair)) ps
+    + count_by (λ p. p.dirty && same_pair p.pair pair) ps ≡ marks ps
 count_splits pair [] = refl
 count_splits pair (p ∷ ps) =
     omega (
@@ -100,42 +120,75 @@ count_splits pair (p ∷ ps) =
 
 -- ---- the commands
 
-pub set_few : (v : Volume) (p : Path) (f : Attributes → Attributes) → NamesAreOrdered → IsSound v → IsClean v → (h : Option (Pair × Name)) → home_of v p ≡ h → marks (thread (set_attributes v f h).directories) ≤ 2
+pub set_few : (v : Volume) (p : Path) (f : Attributes → Attributes) → NamesAreOrdered → IsSound v → IsClean v → (h : Option (Pair × Name))
+    → home_of v p ≡ h → marks (thread (set_attributes v f h).directories) ≤ 2
 set_few v p f ordered sound clean None is = omega (arith, marks_touch_first v.directories, unmarked (thread v.directories) clean)
 set_few v p f ordered sound clean (Some h) is =
-    omega (arith, marks_change v.limits h.0 h.1 (with_entry_attributes f) v.directories ordered (sound_is_good v sound) (home_once v p h sound is), unmarked (thread v.directories) clean)
+    omega (
+      arith,
+      marks_change v.limits h.0 h.1 (with_entry_attributes f) v.directories ordered (sound_is_good v sound)
+          (home_once v p h sound is),
+      unmarked (thread v.directories) clean,
+    )
 
-pub put_few : (v : Volume) (p : Path) (body : Body) → NamesAreOrdered → IsSound v → IsClean v → (h : Option (Pair × Name)) (old : Option Entry) → home_of v p ≡ h → marks (thread (put_file v body h old).directories) ≤ 2
+pub put_few : (v : Volume) (p : Path) (body : Body) → NamesAreOrdered → IsSound v → IsClean v
+    → (h : Option (Pair × Name)) (old : Option Entry) → home_of v p ≡ h → marks (thread (put_file v body h old).directories) ≤ 2
 put_few v p body ordered sound clean None old is = omega (arith, unmarked (thread v.directories) clean)
-put_few v p body ordered sound clean (Some h) None is = omega (arith, marks_link h.0 (new_entry h.1 body) v.directories (home_once v p h sound is), unmarked (thread v.directories) clean)
+put_few v p body ordered sound clean (Some h) None is = omega (
+  arith,
+  marks_link h.0 (new_entry h.1 body) v.directories (home_once v p h sound is),
+  unmarked (thread v.directories) clean,
+)
 put_few v p body ordered sound clean (Some h) (Some e) is =
-    omega (arith, marks_change v.limits h.0 h.1 (with_body body) v.directories ordered (sound_is_good v sound) (home_once v p h sound is), unmarked (thread v.directories) clean)
+    omega (
+      arith,
+      marks_change v.limits h.0 h.1 (with_body body) v.directories ordered (sound_is_good v sound) (home_once v p h sound is),
+      unmarked (thread v.directories) clean,
+    )
 
 drop_few : (k : Option Pair) (ds : List Directory) → marks (thread ds) ≤ 1 → marks (thread (drop_target k ds)) ≤ 2
 drop_few None ds few = omega (arith, few)
 drop_few (Some j) ds few = omega (arith, few, marks_drop j ds)
 
-pub remove_few : (v : Volume) (p : Path) → NamesAreOrdered → IsSound v → IsClean v → (h : Option (Pair × Name)) (old : Option Entry) → home_of v p ≡ h → marks (thread (remove_entry v h old).directories) ≤ 2
+pub remove_few : (v : Volume) (p : Path) → NamesAreOrdered → IsSound v → IsClean v → (h : Option (Pair × Name)) (old : Option Entry)
+    → home_of v p ≡ h → marks (thread (remove_entry v h old).directories) ≤ 2
 remove_few v p ordered sound clean None old is = omega (arith, unmarked (thread v.directories) clean)
 remove_few v p ordered sound clean (Some h) None is = omega (arith, unmarked (thread v.directories) clean)
 remove_few v p ordered sound clean (Some h) (Some e) is =
     drop_few (target e) (unlink h.0 h.1 v.directories)
-    (omega (arith, marks_unlink v.limits h.0 h.1 v.directories ordered (sound_is_good v sound) (home_once v p h sound is), unmarked (thread v.directories) clean))
+    (omega (
+      arith,
+      marks_unlink v.limits h.0 h.1 v.directories ordered (sound_is_good v sound) (home_once v p h sound is),
+      unmarked (thread v.directories) clean,
+    ))
 
-pub move_few : (v : Volume) (p q : Path) → NamesAreOrdered → IsSound v → IsClean v → (from to : Option (Pair × Name)) (old : Option Entry) → home_of v p ≡ from → home_of v q ≡ to → entry_at v p ≡ old
-    → ((h : Pair × Name) (e : Entry) → home_of v p ≡ Some h → entry_at v p ≡ Some e → entry_in v.directories h.0 h.1 ≡ Some e) → marks (thread (move_entry v from to old).directories) ≤ 2
+pub move_few : (v : Volume) (p q : Path) → NamesAreOrdered → IsSound v → IsClean v → (from to : Option (Pair × Name)) (old : Option Entry)
+    → home_of v p ≡ from → home_of v q ≡ to → entry_at v p ≡ old
+    → ((h : Pair × Name) (e : Entry) → home_of v p ≡ Some h → entry_at v p ≡ Some e → entry_in v.directories h.0 h.1 ≡ Some e)
+    → marks (thread (move_entry v from to old).directories) ≤ 2
 move_few v p q ordered sound clean None to old is goes here there = omega (arith, unmarked (thread v.directories) clean)
 move_few v p q ordered sound clean (Some h) None old is goes here there = omega (arith, unmarked (thread v.directories) clean)
 move_few v p q ordered sound clean (Some h) (Some g) None is goes here there = omega (arith, unmarked (thread v.directories) clean)
 move_few v p q ordered sound clean (Some h) (Some g) (Some e) is goes here there =
     let ds : List Directory = unlink h.0 h.1 v.directories in
-    let once : count_by (begins_at g.0) ds ≡ 1 = omega (arith, home_once v q g sound goes, (unlink_effect v.limits h.0 h.1 e v.directories ordered (sound_is_good v sound) (home_once v p h sound is) (there h e is here)).directories g.0) in
-    omega (arith, marks_unlink v.limits h.0 h.1 v.directories ordered (sound_is_good v sound) (home_once v p h sound is), unmarked (thread v.directories) clean, marks_link g.0 (renamed g.1 e) ds once)
+    let once : count_by (begins_at g.0) ds ≡ 1 = omega (
+      arith,
+      home_once v q g sound goes,
+      (unlink_effect v.limits h.0 h.1 e v.directories ordered (sound_is_good v sound) (home_once v p h sound is)
+          (there h e is here)).directories g.0,
+    ) in
+    omega (
+      arith,
+      marks_unlink v.limits h.0 h.1 v.directories ordered (sound_is_good v sound) (home_once v p h sound is),
+      unmarked (thread v.directories) clean,
+      marks_link g.0 (renamed g.1 e) ds once,
+    )
 
 new_part : (pair : Pair) → count_by (λ p. p.dirty && same_pair p.pair pair) (parts (empty_directory pair)) ≡ 1
 new_part pair = rw ((same_pair_decides pair pair).1 refl) refl
 
-make_few : (v : Volume) (p : Path) (s : Supplies) → IsSound v → IsClean v → IsNewPair v s.pair → (h : Option (Pair × Name)) → home_of v p ≡ h → length (changed_parts s (make_directory v s.pair h)) ≤ 2
+make_few : (v : Volume) (p : Path) (s : Supplies) → IsSound v → IsClean v → IsNewPair v s.pair → (h : Option (Pair × Name))
+    → home_of v p ≡ h → length (changed_parts s (make_directory v s.pair h)) ≤ 2
 make_few v p s sound clean new None is = omega (arith, changed_are_marked s v, unmarked (thread v.directories) clean)
 make_few v p s sound clean new (Some h) is =
     let d : Directory = empty_directory s.pair in
@@ -144,8 +197,10 @@ make_few v p s sound clean new (Some h) is =
     let ds : List Directory = add_after h.0 d linked in
     let once = home_once v p h sound is in
     let effect = link_effect h.0 e v.directories once in
-    let found = add_found h.0 d linked (omega (arith, once, effect.directories h.0)) (omega (arith, none_begins v s.pair new, effect.directories (key d))) in
-    let there : count_by (λ q. q.dirty && same_pair q.pair s.pair) (parts d) ≤ sum_by (λ x. count_by (λ q. q.dirty && same_pair q.pair s.pair) (parts x)) ds =
+    let found = add_found h.0 d linked (omega (arith, once, effect.directories h.0))
+    (omega (arith, none_begins v s.pair new, effect.directories (key d))) in
+    let there : count_by (λ q. q.dirty && same_pair q.pair s.pair) (parts d)
+    ≤ sum_by (λ x. count_by (λ q. q.dirty && same_pair q.pair s.pair) (parts x)) ds =
     found_le (λ (x : Directory). count_by (λ q. q.dirty && same_pair q.pair s.pair) (parts x)) (begins_at (key d)) ds d found in
     omega (
       arith,
@@ -164,23 +219,48 @@ make_few v p s sound clean new (Some h) is =
     one_mark pair = refl
 
 -- the entry at a path is the one under its last name at home
-pub at_home : (v : Volume) (p : Path) → IsPlaced v p → (h : Pair × Name) (e : Entry) → home_of v p ≡ Some h → entry_at v p ≡ Some e → entry_in v.directories h.0 h.1 ≡ Some e
+pub at_home : (v : Volume) (p : Path) → IsPlaced v p → (h : Pair × Name) (e : Entry) → home_of v p ≡ Some h → entry_at v p ≡ Some e
+    → entry_in v.directories h.0 h.1 ≡ Some e
 at_home v p at h e is here =
     let same : (at.home.pair, at.home.name) ≡ h = same_Some (at.home.pair, at.home.name) h (sym at.home.home ∙ is) in
     subst (λ (x : Pair × Name). entry_in v.directories x.0 x.1 ≡ Some e) same (sym at.edge ∙ here)
 
 pub few_parts_change : NamesAreOrdered → FewPartsChange
-few_parts_change ordered v (Mkdir p) s ok clean = make_few v p s ok.sound clean (record { once = ok.free.once; within = ok.free.within }) (home_of v p) refl
+few_parts_change ordered v (Mkdir p) s ok clean = make_few v p s ok.sound clean (record { once = ok.free.once; within = ok.free.within })
+    (home_of v p) refl
 few_parts_change ordered v (Put p bytes) s ok clean =
-    omega (arith, changed_are_marked s (edited v (Put p bytes) s), put_few v p (new_body v s bytes) ordered ok.sound clean (home_of v p) (entry_at v p) refl)
-few_parts_change ordered v (Rm p) s ok clean = omega (arith, changed_are_marked s (edited v (Rm p) s), remove_few v p ordered ok.sound clean (home_of v p) (entry_at v p) refl)
+    omega (
+      arith,
+      changed_are_marked s (edited v (Put p bytes) s),
+      put_few v p (new_body v s bytes) ordered ok.sound clean (home_of v p)
+          (entry_at v p) refl,
+    )
+few_parts_change ordered v (Rm p) s ok clean = omega (
+  arith,
+  changed_are_marked s (edited v (Rm p) s),
+  remove_few v p ordered ok.sound clean (home_of v p) (entry_at v p) refl,
+)
 few_parts_change ordered v (Mv p q) s ok clean =
     let below = first_passes (refuse_if (is_root p || is_root q) IsRoot) _ ok.unrefused in
     let walk = first_passes (walk_refusal (tree v) [] p) _ below.1 in
     let roots = neither (is_root p) (is_root q) (test_passes (is_root p || is_root q) IsRoot below.0) in
     let at = is_placed v p ok.sound (All-head (All IsName) p (q ∷ []) ok.names) roots.0 walk.0 in
-    omega (arith, changed_are_marked s (edited v (Mv p q) s), move_few v p q ordered ok.sound clean (home_of v p) (home_of v q) (entry_at v p) refl refl refl (at_home v p at))
+    omega (
+      arith,
+      changed_are_marked s (edited v (Mv p q) s),
+      move_few v p q ordered ok.sound clean (home_of v p) (home_of v q)
+          (entry_at v p) refl refl refl (at_home v p at),
+    )
 few_parts_change ordered v (SetAttr p k value) s ok clean =
-    omega (arith, changed_are_marked s (edited v (SetAttr p k value) s), set_few v p (set_attribute k value) ordered ok.sound clean (home_of v p) refl)
+    omega (
+      arith,
+      changed_are_marked s (edited v (SetAttr p k value) s),
+      set_few v p (set_attribute k value) ordered ok.sound clean (home_of v p) refl,
+    )
 few_parts_change ordered v (RmAttr p k) s ok clean =
-    omega (arith, changed_are_marked s (edited v (RmAttr p k) s), set_few v p (remove_attribute k) ordered ok.sound clean (home_of v p) refl)
+    omega (
+      arith,
+      changed_are_marked s (edited v (RmAttr p k) s),
+      set_few v p (remove_attribute k) ordered ok.sound clean
+          (home_of v p) refl,
+    )

@@ -4,7 +4,8 @@ use Rattle.std.specs.Prelude.{sum_by, find, if◌then◌else◌}
 use Rattle.std.proofs.lemmas.List.Sums.{sum_by-cons}
 use Rattle.std.proofs.lemmas.Option.{none-some, same_Some}
 
-found_cases : {X : Type 0} (b : Bool) (z x : X) (o : Option X) → (if b then Some z else o) ≡ Some x → ((b ≡ true) × (z ≡ x)) ⊎ ((b ≡ false) × (o ≡ Some x))
+found_cases : {X : Type 0} (b : Bool) (z x : X) (o : Option X) → (if b then Some z else o) ≡ Some x
+    → ((b ≡ true) × (z ≡ x)) ⊎ ((b ≡ false) × (o ≡ Some x))
 found_cases true z x o h = inl (refl, same_Some z x h)
 found_cases false z x o h = inr (refl, h)
 
@@ -20,7 +21,8 @@ found_le f a (z ∷ zs) x h = elim (found_cases (a z) z x (find a zs) h) [
 ]
 
 -- two different elements add up
-pub two_found_le : {X : Type 0} (f : X → ℕ) (a b : X → Bool) (xs : List X) (x y : X) → find a xs ≡ Some x → find b xs ≡ Some y → (x ≡ y → ⊥) → f x + f y ≤ sum_by f xs
+pub two_found_le : {X : Type 0} (f : X → ℕ) (a b : X → Bool) (xs : List X) (x y : X) → find a xs ≡ Some x → find b xs ≡ Some y → (x ≡ y → ⊥)
+    → f x + f y ≤ sum_by f xs
 two_found_le f a b [] x y h k different = absurd (none-some x h)
 two_found_le f a b (z ∷ zs) x y h k different = elim (found_cases (a z) z x (find a zs) h) [
   | inl t ↦ (elim (found_cases (b z) z y (find b zs) k) [

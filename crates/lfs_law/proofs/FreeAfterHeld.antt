@@ -15,7 +15,9 @@ use Rattle.lfs_law.proofs.Cleans.{clean_uses_all}
 use Rattle.lfs_law.proofs.CutsFollow.{filter_same, free_after_command}
 
 clean_free : (v : Volume) → free_blocks (clean v) ≡ free_blocks v
-clean_free v = filter_same (λ b. uses b (clean v) == 0) (λ b. uses b v == 0) (λ b. ap (λ (n : ℕ). n == 0) (clean_uses_all b v)) (range_with_len 0 v.count)
+clean_free v = filter_same (λ b. uses b (clean v) == 0) (λ b. uses b v == 0) (λ b. ap (λ (n : ℕ). n == 0) (clean_uses_all b v))
+    (range_with_len 0 v.count)
 
 pub free_after_held : NamesAreOrdered → RunsJoin Entry → FreeAfterHeld
-free_after_held ordered join v c s chosen ok pairs = clean_free (cut chosen (edited v c s)) ∙ free_after_command ordered join v c s chosen ok pairs
+free_after_held ordered join v c s chosen ok pairs = clean_free (cut chosen (edited v c s))
+    ∙ free_after_command ordered join v c s chosen ok pairs

@@ -1,5 +1,6 @@
 -- How many blocks a written outline changes.
-use Rattle.std.proofs.Common.{◌≡◌, ℕ, ◌+◌, ◌≤◌, ◌==◌, nat_lt, Bool, true, false, cond, List, [], ◌∷◌, ◌++◌, length, take, refl, ap, subst, arith, inl, inr, Option, Some, None}
+use Rattle.std.proofs.Common.{◌≡◌, ℕ, ◌+◌, ◌≤◌, ◌==◌, nat_lt, Bool, true, false, cond, List, [], ◌∷◌, ◌++◌, length, take, refl, ap, subst}
+use Rattle.std.proofs.Common.{arith, inl, inr, Option, Some, None}
 use Rattle.std.specs.Prelude.{Contains, if◌then◌else◌}
 use Rattle.std.specs.List.{list_any}
 use Rattle.std.proofs.lemmas.Bool.Decides.{nat_tests}
@@ -60,7 +61,8 @@ times_removed : (n : ℕ) (xs : List ℕ) → 1 ≤ times n xs → (m : ℕ) →
 times_removed n [] some m = let no : ⊥ = omega (arith, some) in absurd no
 times_removed n (x ∷ xs) some m = by (x == n) refl (λ later. times_removed n xs later m)
   where
-    by : (t : Bool) → (x == n) ≡ t → (1 ≤ times n xs → times m (removed n xs) + cond (n == m) 1 0 ≡ times m xs) → times m (if t then xs else x ∷ removed n xs) + cond (n == m) 1 0 ≡ times m (x ∷ xs)
+    by : (t : Bool) → (x == n) ≡ t → (1 ≤ times n xs → times m (removed n xs) + cond (n == m) 1 0 ≡ times m xs)
+        → times m (if t then xs else x ∷ removed n xs) + cond (n == m) 1 0 ≡ times m (x ∷ xs)
     by true is later =
         let same : x ≡ n = grind (arith, nat_tests) in
         omega (arith, times_cons m x xs, ap (λ (y : ℕ). cond {A = ℕ} (y == m) 1 0) same)
@@ -72,7 +74,8 @@ length_removed : (n : ℕ) (xs : List ℕ) → 1 ≤ times n xs → length (remo
 length_removed n [] some = let no : ⊥ = omega (arith, some) in absurd no
 length_removed n (x ∷ xs) some = by (x == n) refl (λ later. length_removed n xs later)
   where
-    by : (t : Bool) → (x == n) ≡ t → (1 ≤ times n xs → length (removed n xs) + 1 ≡ length xs) → length (if t then xs else x ∷ removed n xs) + 1 ≡ length (x ∷ xs)
+    by : (t : Bool) → (x == n) ≡ t → (1 ≤ times n xs → length (removed n xs) + 1 ≡ length xs)
+        → length (if t then xs else x ∷ removed n xs) + 1 ≡ length (x ∷ xs)
     by true is later = omega arith
     by false is later =
         let none : cond {A = ℕ} (x == n) 1 0 ≡ 0 = ap (λ (t : Bool). cond {A = ℕ} t 1 0) is in
@@ -95,9 +98,12 @@ later_passes (Some r ∷ rs) more h = cc
 
 pub enough_free : (v : Volume) (c : Command) → verdict v c ≡ None → need v c ≤ length (free_blocks v)
 enough_free v c h =
-    let small = first_passes (refuse_if (list_any (is_too_large (edited v c nothing)) (dirty_parts (edited v c nothing))) EntryTooLarge) _ (later_passes (checks v c) (room_checks v c) h) in
-    let free = first_passes (refuse_if (nat_lt (length (free_blocks v)) (need v c)) (NoSpace (need v c) (length (free_blocks v)))) _ small.1 in
-    not_less (length (free_blocks v)) (need v c) (test_passes (nat_lt (length (free_blocks v)) (need v c)) (NoSpace (need v c) (length (free_blocks v))) free.0)
+    let small = first_passes (refuse_if (list_any (is_too_large (edited v c nothing)) (dirty_parts (edited v c nothing))) EntryTooLarge) _
+    (later_passes (checks v c) (room_checks v c) h) in
+    let free = first_passes (refuse_if (nat_lt (length (free_blocks v)) (need v c)) (NoSpace (need v c) (length (free_blocks v))))
+    _ small.1 in
+    not_less (length (free_blocks v)) (need v c) (test_passes (nat_lt (length (free_blocks v)) (need v c))
+    (NoSpace (need v c) (length (free_blocks v))) free.0)
   where
     not_less : (n m : ℕ) → nat_lt n m ≡ false → m ≤ n
     not_less n m is = grind (arith, nat_tests)
@@ -111,7 +117,8 @@ one_of d p numbers inside = elim (other_is_one d p.pair) [
 ]
 
 -- they are the least free ones, as many as the command needs, and one of the pair of each part that it rewrites
-pub changed_named : (d : Disk) (v : Volume) (c : Command) (s : Supplies) (chosen : Part → List Pair) (bytes : List ℕ) (attributes : Attributes) (base cs : List Change)
+pub changed_named : (d : Disk) (v : Volume) (c : Command) (s : Supplies) (chosen : Part → List Pair) (bytes : List ℕ)
+    (attributes : Attributes) (base cs : List Change)
     → IsAccepted v c s → AreChosen v c s chosen → TakesLeast v c s chosen → changed_blocks base ≡ content_blocks v c s
     → AreWritten d bytes attributes (is_new_to v) base (links (outlined (cut chosen (edited v c s))).directories) cs
     → (n : ℕ) → times n (changed_blocks cs) ≡ times n (take (need v c) (free_blocks v) ++ rewritten_blocks d v (edited v c s))
@@ -137,7 +144,8 @@ plans_are_frugal d v held c s chosen base p ok pairs least contents writes =
     let many : length old ≡ length (rewritten_parts v w) = length-map (rewritten_parts v w) (λ (q : Part). other_number d q.pair) in
     let all : length taken ≡ need v c = length-take-le (need v c) (free_blocks v) (enough_free v c ok.unrefused) in
     record {
-      free = All-weaker (Contains taken) (Contains numbers) (λ n there. times_contains n numbers (omega (arith, named n, times_append n taken old, times_there n taken there)))
+      free = All-weaker (Contains taken) (Contains numbers) (λ n there. times_contains n numbers
+          (omega (arith, named n, times_append n taken old, times_there n taken there)))
           taken (All-contains_itself taken);
       rewritten = All-weaker (Contains (rewritten_parts v w)) (HasOneOf numbers)
           (λ q there. one_of d q numbers

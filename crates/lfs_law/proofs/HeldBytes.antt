@@ -1,13 +1,15 @@
 -- What the tags of a block leave has contents of bytes, so that the words of a superblock's struct determine it.
 use Rattle.std.proofs.Common.{◌≡◌, ℕ, zero, suc, ◌+◌, ◌-◌, ◌*◌, ◌<◌, ◌≤◌, ◌==◌, ◌&&◌, ◌||◌, ◌/◌, ◌^◌, Bool, true, false, List}
-use Rattle.std.proofs.Common.{[], ◌∷◌, ◌++◌, length, take, drop, refl, ap, sym, ◌∙◌, subst, arith, Option, Some, None, inl, inr, if◌then◌else◌}
+use Rattle.std.proofs.Common.{[], ◌∷◌, ◌++◌, length, take, drop, refl, ap, sym, ◌∙◌, subst, arith, Option, Some, None, inl, inr}
+use Rattle.std.proofs.Common.{if◌then◌else◌}
 use Rattle.std.specs.Prelude.{bit_xor, All, IfSome, flat_map, option_and_then, option_map, slice_index_or}
 use Rattle.std.specs.Int.{w32, from_le_bytes, to_be_bytes, to_le_bytes}
 use Rattle.std.specs.List.{AllByRecursion}
 use Rattle.std.proofs.Math.ListN.{get_or-eq_default}
 use Rattle.std.proofs.lemmas.Bool.{cases_lt}
 use Rattle.std.proofs.lemmas.List.{take-append-drop, length-take-le, length-drop}
-use Rattle.std.proofs.lemmas.List.Elements.{All-nil, All-cons, All-head, All-tail, All-append, All-replicate, All-set, All-take, All-drop, All-get_or}
+use Rattle.std.proofs.lemmas.List.Elements.{All-nil, All-cons, All-head, All-tail, All-append, All-replicate, All-set, All-take, All-drop}
+use Rattle.std.proofs.lemmas.List.Elements.{All-get_or}
 use Rattle.std.proofs.lemmas.Nat.{le_bytes_4}
 use Rattle.std.proofs.lemmas.Option.{option_and_then_some}
 use Rattle.lfs_block.specs.Bytes.{IsBytes}
@@ -74,7 +76,8 @@ unfolding commits_bytes
 commits_have lead prev [] all = tt
 commits_have lead prev (c ∷ cs) all =
     let later : List ℕ = commits_bytes [] (next_word c) cs in
-    both_have c.tags (log_tags cs) (commit_has lead prev c (front_bytes (commit_bytes lead prev c) later all)) (commits_have [] (next_word c) cs (back_bytes (commit_bytes lead prev c) later all))
+    both_have c.tags (log_tags cs) (commit_has lead prev c (front_bytes (commit_bytes lead prev c) later all))
+    (commits_have [] (next_word c) cs (back_bytes (commit_bytes lead prev c) later all))
 
 log_has : (block : List ℕ) (cs : List Commit) (rest : List ℕ) → IsBytes block → IsLog block cs rest → AllByRecursion HasBytes (log_tags cs)
 log_has block cs rest all log =
@@ -82,7 +85,8 @@ log_has block cs rest all log =
     let commits : List ℕ = commits_bytes log.revision 0xffffffff cs in
     commits_have log.revision 0xffffffff cs (back_bytes log.revision commits (front_bytes (log.revision ++ commits) rest parts))
 
-block_has : BlocksHaveALog → (d : Disk) (n : ℕ) (log : LogSeen) (tags : List Item) → IsDisk d → n < d.count → log ≡ log_seen (block_of d n) → log.tags ≡ tags → AllByRecursion HasBytes tags
+block_has : BlocksHaveALog → (d : Disk) (n : ℕ) (log : LogSeen) (tags : List Item) → IsDisk d → n < d.count → log ≡ log_seen (block_of d n)
+    → log.tags ≡ tags → AllByRecursion HasBytes tags
 block_has logs d n log tags disk below is same =
     let block : List ℕ = block_of d n in
     let there = logs block (omega (arith, block_len d n disk below, disk.geometry.size_fits.0)) (block_bytes d n disk) in
@@ -93,9 +97,11 @@ same_tags : (log : LogSeen) (tags : List Item) → ◌≡◌ {A = Option (List I
 same_tags log tags is = cc
 
 live_has : BlocksHaveALog → (d : Disk) (pair : Pair) (live : LiveBlock) (tags : List Item) → IsDisk d → pair.0 < d.count → pair.1 < d.count
-    → IsLive live (block_of d pair.0) (block_of d pair.1) → option_map (λ log. log.tags) (live_log live) ≡ Some tags → AllByRecursion HasBytes tags
+    → IsLive live (block_of d pair.0) (block_of d pair.1) → option_map (λ log. log.tags) (live_log live) ≡ Some tags
+    → AllByRecursion HasBytes tags
 live_has logs d pair (First log) tags disk first second read is = block_has logs d pair.0 log tags disk first read.0 (same_tags log tags is)
-live_has logs d pair (Second log) tags disk first second read is = block_has logs d pair.1 log tags disk second read.0 (same_tags log tags is)
+live_has logs d pair (Second log) tags disk first second read is = block_has logs d pair.1 log tags disk second read.0
+    (same_tags log tags is)
 live_has logs d pair Neither tags disk first second read is = cc
 
 -- ---- entries as tags leave them
@@ -132,7 +138,8 @@ read_has i xs all = elim (cases_lt i (length xs)) [
   | inr past ↦ subst RawHas (sym (get_or-eq_default xs blank past)) blank_has
 ]
 
-at_has : (i : ℕ) (f : RawEntry → RawEntry) (xs : List RawEntry) → ((e : RawEntry) → RawHas e → RawHas (f e)) → All RawHas xs → All RawHas (at_entry i f xs)
+at_has : (i : ℕ) (f : RawEntry → RawEntry) (xs : List RawEntry) → ((e : RawEntry) → RawHas e → RawHas (f e)) → All RawHas xs
+    → All RawHas (at_entry i f xs)
 at_has i f xs keeps all = All-set RawHas xs i (f (slice_index_or xs i blank)) (keeps (slice_index_or xs i blank) (read_has i xs all)) all
 
 up_to_has : (i : ℕ) (xs : List RawEntry) → All RawHas xs → All RawHas (up_to i xs)
@@ -143,8 +150,10 @@ PartHas p = All RawHas p.entries
 
 -- Each type of tag has the action of one of eight types, the last of which has none.
 by_action : (k : ℕ) (p : RawPart) (t : Item) (G : Option RawPart → Type 0)
-    → G (step_by (action_of 0x401) p t) → G (step_by (action_of 0x4ff) p t) → G (step_by (action_of 0x001) p t) → G (step_by (action_of 0x200) p t)
-    → G (step_by (action_of 0x300) p t) → G (step_by (action_of 0x600) p t) → G (step_by (action_of 0x7ff) p t) → G (step_by (action_of 0x000) p t)
+    → G (step_by (action_of 0x401) p t) → G (step_by (action_of 0x4ff) p t) → G (step_by (action_of 0x001) p t)
+    → G (step_by (action_of 0x200) p t)
+    → G (step_by (action_of 0x300) p t) → G (step_by (action_of 0x600) p t) → G (step_by (action_of 0x7ff) p t)
+    → G (step_by (action_of 0x000) p t)
     → G (step_by (action_of k) p t)
 unfolding action_of
 by_action k p t G creates deletes names embodies attributes tails deltas none =
@@ -164,11 +173,14 @@ step_has : (p q : RawPart) (t : Item) → step p t ≡ Some q → HasBytes t →
 unfolding action_of acted
 step_has p q t e item all =
     by_action (kind_of t.word) p t (λ o. o ≡ Some q → PartHas q)
-    (λ is. taken _ _ q is (All-append RawHas (take (id_of t.word) p.entries) (blank ∷ drop (id_of t.word) p.entries) (All-take RawHas (id_of t.word) p.entries all)
+    (λ is. taken _ _ q is (All-append RawHas (take (id_of t.word) p.entries) (blank ∷ drop (id_of t.word) p.entries)
+    (All-take RawHas (id_of t.word) p.entries all)
     (All-cons RawHas blank (drop (id_of t.word) p.entries) blank_has (All-drop RawHas (id_of t.word) p.entries all))))
-    (λ is. taken _ _ q is (All-append RawHas (take (id_of t.word) p.entries) (drop (suc (id_of t.word)) p.entries) (All-take RawHas (id_of t.word) p.entries all)
+    (λ is. taken _ _ q is (All-append RawHas (take (id_of t.word) p.entries) (drop (suc (id_of t.word)) p.entries)
+    (All-take RawHas (id_of t.word) p.entries all)
     (All-drop RawHas (suc (id_of t.word)) p.entries all)))
-    (λ is. taken _ _ q is (at_has (id_of t.word) (named_by t) (up_to (id_of t.word) p.entries) (λ e has. has) (up_to_has (id_of t.word) p.entries all)))
+    (λ is. taken _ _ q is (at_has (id_of t.word) (named_by t) (up_to (id_of t.word) p.entries) (λ e has. has)
+    (up_to_has (id_of t.word) p.entries all)))
     (λ is. taken _ _ q is (at_has (id_of t.word) (embodied_by t) p.entries (λ e has. named_has (kind_of t.word) t.content item) all))
     (λ is. taken _ _ q is (at_has (id_of t.word) (attributed_by t) p.entries (λ e has. has) all))
     (λ is. taken _ _ q is all)
@@ -179,7 +191,8 @@ step_has p q t e item all =
     none_some : (q : RawPart) → None ≡ Some q → ⊥
     none_some q is = cc
 
-rest_has : (o : Option RawPart) (f : RawPart → Option RawPart) (q : RawPart) → option_and_then f o ≡ Some q → ((p : RawPart) → o ≡ Some p → f p ≡ Some q → PartHas q) → PartHas q
+rest_has : (o : Option RawPart) (f : RawPart → Option RawPart) (q : RawPart) → option_and_then f o ≡ Some q
+    → ((p : RawPart) → o ≡ Some p → f p ≡ Some q → PartHas q) → PartHas q
 rest_has None f q e more = cc
 rest_has (Some p) f q e more = more p refl e
 
@@ -203,7 +216,8 @@ when_both true true x w e = cc
 when_both true false x w e = cc
 when_both false u x w e = cc
 
-whole_has : (n : Option (Kind × Name)) (b : Option StoredBody) (attributes : Attributes) (w : StoredEntry) → IfSome b ContentHas → whole_by n b attributes ≡ Some w → StoredHas w
+whole_has : (n : Option (Kind × Name)) (b : Option StoredBody) (attributes : Attributes) (w : StoredEntry) → IfSome b ContentHas
+    → whole_by n b attributes ≡ Some w → StoredHas w
 whole_has None b attributes w has is = cc
 whole_has (Some n) None attributes w has is = cc
 whole_has (Some n) (Some b) attributes w has is =
@@ -211,7 +225,8 @@ whole_has (Some n) (Some b) attributes w has is =
     subst StoredHas (when_both (kind_takes_body n.0 b) (kind_takes_name n.0 n.1) x w is) has
 
 by_first : (e : RawEntry) (o : Option StoredEntry) (os : Option (List StoredEntry)) (ws : List StoredEntry) → RawHas e → whole e ≡ o
-    → option_and_then (λ w. option_map (λ vs. w ∷ vs) os) o ≡ Some ws → ((vs : List StoredEntry) → os ≡ Some vs → All StoredHas vs) → All StoredHas ws
+    → option_and_then (λ w. option_map (λ vs. w ∷ vs) os) o ≡ Some ws → ((vs : List StoredEntry) → os ≡ Some vs → All StoredHas vs)
+    → All StoredHas ws
 by_first e None os ws has is all later = cc
 by_first e (Some w) None ws has is all later = cc
 by_first e (Some w) (Some vs) ws has is all later =
@@ -220,17 +235,20 @@ by_first e (Some w) (Some vs) ws has is all later =
 
 all_have : (es : List RawEntry) (ws : List StoredEntry) → All RawHas es → all_whole es ≡ Some ws → All StoredHas ws
 all_have [] ws have all = let none : [] ≡ ws = cc in subst (All StoredHas) none (All-nil StoredHas)
-all_have (e ∷ es) ws have all = by_first e (whole e) (all_whole es) ws (All-head RawHas e es have) refl all (λ vs. all_have es vs (All-tail RawHas e es have))
+all_have (e ∷ es) ws have all = by_first e (whole e) (all_whole es) ws (All-head RawHas e es have) refl all
+    (λ vs. all_have es vs (All-tail RawHas e es have))
 
 by_part : (p : RawPart) (o : Option (List StoredEntry)) (s : StoredPart) → PartHas p → all_whole p.entries ≡ o
-    → option_map (λ (es : List StoredEntry). let q : StoredPart = record { entries = es; tail = p.tail; delta = p.delta } in q) o ≡ Some s → All StoredHas s.entries
+    → option_map (λ (es : List StoredEntry). let q : StoredPart = record { entries = es; tail = p.tail; delta = p.delta } in q) o ≡ Some s
+    → All StoredHas s.entries
 by_part p None s has is some' = cc
 by_part p (Some ws) s has is some' =
     let same : ◌≡◌ {A = StoredPart} (record { entries = ws; tail = p.tail; delta = p.delta }) s = cc in
     subst (λ (q : StoredPart). All StoredHas q.entries) same (all_have p.entries ws has is)
 
 -- the contents of a part that a pair holds are bytes
-pub held_have : LiveBlocksAreRead → BlocksHaveALog → (d : Disk) (pair : Pair) (s : StoredPart) → IsDisk d → pair.0 < d.count → pair.1 < d.count
+pub held_have : LiveBlocksAreRead → BlocksHaveALog → (d : Disk) (pair : Pair) (s : StoredPart) → IsDisk d → pair.0 < d.count
+    → pair.1 < d.count
     → stored_part_of d pair ≡ Some s → All StoredHas s.entries
 held_have read logs d pair s disk first second is =
     option_and_then_some whole_part (option_and_then replay (tags_of d pair)) s is
@@ -252,6 +270,9 @@ spelled [] [] len all spell = refl
 spelled [] (b ∷ bytes) len all spell = let no : ⊥ = omega (arith, len) in absurd no
 spelled (w ∷ ws) bytes len all spell =
     let four : 4 ≤ length bytes = omega (arith, len) in
-    let front : to_le_bytes w32 w ≡ take 4 bytes = le_bytes_4 (take 4 bytes) w (length-take-le 4 bytes four) (take_bytes 4 bytes all) (sym spell.0) in
-    let rest : drop 4 bytes ≡ flat_map (to_le_bytes w32) ws = spelled ws (drop 4 bytes) (omega (arith, length-drop 4 bytes, len)) (drop_bytes 4 bytes all) spell.1 in
-    sym (take-append-drop 4 bytes) ∙ ap (λ (xs : List ℕ). xs ++ drop 4 bytes) (sym front) ∙ ap (λ (xs : List ℕ). to_le_bytes w32 w ++ xs) rest
+    let front : to_le_bytes w32 w ≡ take 4 bytes = le_bytes_4 (take 4 bytes) w (length-take-le 4 bytes four) (take_bytes 4 bytes all)
+    (sym spell.0) in
+    let rest : drop 4 bytes ≡ flat_map (to_le_bytes w32) ws = spelled ws (drop 4 bytes) (omega (arith, length-drop 4 bytes, len))
+    (drop_bytes 4 bytes all) spell.1 in
+    sym (take-append-drop 4 bytes) ∙ ap (λ (xs : List ℕ). xs ++ drop 4 bytes) (sym front)
+    ∙ ap (λ (xs : List ℕ). to_le_bytes w32 w ++ xs) rest

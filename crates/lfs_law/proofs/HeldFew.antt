@@ -22,7 +22,8 @@ others_fewer : (bytes : List ℕ) (attributes : Attributes) (others : List Store
 others_fewer bytes attributes others true = omega arith
 others_fewer bytes attributes others false = omega arith
 
-stored_few : HeldPartsHaveFewEntries → (d : Disk) (bytes : List ℕ) (attributes : Attributes) (l : Link) → IsDisk d → IsStored (reading_of d) bytes attributes l
+stored_few : HeldPartsHaveFewEntries → (d : Disk) (bytes : List ℕ) (attributes : Attributes) (l : Link) → IsDisk d
+    → IsStored (reading_of d) bytes attributes l
     → length l.part.entries ≤ 65536
 stored_few few d bytes attributes l disk s =
     let all : length s.stored.entries ≤ 65536 = few d l.part.pair s.stored disk s.read in

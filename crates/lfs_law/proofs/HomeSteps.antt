@@ -26,24 +26,29 @@ no_root [] n = refl
 no_root (m ∷ front) n = refl
 
 -- names are those of a front and a last one
-pub names_are : (ns fs : List (Bor Name)) (n : Bor Name) → ns ≡ fs ++ n ∷ [] → map (λ (x : Bor Name). x.now) ns ≡ map (λ x. x.now) fs ++ n.now ∷ []
+pub names_are : (ns fs : List (Bor Name)) (n : Bor Name) → ns ≡ fs ++ n ∷ []
+    → map (λ (x : Bor Name). x.now) ns ≡ map (λ x. x.now) fs ++ n.now ∷ []
 names_are ns fs n are = ap (map (λ (x : Bor Name). x.now)) are ∙ map-append (λ (x : Bor Name). x.now) fs (n ∷ [])
 
 -- the walk to the name's directory comes there
-pub is_home : (v : Volume) (path front : Path) (n : Name) (k : Pair) → path ≡ front ++ n ∷ [] → pair_at v.directories root front ≡ Some k → home_of v path ≡ Some (k, n)
+pub is_home : (v : Volume) (path front : Path) (n : Name) (k : Pair) → path ≡ front ++ n ∷ [] → pair_at v.directories root front ≡ Some k
+    → home_of v path ≡ Some (k, n)
 is_home v path front n k is leads =
     ap (home_of v) is ∙ (walks_go_by_pairs v).home (front ++ n ∷ [])
     ∙ ap (option_and_then (name_in v.directories)) (split_behind front n)
     ∙ ap (option_map (λ (j : Pair). (j, n))) leads
 
-checked : (v : Volume) (path front : Path) (n : Name) → path ≡ front ++ n ∷ [] → first_refusal (home_checks v path) ≡ first_refusal (walk_all v.directories root front ∷ [])
+checked : (v : Volume) (path front : Path) (n : Name) → path ≡ front ++ n ∷ []
+    → first_refusal (home_checks v path) ≡ first_refusal (walk_all v.directories root front ∷ [])
 checked v path front n is =
     ap (λ (p : Path). first_refusal (home_checks v p)) is
     ∙ ap (λ b. first_refusal (refuse_if b IsRoot ∷ walk_refusal (tree v) [] (front ++ n ∷ []) ∷ [])) (no_root front n)
     ∙ ap (λ (o : Option Refusal). first_refusal (o ∷ [])) ((walks_are_refused_by_pairs v).all front n)
 
-pub unrefused : (v : Volume) (path front : Path) (n : Name) → path ≡ front ++ n ∷ [] → walk_all v.directories root front ≡ None → first_refusal (home_checks v path) ≡ None
+pub unrefused : (v : Volume) (path front : Path) (n : Name) → path ≡ front ++ n ∷ [] → walk_all v.directories root front ≡ None
+    → first_refusal (home_checks v path) ≡ None
 unrefused v path front n is none = checked v path front n is ∙ ap (λ (o : Option Refusal). first_refusal (o ∷ [])) none
 
-pub refused : (v : Volume) (path front : Path) (n : Name) (r : Refusal) → path ≡ front ++ n ∷ [] → walk_all v.directories root front ≡ Some r → first_refusal (home_checks v path) ≡ Some r
+pub refused : (v : Volume) (path front : Path) (n : Name) (r : Refusal) → path ≡ front ++ n ∷ []
+    → walk_all v.directories root front ≡ Some r → first_refusal (home_checks v path) ≡ Some r
 refused v path front n r is refuses = checked v path front n is ∙ ap (λ (o : Option Refusal). first_refusal (o ∷ [])) refuses

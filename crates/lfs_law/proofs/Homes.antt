@@ -1,5 +1,6 @@
 -- Where the last name of a path belongs to, where no check refuses.
-use Rattle.std.proofs.Common.{◌≡◌, Bool, true, false, List, [], ◌∷◌, ◌++◌, refl, ap, sym, subst, append_assoc, append-nil, length, Option, Some, None}
+use Rattle.std.proofs.Common.{◌≡◌, Bool, true, false, List, [], ◌∷◌, ◌++◌, refl, ap, sym, subst, append_assoc, append-nil, length, Option}
+use Rattle.std.proofs.Common.{Some, None}
 use Rattle.std.specs.Prelude.{All}
 use Rattle.std.specs.Option.{option_map}
 use Rattle.std.proofs.lemmas.Option.{same_Some}
@@ -18,7 +19,8 @@ use Rattle.lfs_command.specs.Verdict.{refuse_if, first_refusal, walk_refusal_at,
 
 -- ---- checks that don't refuse
 
-pub first_passes : (a : Option Refusal) (rs : List (Option Refusal)) → first_refusal (a ∷ rs) ≡ None → (a ≡ None) × (first_refusal rs ≡ None)
+pub first_passes : (a : Option Refusal) (rs : List (Option Refusal)) → first_refusal (a ∷ rs) ≡ None
+    → (a ≡ None) × (first_refusal rs ≡ None)
 first_passes None rs h = (refl, h)
 first_passes (Some r) rs h = cc
 
@@ -38,8 +40,10 @@ walk_at_passes (Some (File bytes a)) rest h = cc
 walk_at_passes (Some (Dir a)) rest h = ((a, refl), h)
 
 -- where the walk doesn't refuse, all but the last name lead to a directory
-walk_passes : (at : Path → Option Node) (front q : Path) (n : Name) → walk_refusal at front (q ++ n ∷ []) ≡ None → IsDirectory (at (front ++ q))
-walk_passes at front [] n h = subst (λ p. IsDirectory (at p)) (sym (append-nil front)) (walk_at_passes (at front) (walk_refusal at (front ++ n ∷ []) []) h).0
+walk_passes : (at : Path → Option Node) (front q : Path) (n : Name) → walk_refusal at front (q ++ n ∷ []) ≡ None
+    → IsDirectory (at (front ++ q))
+walk_passes at front [] n h = subst (λ p. IsDirectory (at p)) (sym (append-nil front))
+    (walk_at_passes (at front) (walk_refusal at (front ++ n ∷ []) []) h).0
 walk_passes at front (m ∷ q) n h =
     let later = walk_passes at (front ++ m ∷ []) q n (walk_at_passes (at front) (walk_refusal at (front ++ m ∷ []) (q ++ n ∷ [])) h).1 in
     subst (λ p. IsDirectory (at p)) (append_assoc front (m ∷ []) q) later
@@ -75,10 +79,12 @@ leads_by (Inline bytes) a c h = cc
 leads_by (Chain blocks bytes) a c h = cc
 leads_by (Directory_at pair) a c h = (unordered pair, refl)
 
-pub directory_leads : (v : Volume) (p : Path) → IsDirectory (tree v p) → (e : Entry) × (k : Pair) × (entry_at v p ≡ Some e) × (target e ≡ Some k)
+pub directory_leads : (v : Volume) (p : Path) → IsDirectory (tree v p)
+    → (e : Entry) × (k : Pair) × (entry_at v p ≡ Some e) × (target e ≡ Some k)
 directory_leads v p h = by (entry_at v p) refl h.1
   where
-    by : (o : Option Entry) → entry_at v p ≡ o → option_map node o ≡ Some (Dir h.0) → (e : Entry) × (k : Pair) × (entry_at v p ≡ Some e) × (target e ≡ Some k)
+    by : (o : Option Entry) → entry_at v p ≡ o → option_map node o ≡ Some (Dir h.0)
+        → (e : Entry) × (k : Pair) × (entry_at v p ≡ Some e) × (target e ≡ Some k)
     by None is shows = cc
     by (Some e) is shows = let leads = leads_by e.body e.attributes h.0 (same_Some (node e) (Dir h.0) shows) in (e, leads.0, is, leads.1)
 
@@ -98,7 +104,8 @@ pub record HasHome (v : Volume) (p : Path) : Type 0 where
 pub has_home : (v : Volume) (p : Path) → All IsName p → is_root p ≡ false → walk_refusal (tree v) [] p ≡ None → HasHome v p
 has_home v p names below walk =
     let s = path_splits p below in
-    let above = directory_leads v s.front (walk_passes (tree v) [] s.front s.name (subst (λ x. walk_refusal (tree v) [] x ≡ None) s.whole walk)) in
+    let above = directory_leads v s.front (walk_passes (tree v) [] s.front s.name
+    (subst (λ x. walk_refusal (tree v) [] x ≡ None) s.whole walk)) in
     record {
       front = s.front;
       name = s.name;

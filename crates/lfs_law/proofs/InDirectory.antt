@@ -25,7 +25,8 @@ pub begins_elsewhere : (j k : Pair) → (j ≡ k → ⊥) → (d : Directory) �
 begins_elsewhere j k differ d is = go (begins_at j d) refl
   where
     go : (b : Bool) → begins_at j d ≡ b → b ≡ false
-    go true same = absurd (differ ((same_pair_decides j (unordered d.first.pair)).0 same ∙ sym ((same_pair_decides k (unordered d.first.pair)).0 is)))
+    go true same = absurd (differ ((same_pair_decides j (unordered d.first.pair)).0 same
+        ∙ sym ((same_pair_decides k (unordered d.first.pair)).0 is)))
     go false same = refl
 
 -- ---- what is found
@@ -34,18 +35,22 @@ begins_elsewhere j k differ d is = go (begins_at j d) refl
 abbrev pub KeepsAllParts : (Directory → Directory) → Type 0
 KeepsAllParts f = (d : Directory) → KeepsParts d (f d)
 
-pub find_here : (k : Pair) (f : Directory → Directory) (ds : List Directory) → KeepsAllParts f → find (begins_at k) (in_directory k f ds) ≡ option_map f (find (begins_at k) ds)
+pub find_here : (k : Pair) (f : Directory → Directory) (ds : List Directory) → KeepsAllParts f
+    → find (begins_at k) (in_directory k f ds) ≡ option_map f (find (begins_at k) ds)
 find_here k f ds keeps = find_where (begins_at k) f ds (λ d is. begins_same k d (f d) (keeps d).pairs ∙ is)
 
-pub find_elsewhere : (j k : Pair) (f : Directory → Directory) (ds : List Directory) → KeepsAllParts f → (j ≡ k → ⊥) → find (begins_at j) (in_directory k f ds) ≡ find (begins_at j) ds
-find_elsewhere j k f ds keeps differ = find_where_other (begins_at k) (begins_at j) f ds (λ d is. begins_same j d (f d) (keeps d).pairs) (begins_elsewhere j k differ)
+pub find_elsewhere : (j k : Pair) (f : Directory → Directory) (ds : List Directory) → KeepsAllParts f → (j ≡ k → ⊥)
+    → find (begins_at j) (in_directory k f ds) ≡ find (begins_at j) ds
+find_elsewhere j k f ds keeps differ = find_where_other (begins_at k) (begins_at j) f ds (λ d is. begins_same j d (f d) (keeps d).pairs)
+    (begins_elsewhere j k differ)
 
 -- the entry under a name in the directory that is found
 abbrev pub entry_of : Name → Option Directory → Option Entry
 entry_of n = option_and_then (λ d. find (is_named n) (entries d))
 
 -- f leaves what stands under the name
-same_entry : (m : Name) (f : Directory → Directory) (o : Option Directory) → ((d : Directory) → find (is_named m) (entries (f d)) ≡ find (is_named m) (entries d))
+same_entry : (m : Name) (f : Directory → Directory) (o : Option Directory)
+    → ((d : Directory) → find (is_named m) (entries (f d)) ≡ find (is_named m) (entries d))
     → entry_of m (option_map f o) ≡ entry_of m o
 same_entry m f None same = refl
 same_entry m f (Some d) same = same d
@@ -65,14 +70,17 @@ other_edges k n f ds keeps same j m other = go (same_pair j k) refl
 
 -- ---- what stands under a name of the first directory, and of the others
 
-entry_first : (j : Pair) (m : Name) (d : Directory) (ds : List Directory) → entry_in (d ∷ ds) j m ≡ (if begins_at j d then find (is_named m) (entries d) else entry_in ds j m)
+entry_first : (j : Pair) (m : Name) (d : Directory) (ds : List Directory)
+    → entry_in (d ∷ ds) j m ≡ (if begins_at j d then find (is_named m) (entries d) else entry_in ds j m)
 entry_first j m d ds = go (begins_at j d)
   where
-    go : (b : Bool) → entry_of m (if b then Some d else find (begins_at j) ds) ≡ (if b then find (is_named m) (entries d) else entry_in ds j m)
+    go : (b : Bool) → entry_of m (if b then Some d else find (begins_at j) ds)
+        ≡ (if b then find (is_named m) (entries d) else entry_in ds j m)
     go true = refl
     go false = refl
 
-pub same_first_entries : (j : Pair) (m : Name) (d new : Directory) (ds es : List Directory) → pairs (parts new) ≡ pairs (parts d) → entries new ≡ entries d → entry_in es j m ≡ entry_in ds j m
+pub same_first_entries : (j : Pair) (m : Name) (d new : Directory) (ds es : List Directory) → pairs (parts new) ≡ pairs (parts d)
+    → entries new ≡ entries d → entry_in es j m ≡ entry_in ds j m
     → entry_in (new ∷ es) j m ≡ entry_in (d ∷ ds) j m
 same_first_entries j m d new ds es key_same entries_same rest =
     entry_first j m new es
@@ -82,7 +90,8 @@ same_first_entries j m d new ds es key_same entries_same rest =
     ∙ sym (entry_first j m d ds)
 
 -- one without entries, at a pair where nothing comes after it
-pub empty_first : (j : Pair) (m : Name) (d : Directory) (ds : List Directory) → entries d ≡ [] → (begins_at j d ≡ true → find (begins_at j) ds ≡ None) → entry_in (d ∷ ds) j m ≡ entry_in ds j m
+pub empty_first : (j : Pair) (m : Name) (d : Directory) (ds : List Directory) → entries d ≡ []
+    → (begins_at j d ≡ true → find (begins_at j) ds ≡ None) → entry_in (d ∷ ds) j m ≡ entry_in ds j m
 empty_first j m d ds empty fresh = go (begins_at j d) refl
   where
     go : (b : Bool) → begins_at j d ≡ b → entry_of m (if b then Some d else find (begins_at j) ds) ≡ entry_in ds j m
@@ -91,7 +100,8 @@ empty_first j m d ds empty fresh = go (begins_at j d) refl
 
 -- ---- effects
 
-starts_in : (k : Pair) (f : Directory → Directory) (ds : List Directory) → KeepsAllParts f → StartsAtRoot ds → StartsAtRoot (in_directory k f ds)
+starts_in : (k : Pair) (f : Directory → Directory) (ds : List Directory) → KeepsAllParts f → StartsAtRoot ds
+    → StartsAtRoot (in_directory k f ds)
 starts_in k f [] keeps starts = starts
 starts_in k f (d ∷ ds) keeps starts = go (begins_at k d)
   where
@@ -99,7 +109,8 @@ starts_in k f (d ∷ ds) keeps starts = go (begins_at k d)
     go true = first_same d (f d) (keeps d).pairs ∙ starts
     go false = starts
 
-delta_in : (k : Pair) (f : Directory → Directory) (ds : List Directory) → KeepsAllParts f → delta_of (thread (in_directory k f ds)) ≡ delta_of (thread ds)
+delta_in : (k : Pair) (f : Directory → Directory) (ds : List Directory) → KeepsAllParts f
+    → delta_of (thread (in_directory k f ds)) ≡ delta_of (thread ds)
 delta_in k f [] keeps = refl
 delta_in k f (d ∷ ds) keeps =
     delta_append (parts (if begins_at k d then f d else d)) (thread (in_directory k f ds))
@@ -112,7 +123,8 @@ delta_in k f (d ∷ ds) keeps =
     go false = refl
 
 -- the directory of a pair changed by f, which takes out of its entries what is in `gone`, and puts in what is in `came`
-pub effect_in : (gone came : Counts) (k : Pair) (f : Directory → Directory) (ds : List Directory) (d : Directory) → KeepsAllParts f → find (begins_at k) ds ≡ Some d → count_by (begins_at k) ds ≡ 1
+pub effect_in : (gone came : Counts) (k : Pair) (f : Directory → Directory) (ds : List Directory) (d : Directory) → KeepsAllParts f
+    → find (begins_at k) ds ≡ Some d → count_by (begins_at k) ds ≡ 1
     → ((b : ℕ) → sum_by (entry_uses b) (entries (f d)) + gone.uses b ≡ sum_by (entry_uses b) (entries d) + came.uses b)
     → ((j : Pair) → names_of j (f d) + gone.names j ≡ names_of j d + came.names j)
     → ((j : Pair) → gone.directories j ≡ came.directories j)
@@ -121,7 +133,8 @@ effect_in gone came k f ds d keeps found once uses names directories = record {
   uses = λ b. omega (arith, uses b, pair_uses_same b d (f d) (keeps d).pairs, sum_where (directory_uses b) (begins_at k) f ds d found once);
   names = λ j. omega (arith, names j, sum_where (names_of j) (begins_at k) f ds d found once);
   directories = λ j.
-      let same : cond {A = ℕ} (begins_at j (f d)) 1 0 ≡ cond (begins_at j d) 1 0 = ap (λ (b : Bool). cond {A = ℕ} b 1 0) (begins_same j d (f d) (keeps d).pairs) in
+      let same : cond {A = ℕ} (begins_at j (f d)) 1 0 ≡ cond (begins_at j d) 1 0 =
+      ap (λ (b : Bool). cond {A = ℕ} b 1 0) (begins_same j d (f d) (keeps d).pairs) in
       omega (arith, directories j, same, sum_where (λ (x : Directory). cond {A = ℕ} (begins_at j x) 1 0) (begins_at k) f ds d found once);
   starts = starts_in k f ds keeps;
   delta = delta_in k f ds keeps;

@@ -2,7 +2,8 @@
 use Rattle.std.proofs.Common.{◌≡◌, ◌⊎◌, ℕ, Bool, true, false, ◌||◌, List, [], ◌∷◌, ◌++◌, refl, ap, sym, ◌∙◌, subst, arith, map, zero, suc}
 use Rattle.std.specs.Prelude.{All, Contains, if◌then◌else◌}
 use Rattle.std.specs.List.{list_any}
-use Rattle.std.proofs.lemmas.List.Elements.{All-head, All-tail, All-cons, All-nil, All-append, All-weaker, All-contains, All-contains_itself}
+use Rattle.std.proofs.lemmas.List.Elements.{All-head, All-tail, All-cons, All-nil, All-append, All-weaker, All-contains}
+use Rattle.std.proofs.lemmas.List.Elements.{All-contains_itself}
 use mathlib.Core.Logic.{inl, inr}
 use Rattle.lfs_meta.specs.declared.tail.Tail.{Tail}
 use Rattle.lfs_meta.specs.Name.{Name}
@@ -13,7 +14,8 @@ use Rattle.lfs_fs.specs.Directory.{Part, Directory, parts, begins_at}
 use Rattle.lfs_fs.specs.State.{delta_of}
 use Rattle.lfs_fs.specs.Thread.{Link, links_of, links, tail_to, hard_to, soft_to}
 use Rattle.lfs_command.specs.EntryEdit.{place, without, changed}
-use Rattle.lfs_command.specs.DirectoryEdit.{touch, has_name, unlink_in, change_in, behind, link_parts, link_in, touch_last_of, touch_last, absorb_in, absorb}
+use Rattle.lfs_command.specs.DirectoryEdit.{touch, has_name, unlink_in, change_in, behind, link_parts, link_in, touch_last_of, touch_last}
+use Rattle.lfs_command.specs.DirectoryEdit.{absorb_in, absorb}
 use Rattle.lfs_command.specs.ThreadEdit.{in_directory, link, unlink, change, add_after, take_out, drop_directory, touch_first}
 use Rattle.lfs_command.specs.Kept.{IsKept, KeepLinks}
 
@@ -44,8 +46,10 @@ contains_left (y ∷ xs) ys x h = elim (contains_cases y xs x h) [
 ]
 
 -- what is kept of few links is kept of more
-pub weaker : (old more : List Link) → ((l : Link) → Contains old l → Contains more l) → (ls : List Link) → All (IsKept old) ls → All (IsKept more) ls
-weaker old more there ls kept = All-weaker (IsKept old) (IsKept more) (λ l h. elim h [ inl set ↦ inl set | inr was ↦ inr (there l was) ]) ls kept
+pub weaker : (old more : List Link) → ((l : Link) → Contains old l → Contains more l) → (ls : List Link) → All (IsKept old) ls
+    → All (IsKept more) ls
+weaker old more there ls kept = All-weaker (IsKept old) (IsKept more)
+    (λ l h. elim h [ inl set ↦ inl set | inr was ↦ inr (there l was) ]) ls kept
 
 -- one edit after another
 pub keep_twice : (ds es fs : List Directory) → KeepLinks ds es → KeepLinks es fs → KeepLinks ds fs
@@ -59,7 +63,8 @@ pub keep_all : (ds : List Directory) → KeepLinks ds ds
 keep_all ds = itself (links ds)
 
 -- the links of a directory and of those behind it
-joined_kept : (here now there later : List Link) → All (IsKept here) now → All (IsKept there) later → All (IsKept (here ++ there)) (now ++ later)
+joined_kept : (here now there later : List Link) → All (IsKept here) now → All (IsKept there) later
+    → All (IsKept (here ++ there)) (now ++ later)
 joined_kept here now there later h k =
     All-append (IsKept (here ++ there)) now later
     (weaker here (here ++ there) (contains_left here there) now h)
@@ -72,14 +77,22 @@ pub record SetsParts (f : Part → Part) : Type 0 where
   pub pair : (p : Part) → (f p).pair ≡ p.pair
   pub sets : (p : Part) → ((f p).dirty ≡ true) ⊎ (f p ≡ p)
 
-one_kept : (f : Part → Part) → SetsParts f → (p : Part) (tail now : Tail) (more : List Link) → now ≡ tail → IsKept (record { part = p; tail = tail } ∷ more) (record { part = f p; tail = now })
+one_kept : (f : Part → Part) → SetsParts f → (p : Part) (tail now : Tail) (more : List Link) → now ≡ tail
+    → IsKept (record { part = p; tail = tail } ∷ more) (record { part = f p; tail = now })
 one_kept f h p tail now more is = elim (h.sets p) [
   | inl set ↦ inl set
-  | inr same ↦ inr (0, omega arith, ap (λ (q : Part). record { part = q; tail = tail }) (sym same) ∙ ap (λ (t : Tail). record { part = f p; tail = t }) (sym is))
+  | inr same ↦ inr (
+    0,
+    omega arith,
+    ap (λ (q : Part). record { part = q; tail = tail }) (sym same)
+        ∙ ap (λ (t : Tail). record { part = f p; tail = t }) (sym is),
+  )
 ]
 
-each_kept : (f : Part → Part) → SetsParts f → (p : Part) (ps : List Part) (tail : Tail) → All (IsKept (links_of p ps tail)) (links_of (f p) (map f ps) tail)
-each_kept f h p [] tail = All-cons (IsKept (links_of p [] tail)) (record { part = f p; tail = tail }) [] (one_kept f h p tail tail [] refl) (All-nil (IsKept (links_of p [] tail)))
+each_kept : (f : Part → Part) → SetsParts f → (p : Part) (ps : List Part) (tail : Tail)
+    → All (IsKept (links_of p ps tail)) (links_of (f p) (map f ps) tail)
+each_kept f h p [] tail = All-cons (IsKept (links_of p [] tail)) (record { part = f p; tail = tail }) [] (one_kept f h p tail tail [] refl)
+    (All-nil (IsKept (links_of p [] tail)))
 each_kept f h p (q ∷ ps) tail =
     All-cons (IsKept (links_of p (q ∷ ps) tail)) (record { part = f p; tail = hard_to (f q).pair }) (links_of (f q) (map f ps) tail)
     (one_kept f h p (hard_to q.pair) (hard_to (f q).pair) (links_of q ps tail) (ap hard_to (h.pair q)))
@@ -106,11 +119,13 @@ pub map_kept : (g : Directory → Directory) → KeepsPair g → KeepsLinks g �
 map_kept g h k [] = All-nil (IsKept [])
 map_kept g h k (d ∷ ds) =
     joined_kept (links_of d.first d.more (tail_to ds)) (links_of (g d).first (g d).more (tail_to (map g ds))) (links ds) (links (map g ds))
-    (subst (λ (t : Tail). All (IsKept (links_of d.first d.more (tail_to ds))) (links_of (g d).first (g d).more t)) (sym (tail_same g h ds)) (k d (tail_to ds)))
+    (subst (λ (t : Tail). All (IsKept (links_of d.first d.more (tail_to ds))) (links_of (g d).first (g d).more t)) (sym (tail_same g h ds))
+    (k d (tail_to ds)))
     (map_kept g h k ds)
 
 -- an edit of the directory at a pair
-pub at_pair : (k : Pair) (f : Directory → Directory) → KeepsPair f → (d : Directory) (t : Bool) → (if t then f d else d).first.pair ≡ d.first.pair
+pub at_pair : (k : Pair) (f : Directory → Directory) → KeepsPair f → (d : Directory) (t : Bool)
+    → (if t then f d else d).first.pair ≡ d.first.pair
 at_pair k f h d true = h d
 at_pair k f h d false = refl
 
@@ -119,13 +134,16 @@ at_links : (k : Pair) (f : Directory → Directory) → KeepsLinks f → (d : Di
 at_links k f h d tail true = h d tail
 at_links k f h d tail false = itself (links_of d.first d.more tail)
 
-in_directory_kept : (k : Pair) (f : Directory → Directory) → KeepsPair f → KeepsLinks f → (ds : List Directory) → KeepLinks ds (in_directory k f ds)
+in_directory_kept : (k : Pair) (f : Directory → Directory) → KeepsPair f → KeepsLinks f → (ds : List Directory)
+    → KeepLinks ds (in_directory k f ds)
 in_directory_kept k f h l ds =
-    map_kept (λ d. if begins_at k d then f d else d) (λ d. at_pair k f h d (begins_at k d)) (λ d tail. at_links k f l d tail (begins_at k d)) ds
+    map_kept (λ d. if begins_at k d then f d else d) (λ d. at_pair k f h d (begins_at k d))
+    (λ d tail. at_links k f l d tail (begins_at k d)) ds
 
 -- ---- entries taken out and changed
 
-no_name : (n : Name) (e : Entry) (es : List Entry) → list_any (is_named n) (e ∷ es) ≡ false → (is_named n e ≡ false) × (list_any (is_named n) es ≡ false)
+no_name : (n : Name) (e : Entry) (es : List Entry) → list_any (is_named n) (e ∷ es) ≡ false
+    → (is_named n e ≡ false) × (list_any (is_named n) es ≡ false)
 no_name n e es h = by (is_named n e) refl
   where
     by : (t : Bool) → is_named n e ≡ t → (is_named n e ≡ false) × (list_any (is_named n) es ≡ false)
@@ -145,7 +163,8 @@ changed_no_name n f (e ∷ es) h =
     rw (none.0, changed_no_name n f es none.1) refl
 
 -- a part without the name stays the same
-touched : (set : Bool) (f : List Entry → List Entry) (p : Part) → (set ≡ false → f p.entries ≡ p.entries) → ((touch set f p).dirty ≡ true) ⊎ (touch set f p ≡ p)
+touched : (set : Bool) (f : List Entry → List Entry) (p : Part) → (set ≡ false → f p.entries ≡ p.entries)
+    → ((touch set f p).dirty ≡ true) ⊎ (touch set f p ≡ p)
 touched set f p same = by p.dirty set refl refl
   where
     by : (was now : Bool) → p.dirty ≡ was → set ≡ now → ((touch set f p).dirty ≡ true) ⊎ (touch set f p ≡ p)
@@ -160,10 +179,12 @@ change_sets : (n : Name) (f : Entry → Entry) → SetsParts (λ p. touch (has_n
 change_sets n f = record { pair = λ p. refl; sets = λ p. touched (has_name n p) (changed n f) p (changed_no_name n f p.entries) }
 
 pub unlink_kept : (k : Pair) (n : Name) (ds : List Directory) → KeepLinks ds (unlink k n ds)
-unlink_kept k n ds = in_directory_kept k (unlink_in n) (λ d. refl) (λ d tail. each_kept (λ p. touch (has_name n p) (without n) p) (unlink_sets n) d.first d.more tail) ds
+unlink_kept k n ds = in_directory_kept k (unlink_in n) (λ d. refl) (λ d tail.
+    each_kept (λ p. touch (has_name n p) (without n) p) (unlink_sets n) d.first d.more tail) ds
 
 pub change_kept : (k : Pair) (n : Name) (f : Entry → Entry) (ds : List Directory) → KeepLinks ds (change k n f ds)
-change_kept k n f ds = in_directory_kept k (change_in n f) (λ d. refl) (λ d tail. each_kept (λ p. touch (has_name n p) (changed n f) p) (change_sets n f) d.first d.more tail) ds
+change_kept k n f ds = in_directory_kept k (change_in n f) (λ d. refl)
+    (λ d tail. each_kept (λ p. touch (has_name n p) (changed n f) p) (change_sets n f) d.first d.more tail) ds
 
 -- ---- an entry put in
 
@@ -174,7 +195,8 @@ set_dirty f p = by p.dirty
     by true = refl
     by false = refl
 
-link_pair_by : (e : Entry) (p q : Part) (ps : List Part) (t : Bool) → (if t then record { first = touch true (place e) p; more = q ∷ ps } else behind p (link_parts e q ps)).first.pair ≡ p.pair
+link_pair_by : (e : Entry) (p q : Part) (ps : List Part) (t : Bool) →
+    (if t then record { first = touch true (place e) p; more = q ∷ ps } else behind p (link_parts e q ps)).first.pair ≡ p.pair
 link_pair_by e p q ps true = refl
 link_pair_by e p q ps false = refl
 
@@ -184,30 +206,40 @@ link_pair e p [] = refl
 link_pair e p (q ∷ ps) = link_pair_by e p q ps (list_any (λ f. precedes e.name f.name) p.entries)
 
 -- a part in front of what is kept
-behind_kept : (p q : Part) (ps : List Part) (tail : Tail) (d : Directory) → d.first.pair ≡ q.pair → All (IsKept (links_of q ps tail)) (links_of d.first d.more tail)
+behind_kept : (p q : Part) (ps : List Part) (tail : Tail) (d : Directory) → d.first.pair ≡ q.pair
+    → All (IsKept (links_of q ps tail)) (links_of d.first d.more tail)
     → All (IsKept (links_of p (q ∷ ps) tail)) (links_of (behind p d).first (behind p d).more tail)
 behind_kept p q ps tail d same kept =
     All-cons (IsKept (links_of p (q ∷ ps) tail)) (record { part = p; tail = hard_to d.first.pair }) (links_of d.first d.more tail)
     (inr (0, omega arith, ap (λ (a : Pair). record { part = p; tail = hard_to a }) (sym same)))
-    (weaker (links_of q ps tail) (links_of p (q ∷ ps) tail) (contains-cons (record { part = p; tail = hard_to q.pair }) (links_of q ps tail)) (links_of d.first d.more tail) kept)
+    (weaker (links_of q ps tail) (links_of p (q ∷ ps) tail) (contains-cons (record { part = p; tail = hard_to q.pair })
+    (links_of q ps tail)) (links_of d.first d.more tail) kept)
 
-link_here : (e : Entry) (p q : Part) (ps : List Part) (tail : Tail) → All (IsKept (links_of p (q ∷ ps) tail)) (links_of (touch true (place e) p) (q ∷ ps) tail)
+link_here : (e : Entry) (p q : Part) (ps : List Part) (tail : Tail) → All (IsKept (links_of p (q ∷ ps) tail))
+    (links_of (touch true (place e) p) (q ∷ ps) tail)
 link_here e p q ps tail =
     All-cons (IsKept (links_of p (q ∷ ps) tail)) (record { part = touch true (place e) p; tail = hard_to q.pair }) (links_of q ps tail)
     (inl (set_dirty (place e) p))
-    (weaker (links_of q ps tail) (links_of p (q ∷ ps) tail) (contains-cons (record { part = p; tail = hard_to q.pair }) (links_of q ps tail)) (links_of q ps tail) (itself (links_of q ps tail)))
+    (weaker (links_of q ps tail) (links_of p (q ∷ ps) tail) (contains-cons (record { part = p; tail = hard_to q.pair })
+    (links_of q ps tail)) (links_of q ps tail) (itself (links_of q ps tail)))
 
-link_by : (e : Entry) (p q : Part) (ps : List Part) (tail : Tail) (t : Bool) → All (IsKept (links_of q ps tail)) (links_of (link_parts e q ps).first (link_parts e q ps).more tail)
+link_by : (e : Entry) (p q : Part) (ps : List Part) (tail : Tail) (t : Bool)
+    → All (IsKept (links_of q ps tail)) (links_of (link_parts e q ps).first (link_parts e q ps).more tail)
     → (d : Directory) → d ≡ (if t then record { first = touch true (place e) p; more = q ∷ ps } else behind p (link_parts e q ps))
     → All (IsKept (links_of p (q ∷ ps) tail)) (links_of d.first d.more tail)
-link_by e p q ps tail true rest d is = subst (λ (x : Directory). All (IsKept (links_of p (q ∷ ps) tail)) (links_of x.first x.more tail)) (sym is) (link_here e p q ps tail)
-link_by e p q ps tail false rest d is = subst (λ (x : Directory). All (IsKept (links_of p (q ∷ ps) tail)) (links_of x.first x.more tail)) (sym is)
+link_by e p q ps tail true rest d is = subst (λ (x : Directory). All (IsKept (links_of p (q ∷ ps) tail)) (links_of x.first x.more tail))
+    (sym is) (link_here e p q ps tail)
+link_by e p q ps tail false rest d is = subst (λ (x : Directory). All (IsKept (links_of p (q ∷ ps) tail)) (links_of x.first x.more tail))
+    (sym is)
     (behind_kept p q ps tail (link_parts e q ps) (link_pair e q ps) rest)
 
-link_parts_kept : (e : Entry) (p : Part) (ps : List Part) (tail : Tail) → All (IsKept (links_of p ps tail)) (links_of (link_parts e p ps).first (link_parts e p ps).more tail)
+link_parts_kept : (e : Entry) (p : Part) (ps : List Part) (tail : Tail)
+    → All (IsKept (links_of p ps tail)) (links_of (link_parts e p ps).first (link_parts e p ps).more tail)
 unfolding link_parts
-link_parts_kept e p [] tail = All-cons (IsKept (links_of p [] tail)) (record { part = touch true (place e) p; tail = tail }) [] (inl (set_dirty (place e) p)) (All-nil (IsKept (links_of p [] tail)))
-link_parts_kept e p (q ∷ ps) tail = link_by e p q ps tail (list_any (λ f. precedes e.name f.name) p.entries) (link_parts_kept e q ps tail) (link_parts e p (q ∷ ps)) refl
+link_parts_kept e p [] tail = All-cons (IsKept (links_of p [] tail)) (record { part = touch true (place e) p; tail = tail }) []
+    (inl (set_dirty (place e) p)) (All-nil (IsKept (links_of p [] tail)))
+link_parts_kept e p (q ∷ ps) tail = link_by e p q ps tail (list_any (λ f. precedes e.name f.name) p.entries) (link_parts_kept e q ps tail)
+    (link_parts e p (q ∷ ps)) refl
 
 pub link_kept : (k : Pair) (e : Entry) (ds : List Directory) → KeepLinks ds (link k e ds)
 link_kept k e ds = in_directory_kept k (link_in e) (λ d. link_pair e d.first d.more) (λ d tail. link_parts_kept e d.first d.more tail) ds
@@ -220,9 +252,11 @@ touch_last_pair p [] = refl
 touch_last_pair p (q ∷ ps) = refl
 
 -- whatever tail the last part gets
-touch_last_kept : (p : Part) (ps : List Part) (tail now : Tail) → All (IsKept (links_of p ps tail)) (links_of (touch_last_of p ps).first (touch_last_of p ps).more now)
+touch_last_kept : (p : Part) (ps : List Part) (tail now : Tail) → All (IsKept (links_of p ps tail))
+    (links_of (touch_last_of p ps).first (touch_last_of p ps).more now)
 unfolding touch_last_of
-touch_last_kept p [] tail now = All-cons (IsKept (links_of p [] tail)) (record { part = touch true (λ es. es) p; tail = now }) [] (inl (set_dirty (λ es. es) p)) (All-nil (IsKept (links_of p [] tail)))
+touch_last_kept p [] tail now = All-cons (IsKept (links_of p [] tail)) (record { part = touch true (λ es. es) p; tail = now }) []
+    (inl (set_dirty (λ es. es) p)) (All-nil (IsKept (links_of p [] tail)))
 touch_last_kept p (q ∷ ps) tail now =
     let d : Directory = touch_last_of q ps in
     All-cons (IsKept (links_of p (q ∷ ps) tail)) (record { part = p; tail = hard_to d.first.pair }) (links_of d.first d.more now)
@@ -238,9 +272,11 @@ unfolding absorb_in
 absorb_pair delta p [] = refl
 absorb_pair delta p (q ∷ ps) = refl
 
-absorb_kept : (delta : ℕ) (p : Part) (ps : List Part) (tail now : Tail) → All (IsKept (links_of p ps tail)) (links_of (absorb_in delta p ps).first (absorb_in delta p ps).more now)
+absorb_kept : (delta : ℕ) (p : Part) (ps : List Part) (tail now : Tail)
+    → All (IsKept (links_of p ps tail)) (links_of (absorb_in delta p ps).first (absorb_in delta p ps).more now)
 unfolding absorb_in
-absorb_kept delta p [] tail now = All-cons (IsKept (links_of p [] tail)) (record { part = (absorb_in delta p []).first; tail = now }) [] (inl refl) (All-nil (IsKept (links_of p [] tail)))
+absorb_kept delta p [] tail now = All-cons (IsKept (links_of p [] tail)) (record { part = (absorb_in delta p []).first; tail = now }) []
+    (inl refl) (All-nil (IsKept (links_of p [] tail)))
 absorb_kept delta p (q ∷ ps) tail now =
     let d : Directory = absorb_in delta q ps in
     All-cons (IsKept (links_of p (q ∷ ps) tail)) (record { part = p; tail = hard_to d.first.pair }) (links_of d.first d.more now)
@@ -255,10 +291,12 @@ absorb_kept delta p (q ∷ ps) tail now =
 later_kept : (d : Directory) (ds es : List Directory) → tail_to es ≡ tail_to ds → KeepLinks ds es → KeepLinks (d ∷ ds) (d ∷ es)
 later_kept d ds es same kept =
     joined_kept (links_of d.first d.more (tail_to ds)) (links_of d.first d.more (tail_to es)) (links ds) (links es)
-    (subst (λ (t : Tail). All (IsKept (links_of d.first d.more (tail_to ds))) (links_of d.first d.more t)) (sym same) (itself (links_of d.first d.more (tail_to ds))))
+    (subst (λ (t : Tail). All (IsKept (links_of d.first d.more (tail_to ds))) (links_of d.first d.more t)) (sym same)
+    (itself (links_of d.first d.more (tail_to ds))))
     kept
 
-all_set : (old : List Link) (p : Part) (ps : List Part) (tail : Tail) → p.dirty ≡ true → All (λ q. q.dirty ≡ true) ps → All (IsKept old) (links_of p ps tail)
+all_set : (old : List Link) (p : Part) (ps : List Part) (tail : Tail) → p.dirty ≡ true → All (λ q. q.dirty ≡ true) ps
+    → All (IsKept old) (links_of p ps tail)
 all_set old p [] tail set sets = All-cons (IsKept old) (record { part = p; tail = tail }) [] (inl set) (All-nil (IsKept old))
 all_set old p (q ∷ ps) tail set sets =
     All-cons (IsKept old) (record { part = p; tail = hard_to q.pair }) (links_of q ps tail) (inl set)
@@ -271,13 +309,16 @@ AllSet d = All (λ p. p.dirty ≡ true) (parts d)
 -- a directory with another last tail, and a new one behind it
 added_here : (d new : Directory) (ds : List Directory) → AllSet new → KeepLinks (d ∷ ds) (touch_last d ∷ new ∷ ds)
 added_here d new ds set =
-    joined_kept (links_of d.first d.more (tail_to ds)) (links_of (touch_last d).first (touch_last d).more (tail_to (new ∷ ds))) (links ds) (links (new ∷ ds))
+    joined_kept (links_of d.first d.more (tail_to ds)) (links_of (touch_last d).first (touch_last d).more (tail_to (new ∷ ds))) (links ds)
+    (links (new ∷ ds))
     (touch_last_kept d.first d.more (tail_to ds) (tail_to (new ∷ ds)))
     (All-append (IsKept (links ds)) (links_of new.first new.more (tail_to ds)) (links ds)
-    (all_set (links ds) new.first new.more (tail_to ds) (All-head (λ (p : Part). p.dirty ≡ true) new.first new.more set) (All-tail (λ (p : Part). p.dirty ≡ true) new.first new.more set))
+    (all_set (links ds) new.first new.more (tail_to ds) (All-head (λ (p : Part). p.dirty ≡ true) new.first new.more set)
+    (All-tail (λ (p : Part). p.dirty ≡ true) new.first new.more set))
     (itself (links ds)))
 
-added_tail_by : (k : Pair) (new d : Directory) (ds : List Directory) (t : Bool) → tail_to (if t then touch_last d ∷ new ∷ ds else d ∷ add_after k new ds) ≡ tail_to (d ∷ ds)
+added_tail_by : (k : Pair) (new d : Directory) (ds : List Directory) (t : Bool)
+    → tail_to (if t then touch_last d ∷ new ∷ ds else d ∷ add_after k new ds) ≡ tail_to (d ∷ ds)
 added_tail_by k new d ds true = ap soft_to (touch_last_pair d.first d.more)
 added_tail_by k new d ds false = refl
 
@@ -299,11 +340,14 @@ add_kept k new (d ∷ ds) set = added_by k new d ds (begins_at k d) set (add_kep
 -- a directory taken out behind another one, whose last tail changes
 taken_here : (d gone : Directory) (ds : List Directory) → KeepLinks (d ∷ gone ∷ ds) (absorb d gone ∷ ds)
 taken_here d gone ds =
-    joined_kept (links_of d.first d.more (tail_to (gone ∷ ds))) (links_of (absorb d gone).first (absorb d gone).more (tail_to ds)) (links (gone ∷ ds)) (links ds)
+    joined_kept (links_of d.first d.more (tail_to (gone ∷ ds))) (links_of (absorb d gone).first (absorb d gone).more (tail_to ds))
+    (links (gone ∷ ds)) (links ds)
     (absorb_kept (delta_of (parts gone)) d.first d.more (tail_to (gone ∷ ds)) (tail_to ds))
-    (weaker (links ds) (links (gone ∷ ds)) (contains_right (links_of gone.first gone.more (tail_to ds)) (links ds)) (links ds) (itself (links ds)))
+    (weaker (links ds) (links (gone ∷ ds)) (contains_right (links_of gone.first gone.more (tail_to ds)) (links ds)) (links ds)
+    (itself (links ds)))
 
-taken_tail_by : (k : Pair) (d e : Directory) (ds : List Directory) (t : Bool) → tail_to (if t then absorb d e ∷ ds else d ∷ take_out k e ds) ≡ tail_to (d ∷ e ∷ ds)
+taken_tail_by : (k : Pair) (d e : Directory) (ds : List Directory) (t : Bool)
+    → tail_to (if t then absorb d e ∷ ds else d ∷ take_out k e ds) ≡ tail_to (d ∷ e ∷ ds)
 taken_tail_by k d e ds true = ap soft_to (absorb_pair (delta_of (parts e)) d.first d.more)
 taken_tail_by k d e ds false = refl
 
@@ -312,7 +356,8 @@ unfolding take_out
 taken_tail k d [] = refl
 taken_tail k d (e ∷ ds) = taken_tail_by k d e ds (begins_at k e)
 
-taken_by : (k : Pair) (d e : Directory) (ds : List Directory) (t : Bool) → KeepLinks (e ∷ ds) (take_out k e ds) → KeepLinks (d ∷ e ∷ ds) (if t then absorb d e ∷ ds else d ∷ take_out k e ds)
+taken_by : (k : Pair) (d e : Directory) (ds : List Directory) (t : Bool) → KeepLinks (e ∷ ds) (take_out k e ds)
+    → KeepLinks (d ∷ e ∷ ds) (if t then absorb d e ∷ ds else d ∷ take_out k e ds)
 taken_by k d e ds true rest = taken_here d e ds
 taken_by k d e ds false rest = later_kept d (e ∷ ds) (take_out k e ds) (taken_tail k e ds) rest
 
@@ -327,13 +372,24 @@ drop_kept k (d ∷ ds) = take_kept k d ds
 
 -- ---- the first part
 
-first_kept : (p : Part) (ps : List Part) (tail : Tail) → All (IsKept (links_of p ps tail)) (links_of (record { pair = p.pair; entries = p.entries; delta = p.delta; dirty = true }) ps tail)
-first_kept p [] tail = All-cons (IsKept (links_of p [] tail)) (record { part = record { pair = p.pair; entries = p.entries; delta = p.delta; dirty = true }; tail = tail }) []
+first_kept : (p : Part) (ps : List Part) (tail : Tail) → All (IsKept (links_of p ps tail))
+    (links_of (record { pair = p.pair; entries = p.entries; delta = p.delta; dirty = true }) ps tail)
+first_kept p [] tail = All-cons (IsKept (links_of p [] tail)) (record
+    { part = record { pair = p.pair; entries = p.entries; delta = p.delta; dirty = true }; tail = tail }) []
     (inl refl) (All-nil (IsKept (links_of p [] tail)))
 first_kept p (q ∷ ps) tail =
-    All-cons (IsKept (links_of p (q ∷ ps) tail)) (record { part = record { pair = p.pair; entries = p.entries; delta = p.delta; dirty = true }; tail = hard_to q.pair }) (links_of q ps tail)
+    All-cons (IsKept (links_of p (q ∷ ps) tail)) (record {
+      part = record {
+        pair = p.pair;
+        entries = p.entries;
+        delta = p.delta;
+        dirty = true;
+      };
+      tail = hard_to q.pair;
+    }) (links_of q ps tail)
     (inl refl)
-    (weaker (links_of q ps tail) (links_of p (q ∷ ps) tail) (contains-cons (record { part = p; tail = hard_to q.pair }) (links_of q ps tail)) (links_of q ps tail) (itself (links_of q ps tail)))
+    (weaker (links_of q ps tail) (links_of p (q ∷ ps) tail) (contains-cons (record { part = p; tail = hard_to q.pair })
+    (links_of q ps tail)) (links_of q ps tail) (itself (links_of q ps tail)))
 
 pub touch_first_kept : (ds : List Directory) → KeepLinks ds (touch_first ds)
 touch_first_kept [] = All-nil (IsKept [])

@@ -27,15 +27,19 @@ use Rattle.lfs_law.proofs.WrittenLemmas.{times_there}
 
 -- the last block of a chain is its head
 head_is : (blocks : List ℕ) → 0 < length blocks → slice_get blocks (length blocks - 1) ≡ Some (head_of blocks)
-head_is blocks some = slice_get-get_or blocks (length blocks - 1) 0 (omega (arith, some)) ∙ ap Some (sym (unwrap_or-slice_get blocks (length blocks - 1) 0))
+head_is blocks some = slice_get-get_or blocks (length blocks - 1) 0 (omega (arith, some))
+    ∙ ap Some (sym (unwrap_or-slice_get blocks (length blocks - 1) 0))
 
 map_on : (f g : ℕ → List ℕ) (xs : List ℕ) → ((x : ℕ) → Contains xs x → f x ≡ g x) → map f xs ≡ map g xs
 map_on f g [] same = refl
-map_on f g (x ∷ xs) same = cons_same (f x) (g x) (map f xs) (map g xs) (same x (contains_first x xs)) (map_on f g xs (λ y there. same y (contains-cons x xs y there)))
+map_on f g (x ∷ xs) same = cons_same (f x) (g x) (map f xs) (map g xs) (same x (contains_first x xs))
+    (map_on f g xs (λ y there. same y (contains-cons x xs y there)))
 
 -- in an image of the same size whose blocks are those after the changes
-laid_there : LaidIsFound → LaidIsContent → (d e : Disk) (bytes blocks : List ℕ) (base : List Change) → IsDisk e → e.size ≡ d.size → LaysContents d bytes blocks base
-    → ((n : ℕ) → Contains blocks n → n < e.count) → ((n : ℕ) → Contains blocks n → block_of e n ≡ block_after d base n) → IsThere (reading_of e) (Chain blocks bytes)
+laid_there : LaidIsFound → LaidIsContent → (d e : Disk) (bytes blocks : List ℕ) (base : List Change) → IsDisk e → e.size ≡ d.size
+    → LaysContents d bytes blocks base
+    → ((n : ℕ) → Contains blocks n → n < e.count) → ((n : ℕ) → Contains blocks n → block_of e n ≡ block_after d base n)
+    → IsThere (reading_of e) (Chain blocks bytes)
 laid_there found content d e bytes blocks base disk size lays below same =
     let is : IsLaid e (head_of blocks) bytes blocks = record {
       count = lays.count ∙ ap (λ (n : ℕ). least_blocks n (length bytes)) (sym size);
@@ -46,24 +50,37 @@ laid_there found content d e bytes blocks base disk size lays below same =
     } in
     (found e (head_of blocks) bytes blocks disk is, sym (content e (head_of blocks) bytes blocks disk is))
 
-body_by : (d e : Disk) (bytes blocks : List ℕ) (t : Bool) → (t ≡ false → IsThere (reading_of e) (Chain blocks bytes)) → IsThere (reading_of e) (if t then Inline bytes else Chain blocks bytes)
+body_by : (d e : Disk) (bytes blocks : List ℕ) (t : Bool) → (t ≡ false → IsThere (reading_of e) (Chain blocks bytes))
+    → IsThere (reading_of e) (if t then Inline bytes else Chain blocks bytes)
 body_by d e bytes blocks true there = tt
 body_by d e bytes blocks false there = there refl
 
 pub laid_are_there : LaidIsFound → LaidIsContent → AppliedIsDisk → AppliedBlocks → LaidAreThere
-laid_are_there found content applied_disk applied_blocks d v held (Mkdir path) s chosen is_new base p disk patch stands free named lays written = tt
-laid_are_there found content applied_disk applied_blocks d v held (Rm path) s chosen is_new base p disk patch stands free named lays written = tt
-laid_are_there found content applied_disk applied_blocks d v held (Mv from to) s chosen is_new base p disk patch stands free named lays written = tt
-laid_are_there found content applied_disk applied_blocks d v held (SetAttr path k value) s chosen is_new base p disk patch stands free named lays written = tt
-laid_are_there found content applied_disk applied_blocks d v held (RmAttr path k) s chosen is_new base p disk patch stands free named lays written = tt
-laid_are_there found content applied_disk applied_blocks d v held (Put path bytes) s chosen is_new base p disk patch stands free named lays written =
+laid_are_there found content applied_disk applied_blocks d v held (Mkdir path) s chosen is_new base p disk patch stands free named
+    lays written = tt
+laid_are_there found content applied_disk applied_blocks d v held (Rm path) s chosen is_new base p disk patch stands free named
+    lays written = tt
+laid_are_there found content applied_disk applied_blocks d v held (Mv from to) s chosen is_new base p disk patch stands free named
+    lays written = tt
+laid_are_there found content applied_disk applied_blocks d v held (SetAttr path k value) s chosen is_new base p disk patch stands free named
+    lays written = tt
+laid_are_there found content applied_disk applied_blocks d v held (RmAttr path k) s chosen is_new base p disk patch stands free named
+    lays written = tt
+laid_are_there found content applied_disk applied_blocks d v held (Put path bytes) s chosen is_new base p disk patch stands free named
+    lays written =
     let after = applied_disk p d disk patch stands in
     body_by d (applied p d) bytes s.blocks (nat_le (length bytes) (most_inline v.size))
     (λ chain.
     let blocks_are : content_blocks v (Put path bytes) s ≡ s.blocks = ap (λ (t : Bool). if t then [] else s.blocks) chain in
-    let some : (n : ℕ) → Contains s.blocks n → 0 < times n (changed_blocks base) = λ n there. omega (arith, times_there n s.blocks there, ap (times n) (named ∙ blocks_are)) in
+    let some : (n : ℕ) → Contains s.blocks n → 0 < times n (changed_blocks base) =
+    λ n there. omega (arith, times_there n s.blocks there, ap (times n) (named ∙ blocks_are)) in
     laid_there found content d (applied p d) bytes s.blocks base after.disk after.size (lays chain)
     (λ n there.
-    let taken : 0 < supply_uses v (Put path bytes) s n = omega (arith, supplies_once v (Put path bytes) s n, times_there n s.blocks there, ap (times n) blocks_are) in
+    let taken : 0 < supply_uses v (Put path bytes) s n = omega (
+      arith,
+      supplies_once v (Put path bytes) s n,
+      times_there n s.blocks there,
+      ap (times n) blocks_are,
+    ) in
     omega (arith, free.within n taken, after.count, held.count))
     (λ n there. applied_blocks p d n disk patch stands ∙ written.kept n (some n there)))

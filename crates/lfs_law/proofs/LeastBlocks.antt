@@ -1,5 +1,6 @@
 -- The least free blocks are free, and the parts that a command rewrites are those that it changes.
-use Rattle.std.proofs.Common.{◌≡◌, ◌⊎◌, ℕ, zero, suc, ◌+◌, ◌<◌, ◌≤◌, Bool, true, false, cond, List, [], ◌∷◌, take, refl, ap, sym, ◌∙◌, subst, arith, inl, inr}
+use Rattle.std.proofs.Common.{◌≡◌, ◌⊎◌, ℕ, zero, suc, ◌+◌, ◌<◌, ◌≤◌, Bool, true, false, cond, List, [], ◌∷◌, take, refl, ap, sym, ◌∙◌}
+use Rattle.std.proofs.Common.{subst, arith, inl, inr}
 use Rattle.std.specs.Prelude.{All, Contains, ◌&&◌, not, if◌then◌else◌}
 use Rattle.std.specs.List.{filter}
 use Rattle.std.proofs.lemmas.List.Elements.{All-contains}
@@ -74,10 +75,18 @@ none_made_by v (SetAttr p k value) s = refl
 none_made_by v (RmAttr p k) s = refl
 
 -- a new pair is that of the supplies
-pub new_is_supplied : (v : Volume) (c : Command) (s : Supplies) (p : Part) → Contains (thread (edited v c s).directories) p → is_new_to v p.pair ≡ true → same_pair p.pair s.pair ≡ true
+pub new_is_supplied : (v : Volume) (c : Command) (s : Supplies) (p : Part) → Contains (thread (edited v c s).directories) p
+    → is_new_to v p.pair ≡ true → same_pair p.pair s.pair ≡ true
 new_is_supplied v c s p there new =
-    let le : new_elsewhere v s p.pair ≤ total (new_elsewhere v s) (edited v c s).directories = one_le (λ (x : Part). new_elsewhere v s x.pair) (thread (edited v c s).directories) p there in
-    let none : new_elsewhere v s p.pair ≡ 0 = omega (arith, le, edited_total (new_elsewhere v s) v c s, none_before v s, none_made_by v c s) in
+    let le : new_elsewhere v s p.pair ≤ total (new_elsewhere v s) (edited v c s).directories =
+    one_le (λ (x : Part). new_elsewhere v s x.pair) (thread (edited v c s).directories) p there in
+    let none : new_elsewhere v s p.pair ≡ 0 = omega (
+      arith,
+      le,
+      edited_total (new_elsewhere v s) v c s,
+      none_before v s,
+      none_made_by v c s,
+    ) in
     by (same_pair p.pair s.pair) (sym (ap (λ (t : Bool). cond {A = ℕ} t (cond {A = ℕ} (same_pair p.pair s.pair) 0 1) 0) new) ∙ none)
   where
     by : (t : Bool) → cond {A = ℕ} t 0 1 ≡ 0 → t ≡ true
@@ -89,17 +98,21 @@ abbrev supplied_total : Supplies → Pair → ℕ
 supplied_total s pair = if same_pair pair s.pair then 1 else 0
 
 -- where a command makes no directory, and the volume hasn't the pair of the supplies, no part has it
-not_supplied : (v : Volume) (c : Command) (s : Supplies) → made_total (supplied_total s) c s ≡ 0 → All (λ p. same_pair p.pair s.pair ≡ false) (thread v.directories)
+not_supplied : (v : Volume) (c : Command) (s : Supplies) → made_total (supplied_total s) c s ≡ 0
+    → All (λ p. same_pair p.pair s.pair ≡ false) (thread v.directories)
     → (p : Part) → Contains (thread (edited v c s).directories) p → same_pair p.pair s.pair ≡ true → ⊥
 not_supplied v c s none others p there same =
     let before : total (supplied_total s) v.directories ≡ 0 =
     sum_zero (λ (x : Part). supplied_total s x.pair) (thread v.directories)
-    (λ x inside. ap (λ (t : Bool). cond {A = ℕ} t 1 0) (All-contains (λ (y : Part). same_pair y.pair s.pair ≡ false) (thread v.directories) x others inside)) in
-    let le : supplied_total s p.pair ≤ total (supplied_total s) (edited v c s).directories = one_le (λ (x : Part). supplied_total s x.pair) (thread (edited v c s).directories) p there in
+    (λ x inside. ap (λ (t : Bool). cond {A = ℕ} t 1 0) (All-contains (λ (y : Part). same_pair y.pair s.pair ≡ false)
+    (thread v.directories) x others inside)) in
+    let le : supplied_total s p.pair ≤ total (supplied_total s) (edited v c s).directories =
+    one_le (λ (x : Part). supplied_total s x.pair) (thread (edited v c s).directories) p there in
     let one : supplied_total s p.pair ≡ 1 = ap (λ (t : Bool). cond {A = ℕ} t 1 0) same in
     omega (arith, before, le, one, none, edited_total (supplied_total s) v c s)
 
-supplied_is_new : (v : Volume) (c : Command) (s : Supplies) → IsAccepted v c s → All (λ p. same_pair p.pair s.pair ≡ false) (thread v.directories)
+supplied_is_new : (v : Volume) (c : Command) (s : Supplies) → IsAccepted v c s
+    → All (λ p. same_pair p.pair s.pair ≡ false) (thread v.directories)
     → (p : Part) → Contains (thread (edited v c s).directories) p → same_pair p.pair s.pair ≡ true → is_new_to v p.pair ≡ true
 supplied_is_new v (Mkdir path) s ok others p there same =
     let is : p.pair ≡ s.pair = (same_pair_decides p.pair s.pair).0 same in
@@ -107,7 +120,8 @@ supplied_is_new v (Mkdir path) s ok others p there same =
 supplied_is_new v (Put path bytes) s ok others p there same = absurd (not_supplied v (Put path bytes) s refl others p there same)
 supplied_is_new v (Rm path) s ok others p there same = absurd (not_supplied v (Rm path) s refl others p there same)
 supplied_is_new v (Mv from to) s ok others p there same = absurd (not_supplied v (Mv from to) s refl others p there same)
-supplied_is_new v (SetAttr path k value) s ok others p there same = absurd (not_supplied v (SetAttr path k value) s refl others p there same)
+supplied_is_new v (SetAttr path k value) s ok others p there same = absurd
+    (not_supplied v (SetAttr path k value) s refl others p there same)
 supplied_is_new v (RmAttr path k) s ok others p there same = absurd (not_supplied v (RmAttr path k) s refl others p there same)
 
 same_test : (a b : Bool) → (a ≡ true → b ≡ true) → (b ≡ true → a ≡ true) → a ≡ b

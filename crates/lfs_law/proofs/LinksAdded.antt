@@ -1,5 +1,6 @@
 -- Links of an outline written one after another.
-use Rattle.std.proofs.Common.{◌≡◌, ◌⊎◌, ℕ, ◌+◌, ◌≤◌, ◌==◌, Bool, true, false, cond, List, [], ◌∷◌, ◌++◌, ap, sym, ◌∙◌, subst, arith, inl, inr, Some, refl}
+use Rattle.std.proofs.Common.{◌≡◌, ◌⊎◌, ℕ, ◌+◌, ◌≤◌, ◌==◌, Bool, true, false, cond, List, [], ◌∷◌, ◌++◌, ap, sym, ◌∙◌, subst, arith, inl}
+use Rattle.std.proofs.Common.{inr, Some, refl}
 use Rattle.std.specs.Prelude.{Contains, if◌then◌else◌}
 use Rattle.std.proofs.lemmas.Bool.Decides.{nat_tests}
 use Rattle.std.proofs.lemmas.Grind.{flat_map-append}
@@ -13,7 +14,8 @@ use Rattle.lfs_meta.specs.Writing.{other_number, part_in}
 use Rattle.lfs_fs.specs.Directory.{Part}
 use Rattle.lfs_fs.specs.Thread.{Link}
 use Rattle.lfs_fs.specs.Uses.{times, pair_uses}
-use Rattle.lfs_law.specs.WrittenLinks.{changed_blocks, block_after, part_after, written_blocks, set_blocks, links_blocks, set_uses, link_part, MakesLink}
+use Rattle.lfs_law.specs.WrittenLinks.{changed_blocks, block_after, part_after, written_blocks, set_blocks, links_blocks, set_uses}
+use Rattle.lfs_law.specs.WrittenLinks.{link_part, MakesLink}
 use Rattle.lfs_law.specs.OutlineLaws.{LinksAreAdded, LinksAreFree, LinksAreLeft, NoLinksAreWritten}
 use Rattle.lfs_law.proofs.BlockLemmas.{other_is_one}
 use Rattle.lfs_law.proofs.KeptLinks.{contains_cases}
@@ -39,13 +41,16 @@ pub times_pair : (n : ℕ) (pair : Pair) → times n (pair.0 ∷ pair.1 ∷ []) 
 times_pair n pair = omega (arith, times_cons n pair.0 (pair.1 ∷ []), times_cons n pair.1 [])
 
 -- what is written of a pair is of its blocks
-pub written_within : (d : Disk) (is_new : Pair → Bool) (pair : Pair) (n : ℕ) → times n (written_blocks d is_new pair) ≤ times n (pair.0 ∷ pair.1 ∷ [])
+pub written_within : (d : Disk) (is_new : Pair → Bool) (pair : Pair) (n : ℕ)
+    → times n (written_blocks d is_new pair) ≤ times n (pair.0 ∷ pair.1 ∷ [])
 written_within d is_new pair n = by (is_new pair)
   where
     other : (m : ℕ) → (m ≡ pair.0) ⊎ (m ≡ pair.1) → times n (m ∷ []) ≤ times n (pair.0 ∷ pair.1 ∷ [])
     other m is = elim is [
-      | inl one ↦ (let same : cond {A = ℕ} (m == n) 1 0 ≡ cond (pair.0 == n) 1 0 = ap (λ (x : ℕ). cond {A = ℕ} (x == n) 1 0) one in omega (arith, same, times_cons n m [], times_pair n pair))
-      | inr one ↦ (let same : cond {A = ℕ} (m == n) 1 0 ≡ cond (pair.1 == n) 1 0 = ap (λ (x : ℕ). cond {A = ℕ} (x == n) 1 0) one in omega (arith, same, times_cons n m [], times_pair n pair))
+      | inl one ↦ (let same : cond {A = ℕ} (m == n) 1 0 ≡ cond (pair.0 == n) 1 0 = ap (λ (x : ℕ). cond {A = ℕ} (x == n) 1 0) one in
+          omega (arith, same, times_cons n m [], times_pair n pair))
+      | inr one ↦ (let same : cond {A = ℕ} (m == n) 1 0 ≡ cond (pair.1 == n) 1 0 = ap (λ (x : ℕ). cond {A = ℕ} (x == n) 1 0) one in
+          omega (arith, same, times_cons n m [], times_pair n pair))
     ]
 
     by : (t : Bool) → times n (if t then pair.0 ∷ pair.1 ∷ [] else other_number d pair ∷ []) ≤ times n (pair.0 ∷ pair.1 ∷ [])
@@ -56,7 +61,8 @@ pub first_used : (pair : Pair) → 1 ≤ times pair.0 (pair.0 ∷ pair.1 ∷ [])
 first_used pair = let one : cond {A = ℕ} (pair.0 == pair.0) 1 0 ≡ 1 = grind (arith, nat_tests) in omega (arith, one, times_pair pair.0 pair)
 
 pub second_used : (pair : Pair) → 1 ≤ times pair.1 (pair.0 ∷ pair.1 ∷ [])
-second_used pair = let one : cond {A = ℕ} (pair.1 == pair.1) 1 0 ≡ 1 = grind (arith, nat_tests) in omega (arith, one, times_pair pair.1 pair)
+second_used pair = let one : cond {A = ℕ} (pair.1 == pair.1) 1 0 ≡ 1 = grind (arith, nat_tests) in
+    omega (arith, one, times_pair pair.1 pair)
 
 -- ---- the uses of links that are set
 
@@ -73,10 +79,17 @@ uses_behind n ls l = omega (arith, sum_by-append (one_use n) ls (l ∷ []), sum_
 blocks_behind : (d : Disk) (is_new : Pair → Bool) (n : ℕ) (ls : List Link) (l : Link)
     → times n (links_blocks d is_new (ls ++ l ∷ [])) ≡ times n (links_blocks d is_new ls) + times n (set_blocks d is_new l.part)
 blocks_behind d is_new n ls l =
-    let split : links_blocks d is_new (ls ++ l ∷ []) ≡ links_blocks d is_new ls ++ (set_blocks d is_new l.part ++ []) = flat_map-append (λ (x : Link). set_blocks d is_new x.part) ls (l ∷ []) in
-    omega (arith, ap (times n) split, times_append n (links_blocks d is_new ls) (set_blocks d is_new l.part ++ []), times_append n (set_blocks d is_new l.part) [])
+    let split : links_blocks d is_new (ls ++ l ∷ []) ≡ links_blocks d is_new ls ++ (set_blocks d is_new l.part ++ []) =
+    flat_map-append (λ (x : Link). set_blocks d is_new x.part) ls (l ∷ []) in
+    omega (
+      arith,
+      ap (times n) split,
+      times_append n (links_blocks d is_new ls) (set_blocks d is_new l.part ++ []),
+      times_append n (set_blocks d is_new l.part) [],
+    )
 
-pub set_is : (d : Disk) (is_new : Pair → Bool) (p : Part) (t : Bool) → p.dirty ≡ t → set_blocks d is_new p ≡ (if t then written_blocks d is_new p.pair else [])
+pub set_is : (d : Disk) (is_new : Pair → Bool) (p : Part) (t : Bool) → p.dirty ≡ t
+    → set_blocks d is_new p ≡ (if t then written_blocks d is_new p.pair else [])
 set_is d is_new p t is = ap (λ (x : Bool). if x then written_blocks d is_new p.pair else []) is
 
 -- ---- one more link
@@ -88,7 +101,8 @@ pair_stays d pair old new part first second holds =
     ap (λ (b : List ℕ). part_in b (block_after d new pair.1)) first ∙ ap (part_in (block_after d old pair.0)) second ∙ holds
 
 -- what the last link writes is of no block of an earlier one
-apart_from : (d : Disk) (is_new : Pair → Bool) (ls : List Link) (l m : Link) (n : ℕ) → l.part.dirty ≡ true → Contains ls m → m.part.dirty ≡ true → 1 ≤ pair_uses n m.part
+apart_from : (d : Disk) (is_new : Pair → Bool) (ls : List Link) (l m : Link) (n : ℕ) → l.part.dirty ≡ true → Contains ls m
+    → m.part.dirty ≡ true → 1 ≤ pair_uses n m.part
     → set_uses n (ls ++ l ∷ []) ≤ 1
     → times n (written_blocks d is_new l.part.pair) ≡ 0
 apart_from d is_new ls l m n set there set_before used once =
@@ -99,18 +113,28 @@ pub links_are_added : LinksAreAdded
 links_are_added d bytes attributes is_new base ls l old new set once written adds = record {
   rising = adds.adds.rising;
   made = adds.adds.made;
-  named = λ n. omega (arith, written.named n, adds.adds.named n, blocks_behind d is_new n ls l, ap (times n) (set_is d is_new l.part true set));
+  named = λ n. omega (
+    arith,
+    written.named n,
+    adds.adds.named n,
+    blocks_behind d is_new n ls l,
+    ap (times n) (set_is d is_new l.part true set),
+  );
   kept = λ n some.
-      let none : times n (written_blocks d is_new l.part.pair) ≡ 0 = omega (arith, some, once n, uses_behind n ls l, set_use n l set, written_within d is_new l.part.pair n) in
+      let none : times n (written_blocks d is_new l.part.pair) ≡ 0 = omega
+      (arith, some, once n, uses_behind n ls l, set_use n l set, written_within d is_new l.part.pair n) in
       adds.adds.others n none ∙ written.kept n some;
   makes = λ m there set_there. elim (Contains-append_cases ls (l ∷ []) m there) [
     | inl before ↦ makes_before m before set_there
-    | inr last ↦ subst (MakesLink d bytes attributes new) (sym (contains_one l m last)) (record { delta = adds.delta; delta_is = adds.delta_is; part = adds.adds.back })
+    | inr last ↦ subst (MakesLink d bytes attributes new) (sym (contains_one l m last))
+        (record { delta = adds.delta; delta_is = adds.delta_is; part = adds.adds.back })
   ];
 }
   where
-    block_stays : (m : Link) (n : ℕ) → Contains ls m → m.part.dirty ≡ true → 1 ≤ pair_uses n m.part → block_after d new n ≡ block_after d old n
-    block_stays m n before set_before used = adds.adds.others n (apart_from d is_new ls l m n set before set_before used (omega (arith, once n)))
+    block_stays : (m : Link) (n : ℕ) → Contains ls m → m.part.dirty ≡ true → 1 ≤ pair_uses n m.part
+        → block_after d new n ≡ block_after d old n
+    block_stays m n before set_before used = adds.adds.others n (apart_from d is_new ls l m n set before set_before used
+        (omega (arith, once n)))
 
     makes_before : (m : Link) → Contains ls m → m.part.dirty ≡ true → MakesLink d bytes attributes new m
     makes_before m before set_before =
@@ -118,7 +142,8 @@ links_are_added d bytes attributes is_new base ls l old new set once written add
         record {
           delta = made.delta;
           delta_is = made.delta_is;
-          part = pair_stays d m.part.pair old new (link_part bytes attributes m made.delta) (block_stays m m.part.pair.0 before set_before (first_used m.part.pair))
+          part = pair_stays d m.part.pair old new (link_part bytes attributes m made.delta)
+              (block_stays m m.part.pair.0 before set_before (first_used m.part.pair))
               (block_stays m m.part.pair.1 before set_before (second_used m.part.pair)) made.part;
         }
 
@@ -141,7 +166,13 @@ links_are_left d bytes attributes is_new base ls l cs unset written = record {
 pub written_uses : (d : Disk) (is_new : Pair → Bool) (n : ℕ) (ls : List Link) → times n (links_blocks d is_new ls) ≤ set_uses n ls
 written_uses d is_new n [] = omega arith
 written_uses d is_new n (l ∷ ls) =
-    omega (arith, times_append n (set_blocks d is_new l.part) (links_blocks d is_new ls), one_by l.part.dirty refl, written_uses d is_new n ls, sum_by-cons (one_use n) l ls)
+    omega (
+      arith,
+      times_append n (set_blocks d is_new l.part) (links_blocks d is_new ls),
+      one_by l.part.dirty refl,
+      written_uses d is_new n ls,
+      sum_by-cons (one_use n) l ls,
+    )
   where
     one_by : (t : Bool) → l.part.dirty ≡ t → times n (set_blocks d is_new l.part) ≤ one_use n l
     one_by true is = omega (arith, ap (times n) (set_is d is_new l.part true is), set_use n l is, written_within d is_new l.part.pair n)

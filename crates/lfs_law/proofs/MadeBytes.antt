@@ -31,29 +31,37 @@ record PartStored (r : Reading) (bytes : List ℕ) (attributes : Attributes) (p 
   tail : Tail
   stored : IsStored r bytes attributes (record { part = p; tail = tail })
 
-first_stored : (r : Reading) (bytes : List ℕ) (attributes : Attributes) (p : Part) (ps : List Part) (tail : Tail) (ls : List Link) → All (IsStored r bytes attributes) (links_of p ps tail ++ ls)
+first_stored : (r : Reading) (bytes : List ℕ) (attributes : Attributes) (p : Part) (ps : List Part) (tail : Tail) (ls : List Link)
+    → All (IsStored r bytes attributes) (links_of p ps tail ++ ls)
     → PartStored r bytes attributes p
-first_stored r bytes attributes p [] tail ls all = record { tail = tail; stored = All-head (IsStored r bytes attributes) (record { part = p; tail = tail }) ls all }
+first_stored r bytes attributes p [] tail ls all = record {
+  tail = tail;
+  stored = All-head (IsStored r bytes attributes) (record { part = p; tail = tail }) ls all;
+}
 first_stored r bytes attributes p (q ∷ ps) tail ls all = record {
   tail = hard_to q.pair;
   stored = All-head (IsStored r bytes attributes) (record { part = p; tail = hard_to q.pair }) (links_of q ps tail ++ ls) all;
 }
 
-superblock_has : LiveBlocksAreRead → BlocksHaveALog → (d : Disk) → IsDisk d → (bytes : List ℕ) (attributes : Attributes) (p : Part) → p.pair ≡ root
+superblock_has : LiveBlocksAreRead → BlocksHaveALog → (d : Disk) → IsDisk d → (bytes : List ℕ) (attributes : Attributes) (p : Part)
+    → p.pair ≡ root
     → PartStored (reading_of d) bytes attributes p → IsBytes bytes
 superblock_has read logs d disk bytes attributes p pair first =
     let st = first.stored in
     let two = disk.geometry.count_fits.0 in
     let have : All StoredHas st.stored.entries =
-    held_have read logs d p.pair st.stored disk (subst (λ (k : Pair). k.0 < d.count) (sym pair) (omega (arith, two))) (subst (λ (k : Pair). k.1 < d.count) (sym pair) (omega (arith, two))) st.read in
+    held_have read logs d p.pair st.stored disk (subst (λ (k : Pair). k.0 < d.count) (sym pair) (omega (arith, two)))
+    (subst (λ (k : Pair). k.1 < d.count) (sym pair) (omega (arith, two))) st.read in
     All-head StoredHas (superblock_entry bytes attributes) st.others
     (subst (All StoredHas) (st.entries ∙ ap (λ (k : Pair). stored_before bytes attributes k st.others) pair) have)
 
-bytes_of : LiveBlocksAreRead → BlocksHaveALog → (d : Disk) → IsDisk d → (bytes : List ℕ) (attributes : Attributes) (ds : List Directory) → StartsAtRoot ds
+bytes_of : LiveBlocksAreRead → BlocksHaveALog → (d : Disk) → IsDisk d → (bytes : List ℕ) (attributes : Attributes) (ds : List Directory)
+    → StartsAtRoot ds
     → All (IsStored (reading_of d) bytes attributes) (links ds) → IsBytes bytes
 bytes_of read logs d disk bytes attributes [] begins each = absurd begins
 bytes_of read logs d disk bytes attributes (e ∷ ds) begins each =
-    superblock_has read logs d disk bytes attributes e.first begins (first_stored (reading_of d) bytes attributes e.first e.more (tail_to ds) (links ds) each)
+    superblock_has read logs d disk bytes attributes e.first begins (first_stored (reading_of d) bytes attributes e.first e.more
+    (tail_to ds) (links ds) each)
 
 -- ---- its words
 
@@ -65,15 +73,20 @@ spells v bytes says =
     let two : drop 4 (drop 4 bytes) ≡ drop 8 bytes = drop-drop 4 4 bytes in
     let three : drop 4 (drop 4 (drop 4 bytes)) ≡ drop 12 bytes = ap (λ (xs : List ℕ). drop 4 xs) two ∙ drop-drop 4 8 bytes in
     let four : drop 4 (drop 4 (drop 4 (drop 4 bytes))) ≡ drop 16 bytes = ap (λ (xs : List ℕ). drop 4 xs) three ∙ drop-drop 4 12 bytes in
-    let five : drop 4 (drop 4 (drop 4 (drop 4 (drop 4 bytes)))) ≡ drop 20 bytes = ap (λ (xs : List ℕ). drop 4 xs) four ∙ drop-drop 4 16 bytes in
-    let name = word_is (drop 4 (drop 4 (drop 4 bytes))) (drop 12 bytes) v.limits.name three (sym (ap (λ (l : Limits). l.name) says.limits)) in
-    let file = word_is (drop 4 (drop 4 (drop 4 (drop 4 bytes)))) (drop 16 bytes) v.limits.file four (sym (ap (λ (l : Limits). l.file) says.limits)) in
-    let attribute = word_is (drop 4 (drop 4 (drop 4 (drop 4 (drop 4 bytes))))) (drop 20 bytes) v.limits.attribute five (sym (ap (λ (l : Limits). l.attribute) says.limits)) in
+    let five : drop 4 (drop 4 (drop 4 (drop 4 (drop 4 bytes)))) ≡ drop 20 bytes =
+    ap (λ (xs : List ℕ). drop 4 xs) four ∙ drop-drop 4 16 bytes in
+    let name = word_is (drop 4 (drop 4 (drop 4 bytes))) (drop 12 bytes) v.limits.name three
+    (sym (ap (λ (l : Limits). l.name) says.limits)) in
+    let file = word_is (drop 4 (drop 4 (drop 4 (drop 4 bytes)))) (drop 16 bytes) v.limits.file four
+    (sym (ap (λ (l : Limits). l.file) says.limits)) in
+    let attribute = word_is (drop 4 (drop 4 (drop 4 (drop 4 (drop 4 bytes))))) (drop 20 bytes) v.limits.attribute five
+    (sym (ap (λ (l : Limits). l.attribute) says.limits)) in
     let count = word_is (drop 4 (drop 4 bytes)) (drop 8 bytes) v.count two says.header.count_is in
     (says.header.version, (says.header.size_is, (count, (name, (file, (attribute, tt))))))
 
 pub held_bytes_are_made : LiveBlocksAreRead → BlocksHaveALog → HeldBytesAreMade
 unfolding volume_bytes
 held_bytes_are_made read logs d v held disk sound =
-    spelled (superblock_words v.size v.count v.limits) held.bytes held.superblock.len (bytes_of read logs d disk held.bytes v.attributes v.directories sound.starts held.each)
+    spelled (superblock_words v.size v.count v.limits) held.bytes held.superblock.len
+    (bytes_of read logs d disk held.bytes v.attributes v.directories sound.starts held.each)
     (spells v held.bytes held.superblock)

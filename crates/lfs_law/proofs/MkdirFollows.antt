@@ -1,5 +1,6 @@
 -- A directory made follows its equation.
-use Rattle.std.proofs.Common.{◌≡◌, ℕ, ◌+◌, ◌<◌, ◌≤◌, Bool, true, false, List, [], ◌∷◌, ◌++◌, refl, ap, sym, ◌∙◌, subst, arith, length, Option, Some, None}
+use Rattle.std.proofs.Common.{◌≡◌, ℕ, ◌+◌, ◌<◌, ◌≤◌, Bool, true, false, List, [], ◌∷◌, ◌++◌, refl, ap, sym, ◌∙◌, subst, arith, length}
+use Rattle.std.proofs.Common.{Option, Some, None}
 use Rattle.std.specs.Prelude.{count_by, find, nat_le, if◌then◌else◌}
 use Rattle.std.specs.Option.{option_and_then}
 use Rattle.std.proofs.lemmas.Bool.Decides.{nat_tests}
@@ -57,7 +58,8 @@ empty_uses b pair = omega arith
 named_where_begun : (k : Pair) (pair : Pair) → leads_to k (Some (unordered pair)) ≡ count_by (begins_at k) (empty_directory pair ∷ [])
 named_where_begun k pair = by (same_pair k (unordered pair)) refl
   where
-    by : (t : Bool) → same_pair k (unordered pair) ≡ t → leads_to k (Some (unordered pair)) ≡ count_by (begins_at k) (empty_directory pair ∷ [])
+    by : (t : Bool) → same_pair k (unordered pair) ≡ t → leads_to k (Some (unordered pair))
+        ≡ count_by (begins_at k) (empty_directory pair ∷ [])
     by true is = rw is refl
     by false is = rw is refl
 
@@ -75,7 +77,8 @@ nothing_in ds k m h = ap (option_and_then (λ (d : Directory). find (is_named m)
 
 -- ---- the command
 
-pub mkdir_follows : (v : Volume) (p : Path) (pair : Pair) → NamesAreOrdered → IsSound v → (at : IsPlaced v p) → entry_at v p ≡ None → length at.home.name ≤ v.limits.name → IsNewPair v pair
+pub mkdir_follows : (v : Volume) (p : Path) (pair : Pair) → NamesAreOrdered → IsSound v → (at : IsPlaced v p) → entry_at v p ≡ None
+    → length at.home.name ≤ v.limits.name → IsNewPair v pair
     → Puts v (make_directory v pair (home_of v p)) p (Some (Dir [])) (λ b. 0) (λ b. times b (pair.0 ∷ pair.1 ∷ []))
 mkdir_follows v p pair ordered sound at fresh fits new =
     let k = at.home.pair in
@@ -120,4 +123,5 @@ mkdir_follows v p pair ordered sound at fresh fits new =
           tree_after one alike q
           ∙ ap (λ (x : Path). put_at x (Some (node e)) (tree v) q) (sym at.home.whole);
     } in
-    subst (λ (h : Option (Pair × Name)). Puts v (make_directory v pair h) p (Some (Dir [])) (λ b. 0) (λ b. times b (pair.0 ∷ pair.1 ∷ []))) (sym at.home.home) follows
+    subst (λ (h : Option (Pair × Name)). Puts v (make_directory v pair h) p (Some (Dir [])) (λ b. 0) (λ b. times b (pair.0 ∷ pair.1 ∷ [])))
+    (sym at.home.home) follows

@@ -13,7 +13,8 @@ use Rattle.lfs_fs.specs.Sound.{IsSound}
 use Rattle.lfs_command.specs.PathMap.{below, moved}
 use Rattle.lfs_law.proofs.Walks.{by_last_name, walk-append, walk-snoc, walk-none, step_alike, step_same, snoc_same}
 use Rattle.lfs_law.proofs.OnePath.{one_path}
-use Rattle.lfs_law.proofs.PathMapLemmas.{longer, below_front, below_none, below_self, below_longer, below_cases, moved_to, moved_away, moved_other}
+use Rattle.lfs_law.proofs.PathMapLemmas.{longer, below_front, below_none, below_self, below_longer, below_cases, moved_to, moved_away}
+use Rattle.lfs_law.proofs.PathMapLemmas.{moved_other}
 use Rattle.lfs_law.proofs.OneEdge.{top_same, entry_under}
 
 -- w is v with the entry under n in k, where front leads, gone from there and put under m into j, where back leads
@@ -33,7 +34,8 @@ pub record MovedEdge (v w : Volume) (front back : Path) (k j : Pair) (n m : Name
   pub came : entry_in w.directories j m ≡ Some new
   pub leads : target new ≡ target old
   pub shows : node new ≡ node old
-  pub others : (i : Pair) (l : Name) → ((i ≡ k) × (l ≡ n) → ⊥) → ((i ≡ j) × (l ≡ m) → ⊥) → entry_in w.directories i l ≡ entry_in v.directories i l
+  pub others : (i : Pair) (l : Name) → ((i ≡ k) × (l ≡ n) → ⊥) → ((i ≡ j) × (l ≡ m) → ⊥)
+      → entry_in w.directories i l ≡ entry_in v.directories i l
 
 -- ---- in the volume before
 
@@ -53,17 +55,21 @@ not_below_empty v at p e empty here = elim (below_cases at p) [
 
 from_place : {v w : Volume} {front back : Path} {k j : Pair} {n m : Name} {old new : Entry} → MovedEdge v w front back k j n m old new
     → (p : Path) (e : Entry) (i : Pair) → entry_at v p ≡ Some e → target e ≡ Some i → i ≡ k → p ≡ front
-from_place {v} {w} {front} {back} {k} {j} {n} {m} {old} {new} c p e i here leads same = one_path v c.sound p front e c.holder k here c.holder_at (leads ∙ ap Some same) c.holder_leads
+from_place {v} {w} {front} {back} {k} {j} {n} {m} {old} {new} c p e i here leads same =
+    one_path v c.sound p front e c.holder k here c.holder_at (leads ∙ ap Some same) c.holder_leads
 
 to_place : {v w : Volume} {front back : Path} {k j : Pair} {n m : Name} {old new : Entry} → MovedEdge v w front back k j n m old new
     → (p : Path) (e : Entry) (i : Pair) → entry_at v p ≡ Some e → target e ≡ Some i → i ≡ j → p ≡ back
-to_place {v} {w} {front} {back} {k} {j} {n} {m} {old} {new} c p e i here leads same = one_path v c.sound p back e c.taker j here c.taker_at (leads ∙ ap Some same) c.taker_leads
+to_place {v} {w} {front} {back} {k} {j} {n} {m} {old} {new} c p e i here leads same =
+    one_path v c.sound p back e c.taker j here c.taker_at (leads ∙ ap Some same) c.taker_leads
 
 -- ---- paths at and below neither
 
-pub moved_elsewhere : {v w : Volume} {front back : Path} {k j : Pair} {n m : Name} {old new : Entry} → MovedEdge v w front back k j n m old new
+pub moved_elsewhere : {v w : Volume} {front back : Path} {k j : Pair} {n m : Name} {old new : Entry}
+    → MovedEdge v w front back k j n m old new
     → (p : Path) → below (front ++ n ∷ []) p ≡ None → below (back ++ m ∷ []) p ≡ None → entry_at w p ≡ entry_at v p
-moved_elsewhere {v} {w} {front} {back} {k} {j} {n} {m} {old} {new} c = by_last_name (λ (p : Path). below (front ++ n ∷ []) p ≡ None → below (back ++ m ∷ []) p ≡ None → entry_at w p ≡ entry_at v p)
+moved_elsewhere {v} {w} {front} {back} {k} {j} {n} {m} {old} {new} c =
+    by_last_name (λ (p : Path). below (front ++ n ∷ []) p ≡ None → below (back ++ m ∷ []) p ≡ None → entry_at w p ≡ entry_at v p)
     (λ _ _. top_same v w c.attributes)
     (λ p l before not_from not_to. snoc_same target (entry_in v.directories) (entry_in w.directories) (Some (top v)) (Some (top w)) p p l
     (before (below_front (front ++ n ∷ []) p (l ∷ []) not_from) (below_front (back ++ m ∷ []) p (l ∷ []) not_to))
@@ -73,14 +79,16 @@ moved_elsewhere {v} {w} {front} {back} {k} {j} {n} {m} {old} {new} c = by_last_n
   where
     last_not : (p : Path) (l : Name) (at : Path) (n : Name) → below (at ++ n ∷ []) (p ++ l ∷ []) ≡ None → p ≡ at → l ≡ n → ⊥
     last_not p l at n outside same names =
-        none-some [] (sym outside ∙ ap (λ (q : Path). below (at ++ n ∷ []) (q ++ l ∷ [])) same ∙ ap (λ (x : Name). below (at ++ n ∷ []) (at ++ x ∷ [])) names ∙ below_self (at ++ n ∷ []))
+        none-some [] (sym outside ∙ ap (λ (q : Path). below (at ++ n ∷ []) (q ++ l ∷ [])) same
+        ∙ ap (λ (x : Name). below (at ++ n ∷ []) (at ++ x ∷ [])) names ∙ below_self (at ++ n ∷ []))
 
 -- ---- the old path
 
 nothing_at_old : {v w : Volume} {front back : Path} {k j : Pair} {n m : Name} {old new : Entry} → MovedEdge v w front back k j n m old new
     → entry_at w (front ++ n ∷ []) ≡ None
 nothing_at_old {v} {w} {front} {back} {k} {j} {n} {m} {old} {new} c =
-    entry_under w front c.holder k n (moved_elsewhere c front (below_longer front n) (not_below_empty v (back ++ m ∷ []) front c.holder c.to c.holder_at) ∙ c.holder_at) c.holder_leads
+    entry_under w front c.holder k n (moved_elsewhere c front (below_longer front n)
+    (not_below_empty v (back ++ m ∷ []) front c.holder c.to c.holder_at) ∙ c.holder_at) c.holder_leads
     ∙ c.gone
 
 -- nothing is left at or below it
@@ -93,21 +101,25 @@ moved_from {v} {w} {front} {back} {k} {j} {n} {m} {old} {new} c rest = nothing_b
 pub moved_here : {v w : Volume} {front back : Path} {k j : Pair} {n m : Name} {old new : Entry} → MovedEdge v w front back k j n m old new
     → entry_at w (back ++ m ∷ []) ≡ Some new
 moved_here {v} {w} {front} {back} {k} {j} {n} {m} {old} {new} c =
-    entry_under w back c.taker j m (moved_elsewhere c back (below_front (front ++ n ∷ []) back (m ∷ []) c.outside) (below_longer back m) ∙ c.taker_at) c.taker_leads
+    entry_under w back c.taker j m (moved_elsewhere c back (below_front (front ++ n ∷ []) back (m ∷ []) c.outside) (below_longer back m)
+    ∙ c.taker_at) c.taker_leads
     ∙ c.came
 
 -- neither of the two edges lies below the old path
 edge_below : {v w : Volume} {front back : Path} {k j : Pair} {n m : Name} {old new : Entry} → MovedEdge v w front back k j n m old new
-    → (rest : Path) (l : Name) (e : Entry) (i : Pair) → entry_at v ((front ++ n ∷ []) ++ rest) ≡ Some e → target e ≡ Some i → entry_in w.directories i l ≡ entry_in v.directories i l
+    → (rest : Path) (l : Name) (e : Entry) (i : Pair) → entry_at v ((front ++ n ∷ []) ++ rest) ≡ Some e → target e ≡ Some i
+    → entry_in w.directories i l ≡ entry_in v.directories i l
 edge_below {v} {w} {front} {back} {k} {j} {n} {m} {old} {new} c rest l e i here leads = c.others i l
     (λ both. longer front n rest (sym (append_assoc front (n ∷ []) rest) ∙ from_place c ((front ++ n ∷ []) ++ rest) e i here leads both.0))
     (λ both. below_none (front ++ n ∷ []) (back ++ m ∷ []) (rest ++ m ∷ []) c.outside
-    (ap (λ (q : Path). q ++ m ∷ []) (sym (to_place c ((front ++ n ∷ []) ++ rest) e i here leads both.0)) ∙ append_assoc (front ++ n ∷ []) rest (m ∷ [])))
+    (ap (λ (q : Path). q ++ m ∷ []) (sym (to_place c ((front ++ n ∷ []) ++ rest) e i here leads both.0))
+    ∙ append_assoc (front ++ n ∷ []) rest (m ∷ [])))
 
 -- what stood below the old path stands below the new one
 pub moved_below : {v w : Volume} {front back : Path} {k j : Pair} {n m : Name} {old new : Entry} → MovedEdge v w front back k j n m old new
     → (l : Name) (rest : Path) → entry_at w ((back ++ m ∷ []) ++ l ∷ rest) ≡ entry_at v ((front ++ n ∷ []) ++ l ∷ rest)
-moved_below {v} {w} {front} {back} {k} {j} {n} {m} {old} {new} c l = by_last_name (λ (rest : Path). entry_at w ((back ++ m ∷ []) ++ l ∷ rest) ≡ entry_at v ((front ++ n ∷ []) ++ l ∷ rest)) first more
+moved_below {v} {w} {front} {back} {k} {j} {n} {m} {old} {new} c l = by_last_name
+    (λ (rest : Path). entry_at w ((back ++ m ∷ []) ++ l ∷ rest) ≡ entry_at v ((front ++ n ∷ []) ++ l ∷ rest)) first more
   where
     from_here : entry_at v ((front ++ n ∷ []) ++ []) ≡ Some old
     from_here = ap (entry_at v) (append-nil (front ++ n ∷ [])) ∙ c.from
@@ -126,7 +138,8 @@ moved_below {v} {w} {front} {back} {k} {j} {n} {m} {old} {new} c l = by_last_nam
         → entry_at w ((back ++ m ∷ []) ++ l ∷ (rest ++ x ∷ [])) ≡ entry_at v ((front ++ n ∷ []) ++ l ∷ (rest ++ x ∷ []))
     more rest x before =
         ap (entry_at w) (sym (append_assoc (back ++ m ∷ []) (l ∷ rest) (x ∷ [])))
-        ∙ snoc_same target (entry_in v.directories) (entry_in w.directories) (Some (top v)) (Some (top w)) ((back ++ m ∷ []) ++ l ∷ rest) ((front ++ n ∷ []) ++ l ∷ rest) x before
+        ∙ snoc_same target (entry_in v.directories) (entry_in w.directories) (Some (top v)) (Some (top w)) ((back ++ m ∷ []) ++ l ∷ rest)
+        ((front ++ n ∷ []) ++ l ∷ rest) x before
         (λ e i here leads. edge_below c (l ∷ rest) x e i here leads)
         ∙ ap (entry_at v) (append_assoc (front ++ n ∷ []) (l ∷ rest) (x ∷ []))
 
@@ -171,7 +184,8 @@ reached_to {v} {w} {front} {back} {k} {j} {n} {m} {old} {new} c i [] e here lead
 reached_to {v} {w} {front} {back} {k} {j} {n} {m} {old} {new} c i (l ∷ rest) e here leads =
     ((back ++ m ∷ []) ++ l ∷ rest, e, moved_below c l rest ∙ here, leads)
 
-pub reached_moved : {v w : Volume} {front back : Path} {k j : Pair} {n m : Name} {old new : Entry} → MovedEdge v w front back k j n m old new
+pub reached_moved : {v w : Volume} {front back : Path} {k j : Pair} {n m : Name} {old new : Entry}
+    → MovedEdge v w front back k j n m old new
     → (i : Pair) → Reached v i → Reached w i
 reached_moved {v} {w} {front} {back} {k} {j} {n} {m} {old} {new} c i (p, e, here, leads) = elim (below_cases (front ++ n ∷ []) p) [
   | inr at ↦ reached_to c i at.0 e (ap (entry_at v) (sym at.1) ∙ here) leads

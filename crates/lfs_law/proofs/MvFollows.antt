@@ -1,5 +1,6 @@
 -- What is moved follows its equation.
-use Rattle.std.proofs.Common.{◌≡◌, ℕ, ◌≤◌, nat_lt, false, List, [], ◌∷◌, ◌++◌, refl, ap, sym, ◌∙◌, subst, arith, length, append-nil, Option, Some, None}
+use Rattle.std.proofs.Common.{◌≡◌, ℕ, ◌≤◌, nat_lt, false, List, [], ◌∷◌, ◌++◌, refl, ap, sym, ◌∙◌, subst, arith, length, append-nil, Option}
+use Rattle.std.proofs.Common.{Some, None}
 use Rattle.std.specs.Prelude.{count_by}
 use Rattle.std.specs.Option.{option_map, unwrap_or}
 use Rattle.std.proofs.lemmas.Bool.Decides.{nat_tests}
@@ -47,10 +48,13 @@ outside : (v : Volume) (p q : Path) (e : Entry) → entry_at v p ≡ Some e → 
 outside v p q e here free apart = outside_by v p q e here free (below p q) refl apart
 
 -- where one edge is and the other isn't, they are two
-apart : (ds : List Directory) (k j : Pair) (n m : Name) (e : Entry) → entry_in ds k n ≡ Some e → entry_in ds j m ≡ None → (k ≡ j) × (n ≡ m) → ⊥
-apart ds k j n m e one none both = none-some e (sym none ∙ ap (λ (x : Pair). entry_in ds x m) (sym both.0) ∙ ap (entry_in ds k) (sym both.1) ∙ one)
+apart : (ds : List Directory) (k j : Pair) (n m : Name) (e : Entry) → entry_in ds k n ≡ Some e → entry_in ds j m ≡ None → (k ≡ j) × (n ≡ m)
+    → ⊥
+apart ds k j n m e one none both = none-some e (sym none ∙ ap (λ (x : Pair). entry_in ds x m) (sym both.0) ∙ ap (entry_in ds k) (sym both.1)
+    ∙ one)
 
-pub mv_follows : (v : Volume) (p q : Path) (e : Entry) → NamesAreOrdered → IsSound v → (from : IsPlaced v p) → (to : IsPlaced v q) → entry_at v p ≡ Some e
+pub mv_follows : (v : Volume) (p q : Path) (e : Entry) → NamesAreOrdered → IsSound v → (from : IsPlaced v p) → (to : IsPlaced v q)
+    → entry_at v p ≡ Some e
     → entry_at v q ≡ None → lies_below p q ≡ false → length to.home.name ≤ v.limits.name
     → Moves v (move_entry v (home_of v p) (home_of v q) (Some e)) p q
 mv_follows v p q e ordered sound from to here free off fits =
@@ -68,7 +72,12 @@ mv_follows v p q e ordered sound from to here free off fits =
     let once : count_by (begins_at j) unlinked ≡ 1 = omega (arith, first.directories j, to.once) in
     let fresh : entry_in unlinked j m ≡ None = unlink_other k n v.directories j m (λ both. two (sym both.0, sym both.1)) ∙ no_edge in
     let was : IsProper v.limits e = proper_entry v sound k n e edge in
-    let proper : IsProper v.limits x = record { name = to.home.named; name_fits = fits; file_fits = was.file_fits; attributes = was.attributes } in
+    let proper : IsProper v.limits x = record {
+      name = to.home.named;
+      name_fits = fits;
+      file_fits = was.file_fits;
+      attributes = was.attributes;
+    } in
     let ds : List Directory = link j x unlinked in
     let w : Volume = with_directories v ds in
     let second : Effect none (of_entry x) unlinked ds = link_effect j x unlinked once in
@@ -82,7 +91,8 @@ mv_follows v p q e ordered sound from to here free off fits =
       taker_leads = to.home.leads;
       from = ap (entry_at v) (sym from.home.whole) ∙ here;
       to = ap (entry_at v) (sym to.home.whole) ∙ free;
-      outside = ap (λ (y : Path). below y (to.home.front ++ m ∷ [])) (sym from.home.whole) ∙ ap (below p) (sym to.home.whole) ∙ outside v p q e here free off;
+      outside = ap (λ (y : Path). below y (to.home.front ++ m ∷ [])) (sym from.home.whole) ∙ ap (below p) (sym to.home.whole)
+          ∙ outside v p q e here free off;
       attributes = refl;
       gone = link_other j x unlinked k n two ∙ unlink_edge k n v.directories;
       came = link_edge j x unlinked once fresh;

@@ -1,5 +1,6 @@
 -- Which blocks the links of an edited volume are written to: those that the command takes, and one of each pair that it rewrites.
-use Rattle.std.proofs.Common.{◌≡◌, ℕ, ◌+◌, ◌≤◌, Bool, true, false, List, [], ◌∷◌, ◌++◌, length, refl, ap, sym, ◌∙◌, subst, arith, map, Option, Some}
+use Rattle.std.proofs.Common.{◌≡◌, ℕ, ◌+◌, ◌≤◌, Bool, true, false, List, [], ◌∷◌, ◌++◌, length, refl, ap, sym, ◌∙◌, subst, arith, map}
+use Rattle.std.proofs.Common.{Option, Some}
 use Rattle.std.specs.Prelude.{All, Contains, ◌&&◌, not, nat_le, if◌then◌else◌, sum_by, find, flat_map}
 use Rattle.std.specs.List.{filter}
 use Rattle.std.specs.Option.{option_map}
@@ -49,7 +50,12 @@ use Rattle.lfs_law.proofs.WrittenLemmas.{part_uses, sum_thread, one_le, parts_of
 
 pub sum_zero : {X : Type 0} (f : X → ℕ) (xs : List X) → ((x : X) → Contains xs x → f x ≡ 0) → sum_by f xs ≡ 0
 sum_zero f [] none = refl
-sum_zero f (x ∷ xs) none = omega (arith, sum_by-cons f x xs, none x (contains_first x xs), sum_zero f xs (λ y there. none y (contains-cons x xs y there)))
+sum_zero f (x ∷ xs) none = omega (
+  arith,
+  sum_by-cons f x xs,
+  none x (contains_first x xs),
+  sum_zero f xs (λ y there. none y (contains-cons x xs y there)),
+)
 
 pub times_flat : {X : Type 0} (n : ℕ) (f : X → List ℕ) (xs : List X) → times n (flat_map f xs) ≡ sum_by (λ x. times n (f x)) xs
 times_flat n f [] = refl
@@ -64,11 +70,16 @@ new_times v n pair = if is_new_to v pair then pair_times n pair else 0
 pairs_within : (n : ℕ) (v : Volume) → total (pair_times n) v.directories ≤ uses n v
 pairs_within n v =
     let each : (p : Part) → pair_times n p.pair ≤ part_uses n p = λ p. omega arith in
-    omega (arith, sum_by-le-sum_by (λ (p : Part). pair_times n p.pair) (part_uses n) (thread v.directories) each, sum_thread n v.directories)
+    omega (
+      arith,
+      sum_by-le-sum_by (λ (p : Part). pair_times n p.pair) (part_uses n) (thread v.directories) each,
+      sum_thread n v.directories,
+    )
 
 pub not_new : (v : Volume) (p : Part) → Contains (thread v.directories) p → is_new_to v p.pair ≡ false
 not_new v p there =
-    let le : part_uses p.pair.0 p ≤ sum_by (part_uses p.pair.0) (thread v.directories) = one_le (part_uses p.pair.0) (thread v.directories) p there in
+    let le : part_uses p.pair.0 p ≤ sum_by (part_uses p.pair.0) (thread v.directories) =
+    one_le (part_uses p.pair.0) (thread v.directories) p there in
     let some : 1 ≤ uses p.pair.0 v = omega (arith, le, first_used p.pair, sum_thread p.pair.0 v.directories) in
     grind (arith, nat_tests)
 
@@ -76,7 +87,8 @@ pub new_is : (v : Volume) (pair : Pair) → uses pair.0 v ≡ 0 → is_new_to v 
 new_is v pair none = grind (arith, nat_tests)
 
 no_new_pairs : (v : Volume) (n : ℕ) → total (new_times v n) v.directories ≡ 0
-no_new_pairs v n = sum_zero (λ (p : Part). new_times v n p.pair) (thread v.directories) (λ p there. ap (λ (t : Bool). if t then pair_times n p.pair else 0) (not_new v p there))
+no_new_pairs v n = sum_zero (λ (p : Part). new_times v n p.pair) (thread v.directories)
+    (λ p there. ap (λ (t : Bool). if t then pair_times n p.pair else 0) (not_new v p there))
 
 -- ---- the pairs of parts that are set
 
@@ -94,13 +106,16 @@ set_append : (g : Pair → ℕ) (ps qs : List Part) → set_total g (ps ++ qs) �
 set_append g ps qs = sum_by-append (λ (p : Part). if p.dirty then g p.pair else 0) ps qs
 
 -- where the other pairs count nothing, a directory that is added counts alone
-added_alone : (g : Pair → ℕ) (k : Pair) (new : Directory) (ds : List Directory) (d : Directory) → find (begins_at k) ds ≡ Some d → total g ds ≡ 0
+added_alone : (g : Pair → ℕ) (k : Pair) (new : Directory) (ds : List Directory) (d : Directory) → find (begins_at k) ds ≡ Some d
+    → total g ds ≡ 0
     → set_total g (thread (add_after k new ds)) ≡ set_total g (parts new)
 unfolding add_after
 added_alone g k new [] d found none = cc
-added_alone g k new (e ∷ ds) d found none = by (begins_at k e) found (λ later. added_alone g k new ds d later (omega (arith, none, total_cons g e ds)))
+added_alone g k new (e ∷ ds) d found none = by (begins_at k e) found (λ later.
+    added_alone g k new ds d later (omega (arith, none, total_cons g e ds)))
   where
-    by : (t : Bool) → (if t then Some e else find (begins_at k) ds) ≡ Some d → (find (begins_at k) ds ≡ Some d → set_total g (thread (add_after k new ds)) ≡ set_total g (parts new))
+    by : (t : Bool) → (if t then Some e else find (begins_at k) ds) ≡ Some d
+        → (find (begins_at k) ds ≡ Some d → set_total g (thread (add_after k new ds)) ≡ set_total g (parts new))
         → set_total g (thread (if t then touch_last e ∷ new ∷ ds else e ∷ add_after k new ds)) ≡ set_total g (parts new)
     by true is later =
         omega (
@@ -113,30 +128,49 @@ added_alone g k new (e ∷ ds) d found none = by (begins_at k e) found (λ later
           last_total g e,
           set_within g (thread ds),
         )
-    by false is later = omega (arith, none, total_cons g e ds, set_append g (parts e) (thread (add_after k new ds)), set_within g (parts e), later is)
+    by false is later = omega (
+      arith,
+      none,
+      total_cons g e ds,
+      set_append g (parts e) (thread (add_after k new ds)),
+      set_within g (parts e),
+      later is,
+    )
 
 -- ---- the new pairs that are set, a cut aside: a new directory's
 
 bare_alone : (g : Pair → ℕ) (pair : Pair) → set_total g (parts (empty_directory pair)) ≡ g pair
 bare_alone g pair = omega (arith, sum_by-cons (λ (p : Part). if p.dirty then g p.pair else 0) (empty_directory pair).first [])
 
-made_alone : (v : Volume) (p : Path) (pair : Pair) (n : ℕ) → IsPlaced v p → set_total (new_times v n) (thread (make_directory v pair (home_of v p)).directories) ≡ new_times v n pair
+made_alone : (v : Volume) (p : Path) (pair : Pair) (n : ℕ) → IsPlaced v p
+    → set_total (new_times v n) (thread (make_directory v pair (home_of v p)).directories) ≡ new_times v n pair
 made_alone v p pair n at =
     let k = at.home.pair in
     let e : Entry = new_entry at.home.name (Directory_at pair) in
     let found = found_one (begins_at k) v.directories at.once in
-    let there : find (begins_at k) (link k e v.directories) ≡ Some (link_in e found.0) = find_here k (link_in e) v.directories (keeps_link e) ∙ ap (option_map (link_in e)) found.1 in
+    let there : find (begins_at k) (link k e v.directories) ≡ Some (link_in e found.0) =
+    find_here k (link_in e) v.directories (keeps_link e) ∙ ap (option_map (link_in e)) found.1 in
     let none : total (new_times v n) (link k e v.directories) ≡ 0 = link_total (new_times v n) k e v.directories ∙ no_new_pairs v n in
-    subst (λ (h : Option (Pair × Name)). set_total (new_times v n) (thread (make_directory v pair h).directories) ≡ new_times v n pair) (sym at.home.home)
-    (added_alone (new_times v n) k (empty_directory pair) (link k e v.directories) (link_in e found.0) there none ∙ bare_alone (new_times v n) pair)
+    subst (λ (h : Option (Pair × Name)). set_total (new_times v n) (thread (make_directory v pair h).directories) ≡ new_times v n pair)
+    (sym at.home.home)
+    (added_alone (new_times v n) k (empty_directory pair) (link k e v.directories) (link_in e found.0) there none
+    ∙ bare_alone (new_times v n) pair)
 
 pair_is_new : (v : Volume) (pair : Pair) (n : ℕ) → uses pair.0 v ≡ 0 → new_times v n pair ≡ pair_times n pair
 pair_is_new v pair n none = ap (λ (t : Bool). if t then pair_times n pair else 0) (new_is v pair none)
 
-none_set : (v : Volume) (c : Command) (s : Supplies) (n : ℕ) → made_total (new_times v n) c s ≡ 0 → set_total (new_times v n) (thread (edited v c s).directories) ≡ 0
-none_set v c s n none = omega (arith, none, set_within (new_times v n) (thread (edited v c s).directories), edited_total (new_times v n) v c s, no_new_pairs v n)
+none_set : (v : Volume) (c : Command) (s : Supplies) (n : ℕ) → made_total (new_times v n) c s ≡ 0
+    → set_total (new_times v n) (thread (edited v c s).directories) ≡ 0
+none_set v c s n none = omega (
+  arith,
+  none,
+  set_within (new_times v n) (thread (edited v c s).directories),
+  edited_total (new_times v n) v c s,
+  no_new_pairs v n,
+)
 
-contents_by : (n : ℕ) (bytes blocks : List ℕ) (t : Bool) → times n (if t then [] else blocks) ≡ body_uses n (if t then Inline bytes else Chain blocks bytes)
+contents_by : (n : ℕ) (bytes blocks : List ℕ) (t : Bool) → times n (if t then [] else blocks)
+    ≡ body_uses n (if t then Inline bytes else Chain blocks bytes)
 contents_by n bytes blocks true = refl
 contents_by n bytes blocks false = refl
 
@@ -149,7 +183,11 @@ supplies_taken v (Mkdir p) s n ok =
     let at : IsPlaced v p = is_placed v p ok.sound (All-head (All IsName) p [] ok.names) (test_passes (is_root p) IsRoot below.0) walk.0 in
     let none : uses s.pair.0 v ≡ 0 = omega (arith, ok.free.once s.pair.0, first_used s.pair) in
     omega (arith, made_alone v p s.pair n at, pair_is_new v s.pair n none)
-supplies_taken v (Put p bytes) s n ok = omega (arith, none_set v (Put p bytes) s n refl, contents_by n bytes s.blocks (nat_le (length bytes) (most_inline v.size)))
+supplies_taken v (Put p bytes) s n ok = omega (
+  arith,
+  none_set v (Put p bytes) s n refl,
+  contents_by n bytes s.blocks (nat_le (length bytes) (most_inline v.size)),
+)
 supplies_taken v (Rm p) s n ok = omega (arith, none_set v (Rm p) s n refl)
 supplies_taken v (Mv p q) s n ok = omega (arith, none_set v (Mv p q) s n refl)
 supplies_taken v (SetAttr p k value) s n ok = omega (arith, none_set v (SetAttr p k value) s n refl)
@@ -157,10 +195,12 @@ supplies_taken v (RmAttr p k) s n ok = omega (arith, none_set v (RmAttr p k) s n
 
 -- ---- parts that are cut
 
-new_written : (d : Disk) (is_new : Pair → Bool) (n : ℕ) (pair : Pair) → is_new pair ≡ true → times n (written_blocks d is_new pair) ≡ pair_times n pair
+new_written : (d : Disk) (is_new : Pair → Bool) (n : ℕ) (pair : Pair) → is_new pair ≡ true
+    → times n (written_blocks d is_new pair) ≡ pair_times n pair
 new_written d is_new n pair new = ap (λ (t : Bool). times n (if t then pair.0 ∷ pair.1 ∷ [] else other_number d pair ∷ [])) new
 
-more_written : (d : Disk) (is_new : Pair → Bool) (n : ℕ) (pairs : List Pair) (rs : List (List Entry)) → length pairs ≡ length rs → ((q : Pair) → Contains pairs q → is_new q ≡ true)
+more_written : (d : Disk) (is_new : Pair → Bool) (n : ℕ) (pairs : List Pair) (rs : List (List Entry)) → length pairs ≡ length rs
+    → ((q : Pair) → Contains pairs q → is_new q ≡ true)
     → times n (flat_map (set_blocks d is_new) (more_parts pairs rs)) ≡ sum_by (pair_times n) pairs
 more_written d is_new n [] [] many new = refl
 more_written d is_new n [] (run ∷ rs) many new = let no : ⊥ = omega (arith, many) in absurd no
@@ -174,9 +214,11 @@ more_written d is_new n (pair ∷ pairs) (run ∷ rs) many new =
       sum_by-cons (pair_times n) pair pairs,
     )
 
-part_by : (d : Disk) (is_new : Pair → Bool) (n : ℕ) (chosen : Part → List Pair) (w : Volume) (p : Part) (t : Bool) → p.dirty ≡ t → (t ≡ true → length (chosen p) ≡ length (later_runs (runs w p)))
+part_by : (d : Disk) (is_new : Pair → Bool) (n : ℕ) (chosen : Part → List Pair) (w : Volume) (p : Part) (t : Bool) → p.dirty ≡ t
+    → (t ≡ true → length (chosen p) ≡ length (later_runs (runs w p)))
     → ((q : Pair) → Contains (if t then chosen p else []) q → is_new q ≡ true)
-    → times n (flat_map (set_blocks d is_new) (head_by w p t ∷ tail_by chosen w p t)) ≡ times n (set_blocks d is_new p) + sum_by (pair_times n) (if t then chosen p else [])
+    → times n (flat_map (set_blocks d is_new) (head_by w p t ∷ tail_by chosen w p t))
+    ≡ times n (set_blocks d is_new p) + sum_by (pair_times n) (if t then chosen p else [])
 part_by d is_new n chosen w p true is enough new =
     omega (
       arith,
@@ -186,17 +228,21 @@ part_by d is_new n chosen w p true is enough new =
     )
 part_by d is_new n chosen w p false is enough new = omega (arith, times_append n (set_blocks d is_new p) [])
 
-parts_written : (d : Disk) (is_new : Pair → Bool) (n : ℕ) (chosen : Part → List Pair) (w : Volume) (ps : List Part) → ((p : Part) → Contains ps p → HasEnough chosen w p)
+parts_written : (d : Disk) (is_new : Pair → Bool) (n : ℕ) (chosen : Part → List Pair) (w : Volume) (ps : List Part)
+    → ((p : Part) → Contains ps p → HasEnough chosen w p)
     → ((p : Part) → Contains ps p → (q : Pair) → Contains (new_pairs chosen p) q → is_new q ≡ true)
-    → times n (flat_map (set_blocks d is_new) (flat_map (cut_part chosen w) ps)) ≡ sum_by (λ p. times n (set_blocks d is_new p)) ps + pairs_for chosen n ps
+    → times n (flat_map (set_blocks d is_new) (flat_map (cut_part chosen w) ps))
+    ≡ sum_by (λ p. times n (set_blocks d is_new p)) ps + pairs_for chosen n ps
 parts_written d is_new n chosen w [] enough new = refl
 parts_written d is_new n chosen w (p ∷ ps) enough new =
     omega (
       arith,
       ap (times n) (flat_map-append (set_blocks d is_new) (cut_part chosen w p) (flat_map (cut_part chosen w) ps)),
-      times_append n (flat_map (set_blocks d is_new) (cut_part chosen w p)) (flat_map (set_blocks d is_new) (flat_map (cut_part chosen w) ps)),
+      times_append n (flat_map (set_blocks d is_new) (cut_part chosen w p))
+          (flat_map (set_blocks d is_new) (flat_map (cut_part chosen w) ps)),
       part_by d is_new n chosen w p p.dirty refl (enough p (contains_first p ps)) (new p (contains_first p ps)),
-      parts_written d is_new n chosen w ps (λ x there. enough x (contains-cons p ps x there)) (λ x there. new x (contains-cons p ps x there)),
+      parts_written d is_new n chosen w ps (λ x there. enough x (contains-cons p ps x there))
+          (λ x there. new x (contains-cons p ps x there)),
       sum_by-cons (λ (x : Part). times n (set_blocks d is_new x)) p ps,
       sum_by-cons (λ (x : Part). sum_by (pair_times n) (new_pairs chosen x)) p ps,
     )
@@ -216,7 +262,8 @@ set_by d n p ps true true = refl
 set_by d n p ps true false = omega (arith, times_cons n (other_number d p.pair) (others_of d ps), times_cons n (other_number d p.pair) [])
 set_by d n p ps false u = refl
 
-set_written : (d : Disk) (v : Volume) (n : ℕ) (ps : List Part) → sum_by (λ p. times n (set_blocks d (is_new_to v) p)) ps ≡ set_total (new_times v n) ps + times n (others_of d (rewritten v ps))
+set_written : (d : Disk) (v : Volume) (n : ℕ) (ps : List Part) → sum_by (λ p. times n (set_blocks d (is_new_to v) p)) ps
+    ≡ set_total (new_times v n) ps + times n (others_of d (rewritten v ps))
 set_written d v n [] = refl
 set_written d v n (p ∷ ps) =
     omega (
@@ -229,7 +276,8 @@ set_written d v n (p ∷ ps) =
 
 -- ---- the blocks that are written
 
-pub chosen_is_new : (v : Volume) (c : Command) (s : Supplies) (chosen : Part → List Pair) → AreChosen v c s chosen → (p : Part) → Contains (thread (edited v c s).directories) p
+pub chosen_is_new : (v : Volume) (c : Command) (s : Supplies) (chosen : Part → List Pair) → AreChosen v c s chosen → (p : Part)
+    → Contains (thread (edited v c s).directories) p
     → (q : Pair) → Contains (new_pairs chosen p) q → is_new_to v q ≡ true
 chosen_is_new v c s chosen pairs p there q inside =
     let one : pair_times q.0 q ≤ sum_by (pair_times q.0) (new_pairs chosen p) = one_le (pair_times q.0) (new_pairs chosen p) q inside in
@@ -237,18 +285,23 @@ chosen_is_new v c s chosen pairs p there q inside =
     one_le (λ (x : Part). sum_by (pair_times q.0) (new_pairs chosen x)) (thread (edited v c s).directories) p there in
     new_is v q (omega (arith, one, all, pairs.once q.0, first_used q))
 
-links_written : (d : Disk) (is_new : Pair → Bool) (ds : List Directory) → links_blocks d is_new (links ds) ≡ flat_map (set_blocks d is_new) (thread ds)
-links_written d is_new ds = sym (flat_map-map (set_blocks d is_new) (λ (l : Link). l.part) (links ds)) ∙ ap (flat_map (set_blocks d is_new)) (parts_of_links ds)
+links_written : (d : Disk) (is_new : Pair → Bool) (ds : List Directory)
+    → links_blocks d is_new (links ds) ≡ flat_map (set_blocks d is_new) (thread ds)
+links_written d is_new ds = sym (flat_map-map (set_blocks d is_new) (λ (l : Link). l.part) (links ds))
+    ∙ ap (flat_map (set_blocks d is_new)) (parts_of_links ds)
 
 pub blocks_are_taken : BlocksAreTaken
 blocks_are_taken d v c s chosen ok pairs n =
     let w : Volume = edited v c s in
-    let is : links_blocks d (is_new_to v) (links (cut chosen w).directories) ≡ flat_map (set_blocks d (is_new_to v)) (flat_map (cut_part chosen w) (thread w.directories)) =
-    links_written d (is_new_to v) (cut chosen w).directories ∙ ap (flat_map (set_blocks d (is_new_to v))) (cut_thread chosen w w.directories) in
+    let is : links_blocks d (is_new_to v) (links (cut chosen w).directories)
+    ≡ flat_map (set_blocks d (is_new_to v)) (flat_map (cut_part chosen w) (thread w.directories)) =
+    links_written d (is_new_to v) (cut chosen w).directories ∙ ap (flat_map (set_blocks d (is_new_to v)))
+    (cut_thread chosen w w.directories) in
     omega (
       arith,
       ap (times n) is,
-      parts_written d (is_new_to v) n chosen w (thread w.directories) (λ p there. All-contains (HasEnough chosen w) (thread w.directories) p pairs.enough there) (chosen_is_new v c s chosen pairs),
+      parts_written d (is_new_to v) n chosen w (thread w.directories) (λ p there.
+          All-contains (HasEnough chosen w) (thread w.directories) p pairs.enough there) (chosen_is_new v c s chosen pairs),
       set_written d v n (thread w.directories),
       supplies_taken v c s n ok,
     )
@@ -260,7 +313,8 @@ set_uses_thread n ds =
     sym (sum_over (one_use n) (λ (p : Part). if p.dirty then pair_times n p.pair else 0) (λ (l : Link). l.part) (λ l. refl) (links ds))
     ∙ ap (set_total (pair_times n)) (parts_of_links ds)
 
-pub supplies_once : (v : Volume) (c : Command) (s : Supplies) (n : ℕ) → times n (content_blocks v c s) + made_total (pair_times n) c s ≡ supply_uses v c s n
+pub supplies_once : (v : Volume) (c : Command) (s : Supplies) (n : ℕ)
+    → times n (content_blocks v c s) + made_total (pair_times n) c s ≡ supply_uses v c s n
 supplies_once v (Mkdir p) s n = omega arith
 supplies_once v (Put p bytes) s n = omega (arith, contents_by n bytes s.blocks (nat_le (length bytes) (most_inline v.size)))
 supplies_once v (Rm p) s n = refl
@@ -272,7 +326,8 @@ pub blocks_are_written_once : BlocksAreWrittenOnce
 blocks_are_written_once v c s chosen ok pairs n =
     let w : Volume = edited v c s in
     let ds : List Directory = (cut chosen w).directories in
-    let after : parts_total (pair_times n) (thread ds) ≡ parts_total (pair_times n) (thread w.directories) + pairs_for chosen n (thread w.directories) =
+    let after : parts_total (pair_times n) (thread ds) ≡ parts_total (pair_times n) (thread w.directories)
+    + pairs_for chosen n (thread w.directories) =
     ap (parts_total (pair_times n)) (cut_thread chosen w w.directories) ∙ all_uses n chosen w (thread w.directories) pairs.enough in
     omega (
       arith,

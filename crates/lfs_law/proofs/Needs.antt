@@ -1,5 +1,6 @@
 -- What a command needs doesn't depend on what it gets, and is the number of its new blocks.
-use Rattle.std.proofs.Common.{◌≡◌, ℕ, ◌+◌, ◌-◌, ◌*◌, Bool, true, false, ◌||◌, List, [], ◌∷◌, ◌++◌, length, refl, ap, sym, ◌∙◌, arith, map, Option, Some, None}
+use Rattle.std.proofs.Common.{◌≡◌, ℕ, ◌+◌, ◌-◌, ◌*◌, Bool, true, false, ◌||◌, List, [], ◌∷◌, ◌++◌, length, refl, ap, sym, ◌∙◌, arith, map}
+use Rattle.std.proofs.Common.{Option, Some, None}
 use Rattle.std.specs.Prelude.{All, sum_by, nat_le, if◌then◌else◌}
 use Rattle.std.specs.List.{filter, list_any, AllZip}
 use Rattle.std.proofs.lemmas.List.{map-append}
@@ -49,7 +50,8 @@ itself (e ∷ es) = (refl, itself es)
 runs_by_weights : RunsFollowWeights Entry ℕ → (space weight' number : ℕ) (es : List Entry)
     → length (runs_after weight space weight' number es) ≡ length (runs_after (λ (w : ℕ). w) space weight' number (map weight es))
 runs_by_weights follow space weight' number es =
-    sym (AllZip-long (AllZip (λ (e : Entry) (w : ℕ). weight e ≡ w)) (runs_after weight space weight' number es) (runs_after (λ (w : ℕ). w) space weight' number (map weight es))
+    sym (AllZip-long (AllZip (λ (e : Entry) (w : ℕ). weight e ≡ w)) (runs_after weight space weight' number es)
+    (runs_after (λ (w : ℕ). w) space weight' number (map weight es))
     (follow weight (λ (w : ℕ). w) space weight' number es (map weight es) (itself es)))
 
 abbrev runs_of : Volume → Pair → List ℕ → List (List ℕ)
@@ -63,16 +65,19 @@ shadow_blocks v s = if s.2 then 2 * (length (runs_of v s.0 s.1) - 1) else 0
 
 runs_same_by : RunsFollowWeights Entry ℕ → (v : Volume) (es : List Entry) (t : Bool)
     → length (if t then runs_after weight (room v) (superblock_weight v.attributes) 1 es else runs_after weight (room v) 0 0 es)
-    ≡ length (if t then runs_after (λ (w : ℕ). w) (room v) (superblock_weight v.attributes) 1 (map weight es) else runs_after (λ (w : ℕ). w) (room v) 0 0 (map weight es))
+    ≡ length (if t then runs_after (λ (w : ℕ). w) (room v) (superblock_weight v.attributes) 1 (map weight es) else runs_after (λ (w : ℕ). w)
+    (room v) 0 0 (map weight es))
 runs_same_by follow v es true = runs_by_weights follow (room v) (superblock_weight v.attributes) 1 es
 runs_same_by follow v es false = runs_by_weights follow (room v) 0 0 es
 
-blocks_by : RunsFollowWeights Entry ℕ → (v : Volume) (p : Part) → part_blocks v p ≡ 2 * (length (runs_of v p.pair (map weight p.entries)) - 1)
+blocks_by : RunsFollowWeights Entry ℕ → (v : Volume) (p : Part) → part_blocks v p
+    ≡ 2 * (length (runs_of v p.pair (map weight p.entries)) - 1)
 blocks_by follow v p = ap (λ (n : ℕ). 2 * (n - 1)) (runs_same_by follow v p.entries (is_first p))
 
 -- ---- sums over the parts that are set
 
-set_first : (f : Part → ℕ) (p : Part) (ps : List Part) (t : Bool) → sum_by f (if t then p ∷ filter (λ q. q.dirty) ps else filter (λ q. q.dirty) ps) ≡ (if t then f p else 0)
+set_first : (f : Part → ℕ) (p : Part) (ps : List Part) (t : Bool) → sum_by f
+    (if t then p ∷ filter (λ q. q.dirty) ps else filter (λ q. q.dirty) ps) ≡ (if t then f p else 0)
     + sum_by f (filter (λ q. q.dirty) ps)
 set_first f p ps true = sum_by-cons f p (filter (λ q. q.dirty) ps)
 set_first f p ps false = omega arith
@@ -81,11 +86,13 @@ sum_set : (f : Part → ℕ) (ps : List Part) → sum_by f (filter (λ p. p.dirt
 sum_set f [] = refl
 sum_set f (p ∷ ps) = omega (arith, set_first f p ps p.dirty, sum_set f ps, sum_by-cons (λ (q : Part). if q.dirty then f q else 0) p ps)
 
-set_blocks : RunsFollowWeights Entry ℕ → (v : Volume) (p : Part) (t : Bool) → (if t then part_blocks v p else 0) ≡ (if t then 2 * (length (runs_of v p.pair (map weight p.entries)) - 1) else 0)
+set_blocks : RunsFollowWeights Entry ℕ → (v : Volume) (p : Part) (t : Bool)
+    → (if t then part_blocks v p else 0) ≡ (if t then 2 * (length (runs_of v p.pair (map weight p.entries)) - 1) else 0)
 set_blocks follow v p true = blocks_by follow v p
 set_blocks follow v p false = refl
 
-sum_shadows : RunsFollowWeights Entry ℕ → (v : Volume) (ps : List Part) → sum_by (λ p. if p.dirty then part_blocks v p else 0) ps ≡ sum_by (shadow_blocks v) (map shadow ps)
+sum_shadows : RunsFollowWeights Entry ℕ → (v : Volume) (ps : List Part)
+    → sum_by (λ p. if p.dirty then part_blocks v p else 0) ps ≡ sum_by (shadow_blocks v) (map shadow ps)
 sum_shadows follow v [] = refl
 sum_shadows follow v (p ∷ ps) =
     omega (
@@ -103,7 +110,8 @@ all_blocks v ds = sum_by (λ d. sum_by (shadow_blocks v) (shadows d)) ds
 thread_blocks : (v : Volume) (ds : List Directory) → sum_by (shadow_blocks v) (map shadow (thread ds)) ≡ all_blocks v ds
 thread_blocks v [] = refl
 thread_blocks v (d ∷ ds) =
-    let split : map shadow (thread (d ∷ ds)) ≡ shadows d ++ map shadow (thread ds) = ap (map shadow) (flat_map-cons parts d ds) ∙ map-append shadow (parts d) (thread ds) in
+    let split : map shadow (thread (d ∷ ds)) ≡ shadows d ++ map shadow (thread ds) =
+    ap (map shadow) (flat_map-cons parts d ds) ∙ map-append shadow (parts d) (thread ds) in
     omega (
       arith,
       ap (sum_by (shadow_blocks v)) split,
@@ -112,7 +120,8 @@ thread_blocks v (d ∷ ds) =
       sum_by-cons (λ (e : Directory). sum_by (shadow_blocks v) (shadows e)) d ds,
     )
 
-dirty_blocks : RunsFollowWeights Entry ℕ → (v : Volume) (ds : List Directory) → sum_by (part_blocks v) (filter (λ p. p.dirty) (thread ds)) ≡ all_blocks v ds
+dirty_blocks : RunsFollowWeights Entry ℕ → (v : Volume) (ds : List Directory)
+    → sum_by (part_blocks v) (filter (λ p. p.dirty) (thread ds)) ≡ all_blocks v ds
 dirty_blocks follow v ds = sum_set (part_blocks v) (thread ds) ∙ sum_shadows follow v (thread ds) ∙ thread_blocks v ds
 
 -- ---- edits with entries that weigh the same
@@ -134,10 +143,12 @@ place_weights e f same (x ∷ xs) =
     place_by e f same x xs (precedes e.name x.name) (place_weights e f same xs)
     ∙ ap (λ (n : Name). map weight (if precedes n x.name then f ∷ x ∷ xs else x ∷ place f xs)) same.name
 
-link_by : (e f : Entry) → WeighSame e f → (p q : Part) (ps : List Part) (t : Bool) → shadows (link_parts e q ps) ≡ shadows (link_parts f q ps)
+link_by : (e f : Entry) → WeighSame e f → (p q : Part) (ps : List Part) (t : Bool)
+    → shadows (link_parts e q ps) ≡ shadows (link_parts f q ps)
     → shadows (if t then record { first = touch true (place e) p; more = q ∷ ps } else behind p (link_parts e q ps)) ≡ shadows
     (if t then record { first = touch true (place f) p; more = q ∷ ps } else behind p (link_parts f q ps))
-link_by e f same p q ps true rest = ap (λ (ws : List ℕ). (p.pair, ws, p.dirty || true) ∷ map shadow (q ∷ ps)) (place_weights e f same p.entries)
+link_by e f same p q ps true rest = ap (λ (ws : List ℕ). (p.pair, ws, p.dirty || true) ∷ map shadow (q ∷ ps))
+    (place_weights e f same p.entries)
 link_by e f same p q ps false rest = ap (λ (ss : List Shadow). shadow p ∷ ss) rest
 
 pub link_shadows : (e f : Entry) → WeighSame e f → (p : Part) (ps : List Part) → shadows (link_parts e p ps) ≡ shadows (link_parts f p ps)
@@ -145,13 +156,16 @@ unfolding link_parts
 link_shadows e f same p [] = ap (λ (ws : List ℕ). (p.pair, ws, p.dirty || true) ∷ []) (place_weights e f same p.entries)
 link_shadows e f same p (q ∷ ps) =
     link_by e f same p q ps (list_any (λ x. precedes e.name x.name) p.entries) (link_shadows e f same q ps)
-    ∙ ap (λ (n : Name). shadows (if list_any (λ x. precedes n x.name) p.entries then record { first = touch true (place f) p; more = q ∷ ps } else behind p (link_parts f q ps))) same.name
+    ∙ ap (λ (n : Name). shadows (if list_any (λ x. precedes n x.name) p.entries then
+    record { first = touch true (place f) p; more = q ∷ ps } else behind p (link_parts f q ps))) same.name
 
-change_by : (g h : Entry → Entry) → ((e : Entry) → weight (g e) ≡ weight (h e)) → (e : Entry) (t : Bool) → weight (if t then g e else e) ≡ weight (if t then h e else e)
+change_by : (g h : Entry → Entry) → ((e : Entry) → weight (g e) ≡ weight (h e)) → (e : Entry) (t : Bool)
+    → weight (if t then g e else e) ≡ weight (if t then h e else e)
 change_by g h same e true = same e
 change_by g h same e false = refl
 
-change_weights : (n : Name) (g h : Entry → Entry) → ((e : Entry) → weight (g e) ≡ weight (h e)) → (es : List Entry) → map weight (changed n g es) ≡ map weight (changed n h es)
+change_weights : (n : Name) (g h : Entry → Entry) → ((e : Entry) → weight (g e) ≡ weight (h e)) → (es : List Entry)
+    → map weight (changed n g es) ≡ map weight (changed n h es)
 change_weights n g h same [] = refl
 change_weights n g h same (e ∷ es) = rw (change_by g h same e (is_named n e), change_weights n g h same es) refl
 
@@ -160,11 +174,13 @@ change_shadows_of : (n : Name) (g h : Entry → Entry) → ((e : Entry) → weig
 change_shadows_of n g h same [] = refl
 change_shadows_of n g h same (p ∷ ps) = rw (change_weights n g h same p.entries, change_shadows_of n g h same ps) refl
 
-pub change_shadows : (n : Name) (g h : Entry → Entry) → ((e : Entry) → weight (g e) ≡ weight (h e)) → (d : Directory) → shadows (change_in n g d) ≡ shadows (change_in n h d)
+pub change_shadows : (n : Name) (g h : Entry → Entry) → ((e : Entry) → weight (g e) ≡ weight (h e)) → (d : Directory)
+    → shadows (change_in n g d) ≡ shadows (change_in n h d)
 change_shadows n g h same d = change_shadows_of n g h same (parts d)
 
 -- in the directory at a pair
-in_by : (f g : Directory → Directory) → ((d : Directory) → shadows (f d) ≡ shadows (g d)) → (d : Directory) (t : Bool) → shadows (if t then f d else d) ≡ shadows (if t then g d else d)
+in_by : (f g : Directory → Directory) → ((d : Directory) → shadows (f d) ≡ shadows (g d)) → (d : Directory) (t : Bool)
+    → shadows (if t then f d else d) ≡ shadows (if t then g d else d)
 in_by f g same d true = same d
 in_by f g same d false = refl
 
@@ -190,7 +206,8 @@ same_blocks v ds es same = blocks_of_shadows v ds ∙ ap (sum_by (λ ss. sum_by 
 -- ---- a directory that is added
 
 -- a directory without entries needs no block, wherever it is
-bare_runs : (v : Volume) (pair : Pair) (t : Bool) → 2 * (length (if t then runs_after (λ (w : ℕ). w) (room v) (superblock_weight v.attributes) 1 [] else runs_after
+bare_runs : (v : Volume) (pair : Pair) (t : Bool) → 2 * (length (if t then runs_after (λ (w : ℕ). w) (room v)
+    (superblock_weight v.attributes) 1 [] else runs_after
     (λ (w : ℕ). w) (room v) 0 0 []) - 1) ≡ 0
 unfolding runs_after
 bare_runs v pair true = refl
@@ -228,11 +245,14 @@ unfolding last_of
 last_by_shadows d e same = touch_shadows d.first d.more ∙ ap last_of same ∙ sym (touch_shadows e.first e.more)
 
 added_by : (v : Volume) (k : Pair) (new other d e : Directory) (ds es : List Directory) (t : Bool)
-    → sum_by (shadow_blocks v) (shadows new) ≡ sum_by (shadow_blocks v) (shadows other) → shadows d ≡ shadows e → all_blocks v ds ≡ all_blocks v es
+    → sum_by (shadow_blocks v) (shadows new) ≡ sum_by (shadow_blocks v) (shadows other) → shadows d ≡ shadows e
+    → all_blocks v ds ≡ all_blocks v es
     → all_blocks v (add_after k new ds) ≡ all_blocks v (add_after k other es)
-    → all_blocks v (if t then touch_last d ∷ new ∷ ds else d ∷ add_after k new ds) ≡ all_blocks v (if t then touch_last e ∷ other ∷ es else e ∷ add_after k other es)
+    → all_blocks v (if t then touch_last d ∷ new ∷ ds else d ∷ add_after k new ds)
+    ≡ all_blocks v (if t then touch_last e ∷ other ∷ es else e ∷ add_after k other es)
 added_by v k new other d e ds es true alike same rest added =
-    let last : sum_by (shadow_blocks v) (shadows (touch_last d)) ≡ sum_by (shadow_blocks v) (shadows (touch_last e)) = ap (sum_by (shadow_blocks v)) (last_by_shadows d e same) in
+    let last : sum_by (shadow_blocks v) (shadows (touch_last d)) ≡ sum_by (shadow_blocks v) (shadows (touch_last e)) =
+    ap (sum_by (shadow_blocks v)) (last_by_shadows d e same) in
     let one = λ (x : Directory) (xs : List Directory). sum_by-cons (λ (y : Directory). sum_by (shadow_blocks v) (shadows y)) x xs in
     omega (arith, last, one (touch_last d) (new ∷ ds), one new ds, one (touch_last e) (other ∷ es), one other es)
 added_by v k new other d e ds es false alike same rest added =
@@ -243,7 +263,8 @@ added_by v k new other d e ds es false alike same rest added =
 pub heads_same : (x y : List Shadow) (xs ys : List (List Shadow)) → x ∷ xs ≡ y ∷ ys → (x ≡ y) × (xs ≡ ys)
 heads_same x y xs ys h = (cc, cc)
 
-added_blocks : (v : Volume) (k : Pair) (new other : Directory) → sum_by (shadow_blocks v) (shadows new) ≡ sum_by (shadow_blocks v) (shadows other)
+added_blocks : (v : Volume) (k : Pair) (new other : Directory) → sum_by (shadow_blocks v) (shadows new)
+    ≡ sum_by (shadow_blocks v) (shadows other)
     → (ds es : List Directory) → map shadows ds ≡ map shadows es → all_blocks v (add_after k new ds) ≡ all_blocks v (add_after k other es)
 unfolding add_after
 added_blocks v k new other alike [] [] same = refl
@@ -251,7 +272,8 @@ added_blocks v k new other alike [] (e ∷ es) same = cc
 added_blocks v k new other alike (d ∷ ds) [] same = cc
 added_blocks v k new other alike (d ∷ ds) (e ∷ es) same =
     let both = heads_same (shadows d) (shadows e) (map shadows ds) (map shadows es) same in
-    added_by v k new other d e ds es (begins_at k d) alike both.0 (same_blocks v ds es both.1) (added_blocks v k new other alike ds es both.1)
+    added_by v k new other d e ds es (begins_at k d) alike both.0 (same_blocks v ds es both.1)
+    (added_blocks v k new other alike ds es both.1)
     ∙ ap (λ (t : Bool). all_blocks v (if t then touch_last e ∷ other ∷ es else e ∷ add_after k other es)) (begins_by_shadows k d e both.0)
 
 -- ---- the commands
@@ -263,40 +285,51 @@ dirty_need w = sum_by (part_blocks w) (dirty_parts w)
 -- two volumes of one size and root's attributes whose parts need the same
 alike_need : RunsFollowWeights Entry ℕ → (v : Volume) (ds es : List Directory) → all_blocks v ds ≡ all_blocks v es
     → dirty_need (with_directories v ds) ≡ dirty_need (with_directories v es)
-alike_need follow v ds es same = dirty_blocks follow (with_directories v ds) ds ∙ same ∙ sym (dirty_blocks follow (with_directories v es) es)
+alike_need follow v ds es same = dirty_blocks follow (with_directories v ds) ds ∙ same
+    ∙ sym (dirty_blocks follow (with_directories v es) es)
 
-body_by : (bytes some others : List ℕ) (t : Bool) → body_weight (if t then Inline bytes else Chain some bytes) ≡ body_weight (if t then Inline bytes else Chain others bytes)
+body_by : (bytes some others : List ℕ) (t : Bool) → body_weight (if t then Inline bytes else Chain some bytes)
+    ≡ body_weight (if t then Inline bytes else Chain others bytes)
 body_by bytes some others true = refl
 body_by bytes some others false = refl
 
 pub put_body : (v : Volume) (s : Supplies) (bytes : List ℕ) → body_weight (new_body v nothing bytes) ≡ body_weight (new_body v s bytes)
 put_body v s bytes = body_by bytes [] s.blocks (nat_le (length bytes) (most_inline v.size))
 
-put_need : RunsFollowWeights Entry ℕ → (v : Volume) (b c : Body) → body_weight b ≡ body_weight c → (h : Option (Pair × Name)) (old : Option Entry)
+put_need : RunsFollowWeights Entry ℕ → (v : Volume) (b c : Body) → body_weight b ≡ body_weight c
+    → (h : Option (Pair × Name)) (old : Option Entry)
     → dirty_need (put_file v b h old) ≡ dirty_need (put_file v c h old)
 put_need follow v b c same None old = refl
 put_need follow v b c same (Some h) None =
     alike_need follow v (link h.0 (new_entry h.1 b) v.directories) (link h.0 (new_entry h.1 c) v.directories)
     (same_blocks v (link h.0 (new_entry h.1 b) v.directories) (link h.0 (new_entry h.1 c) v.directories)
     (in_shadows h.0 (link_in (new_entry h.1 b)) (link_in (new_entry h.1 c))
-    (λ d. link_shadows (new_entry h.1 b) (new_entry h.1 c) (record { name = refl; weight' = omega (arith, same) }) d.first d.more) v.directories))
+    (λ d. link_shadows (new_entry h.1 b) (new_entry h.1 c) (record { name = refl; weight' = omega (arith, same) }) d.first d.more)
+    v.directories))
 put_need follow v b c same (Some h) (Some e) =
     alike_need follow v (change h.0 h.1 (with_body b) v.directories) (change h.0 h.1 (with_body c) v.directories)
     (same_blocks v (change h.0 h.1 (with_body b) v.directories) (change h.0 h.1 (with_body c) v.directories)
-    (in_shadows h.0 (change_in h.1 (with_body b)) (change_in h.1 (with_body c)) (change_shadows h.1 (with_body b) (with_body c) (λ x. omega (arith, same))) v.directories))
+    (in_shadows h.0 (change_in h.1 (with_body b)) (change_in h.1 (with_body c))
+    (change_shadows h.1 (with_body b) (with_body c) (λ x. omega (arith, same))) v.directories))
 
-make_need : RunsFollowWeights Entry ℕ → (v : Volume) (p q : Pair) (h : Option (Pair × Name)) → dirty_need (make_directory v p h) ≡ dirty_need (make_directory v q h)
+make_need : RunsFollowWeights Entry ℕ → (v : Volume) (p q : Pair) (h : Option (Pair × Name))
+    → dirty_need (make_directory v p h) ≡ dirty_need (make_directory v q h)
 make_need follow v p q None = refl
 make_need follow v p q (Some h) =
     let one : Entry = new_entry h.1 (Directory_at p) in
     let two : Entry = new_entry h.1 (Directory_at q) in
-    alike_need follow v (add_after h.0 (empty_directory p) (link h.0 one v.directories)) (add_after h.0 (empty_directory q) (link h.0 two v.directories))
-    (added_blocks v h.0 (empty_directory p) (empty_directory q) (bare_blocks v p ∙ sym (bare_blocks v q)) (link h.0 one v.directories) (link h.0 two v.directories)
-    (in_shadows h.0 (link_in one) (link_in two) (λ d. link_shadows one two (record { name = refl; weight' = refl }) d.first d.more) v.directories))
+    alike_need follow v (add_after h.0 (empty_directory p) (link h.0 one v.directories))
+    (add_after h.0 (empty_directory q) (link h.0 two v.directories))
+    (added_blocks v h.0 (empty_directory p) (empty_directory q) (bare_blocks v p ∙ sym (bare_blocks v q)) (link h.0 one v.directories)
+    (link h.0 two v.directories)
+    (in_shadows h.0 (link_in one) (link_in two) (λ d. link_shadows one two (record { name = refl; weight' = refl }) d.first d.more)
+    v.directories))
 
-edited_need : RunsFollowWeights Entry ℕ → (v : Volume) (c : Command) (s : Supplies) → dirty_need (edited v c nothing) ≡ dirty_need (edited v c s)
+edited_need : RunsFollowWeights Entry ℕ → (v : Volume) (c : Command) (s : Supplies)
+    → dirty_need (edited v c nothing) ≡ dirty_need (edited v c s)
 edited_need follow v (Mkdir p) s = make_need follow v nothing.pair s.pair (home_of v p)
-edited_need follow v (Put p bytes) s = put_need follow v (new_body v nothing bytes) (new_body v s bytes) (put_body v s bytes) (home_of v p) (entry_at v p)
+edited_need follow v (Put p bytes) s = put_need follow v (new_body v nothing bytes) (new_body v s bytes) (put_body v s bytes) (home_of v p)
+    (entry_at v p)
 edited_need follow v (Rm p) s = refl
 edited_need follow v (Mv p q) s = refl
 edited_need follow v (SetAttr p k value) s = refl
@@ -308,7 +341,8 @@ need_is_the_same follow v c s = ap (λ (n : ℕ). data_blocks v c + directory_bl
 -- ---- the new blocks
 
 -- two for each new pair
-pair_blocks_by : (v : Volume) (chosen : Part → List Pair) (p : Part) (t : Bool) → (t ≡ true → length (chosen p) ≡ length (later_runs (runs v p)))
+pair_blocks_by : (v : Volume) (chosen : Part → List Pair) (p : Part) (t : Bool)
+    → (t ≡ true → length (chosen p) ≡ length (later_runs (runs v p)))
     → (if t then part_blocks v p else 0) ≡ 2 * length (if t then chosen p else [])
 pair_blocks_by v chosen p true enough = by (runs v p) (enough refl)
   where
@@ -323,10 +357,17 @@ pair_blocks v chosen [] enough = refl
 pair_blocks v chosen (p ∷ ps) enough =
     let here = pair_blocks_by v chosen p p.dirty (All-head (HasEnough chosen v) p ps enough) in
     let rest = pair_blocks v chosen ps (All-tail (HasEnough chosen v) p ps enough) in
-    omega (arith, here, rest, sum_by-cons (λ (q : Part). if q.dirty then part_blocks v q else 0) p ps, sum_by-cons (λ (q : Part). length (new_pairs chosen q)) p ps)
+    omega (
+      arith,
+      here,
+      rest,
+      sum_by-cons (λ (q : Part). if q.dirty then part_blocks v q else 0) p ps,
+      sum_by-cons (λ (q : Part). length (new_pairs chosen q)) p ps,
+    )
 
 pub need_is_exact : RunsFollowWeights Entry ℕ → NeedIsExact
 need_is_exact follow v c s chosen pairs =
     let w = edited v c s in
     need_is_the_same follow v c s
-    ∙ ap (λ (n : ℕ). data_blocks v c + directory_blocks c + n) (sum_set (part_blocks w) (thread w.directories) ∙ pair_blocks w chosen (thread w.directories) pairs.enough)
+    ∙ ap (λ (n : ℕ). data_blocks v c + directory_blocks c + n) (sum_set (part_blocks w) (thread w.directories)
+    ∙ pair_blocks w chosen (thread w.directories) pairs.enough)

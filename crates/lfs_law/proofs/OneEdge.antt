@@ -15,7 +15,8 @@ use Rattle.lfs_fs.specs.Sound.{IsSound}
 use Rattle.lfs_command.specs.PathMap.{below, put_at}
 use Rattle.lfs_law.proofs.Walks.{by_last_name, walk-snoc, step_alike, step_same, snoc_same}
 use Rattle.lfs_law.proofs.OnePath.{one_path}
-use Rattle.lfs_law.proofs.PathMapLemmas.{same_path_or_not, longer, no_names, below_front, below_self, below_longer, put_at_there, put_at_other, put_at_mapped}
+use Rattle.lfs_law.proofs.PathMapLemmas.{same_path_or_not, longer, no_names, below_front, below_self, below_longer, put_at_there}
+use Rattle.lfs_law.proofs.PathMapLemmas.{put_at_other, put_at_mapped}
 
 -- w is v but for the edge from k under n, which is x; front leads to k
 pub record OneEdge (v w : Volume) (front : Path) (k : Pair) (n : Name) (x : Option Entry) : Type 0 where
@@ -38,7 +39,8 @@ pub top_same : (v w : Volume) → w.attributes ≡ v.attributes → Some (top w)
 top_same v w same = ap (λ (a : Attributes). Some (topped a)) same
 
 -- the entry under a name in the place that a path leads to
-pub entry_under : (v : Volume) (front : Path) (holder : Entry) (k : Pair) (n : Name) → entry_at v front ≡ Some holder → target holder ≡ Some k
+pub entry_under : (v : Volume) (front : Path) (holder : Entry) (k : Pair) (n : Name) → entry_at v front ≡ Some holder
+    → target holder ≡ Some k
     → entry_at v (front ++ n ∷ []) ≡ entry_in v.directories k n
 entry_under v front holder k n here leads =
     walk-snoc target (entry_in v.directories) (Some (top v)) front n
@@ -48,19 +50,23 @@ entry_under v front holder k n here leads =
 -- the place of the edge has one path
 one_place : {v w : Volume} {front : Path} {k : Pair} {n : Name} {x : Option Entry} → OneEdge v w front k n x
     → (p : Path) (e : Entry) (j : Pair) → entry_at v p ≡ Some e → target e ≡ Some j → j ≡ k → p ≡ front
-one_place {v} {w} {front} {k} {n} {x} c p e j here leads same = one_path v c.sound p front e c.holder k here c.holder_at (leads ∙ ap Some same) c.holder_leads
+one_place {v} {w} {front} {k} {n} {x} c p e j here leads same = one_path v c.sound p front e c.holder k here c.holder_at
+    (leads ∙ ap Some same) c.holder_leads
 
 -- one name more, along another edge
 more_same : {v w : Volume} {front : Path} {k : Pair} {n : Name} {x : Option Entry} → OneEdge v w front k n x
-    → (p : Path) (m : Name) → entry_at w p ≡ entry_at v p → (p ++ m ∷ [] ≡ front ++ n ∷ [] → ⊥) → entry_at w (p ++ m ∷ []) ≡ entry_at v (p ++ m ∷ [])
+    → (p : Path) (m : Name) → entry_at w p ≡ entry_at v p → (p ++ m ∷ [] ≡ front ++ n ∷ [] → ⊥)
+    → entry_at w (p ++ m ∷ []) ≡ entry_at v (p ++ m ∷ [])
 more_same {v} {w} {front} {k} {n} {x} c p m same elsewhere =
     snoc_same target (entry_in v.directories) (entry_in w.directories) (Some (top v)) (Some (top w)) p p m same
-    (λ e j here leads. c.others j m (λ both. elsewhere (ap (λ (q : Path). q ++ m ∷ []) (one_place c p e j here leads both.0) ∙ ap (λ (l : Name). front ++ l ∷ []) both.1)))
+    (λ e j here leads. c.others j m (λ both. elsewhere (ap (λ (q : Path). q ++ m ∷ []) (one_place c p e j here leads both.0)
+    ∙ ap (λ (l : Name). front ++ l ∷ []) both.1)))
 
 -- what doesn't lie at or below the edge stays
 pub entries_elsewhere : {v w : Volume} {front : Path} {k : Pair} {n : Name} {x : Option Entry} → OneEdge v w front k n x
     → (p : Path) → below (front ++ n ∷ []) p ≡ None → entry_at w p ≡ entry_at v p
-entries_elsewhere {v} {w} {front} {k} {n} {x} c = by_last_name (λ (p : Path). below (front ++ n ∷ []) p ≡ None → entry_at w p ≡ entry_at v p)
+entries_elsewhere {v} {w} {front} {k} {n} {x} c = by_last_name (λ (p : Path). below (front ++ n ∷ []) p ≡ None
+    → entry_at w p ≡ entry_at v p)
     (λ _. top_same v w c.attributes)
     (λ p m before outside. more_same c p m (before (below_front (front ++ n ∷ []) p (m ∷ []) outside))
     (λ is. none-some [] (sym outside ∙ ap (below (front ++ n ∷ [])) is ∙ below_self (front ++ n ∷ []))))
@@ -78,13 +84,16 @@ entries_after {v} {w} {front} {k} {n} {x} c alike = by_last_name (λ (p : Path).
     (top_same v w c.attributes ∙ sym (put_at_other (front ++ n ∷ []) x (entry_at v) [] (no_names front n [])))
     more
   where
-    more : (p : Path) (m : Name) → entry_at w p ≡ put_at (front ++ n ∷ []) x (entry_at v) p → entry_at w (p ++ m ∷ []) ≡ put_at (front ++ n ∷ []) x (entry_at v) (p ++ m ∷ [])
+    more : (p : Path) (m : Name) → entry_at w p ≡ put_at (front ++ n ∷ []) x (entry_at v) p
+        → entry_at w (p ++ m ∷ []) ≡ put_at (front ++ n ∷ []) x (entry_at v) (p ++ m ∷ [])
     more p m before = elim (same_path_or_not (front ++ n ∷ []) (p ++ m ∷ [])) [
-      | inl is ↦ ap (entry_at w) (sym is) ∙ entry_replaced c ∙ sym (put_at_there (front ++ n ∷ []) x (entry_at v)) ∙ ap (put_at (front ++ n ∷ []) x (entry_at v)) is
+      | inl is ↦ ap (entry_at w) (sym is) ∙ entry_replaced c ∙ sym (put_at_there (front ++ n ∷ []) x (entry_at v))
+          ∙ ap (put_at (front ++ n ∷ []) x (entry_at v)) is
       | inr different ↦ (elim (same_path_or_not (front ++ n ∷ []) p) [
         | inl is ↦
             walk-snoc target (entry_in w.directories) (Some (top w)) p m
-            ∙ ap (step target (entry_in w.directories) m) (before ∙ ap (put_at (front ++ n ∷ []) x (entry_at v)) (sym is) ∙ put_at_there (front ++ n ∷ []) x (entry_at v))
+            ∙ ap (step target (entry_in w.directories) m) (before ∙ ap (put_at (front ++ n ∷ []) x (entry_at v)) (sym is)
+            ∙ put_at_there (front ++ n ∷ []) x (entry_at v))
             ∙ alike m
             ∙ ap (λ (q : Path). step target (entry_in v.directories) m (entry_at v q)) is
             ∙ sym (walk-snoc target (entry_in v.directories) (Some (top v)) p m)
@@ -114,12 +123,14 @@ alike_from_targets {v} {w} {front} {k} {n} {x} c same m =
 
 pub reached_by_edge : {v w : Volume} {front : Path} {k : Pair} {n : Name} {x : Option Entry} → OneEdge v w front k n x
     → (j : Pair) → option_and_then target x ≡ Some j → Reached w j
-reached_by_edge {v} {w} {front} {k} {n} {x} c j leads = option_and_then_some target x j leads (λ e is to. (front ++ n ∷ [], e, entry_replaced c ∙ is, to))
+reached_by_edge {v} {w} {front} {k} {n} {x} c j leads = option_and_then_some target x j leads
+    (λ e is to. (front ++ n ∷ [], e, entry_replaced c ∙ is, to))
 
 pub reached_after : {v w : Volume} {front : Path} {k : Pair} {n : Name} {x : Option Entry} → OneEdge v w front k n x
     → Alike v w (entry_at v (front ++ n ∷ [])) x → (j : Pair) → Reached v j
     → (option_and_then target (entry_at v (front ++ n ∷ [])) ≡ Some j → option_and_then target x ≡ Some j) → Reached w j
 reached_after {v} {w} {front} {k} {n} {x} c alike j (p, e, here, leads) kept = elim (same_path_or_not (front ++ n ∷ []) p) [
-  | inl is ↦ reached_by_edge c j (kept (ap (λ (q : Path). option_and_then target (entry_at v q)) is ∙ ap (option_and_then target) here ∙ leads))
+  | inl is ↦ reached_by_edge c j (kept (ap (λ (q : Path). option_and_then target (entry_at v q)) is ∙ ap (option_and_then target) here
+      ∙ leads))
   | inr apart ↦ (p, e, entries_after c alike p ∙ put_at_other (front ++ n ∷ []) x (entry_at v) p apart ∙ here, leads)
 ]

@@ -28,11 +28,16 @@ begins_uses true k p = grind (arith, nat_tests)
 begins_uses false k p = grind (arith, nat_tests)
 
 directory_begins : (k : Pair) (d : Directory) → (if begins_at k d then 1 else 0) ≤ directory_uses k.0 d
-directory_begins k d = omega (arith, begins_uses (nat_le d.first.pair.0 d.first.pair.1) k d.first.pair, sum_by-cons (pair_uses k.0) d.first d.more)
+directory_begins k d = omega (
+  arith,
+  begins_uses (nat_le d.first.pair.0 d.first.pair.1) k d.first.pair,
+  sum_by-cons (pair_uses k.0) d.first d.more,
+)
 
 -- no more directories begin at a pair than its lesser block is used
 pub count_le_uses : (k : Pair) (v : Volume) → count_by (begins_at k) v.directories ≤ uses k.0 v
-count_le_uses k v = sum_by-le-sum_by (λ (d : Directory). if begins_at k d then 1 else 0) (directory_uses k.0) v.directories (directory_begins k)
+count_le_uses k v = sum_by-le-sum_by (λ (d : Directory). if begins_at k d then 1 else 0) (directory_uses k.0) v.directories
+    (directory_begins k)
 
 pub one_directory : (v : Volume) → IsSound v → (k : Pair) → count_by (begins_at k) v.directories ≤ 1
 one_directory v sound k = omega (arith, count_le_uses k v, sound.once k.0)
@@ -43,10 +48,12 @@ named_once v sound k = omega (arith, sound.names k, one_directory v sound k)
 -- ---- an edge is an entry of a directory
 
 -- a directory and an entry of it, each found by its test
-pub entry_found : (ds : List Directory) (k : Pair) (n : Name) (e : Entry) → entry_in ds k n ≡ Some e → (d : Directory) × (find (begins_at k) ds ≡ Some d) × (find (is_named n) (entries d) ≡ Some e)
+pub entry_found : (ds : List Directory) (k : Pair) (n : Name) (e : Entry) → entry_in ds k n ≡ Some e
+    → (d : Directory) × (find (begins_at k) ds ≡ Some d) × (find (is_named n) (entries d) ≡ Some e)
 entry_found ds k n e h = found_in (find (begins_at k) ds) h
   where
-    found_in : (o : Option Directory) → option_and_then (λ (d : Directory). find (is_named n) (entries d)) o ≡ Some e → (d : Directory) × (o ≡ Some d) × (find (is_named n) (entries d) ≡ Some e)
+    found_in : (o : Option Directory) → option_and_then (λ (d : Directory). find (is_named n) (entries d)) o ≡ Some e
+        → (d : Directory) × (o ≡ Some d) × (find (is_named n) (entries d) ≡ Some e)
     found_in None h = absurd (none-some e h)
     found_in (Some d) h = (d, refl, h)
 
@@ -60,25 +67,30 @@ leads_once : (k : Pair) (o : Option Pair) → o ≡ Some k → leads_to k o ≡ 
 leads_once k o is = ap (leads_to k) is ∙ ap (λ (b : Bool). if b then 1 else 0) ((same_pair_decides k k).1 refl)
 
 -- an entry of a directory names what it leads to
-found_names : (i : Pair) (d : Directory) (n : Name) (e : Entry) → find (is_named n) (entries d) ≡ Some e → target e ≡ Some i → 1 ≤ names_of i d
+found_names : (i : Pair) (d : Directory) (n : Name) (e : Entry) → find (is_named n) (entries d) ≡ Some e → target e ≡ Some i
+    → 1 ≤ names_of i d
 found_names i d n e h leads =
     let few : leads_to i (target e) ≤ names_of i d = found_le (λ (x : Entry). leads_to i (target x)) (is_named n) (entries d) e h in
     omega (arith, few, leads_once i (target e) leads)
 
 -- two entries of one directory that lead to one place have one name
-one_name : (i : Pair) (d : Directory) (n m : Name) (e f : Entry) → find (is_named n) (entries d) ≡ Some e → find (is_named m) (entries d) ≡ Some f → target e ≡ Some i
+one_name : (i : Pair) (d : Directory) (n m : Name) (e f : Entry) → find (is_named n) (entries d) ≡ Some e
+    → find (is_named m) (entries d) ≡ Some f → target e ≡ Some i
     → target f ≡ Some i → names_of i d ≤ 1 → n ≡ m
 one_name i d n m e f h k leads leads' once = elim (same_name_or_not n m) [
   | inl same ↦ same
   | inr different ↦ (
-      let apart : e ≡ f → ⊥ = λ is. different (found_name (entries d) n e h ∙ ap (λ (x : Entry). x.name) is ∙ sym (found_name (entries d) m f k)) in
-      let both : leads_to i (target e) + leads_to i (target f) ≤ names_of i d = two_found_le (λ (x : Entry). leads_to i (target x)) (is_named n) (is_named m) (entries d) e f h k apart in
+      let apart : e ≡ f → ⊥ = λ is. different (found_name (entries d) n e h ∙ ap (λ (x : Entry). x.name) is
+      ∙ sym (found_name (entries d) m f k)) in
+      let both : leads_to i (target e) + leads_to i (target f) ≤ names_of i d =
+      two_found_le (λ (x : Entry). leads_to i (target x)) (is_named n) (is_named m) (entries d) e f h k apart in
       absurd (omega (arith, both, leads_once i (target e) leads, leads_once i (target f) leads', once))
       )
 ]
 
 -- two edges that lead to one place are one
-one_edge : (ds : List Directory) (k j i : Pair) (n m : Name) (e f : Entry) → sum_by (names_of i) ds ≤ 1 → entry_in ds k n ≡ Some e → entry_in ds j m ≡ Some f
+one_edge : (ds : List Directory) (k j i : Pair) (n m : Name) (e f : Entry) → sum_by (names_of i) ds ≤ 1 → entry_in ds k n ≡ Some e
+    → entry_in ds j m ≡ Some f
     → target e ≡ Some i → target f ≡ Some i → (k ≡ j) × (n ≡ m)
 one_edge ds k j i n m e f once h h' leads leads' =
     let a = entry_found ds k n e h in
@@ -94,13 +106,15 @@ one_edge ds k j i n m e f once h h' leads leads' =
           )
       | inr different ↦ (
           let apart : a.0 ≡ b.0 → ⊥ = λ is. different (found_key ds k a.0 a.1 ∙ ap key is ∙ sym (found_key ds j b.0 b.1)) in
-          let both : names_of i a.0 + names_of i b.0 ≤ sum_by (names_of i) ds = two_found_le (names_of i) (begins_at k) (begins_at j) ds a.0 b.0 a.1 b.1 apart in
+          let both : names_of i a.0 + names_of i b.0 ≤ sum_by (names_of i) ds =
+          two_found_le (names_of i) (begins_at k) (begins_at j) ds a.0 b.0 a.1 b.1 apart in
           absurd (omega (arith, both, here, there, once))
           )
     ]
 
 -- no entry leads to the root
-no_edge_to_root : (v : Volume) → IsSound v → (k i : Pair) (n : Name) (e : Entry) → entry_in v.directories k n ≡ Some e → target e ≡ Some i → target (top v) ≡ Some i → ⊥
+no_edge_to_root : (v : Volume) → IsSound v → (k i : Pair) (n : Name) (e : Entry) → entry_in v.directories k n ≡ Some e → target e ≡ Some i
+    → target (top v) ≡ Some i → ⊥
 no_edge_to_root v sound k i n e h leads at_root =
     let a = entry_found v.directories k n e h in
     let here : 1 ≤ names_of i a.0 = found_names i a.0 n e a.2 leads in
@@ -115,5 +129,6 @@ lead_once v sound = record {
 }
 
 -- paths that lead to one directory are one
-pub one_path : (v : Volume) → IsSound v → (p q : Path) (e f : Entry) (k : Pair) → entry_at v p ≡ Some e → entry_at v q ≡ Some f → target e ≡ Some k → target f ≡ Some k → p ≡ q
+pub one_path : (v : Volume) → IsSound v → (p q : Path) (e f : Entry) (k : Pair) → entry_at v p ≡ Some e → entry_at v q ≡ Some f
+    → target e ≡ Some k → target f ≡ Some k → p ≡ q
 one_path v sound = one_walk target (entry_in v.directories) (top v) (lead_once v sound)

@@ -27,26 +27,34 @@ onto_outlined e [] = refl
 onto_outlined e (run ∷ rs) = refl
 
 runs_by : (space taken number : ℕ) (e : Entry) (es : List Entry) (t : Bool)
-    → runs_after weight space (taken + weight e) (number + 1) (outlined_entries es) ≡ outlined_runs (runs_after weight space (taken + weight e) (number + 1) es)
+    → runs_after weight space (taken + weight e) (number + 1) (outlined_entries es)
+    ≡ outlined_runs (runs_after weight space (taken + weight e) (number + 1) es)
     → runs_after weight space (weight e) 1 (outlined_entries es) ≡ outlined_runs (runs_after weight space (weight e) 1 es)
-    → (if t then onto (outlined_entry e) (runs_after weight space (taken + weight e) (number + 1) (outlined_entries es)) else [] ∷ onto (outlined_entry e)
+    → (if t then onto (outlined_entry e) (runs_after weight space (taken + weight e) (number + 1) (outlined_entries es)) else []
+    ∷ onto (outlined_entry e)
     (runs_after weight space (weight e) 1 (outlined_entries es)))
-    ≡ outlined_runs (if t then onto e (runs_after weight space (taken + weight e) (number + 1) es) else [] ∷ onto e (runs_after weight space (weight e) 1 es))
+    ≡ outlined_runs (if t then onto e (runs_after weight space (taken + weight e) (number + 1) es) else []
+    ∷ onto e (runs_after weight space (weight e) 1 es))
 runs_by space taken number e es true here later =
     ap (onto (outlined_entry e)) here ∙ onto_outlined e (runs_after weight space (taken + weight e) (number + 1) es)
 runs_by space taken number e es false here later =
-    ap (λ (rs : List (List Entry)). [] ∷ onto (outlined_entry e) rs) later ∙ ap (λ (rs : List (List Entry)). [] ∷ rs) (onto_outlined e (runs_after weight space (weight e) 1 es))
+    ap (λ (rs : List (List Entry)). [] ∷ onto (outlined_entry e) rs) later
+    ∙ ap (λ (rs : List (List Entry)). [] ∷ rs) (onto_outlined e (runs_after weight space (weight e) 1 es))
 
-runs_after_outlined : (space taken number : ℕ) (es : List Entry) → runs_after weight space taken number (outlined_entries es) ≡ outlined_runs (runs_after weight space taken number es)
+runs_after_outlined : (space taken number : ℕ) (es : List Entry) → runs_after weight space taken number (outlined_entries es)
+    ≡ outlined_runs (runs_after weight space taken number es)
 unfolding runs_after
 runs_after_outlined space taken number [] = refl
 runs_after_outlined space taken number (e ∷ es) =
-    ap (λ (w : ℕ). if run_takes space taken number w then onto (outlined_entry e) (runs_after weight space (taken + w) (number + 1) (outlined_entries es))
+    ap (λ (w : ℕ). if run_takes space taken number w then onto (outlined_entry e)
+    (runs_after weight space (taken + w) (number + 1) (outlined_entries es))
     else [] ∷ onto (outlined_entry e) (runs_after weight space w 1 (outlined_entries es))) (weight_same e)
-    ∙ runs_by space taken number e es (run_takes space taken number (weight e)) (runs_after_outlined space (taken + weight e) (number + 1) es) (runs_after_outlined space (weight e) 1 es)
+    ∙ runs_by space taken number e es (run_takes space taken number (weight e))
+    (runs_after_outlined space (taken + weight e) (number + 1) es) (runs_after_outlined space (weight e) 1 es)
 
 runs_at : (v : Volume) (es : List Entry) (t : Bool)
-    → (if t then runs_after weight (room v) (superblock_weight v.attributes) 1 (outlined_entries es) else runs_after weight (room v) 0 0 (outlined_entries es))
+    → (if t then runs_after weight (room v) (superblock_weight v.attributes) 1 (outlined_entries es) else runs_after weight (room v) 0 0
+    (outlined_entries es))
     ≡ outlined_runs (if t then runs_after weight (room v) (superblock_weight v.attributes) 1 es else runs_after weight (room v) 0 0 es)
 runs_at v es true = runs_after_outlined (room v) (superblock_weight v.attributes) 1 es
 runs_at v es false = runs_after_outlined (room v) 0 0 es
@@ -67,24 +75,35 @@ later_outlined (run ∷ rs) = refl
 more_outlined : (pairs : List Pair) (rs : List (List Entry)) → more_parts pairs (outlined_runs rs) ≡ outlined_parts (more_parts pairs rs)
 more_outlined pairs [] = refl
 more_outlined [] (run ∷ rs) = refl
-more_outlined (pair ∷ pairs) (run ∷ rs) = ap (λ (ps : List Part). record { pair = pair; entries = outlined_entries run; delta = 0; dirty = true } ∷ ps) (more_outlined pairs rs)
+more_outlined (pair ∷ pairs) (run ∷ rs) = ap (λ (ps : List Part). record {
+  pair = pair;
+  entries = outlined_entries run;
+  delta = 0;
+  dirty = true;
+} ∷ ps) (more_outlined pairs rs)
 
 head_outlined : (v : Volume) (p : Part) (t : Bool) → head_by (outlined v) (outlined_part p) t ≡ outlined_part (head_by v p t)
 head_outlined v p true =
-    ap (λ (es : List Entry). record { pair = p.pair; entries = es; delta = p.delta; dirty = true }) (ap first_run (runs_outlined v p) ∙ first_outlined (runs v p))
+    ap (λ (es : List Entry). record { pair = p.pair; entries = es; delta = p.delta; dirty = true })
+    (ap first_run (runs_outlined v p) ∙ first_outlined (runs v p))
 head_outlined v p false = refl
 
-tail_outlined : (chosen : Part → List Pair) (v : Volume) (p : Part) (t : Bool) → tail_by chosen (outlined v) (outlined_part p) t ≡ outlined_parts (tail_by (for_parts chosen) v p t)
+tail_outlined : (chosen : Part → List Pair) (v : Volume) (p : Part) (t : Bool)
+    → tail_by chosen (outlined v) (outlined_part p) t ≡ outlined_parts (tail_by (for_parts chosen) v p t)
 tail_outlined chosen v p true =
-    ap (more_parts (chosen (outlined_part p))) (ap later_runs (runs_outlined v p) ∙ later_outlined (runs v p)) ∙ more_outlined (chosen (outlined_part p)) (later_runs (runs v p))
+    ap (more_parts (chosen (outlined_part p))) (ap later_runs (runs_outlined v p) ∙ later_outlined (runs v p))
+    ∙ more_outlined (chosen (outlined_part p)) (later_runs (runs v p))
 tail_outlined chosen v p false = refl
 
-part_outlined : (chosen : Part → List Pair) (v : Volume) (p : Part) → cut_part chosen (outlined v) (outlined_part p) ≡ outlined_parts (cut_part (for_parts chosen) v p)
+part_outlined : (chosen : Part → List Pair) (v : Volume) (p : Part) → cut_part chosen (outlined v) (outlined_part p)
+    ≡ outlined_parts (cut_part (for_parts chosen) v p)
 part_outlined chosen v p =
-    cons_same (cut_head (outlined v) (outlined_part p)) (outlined_part (cut_head v p)) (cut_tail chosen (outlined v) (outlined_part p)) (outlined_parts (cut_tail (for_parts chosen) v p))
+    cons_same (cut_head (outlined v) (outlined_part p)) (outlined_part (cut_head v p)) (cut_tail chosen (outlined v) (outlined_part p))
+    (outlined_parts (cut_tail (for_parts chosen) v p))
     (head_outlined v p p.dirty) (tail_outlined chosen v p p.dirty)
 
-parts_outlined : (chosen : Part → List Pair) (v : Volume) (ps : List Part) → flat_map (cut_part chosen (outlined v)) (outlined_parts ps) ≡ outlined_parts (flat_map (cut_part (for_parts chosen) v) ps)
+parts_outlined : (chosen : Part → List Pair) (v : Volume) (ps : List Part)
+    → flat_map (cut_part chosen (outlined v)) (outlined_parts ps) ≡ outlined_parts (flat_map (cut_part (for_parts chosen) v) ps)
 parts_outlined chosen v [] = refl
 parts_outlined chosen v (p ∷ ps) =
     ap (λ (qs : List Part). qs ++ flat_map (cut_part chosen (outlined v)) (outlined_parts ps)) (part_outlined chosen v p)
@@ -93,12 +112,18 @@ parts_outlined chosen v (p ∷ ps) =
 
 -- ---- directories
 
-directory_outlined : (chosen : Part → List Pair) (v : Volume) (d : Directory) → cut_directory chosen (outlined v) (outlined_directory d) ≡ outlined_directory (cut_directory (for_parts chosen) v d)
+directory_outlined : (chosen : Part → List Pair) (v : Volume) (d : Directory)
+    → cut_directory chosen (outlined v) (outlined_directory d) ≡ outlined_directory (cut_directory (for_parts chosen) v d)
 directory_outlined chosen v d =
-    ap (λ (p : Part). record { first = p; more = cut_tail chosen (outlined v) (outlined_part d.first) ++ flat_map (cut_part chosen (outlined v)) (outlined_parts d.more) })
+    ap (λ (p : Part). record {
+      first = p;
+      more = cut_tail chosen (outlined v) (outlined_part d.first)
+          ++ flat_map (cut_part chosen (outlined v)) (outlined_parts d.more);
+    })
     (head_outlined v d.first d.first.dirty)
     ∙ ap (λ (ps : List Part). record { first = outlined_part (cut_head v d.first); more = ps })
-    (ap (λ (ps : List Part). ps ++ flat_map (cut_part chosen (outlined v)) (outlined_parts d.more)) (tail_outlined chosen v d.first d.first.dirty)
+    (ap (λ (ps : List Part). ps ++ flat_map (cut_part chosen (outlined v)) (outlined_parts d.more))
+    (tail_outlined chosen v d.first d.first.dirty)
     ∙ ap (λ (ps : List Part). outlined_parts (cut_tail (for_parts chosen) v d.first) ++ ps) (parts_outlined chosen v d.more)
     ∙ sym (map-append outlined_part (cut_tail (for_parts chosen) v d.first) (flat_map (cut_part (for_parts chosen) v) d.more)))
 

@@ -47,12 +47,14 @@ uses_same b e = body_uses_same b e.body
 abbrev pub outlined_entries : List Entry → List Entry
 outlined_entries = map outlined_entry
 
-pub find_outlined : (n : Name) (es : List Entry) → find (is_named n) (outlined_entries es) ≡ option_map outlined_entry (find (is_named n) es)
+pub find_outlined : (n : Name) (es : List Entry) → find (is_named n) (outlined_entries es)
+    ≡ option_map outlined_entry (find (is_named n) es)
 find_outlined n [] = refl
 find_outlined n (e ∷ es) = by (is_named n e) (find_outlined n es)
   where
     by : (t : Bool) → find (is_named n) (outlined_entries es) ≡ option_map outlined_entry (find (is_named n) es)
-        → (if t then Some (outlined_entry e) else find (is_named n) (outlined_entries es)) ≡ option_map outlined_entry (if t then Some e else find (is_named n) es)
+        → (if t then Some (outlined_entry e) else find (is_named n) (outlined_entries es))
+        ≡ option_map outlined_entry (if t then Some e else find (is_named n) es)
     by true rest = refl
     by false rest = rest
 
@@ -60,12 +62,14 @@ pub any_named_outlined : (n : Name) (es : List Entry) → list_any (is_named n) 
 any_named_outlined n [] = refl
 any_named_outlined n (e ∷ es) = ap (λ (t : Bool). is_named n e || t) (any_named_outlined n es)
 
-pub any_later_outlined : (n : Name) (es : List Entry) → list_any (λ e. precedes n e.name) (outlined_entries es) ≡ list_any (λ e. precedes n e.name) es
+pub any_later_outlined : (n : Name) (es : List Entry) → list_any (λ e. precedes n e.name) (outlined_entries es)
+    ≡ list_any (λ e. precedes n e.name) es
 any_later_outlined n [] = refl
 any_later_outlined n (e ∷ es) = ap (λ (t : Bool). precedes n e.name || t) (any_later_outlined n es)
 
 place_by : (e f : Entry) (es : List Entry) (t : Bool) → place (outlined_entry e) (outlined_entries es) ≡ outlined_entries (place e es)
-    → (if t then outlined_entry e ∷ outlined_entry f ∷ outlined_entries es else outlined_entry f ∷ place (outlined_entry e) (outlined_entries es))
+    → (if t then outlined_entry e ∷ outlined_entry f ∷ outlined_entries es else outlined_entry f
+    ∷ place (outlined_entry e) (outlined_entries es))
     ≡ outlined_entries (if t then e ∷ f ∷ es else f ∷ place e es)
 place_by e f es true rest = refl
 place_by e f es false rest = ap (λ (xs : List Entry). outlined_entry f ∷ xs) rest
@@ -76,7 +80,8 @@ place_outlined e [] = refl
 place_outlined e (f ∷ es) = place_by e f es (precedes e.name f.name) (place_outlined e es)
 
 without_by : (n : Name) (e : Entry) (es : List Entry) (t : Bool) → without n (outlined_entries es) ≡ outlined_entries (without n es)
-    → (if not t then outlined_entry e ∷ without n (outlined_entries es) else without n (outlined_entries es)) ≡ outlined_entries (if not t then e ∷ without n es else without n es)
+    → (if not t then outlined_entry e ∷ without n (outlined_entries es) else without n (outlined_entries es))
+    ≡ outlined_entries (if not t then e ∷ without n es else without n es)
 without_by n e es true rest = rest
 without_by n e es false rest = ap (λ (xs : List Entry). outlined_entry e ∷ xs) rest
 
@@ -88,18 +93,27 @@ without_outlined n (e ∷ es) = without_by n e es (is_named n e) (without_outlin
 abbrev pub Outlines : (Entry → Entry) → (Entry → Entry) → Type 0
 Outlines f g = (e : Entry) → g (outlined_entry e) ≡ outlined_entry (f e)
 
-changed_by : (f g : Entry → Entry) → Outlines f g → (e : Entry) (t : Bool) → (if t then g (outlined_entry e) else outlined_entry e) ≡ outlined_entry (if t then f e else e)
+changed_by : (f g : Entry → Entry) → Outlines f g → (e : Entry) (t : Bool)
+    → (if t then g (outlined_entry e) else outlined_entry e) ≡ outlined_entry (if t then f e else e)
 changed_by f g same e true = same e
 changed_by f g same e false = refl
 
-pub changed_outlined : (n : Name) (f g : Entry → Entry) → Outlines f g → (es : List Entry) → changed n g (outlined_entries es) ≡ outlined_entries (changed n f es)
+pub changed_outlined : (n : Name) (f g : Entry → Entry) → Outlines f g → (es : List Entry)
+    → changed n g (outlined_entries es) ≡ outlined_entries (changed n f es)
 changed_outlined n f g same [] = refl
 changed_outlined n f g same (e ∷ es) =
-    cons_same (if is_named n e then g (outlined_entry e) else outlined_entry e) (outlined_entry (if is_named n e then f e else e)) (changed n g (outlined_entries es))
+    cons_same (if is_named n e then g (outlined_entry e) else outlined_entry e) (outlined_entry (if is_named n e then f e else e))
+    (changed n g (outlined_entries es))
     (outlined_entries (changed n f es))
     (changed_by f g same e (is_named n e)) (changed_outlined n f g same es)
 
 pub sum_uses_outlined : (b : ℕ) (es : List Entry) → sum_by (entry_uses b) (outlined_entries es) ≡ sum_by (entry_uses b) es
 sum_uses_outlined b [] = refl
 sum_uses_outlined b (e ∷ es) =
-    omega (arith, sum_by-cons (entry_uses b) (outlined_entry e) (outlined_entries es), sum_by-cons (entry_uses b) e es, uses_same b e, sum_uses_outlined b es)
+    omega (
+      arith,
+      sum_by-cons (entry_uses b) (outlined_entry e) (outlined_entries es),
+      sum_by-cons (entry_uses b) e es,
+      uses_same b e,
+      sum_uses_outlined b es,
+    )

@@ -26,11 +26,13 @@ use Rattle.lfs_law.proofs.OutlineCuts.{runs_outlined, later_outlined}
 
 -- ---- mapped lists
 
-pub sum_over : {X Y : Type 0} (f : X → ℕ) (g : Y → ℕ) (h : X → Y) → ((x : X) → g (h x) ≡ f x) → (xs : List X) → sum_by g (map h xs) ≡ sum_by f xs
+pub sum_over : {X Y : Type 0} (f : X → ℕ) (g : Y → ℕ) (h : X → Y) → ((x : X) → g (h x) ≡ f x) → (xs : List X)
+    → sum_by g (map h xs) ≡ sum_by f xs
 sum_over f g h same [] = refl
 sum_over f g h same (x ∷ xs) = omega (arith, sum_by-cons g (h x) (map h xs), sum_by-cons f x xs, same x, sum_over f g h same xs)
 
-pub any_over : {X Y : Type 0} (s : X → Bool) (t : Y → Bool) (h : X → Y) → ((x : X) → t (h x) ≡ s x) → (xs : List X) → list_any t (map h xs) ≡ list_any s xs
+pub any_over : {X Y : Type 0} (s : X → Bool) (t : Y → Bool) (h : X → Y) → ((x : X) → t (h x) ≡ s x) → (xs : List X)
+    → list_any t (map h xs) ≡ list_any s xs
 any_over s t h same [] = refl
 any_over s t h same (x ∷ xs) = ap (λ (a : Bool). a || list_any t (map h xs)) (same x) ∙ ap (λ (a : Bool). s x || a) (any_over s t h same xs)
 
@@ -39,7 +41,8 @@ dirty_over [] = refl
 dirty_over (p ∷ ps) = by p.dirty (dirty_over ps)
   where
     by : (t : Bool) → filter (λ p. p.dirty) (outlined_parts ps) ≡ outlined_parts (filter (λ p. p.dirty) ps)
-        → (if t then outlined_part p ∷ filter (λ p. p.dirty) (outlined_parts ps) else filter (λ p. p.dirty) (outlined_parts ps)) ≡ outlined_parts
+        → (if t then outlined_part p ∷ filter (λ p. p.dirty) (outlined_parts ps) else filter (λ p. p.dirty) (outlined_parts ps))
+        ≡ outlined_parts
         (if t then p ∷ filter (λ p. p.dirty) ps else filter (λ p. p.dirty) ps)
     by true rest = ap (λ (xs : List Part). outlined_part p ∷ xs) rest
     by false rest = rest
@@ -51,21 +54,24 @@ dirty_outlined v = ap (filter (λ (p : Part). p.dirty)) (thread_outlined v.direc
 
 pub directory_uses_outlined : (b : ℕ) (d : Directory) → directory_uses b (outlined_directory d) ≡ directory_uses b d
 directory_uses_outlined b d =
-    let contents : sum_by (entry_uses b) (entries (outlined_directory d)) ≡ sum_by (entry_uses b) (entries d) = ap (sum_by (entry_uses b)) (entries_outlined d) ∙ sum_uses_outlined b (entries d) in
+    let contents : sum_by (entry_uses b) (entries (outlined_directory d)) ≡ sum_by (entry_uses b) (entries d) =
+    ap (sum_by (entry_uses b)) (entries_outlined d) ∙ sum_uses_outlined b (entries d) in
     omega (arith, contents, sum_over (pair_uses b) (pair_uses b) outlined_part (λ p. refl) (parts d))
 
 pub uses_outlined : (b : ℕ) (v : Volume) → uses b (outlined v) ≡ uses b v
 uses_outlined b v = sum_over (directory_uses b) (directory_uses b) outlined_directory (directory_uses_outlined b) v.directories
 
 pub free_outlined : (v : Volume) → free_blocks (outlined v) ≡ free_blocks v
-free_outlined v = filter_same (λ b. uses b (outlined v) == 0) (λ b. uses b v == 0) (λ b. ap (λ (n : ℕ). n == 0) (uses_outlined b v)) (range_with_len 0 v.count)
+free_outlined v = filter_same (λ b. uses b (outlined v) == 0) (λ b. uses b v == 0) (λ b. ap (λ (n : ℕ). n == 0) (uses_outlined b v))
+    (range_with_len 0 v.count)
 
 -- ---- room
 
 large_outlined : (v : Volume) (p : Part) → is_too_large (outlined v) (outlined_part p) ≡ is_too_large v p
 large_outlined v p =
     ap (λ (t : Bool). (is_first p && nat_lt (room v) (superblock_weight v.attributes)) || t)
-    (any_over (λ e. nat_lt (room v) (weight e)) (λ e. nat_lt (room v) (weight e)) outlined_entry (λ e. ap (nat_lt (room v)) (weight_same e)) p.entries)
+    (any_over (λ e. nat_lt (room v) (weight e)) (λ e. nat_lt (room v) (weight e)) outlined_entry
+    (λ e. ap (nat_lt (room v)) (weight_same e)) p.entries)
 
 blocks_outlined : (v : Volume) (p : Part) → part_blocks (outlined v) (outlined_part p) ≡ part_blocks v p
 blocks_outlined v p = ap (λ (n : ℕ). 2 * (n - 1)) (ap length (runs_outlined v p) ∙ length-map (runs v p) outlined_entries)
@@ -74,19 +80,25 @@ pub outlines_take_same_room : OutlinesTakeSameRoom
 outlines_take_same_room v = record {
   used = λ b. uses_outlined b v;
   free = free_outlined v;
-  large = ap (list_any (is_too_large (outlined v))) (dirty_outlined v) ∙ any_over (is_too_large v) (is_too_large (outlined v)) outlined_part (large_outlined v) (dirty_parts v);
-  blocks = ap (sum_by (part_blocks (outlined v))) (dirty_outlined v) ∙ sum_over (part_blocks v) (part_blocks (outlined v)) outlined_part (blocks_outlined v) (dirty_parts v);
+  large = ap (list_any (is_too_large (outlined v))) (dirty_outlined v)
+      ∙ any_over (is_too_large v) (is_too_large (outlined v)) outlined_part (large_outlined v) (dirty_parts v);
+  blocks = ap (sum_by (part_blocks (outlined v))) (dirty_outlined v) ∙ sum_over (part_blocks v) (part_blocks (outlined v)) outlined_part
+      (blocks_outlined v) (dirty_parts v);
 }
 
 -- ---- pairs for new parts
 
-enough_by : (chosen : Part → List Pair) (v : Volume) (p : Part) → HasEnough chosen (outlined v) (outlined_part p) → HasEnough (for_parts chosen) v p
-enough_by chosen v p enough set = enough set ∙ ap length (ap later_runs (runs_outlined v p) ∙ later_outlined (runs v p)) ∙ length-map (later_runs (runs v p)) outlined_entries
+enough_by : (chosen : Part → List Pair) (v : Volume) (p : Part) → HasEnough chosen (outlined v) (outlined_part p)
+    → HasEnough (for_parts chosen) v p
+enough_by chosen v p enough set = enough set ∙ ap length (ap later_runs (runs_outlined v p) ∙ later_outlined (runs v p))
+    ∙ length-map (later_runs (runs v p)) outlined_entries
 
-enough_all : (chosen : Part → List Pair) (v : Volume) (ps : List Part) → All (HasEnough chosen (outlined v)) (outlined_parts ps) → All (HasEnough (for_parts chosen) v) ps
+enough_all : (chosen : Part → List Pair) (v : Volume) (ps : List Part) → All (HasEnough chosen (outlined v)) (outlined_parts ps)
+    → All (HasEnough (for_parts chosen) v) ps
 enough_all chosen v [] enough = All-nil (HasEnough (for_parts chosen) v)
 enough_all chosen v (p ∷ ps) enough =
-    All-cons (HasEnough (for_parts chosen) v) p ps (enough_by chosen v p (All-head (HasEnough chosen (outlined v)) (outlined_part p) (outlined_parts ps) enough))
+    All-cons (HasEnough (for_parts chosen) v) p ps (enough_by chosen v p
+    (All-head (HasEnough chosen (outlined v)) (outlined_part p) (outlined_parts ps) enough))
     (enough_all chosen v ps (All-tail (HasEnough chosen (outlined v)) (outlined_part p) (outlined_parts ps) enough))
 
 -- how often the new pairs of a part use a block
@@ -95,8 +107,10 @@ pairs_use chosen b p = sum_by (λ (q : Pair). times b (q.0 ∷ q.1 ∷ [])) (new
 
 pub pairs_are_chosen_alike : PairsAreChosenAlike
 pairs_are_chosen_alike chosen v = record {
-  enough = λ enough. enough_all chosen v (thread v.directories) (subst (All (HasEnough chosen (outlined v))) (thread_outlined v.directories) enough);
-  pairs = λ b. ap (sum_by (pairs_use chosen b)) (thread_outlined v.directories) ∙ sum_over (pairs_use (for_parts chosen) b) (pairs_use chosen b) outlined_part (λ p. refl) (thread v.directories);
+  enough = λ enough. enough_all chosen v (thread v.directories) (subst (All (HasEnough chosen (outlined v)))
+      (thread_outlined v.directories) enough);
+  pairs = λ b. ap (sum_by (pairs_use chosen b)) (thread_outlined v.directories)
+      ∙ sum_over (pairs_use (for_parts chosen) b) (pairs_use chosen b) outlined_part (λ p. refl) (thread v.directories);
 }
 
 -- ---- the outline of an outline
@@ -114,7 +128,8 @@ entry_twice : (e : Entry) → outlined_entry (outlined_entry e) ≡ outlined_ent
 entry_twice e = ap (λ (b : Body). record { name = e.name; body = b; attributes = e.attributes }) (body_twice e.body)
 
 part_twice : (p : Part) → outlined_part (outlined_part p) ≡ outlined_part p
-part_twice p = ap (λ (es : List Entry). record { pair = p.pair; entries = es; delta = p.delta; dirty = p.dirty }) (map_twice outlined_entry entry_twice p.entries)
+part_twice p = ap (λ (es : List Entry). record { pair = p.pair; entries = es; delta = p.delta; dirty = p.dirty })
+    (map_twice outlined_entry entry_twice p.entries)
 
 directory_twice : (d : Directory) → outlined_directory (outlined_directory d) ≡ outlined_directory d
 directory_twice d =

@@ -15,7 +15,8 @@ use Rattle.lfs_law.proofs.OutlineCuts.{cuts_outline}
 use Rattle.lfs_law.proofs.OutlineRoom.{outlines_take_same_room, pairs_are_chosen_alike}
 use Rattle.lfs_law.proofs.OutlinesFollow.{outlines_follow}
 
-carried_by : NeedIsTheSame → (v : Volume) (c : Command) (s : Supplies) (chosen : Part → List Pair) → IsCarried v c s chosen (outlined (edited v c s))
+carried_by : NeedIsTheSame → (v : Volume) (c : Command) (s : Supplies) (chosen : Part → List Pair)
+    → IsCarried v c s chosen (outlined (edited v c s))
 carried_by need_same v c s chosen =
     let room = outlines_take_same_room (edited v c s) in
     let alike = pairs_are_chosen_alike chosen (edited v c s) in

@@ -16,40 +16,49 @@ use Rattle.lfs_command.specs.ThreadEdit.{link, unlink, change, add_after}
 use Rattle.lfs_command.specs.Command.{Mkdir, Put, Rm, Mv, SetAttr, RmAttr}
 use Rattle.lfs_command.specs.Supplies.{new_body}
 use Rattle.lfs_command.specs.Home.{split_last, home_of}
-use Rattle.lfs_command.specs.Edited.{with_directories, with_body, with_entry_attributes, renamed, new_entry, empty_directory, set_attributes, make_directory, put_file, drop_target, remove_entry, move_entry}
+use Rattle.lfs_command.specs.Edited.{with_directories, with_body, with_entry_attributes, renamed, new_entry, empty_directory}
+use Rattle.lfs_command.specs.Edited.{set_attributes, make_directory, put_file, drop_target, remove_entry, move_entry}
 use Rattle.lfs_law.specs.EditedOutline.{OutlinesFollow}
 use Rattle.lfs_law.proofs.OutlineEntries.{target_same, find_outlined}
-use Rattle.lfs_law.proofs.OutlineDirectories.{entries_outlined, link_outlined, unlink_outlined, change_outlined, add_outlined, drop_outlined, touch_first_outlined, find_directory_outlined}
+use Rattle.lfs_law.proofs.OutlineDirectories.{entries_outlined, link_outlined, unlink_outlined, change_outlined, add_outlined}
+use Rattle.lfs_law.proofs.OutlineDirectories.{drop_outlined, touch_first_outlined, find_directory_outlined}
 
 -- ---- the tree
 
 -- the entry under a name in a directory that may be there
-in_found : (n : Name) (o : Option Directory) → option_and_then (λ d. find (is_named n) (entries d)) (option_map outlined_directory o) ≡ option_map outlined_entry
+in_found : (n : Name) (o : Option Directory) → option_and_then (λ d. find (is_named n) (entries d)) (option_map outlined_directory o)
+    ≡ option_map outlined_entry
     (option_and_then (λ d. find (is_named n) (entries d)) o)
 in_found n None = refl
 in_found n (Some d) = ap (find (is_named n)) (entries_outlined d) ∙ find_outlined n (entries d)
 
-pub entry_in_outlined : (ds : List Directory) (k : Pair) (n : Name) → entry_in (outlined_directories ds) k n ≡ option_map outlined_entry (entry_in ds k n)
-entry_in_outlined ds k n = ap (option_and_then (λ (d : Directory). find (is_named n) (entries d))) (find_directory_outlined k ds) ∙ in_found n (find (begins_at k) ds)
+pub entry_in_outlined : (ds : List Directory) (k : Pair) (n : Name) → entry_in (outlined_directories ds) k n
+    ≡ option_map outlined_entry (entry_in ds k n)
+entry_in_outlined ds k n = ap (option_and_then (λ (d : Directory). find (is_named n) (entries d))) (find_directory_outlined k ds)
+    ∙ in_found n (find (begins_at k) ds)
 
 -- the entry under a name in the directory that an entry leads to
 abbrev under : List Directory → Name → Option Entry → Option Entry
 under ds n o = option_and_then (λ e. option_and_then (λ k. entry_in ds k n) (target e)) o
 
-under_target : (ds : List Directory) (n : Name) (o : Option Pair) → option_and_then (λ k. entry_in (outlined_directories ds) k n) o ≡ option_map outlined_entry
+under_target : (ds : List Directory) (n : Name) (o : Option Pair) → option_and_then (λ k. entry_in (outlined_directories ds) k n) o
+    ≡ option_map outlined_entry
     (option_and_then (λ k. entry_in ds k n) o)
 under_target ds n None = refl
 under_target ds n (Some k) = entry_in_outlined ds k n
 
-under_outlined : (ds : List Directory) (n : Name) (o : Option Entry) → under (outlined_directories ds) n (option_map outlined_entry o) ≡ option_map outlined_entry (under ds n o)
+under_outlined : (ds : List Directory) (n : Name) (o : Option Entry) → under (outlined_directories ds) n (option_map outlined_entry o)
+    ≡ option_map outlined_entry (under ds n o)
 under_outlined ds n None = refl
 under_outlined ds n (Some e) =
     ap (option_and_then (λ (k : Pair). entry_in (outlined_directories ds) k n)) (target_same e) ∙ under_target ds n (target e)
 
 walk_outlined : (ds : List Directory) (o : Option Entry) (path : Path)
-    → walk target (entry_in (outlined_directories ds)) (option_map outlined_entry o) path ≡ option_map outlined_entry (walk target (entry_in ds) o path)
+    → walk target (entry_in (outlined_directories ds)) (option_map outlined_entry o) path
+    ≡ option_map outlined_entry (walk target (entry_in ds) o path)
 walk_outlined ds o [] = refl
-walk_outlined ds o (n ∷ ns) = ap (λ (x : Option Entry). walk target (entry_in (outlined_directories ds)) x ns) (under_outlined ds n o) ∙ walk_outlined ds (under ds n o) ns
+walk_outlined ds o (n ∷ ns) = ap (λ (x : Option Entry). walk target (entry_in (outlined_directories ds)) x ns) (under_outlined ds n o)
+    ∙ walk_outlined ds (under ds n o) ns
 
 pub entry_at_outlined : (v : Volume) (path : Path) → entry_at (outlined v) path ≡ option_map outlined_entry (entry_at v path)
 entry_at_outlined v path = walk_outlined v.directories (Some (top v)) path
@@ -80,52 +89,72 @@ home_outlined v path = home_from v (split_last path)
 
 -- ---- the edits
 
-with_outlined : (v : Volume) (ds es : List Directory) → es ≡ outlined_directories ds → outlined (with_directories v ds) ≡ with_directories (outlined v) es
+with_outlined : (v : Volume) (ds es : List Directory) → es ≡ outlined_directories ds
+    → outlined (with_directories v ds) ≡ with_directories (outlined v) es
 with_outlined v ds es same = ap (with_directories (outlined v)) (sym same)
 
-set_outlined : (v : Volume) (f : Attributes → Attributes) (h : Option (Pair × Name)) → outlined (set_attributes v f h) ≡ set_attributes (outlined v) f h
-set_outlined v f None = ap (λ (ds : List Directory). record { size = v.size; count = v.count; limits = v.limits; attributes = f v.attributes; directories = ds })
+set_outlined : (v : Volume) (f : Attributes → Attributes) (h : Option (Pair × Name))
+    → outlined (set_attributes v f h) ≡ set_attributes (outlined v) f h
+set_outlined v f None = ap (λ (ds : List Directory). record {
+  size = v.size;
+  count = v.count;
+  limits = v.limits;
+  attributes = f v.attributes;
+  directories = ds;
+})
     (sym (touch_first_outlined v.directories))
 set_outlined v f (Some h) =
-    with_outlined v (change h.0 h.1 (with_entry_attributes f) v.directories) (change h.0 h.1 (with_entry_attributes f) (outlined_directories v.directories))
+    with_outlined v (change h.0 h.1 (with_entry_attributes f) v.directories)
+    (change h.0 h.1 (with_entry_attributes f) (outlined_directories v.directories))
     (change_outlined h.0 h.1 (with_entry_attributes f) (with_entry_attributes f) (λ e. refl) v.directories)
 
-make_outlined : (v : Volume) (pair : Pair) (h : Option (Pair × Name)) → outlined (make_directory v pair h) ≡ make_directory (outlined v) pair h
+make_outlined : (v : Volume) (pair : Pair) (h : Option (Pair × Name))
+    → outlined (make_directory v pair h) ≡ make_directory (outlined v) pair h
 make_outlined v pair None = refl
 make_outlined v pair (Some h) =
     let e : Entry = new_entry h.1 (Directory_at pair) in
-    with_outlined v (add_after h.0 (empty_directory pair) (link h.0 e v.directories)) (add_after h.0 (empty_directory pair) (link h.0 e (outlined_directories v.directories)))
-    (ap (add_after h.0 (empty_directory pair)) (link_outlined h.0 e v.directories) ∙ add_outlined h.0 (empty_directory pair) (link h.0 e v.directories))
+    with_outlined v (add_after h.0 (empty_directory pair) (link h.0 e v.directories))
+    (add_after h.0 (empty_directory pair) (link h.0 e (outlined_directories v.directories)))
+    (ap (add_after h.0 (empty_directory pair)) (link_outlined h.0 e v.directories)
+    ∙ add_outlined h.0 (empty_directory pair) (link h.0 e v.directories))
 
 put_outlined : (v : Volume) (body : Body) (h : Option (Pair × Name)) (old : Option Entry)
     → outlined (put_file v body h old) ≡ put_file (outlined v) (outlined_body body) h (option_map outlined_entry old)
 put_outlined v body None old = refl
 put_outlined v body (Some h) None =
-    with_outlined v (link h.0 (new_entry h.1 body) v.directories) (link h.0 (new_entry h.1 (outlined_body body)) (outlined_directories v.directories))
+    with_outlined v (link h.0 (new_entry h.1 body) v.directories) (link h.0 (new_entry h.1 (outlined_body body))
+    (outlined_directories v.directories))
     (link_outlined h.0 (new_entry h.1 body) v.directories)
 put_outlined v body (Some h) (Some e) =
-    with_outlined v (change h.0 h.1 (with_body body) v.directories) (change h.0 h.1 (with_body (outlined_body body)) (outlined_directories v.directories))
+    with_outlined v (change h.0 h.1 (with_body body) v.directories) (change h.0 h.1 (with_body (outlined_body body))
+    (outlined_directories v.directories))
     (change_outlined h.0 h.1 (with_body body) (with_body (outlined_body body)) (λ x. refl) v.directories)
 
-drop_target_outlined : (o : Option Pair) (ds : List Directory) → drop_target o (outlined_directories ds) ≡ outlined_directories (drop_target o ds)
+drop_target_outlined : (o : Option Pair) (ds : List Directory) → drop_target o (outlined_directories ds)
+    ≡ outlined_directories (drop_target o ds)
 drop_target_outlined None ds = refl
 drop_target_outlined (Some k) ds = drop_outlined k ds
 
-remove_outlined : (v : Volume) (h : Option (Pair × Name)) (old : Option Entry) → outlined (remove_entry v h old) ≡ remove_entry (outlined v) h (option_map outlined_entry old)
+remove_outlined : (v : Volume) (h : Option (Pair × Name)) (old : Option Entry)
+    → outlined (remove_entry v h old) ≡ remove_entry (outlined v) h (option_map outlined_entry old)
 remove_outlined v None old = refl
 remove_outlined v (Some h) None = refl
 remove_outlined v (Some h) (Some e) =
-    with_outlined v (drop_target (target e) (unlink h.0 h.1 v.directories)) (drop_target (target (outlined_entry e)) (unlink h.0 h.1 (outlined_directories v.directories)))
+    with_outlined v (drop_target (target e) (unlink h.0 h.1 v.directories))
+    (drop_target (target (outlined_entry e)) (unlink h.0 h.1 (outlined_directories v.directories)))
     (ap (λ (o : Option Pair). drop_target o (unlink h.0 h.1 (outlined_directories v.directories))) (target_same e)
     ∙ ap (drop_target (target e)) (unlink_outlined h.0 h.1 v.directories) ∙ drop_target_outlined (target e) (unlink h.0 h.1 v.directories))
 
-move_outlined : (v : Volume) (from to : Option (Pair × Name)) (old : Option Entry) → outlined (move_entry v from to old) ≡ move_entry (outlined v) from to (option_map outlined_entry old)
+move_outlined : (v : Volume) (from to : Option (Pair × Name)) (old : Option Entry)
+    → outlined (move_entry v from to old) ≡ move_entry (outlined v) from to (option_map outlined_entry old)
 move_outlined v None to old = refl
 move_outlined v (Some h) None old = refl
 move_outlined v (Some h) (Some g) None = refl
 move_outlined v (Some h) (Some g) (Some e) =
-    with_outlined v (link g.0 (renamed g.1 e) (unlink h.0 h.1 v.directories)) (link g.0 (renamed g.1 (outlined_entry e)) (unlink h.0 h.1 (outlined_directories v.directories)))
-    (ap (link g.0 (renamed g.1 (outlined_entry e))) (unlink_outlined h.0 h.1 v.directories) ∙ link_outlined g.0 (renamed g.1 e) (unlink h.0 h.1 v.directories))
+    with_outlined v (link g.0 (renamed g.1 e) (unlink h.0 h.1 v.directories))
+    (link g.0 (renamed g.1 (outlined_entry e)) (unlink h.0 h.1 (outlined_directories v.directories)))
+    (ap (link g.0 (renamed g.1 (outlined_entry e))) (unlink_outlined h.0 h.1 v.directories)
+    ∙ link_outlined g.0 (renamed g.1 e) (unlink h.0 h.1 v.directories))
 
 -- ---- the commands
 
@@ -133,7 +162,8 @@ pub outlines_follow : OutlinesFollow
 outlines_follow v (Mkdir p) s = make_outlined v s.pair (home_of v p) ∙ ap (make_directory (outlined v) s.pair) (sym (home_outlined v p))
 outlines_follow v (Put p bytes) s =
     put_outlined v (new_body v s bytes) (home_of v p) (entry_at v p)
-    ∙ ap (λ (h : Option (Pair × Name)). put_file (outlined v) (outlined_body (new_body v s bytes)) h (option_map outlined_entry (entry_at v p))) (sym (home_outlined v p))
+    ∙ ap (λ (h : Option (Pair × Name)). put_file (outlined v) (outlined_body (new_body v s bytes)) h
+    (option_map outlined_entry (entry_at v p))) (sym (home_outlined v p))
     ∙ ap (put_file (outlined v) (outlined_body (new_body v s bytes)) (home_of (outlined v) p)) (sym (entry_at_outlined v p))
 outlines_follow v (Rm p) s =
     remove_outlined v (home_of v p) (entry_at v p)
@@ -141,8 +171,12 @@ outlines_follow v (Rm p) s =
     ∙ ap (remove_entry (outlined v) (home_of (outlined v) p)) (sym (entry_at_outlined v p))
 outlines_follow v (Mv p q) s =
     move_outlined v (home_of v p) (home_of v q) (entry_at v p)
-    ∙ ap (λ (h : Option (Pair × Name)). move_entry (outlined v) h (home_of v q) (option_map outlined_entry (entry_at v p))) (sym (home_outlined v p))
-    ∙ ap (λ (h : Option (Pair × Name)). move_entry (outlined v) (home_of (outlined v) p) h (option_map outlined_entry (entry_at v p))) (sym (home_outlined v q))
+    ∙ ap (λ (h : Option (Pair × Name)). move_entry (outlined v) h (home_of v q) (option_map outlined_entry (entry_at v p)))
+    (sym (home_outlined v p))
+    ∙ ap (λ (h : Option (Pair × Name)). move_entry (outlined v) (home_of (outlined v) p) h (option_map outlined_entry (entry_at v p)))
+    (sym (home_outlined v q))
     ∙ ap (move_entry (outlined v) (home_of (outlined v) p) (home_of (outlined v) q)) (sym (entry_at_outlined v p))
-outlines_follow v (SetAttr p k value) s = set_outlined v (set_attribute k value) (home_of v p) ∙ ap (set_attributes (outlined v) (set_attribute k value)) (sym (home_outlined v p))
-outlines_follow v (RmAttr p k) s = set_outlined v (remove_attribute k) (home_of v p) ∙ ap (set_attributes (outlined v) (remove_attribute k)) (sym (home_outlined v p))
+outlines_follow v (SetAttr p k value) s = set_outlined v (set_attribute k value) (home_of v p)
+    ∙ ap (set_attributes (outlined v) (set_attribute k value)) (sym (home_outlined v p))
+outlines_follow v (RmAttr p k) s = set_outlined v (remove_attribute k) (home_of v p)
+    ∙ ap (set_attributes (outlined v) (remove_attribute k)) (sym (home_outlined v p))

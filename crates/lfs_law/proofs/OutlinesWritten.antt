@@ -1,5 +1,6 @@
 -- Where the links of an outline are written, its volume is.
-use Rattle.std.proofs.Common.{◌≡◌, ◌≢◌, ℕ, ◌==◌, Bool, true, false, cond, List, [], ◌∷◌, ◌++◌, length, refl, ap, sym, ◌∙◌, subst, arith, map, Some}
+use Rattle.std.proofs.Common.{◌≡◌, ◌≢◌, ℕ, ◌==◌, Bool, true, false, cond, List, [], ◌∷◌, ◌++◌, length, refl, ap, sym, ◌∙◌, subst, arith}
+use Rattle.std.proofs.Common.{map, Some}
 use Rattle.std.specs.Prelude.{Contains}
 use Rattle.std.specs.List.{AllZip, AllByRecursion}
 use Rattle.std.proofs.lemmas.Bool.Decides.{nat_tests}
@@ -39,9 +40,11 @@ use Rattle.lfs_law.proofs.WrittenLemmas.{contains-map, part_there}
 abbrev pub outlined_link : Link → Link
 outlined_link l = record { part = outlined_part l.part; tail = l.tail }
 
-links_of_outlined : (p : Part) (ps : List Part) (tail : Tail) → links_of (outlined_part p) (outlined_parts ps) tail ≡ map outlined_link (links_of p ps tail)
+links_of_outlined : (p : Part) (ps : List Part) (tail : Tail) → links_of (outlined_part p) (outlined_parts ps) tail
+    ≡ map outlined_link (links_of p ps tail)
 links_of_outlined p [] tail = refl
-links_of_outlined p (q ∷ ps) tail = ap (λ (ls : List Link). record { part = outlined_part p; tail = hard_to q.pair } ∷ ls) (links_of_outlined q ps tail)
+links_of_outlined p (q ∷ ps) tail = ap (λ (ls : List Link). record { part = outlined_part p; tail = hard_to q.pair } ∷ ls)
+    (links_of_outlined q ps tail)
 
 tail_outlined : (ds : List Directory) → tail_to (outlined_directories ds) ≡ tail_to ds
 tail_outlined [] = refl
@@ -56,35 +59,48 @@ links_outlined (d ∷ ds) =
     ∙ sym (map-append outlined_link (links_of d.first d.more (tail_to ds)) (links ds))
 
 -- they are written to the same blocks
-pub blocks_outlined : (d : Disk) (is_new : Pair → Bool) (w : Volume) → links_blocks d is_new (links (outlined w).directories) ≡ links_blocks d is_new (links w.directories)
+pub blocks_outlined : (d : Disk) (is_new : Pair → Bool) (w : Volume) → links_blocks d is_new (links (outlined w).directories)
+    ≡ links_blocks d is_new (links w.directories)
 blocks_outlined d is_new w =
-    ap (links_blocks d is_new) (links_outlined w.directories) ∙ flat_map-map (λ (l : Link). set_blocks d is_new l.part) outlined_link (links w.directories)
+    ap (links_blocks d is_new) (links_outlined w.directories) ∙ flat_map-map (λ (l : Link). set_blocks d is_new l.part) outlined_link
+    (links w.directories)
 
 set_uses_mapped : (n : ℕ) (ls : List Link) → set_uses n (map outlined_link ls) ≡ set_uses n ls
 set_uses_mapped n [] = refl
-set_uses_mapped n (l ∷ ls) = omega (arith, sum_by-cons (one_use n) (outlined_link l) (map outlined_link ls), sum_by-cons (one_use n) l ls, set_uses_mapped n ls)
+set_uses_mapped n (l ∷ ls) = omega (
+  arith,
+  sum_by-cons (one_use n) (outlined_link l) (map outlined_link ls),
+  sum_by-cons (one_use n) l ls,
+  set_uses_mapped n ls,
+)
 
 pub set_uses_outlined : (n : ℕ) (w : Volume) → set_uses n (links (outlined w).directories) ≡ set_uses n (links w.directories)
 set_uses_outlined n w = ap (set_uses n) (links_outlined w.directories) ∙ set_uses_mapped n (links w.directories)
 
 pub outline_there : (w : Volume) (l : Link) → Contains (links w.directories) l → Contains (links (outlined w).directories) (outlined_link l)
 outline_there w l there =
-    subst (λ (ls : List Link). Contains ls (outlined_link l)) (sym (links_outlined w.directories)) (contains-map outlined_link (links w.directories) l there)
+    subst (λ (ls : List Link). Contains ls (outlined_link l)) (sym (links_outlined w.directories))
+    (contains-map outlined_link (links w.directories) l there)
 
 -- ---- what isn't written
 
 pub none_named : (n : ℕ) (cs : List Change) → times n (changed_blocks cs) ≡ 0 → AllByRecursion (λ c. c.number ≢ n) cs
 none_named n [] none = tt
-none_named n (c ∷ cs) none = (λ same. differ same (omega (arith, none, times_cons n c.number (changed_blocks cs))), none_named n cs (omega (arith, none, times_cons n c.number (changed_blocks cs))))
+none_named n (c ∷ cs) none = (
+  λ same. differ same (omega (arith, none, times_cons n c.number (changed_blocks cs))),
+  none_named n cs (omega (arith, none, times_cons n c.number (changed_blocks cs))),
+)
   where
     differ : c.number ≡ n → cond {A = ℕ} (c.number == n) 1 0 ≡ 0 → ⊥
     differ same zero_is = let one : cond {A = ℕ} (c.number == n) 1 0 ≡ 1 = grind (arith, nat_tests) in omega (arith, one, zero_is)
 
-set_by : (d : Disk) (is_new : Pair → Bool) (n : ℕ) (p : Part) (t : Bool) → p.dirty ≡ t → (p.dirty ≡ true → pair_uses n p ≡ 0) → times n (set_blocks d is_new p) ≡ 0
+set_by : (d : Disk) (is_new : Pair → Bool) (n : ℕ) (p : Part) (t : Bool) → p.dirty ≡ t → (p.dirty ≡ true → pair_uses n p ≡ 0)
+    → times n (set_blocks d is_new p) ≡ 0
 set_by d is_new n p true is unused = omega (arith, ap (times n) (set_is d is_new p true is), unused is, written_within d is_new p.pair n)
 set_by d is_new n p false is unused = ap (times n) (set_is d is_new p false is)
 
-unwritten : (d : Disk) (is_new : Pair → Bool) (n : ℕ) (ls : List Link) → ((l : Link) → Contains ls l → l.part.dirty ≡ true → pair_uses n l.part ≡ 0) → times n (links_blocks d is_new ls) ≡ 0
+unwritten : (d : Disk) (is_new : Pair → Bool) (n : ℕ) (ls : List Link)
+    → ((l : Link) → Contains ls l → l.part.dirty ≡ true → pair_uses n l.part ≡ 0) → times n (links_blocks d is_new ls) ≡ 0
 unwritten d is_new n [] unused = refl
 unwritten d is_new n (l ∷ ls) unused =
     omega (
@@ -104,28 +120,39 @@ file_or_directory (Directory_at pair) = λ h. cc
 body_stands : (r : Reading) (b : Body) → IsThere r b → BodyStands r (stored_body (outlined_body b)) b
 body_stands r (Inline bytes) there = refl
 body_stands r (Chain blocks bytes) there =
-    subst (λ (n : ℕ). (r.chain (head_of blocks) n ≡ Some blocks) × (bytes ≡ r.content n blocks)) (sym (length-replicate (length bytes) 0)) there
+    subst (λ (n : ℕ). (r.chain (head_of blocks) n ≡ Some blocks) × (bytes ≡ r.content n blocks))
+    (sym (length-replicate (length bytes) 0)) there
 body_stands r (Directory_at pair) there = refl
 
-entries_stand : (r : Reading) (es : List Entry) → ((e : Entry) → Contains es e → IsThere r e.body) → AllZip (Stands r) (map stored_entry (outlined_entries es)) es
+entries_stand : (r : Reading) (es : List Entry) → ((e : Entry) → Contains es e → IsThere r e.body)
+    → AllZip (Stands r) (map stored_entry (outlined_entries es)) es
 entries_stand r [] there = tt
 entries_stand r (e ∷ es) there = (
-  record { kind = file_or_directory (outlined_body e.body); name = refl; attributes = refl; body = body_stands r e.body (there e (contains_first e es)) },
+  record {
+    kind = file_or_directory (outlined_body e.body);
+    name = refl;
+    attributes = refl;
+    body = body_stands r e.body (there e (contains_first e es));
+  },
   entries_stand r es (λ f inside. there f (contains-cons e es f inside)),
 )
 
 -- what the pair of a link holds in the patched image
-read_after : AppliedBlocks → (d : Disk) (v w : Volume) (held : HoldsLinks (reading_of d) v) (is_new : Pair → Bool) (base : List Change) (p : ChangeSet)
+read_after : AppliedBlocks → (d : Disk) (v w : Volume) (held : HoldsLinks (reading_of d) v) (is_new : Pair → Bool) (base : List Change)
+    (p : ChangeSet)
     → WritesOutline d v w held is_new base p → (pair : Pair)
     → stored_part_of (applied p d) pair ≡ part_in (block_after d p.changes pair.0) (block_after d p.changes pair.1)
 read_after blocks d v w held is_new base p writes pair =
     ap (λ (b : List ℕ). part_in b (block_of (applied p d) pair.1)) (blocks p d pair.0 writes.disk writes.patch writes.stands)
     ∙ ap (part_in (block_after d p.changes pair.0)) (blocks p d pair.1 writes.disk writes.patch writes.stands)
 
-link_stored : AppliedBlocks → (d : Disk) (v w : Volume) (held : HoldsLinks (reading_of d) v) (is_new : Pair → Bool) (base : List Change) (p : ChangeSet) → WritesOutline d v w held is_new base p
-    → (l : Link) → Contains (links w.directories) l → l.part.dirty ≡ true → IsStored (reading_of (applied p d)) held.bytes w.attributes (cleaned_link l)
+link_stored : AppliedBlocks → (d : Disk) (v w : Volume) (held : HoldsLinks (reading_of d) v) (is_new : Pair → Bool) (base : List Change)
+    (p : ChangeSet) → WritesOutline d v w held is_new base p
+    → (l : Link) → Contains (links w.directories) l → l.part.dirty ≡ true
+    → IsStored (reading_of (applied p d)) held.bytes w.attributes (cleaned_link l)
 link_stored blocks d v w held is_new base p writes l there set =
-    let made : MakesLink d held.bytes w.attributes p.changes (outlined_link l) = writes.written.makes (outlined_link l) (outline_there w l there) set in
+    let made : MakesLink d held.bytes w.attributes p.changes (outlined_link l) =
+    writes.written.makes (outlined_link l) (outline_there w l there) set in
     record {
       stored = link_part held.bytes w.attributes (outlined_link l) made.delta;
       read = read_after blocks d v w held is_new base p writes l.part.pair ∙ made.part;
@@ -146,8 +173,15 @@ outlines_are_written disk blocks d v w held is_new base p writes =
       size = after.size;
       count = after.count;
       stays = λ n used none.
-          let apart : times n (links_blocks d is_new (links w.directories)) ≡ 0 = unwritten d is_new n (links w.directories) (λ l there set. none l.part (part_there w.directories l there) set) in
-          let unnamed : times n (changed_blocks p.changes) ≡ 0 = omega (arith, writes.written.named n, writes.unused n used, apart, ap (times n) (blocks_outlined d is_new w)) in
+          let apart : times n (links_blocks d is_new (links w.directories)) ≡ 0 =
+          unwritten d is_new n (links w.directories) (λ l there set. none l.part (part_there w.directories l there) set) in
+          let unnamed : times n (changed_blocks p.changes) ≡ 0 = omega (
+            arith,
+            writes.written.named n,
+            writes.unused n used,
+            apart,
+            ap (times n) (blocks_outlined d is_new w),
+          ) in
           blocks p d n writes.disk writes.patch writes.stands ∙ overlaid_none p.changes n (block_of d n) (none_named n p.changes unnamed);
       written = link_stored blocks d v w held is_new base p writes;
       attributes = writes.attributes;

@@ -27,7 +27,8 @@ some_again None = refl
 some_again (Some x) = refl
 
 step_by : (ds : List Directory) (n : Name) (ns : Path) (o : Option Pair)
-    → option_and_then (λ j. pair_at ds j ns) (option_and_then target (option_and_then (λ k. entry_in ds k n) o)) ≡ option_and_then (λ k. pair_at ds k (n ∷ ns)) o
+    → option_and_then (λ j. pair_at ds j ns) (option_and_then target (option_and_then (λ k. entry_in ds k n) o))
+    ≡ option_and_then (λ k. pair_at ds k (n ∷ ns)) o
 step_by ds n ns None = refl
 step_by ds n ns (Some k) = refl
 
@@ -36,13 +37,15 @@ leads_from : (ds : List Directory) (here : Option Entry) (path : Path)
 leads_from ds here [] = some_again (option_and_then target here)
 leads_from ds here (n ∷ ns) =
     leads_from ds (step target (entry_in ds) n here) ns
-    ∙ ap (λ (o : Option Entry). option_and_then (λ j. pair_at ds j ns) (option_and_then target o)) (step_by_target target (entry_in ds) n here)
+    ∙ ap (λ (o : Option Entry). option_and_then (λ j. pair_at ds j ns) (option_and_then target o))
+    (step_by_target target (entry_in ds) n here)
     ∙ step_by ds n ns (option_and_then target here)
 
 leads_to : (v : Volume) (path : Path) → option_and_then target (entry_at v path) ≡ pair_at v.directories root path
 leads_to v path = leads_from v.directories (Some (top v)) path
 
-last_at : (v : Volume) (path : Path) (n : Name) → entry_at v (path ++ n ∷ []) ≡ option_and_then (λ k. entry_in v.directories k n) (pair_at v.directories root path)
+last_at : (v : Volume) (path : Path) (n : Name) → entry_at v (path ++ n ∷ [])
+    ≡ option_and_then (λ k. entry_in v.directories k n) (pair_at v.directories root path)
 last_at v path n =
     walk-snoc target (entry_in v.directories) (Some (top v)) path n
     ∙ step_by_target target (entry_in v.directories) n (entry_at v path)
@@ -72,28 +75,34 @@ front_is v front (Inline bytes) n a k rest at leads = cc
 front_is v front (Chain blocks bytes) n a k rest at leads = cc
 front_is v front (Directory_at pair) n a k rest at leads = ap (λ (o : Option Entry). walk_refusal_at (option_map node o) rest) at
 
-walk_by_pairs : (v : Volume) (front : Path) (e : Entry) (k : Pair) (path : Path) → entry_at v front ≡ Some e → target e ≡ Some k → walk_refusal (tree v) front path ≡ walk_from v.directories k path
+walk_by_pairs : (v : Volume) (front : Path) (e : Entry) (k : Pair) (path : Path) → entry_at v front ≡ Some e → target e ≡ Some k
+    → walk_refusal (tree v) front path ≡ walk_from v.directories k path
 walk_by_pairs v front e k [] at leads = refl
 walk_by_pairs v front e k (n ∷ []) at leads = front_is v front e.body e.name e.attributes k None at leads
 walk_by_pairs v front e k (n ∷ m ∷ ns) at leads =
     front_is v front e.body e.name e.attributes k (walk_refusal (tree v) (front ++ n ∷ []) (m ∷ ns)) at leads
-    ∙ by (entry_in v.directories k n) (entry_under v front e k n at leads) (λ f j there led. walk_by_pairs v (front ++ n ∷ []) f j (m ∷ ns) there led)
+    ∙ by (entry_in v.directories k n) (entry_under v front e k n at leads)
+    (λ f j there led. walk_by_pairs v (front ++ n ∷ []) f j (m ∷ ns) there led)
   where
     rest : Option Refusal
     rest = walk_refusal (tree v) ((front ++ n ∷ []) ++ m ∷ []) ns
 
-    refused_by : (o : Option Entry) → entry_at v (front ++ n ∷ []) ≡ o → walk_refusal (tree v) (front ++ n ∷ []) (m ∷ ns) ≡ walk_refusal_at (option_map node o) rest
+    refused_by : (o : Option Entry) → entry_at v (front ++ n ∷ []) ≡ o → walk_refusal (tree v) (front ++ n ∷ []) (m ∷ ns)
+        ≡ walk_refusal_at (option_map node o) rest
     refused_by o at = ap (λ (x : Option Entry). walk_refusal_at (option_map node x) rest) at
 
     by_body : (f : Entry) (b : Body) → f.body ≡ b → entry_at v (front ++ n ∷ []) ≡ Some f
         → ((j : Pair) → target f ≡ Some j → walk_refusal (tree v) (front ++ n ∷ []) (m ∷ ns) ≡ walk_from v.directories j (m ∷ ns))
         → walk_refusal (tree v) (front ++ n ∷ []) (m ∷ ns) ≡ goes_on (λ j. walk_from v.directories j (m ∷ ns)) (body_target b)
-    by_body f (Inline bytes) is at later = refused_by (Some f) at ∙ ap (λ (b : Body). walk_refusal_at (Some (node_of b f.attributes)) rest) is
-    by_body f (Chain blocks bytes) is at later = refused_by (Some f) at ∙ ap (λ (b : Body). walk_refusal_at (Some (node_of b f.attributes)) rest) is
+    by_body f (Inline bytes) is at later = refused_by (Some f) at ∙ ap (λ (b : Body). walk_refusal_at (Some (node_of b f.attributes)) rest)
+        is
+    by_body f (Chain blocks bytes) is at later = refused_by (Some f) at
+        ∙ ap (λ (b : Body). walk_refusal_at (Some (node_of b f.attributes)) rest) is
     by_body f (Directory_at pair) is at later = later (unordered pair) (ap body_target is)
 
     by : (o : Option Entry) → entry_at v (front ++ n ∷ []) ≡ o
-        → ((f : Entry) (j : Pair) → entry_at v (front ++ n ∷ []) ≡ Some f → target f ≡ Some j → walk_refusal (tree v) (front ++ n ∷ []) (m ∷ ns) ≡ walk_from v.directories j (m ∷ ns))
+        → ((f : Entry) (j : Pair) → entry_at v (front ++ n ∷ []) ≡ Some f → target f ≡ Some j
+        → walk_refusal (tree v) (front ++ n ∷ []) (m ∷ ns) ≡ walk_from v.directories j (m ∷ ns))
         → walk_refusal (tree v) (front ++ n ∷ []) (m ∷ ns) ≡ refuses_at (λ j. walk_from v.directories j (m ∷ ns)) o
     by None is later = refused_by None is
     by (Some f) is later = by_body f f.body refl is (λ j led. later f j is led)
@@ -126,4 +135,8 @@ all_from ds k (m ∷ l ∷ path) n = by (entry_in ds k m) (λ j. all_from ds j (
     by (Some e) later = led (target e) later
 
 pub walks_are_refused_by_pairs : WalksAreRefusedByPairs
-walks_are_refused_by_pairs v = record { walk = from_root v; all = λ path n. from_root v (path ++ n ∷ []) ∙ all_from v.directories root path n }
+walks_are_refused_by_pairs v = record {
+  walk = from_root v;
+  all = λ path n. from_root v (path ++ n ∷ [])
+      ∙ all_from v.directories root path n;
+}

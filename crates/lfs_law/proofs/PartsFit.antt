@@ -1,5 +1,6 @@
 -- The parts that a command sets fit a pair where none has too large an entry and they are cut.
-use Rattle.std.proofs.Common.{◌≡◌, ℕ, ◌+◌, ◌≤◌, nat_lt, Bool, true, false, cond, List, [], ◌∷◌, ◌++◌, length, refl, ap, sym, ◌∙◌, subst, arith, inl, inr, Option, Some, None}
+use Rattle.std.proofs.Common.{◌≡◌, ℕ, ◌+◌, ◌≤◌, nat_lt, Bool, true, false, cond, List, [], ◌∷◌, ◌++◌, length, refl, ap, sym, ◌∙◌, subst}
+use Rattle.std.proofs.Common.{arith, inl, inr, Option, Some, None}
 use Rattle.std.specs.Prelude.{All, Contains, ◌&&◌, ◌||◌, if◌then◌else◌, sum_by, flat_map}
 use Rattle.std.specs.List.{filter, list_any}
 use Rattle.std.proofs.lemmas.List.Elements.{All-nil, All-cons, All-head, All-tail, All-append}
@@ -50,19 +51,23 @@ pub record PartFits (v : Volume) (p : Part) : Type 0 where
 abbrev pub FitsWhenSet : Volume → Part → Type 0
 FitsWhenSet v p = p.dirty ≡ true → PartFits v p
 
-fits_by : (v : Volume) (es : List Entry) (t : Bool) → ((t && nat_lt (room v) (superblock_weight v.attributes)) || list_any (λ e. nat_lt (room v) (weight e)) es) ≡ false
+fits_by : (v : Volume) (es : List Entry) (t : Bool) → ((t && nat_lt (room v) (superblock_weight v.attributes))
+    || list_any (λ e. nat_lt (room v) (weight e)) es) ≡ false
     → FirstFits weight (room v) (if t then superblock_weight v.attributes else 0) (if t then 1 else 0)
     (if t then runs_after weight (room v) (superblock_weight v.attributes) 1 es else runs_after weight (room v) 0 0 es)
 fits_by v es true light =
     let both = or_false (nat_lt (room v) (superblock_weight v.attributes)) (list_any (λ e. nat_lt (room v) (weight e)) es) light in
     let head = light_all (λ (w : ℕ). w) (room v) (superblock_weight v.attributes ∷ []) (ap (λ (t : Bool). t || false) both.0) in
-    runs_fit weight (room v) (superblock_weight v.attributes) 1 es (All-head (λ (w : ℕ). w ≤ room v) (superblock_weight v.attributes) [] head) (omega arith) (light_all weight (room v) es both.1)
+    runs_fit weight (room v) (superblock_weight v.attributes) 1 es (All-head (λ (w : ℕ). w ≤ room v)
+    (superblock_weight v.attributes) [] head) (omega arith) (light_all weight (room v) es both.1)
 fits_by v es false light = runs_fit weight (room v) 0 0 es (omega arith) (omega arith) (light_all weight (room v) es light)
 
-runs_fit_part : (v : Volume) (p : Part) → is_too_large v p ≡ false → FirstFits weight (room v) (front_weight v.attributes p) (front_count p) (runs v p)
+runs_fit_part : (v : Volume) (p : Part) → is_too_large v p ≡ false → FirstFits weight (room v) (front_weight v.attributes p) (front_count p)
+    (runs v p)
 runs_fit_part v p light = fits_by v p.entries (is_first p) light
 
-more_fit : (v : Volume) (pairs : List Pair) (rs : List (List Entry)) → ((q : Pair) → Contains pairs q → same_pair q root ≡ false) → All (RunFits weight (room v)) rs
+more_fit : (v : Volume) (pairs : List Pair) (rs : List (List Entry)) → ((q : Pair) → Contains pairs q → same_pair q root ≡ false)
+    → All (RunFits weight (room v)) rs
     → All (FitsWhenSet v) (more_parts pairs rs)
 more_fit v pairs [] other fit = All-nil (FitsWhenSet v)
 more_fit v [] (run ∷ rs) other fit = All-nil (FitsWhenSet v)
@@ -80,7 +85,8 @@ true-false : true ≡ false → ⊥
 true-false h = cc
 
 cut_by : (chosen : Part → List Pair) (v : Volume) (p : Part) (t : Bool) → p.dirty ≡ t → (t ≡ true → is_too_large v p ≡ false)
-    → ((q : Pair) → Contains (if t then chosen p else []) q → same_pair q root ≡ false) → All (FitsWhenSet v) (head_by v p t ∷ tail_by chosen v p t)
+    → ((q : Pair) → Contains (if t then chosen p else []) q → same_pair q root ≡ false)
+    → All (FitsWhenSet v) (head_by v p t ∷ tail_by chosen v p t)
 cut_by chosen v p true is light other =
     let fits = runs_fit_part v p (light refl) in
     All-cons (FitsWhenSet v) (head_by v p true) (tail_by chosen v p true) (λ set. record { weight' = fits.weight; count = fits.count })
@@ -89,11 +95,14 @@ cut_by chosen v p false is light other = All-cons (FitsWhenSet v) p [] (λ set. 
 
 -- ---- all parts
 
-pub all_flat : {X Y : Type 0} (P : Y → Type 0) (f : X → List Y) (xs : List X) → ((x : X) → Contains xs x → All P (f x)) → All P (flat_map f xs)
+pub all_flat : {X Y : Type 0} (P : Y → Type 0) (f : X → List Y) (xs : List X) → ((x : X) → Contains xs x → All P (f x))
+    → All P (flat_map f xs)
 all_flat P f [] each = All-nil P
-all_flat P f (x ∷ xs) each = All-append P (f x) (flat_map f xs) (each x (contains_first x xs)) (all_flat P f xs (λ y there. each y (contains-cons x xs y there)))
+all_flat P f (x ∷ xs) each = All-append P (f x) (flat_map f xs) (each x (contains_first x xs))
+    (all_flat P f xs (λ y there. each y (contains-cons x xs y there)))
 
-none_of : (f : Part → Bool) (ps : List Part) → list_any f (filter (λ p. p.dirty) ps) ≡ false → (p : Part) → Contains ps p → p.dirty ≡ true → f p ≡ false
+none_of : (f : Part → Bool) (ps : List Part) → list_any f (filter (λ p. p.dirty) ps) ≡ false → (p : Part) → Contains ps p → p.dirty ≡ true
+    → f p ≡ false
 none_of f [] none p there set = let no : ⊥ = none_there there in absurd no
   where
     none_there : Contains [] p → ⊥
@@ -127,7 +136,8 @@ checks_pass (Some r ∷ xs) ys h = cc
 
 nothing_large : (v : Volume) (c : Command) (s : Supplies) → IsAccepted v c s → has_too_large (edited v c nothing) ≡ false
 nothing_large v c s ok =
-    let passed = first_passes (refuse_if (has_too_large (edited v c nothing)) EntryTooLarge) _ (checks_pass (checks v c) (room_checks v c) ok.unrefused) in
+    let passed = first_passes (refuse_if (has_too_large (edited v c nothing)) EntryTooLarge) _
+    (checks_pass (checks v c) (room_checks v c) ok.unrefused) in
     test_passes (has_too_large (edited v c nothing)) EntryTooLarge passed.0
 
 pub root_used : (v : Volume) → IsSound v → 1 ≤ uses 0 v
@@ -136,7 +146,8 @@ root_used v sound = by v.directories refl sound.starts
     by : (ds : List Directory) → v.directories ≡ ds → StartsAtRoot ds → 1 ≤ uses 0 v
     by [] is begins = absurd begins
     by (d ∷ ds) is begins =
-        let there : Contains (thread v.directories) d.first = subst (λ (es : List Directory). Contains (thread es) d.first) (sym is) (contains_first d.first (d.more ++ thread ds)) in
+        let there : Contains (thread v.directories) d.first = subst (λ (es : List Directory). Contains (thread es) d.first) (sym is)
+        (contains_first d.first (d.more ++ thread ds)) in
         let pair : pair_uses 0 d.first ≡ 1 = ap (λ (q : Pair). times 0 (q.0 ∷ q.1 ∷ [])) begins in
         omega (arith, pair, one_le (part_uses 0) (thread v.directories) d.first there, sum_thread 0 v.directories)
 
@@ -161,5 +172,6 @@ none_large v (Mkdir p) s ok =
 none_large v (Put p bytes) s ok = sym (large_is_the_same v (Put p bytes) (elsewhere s) refl) ∙ nothing_large v (Put p bytes) s ok
 none_large v (Rm p) s ok = sym (large_is_the_same v (Rm p) (elsewhere s) refl) ∙ nothing_large v (Rm p) s ok
 none_large v (Mv p q) s ok = sym (large_is_the_same v (Mv p q) (elsewhere s) refl) ∙ nothing_large v (Mv p q) s ok
-none_large v (SetAttr p k value) s ok = sym (large_is_the_same v (SetAttr p k value) (elsewhere s) refl) ∙ nothing_large v (SetAttr p k value) s ok
+none_large v (SetAttr p k value) s ok = sym (large_is_the_same v (SetAttr p k value) (elsewhere s) refl)
+    ∙ nothing_large v (SetAttr p k value) s ok
 none_large v (RmAttr p k) s ok = sym (large_is_the_same v (RmAttr p k) (elsewhere s) refl) ∙ nothing_large v (RmAttr p k) s ok

@@ -1,5 +1,6 @@
 -- What is at and below a path, and what a changed map has there.
-use Rattle.std.proofs.Common.{◌≡◌, ◌⊎◌, Bool, true, false, [], ◌∷◌, ◌++◌, Option, Some, None, refl, ap, sym, ◌∙◌, arith, length, length-append, append-nil, inl, inr}
+use Rattle.std.proofs.Common.{◌≡◌, ◌⊎◌, Bool, true, false, [], ◌∷◌, ◌++◌, Option, Some, None, refl, ap, sym, ◌∙◌, arith, length}
+use Rattle.std.proofs.Common.{length-append, append-nil, inl, inr}
 use Rattle.std.specs.Prelude.{bytes_eq, if◌then◌else◌}
 use Rattle.std.specs.Bool.{Decides}
 use Rattle.std.specs.Option.{option_map}
@@ -48,12 +49,14 @@ below_some (n ∷ ns) (m ∷ path) rest h = below_by (bytes_eq n m) n m ns path 
 
 pub below-append : (at rest : Path) → below at (at ++ rest) ≡ Some rest
 below-append [] rest = refl
-below-append (n ∷ ns) rest = ap (λ (b : Bool). if b then below ns (ns ++ rest) else None) ((bytes_eq-Decides n n).1 refl) ∙ below-append ns rest
+below-append (n ∷ ns) rest = ap (λ (b : Bool). if b then below ns (ns ++ rest) else None) ((bytes_eq-Decides n n).1 refl)
+    ∙ below-append ns rest
 
 pub below_self : (at : Path) → below at at ≡ Some []
 below_self at = ap (below at) (sym (append-nil at)) ∙ below-append at []
 
-front_by : (same : Bool) (ns path more : Path) → (below ns (path ++ more) ≡ None → below ns path ≡ None) → (if same then below ns (path ++ more) else None) ≡ None
+front_by : (same : Bool) (ns path more : Path) → (below ns (path ++ more) ≡ None → below ns path ≡ None)
+    → (if same then below ns (path ++ more) else None) ≡ None
     → (if same then below ns path else None) ≡ None
 front_by true ns path more f h = f h
 front_by false ns path more f h = refl
@@ -73,7 +76,11 @@ none_or_some (Some x) = inr (x, refl)
 
 -- a path lies at or below another, or it doesn't
 pub below_cases : (at path : Path) → (below at path ≡ None) ⊎ ((rest : Path) × (path ≡ at ++ rest))
-below_cases at path = elim (none_or_some (below at path)) [ inl none ↦ inl none | inr some ↦ inr (some.0, below_some at path some.0 some.1) ]
+below_cases at path = elim (none_or_some (below at path)) [
+  | inl none ↦ inl none
+  | inr some ↦ inr
+      (some.0, below_some at path some.0 some.1)
+]
 
 -- no path lies below itself with a name more
 pub below_longer : (p : Path) (n : Name) → below (p ++ n ∷ []) p ≡ None
@@ -89,10 +96,12 @@ put_by : {X : Type 0} (b : Bool) (x y : Option X) → (b ≡ true → ⊥) → (
 put_by true x y h = absurd (h refl)
 put_by false x y h = refl
 
-pub put_at_other : {X : Type 0} (at : Path) (x : Option X) (tree : Path → Option X) (path : Path) → (at ≡ path → ⊥) → put_at at x tree path ≡ tree path
+pub put_at_other : {X : Type 0} (at : Path) (x : Option X) (tree : Path → Option X) (path : Path) → (at ≡ path → ⊥)
+    → put_at at x tree path ≡ tree path
 put_at_other at x tree path different = put_by (same_path at path) x (tree path) (λ h. different ((same_path_decides at path).0 h))
 
-mapped_by : {X Y : Type 0} (f : X → Y) (b : Bool) (x y : Option X) → option_map f (if b then x else y) ≡ (if b then option_map f x else option_map f y)
+mapped_by : {X Y : Type 0} (f : X → Y) (b : Bool) (x y : Option X) → option_map f (if b then x else y)
+    ≡ (if b then option_map f x else option_map f y)
 mapped_by f true x y = refl
 mapped_by f false x y = refl
 
@@ -106,12 +115,14 @@ pub moved_to : {X : Type 0} (from to rest : Path) (tree : Path → Option X) →
 moved_to from to rest tree = ap (λ (o : Option Path). moved_by from tree (to ++ rest) o (below from (to ++ rest))) (below-append to rest)
 
 -- at the old path and below it, where that isn't below the new one
-pub moved_away : {X : Type 0} (from to rest : Path) (tree : Path → Option X) → below to (from ++ rest) ≡ None → moved from to tree (from ++ rest) ≡ None
+pub moved_away : {X : Type 0} (from to rest : Path) (tree : Path → Option X) → below to (from ++ rest) ≡ None
+    → moved from to tree (from ++ rest) ≡ None
 moved_away from to rest tree outside =
     ap (λ (o : Option Path). moved_by from tree (from ++ rest) o (below from (from ++ rest))) outside
     ∙ ap (moved_by from tree (from ++ rest) None) (below-append from rest)
 
 -- elsewhere
-pub moved_other : {X : Type 0} (from to path : Path) (tree : Path → Option X) → below to path ≡ None → below from path ≡ None → moved from to tree path ≡ tree path
+pub moved_other : {X : Type 0} (from to path : Path) (tree : Path → Option X) → below to path ≡ None → below from path ≡ None
+    → moved from to tree path ≡ tree path
 moved_other from to path tree outside away =
     ap (λ (o : Option Path). moved_by from tree path o (below from path)) outside ∙ ap (moved_by from tree path None) away

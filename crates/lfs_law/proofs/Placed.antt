@@ -25,11 +25,14 @@ leads_one : (k : Pair) (o : Option Pair) → o ≡ Some k → leads_to k o ≡ 1
 leads_one k o is = rw is (rw ((same_pair_decides k k).1 refl) refl)
 
 -- a directory that an edge leads to is named
-named_by_edge : (v : Volume) (j : Pair) (n : Name) (e : Entry) (k : Pair) → entry_in v.directories j n ≡ Some e → target e ≡ Some k → 1 ≤ sum_by (names_of k) v.directories
+named_by_edge : (v : Volume) (j : Pair) (n : Name) (e : Entry) (k : Pair) → entry_in v.directories j n ≡ Some e → target e ≡ Some k
+    → 1 ≤ sum_by (names_of k) v.directories
 named_by_edge v j n e k edge leads =
     let found = entry_found v.directories j n e edge in
-    let directory : names_of k found.0 ≤ sum_by (names_of k) v.directories = found_le (names_of k) (begins_at j) v.directories found.0 found.1 in
-    let entry : leads_to k (target e) ≤ names_of k found.0 = found_le (λ (x : Entry). leads_to k (target x)) (is_named n) (entries found.0) e found.2 in
+    let directory : names_of k found.0 ≤ sum_by (names_of k) v.directories =
+    found_le (names_of k) (begins_at j) v.directories found.0 found.1 in
+    let entry : leads_to k (target e) ≤ names_of k found.0 = found_le (λ (x : Entry). leads_to k (target x)) (is_named n)
+    (entries found.0) e found.2 in
     let one : leads_to k (target e) ≡ 1 = leads_one k (target e) leads in
     omega (arith, directory, entry, one)
 
@@ -40,13 +43,15 @@ led_named v p e k here leads = elim (last_name p) [
       let one : leads_to k (Some root) ≡ 1 = leads_one k (Some root) top_leads in
       omega (arith, one)
   | inr (q, n, is) ↦
-      let step = step_some target (entry_in v.directories) n (entry_at v q) e (sym (walk-snoc target (entry_in v.directories) (Some (top v)) q n) ∙ ap (entry_at v) (sym is) ∙ here) in
+      let step = step_some target (entry_in v.directories) n (entry_at v q) e
+      (sym (walk-snoc target (entry_in v.directories) (Some (top v)) q n) ∙ ap (entry_at v) (sym is) ∙ here) in
       let edge : 1 ≤ sum_by (names_of k) v.directories = named_by_edge v step.1 n e k step.4 leads in
       omega (arith, edge)
 ]
 
 -- what an entry leads to is one directory of the thread
-pub led_directory : (v : Volume) → IsSound v → (p : Path) (e : Entry) (k : Pair) → entry_at v p ≡ Some e → target e ≡ Some k → count_by (begins_at k) v.directories ≡ 1
+pub led_directory : (v : Volume) → IsSound v → (p : Path) (e : Entry) (k : Pair) → entry_at v p ≡ Some e → target e ≡ Some k
+    → count_by (begins_at k) v.directories ≡ 1
 led_directory v sound p e k here leads = omega (arith, one_directory v sound k, sound.names k, led_named v p e k here leads)
 
 -- The place of a path's last name.

@@ -23,4 +23,5 @@ plans_hold cuts cleans frugal written by_links outlines d v held c s chosen is_n
       count = follows.count;
       limits = follows.limits;
     } in
-    by_links (reading_of (applied p d)) (clean w) (cleans v w c follows).sound (written d (applied p d) v w held edit (outlines d v w held is_new base p writes))
+    by_links (reading_of (applied p d)) (clean w) (cleans v w c follows).sound
+    (written d (applied p d) v w held edit (outlines d v w held is_new base p writes))

@@ -32,10 +32,12 @@ pub record IsNewBody (v : Volume) (body : Body) (bytes : List ℕ) : Type 0 wher
 
 -- ---- a new file
 
-new_proper : (v : Volume) (n : Name) (body : Body) (bytes : List ℕ) → IsName n → length n ≤ v.limits.name → IsNewBody v body bytes → IsProper v.limits (new_entry n body)
+new_proper : (v : Volume) (n : Name) (body : Body) (bytes : List ℕ) → IsName n → length n ≤ v.limits.name → IsNewBody v body bytes
+    → IsProper v.limits (new_entry n body)
 new_proper v n body bytes name fits new = record { name = name; name_fits = fits; file_fits = new.len; attributes = tt }
 
-pub new_file_follows : (v : Volume) (p : Path) (body : Body) (bytes : List ℕ) → NamesAreOrdered → IsSound v → (at : IsPlaced v p) → entry_at v p ≡ None
+pub new_file_follows : (v : Volume) (p : Path) (body : Body) (bytes : List ℕ) → NamesAreOrdered → IsSound v → (at : IsPlaced v p)
+    → entry_at v p ≡ None
     → length at.home.name ≤ v.limits.name → IsNewBody v body bytes
     → Puts v (put_file v body (home_of v p) None) p (Some (File bytes [])) (λ b. 0) (λ b. body_uses b body)
 new_file_follows v p body bytes ordered sound at fresh fits new =
@@ -75,14 +77,22 @@ new_file_follows v p body bytes ordered sound at fresh fits new =
           ∙ ap (λ (x : Path). put_at x (Some (node e)) (tree v) q) (sym at.home.whole)
           ∙ ap (λ (x : Node). put_at p (Some x) (tree v) q) (new.shows []);
     } in
-    subst (λ (h : Option (Pair × Name)). Puts v (put_file v body h None) p (Some (File bytes [])) (λ b. 0) (λ b. body_uses b body)) (sym at.home.home) follows
+    subst (λ (h : Option (Pair × Name)). Puts v (put_file v body h None) p (Some (File bytes [])) (λ b. 0) (λ b. body_uses b body))
+    (sym at.home.home) follows
 
 -- ---- a file that was there
 
-put_proper : (v : Volume) (body : Body) (bytes : List ℕ) (e : Entry) → IsNewBody v body bytes → IsProper v.limits e → IsProper v.limits (with_body body e)
-put_proper v body bytes e new proper = record { name = proper.name; name_fits = proper.name_fits; file_fits = new.len; attributes = proper.attributes }
+put_proper : (v : Volume) (body : Body) (bytes : List ℕ) (e : Entry) → IsNewBody v body bytes → IsProper v.limits e
+    → IsProper v.limits (with_body body e)
+put_proper v body bytes e new proper = record {
+  name = proper.name;
+  name_fits = proper.name_fits;
+  file_fits = new.len;
+  attributes = proper.attributes;
+}
 
-pub old_file_follows : (v : Volume) (p : Path) (body : Body) (bytes : List ℕ) (e : Entry) → NamesAreOrdered → IsSound v → (at : IsPlaced v p) → entry_at v p ≡ Some e
+pub old_file_follows : (v : Volume) (p : Path) (body : Body) (bytes : List ℕ) (e : Entry) → NamesAreOrdered → IsSound v
+    → (at : IsPlaced v p) → entry_at v p ≡ Some e
     → target e ≡ None → IsNewBody v body bytes
     → Puts v (put_file v body (home_of v p) (Some e)) p (Some (File bytes e.attributes)) (λ b. entry_uses b e) (λ b. body_uses b body)
 old_file_follows v p body bytes e ordered sound at here file new =
@@ -108,7 +118,8 @@ old_file_follows v p body bytes e ordered sound at here file new =
     let follows : Puts v (with_directories v ds) p (Some (File bytes e.attributes)) (λ b. entry_uses b e) (λ b. body_uses b body) = record {
       sound = edge_sound v ds at.home.front k n (Some (f e)) (of_entry e) (of_entry (f e)) one alike
           effect
-          (change_good v.limits k n f e v.directories ordered (λ x. refl) good at.once edge (put_proper v body bytes e new (proper_entry v sound k n e edge)))
+          (change_good v.limits k n f e v.directories ordered (λ x. refl) good at.once edge
+          (put_proper v body bytes e new (proper_entry v sound k n e edge)))
           (record {
             once = λ b. omega (arith, new.once b);
             within = λ b less. new.within b (omega (arith, less));
@@ -123,4 +134,5 @@ old_file_follows v p body bytes e ordered sound at here file new =
           ∙ ap (λ (x : Path). put_at x (Some (node (f e))) (tree v) q) (sym at.home.whole)
           ∙ ap (λ (x : Node). put_at p (Some x) (tree v) q) (new.shows e.attributes);
     } in
-    subst (λ (h : Option (Pair × Name)). Puts v (put_file v body h (Some e)) p (Some (File bytes e.attributes)) (λ b. entry_uses b e) (λ b. body_uses b body)) (sym at.home.home) follows
+    subst (λ (h : Option (Pair × Name)). Puts v (put_file v body h (Some e)) p (Some (File bytes e.attributes)) (λ b. entry_uses b e)
+    (λ b. body_uses b body)) (sym at.home.home) follows

@@ -1,5 +1,6 @@
 -- What is removed follows its equation.
-use Rattle.std.proofs.Common.{◌≡◌, ℕ, ◌+◌, true, cond, List, [], ◌∷◌, ◌++◌, refl, ap, sym, ◌∙◌, subst, arith, length, inl, inr, Option, Some, None}
+use Rattle.std.proofs.Common.{◌≡◌, ℕ, ◌+◌, true, cond, List, [], ◌∷◌, ◌++◌, refl, ap, sym, ◌∙◌, subst, arith, length, inl, inr, Option}
+use Rattle.std.proofs.Common.{Some, None}
 use Rattle.std.specs.Prelude.{sum_by, count_by, find, ◌==◌}
 use Rattle.std.specs.Option.{option_map, option_and_then, unwrap_or}
 use Rattle.std.proofs.lemmas.Bool.Decides.{nat_tests}
@@ -45,8 +46,10 @@ target_uses_of v o b = unwrap_or (option_map (λ k. folder_uses v k b) o) 0
 
 -- ---- a file
 
-file_gone : (v : Volume) (p : Path) (e : Entry) → NamesAreOrdered → IsSound v → (at : IsPlaced v p) → entry_at v p ≡ Some e → target e ≡ None
-    → Puts v (with_directories v (unlink at.home.pair at.home.name v.directories)) p None (λ b. entry_uses b e + target_uses_of v (target e) b) (λ b. 0)
+file_gone : (v : Volume) (p : Path) (e : Entry) → NamesAreOrdered → IsSound v → (at : IsPlaced v p) → entry_at v p ≡ Some e
+    → target e ≡ None
+    → Puts v (with_directories v (unlink at.home.pair at.home.name v.directories)) p None
+    (λ b. entry_uses b e + target_uses_of v (target e) b) (λ b. 0)
 file_gone v p e ordered sound at here file =
     let k = at.home.pair in
     let n = at.home.name in
@@ -85,12 +88,14 @@ file_gone v p e ordered sound at here file =
 -- ---- an empty directory
 
 -- the directory that an entry leads to is another one than the root
-other_than_root : (v : Volume) (p : Path) (e : Entry) (j : Pair) → IsSound v → (at : IsPlaced v p) → entry_at v p ≡ Some e → target e ≡ Some j → j ≡ root → ⊥
+other_than_root : (v : Volume) (p : Path) (e : Entry) (j : Pair) → IsSound v → (at : IsPlaced v p) → entry_at v p ≡ Some e
+    → target e ≡ Some j → j ≡ root → ⊥
 other_than_root v p e j sound at here leads is =
     let same : p ≡ [] = one_path v sound p [] e (top v) root here refl (leads ∙ ap Some is) refl in
     no_names at.home.front at.home.name [] (sym at.home.whole ∙ same)
 
-bare_by : (o : Option Directory) (d : Directory) → o ≡ Some d → unwrap_or (option_map (λ x. length (entries x) == 0) o) true ≡ true → entries d ≡ []
+bare_by : (o : Option Directory) (d : Directory) → o ≡ Some d → unwrap_or (option_map (λ x. length (entries x) == 0) o) true ≡ true
+    → entries d ≡ []
 bare_by None d is h = absurd (none-some d is)
 bare_by (Some x) d is h =
     let len : length (entries x) ≡ 0 = grind (arith, nat_tests) in
@@ -98,14 +103,20 @@ bare_by (Some x) d is h =
 
 -- a directory that is found stays found, and stays empty, when an entry is taken out of another or the same
 still_empty : (ds : List Directory) (k : Pair) (n : Name) (j : Pair) (d : Directory) → find (begins_at j) ds ≡ Some d → entries d ≡ []
-    → (g : Directory) × (find (begins_at j) (unlink k n ds) ≡ Some g) × (entries g ≡ []) × ((b : ℕ) → directory_uses b g ≡ directory_uses b d)
+    → (g : Directory) × (find (begins_at j) (unlink k n ds) ≡ Some g) × (entries g ≡ [])
+    × ((b : ℕ) → directory_uses b g ≡ directory_uses b d)
 still_empty ds k n j d found empty = elim (same_pair_or_not j k) [
   | inl is ↦ (
     unlink_in n d,
     ap (λ (x : Pair). find (begins_at x) (unlink k n ds)) is ∙ find_here k (unlink_in n) ds (keeps_unlink n)
         ∙ ap (option_map (unlink_in n)) (ap (λ (x : Pair). find (begins_at x) ds) (sym is) ∙ found),
     entries_unlink n d ∙ ap (without n) empty,
-    λ b. omega (arith, pair_uses_same b d (unlink_in n d) (keeps_unlink n d).pairs, ap (sum_by (entry_uses b)) (entries_unlink n d ∙ ap (without n) empty), ap (sum_by (entry_uses b)) empty),
+    λ b. omega (
+      arith,
+      pair_uses_same b d (unlink_in n d) (keeps_unlink n d).pairs,
+      ap (sum_by (entry_uses b)) (entries_unlink n d ∙ ap (without n) empty),
+      ap (sum_by (entry_uses b)) empty,
+    ),
   )
   | inr other ↦ (d, find_elsewhere j k (unlink_in n) ds (keeps_unlink n) other ∙ found, empty, λ b. refl)
 ]
@@ -113,11 +124,14 @@ still_empty ds k n j d found empty = elim (same_pair_or_not j k) [
 begins_at_key : (k : Pair) (g : Directory) (j : Pair) → j ≡ key g → count_by (begins_at k) (g ∷ []) ≡ leads_to k (Some j)
 begins_at_key k g j is = omega (arith, ap (λ (x : Pair). cond {A = ℕ} (same_pair k x) 1 0) (sym is))
 
-no_entry : (ds : List Directory) (j : Pair) (d : Directory) (m : Name) → find (begins_at j) ds ≡ Some d → entries d ≡ [] → entry_in ds j m ≡ None
+no_entry : (ds : List Directory) (j : Pair) (d : Directory) (m : Name) → find (begins_at j) ds ≡ Some d → entries d ≡ []
+    → entry_in ds j m ≡ None
 no_entry ds j d m found empty = ap (option_and_then (λ (x : Directory). find (is_named m) (entries x))) found ∙ ap (find (is_named m)) empty
 
-directory_gone : (v : Volume) (p : Path) (e : Entry) (j : Pair) → NamesAreOrdered → IsSound v → (at : IsPlaced v p) → entry_at v p ≡ Some e → target e ≡ Some j → is_bare v (Some j) ≡ true
-    → Puts v (with_directories v (drop_directory j (unlink at.home.pair at.home.name v.directories))) p None (λ b. entry_uses b e + target_uses_of v (target e) b) (λ b. 0)
+directory_gone : (v : Volume) (p : Path) (e : Entry) (j : Pair) → NamesAreOrdered → IsSound v → (at : IsPlaced v p) → entry_at v p ≡ Some e
+    → target e ≡ Some j → is_bare v (Some j) ≡ true
+    → Puts v (with_directories v (drop_directory j (unlink at.home.pair at.home.name v.directories))) p None
+    (λ b. entry_uses b e + target_uses_of v (target e) b) (λ b. 0)
 directory_gone v p e j ordered sound at here leads bare =
     let k = at.home.pair in
     let n = at.home.name in
@@ -129,7 +143,8 @@ directory_gone v p e j ordered sound at here leads bare =
     let once : count_by (begins_at j) v.directories ≡ 1 = led_directory v sound p e j here leads in
     let was : (d : Directory) × (find (begins_at j) v.directories ≡ Some d) = found_one (begins_at j) v.directories once in
     let was_empty : entries was.0 ≡ [] = bare_by (find (begins_at j) v.directories) was.0 was.1 bare in
-    let now : (g : Directory) × (find (begins_at j) unlinked ≡ Some g) × (entries g ≡ []) × ((b : ℕ) → directory_uses b g ≡ directory_uses b was.0) =
+    let now : (g : Directory) × (find (begins_at j) unlinked ≡ Some g) × (entries g ≡ [])
+    × ((b : ℕ) → directory_uses b g ≡ directory_uses b was.0) =
     still_empty v.directories k n j was.0 was.1 was_empty in
     let other = other_than_root v p e j sound at here leads in
     let starts : StartsAtRoot unlinked = first.starts sound.starts in
@@ -137,7 +152,8 @@ directory_gone v p e j ordered sound at here leads bare =
     let ds : List Directory = drop_directory j unlinked in
     let second : Effect (of_directory now.0) none unlinked ds = drop_effect j now.0 unlinked other starts now.1 in
     let is_key : j ≡ key now.0 = found_key unlinked j now.0 now.1 in
-    let edges : (i : Pair) (m : Name) → entry_in ds i m ≡ entry_in unlinked i m = drop_edges j now.0 unlinked other starts now.1 now.2 once_now in
+    let edges : (i : Pair) (m : Name) → entry_in ds i m ≡ entry_in unlinked i m =
+    drop_edges j now.0 unlinked other starts now.1 now.2 once_now in
     let one : OneEdge v (with_directories v ds) at.home.front k n None = record {
       sound = sound;
       holder = at.home.above;
@@ -149,7 +165,8 @@ directory_gone v p e j ordered sound at here leads bare =
     } in
     let led : option_and_then target (entry_at v (at.home.front ++ n ∷ [])) ≡ Some j = ap (option_and_then target) old ∙ leads in
     let alike : Alike v (with_directories v ds) (entry_at v (at.home.front ++ n ∷ [])) None = λ m.
-    sym (ap (step target (entry_in v.directories) m) old ∙ ap (option_and_then (λ (i : Pair). entry_in v.directories i m)) leads ∙ no_entry v.directories j was.0 m was.1 was_empty) in
+    sym (ap (step target (entry_in v.directories) m) old ∙ ap (option_and_then (λ (i : Pair). entry_in v.directories i m)) leads
+    ∙ no_entry v.directories j was.0 m was.1 was_empty) in
     record {
       sound = edge_sound v ds at.home.front k n None (of_both (of_entry e) (of_directory now.0)) (of_both none none) one alike
           (in_a_row (of_entry e) none (of_directory now.0) none v.directories unlinked ds first second)
@@ -157,9 +174,15 @@ directory_gone v p e j ordered sound at here leads bare =
           (record {
             once = λ b. omega (arith, sound.once b);
             within = λ b less. let no : ⊥ = omega arith in absurd no;
-            names = λ i. omega (arith, begins_at_key i now.0 j is_key, ap (leads_to i) leads, ap (λ (es : List Entry). sum_by (λ (x : Entry). leads_to i (target x)) es) now.2);
+            names = λ i. omega (
+              arith,
+              begins_at_key i now.0 j is_key,
+              ap (leads_to i) leads,
+              ap (λ (es : List Entry). sum_by (λ (x : Entry). leads_to i (target x)) es) now.2,
+            );
             keeps = λ i gone leads_there.
-                let this : leads_to i (Some j) ≡ 1 = ap (λ (x : Pair). leads_to x (Some j)) (same_Some i j (sym leads_there ∙ led)) ∙ rw ((same_pair_decides j j).1 refl) refl in
+                let this : leads_to i (Some j) ≡ 1 = ap (λ (x : Pair). leads_to x (Some j)) (same_Some i j (sym leads_there ∙ led))
+                ∙ rw ((same_pair_decides j j).1 refl) refl in
                 let no : ⊥ = omega (arith, gone, begins_at_key i now.0 j is_key, this) in absurd no;
             comes = λ i some. let no : ⊥ = omega arith in absurd no;
           });
@@ -177,13 +200,17 @@ directory_gone v p e j ordered sound at here leads bare =
 
 -- ---- the command
 
-gone_by : (v : Volume) (p : Path) (e : Entry) → NamesAreOrdered → IsSound v → (at : IsPlaced v p) → entry_at v p ≡ Some e → (o : Option Pair) → target e ≡ o → is_bare v o ≡ true
-    → Puts v (with_directories v (drop_target o (unlink at.home.pair at.home.name v.directories))) p None (λ b. entry_uses b e + target_uses_of v (target e) b) (λ b. 0)
+gone_by : (v : Volume) (p : Path) (e : Entry) → NamesAreOrdered → IsSound v → (at : IsPlaced v p) → entry_at v p ≡ Some e
+    → (o : Option Pair) → target e ≡ o → is_bare v o ≡ true
+    → Puts v (with_directories v (drop_target o (unlink at.home.pair at.home.name v.directories))) p None
+    (λ b. entry_uses b e + target_uses_of v (target e) b) (λ b. 0)
 gone_by v p e ordered sound at here None is bare = file_gone v p e ordered sound at here is
 gone_by v p e ordered sound at here (Some j) is bare = directory_gone v p e j ordered sound at here is bare
 
-pub rm_follows : (v : Volume) (p : Path) (e : Entry) → NamesAreOrdered → IsSound v → (at : IsPlaced v p) → entry_at v p ≡ Some e → is_bare v (target e) ≡ true
+pub rm_follows : (v : Volume) (p : Path) (e : Entry) → NamesAreOrdered → IsSound v → (at : IsPlaced v p) → entry_at v p ≡ Some e
+    → is_bare v (target e) ≡ true
     → Puts v (remove_entry v (home_of v p) (Some e)) p None (λ b. entry_uses b e + target_uses_of v (target e) b) (λ b. 0)
 rm_follows v p e ordered sound at here bare =
-    subst (λ (h : Option (Pair × Name)). Puts v (remove_entry v h (Some e)) p None (λ b. entry_uses b e + target_uses_of v (target e) b) (λ b. 0)) (sym at.home.home)
+    subst (λ (h : Option (Pair × Name)). Puts v (remove_entry v h (Some e)) p None (λ b. entry_uses b e + target_uses_of v (target e) b)
+    (λ b. 0)) (sym at.home.home)
     (gone_by v p e ordered sound at here (target e) refl bare)

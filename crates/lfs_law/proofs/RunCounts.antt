@@ -57,7 +57,8 @@ begins_one whole room begun count taken len next e left is small leaves to =
       few = omega arith;
     })
 
-pub all_begun : (whole room begun count taken len : ℕ) (left : List Entry) → length left ≡ 0 → AreBegun whole room begun count taken len left → count ≡ whole
+pub all_begun : (whole room begun count taken len : ℕ) (left : List Entry) → length left ≡ 0
+    → AreBegun whole room begun count taken len left → count ≡ whole
 unfolding runs_after
 all_begun whole room begun count taken len [] none to = omega (arith, to.is)
 all_begun whole room begun count taken len (e ∷ es) none to = absurd (omega (arith, none))

@@ -54,11 +54,18 @@ shows_set f (Inline bytes) a = refl
 shows_set f (Chain blocks bytes) a = refl
 shows_set f (Directory_at pair) a = refl
 
-set_proper : (v : Volume) (f : Attributes → Attributes) (e : Entry) → KeepsGood f v → IsProper v.limits e → IsProper v.limits (with_entry_attributes f e)
-set_proper v f e keeps proper = record { name = proper.name; name_fits = proper.name_fits; file_fits = proper.file_fits; attributes = keeps e.attributes proper.attributes }
+set_proper : (v : Volume) (f : Attributes → Attributes) (e : Entry) → KeepsGood f v → IsProper v.limits e
+    → IsProper v.limits (with_entry_attributes f e)
+set_proper v f e keeps proper = record {
+  name = proper.name;
+  name_fits = proper.name_fits;
+  file_fits = proper.file_fits;
+  attributes = keeps e.attributes proper.attributes;
+}
 
 entry_edge : (v : Volume) (f : Attributes → Attributes) (p : Path) (e : Entry) → IsSound v → (at : IsPlaced v p) → entry_at v p ≡ Some e
-    → OneEdge v (with_directories v (change at.home.pair at.home.name (with_entry_attributes f) v.directories)) at.home.front at.home.pair at.home.name (Some (with_entry_attributes f e))
+    → OneEdge v (with_directories v (change at.home.pair at.home.name (with_entry_attributes f) v.directories)) at.home.front at.home.pair
+    at.home.name (Some (with_entry_attributes f e))
 entry_edge v f p e sound at here = record {
   sound = sound;
   holder = at.home.above;
@@ -69,7 +76,8 @@ entry_edge v f p e sound at here = record {
   others = change_other at.home.pair at.home.name (with_entry_attributes f) v.directories (λ x. refl);
 }
 
-pub entry_set_follows : (v : Volume) (f : Attributes → Attributes) (p : Path) (e : Entry) → NamesAreOrdered → IsSound v → KeepsGood f v → (at : IsPlaced v p) → entry_at v p ≡ Some e
+pub entry_set_follows : (v : Volume) (f : Attributes → Attributes) (p : Path) (e : Entry) → NamesAreOrdered → IsSound v → KeepsGood f v
+    → (at : IsPlaced v p) → entry_at v p ≡ Some e
     → Puts v (set_attributes v f (home_of v p)) p (option_map (with_attributes f) (tree v p)) (λ b. 0) (λ b. 0)
 entry_set_follows v f p e ordered sound keeps at here =
     let k = at.home.pair in
@@ -80,10 +88,13 @@ entry_set_follows v f p e ordered sound keeps at here =
     let effect = change_effect v.limits k n (with_entry_attributes f) e v.directories ordered good at.once edge in
     let old : entry_at v (at.home.front ++ n ∷ []) ≡ Some e = ap (entry_at v) (sym at.home.whole) ∙ here in
     let alike = alike_from_targets one (ap (option_and_then target) (sym old)) in
-    let follows : Puts v (with_directories v (change k n (with_entry_attributes f) v.directories)) p (option_map (with_attributes f) (tree v p)) (λ b. 0) (λ b. 0) = record {
-      sound = edge_sound v (change k n (with_entry_attributes f) v.directories) at.home.front k n (Some (with_entry_attributes f e)) (of_entry e) (of_entry (with_entry_attributes f e)) one alike
+    let follows : Puts v (with_directories v (change k n (with_entry_attributes f) v.directories)) p
+    (option_map (with_attributes f) (tree v p)) (λ b. 0) (λ b. 0) = record {
+      sound = edge_sound v (change k n (with_entry_attributes f) v.directories) at.home.front k n (Some (with_entry_attributes f e))
+          (of_entry e) (of_entry (with_entry_attributes f e)) one alike
           effect
-          (change_good v.limits k n (with_entry_attributes f) e v.directories ordered (λ x. refl) good at.once edge (set_proper v f e keeps (proper_entry v sound k n e edge)))
+          (change_good v.limits k n (with_entry_attributes f) e v.directories ordered (λ x. refl) good at.once edge
+          (set_proper v f e keeps (proper_entry v sound k n e edge)))
           (record {
             once = λ b. omega (arith, sound.once b);
             within = λ b less. let no : ⊥ = omega arith in absurd no;
@@ -96,6 +107,8 @@ entry_set_follows v f p e ordered sound keeps at here =
       at = λ q.
           tree_after one alike q
           ∙ ap (λ (x : Path). put_at x (Some (node (with_entry_attributes f e))) (tree v) q) (sym at.home.whole)
-          ∙ ap (λ (x : Option Node). put_at p x (tree v) q) (ap Some (shows_set f e.body e.attributes) ∙ ap (λ (x : Option Entry). option_map (with_attributes f) (option_map node x)) (sym here));
+          ∙ ap (λ (x : Option Node). put_at p x (tree v) q) (ap Some (shows_set f e.body e.attributes)
+          ∙ ap (λ (x : Option Entry). option_map (with_attributes f) (option_map node x)) (sym here));
     } in
-    subst (λ (h : Option (Pair × Name)). Puts v (set_attributes v f h) p (option_map (with_attributes f) (tree v p)) (λ b. 0) (λ b. 0)) (sym at.home.home) follows
+    subst (λ (h : Option (Pair × Name)). Puts v (set_attributes v f h) p (option_map (with_attributes f) (tree v p)) (λ b. 0) (λ b. 0))
+    (sym at.home.home) follows

@@ -1,5 +1,6 @@
 -- An edit whose counts come out even leaves a sound volume.
-use Rattle.std.proofs.Common.{◌≡◌, ◌⊎◌, ℕ, ◌+◌, ◌<◌, ◌≤◌, Bool, true, false, cond, List, [], ◌∷◌, refl, sym, ◌∙◌, subst, arith, get_or, zero, suc}
+use Rattle.std.proofs.Common.{◌≡◌, ◌⊎◌, ℕ, ◌+◌, ◌<◌, ◌≤◌, Bool, true, false, cond, List, [], ◌∷◌, refl, sym, ◌∙◌, subst, arith, get_or}
+use Rattle.std.proofs.Common.{zero, suc}
 use Rattle.std.specs.Prelude.{All, Contains, sum_by, count_by}
 use Rattle.std.proofs.lemmas.Bool.Decides.{nat_tests}
 use Rattle.std.proofs.lemmas.List.{get_or_default}
@@ -22,11 +23,13 @@ use Rattle.lfs_law.proofs.Effect.{Counts, Effect, AreGood}
 pub counted : (ds : List Directory) (d : Directory) → Contains ds d → 0 < count_by (begins_at (key d)) ds
 counted ds d (i, within, is) =
     let one = get_or-le-sum_by (λ (e : Directory). cond (begins_at (key d) e) 1 0) ds i d within in
-    let this : begins_at (key d) (get_or ds i d) ≡ true = subst (λ (e : Directory). begins_at (key d) e ≡ true) (sym is) ((same_pair_decides (key d) (key d)).1 refl) in
+    let this : begins_at (key d) (get_or ds i d) ≡ true = subst (λ (e : Directory). begins_at (key d) e ≡ true) (sym is)
+    ((same_pair_decides (key d) (key d)).1 refl) in
     let is_one : cond {A = ℕ} (begins_at (key d) (get_or ds i d)) 1 0 ≡ 1 = rw this refl in
     omega arith
 
-counted_by : (t : Bool) (k : Pair) (e : Directory) (ds : List Directory) → begins_at k e ≡ t → 0 < count_by (begins_at k) (e ∷ ds) → (t ≡ true) ⊎ (0 < count_by (begins_at k) ds)
+counted_by : (t : Bool) (k : Pair) (e : Directory) (ds : List Directory) → begins_at k e ≡ t → 0 < count_by (begins_at k) (e ∷ ds)
+    → (t ≡ true) ⊎ (0 < count_by (begins_at k) ds)
 counted_by true k e ds is h = inl refl
 counted_by false k e ds is h =
     let zero : cond {A = ℕ} (begins_at k e) 1 0 ≡ 0 = rw is refl in
@@ -60,20 +63,23 @@ reached_at v w gone came sound effect even k there zero none =
     even.stay k stays (at_counted (Reached v) k v.directories sound.reached (omega arith))
 reached_at v w gone came sound effect even k there (suc n) some = even.come k (omega arith)
 
-pub sound_after : (v w : Volume) (gone came : Counts) → IsSound v → Effect gone came v.directories w.directories → AreGood w.limits w.directories
+pub sound_after : (v w : Volume) (gone came : Counts) → IsSound v → Effect gone came v.directories w.directories
+    → AreGood w.limits w.directories
     → AreAttributes w.limits.attribute w.attributes → w.count ≡ v.count → IsEven v w gone came → IsSound w
 sound_after v w gone came sound effect good attributes count even = record {
   starts = effect.starts sound.starts;
   order = good.order;
   proper = good.proper;
   root_attributes = attributes;
-  once = λ b. let after = effect.uses b in let even' = even.once b in let before : uses b v ≡ sum_by (directory_uses b) v.directories = refl in omega arith;
+  once = λ b. let after = effect.uses b in let even' = even.once b in let before : uses b v ≡ sum_by (directory_uses b) v.directories =
+      refl in omega arith;
   within = λ b used. within_by b used;
   names = λ k.
       let after = effect.names k in let dirs = effect.directories k in let before = sound.names k in let even' = even.names k in
       omega arith;
   reached = λ i d within. reached_at v w gone came sound effect even (key (get_or w.directories i d))
-      (counted w.directories (get_or w.directories i d) (i, within, get_or_default w.directories i (get_or w.directories i d) d within)) (came.directories (key (get_or w.directories i d))) refl;
+      (counted w.directories (get_or w.directories i d) (i, within, get_or_default w.directories i (get_or w.directories i d) d within))
+      (came.directories (key (get_or w.directories i d))) refl;
   settled = effect.delta ∙ sound.settled;
 }
   where
@@ -81,4 +87,5 @@ sound_after v w gone came sound effect good attributes count even = record {
     within_cases b used = let after = effect.uses b in grind (arith, nat_tests, after)
 
     within_by : (b : ℕ) → 0 < uses b w → b < w.count
-    within_by b used = subst (λ n. b < n) (sym count) (elim (within_cases b used) [ inl before ↦ sound.within b before | inr comes ↦ even.within b comes ])
+    within_by b used = subst (λ n. b < n) (sym count) (elim (within_cases b used)
+        [ inl before ↦ sound.within b before | inr comes ↦ even.within b comes ])

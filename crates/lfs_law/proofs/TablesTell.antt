@@ -20,12 +20,15 @@ pub told_so : (v : Volume) (used : List Bool) → Marks used (λ b. uses b v) �
 told_so v used marks pair = told (slice_index_or used pair.0 false) (uses pair.0 v) (marks pair.0)
 
 part_alike : (d : Disk) (f g : Pair → Bool) → ((pair : Pair) → f pair ≡ g pair) → (p : Part) → set_blocks d f p ≡ set_blocks d g p
-part_alike d f g same p = ap (λ (t : Bool). if p.dirty then (if t then p.pair.0 ∷ p.pair.1 ∷ [] else other_number d p.pair ∷ []) else []) (same p.pair)
+part_alike d f g same p = ap (λ (t : Bool). if p.dirty then (if t then p.pair.0 ∷ p.pair.1 ∷ [] else other_number d p.pair ∷ []) else [])
+    (same p.pair)
 
-links_alike : (d : Disk) (f g : Pair → Bool) → ((pair : Pair) → f pair ≡ g pair) → (ls : List Link) → links_blocks d f ls ≡ links_blocks d g ls
+links_alike : (d : Disk) (f g : Pair → Bool) → ((pair : Pair) → f pair ≡ g pair) → (ls : List Link)
+    → links_blocks d f ls ≡ links_blocks d g ls
 links_alike d f g same [] = refl
 links_alike d f g same (l ∷ ls) =
-    ap (λ (bs : List ℕ). bs ++ links_blocks d f ls) (part_alike d f g same l.part) ∙ ap (λ (bs : List ℕ). set_blocks d g l.part ++ bs) (links_alike d f g same ls)
+    ap (λ (bs : List ℕ). bs ++ links_blocks d f ls) (part_alike d f g same l.part)
+    ∙ ap (λ (bs : List ℕ). set_blocks d g l.part ++ bs) (links_alike d f g same ls)
 
 pub tables_tell_new : TablesTellNew
 tables_tell_new v used marks d bytes attributes base ls cs written = record {

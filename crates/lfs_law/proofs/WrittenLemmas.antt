@@ -1,5 +1,6 @@
 -- An image of which the parts are written that a command sets holds the edited volume.
-use Rattle.std.proofs.Common.{◌≡◌, ℕ, ◌+◌, ◌<◌, ◌≤◌, Bool, true, false, cond, ◌==◌, List, [], ◌∷◌, ◌++◌, refl, ap, sym, ◌∙◌, subst, arith, inl, inr, map, get_or}
+use Rattle.std.proofs.Common.{◌≡◌, ℕ, ◌+◌, ◌<◌, ◌≤◌, Bool, true, false, cond, ◌==◌, List, [], ◌∷◌, ◌++◌, refl, ap, sym, ◌∙◌, subst, arith}
+use Rattle.std.proofs.Common.{inl, inr, map, get_or}
 use Rattle.std.specs.Prelude.{All, Contains, sum_by, flat_map}
 use Rattle.std.proofs.lemmas.Bool.Decides.{nat_tests}
 use Rattle.std.proofs.lemmas.List.{map-append}
@@ -55,14 +56,16 @@ contains-map f (y ∷ xs) x there = elim (contains_cases y xs x there) [
 ]
 
 pub part_there : (ds : List Directory) (l : Link) → Contains (links ds) l → Contains (thread ds) l.part
-part_there ds l there = subst (λ (ps : List Part). Contains ps l.part) (parts_of_links ds) (contains-map (λ (x : Link). x.part) (links ds) l there)
+part_there ds l there = subst (λ (ps : List Part). Contains ps l.part) (parts_of_links ds)
+    (contains-map (λ (x : Link). x.part) (links ds) l there)
 
 -- ---- uses, by parts
 
 abbrev pub part_uses : ℕ → Part → ℕ
 part_uses b p = pair_uses b p + sum_by (entry_uses b) p.entries
 
-sum_parts : (b : ℕ) (ps : List Part) → sum_by (part_uses b) ps ≡ sum_by (pair_uses b) ps + sum_by (entry_uses b) (flat_map (λ p. p.entries) ps)
+sum_parts : (b : ℕ) (ps : List Part) → sum_by (part_uses b) ps ≡ sum_by (pair_uses b) ps
+    + sum_by (entry_uses b) (flat_map (λ p. p.entries) ps)
 sum_parts b [] = refl
 sum_parts b (p ∷ ps) =
     omega (
@@ -77,7 +80,14 @@ sum_parts b (p ∷ ps) =
 pub sum_thread : (b : ℕ) (ds : List Directory) → sum_by (part_uses b) (thread ds) ≡ sum_by (directory_uses b) ds
 sum_thread b [] = refl
 sum_thread b (d ∷ ds) =
-    omega (arith, ap (sum_by (part_uses b)) (flat_map-cons parts d ds), sum_by-append (part_uses b) (parts d) (thread ds), sum_parts b (parts d), sum_thread b ds, sum_by-cons (directory_uses b) d ds)
+    omega (
+      arith,
+      ap (sum_by (part_uses b)) (flat_map-cons parts d ds),
+      sum_by-append (part_uses b) (parts d) (thread ds),
+      sum_parts b (parts d),
+      sum_thread b ds,
+      sum_by-cons (directory_uses b) d ds,
+    )
 
 pub one_le : {X : Type 0} (f : X → ℕ) (xs : List X) (x : X) → Contains xs x → f x ≤ sum_by f xs
 one_le f xs x (k, within, is) =
@@ -109,13 +119,15 @@ set_apart p q set unset same = true-false (sym set ∙ ap (λ (x : Part). x.dirt
     true-false : true ≡ false → ⊥
     true-false h = cc
 
-block_stays : (d e : Disk) (v w : Volume) (held : HoldsLinks (reading_of d) v) → IsEditOf v w → Writes d e v w held → (p : Part) → Contains (thread v.directories) p → Contains (thread w.directories) p
+block_stays : (d e : Disk) (v w : Volume) (held : HoldsLinks (reading_of d) v) → IsEditOf v w → Writes d e v w held → (p : Part)
+    → Contains (thread v.directories) p → Contains (thread w.directories) p
     → p.dirty ≡ false → (b : ℕ) → 0 < part_uses b p → block_of e b ≡ block_of d b
 block_stays d e v w held edit writes p was there unset b used =
     let before : part_uses b p ≤ sum_by (part_uses b) (thread v.directories) = one_le (part_uses b) (thread v.directories) p was in
     writes.stays b (omega (arith, before, used, sum_thread b v.directories))
     (λ q set_there set.
-    let both : part_uses b q + part_uses b p ≤ sum_by (part_uses b) (thread w.directories) = two_le (part_uses b) (thread w.directories) q p set_there there (set_apart q p set unset) in
+    let both : part_uses b q + part_uses b p ≤ sum_by (part_uses b) (thread w.directories) =
+    two_le (part_uses b) (thread w.directories) q p set_there there (set_apart q p set unset) in
     omega (arith, both, used, sum_thread b w.directories, edit.new_sound.once b))
 
 pub pair_used : (p : Part) → (0 < part_uses p.pair.0 p) × (0 < part_uses p.pair.1 p)
@@ -142,14 +154,16 @@ chain_by found content d e disk (Chain blocks bytes) size count stays = λ head 
     let agree : AgreeOn blocks d e = record {
       size = sym size;
       count = sym count;
-      same = All-weaker (Contains blocks) (λ (b : ℕ). block_of d b ≡ block_of e b) (λ b there. sym (stays b (omega (arith, times_there b blocks there)))) blocks (All-contains_itself blocks);
+      same = All-weaker (Contains blocks) (λ (b : ℕ). block_of d b ≡ block_of e b)
+          (λ b there. sym (stays b (omega (arith, times_there b blocks there)))) blocks (All-contains_itself blocks);
     } in
     (found d e head len blocks disk agree is, sym (content d e len blocks agree))
 
 entry_used : (b : ℕ) (p : Part) (x : Entry) → Contains p.entries x → 0 < entry_uses b x → 0 < part_uses b p
 entry_used b p x there used = let le = one_le (entry_uses b) p.entries x there in omega (arith, le, used)
 
-part_stays : PartsDependOnTheirBlocks → FoundStay → ContentStays → (d e : Disk) (v w : Volume) (held : HoldsLinks (reading_of d) v) → IsEditOf v w → Writes d e v w held
+part_stays : PartsDependOnTheirBlocks → FoundStay → ContentStays → (d e : Disk) (v w : Volume) (held : HoldsLinks (reading_of d) v)
+    → IsEditOf v w → Writes d e v w held
     → (p : Part) → Contains (thread v.directories) p
     → Contains (thread w.directories) p → p.dirty ≡ false → PartStays (reading_of d) (reading_of e) p
 part_stays depend found content d e v w held edit writes p was there unset =
@@ -157,22 +171,34 @@ part_stays depend found content d e v w held edit writes p was there unset =
     record {
       part = sym (depend d e p.pair (sym (stays p.pair.0 (pair_used p).0), sym (stays p.pair.1 (pair_used p).1))).2;
       chains = All-weaker (Contains p.entries) (λ (x : Entry). ChainStays (reading_of d) (reading_of e) x.body)
-          (λ x inside. chain_by found content d e writes.old_disk x.body writes.size writes.count (λ b used. stays b (entry_used b p x inside used)))
+          (λ x inside. chain_by found content d e writes.old_disk x.body writes.size writes.count
+          (λ b used. stays b (entry_used b p x inside used)))
           p.entries (All-contains_itself p.entries);
     }
 
 -- ---- the links of the edited volume
 
 clean_itself : (l : Link) → l.part.dirty ≡ false → l ≡ cleaned_link l
-clean_itself l unset = ap (λ (t : Bool). record { part = record { pair = l.part.pair; entries = l.part.entries; delta = l.part.delta; dirty = t }; tail = l.tail }) unset
+clean_itself l unset = ap (λ (t : Bool). record {
+  part = record {
+    pair = l.part.pair;
+    entries = l.part.entries;
+    delta = l.part.delta;
+    dirty = t;
+  };
+  tail = l.tail;
+}) unset
 
 link_stored_by : PartsDependOnTheirBlocks → FoundStay → ContentStays → StoredLinksStay → SuperblockIsOfTheRoot
     → (d e : Disk) (v w : Volume) (held : HoldsLinks (reading_of d) v) → IsEditOf v w → Writes d e v w held
-    → (l : Link) → Contains (links w.directories) l → Contains (links v.directories) l → l.part.dirty ≡ false → IsStored (reading_of e) held.bytes w.attributes (cleaned_link l)
+    → (l : Link) → Contains (links w.directories) l → Contains (links v.directories) l → l.part.dirty ≡ false
+    → IsStored (reading_of e) held.bytes w.attributes (cleaned_link l)
 link_stored_by depend found content stay elsewhere d e v w held edit writes l there was unset =
-    let before : IsStored (reading_of d) held.bytes v.attributes l = All-contains (IsStored (reading_of d) held.bytes v.attributes) (links v.directories) l held.each was in
+    let before : IsStored (reading_of d) held.bytes v.attributes l = All-contains (IsStored (reading_of d) held.bytes v.attributes)
+    (links v.directories) l held.each was in
     let after : IsStored (reading_of e) held.bytes v.attributes l =
-    stay (reading_of d) (reading_of e) held.bytes v.attributes l (part_stays depend found content d e v w held edit writes l.part (part_there v.directories l was)
+    stay (reading_of d) (reading_of e) held.bytes v.attributes l (part_stays depend found content d e v w held edit writes l.part
+    (part_there v.directories l was)
     (part_there w.directories l there) unset) before in
     let with_attributes : IsStored (reading_of e) held.bytes w.attributes l = elim (same_pair_or_not l.part.pair root) [
       | inl is ↦ subst (λ (a : Attributes). IsStored (reading_of e) held.bytes a l) (sym (writes.attributes l there is unset)) after
@@ -180,18 +206,23 @@ link_stored_by depend found content stay elsewhere d e v w held edit writes l th
     ] in
     subst (IsStored (reading_of e) held.bytes w.attributes) (clean_itself l unset) with_attributes
 
-link_stored : PartsDependOnTheirBlocks → FoundStay → ContentStays → StoredLinksStay → SuperblockIsOfTheRoot → (d e : Disk) (v w : Volume) (held : HoldsLinks (reading_of d) v)
+link_stored : PartsDependOnTheirBlocks → FoundStay → ContentStays → StoredLinksStay → SuperblockIsOfTheRoot
+    → (d e : Disk) (v w : Volume) (held : HoldsLinks (reading_of d) v)
     → IsEditOf v w → Writes d e v w held
-    → (l : Link) → Contains (links w.directories) l → (t : Bool) → l.part.dirty ≡ t → IsStored (reading_of e) held.bytes w.attributes (cleaned_link l)
+    → (l : Link) → Contains (links w.directories) l → (t : Bool) → l.part.dirty ≡ t
+    → IsStored (reading_of e) held.bytes w.attributes (cleaned_link l)
 link_stored depend found content stay elsewhere d e v w held edit writes l there true set = writes.written l there set
-link_stored depend found content stay elsewhere d e v w held edit writes l there false unset = elim (All-contains (IsKept (links v.directories)) (links w.directories) l edit.kept there) [
-  | inl set ↦ absurd (set_apart l.part l.part set unset refl)
-  | inr was ↦ link_stored_by depend found content stay elsewhere d e v w held edit writes l there was unset
-]
+link_stored depend found content stay elsewhere d e v w held edit writes l there false unset =
+    elim (All-contains (IsKept (links v.directories)) (links w.directories) l edit.kept there) [
+      | inl set ↦ absurd (set_apart l.part l.part set unset refl)
+      | inr was ↦ link_stored_by depend found content stay elsewhere d e v w held edit writes l there was unset
+    ]
 
-clean_links_of : (p : Part) (ps : List Part) (tail : Tail) → links_of (cleaned p) (map cleaned ps) tail ≡ map cleaned_link (links_of p ps tail)
+clean_links_of : (p : Part) (ps : List Part) (tail : Tail) → links_of (cleaned p) (map cleaned ps) tail
+    ≡ map cleaned_link (links_of p ps tail)
 clean_links_of p [] tail = refl
-clean_links_of p (q ∷ ps) tail = ap (λ (ls : List Link). cleaned_link (record { part = p; tail = hard_to q.pair }) ∷ ls) (clean_links_of q ps tail)
+clean_links_of p (q ∷ ps) tail = ap (λ (ls : List Link). cleaned_link (record { part = p; tail = hard_to q.pair }) ∷ ls)
+    (clean_links_of q ps tail)
 
 clean_tail : (ds : List Directory) → tail_to (map (each_part cleaned) ds) ≡ tail_to ds
 clean_tail [] = refl
@@ -212,7 +243,8 @@ written_are_held depend found content stay elsewhere d e v w held edit writes = 
   bytes = held.bytes;
   superblock = record {
     len = held.superblock.len;
-    header = subst (λ (n : ℕ). IsHeader n w.count held.bytes) (sym edit.size) (subst (λ (n : ℕ). IsHeader v.size n held.bytes) (sym edit.count) held.superblock.header);
+    header = subst (λ (n : ℕ). IsHeader n w.count held.bytes) (sym edit.size)
+        (subst (λ (n : ℕ). IsHeader v.size n held.bytes) (sym edit.count) held.superblock.header);
     limits = edit.limits ∙ held.superblock.limits;
   };
   each = subst (All (IsStored (reading_of e) held.bytes w.attributes)) (sym (clean_links w.directories))
@@ -226,4 +258,5 @@ pub held_are_clean : HeldAreClean
 held_are_clean r v held =
     subst (All (λ (p : Part). p.dirty ≡ false)) (parts_of_links v.directories)
     (All-map (λ (p : Part). p.dirty ≡ false) (λ (l : Link). l.part) (links v.directories)
-    (All-weaker (IsStored r held.bytes v.attributes) (λ (l : Link). l.part.dirty ≡ false) (λ l stored. stored.clean) (links v.directories) held.each))
+    (All-weaker (IsStored r held.bytes v.attributes) (λ (l : Link). l.part.dirty ≡ false) (λ l stored. stored.clean)
+    (links v.directories) held.each))

@@ -38,7 +38,8 @@ OutlinesAreJudgedAlike = (v : Volume) (c : Command) → IsJudgedAlike v c
 
 -- Pairs that are enough for the parts of an outline are for those of its volume, and use the same blocks.
 pub record AreChosenAlike (chosen : Part → List Pair) (v : Volume) : Type 0 where
-  pub enough : All (HasEnough chosen (outlined v)) (thread (outlined v).directories) → All (HasEnough (for_parts chosen) v) (thread v.directories)
+  pub enough : All (HasEnough chosen (outlined v)) (thread (outlined v).directories)
+      → All (HasEnough (for_parts chosen) v) (thread v.directories)
   pub pairs : (b : ℕ) → new_pair_uses chosen (outlined v) b ≡ new_pair_uses (for_parts chosen) v b
 
 -- the law: pairs chosen for an outline are chosen for its volume

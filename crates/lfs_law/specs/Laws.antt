@@ -54,7 +54,8 @@ FewPartsChange = (v : Volume) (c : Command) (s : Supplies) → IsAccepted v c s 
 -- a command's uses of blocks: what it removes or replaces goes, its supplies and new pairs come
 abbrev pub UsesAfter : Type 0
 UsesAfter = (v : Volume) (c : Command) (s : Supplies) (chosen : Part → List Pair) → IsAccepted v c s → AreChosen v c s chosen
-    → (b : ℕ) → uses b (cut chosen (edited v c s)) + freed_uses v c b ≡ uses b v + supply_uses v c s b + new_pair_uses chosen (edited v c s) b
+    → (b : ℕ) → uses b (cut chosen (edited v c s)) + freed_uses v c b ≡ uses b v + supply_uses v c s b
+    + new_pair_uses chosen (edited v c s) b
 
 -- so the free blocks are known
 abbrev pub FreeAfter : Type 0

@@ -18,7 +18,8 @@ HasFewEntries v = All (λ p. length p.entries ≤ 65536) (thread v.directories)
 
 -- the law: what a command needs that no check refuses, those on room aside, is a number of 32 bits
 abbrev pub NeedsAreSmall : Type 0
-NeedsAreSmall = (v : Volume) (c : Command) → IsSound v → IsClean v → IsLimits v.limits → HasFewEntries v → first_refusal (checks v c) ≡ None → need v c < 2 ^ 32
+NeedsAreSmall = (v : Volume) (c : Command) → IsSound v → IsClean v → IsLimits v.limits → HasFewEntries v → first_refusal (checks v c) ≡ None
+    → need v c < 2 ^ 32
 
 -- the law: the parts of a volume that an image holds have so few entries
 abbrev pub HeldHaveFewEntries : Type 0

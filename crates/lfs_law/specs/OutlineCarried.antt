@@ -21,17 +21,20 @@ has_too_large w = list_any (is_too_large w) (dirty_parts w)
 
 -- the law: this doesn't depend on what a command gets, unless it gets the root's pair
 abbrev pub LargeIsTheSame : Type 0
-LargeIsTheSame = (v : Volume) (c : Command) (s : Supplies) → same_pair s.pair root ≡ false → has_too_large (edited v c nothing) ≡ has_too_large (edited v c s)
+LargeIsTheSame = (v : Volume) (c : Command) (s : Supplies) → same_pair s.pair root ≡ false
+    → has_too_large (edited v c nothing) ≡ has_too_large (edited v c s)
 
 -- The outline of a volume is edited and cut as the volume is, with pairs that are chosen for parts of the outline; its parts have too
 -- large an entry, and need new blocks, as the volume's have.
 pub record IsCarried (v : Volume) (c : Command) (s : Supplies) (chosen : Part → List Pair) (o : Volume) : Type 0 where
   pub after : outlined (cut (for_parts chosen) (edited v c s)) ≡ cut chosen o
-  pub enough : All (HasEnough chosen o) (thread o.directories) → All (HasEnough (for_parts chosen) (edited v c s)) (thread (edited v c s).directories)
+  pub enough : All (HasEnough chosen o) (thread o.directories) → All (HasEnough (for_parts chosen) (edited v c s))
+      (thread (edited v c s).directories)
   pub pairs : (b : ℕ) → new_pair_uses chosen o b ≡ new_pair_uses (for_parts chosen) (edited v c s) b
   pub needed : need v c ≡ data_blocks v c + directory_blocks c + sum_by (part_blocks o) (dirty_parts o)
   pub large : same_pair s.pair root ≡ false → has_too_large (edited v c nothing) ≡ has_too_large o
 
 -- the law: so it is on the edited outline
 abbrev pub OutlinesAreCarried : Type 0
-OutlinesAreCarried = (v : Volume) (c : Command) (s : Supplies) (chosen : Part → List Pair) → IsCarried v c s chosen (edited_outline (outlined v) c s)
+OutlinesAreCarried = (v : Volume) (c : Command) (s : Supplies) (chosen : Part → List Pair)
+    → IsCarried v c s chosen (edited_outline (outlined v) c s)

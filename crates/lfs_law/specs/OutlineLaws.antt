@@ -60,10 +60,12 @@ pub record WritesOutline (d : Disk) (v w : Volume) (held : HoldsLinks (reading_o
   pub stands : AgreesOld p d
   pub unused : (n : ℕ) → 0 < uses n v → times n (changed_blocks base) ≡ 0
   pub written : AreWritten d held.bytes w.attributes is_new base (links (outlined w).directories) p.changes
-  pub there : (l : Link) → Contains (links w.directories) l → (e : Entry) → Contains l.part.entries e → IsThere (reading_of (applied p d)) e.body
+  pub there : (l : Link) → Contains (links w.directories) l → (e : Entry) → Contains l.part.entries e
+      → IsThere (reading_of (applied p d)) e.body
   pub attributes : (l : Link) → Contains (links w.directories) l → l.part.pair ≡ root → l.part.dirty ≡ false → w.attributes ≡ v.attributes
 
 -- the law: where an outline is written so, the volume is
 abbrev pub OutlinesAreWritten : Type 0
-OutlinesAreWritten = (d : Disk) (v w : Volume) (held : HoldsLinks (reading_of d) v) (is_new : Pair → Bool) (base : List Change) (p : ChangeSet)
+OutlinesAreWritten = (d : Disk) (v w : Volume) (held : HoldsLinks (reading_of d) v) (is_new : Pair → Bool) (base : List Change)
+    (p : ChangeSet)
     → WritesOutline d v w held is_new base p → Writes d (applied p d) v w held

@@ -23,7 +23,8 @@ name_in ds s = option_map (λ (k : Pair). (k, s.1)) (pair_at ds root s.0)
 -- Walks go by pairs: which directory a path leads to, what stands at its last name, and where that belongs to.
 pub record GoByPairs (v : Volume) : Type 0 where
   pub leads : (path : Path) → option_and_then target (entry_at v path) ≡ pair_at v.directories root path
-  pub last : (path : Path) (n : Name) → entry_at v (path ++ n ∷ []) ≡ option_and_then (λ k. entry_in v.directories k n) (pair_at v.directories root path)
+  pub last : (path : Path) (n : Name) → entry_at v (path ++ n ∷ []) ≡ option_and_then (λ k. entry_in v.directories k n)
+      (pair_at v.directories root path)
   pub home : (path : Path) → home_of v path ≡ option_and_then (name_in v.directories) (split_last path)
 
 -- the law: they do

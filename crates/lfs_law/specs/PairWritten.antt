@@ -54,7 +54,8 @@ pub record IsLinkStored (bytes : List ℕ) (attributes : Attributes) (l : Link) 
 
 -- Links can be written behind changes: those that are set may be written, where no two of them, nor a change, use one block. A new
 -- pair has no share of the global state.
-pub record CanBeAdded (d : Disk) (bytes : List ℕ) (attributes : Attributes) (is_new : Pair → Bool) (old : List Change) (ls : List Link) : Type 0 where
+pub record CanBeAdded (d : Disk) (bytes : List ℕ) (attributes : Attributes) (is_new : Pair → Bool) (old : List Change)
+    (ls : List Link) : Type 0 where
   pub rising : IsRising old
   pub made : AllByRecursion (CanBeMade d) old
   pub once : (n : ℕ) → times n (changed_blocks old) + set_uses n ls ≤ 1

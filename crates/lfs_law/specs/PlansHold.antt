@@ -1,5 +1,6 @@
 -- What a written outline of an accepted command leaves, and which blocks it is written to (own).
-use Rattle.std.specs.Prelude.{◌≡◌, ℕ, ◌+◌, ◌<◌, ◌≤◌, ◌==◌, ◌&&◌, not, nat_le, Bool, false, List, [], All, Contains, if◌then◌else◌, length, map, take, slice_index_or}
+use Rattle.std.specs.Prelude.{◌≡◌, ℕ, ◌+◌, ◌<◌, ◌≤◌, ◌==◌, ◌&&◌, not, nat_le, Bool, false, List, [], All, Contains, if◌then◌else◌, length}
+use Rattle.std.specs.Prelude.{map, take, slice_index_or}
 use Rattle.std.specs.List.{filter}
 use Rattle.lfs_block.specs.Change.{Change}
 use Rattle.lfs_block.specs.Disk.{Disk}
@@ -77,7 +78,8 @@ BlocksAreWrittenOnce = (v : Volume) (c : Command) (s : Supplies) (chosen : Part 
 
 -- the law: what is written are the blocks that the command takes, and one of each pair of the volume whose part it sets
 abbrev pub BlocksAreTaken : Type 0
-BlocksAreTaken = (d : Disk) (v : Volume) (c : Command) (s : Supplies) (chosen : Part → List Pair) → IsAccepted v c s → AreChosen v c s chosen
+BlocksAreTaken = (d : Disk) (v : Volume) (c : Command) (s : Supplies) (chosen : Part → List Pair) → IsAccepted v c s
+    → AreChosen v c s chosen
     → (n : ℕ) → times n (content_blocks v c s) + times n (links_blocks d (is_new_to v) (links (cut chosen (edited v c s)).directories))
     ≡ supply_uses v c s n + new_pair_uses chosen (edited v c s) n + times n (rewritten_blocks d v (edited v c s))
 
@@ -90,7 +92,8 @@ LeastAreFree = (v : Volume) (c : Command) (s : Supplies) (chosen : Part → List
 
 -- the law: the parts that are rewritten are those that are changed, where the pair of the supplies is none of the volume's
 abbrev pub RewrittenAreChanged : Type 0
-RewrittenAreChanged = (v : Volume) (c : Command) (s : Supplies) → IsAccepted v c s → All (λ p. same_pair p.pair s.pair ≡ false) (thread v.directories)
+RewrittenAreChanged = (v : Volume) (c : Command) (s : Supplies) → IsAccepted v c s
+    → All (λ p. same_pair p.pair s.pair ≡ false) (thread v.directories)
     → rewritten_parts v (edited v c s) ≡ changed_parts s (edited v c s)
 
 -- The blocks that are changed: the least free ones, as many as the command needs, and one of the pair of each part that it rewrites.

@@ -37,7 +37,8 @@ pub record WritesCommand (d : Disk) (v : Volume) (held : HoldsLinks (reading_of 
   pub patch : IsPatch p
   pub stands : AgreesOld p d
   pub contents : changed_blocks base ≡ content_blocks v c s
-  pub written : AreWritten d held.bytes (cut chosen (edited v c s)).attributes is_new base (links (outlined (cut chosen (edited v c s))).directories) p.changes
+  pub written : AreWritten d held.bytes (cut chosen (edited v c s)).attributes is_new base
+      (links (outlined (cut chosen (edited v c s))).directories) p.changes
   pub there : NewIsThere (reading_of (applied p d)) v c s
 
 -- the law: for an accepted command nothing else is to be shown
@@ -67,5 +68,6 @@ abbrev pub LaidAreThere : Type 0
 LaidAreThere = (d : Disk) (v : Volume) (held : HoldsLinks (reading_of d) v) (c : Command) (s : Supplies)
     (chosen : Part → List Pair) (is_new : Pair → Bool) (base : List Change) (p : ChangeSet)
     → IsDisk d → IsPatch p → AgreesOld p d → AreFree v c s → changed_blocks base ≡ content_blocks v c s → LaysNew d v c s base
-    → AreWritten d held.bytes (cut chosen (edited v c s)).attributes is_new base (links (outlined (cut chosen (edited v c s))).directories) p.changes
+    → AreWritten d held.bytes (cut chosen (edited v c s)).attributes is_new base
+    (links (outlined (cut chosen (edited v c s))).directories) p.changes
     → NewIsThere (reading_of (applied p d)) v c s

@@ -24,8 +24,10 @@ pub record Writes (d e : Disk) (v w : Volume) (held : HoldsLinks (reading_of d) 
   pub new_disk : IsDisk e
   pub size : e.size ≡ d.size
   pub count : e.count ≡ d.count
-  pub stays : (b : ℕ) → 0 < uses b v → ((p : Part) → Contains (thread w.directories) p → p.dirty ≡ true → pair_uses b p ≡ 0) → block_of e b ≡ block_of d b
-  pub written : (l : Link) → Contains (links w.directories) l → l.part.dirty ≡ true → IsStored (reading_of e) held.bytes w.attributes (cleaned_link l)
+  pub stays : (b : ℕ) → 0 < uses b v → ((p : Part) → Contains (thread w.directories) p → p.dirty ≡ true → pair_uses b p ≡ 0)
+      → block_of e b ≡ block_of d b
+  pub written : (l : Link) → Contains (links w.directories) l → l.part.dirty ≡ true
+      → IsStored (reading_of e) held.bytes w.attributes (cleaned_link l)
   pub attributes : (l : Link) → Contains (links w.directories) l → l.part.pair ≡ root → l.part.dirty ≡ false → w.attributes ≡ v.attributes
 
 -- w is a sound volume of the same size, count and limits, all of whose parts are set or were in v
@@ -39,7 +41,8 @@ pub record IsEditOf (v w : Volume) : Type 0 where
 
 -- the law: then the new image holds the edited volume
 abbrev pub WrittenAreHeld : Type 0
-WrittenAreHeld = (d e : Disk) (v w : Volume) (held : HoldsLinks (reading_of d) v) → IsEditOf v w → Writes d e v w held → HoldsLinks (reading_of e) (clean w)
+WrittenAreHeld = (d e : Disk) (v w : Volume) (held : HoldsLinks (reading_of d) v) → IsEditOf v w → Writes d e v w held
+    → HoldsLinks (reading_of e) (clean w)
 
 -- the law: a volume that an image holds has no marks
 abbrev pub HeldAreClean : Type 0

@@ -1,5 +1,6 @@
 -- Links of an outline as they are written: changes of an image, one after another (own).
-use Rattle.std.specs.Prelude.{ℕ, ◌≡◌, ◌≢◌, ◌<◌, ◌≤◌, ◌+◌, Bool, true, List, [], ◌∷◌, Option, Some, if◌then◌else◌, length, map, flat_map, sum_by, Contains}
+use Rattle.std.specs.Prelude.{ℕ, ◌≡◌, ◌≢◌, ◌<◌, ◌≤◌, ◌+◌, Bool, true, List, [], ◌∷◌, Option, Some, if◌then◌else◌, length, map, flat_map}
+use Rattle.std.specs.Prelude.{sum_by, Contains}
 use Rattle.std.specs.List.{AllByRecursion}
 use Rattle.lfs_block.specs.Disk.{Disk, block_of}
 use Rattle.lfs_block.specs.Change.{Change, IsRising, IsBlockChange, overlaid}
@@ -92,7 +93,8 @@ abbrev pub link_part : List ℕ → Attributes → Link → List ℕ → StoredP
 link_part bytes attributes l delta = stored_part (stored_entries bytes attributes l.part) l.tail delta
 
 -- the same of a link's pair and the part that it is to hold
-pub record AddsLink (d : Disk) (bytes : List ℕ) (attributes : Attributes) (is_new : Pair → Bool) (l : Link) (old new : List Change) : Type 0 where
+pub record AddsLink (d : Disk) (bytes : List ℕ) (attributes : Attributes) (is_new : Pair → Bool) (l : Link)
+    (old new : List Change) : Type 0 where
   pub delta : List ℕ
   pub delta_is : little_endian delta ≡ l.part.delta
   pub adds : AddsPart d l.part.pair (written_blocks d is_new l.part.pair) (link_part bytes attributes l delta) old new

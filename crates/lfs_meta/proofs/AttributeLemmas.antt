@@ -1,5 +1,6 @@
 -- An element put at its place among others that rise by a key.
-use Rattle.std.proofs.Common.{◌≡◌, ◌≢◌, ℕ, ◌<◌, ◌≤◌, ◌==◌, Bool, true, false, List, [], ◌∷◌, length, refl, ap, ◌∙◌, arith, suc, zero, nat_lt, inl, inr}
+use Rattle.std.proofs.Common.{◌≡◌, ◌≢◌, ℕ, ◌<◌, ◌≤◌, ◌==◌, Bool, true, false, List, [], ◌∷◌, length, refl, ap, ◌∙◌, arith, suc, zero}
+use Rattle.std.proofs.Common.{nat_lt, inl, inr}
 use Rattle.std.specs.Prelude.{insert, slice_set, slice_index_or}
 use Rattle.std.specs.List.{prefix_len}
 use Rattle.std.proofs.lemmas.Bool.{cases_lt, cases_order}
@@ -61,7 +62,8 @@ put_by-new key new [] (suc at) is free = absurd (omega (arith, is))
 put_by-new key new (a ∷ xs) zero is free = elim (cases_order (key a) (key new)) [
   | inl same ↦ absurd (free (omega arith) a same)
   | inr other ↦ elim other [
-    | inl less ↦ let e : place key (key new) (a ∷ xs) ≡ suc (place key (key new) xs) = place_lesser key (key new) a xs less in absurd (omega (arith, is, e))
+    | inl less ↦ let e : place key (key new) (a ∷ xs) ≡ suc (place key (key new) xs) = place_lesser key (key new) a xs less in
+        absurd (omega (arith, is, e))
     | inr more ↦ put_greater key new a xs more
   ]
 ]

@@ -1,5 +1,6 @@
 -- The loop of `cut`: what is left of the entries decides the lengths of the runs.
-use Rattle.std.proofs.Common.{◌≡◌, ℕ, ◌+◌, ◌<◌, ◌≤◌, Bool, true, false, List, [], ◌∷◌, ◌++◌, length, map, drop, get_or, refl, ap, sym, subst, ◌∙◌, arith, append_assoc}
+use Rattle.std.proofs.Common.{◌≡◌, ℕ, ◌+◌, ◌<◌, ◌≤◌, Bool, true, false, List, [], ◌∷◌, ◌++◌, length, map, drop, get_or, refl, ap, sym}
+use Rattle.std.proofs.Common.{subst, ◌∙◌, arith, append_assoc}
 use Rattle.std.specs.Prelude.{if◌then◌else◌}
 use Rattle.std.proofs.lemmas.Bool.Decides.{nat_tests}
 use Rattle.std.proofs.lemmas.List.{drop_more, drop_all}
@@ -22,7 +23,8 @@ pub record IsCutTo (room : ℕ) (all left : List StoredEntry) (lengths : List �
   pub light : taken ≤ 330244
   pub few : len ≤ 1000
 
-onto_lengths : (e : StoredEntry) (runs : List (List StoredEntry)) → 1 ≤ length runs → map (λ run. length run) (onto e runs) ≡ with_more 1 (map (λ run. length run) runs)
+onto_lengths : (e : StoredEntry) (runs : List (List StoredEntry)) → 1 ≤ length runs
+    → map (λ run. length run) (onto e runs) ≡ with_more 1 (map (λ run. length run) runs)
 unfolding onto
 onto_lengths e [] h = let no : ⊥ = omega arith in absurd no
 onto_lengths e (run ∷ runs) h = ap (λ n. n ∷ map (λ (x : List StoredEntry). length x) runs) (omega arith)
@@ -39,25 +41,29 @@ pub first : (room : ℕ) (all : List StoredEntry) → IsCutTo room all all [] 0 
 first room all = record { whole = sym (none_more (run_lengths room 0 0 all)); light = omega arith; few = omega arith }
 
 step_by : (room taken len : ℕ) (e : StoredEntry) (es : List StoredEntry) (t : Bool) → run_takes room taken len (weight e) ≡ t
-    → run_lengths room taken len (e ∷ es) ≡ (if t then with_more 1 (run_lengths room (taken + weight e) (len + 1) es) else 0 ∷ with_more 1 (run_lengths room (weight e) 1 es))
+    → run_lengths room taken len (e ∷ es) ≡ (if t then with_more 1 (run_lengths room (taken + weight e) (len + 1) es) else 0
+    ∷ with_more 1 (run_lengths room (weight e) 1 es))
 unfolding runs_after
 step_by room taken len e es true is =
     rw is (onto_lengths e (runs_after weight room (taken + weight e) (len + 1) es) (some_run weight room (taken + weight e) (len + 1) es))
 step_by room taken len e es false is =
     rw is (ap (λ (ns : List ℕ). 0 ∷ ns) (onto_lengths e (runs_after weight room (weight e) 1 es) (some_run weight room (weight e) 1 es)))
 
-pub taken_more : (room : ℕ) (all : List StoredEntry) (e : StoredEntry) (left : List StoredEntry) (lengths : List ℕ) (taken len : ℕ) → room ≤ 65536 → run_takes room taken len (weight e) ≡ true
+pub taken_more : (room : ℕ) (all : List StoredEntry) (e : StoredEntry) (left : List StoredEntry) (lengths : List ℕ) (taken len : ℕ)
+    → room ≤ 65536 → run_takes room taken len (weight e) ≡ true
     → IsCutTo room all (e ∷ left) lengths taken len → IsCutTo room all left lengths (taken + weight e) (len + 1)
 taken_more room all e left lengths taken len small full h =
     let fits : taken + weight e ≤ room = grind (arith, nat_tests) in
     let few : len < 1000 = grind (arith, nat_tests) in
     record {
-      whole = h.whole ∙ ap (λ (ns : List ℕ). lengths ++ with_more len ns) (step_by room taken len e left true full) ∙ ap (λ (ns : List ℕ). lengths ++ ns) (more_twice len (run_lengths room (taken + weight e) (len + 1) left));
+      whole = h.whole ∙ ap (λ (ns : List ℕ). lengths ++ with_more len ns) (step_by room taken len e left true full)
+          ∙ ap (λ (ns : List ℕ). lengths ++ ns) (more_twice len (run_lengths room (taken + weight e) (len + 1) left));
       light = omega (arith, fits, small);
       few = omega (arith, few);
     }
 
-pub left_more : (room : ℕ) (all : List StoredEntry) (e : StoredEntry) (left : List StoredEntry) (lengths : List ℕ) (taken len : ℕ) → weight e ≤ 264708 → (run_takes room taken len (weight e) ≡ false)
+pub left_more : (room : ℕ) (all : List StoredEntry) (e : StoredEntry) (left : List StoredEntry) (lengths : List ℕ) (taken len : ℕ)
+    → weight e ≤ 264708 → (run_takes room taken len (weight e) ≡ false)
     → IsCutTo room all (e ∷ left) lengths taken len → IsCutTo room all left (lengths ++ len ∷ []) (weight e) 1
 left_more room all e left lengths taken len small full h = record {
   whole =
@@ -68,7 +74,8 @@ left_more room all e left lengths taken len small full h = record {
   few = omega arith;
 }
 
-pub all_cut : (room : ℕ) (all : List StoredEntry) (lengths : List ℕ) (taken len : ℕ) → IsCutTo room all [] lengths taken len → lengths ++ len ∷ [] ≡ run_lengths room 0 0 all
+pub all_cut : (room : ℕ) (all : List StoredEntry) (lengths : List ℕ) (taken len : ℕ) → IsCutTo room all [] lengths taken len
+    → lengths ++ len ∷ [] ≡ run_lengths room 0 0 all
 unfolding runs_after
 all_cut room all lengths taken len h = sym (h.whole ∙ ap (λ (n : ℕ). lengths ++ n ∷ []) (omega arith))
 
@@ -76,20 +83,25 @@ all_cut room all lengths taken len h = sym (h.whole ∙ ap (λ (n : ℕ). length
 next_entry : (all : List StoredEntry) (i : ℕ) (e : StoredEntry) → i < length all → e ≡ get_or all i e → drop i all ≡ e ∷ drop (i + 1) all
 next_entry all i e within is = drop_more all i e within ∙ ap (λ (x : StoredEntry). x ∷ drop (i + 1) all) (sym is)
 
-pub taken_next : (room : ℕ) (all : List StoredEntry) (i : ℕ) (e : StoredEntry) (w : ℕ) (lengths : List ℕ) (taken len : ℕ) → i < length all → e ≡ get_or all i e → w ≡ weight e → room ≤ 65536 → run_takes room taken len w ≡ true
+pub taken_next : (room : ℕ) (all : List StoredEntry) (i : ℕ) (e : StoredEntry) (w : ℕ) (lengths : List ℕ) (taken len : ℕ) → i < length all
+    → e ≡ get_or all i e → w ≡ weight e → room ≤ 65536 → run_takes room taken len w ≡ true
     → IsCutTo room all (drop i all) lengths taken len → IsCutTo room all (drop (i + 1) all) lengths (taken + w) (len + 1)
 taken_next room all i e w lengths taken len within is weighs small full h =
     rw weighs (taken_more room all e (drop (i + 1) all) lengths taken len small (ap (run_takes room taken len) (sym weighs) ∙ full)
     (subst (λ (left : List StoredEntry). IsCutTo room all left lengths taken len) (next_entry all i e within is) h))
 
-pub left_next : (room : ℕ) (all : List StoredEntry) (i : ℕ) (e : StoredEntry) (w : ℕ) (lengths : List ℕ) (taken len : ℕ) → i < length all → e ≡ get_or all i e → w ≡ weight e → w ≤ 264708 → run_takes room taken len w ≡ false
+pub left_next : (room : ℕ) (all : List StoredEntry) (i : ℕ) (e : StoredEntry) (w : ℕ) (lengths : List ℕ) (taken len : ℕ) → i < length all
+    → e ≡ get_or all i e → w ≡ weight e → w ≤ 264708 → run_takes room taken len w ≡ false
     → IsCutTo room all (drop i all) lengths taken len → IsCutTo room all (drop (i + 1) all) (lengths ++ len ∷ []) w 1
 left_next room all i e w lengths taken len within is weighs small full h =
-    rw weighs (left_more room all e (drop (i + 1) all) lengths taken len (omega (arith, weighs, small)) (ap (run_takes room taken len) (sym weighs) ∙ full)
+    rw weighs (left_more room all e (drop (i + 1) all) lengths taken len (omega (arith, weighs, small))
+    (ap (run_takes room taken len) (sym weighs) ∙ full)
     (subst (λ (left : List StoredEntry). IsCutTo room all left lengths taken len) (next_entry all i e within is) h))
 
-pub cut_whole : (room : ℕ) (all : List StoredEntry) (i : ℕ) (lengths : List ℕ) (taken len : ℕ) → length all ≤ i → IsCutTo room all (drop i all) lengths taken len → lengths ++ len ∷ [] ≡ run_lengths room 0 0 all
-cut_whole room all i lengths taken len past h = all_cut room all lengths taken len (subst (λ (left : List StoredEntry). IsCutTo room all left lengths taken len) (drop_all i all past) h)
+pub cut_whole : (room : ℕ) (all : List StoredEntry) (i : ℕ) (lengths : List ℕ) (taken len : ℕ) → length all ≤ i
+    → IsCutTo room all (drop i all) lengths taken len → lengths ++ len ∷ [] ≡ run_lengths room 0 0 all
+cut_whole room all i lengths taken len past h = all_cut room all lengths taken len
+    (subst (λ (left : List StoredEntry). IsCutTo room all left lengths taken len) (drop_all i all past) h)
 
 -- a length that was pushed
 pub pushed : (ok : Bool) (old new : List ℕ) (n : ℕ) → true ≡ ok → new ≡ (if ok then old ++ n ∷ [] else old) → new ≡ old ++ n ∷ []

@@ -1,5 +1,6 @@
 -- Edits added one after another.
-use Rattle.std.proofs.Common.{◌≡◌, ◌≢◌, ℕ, ◌+◌, ◌/◌, ◌<◌, ◌==◌, false, List, [], ◌∷◌, ◌++◌, length, map, take, refl, ap, sym, ◌∙◌, arith, get_or, append_assoc, append-nil}
+use Rattle.std.proofs.Common.{◌≡◌, ◌≢◌, ℕ, ◌+◌, ◌/◌, ◌<◌, ◌==◌, false, List, [], ◌∷◌, ◌++◌, length, map, take, refl, ap, sym, ◌∙◌, arith}
+use Rattle.std.proofs.Common.{get_or, append_assoc, append-nil}
 use Rattle.std.proofs.lemmas.Bool.Decides.{nat_tests}
 use Rattle.std.proofs.lemmas.List.{map-append, take_more, length-take}
 use Rattle.lfs_tag.specs.declared.edit.Edit.{Edit}
@@ -46,4 +47,5 @@ pub entries_tags-more : (es : List StoredEntry) (i : ℕ) (d : StoredEntry) (ts 
 entries_tags-more es i d ts within =
     append_assoc ts (entries_tags 0 (take i es)) (entry_tags i (get_or es i d))
     ∙ ap (λ (us : List Item). ts ++ us)
-    (sym (ap (entries_tags 0) (take_more es i d within) ∙ entries_tags-push 0 (take i es) (get_or es i d) i (omega (arith, length-take i es))))
+    (sym (ap (entries_tags 0) (take_more es i d within) ∙ entries_tags-push 0 (take i es) (get_or es i d) i
+    (omega (arith, length-take i es))))

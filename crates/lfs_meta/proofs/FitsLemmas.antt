@@ -11,7 +11,8 @@ use Rattle.lfs_meta.specs.Weighing.{attributes_weight}
 rising_weight : (least room : ℕ) (xs : Attributes) → RiseFrom least xs → least + room ≡ 256 → attributes_weight xs ≤ room * 1026
 rising_weight least room [] rise e = omega arith
 rising_weight least room (a ∷ xs) rise e =
-    let more : attributes_weight xs ≤ (256 - (a.0 + 1)) * 1026 = rising_weight (a.0 + 1) (256 - (a.0 + 1)) xs rise.2 (omega (arith, rise.1.kind)) in
+    let more : attributes_weight xs ≤ (256 - (a.0 + 1)) * 1026 = rising_weight (a.0 + 1) (256 - (a.0 + 1)) xs rise.2
+    (omega (arith, rise.1.kind)) in
     omega (arith, more, rise.0, rise.1.kind, rise.1.value, sum_by-cons (λ (b : ℕ × List ℕ). 4 + length b.1) a xs)
 
 pub attributes_weight-small : (xs : Attributes) → RiseFrom 0 xs → attributes_weight xs ≤ 262656

@@ -11,6 +11,7 @@ use Rattle.lfs_meta.specs.Laws.{SameBlocks}
 pub same_parts : (d e : Disk) (pair : Pair) → SameBlocks d e pair
     → (tags_of d pair ≡ tags_of e pair) × (part_of d pair ≡ part_of e pair) × (stored_part_of d pair ≡ stored_part_of e pair)
 same_parts d e pair same =
-    let tags : tags_of d pair ≡ tags_of e pair = ap (λ b. live_tags b (block_of d pair.1)) same.0 ∙ ap (live_tags (block_of e pair.0)) same.1 in
+    let tags : tags_of d pair ≡ tags_of e pair = ap (λ b. live_tags b (block_of d pair.1)) same.0
+    ∙ ap (live_tags (block_of e pair.0)) same.1 in
     let part : part_of d pair ≡ part_of e pair = ap (option_and_then replay) tags in
     (tags, part, ap (option_and_then whole_part) part)

@@ -28,9 +28,16 @@ block_few : LogTagsAreFew → (d : Disk) (n : ℕ) (log : LogSeen) (tags : List 
 block_few few d n log tags disk is read =
     let block : List ℕ = block_of d n in
     let same : (log_seen block).tags ≡ tags = sym (ap (λ (l : LogSeen). l.tags) is) ∙ same_tags log tags read in
-    omega (arith, few block (block_bytes d n disk), ap length same, length-take d.size (drop (n * d.size) d.bytes), disk.geometry.size_fits.1)
+    omega (
+      arith,
+      few block (block_bytes d n disk),
+      ap length same,
+      length-take d.size (drop (n * d.size) d.bytes),
+      disk.geometry.size_fits.1,
+    )
 
-live_few : LogTagsAreFew → (d : Disk) (pair : Pair) (live : LiveBlock) (tags : List Item) → IsDisk d → IsLive live (block_of d pair.0) (block_of d pair.1)
+live_few : LogTagsAreFew → (d : Disk) (pair : Pair) (live : LiveBlock) (tags : List Item) → IsDisk d
+    → IsLive live (block_of d pair.0) (block_of d pair.1)
     → option_map (λ log. log.tags) (live_log live) ≡ Some tags → 4 * length tags ≤ 65536
 live_few few d pair (First log) tags disk read is = block_few few d pair.0 log tags disk read.0 is
 live_few few d pair (Second log) tags disk read is = block_few few d pair.1 log tags disk read.0 is
@@ -41,7 +48,8 @@ live_few few d pair Neither tags disk read is = cc
 all_whole-length : (es : List RawEntry) (ws : List StoredEntry) → all_whole es ≡ Some ws → length ws ≡ length es
 all_whole-length [] ws all = let none : [] ≡ ws = cc in sym (ap length none)
 all_whole-length (e ∷ es) ws all =
-    let (w, first, rest) = and_then-split (λ (v : StoredEntry). option_map (λ (vs : List StoredEntry). v ∷ vs) (all_whole es)) (whole e) ws all in
+    let (w, first, rest) = and_then-split (λ (v : StoredEntry). option_map (λ (vs : List StoredEntry). v ∷ vs) (all_whole es))
+    (whole e) ws all in
     let (vs, more, is) = map-split (λ (vs : List StoredEntry). w ∷ vs) (all_whole es) ws rest in
     omega (arith, all_whole-length es vs more, ap length is)
 
@@ -49,12 +57,14 @@ all_whole-length (e ∷ es) ws all =
 
 part-length : (p : RawPart) (s : StoredPart) → whole_part p ≡ Some s → length s.entries ≡ length p.entries
 part-length p s is =
-    let (ws, all, same) = map-split (λ (es : List StoredEntry). let q : StoredPart = record { entries = es; tail = p.tail; delta = p.delta } in q) (all_whole p.entries) s is in
+    let (ws, all, same) = map-split (λ (es : List StoredEntry). let q : StoredPart =
+    record { entries = es; tail = p.tail; delta = p.delta } in q) (all_whole p.entries) s is in
     sym (ap (λ (q : StoredPart). length q.entries) same) ∙ all_whole-length p.entries ws all
 
 pub held_parts_few : LogTagsAreFew → HeldPartsHaveFewEntries
 held_parts_few few d pair s disk is =
     let (p, there, whole_is) = and_then-split whole_part (option_and_then replay (tags_of d pair)) s is in
     let (tags, tags_are, replayed) = and_then-split replay (tags_of d pair) p there in
-    let count : 4 * length tags ≤ 65536 = live_few few d pair (live_block (block_of d pair.0) (block_of d pair.1)) tags disk (live-read (block_of d pair.0) (block_of d pair.1)) tags_are in
+    let count : 4 * length tags ≤ 65536 = live_few few d pair (live_block (block_of d pair.0) (block_of d pair.1)) tags disk
+    (live-read (block_of d pair.0) (block_of d pair.1)) tags_are in
     omega (arith, count, replay-few tags p replayed, part-length p s whole_is)

@@ -1,5 +1,6 @@
 -- The entries of a part that a pair holds are whole, and their attributes rise.
-use Rattle.std.proofs.Common.{◌≡◌, ℕ, ◌+◌, ◌*◌, ◌<◌, ◌≤◌, Bool, true, false, ◌&&◌, List, [], ◌∷◌, length, take, drop, refl, ap, sym, ◌∙◌, subst, arith, Option, Some, None, zero, suc, if◌then◌else◌}
+use Rattle.std.proofs.Common.{◌≡◌, ℕ, ◌+◌, ◌*◌, ◌<◌, ◌≤◌, Bool, true, false, ◌&&◌, List, [], ◌∷◌, length, take, drop, refl, ap, sym, ◌∙◌}
+use Rattle.std.proofs.Common.{subst, arith, Option, Some, None, zero, suc, if◌then◌else◌}
 use Rattle.std.specs.Prelude.{All, option_and_then, option_map}
 use Rattle.std.specs.List.{AllByRecursion}
 use Rattle.std.proofs.Math.Nat.{mul-le-mul_right}
@@ -65,15 +66,21 @@ block_items logs items d n log tags disk below is same =
 pub same_tags : (log : LogSeen) (tags : List Item) → ◌≡◌ {A = Option (List Item)} (Some log.tags) (Some tags) → log.tags ≡ tags
 same_tags log tags is = cc
 
-live_items : BlocksHaveALog → LogTagsAreItems → (d : Disk) (pair : Pair) (live : LiveBlock) (tags : List Item) → IsDisk d → pair.0 < d.count → pair.1 < d.count
-    → IsLive live (block_of d pair.0) (block_of d pair.1) → option_map (λ log. log.tags) (live_log live) ≡ Some tags → AllByRecursion IsItem tags
-live_items logs items d pair (First log) tags disk first second read is = block_items logs items d pair.0 log tags disk first read.0 (same_tags log tags is)
-live_items logs items d pair (Second log) tags disk first second read is = block_items logs items d pair.1 log tags disk second read.0 (same_tags log tags is)
+live_items : BlocksHaveALog → LogTagsAreItems → (d : Disk) (pair : Pair) (live : LiveBlock) (tags : List Item) → IsDisk d → pair.0 < d.count
+    → pair.1 < d.count
+    → IsLive live (block_of d pair.0) (block_of d pair.1) → option_map (λ log. log.tags) (live_log live) ≡ Some tags
+    → AllByRecursion IsItem tags
+live_items logs items d pair (First log) tags disk first second read is =
+    block_items logs items d pair.0 log tags disk first read.0 (same_tags log tags is)
+live_items logs items d pair (Second log) tags disk first second read is =
+    block_items logs items d pair.1 log tags disk second read.0 (same_tags log tags is)
 live_items logs items d pair Neither tags disk first second read is = cc
 
-items_of : BlocksHaveALog → LogTagsAreItems → (d : Disk) (pair : Pair) (tags : List Item) → IsDisk d → pair.0 < d.count → pair.1 < d.count → tags_of d pair ≡ Some tags → AllByRecursion IsItem tags
+items_of : BlocksHaveALog → LogTagsAreItems → (d : Disk) (pair : Pair) (tags : List Item) → IsDisk d → pair.0 < d.count → pair.1 < d.count
+    → tags_of d pair ≡ Some tags → AllByRecursion IsItem tags
 items_of logs items d pair tags disk first second is =
-    live_items logs items d pair (live_block (block_of d pair.0) (block_of d pair.1)) tags disk first second (live-read (block_of d pair.0) (block_of d pair.1)) is
+    live_items logs items d pair (live_block (block_of d pair.0) (block_of d pair.1)) tags disk first second
+    (live-read (block_of d pair.0) (block_of d pair.1)) is
 
 -- ---- entries
 
@@ -82,17 +89,20 @@ when_both true true x w e = (cc, refl, refl)
 when_both true false x w e = cc
 when_both false q x w e = cc
 
-held_by : (n : Option (Kind × Name)) (b : Option StoredBody) (attributes : Attributes) (w : StoredEntry) → RiseFrom 0 attributes → whole_by n b attributes ≡ Some w → IsHeldEntry w
+held_by : (n : Option (Kind × Name)) (b : Option StoredBody) (attributes : Attributes) (w : StoredEntry) → RiseFrom 0 attributes
+    → whole_by n b attributes ≡ Some w → IsHeldEntry w
 held_by None b attributes w rise is = cc
 held_by (Some n) None attributes w rise is = cc
 held_by (Some n) (Some b) attributes w rise is =
     let x : StoredEntry = record { kind = n.0; name = n.1; body = b; attributes = attributes } in
-    let both : (x ≡ w) × (kind_takes_body n.0 b ≡ true) × (kind_takes_name n.0 n.1 ≡ true) = when_both (kind_takes_body n.0 b) (kind_takes_name n.0 n.1) x w is in
+    let both : (x ≡ w) × (kind_takes_body n.0 b ≡ true) × (kind_takes_name n.0 n.1 ≡ true) =
+    when_both (kind_takes_body n.0 b) (kind_takes_name n.0 n.1) x w is in
     let held : IsHeldEntry x = record { whole = record { body = both.1; name = both.2 }; attributes = rise } in
     subst IsHeldEntry both.0 held
 
 by_first : (e : RawEntry) (o : Option StoredEntry) (os : Option (List StoredEntry)) (ws : List StoredEntry) → RawEntryFits e → whole e ≡ o
-    → option_and_then (λ w. option_map (λ vs. w ∷ vs) os) o ≡ Some ws → ((vs : List StoredEntry) → os ≡ Some vs → All IsHeldEntry vs) → All IsHeldEntry ws
+    → option_and_then (λ w. option_map (λ vs. w ∷ vs) os) o ≡ Some ws → ((vs : List StoredEntry) → os ≡ Some vs → All IsHeldEntry vs)
+    → All IsHeldEntry ws
 by_first e None os ws fits is all later = cc
 by_first e (Some w) None ws fits is all later = cc
 by_first e (Some w) (Some vs) ws fits is all later =
@@ -101,12 +111,14 @@ by_first e (Some w) (Some vs) ws fits is all later =
 
 held_entries : (es : List RawEntry) (ws : List StoredEntry) → All RawEntryFits es → all_whole es ≡ Some ws → All IsHeldEntry ws
 held_entries [] ws fit all = let none : [] ≡ ws = cc in subst (All IsHeldEntry) none (All-nil IsHeldEntry)
-held_entries (e ∷ es) ws fit all = by_first e (whole e) (all_whole es) ws (All-head RawEntryFits e es fit) refl all (λ vs. held_entries es vs (All-tail RawEntryFits e es fit))
+held_entries (e ∷ es) ws fit all = by_first e (whole e) (all_whole es) ws (All-head RawEntryFits e es fit) refl all
+    (λ vs. held_entries es vs (All-tail RawEntryFits e es fit))
 
 -- ---- parts
 
 by_part : (p : RawPart) (o : Option (List StoredEntry)) (s : StoredPart) → All RawEntryFits p.entries → all_whole p.entries ≡ o
-    → option_map (λ (es : List StoredEntry). let q : StoredPart = record { entries = es; tail = p.tail; delta = p.delta } in q) o ≡ Some s → All IsHeldEntry s.entries
+    → option_map (λ (es : List StoredEntry). let q : StoredPart = record { entries = es; tail = p.tail; delta = p.delta } in q) o ≡ Some s
+    → All IsHeldEntry s.entries
 by_part p None s fit is some' = cc
 by_part p (Some ws) s fit is some' =
     let same : ◌≡◌ {A = StoredPart} (record { entries = ws; tail = p.tail; delta = p.delta }) s = cc in
@@ -116,4 +128,5 @@ pub held_parts : BlocksHaveALog → LogTagsAreItems → HeldPartsAreWhole
 held_parts logs items d pair s disk first second is =
     option_and_then_some whole_part (option_and_then replay (tags_of d pair)) s is
     (λ p there whole_is. option_and_then_some replay (tags_of d pair) p there
-    (λ tags tags_are replayed. by_part p (all_whole p.entries) s (replay-fits tags p (items_of logs items d pair tags disk first second tags_are) replayed) refl whole_is))
+    (λ tags tags_are replayed. by_part p (all_whole p.entries) s (replay-fits tags p
+    (items_of logs items d pair tags disk first second tags_are) replayed) refl whole_is))

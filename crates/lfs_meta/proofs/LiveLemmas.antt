@@ -1,5 +1,6 @@
 -- A block written beside another, by its revision the live one.
-use Rattle.std.proofs.Common.{◌≡◌, ◌≢◌, ℕ, ◌+◌, ◌-◌, ◌%◌, ◌<◌, ◌≤◌, ◌^◌, Bool, true, false, if◌then◌else◌, List, length, refl, ap, sym, ◌∙◌, arith, Option, Some, None, suc}
+use Rattle.std.proofs.Common.{◌≡◌, ◌≢◌, ℕ, ◌+◌, ◌-◌, ◌%◌, ◌<◌, ◌≤◌, ◌^◌, Bool, true, false, if◌then◌else◌, List, length, refl, ap, sym, ◌∙◌}
+use Rattle.std.proofs.Common.{arith, Option, Some, None, suc}
 use Rattle.std.specs.Prelude.{option_and_then, option_map, replicate, All, nat_lt}
 use Rattle.std.specs.List.{AllByRecursion}
 use Rattle.std.proofs.lemmas.Bool.Decides.{nat_tests}
@@ -13,7 +14,8 @@ use Rattle.lfs_meta.specs.Fits.{EntryFits, TailFits}
 use Rattle.lfs_meta.specs.Laws.{WrittenPartsReplay, WrittenPartsAreWhole, IsLive, LiveBlocksAreRead}
 use Rattle.lfs_meta.specs.declared.live_block.LiveBlock.{LiveBlock}
 use Rattle.lfs_meta.specs.declared.live_block.LiveBlock.TheVariants.{First, Second, Neither}
-use Rattle.lfs_meta.specs.LiveBlock.{revision, is_later, committed, committed_log, first_or, second_or, live_block, live_log, live_tags, tags_of}
+use Rattle.lfs_meta.specs.LiveBlock.{revision, is_later, committed, committed_log, first_or, second_or, live_block, live_log, live_tags}
+use Rattle.lfs_meta.specs.LiveBlock.{tags_of}
 use Rattle.lfs_meta.specs.Part.{StoredPart}
 use Rattle.lfs_meta.specs.Replay.{replay}
 use Rattle.lfs_meta.specs.Spelling.{IsWhole, raw_part, part_tags}
@@ -46,17 +48,21 @@ second-tags (Some log) other ts e = e
 abbrev live_when : Bool → Option LogSeen → Option LogSeen → LiveBlock
 live_when late one two = if late then second_or two (first_or one Neither) else first_or one (second_or two Neither)
 
-not-earlier : (new other : List ℕ) (ts : List Item) (a b : ℕ) → revision other ≡ a → revision new ≡ b → is_later a b ≡ false → committed new ≡ Some ts
+not-earlier : (new other : List ℕ) (ts : List Item) (a b : ℕ) → revision other ≡ a → revision new ≡ b → is_later a b ≡ false
+    → committed new ≡ Some ts
     → live_tags new other ≡ Some ts
 not-earlier new other ts a b other_is new_is order here =
-    let earlier : is_later (revision other) (revision new) ≡ false = ap (λ (n : ℕ). is_later n (revision new)) other_is ∙ ap (is_later a) new_is ∙ order in
+    let earlier : is_later (revision other) (revision new) ≡ false = ap (λ (n : ℕ). is_later n (revision new)) other_is
+    ∙ ap (is_later a) new_is ∙ order in
     ap (λ (t : Bool). option_map (λ log. log.tags) (live_log (live_when t (committed_log new) (committed_log other)))) earlier
     ∙ first-tags (committed_log new) (second_or (committed_log other) Neither) ts here
 
-later : (new other : List ℕ) (ts : List Item) (a b : ℕ) → revision other ≡ a → revision new ≡ b → is_later b a ≡ true → committed new ≡ Some ts
+later : (new other : List ℕ) (ts : List Item) (a b : ℕ) → revision other ≡ a → revision new ≡ b → is_later b a ≡ true
+    → committed new ≡ Some ts
     → live_tags other new ≡ Some ts
 later new other ts a b other_is new_is order here =
-    let after : is_later (revision new) (revision other) ≡ true = ap (is_later (revision new)) other_is ∙ ap (λ (n : ℕ). is_later n a) new_is ∙ order in
+    let after : is_later (revision new) (revision other) ≡ true = ap (is_later (revision new)) other_is
+    ∙ ap (λ (n : ℕ). is_later n a) new_is ∙ order in
     ap (λ (t : Bool). option_map (λ log. log.tags) (live_log (live_when t (committed_log other) (committed_log new)))) after
     ∙ second-tags (committed_log new) (first_or (committed_log other) Neither) ts here
 
@@ -75,10 +81,13 @@ pub new-behind_erased : (size : ℕ) (new : List ℕ) (ts : List Item) → 4 ≤
 new-behind_erased size new ts h one here = later new (replicate size 0xff) ts 0xffffffff 1 (erased-revision size h) one refl here
 
 -- a part's tags in the live block are that part
-pub read-back : WrittenPartsReplay → WrittenPartsAreWhole → (p : StoredPart) (first second : List ℕ) → All EntryFits p.entries → length p.entries ≤ 1000
-    → TailFits p.tail → length p.delta ≡ 12 → AllByRecursion IsWhole p.entries → live_tags first second ≡ Some (part_tags p) → part_in first second ≡ Some p
+pub read-back : WrittenPartsReplay → WrittenPartsAreWhole → (p : StoredPart) (first second : List ℕ) → All EntryFits p.entries
+    → length p.entries ≤ 1000
+    → TailFits p.tail → length p.delta ≡ 12 → AllByRecursion IsWhole p.entries → live_tags first second ≡ Some (part_tags p)
+    → part_in first second ≡ Some p
 read-back replays wholes p first second fits few tail delta whole live =
-    let replayed : replay (part_tags p) ≡ Some (raw_part p) = replays p (recursion_from_All EntryFits p.entries fits) (omega (arith, few)) tail delta in
+    let replayed : replay (part_tags p) ≡ Some (raw_part p) = replays p (recursion_from_All EntryFits p.entries fits)
+    (omega (arith, few)) tail delta in
     ap (λ (o : Option (List Item)). option_and_then whole_part (option_and_then replay o)) live
     ∙ ap (option_and_then whole_part) replayed
     ∙ wholes p whole
@@ -101,8 +110,10 @@ put-first this others d pair new ts r disk apart first len here small live_is ne
     ∙ ap (live_tags new) (others d pair.0 pair.1 new disk first other len)
     ∙ not-earlier new (block_of d pair.1) ts r ((r + 1) % 2 ^ 32) live_is new_is (later-last r small) here
 
-put-by : BlockPut → BlockPutOther → (live : LiveBlock) (d : Disk) (pair : Pair) (new : List ℕ) (ts : List Item) (r : ℕ) → IsDisk d → pair.0 ≢ pair.1
-    → pair.0 < d.count → pair.1 < d.count → length new ≡ d.size → committed new ≡ Some ts → r < 2 ^ 32 → revision_by live (block_of d pair.0) (block_of d pair.1) ≡ r
+put-by : BlockPut → BlockPutOther → (live : LiveBlock) (d : Disk) (pair : Pair) (new : List ℕ) (ts : List Item) (r : ℕ) → IsDisk d
+    → pair.0 ≢ pair.1
+    → pair.0 < d.count → pair.1 < d.count → length new ≡ d.size → committed new ≡ Some ts → r < 2 ^ 32
+    → revision_by live (block_of d pair.0) (block_of d pair.1) ≡ r
     → revision new ≡ (r + 1) % 2 ^ 32 → tags_of (put (other_than live pair) new d) pair ≡ Some ts
 put-by this others (First log) d pair new ts r disk apart first second len here small live_is new_is =
     put-second this others d pair new ts r disk apart second len here small live_is new_is
@@ -111,11 +122,14 @@ put-by this others (Second log) d pair new ts r disk apart first second len here
 put-by this others Neither d pair new ts r disk apart first second len here small live_is new_is =
     put-second this others d pair new ts r disk apart second len here small live_is new_is
 
-pub rewritten-tags : BlockPut → BlockPutOther → (d : Disk) (pair : Pair) (new : List ℕ) (ts : List Item) (r : ℕ) → IsDisk d → pair.0 ≢ pair.1
-    → pair.0 < d.count → pair.1 < d.count → length new ≡ d.size → committed new ≡ Some ts → r < 2 ^ 32 → live_revision d pair ≡ r → revision new ≡ (r + 1) % 2 ^ 32
+pub rewritten-tags : BlockPut → BlockPutOther → (d : Disk) (pair : Pair) (new : List ℕ) (ts : List Item) (r : ℕ) → IsDisk d
+    → pair.0 ≢ pair.1
+    → pair.0 < d.count → pair.1 < d.count → length new ≡ d.size → committed new ≡ Some ts → r < 2 ^ 32 → live_revision d pair ≡ r
+    → revision new ≡ (r + 1) % 2 ^ 32
     → tags_of (put (other_number d pair) new d) pair ≡ Some ts
 rewritten-tags this others d pair new ts r disk apart first second len here small live_is new_is =
-    put-by this others (live_block (block_of d pair.0) (block_of d pair.1)) d pair new ts r disk apart first second len here small live_is new_is
+    put-by this others (live_block (block_of d pair.0) (block_of d pair.1)) d pair new ts r disk apart first second len here small live_is
+    new_is
 
 -- ---- the live block
 
@@ -124,7 +138,8 @@ abbrev IsCommitted : List ℕ → Option LogSeen → Type 0
 IsCommitted block None = (log_seen block).commits ≡ 0
 IsCommitted block (Some log) = (log ≡ log_seen block) × (0 < log.commits)
 
-committed-by : (block : List ℕ) (some' : Bool) → nat_lt 0 (log_seen block).commits ≡ some' → IsCommitted block (if some' then Some (log_seen block) else None)
+committed-by : (block : List ℕ) (some' : Bool) → nat_lt 0 (log_seen block).commits ≡ some'
+    → IsCommitted block (if some' then Some (log_seen block) else None)
 committed-by block true is = (refl, grind (arith, nat_tests))
 committed-by block false is = grind (arith, nat_tests)
 

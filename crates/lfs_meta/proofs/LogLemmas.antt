@@ -1,5 +1,6 @@
 -- A block with a revision and one commit, read back.
-use Rattle.std.proofs.Common.{◌≡◌, ℕ, ◌+◌, ◌-◌, ◌≤◌, List, [], ◌∷◌, ◌++◌, length, take, drop, refl, ap, sym, ◌∙◌, arith, subst, Some, None, nat_lt, append-nil}
+use Rattle.std.proofs.Common.{◌≡◌, ℕ, ◌+◌, ◌-◌, ◌≤◌, List, [], ◌∷◌, ◌++◌, length, take, drop, refl, ap, sym, ◌∙◌, arith, subst, Some, None}
+use Rattle.std.proofs.Common.{nat_lt, append-nil}
 use Rattle.std.specs.Prelude.{replicate, option_map, if◌then◌else◌}
 use Rattle.std.specs.Int.{w32, to_le_bytes}
 use Rattle.std.proofs.lemmas.List.{length-drop, length-replicate, take-append-le, take_all}
@@ -32,10 +33,12 @@ seen_by block f = record {
 erased_behind : (number size n : ℕ) → IsErased (drop (4 + n) (revised number (replicate size 0xff)))
 erased_behind number size n =
     let erased : IsErased (drop n (drop 4 (replicate size 255))) =
-    All-drop (λ b. b ≡ 255) n (drop 4 (replicate size 255)) (All-drop (λ b. b ≡ 255) 4 (replicate size 255) (All-replicate (λ b. b ≡ 255) size 255 refl)) in
+    All-drop (λ b. b ≡ 255) n (drop 4 (replicate size 255)) (All-drop (λ b. b ≡ 255) 4 (replicate size 255)
+    (All-replicate (λ b. b ≡ 255) size 255 refl)) in
     subst IsErased (sym (drop-append-add (to_le_bytes w32 number) (drop 4 (replicate size 255)) n)) erased
 
-pub written-committed : FirstCommit → LogIsRead → WrittenLength → (number size : ℕ) (ts : List Item) → committed_end 4 ts ≤ size → IsCommit (commit_of 4 ts)
+pub written-committed : FirstCommit → LogIsRead → WrittenLength → (number size : ℕ) (ts : List Item) → committed_end 4 ts ≤ size
+    → IsCommit (commit_of 4 ts)
     → IsBytes (log_written number ts (replicate size 0xff)) → committed (log_written number ts (replicate size 0xff)) ≡ Some ts
 written-committed first read written number size ts fits is_commit bytes =
     let block : List ℕ = replicate size 0xff in
@@ -47,7 +50,8 @@ written-committed first read written number size ts fits is_commit bytes =
     let room : 4 + length (new number ts block) ≤ length (revised number block) = omega (arith, new_len, len, behind_len, fits) in
     let log : IsLog (log_written number ts block) (c ∷ []) rest =
     first (revised number block) c is_commit room (erased_behind number size (length (new number ts block))) in
-    ap (λ (f : Front). option_map (λ l. l.tags) (if nat_lt 0 (length f.commits) then Some (seen_by (log_written number ts block) f) else None)) (read (log_written number ts block) (c ∷ []) rest bytes log)
+    ap (λ (f : Front). option_map (λ l. l.tags) (if nat_lt 0 (length f.commits) then Some
+    (seen_by (log_written number ts block) f) else None)) (read (log_written number ts block) (c ∷ []) rest bytes log)
     ∙ ap (λ (us : List Item). Some us) (append-nil ts)
 
 -- a list whose front was written whole

@@ -11,7 +11,8 @@ abbrev is_no_slash : ℕ → Bool
 is_no_slash b = not (b == 47)
 
 without_slash : (n : Name) → Decides (list_all is_no_slash n) (All (λ b. b ≢ 47) n)
-without_slash n = Decides-by_and is_no_slash (λ b. b ≢ 47) (list_all is_no_slash) (λ b. Decides-not (b == 47) (Decides-eqb b 47)) refl (λ _ _. refl) n
+without_slash n = Decides-by_and is_no_slash (λ b. b ≢ 47) (list_all is_no_slash) (λ b. Decides-not (b == 47) (Decides-eqb b 47)) refl
+    (λ _ _. refl) n
 
 is_other : (m n : Name) → Decides (not (bytes_eq n m)) (n ≢ m)
 is_other m n = Decides-not (bytes_eq n m) (bytes_eq-Decides n m)

@@ -17,7 +17,13 @@ at_entry-length : (i : ℕ) (f : RawEntry → RawEntry) (xs : List RawEntry) →
 at_entry-length i f xs = length-set xs i (f (slice_index_or xs i blank))
 
 up_to-few : (i n : ℕ) (xs : List RawEntry) → i < n → length xs ≤ n → length (up_to i xs) ≤ n
-up_to-few i n xs below few = omega (arith, below, few, length-append xs (replicate (i + 1 - length xs) blank), length-replicate (i + 1 - length xs) blank)
+up_to-few i n xs below few = omega (
+  arith,
+  below,
+  few,
+  length-append xs (replicate (i + 1 - length xs) blank),
+  length-replicate (i + 1 - length xs) blank,
+)
 
 -- a tag adds at most one to a bound of 1,024 entries or more
 acted-few : (a : Action) (t : Item) (p : RawPart) (n : ℕ) → 1024 ≤ n → length p.entries ≤ n → length (acted a t p).entries ≤ n + 1
@@ -37,12 +43,14 @@ acted-few SetAttribute t p n most few = omega (arith, few, at_entry-length (id_o
 acted-few SetTail t p n most few = omega (arith, few)
 acted-few SetDelta t p n most few = omega (arith, few)
 
-step-few : (o : Option Action) (p q : RawPart) (t : Item) (n : ℕ) → 1024 ≤ n → length p.entries ≤ n → step_by o p t ≡ Some q → length q.entries ≤ n + 1
+step-few : (o : Option Action) (p q : RawPart) (t : Item) (n : ℕ) → 1024 ≤ n → length p.entries ≤ n → step_by o p t ≡ Some q
+    → length q.entries ≤ n + 1
 step-few None p q t n most few e = cc
 step-few (Some a) p q t n most few e =
     subst (λ (r : RawPart). length r.entries ≤ n + 1) (taken (is_bad a t (length p.entries)) (acted a t p) q e) (acted-few a t p n most few)
 
-replay_from-few : (p q : RawPart) (tags : List Item) (n : ℕ) → 1024 ≤ n → length p.entries ≤ n → replay_from p tags ≡ Some q → length q.entries ≤ n + length tags
+replay_from-few : (p q : RawPart) (tags : List Item) (n : ℕ) → 1024 ≤ n → length p.entries ≤ n → replay_from p tags ≡ Some q
+    → length q.entries ≤ n + length tags
 unfolding replay_from
 replay_from-few p q [] n most few e = let same : p ≡ q = cc in subst (λ (r : RawPart). length r.entries ≤ n + 0) same (omega (arith, few))
 replay_from-few p q (t ∷ ts) n most few e =

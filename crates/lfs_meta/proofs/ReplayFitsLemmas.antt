@@ -1,5 +1,6 @@
 -- What tags leave keeps to the lengths of tags.
-use Rattle.std.proofs.Common.{◌≡◌, ℕ, ◌+◌, ◌-◌, ◌<◌, ◌≤◌, ◌==◌, Bool, true, false, cond, not, if◌then◌else◌, List, [], ◌∷◌, length, take, drop, refl, sym, arith, Option, Some, None, subst, inl, inr}
+use Rattle.std.proofs.Common.{◌≡◌, ℕ, ◌+◌, ◌-◌, ◌<◌, ◌≤◌, ◌==◌, Bool, true, false, cond, not, if◌then◌else◌, List, [], ◌∷◌, length, take}
+use Rattle.std.proofs.Common.{drop, refl, sym, arith, Option, Some, None, subst, inl, inr}
 use Rattle.std.specs.Prelude.{option_and_then, All, slice_index_or, suc}
 use Rattle.std.specs.List.{AllByRecursion, filter}
 use Rattle.std.proofs.lemmas.Bool.{cases_lt, cases_order}
@@ -28,18 +29,21 @@ RiseFrom-lower : (least more : ℕ) (xs : Attributes) → least ≤ more → Ris
 RiseFrom-lower least more [] le rise = tt
 RiseFrom-lower least more (a ∷ xs) le rise = (omega (arith, rise.0), rise.1, rise.2)
 
-pub set_attribute-rises : (least k : ℕ) (v : List ℕ) (xs : Attributes) → least ≤ k → AttributeFits (k, v) → RiseFrom least xs → RiseFrom least (set_attribute k v xs)
+pub set_attribute-rises : (least k : ℕ) (v : List ℕ) (xs : Attributes) → least ≤ k → AttributeFits (k, v) → RiseFrom least xs
+    → RiseFrom least (set_attribute k v xs)
 unfolding put_by
 set_attribute-rises least k v [] le fits rise = (le, fits, tt)
 set_attribute-rises least k v (a ∷ xs) le fits rise = elim (cases_order a.0 k) [
   | inl same ↦ subst (RiseFrom least) (sym (set_same k v a xs same)) (le, fits, subst (λ (m : ℕ). RiseFrom (m + 1) xs) same rise.2)
   | inr other ↦ elim other [
-    | inl less ↦ subst (RiseFrom least) (sym (set_lesser k v a xs less)) (rise.0, rise.1, set_attribute-rises (a.0 + 1) k v xs (omega arith) fits rise.2)
+    | inl less ↦ subst (RiseFrom least) (sym (set_lesser k v a xs less))
+        (rise.0, rise.1, set_attribute-rises (a.0 + 1) k v xs (omega arith) fits rise.2)
     | inr more ↦ subst (RiseFrom least) (sym (set_greater k v a xs more)) (le, fits, (omega arith, rise.1, rise.2))
   ]
 ]
 
-kept-rises : (b : Bool) (least : ℕ) (a : ℕ × List ℕ) (xs : Attributes) → least ≤ a.0 → AttributeFits a → RiseFrom (a.0 + 1) xs → RiseFrom least (cond b (a ∷ xs) xs)
+kept-rises : (b : Bool) (least : ℕ) (a : ℕ × List ℕ) (xs : Attributes) → least ≤ a.0 → AttributeFits a → RiseFrom (a.0 + 1) xs
+    → RiseFrom least (cond b (a ∷ xs) xs)
 kept-rises true least a xs le fits rise = (le, fits, rise)
 kept-rises false least a xs le fits rise = RiseFrom-lower least (a.0 + 1) xs (omega arith) rise
 
@@ -83,7 +87,8 @@ attributed-fits : (t : Item) (e : RawEntry) → IsItem t → RawEntryFits e → 
 attributed-fits t e item fits = record {
   name = fits.name;
   contents = fits.contents;
-  attributes = attributed (is_deleted t) (chunk_of t.word) t.content e.attributes (record { kind = omega arith; value = content-small t item }) fits.attributes;
+  attributes = attributed (is_deleted t) (chunk_of t.word) t.content e.attributes
+      (record { kind = omega arith; value = content-small t item }) fits.attributes;
 }
 
 read-fits : (i : ℕ) (xs : List RawEntry) → All RawEntryFits xs → RawEntryFits (slice_index_or xs i blank)
@@ -92,9 +97,11 @@ read-fits i xs all = elim (cases_lt i (length xs)) [
   | inr past ↦ subst RawEntryFits (sym (get_or-eq_default xs blank past)) blank-fits
 ]
 
-at_entry-fits : (i : ℕ) (f : RawEntry → RawEntry) (xs : List RawEntry) → ((e : RawEntry) → RawEntryFits e → RawEntryFits (f e)) → All RawEntryFits xs
+at_entry-fits : (i : ℕ) (f : RawEntry → RawEntry) (xs : List RawEntry) → ((e : RawEntry) → RawEntryFits e → RawEntryFits (f e))
+    → All RawEntryFits xs
     → All RawEntryFits (at_entry i f xs)
-at_entry-fits i f xs keeps all = All-set RawEntryFits xs i (f (slice_index_or xs i blank)) (keeps (slice_index_or xs i blank) (read-fits i xs all)) all
+at_entry-fits i f xs keeps all = All-set RawEntryFits xs i (f (slice_index_or xs i blank))
+    (keeps (slice_index_or xs i blank) (read-fits i xs all)) all
 
 up_to-fits : (i : ℕ) (xs : List RawEntry) → All RawEntryFits xs → All RawEntryFits (up_to i xs)
 up_to-fits i xs all = All-append RawEntryFits xs _ all (All-replicate RawEntryFits (i + 1 - length xs) blank blank-fits)
@@ -111,9 +118,11 @@ acted-fits Delete t p item all =
     All-append RawEntryFits (take (id_of t.word) p.entries) (drop (suc (id_of t.word)) p.entries)
     (All-take RawEntryFits (id_of t.word) p.entries all) (All-drop RawEntryFits (suc (id_of t.word)) p.entries all)
 acted-fits SetName t p item all =
-    at_entry-fits (id_of t.word) (named_by t) (up_to (id_of t.word) p.entries) (λ e fits. named-fits t e item fits) (up_to-fits (id_of t.word) p.entries all)
+    at_entry-fits (id_of t.word) (named_by t) (up_to (id_of t.word) p.entries) (λ e fits. named-fits t e item fits)
+    (up_to-fits (id_of t.word) p.entries all)
 acted-fits SetBody t p item all = at_entry-fits (id_of t.word) (embodied_by t) p.entries (λ e fits. embodied-fits t e item fits) all
-acted-fits SetAttribute t p item all = at_entry-fits (id_of t.word) (attributed_by t) p.entries (λ e fits. attributed-fits t e item fits) all
+acted-fits SetAttribute t p item all = at_entry-fits (id_of t.word) (attributed_by t) p.entries
+    (λ e fits. attributed-fits t e item fits) all
 acted-fits SetTail t p item all = all
 acted-fits SetDelta t p item all = all
 
@@ -125,14 +134,16 @@ taken false p q e = cc
 
 step-fits : (o : Option Action) (p q : RawPart) (t : Item) → step_by o p t ≡ Some q → IsItem t → RawPartFits p → RawPartFits q
 step-fits None p q t e item all = cc
-step-fits (Some a) p q t e item all = subst RawPartFits (taken (is_bad a t (length p.entries)) (acted a t p) q e) (acted-fits a t p item all)
+step-fits (Some a) p q t e item all = subst RawPartFits (taken (is_bad a t (length p.entries)) (acted a t p) q e)
+    (acted-fits a t p item all)
 
 rest-fits : (o : Option RawPart) (f : RawPart → Option RawPart) (q : RawPart) → option_and_then f o ≡ Some q
     → ((p : RawPart) → o ≡ Some p → f p ≡ Some q → RawPartFits q) → RawPartFits q
 rest-fits None f q e more = cc
 rest-fits (Some p) f q e more = more p refl e
 
-replay_from-fits : (p q : RawPart) (tags : List Item) → replay_from p tags ≡ Some q → AllByRecursion IsItem tags → RawPartFits p → RawPartFits q
+replay_from-fits : (p q : RawPart) (tags : List Item) → replay_from p tags ≡ Some q → AllByRecursion IsItem tags → RawPartFits p
+    → RawPartFits q
 unfolding replay_from
 replay_from-fits p q [] e items all = let same : p ≡ q = cc in subst RawPartFits same all
 replay_from-fits p q (t ∷ ts) e items all =

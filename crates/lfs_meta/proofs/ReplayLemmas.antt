@@ -42,7 +42,8 @@ bad-cons p q t ts e (front, u, after, is, r, replayed, a, known, bad) =
 any-cons : (P : Item → Type 0) (t : Item) (ts : List Item) → Any P ts → Any P (t ∷ ts)
 any-cons P t ts (k, x, within, is, holds) = (suc k, x, omega arith, is, holds)
 
-more : (all : List Item) (p q : RawPart) (t : Item) (ts : List Item) → IsReplayedTo all p (t ∷ ts) → step p t ≡ Some q → IsReplayedTo all q ts
+more : (all : List Item) (p q : RawPart) (t : Item) (ts : List Item) → IsReplayedTo all p (t ∷ ts) → step p t ≡ Some q
+    → IsReplayedTo all q ts
 more all p q t ts h e = record {
   whole = h.whole ∙ replay_from-cons p q t ts e;
   items = h.items.1;
@@ -50,19 +51,22 @@ more all p q t ts h e = record {
   bad = λ b. h.bad (bad-cons p q t ts e b);
 }
 
-pub replay-more : (all : List Item) (p q : RawPart) (t : Item) (ts left : List Item) → IsReplayedTo all p left → left ≡ t ∷ ts → step p t ≡ Some q → IsReplayedTo all q ts
+pub replay-more : (all : List Item) (p q : RawPart) (t : Item) (ts left : List Item) → IsReplayedTo all p left → left ≡ t ∷ ts
+    → step p t ≡ Some q → IsReplayedTo all q ts
 replay-more all p q t ts left h split e = more all p q t ts (subst (IsReplayedTo all p) split h) e
 
 pub replay-all : (all : List Item) (p : RawPart) (left : List Item) → IsReplayedTo all p left → left ≡ [] → replay all ≡ Some p
 replay-all all p left h none = h.whole ∙ ap (replay_from p) none ∙ replay_from-none p
 
-refused : (f : MountFault) (all : List Item) (p : RawPart) (t : Item) (ts : List Item) → IsReplayedTo all p (t ∷ ts) → StepCause f p t → TagsCause f all
+refused : (f : MountFault) (all : List Item) (p : RawPart) (t : Item) (ts : List Item) → IsReplayedTo all p (t ∷ ts) → StepCause f p t
+    → TagsCause f all
 refused fault.UnknownTag all p t ts h cause = h.unknown (0, t, omega arith, refl, cause)
 refused fault.BadTag all p t ts h (a, known, bad) = h.bad ([], t, ts, refl, p, replay_from-none p, a, known, bad)
 refused fault.Memory all p t ts h cause = tt
 refused _ all p t ts h cause = cause
 
 -- a refusal of the next tag has its cause in all tags
-pub replay-refused : (f : MountFault) (all : List Item) (p : RawPart) (t : Item) (ts left : List Item) → IsReplayedTo all p left → left ≡ t ∷ ts
+pub replay-refused : (f : MountFault) (all : List Item) (p : RawPart) (t : Item) (ts left : List Item) → IsReplayedTo all p left
+    → left ≡ t ∷ ts
     → StepCause f p t → TagsCause f all
 replay-refused f all p t ts left h split cause = refused f all p t ts (subst (IsReplayedTo all p) split h) cause

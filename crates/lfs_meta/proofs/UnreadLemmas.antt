@@ -1,5 +1,6 @@
 -- A pair that has a cause holds no part.
-use Rattle.std.proofs.Common.{◌≡◌, ℕ, ◌<◌, true, false, Bool, List, [], ◌∷◌, ◌++◌, length, refl, ap, ◌∙◌, arith, Option, Some, None, suc, zero, ◌&&◌}
+use Rattle.std.proofs.Common.{◌≡◌, ℕ, ◌<◌, true, false, Bool, List, [], ◌∷◌, ◌++◌, length, refl, ap, ◌∙◌, arith, Option, Some, None, suc}
+use Rattle.std.proofs.Common.{zero, ◌&&◌}
 use Rattle.std.specs.Prelude.{option_and_then, option_map, if◌then◌else◌, slice_index_or}
 use Rattle.lfs_block.specs.Disk.{Disk}
 use Rattle.lfs_block.specs.declared.mount_fault.MountFault.{MountFault}
@@ -14,7 +15,8 @@ use Rattle.lfs_meta.specs.Body.{Pair, StoredBody}
 use Rattle.lfs_meta.specs.Entry.{RawEntry}
 use Rattle.lfs_meta.specs.Part.{RawPart, empty_part}
 use Rattle.lfs_meta.specs.Replay.{acted, step_by, step, replay_from, replay, HasBadFrom}
-use Rattle.lfs_meta.specs.Whole.{kind_takes_body, kind_takes_name, IsIncompleteBy, IsIncomplete, IsMisnamedBy, IsMisnamed, whole_by, whole, all_whole, whole_part}
+use Rattle.lfs_meta.specs.Whole.{kind_takes_body, kind_takes_name, IsIncompleteBy, IsIncomplete, IsMisnamedBy, IsMisnamed, whole_by, whole}
+use Rattle.lfs_meta.specs.Whole.{all_whole, whole_part}
 use Rattle.lfs_meta.specs.LiveBlock.{stored_part_of}
 use Rattle.lfs_meta.specs.Cause.{PairCause}
 
@@ -22,14 +24,16 @@ and_then-none : {A B : Type 0} (f : A → Option B) (o : Option A) → ((x : A) 
 and_then-none f None none = refl
 and_then-none f (Some x) none = none x
 
-unknown : (p : RawPart) (ts : List Item) (k : ℕ) (t : Item) → k < length ts → slice_index_or ts k t ≡ t → action_of (kind_of t.word) ≡ None → replay_from p ts ≡ None
+unknown : (p : RawPart) (ts : List Item) (k : ℕ) (t : Item) → k < length ts → slice_index_or ts k t ≡ t → action_of (kind_of t.word) ≡ None
+    → replay_from p ts ≡ None
 unfolding replay_from
 unknown p [] k t within is none = absurd (omega arith)
 unknown p (u ∷ ts) zero t within is none =
     ap (λ a. option_and_then (λ q. replay_from q ts) (step_by a p u)) (ap (λ (i : Item). action_of (kind_of i.word)) is ∙ none)
 unknown p (u ∷ ts) (suc k) t within is none = and_then-none (λ q. replay_from q ts) (step p u) (λ q. unknown q ts k t (omega arith) is none)
 
-bad-here : (p : RawPart) (t : Item) (after : List Item) (a : Action) → action_of (kind_of t.word) ≡ Some a → is_bad a t (length p.entries) ≡ true
+bad-here : (p : RawPart) (t : Item) (after : List Item) (a : Action) → action_of (kind_of t.word) ≡ Some a
+    → is_bad a t (length p.entries) ≡ true
     → replay_from p (t ∷ after) ≡ None
 unfolding replay_from
 bad-here p t after a known bad =
@@ -46,13 +50,15 @@ along : (p q : RawPart) (front rest : List Item) → replay_from p front ≡ Som
 unfolding replay_from
 along p q [] rest e = let same : p ≡ q = cc in ap (λ r. replay_from r rest) same
 along p q (t ∷ front) rest e =
-    and_then-some (λ r. replay_from r front) (λ r. replay_from r (front ++ rest)) (step p t) q (replay_from q rest) e (λ r h. along r q front rest h)
+    and_then-some (λ r. replay_from r front) (λ r. replay_from r (front ++ rest)) (step p t) q (replay_from q rest) e
+    (λ r h. along r q front rest h)
 
 bad : (p : RawPart) (ts : List Item) → HasBadFrom p ts → replay_from p ts ≡ None
 bad p ts (front, t, after, is, q, replayed, a, known, refused) =
     ap (replay_from p) is ∙ along p q front (t ∷ after) replayed ∙ bad-here q t after a known refused
 
-incomplete_by : (n : Option (Kind × List ℕ)) (b : Option StoredBody) (attributes : Attributes) → IsIncompleteBy n b → whole_by n b attributes ≡ None
+incomplete_by : (n : Option (Kind × List ℕ)) (b : Option StoredBody) (attributes : Attributes) → IsIncompleteBy n b
+    → whole_by n b attributes ≡ None
 incomplete_by None b attributes h = refl
 incomplete_by (Some n) None attributes h = refl
 incomplete_by (Some n) (Some b) attributes h = rw h refl
@@ -61,11 +67,13 @@ and_false : (a b : Bool) → b ≡ false → (a && b) ≡ false
 and_false true b e = e
 and_false false b e = refl
 
-misnamed_by : (n : Option (Kind × List ℕ)) (b : Option StoredBody) (attributes : Attributes) → IsMisnamedBy n → whole_by n b attributes ≡ None
+misnamed_by : (n : Option (Kind × List ℕ)) (b : Option StoredBody) (attributes : Attributes) → IsMisnamedBy n
+    → whole_by n b attributes ≡ None
 misnamed_by None b attributes h = refl
 misnamed_by (Some n) None attributes h = refl
 misnamed_by (Some n) (Some b) attributes h =
-    ap (λ t. if t then Some (record { kind = n.0; name = n.1; body = b; attributes = attributes }) else None) (and_false (kind_takes_body n.0 b) (kind_takes_name n.0 n.1) h)
+    ap (λ t. if t then Some (record { kind = n.0; name = n.1; body = b; attributes = attributes }) else None)
+    (and_false (kind_takes_body n.0 b) (kind_takes_name n.0 n.1) h)
 
 -- one entry that isn't whole
 not_whole : (P : RawEntry → Type 0) → ((e : RawEntry) → P e → whole e ≡ None) → (es : List RawEntry) (k : ℕ) (e : RawEntry)
@@ -79,7 +87,8 @@ not_whole P none (x ∷ es) (suc k) e within is h =
 pub unread : (f : MountFault) (d : Disk) (pair : Pair) → PairCause f d pair → stored_part_of d pair ≡ None
 unread fault.NoValidCommit d pair none = ap (λ o. option_and_then whole_part (option_and_then replay o)) none
 unread fault.UnknownTag d pair (tags, is, h) =
-    ap (λ o. option_and_then whole_part (option_and_then replay o)) is ∙ ap (option_and_then whole_part) (unknown empty_part tags h.0 h.1 h.2 h.3 h.4)
+    ap (λ o. option_and_then whole_part (option_and_then replay o)) is ∙ ap (option_and_then whole_part)
+    (unknown empty_part tags h.0 h.1 h.2 h.3 h.4)
 unread fault.BadTag d pair (tags, is, h) =
     ap (λ o. option_and_then whole_part (option_and_then replay o)) is ∙ ap (option_and_then whole_part) (bad empty_part tags h)
 unread fault.IncompleteEntry d pair (p, is, h) =

@@ -9,7 +9,8 @@ use Rattle.lfs_meta.specs.declared.tail.Tail.TheVariants.{End, Soft, Hard}
 use Rattle.lfs_meta.specs.Attribute.{Attributes}
 use Rattle.lfs_meta.specs.Entry.{StoredEntry}
 use Rattle.lfs_meta.specs.Part.{StoredPart}
-use Rattle.lfs_meta.specs.Spelling.{name_item, body_item, attribute_item, entry_tags, entries_tags, tail_tags, delta_tags, tag_item, part_tags}
+use Rattle.lfs_meta.specs.Spelling.{name_item, body_item, attribute_item, entry_tags, entries_tags, tail_tags, delta_tags, tag_item}
+use Rattle.lfs_meta.specs.Spelling.{part_tags}
 use Rattle.lfs_meta.specs.Weighing.{attributes_weight, weight, weights}
 
 abbrev item_len : Item → ℕ
@@ -56,12 +57,14 @@ either-len : (b : Bool) (t : Item) → length t.content ≡ 12 → tags_len (if 
 either-len true t len = omega arith
 either-len false t len = omega arith
 
-pub weights-fit : (p : StoredPart) (size : ℕ) → size % 16 ≡ 0 → length p.delta ≡ 12 → weights p.entries + 40 ≤ size → committed_end 4 (part_tags p) ≤ size
+pub weights-fit : (p : StoredPart) (size : ℕ) → size % 16 ≡ 0 → length p.delta ≡ 12 → weights p.entries + 40 ≤ size
+    → committed_end 4 (part_tags p) ≤ size
 weights-fit p size even delta room =
     let entries : tags_len (entries_tags 0 p.entries) ≡ weights p.entries = entries-len 0 p.entries in
     let tail : tags_len (tail_tags p.tail) ≤ 12 = tail-len p.tail in
     let last : tags_len (delta_tags p.delta) ≤ 16 = either-len (list_all (λ b. b == 0) p.delta) (tag_item 0x7ff 0x3ff p.delta) delta in
-    let front : tags_len (entries_tags 0 p.entries ++ tail_tags p.tail) ≡ tags_len (entries_tags 0 p.entries) + tags_len (tail_tags p.tail) =
+    let front : tags_len (entries_tags 0 p.entries ++ tail_tags p.tail)
+    ≡ tags_len (entries_tags 0 p.entries) + tags_len (tail_tags p.tail) =
     sum_by-append item_len (entries_tags 0 p.entries) (tail_tags p.tail) in
     let all : tags_len (part_tags p) ≡ tags_len (entries_tags 0 p.entries ++ tail_tags p.tail) + tags_len (delta_tags p.delta) =
     sum_by-append item_len (entries_tags 0 p.entries ++ tail_tags p.tail) (delta_tags p.delta) in

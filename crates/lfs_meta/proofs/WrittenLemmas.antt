@@ -1,5 +1,7 @@
 -- The tags that a part is written as leave that part.
-use Rattle.std.proofs.Common.{◌≡◌, ℕ, ◌+◌, ◌-◌, ◌<◌, ◌≤◌, ◌==◌, ◌&&◌, ◌^◌, not, Bool, true, false, if◌then◌else◌, List, [], ◌∷◌, ◌++◌, length, map, refl, ap, sym, ◌∙◌, arith, Option, Some, None, append_assoc, append-nil, length-append, nat_le, inl, inr}
+use Rattle.std.proofs.Common.{◌≡◌, ℕ, ◌+◌, ◌-◌, ◌<◌, ◌≤◌, ◌==◌, ◌&&◌, ◌^◌, not, Bool, true, false, if◌then◌else◌, List, [], ◌∷◌, ◌++◌}
+use Rattle.std.proofs.Common.{length, map, refl, ap, sym, ◌∙◌, arith, Option, Some, None, append_assoc, append-nil, length-append, nat_le}
+use Rattle.std.proofs.Common.{inl, inr}
 use Rattle.std.specs.Prelude.{replicate, slice_set}
 use Rattle.std.specs.List.{AllByRecursion, list_all}
 use Rattle.std.proofs.lemmas.Nat.{from_le_bytes-to_le_bytes_4}
@@ -18,12 +20,15 @@ use Rattle.lfs_meta.specs.Body.{StoredBody, Inline, Ctz, Leads, body_named, stru
 use Rattle.lfs_meta.specs.Entry.{RawEntry, StoredEntry, blank}
 use Rattle.lfs_meta.specs.Fits.{AttributeFits, RiseFrom, BodyFits, EntryFits, NumbersFit, TailFits}
 use Rattle.lfs_meta.specs.Part.{RawPart, StoredPart, empty_part}
-use Rattle.lfs_meta.specs.Replay.{at_entry, up_to, kind_named, named_by, embodied_by, attributed_by, tail_named, acted, step_by, step, replay_from, replay}
-use Rattle.lfs_meta.specs.Spelling.{raw_of, raw_part, name_kind, body_kind, words, body_bytes, tag_item, name_item, body_item, attribute_item, entry_tags, entries_tags, tail_tags, delta_tags, part_tags}
+use Rattle.lfs_meta.specs.Replay.{at_entry, up_to, kind_named, named_by, embodied_by, attributed_by, tail_named, acted, step_by, step}
+use Rattle.lfs_meta.specs.Replay.{replay_from, replay}
+use Rattle.lfs_meta.specs.Spelling.{raw_of, raw_part, name_kind, body_kind, words, body_bytes, tag_item, name_item, body_item}
+use Rattle.lfs_meta.specs.Spelling.{attribute_item, entry_tags, entries_tags, tail_tags, delta_tags, part_tags}
 use Rattle.lfs_meta.proofs.AttributeLemmas.{set_lesser}
 use Rattle.lfs_meta.proofs.FitsLemmas.{body_bytes-small}
 use Rattle.lfs_meta.proofs.ReplayLemmas.{replay_from-cons, replay_from-none}
-use Rattle.lfs_meta.proofs.TagWordLemmas.{kind_of-word, id_of-word, len_of-word, name_kind-small, name_kind-named, name_kind-action, body_kind-small, body_kind-action, attribute-action}
+use Rattle.lfs_meta.proofs.TagWordLemmas.{kind_of-word, id_of-word, len_of-word, name_kind-small, name_kind-named, name_kind-action}
+use Rattle.lfs_meta.proofs.TagWordLemmas.{body_kind-small, body_kind-action, attribute-action}
 
 -- a part with these
 abbrev part_with : List RawEntry → Tail → List ℕ → RawPart
@@ -38,7 +43,8 @@ stepped : (a : Action) (t : Item) (p : RawPart) → action_of (kind_of t.word) �
 stepped a t p known good =
     ap (λ (o : Option Action). step_by o p t) known ∙ ap (λ (b : Bool). if b then None else Some (acted a t p)) good
 
-at_entry-last : (f : RawEntry → RawEntry) (xs : List RawEntry) (x : RawEntry) (i : ℕ) → i ≡ length xs → at_entry i f (xs ++ (x ∷ [])) ≡ xs ++ (f x ∷ [])
+at_entry-last : (f : RawEntry → RawEntry) (xs : List RawEntry) (x : RawEntry) (i : ℕ) → i ≡ length xs
+    → at_entry i f (xs ++ (x ∷ [])) ≡ xs ++ (f x ∷ [])
 at_entry-last f xs x i e =
     ap (λ (k : ℕ). at_entry k f (xs ++ (x ∷ []))) e
     ∙ ap (λ (y : RawEntry). slice_set (xs ++ (x ∷ [])) (length xs) (f y)) (get_or-append_seam xs x [] blank)
@@ -51,7 +57,8 @@ up_to-next xs i e =
     let one : i + 1 - length xs ≡ 1 = omega arith in
     ap (λ (k : ℕ). xs ++ replicate k blank) one
 
-named-blank : (kind : ℕ) (e : StoredEntry) (t : Item) → kind_of t.word ≡ name_kind e.kind → t.content ≡ e.name → named_by t blank ≡ entry_with e None []
+named-blank : (kind : ℕ) (e : StoredEntry) (t : Item) → kind_of t.word ≡ name_kind e.kind → t.content ≡ e.name
+    → named_by t blank ≡ entry_with e None []
 unfolding blank
 named-blank kind e t kind_is content_is =
     let named : kind_named (kind_of t.word) ≡ e.kind = ap kind_named kind_is ∙ name_kind-named e.kind in
@@ -63,8 +70,10 @@ unfolding acted is_bad
 name-step done tail delta e fits few =
     let t : Item = name_item (length done) e in
     let p : RawPart = part_with done tail delta in
-    let kind : kind_of t.word ≡ name_kind e.kind = kind_of-word (name_kind e.kind) (length done) (length e.name) (name_kind-small e.kind) (omega arith) (omega (arith, fits.name)) in
-    let id : id_of t.word ≡ length done = id_of-word (name_kind e.kind) (length done) (length e.name) (omega arith) (omega (arith, fits.name)) in
+    let kind : kind_of t.word ≡ name_kind e.kind = kind_of-word (name_kind e.kind) (length done) (length e.name) (name_kind-small e.kind)
+    (omega arith) (omega (arith, fits.name)) in
+    let id : id_of t.word ≡ length done = id_of-word (name_kind e.kind) (length done) (length e.name) (omega arith)
+    (omega (arith, fits.name)) in
     let len : len_of t.word ≡ length e.name = len_of-word (name_kind e.kind) (length done) (length e.name) (omega (arith, fits.name)) in
     let small : length e.name < 1023 = fits.name in
     let there : (id_of t.word == 0x3ff) ≡ false = grind (arith, nat_tests) in
@@ -104,15 +113,19 @@ body-step done tail delta e fits few =
     let t : Item = body_item (length done) e in
     let xs : List RawEntry = done ++ (entry_with e None [] ∷ []) in
     let small : length (body_bytes e.body) < 1023 = body_bytes-small e.body fits.body in
-    let kind : kind_of t.word ≡ body_kind e.body = kind_of-word (body_kind e.body) (length done) (length (body_bytes e.body)) (body_kind-small e.body) (omega arith) (omega arith) in
-    let id : id_of t.word ≡ length done = id_of-word (body_kind e.body) (length done) (length (body_bytes e.body)) (omega arith) (omega arith) in
-    let len : len_of t.word ≡ length (body_bytes e.body) = len_of-word (body_kind e.body) (length done) (length (body_bytes e.body)) (omega arith) in
+    let kind : kind_of t.word ≡ body_kind e.body = kind_of-word (body_kind e.body) (length done) (length (body_bytes e.body))
+    (body_kind-small e.body) (omega arith) (omega arith) in
+    let id : id_of t.word ≡ length done = id_of-word (body_kind e.body) (length done) (length (body_bytes e.body)) (omega arith)
+    (omega arith) in
+    let len : len_of t.word ≡ length (body_bytes e.body) = len_of-word (body_kind e.body) (length done) (length (body_bytes e.body))
+    (omega arith) in
     let more : length xs ≡ length done + 1 = length-append done (entry_with e None [] ∷ []) in
     let there : nat_le (length xs) (id_of t.word) ≡ false = grind (arith, nat_tests) in
     let kept : (len_of t.word == 0x3ff) ≡ false = grind (arith, nat_tests) in
     let whole : (not (kind_of t.word == 0x201) && not (len_of t.word == 8)) ≡ false = rw (kind, len) (body-good e.body) in
     let good : is_bad SetBody t (length xs) ≡ false = rw (there, kept, whole) refl in
-    let named : body_named (kind_of t.word) (body_bytes e.body) ≡ e.body = ap (λ (k : ℕ). body_named k (body_bytes e.body)) kind ∙ body_named-bytes e.body fits.body in
+    let named : body_named (kind_of t.word) (body_bytes e.body) ≡ e.body =
+    ap (λ (k : ℕ). body_named k (body_bytes e.body)) kind ∙ body_named-bytes e.body fits.body in
     let entries : at_entry (id_of t.word) (embodied_by t) xs ≡ done ++ (entry_with e (Some e.body) [] ∷ []) =
     at_entry-last (embodied_by t) done (entry_with e None []) (id_of t.word) id
     ∙ ap (λ (b : StoredBody). done ++ (entry_with e (Some b) [] ∷ [])) named in
@@ -147,7 +160,8 @@ attribute-step done tail delta e xs a few fits below =
     let ys : List RawEntry = done ++ (entry_with e (Some e.body) xs ∷ []) in
     let low : a.0 < 256 = fits.kind in
     let small : length a.1 < 1023 = fits.value in
-    let kind : kind_of t.word ≡ 0x300 + a.0 = kind_of-word (0x300 + a.0) (length done) (length a.1) (omega arith) (omega arith) (omega arith) in
+    let kind : kind_of t.word ≡ 0x300 + a.0 = kind_of-word (0x300 + a.0) (length done) (length a.1) (omega arith) (omega arith)
+    (omega arith) in
     let chunk : chunk_of t.word ≡ a.0 = omega arith in
     let id : id_of t.word ≡ length done = id_of-word (0x300 + a.0) (length done) (length a.1) (omega arith) (omega arith) in
     let len : len_of t.word ≡ length a.1 = len_of-word (0x300 + a.0) (length done) (length a.1) (omega arith) in
@@ -162,7 +176,8 @@ attribute-step done tail delta e xs a few fits below =
     stepped SetAttribute t (part_with ys tail delta) (ap action_of kind ∙ attribute-action a.0 low) good
     ∙ ap (λ (es : List RawEntry). Some (part_with es tail delta)) entries
 
-attributes-replay : (done : List RawEntry) (tail : Tail) (delta : List ℕ) (e : StoredEntry) (least : ℕ) (xs ys : Attributes) (more : List Item)
+attributes-replay : (done : List RawEntry) (tail : Tail) (delta : List ℕ) (e : StoredEntry) (least : ℕ) (xs ys : Attributes)
+    (more : List Item)
     → length done < 1023 → RiseFrom least ys → Below least xs
     → replay_from (part_with (done ++ (entry_with e (Some e.body) xs ∷ [])) tail delta) (map (attribute_item (length done)) ys ++ more)
     ≡ replay_from (part_with (done ++ (entry_with e (Some e.body) (xs ++ ys) ∷ [])) tail delta) more
@@ -170,23 +185,30 @@ attributes-replay done tail delta e least xs [] more few rise below =
     ap (λ (zs : Attributes). replay_from (part_with (done ++ (entry_with e (Some e.body) zs ∷ [])) tail delta) more) (sym (append-nil xs))
 attributes-replay done tail delta e least xs (a ∷ ys) more few rise below =
     let lower : Below a.0 xs = below-more least a.0 xs rise.0 below in
-    replay_from-cons (part_with (done ++ (entry_with e (Some e.body) xs ∷ [])) tail delta) (part_with (done ++ (entry_with e (Some e.body) (xs ++ (a ∷ [])) ∷ [])) tail delta)
-    (attribute_item (length done) a) (map (attribute_item (length done)) ys ++ more) (attribute-step done tail delta e xs a few rise.1 lower)
-    ∙ attributes-replay done tail delta e (a.0 + 1) (xs ++ (a ∷ [])) ys more few rise.2 (below-push (a.0 + 1) xs a (below-more a.0 (a.0 + 1) xs (omega arith) lower) (omega arith))
-    ∙ ap (λ (zs : Attributes). replay_from (part_with (done ++ (entry_with e (Some e.body) zs ∷ [])) tail delta) more) (append_assoc xs (a ∷ []) ys)
+    replay_from-cons (part_with (done ++ (entry_with e (Some e.body) xs ∷ [])) tail delta)
+    (part_with (done ++ (entry_with e (Some e.body) (xs ++ (a ∷ [])) ∷ [])) tail delta)
+    (attribute_item (length done) a) (map (attribute_item (length done)) ys ++ more)
+    (attribute-step done tail delta e xs a few rise.1 lower)
+    ∙ attributes-replay done tail delta e (a.0 + 1) (xs ++ (a ∷ [])) ys more few rise.2
+    (below-push (a.0 + 1) xs a (below-more a.0 (a.0 + 1) xs (omega arith) lower) (omega arith))
+    ∙ ap (λ (zs : Attributes). replay_from (part_with (done ++ (entry_with e (Some e.body) zs ∷ [])) tail delta) more)
+    (append_assoc xs (a ∷ []) ys)
 
 -- ---- entries
 
 entry-replay : (done : List RawEntry) (tail : Tail) (delta : List ℕ) (e : StoredEntry) (more : List Item) → EntryFits e → length done < 1023
-    → replay_from (part_with done tail delta) (entry_tags (length done) e ++ more) ≡ replay_from (part_with (done ++ (raw_of e ∷ [])) tail delta) more
+    → replay_from (part_with done tail delta) (entry_tags (length done) e ++ more)
+    ≡ replay_from (part_with (done ++ (raw_of e ∷ [])) tail delta) more
 entry-replay done tail delta e more fits few =
     replay_from-cons (part_with done tail delta) (part_with (done ++ (entry_with e None [] ∷ [])) tail delta) (name_item (length done) e)
     (body_item (length done) e ∷ (map (attribute_item (length done)) e.attributes ++ more)) (name-step done tail delta e fits few)
-    ∙ replay_from-cons (part_with (done ++ (entry_with e None [] ∷ [])) tail delta) (part_with (done ++ (entry_with e (Some e.body) [] ∷ [])) tail delta)
+    ∙ replay_from-cons (part_with (done ++ (entry_with e None [] ∷ [])) tail delta)
+    (part_with (done ++ (entry_with e (Some e.body) [] ∷ [])) tail delta)
     (body_item (length done) e) (map (attribute_item (length done)) e.attributes ++ more) (body-step done tail delta e fits few)
     ∙ attributes-replay done tail delta e 0 [] e.attributes more few fits.attributes tt
 
-entries-replay : (done : List RawEntry) (tail : Tail) (delta : List ℕ) (id : ℕ) (es : List StoredEntry) (more : List Item) → id ≡ length done
+entries-replay : (done : List RawEntry) (tail : Tail) (delta : List ℕ) (id : ℕ) (es : List StoredEntry) (more : List Item)
+    → id ≡ length done
     → AllByRecursion EntryFits es → length done + length es ≤ 1023
     → replay_from (part_with done tail delta) (entries_tags id es ++ more) ≡ replay_from (part_with (done ++ map raw_of es) tail delta) more
 unfolding entries_tags
@@ -264,7 +286,8 @@ delta-replay es tail delta len = elim (cases_Bool (list_all (λ b. b == 0) delta
 
 -- ---- the part
 
-pub written-replays : (p : StoredPart) → AllByRecursion EntryFits p.entries → length p.entries ≤ 1022 → TailFits p.tail → length p.delta ≡ 12
+pub written-replays : (p : StoredPart) → AllByRecursion EntryFits p.entries → length p.entries ≤ 1022 → TailFits p.tail
+    → length p.delta ≡ 12
     → replay (part_tags p) ≡ Some (raw_part p)
 unfolding empty_part
 written-replays p fits few tail delta =

@@ -51,7 +51,8 @@ WrittenPartsAreWhole = (p : StoredPart) → AllByRecursion IsWhole p.entries →
 
 -- what is written for entries whose weights leave 40 bytes of a block fits it
 abbrev pub WeightsFit : Type 0
-WeightsFit = (p : StoredPart) (size : ℕ) → size % 16 ≡ 0 → length p.delta ≡ 12 → weights p.entries + 40 ≤ size → committed_end 4 (part_tags p) ≤ size
+WeightsFit = (p : StoredPart) (size : ℕ) → size % 16 ≡ 0 → length p.delta ≡ 12 → weights p.entries + 40 ≤ size
+    → committed_end 4 (part_tags p) ≤ size
 
 -- the live block of two has a commit, and its log is what is read of it; where neither is live, neither has one
 abbrev pub IsLive : LiveBlock → List ℕ → List ℕ → Type 0

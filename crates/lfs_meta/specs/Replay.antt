@@ -1,5 +1,6 @@
 -- The tags of a log, one after another (SPEC.md, "Metadata types").
-use Rattle.std.specs.Prelude.{◌≡◌, ℕ, ◌+◌, ◌-◌, ◌==◌, true, List, [], ◌∷◌, ◌++◌, length, replicate, Option, Some, None, option_and_then, slice_set, slice_index_or, if◌then◌else◌, insert, remove}
+use Rattle.std.specs.Prelude.{◌≡◌, ℕ, ◌+◌, ◌-◌, ◌==◌, true, List, [], ◌∷◌, ◌++◌, length, replicate, Option, Some, None, option_and_then}
+use Rattle.std.specs.Prelude.{slice_set, slice_index_or, if◌then◌else◌, insert, remove}
 use Rattle.std.specs.List.{Any}
 use Rattle.lfs_tag.specs.Tag.{kind_of, chunk_of, id_of}
 use Rattle.lfs_tag.specs.Commit.{Item}
@@ -89,7 +90,8 @@ HasUnknown tags = Any (λ t. action_of (kind_of t.word) ≡ None) tags
 -- a beginning of the tags replays, and the next tag is bad
 abbrev pub HasBadFrom : RawPart → List Item → Type 0
 HasBadFrom start tags = (front : List Item) × (t : Item) × (after : List Item) × (tags ≡ front ++ t ∷ after)
-    × (p : RawPart) × (replay_from start front ≡ Some p) × (a : Action) × (action_of (kind_of t.word) ≡ Some a) × (is_bad a t (length p.entries) ≡ true)
+    × (p : RawPart) × (replay_from start front ≡ Some p) × (a : Action) × (action_of (kind_of t.word) ≡ Some a)
+    × (is_bad a t (length p.entries) ≡ true)
 
 abbrev pub HasBad : List Item → Type 0
 HasBad tags = HasBadFrom empty_part tags

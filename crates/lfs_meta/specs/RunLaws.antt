@@ -30,11 +30,13 @@ pub record AreRuns {E : Type 0} (weigh : E → ℕ) (room : ℕ) (es : List E) (
 
 -- the law: a list of entries that fit a pair is cut so
 abbrev pub RunsAreGreedy : Type 0 → Type 0
-RunsAreGreedy E = (weigh : E → ℕ) (room : ℕ) (es : List E) → All (λ e. weigh e ≤ room) es → AreRuns weigh room es (runs_after weigh room 0 0 es)
+RunsAreGreedy E = (weigh : E → ℕ) (room : ℕ) (es : List E) → All (λ e. weigh e ≤ room) es
+    → AreRuns weigh room es (runs_after weigh room 0 0 es)
 
 -- the law: a list is cut so in one way
 abbrev pub OneCut : Type 0 → Type 0
-OneCut E = (weigh : E → ℕ) (room : ℕ) (es : List E) (runs others : List (List E)) → AreRuns weigh room es runs → AreRuns weigh room es others → runs ≡ others
+OneCut E = (weigh : E → ℕ) (room : ℕ) (es : List E) (runs others : List (List E)) → AreRuns weigh room es runs
+    → AreRuns weigh room es others → runs ≡ others
 
 -- the law: behind an entry that fits a pair, the runs of a list are those that begin with its weight and one entry
 abbrev pub RunsBehindFirst : Type 0 → Type 0

@@ -20,7 +20,8 @@ present_bytes applies asked size image journal outcome disk is =
     let old : Disk = image_of size image in
     let made : IsDiskAs old (applied does.change old) = applies does.change old disk does.plans.patch does.plans.stands in
     let as_old : IsDiskAs old is.new.present = subst (IsDiskAs old) (sym does.pushes.present) made in
-    sym (image_of_disk is.new.present as_old.disk) ∙ ap (λ (s : ℕ). image_of s is.new.present.bytes) as_old.size ∙ ap (image_of size) (sym is.kept)
+    sym (image_of_disk is.new.present as_old.disk) ∙ ap (λ (s : ℕ). image_of s is.new.present.bytes) as_old.size
+    ∙ ap (image_of size) (sym is.kept)
 
 pub bytes_are_equations : CommandsPushEquations → AppliedIsDisk → ChangedBytesAreEquations
 bytes_are_equations push applies asked size image journal outcome v t (disk, is) holds mounts =

@@ -14,7 +14,8 @@ use Rattle.lfs_step.specs.Bytes.{image_of}
 pub image_of_disk : (d : Disk) → IsDisk d → image_of d.size d.bytes ≡ d
 image_of_disk d is =
     let positive : 0 < d.size = omega (arith, is.geometry.size_fits.0) in
-    let count : length d.bytes / d.size ≡ d.count = ap (λ n. n / d.size) is.len ∙ ap (λ n. n / d.size) (sym (add-zero (d.count * d.size))) ∙ div-mul-add d.count d.size 0 positive in
+    let count : length d.bytes / d.size ≡ d.count = ap (λ n. n / d.size) is.len ∙ ap (λ n. n / d.size) (sym (add-zero (d.count * d.size)))
+    ∙ div-mul-add d.count d.size 0 positive in
     ap (λ n. let disk : Disk = record { size = d.size; count = n; bytes = d.bytes } in disk) count
 
 refused_bytes : (q : Query) (d : Disk) (fault : Fault) → IsDisk d → RefusesReport q d fault → RefusesQuery q d.size d.bytes fault
@@ -23,20 +24,24 @@ refused_bytes q d fault is refuses =
     let same = sym (image_of_disk d is) in
     (subst IsDisk same is, subst (λ (e : Disk). RefusesReport q e fault) same refuses)
 
-answers_at : {T : Type 0} (q : Query) (d : Disk) (journal : List ℕ) (reported : Result T Fault) (o : Outcome) → IsDisk d → IfErr reported (λ fault. RefusesReport q d fault)
+answers_at : {T : Type 0} (q : Query) (d : Disk) (journal : List ℕ) (reported : Result T Fault) (o : Outcome) → IsDisk d
+    → IfErr reported (λ fault. RefusesReport q d fault)
     → o.image.items ≡ d.bytes → o.journal.items ≡ journal → AnswersQuery (result_err reported) q d.size d.bytes journal o
 answers_at q d journal (Ok x) o is refuses image same = (image, same)
 answers_at q d journal (Err fault) o is refuses image same = (image, same, refused_bytes q d fault is refuses)
 
-pub query_answers : {T : Type 0} (q : Query) (size : ℕ) (bytes journal : List ℕ) (d : Disk) (reported : Result T Fault) (o : Outcome) → IsDisk d → d.size ≡ size → d.bytes ≡ bytes
-    → IfErr reported (λ fault. RefusesReport q d fault) → o.fault ≡ result_err reported → o.image.items ≡ d.bytes → o.journal.items ≡ journal → AnswersQuery o.fault q size bytes journal o
+pub query_answers : {T : Type 0} (q : Query) (size : ℕ) (bytes journal : List ℕ) (d : Disk) (reported : Result T Fault) (o : Outcome)
+    → IsDisk d → d.size ≡ size → d.bytes ≡ bytes
+    → IfErr reported (λ fault. RefusesReport q d fault) → o.fault ≡ result_err reported → o.image.items ≡ d.bytes
+    → o.journal.items ≡ journal → AnswersQuery o.fault q size bytes journal o
 query_answers q size bytes journal d reported o is e f refuses fault image same =
     let at = answers_at q d journal reported o is refuses image same in
     let by_fault = subst (λ (x : Option Fault). AnswersQuery x q d.size d.bytes journal o) (sym fault) at in
     let by_size = subst (λ (n : ℕ). AnswersQuery o.fault q n d.bytes journal o) e by_fault in
     subst (λ (l : List ℕ). AnswersQuery o.fault q size l journal o) f by_size
 
-pub query_sends : (q : Query) (size : ℕ) (bytes : List ℕ) (d : Disk) (fault : Option Fault) (old new : Option (List ℕ)) → IsDisk d → d.size ≡ size → d.bytes ≡ bytes
+pub query_sends : (q : Query) (size : ℕ) (bytes : List ℕ) (d : Disk) (fault : Option Fault) (old new : Option (List ℕ)) → IsDisk d
+    → d.size ≡ size → d.bytes ≡ bytes
     → SendsReport q d fault old new → SendsQuery q size bytes fault old new
 query_sends q size bytes d fault old new is e f sends =
     let at = subst (λ (disk : Disk). SendsReport q disk fault old new) (sym (image_of_disk d is)) sends in

@@ -25,7 +25,8 @@ pub record IsChanged (asked : Asked) (disk : Disk) (journal : List ℕ) (outcome
 
 -- The image mounts, the journal is empty, and the command is refused on an image that nothing was done to.
 abbrev pub RefusesStep : Asked → Disk → List ℕ → StepFault → Type 0
-RefusesStep asked disk journal fault = IsMounted disk × (journal ≡ []) × Takes (Do asked) (Some fault) (fresh_history disk) (fresh_history disk)
+RefusesStep asked disk journal fault = IsMounted disk × (journal ≡ [])
+    × Takes (Do asked) (Some fault) (fresh_history disk) (fresh_history disk)
 
 -- why an image isn't changed: a cause that it has, then a journal that isn't empty, then what the command is refused for;
 -- or want of memory

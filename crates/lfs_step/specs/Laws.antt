@@ -31,5 +31,6 @@ pub record HasBoth (new : History) (before after : List ℕ) (size : ℕ) : Type
 -- A command that changes bytes leaves a history from which undo and redo, in any list, lead to the bytes before and to those
 -- after, byte for byte, and to no others.
 abbrev pub ChangedBytesAreTakenBack : Type 0
-ChangedBytesAreTakenBack = (asked : Asked) (size : ℕ) (image journal : List ℕ) (outcome : Outcome) → ChangesBytes asked size image journal outcome
+ChangedBytesAreTakenBack = (asked : Asked) (size : ℕ) (image journal : List ℕ) (outcome : Outcome)
+    → ChangesBytes asked size image journal outcome
     → (new : History) × HasBoth new image outcome.image.items size

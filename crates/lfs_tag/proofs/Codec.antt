@@ -1,5 +1,6 @@
 -- What is read is spelled so, and what is spelled so is read.
-use Rattle.std.proofs.Common.{◌≡◌, ℕ, ◌+◌, ◌^◌, ◌<◌, ◌≤◌, Bool, true, false, cond, ltb, leb, ◌&&◌, List, [], ◌∷◌, ◌++◌, length, take, drop, Some, None, refl, sym, ap, subst, ◌∙◌, inl, inr, append_assoc, arith, bit_xor}
+use Rattle.std.proofs.Common.{◌≡◌, ℕ, ◌+◌, ◌^◌, ◌<◌, ◌≤◌, Bool, true, false, cond, ltb, leb, ◌&&◌, List, [], ◌∷◌, ◌++◌, length, take, drop}
+use Rattle.std.proofs.Common.{Some, None, refl, sym, ap, subst, ◌∙◌, inl, inr, append_assoc, arith, bit_xor}
 use Rattle.std.specs.Int.{w32, from_be_bytes, to_be_bytes}
 use Rattle.std.specs.Int.Bits.{xor_assoc, xor_self, xor_zero_r}
 use Rattle.std.proofs.lemmas.Bool.{cases_lt, ltb-false, ltb-true, leb-true, le-ltb, lt-ltb, le-leb}
@@ -60,9 +61,11 @@ tag_takes prev bytes f h e =
     let b = guard_some (ltb word (2 ^ 31) && leb n (length behind)) found f a.1 in
     let t = and_true (ltb word (2 ^ 31)) (leb n (length behind)) b.0 in
     let fits : n ≤ length behind = leb-true _ _ t.1 in
-    let back : to_be_bytes w32 number ≡ take 4 bytes = be_bytes_4 (take 4 bytes) number (omega (arith, length-take 4 bytes)) (IsBytes-take 4 bytes h) refl in
+    let back : to_be_bytes w32 number ≡ take 4 bytes = be_bytes_4 (take 4 bytes) number (omega (arith, length-take 4 bytes))
+    (IsBytes-take 4 bytes h) refl in
     let cut : take 4 bytes ++ take n behind ++ drop n behind ≡ bytes =
-    append_assoc (take 4 bytes) (take n behind) (drop n behind) ∙ ap (λ (x : List ℕ). take 4 bytes ++ x) (take-append-drop n behind) ∙ take-append-drop 4 bytes in
+    append_assoc (take 4 bytes) (take n behind) (drop n behind) ∙ ap (λ (x : List ℕ). take 4 bytes ++ x) (take-append-drop n behind)
+    ∙ take-append-drop 4 bytes in
     let all : TagTakes prev bytes found = record {
       parts = sym cut;
       stored = sym back ∙ ap (to_be_bytes w32) (sym (xor_twice number prev));
@@ -87,17 +90,35 @@ tag_behind-again stored t more valid len =
     let fits : leb (data_len t.word) (length (t.content ++ more)) ≡ true = le-leb _ _ (omega (arith, length-append t.content more)) in
     let front : take (data_len t.word) (t.content ++ more) ≡ t.content = take_at t.content more (data_len t.word) len in
     let back : drop (data_len t.word) (t.content ++ more) ≡ more = drop_at t.content more (data_len t.word) len in
-    ap (λ (b : Bool). cond (b && leb (data_len t.word) (length (t.content ++ more))) (Some (record { stored = stored; item = record { word = t.word; content = take (data_len t.word) (t.content ++ more) }; rest = drop (data_len t.word) (t.content ++ more) })) None) low
-    ∙ ap (λ (b : Bool). cond b (Some (record { stored = stored; item = record { word = t.word; content = take (data_len t.word) (t.content ++ more) }; rest = drop (data_len t.word) (t.content ++ more) })) None) fits
-    ∙ ap (λ (x : List ℕ). Some (record { stored = stored; item = record { word = t.word; content = x }; rest = drop (data_len t.word) (t.content ++ more) })) front
+    ap (λ (b : Bool). cond (b && leb (data_len t.word) (length (t.content ++ more)))
+    (Some (record {
+      stored = stored;
+      item = record { word = t.word; content = take (data_len t.word) (t.content ++ more) };
+      rest = drop (data_len t.word) (t.content ++ more);
+    })) None) low
+    ∙ ap (λ (b : Bool). cond b (Some (record {
+      stored = stored;
+      item = record {
+        word = t.word;
+        content = take (data_len t.word) (t.content ++ more);
+      };
+      rest = drop (data_len t.word) (t.content ++ more);
+    })) None) fits
+    ∙ ap (λ (x : List ℕ). Some (record {
+      stored = stored;
+      item = record { word = t.word; content = x };
+      rest = drop (data_len t.word) (t.content ++ more);
+    })) front
     ∙ ap (λ (x : List ℕ). Some (record { stored = stored; item = t; rest = x })) back
 
 pub tag_again : (prev : ℕ) (t : Item) (more : List ℕ) → prev < 2 ^ 32 → t.word < 2 ^ 31 → length t.content ≡ data_len t.word
-    → tag_at prev (to_be_bytes w32 (bit_xor t.word prev) ++ t.content ++ more) ≡ Some (record { stored = to_be_bytes w32 (bit_xor t.word prev); item = t; rest = more })
+    → tag_at prev (to_be_bytes w32 (bit_xor t.word prev) ++ t.content ++ more)
+    ≡ Some (record { stored = to_be_bytes w32 (bit_xor t.word prev); item = t; rest = more })
 tag_again prev t more small valid len =
     let number : ℕ = bit_xor t.word prev in
     let below : number < 2 ^ 32 = xor_lt 32 t.word prev (omega arith) small in
-    let word : bit_xor (from_be_bytes w32 (to_be_bytes w32 number)) prev ≡ t.word = ap (λ (n : ℕ). bit_xor n prev) (from_be_bytes-to_be_bytes_4 number below) ∙ xor_twice t.word prev in
+    let word : bit_xor (from_be_bytes w32 (to_be_bytes w32 number)) prev ≡ t.word =
+    ap (λ (n : ℕ). bit_xor n prev) (from_be_bytes-to_be_bytes_4 number below) ∙ xor_twice t.word prev in
     tag_cells prev _ _ _ _ (t.content ++ more)
     ∙ ap (λ (w : ℕ). tag_behind (to_be_bytes w32 number) w (t.content ++ more)) word
     ∙ tag_behind-again (to_be_bytes w32 number) t more valid len

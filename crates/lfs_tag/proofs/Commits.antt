@@ -1,5 +1,7 @@
 -- A commit that is read is spelled so, and one that is spelled so is read.
-use Rattle.std.proofs.Common.{◌≡◌, ◌≢◌, ℕ, zero, suc, ◌^◌, ◌<◌, ◌≤◌, Bool, true, false, cond, ltb, leb, eqb, ◌&&◌, List, [], ◌∷◌, ◌++◌, length, take, drop, Option, Some, None, option_map, refl, sym, ap, subst, ◌∙◌, append_assoc, arith, bit_xor, eq-eqb}
+use Rattle.std.proofs.Common.{◌≡◌, ◌≢◌, ℕ, zero, suc, ◌^◌, ◌<◌, ◌≤◌, Bool, true, false, cond, ltb, leb, eqb, ◌&&◌, List, [], ◌∷◌, ◌++◌}
+use Rattle.std.proofs.Common.{length, take, drop, Option, Some, None, option_map, refl, sym, ap, subst, ◌∙◌, append_assoc, arith, bit_xor}
+use Rattle.std.proofs.Common.{eq-eqb}
 use Rattle.std.specs.Int.{w32, to_be_bytes, from_le_bytes, to_le_bytes}
 use Rattle.std.proofs.lemmas.Bool.{eqb-true, ltb-true, leb-true, lt-ltb, le-leb}
 use Rattle.std.proofs.lemmas.List.{take-append-drop, length-take, length-drop}
@@ -32,7 +34,8 @@ covered-more prev t c w e =
     sym (ap (λ (x : List ℕ). x ++ t.content ++ tags_bytes t.word c.tags ++ to_be_bytes w32 (bit_xor c.closing (last_word t.word c.tags))) e)
     ∙ append_assoc (w ++ t.content) (tags_bytes t.word c.tags) (to_be_bytes w32 (bit_xor c.closing (last_word t.word c.tags)))
 
-covered-last : (prev closing : ℕ) (padding : List ℕ) → covered_bytes prev (record { tags = []; closing = closing; padding = padding }) ≡ to_be_bytes w32 (bit_xor closing prev)
+covered-last : (prev closing : ℕ) (padding : List ℕ) → covered_bytes prev (record { tags = []; closing = closing; padding = padding })
+    ≡ to_be_bytes w32 (bit_xor closing prev)
 unfolding tags_bytes last_word
 covered-last prev closing padding = refl
 
@@ -42,7 +45,8 @@ sealed-more : (sum prev : ℕ) (t : Item) (c : Commit) (w : List ℕ) → w ≡ 
 sealed-more sum prev t c w e =
     let front : List ℕ = w ++ t.content in
     let covered : List ℕ = covered_bytes t.word c in
-    let sums : crc sum (front ++ covered) ≡ crc (crc (crc sum w) t.content) covered = crc-append sum front covered ∙ ap (λ (s : ℕ). crc s covered) (crc-append sum w t.content) in
+    let sums : crc sum (front ++ covered) ≡ crc (crc (crc sum w) t.content) covered =
+    crc-append sum front covered ∙ ap (λ (s : ℕ). crc s covered) (crc-append sum w t.content) in
     ap (λ (x : List ℕ). x ++ to_le_bytes w32 (crc sum x) ++ c.padding) (covered-more prev t c w e)
     ∙ ap (λ (s : ℕ). (front ++ covered) ++ to_le_bytes w32 s ++ c.padding) sums
     ∙ ap (λ (x : List ℕ). x ++ c.padding) (append_assoc front covered (to_le_bytes w32 (crc (crc (crc sum w) t.content) covered)))
@@ -65,20 +69,31 @@ unfolding closed
 closed_takes sum prev bytes f r t kind e =
     let content : List ℕ = f.item.content in
     let found : CommitFront = record { commit = record { tags = []; closing = f.item.word; padding = drop 4 content }; rest = f.rest } in
-    let g = guard_some ((ltb (len_of f.item.word) 0x3ff && leb 4 (length content)) && eqb (from_le_bytes w32 (take 4 content)) (crc sum f.stored)) found r e in
-    let a = and_true (ltb (len_of f.item.word) 0x3ff && leb 4 (length content)) (eqb (from_le_bytes w32 (take 4 content)) (crc sum f.stored)) g.0 in
+    let g = guard_some ((ltb (len_of f.item.word) 0x3ff && leb 4 (length content))
+    && eqb (from_le_bytes w32 (take 4 content)) (crc sum f.stored)) found r e in
+    let a = and_true (ltb (len_of f.item.word) 0x3ff && leb 4 (length content))
+    (eqb (from_le_bytes w32 (take 4 content)) (crc sum f.stored)) g.0 in
     let b = and_true (ltb (len_of f.item.word) 0x3ff) (leb 4 (length content)) a.0 in
     let live : len_of f.item.word < 0x3ff = ltb-true _ _ b.0 in
     let long : 4 ≤ length content = leb-true _ _ b.1 in
     let value : from_le_bytes w32 (take 4 content) ≡ crc sum f.stored = eqb-true _ _ a.1 in
     let plain : data_len f.item.word ≡ len_of f.item.word = plain_len (len_of f.item.word) live in
-    let front : to_le_bytes w32 (crc sum f.stored) ≡ take 4 content = le_bytes_4 (take 4 content) _ (omega (arith, length-take 4 content)) (IsBytes-take 4 content t.content_bytes) (sym value) in
-    let whole : content ≡ to_le_bytes w32 (crc sum f.stored) ++ drop 4 content = sym (take-append-drop 4 content) ∙ ap (λ (x : List ℕ). x ++ drop 4 content) (sym front) in
-    let regroup : (f.stored ++ (to_le_bytes w32 (crc sum f.stored) ++ drop 4 content)) ++ f.rest ≡ (f.stored ++ to_le_bytes w32 (crc sum f.stored) ++ drop 4 content) ++ f.rest =
+    let front : to_le_bytes w32 (crc sum f.stored) ≡ take 4 content = le_bytes_4 (take 4 content) _ (omega (arith, length-take 4 content))
+    (IsBytes-take 4 content t.content_bytes) (sym value) in
+    let whole : content ≡ to_le_bytes w32 (crc sum f.stored) ++ drop 4 content =
+    sym (take-append-drop 4 content) ∙ ap (λ (x : List ℕ). x ++ drop 4 content) (sym front) in
+    let regroup : (f.stored ++ (to_le_bytes w32 (crc sum f.stored) ++ drop 4 content)) ++ f.rest
+    ≡ (f.stored ++ to_le_bytes w32 (crc sum f.stored) ++ drop 4 content) ++ f.rest =
     ap (λ (x : List ℕ). x ++ f.rest) (sym (append_assoc f.stored (to_le_bytes w32 (crc sum f.stored)) (drop 4 content))) in
     let same : covered_bytes prev found.commit ≡ f.stored = covered-last prev f.item.word (drop 4 content) ∙ sym t.stored in
     let all : CommitTakes sum prev bytes found = record {
-      valid = record { tags = tt; valid = t.valid; kind = kind; not_deleted = live; padding = omega (arith, length-drop 4 content, t.len, plain) };
+      valid = record {
+        tags = tt;
+        valid = t.valid;
+        kind = kind;
+        not_deleted = live;
+        padding = omega (arith, length-drop 4 content, t.len, plain);
+      };
       parts = t.parts ∙ ap (λ (x : List ℕ). f.stored ++ x ++ f.rest) whole ∙ regroup
           ∙ ap (λ (x : List ℕ). (x ++ to_le_bytes w32 (crc sum x) ++ drop 4 content) ++ f.rest) (sym same);
       rest_bytes = t.rest_bytes;
@@ -94,7 +109,8 @@ Takes read = (sum prev : ℕ) (bytes : List ℕ) (r : CommitFront) → IsBytes b
 
 step_takes-tag : (read : Reader) → Takes read → (sum prev : ℕ) (bytes : List ℕ) (f : TagFront) (r : CommitFront) → TagTakes prev bytes f
     → (b : Bool) → eqb (main_kind f.item.word) 5 ≡ b
-    → cond b (closed (crc sum f.stored) f) (option_map (with_tag f.item) (read (crc (crc sum f.stored) f.item.content) f.item.word f.rest)) ≡ Some r
+    → cond b (closed (crc sum f.stored) f) (option_map (with_tag f.item) (read (crc (crc sum f.stored) f.item.content) f.item.word f.rest))
+    ≡ Some r
     → CommitTakes sum prev bytes r
 step_takes-tag read takes sum prev bytes f r t true k d = closed_takes sum prev bytes f r t (eqb-true _ _ k) d
 step_takes-tag read takes sum prev bytes f r t false k d =
@@ -124,23 +140,29 @@ step_takes read takes sum prev bytes r h None k d = absurd cc
 step_takes read takes sum prev bytes r h (Some f) k d =
     step_takes-tag read takes sum prev bytes f r (tag_takes prev bytes f h k) (eqb (main_kind f.item.word) 5) refl d
 
-commit_takes-within : (n sum prev : ℕ) (bytes : List ℕ) (r : CommitFront) → IsBytes bytes → commit_within n sum prev bytes ≡ Some r → CommitTakes sum prev bytes r
+commit_takes-within : (n sum prev : ℕ) (bytes : List ℕ) (r : CommitFront) → IsBytes bytes → commit_within n sum prev bytes ≡ Some r
+    → CommitTakes sum prev bytes r
 unfolding commit_within
 commit_takes-within zero sum prev bytes r h e = absurd cc
 commit_takes-within (suc n) sum prev bytes r h e =
     step_takes (commit_within n) (λ s p b q k d. commit_takes-within n s p b q k d) sum prev bytes r h (tag_at prev bytes) refl e
 
-pub commit_takes : (sum prev : ℕ) (bytes : List ℕ) (r : CommitFront) → IsBytes bytes → commit_at sum prev bytes ≡ Some r → CommitTakes sum prev bytes r
+pub commit_takes : (sum prev : ℕ) (bytes : List ℕ) (r : CommitFront) → IsBytes bytes → commit_at sum prev bytes ≡ Some r
+    → CommitTakes sum prev bytes r
 unfolding commit_at
 commit_takes sum prev bytes r h e = commit_takes-within (suc (length bytes)) sum prev bytes r h e
 
 -- ---- what is spelled so is read
 
-closed-again : (sum : ℕ) (f : TagFront) → len_of f.item.word < 0x3ff → 4 ≤ length f.item.content → from_le_bytes w32 (take 4 f.item.content) ≡ sum
+closed-again : (sum : ℕ) (f : TagFront) → len_of f.item.word < 0x3ff → 4 ≤ length f.item.content
+    → from_le_bytes w32 (take 4 f.item.content) ≡ sum
     → closed sum f ≡ Some (record { commit = record { tags = []; closing = f.item.word; padding = drop 4 f.item.content }; rest = f.rest })
 unfolding closed
 closed-again sum f live long value =
-    let made : Option CommitFront = Some (record { commit = record { tags = []; closing = f.item.word; padding = drop 4 f.item.content }; rest = f.rest }) in
+    let made : Option CommitFront = Some (record {
+      commit = record { tags = []; closing = f.item.word; padding = drop 4 f.item.content };
+      rest = f.rest;
+    }) in
     let a : ltb (len_of f.item.word) 0x3ff ≡ true = lt-ltb _ _ live in
     let b : leb 4 (length f.item.content) ≡ true = le-leb _ _ long in
     let d : eqb (from_le_bytes w32 (take 4 f.item.content)) sum ≡ true = eq-eqb _ _ value in
@@ -159,7 +181,8 @@ closing_len c sum h =
 
 -- a commit with no tags is its closing tag
 pub sealed-last : (sum prev : ℕ) (c : Commit) → c.tags ≡ []
-    → sealed sum prev c ≡ to_be_bytes w32 (bit_xor c.closing prev) ++ (closing_item (crc sum (to_be_bytes w32 (bit_xor c.closing prev))) c.closing c.padding).content
+    → sealed sum prev c ≡ to_be_bytes w32 (bit_xor c.closing prev) ++ (closing_item
+    (crc sum (to_be_bytes w32 (bit_xor c.closing prev))) c.closing c.padding).content
 sealed-last sum prev c e =
     let w : List ℕ = to_be_bytes w32 (bit_xor c.closing prev) in
     ap (λ (ts : List Item). sealed sum prev (record { tags = ts; closing = c.closing; padding = c.padding })) e
@@ -167,11 +190,17 @@ sealed-last sum prev c e =
     ∙ append_assoc w (to_le_bytes w32 (crc sum w)) c.padding
 
 pub sealed-first : (sum prev : ℕ) (t : Item) (c : Commit)
-    → sealed sum prev (led_by t c) ≡ (to_be_bytes w32 (bit_xor t.word prev) ++ t.content) ++ sealed (crc (crc sum (to_be_bytes w32 (bit_xor t.word prev))) t.content) t.word c
+    → sealed sum prev (led_by t c) ≡ (to_be_bytes w32 (bit_xor t.word prev) ++ t.content)
+    ++ sealed (crc (crc sum (to_be_bytes w32 (bit_xor t.word prev))) t.content) t.word c
 sealed-first sum prev t c = sealed-more sum prev t c (to_be_bytes w32 (bit_xor t.word prev)) refl
 
-last_again : (sum prev : ℕ) (c : Commit) (more : List ℕ) → IsCommit c → c.tags ≡ [] → sum < 2 ^ 32 → prev < 2 ^ 32 → IsBytes (sealed sum prev c ++ more)
-    → commit_at sum prev (sealed sum prev c ++ more) ≡ Some (record { commit = record { tags = []; closing = c.closing; padding = c.padding }; rest = more })
+last_again : (sum prev : ℕ) (c : Commit) (more : List ℕ) → IsCommit c → c.tags ≡ [] → sum < 2 ^ 32 → prev < 2 ^ 32
+    → IsBytes (sealed sum prev c ++ more)
+    → commit_at sum prev (sealed sum prev c ++ more) ≡ Some (record {
+      commit =
+          record { tags = []; closing = c.closing; padding = c.padding };
+      rest = more;
+    })
 last_again sum prev c more h e small low fits =
     let w : List ℕ = to_be_bytes w32 (bit_xor c.closing prev) in
     let s : ℕ = crc sum w in
@@ -188,26 +217,32 @@ last_again sum prev c more h e small low fits =
 commit_again-tags : (ts : List Item) (closing : ℕ) (padding : List ℕ) (sum prev : ℕ) (more : List ℕ)
     → IsCommit (record { tags = ts; closing = closing; padding = padding }) → sum < 2 ^ 32 → prev < 2 ^ 32
     → IsBytes (sealed sum prev (record { tags = ts; closing = closing; padding = padding }) ++ more)
-    → commit_at sum prev (sealed sum prev (record { tags = ts; closing = closing; padding = padding }) ++ more) ≡ Some (record { commit = record { tags = ts; closing = closing; padding = padding }; rest = more })
-commit_again-tags [] closing padding sum prev more h small low fits = last_again sum prev (record { tags = []; closing = closing; padding = padding }) more h refl small low fits
+    → commit_at sum prev (sealed sum prev (record { tags = ts; closing = closing; padding = padding }) ++ more)
+    ≡ Some (record { commit = record { tags = ts; closing = closing; padding = padding }; rest = more })
+commit_again-tags [] closing padding sum prev more h small low fits =
+    last_again sum prev (record { tags = []; closing = closing; padding = padding }) more h refl small low fits
 commit_again-tags (t ∷ ts) closing padding sum prev more h small low fits =
     let c : Commit = record { tags = ts; closing = closing; padding = padding } in
     let w : List ℕ = to_be_bytes w32 (bit_xor t.word prev) in
     let front : List ℕ = w ++ t.content in
     let s : ℕ = crc (crc sum w) t.content in
     let inner : List ℕ = sealed s t.word c in
-    let whole : sealed sum prev (led_by t c) ++ more ≡ front ++ (inner ++ more) = ap (λ (x : List ℕ). x ++ more) (sealed-first sum prev t c) ∙ append_assoc front inner more in
+    let whole : sealed sum prev (led_by t c) ++ more ≡ front ++ (inner ++ more) =
+    ap (λ (x : List ℕ). x ++ more) (sealed-first sum prev t c) ∙ append_assoc front inner more in
     let all : IsBytes (front ++ (inner ++ more)) = subst IsBytes whole fits in
     let ahead : IsBytes front = IsBytes-front front (inner ++ more) all in
     let item : IsItem t = h.tags.0 in
-    let sums : s < 2 ^ 32 = crc-below (crc sum w) t.content (crc-below sum w small (IsBytes-front w t.content ahead)) (IsBytes-back w t.content ahead) in
+    let sums : s < 2 ^ 32 = crc-below (crc sum w) t.content (crc-below sum w small (IsBytes-front w t.content ahead))
+    (IsBytes-back w t.content ahead) in
     let f : TagFront = record { stored = w; item = t; rest = inner ++ more } in
     let read : tag_at prev (front ++ (inner ++ more)) ≡ Some f = tag_again prev t (inner ++ more) low item.valid item.content in
     let rest : IsCommit c = record { tags = h.tags.1; valid = h.valid; kind = h.kind; not_deleted = h.not_deleted; padding = h.padding } in
     ap (commit_at sum prev) whole
     ∙ commit_at-more sum prev (front ++ (inner ++ more)) f read item.kind
-    ∙ ap (option_map (with_tag t)) (commit_again-tags ts closing padding s t.word more rest sums (omega (arith, item.valid)) (IsBytes-back front (inner ++ more) all))
+    ∙ ap (option_map (with_tag t)) (commit_again-tags ts closing padding s t.word more rest sums (omega (arith, item.valid))
+    (IsBytes-back front (inner ++ more) all))
 
-pub commit_again : (sum prev : ℕ) (c : Commit) (more : List ℕ) → IsCommit c → sum < 2 ^ 32 → prev < 2 ^ 32 → IsBytes (sealed sum prev c ++ more)
+pub commit_again : (sum prev : ℕ) (c : Commit) (more : List ℕ) → IsCommit c → sum < 2 ^ 32 → prev < 2 ^ 32
+    → IsBytes (sealed sum prev c ++ more)
     → commit_at sum prev (sealed sum prev c ++ more) ≡ Some (record { commit = c; rest = more })
 commit_again sum prev c more h small low fits = commit_again-tags c.tags c.closing c.padding sum prev more h small low fits

@@ -1,5 +1,6 @@
 -- What a commit's checksum covers, tag by tag: the bytes up to the word of the tag that closes it.
-use Rattle.std.proofs.Common.{◌≡◌, ◌≢◌, ℕ, ◌+◌, ◌-◌, ◌≤◌, List, ◌++◌, length, take, Option, Some, None, option_map, refl, sym, ap, ◌∙◌, append_assoc, arith}
+use Rattle.std.proofs.Common.{◌≡◌, ◌≢◌, ℕ, ◌+◌, ◌-◌, ◌≤◌, List, ◌++◌, length, take, Option, Some, None, option_map, refl, sym, ap, ◌∙◌}
+use Rattle.std.proofs.Common.{append_assoc, arith}
 use Rattle.std.proofs.lemmas.List.{take_at, length-append}
 use Rattle.lfs_block.specs.Checksum.{crc}
 use Rattle.lfs_tag.specs.Tag.{main_kind}
@@ -27,7 +28,8 @@ seen-with : (f : TagFront) (o : Option CommitFront) → option_map commit_seen (
 seen-with f None = refl
 seen-with f (Some r) = refl
 
-pub left_more : (sum prev : ℕ) (bytes : List ℕ) (word : ℕ) (rest : List ℕ) (f : TagFront) → Left sum prev bytes word rest → tag_at word rest ≡ Some f → main_kind f.item.word ≢ 5
+pub left_more : (sum prev : ℕ) (bytes : List ℕ) (word : ℕ) (rest : List ℕ) (f : TagFront) → Left sum prev bytes word rest
+    → tag_at word rest ≡ Some f → main_kind f.item.word ≢ 5
     → Left sum prev bytes f.item.word f.rest
 left_more sum prev bytes word rest f left e kind =
     let cut = tag_cut word rest f e in
@@ -36,7 +38,8 @@ left_more sum prev bytes word rest f left e kind =
     append_assoc front (f.stored ++ f.item.content) f.rest
     ∙ ap (λ (x : List ℕ). front ++ x) (append_assoc f.stored f.item.content f.rest ∙ sym cut.parts)
     ∙ left.parts in
-    let is : before bytes f.rest ≡ front ++ (f.stored ++ f.item.content) = before-is (front ++ (f.stored ++ f.item.content)) f.rest bytes whole in
+    let is : before bytes f.rest ≡ front ++ (f.stored ++ f.item.content) =
+    before-is (front ++ (f.stored ++ f.item.content)) f.rest bytes whole in
     let sums : crc sum (before bytes f.rest) ≡ crc (crc (crc sum front) f.stored) f.item.content =
     ap (crc sum) is ∙ crc-append sum front (f.stored ++ f.item.content) ∙ crc-append (crc sum front) f.stored f.item.content in
     record {
@@ -48,19 +51,23 @@ left_more sum prev bytes word rest f left e kind =
           ∙ left.seen;
     }
 
-pub left_closing : (sum prev : ℕ) (bytes : List ℕ) (word : ℕ) (rest : List ℕ) (f : TagFront) → Left sum prev bytes word rest → tag_at word rest ≡ Some f
+pub left_closing : (sum prev : ℕ) (bytes : List ℕ) (word : ℕ) (rest : List ℕ) (f : TagFront) → Left sum prev bytes word rest
+    → tag_at word rest ≡ Some f
     → length bytes - length rest + 4 ≤ length bytes
 left_closing sum prev bytes word rest f left e =
     omega (arith, tag_at-shorter word rest f e, length-append (before bytes rest) rest, ap length left.parts)
 
-pub left_closed : (sum prev : ℕ) (bytes : List ℕ) (word : ℕ) (rest : List ℕ) (f : TagFront) → Left sum prev bytes word rest → tag_at word rest ≡ Some f → main_kind f.item.word ≡ 5
-    → option_map commit_seen (closed (crc sum (take (length bytes - length rest + 4) bytes)) f) ≡ option_map commit_seen (commit_at sum prev bytes)
+pub left_closed : (sum prev : ℕ) (bytes : List ℕ) (word : ℕ) (rest : List ℕ) (f : TagFront) → Left sum prev bytes word rest
+    → tag_at word rest ≡ Some f → main_kind f.item.word ≡ 5
+    → option_map commit_seen (closed (crc sum (take (length bytes - length rest + 4) bytes)) f)
+    ≡ option_map commit_seen (commit_at sum prev bytes)
 left_closed sum prev bytes word rest f left e kind =
     let cut = tag_cut word rest f e in
     let front : List ℕ = before bytes rest in
     let whole : (front ++ f.stored) ++ (f.item.content ++ f.rest) ≡ bytes =
     append_assoc front f.stored (f.item.content ++ f.rest) ∙ ap (λ (x : List ℕ). front ++ x) (sym cut.parts) ∙ left.parts in
-    let len : length (front ++ f.stored) ≡ length bytes - length rest + 4 = omega (arith, length-append front f.stored, length-append front rest, ap length left.parts, cut.len) in
+    let len : length (front ++ f.stored) ≡ length bytes - length rest + 4 =
+    omega (arith, length-append front f.stored, length-append front rest, ap length left.parts, cut.len) in
     let covered : take (length bytes - length rest + 4) bytes ≡ front ++ f.stored =
     ap (λ (b : List ℕ). take (length bytes - length rest + 4) b) (sym whole)
     ∙ take_at (front ++ f.stored) (f.item.content ++ f.rest) (length bytes - length rest + 4) len in

@@ -1,5 +1,7 @@
 -- Erased bytes hold no commit, and what is written before them is a log.
-use Rattle.std.proofs.Common.{◌≡◌, ◌≢◌, ℕ, ◌+◌, ◌-◌, ◌/◌, ◌%◌, ◌^◌, ◌<◌, ◌≤◌, Bool, true, false, cond, ltb, leb, eqb, ◌&&◌, List, [], ◌∷◌, ◌++◌, length, take, drop, Option, Some, None, option_map, refl, sym, ap, subst, ◌∙◌, inl, inr, append_assoc, arith, bit_xor, bit_and}
+use Rattle.std.proofs.Common.{◌≡◌, ◌≢◌, ℕ, ◌+◌, ◌-◌, ◌/◌, ◌%◌, ◌^◌, ◌<◌, ◌≤◌, Bool, true, false, cond, ltb, leb, eqb, ◌&&◌, List, [], ◌∷◌}
+use Rattle.std.proofs.Common.{◌++◌, length, take, drop, Option, Some, None, option_map, refl, sym, ap, subst, ◌∙◌, inl, inr, append_assoc}
+use Rattle.std.proofs.Common.{arith, bit_xor, bit_and}
 use Rattle.std.specs.Int.{w32, from_be_bytes, to_be_bytes, to_le_bytes}
 use Rattle.std.specs.Int.Bits.{xor_add_and}
 use Rattle.std.specs.List.{AllByRecursion}
@@ -51,24 +53,31 @@ erased_tag prev bytes f h e =
     let behind : List ℕ = drop 4 bytes in
     let a = guard_none (ltb (length bytes) 4) (tag_behind (take 4 bytes) word behind) f e in
     let long : 4 ≤ length bytes = ltb-false _ _ a.0 in
-    let found : TagFront = record { stored = take 4 bytes; item = record { word = word; content = take (data_len word) behind }; rest = drop (data_len word) behind } in
+    let found : TagFront = record {
+      stored = take 4 bytes;
+      item = record { word = word; content = take (data_len word) behind };
+      rest = drop (data_len word) behind;
+    } in
     let b = guard_some (ltb word (2 ^ 31) && leb (data_len word) (length behind)) found f a.1 in
     let t = and_true (ltb word (2 ^ 31)) (leb (data_len word) (length behind)) b.0 in
     let all : ErasedTag prev found = record {
       valid = ltb-true _ _ t.0;
-      word = ap (λ (n : ℕ). bit_xor n prev) (erased_word (take 4 bytes) (All-take (λ b. b ≡ 255) 4 bytes h) (omega (arith, length-take 4 bytes)));
+      word = ap (λ (n : ℕ). bit_xor n prev) (erased_word (take 4 bytes) (All-take (λ b. b ≡ 255) 4 bytes h)
+          (omega (arith, length-take 4 bytes)));
       rest = All-drop (λ b. b ≡ 255) (data_len word) behind (All-drop (λ b. b ≡ 255) 4 bytes h);
     } in
     subst (ErasedTag prev) b.1 all
 
 -- behind a word with a top bit of 0 they are no tag
-erased-invalid : (prev : ℕ) (bytes : List ℕ) (o : Option TagFront) → IsErased bytes → prev < 2 ^ 31 → tag_at prev bytes ≡ o → tag_at prev bytes ≡ None
+erased-invalid : (prev : ℕ) (bytes : List ℕ) (o : Option TagFront) → IsErased bytes → prev < 2 ^ 31 → tag_at prev bytes ≡ o
+    → tag_at prev bytes ≡ None
 erased-invalid prev bytes None h low e = e
 erased-invalid prev bytes (Some f) h low e =
     let t = erased_tag prev bytes f h e in
     absurd (omega (arith, t.valid, t.word, ones prev (omega arith), low))
 
-erased_none-tag : (sum prev : ℕ) (bytes : List ℕ) (o : Option TagFront) → IsErased bytes → prev < 2 ^ 32 → main_kind prev ≢ 2 → tag_at prev bytes ≡ o → commit_at sum prev bytes ≡ None
+erased_none-tag : (sum prev : ℕ) (bytes : List ℕ) (o : Option TagFront) → IsErased bytes → prev < 2 ^ 32 → main_kind prev ≢ 2
+    → tag_at prev bytes ≡ o → commit_at sum prev bytes ≡ None
 erased_none-tag sum prev bytes None h low kind e = commit_at-none sum prev bytes e
 erased_none-tag sum prev bytes (Some f) h low kind e =
     let t = erased_tag prev bytes f h e in
@@ -101,7 +110,8 @@ start_kind e = absurd (omega (arith, e))
 
 -- ---- logs before erased bytes
 
-pub make_log : (revision rest : List ℕ) (cs : List Commit) → length revision ≡ 4 → AllByRecursion IsCommit cs → IsBytes (next_lead revision cs) → IsErased rest
+pub make_log : (revision rest : List ℕ) (cs : List Commit) → length revision ≡ 4 → AllByRecursion IsCommit cs
+    → IsBytes (next_lead revision cs) → IsErased rest
     → IsLog (revision ++ commits_bytes revision 0xffffffff cs ++ rest) cs rest
 make_log revision rest cs len each ahead h = record {
   revision = revision;
@@ -119,11 +129,13 @@ pub erased_block : (block : List ℕ) → 4 ≤ length block → IsBytes block �
 unfolding commits_bytes
 erased_block block long fits h =
     let made = make_log (take 4 block) (drop 4 block) [] (omega (arith, length-take 4 block)) tt (IsBytes-take 4 block fits) h in
-    let whole : (take 4 block ++ []) ++ drop 4 block ≡ block = ap (λ (x : List ℕ). x ++ drop 4 block) (append-nil (take 4 block)) ∙ take-append-drop 4 block in
+    let whole : (take 4 block ++ []) ++ drop 4 block ≡ block = ap (λ (x : List ℕ). x ++ drop 4 block) (append-nil (take 4 block))
+    ∙ take-append-drop 4 block in
     subst (λ (b : List ℕ). IsLog b [] (drop 4 block)) whole made
 
 pub first_commit : (block : List ℕ) (c : Commit) → IsCommit c → (new : List ℕ) → new ≡ commit_bytes (take 4 block) 0xffffffff c
-    → 4 + length new ≤ length block → IsErased (drop (4 + length new) block) → IsLog (put_at 4 new block) (c ∷ []) (drop (4 + length new) block)
+    → 4 + length new ≤ length block → IsErased (drop (4 + length new) block)
+    → IsLog (put_at 4 new block) (c ∷ []) (drop (4 + length new) block)
 unfolding commits_bytes
 first_commit block c h new e fits erased =
     let rest : List ℕ = drop (4 + length new) block in
@@ -140,7 +152,8 @@ commits_bytes-more lead prev (d ∷ []) c =
     ∙ ap (λ (x : List ℕ). x ++ commit_bytes [] (next_word d) c) (sym (append-nil (commit_bytes lead prev d)))
 commits_bytes-more lead prev (d ∷ e ∷ cs) c =
     ap (λ (x : List ℕ). commit_bytes lead prev d ++ x) (commits_bytes-more [] (next_word d) (e ∷ cs) c)
-    ∙ sym (append_assoc (commit_bytes lead prev d) (commits_bytes [] (next_word d) (e ∷ cs)) (commit_bytes [] (final_word (next_word d) (e ∷ cs)) c))
+    ∙ sym (append_assoc (commit_bytes lead prev d) (commits_bytes [] (next_word d) (e ∷ cs))
+    (commit_bytes [] (final_word (next_word d) (e ∷ cs)) c))
 
 each-more : (cs : List Commit) (c : Commit) → AllByRecursion IsCommit cs → IsCommit c → AllByRecursion IsCommit (cs ++ c ∷ [])
 each-more [] c h k = (k, tt)
@@ -156,39 +169,62 @@ some_bytes lead prev c cs =
     let word : List ℕ = to_be_bytes w32 (bit_xor c.closing (last_word prev c.tags)) in
     let covered : List ℕ = covered_bytes prev c in
     let sum : List ℕ = to_le_bytes w32 (crc 0xffffffff (lead ++ covered)) in
-    omega (arith, length-append (covered ++ sum ++ c.padding) (commits_bytes [] (next_word c) cs), length-append (covered ++ sum) c.padding, length-append covered sum, length-append (tags_bytes prev c.tags) word)
+    omega (
+      arith,
+      length-append (covered ++ sum ++ c.padding) (commits_bytes [] (next_word c) cs),
+      length-append (covered ++ sum) c.padding,
+      length-append covered sum,
+      length-append (tags_bytes prev c.tags) word,
+    )
 
 no_bytes : (lead : List ℕ) (prev : ℕ) → length (commits_bytes lead prev []) ≡ 0
 unfolding commits_bytes
 no_bytes lead prev = refl
 
 -- the lead of the commit at the end of a log
-lead_at-end : (revision rest : List ℕ) (cs : List Commit) (at : ℕ) → length revision ≡ 4 → at ≡ length (revision ++ commits_bytes revision 0xffffffff cs)
+lead_at-end : (revision rest : List ℕ) (cs : List Commit) (at : ℕ) → length revision ≡ 4
+    → at ≡ length (revision ++ commits_bytes revision 0xffffffff cs)
     → lead_at at (revision ++ commits_bytes revision 0xffffffff cs ++ rest) ≡ next_lead revision cs
 lead_at-end revision rest [] at len e =
-    let here : eqb at 4 ≡ true = eq-eqb at 4 (omega (arith, e, len, length-append revision (commits_bytes revision 0xffffffff []), no_bytes revision 0xffffffff)) in
+    let here : eqb at 4 ≡ true = eq-eqb at 4 (omega (
+      arith,
+      e,
+      len,
+      length-append revision (commits_bytes revision 0xffffffff []),
+      no_bytes revision 0xffffffff,
+    )) in
     ap (λ (b : Bool). cond b (take 4 (revision ++ commits_bytes revision 0xffffffff [] ++ rest)) []) here
     ∙ ap (take 4) (append_assoc revision (commits_bytes revision 0xffffffff []) rest)
     ∙ take_at revision (commits_bytes revision 0xffffffff [] ++ rest) 4 len
 lead_at-end revision rest (c ∷ cs) at len e =
-    let past : 4 < at = omega (arith, e, len, length-append revision (commits_bytes revision 0xffffffff (c ∷ cs)), some_bytes revision 0xffffffff c cs) in
+    let past : 4 < at = omega (
+      arith,
+      e,
+      len,
+      length-append revision (commits_bytes revision 0xffffffff (c ∷ cs)),
+      some_bytes revision 0xffffffff c cs,
+    ) in
     let other : eqb at 4 ≡ false = grind arith in
     ap (λ (b : Bool). cond b (take 4 (revision ++ commits_bytes revision 0xffffffff (c ∷ cs) ++ rest)) []) other
 
-pub next_commit : (block : List ℕ) (cs : List Commit) (rest : List ℕ) (at : ℕ) (c : Commit) → IsLog block cs rest → IsErased rest → at + length rest ≡ length block → IsCommit c
+pub next_commit : (block : List ℕ) (cs : List Commit) (rest : List ℕ) (at : ℕ) (c : Commit) → IsLog block cs rest → IsErased rest
+    → at + length rest ≡ length block → IsCommit c
     → (new : List ℕ) → new ≡ commit_bytes (lead_at at block) (final_word 0xffffffff cs) c → at + length new ≤ length block
     → IsLog (put_at at new block) (cs ++ c ∷ []) (drop (length new) rest)
 next_commit block cs rest at c log erased e h new n fits =
     let revision : List ℕ = log.revision in
     let front : List ℕ = revision ++ commits_bytes revision 0xffffffff cs in
     let len : at ≡ length front = omega (arith, e, ap length log.parts, length-append front rest) in
-    let lead : lead_at at block ≡ next_lead revision cs = ap (lead_at at) log.parts ∙ lead_at-end revision rest cs at log.revision_len len in
-    let new-is : new ≡ commit_bytes (next_lead revision cs) (final_word 0xffffffff cs) c = n ∙ ap (λ (l : List ℕ). commit_bytes l (final_word 0xffffffff cs) c) lead in
+    let lead : lead_at at block ≡ next_lead revision cs = ap (lead_at at) log.parts
+    ∙ lead_at-end revision rest cs at log.revision_len len in
+    let new-is : new ≡ commit_bytes (next_lead revision cs) (final_word 0xffffffff cs) c =
+    n ∙ ap (λ (l : List ℕ). commit_bytes l (final_word 0xffffffff cs) c) lead in
     let behind : List ℕ = drop (length new) rest in
     let made = make_log revision behind (cs ++ c ∷ []) log.revision_len (each-more cs c log.each h)
     (subst IsBytes (sym (next_lead-more revision cs c)) IsBytes-nil) (All-drop (λ b. b ≡ 255) (length new) rest erased) in
     let before : take at block ≡ front = ap (take at) log.parts ∙ take_at front rest at (sym len) in
-    let after : drop (at + length new) block ≡ behind = ap (drop (at + length new)) log.parts ∙ ap (λ (k : ℕ). drop (k + length new) (front ++ rest)) len ∙ drop-append-add front rest (length new) in
+    let after : drop (at + length new) block ≡ behind = ap (drop (at + length new)) log.parts
+    ∙ ap (λ (k : ℕ). drop (k + length new) (front ++ rest)) len ∙ drop-append-add front rest (length new) in
     let spelled : revision ++ commits_bytes revision 0xffffffff (cs ++ c ∷ []) ≡ take at block ++ new =
     ap (λ (x : List ℕ). revision ++ x) (commits_bytes-more revision 0xffffffff cs c)
     ∙ sym (append_assoc revision (commits_bytes revision 0xffffffff cs) (commit_bytes (next_lead revision cs) (final_word 0xffffffff cs) c))
@@ -206,4 +242,5 @@ AllByRecursion-append (x ∷ xs) ys h k = (h.0, AllByRecursion-append xs ys h.1 
 pub log_tags-items : (cs : List Commit) → AllByRecursion IsCommit cs → AllByRecursion IsItem (log_tags cs)
 log_tags-items [] h = tt
 log_tags-items (c ∷ cs) h =
-    subst (AllByRecursion IsItem) (sym (flat_map-cons (λ (d : Commit). d.tags) c cs)) (AllByRecursion-append c.tags (log_tags cs) h.0.tags (log_tags-items cs h.1))
+    subst (AllByRecursion IsItem) (sym (flat_map-cons (λ (d : Commit). d.tags) c cs))
+    (AllByRecursion-append c.tags (log_tags cs) h.0.tags (log_tags-items cs h.1))

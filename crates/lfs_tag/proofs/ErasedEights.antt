@@ -1,5 +1,6 @@
 -- Bytes are tested for erasure eight by eight.
-use Rattle.std.proofs.Common.{◌≡◌, ℕ, zero, suc, ◌+◌, ◌*◌, ◌/◌, ◌<◌, ◌==◌, ◌&&◌, Bool, true, nat_eq, List, [], ◌∷◌, ◌++◌, length, take, drop, slice_index_or, refl, sym, ap, ap₂, ◌∙◌, inl, inr, arith}
+use Rattle.std.proofs.Common.{◌≡◌, ℕ, zero, suc, ◌+◌, ◌*◌, ◌/◌, ◌<◌, ◌==◌, ◌&&◌, Bool, true, nat_eq, List, [], ◌∷◌, ◌++◌, length, take}
+use Rattle.std.proofs.Common.{drop, slice_index_or, refl, sym, ap, ap₂, ◌∙◌, inl, inr, arith}
 use Rattle.std.specs.Int.{w64, from_le_bytes}
 use Rattle.std.specs.List.{list_all}
 use Rattle.std.specs.Simd.{first_chunks}
@@ -16,7 +17,8 @@ greatest = 0xffffffffffffffff
 
 -- each byte is 0xff where all are said to be
 erased_bytes : (bytes : List ℕ) → is_erased bytes ≡ true → IsErased bytes
-erased_bytes bytes = (Decides-by_and (λ b. b == 255) (λ b. b ≡ 255) (list_all (λ b. b == 255)) (λ b. Decides-eqb b 255) refl (λ _ _. refl) bytes).0
+erased_bytes bytes = (Decides-by_and (λ b. b == 255) (λ b. b ≡ 255) (list_all (λ b. b == 255)) (λ b. Decides-eqb b 255) refl
+    (λ _ _. refl) bytes).0
 
 eight-ones : (a b c d e f g h : ℕ) → a < 256 → b < 256 → c < 256 → d < 256 → e < 256 → f < 256 → g < 256 → h < 256
     → nat_eq (from_le_bytes w64 (a ∷ b ∷ c ∷ d ∷ e ∷ f ∷ g ∷ h ∷ [])) greatest ≡ is_erased (a ∷ b ∷ c ∷ d ∷ e ∷ f ∷ g ∷ h ∷ [])
@@ -51,7 +53,8 @@ eight-ones a b c d e f g h ha hb hc hd he hf hg hh =
     ]
 
 -- eight bytes are erased where the number that they make is the greatest
-pub erased-eight : (bytes : List ℕ) → length bytes ≡ 8 → ((i : ℕ) → slice_index_or bytes i 0 < 256) → nat_eq (from_le_bytes w64 bytes) greatest ≡ is_erased bytes
+pub erased-eight : (bytes : List ℕ) → length bytes ≡ 8 → ((i : ℕ) → slice_index_or bytes i 0 < 256)
+    → nat_eq (from_le_bytes w64 bytes) greatest ≡ is_erased bytes
 erased-eight [] len fits = absurd cc
 erased-eight (_ ∷ []) len fits = absurd cc
 erased-eight (_ ∷ _ ∷ []) len fits = absurd cc
@@ -60,7 +63,8 @@ erased-eight (_ ∷ _ ∷ _ ∷ _ ∷ []) len fits = absurd cc
 erased-eight (_ ∷ _ ∷ _ ∷ _ ∷ _ ∷ []) len fits = absurd cc
 erased-eight (_ ∷ _ ∷ _ ∷ _ ∷ _ ∷ _ ∷ []) len fits = absurd cc
 erased-eight (_ ∷ _ ∷ _ ∷ _ ∷ _ ∷ _ ∷ _ ∷ []) len fits = absurd cc
-erased-eight (a ∷ b ∷ c ∷ d ∷ e ∷ f ∷ g ∷ h ∷ []) len fits = eight-ones a b c d e f g h (fits 0) (fits 1) (fits 2) (fits 3) (fits 4) (fits 5) (fits 6) (fits 7)
+erased-eight (a ∷ b ∷ c ∷ d ∷ e ∷ f ∷ g ∷ h ∷ []) len fits = eight-ones a b c d e f g h (fits 0) (fits 1) (fits 2) (fits 3) (fits 4)
+    (fits 5) (fits 6) (fits 7)
 erased-eight (_ ∷ _ ∷ _ ∷ _ ∷ _ ∷ _ ∷ _ ∷ _ ∷ _ ∷ bytes) len fits = absurd (omega arith)
 
 take-more : (m n : ℕ) (bytes : List ℕ) → take m bytes ++ take n (drop m bytes) ≡ take (m + n) bytes
@@ -77,7 +81,8 @@ erased-chunks (suc n) bytes =
     ∙ ap is_erased (take-more 8 (n * 8) bytes ∙ ap (λ (m : ℕ). take m bytes) (omega arith))
 
 -- chunks of eight bytes and the rest are the whole
-pub erased-parts : (bytes : List ℕ) → (list_all is_erased (first_chunks 8 (length bytes / 8) bytes) && is_erased (drop (length bytes / 8 * 8) bytes)) ≡ is_erased bytes
+pub erased-parts : (bytes : List ℕ) → (list_all is_erased (first_chunks 8 (length bytes / 8) bytes)
+    && is_erased (drop (length bytes / 8 * 8) bytes)) ≡ is_erased bytes
 erased-parts bytes =
     ap (λ (b : Bool). b && is_erased (drop (length bytes / 8 * 8) bytes)) (erased-chunks (length bytes / 8) bytes)
     ∙ sym (list_all-append (λ b. b == 255) (take (length bytes / 8 * 8) bytes) (drop (length bytes / 8 * 8) bytes))

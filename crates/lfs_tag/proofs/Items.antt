@@ -1,5 +1,6 @@
 -- The tags that are read are valid, no checksums', and have as much data as they say.
-use Rattle.std.proofs.Common.{◌≡◌, ◌≢◌, ℕ, zero, suc, ◌^◌, ◌<◌, ◌≤◌, Bool, true, false, cond, ltb, leb, eqb, ◌&&◌, List, ◌∷◌, length, take, drop, Option, Some, None, refl, subst, arith, bit_xor, eq-eqb}
+use Rattle.std.proofs.Common.{◌≡◌, ◌≢◌, ℕ, zero, suc, ◌^◌, ◌<◌, ◌≤◌, Bool, true, false, cond, ltb, leb, eqb, ◌&&◌, List, ◌∷◌, length, take}
+use Rattle.std.proofs.Common.{drop, Option, Some, None, refl, subst, arith, bit_xor, eq-eqb}
 use Rattle.std.specs.Int.{w32, from_be_bytes}
 use Rattle.std.specs.List.{AllByRecursion}
 use Rattle.std.proofs.lemmas.Bool.{ltb-true, leb-true}
@@ -20,7 +21,11 @@ tag_at-valid prev bytes f e =
     let word : ℕ = bit_xor (from_be_bytes w32 (take 4 bytes)) prev in
     let behind : List ℕ = drop 4 bytes in
     let a = guard_none (ltb (length bytes) 4) (tag_behind (take 4 bytes) word behind) f e in
-    let found : TagFront = record { stored = take 4 bytes; item = record { word = word; content = take (data_len word) behind }; rest = drop (data_len word) behind } in
+    let found : TagFront = record {
+      stored = take 4 bytes;
+      item = record { word = word; content = take (data_len word) behind };
+      rest = drop (data_len word) behind;
+    } in
     let b = guard_some (ltb word (2 ^ 31) && leb (data_len word) (length behind)) found f a.1 in
     let t = and_true (ltb word (2 ^ 31)) (leb (data_len word) (length behind)) b.0 in
     let fits : data_len word ≤ length behind = leb-true _ _ t.1 in

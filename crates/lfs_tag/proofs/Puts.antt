@@ -1,7 +1,9 @@
 -- Bytes written one behind another, and the loop that writes edits: what is left to write decides the whole.
-use Rattle.std.proofs.Common.{◌≡◌, ℕ, ◌+◌, ◌-◌, ◌≤◌, List, [], ◌∷◌, ◌++◌, length, take, drop, cond, eqb, refl, sym, ap, ◌∙◌, append_assoc, arith, bit_xor}
+use Rattle.std.proofs.Common.{◌≡◌, ℕ, ◌+◌, ◌-◌, ◌≤◌, List, [], ◌∷◌, ◌++◌, length, take, drop, cond, eqb, refl, sym, ap, ◌∙◌, append_assoc}
+use Rattle.std.proofs.Common.{arith, bit_xor}
 use Rattle.std.specs.Int.{w32, to_be_bytes, to_le_bytes}
-use Rattle.std.proofs.lemmas.List.{take_at, drop_at, append-nil, length-append, length-take, length-drop, take-append-drop, take-append-le, take-take, length-replicate}
+use Rattle.std.proofs.lemmas.List.{take_at, drop_at, append-nil, length-append, length-take, length-drop, take-append-drop, take-append-le}
+use Rattle.std.proofs.lemmas.List.{take-take, length-replicate}
 use Rattle.std.proofs.lemmas.List.Sums.{sum_by-cons}
 use Rattle.std.proofs.lemmas.Slice.{drop-append-drop}
 use Rattle.lfs_block.specs.Checksum.{crc}
@@ -13,15 +15,24 @@ use Rattle.lfs_tag.specs.Writing.{items, tags_len, committed_end, commit_of, lea
 
 pub put_at-len : (at : ℕ) (a s : List ℕ) → at + length a ≤ length s → length (put_at at a s) ≡ length s
 put_at-len at a s h =
-    omega (arith, h, length-append (take at s ++ a) (drop (at + length a) s), length-append (take at s) a, length-take at s, length-drop (at + length a) s)
+    omega (
+      arith,
+      h,
+      length-append (take at s ++ a) (drop (at + length a) s),
+      length-append (take at s) a,
+      length-take at s,
+      length-drop (at + length a) s,
+    )
 
-pub put_at-then : (at n : ℕ) (a b s : List ℕ) → n ≡ at + length a → n + length b ≤ length s → put_at n b (put_at at a s) ≡ put_at at (a ++ b) s
+pub put_at-then : (at n : ℕ) (a b s : List ℕ) → n ≡ at + length a → n + length b ≤ length s
+    → put_at n b (put_at at a s) ≡ put_at at (a ++ b) s
 put_at-then at n a b s e h =
     let front : List ℕ = take at s ++ a in
     let whole : List ℕ = put_at at a s in
     let len : length front ≡ at + length a = omega (arith, h, e, length-append (take at s) a, length-take at s) in
     let cut : take n whole ≡ front = take_at front (drop (at + length a) s) n (len ∙ sym e) in
-    let rest : drop (n + length b) whole ≡ drop (n + length b) s = drop-append-drop (at + length a) s front (n + length b) (omega (arith, e)) len in
+    let rest : drop (n + length b) whole ≡ drop (n + length b) s = drop-append-drop (at + length a) s front (n + length b)
+    (omega (arith, e)) len in
     let past : n + length b ≡ at + length (a ++ b) = omega (arith, e, length-append a b) in
     ap (λ (x : List ℕ). x ++ b ++ drop (n + length b) whole) cut
     ∙ ap (λ (x : List ℕ). front ++ b ++ x) rest
@@ -56,7 +67,8 @@ pub record EditsLoop (at prev : ℕ) (all : List Item) (old : List ℕ) (place l
 pub EditsLoop-first : (at prev : ℕ) (all : List Item) (old : List ℕ) → EditsLoop at prev all old at prev all old
 EditsLoop-first at prev all old = record { written = refl; word = refl; reach = refl; len = refl }
 
-pub EditsLoop-more : (at prev : ℕ) (all : List Item) (old : List ℕ) (place last : ℕ) (t : Item) (left : List Item) (now : List ℕ) (next : ℕ) (written : List ℕ)
+pub EditsLoop-more : (at prev : ℕ) (all : List Item) (old : List ℕ) (place last : ℕ) (t : Item) (left : List Item) (now : List ℕ) (next : ℕ)
+    (written : List ℕ)
     → at + tags_len all ≤ length old → EditsLoop at prev all old place last (t ∷ left) now
     → next ≡ place + 4 + length t.content → written ≡ put_at place (to_be_bytes w32 (bit_xor t.word last) ++ t.content) now
     → EditsLoop at prev all old next t.word left written
@@ -73,25 +85,32 @@ EditsLoop-more at prev all old place last t left now next written fits h n w =
       len = ap length w ∙ put_at-len place front now (omega (arith, room, n)) ∙ h.len;
     }
 
-pub EditsLoop-last : (at prev : ℕ) (all : List Item) (old : List ℕ) (place last : ℕ) (now : List ℕ) → EditsLoop at prev all old place last [] now
+pub EditsLoop-last : (at prev : ℕ) (all : List Item) (old : List ℕ) (place last : ℕ) (now : List ℕ)
+    → EditsLoop at prev all old place last [] now
     → (now ≡ put_at at (tags_bytes prev all) old) × (place ≡ at + tags_len all) × (last ≡ last_word prev all)
 unfolding tags_bytes last_word
 EditsLoop-last at prev all old place last now h =
     (sym (put_at-nothing place now) ∙ h.written, omega (arith, h.reach), h.word)
 
-pub four_puts : (at n₁ n₂ n₃ : ℕ) (s a b d e b₁ b₂ b₃ b₄ : List ℕ) → b₁ ≡ put_at at a s → b₂ ≡ put_at n₁ b b₁ → b₃ ≡ put_at n₂ d b₂ → b₄ ≡ put_at n₃ e b₃
+pub four_puts : (at n₁ n₂ n₃ : ℕ) (s a b d e b₁ b₂ b₃ b₄ : List ℕ) → b₁ ≡ put_at at a s → b₂ ≡ put_at n₁ b b₁ → b₃ ≡ put_at n₂ d b₂
+    → b₄ ≡ put_at n₃ e b₃
     → n₁ ≡ at + length a → n₂ ≡ n₁ + length b → n₃ ≡ n₂ + length d → n₃ + length e ≤ length s
     → (b₂ ≡ put_at at (a ++ b) s) × (b₄ ≡ put_at at ((a ++ b) ++ d ++ e) s)
 four_puts at n₁ n₂ n₃ s a b d e b₁ b₂ b₃ b₄ p q r t i j k fits =
     let two : b₂ ≡ put_at at (a ++ b) s = q ∙ ap (put_at n₁ b) p ∙ put_at-then at n₁ a b s i (omega arith) in
-    let three : b₃ ≡ put_at at ((a ++ b) ++ d) s = r ∙ ap (put_at n₂ d) two ∙ put_at-then at n₂ (a ++ b) d s (omega (arith, i, j, length-append a b)) (omega arith) in
-    (two, t ∙ ap (put_at n₃ e) three ∙ put_at-then at n₃ ((a ++ b) ++ d) e s (omega (arith, i, j, k, length-append a b, length-append (a ++ b) d)) fits)
+    let three : b₃ ≡ put_at at ((a ++ b) ++ d) s = r ∙ ap (put_at n₂ d) two
+    ∙ put_at-then at n₂ (a ++ b) d s (omega (arith, i, j, length-append a b)) (omega arith) in (
+      two,
+      t ∙ ap (put_at n₃ e) three ∙ put_at-then at n₃ ((a ++ b) ++ d) e s
+          (omega (arith, i, j, k, length-append a b, length-append (a ++ b) d)) fits,
+    )
 
 -- what stands where it was put, and before it
 pub at-put_at : (at : ℕ) (a s : List ℕ) → at ≤ length s → take (length a) (drop at (put_at at a s)) ≡ a
 at-put_at at a s h =
     let rest : List ℕ = drop (at + length a) s in
-    ap (take (length a)) (ap (drop at) (append_assoc (take at s) a rest) ∙ drop_at (take at s) (a ++ rest) at (omega (arith, h, length-take at s)))
+    ap (take (length a)) (ap (drop at) (append_assoc (take at s) a rest)
+    ∙ drop_at (take at s) (a ++ rest) at (omega (arith, h, length-take at s)))
     ∙ take_at a rest (length a) refl
 
 before-put_at : (at n : ℕ) (a s : List ℕ) → n ≤ at → at ≤ length s → take n (put_at at a s) ≡ take n s
@@ -131,7 +150,8 @@ closing-next at ts =
     omega arith
 
 -- a commit that is written reaches to its end
-pub commit_len : (lead : List ℕ) (at prev : ℕ) (ts : List Item) → at + length (commit_bytes lead prev (commit_of at ts)) ≡ committed_end at ts
+pub commit_len : (lead : List ℕ) (at prev : ℕ) (ts : List Item) → at + length (commit_bytes lead prev (commit_of at ts))
+    ≡ committed_end at ts
 commit_len lead at prev ts =
     let c : Commit = commit_of at ts in
     let tags : List ℕ = tags_bytes prev ts in

@@ -1,5 +1,6 @@
 -- The loop that reads a log: what is left decides what the whole gives.
-use Rattle.std.proofs.Common.{◌≡◌, ℕ, suc, ◌+◌, ◌<◌, ◌≤◌, Bool, List, [], length, take, drop, Option, Some, None, option_map, refl, sym, ap, subst, ◌∙◌, arith}
+use Rattle.std.proofs.Common.{◌≡◌, ℕ, suc, ◌+◌, ◌<◌, ◌≤◌, Bool, List, [], length, take, drop, Option, Some, None, option_map, refl, sym, ap}
+use Rattle.std.proofs.Common.{subst, ◌∙◌, arith}
 use Rattle.std.proofs.lemmas.List.{take_at, length-append}
 use Rattle.lfs_block.specs.Checksum.{crc}
 use Rattle.lfs_block.specs.Bytes.{IsBytes}
@@ -25,12 +26,14 @@ pub record ReadLoop (whole : Front) (all : List ℕ) (commits sum last : ℕ) (r
 pub ReadLoop-first : (sum last : ℕ) (all : List ℕ) → ReadLoop (log_from sum last all) all 0 sum last all
 ReadLoop-first sum last all = record { count = omega arith; word = refl; left = refl; room = omega arith }
 
-pub ReadLoop-shorter : (sum last : ℕ) (rest : List ℕ) (seen : ℕ × List ℕ) → Some seen ≡ option_map commit_seen (commit_at sum last rest) → length seen.1 < length rest
+pub ReadLoop-shorter : (sum last : ℕ) (rest : List ℕ) (seen : ℕ × List ℕ) → Some seen ≡ option_map commit_seen (commit_at sum last rest)
+    → length seen.1 < length rest
 ReadLoop-shorter sum last rest seen e =
     let m = map_some commit_seen (commit_at sum last rest) seen (sym e) in
     subst (λ (s : ℕ × List ℕ). length s.1 < length rest) m.2 (commit_at-shorter sum last rest m.0 m.1)
 
-pub ReadLoop-more : (whole : Front) (all : List ℕ) (commits sum last : ℕ) (rest : List ℕ) (seen : ℕ × List ℕ) → ReadLoop whole all commits sum last rest
+pub ReadLoop-more : (whole : Front) (all : List ℕ) (commits sum last : ℕ) (rest : List ℕ) (seen : ℕ × List ℕ)
+    → ReadLoop whole all commits sum last rest
     → Some seen ≡ option_map commit_seen (commit_at sum last rest) → ReadLoop whole all (commits + 1) 0xffffffff seen.0 seen.1
 ReadLoop-more whole all commits sum last rest seen h e =
     let m = map_some commit_seen (commit_at sum last rest) seen (sym e) in
@@ -84,7 +87,8 @@ committed-tags block n h e =
 pub block_read : (block revision bytes : List ℕ) (sum : ℕ) → sum ≡ crc 0xffffffff revision → revision ≡ take 4 block → bytes ≡ drop 4 block
     → log_from sum 0xffffffff bytes ≡ log_of block
 block_read block revision bytes sum s r b =
-    ap (λ (x : ℕ). log_from x 0xffffffff bytes) (s ∙ ap (crc 0xffffffff) r) ∙ ap (log_from (crc 0xffffffff (take 4 block)) 0xffffffff) b ∙ log_of-from block
+    ap (λ (x : ℕ). log_from x 0xffffffff bytes) (s ∙ ap (crc 0xffffffff) r) ∙ ap (log_from (crc 0xffffffff (take 4 block)) 0xffffffff) b
+    ∙ log_of-from block
 
 abbrev log_with : ℕ → ℕ → ℕ → Bool → List Item → LogSeen
 log_with end commits last erased tags = record { end = end; commits = commits; last = last; erased = erased; tags = tags }

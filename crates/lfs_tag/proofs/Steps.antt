@@ -1,12 +1,14 @@
 -- The reading functions without their bounds: each reads one thing more, and the rest is read by itself.
-use Rattle.std.proofs.Common.{◌≡◌, ◌≢◌, ℕ, zero, suc, ◌+◌, ◌^◌, ◌<◌, ◌≤◌, Bool, true, false, cond, ltb, leb, eqb, ◌&&◌, List, [], ◌∷◌, ◌++◌, length, take, drop, Option, Some, None, option_map, refl, sym, ap, ◌∙◌, arith, bit_xor, eq-eqb}
+use Rattle.std.proofs.Common.{◌≡◌, ◌≢◌, ℕ, zero, suc, ◌+◌, ◌^◌, ◌<◌, ◌≤◌, Bool, true, false, cond, ltb, leb, eqb, ◌&&◌, List, [], ◌∷◌, ◌++◌}
+use Rattle.std.proofs.Common.{length, take, drop, Option, Some, None, option_map, refl, sym, ap, ◌∙◌, arith, bit_xor, eq-eqb}
 use Rattle.std.specs.Int.{w32, from_be_bytes}
 use Rattle.std.proofs.lemmas.Bool.{ltb-false}
 use Rattle.std.proofs.lemmas.List.{take-append-drop, length-take, length-append}
 use Rattle.lfs_block.specs.Checksum.{crc}
 use Rattle.lfs_tag.specs.Tag.{main_kind, data_len}
 use Rattle.lfs_tag.specs.Commit.{Item, word_after, next_word}
-use Rattle.lfs_tag.specs.Reading.{TagFront, tag_behind, tag_at, CommitFront, with_tag, closed, commit_step, commit_within, commit_at, Front, with_commit, log_step, log_within, log_from, tags_step, tags_within, tags_at}
+use Rattle.lfs_tag.specs.Reading.{TagFront, tag_behind, tag_at, CommitFront, with_tag, closed, commit_step, commit_within, commit_at, Front}
+use Rattle.lfs_tag.specs.Reading.{with_commit, log_step, log_within, log_from, tags_step, tags_within, tags_at}
 
 -- a choice between something and nothing that gave something
 pub guard_some : {A : Type 0} (b : Bool) (x y : A) → cond b (Some x) None ≡ Some y → (b ≡ true) × (x ≡ y)
@@ -39,7 +41,8 @@ tag_cut prev bytes f e =
     let a = guard_none (ltb (length bytes) 4) (tag_behind (take 4 bytes) word behind) f e in
     let long : 4 ≤ length bytes = ltb-false _ _ a.0 in
     let b = guard_some (ltb word (2 ^ 31) && leb n (length behind)) found f a.1 in
-    let cut : take 4 bytes ++ (take n behind ++ drop n behind) ≡ bytes = ap (λ (x : List ℕ). take 4 bytes ++ x) (take-append-drop n behind) ∙ take-append-drop 4 bytes in
+    let cut : take 4 bytes ++ (take n behind ++ drop n behind) ≡ bytes =
+    ap (λ (x : List ℕ). take 4 bytes ++ x) (take-append-drop n behind) ∙ take-append-drop 4 bytes in
     let four : length (take 4 bytes) ≡ 4 = omega (arith, length-take 4 bytes) in
     record {
       parts = sym cut ∙ ap (λ (g : TagFront). g.stored ++ (g.item.content ++ g.rest)) b.1;
@@ -61,7 +64,8 @@ commit_step-same F G sum (Some f) h =
     ap (λ (x : Option CommitFront). cond (eqb (main_kind f.item.word) 5) (closed (crc sum f.stored) f) (option_map (with_tag f.item) x))
     (h f refl (crc (crc sum f.stored) f.item.content) f.item.word)
 
-commit_enough : (n m sum prev : ℕ) (bytes : List ℕ) → length bytes < n → length bytes < m → commit_within n sum prev bytes ≡ commit_within m sum prev bytes
+commit_enough : (n m sum prev : ℕ) (bytes : List ℕ) → length bytes < n → length bytes < m
+    → commit_within n sum prev bytes ≡ commit_within m sum prev bytes
 unfolding commit_within
 commit_enough zero m sum prev bytes a b = absurd (omega arith)
 commit_enough (suc n) zero sum prev bytes a b = absurd (omega arith)
@@ -73,7 +77,8 @@ pub commit_at-step : (sum prev : ℕ) (bytes : List ℕ) → commit_at sum prev 
 unfolding commit_at commit_within
 commit_at-step sum prev bytes =
     commit_step-same (commit_within (length bytes)) commit_at sum (tag_at prev bytes)
-    (λ f e s p. let k = tag_at-shorter prev bytes f e in commit_enough (length bytes) (suc (length f.rest)) s p f.rest (omega arith) (omega arith))
+    (λ f e s p. let k = tag_at-shorter prev bytes f e in commit_enough (length bytes) (suc (length f.rest)) s p f.rest (omega arith)
+    (omega arith))
 
 pub commit_at-none : (sum prev : ℕ) (bytes : List ℕ) → tag_at prev bytes ≡ None → commit_at sum prev bytes ≡ None
 commit_at-none sum prev bytes e = commit_at-step sum prev bytes ∙ ap (commit_step commit_at sum) e
@@ -82,20 +87,26 @@ pub commit_at-closed : (sum prev : ℕ) (bytes : List ℕ) (f : TagFront) → ta
     → commit_at sum prev bytes ≡ closed (crc sum f.stored) f
 commit_at-closed sum prev bytes f e k =
     commit_at-step sum prev bytes ∙ ap (commit_step commit_at sum) e
-    ∙ ap (λ (b : Bool). cond b (closed (crc sum f.stored) f) (option_map (with_tag f.item) (commit_at (crc (crc sum f.stored) f.item.content) f.item.word f.rest))) (eq-eqb _ _ k)
+    ∙ ap (λ (b : Bool). cond b (closed (crc sum f.stored) f) (option_map (with_tag f.item)
+    (commit_at (crc (crc sum f.stored) f.item.content) f.item.word f.rest))) (eq-eqb _ _ k)
 
 pub commit_at-more : (sum prev : ℕ) (bytes : List ℕ) (f : TagFront) → tag_at prev bytes ≡ Some f → main_kind f.item.word ≢ 5
     → commit_at sum prev bytes ≡ option_map (with_tag f.item) (commit_at (crc (crc sum f.stored) f.item.content) f.item.word f.rest)
 commit_at-more sum prev bytes f e k =
     commit_at-step sum prev bytes ∙ ap (commit_step commit_at sum) e
-    ∙ ap (λ (b : Bool). cond b (closed (crc sum f.stored) f) (option_map (with_tag f.item) (commit_at (crc (crc sum f.stored) f.item.content) f.item.word f.rest))) (kind_test _ k)
+    ∙ ap (λ (b : Bool). cond b (closed (crc sum f.stored) f) (option_map (with_tag f.item)
+    (commit_at (crc (crc sum f.stored) f.item.content) f.item.word f.rest))) (kind_test _ k)
 
 -- ---- logs
 
 closed-rest : (sum : ℕ) (f : TagFront) (r : CommitFront) → closed sum f ≡ Some r → r.rest ≡ f.rest
 unfolding closed
 closed-rest sum f r e =
-    ap (λ (x : CommitFront). x.rest) (sym (guard_some _ (record { commit = record { tags = []; closing = f.item.word; padding = drop 4 f.item.content }; rest = f.rest }) r e).1)
+    ap (λ (x : CommitFront). x.rest) (sym (guard_some _ (record {
+      commit =
+          record { tags = []; closing = f.item.word; padding = drop 4 f.item.content };
+      rest = f.rest;
+    }) r e).1)
 
 commit_step-shorter : (F : ℕ → ℕ → List ℕ → Option CommitFront) (sum : ℕ) (o : Option TagFront) (r : CommitFront) (bound : ℕ)
     → ((f : TagFront) → o ≡ Some f → length f.rest < bound)
@@ -105,14 +116,16 @@ commit_step-shorter F sum None r bound h k e = absurd cc
 commit_step-shorter F sum (Some f) r bound h k e =
     by_test (eqb (main_kind f.item.word) 5) e
   where
-    by_test : (b : Bool) → cond b (closed (crc sum f.stored) f) (option_map (with_tag f.item) (F (crc (crc sum f.stored) f.item.content) f.item.word f.rest)) ≡ Some r → length r.rest < bound
+    by_test : (b : Bool) → cond b (closed (crc sum f.stored) f) (option_map (with_tag f.item)
+        (F (crc (crc sum f.stored) f.item.content) f.item.word f.rest)) ≡ Some r → length r.rest < bound
     by_test true d = rw (closed-rest (crc sum f.stored) f r d) (h f refl)
     by_test false d =
         let m = map_some (with_tag f.item) (F (crc (crc sum f.stored) f.item.content) f.item.word f.rest) r d in
         let below = k f refl (crc (crc sum f.stored) f.item.content) f.item.word m.0 m.1 in
         rw (← m.2) below
 
-commit_within-shorter : (n sum prev : ℕ) (bytes : List ℕ) (r : CommitFront) → commit_within n sum prev bytes ≡ Some r → length r.rest < length bytes
+commit_within-shorter : (n sum prev : ℕ) (bytes : List ℕ) (r : CommitFront) → commit_within n sum prev bytes ≡ Some r
+    → length r.rest < length bytes
 unfolding commit_within
 commit_within-shorter zero sum prev bytes r e = absurd cc
 commit_within-shorter (suc n) sum prev bytes r e =
@@ -130,7 +143,8 @@ log_step-same : (F G : ℕ → ℕ → List ℕ → Front) (prev : ℕ) (bytes :
 log_step-same F G prev bytes None h = refl
 log_step-same F G prev bytes (Some r) h = ap (with_commit r.commit) (h r refl 0xffffffff (next_word r.commit))
 
-log_enough : (n m sum prev : ℕ) (bytes : List ℕ) → length bytes < n → length bytes < m → log_within n sum prev bytes ≡ log_within m sum prev bytes
+log_enough : (n m sum prev : ℕ) (bytes : List ℕ) → length bytes < n → length bytes < m
+    → log_within n sum prev bytes ≡ log_within m sum prev bytes
 unfolding log_within
 log_enough zero m sum prev bytes a b = absurd (omega arith)
 log_enough (suc n) zero sum prev bytes a b = absurd (omega arith)
@@ -142,9 +156,11 @@ pub log_from-step : (sum prev : ℕ) (bytes : List ℕ) → log_from sum prev by
 unfolding log_from log_within
 log_from-step sum prev bytes =
     log_step-same (log_within (length bytes)) log_from prev bytes (commit_at sum prev bytes)
-    (λ r e s p. let k = commit_at-shorter sum prev bytes r e in log_enough (length bytes) (suc (length r.rest)) s p r.rest (omega arith) (omega arith))
+    (λ r e s p. let k = commit_at-shorter sum prev bytes r e in log_enough (length bytes) (suc (length r.rest)) s p r.rest (omega arith)
+    (omega arith))
 
-pub log_from-none : (sum prev : ℕ) (bytes : List ℕ) → commit_at sum prev bytes ≡ None → log_from sum prev bytes ≡ record { commits = []; last = prev; rest = bytes }
+pub log_from-none : (sum prev : ℕ) (bytes : List ℕ) → commit_at sum prev bytes ≡ None
+    → log_from sum prev bytes ≡ record { commits = []; last = prev; rest = bytes }
 log_from-none sum prev bytes e = log_from-step sum prev bytes ∙ ap (log_step log_from prev bytes) e
 
 pub log_from-more : (sum prev : ℕ) (bytes : List ℕ) (r : CommitFront) → commit_at sum prev bytes ≡ Some r
@@ -172,7 +188,8 @@ pub tags_at-step : (prev : ℕ) (bytes : List ℕ) → tags_at prev bytes ≡ ta
 unfolding tags_at tags_within
 tags_at-step prev bytes =
     tags_step-same (tags_within (length bytes)) tags_at (tag_at prev bytes)
-    (λ f e p. let k = tag_at-shorter prev bytes f e in tags_enough (length bytes) (suc (length f.rest)) p f.rest (omega arith) (omega arith))
+    (λ f e p. let k = tag_at-shorter prev bytes f e in tags_enough (length bytes) (suc (length f.rest)) p f.rest (omega arith)
+    (omega arith))
 
 pub tags_at-none : (prev : ℕ) (bytes : List ℕ) → tag_at prev bytes ≡ None → tags_at prev bytes ≡ []
 tags_at-none prev bytes e = tags_at-step prev bytes ∙ ap (tags_step tags_at) e

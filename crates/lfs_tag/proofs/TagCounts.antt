@@ -22,7 +22,14 @@ commit_few lead prev c =
     let tags : List ℕ = tags_bytes prev c.tags in
     let word : List ℕ = to_be_bytes w32 (bit_xor c.closing (last_word prev c.tags)) in
     let sum : List ℕ = to_le_bytes w32 (crc 0xffffffff (lead ++ covered_bytes prev c)) in
-    omega (arith, four_each c.tags, length-tags_bytes prev c.tags, length-append (tags ++ word ++ sum) c.padding, length-append (tags ++ word) sum, length-append tags word)
+    omega (
+      arith,
+      four_each c.tags,
+      length-tags_bytes prev c.tags,
+      length-append (tags ++ word ++ sum) c.padding,
+      length-append (tags ++ word) sum,
+      length-append tags word,
+    )
 
 commits_few : (lead : List ℕ) (prev : ℕ) (cs : List Commit) → 4 * length (log_tags cs) ≤ length (commits_bytes lead prev cs)
 unfolding commits_bytes

@@ -68,4 +68,5 @@ NextCommit = (block : List ℕ) (commits : List Commit) (rest : List ℕ) (at : 
 
 -- The commit that tags are written as reaches to the next multiple of 16 behind its checksum.
 abbrev pub WrittenLength : Type 0
-WrittenLength = (lead : List ℕ) (at prev : ℕ) (tags : List Item) → at + length (commit_bytes lead prev (commit_of at tags)) ≡ committed_end at tags
+WrittenLength = (lead : List ℕ) (at prev : ℕ) (tags : List Item) → at + length (commit_bytes lead prev (commit_of at tags))
+    ≡ committed_end at tags

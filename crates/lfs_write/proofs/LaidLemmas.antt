@@ -35,21 +35,25 @@ after_changes d [] [] many rising = refl
 after_changes d [] (new ∷ contents) many rising = absurd (omega (arith, many))
 after_changes d (b ∷ blocks) [] many rising = absurd (omega (arith, many))
 after_changes d (b ∷ blocks) (new ∷ contents) many rising =
-    ap (λ (x : List ℕ). x ∷ map (block_after d (changes_at d (b ∷ blocks) (new ∷ contents))) blocks) (here_by d b new (changes_at d blocks contents))
+    ap (λ (x : List ℕ). x ∷ map (block_after d (changes_at d (b ∷ blocks) (new ∷ contents))) blocks)
+    (here_by d b new (changes_at d blocks contents))
     ∙ ap (λ (xs : List (List ℕ)). new ∷ xs)
-    (later_by d b new (changes_at d blocks contents) blocks (rising_head b blocks rising) ∙ after_changes d blocks contents (omega (arith, many)) (rising_tail b blocks rising))
+    (later_by d b new (changes_at d blocks contents) blocks (rising_head b blocks rising)
+    ∙ after_changes d blocks contents (omega (arith, many)) (rising_tail b blocks rising))
 
 differ : (blocks : List ℕ) → AllPairs ◌<◌ blocks → AllPairs ◌≢◌ blocks
 differ blocks rising = λ i j d less within same. let before = rising i j d less within in absurd (omega (arith, before, same))
 
-pub are_laid : (d : Disk) (bytes blocks : List ℕ) → LaidAreAsMany → LaidAreWhole → LaidAreBytes → IsDisk d → IsBlockSize d.size → IsBytes bytes
+pub are_laid : (d : Disk) (bytes blocks : List ℕ) → LaidAreAsMany → LaidAreWhole → LaidAreBytes → IsDisk d → IsBlockSize d.size
+    → IsBytes bytes
     → AllPairs ◌<◌ blocks → All (λ b. b < d.count) blocks → length blocks ≡ least_blocks d.size (length bytes)
     → AreLaid d bytes blocks (changes_at d blocks (laid d.size bytes blocks))
 are_laid d bytes blocks many whole are disk size is rising below enough = record {
   rising = changes_rising d blocks contents rising;
   made =
       changes_all (CanBeMade d) d blocks contents (λ b. b < d.count) (λ new. (length new ≡ d.size) × IsBytes new)
-      (λ b new within fits. let w = change_whole d b new disk within fits.0 fits.1 (block_bytes d b disk) in record { stands = w.stands; whole = w.whole })
+      (λ b new within fits. let w = change_whole d b new disk within fits.0 fits.1 (block_bytes d b disk) in
+      record { stands = w.stands; whole = w.whole })
       below (λ k e within. (whole d.size bytes blocks size k e within, are d.size bytes blocks is k e within));
   numbers = changes_numbers d blocks contents as_many;
   lays = record { count = enough; apart = differ blocks rising; same = after_changes d blocks contents as_many rising };

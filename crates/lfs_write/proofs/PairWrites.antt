@@ -1,5 +1,6 @@
 -- Changes put among others that make a pair hold a part.
-use Rattle.std.proofs.Common.{◌≡◌, ◌≢◌, ℕ, ◌+◌, ◌<◌, ◌==◌, nat_lt, Bool, true, false, cond, List, [], ◌∷◌, refl, ap, sym, ◌∙◌, subst, arith, inl, inr, length, Some}
+use Rattle.std.proofs.Common.{◌≡◌, ◌≢◌, ℕ, ◌+◌, ◌<◌, ◌==◌, nat_lt, Bool, true, false, cond, List, [], ◌∷◌, refl, ap, sym, ◌∙◌, subst, arith}
+use Rattle.std.proofs.Common.{inl, inr, length, Some}
 use Rattle.std.specs.Prelude.{if◌then◌else◌, replicate}
 use Rattle.std.specs.List.{AllByRecursion}
 use Rattle.std.proofs.lemmas.Bool.{cases_eq}
@@ -29,39 +30,52 @@ pub back_is : (d : Disk) (n : ℕ) (new : List ℕ) (seen part : Found) (es : Li
     → stored_part_of (put n new d) seen.0 ≡ Some (stored_part es seen.1.tail seen.1.delta)
     → stored_part_of (put n new d) part.0 ≡ Some part.1
 back_is d n new seen part es same is read =
-    subst (λ (x : Found). stored_part_of (put n new d) x.0 ≡ Some x.1) same (read ∙ ap (λ (xs : List StoredEntry). Some (stored_part xs seen.1.tail seen.1.delta)) is)
+    subst (λ (x : Found). stored_part_of (put n new d) x.0 ≡ Some x.1) same
+    (read ∙ ap (λ (xs : List StoredEntry). Some (stored_part xs seen.1.tail seen.1.delta)) is)
 
 -- ---- one change more
 
-times_with : (m : ℕ) (c : Change) (cs : List Change) → times m (changed_blocks (with_change c cs)) ≡ times m (changed_blocks cs) + times m (c.number ∷ [])
+times_with : (m : ℕ) (c : Change) (cs : List Change) → times m (changed_blocks (with_change c cs))
+    ≡ times m (changed_blocks cs) + times m (c.number ∷ [])
 unfolding with_change
 times_with m c [] = omega arith
 times_with m c (e ∷ es) = by (nat_lt e.number c.number) (times_with m c es)
   where
     by : (t : Bool) → times m (changed_blocks (with_change c es)) ≡ times m (changed_blocks es) + times m (c.number ∷ [])
-        → times m (changed_blocks (if t then e ∷ with_change c es else c ∷ e ∷ es)) ≡ times m (changed_blocks (e ∷ es)) + times m (c.number ∷ [])
-    by true later = omega (arith, later, times_cons m e.number (changed_blocks (with_change c es)), times_cons m e.number (changed_blocks es))
+        → times m (changed_blocks (if t then e ∷ with_change c es else c ∷ e ∷ es))
+        ≡ times m (changed_blocks (e ∷ es)) + times m (c.number ∷ [])
+    by true later = omega (
+      arith,
+      later,
+      times_cons m e.number (changed_blocks (with_change c es)),
+      times_cons m e.number (changed_blocks es),
+    )
     by false later = omega (arith, times_cons m c.number (changed_blocks (e ∷ es)), times_cons m c.number [])
 
-overlaid_here : (c : Change) (cs : List Change) (below : List ℕ) → AllByRecursion (λ e. e.number ≢ c.number) cs → overlaid (with_change c cs) c.number below ≡ c.new
+overlaid_here : (c : Change) (cs : List Change) (below : List ℕ) → AllByRecursion (λ e. e.number ≢ c.number) cs
+    → overlaid (with_change c cs) c.number below ≡ c.new
 unfolding with_change
 overlaid_here c [] below apart = let same : (c.number == c.number) ≡ true = grind (arith, nat_tests) in rw same refl
 overlaid_here c (e ∷ es) below apart = by (nat_lt e.number c.number) (overlaid_here c es below apart.1)
   where
-    by : (t : Bool) → overlaid (with_change c es) c.number below ≡ c.new → overlaid (if t then e ∷ with_change c es else c ∷ e ∷ es) c.number below ≡ c.new
+    by : (t : Bool) → overlaid (with_change c es) c.number below ≡ c.new
+        → overlaid (if t then e ∷ with_change c es else c ∷ e ∷ es) c.number below ≡ c.new
     by true later = let other : (e.number == c.number) ≡ false = grind (arith, nat_tests) in rw other later
     by false later = let same : (c.number == c.number) ≡ true = grind (arith, nat_tests) in rw same refl
 
-overlaid_other : (c : Change) (cs : List Change) (n : ℕ) (below : List ℕ) → n ≢ c.number → overlaid (with_change c cs) n below ≡ overlaid cs n below
+overlaid_other : (c : Change) (cs : List Change) (n : ℕ) (below : List ℕ) → n ≢ c.number
+    → overlaid (with_change c cs) n below ≡ overlaid cs n below
 unfolding with_change
 overlaid_other c [] n below apart = let other : (c.number == n) ≡ false = grind (arith, nat_tests) in rw other refl
 overlaid_other c (e ∷ es) n below apart = by (nat_lt e.number c.number) (overlaid_other c es n below apart)
   where
-    by : (t : Bool) → overlaid (with_change c es) n below ≡ overlaid es n below → overlaid (if t then e ∷ with_change c es else c ∷ e ∷ es) n below ≡ overlaid (e ∷ es) n below
+    by : (t : Bool) → overlaid (with_change c es) n below ≡ overlaid es n below
+        → overlaid (if t then e ∷ with_change c es else c ∷ e ∷ es) n below ≡ overlaid (e ∷ es) n below
     by true later = ap (λ (bytes : List ℕ). if e.number == n then e.new else bytes) later
     by false later = let other : (c.number == n) ≡ false = grind (arith, nat_tests) in rw other refl
 
-pub change_added : (d : Disk) (c : Change) (old : List Change) → IsRising old → AllByRecursion (CanBeMade d) old → CanBeMade d c → times c.number (changed_blocks old) ≡ 0
+pub change_added : (d : Disk) (c : Change) (old : List Change) → IsRising old → AllByRecursion (CanBeMade d) old → CanBeMade d c
+    → times c.number (changed_blocks old) ≡ 0
     → AddsChange d c old (with_change c old)
 change_added d c old rising made this none =
     let apart : AllByRecursion (λ e. e.number ≢ c.number) old = none_named c.number old none in
@@ -73,8 +87,10 @@ change_added d c old rising made this none =
       others = λ n other. overlaid_other c old n (block_of d n) other;
     }
 
-pub change_can : (d : Disk) (n : ℕ) (new : List ℕ) → IsDisk d → n < d.count → length new ≡ d.size → IsBytes new → CanBeMade d (change_at d n new)
-change_can d n new disk below len bytes = let fits = change_whole d n new disk below len bytes (block_bytes d n disk) in record { stands = fits.stands; whole = fits.whole }
+pub change_can : (d : Disk) (n : ℕ) (new : List ℕ) → IsDisk d → n < d.count → length new ≡ d.size → IsBytes new
+    → CanBeMade d (change_at d n new)
+change_can d n new disk below len bytes = let fits = change_whole d n new disk below len bytes (block_bytes d n disk) in
+    record { stands = fits.stands; whole = fits.whole }
 
 -- ---- a pair that is rewritten
 
@@ -88,14 +104,17 @@ is_other : (n m : ℕ) → n ≢ m → times n (m ∷ []) ≡ 0
 is_other n m apart = let none : cond {A = ℕ} (m == n) 1 0 ≡ 0 = grind (arith, nat_tests) in omega (arith, none, times_cons n m [])
 
 -- what a block of the pair holds, in the image with the one block put
-block_same : BlockPut → BlockPutOther → (d : Disk) → IsDisk d → (n m : ℕ) (new : List ℕ) (old cs : List Change) → n < d.count → length new ≡ d.size → times m (changed_blocks old) ≡ 0
+block_same : BlockPut → BlockPutOther → (d : Disk) → IsDisk d → (n m : ℕ) (new : List ℕ) (old cs : List Change) → n < d.count
+    → length new ≡ d.size → times m (changed_blocks old) ≡ 0
     → AddsChange d (change_at d n new) old cs → block_after d cs m ≡ block_of (put n new d) m
 block_same put_law other d disk n m new old cs below len none adds = elim (cases_eq m n) [
   | inl same ↦ ap (block_after d cs) same ∙ adds.here ∙ sym (put_law d n new disk below len) ∙ ap (block_of (put n new d)) (sym same)
-  | inr apart ↦ adds.others m apart ∙ overlaid_none old m (block_of d m) (none_named m old none) ∙ sym (other d n m new disk below apart len)
+  | inr apart ↦ adds.others m apart ∙ overlaid_none old m (block_of d m) (none_named m old none)
+      ∙ sym (other d n m new disk below apart len)
 ]
 
-pub pair_rewritten : BlockPut → BlockPutOther → (d : Disk) → IsDisk d → (pair : Pair) (n : ℕ) (new : List ℕ) (part : StoredPart) (old cs : List Change)
+pub pair_rewritten : BlockPut → BlockPutOther → (d : Disk) → IsDisk d
+    → (pair : Pair) (n : ℕ) (new : List ℕ) (part : StoredPart) (old cs : List Change)
     → n ≡ other_number d pair → n < d.count → length new ≡ d.size → stored_part_of (put n new d) pair ≡ Some part → IsFreeFor d pair old
     → AddsChange d (change_at d n new) old cs → AddsPart d pair (other_number d pair ∷ []) part old cs
 pair_rewritten put_law other d disk pair n new part old cs is below len back free adds = record {
@@ -103,13 +122,15 @@ pair_rewritten put_law other d disk pair n new part old cs is below len back fre
   made = adds.made;
   named = λ m. adds.named m ∙ ap (λ (k : ℕ). times m (changed_blocks old) + times m (k ∷ [])) is;
   others = λ m none. adds.others m (λ same. not_one m (other_number d pair) none (same ∙ is));
-  back = ap (λ (b : List ℕ). part_in b (block_after d cs pair.1)) (block_same put_law other d disk n pair.0 new old cs below len free.first adds)
+  back = ap (λ (b : List ℕ). part_in b (block_after d cs pair.1)) (block_same put_law other d disk n pair.0 new old cs below len free.first
+      adds)
       ∙ ap (part_in (block_of (put n new d) pair.0)) (block_same put_law other d disk n pair.1 new old cs below len free.second adds)
       ∙ back;
 }
 
 -- the block of a pair that isn't live has no change yet
-pub other_free : (d : Disk) (pair : Pair) (n : ℕ) (old : List Change) → n ≡ other_number d pair → IsFreeFor d pair old → times n (changed_blocks old) ≡ 0
+pub other_free : (d : Disk) (pair : Pair) (n : ℕ) (old : List Change) → n ≡ other_number d pair → IsFreeFor d pair old
+    → times n (changed_blocks old) ≡ 0
 other_free d pair n old is free =
     subst (λ (k : ℕ). times k (changed_blocks old) ≡ 0) (sym is)
     (elim (other_is_one d pair) [
@@ -120,14 +141,17 @@ other_free d pair n old is free =
 -- ---- a new pair
 
 -- there is no change of its second block when its first one is written
-pub second_free : (d : Disk) (pair : Pair) (block : List ℕ) (old mid : List Change) → pair.0 ≢ pair.1 → IsFreeFor d pair old → AddsChange d (change_at d pair.0 block) old mid
+pub second_free : (d : Disk) (pair : Pair) (block : List ℕ) (old mid : List Change) → pair.0 ≢ pair.1 → IsFreeFor d pair old
+    → AddsChange d (change_at d pair.0 block) old mid
     → times pair.1 (changed_blocks mid) ≡ 0
 second_free d pair block old mid apart free adds =
     let other : times pair.1 (pair.0 ∷ []) ≡ 0 = is_other pair.1 pair.0 (λ same. apart (sym same)) in
     omega (arith, adds.named pair.1, free.second, other)
 
-pub pair_filled : (d : Disk) (pair : Pair) (first second : List ℕ) (part : StoredPart) (old mid cs : List Change) → pair.0 ≢ pair.1 → part_in first second ≡ Some part
-    → AddsChange d (change_at d pair.0 first) old mid → AddsChange d (change_at d pair.1 second) mid cs → AddsPart d pair (pair.0 ∷ pair.1 ∷ []) part old cs
+pub pair_filled : (d : Disk) (pair : Pair) (first second : List ℕ) (part : StoredPart) (old mid cs : List Change) → pair.0 ≢ pair.1
+    → part_in first second ≡ Some part
+    → AddsChange d (change_at d pair.0 first) old mid → AddsChange d (change_at d pair.1 second) mid cs
+    → AddsPart d pair (pair.0 ∷ pair.1 ∷ []) part old cs
 pair_filled d pair first second part old mid cs apart back one two = record {
   rising = two.rising;
   made = two.made;
@@ -141,24 +165,31 @@ pair_filled d pair first second part old mid cs apart back one two = record {
 
 -- ---- a link
 
-pub link_filled : (d : Disk) (bytes : List ℕ) (attributes : Attributes) (is_new : Pair → Bool) (l : Link) (part : Found) (old cs : List Change) → is_new l.part.pair ≡ true → l.part.delta ≡ 0
-    → IsLinkStored bytes attributes l part → AddsPart d part.0 (part.0.0 ∷ part.0.1 ∷ []) (stored_part part.1.entries part.1.tail (replicate 12 0)) old cs
+pub link_filled : (d : Disk) (bytes : List ℕ) (attributes : Attributes) (is_new : Pair → Bool) (l : Link) (part : Found)
+    (old cs : List Change) → is_new l.part.pair ≡ true → l.part.delta ≡ 0
+    → IsLinkStored bytes attributes l part → AddsPart d part.0 (part.0.0 ∷ part.0.1 ∷ [])
+    (stored_part part.1.entries part.1.tail (replicate 12 0)) old cs
     → AddsLink d bytes attributes is_new l old cs
 link_filled d bytes attributes is_new l part old cs new none stored adds = record {
   delta = replicate 12 0;
   delta_is = sym none;
   adds = subst (λ (t : Bool). AddsPart d l.part.pair (if t then l.part.pair.0 ∷ l.part.pair.1 ∷ [] else other_number d l.part.pair ∷ [])
       (link_part bytes attributes l (replicate 12 0)) old cs) (sym new)
-      (subst (λ (s : StoredPart). AddsPart d l.part.pair (l.part.pair.0 ∷ l.part.pair.1 ∷ []) (stored_part s.entries s.tail (replicate 12 0)) old cs) stored.part_is
-      (subst (λ (k : Pair). AddsPart d k (k.0 ∷ k.1 ∷ []) (stored_part part.1.entries part.1.tail (replicate 12 0)) old cs) stored.pair adds));
+      (subst (λ (s : StoredPart). AddsPart d l.part.pair (l.part.pair.0 ∷ l.part.pair.1 ∷ [])
+      (stored_part s.entries s.tail (replicate 12 0)) old cs) stored.part_is
+      (subst (λ (k : Pair). AddsPart d k (k.0 ∷ k.1 ∷ []) (stored_part part.1.entries part.1.tail (replicate 12 0)) old cs) stored.pair
+      adds));
 }
 
-pub link_rewritten : (d : Disk) (bytes : List ℕ) (attributes : Attributes) (is_new : Pair → Bool) (l : Link) (part : Found) (old cs : List Change) → is_new l.part.pair ≡ false
-    → IsLinkStored bytes attributes l part → AddsPart d part.0 (other_number d part.0 ∷ []) part.1 old cs → AddsLink d bytes attributes is_new l old cs
+pub link_rewritten : (d : Disk) (bytes : List ℕ) (attributes : Attributes) (is_new : Pair → Bool) (l : Link) (part : Found)
+    (old cs : List Change) → is_new l.part.pair ≡ false
+    → IsLinkStored bytes attributes l part → AddsPart d part.0 (other_number d part.0 ∷ []) part.1 old cs
+    → AddsLink d bytes attributes is_new l old cs
 link_rewritten d bytes attributes is_new l part old cs unset stored adds = record {
   delta = stored.delta;
   delta_is = stored.delta_is;
-  adds = subst (λ (t : Bool). AddsPart d l.part.pair (if t then l.part.pair.0 ∷ l.part.pair.1 ∷ [] else other_number d l.part.pair ∷ []) (link_part bytes attributes l stored.delta) old cs) (sym unset)
+  adds = subst (λ (t : Bool). AddsPart d l.part.pair (if t then l.part.pair.0 ∷ l.part.pair.1 ∷ [] else other_number d l.part.pair ∷ [])
+      (link_part bytes attributes l stored.delta) old cs) (sym unset)
       (subst (λ (s : StoredPart). AddsPart d l.part.pair (other_number d l.part.pair ∷ []) s old cs) stored.part_is
       (subst (λ (k : Pair). AddsPart d k (other_number d k ∷ []) part.1 old cs) stored.pair adds));
 }

@@ -12,29 +12,35 @@ pub keeps_same : (old new : Option Files) (name : List ℕ) → new ≡ old → 
 keeps_same old new name same = subst (λ (files : Option Files). KeepsOthers old files name) (sym same) (keeps_all old name)
 
 -- what is read of the file that a name leads to is read of the name's
-pub reads_target : (files : Option Files) (name target bytes : List ℕ) (most : ℕ) → IsTarget files name target → ReadsFile files target most bytes → ReadsFile files name most bytes
+pub reads_target : (files : Option Files) (name target bytes : List ℕ) (most : ℕ) → IsTarget files name target
+    → ReadsFile files target most bytes → ReadsFile files name most bytes
 reads_target None name target bytes most leads reads = tt
 reads_target (Some files) name target bytes most leads reads = subst (λ (at : List ℕ). ReadsFile (Some files) at most bytes) leads reads
 
 -- so is what is written of it
-pub replaces_target : (old new : Option Files) (name target bytes : List ℕ) → IsTarget old name target → Replaces old new target (new_name target) bytes → Replaces old new name (new_name name) bytes
+pub replaces_target : (old new : Option Files) (name target bytes : List ℕ) → IsTarget old name target
+    → Replaces old new target (new_name target) bytes → Replaces old new name (new_name name) bytes
 replaces_target None new name target bytes leads replaces = tt
-replaces_target (Some files) new name target bytes leads replaces = subst (λ (at : List ℕ). Replaces (Some files) new at (new_name at) bytes) leads replaces
+replaces_target (Some files) new name target bytes leads replaces = subst
+    (λ (at : List ℕ). Replaces (Some files) new at (new_name at) bytes) leads replaces
 
 -- and what is left of it
-pub keeps_target : (old new : Option Files) (name target : List ℕ) → IsTarget old name target → KeepsOthers old new (new_name target) → KeepsOthers old new (new_name name)
+pub keeps_target : (old new : Option Files) (name target : List ℕ) → IsTarget old name target → KeepsOthers old new (new_name target)
+    → KeepsOthers old new (new_name name)
 keeps_target None new name target leads keeps = tt
 keeps_target (Some files) new name target leads keeps = subst (λ (at : List ℕ). KeepsOthers (Some files) new (new_name at)) leads keeps
 
 -- the same under the name that a target is written by, of files that are those at first
-pub kept_under : (there old mid new : Option Files) (name target at : List ℕ) → IsTarget there name target → at ≡ target → there ≡ old → mid ≡ old
+pub kept_under : (there old mid new : Option Files) (name target at : List ℕ) → IsTarget there name target → at ≡ target → there ≡ old
+    → mid ≡ old
     → KeepsOthers mid new (new_name at) → KeepsOthers old new (new_name name)
 kept_under there old mid new name target at leads at_is there_is mid_is keeps =
     keeps_target old new name target (subst (λ (f : Option Files). IsTarget f name target) there_is leads)
     (subst (λ (a : List ℕ). KeepsOthers old new (new_name a)) at_is
     (subst (λ (f : Option Files). KeepsOthers f new (new_name at)) mid_is keeps))
 
-pub replaced_under : (there old mid new : Option Files) (name target at bytes image : List ℕ) → IsTarget there name target → at ≡ target → there ≡ old → mid ≡ old
+pub replaced_under : (there old mid new : Option Files) (name target at bytes image : List ℕ) → IsTarget there name target → at ≡ target
+    → there ≡ old → mid ≡ old
     → bytes ≡ image → Replaces mid new at (new_name at) bytes → Replaces old new name (new_name name) image
 replaced_under there old mid new name target at bytes image leads at_is there_is mid_is bytes_are replaces =
     replaces_target old new name target image (subst (λ (f : Option Files). IsTarget f name target) there_is leads)

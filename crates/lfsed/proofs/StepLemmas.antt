@@ -11,7 +11,8 @@ use Rattle.lfs_step.specs.Deed.{Deed, deed_of}
 use Rattle.lfsed.specs.Files.{Files, IsTarget, KeepsOthers, ReadsFile, Replaces}
 use Rattle.lfsed.specs.Kind.{kind_of}
 use Rattle.lfs_step.specs.Outcome.{Answers, Given, SendsText, given}
-use Rattle.lfsed.specs.Program.{EndsStep, HandsImage, HandsInput, IsOfHost, LeavesFiles, Runs, RunsStep, SaysBefore, Scene, SparesFiles, StopsStep, NamesNoStep, most_image, new_name, stopped_by}
+use Rattle.lfsed.specs.Program.{EndsStep, HandsImage, HandsInput, IsOfHost, LeavesFiles, Runs, RunsStep, SaysBefore, Scene, SparesFiles}
+use Rattle.lfsed.specs.Program.{StopsStep, NamesNoStep, most_image, new_name, stopped_by}
 use Rattle.lfsed.specs.Asking.{SpellsNoKind, digits_of}
 use Rattle.hex.specs.Hex.{decode_of}
 use Rattle.lfs_command.specs.declared.refusal.Refusal.TheVariants.{Memory}
@@ -39,18 +40,27 @@ no_change : (kind other : Kind) → kind ≡ other → (IsChange other → ⊥) 
 no_change kind other is never = subst (λ (k : Kind). IsChange k → ⊥) (sym is) never
 
 -- a run, by what a step was handed; nothing was printed before it
-pub ran : (step : Step) (size : ℕ) (name input image : List ℕ) (old new : Scene) (printed : Option (List ℕ)) (fault : Option Fault) (outcome : Outcome)
+pub ran : (step : Step) (size : ℕ) (name input image : List ℕ) (old new : Scene) (printed : Option (List ℕ)) (fault : Option Fault)
+    (outcome : Outcome)
     → HandsInput step old.typed input → HandsImage (kind_of step) old.files name image → printed ≡ old.printed
     → Runs (deed_of step input) (given size image []) fault printed new.printed outcome → RunsStep step size name old new fault outcome
-ran step size name input image old new printed fault outcome typed read same runs =
-    (input, image, typed, read, subst (λ (p : Option (List ℕ)). Runs (deed_of step input) (given size image []) fault p new.printed outcome) same runs)
+ran step size name input image old new printed fault outcome typed read same runs = (
+  input,
+  image,
+  typed,
+  read,
+  subst (λ (p : Option (List ℕ)). Runs (deed_of step input) (given size image []) fault p new.printed outcome)
+      same runs,
+)
 
 -- what was printed by a run stays
-pub stays_printed : (step : Step) (size : ℕ) (name : List ℕ) (old : Scene) (files : Option Files) (typed before after : Option (List ℕ)) (fault : Option Fault) (outcome : Outcome)
+pub stays_printed : (step : Step) (size : ℕ) (name : List ℕ) (old : Scene) (files : Option Files) (typed before after : Option (List ℕ))
+    (fault : Option Fault) (outcome : Outcome)
     → after ≡ before → RunsStep step size name old (record { files = files; typed = typed; printed = before }) fault outcome
     → RunsStep step size name old (record { files = files; typed = typed; printed = after }) fault outcome
 stays_printed step size name old files typed before after fault outcome same runs =
-    subst (λ (p : Option (List ℕ)). RunsStep step size name old (record { files = files; typed = typed; printed = p }) fault outcome) (sym same) runs
+    subst (λ (p : Option (List ℕ)). RunsStep step size name old (record { files = files; typed = typed; printed = p }) fault outcome)
+    (sym same) runs
 
 -- a run that ended so
 pub runs_with : (deed : Deed) (g : Given) (fault : Option Fault) (old new : Option (List ℕ)) (outcome : Outcome)
@@ -64,46 +74,56 @@ pub ends_stopped : (step : Step) (size : ℕ) (name : List ℕ) (old new : Scene
 ends_stopped step size name old new ended fault is stops = subst (EndsStep step size name old new) (sym is) stops
 
 -- what a result was stopped by, where its fault is known
-pub stopped_at : {T : Type 0} (r : Result T Stop) (fault : Fault) (stop : Stop) → r ≡ Err stop → stop.fault ≡ fault → stopped_by r ≡ Some fault
+pub stopped_at : {T : Type 0} (r : Result T Stop) (fault : Fault) (stop : Stop) → r ≡ Err stop → stop.fault ≡ fault
+    → stopped_by r ≡ Some fault
 stopped_at r fault stop is same = ap stopped_by is ∙ ap Some same
 
 -- ---- questions
 
-pub hands_question : (step : Step) (files : Option Files) (name image : List ℕ) → kind_of step ≡ Asks → ReadsFile files name most_image image → HandsImage (kind_of step) files name image
+pub hands_question : (step : Step) (files : Option Files) (name image : List ℕ) → kind_of step ≡ Asks
+    → ReadsFile files name most_image image → HandsImage (kind_of step) files name image
 hands_question step files name image is reads = subst (λ (k : Kind). HandsImage k files name image) (sym is) reads
 
 pub question_reads_nothing : (step : Step) (typed : Option (List ℕ)) → kind_of step ≡ Asks → HandsInput step typed []
 question_reads_nothing step typed is = reads_nothing step typed (no_change (kind_of step) Asks is (λ never. never))
 
-pub question_spares : (step : Step) (old new : Scene) (name : List ℕ) → kind_of step ≡ Asks → new.files ≡ old.files → SparesFiles (kind_of step) old new name
+pub question_spares : (step : Step) (old new : Scene) (name : List ℕ) → kind_of step ≡ Asks → new.files ≡ old.files
+    → SparesFiles (kind_of step) old new name
 question_spares step old new name is same = subst (λ (k : Kind). SparesFiles k old new name) (sym is) same
 
-pub question_leaves : (step : Step) (old new : Scene) (name image : List ℕ) → kind_of step ≡ Asks → new.files ≡ old.files → LeavesFiles (kind_of step) old new name image
+pub question_leaves : (step : Step) (old new : Scene) (name image : List ℕ) → kind_of step ≡ Asks → new.files ≡ old.files
+    → LeavesFiles (kind_of step) old new name image
 question_leaves step old new name image is same = subst (λ (k : Kind). LeavesFiles k old new name image) (sym is) same
 
 -- ---- new images
 
-pub hands_nothing : (step : Step) (files : Option Files) (name image : List ℕ) → kind_of step ≡ Makes → image ≡ [] → HandsImage (kind_of step) files name image
+pub hands_nothing : (step : Step) (files : Option Files) (name image : List ℕ) → kind_of step ≡ Makes → image ≡ []
+    → HandsImage (kind_of step) files name image
 hands_nothing step files name image is none = subst (λ (k : Kind). HandsImage k files name image) (sym is) none
 
 pub making_reads_nothing : (step : Step) (typed : Option (List ℕ)) → kind_of step ≡ Makes → HandsInput step typed []
 making_reads_nothing step typed is = reads_nothing step typed (no_change (kind_of step) Makes is (λ never. never))
 
-pub making_spares : (step : Step) (old new : Scene) (name : List ℕ) → kind_of step ≡ Makes → KeepsOthers old.files new.files (new_name name) → SparesFiles (kind_of step) old new name
+pub making_spares : (step : Step) (old new : Scene) (name : List ℕ) → kind_of step ≡ Makes → KeepsOthers old.files new.files (new_name name)
+    → SparesFiles (kind_of step) old new name
 making_spares step old new name is keeps = subst (λ (k : Kind). SparesFiles k old new name) (sym is) keeps
 
-pub making_leaves : (step : Step) (old new : Scene) (name image : List ℕ) → kind_of step ≡ Makes → Replaces old.files new.files name (new_name name) image → LeavesFiles (kind_of step) old new name image
+pub making_leaves : (step : Step) (old new : Scene) (name image : List ℕ) → kind_of step ≡ Makes
+    → Replaces old.files new.files name (new_name name) image → LeavesFiles (kind_of step) old new name image
 making_leaves step old new name image is replaces = subst (λ (k : Kind). LeavesFiles k old new name image) (sym is) replaces
 
 -- ---- changes
 
-pub hands_file : (step : Step) (files : Option Files) (name image : List ℕ) → kind_of step ≡ Changes → ReadsFile files name most_image image → HandsImage (kind_of step) files name image
+pub hands_file : (step : Step) (files : Option Files) (name image : List ℕ) → kind_of step ≡ Changes → ReadsFile files name most_image image
+    → HandsImage (kind_of step) files name image
 hands_file step files name image is reads = subst (λ (k : Kind). HandsImage k files name image) (sym is) reads
 
-pub change_spares : (step : Step) (old new : Scene) (name : List ℕ) → kind_of step ≡ Changes → KeepsOthers old.files new.files (new_name name) → SparesFiles (kind_of step) old new name
+pub change_spares : (step : Step) (old new : Scene) (name : List ℕ) → kind_of step ≡ Changes
+    → KeepsOthers old.files new.files (new_name name) → SparesFiles (kind_of step) old new name
 change_spares step old new name is keeps = subst (λ (k : Kind). SparesFiles k old new name) (sym is) keeps
 
-pub change_leaves : (step : Step) (old new : Scene) (name image : List ℕ) → kind_of step ≡ Changes → Replaces old.files new.files name (new_name name) image → LeavesFiles (kind_of step) old new name image
+pub change_leaves : (step : Step) (old new : Scene) (name image : List ℕ) → kind_of step ≡ Changes
+    → Replaces old.files new.files name (new_name name) image → LeavesFiles (kind_of step) old new name image
 change_leaves step old new name image is replaces = subst (λ (k : Kind). LeavesFiles k old new name image) (sym is) replaces
 
 -- ---- how steps end
@@ -115,7 +135,8 @@ pub record Handed (step : Step) (name input image : List ℕ) (old : Scene) (pri
   pub silent : printed ≡ old.printed
 
 -- a step that ran, by what it was handed
-pub handed_ran : (step : Step) (size : ℕ) (name input image : List ℕ) (old new : Scene) (printed : Option (List ℕ)) (fault : Option Fault) (outcome : Outcome)
+pub handed_ran : (step : Step) (size : ℕ) (name input image : List ℕ) (old new : Scene) (printed : Option (List ℕ)) (fault : Option Fault)
+    (outcome : Outcome)
     → Handed step name input image old printed
     → Runs (deed_of step input) (given size image []) fault printed new.printed outcome → RunsStep step size name old new fault outcome
 handed_ran step size name input image old new printed fault outcome h runs =
@@ -123,7 +144,8 @@ handed_ran step size name input image old new printed fault outcome h runs =
 
 -- a run that is refused changes no file
 pub ends_refused : (step : Step) (size : ℕ) (name : List ℕ) (old new : Scene) (ended : Option Fault) (fault : Fault) (outcome : Outcome)
-    → ended ≡ Some fault → RunsStep step size name old new (Some fault) outcome → new.files ≡ old.files → EndsStep step size name old new ended
+    → ended ≡ Some fault → RunsStep step size name old new (Some fault) outcome → new.files ≡ old.files
+    → EndsStep step size name old new ended
 ends_refused step size name old new ended fault outcome is runs same =
     ends_stopped step size name old new ended fault is (inl (outcome, runs, same))
 
@@ -136,12 +158,14 @@ ends_behind step size name old new ended fault outcome is of_host runs spares =
 
 -- the same with the fault itself
 pub stops_behind : (step : Step) (size : ℕ) (name : List ℕ) (old new : Scene) (fault : Fault) (outcome : Outcome)
-    → IsOfHost fault → RunsStep step size name old new None outcome → SparesFiles (kind_of step) old new name → StopsStep step size name old new fault
+    → IsOfHost fault → RunsStep step size name old new None outcome → SparesFiles (kind_of step) old new name
+    → StopsStep step size name old new fault
 stops_behind step size name old new fault outcome of_host runs spares = inr (of_host, inr (outcome, runs), spares)
 
 -- ---- tasks that name no step
 
-pub no_bytes : (task : Task) (fault : Fault) → (fault ≡ Refused Memory) ⊎ ((fault ≡ BadHex) × IsErr (decode_of (digits_of task))) → NamesNoStep task fault
+pub no_bytes : (task : Task) (fault : Fault) → (fault ≡ Refused Memory) ⊎ ((fault ≡ BadHex) × IsErr (decode_of (digits_of task)))
+    → NamesNoStep task fault
 no_bytes task fault (inl is) = subst (NamesNoStep task) (sym is) refl
 no_bytes task fault (inr is) = subst (NamesNoStep task) (sym is.0) (inl is.1)
 

@@ -1,4 +1,5 @@
-use Rattle.std.proofs.Common.{rules, of_calls, ◌≡◌, ◌<◌, ◌≤◌, ℕ, List, [], length, nat_lt, slice_index_or, option_map, Some, sym, ap, subst, ◌∙◌}
+use Rattle.std.proofs.Common.{rules, of_calls, ◌≡◌, ◌<◌, ◌≤◌, ℕ, List, [], length, nat_lt, slice_index_or, option_map, Some, sym, ap, subst}
+use Rattle.std.proofs.Common.{◌∙◌}
 use Rattle.std.proofs.lemmas.Fn.{always_returns_same}
 use Rattle.lfs_block.specs.Change.{Change, IsRising, change_of}
 use Rattle.lfs_block.proofs.ChangeLemmas.{IsPoint, found-at, missing-at, missing-past, point-of, rising-parted}

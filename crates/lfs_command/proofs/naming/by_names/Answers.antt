@@ -8,11 +8,13 @@ use Rattle.lfs_command.specs.declared.refusal.Refusal.TheVariants.{Memory, BadPa
 use Rattle.lfs_command.proofs.naming.by_names.Goals as goal
 
 -- a refusal for a text is one for texts of which it is the first
-first : (text : List ℕ) (texts : List (List ℕ)) (r : Refusal) → (r ≡ Memory) ⊎ ((r ≡ BadPath) × IsNoPath text) → (r ≡ Memory) ⊎ ((r ≡ BadPath) × Any IsNoPath (text ∷ texts))
+first : (text : List ℕ) (texts : List (List ℕ)) (r : Refusal) → (r ≡ Memory) ⊎ ((r ≡ BadPath) × IsNoPath text)
+    → (r ≡ Memory) ⊎ ((r ≡ BadPath) × Any IsNoPath (text ∷ texts))
 first text texts r why = elim why [ inl memory ↦ inl memory | inr bad ↦ inr (bad.0, (0, text, omega arith, refl, bad.1)) ]
 
 -- or the second
-second : (front text : List ℕ) (texts : List (List ℕ)) (r : Refusal) → (r ≡ Memory) ⊎ ((r ≡ BadPath) × IsNoPath text) → (r ≡ Memory) ⊎ ((r ≡ BadPath) × Any IsNoPath (front ∷ text ∷ texts))
+second : (front text : List ℕ) (texts : List (List ℕ)) (r : Refusal) → (r ≡ Memory) ⊎ ((r ≡ BadPath) × IsNoPath text)
+    → (r ≡ Memory) ⊎ ((r ≡ BadPath) × Any IsNoPath (front ∷ text ∷ texts))
 second front text texts r why = elim why [ inl memory ↦ inl memory | inr bad ↦ inr (bad.0, (1, text, omega arith, refl, bad.1)) ]
 
 pub returns-in_err-path-in-Mkdir-clause-refused : goal.returns-in_err-path-in-Mkdir-clause-refused

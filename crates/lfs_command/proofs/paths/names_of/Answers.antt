@@ -13,7 +13,10 @@ returns-then-are_names-clause-spelled c =
     let rest : List ℕ = c.in-Some.rest.now in
     let pieces : List (Bor Name) = c.in_ok-pieces.pieces.items in
     let begins : text ≡ 47 ∷ rest = slash_before text rest c.in-Some.ensures.cases.0 c.in-Some.ensures.cases.1 in
-    let split : IsSplit rest (map (λ p. p.now) pieces) = record { joined = c.in_ok-pieces.ensures.joined; apart = c.in_ok-pieces.ensures.apart } in
+    let split : IsSplit rest (map (λ p. p.now) pieces) = record {
+      joined = c.in_ok-pieces.ensures.joined;
+      apart = c.in_ok-pieces.ensures.apart;
+    } in
     let names : list_all (λ p. is_name p.now) pieces ≡ true =
     sym (c.are_names.ensures ∙ ap (list_all (λ p. is_name p.now)) c.deref.ensures.value) ∙ c.if-are_names.true in
     subst (λ xs. IsPathText xs (map (λ p. p.now) pieces)) (sym begins) (path_of_pieces c.names_are_decided.ensures rest pieces split names)
@@ -24,7 +27,10 @@ returns-clause-refused c =
     let rest : List ℕ = c.in-Some.rest.now in
     let pieces : List (Bor Name) = c.in_ok-pieces.pieces.items in
     let begins : text ≡ 47 ∷ rest = slash_before text rest c.in-Some.ensures.cases.0 c.in-Some.ensures.cases.1 in
-    let split : IsSplit rest (map (λ p. p.now) pieces) = record { joined = c.in_ok-pieces.ensures.joined; apart = c.in_ok-pieces.ensures.apart } in
+    let split : IsSplit rest (map (λ p. p.now) pieces) = record {
+      joined = c.in_ok-pieces.ensures.joined;
+      apart = c.in_ok-pieces.ensures.apart;
+    } in
     let others : list_all (λ p. is_name p.now) pieces ≡ false =
     sym (c.are_names.ensures ∙ ap (list_all (λ p. is_name p.now)) c.deref.ensures.value) ∙ c.if-are_names.false in
     let some' : rest ≢ [] = λ none. eqb-false (length rest) 0 (sym c.is_empty.ensures ∙ c.if-is_empty.false) (ap length none) in

@@ -12,14 +12,17 @@ pub returns-clause-joined : goal.returns-clause-joined
 returns-clause-joined c =
     let text : List ℕ = c.args.text.now in
     let pieces : List Name = split_at text 1 0 (matches text (47 ∷ []) 0) in
-    let ran = map_from_collect c.collect.result c.collect.ensures.ran (YieldsList-from_first (λ x. x.now) (λ rest. rest) pieces c.split_str.ensures.value) in
-    IfOk-weaker c.collect.result (λ v. map (λ p. p.now) v.items ≡ pieces) (λ v. 47 ∷ text ≡ flat_map (λ p. 47 ∷ p) (map (λ p. p.now) v.items))
+    let ran = map_from_collect c.collect.result c.collect.ensures.ran (YieldsList-from_first (λ x. x.now)
+    (λ rest. rest) pieces c.split_str.ensures.value) in
+    IfOk-weaker c.collect.result (λ v. map (λ p. p.now) v.items ≡ pieces)
+    (λ v. 47 ∷ text ≡ flat_map (λ p. 47 ∷ p) (map (λ p. p.now) v.items))
     (λ v is. (split_all text).joined ∙ ap (flat_map (λ p. 47 ∷ p)) (sym is)) ran
 
 pub returns-clause-apart : goal.returns-clause-apart
 returns-clause-apart c =
     let text : List ℕ = c.args.text.now in
     let pieces : List Name = split_at text 1 0 (matches text (47 ∷ []) 0) in
-    let ran = map_from_collect c.collect.result c.collect.ensures.ran (YieldsList-from_first (λ x. x.now) (λ rest. rest) pieces c.split_str.ensures.value) in
+    let ran = map_from_collect c.collect.result c.collect.ensures.ran (YieldsList-from_first (λ x. x.now)
+    (λ rest. rest) pieces c.split_str.ensures.value) in
     IfOk-weaker c.collect.result (λ v. map (λ p. p.now) v.items ≡ pieces) (λ v. All HasNoSlash (map (λ p. p.now) v.items))
     (λ v is. subst (All HasNoSlash) (sym is) (split_all text).apart) ran

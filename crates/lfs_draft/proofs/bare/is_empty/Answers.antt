@@ -7,7 +7,8 @@ use Rattle.lfs_draft.proofs.bare.is_empty.Goals as goal
 
 pub returns-then-has_none : goal.returns-then-has_none
 returns-then-has_none c =
-    let more : c.deref.result.now ≡ c.args.directory.now.more = c.deref.ensures.value ∙ ap (λ (d : Directory). d.more) c.directory.view_is in
+    let more : c.deref.result.now ≡ c.args.directory.now.more = c.deref.ensures.value
+    ∙ ap (λ (d : Directory). d.more) c.directory.view_is in
     let first : (length c.args.directory.now.first.entries == 0) ≡ true =
     sym (c.has_none.ensures ∙ ap (λ (d : Directory). length d.first.entries == 0) c.directory.view_is) ∙ c.if-has_none.true in
     c.have_none.ensures

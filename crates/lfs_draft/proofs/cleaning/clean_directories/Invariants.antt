@@ -6,4 +6,5 @@ use Rattle.lfs_draft.proofs.cleaning.clean_directories.Given as goal
 
 abbrev pub invariant-loop-directory : goal.invariant-loop-directory
 invariant-loop-directory l =
-    l.directory-items ≡ map (each_part cleaned) (take l.directory-index l.fn.directories.items) ++ drop l.directory-index l.fn.directories.items
+    l.directory-items ≡ map (each_part cleaned) (take l.directory-index l.fn.directories.items)
+    ++ drop l.directory-index l.fn.directories.items

@@ -5,4 +5,5 @@ use Rattle.lfs_draft.proofs.cutting.cut_directory.Goals as goal
 
 pub returns-else-has_set_part : goal.returns-else-has_set_part
 returns-else-has_set_part c =
-    none_set c.args.room.bytes c.args.room.superblock c.args.rows.now c.args.directory.now (sym c.has_set_part.ensures ∙ c.if-has_set_part.false)
+    none_set c.args.room.bytes c.args.room.superblock c.args.rows.now c.args.directory.now
+    (sym c.has_set_part.ensures ∙ c.if-has_set_part.false)

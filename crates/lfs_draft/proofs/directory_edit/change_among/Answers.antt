@@ -17,7 +17,8 @@ change_in_part-requires-clause-once c =
     ap (position (has_name c.args.name.now)) (sym c.deref.ensures.value) ∙ sym c.first_with.ensures ∙ c.in-Some.is in
     let here = position-Some (has_name c.args.name.now) c.args.parts.now.items c.in-Some.at c.index_mut.result.now found in
     let few = few_in c.args.name.now c.args.parts.now.items c.in-Some.at c.index_mut.result.now here.0 in
-    subst (λ (p : Part). count_by (is_named c.args.name.now) p.entries ≤ 1) (sym c.index_mut.ensures.value) (omega (arith, few, c.requires.once))
+    subst (λ (p : Part). count_by (is_named c.args.name.now) p.entries ≤ 1) (sym c.index_mut.ensures.value)
+    (omega (arith, few, c.requires.once))
 
 pub returns-in_ok-change_in_part-clause-changed : goal.returns-in_ok-change_in_part-clause-changed
 returns-in_ok-change_in_part-clause-changed c =
@@ -30,6 +31,7 @@ returns-in_ok-change_in_part-clause-changed c =
 
 pub returns-in_default-clause-changed : goal.returns-in_default-clause-changed
 returns-in_default-clause-changed c =
-    sym (at_no_position (has_name c.args.name.now) (touch true (changed c.args.name.now (entry_change c.args.change))) c.args.parts.now.items
+    sym (at_no_position (has_name c.args.name.now) (touch true (changed c.args.name.now (entry_change c.args.change)))
+    c.args.parts.now.items
     (ap (position (has_name c.args.name.now)) (sym c.deref.ensures.value) ∙ sym c.first_with.ensures ∙ c.in_default.is))
     ∙ where_named c.args.name.now (entry_change c.args.change) c.args.parts.now.items

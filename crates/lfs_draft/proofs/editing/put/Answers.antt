@@ -14,4 +14,5 @@ put_file-requires-clause-named c = subst (λ (v : Volume). NamedOnce v.directori
 
 pub put_file-requires-clause-name : goal.put_file-requires-clause-name
 put_file-requires-clause-name c =
-    put_short c.args.outline.now (map (λ (x : Bor Name). x.now) c.args.path.now) c.args.bytes.now (c.home-home.result.pair, c.home-home.result.name.now) c.requires c.home-home.ensures.home
+    put_short c.args.outline.now (map (λ (x : Bor Name). x.now) c.args.path.now) c.args.bytes.now
+    (c.home-home.result.pair, c.home-home.result.name.now) c.requires c.home-home.ensures.home

@@ -5,7 +5,9 @@ use Rattle.lfs_draft.specs.Editable.{BeginOnce, NamedOnce}
 use Rattle.lfs_draft.proofs.editing.set_attr.Goals as goal
 
 pub change-requires-clause-one : goal.change-requires-clause-one
-change-requires-clause-one c = (subst (λ (v : Volume). BeginOnce v.directories) (sym c.outline.view_is) c.requires.begins) c.home-home.result.pair
+change-requires-clause-one c = (subst (λ (v : Volume). BeginOnce v.directories) (sym c.outline.view_is) c.requires.begins)
+    c.home-home.result.pair
 
 pub change-requires-clause-once : goal.change-requires-clause-once
-change-requires-clause-once c = (subst (λ (v : Volume). NamedOnce v.directories) (sym c.outline.view_is) c.requires.named) c.home-home.result.name.now
+change-requires-clause-once c = (subst (λ (v : Volume). NamedOnce v.directories) (sym c.outline.view_is) c.requires.named)
+    c.home-home.result.name.now

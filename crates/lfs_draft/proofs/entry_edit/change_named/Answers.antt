@@ -8,7 +8,8 @@ use Rattle.lfs_draft.proofs.entry_edit.change_named.Goals as goal
 
 pub returns-in_ok-change_entry-clause-changed : goal.returns-in_ok-change_entry-clause-changed
 returns-in_ok-change_entry-clause-changed c =
-    at_position (is_named c.args.name.now) (entry_change c.args.change) c.args.entries.now.items c.in-Some.at c.index_mut.result.now c.change_entry.new.entry
+    at_position (is_named c.args.name.now) (entry_change c.args.change) c.args.entries.now.items c.in-Some.at c.index_mut.result.now
+    c.change_entry.new.entry
     (ap (position (is_named c.args.name.now)) (sym c.deref.ensures.value) ∙ sym c.index_of.ensures ∙ c.in-Some.is)
     c.requires.once
     (c.in_ok-change_entry.ensures.changed ∙ ap (entry_change c.args.change) c.index_mut.ensures.value)

@@ -18,6 +18,7 @@ pub returns-clause-placed : goal.returns-clause-placed
 returns-clause-placed c =
     c.in_ok-insert.ensures.items
     ∙ ap (λ (at : ℕ). insert c.args.entries.now.items at c.args.entry) (c.place_of-at.ensures.place
-    ∙ ap (λ (name : List ℕ). prefix_len (stays name) c.deref.result.now) (c.deref-2.ensures.value ∙ ap (λ (e : Entry). e.name) c.entry.view_is)
+    ∙ ap (λ (name : List ℕ). prefix_len (stays name) c.deref.result.now)
+    (c.deref-2.ensures.value ∙ ap (λ (e : Entry). e.name) c.entry.view_is)
     ∙ ap (prefix_len (stays c.args.entry.name)) c.deref.ensures.value)
     ∙ insert_placed c.args.entry c.args.entries.now.items

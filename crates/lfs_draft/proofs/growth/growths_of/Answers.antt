@@ -11,22 +11,27 @@ pub note_directory-requires : goal.note_directory-requires
 note_directory-requires c =
     let room = room_for_one (λ (d : Directory). growths_of c.args.room.bytes c.args.room.superblock (parts d))
     c.args.directories.now c.each.directory-index c.directory-item.result c.each.growths.items
-    (growths_of c.args.room.bytes c.args.room.superblock (thread c.args.directories.now)) c.each-test.true c.directory-item.is c.each.invariant in
+    (growths_of c.args.room.bytes c.args.room.superblock (thread c.args.directories.now)) c.each-test.true
+    c.directory-item.is c.each.invariant in
     omega (arith, room, c.requires)
 
 pub each-init : goal.each-init
 each-init c =
-    ap (λ (gs : List Growth). gs ++ flat_map (λ (d : Directory). growths_of c.args.room.bytes c.args.room.superblock (parts d)) c.args.directories.now) c.new-growths.ensures
+    ap (λ (gs : List Growth). gs ++ flat_map (λ (d : Directory). growths_of c.args.room.bytes c.args.room.superblock (parts d))
+    c.args.directories.now) c.new-growths.ensures
     ∙ sym (growths_in_turn c.args.room.bytes c.args.room.superblock c.args.directories.now)
 
 pub each-preserved : goal.each-preserved
 each-preserved c =
     ap (λ (gs : List Growth). gs ++ flat_map (λ (d : Directory). growths_of c.args.room.bytes c.args.room.superblock (parts d))
     (drop (c.each.directory-index + 1) c.args.directories.now)) c.note_directory.ensures
-    ∙ one_gathered (λ (d : Directory). growths_of c.args.room.bytes c.args.room.superblock (parts d)) c.args.directories.now c.each.directory-index c.directory-item.result c.each.growths.items
-    (growths_of c.args.room.bytes c.args.room.superblock (thread c.args.directories.now)) c.each-test.true c.directory-item.is c.each.invariant
+    ∙ one_gathered (λ (d : Directory). growths_of c.args.room.bytes c.args.room.superblock (parts d)) c.args.directories.now
+    c.each.directory-index c.directory-item.result c.each.growths.items
+    (growths_of c.args.room.bytes c.args.room.superblock (thread c.args.directories.now)) c.each-test.true c.directory-item.is
+    c.each.invariant
 
 pub returns : goal.returns
 returns c =
-    all_gathered (λ (d : Directory). growths_of c.args.room.bytes c.args.room.superblock (parts d)) c.args.directories.now c.each.directory-index c.each.growths.items
+    all_gathered (λ (d : Directory). growths_of c.args.room.bytes c.args.room.superblock (parts d)) c.args.directories.now
+    c.each.directory-index c.each.growths.items
     (growths_of c.args.room.bytes c.args.room.superblock (thread c.args.directories.now)) c.each-test.false c.each.invariant

@@ -7,15 +7,26 @@ use Rattle.lfs_draft.proofs.growth.note_all.Goals as goal
 
 pub note-requires : goal.note-requires
 note-requires c =
-    let room = room_for_one (growth_of c.args.room.bytes c.args.room.superblock) c.args.parts.now c.each.part-index c.part-item.result c.each.growths.items
-    (c.args.growths.now.items ++ growths_of c.args.room.bytes c.args.room.superblock c.args.parts.now) c.each-test.true c.part-item.is c.each.invariant in
-    omega (arith, room, c.requires, length-append c.args.growths.now.items (growths_of c.args.room.bytes c.args.room.superblock c.args.parts.now))
+    let room = room_for_one (growth_of c.args.room.bytes c.args.room.superblock) c.args.parts.now c.each.part-index c.part-item.result
+    c.each.growths.items
+    (c.args.growths.now.items ++ growths_of c.args.room.bytes c.args.room.superblock c.args.parts.now) c.each-test.true
+    c.part-item.is c.each.invariant in
+    omega (
+      arith,
+      room,
+      c.requires,
+      length-append c.args.growths.now.items
+          (growths_of c.args.room.bytes c.args.room.superblock c.args.parts.now),
+    )
 
 pub each-preserved : goal.each-preserved
 each-preserved c =
-    ap (λ (gs : List Growth). gs ++ growths_of c.args.room.bytes c.args.room.superblock (drop (c.each.part-index + 1) c.args.parts.now)) c.note.ensures
-    ∙ one_gathered (growth_of c.args.room.bytes c.args.room.superblock) c.args.parts.now c.each.part-index c.part-item.result c.each.growths.items
-    (c.args.growths.now.items ++ growths_of c.args.room.bytes c.args.room.superblock c.args.parts.now) c.each-test.true c.part-item.is c.each.invariant
+    ap (λ (gs : List Growth). gs ++ growths_of c.args.room.bytes c.args.room.superblock (drop (c.each.part-index + 1) c.args.parts.now))
+    c.note.ensures
+    ∙ one_gathered (growth_of c.args.room.bytes c.args.room.superblock) c.args.parts.now c.each.part-index c.part-item.result
+    c.each.growths.items
+    (c.args.growths.now.items ++ growths_of c.args.room.bytes c.args.room.superblock c.args.parts.now) c.each-test.true c.part-item.is
+    c.each.invariant
 
 pub returns : goal.returns
 returns c =

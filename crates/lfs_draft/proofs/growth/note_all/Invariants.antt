@@ -5,4 +5,5 @@ use Rattle.lfs_draft.proofs.growth.note_all.Given as goal
 
 abbrev pub invariant-each : goal.invariant-each
 invariant-each l =
-    l.growths.items ++ growths_of l.room.bytes l.room.superblock (drop l.part-index l.parts) ≡ l.fn.growths.items ++ growths_of l.room.bytes l.room.superblock l.parts
+    l.growths.items ++ growths_of l.room.bytes l.room.superblock (drop l.part-index l.parts)
+    ≡ l.fn.growths.items ++ growths_of l.room.bytes l.room.superblock l.parts

@@ -15,7 +15,8 @@ use Rattle.lfs_draft.proofs.home.home_of.Goals as goal
 pub returns-in_err-pair-clause-refused : goal.returns-in_err-pair-clause-refused
 returns-in_err-pair-clause-refused c =
     let front : Path = map (λ (x : Bor Name). x.now) c.in-Some.fronts.now in
-    let same : c.deref.result.now ≡ c.args.outline.now.directories = c.deref.ensures.value ∙ ap (λ (v : Volume). v.directories) c.outline.view_is in
+    let same : c.deref.result.now ≡ c.args.outline.now.directories = c.deref.ensures.value
+    ∙ ap (λ (v : Volume). v.directories) c.outline.view_is in
     let p = err_from_is_err_and c.from_residual.result c.from_residual.ensures.1 in
     rw (p.1, p.2) (
     refused c.args.outline.now (map (λ (x : Bor Name). x.now) c.args.names.now) front c.in-Some.name.now.now c.in_err-pair.field-0.0
@@ -25,7 +26,8 @@ returns-in_err-pair-clause-refused c =
 pub returns-in_err-pair-clause-none : goal.returns-in_err-pair-clause-none
 returns-in_err-pair-clause-none c =
     let front : Path = map (λ (x : Bor Name). x.now) c.in-Some.fronts.now in
-    let same : c.deref.result.now ≡ c.args.outline.now.directories = c.deref.ensures.value ∙ ap (λ (v : Volume). v.directories) c.outline.view_is in
+    let same : c.deref.result.now ≡ c.args.outline.now.directories = c.deref.ensures.value
+    ∙ ap (λ (v : Volume). v.directories) c.outline.view_is in
     let p = err_from_is_err_and c.from_residual.result c.from_residual.ensures.1 in
     rw p.1 (
     no_home c.args.outline.now (map (λ (x : Bor Name). x.now) c.args.names.now) front c.in-Some.name.now.now c.in_err-pair.field-0.0
@@ -35,7 +37,8 @@ returns-in_err-pair-clause-none c =
 pub returns-clause-home : goal.returns-clause-home
 returns-clause-home c =
     let front : Path = map (λ (x : Bor Name). x.now) c.in-Some.fronts.now in
-    let same : c.deref.result.now ≡ c.args.outline.now.directories = c.deref.ensures.value ∙ ap (λ (v : Volume). v.directories) c.outline.view_is in
+    let same : c.deref.result.now ≡ c.args.outline.now.directories = c.deref.ensures.value
+    ∙ ap (λ (v : Volume). v.directories) c.outline.view_is in
     is_home c.args.outline.now (map (λ (x : Bor Name). x.now) c.args.names.now) front c.in-Some.name.now.now c.in_ok-pair.pair
     (names_are c.args.names.now c.in-Some.fronts.now c.in-Some.name.now c.in-Some.ensures.cases.0)
     (ap (λ (ds : List Directory). pair_at ds root front) (sym same) ∙ c.in_ok-pair.ensures.there)
@@ -43,7 +46,8 @@ returns-clause-home c =
 pub returns-clause-unrefused : goal.returns-clause-unrefused
 returns-clause-unrefused c =
     let front : Path = map (λ (x : Bor Name). x.now) c.in-Some.fronts.now in
-    let same : c.deref.result.now ≡ c.args.outline.now.directories = c.deref.ensures.value ∙ ap (λ (v : Volume). v.directories) c.outline.view_is in
+    let same : c.deref.result.now ≡ c.args.outline.now.directories = c.deref.ensures.value
+    ∙ ap (λ (v : Volume). v.directories) c.outline.view_is in
     unrefused c.args.outline.now (map (λ (x : Bor Name). x.now) c.args.names.now) front c.in-Some.name.now.now
     (names_are c.args.names.now c.in-Some.fronts.now c.in-Some.name.now c.in-Some.ensures.cases.0)
     (ap (λ (ds : List Directory). walk_all ds root front) (sym same) ∙ c.in_ok-pair.ensures.unrefused)

@@ -6,8 +6,13 @@ use Rattle.lfs_draft.proofs.judging.judge.Goals as goal
 
 pub returns-in_err-judge_set_attr-in-SetAttr-clause-refused : goal.returns-in_err-judge_set_attr-in-SetAttr-clause-refused
 returns-in_err-judge_set_attr-in-SetAttr-clause-refused c =
-    let p = err_from_is_err_and c.from_residual-in_err-judge_set_attr-in-SetAttr.result c.from_residual-in_err-judge_set_attr-in-SetAttr.ensures.1 in
+    let p = err_from_is_err_and
+    c.from_residual-in_err-judge_set_attr-in-SetAttr.result c.from_residual-in_err-judge_set_attr-in-SetAttr.ensures.1 in
     rw (p.1, p.2) (grind (arith, common_steps, c.in_err-judge_set_attr-in-SetAttr.ensures.refused c.in-SetAttr.kind))
 
 pub returns-in_ok-judge_set_attr-in-SetAttr-clause-unrefused : goal.returns-in_ok-judge_set_attr-in-SetAttr-clause-unrefused
-returns-in_ok-judge_set_attr-in-SetAttr-clause-unrefused c = grind (arith, common_steps, c.in_ok-judge_set_attr-in-SetAttr.ensures.unrefused c.in-SetAttr.kind)
+returns-in_ok-judge_set_attr-in-SetAttr-clause-unrefused c = grind (
+  arith,
+  common_steps,
+  c.in_ok-judge_set_attr-in-SetAttr.ensures.unrefused c.in-SetAttr.kind,
+)

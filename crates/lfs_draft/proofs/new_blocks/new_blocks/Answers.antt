@@ -10,7 +10,9 @@ use Rattle.lfs_draft.proofs.new_blocks.new_blocks.Goals as goal
 pub returns : goal.returns
 returns c =
     c.blocks_of_directories.ensures
-    ∙ ap (λ (ds : List Directory). min 18446744073709551615 (sum_by (set_blocks_of c.block_room.result.bytes c.block_room.result.superblock) ds))
+    ∙ ap (λ (ds : List Directory). min 18446744073709551615 (sum_by (set_blocks_of c.block_room.result.bytes c.block_room.result.superblock)
+    ds))
     (c.deref.ensures.value ∙ ap (λ (v : Volume). v.directories) c.outline.view_is)
     ∙ ap (λ (n : ℕ). min 18446744073709551615 n)
-    (all_blocks c.args.outline.now c.block_room.result.bytes c.block_room.result.superblock c.block_room.ensures.bytes c.block_room.ensures.superblock)
+    (all_blocks c.args.outline.now c.block_room.result.bytes c.block_room.result.superblock c.block_room.ensures.bytes
+    c.block_room.ensures.superblock)

@@ -7,4 +7,5 @@ use Rattle.lfs_draft.proofs.runs.run_count.Given as goal
 
 abbrev pub invariant-each : goal.invariant-each
 invariant-each l =
-    AreBegun (length (runs_after weight l.room l.taken-2 l.len-2 l.entries)) l.room l.entry-index l.count l.taken l.len (drop l.entry-index l.entries)
+    AreBegun (length (runs_after weight l.room l.taken-2 l.len-2 l.entries)) l.room l.entry-index l.count l.taken l.len
+    (drop l.entry-index l.entries)

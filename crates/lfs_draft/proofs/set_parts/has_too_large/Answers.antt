@@ -12,4 +12,5 @@ returns c =
     c.any_directory_too_large.ensures
     ∙ ap (λ (ds : List Directory). list_any (has_too_large_by c.block_room.result.bytes c.block_room.result.superblock) ds)
     (c.deref.ensures.value ∙ ap (λ (v : Volume). v.directories) c.outline.view_is)
-    ∙ any_large_part c.args.outline.now c.block_room.result.bytes c.block_room.result.superblock c.block_room.ensures.bytes c.block_room.ensures.superblock
+    ∙ any_large_part c.args.outline.now c.block_room.result.bytes c.block_room.result.superblock c.block_room.ensures.bytes
+    c.block_room.ensures.superblock

@@ -9,6 +9,7 @@ use Rattle.lfs_draft.proofs.splitting.split.Given as goal
 abbrev pub invariant-each : goal.invariant-each
 invariant-each l = record {
   counted : into_iter_len l.entry-iterator ≡ length (into_iter_items l.entry-iterator);
-  split : IsSplitTo (runs_after weight l.room l.fn.taken l.fn.len l.fn.entries.items) l.room (map (λ run. run.items) l.splitting.done.items) l.splitting.run.items
+  split : IsSplitTo (runs_after weight l.room l.fn.taken l.fn.len l.fn.entries.items) l.room
+      (map (λ run. run.items) l.splitting.done.items) l.splitting.run.items
       l.splitting.taken l.splitting.len (into_iter_items l.entry-iterator);
 }

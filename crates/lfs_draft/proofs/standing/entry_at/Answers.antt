@@ -9,7 +9,9 @@ use Rattle.lfs_draft.proofs.standing.entry_at.Goals as goal
 
 pub returns-clause-at : goal.returns-clause-at
 returns-clause-at c =
-    let same : c.deref.result.now ≡ c.args.outline.now.directories = c.deref.ensures.value ∙ ap (λ (v : Volume). v.directories) c.outline.view_is in
+    let same : c.deref.result.now ≡ c.args.outline.now.directories = c.deref.ensures.value
+    ∙ ap (λ (v : Volume). v.directories) c.outline.view_is in
     c.entry_in.ensures
     ∙ ap (λ (ds : List Directory). entry_in ds c.in_ok-home.home.pair c.in_ok-home.home.name.now) same
-    ∙ sym (stands_at_home c.args.outline.now (map (λ (n : Bor Name). n.now) c.args.names.now) c.in_ok-home.home.pair c.in_ok-home.home.name.now c.in_ok-home.ensures.home)
+    ∙ sym (stands_at_home c.args.outline.now (map (λ (n : Bor Name). n.now) c.args.names.now) c.in_ok-home.home.pair
+    c.in_ok-home.home.name.now c.in_ok-home.ensures.home)

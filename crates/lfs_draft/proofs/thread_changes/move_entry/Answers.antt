@@ -8,4 +8,9 @@ use Rattle.lfs_draft.proofs.thread_changes.move_entry.Goals as goal
 pub link-requires : goal.link-requires
 link-requires c =
     let n = c.args.from.name.now in
-    rw c.unlink.ensures (omega (arith, begins_kept c.args.to.pair c.args.from.pair (unlink_in n) c.args.directories.now.items (keeps_unlink n), c.requires.once c.args.to.pair))
+    rw c.unlink.ensures (omega (
+      arith,
+      begins_kept c.args.to.pair c.args.from.pair (unlink_in n) c.args.directories.now.items
+          (keeps_unlink n),
+      c.requires.once c.args.to.pair,
+    ))

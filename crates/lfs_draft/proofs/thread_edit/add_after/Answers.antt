@@ -8,7 +8,8 @@ use Rattle.lfs_draft.proofs.thread_edit.add_after.Goals as goal
 
 pub returns-in_ok-insert-clause-added : goal.returns-in_ok-insert-clause-added
 returns-in_ok-insert-clause-added c =
-    added_behind c.args.pair c.args.new c.args.directories.now.items c.insert.new.self.items c.in-Some.at c.index_mut.result.now c.touch_last.new.directory
+    added_behind c.args.pair c.args.new c.args.directories.now.items c.insert.new.self.items c.in-Some.at c.index_mut.result.now
+    c.touch_last.new.directory
     (ap (position (begins_at c.args.pair)) (sym c.deref.ensures.value) ∙ sym c.directory_of.ensures ∙ c.in-Some.is)
     c.in_ok-insert.ensures.items
     (c.touch_last.ensures ∙ ap touch_last c.index_mut.ensures.value)

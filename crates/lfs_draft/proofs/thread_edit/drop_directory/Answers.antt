@@ -8,7 +8,8 @@ use Rattle.lfs_draft.proofs.thread_edit.drop_directory.Goals as goal
 
 pub returns-then-at-gt0 : goal.returns-then-at-gt0
 returns-then-at-gt0 c =
-    taken_behind c.args.pair c.args.directories.now.items c.remove-gone.new.self.items c.in-Some.at c.remove-gone.result c.index_mut.result.now c.absorb.new.directory
+    taken_behind c.args.pair c.args.directories.now.items c.remove-gone.new.self.items c.in-Some.at c.remove-gone.result
+    c.index_mut.result.now c.absorb.new.directory
     (ap (position (begins_at c.args.pair)) (sym c.deref.ensures.value) ∙ sym c.directory_of.ensures ∙ c.in-Some.is)
     c.if-at-gt0.true
     c.remove-gone.ensures.items

@@ -8,7 +8,8 @@ use Rattle.lfs_draft.proofs.thread_edit.unlink.Goals as goal
 
 pub returns-in-Some : goal.returns-in-Some
 returns-in-Some c =
-    at_position (begins_at c.args.pair) (unlink_in c.args.name.now) c.args.directories.now.items c.in-Some.at c.index_mut.result.now c.unlink_in.new.directory
+    at_position (begins_at c.args.pair) (unlink_in c.args.name.now) c.args.directories.now.items c.in-Some.at c.index_mut.result.now
+    c.unlink_in.new.directory
     (ap (position (begins_at c.args.pair)) (sym c.deref.ensures.value) ∙ sym c.directory_of.ensures ∙ c.in-Some.is)
     c.requires
     (c.unlink_in.ensures ∙ ap (unlink_in c.args.name.now) c.index_mut.ensures.value)

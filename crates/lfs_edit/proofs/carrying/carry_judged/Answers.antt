@@ -13,45 +13,67 @@ use Rattle.lfs_edit.proofs.carrying.carry_judged.Goals as goal
 
 pub used_blocks-requires : goal.used_blocks-requires
 used_blocks-requires c =
-    (editable c.outlines_are_sound.ensures c.carrying_laws.ensures c.names_are_ordered.ensures c.args.image.now (named_command c.args.command.now) c.args.outline.now c.requires.judged).sound
+    (editable c.outlines_are_sound.ensures c.carrying_laws.ensures c.names_are_ordered.ensures c.args.image.now
+    (named_command c.args.command.now) c.args.outline.now c.requires.judged).sound
 
 pub edit_least-requires-clause-editable : goal.edit_least-requires-clause-editable
 edit_least-requires-clause-editable c =
-    editable c.outlines_are_sound.ensures c.carrying_laws.ensures c.names_are_ordered.ensures c.args.image.now (named_command c.args.command.now) c.args.outline.now c.requires.judged
+    editable c.outlines_are_sound.ensures c.carrying_laws.ensures c.names_are_ordered.ensures c.args.image.now
+    (named_command c.args.command.now) c.args.outline.now c.requires.judged
 
 pub edit_least-requires-clause-len : goal.edit_least-requires-clause-len
 edit_least-requires-clause-len c =
     contents_short c.args.outline.now c.args.command.now
-    (editable c.outlines_are_sound.ensures c.carrying_laws.ensures c.names_are_ordered.ensures c.args.image.now (named_command c.args.command.now) c.args.outline.now c.requires.judged)
+    (editable c.outlines_are_sound.ensures c.carrying_laws.ensures c.names_are_ordered.ensures c.args.image.now
+    (named_command c.args.command.now) c.args.outline.now c.requires.judged)
 
 pub data_blocks-requires-clause-len : goal.data_blocks-requires-clause-len
 data_blocks-requires-clause-len c =
     contents_short c.args.outline.now c.args.command.now
-    (editable c.outlines_are_sound.ensures c.carrying_laws.ensures c.names_are_ordered.ensures c.args.image.now (named_command c.args.command.now) c.args.outline.now c.requires.judged)
+    (editable c.outlines_are_sound.ensures c.carrying_laws.ensures c.names_are_ordered.ensures c.args.image.now
+    (named_command c.args.command.now) c.args.outline.now c.requires.judged)
 
 pub overflow_add-made : goal.overflow_add-made
 overflow_add-made c =
     let d = c.args.image.now in
     let command = named_command c.args.command.now in
-    let u = unweighed c.carrying_laws.ensures d command c.args.outline.now c.edit_least.new.outline c.in_ok-used.used c.requires.judged c.in_ok-used.ensures.marks c.in_ok-used.ensures.free c.in_ok-edit_least.ensures in
-    let known = weighed c.carrying_laws.ensures c.needs_are_small.ensures c.held_volumes_have_few_entries.ensures d command c.in_ok-used.used c.edit_least.new.outline c.size-size.ensures.disk u in
-    omega (arith, known.needed, known.small, c.data_blocks.ensures u.volume (known.size ∙ sym c.size-size.ensures.value), c.directory_blocks.ensures)
+    let u = unweighed c.carrying_laws.ensures d command c.args.outline.now c.edit_least.new.outline c.in_ok-used.used c.requires.judged
+    c.in_ok-used.ensures.marks c.in_ok-used.ensures.free c.in_ok-edit_least.ensures in
+    let known = weighed c.carrying_laws.ensures c.needs_are_small.ensures c.held_volumes_have_few_entries.ensures d command
+    c.in_ok-used.used c.edit_least.new.outline c.size-size.ensures.disk u in
+    omega (
+      arith,
+      known.needed,
+      known.small,
+      c.data_blocks.ensures u.volume (known.size ∙ sym c.size-size.ensures.value),
+      c.directory_blocks.ensures,
+    )
 
 pub needed_blocks-requires-clause-size : goal.needed_blocks-requires-clause-size
 needed_blocks-requires-clause-size c =
     let d = c.args.image.now in
     let command = named_command c.args.command.now in
-    let u = unweighed c.carrying_laws.ensures d command c.args.outline.now c.edit_least.new.outline c.in_ok-used.used c.requires.judged c.in_ok-used.ensures.marks c.in_ok-used.ensures.free c.in_ok-edit_least.ensures in
-    let known = weighed c.carrying_laws.ensures c.needs_are_small.ensures c.held_volumes_have_few_entries.ensures d command c.in_ok-used.used c.edit_least.new.outline c.size-size.ensures.disk u in
+    let u = unweighed c.carrying_laws.ensures d command c.args.outline.now c.edit_least.new.outline c.in_ok-used.used c.requires.judged
+    c.in_ok-used.ensures.marks c.in_ok-used.ensures.free c.in_ok-edit_least.ensures in
+    let known = weighed c.carrying_laws.ensures c.needs_are_small.ensures c.held_volumes_have_few_entries.ensures d command
+    c.in_ok-used.used c.edit_least.new.outline c.size-size.ensures.disk u in
     omega (arith, known.frame, c.size-size.ensures.disk.geometry.size_fits.1)
 
 pub needed_blocks-requires-clause-small : goal.needed_blocks-requires-clause-small
 needed_blocks-requires-clause-small c =
     let d = c.args.image.now in
     let command = named_command c.args.command.now in
-    let u = unweighed c.carrying_laws.ensures d command c.args.outline.now c.edit_least.new.outline c.in_ok-used.used c.requires.judged c.in_ok-used.ensures.marks c.in_ok-used.ensures.free c.in_ok-edit_least.ensures in
-    let known = weighed c.carrying_laws.ensures c.needs_are_small.ensures c.held_volumes_have_few_entries.ensures d command c.in_ok-used.used c.edit_least.new.outline c.size-size.ensures.disk u in
-    omega (arith, known.needed, known.small, c.data_blocks.ensures u.volume (known.size ∙ sym c.size-size.ensures.value), c.directory_blocks.ensures)
+    let u = unweighed c.carrying_laws.ensures d command c.args.outline.now c.edit_least.new.outline c.in_ok-used.used c.requires.judged
+    c.in_ok-used.ensures.marks c.in_ok-used.ensures.free c.in_ok-edit_least.ensures in
+    let known = weighed c.carrying_laws.ensures c.needs_are_small.ensures c.held_volumes_have_few_entries.ensures d command
+    c.in_ok-used.used c.edit_least.new.outline c.size-size.ensures.disk u in
+    omega (
+      arith,
+      known.needed,
+      known.small,
+      c.data_blocks.ensures u.volume (known.size ∙ sym c.size-size.ensures.value),
+      c.directory_blocks.ensures,
+    )
 
 pub returns-in_err-blocks-clause-refused : goal.returns-in_err-blocks-clause-refused
 returns-in_err-blocks-clause-refused c =
@@ -59,13 +81,17 @@ returns-in_err-blocks-clause-refused c =
     let command = named_command c.args.command.now in
     let used = c.in_ok-used.used in
     let o = c.edit_least.new.outline in
-    let u = unweighed c.carrying_laws.ensures d command c.args.outline.now o used c.requires.judged c.in_ok-used.ensures.marks c.in_ok-used.ensures.free c.in_ok-edit_least.ensures in
-    let known = weighed c.carrying_laws.ensures c.needs_are_small.ensures c.held_volumes_have_few_entries.ensures d command used o c.size-size.ensures.disk u in
-    let made : c.data_blocks.result + c.directory_blocks.result ≡ made_blocks u.volume command = omega (arith, c.data_blocks.ensures u.volume (known.size ∙ sym c.size-size.ensures.value), c.directory_blocks.ensures) in
+    let u = unweighed c.carrying_laws.ensures d command c.args.outline.now o used c.requires.judged c.in_ok-used.ensures.marks
+    c.in_ok-used.ensures.free c.in_ok-edit_least.ensures in
+    let known = weighed c.carrying_laws.ensures c.needs_are_small.ensures c.held_volumes_have_few_entries.ensures d command used o
+    c.size-size.ensures.disk u in
+    let made : c.data_blocks.result + c.directory_blocks.result ≡ made_blocks u.volume command =
+    omega (arith, c.data_blocks.ensures u.volume (known.size ∙ sym c.size-size.ensures.value), c.directory_blocks.ensures) in
     let p = err_from_is_err_and c.from_residual-in_err-blocks.result c.from_residual-in_err-blocks.ensures.1 in
     rw (p.1, p.2) (elim c.in_err-blocks.ensures.refused [
       | inl memory ↦ inl memory
-      | inr refused ↦ inr (refused_by d command used o u c.in_err-blocks.field-0.0 known (ap (λ (n : ℕ). first_refusal (room_checks_on o n (unused used))) (sym made) ∙ refused))
+      | inr refused ↦ inr (refused_by d command used o u c.in_err-blocks.field-0.0 known
+          (ap (λ (n : ℕ). first_refusal (room_checks_on o n (unused used))) (sym made) ∙ refused))
     ])
 
 pub carry_ready-requires-clause-ready : goal.carry_ready-requires-clause-ready
@@ -74,14 +100,19 @@ carry_ready-requires-clause-ready c =
     let command = named_command c.args.command.now in
     let used = c.in_ok-used.used in
     let o = c.edit_least.new.outline in
-    let u = unweighed c.carrying_laws.ensures d command c.args.outline.now o used c.requires.judged c.in_ok-used.ensures.marks c.in_ok-used.ensures.free c.in_ok-edit_least.ensures in
-    let known = weighed c.carrying_laws.ensures c.needs_are_small.ensures c.held_volumes_have_few_entries.ensures d command used o c.size-size.ensures.disk u in
-    let made : c.data_blocks.result + c.directory_blocks.result ≡ made_blocks u.volume command = omega (arith, c.data_blocks.ensures u.volume (known.size ∙ sym c.size-size.ensures.value), c.directory_blocks.ensures) in
+    let u = unweighed c.carrying_laws.ensures d command c.args.outline.now o used c.requires.judged c.in_ok-used.ensures.marks
+    c.in_ok-used.ensures.free c.in_ok-edit_least.ensures in
+    let known = weighed c.carrying_laws.ensures c.needs_are_small.ensures c.held_volumes_have_few_entries.ensures d command used o
+    c.size-size.ensures.disk u in
+    let made : c.data_blocks.result + c.directory_blocks.result ≡ made_blocks u.volume command =
+    omega (arith, c.data_blocks.ensures u.volume (known.size ∙ sym c.size-size.ensures.value), c.directory_blocks.ensures) in
     ready d command used o u c.deref.result.now known
     (ap (λ (n : ℕ). first_refusal (room_checks_on o n (unused used))) (sym made) ∙ c.in_ok-blocks.ensures.unrefused)
-    (c.deref.ensures.value ∙ c.in_ok-blocks.ensures.blocks ∙ ap (λ (n : ℕ). take (n + sum_by (part_blocks o) (dirty_parts o)) (unused used)) made)
+    (c.deref.ensures.value ∙ c.in_ok-blocks.ensures.blocks ∙ ap (λ (n : ℕ). take (n + sum_by (part_blocks o) (dirty_parts o)) (unused used))
+    made)
 
 pub carry_ready-requires-clause-len : goal.carry_ready-requires-clause-len
 carry_ready-requires-clause-len c =
     contents_short c.args.outline.now c.args.command.now
-    (editable c.outlines_are_sound.ensures c.carrying_laws.ensures c.names_are_ordered.ensures c.args.image.now (named_command c.args.command.now) c.args.outline.now c.requires.judged)
+    (editable c.outlines_are_sound.ensures c.carrying_laws.ensures c.names_are_ordered.ensures c.args.image.now
+    (named_command c.args.command.now) c.args.outline.now c.requires.judged)

@@ -9,27 +9,38 @@ use Rattle.lfs_edit.proofs.carrying.carry_ready.Goals as goal
 pub split_at-requires : goal.split_at-requires
 split_at-requires c =
     let v = c.requires.ready.volume in
-    let known = known_ready c.carrying_laws.ensures c.args.image.now (named_command c.args.command.now) c.args.used.now c.args.blocks.now c.args.outline.now c.requires.ready in
+    let known = known_ready c.carrying_laws.ensures c.args.image.now (named_command c.args.command.now) c.args.used.now c.args.blocks.now
+    c.args.outline.now c.requires.ready in
     omega (arith, known.made, c.data_blocks-data.ensures v (known.size ∙ sym c.size-size.ensures.value), c.directory_blocks.ensures)
 
 pub cut_over-requires-clause-size : goal.cut_over-requires-clause-size
 cut_over-requires-clause-size c =
-    let known = known_ready c.carrying_laws.ensures c.args.image.now (named_command c.args.command.now) c.args.used.now c.args.blocks.now c.args.outline.now c.requires.ready in
+    let known = known_ready c.carrying_laws.ensures c.args.image.now (named_command c.args.command.now) c.args.used.now c.args.blocks.now
+    c.args.outline.now c.requires.ready in
     omega (arith, known.frame, c.size-size.ensures.disk.geometry.size_fits.1)
 
 pub cut_over-requires-clause-needed : goal.cut_over-requires-clause-needed
 cut_over-requires-clause-needed c =
     let v = c.requires.ready.volume in
-    let known = known_ready c.carrying_laws.ensures c.args.image.now (named_command c.args.command.now) c.args.used.now c.args.blocks.now c.args.outline.now c.requires.ready in
-    omega (arith, c.split_at.ensures.back_len, known.needed, c.data_blocks-data.ensures v (known.size ∙ sym c.size-size.ensures.value), c.directory_blocks.ensures)
+    let known = known_ready c.carrying_laws.ensures c.args.image.now (named_command c.args.command.now) c.args.used.now c.args.blocks.now
+    c.args.outline.now c.requires.ready in
+    omega (
+      arith,
+      c.split_at.ensures.back_len,
+      known.needed,
+      c.data_blocks-data.ensures v (known.size ∙ sym c.size-size.ensures.value),
+      c.directory_blocks.ensures,
+    )
 
 pub cut_over-requires-clause-once : goal.cut_over-requires-clause-once
 cut_over-requires-clause-once c =
-    (known_ready c.carrying_laws.ensures c.args.image.now (named_command c.args.command.now) c.args.used.now c.args.blocks.now c.args.outline.now c.requires.ready).once
+    (known_ready c.carrying_laws.ensures c.args.image.now (named_command c.args.command.now) c.args.used.now c.args.blocks.now
+    c.args.outline.now c.requires.ready).once
 
 pub cut_over-requires-clause-few : goal.cut_over-requires-clause-few
 cut_over-requires-clause-few c =
-    (known_ready c.carrying_laws.ensures c.args.image.now (named_command c.args.command.now) c.args.used.now c.args.blocks.now c.args.outline.now c.requires.ready).few
+    (known_ready c.carrying_laws.ensures c.args.image.now (named_command c.args.command.now) c.args.used.now c.args.blocks.now
+    c.args.outline.now c.requires.ready).few
 
 pub written-requires-clause-cut : goal.written-requires-clause-cut
 written-requires-clause-cut c =
@@ -42,5 +53,6 @@ written-requires-clause-cut c =
     record {
       before = c.args.outline.now;
       ready = c.requires.ready;
-      cuts = subst (λ (new : List ℕ). IsCutOver c.args.outline.now new c.cut_over.new.outline) (c.split_at.ensures.back ∙ ap (λ (n : ℕ). drop n blocks) made) c.in_ok-cut_over.ensures;
+      cuts = subst (λ (new : List ℕ). IsCutOver c.args.outline.now new c.cut_over.new.outline)
+          (c.split_at.ensures.back ∙ ap (λ (n : ℕ). drop n blocks) made) c.in_ok-cut_over.ensures;
     }

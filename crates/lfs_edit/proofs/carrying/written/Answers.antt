@@ -18,34 +18,42 @@ pub slice_bounds-laid_for-end : goal.slice_bounds-laid_for-end
 slice_bounds-laid_for-end c =
     let d = c.args.image.now in
     let cut' = c.requires.cut in
-    let known = at_hand c.carrying_laws.ensures c.held_superblocks_are_made.ensures d c.size-size.ensures.disk (named_command c.args.command.now) c.args.used.now c.args.blocks.now c.args.outline.now cut' in
+    let known = at_hand c.carrying_laws.ensures c.held_superblocks_are_made.ensures d c.size-size.ensures.disk
+    (named_command c.args.command.now) c.args.used.now c.args.blocks.now c.args.outline.now cut' in
     let is = c.data_blocks-count.ensures cut'.ready.volume (known.held.size ∙ sym c.size-size.ensures.value) in
-    sym (contents_many d (named_command c.args.command.now) c.args.used.now c.args.blocks.now c.args.outline.now cut' c.data_blocks-count.result is)
+    sym (contents_many d (named_command c.args.command.now) c.args.used.now c.args.blocks.now c.args.outline.now cut'
+    c.data_blocks-count.result is)
 
 pub laid_for-requires-clause-rising : goal.laid_for-requires-clause-rising
 laid_for-requires-clause-rising c =
     let d = c.args.image.now in
     let cut' = c.requires.cut in
-    let known = at_hand c.carrying_laws.ensures c.held_superblocks_are_made.ensures d c.size-size.ensures.disk (named_command c.args.command.now) c.args.used.now c.args.blocks.now c.args.outline.now cut' in
+    let known = at_hand c.carrying_laws.ensures c.held_superblocks_are_made.ensures d c.size-size.ensures.disk
+    (named_command c.args.command.now) c.args.used.now c.args.blocks.now c.args.outline.now cut' in
     let is = c.data_blocks-count.ensures cut'.ready.volume (known.held.size ∙ sym c.size-size.ensures.value) in
-    contents_rise d (named_command c.args.command.now) c.args.used.now c.args.blocks.now c.args.outline.now cut' c.data_blocks-count.result is
+    contents_rise d (named_command c.args.command.now) c.args.used.now c.args.blocks.now c.args.outline.now cut' c.data_blocks-count.result
+    is
 
 pub laid_for-requires-clause-below : goal.laid_for-requires-clause-below
 laid_for-requires-clause-below c =
     let d = c.args.image.now in
     let cut' = c.requires.cut in
-    let known = at_hand c.carrying_laws.ensures c.held_superblocks_are_made.ensures d c.size-size.ensures.disk (named_command c.args.command.now) c.args.used.now c.args.blocks.now c.args.outline.now cut' in
+    let known = at_hand c.carrying_laws.ensures c.held_superblocks_are_made.ensures d c.size-size.ensures.disk
+    (named_command c.args.command.now) c.args.used.now c.args.blocks.now c.args.outline.now cut' in
     let is = c.data_blocks-count.ensures cut'.ready.volume (known.held.size ∙ sym c.size-size.ensures.value) in
     subst (λ (n : ℕ). All (λ b. b < n) (take c.data_blocks-count.result c.args.blocks.now)) known.held.count
-    (contents_below d (named_command c.args.command.now) c.args.used.now c.args.blocks.now c.args.outline.now cut' c.data_blocks-count.result is)
+    (contents_below d (named_command c.args.command.now) c.args.used.now c.args.blocks.now c.args.outline.now cut'
+    c.data_blocks-count.result is)
 
 pub laid_for-requires-clause-many : goal.laid_for-requires-clause-many
 laid_for-requires-clause-many c v size =
     let d = c.args.image.now in
     let cut' = c.requires.cut in
-    let known = at_hand c.carrying_laws.ensures c.held_superblocks_are_made.ensures d c.size-size.ensures.disk (named_command c.args.command.now) c.args.used.now c.args.blocks.now c.args.outline.now cut' in
+    let known = at_hand c.carrying_laws.ensures c.held_superblocks_are_made.ensures d c.size-size.ensures.disk
+    (named_command c.args.command.now) c.args.used.now c.args.blocks.now c.args.outline.now cut' in
     let is = c.data_blocks-count.ensures cut'.ready.volume (known.held.size ∙ sym c.size-size.ensures.value) in
-    contents_many d (named_command c.args.command.now) c.args.used.now c.args.blocks.now c.args.outline.now cut' c.data_blocks-count.result is
+    contents_many d (named_command c.args.command.now) c.args.used.now c.args.blocks.now c.args.outline.now cut' c.data_blocks-count.result
+    is
     ∙ c.data_blocks-count.ensures v (size ∙ sym c.size-size.ensures.value)
 
 pub write_links-requires-clause-rise : goal.write_links-requires-clause-rise
@@ -68,8 +76,10 @@ write_links-requires-clause-can c =
     let is = c.data_blocks-count.ensures v (known.held.size ∙ sym c.size-size.ensures.value) in
     let contents = ap (λ (k : ℕ). take k blocks) is ∙ contents_are d command used blocks w cut' in
     let laid = c.in_ok-base.ensures v (supplies_of v command) known.held.size (sym contents) in
-    subst (λ (flags : List Bool). CanBeAdded d (volume_bytes w) w.attributes (is_unmarked flags) c.in_ok-base.base.items (links w.directories)) (sym c.flags.ensures)
-    (can_be_added laws c.cut_links_can_be_written.ensures.added d c.size-size.ensures.disk command used blocks w cut' known c.in_ok-base.base.items laid)
+    subst (λ (flags : List Bool). CanBeAdded d (volume_bytes w) w.attributes (is_unmarked flags) c.in_ok-base.base.items
+    (links w.directories)) (sym c.flags.ensures)
+    (can_be_added laws c.cut_links_can_be_written.ensures.added d c.size-size.ensures.disk command used blocks w cut' known
+    c.in_ok-base.base.items laid)
 
 pub of-requires : goal.of-requires
 of-requires c =
@@ -85,9 +95,11 @@ of-requires c =
     let is = c.data_blocks-count.ensures v (known.held.size ∙ sym c.size-size.ensures.value) in
     let contents = ap (λ (k : ℕ). take k blocks) is ∙ contents_are d command used blocks w cut' in
     let laid = c.in_ok-base.ensures v (supplies_of v command) known.held.size (sym contents) in
-    let written = subst (λ (flags : List Bool). AreWritten d (volume_bytes w) w.attributes (is_unmarked flags) c.in_ok-base.base.items (links w.directories) c.in_ok-changes.changes.items)
+    let written = subst (λ (flags : List Bool). AreWritten d (volume_bytes w) w.attributes (is_unmarked flags) c.in_ok-base.base.items
+    (links w.directories) c.in_ok-changes.changes.items)
     c.flags.ensures c.in_ok-changes.ensures in
-    let writes = writes_over laws c.commands_set_a_part.ensures d command used blocks w cut' known c.in_ok-base.base.items c.in_ok-changes.changes.items laid written in
+    let writes = writes_over laws c.commands_set_a_part.ensures d command used blocks w cut' known c.in_ok-base.base.items
+    c.in_ok-changes.changes.items laid written in
     subst (λ (n : ℕ). IsPatch (record { size = n; changes = c.in_ok-changes.changes.items })) (sym c.size-size.ensures.value) writes.patch
 
 pub returns : goal.returns
@@ -104,10 +116,16 @@ returns c =
     let is = c.data_blocks-count.ensures v (known.held.size ∙ sym c.size-size.ensures.value) in
     let contents = ap (λ (k : ℕ). take k blocks) is ∙ contents_are d command used blocks w cut' in
     let laid = c.in_ok-base.ensures v (supplies_of v command) known.held.size (sym contents) in
-    let written = subst (λ (flags : List Bool). AreWritten d (volume_bytes w) w.attributes (is_unmarked flags) c.in_ok-base.base.items (links w.directories) c.in_ok-changes.changes.items)
+    let written = subst (λ (flags : List Bool). AreWritten d (volume_bytes w) w.attributes (is_unmarked flags) c.in_ok-base.base.items
+    (links w.directories) c.in_ok-changes.changes.items)
     c.flags.ensures c.in_ok-changes.ensures in
-    let writes = writes_over laws c.commands_set_a_part.ensures d command used blocks w cut' known c.in_ok-base.base.items c.in_ok-changes.changes.items laid written in
+    let writes = writes_over laws c.commands_set_a_part.ensures d command used blocks w cut' known c.in_ok-base.base.items
+    c.in_ok-changes.changes.items laid written in
     let p : ChangeSet = record { size = d.size; changes = c.in_ok-changes.changes.items } in
-    let same : c.of.result ≡ p = c.of.ensures ∙ ap (λ (n : ℕ). record { size = n; changes = c.in_ok-changes.changes.items }) c.size-size.ensures.value in
+    let same : c.of.result ≡ p = c.of.ensures ∙ ap (λ (n : ℕ). record {
+      size = n;
+      changes = c.in_ok-changes.changes.items;
+    }) c.size-size.ensures.value in
     subst (λ (x : ChangeSet). IsFinished d command x (clean w)) (sym same)
-    (finish laws d command used blocks cut'.before w p c.size-size.ensures.disk cut'.ready cut'.cuts (λ held. c.held_superblocks_are_made.ensures d v held c.size-size.ensures.disk cut'.ready.sound) writes)
+    (finish laws d command used blocks cut'.before w p c.size-size.ensures.disk cut'.ready cut'.cuts
+    (λ held. c.held_superblocks_are_made.ensures d v held c.size-size.ensures.disk cut'.ready.sound) writes)

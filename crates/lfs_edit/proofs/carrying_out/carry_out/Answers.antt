@@ -9,7 +9,8 @@ pub returns-in_err-judge-clause-refused : goal.returns-in_err-judge-clause-refus
 returns-in_err-judge-clause-refused c =
     let p = err_from_is_err_and c.from_residual-in_err-judge.result c.from_residual-in_err-judge.ensures.1 in
     rw (p.1, p.2) (
-    refused_on c.outlines_are_judged_alike.ensures.judged c.args.image.now c.args.outline.now c.requires.outline (asked_for c.args.command.now) (named_command c.in_ok-command.command)
+    refused_on c.outlines_are_judged_alike.ensures.judged c.args.image.now c.args.outline.now c.requires.outline
+    (asked_for c.args.command.now) (named_command c.in_ok-command.command)
     c.in_ok-command.ensures.spelled c.in_err-judge.field-0.0 c.in_err-judge.ensures.refused)
 
 pub carry_or_restore-requires : goal.carry_or_restore-requires
@@ -23,8 +24,10 @@ carry_or_restore-requires c = record {
 
 pub returns-clause-planned : goal.returns-clause-planned
 returns-clause-planned c =
-    IfOk-weaker c.carry_or_restore.result _ _ (λ patch finished. finished.plans (asked_for c.args.command.now) c.in_ok-command.ensures.spelled) c.carry_or_restore.ensures.finished
+    IfOk-weaker c.carry_or_restore.result _ _ (λ patch finished. finished.plans
+    (asked_for c.args.command.now) c.in_ok-command.ensures.spelled) c.carry_or_restore.ensures.finished
 
 pub returns-clause-refused : goal.returns-clause-refused
 returns-clause-refused c =
-    IfErr-weaker c.carry_or_restore.result _ _ (λ r refused. refused (asked_for c.args.command.now) c.in_ok-command.ensures.spelled) c.carry_or_restore.ensures.refused
+    IfErr-weaker c.carry_or_restore.result _ _ (λ r refused. refused (asked_for c.args.command.now) c.in_ok-command.ensures.spelled)
+    c.carry_or_restore.ensures.refused

@@ -19,7 +19,8 @@ pub returns-then-is_empty-clause-refused : goal.returns-then-is_empty-clause-ref
 returns-then-is_empty-clause-refused g c =
     let names = c.in_ok-names.names.items in
     let path : Path = map (λ (n : Bor Name). n.now) names in
-    let none : names ≡ [] = nil_from_length names (sym c.in_ok-names.names.ok.0 ∙ eqb-true (vec_len c.in_ok-names.names) 0 (sym c.is_empty.ensures ∙ c.if-is_empty.true)) in
+    let none : names ≡ [] = nil_from_length names (sym c.in_ok-names.names.ok.0
+    ∙ eqb-true (vec_len c.in_ok-names.names) 0 (sym c.is_empty.ensures ∙ c.if-is_empty.true)) in
     refused_root c.rows_show_the_tree.ensures (g.B.Blocks.disk c.args.disk.now)
     c.size-within_limits.ensures.disk c.args.mounted.now c.requires.mounted c.args.path.now path c.in_ok-names.ensures.spelled
     (ap (map (λ (n : Bor Name). n.now)) none)
@@ -31,13 +32,15 @@ returns-in_err-entry-clause-refused g c =
     let p = err_from_is_err_and c.from_residual-in_err-entry.result c.from_residual-in_err-entry.ensures.1 in
     let walked : first_refusal (entry_checks c.args.mounted.now.outline path) ≡ Some c.in_err-entry.field-0.0 =
     ap (λ (v : Volume). first_refusal (entry_checks v path)) (sym c.outline.ensures)
-    ∙ ap (λ (ns : List (Bor Name)). first_refusal (entry_checks c.outline.result.now (map (λ (n : Bor Name). n.now) ns))) (sym c.deref.ensures.value)
+    ∙ ap (λ (ns : List (Bor Name)). first_refusal (entry_checks c.outline.result.now (map (λ (n : Bor Name). n.now) ns)))
+    (sym c.deref.ensures.value)
     ∙ c.in_err-entry.ensures.refused in
     rw (p.1, p.2) (
     refused_missing c.rows_show_the_tree.ensures (g.B.Blocks.disk c.args.disk.now)
     c.size-within_limits.ensures.disk c.args.mounted.now c.requires.mounted c.args.path.now path c.in_ok-names.ensures.spelled
     c.outlines_are_judged_alike.ensures.judged c.in_err-entry.field-0.0
-    (λ root. eqb-false (vec_len c.in_ok-names.names) 0 (sym c.is_empty.ensures ∙ c.if-is_empty.false) (c.in_ok-names.names.ok.0 ∙ sym (length-map names (λ (n : Bor Name). n.now)) ∙ ap length root))
+    (λ root. eqb-false (vec_len c.in_ok-names.names) 0 (sym c.is_empty.ensures ∙ c.if-is_empty.false)
+    (c.in_ok-names.names.ok.0 ∙ sym (length-map names (λ (n : Bor Name). n.now)) ∙ ap length root))
     walked)
 
 pub contents_of-requires : goal.contents_of-requires

@@ -26,10 +26,13 @@ loop-i-preserved c =
     let same : 1 * 2 ^ c.loop-i.i % 2 ^ 64 ≡ 2 ^ c.loop-i.i = shifted_one c.args.n c.loop-i.i within small in
     c.in_ok-extend_from_slice.ensures.items
     ∙ ap (λ xs. xs ++ c.to_le_bytes.result) c.loop-i.invariant
-    ∙ ap (λ xs. laid_pointers c.args.blocks.now c.args.n c.loop-i.i ++ xs) (c.to_le_bytes.ensures ∙ ap (λ p. to_le_bytes w32 (slice_index c.args.blocks.now (c.args.n - p))) same)
+    ∙ ap (λ xs. laid_pointers c.args.blocks.now c.args.n c.loop-i.i ++ xs)
+    (c.to_le_bytes.ensures ∙ ap (λ p. to_le_bytes w32 (slice_index c.args.blocks.now (c.args.n - p))) same)
     ∙ sym (pointers-more c.args.blocks.now c.args.n c.loop-i.i)
 
 pub returns : goal.returns
 returns c =
-    filled-from c.args.block_size c.args.n c.loop-i.i c.extend_from_slice-2.new.self.len c.args.part.now c.args.blocks.now c.loop-i.block.items c.extend_from_slice-2.new.self.items c.resize.new.self.items
-    (omega arith) c.requires.fits (omega arith) c.loop-i.invariant c.in_ok-extend_from_slice-2.ensures.items (omega arith) c.in_ok-resize.ensures.items
+    filled-from c.args.block_size c.args.n c.loop-i.i c.extend_from_slice-2.new.self.len c.args.part.now c.args.blocks.now
+    c.loop-i.block.items c.extend_from_slice-2.new.self.items c.resize.new.self.items
+    (omega arith) c.requires.fits (omega arith) c.loop-i.invariant c.in_ok-extend_from_slice-2.ensures.items
+    (omega arith) c.in_ok-resize.ensures.items

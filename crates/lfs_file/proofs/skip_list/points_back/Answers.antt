@@ -12,7 +12,8 @@ pub pointer_at-requires : goal.pointer_at-requires
 pointer_at-requires g c =
     let d = g.B.Blocks.disk c.args.blocks.now in
     let few : pointers c.args.n ≤ 33 = pointers_few c.args.n in
-    let whole : length (block_of d (slice_index c.args.chain.now c.args.n)) ≡ d.size = length-block d (slice_index c.args.chain.now c.args.n) c.requires.disk c.requires.below in
+    let whole : length (block_of d (slice_index c.args.chain.now c.args.n)) ≡ d.size =
+    length-block d (slice_index c.args.chain.now c.args.n) c.requires.disk c.requires.below in
     omega (arith, few, whole, ap length c.block-block.ensures, c.requires.disk.geometry.size_fits.0)
 
 pub overflow_sub-n : goal.overflow_sub-n
@@ -32,9 +33,11 @@ returns-then-pointer_at-chain g c =
     let same : 1 * 2 ^ c.loop-i.i % 2 ^ 64 ≡ 2 ^ c.loop-i.i = shifted_one c.args.n c.loop-i.i within small in
     sym (points-false d c.args.chain.now c.args.n c.loop-i.i lt (λ here.
     c.if-pointer_at-chain.true
-    (c.pointer_at.ensures ∙ ap (λ b. pointer b c.loop-i.i) c.block-block.ensures ∙ here ∙ ap (λ p. slice_index c.args.chain.now (c.args.n - p)) (sym same))))
+    (c.pointer_at.ensures ∙ ap (λ b. pointer b c.loop-i.i) c.block-block.ensures ∙ here
+    ∙ ap (λ p. slice_index c.args.chain.now (c.args.n - p)) (sym same))))
 
 pub returns : goal.returns
 returns g c =
     let d = g.B.Blocks.disk c.args.blocks.now in
-    sym (points-from d c.args.chain.now c.args.n (λ i lt. ap (λ b. pointer b i) (sym c.block-block.ensures) ∙ c.loop-i.invariant i (omega (arith, lt))))
+    sym (points-from d c.args.chain.now c.args.n (λ i lt. ap (λ b. pointer b i) (sym c.block-block.ensures)
+    ∙ c.loop-i.invariant i (omega (arith, lt))))

@@ -9,7 +9,8 @@ use Rattle.lfs_file.proofs.skip_list.walk_back.Goals as goal
 
 pub returns-then-block-count-clause-refused : goal.returns-then-block-count-clause-refused
 returns-then-block-count-clause-refused g c =
-    walk-past (g.B.Blocks.disk c.args.blocks.now) c.args.head c.args.count c.loop.block (c.args.count - c.loop.counter) (c.args.count - (c.loop.counter + 1)) (reverse c.loop.chain.items)
+    walk-past (g.B.Blocks.disk c.args.blocks.now) c.args.head c.args.count c.loop.block (c.args.count - c.loop.counter)
+    (c.args.count - (c.loop.counter + 1)) (reverse c.loop.chain.items)
     (omega arith) c.loop.invariant.whole (omega arith)
 
 pushed_when : (ok : Bool) (old new : List ℕ) (last : ℕ) → new ≡ cond ok (old ++ last ∷ []) old → ok ≡ true → new ≡ old ++ last ∷ []
@@ -24,10 +25,13 @@ loop-preserved g c =
     let items = c.loop.chain.items in
     let left = c.args.count - (c.loop.counter + 1) in
     let ok : is_ok c.push.result ≡ true = ◌∙◌ {A = Bool} (sym c.map_err-in-loop.ensures.variant) (ap is_ok c.in_ok-map_err.was) in
-    let pushed : c.push.new.self.items ≡ items ++ c.loop.block ∷ [] = pushed_when (is_ok c.push.result) items c.push.new.self.items c.loop.block c.push.ensures.items ok in
-    let before : pointer (block_of d c.loop.block) 0 ≡ c.pointer_at-block.result = first_of _ _ _ c.pointer_at-block.ensures c.block.ensures in
+    let pushed : c.push.new.self.items ≡ items ++ c.loop.block ∷ [] = pushed_when
+    (is_ok c.push.result) items c.push.new.self.items c.loop.block c.push.ensures.items ok in
+    let before : pointer (block_of d c.loop.block) 0 ≡ c.pointer_at-block.result =
+    first_of _ _ _ c.pointer_at-block.ensures c.block.ensures in
     record {
-      whole = walk-more d c.loop.block (c.args.count - c.loop.counter) left c.pointer_at-block.result items c.push.new.self.items (walk d c.args.head c.args.count) (omega arith) before pushed c.loop.invariant.whole;
+      whole = walk-more d c.loop.block (c.args.count - c.loop.counter) left c.pointer_at-block.result items c.push.new.self.items
+          (walk d c.args.head c.args.count) (omega arith) before pushed c.loop.invariant.whole;
       below = All-same (λ b. b < d.count) c.push.new.self.items (items ++ c.loop.block ∷ []) pushed
           (All-push (λ b. b < d.count) items c.loop.block c.loop.invariant.below (omega arith));
     }
@@ -35,4 +39,5 @@ loop-preserved g c =
 pub returns-clause-found : goal.returns-clause-found
 returns-clause-found g c =
     c.reverse.ensures.items
-    ∙ sym (c.loop.invariant.whole ∙ walk-none (g.B.Blocks.disk c.args.blocks.now) c.loop.block (c.args.count - c.loop.counter) (reverse c.loop.chain.items) (omega arith))
+    ∙ sym (c.loop.invariant.whole ∙ walk-none (g.B.Blocks.disk c.args.blocks.now) c.loop.block (c.args.count - c.loop.counter)
+    (reverse c.loop.chain.items) (omega arith))

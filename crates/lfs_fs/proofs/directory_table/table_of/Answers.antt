@@ -10,8 +10,10 @@ loop-index-init c = table_none c.new-table.result.entries c.new-table.ensures.em
 
 pub loop-index-preserved : goal.loop-index-preserved
 loop-index-preserved c =
-    taken_more c.args.directories.now c.loop-index.index c.index-directories-index.result c.loop-index.table.entries c.insert.new.self.entries c.key.result
+    taken_more c.args.directories.now c.loop-index.index c.index-directories-index.result c.loop-index.table.entries
+    c.insert.new.self.entries c.key.result
     c.loop-index-test.true c.index-directories-index.is c.key.ensures c.in_ok-insert.ensures.updates.0 c.loop-index.invariant
 
 pub returns : goal.returns
-returns c = subst (λ (ds : List Directory). IsTableOf ds c.loop-index.table.entries) (take_all c.loop-index.index c.args.directories.now c.loop-index-test.false) c.loop-index.invariant
+returns c = subst (λ (ds : List Directory). IsTableOf ds c.loop-index.table.entries)
+    (take_all c.loop-index.index c.args.directories.now c.loop-index-test.false) c.loop-index.invariant

@@ -8,4 +8,5 @@ use Rattle.lfs_fs.proofs.finding.found_at.Given as goal
 -- what is left of the path leads to what stands at it
 abbrev pub invariant-loop-name : goal.invariant-loop-name
 invariant-loop-name l =
-    walk target (entry_in l.outline.directories) (Some (seen l.outline l.here)) (drop l.name-index (map (λ n. n.items) l.names)) ≡ entry_at l.outline (map (λ n. n.items) l.names)
+    walk target (entry_in l.outline.directories) (Some (seen l.outline l.here)) (drop l.name-index (map (λ n. n.items) l.names))
+    ≡ entry_at l.outline (map (λ n. n.items) l.names)

@@ -12,5 +12,7 @@ returns-in-Some-clause-found c =
     let behind : c.parts.index ≡ suc (c.parts.index - 1) = omega (arith, c.parts-test.true) in
     let none = subst (λ n. part_entries (drop n c.args.parts.now) ≡ []) behind c.parts.invariant.1 in
     let entries = c.deref.ensures.value ∙ ap (λ (p : Part). p.entries) c.part.view_is in
-    let ends = subst (λ es. EndsWith es c.in-Some.entry.now) entries (ends_with c.deref.result.now c.in-Some.entry.now (sym c.last.ensures.value ∙ ap option_copied c.in-Some.is)) in
-    last_at c.args.parts.now (c.parts.index - 1) part c.in-Some.entry.now (omega (arith, c.parts-test.true, c.parts.invariant.0)) c.index-parts-index.is none ends
+    let ends = subst (λ es. EndsWith es c.in-Some.entry.now) entries (ends_with c.deref.result.now c.in-Some.entry.now
+    (sym c.last.ensures.value ∙ ap option_copied c.in-Some.is)) in
+    last_at c.args.parts.now (c.parts.index - 1) part c.in-Some.entry.now
+    (omega (arith, c.parts-test.true, c.parts.invariant.0)) c.index-parts-index.is none ends

@@ -7,5 +7,6 @@ use Rattle.lfs_fs.proofs.joining.directories_of.Given as goal
 abbrev pub invariant-each : goal.invariant-each
 invariant-each g l = record {
   counted : into_iter_len l.part-iterator ≡ length (into_iter_items l.part-iterator);
-  gathers : PartsTo (reading_of (g.B.Blocks.disk l.blocks)) l.limits l.fn.used l.fn.parts.items l.used l.directories.items l.joined.items (into_iter_items l.part-iterator);
+  gathers : PartsTo (reading_of (g.B.Blocks.disk l.blocks)) l.limits l.fn.used l.fn.parts.items l.used l.directories.items l.joined.items
+      (into_iter_items l.part-iterator);
 }

@@ -8,5 +8,6 @@ use Rattle.lfs_fs.proofs.joining.kept_entries.Given as goal
 abbrev pub invariant-each : goal.invariant-each
 invariant-each g l = record {
   counted : into_iter_len l.entry-iterator ≡ length (into_iter_items l.entry-iterator);
-  keeps : KeepsTo (reading_of (g.B.Blocks.disk l.blocks)) l.limits l.fn.used (part_entries l.before) l.fn.entries.items l.used l.kept.items (into_iter_items l.entry-iterator);
+  keeps : KeepsTo (reading_of (g.B.Blocks.disk l.blocks)) l.limits l.fn.used (part_entries l.before) l.fn.entries.items l.used l.kept.items
+      (into_iter_items l.entry-iterator);
 }

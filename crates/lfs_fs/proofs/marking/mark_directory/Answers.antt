@@ -10,8 +10,11 @@ use Rattle.lfs_fs.proofs.marking.mark_directory.Goals as goal
 pub returns : goal.returns
 returns c =
     marks_then c.args.used.now c.mark_part.new.used c.mark_parts.new.used
-    (λ b. part_uses b c.args.directory.now.first) (λ b. sum_by (part_uses b) c.args.directory.now.more) (λ b. directory_uses b c.args.directory.now)
+    (λ b. part_uses b c.args.directory.now.first) (λ b. sum_by (part_uses b) c.args.directory.now.more)
+    (λ b. directory_uses b c.args.directory.now)
     (λ b. directory_split b c.args.directory.now)
-    (subst (λ (d : Directory). MarksMore c.args.used.now c.mark_part.new.used (λ b. part_uses b d.first)) c.directory.view_is c.mark_part.ensures)
+    (subst (λ (d : Directory). MarksMore c.args.used.now c.mark_part.new.used (λ b. part_uses b d.first)) c.directory.view_is
+    c.mark_part.ensures)
     (subst (λ (d : Directory). MarksMore c.mark_part.new.used c.mark_parts.new.used (λ b. sum_by (part_uses b) d.more)) c.directory.view_is
-    (subst (λ (ps : List Part). MarksMore c.mark_part.new.used c.mark_parts.new.used (λ b. sum_by (part_uses b) ps)) c.deref.ensures.value c.mark_parts.ensures))
+    (subst (λ (ps : List Part). MarksMore c.mark_part.new.used c.mark_parts.new.used (λ b. sum_by (part_uses b) ps)) c.deref.ensures.value
+    c.mark_parts.ensures))

@@ -13,7 +13,8 @@ pub returns-in_err-order-clause-refused : goal.returns-in_err-order-clause-refus
 returns-in_err-order-clause-refused g c =
     let d = g.B.Blocks.disk c.args.blocks.now in
     let p = err_from_is_err_and c.from_residual-in_err-order.result c.from_residual-in_err-order.ensures.1 in
-    rw (p.1, p.2) (walk_cause d c.in_ok-outline.field-0 c.in_ok-outline.ensures.gathered c.in_err-order.field-0.0 c.in_err-order.ensures.refused)
+    rw (p.1, p.2) (walk_cause d c.in_ok-outline.field-0 c.in_ok-outline.ensures.gathered c.in_err-order.field-0.0
+    c.in_err-order.ensures.refused)
 
 pub returns-clause-mounted : goal.returns-clause-mounted
 returns-clause-mounted g c =
@@ -21,4 +22,8 @@ returns-clause-mounted g c =
     let gathered = c.in_ok-outline.field-0 in
     let found = c.in_ok-outline.ensures.gathered in
     mounted_by d gathered found (rows_of gathered.outline c.in_ok-order.order.items) c.new.result c.in_ok-order.ensures.listed
-    (c.new.ensures ∙ ap (λ (flags : List Bool). record { outline = gathered.outline; rows = rows_of gathered.outline c.in_ok-order.order.items; free = unused flags }) c.new-used.ensures)
+    (c.new.ensures ∙ ap (λ (flags : List Bool). record {
+      outline = gathered.outline;
+      rows = rows_of gathered.outline c.in_ok-order.order.items;
+      free = unused flags;
+    }) c.new-used.ensures)

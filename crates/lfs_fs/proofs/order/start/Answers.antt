@@ -9,7 +9,8 @@ pub returns : goal.returns
 returns c =
     let o = c.args.outline.now in
     let inside : c.outline.inside.directories.items ≡ o.directories = ap (λ (v : Volume). v.directories) c.outline.view_is in
-    let table : IsTableOf o.directories c.in_ok-table.table.entries = subst (λ (ds : List Directory). IsTableOf ds c.in_ok-table.table.entries) (c.deref.ensures.value ∙ inside) c.in_ok-table.ensures in
+    let table : IsTableOf o.directories c.in_ok-table.table.entries = subst
+    (λ (ds : List Directory). IsTableOf ds c.in_ok-table.table.entries) (c.deref.ensures.value ∙ inside) c.in_ok-table.ensures in
     let waiting : reverse c.in_ok-waiting.waiting.items ≡ root_place ∷ [] = ap reverse c.in_ok-waiting.ensures.items in
     let len : c.len.result ≡ length o.directories = c.len.ensures ∙ c.outline.inside.directories.ok.0 ∙ ap length inside in
     let opened = c.in_ok-opened.ensures.items_if_clones_equal (λ y same. same) ∙ ap (λ (n : ℕ). replicate n false) len in

@@ -19,10 +19,12 @@ unreachable-requires g c =
     (is.volume, is.holds, is.sound, λ path. refl) (of_format c.in-Err.fault c.in_default.not-Memory) c.in-Err.ensures.refused
 
 pub returns-in-Ok-clause-read : goal.returns-in-Ok-clause-read
-returns-in-Ok-clause-read g c = subst (IsOutlineOf (g.B.Blocks.disk c.args.blocks.now)) (sym c.into_outline.ensures) (mounted_outline _ _ c.in-Ok.ensures.mounted)
+returns-in-Ok-clause-read g c = subst (IsOutlineOf (g.B.Blocks.disk c.args.blocks.now)) (sym c.into_outline.ensures)
+    (mounted_outline _ _ c.in-Ok.ensures.mounted)
 
 pub returns-in-Ok-clause-only : goal.returns-in-Ok-clause-only
 returns-in-Ok-clause-only g c =
     let d = g.B.Blocks.disk c.args.blocks.now in
-    let is : IsOutlineOf d c.into_outline.result = subst (IsOutlineOf d) (sym c.into_outline.ensures) (mounted_outline d c.in-Ok.mounted c.in-Ok.ensures.mounted) in
+    let is : IsOutlineOf d c.into_outline.result = subst (IsOutlineOf d) (sym c.into_outline.ensures)
+    (mounted_outline d c.in-Ok.mounted c.in-Ok.ensures.mounted) in
     one_outline c.images_mount_to_one_tree.ensures.volume d c.into_outline.result is

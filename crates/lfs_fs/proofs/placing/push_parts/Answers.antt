@@ -7,6 +7,8 @@ pub loop-part-preserved : goal.loop-part-preserved
 loop-part-preserved c =
     let d = c.args.directory.now in (
       omega (arith, c.loop-part.invariant.0, c.loop-part-test.true),
-      parts_pushed c.args.depth c.args.index (c.loop-part.part - 1) c.loop-part.part c.in_ok-len.len (parts d) c.loop-part.stack.items c.push_part.new.stack.items (reverse c.args.stack.now.items)
-          (omega (arith, c.loop-part-test.true)) c.loop-part.invariant.0 c.in_ok-len.ensures.len c.loop-part.invariant.1 c.in_ok-push_part.ensures.pushed,
+      parts_pushed c.args.depth c.args.index (c.loop-part.part - 1) c.loop-part.part c.in_ok-len.len
+          (parts d) c.loop-part.stack.items c.push_part.new.stack.items (reverse c.args.stack.now.items)
+          (omega (arith, c.loop-part-test.true)) c.loop-part.invariant.0 c.in_ok-len.ensures.len c.loop-part.invariant.1
+          c.in_ok-push_part.ensures.pushed,
     )

@@ -5,4 +5,5 @@ use Rattle.lfs_fs.proofs.StateLemmas.{mixed_more}
 use Rattle.lfs_fs.proofs.state.state_of.Goals as goal
 
 pub each-preserved : goal.each-preserved
-each-preserved c = rw c.joined-state.ensures (mixed_more c.each.state c.of.result c.args.parts.now c.each.part-index c.part-item.result (c.of.ensures ∙ ap (λ (p : PairPart). little_endian p.1.delta) c.part.view_is) c.each-test.true c.part-item.is c.each.invariant)
+each-preserved c = rw c.joined-state.ensures (mixed_more c.each.state c.of.result c.args.parts.now c.each.part-index c.part-item.result
+    (c.of.ensures ∙ ap (λ (p : PairPart). little_endian p.1.delta) c.part.view_is) c.each-test.true c.part-item.is c.each.invariant)

@@ -7,9 +7,12 @@ use Rattle.lfs_fs.proofs.superblock.are_within.Goals as goal
 
 pub each-preserved : goal.each-preserved
 each-preserved c =
-    let fits = subst (λ (a : ℕ × List ℕ). length a.1 ≤ c.args.limit) c.attribute.view_is (omega (arith, c.len.ensures, c.if-len-limit.false)) in
-    All-more (λ (a : ℕ × List ℕ). length a.1 ≤ c.args.limit) c.args.attributes.now c.each.attribute-index c.attribute-item.result c.each-test.true c.each.invariant
+    let fits = subst (λ (a : ℕ × List ℕ). length a.1 ≤ c.args.limit) c.attribute.view_is
+    (omega (arith, c.len.ensures, c.if-len-limit.false)) in
+    All-more (λ (a : ℕ × List ℕ). length a.1 ≤ c.args.limit) c.args.attributes.now c.each.attribute-index c.attribute-item.result
+    c.each-test.true c.each.invariant
     (subst (λ (a : ℕ × List ℕ). length a.1 ≤ c.args.limit) c.attribute-item.is fits)
 
 pub returns : goal.returns
-returns c = subst (λ (as' : List (ℕ × List ℕ)). All (λ (a : ℕ × List ℕ). length a.1 ≤ c.args.limit) as') (take_all c.each.attribute-index c.args.attributes.now c.each-test.false) c.each.invariant
+returns c = subst (λ (as' : List (ℕ × List ℕ)). All (λ (a : ℕ × List ℕ). length a.1 ≤ c.args.limit) as')
+    (take_all c.each.attribute-index c.args.attributes.now c.each-test.false) c.each.invariant

@@ -13,7 +13,8 @@ returns-in_err-mark_all-clause-refused g c =
     let d = g.B.Blocks.disk c.args.blocks.now in
     let p = err_from_is_err_and c.from_residual.result c.from_residual.ensures.1 in
     let h = subst (λ (o : Option Pair). IsReadTo (reading_of d) c.thread.parts.items o c.thread.used) c.in-Some.is c.thread.invariant in
-    rw (p.1, p.2) (next_refused d c.in_err-mark_all.field-0.0 c.thread.parts.items c.in-Some.pair c.thread.used h c.in_err-mark_all.ensures.refused)
+    rw (p.1, p.2) (next_refused d c.in_err-mark_all.field-0.0 c.thread.parts.items c.in-Some.pair c.thread.used h
+    c.in_err-mark_all.ensures.refused)
 
 pub read_pair-requires-clause-first : goal.read_pair-requires-clause-first
 read_pair-requires-clause-first g c =
@@ -30,19 +31,23 @@ returns-in_err-part-clause-refused g c =
     let d = g.B.Blocks.disk c.args.blocks.now in
     let p = err_from_is_err_and c.from_residual-in_err-part.result c.from_residual-in_err-part.ensures.1 in
     let h = subst (λ (o : Option Pair). IsReadTo (reading_of d) c.thread.parts.items o c.thread.used) c.in-Some.is c.thread.invariant in
-    rw (p.1, p.2) (read_refused d c.in_err-part.field-0.0 c.thread.parts.items c.in-Some.pair c.thread.used c.mark_all.new.used h c.in_ok-mark_all.ensures.marked c.in_err-part.ensures.refused)
+    rw (p.1, p.2) (read_refused d c.in_err-part.field-0.0 c.thread.parts.items c.in-Some.pair c.thread.used c.mark_all.new.used h
+    c.in_ok-mark_all.ensures.marked c.in_err-part.ensures.refused)
 
 pub thread-preserved : goal.thread-preserved
 thread-preserved g c =
     let d = g.B.Blocks.disk c.args.blocks.now in
     let part = c.in_ok-part.part in
     let h = subst (λ (o : Option Pair). IsReadTo (reading_of d) c.thread.parts.items o c.thread.used) c.in-Some.is c.thread.invariant in
-    let more = read_more (reading_of d) c.thread.parts.items c.in-Some.pair part c.thread.used c.mark_all.new.used h c.in_ok-mark_all.ensures.marked c.in_ok-part.ensures.pair c.in_ok-part.ensures.found c.in_ok-part.ensures.whole in
+    let more = read_more (reading_of d) c.thread.parts.items c.in-Some.pair part c.thread.used c.mark_all.new.used h
+    c.in_ok-mark_all.ensures.marked c.in_ok-part.ensures.pair c.in_ok-part.ensures.found c.in_ok-part.ensures.whole in
     let pushed : c.push.new.items.items ≡ c.thread.parts.items ++ part ∷ [] = c.in_ok-push.ensures.pushed in
-    let next_is : c.next_pair-next.result ≡ next part.1.tail = c.next_pair-next.ensures ∙ ap (λ (p : PairPart). next p.1.tail) c.part.view_is in
+    let next_is : c.next_pair-next.result ≡ next part.1.tail = c.next_pair-next.ensures
+    ∙ ap (λ (p : PairPart). next p.1.tail) c.part.view_is in
     rw (pushed, next_is) more
 
 pub returns-clause-read : goal.returns-clause-read
 returns-clause-read g c =
     let d = g.B.Blocks.disk c.args.blocks.now in
-    thread_read (reading_of d) c.thread.parts.items c.thread.used (subst (λ (o : Option Pair). IsReadTo (reading_of d) c.thread.parts.items o c.thread.used) c.in_default.is c.thread.invariant)
+    thread_read (reading_of d) c.thread.parts.items c.thread.used (subst
+    (λ (o : Option Pair). IsReadTo (reading_of d) c.thread.parts.items o c.thread.used) c.in_default.is c.thread.invariant)

@@ -17,14 +17,16 @@ loop-block-preserved c =
       | then-not-used+in_ok-push w ↦
           let is : new ≡ old ++ i ∷ [] = ap (λ v. v.items) w.lowest-is ∙ w.in_ok-push.ensures.items in
           record {
-            whole = lowest_more_unused n i flags old new false c.loop-block-test.true w.if-not-used.true few is c.loop-block.invariant.whole;
+            whole = lowest_more_unused n i flags old new false c.loop-block-test.true w.if-not-used.true few is
+                c.loop-block.invariant.whole;
             few = omega (arith, ap length is, length_push old i);
           }
       | else-not-used w ↦
           let is : old ≡ new = sym (ap (λ v. v.items) w.lowest-is) in
           let rest = unused_from (i + 1) (drop (i + 1) flags) in
           record {
-            whole = subst (λ (bs : List ℕ). bs ++ take (n - length bs) rest ≡ take n (unused flags)) is (lowest_more_used n i flags old false c.loop-block-test.true w.if-not-used.false c.loop-block.invariant.whole);
+            whole = subst (λ (bs : List ℕ). bs ++ take (n - length bs) rest ≡ take n (unused flags)) is
+                (lowest_more_used n i flags old false c.loop-block-test.true w.if-not-used.false c.loop-block.invariant.whole);
             few = omega (arith, ap length is);
           }
     ]

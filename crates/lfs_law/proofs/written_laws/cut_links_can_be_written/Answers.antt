@@ -10,4 +10,5 @@ returns-clause-fresh c = new_pairs_are_fresh c.commands_follow.ensures
 
 pub returns-clause-added : goal.returns-clause-added
 returns-clause-added c =
-    cut_links_can_be_added (cut_links_can_be_written c.names_are_decided.ensures c.cuts_follow.ensures.cut) (new_pairs_are_fresh c.commands_follow.ensures)
+    cut_links_can_be_added (cut_links_can_be_written c.names_are_decided.ensures c.cuts_follow.ensures.cut)
+    (new_pairs_are_fresh c.commands_follow.ensures)

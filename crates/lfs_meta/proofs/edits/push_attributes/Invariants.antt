@@ -4,4 +4,5 @@ use Rattle.lfs_meta.specs.Spelling.{attribute_item}
 use Rattle.lfs_meta.proofs.edits.push_attributes.Given as goal
 
 abbrev pub invariant-loop-attribute : goal.invariant-loop-attribute
-invariant-loop-attribute l = items l.edits.items ≡ items l.initial.edits.items ++ map (attribute_item l.id) (take l.attribute-index l.attributes)
+invariant-loop-attribute l = items l.edits.items ≡ items l.initial.edits.items
+    ++ map (attribute_item l.id) (take l.attribute-index l.attributes)

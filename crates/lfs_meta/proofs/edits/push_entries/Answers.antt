@@ -18,7 +18,8 @@ loop-id-preserved c = record {
   pushed =
       c.in_ok-push_entry.ensures.pushed
       ∙ ap (λ (ts : List Item). ts ++ entry_tags c.loop-id.id c.index-entries-id.result) c.loop-id.invariant.pushed
-      ∙ ap (λ (e : StoredEntry). (items c.args.edits.now.items ++ entries_tags 0 (take c.loop-id.id c.args.entries.now)) ++ entry_tags c.loop-id.id e) c.index-entries-id.is
+      ∙ ap (λ (e : StoredEntry). (items c.args.edits.now.items ++ entries_tags 0 (take c.loop-id.id c.args.entries.now))
+      ++ entry_tags c.loop-id.id e) c.index-entries-id.is
       ∙ entries_tags-more c.args.entries.now c.loop-id.id c.index-entries-id.result (items c.args.edits.now.items) c.loop-id-test.true;
   fits =
       All-more EntryFits c.args.entries.now c.loop-id.id c.index-entries-id.result c.loop-id-test.true c.loop-id.invariant.fits

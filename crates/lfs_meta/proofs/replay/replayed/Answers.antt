@@ -7,14 +7,16 @@ use Rattle.lfs_meta.proofs.replay.replayed.Goals as goal
 
 pub replay-preserved : goal.replay-preserved
 replay-preserved c =
-    replay-more c.args.tags c.replay.part c.apply.new.self (item_with c.in-Some.tag c.in-Some.bytes.now) c.next.new.self c.replay.tag-iterator
+    replay-more c.args.tags c.replay.part c.apply.new.self (item_with c.in-Some.tag c.in-Some.bytes.now) c.next.new.self
+    c.replay.tag-iterator
     c.replay.invariant c.in-Some.ensures.steps c.in_ok-apply.ensures.applied
 
 pub returns-in_err-apply-clause-refused : goal.returns-in_err-apply-clause-refused
 returns-in_err-apply-clause-refused c =
     let p = err_from_is_err_and c.from_residual.result c.from_residual.ensures.1 in
     rw (p.1, p.2)
-    (replay-refused c.in_err-apply.field-0.0 c.args.tags c.replay.part (item_with c.in-Some.tag c.in-Some.bytes.now) c.next.new.self c.replay.tag-iterator
+    (replay-refused c.in_err-apply.field-0.0 c.args.tags c.replay.part (item_with c.in-Some.tag c.in-Some.bytes.now) c.next.new.self
+    c.replay.tag-iterator
     c.replay.invariant c.in-Some.ensures.steps c.in_err-apply.ensures.refused)
 
 pub returns-clause-found : goal.returns-clause-found

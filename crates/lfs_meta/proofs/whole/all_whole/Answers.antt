@@ -8,7 +8,8 @@ use Rattle.lfs_meta.proofs.whole.all_whole.Goals as goal
 
 pub loop-draft-preserved : goal.loop-draft-preserved
 loop-draft-preserved c =
-    all_whole-more c.args.drafts.now c.loop-draft.entries.items c.loop-draft.draft-index c.draft-item.result c.in_ok-entry.entry c.loop-draft-test.true
+    all_whole-more c.args.drafts.now c.loop-draft.entries.items c.loop-draft.draft-index c.draft-item.result c.in_ok-entry.entry
+    c.loop-draft-test.true
     c.loop-draft.invariant (ap whole (sym c.draft-item.is) ∙ c.in_ok-entry.ensures.found)
     ∙ ap (λ (es : List StoredEntry). Some es) (sym c.in_ok-keep.ensures.kept)
 

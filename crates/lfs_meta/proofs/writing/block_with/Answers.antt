@@ -24,6 +24,7 @@ returns c =
       numbered = search rules;
       held =
           ap committed (now ∙ is)
-          ∙ written-committed c.first_commit.ensures c.log_is_read.ensures c.written_length.ensures c.args.number c.args.size (items c.args.edits.now)
+          ∙ written-committed c.first_commit.ensures c.log_is_read.ensures c.written_length.ensures c.args.number c.args.size
+          (items c.args.edits.now)
           c.requires c.write_log.ensures.commit (subst IsBytes is c.write_log.ensures.bytes);
     }

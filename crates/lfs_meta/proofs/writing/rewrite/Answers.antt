@@ -18,8 +18,10 @@ returns-clause-new g c =
     let twelve : length c.args.delta ≡ 12 = search rules in
     let small : live < 2 ^ 32 = search rules in
     let tags : tags_of (put (other_number d c.args.pair) new d) c.args.pair ≡ Some (part_tags p) =
-    rewritten-tags c.put_blocks_stand.ensures.block c.put_blocks_stand.ensures.others d c.args.pair new (part_tags p) live c.size-size.ensures.disk c.requires.apart c.requires.first c.requires.second
-    (c.in-Ok.ensures.written.len ∙ c.size-size.ensures.value) c.in-Ok.ensures.written.held small (sym c.other_block-number.ensures.revision) c.in-Ok.ensures.written.numbered in
+    rewritten-tags c.put_blocks_stand.ensures.block c.put_blocks_stand.ensures.others d c.args.pair new
+    (part_tags p) live c.size-size.ensures.disk c.requires.apart c.requires.first c.requires.second
+    (c.in-Ok.ensures.written.len ∙ c.size-size.ensures.value) c.in-Ok.ensures.written.held small
+    (sym c.other_block-number.ensures.revision) c.in-Ok.ensures.written.numbered in
     let size = c.size-size.ensures.value in
     record {
       number = c.other_block-number.ensures.number;
@@ -28,6 +30,7 @@ returns-clause-new g c =
       reads_back =
           subst (λ (n : ℕ). stored_part_of (put n new d) c.args.pair ≡ Some p) (sym c.other_block-number.ensures.number)
           (read-back c.written_parts_replay.ensures.replay c.written_parts_replay.ensures.whole p
-          (block_of (put (other_number d c.args.pair) new d) c.args.pair.0) (block_of (put (other_number d c.args.pair) new d) c.args.pair.1)
+          (block_of (put (other_number d c.args.pair) new d) c.args.pair.0)
+          (block_of (put (other_number d c.args.pair) new d) c.args.pair.1)
           c.in-Ok.ensures.fits c.requires.few c.requires.tail twelve c.requires.whole tags);
     }

@@ -20,4 +20,5 @@ pub returns-clause-written : goal.returns-clause-written
 returns-clause-written c =
     let p : StoredPart = record { entries = c.args.entries.now; tail = c.args.tail; delta = c.args.delta.now } in
     let is : items c.deref.result.now ≡ part_tags p = ap items c.deref.ensures.value ∙ c.in_ok-edits.ensures.tags in
-    subst (λ (ts : List Item). IfOk c.block_with.result (λ block. IsWritten c.args.size c.args.number ts block.items)) is c.block_with.ensures
+    subst (λ (ts : List Item). IfOk c.block_with.result (λ block. IsWritten c.args.size c.args.number ts block.items)) is
+    c.block_with.ensures

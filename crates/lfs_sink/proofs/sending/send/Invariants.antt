@@ -4,7 +4,8 @@ use Rattle.lfs_sink.proofs.sending.send.Given as goal
 
 abbrev pub invariant-rest : goal.invariant-rest
 invariant-rest g l =
-    (n : ℕ) × (n ≤ length l.text) × (l.rest ≡ drop n l.text) × Appends (g.S.Sink.sent l.initial.out) (g.S.Sink.sent l.out) (take n l.text) × (g.S.Sink.failed l.out ≡ false)
+    (n : ℕ) × (n ≤ length l.text) × (l.rest ≡ drop n l.text) × Appends (g.S.Sink.sent l.initial.out) (g.S.Sink.sent l.out) (take n l.text)
+    × (g.S.Sink.failed l.out ≡ false)
     × (g.S.Sink.kept l.out ≡ g.S.Sink.kept l.initial.out)
 
 abbrev pub decreases-rest : goal.decreases-rest

@@ -22,4 +22,5 @@ returns-in-Ok-clause-answers c =
       same = ap (λ v. v.items) c.new.ensures.kept.1;
     } in
     let at = subst (λ (l : List ℕ). IsReported asked l reported session new) c.as_slice.ensures.value is in
-    image_answers asked c.args.image c.args.journal.items reported session new o kept c.in-Ok.ensures.fresh (c.new.ensures.fault ∙ c.err-fault.ensures.value) at
+    image_answers asked c.args.image c.args.journal.items reported session new o kept c.in-Ok.ensures.fresh
+    (c.new.ensures.fault ∙ c.err-fault.ensures.value) at

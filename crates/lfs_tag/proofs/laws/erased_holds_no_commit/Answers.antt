@@ -6,5 +6,8 @@ use Rattle.lfs_tag.proofs.laws.erased_holds_no_commit.Goals as goal
 pub returns : goal.returns
 returns c = record {
   none = erased_no_commit;
-  word = λ block commits rest log. (final_word-below commits 0xffffffff log.each (omega arith), final_word-kind commits 0xffffffff log.each start_kind);
+  word = λ block commits rest log. (
+    final_word-below commits 0xffffffff log.each (omega arith),
+    final_word-kind commits 0xffffffff log.each start_kind,
+  );
 }

@@ -36,7 +36,8 @@ returns-clause-written c =
     c.put_edits-place.ensures.written c.put_big_word.ensures c.put_little_word.ensures c.put_padding.ensures
     len (omega arith) (omega arith) (omega (arith, room, reach, length-replicate {A = ℕ} size 255)) in
     let last : c.put_edits-place.result.1 ≡ last_word c.args.prev ts = c.put_edits-place.ensures.last in
-    let closing : 0x500 * 2 ^ 20 + 0x3ff * 2 ^ 10 + ((place + 8 + 16 - 1) / 16 * 16 - (place + 4)) ≡ commit.closing = omega (arith, reach) in
+    let closing : 0x500 * 2 ^ 20 + 0x3ff * 2 ^ 10 + ((place + 8 + 16 - 1) / 16 * 16 - (place + 4)) ≡ commit.closing =
+    omega (arith, reach) in
     let stored-is : stored ≡ bit_xor commit.closing (last_word c.args.prev ts) =
     c.encode.ensures ∙ ap (λ (w : ℕ). bit_xor w c.put_edits-place.result.1) closing ∙ ap (bit_xor commit.closing) last in
     let whole : List ℕ = put_at at covered old in
@@ -53,4 +54,5 @@ returns-clause-written c =
     puts.1
     ∙ ap (λ (w : ℕ). put_at at ((tags ++ to_be_bytes w32 w) ++ to_le_bytes w32 sum ++ replicate size 255) old) stored-is
     ∙ ap (λ (s : ℕ). put_at at (covered_bytes c.args.prev commit ++ to_le_bytes w32 s ++ replicate size 255) old) sum-is
-    ∙ ap (λ (n : ℕ). put_at at (covered_bytes c.args.prev commit ++ to_le_bytes w32 (crc 0xffffffff (lead_at at old ++ covered_bytes c.args.prev commit)) ++ replicate n 255) old) size-is
+    ∙ ap (λ (n : ℕ). put_at at (covered_bytes c.args.prev commit ++ to_le_bytes w32
+    (crc 0xffffffff (lead_at at old ++ covered_bytes c.args.prev commit)) ++ replicate n 255) old) size-is

@@ -18,5 +18,10 @@ returns c =
     let options = found_of c.in_ok-name.options.now in
     let name : subcommand_name_of c.args.matches.now ≡ Some c.in_ok-name.name.now = search rules in
     let rows : option_map (λ p. p.1) (subcommand_rows_of c.args.matches.now) ≡ Some (rows_of options) = search rules in
-    let image : HasText options (codes "image") c.in_ok-get_str.field-0.now = search rules in
-    (c.in_ok-name.name.now, options, names_command c.args.matches.now c.in_ok-name.name.now (rows_of options) name rows, c.in_ok-task_of.ensures, image)
+    let image : HasText options (codes "image") c.in_ok-get_str.field-0.now = search rules in (
+      c.in_ok-name.name.now,
+      options,
+      names_command c.args.matches.now c.in_ok-name.name.now (rows_of options) name rows,
+      c.in_ok-task_of.ensures,
+      image,
+    )

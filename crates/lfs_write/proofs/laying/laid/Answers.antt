@@ -14,6 +14,8 @@ returns c =
     let laws = c.laid_blocks_are_whole.ensures in
     let is : IsBytes bytes = search rules in
     let disk = c.size-size.ensures.disk in
-    let all = are_laid d bytes c.args.blocks.now laws.many laws.whole laws.bytes disk disk.geometry.size_fits is c.requires.rising c.requires.below c.requires.many in
-    let contents : map (λ (x : Vec ℕ Global). x.items) c.in_ok-contents.contents.items ≡ laid d.size bytes c.args.blocks.now = search rules in
+    let all = are_laid d bytes c.args.blocks.now laws.many laws.whole laws.bytes disk disk.geometry.size_fits is c.requires.rising
+    c.requires.below c.requires.many in
+    let contents : map (λ (x : Vec ℕ Global). x.items) c.in_ok-contents.contents.items ≡ laid d.size bytes c.args.blocks.now =
+    search rules in
     subst (AreLaid d bytes c.args.blocks.now) (sym (c.in_ok-changes.ensures ∙ ap (changes_at d c.args.blocks.now) contents)) all

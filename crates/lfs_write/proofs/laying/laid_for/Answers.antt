@@ -13,10 +13,17 @@ use Rattle.lfs_write.proofs.laying.laid_for.Goals as goal
 pub laid-requires-clause-many : goal.laid-requires-clause-many
 laid-requires-clause-many c =
     let size = c.args.image.now.size in
-    let v : Volume = record { size = size; count = 0; limits = record { name = 0; file = 0; attribute = 0 }; attributes = []; directories = [] } in
+    let v : Volume = record {
+      size = size;
+      count = 0;
+      limits = record { name = 0; file = 0; attribute = 0 };
+      attributes = [];
+      directories = [];
+    } in
     let len = length c.in-Put.bytes.now in
     let many : length c.args.blocks.now ≡ (if nat_le len (most_inline size) then 0 else least_blocks size len) =
-    subst (λ (command : NamedCommand). length c.args.blocks.now ≡ data_blocks v (named_command command)) c.in-Put.is (c.requires.many v refl) in
+    subst (λ (command : NamedCommand). length c.args.blocks.now ≡ data_blocks v (named_command command)) c.in-Put.is
+    (c.requires.many v refl) in
     let same : most_inline c.size.result ≡ most_inline size = ap most_inline c.size.ensures.value in
     let more : most_inline size < len = omega (arith, c.if-bytes-most_inline.true, c.most_inline.ensures, same) in
     let over : nat_le len (most_inline size) ≡ false = grind (arith, nat_tests) in

@@ -12,6 +12,7 @@ returns c =
     let old = c.args.changes.now.items in
     let n = c.args.number in
     let new = c.args.new.items in
-    subst (AddsChange d (change_at d n new) old) (sym (c.in_ok-add.ensures ∙ ap (λ (x : Change). with_change x old) c.in_ok-change.ensures.change))
+    subst (AddsChange d (change_at d n new) old) (sym (c.in_ok-add.ensures
+    ∙ ap (λ (x : Change). with_change x old) c.in_ok-change.ensures.change))
     (change_added d (change_at d n new) old c.requires.rising c.requires.made
     (change_can d n new c.size-size.ensures.disk c.requires.within c.requires.len c.change_of.ensures.bytes) c.requires.free)

@@ -26,7 +26,10 @@ returns c =
     let none : List ℕ = replicate 12 0 in
     let erased : c.in_ok-erased.erased.items ≡ replicate c.size-size.result 255 = search rules in
     let back : part_in block c.in_ok-erased.erased.items ≡ Some (stored_part c.part.inside.entries.items c.part.inside.tail none) =
-    ap (part_in block) erased ∙ c.in-Some.ensures.before_erased ∙ ap (λ (es : List StoredEntry). Some (stored_part es c.part.inside.tail none)) c.deref.ensures.value in
+    ap (part_in block) erased ∙ c.in-Some.ensures.before_erased ∙ ap (λ (es : List StoredEntry).
+    Some (stored_part es c.part.inside.tail none)) c.deref.ensures.value in
     subst (λ (x : Found). AddsPart d x.0 (x.0.0 ∷ x.0.1 ∷ []) (stored_part x.1.entries x.1.tail none) old new) c.part.view_is
-    (pair_filled d c.part.inside.pair block c.in_ok-erased.erased.items (stored_part c.part.inside.entries.items c.part.inside.tail none) old c.add_change.new.changes.items new
-    (subst (λ (x : Found). x.0.0 ≢ x.0.1) (sym c.part.view_is) c.requires.fits.apart) back c.in_ok-add_change.ensures c.in_ok-add_change-2.ensures)
+    (pair_filled d c.part.inside.pair block c.in_ok-erased.erased.items
+    (stored_part c.part.inside.entries.items c.part.inside.tail none) old c.add_change.new.changes.items new
+    (subst (λ (x : Found). x.0.0 ≢ x.0.1) (sym c.part.view_is) c.requires.fits.apart) back c.in_ok-add_change.ensures
+    c.in_ok-add_change-2.ensures)

@@ -11,10 +11,12 @@ pub write_link-requires-clause-can : goal.write_link-requires-clause-can
 write_link-requires-clause-can c =
     let more = c.args.directory.now.more in
     let q = c.next-item.result in
-    can_first c.args.image.now (volume_bytes c.args.outline.now) c.args.outline.now.attributes (is_unmarked c.args.used.now) c.each.changes.items
+    can_first c.args.image.now (volume_bytes c.args.outline.now) c.args.outline.now.attributes
+    (is_unmarked c.args.used.now) c.each.changes.items
     (links_of c.each.part.now (drop c.each.next-index more) c.args.tail) _ (links_of q (drop (c.each.next-index + 1) more) c.args.tail)
     (part_next c.each.part.now c.deref-next-items.result.now more c.each.next-index q c.args.tail c.hard_to-to_next.result
-    (c.deref-next-items.ensures.value ∙ ap (λ (e : Directory). e.more) c.directory.view_is) c.each-test.true c.next-item.is c.hard_to-to_next.ensures)
+    (c.deref-next-items.ensures.value ∙ ap (λ (e : Directory). e.more) c.directory.view_is) c.each-test.true c.next-item.is
+    c.hard_to-to_next.ensures)
     c.each.invariant.can
 
 pub each-preserved : goal.each-preserved
@@ -29,9 +31,12 @@ each-preserved c =
     let later = links_of q (drop (c.each.next-index + 1) more) c.args.tail in
     let split =
     part_next c.each.part.now c.deref-next-items.result.now more c.each.next-index q c.args.tail c.hard_to-to_next.result
-    (c.deref-next-items.ensures.value ∙ ap (λ (e : Directory). e.more) c.directory.view_is) c.each-test.true c.next-item.is c.hard_to-to_next.ensures in
+    (c.deref-next-items.ensures.value ∙ ap (λ (e : Directory). e.more) c.directory.view_is) c.each-test.true
+    c.next-item.is c.hard_to-to_next.ensures in
     record {
-      can = can_later d bytes attributes is_new c.each.changes.items c.write_link.new.changes.items all _ later split c.each.invariant.can c.in_ok-write_link.ensures;
+      can = can_later d bytes attributes is_new c.each.changes.items c.write_link.new.changes.items all _ later split c.each.invariant.can
+          c.in_ok-write_link.ensures;
       whole = λ new written. c.each.invariant.whole new
-          (written_whole d bytes attributes is_new c.each.changes.items c.write_link.new.changes.items new all _ later split c.each.invariant.can c.in_ok-write_link.ensures written);
+          (written_whole d bytes attributes is_new c.each.changes.items c.write_link.new.changes.items new all _ later split
+          c.each.invariant.can c.in_ok-write_link.ensures written);
     }

@@ -10,8 +10,11 @@ use Rattle.lfs_write.proofs.link_writing.write_directory.Given as goal
 
 abbrev pub invariant-each : goal.invariant-each
 invariant-each l = record {
-  can : CanBeAdded l.image (volume_bytes l.outline) l.outline.attributes (is_unmarked l.used) l.changes.items (links_of l.part (drop l.next-index l.directory.more) l.tail);
+  can : CanBeAdded l.image (volume_bytes l.outline) l.outline.attributes (is_unmarked l.used) l.changes.items
+      (links_of l.part (drop l.next-index l.directory.more) l.tail);
   whole : (new : List Change)
-      → AreWritten l.image (volume_bytes l.outline) l.outline.attributes (is_unmarked l.used) l.changes.items (links_of l.part (drop l.next-index l.directory.more) l.tail) new
-      → AreWritten l.image (volume_bytes l.outline) l.outline.attributes (is_unmarked l.used) l.initial.changes.items (links_of l.directory.first l.directory.more l.tail) new;
+      → AreWritten l.image (volume_bytes l.outline) l.outline.attributes (is_unmarked l.used) l.changes.items
+      (links_of l.part (drop l.next-index l.directory.more) l.tail) new
+      → AreWritten l.image (volume_bytes l.outline) l.outline.attributes (is_unmarked l.used) l.initial.changes.items
+      (links_of l.directory.first l.directory.more l.tail) new;
 }

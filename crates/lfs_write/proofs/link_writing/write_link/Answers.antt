@@ -9,24 +9,28 @@ use Rattle.lfs_write.proofs.link_writing.write_link.Goals as goal
 
 pub write_part-requires-clause-may : goal.write_part-requires-clause-may
 write_part-requires-clause-may c =
-    one_may c.args.image.now (volume_bytes c.args.outline.now) c.args.outline.now.attributes (is_unmarked c.args.used.now) c.args.changes.now.items (link_to c.args.part.now c.args.tail) c.requires.can
+    one_may c.args.image.now (volume_bytes c.args.outline.now) c.args.outline.now.attributes
+    (is_unmarked c.args.used.now) c.args.changes.now.items (link_to c.args.part.now c.args.tail) c.requires.can
     (sym (ap (λ (p : Part). p.dirty) c.part.view_is) ∙ c.if-part.true)
 
 pub write_part-requires-clause-fresh : goal.write_part-requires-clause-fresh
 write_part-requires-clause-fresh c =
-    one_fresh c.args.image.now (volume_bytes c.args.outline.now) c.args.outline.now.attributes (is_unmarked c.args.used.now) c.args.changes.now.items
+    one_fresh c.args.image.now (volume_bytes c.args.outline.now) c.args.outline.now.attributes
+    (is_unmarked c.args.used.now) c.args.changes.now.items
     (link_to c.args.part.now c.args.tail) c.requires.can
     (sym (ap (λ (p : Part). p.dirty) c.part.view_is) ∙ c.if-part.true)
 
 pub write_part-requires-clause-free : goal.write_part-requires-clause-free
 write_part-requires-clause-free c =
-    one_free c.args.image.now (volume_bytes c.args.outline.now) c.args.outline.now.attributes (is_unmarked c.args.used.now) c.args.changes.now.items
+    one_free c.args.image.now (volume_bytes c.args.outline.now) c.args.outline.now.attributes
+    (is_unmarked c.args.used.now) c.args.changes.now.items
     (link_to c.args.part.now c.args.tail) c.requires.can
     (sym (ap (λ (p : Part). p.dirty) c.part.view_is) ∙ c.if-part.true)
 
 pub returns-in_ok-write_part : goal.returns-in_ok-write_part
 returns-in_ok-write_part c =
-    one_written c.args.image.now (volume_bytes c.args.outline.now) c.args.outline.now.attributes (is_unmarked c.args.used.now) c.args.changes.now.items c.write_part.new.changes.items
+    one_written c.args.image.now (volume_bytes c.args.outline.now) c.args.outline.now.attributes
+    (is_unmarked c.args.used.now) c.args.changes.now.items c.write_part.new.changes.items
     (link_to c.args.part.now c.args.tail) c.requires.can
     (sym (ap (λ (p : Part). p.dirty) c.part.view_is) ∙ c.if-part.true)
     c.in_ok-write_part.ensures

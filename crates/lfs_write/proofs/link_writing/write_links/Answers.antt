@@ -11,7 +11,8 @@ pub write_directory-requires-clause-can : goal.write_directory-requires-clause-c
 write_directory-requires-clause-can c =
     let more = c.in-Some.more.now in
     let f = c.next-item.result in
-    can_first c.args.image.now (volume_bytes c.args.outline.now) c.args.outline.now.attributes (is_unmarked c.args.used.now) c.each.changes.items
+    can_first c.args.image.now (volume_bytes c.args.outline.now) c.args.outline.now.attributes
+    (is_unmarked c.args.used.now) c.each.changes.items
     (links (c.each.directory.now ∷ drop c.each.next-index more)) _ (links (f ∷ drop (c.each.next-index + 1) more))
     (directory_next c.each.directory.now more c.each.next-index f c.soft_to-to_next.result c.each-test.true c.next-item.is
     (c.soft_to-to_next.ensures ∙ ap (λ (e : Directory). soft_to e.first.pair) c.next.view_is))
@@ -31,7 +32,9 @@ each-preserved c =
     directory_next c.each.directory.now more c.each.next-index f c.soft_to-to_next.result c.each-test.true c.next-item.is
     (c.soft_to-to_next.ensures ∙ ap (λ (e : Directory). soft_to e.first.pair) c.next.view_is) in
     record {
-      can = can_later d bytes attributes is_new c.each.changes.items c.write_directory.new.changes.items all _ later split c.each.invariant.can c.in_ok-write_directory.ensures;
+      can = can_later d bytes attributes is_new c.each.changes.items c.write_directory.new.changes.items all _ later split
+          c.each.invariant.can c.in_ok-write_directory.ensures;
       whole = λ new written. c.each.invariant.whole new
-          (written_whole d bytes attributes is_new c.each.changes.items c.write_directory.new.changes.items new all _ later split c.each.invariant.can c.in_ok-write_directory.ensures written);
+          (written_whole d bytes attributes is_new c.each.changes.items c.write_directory.new.changes.items new all _ later split
+          c.each.invariant.can c.in_ok-write_directory.ensures written);
     }

@@ -10,8 +10,11 @@ use Rattle.lfs_write.proofs.link_writing.write_links.Given as goal
 
 abbrev pub invariant-each : goal.invariant-each
 invariant-each l = record {
-  can : CanBeAdded l.image (volume_bytes l.outline) l.outline.attributes (is_unmarked l.used) l.changes.items (links (l.directory ∷ drop l.next-index l.more));
+  can : CanBeAdded l.image (volume_bytes l.outline) l.outline.attributes (is_unmarked l.used) l.changes.items
+      (links (l.directory ∷ drop l.next-index l.more));
   whole : (new : List Change)
-      → AreWritten l.image (volume_bytes l.outline) l.outline.attributes (is_unmarked l.used) l.changes.items (links (l.directory ∷ drop l.next-index l.more)) new
-      → AreWritten l.image (volume_bytes l.outline) l.outline.attributes (is_unmarked l.used) l.fn.base.items (links l.outline.directories) new;
+      → AreWritten l.image (volume_bytes l.outline) l.outline.attributes (is_unmarked l.used) l.changes.items
+      (links (l.directory ∷ drop l.next-index l.more)) new
+      → AreWritten l.image (volume_bytes l.outline) l.outline.attributes (is_unmarked l.used) l.fn.base.items
+      (links l.outline.directories) new;
 }

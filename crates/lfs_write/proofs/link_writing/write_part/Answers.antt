@@ -17,11 +17,13 @@ returns c =
     let l = link_to c.args.part.now c.args.tail in
     let stored = c.in_ok-stored.stored in
     let old = c.args.changes.now.items in
-    let told : c.is_unmarked.result ≡ is_new c.args.part.now.pair = c.is_unmarked.ensures ∙ ap (λ (p : Part). is_new p.pair) c.part.view_is in
+    let told : c.is_unmarked.result ≡ is_new c.args.part.now.pair = c.is_unmarked.ensures
+    ∙ ap (λ (p : Part). is_new p.pair) c.part.view_is in
     elim c.if-is_unmarked.branch [
       | then-is_unmarked+in_ok-fill_pair w ↦
           (let new : is_new c.args.part.now.pair ≡ true = sym told ∙ w.if-is_unmarked.true in
-          rw w.changes-is (link_filled d bytes attributes is_new l stored old w.fill_pair.new.changes.items new (c.requires.fresh new) c.in_ok-stored.ensures w.in_ok-fill_pair.ensures))
+          rw w.changes-is (link_filled d bytes attributes is_new l stored old w.fill_pair.new.changes.items new
+          (c.requires.fresh new) c.in_ok-stored.ensures w.in_ok-fill_pair.ensures))
       | else-is_unmarked+in_ok-rewrite_pair w ↦
           rw w.changes-is (link_rewritten d bytes attributes is_new l stored old w.rewrite_pair.new.changes.items (sym told
           ∙ w.if-is_unmarked.false) c.in_ok-stored.ensures w.in_ok-rewrite_pair.ensures)

@@ -9,5 +9,6 @@ pub superblock-requires : goal.superblock-requires
 superblock-requires c =
     let limit = c.args.outline.now.limits.attribute in
     attributes_rise limit c.in_ok-attributes.attributes.items
-    (subst (AreAttributes limit) (sym (c.in_ok-attributes.ensures.same ∙ c.deref.ensures.value ∙ ap (λ (v : Volume). v.attributes) c.outline.view_is)) c.requires)
+    (subst (AreAttributes limit) (sym (c.in_ok-attributes.ensures.same ∙ c.deref.ensures.value
+    ∙ ap (λ (v : Volume). v.attributes) c.outline.view_is)) c.requires)
     c.in_ok-attributes.ensures.fit

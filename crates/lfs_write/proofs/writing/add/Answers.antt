@@ -13,11 +13,18 @@ before n cs = prefix_len (λ e. nat_lt e.number n) cs
 
 pub insert-requires : goal.insert-requires
 insert-requires c =
-    omega (arith, c.place_of-at.ensures, c.deref.ensures.len, prefix_len-le-length (λ (e : Change). nat_lt e.number c.change.inside.number) c.deref.result.now)
+    omega (
+      arith,
+      c.place_of-at.ensures,
+      c.deref.ensures.len,
+      prefix_len-le-length
+          (λ (e : Change). nat_lt e.number c.change.inside.number) c.deref.result.now,
+    )
 
 pub returns : goal.returns
 returns c =
     let cs = c.args.changes.now.items in
     c.in_ok-insert.ensures.items ∙ ap (λ (n : ℕ). insert cs n c.args.change)
-    (c.place_of-at.ensures ∙ ap (before c.change.inside.number) c.deref.ensures.value ∙ ap (λ (e : Change). before e.number cs) c.change.view_is)
+    (c.place_of-at.ensures ∙ ap (before c.change.inside.number) c.deref.ensures.value
+    ∙ ap (λ (e : Change). before e.number cs) c.change.view_is)
     ∙ insert_change c.args.change cs

@@ -8,10 +8,28 @@ pub returns-in-Some-Explanation : goal.returns-in-Some-Explanation
 returns-in-Some-Explanation g c =
     let is : c.in-Some-Explanation.field-0 ≡ Explanation c.in-Some-Explanation.number = search rules in
     let wish = subst (λ (w : Wish). IsWish w c.in-Ok.matches) is c.in-Some-Explanation.ensures in
-    record { ended = inr (inl (inr (c.in-Ok.matches, c.in-Some-Explanation.number, (c.in_ok-command_line.field-0, c.in-Ok.ensures.matches), wish), c.explain.ensures.kept)) }
+    record {
+      ended = inr (inl (
+        inr (
+          c.in-Ok.matches,
+          c.in-Some-Explanation.number,
+          (c.in_ok-command_line.field-0, c.in-Ok.ensures.matches),
+          wish,
+        ),
+        c.explain.ensures.kept,
+      ));
+    }
 
 pub returns-in-Some-Step : goal.returns-in-Some-Step
 returns-in-Some-Step g c =
     let is : c.in-Some-Step.field-0 ≡ Step c.in-Some-Step.request = search rules in
     let wish = subst (λ (w : Wish). IsWish w c.in-Ok.matches) is c.in-Some-Step.ensures in
-    record { ended = inl (c.in-Ok.matches, c.in-Some-Step.request, (c.in_ok-command_line.field-0, c.in-Ok.ensures.matches), wish, c.served.ensures.ended) }
+    record {
+      ended = inl (
+        c.in-Ok.matches,
+        c.in-Some-Step.request,
+        (c.in_ok-command_line.field-0, c.in-Ok.ensures.matches),
+        wish,
+        c.served.ensures.ended,
+      );
+    }

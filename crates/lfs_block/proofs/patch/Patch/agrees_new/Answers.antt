@@ -10,5 +10,6 @@ returns-then-has_size_of c =
     agrees_new-decided c.args.self.now c.args.image.now c.all.result c.deref.result.now
     (search (rules, tests))
     (c.deref.ensures.value ∙ ap (λ (p : ChangeSet). p.changes) c.self.view_is)
-    (cases_from_all _ _ _ (StandsNew c.args.image.now) (λ e. StandsNew c.args.image.now e → ⊥) c.all.ensures.ran (YieldsList-from_slice c.deref.result.now cc)
+    (cases_from_all _ _ _ (StandsNew c.args.image.now) (λ e. StandsNew c.args.image.now e → ⊥) c.all.ensures.ran
+    (YieldsList-from_slice c.deref.result.now cc)
     (λ x q k. search (rules, tests)) (λ x q k. search (rules, tests)))

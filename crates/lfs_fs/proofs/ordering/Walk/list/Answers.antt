@@ -9,7 +9,8 @@ pub returns-in_err-enter-clause-refused : goal.returns-in_err-enter-clause-refus
 returns-in_err-enter-clause-refused c =
     let old = c.args.self.now in
     let p = err_from_is_err_and c.from_residual.result c.from_residual.ensures.1 in
-    rw (p.1, p.2) (walking_fault c.args.outline.now old.table.entries old.order.items c.args.place (reverse old.waiting.items) old.opened.items c.in-Some.pair c.in_err-enter.field-0.0
+    rw (p.1, p.2) (walking_fault c.args.outline.now old.table.entries old.order.items c.args.place
+    (reverse old.waiting.items) old.opened.items c.in-Some.pair c.in_err-enter.field-0.0
     (sym c.target_of.ensures ∙ c.in-Some.is) c.in_err-enter.ensures.refused c.requires.walking)
 
 pub returns-clause-listed : goal.returns-clause-listed
@@ -19,14 +20,20 @@ returns-clause-listed c =
     let x = c.args.place in
     elim c.match-target_of.branch [
       | in-Some+in_ok-enter w ↦
-          let entered = subst (λ (n : ℕ). Enters o.directories old.table.entries w.in-Some.pair (n + 1) old.opened.items w.enter.new.self.opened.items
+          let entered = subst (λ (n : ℕ). Enters o.directories old.table.entries w.in-Some.pair
+          (n + 1) old.opened.items w.enter.new.self.opened.items
           old.waiting.items w.enter.new.self.waiting.items) w.from.ensures w.in_ok-enter.ensures.entered in
-          let step = walking_directory o old.table.entries old.order.items x (reverse old.waiting.items) old.opened.items w.enter.new.self.opened.items w.in-Some.pair old.waiting.items w.enter.new.self.waiting.items
+          let step = walking_directory o old.table.entries old.order.items x
+          (reverse old.waiting.items) old.opened.items w.enter.new.self.opened.items w.in-Some.pair old.waiting.items
+          w.enter.new.self.waiting.items
           (sym c.target_of.ensures ∙ w.in-Some.is) refl entered c.requires.walking in
-          on_ok_weaker c.push.result (λ (pushed : c.push.new.items.items ≡ c.match-target_of.self.order.items ++ x ∷ []). rw (pushed, w.self-is, w.in_ok-enter.ensures.order, w.in_ok-enter.ensures.table) step) c.push.ensures.pushed
+          on_ok_weaker c.push.result (λ (pushed : c.push.new.items.items ≡ c.match-target_of.self.order.items ++ x ∷ []). rw
+          (pushed, w.self-is, w.in_ok-enter.ensures.order, w.in_ok-enter.ensures.table) step) c.push.ensures.pushed
       | in_default w ↦
-          let step = walking_file o old.table.entries old.order.items x (reverse old.waiting.items) old.opened.items (sym c.target_of.ensures ∙ w.in_default.is) c.requires.walking in
-          on_ok_weaker c.push.result (λ (pushed : c.push.new.items.items ≡ c.match-target_of.self.order.items ++ x ∷ []). rw (pushed, w.self-is) step) c.push.ensures.pushed
+          let step = walking_file o old.table.entries old.order.items x (reverse old.waiting.items) old.opened.items
+          (sym c.target_of.ensures ∙ w.in_default.is) c.requires.walking in
+          on_ok_weaker c.push.result (λ (pushed : c.push.new.items.items ≡ c.match-target_of.self.order.items ++ x ∷ []). rw
+          (pushed, w.self-is) step) c.push.ensures.pushed
     ]
 
 pub returns-clause-less : goal.returns-clause-less
@@ -35,8 +42,10 @@ returns-clause-less c =
     let old = c.args.self.now in
     elim c.match-target_of.branch [
       | in-Some+in_ok-enter w ↦
-          let entered = subst (λ (n : ℕ). Enters o.directories old.table.entries w.in-Some.pair (n + 1) old.opened.items w.enter.new.self.opened.items
+          let entered = subst (λ (n : ℕ). Enters o.directories old.table.entries w.in-Some.pair
+          (n + 1) old.opened.items w.enter.new.self.opened.items
           old.waiting.items w.enter.new.self.waiting.items) w.from.ensures w.in_ok-enter.ensures.entered in
-          on_ok_weaker c.push.result (λ _. rw w.self-is (work_less o old.table.entries c.args.place old.opened.items w.enter.new.self.opened.items w.in-Some.pair old.waiting.items w.enter.new.self.waiting.items entered)) c.push.ensures.pushed
+          on_ok_weaker c.push.result (λ _. rw w.self-is (work_less o old.table.entries c.args.place old.opened.items
+          w.enter.new.self.opened.items w.in-Some.pair old.waiting.items w.enter.new.self.waiting.items entered)) c.push.ensures.pushed
       | in_default w ↦ on_ok_weaker c.push.result (λ _. rw w.self-is (omega arith)) c.push.ensures.pushed
     ]

@@ -19,11 +19,13 @@ returns-clause-marks c =
     let len : length new ≡ c.in_ok-flags.flags.len = omega (arith, c.mark_directories.ensures.len, c.deref_mut.ensures.len) in
     let flags : c.new.result ≡ new = c.new.ensures ∙ with_items_is c.in_ok-flags.flags new len in
     let old : c.deref_mut.result.now ≡ replicate o.count false =
-    c.deref_mut.ensures.value ∙ c.in_ok-flags.ensures.items_if_clones_equal (λ y same. same) ∙ ap (λ (v : Volume). replicate v.count false) c.self.view_is in
+    c.deref_mut.ensures.value ∙ c.in_ok-flags.ensures.items_if_clones_equal (λ y same. same)
+    ∙ ap (λ (v : Volume). replicate v.count false) c.self.view_is in
     let more : MarksMore (replicate o.count false) new (λ b. uses b o) =
     subst (λ (old : List Bool). MarksMore old new (λ b. uses b o)) old
     (subst (λ (v : Volume). MarksMore c.deref_mut.result.now new (λ b. uses b v)) c.self.view_is
-    (subst (λ (ds : List Directory). MarksMore c.deref_mut.result.now new (λ b. sum_by (directory_uses b) ds)) c.deref.ensures.value c.mark_directories.ensures)) in
+    (subst (λ (ds : List Directory). MarksMore c.deref_mut.result.now new (λ b. sum_by (directory_uses b) ds))
+    c.deref.ensures.value c.mark_directories.ensures)) in
     subst (λ (used : List Bool). Marks used (λ b. uses b o)) (sym flags) (marks_sound o new c.requires more)
 
 pub returns-clause-free : goal.returns-clause-free
@@ -33,10 +35,12 @@ returns-clause-free c =
     let len : length new ≡ c.in_ok-flags.flags.len = omega (arith, c.mark_directories.ensures.len, c.deref_mut.ensures.len) in
     let flags : c.new.result ≡ new = c.new.ensures ∙ with_items_is c.in_ok-flags.flags new len in
     let old : c.deref_mut.result.now ≡ replicate o.count false =
-    c.deref_mut.ensures.value ∙ c.in_ok-flags.ensures.items_if_clones_equal (λ y same. same) ∙ ap (λ (v : Volume). replicate v.count false) c.self.view_is in
+    c.deref_mut.ensures.value ∙ c.in_ok-flags.ensures.items_if_clones_equal (λ y same. same)
+    ∙ ap (λ (v : Volume). replicate v.count false) c.self.view_is in
     let more : MarksMore (replicate o.count false) new (λ b. uses b o) =
     subst (λ (old : List Bool). MarksMore old new (λ b. uses b o)) old
     (subst (λ (v : Volume). MarksMore c.deref_mut.result.now new (λ b. uses b v)) c.self.view_is
-    (subst (λ (ds : List Directory). MarksMore c.deref_mut.result.now new (λ b. sum_by (directory_uses b) ds)) c.deref.ensures.value c.mark_directories.ensures)) in
+    (subst (λ (ds : List Directory). MarksMore c.deref_mut.result.now new (λ b. sum_by (directory_uses b) ds))
+    c.deref.ensures.value c.mark_directories.ensures)) in
     let long : length new ≡ o.count = more.len ∙ length-replicate o.count false in
     ap unused flags ∙ unused_free o new long (marks_sound o new c.requires more)

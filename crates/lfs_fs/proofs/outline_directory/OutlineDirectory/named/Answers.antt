@@ -10,11 +10,13 @@ pub returns-in-Some : goal.returns-in-Some
 returns-in-Some c =
     let d = c.args.self.now in
     let test = is_named c.args.name.now in
-    found_first test d.first d.more c.in-Some.entry.now (c.in-Some.ensures ∙ ap (λ (x : Directory). find test x.first.entries) c.self.view_is)
+    found_first test d.first d.more c.in-Some.entry.now (c.in-Some.ensures
+    ∙ ap (λ (x : Directory). find test x.first.entries) c.self.view_is)
 
 pub returns-in-None : goal.returns-in-None
 returns-in-None c =
     let d = c.args.self.now in
     let test = is_named c.args.name.now in
     let more : c.deref.result.now ≡ d.more = c.deref.ensures.value ∙ ap (λ (x : Directory). x.more) c.self.view_is in
-    c.named_in.ensures ∙ ap (λ (ps : List Part). find test (part_entries ps)) more ∙ missed_first test d.first d.more (c.in-None.ensures ∙ ap (λ (x : Directory). find test x.first.entries) c.self.view_is)
+    c.named_in.ensures ∙ ap (λ (ps : List Part). find test (part_entries ps)) more
+    ∙ missed_first test d.first d.more (c.in-None.ensures ∙ ap (λ (x : Directory). find test x.first.entries) c.self.view_is)

@@ -17,10 +17,12 @@ returns-in_err-patch-clause-refused c =
     let s = c.self.inside in
     let p = err_from_is_err_and c.from_residual.result c.from_residual.ensures.1 in
     let within = c.self.invariant.at.within in
-    let made : length (take s.done s.patches.items) < most_changes = let len = length-take-le s.done s.patches.items within in omega arith in
+    let made : length (take s.done s.patches.items) < most_changes = let len = length-take-le s.done s.patches.items within in
+    omega arith in
     rw (p.1, p.2) (
       subst (λ (h : History). length h.done < most_changes) c.self.view_is made,
-      subst (λ (h : History). RefusesPlan h.present (asked_for c.args.command.now) c.in_err-patch.field-0.0) c.self.view_is c.in_err-patch.ensures.refused,
+      subst (λ (h : History). RefusesPlan h.present (asked_for c.args.command.now) c.in_err-patch.field-0.0) c.self.view_is
+          c.in_err-patch.ensures.refused,
       c.self.view_is,
     )
 
@@ -29,7 +31,8 @@ returns-in_err-replace_from-clause-refused c =
     let s = c.self.inside in
     let p = err_from_is_err_and c.from_residual-in_err-replace_from.result c.from_residual-in_err-replace_from.ensures.1 in
     let within = c.self.invariant.at.within in
-    let made : length (take s.done s.patches.items) < most_changes = let len = length-take-le s.done s.patches.items within in omega arith in
+    let made : length (take s.done s.patches.items) < most_changes = let len = length-take-le s.done s.patches.items within in
+    omega arith in
     rw (p.1, p.2) (
       subst (λ (h : History). length h.done < most_changes) c.self.view_is made,
       tt,
@@ -50,13 +53,16 @@ invariant_of-self-2 c =
     let back = c.applied_patches_revert.ensures in
     let follow = c.cuts_follow.ensures in
     let change = c.in_ok-patch.field-0 in
-    let put : IsPut s.patches.items c.replace_from.new.patches.items s.done change.patch = record { all = c.in_ok-replace_from.ensures.done; within = c.self.invariant.at.within } in
+    let put : IsPut s.patches.items c.replace_from.new.patches.items s.done change.patch =
+    record { all = c.in_ok-replace_from.ensures.done; within = c.self.invariant.at.within } in
     record {
-      at = (done_at (record { disk = made.disk; agrees = back.agrees; back = back.back }) (record { cut = follow.cut; clean = follow.clean }) (asked_for c.args.command.now)
+      at = (done_at (record { disk = made.disk; agrees = back.agrees; back = back.back })
+          (record { cut = follow.cut; clean = follow.clean }) (asked_for c.args.command.now)
           s.image c.apply.new.image s.patches.items c.replace_from.new.patches.items s.done change.patch c.index.result.now
           put c.index.ensures c.self.invariant.at (omega arith) c.in_ok-patch.ensures.planned c.apply.ensures.applied).keeps;
       known = subst (λ (e : Disk). IsOutlineOf e change.outline)
-          (sym (put_makes s.image c.apply.new.image s.patches.items c.replace_from.new.patches.items s.done change.patch c.index.result.now put c.index.ensures c.apply.ensures.applied))
+          (sym (put_makes s.image c.apply.new.image s.patches.items c.replace_from.new.patches.items s.done change.patch c.index.result.now
+          put c.index.ensures c.apply.ensures.applied))
           c.in_ok-patch.ensures.outline;
     }
 
@@ -67,8 +73,11 @@ returns-clause-done c =
     let back = c.applied_patches_revert.ensures in
     let follow = c.cuts_follow.ensures in
     let change = c.in_ok-patch.field-0 in
-    let put : IsPut s.patches.items c.replace_from.new.patches.items s.done change.patch = record { all = c.in_ok-replace_from.ensures.done; within = c.self.invariant.at.within } in
-    let to = done_at (record { disk = made.disk; agrees = back.agrees; back = back.back }) (record { cut = follow.cut; clean = follow.clean }) (asked_for c.args.command.now)
+    let put : IsPut s.patches.items c.replace_from.new.patches.items s.done change.patch =
+    record { all = c.in_ok-replace_from.ensures.done; within = c.self.invariant.at.within } in
+    let to = done_at (record { disk = made.disk; agrees = back.agrees; back = back.back })
+    (record { cut = follow.cut; clean = follow.clean }) (asked_for c.args.command.now)
     s.image c.apply.new.image s.patches.items c.replace_from.new.patches.items s.done change.patch c.index.result.now
     put c.index.ensures c.self.invariant.at (omega arith) c.in_ok-patch.ensures.planned c.apply.ensures.applied in
-    subst (λ (old : History). Does (asked_for c.args.command.now) old (history_at c.apply.new.image c.replace_from.new.patches.items (s.done + 1))) c.self.view_is to.moves
+    subst (λ (old : History). Does (asked_for c.args.command.now) old (history_at c.apply.new.image c.replace_from.new.patches.items
+    (s.done + 1))) c.self.view_is to.moves

@@ -19,7 +19,8 @@ invariant_of-self c =
     let law = c.reverted_patches_apply_again.ensures in
     let at = is_at s.patches.items (s.done - 1) s.done c.index.result.now (omega arith) (omega arith) c.index.ensures in
     record {
-      at = (undone_at (record { disk = law.disk; agrees = law.agrees; again = law.again }) s.image c.revert.new.image s.patches.items (s.done - 1) s.done c.index.result.now
+      at = (undone_at (record { disk = law.disk; agrees = law.agrees; again = law.again }) s.image c.revert.new.image s.patches.items
+          (s.done - 1) s.done c.index.result.now
           at c.self.invariant.at c.revert.ensures.reverted).keeps;
       known = tt;
     }
@@ -30,6 +31,7 @@ returns-clause-done c =
     let within = c.self.invariant.at.within in
     let law = c.reverted_patches_apply_again.ensures in
     let at = is_at s.patches.items (s.done - 1) s.done c.index.result.now (omega arith) (omega arith) c.index.ensures in
-    let to = undone_at (record { disk = law.disk; agrees = law.agrees; again = law.again }) s.image c.revert.new.image s.patches.items (s.done - 1) s.done c.index.result.now
+    let to = undone_at (record { disk = law.disk; agrees = law.agrees; again = law.again }) s.image c.revert.new.image s.patches.items
+    (s.done - 1) s.done c.index.result.now
     at c.self.invariant.at c.revert.ensures.reverted in
     subst (λ (old : History). Undoes old (history_at c.revert.new.image s.patches.items (s.done - 1))) c.self.view_is to.moves

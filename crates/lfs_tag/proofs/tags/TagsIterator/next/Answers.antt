@@ -21,7 +21,8 @@ returns-then-main_kind-ne-CHECKSUM-clause-goes c =
 
 pub loop-found-smaller : goal.loop-found-smaller
 loop-found-smaller c =
-    let k = tag_at-shorter c.loop-found.self-inside.prev c.loop-found.self-inside.bytes.now (tag_found c.in-Some.found) (sym c.in-Some.ensures) in omega (arith, k)
+    let k = tag_at-shorter c.loop-found.self-inside.prev c.loop-found.self-inside.bytes.now (tag_found c.in-Some.found)
+    (sym c.in-Some.ensures) in omega (arith, k)
 
 pub loop-found-preserved : goal.loop-found-preserved
 loop-found-preserved c =
@@ -33,5 +34,6 @@ loop-found-preserved c =
 
 pub returns-clause-steps : goal.returns-clause-steps
 returns-clause-steps c =
-    let e : tags_at c.loop-found.self-inside.prev c.loop-found.self-inside.bytes.now ≡ [] = tags_at-none c.loop-found.self-inside.prev c.loop-found.self-inside.bytes.now (sym c.in_default.ensures) in
+    let e : tags_at c.loop-found.self-inside.prev c.loop-found.self-inside.bytes.now ≡ [] =
+    tags_at-none c.loop-found.self-inside.prev c.loop-found.self-inside.bytes.now (sym c.in_default.ensures) in
     (sym c.loop-found.invariant ∙ e, e)
