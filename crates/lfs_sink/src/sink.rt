@@ -3,14 +3,16 @@
 ghost use Rattle.std.specs.Prelude.{◌≡◌, ℕ, ◌<◌, ◌≤◌, Bool, false, List, Option, length, take, IfSome, MatchOption, is_none};
 ghost use Rattle.std.specs.Io.KnownBytes.{Appends, Keeps};
 
-/// What takes bytes. Its meaning is the bytes that went out so far, where they are known, whether it has failed, and what
-/// no write changes of it.
+/// What takes bytes. Its meaning is the bytes that went out so far, where they are known, whether it has failed, whether it
+/// was told why something failed, and what no write changes of it.
 ///
 /// Source: own.
 pub trait Sink {
     ghost sent: { Self → Option (List ℕ) };
 
     ghost failed: { Self → Bool };
+
+    ghost told: { Self → Bool } = { λ _. false };
 
     ghost Kept: { Type 0 } = { Unit {0} };
 

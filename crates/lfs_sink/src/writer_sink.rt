@@ -1,6 +1,6 @@
 //! A sink over a writer.
 
-ghost use Rattle.std.specs.Prelude.{◌≡◌, false};
+ghost use Rattle.std.specs.Prelude.{◌≡◌, true, false, is_some, if◌then◌else◌};
 ghost use Rattle.std.specs.Io.KnownBytes.{Keeps};
 
 use crate::sink::Sink;
@@ -23,6 +23,7 @@ impl<W: Write> Out<W> {
     pub fn new(writer: W) -> Out<W>
         ensures sent { ⟦<Out<W> as Sink>⟧.sent result ≡ W.contents writer }
         ensures failed { ⟦<Out<W> as Sink>⟧.failed result ≡ false }
+        ensures told { ⟦<Out<W> as Sink>⟧.told result ≡ false }
     {
         Out {
             writer,
@@ -39,7 +40,9 @@ impl<W: Write> Out<W> {
     }
 
     /// What the writer said when it failed last, in a write or a flush; nothing where it took no byte. Takes no memory.
-    pub fn error(&self) -> Option<&io::Error> {
+    pub fn error(&self) -> Option<&io::Error>
+        ensures { is_some result ≡ ⟦<Out<W> as Sink>⟧.told self.now }
+    {
         self.said.as_ref()
     }
 
@@ -47,6 +50,7 @@ impl<W: Write> Out<W> {
     pub fn flush(&mut self) -> bool
         ensures failed { ⟦<Out<W> as Sink>⟧.failed self.new ≡ ⟦<Out<W> as Sink>⟧.failed self.old }
         ensures sent { Keeps (⟦<Out<W> as Sink>⟧.sent self.old) (⟦<Out<W> as Sink>⟧.sent self.new) }
+        ensures told { ⟦<Out<W> as Sink>⟧.told self.new ≡ (if result then ⟦<Out<W> as Sink>⟧.told self.old else true) }
     {
         match self.writer.flush() {
             Ok(()) => true,
@@ -62,6 +66,8 @@ impl<W: Write> Sink for Out<W> {
     ghost sent = { λ out. W.contents out.writer };
 
     ghost failed = { λ out. out.has_failed };
+
+    ghost told = { λ out. is_some out.said };
 
     ghost kept = { λ _. tt };
 
