@@ -1,6 +1,7 @@
 //! Attributes of entries.
 
-use crate::images::{block_of, file};
+use crate::images::file;
+use crate::samples::block_of;
 use lfs_block::Image;
 use lfs_meta::{Attribute, Entry, copied_attributes, read_pair};
 use std::alloc::{AllocError, Global};

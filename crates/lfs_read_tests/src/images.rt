@@ -1,16 +1,10 @@
 //! Images that the tests read.
 
+use crate::samples::block_of;
 use lfs_block::{Image, MountFault};
 use lfs_meta::{Body, Entry, Kind, Part, read_pair};
 use std::alloc::{AllocError, Global};
 use std::test::Fail;
-
-/// A block of this size, erased behind its log.
-pub(crate) fn block_of(alloc: Global, size: usize, log: &[u8]) -> Result<Vec<u8>, AllocError> {
-    let mut bytes = Vec::from_slice(alloc, log)?;
-    bytes.resize(size, 0xff)?;
-    Ok(bytes)
-}
 
 /// An image of two blocks of 256 bytes, erased behind their logs.
 pub(crate) fn pair_of(alloc: Global, first: &[u8], second: &[u8]) -> Result<Image, Fail> {

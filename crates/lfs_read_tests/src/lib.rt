@@ -21,6 +21,7 @@ mod logs;
 mod mounting;
 #[cfg(test)]
 mod names;
+mod samples;
 #[cfg(test)]
 mod tags;
 #[cfg(test)]
@@ -31,3 +32,5 @@ mod trees;
 mod whole_entries;
 #[cfg(test)]
 mod writing;
+
+pub use samples::block_of;

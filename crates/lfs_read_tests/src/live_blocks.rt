@@ -1,7 +1,8 @@
 //! Which block of a pair is live. The blocks' bytes were put together by hand, tag by tag, each behind its comment.
 
-use crate::images::{block_of, pair_of, read};
+use crate::images::{pair_of, read};
 use crate::log_drafts::{Tagged, log_of};
+use crate::samples::block_of;
 use lfs_block::{Blocks, Image, MountFault};
 use lfs_meta::{Part, read_pair};
 use lfs_tag::Log;

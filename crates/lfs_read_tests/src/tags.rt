@@ -1,7 +1,8 @@
 //! What tags leave of a part, and which ones are refused.
 
-use crate::images::{block_of, part_of, read};
+use crate::images::{part_of, read};
 use crate::log_drafts::{LogDraft, Tagged, log_of, push_all};
+use crate::samples::block_of;
 use lfs_block::{Image, MountFault};
 use lfs_meta::{Body, Entry, Kind, Part, Tail, read_pair};
 use std::alloc::{AllocError, Global};

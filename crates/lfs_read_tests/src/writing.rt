@@ -3,7 +3,8 @@
 ghost use Rattle.std.specs.Prelude.{◌≡◌, ◌≤◌, length};
 ghost use Rattle.lfs_meta.specs.Weighing.{weights};
 
-use crate::images::{block_of, pair_of, part_of, read};
+use crate::images::{pair_of, part_of, read};
+use crate::samples::block_of;
 use lfs_block::{Blocks, Image, MountFault};
 use lfs_meta::{Entry, Tail, first_block, read_pair, rewrite, weight};
 use std::alloc::{AllocError, Global};
