@@ -1,5 +1,6 @@
 #!/usr/bin/env python3
 """Runs the program on real files: faults of files, calls that fail, links, rights, leftovers, and pairs of runs on one image."""
+import fcntl
 import os
 import pathlib
 import resource
@@ -104,6 +105,41 @@ def output_that_nobody_reads(files):
         files.check("a change prints nothing", status == 0 and not said, (status, said))
 
 
+# How many bytes standard output takes, and a run that prints them.
+CUT = (
+    (9, ["check", "--block", "512", "a.img"], b"block 512"),
+    (52, ["check", "--block", "512", "a.img"], b"block 512, count 64, free 54, directories 1, files 1"),
+    (20, ["--help"], b"Edit littlefs images"),
+    (7, ["explain", "41"], b"41 IsRo"),
+    (1_000, ["cat", "--block", "512", "a.img", "/large"], 1_000 * b"7"),
+)
+
+
+def output_that_is_cut(files):
+    """Standard output takes so many bytes, and refuses the rest: it has got the beginning of what is printed."""
+    files.must(["put", "--block", "512", "a.img", "/large"], 4_000 * b"7")
+    for room, words, beginning in CUT:
+        with tempfile.TemporaryFile() as out:
+            before = files.listing()
+            status, said = files.run(words, stdout=out, preexec_fn=lambda: limit_files(room))
+            out.seek(0)
+            printed = out.read()
+        is_told = status == 4 and said[0] == NOT_WRITTEN and said[1].startswith("lfsed: standard output: File too large")
+        files.check(f"{room} bytes of {words}", is_told and printed == beginning, (status, said, printed[:80]))
+        files.check(f"files behind {words}", files.listing() == before)
+
+
+def an_image_that_another_keeps(files):
+    """A run that changes an image which another program keeps ends with 61, and one that reads it reads it."""
+    with open(files.image, "rb") as kept:
+        fcntl.flock(kept, fcntl.LOCK_EX)
+        for words in ["mkdir", "--block", "512", "a.img", "/d"], ["format", "--block", "512", "--count", "8", "a.img"]:
+            files.refused(f"{words[0]} of an image that is kept", words, NOT_WRITTEN, "")
+        status, said = files.run(["check", "--block", "512", "a.img"])
+        files.check("an image that is kept is read", status == 0 and not said, (status, said))
+    files.must(["mkdir", "--block", "512", "a.img", "/d"])
+
+
 # Runs, and for each the calls of the C library that it makes.
 RUNS_THAT_CALL = (
     (["check", "a.img"], "open read write statx"),
@@ -175,13 +211,15 @@ def leftovers(files):
     left.rmdir()
 
 
-def disks_that_refuse(files):
-    def small():
-        signal.signal(signal.SIGXFSZ, signal.SIG_IGN)
-        resource.setrlimit(resource.RLIMIT_FSIZE, (8_192, 8_192))
+def limit_files(length):
+    """No file grows past a length."""
+    signal.signal(signal.SIGXFSZ, signal.SIG_IGN)
+    resource.setrlimit(resource.RLIMIT_FSIZE, (length, length))
 
+
+def disks_that_refuse(files):
     mkdir = ["mkdir", "--block", "512", "a.img", "/d"]
-    files.refused("a full disk", mkdir, NOT_WRITTEN, "a.img: ", preexec_fn=small)
+    files.refused("a full disk", mkdir, NOT_WRITTEN, "a.img: ", preexec_fn=lambda: limit_files(8_192))
     if os.geteuid() == 0:
         files.folder.chmod(0o555)
         files.image.chmod(0o644)
@@ -209,6 +247,8 @@ def pairs_of_runs(files):
 SCENES = (
     what_is_no_image,
     output_that_nobody_reads,
+    output_that_is_cut,
+    an_image_that_another_keeps,
     calls_that_fail,
     links_and_rights,
     leftovers,

@@ -3,12 +3,9 @@
 
 A row is the words behind the program's name, how many bytes of contents come from standard input, the status, what is
 complained, and what is printed: a text, or so many bytes of contents."""
-import pathlib
-import subprocess
 import sys
-import tempfile
 
-HOME = pathlib.Path(__file__).resolve().parent.parent
+from support.folder import run_scenes
 
 # The first bytes of a new image of 8 blocks of 512 bytes, computed by another program, as those below.
 NEW = bytes.fromhex(
@@ -356,60 +353,6 @@ HELPS = [
 ]
 
 
-def contents(length):
-    """The contents of a file, as they come from standard input."""
-    return bytes(n % 251 for n in range(length))
-
-
-class Folder:
-    """A folder with an image, in which rows are run, and how many of them were right and wrong."""
-
-    def __init__(self):
-        self.room = tempfile.TemporaryDirectory()
-        self.image = pathlib.Path(self.room.name) / "a.img"
-        self.right = self.wrong = 0
-
-    def be(self, front, length):
-        """Makes the image these bytes, with 0xff behind them up to a length."""
-        self.image.write_bytes(front.ljust(length, b"\xff"))
-
-    def run(self, words, length=0):
-        """Runs the program; answers its status, what it complained and what it printed."""
-        command = [HOME / "crates/lfsed/out/lfsed", *words.split(" ")] if words else [HOME / "crates/lfsed/out/lfsed"]
-        ended = subprocess.run(command, cwd=self.room.name, input=contents(length), capture_output=True, timeout=60)
-        return ended.returncode, ended.stderr.decode(), ended.stdout
-
-    def check(self, what, is_right, found=""):
-        """Counts one thing that is to be so."""
-        self.right, self.wrong = self.right + is_right, self.wrong + (not is_right)
-        if not is_right:
-            print(f"wrong: {what}: {found}")
-
-    def old(self):
-        """The image's bytes, where there is one."""
-        return self.image.read_bytes() if self.image.exists() else None
-
-    def play(self, rows):
-        """Runs rows one after another. Where one is refused the image stays as it was, and no other file is there."""
-        for words, length, status, complaint, printed in rows:
-            before = self.old()
-            ended = self.run(words, length)
-            wanted = printed.encode() if isinstance(printed, str) else contents(printed)
-            self.check(words, ended == (status, complaint, wanted), ended)
-            files = [self.image] if self.old() is not None else []
-            kept = (status == 0 or self.old() == before) and list(self.image.parent.iterdir()) == files
-            self.check(f"{words}: files", kept)
-
-    def begins(self, words, front):
-        """Runs words that are refused, and compares how what is complained begins."""
-        status, complained, printed = self.run(words)
-        self.check(words or "no words", status == 2 and complained.startswith(front) and not printed, complained)
-
-    def holds(self, what, at, part):
-        """Whether bytes stand at a place of the image."""
-        self.check(f"{what}: at {at}", self.old()[at:].startswith(part), self.old()[at:][:len(part)])
-
-
 def verdicts(folder):
     for front, length, row in JUDGED:
         folder.be(front, length)
@@ -476,15 +419,4 @@ def command_lines(folder):
         folder.begins(words, front)
 
 
-def main():
-    subprocess.run([HOME / "bin/lfsed", "--help"], stdout=subprocess.DEVNULL, check=True)
-    right = wrong = 0
-    for scene in verdicts, files, changes, command_lines:
-        folder = Folder()
-        scene(folder)
-        right, wrong = right + folder.right, wrong + folder.wrong
-    print(f"{right} passed, {wrong} failed")
-    return 1 if wrong else 0
-
-
-sys.exit(main())
+sys.exit(run_scenes([verdicts, files, changes, command_lines]))

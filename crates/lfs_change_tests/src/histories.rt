@@ -1,6 +1,6 @@
 //! Sessions by example: what is undone and made again.
 
-use crate::images::{are_same, copy_of, has_image, new_image, new_session};
+use crate::images::{are_same, copy_of, fresh, has_image, new_image, new_session, replies};
 use lfs_block::{Image, MountFault};
 use lfs_edit::{Command, Refusal};
 use lfs_journal::{Session, Step, StepFault, run_steps};
@@ -186,4 +186,64 @@ fn runs_carry_commands_out(rt: HostRuntime) -> Result<(), Fail> {
     replies_to(&rt, rt.alloc(), &mut session, &steps, &expected)?;
     has_image(&rt, &session, &first);
     Ok(())
+}
+
+// commands, of which one is refused
+const LIST: [Command<'static>; 7] = [
+    Command::Mkdir { path: b"/a" },
+    Command::Put {
+        path: b"/a/x",
+        bytes: &[7; 65],
+    },
+    Command::Rm { path: b"/a" },
+    Command::SetAttr {
+        path: b"/a/x",
+        kind: 1,
+        value: &[2],
+    },
+    Command::Mv {
+        from: b"/a/x",
+        to: b"/y",
+    },
+    Command::Rm { path: b"/a" },
+    Command::Put {
+        path: b"/y",
+        bytes: &[8; 3],
+    },
+];
+
+// the image that a session of its own makes of an image by a command, with this reply
+fn next_image(
+    rt: &impl Abort,
+    alloc: Global,
+    image: Image,
+    command: &Command<'_>,
+    reply: Result<(), StepFault>,
+) -> Result<Image, Fail> {
+    let mut session = fresh(alloc, image)?;
+    replies(rt, alloc, &mut session, command, reply);
+    Ok(session.into_image())
+}
+
+// asserts that a session does what sessions for one command each do, beginning with an image
+fn does_what_many_do(
+    rt: &impl Abort,
+    alloc: Global,
+    session: &mut Session,
+    first: Image,
+) -> Result<(), Fail> {
+    let mut image = first;
+    for command in &LIST {
+        let reply = session.command(alloc, command);
+        image = next_image(rt, alloc, image, command, reply)?;
+        has_image(rt, session, &image);
+    }
+    Ok(())
+}
+
+#[test]
+fn one_session_does_what_many_do(rt: HostRuntime) -> Result<(), Fail> {
+    let image = new_image(rt.alloc())?;
+    let mut session = new_session(rt.alloc())?;
+    does_what_many_do(&rt, rt.alloc(), &mut session, image)
 }

@@ -5,6 +5,7 @@ use lfs_draft::judge;
 use lfs_fs::{Delta, Limits, Outline, OutlineBody, OutlineDirectory, OutlineEntry, OutlinePart};
 use lfs_meta::Attribute;
 use std::alloc::{AllocError, Global};
+use std::process::Abort;
 use std::test::Fail;
 
 // an empty file whose name is a letter
@@ -81,163 +82,122 @@ fn refusal(alloc: Global, outline: &Outline, command: &Command<'_>) -> Option<Re
     }
 }
 
-const MADE: [(&[u8], Option<Refusal>); 7] = [
-    (b"/", Some(Refusal::IsRoot)),
-    (b"/a", Some(Refusal::Exists)),
-    (b"/x/y", Some(Refusal::NotFound)),
-    (b"/a/f/g", Some(Refusal::NotADirectory)),
-    (b"/x/long", Some(Refusal::NotFound)),
-    (b"/e/long", Some(Refusal::NameTooLong)),
-    (b"/e/new", None),
+// a command, and what it is refused for
+type Judged = (Command<'static>, Option<Refusal>);
+
+const MADE: [Judged; 4] = [
+    (Command::Mkdir { path: b"/a" }, Some(Refusal::Exists)),
+    (
+        Command::Mkdir { path: b"/e/long" },
+        Some(Refusal::NameTooLong),
+    ),
+    (Command::Mkdir { path: b"/e/" }, Some(Refusal::BadPath)),
+    (Command::Mkdir { path: b"/e/new" }, None),
 ];
 
-#[test]
-fn directories_that_are_made(rt: HostRuntime) -> Result<(), Fail> {
-    let outline = small_outline(rt.alloc())?;
-    for (path, wanted) in &MADE {
-        let command = Command::Mkdir { path };
-        assert_eq!(rt;
-            refusal(rt.alloc(), &outline, &command),
-            *wanted,
-            "{path:?}"
-        );
+const PUT: [Judged; 4] = [
+    (
+        Command::Put {
+            path: b"/a",
+            bytes: b"12345",
+        },
+        Some(Refusal::IsADirectory),
+    ),
+    (
+        Command::Put {
+            path: b"/a/f/g",
+            bytes: b"",
+        },
+        Some(Refusal::NotADirectory),
+    ),
+    (
+        Command::Put {
+            path: b"/a/f",
+            bytes: b"12345",
+        },
+        Some(Refusal::FileTooLarge),
+    ),
+    (
+        Command::Put {
+            path: b"/new",
+            bytes: b"1234",
+        },
+        None,
+    ),
+];
+
+const MOVED: [Judged; 5] = [
+    (Command::Rm { path: b"/a" }, Some(Refusal::NotEmpty)),
+    (Command::Rm { path: b"/a/f" }, None),
+    (
+        Command::Mv {
+            from: b"/a",
+            to: b"/a/x/y",
+        },
+        Some(Refusal::IntoItself),
+    ),
+    (
+        Command::Mv {
+            from: b"/x",
+            to: b"/",
+        },
+        Some(Refusal::IsRoot),
+    ),
+    (
+        Command::Mv {
+            from: b"/a",
+            to: b"/e/a",
+        },
+        None,
+    ),
+];
+
+const ATTRIBUTES: [Judged; 4] = [
+    (
+        Command::SetAttr {
+            path: b"/a/f",
+            kind: 7,
+            value: b"123",
+        },
+        Some(Refusal::AttrTooLarge),
+    ),
+    (
+        Command::SetAttr {
+            path: b"/x",
+            kind: 7,
+            value: b"1",
+        },
+        Some(Refusal::NotFound),
+    ),
+    (
+        Command::RmAttr {
+            path: b"/",
+            kind: 8,
+        },
+        Some(Refusal::NoAttr),
+    ),
+    (
+        Command::RmAttr {
+            path: b"/",
+            kind: 7,
+        },
+        None,
+    ),
+];
+
+// asserts what commands are refused for
+fn are_judged(rt: &impl Abort, alloc: Global, outline: &Outline, rows: &[Judged]) {
+    for (command, wanted) in rows {
+        assert_eq!(rt; refusal(alloc, outline, command), *wanted, "{command:?}");
     }
-    Ok(())
 }
 
-const PUT: [(&[u8], &[u8], Option<Refusal>); 8] = [
-    (b"/", b"", Some(Refusal::IsRoot)),
-    (b"/a", b"12345", Some(Refusal::IsADirectory)),
-    (b"/a/f/g", b"", Some(Refusal::NotADirectory)),
-    (b"/x/y", b"", Some(Refusal::NotFound)),
-    (b"/long", b"12345", Some(Refusal::NameTooLong)),
-    (b"/a/f", b"12345", Some(Refusal::FileTooLarge)),
-    (b"/a/f", b"1234", None),
-    (b"/new", b"1234", None),
-];
-
+// `tests/trees.py` has all causes of all commands, over the program.
 #[test]
-fn files_that_are_put(rt: HostRuntime) -> Result<(), Fail> {
+fn commands_are_judged(rt: HostRuntime) -> Result<(), Fail> {
     let outline = small_outline(rt.alloc())?;
-    for (path, bytes, wanted) in &PUT {
-        let command = Command::Put { path, bytes };
-        assert_eq!(rt;
-            refusal(rt.alloc(), &outline, &command),
-            *wanted,
-            "{path:?}"
-        );
-    }
-    Ok(())
-}
-
-const REMOVED: [(&[u8], Option<Refusal>); 6] = [
-    (b"/", Some(Refusal::IsRoot)),
-    (b"/a", Some(Refusal::NotEmpty)),
-    (b"/x", Some(Refusal::NotFound)),
-    (b"/a/f/g", Some(Refusal::NotADirectory)),
-    (b"/a/f", None),
-    (b"/e", None),
-];
-
-#[test]
-fn what_is_removed(rt: HostRuntime) -> Result<(), Fail> {
-    let outline = small_outline(rt.alloc())?;
-    for (path, wanted) in &REMOVED {
-        let command = Command::Rm { path };
-        assert_eq!(rt;
-            refusal(rt.alloc(), &outline, &command),
-            *wanted,
-            "{path:?}"
-        );
-    }
-    Ok(())
-}
-
-const MOVED: [(&[u8], &[u8], Option<Refusal>); 6] = [
-    (b"/", b"/a/b", Some(Refusal::IsRoot)),
-    (b"/x", b"/", Some(Refusal::IsRoot)),
-    (b"/x", b"/x/y", Some(Refusal::NotFound)),
-    (b"/a", b"/a/b", Some(Refusal::IntoItself)),
-    (b"/a", b"/a/x/y", Some(Refusal::IntoItself)),
-    (b"/a", b"/e/a", None),
-];
-
-#[test]
-fn what_is_moved(rt: HostRuntime) -> Result<(), Fail> {
-    let outline = small_outline(rt.alloc())?;
-    for (from, to, wanted) in &MOVED {
-        let command = Command::Mv { from, to };
-        assert_eq!(rt;
-            refusal(rt.alloc(), &outline, &command),
-            *wanted,
-            "{from:?} {to:?}"
-        );
-    }
-    Ok(())
-}
-
-const PLACED: [(&[u8], &[u8], Option<Refusal>); 5] = [
-    (b"/a", b"/a", Some(Refusal::Exists)),
-    (b"/a", b"/e", Some(Refusal::Exists)),
-    (b"/e", b"/a/f/g", Some(Refusal::NotADirectory)),
-    (b"/e", b"/a/long", Some(Refusal::NameTooLong)),
-    (b"/a/f", b"/f", None),
-];
-
-#[test]
-fn where_it_is_moved(rt: HostRuntime) -> Result<(), Fail> {
-    let outline = small_outline(rt.alloc())?;
-    for (from, to, wanted) in &PLACED {
-        let command = Command::Mv { from, to };
-        assert_eq!(rt;
-            refusal(rt.alloc(), &outline, &command),
-            *wanted,
-            "{from:?} {to:?}"
-        );
-    }
-    Ok(())
-}
-
-const SET: [(&[u8], &[u8], Option<Refusal>); 5] = [
-    (b"/x", b"123", Some(Refusal::NotFound)),
-    (b"/a/f/g", b"", Some(Refusal::NotADirectory)),
-    (b"/a/f", b"123", Some(Refusal::AttrTooLarge)),
-    (b"/a/f", b"12", None),
-    (b"/", b"12", None),
-];
-
-#[test]
-fn attributes_that_are_set(rt: HostRuntime) -> Result<(), Fail> {
-    let outline = small_outline(rt.alloc())?;
-    for (path, value, wanted) in &SET {
-        let kind = 7;
-        let command = Command::SetAttr { path, kind, value };
-        assert_eq!(rt;
-            refusal(rt.alloc(), &outline, &command),
-            *wanted,
-            "{path:?}"
-        );
-    }
-    Ok(())
-}
-
-const TAKEN: [(&[u8], u8, Option<Refusal>); 4] = [
-    (b"/x", 7, Some(Refusal::NotFound)),
-    (b"/a/f", 7, Some(Refusal::NoAttr)),
-    (b"/", 8, Some(Refusal::NoAttr)),
-    (b"/", 7, None),
-];
-
-#[test]
-fn attributes_that_are_removed(rt: HostRuntime) -> Result<(), Fail> {
-    let outline = small_outline(rt.alloc())?;
-    for (path, kind, wanted) in &TAKEN {
-        let command = Command::RmAttr { path, kind: *kind };
-        assert_eq!(rt;
-            refusal(rt.alloc(), &outline, &command),
-            *wanted,
-            "{path:?}"
-        );
+    for rows in [MADE.as_slice(), &PUT, &MOVED, &ATTRIBUTES] {
+        are_judged(&rt, rt.alloc(), &outline, rows);
     }
     Ok(())
 }

@@ -1,18 +1,13 @@
 //! Tests of commands and their layers, which call them as the crates above do: refusals, outlines, what is written, sessions.
+//! What a command makes of an image is tested by `tests/trees.py` and `tests/rows.py`, over the program.
 #![tactic(auto)]
 
-#[cfg(test)]
-mod attributes;
 #[cfg(test)]
 mod carrying;
 #[cfg(test)]
 mod contents;
 #[cfg(test)]
 mod cutting;
-#[cfg(test)]
-mod files;
-#[cfg(test)]
-mod foreign;
 #[cfg(test)]
 mod formatting;
 #[cfg(test)]
@@ -23,17 +18,10 @@ mod images;
 mod judging;
 #[cfg(test)]
 mod laws;
+mod new_images;
 #[cfg(test)]
 mod paths;
 #[cfg(test)]
 mod refusals;
-#[cfg(test)]
-mod several_parts;
-#[cfg(test)]
-mod spreading;
-#[cfg(test)]
-mod standing;
-#[cfg(test)]
-mod storing;
-#[cfg(test)]
-mod trees;
+
+pub use new_images::new_image_of;

@@ -52,5 +52,3 @@ fn words(rt: &HostRuntime) -> io::Result<Vec<String>> {
     Ok(env::args(rt)?.collect(rt.alloc())?)
 }
 
-#[cfg(test)]
-mod tests;

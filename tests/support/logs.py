@@ -1,0 +1,53 @@
+"""A plain writer of littlefs logs, apart from the program."""
+import struct
+import zlib
+
+NO_ENTRY = 0x3FF
+FILE, DIRECTORY, SUPERBLOCK = 0x001, 0x002, 0x0FF
+SOFT, HARD = 0x600, 0x601
+
+
+def log(revision, items):
+    """A log of one commit: items of kind, entry and value, and their checksum."""
+    bytes_out, before = struct.pack("<I", revision), 0xFFFF_FFFF
+    for kind, number, value in [*items, (0x500, NO_ENTRY, bytes(4))]:
+        word = kind << 20 | number << 10 | len(value)
+        bytes_out += struct.pack(">I", word ^ before) + (value if kind != 0x500 else b"")
+        before = word
+    return bytes_out + struct.pack("<I", zlib.crc32(bytes_out) ^ 0xFFFF_FFFF)
+
+
+def superblock(size, count, name=255, file=2_147_483_647, attribute=1_022):
+    """The items of a superblock with its limits."""
+    held = struct.pack("<6I", 0x0002_0000, size, count, name, file, attribute)
+    return [(SUPERBLOCK, 0, b"littlefs"), (0x201, 0, held)]
+
+
+def file(number, name, held=b""):
+    """The items of a file whose contents stand in its entry."""
+    return [(FILE, number, name), (0x201, number, held)]
+
+
+def directory(number, name, pair):
+    """The items of an entry that leads to a directory."""
+    return [(DIRECTORY, number, name), (0x200, number, struct.pack("<2I", *pair))]
+
+
+def tail(kind, pair):
+    """The item of a pair that comes behind a part."""
+    return [(kind, NO_ENTRY, struct.pack("<2I", *pair))]
+
+
+def attribute(number, kind, value):
+    """The item of an attribute."""
+    return [(0x300 | kind, number, value)]
+
+
+def moved(value):
+    """The item of a part's share in the global state."""
+    return [(0x7FF, NO_ENTRY, value)]
+
+
+def image(size, count, blocks):
+    """An image whose blocks begin so, by their numbers, and are erased elsewhere."""
+    return b"".join(blocks.get(number, b"").ljust(size, b"\xff") for number in range(count))
