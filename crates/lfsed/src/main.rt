@@ -51,4 +51,3 @@ fn status(rt: &HostRuntime) -> u8 {
 fn words(rt: &HostRuntime) -> io::Result<Vec<String>> {
     Ok(env::args(rt)?.collect(rt.alloc())?)
 }
-
