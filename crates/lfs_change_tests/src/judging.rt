@@ -1,7 +1,7 @@
 //! What commands are refused for on a small outline.
 
 use lfs_command::{Command, Refusal, by_names};
-use lfs_draft::judge;
+use lfs_draft::{judge, leading_pair};
 use lfs_fs::{Delta, Limits, Outline, OutlineBody, OutlineDirectory, OutlineEntry, OutlinePart};
 use lfs_meta::Attribute;
 use std::alloc::{AllocError, Global};
@@ -198,6 +198,38 @@ fn commands_are_judged(rt: HostRuntime) -> Result<(), Fail> {
     let outline = small_outline(rt.alloc())?;
     for rows in [MADE.as_slice(), &PUT, &MOVED, &ATTRIBUTES] {
         are_judged(&rt, rt.alloc(), &outline, rows);
+    }
+    Ok(())
+}
+
+// a command, and the pair of the part that has the entry at its path
+const LEADING: [(Command<'static>, Option<(u32, u32)>); 5] = [
+    (Command::Rm { path: b"/a/f" }, Some((2, 100))),
+    (
+        Command::Mv {
+            from: b"/a/f",
+            to: b"/e",
+        },
+        Some((2, 100)),
+    ),
+    (
+        Command::SetAttr {
+            path: b"/e",
+            kind: 7,
+            value: b"1",
+        },
+        Some((1, 0)),
+    ),
+    (Command::Mkdir { path: b"/e/f" }, None),
+    (Command::Rm { path: b"/" }, None),
+];
+
+#[test]
+fn parts_lead_that_have_the_entry(rt: HostRuntime) -> Result<(), Fail> {
+    let outline = small_outline(rt.alloc())?;
+    for (command, wanted) in &LEADING {
+        let named = by_names(rt.alloc(), command)?;
+        assert_eq!(rt; leading_pair(&outline, &named), *wanted, "{command:?}");
     }
     Ok(())
 }
