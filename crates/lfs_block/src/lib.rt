@@ -12,12 +12,8 @@ mod mount_fault;
 mod overlay;
 mod patch;
 mod patch_laws;
-#[cfg(test)]
-mod patch_tests;
 mod record;
 mod side;
-#[cfg(test)]
-mod tests;
 
 pub use blocks::Blocks;
 pub use checksum::crc32;

@@ -55,20 +55,3 @@ pub fn agreeing_patches_fit()
     ensures old { AgreedOldFits }
     ensures new { AgreedNewFits }
 {}
-
-#[cfg(test)]
-mod tests {
-    use super::*;
-
-    #[test]
-    fn laws_of_patches(_rt: HostRuntime) {
-        put_blocks_stand();
-        images_are_their_blocks();
-        changes_change_their_blocks();
-        flipped_patches_are_patches();
-        applied_patches_change_their_blocks();
-        applied_patches_revert();
-        reverted_patches_apply_again();
-        agreeing_patches_fit();
-    }
-}

@@ -5,8 +5,6 @@ mod journal;
 mod journal_fault;
 mod laws;
 mod reading;
-#[cfg(test)]
-mod tests;
 mod writing;
 
 pub use journal::Journal;

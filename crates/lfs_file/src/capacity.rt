@@ -43,26 +43,3 @@ pub fn blocks_for(len: u32, block_size: u32) -> u32
         whole + 1
     }
 }
-
-#[cfg(test)]
-mod tests {
-    use super::*;
-
-    #[test]
-    fn takes_the_least_blocks(rt: HostRuntime) {
-        let cases = [
-            (0, 0),
-            (512, 1),
-            (513, 2),
-            (1_020, 2),
-            (1_021, 3),
-            (3_040, 6),
-            (3_041, 7),
-        ];
-        for (len, want) in cases {
-            assert_eq!(rt; blocks_for(len, 512), want, "at {len}");
-        }
-        assert_eq!(rt; blocks_for(0xffff_ffff, 256), 17_318_417);
-        assert_eq!(rt; blocks_for(0xffff_ffff, 65_536), 65_545);
-    }
-}

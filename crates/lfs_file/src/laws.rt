@@ -49,19 +49,3 @@ pub fn laid_blocks_are_chains()
     ensures found { LaidIsFound }
     ensures content { LaidIsContent }
 {}
-
-#[cfg(test)]
-mod tests {
-    use super::*;
-
-    #[test]
-    fn laws_of_chains(_rt: HostRuntime) {
-        least_blocks_are_least();
-        files_have_one_chain();
-        blocks_of_chains_differ();
-        chains_stay_on_their_blocks();
-        contents_have_their_length();
-        laid_blocks_are_whole();
-        laid_blocks_are_chains();
-    }
-}

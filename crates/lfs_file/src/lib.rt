@@ -7,8 +7,6 @@ mod laws;
 mod laying;
 mod pointer;
 mod skip_list;
-#[cfg(test)]
-mod tests;
 
 pub use capacity::blocks_for;
 pub use file_slices::{FileSlices, read_file};

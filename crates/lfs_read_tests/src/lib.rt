@@ -1,14 +1,27 @@
-//! Tests of what is read of images and written into pairs, by example: logs, parts, entries, and images that mount or not.
+//! Tests of what is read of images and written into them, by example: blocks and their changes, journals, logs, chains,
+//! parts, entries, and images that mount or not.
 #![tactic(auto)]
 
 #[cfg(test)]
 mod attributes;
 #[cfg(test)]
+mod blocks;
+#[cfg(test)]
+mod chains;
+#[cfg(test)]
+mod closing_tags;
+#[cfg(test)]
+mod commits;
+#[cfg(test)]
 mod cutting;
 #[cfg(test)]
 mod deltas;
 #[cfg(test)]
+mod files;
+#[cfg(test)]
 mod images;
+#[cfg(test)]
+mod journals;
 #[cfg(test)]
 mod laws;
 #[cfg(test)]
@@ -21,6 +34,8 @@ mod logs;
 mod mounting;
 #[cfg(test)]
 mod names;
+#[cfg(test)]
+mod patches;
 mod samples;
 #[cfg(test)]
 mod tags;

@@ -1,8 +1,6 @@
 //! Tags, commits and logs: what stands in a metadata block.
 #![tactic(auto)]
 
-#[cfg(test)]
-mod closing_tests;
 mod edit;
 mod edit_data;
 pub mod laws;
@@ -18,6 +16,3 @@ pub use log::Log;
 pub use tag::{CHECKSUM, DELETED, FIRST_WORD, NO_ID, Tag};
 pub use tags::Tags;
 pub use writing::write_commit;
-
-#[cfg(test)]
-mod tests;

@@ -1,7 +1,7 @@
 //! Journals by example.
 
-use crate::{Journal, JournalFault, books_are_read_once, write_journal};
 use lfs_block::Patch;
+use lfs_book::{Journal, JournalFault, books_are_read_once, write_journal};
 use std::alloc::Global;
 use std::test::Fail;
 

@@ -2,7 +2,7 @@ use Rattle.std.proofs.Common.{◌≡◌, ◌<◌, ℕ, ap, arith, inl, inr, leng
 use Rattle.std.proofs.lemmas.Bool.{cases_lt}
 use Rattle.std.proofs.lemmas.List.{get_or-replicate, get_or_past, length-replicate}
 use Rattle.lfs_block.specs.Bytes.{IsBytes}
-use Rattle.lfs_block.proofs.patch_tests.record.Goals as goal
+use Rattle.lfs_read_tests.proofs.patches.record.Goals as goal
 
 filled : (n b : ℕ) → b < 256 → IsBytes (replicate n b)
 filled n b small i =

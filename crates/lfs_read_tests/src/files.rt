@@ -4,8 +4,8 @@ ghost use Rattle.std.specs.Prelude.{◌≡◌, ◌<◌, ◌≤◌, length, All, 
 ghost use Rattle.lfs_block.specs.Geometry.{IsBlockSize};
 ghost use Rattle.lfs_file.specs.Content.{content};
 
-use crate::{blocks_for, chain, lay, read_file};
 use lfs_block::{Blocks, Image};
+use lfs_file::{blocks_for, chain, lay, read_file};
 use std::alloc::{AllocError, Global};
 use std::test::Fail;
 

@@ -1,7 +1,9 @@
+//! Tags and commits, by example.
+
 ghost use Rattle.std.specs.Prelude.{◌≡◌};
 ghost use Rattle.lfs_tag.specs.Writing.{items, tags_len};
 
-use super::*;
+use lfs_tag::{Edit, EditData, FIRST_WORD, Log, Tag, write_commit};
 
 /// Block 0 of an image of 8 blocks of 512 bytes, up to the end of its one commit: revision 1 and the superblock.
 const FORMATTED: [u8; 64] = [
@@ -174,19 +176,4 @@ fn hands_out_the_tags_of_all_commits(rt: HostRuntime) {
         assert!(rt; bytes == content, "at {word:x}");
     }
     assert!(rt; tags.next().is_none());
-}
-
-#[test]
-fn laws_of_logs(_rt: HostRuntime) {
-    laws::one_log();
-    laws::log_is_read();
-    laws::blocks_have_a_log();
-    laws::log_tags_are_items();
-    laws::log_tags_are_few();
-    laws::erased_is_decided();
-    laws::erased_holds_no_commit();
-    laws::erased_block();
-    laws::first_commit();
-    laws::next_commit();
-    laws::written_length();
 }

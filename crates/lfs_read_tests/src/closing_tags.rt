@@ -3,7 +3,7 @@
 ghost use Rattle.std.specs.Prelude.{◌≡◌};
 ghost use Rattle.lfs_tag.specs.Writing.{items, tags_len};
 
-use crate::{Edit, EditData, FIRST_WORD, Log, Tag, write_commit};
+use lfs_tag::{Edit, EditData, FIRST_WORD, Log, Tag, write_commit};
 use std::process::Abort;
 
 /// A block's bytes up to where it is erased, and what is read of its log.

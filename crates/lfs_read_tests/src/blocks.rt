@@ -1,6 +1,6 @@
-//! Vectors from outside.
+//! Checksums, limits and blocks of images, with vectors from outside.
 
-use crate::{Blocks, Image, ImageFault, MountFault, crc32, geometry_ok};
+use lfs_block::{Blocks, Image, ImageFault, MountFault, crc32, geometry_ok};
 use std::test::Fail;
 
 #[test]

@@ -3,7 +3,7 @@
 ghost use Rattle.std.specs.Prelude.{◌≡◌, ◌<◌, IfOk};
 ghost use Rattle.lfs_block.specs.Change.{IsBlockChange};
 
-use crate::{Blocks, Image, Overlay, Patch, Record, agreeing_patches_fit};
+use lfs_block::{Blocks, Image, Overlay, Patch, Record, agreeing_patches_fit};
 use std::alloc::Global;
 use std::process::Abort;
 use std::test::Fail;
