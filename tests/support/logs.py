@@ -3,18 +3,22 @@ import struct
 import zlib
 
 NO_ENTRY = 0x3FF
+DELETED = 0x3FF
 FILE, DIRECTORY, SUPERBLOCK = 0x001, 0x002, 0x0FF
 SOFT, HARD = 0x600, 0x601
 
 
-def log(revision, items):
-    """A log of one commit: items of kind, entry and value, and their checksum."""
+def log(revision, items, step=1):
+    """A log of one commit: items of kind, entry and value, and their checksum. A value of None is a deleted one. The commit
+    is padded so that it ends at a multiple of a step."""
     bytes_out, before = struct.pack("<I", revision), 0xFFFF_FFFF
-    for kind, number, value in [*items, (0x500, NO_ENTRY, bytes(4))]:
-        word = kind << 20 | number << 10 | len(value)
-        bytes_out += struct.pack(">I", word ^ before) + (value if kind != 0x500 else b"")
+    for kind, number, value in items:
+        word = kind << 20 | number << 10 | (DELETED if value is None else len(value))
+        bytes_out += struct.pack(">I", word ^ before) + (value or b"")
         before = word
-    return bytes_out + struct.pack("<I", zlib.crc32(bytes_out) ^ 0xFFFF_FFFF)
+    padding = -(len(bytes_out) + 8) % step
+    bytes_out += struct.pack(">I", (0x500 << 20 | NO_ENTRY << 10 | 4 + padding) ^ before)
+    return bytes_out + struct.pack("<I", zlib.crc32(bytes_out) ^ 0xFFFF_FFFF) + padding * b"\xff"
 
 
 def superblock(size, count, name=255, file=2_147_483_647, attribute=1_022):
@@ -26,6 +30,21 @@ def superblock(size, count, name=255, file=2_147_483_647, attribute=1_022):
 def file(number, name, held=b""):
     """The items of a file whose contents stand in its entry."""
     return [(FILE, number, name), (0x201, number, held)]
+
+
+def created(number):
+    """The item of an entry that is created before the one that has its number."""
+    return [(0x401, number, b"")]
+
+
+def deleted(number):
+    """The item of an entry that is deleted."""
+    return [(0x4FF, number, b"")]
+
+
+def chained(number, name, last, size):
+    """The items of a file whose contents stand in blocks, by the last one and their length."""
+    return [(FILE, number, name), (0x202, number, struct.pack("<2I", last, size))]
 
 
 def directory(number, name, pair):

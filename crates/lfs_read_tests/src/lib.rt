@@ -31,8 +31,6 @@ mod log_drafts;
 #[cfg(test)]
 mod logs;
 #[cfg(test)]
-mod mounting;
-#[cfg(test)]
 mod names;
 #[cfg(test)]
 mod patches;

@@ -1,9 +1,9 @@
-//! What tags leave of a part, and which ones are refused.
+//! What tags leave of a part. `tests/images.py` has those that are refused, over the program.
 
-use crate::images::{part_of, read};
-use crate::log_drafts::{LogDraft, Tagged, log_of, push_all};
+use crate::images::part_of;
+use crate::log_drafts::{LogDraft, Tagged, log_of};
 use crate::samples::block_of;
-use lfs_block::{Image, MountFault};
+use lfs_block::Image;
 use lfs_meta::{Body, Entry, Kind, Part, Tail, read_pair};
 use std::alloc::{AllocError, Global};
 use std::process::Abort;
@@ -132,94 +132,6 @@ fn tags_act_on_a_part(rt: HostRuntime) -> Result<(), Fail> {
     assert_eq!(rt; delta, [0, 0, 0xf0, 0x4f, 2, 0, 0, 0, 3, 0, 0, 0]);
     has_the_file(&rt, &part);
     Ok(())
-}
-
-/// The tags of two empty files.
-const TWO: [Tagged; 4] = [
-    (0x001, 0, 1, b"a"),
-    (0x201, 0, 0, b""),
-    (0x001, 1, 1, b"b"),
-    (0x201, 1, 0, b""),
-];
-
-/// A tag behind those, and whether it is refused for its id or its length.
-type Judged = (Tagged, bool);
-
-/// Tags that create, delete and name entries.
-const IDS: [Judged; 8] = [
-    ((0x401, 2, 0, b""), false),
-    ((0x401, 3, 0, b""), true),
-    ((0x401, 0, 1, b"\xff"), true),
-    ((0x4ff, 1, 0, b""), false),
-    ((0x4ff, 2, 0, b""), true),
-    ((0x4ff, 0, 1, b"\xff"), true),
-    ((0x001, 9, 3, b"\xff\xff\xff"), false),
-    ((0x001, 0x3ff, 3, b"\xff\xff\xff"), true),
-];
-
-/// Tags of deleted names, and of structs.
-const STRUCTS: [Judged; 7] = [
-    ((0x002, 0, 0x3ff, b""), true),
-    ((0x201, 1, 3, b"\xff\xff\xff"), false),
-    ((0x201, 2, 3, b"\xff\xff\xff"), true),
-    ((0x201, 0, 0x3ff, b""), true),
-    ((0x200, 0, 8, b"\xff\xff\xff\xff\xff\xff\xff\xff"), false),
-    ((0x200, 0, 9, b"\xff\xff\xff\xff\xff\xff\xff\xff\xff"), true),
-    ((0x202, 0, 7, b"\xff\xff\xff\xff\xff\xff\xff"), true),
-];
-
-/// Tags of attributes, tails and deltas.
-const OTHERS: [Judged; 8] = [
-    ((0x300, 1, 0x3ff, b""), false),
-    ((0x300, 2, 1, b"\xff"), true),
-    (
-        (0x600, 0x3ff, 8, b"\xff\xff\xff\xff\xff\xff\xff\xff"),
-        false,
-    ),
-    ((0x600, 0x3ff, 7, b"\xff\xff\xff\xff\xff\xff\xff"), true),
-    ((0x601, 0, 0x3ff, b""), true),
-    ((0x601, 0, 8, b"\xff\xff\xff\xff\xff\xff\xff\xff"), true),
-    (
-        (
-            0x7ff,
-            0,
-            12,
-            b"\xff\xff\xff\xff\xff\xff\xff\xff\xff\xff\xff\xff",
-        ),
-        false,
-    ),
-    ((0x7ff, 0, 0x3ff, b""), true),
-];
-
-/// The log of two files, and a tag behind theirs.
-fn log_with(alloc: Global, tag: &Tagged) -> Result<Vec<u8>, AllocError> {
-    let mut draft = LogDraft::new(alloc, 1)?;
-    push_all(&mut draft, &TWO)?;
-    draft.push(*tag)?;
-    draft.closed()
-}
-
-/// Whether a log is refused for the id or the length of one of its tags.
-fn is_refused(alloc: Global, log: &[u8]) -> Result<bool, Fail> {
-    let answer = read(alloc, log, b"")?;
-    Ok(matches!(&answer, Err(MountFault::BadTag)))
-}
-
-/// Asserts which tags are refused.
-fn are_judged(rt: &impl Abort, alloc: Global, rows: &[Judged]) -> Result<(), Fail> {
-    for (tag, wanted) in rows {
-        let log = log_with(alloc, tag)?;
-        let (kind, id, len, _) = *tag;
-        assert_eq!(rt; is_refused(alloc, &log)?, *wanted, "{kind} {id} {len}");
-    }
-    Ok(())
-}
-
-#[test]
-fn refused_tags(rt: HostRuntime) -> Result<(), Fail> {
-    are_judged(&rt, rt.alloc(), &IDS)?;
-    are_judged(&rt, rt.alloc(), &STRUCTS)?;
-    are_judged(&rt, rt.alloc(), &OTHERS)
 }
 
 /// The id that is named first, and how many entries there are once each one up to it has its name and its struct.
