@@ -3,11 +3,11 @@ use Rattle.std.specs.Prelude.{ℕ, ◌≡◌, List, Some, codes}
 use Rattle.clap.specs.Words.{first_value, rows_of, subcommand_rows_of}
 use Rattle.clap.specs.declared.parser.matches.ArgMatches.{ArgMatches}
 use Rattle.clap.specs.declared.parser.matches.Found.{Found}
-use Rattle.lfs_words.specs.declared.request.Request.{Request}
-use Rattle.lfs_words.specs.declared.request.Wish.{Wish}
-use Rattle.lfs_words.specs.declared.request.Wish.TheVariants.{Explanation, Step}
-use Rattle.lfs_words.specs.declared.task.Task.{Task}
-use Rattle.lfs_words.specs.declared.task.Task.TheVariants.{Format, Check, Cat, Mkdir, Put, Rm, Mv, SetAttr, RmAttr}
+use Rattle.lfs_request.specs.declared.request.Request.{Request}
+use Rattle.lfs_words.specs.declared.wish.Wish.{Wish}
+use Rattle.lfs_words.specs.declared.wish.Wish.TheVariants.{Explanation, Step}
+use Rattle.lfs_request.specs.declared.task.Task.{Task}
+use Rattle.lfs_request.specs.declared.task.Task.TheVariants.{Format, Check, Cat, Mkdir, Put, Rm, Mv, SetAttr, RmAttr}
 
 -- the words name this command, with these options
 abbrev pub NamesCommand : ArgMatches → List ℕ → Found → Type 0

@@ -3,10 +3,8 @@
 
 mod grammar;
 mod matching;
-mod request;
-mod task;
+mod wish;
 
 pub use grammar::command_line;
 pub use matching::wished;
-pub use request::{Request, Wish};
-pub use task::Task;
+pub use wish::Wish;

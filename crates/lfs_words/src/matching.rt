@@ -1,49 +1,51 @@
 //! What the words of a command line ask for.
 
-ghost use Rattle.std.specs.Prelude.{IfSome};
+ghost use Rattle.std.specs.Prelude.{IfSome, codes};
 ghost use Rattle.clap.specs.Words.{found_of};
-ghost use Rattle.lfs_words.specs.Words.{IsTask, IsWish};
+ghost use Rattle.lfs_words.specs.Words.{HasText, IsTask, IsWish};
 
-use crate::request::{Request, Wish};
-use crate::task::Task;
+use crate::wish::Wish;
 use clap::ArgMatches;
+use lfs_request::{Request, Task};
 
 /// What a command's words ask to be done.
 fn task_of<'a>(name: &str, options: &ArgMatches<'a>) -> Option<Task<'a>>
     ensures { IfSome result (λ task. IsTask task name.now (found_of options.now)) }
 {
-    Some(match name {
-        "format" => Task::Format {
+    match name {
+        "format" => Some(Task::Format {
             count: options.get_one::<u32>("count")?,
-        },
-        "cat" => Task::Cat {
-            path: options.get_str("path")?,
-        },
-        "mkdir" => Task::Mkdir {
-            path: options.get_str("path")?,
-        },
-        "put" => Task::Put {
-            path: options.get_str("path")?,
-        },
-        "rm" => Task::Rm {
-            path: options.get_str("path")?,
-        },
-        "mv" => Task::Mv {
+        }),
+        "check" => Some(Task::Check),
+        "mv" => Some(Task::Mv {
             from: options.get_str("from")?,
             to: options.get_str("to")?,
-        },
-        "setattr" => Task::SetAttr {
-            path: options.get_str("path")?,
+        }),
+        _ => task_at(name, options.get_str("path")?, options),
+    }
+}
+
+/// What a command's words ask to be done at a path.
+fn task_at<'a>(name: &str, path: &'a str, options: &ArgMatches<'a>) -> Option<Task<'a>>
+    requires { HasText (found_of options.now) (codes "path") path.now }
+    ensures { IfSome result (λ task. IsTask task name.now (found_of options.now)) }
+{
+    match name {
+        "cat" => Some(Task::Cat { path }),
+        "mkdir" => Some(Task::Mkdir { path }),
+        "put" => Some(Task::Put { path }),
+        "rm" => Some(Task::Rm { path }),
+        "setattr" => Some(Task::SetAttr {
+            path,
             kind: options.get_str("kind")?,
             value: options.get_str("hex")?,
-        },
-        "rmattr" => Task::RmAttr {
-            path: options.get_str("path")?,
+        }),
+        "rmattr" => Some(Task::RmAttr {
+            path,
             kind: options.get_str("kind")?,
-        },
-        "check" => Task::Check,
-        _ => return None,
-    })
+        }),
+        _ => None,
+    }
 }
 
 /// What the words that were matched ask for. `None` where they ask for nothing. Takes no memory.

@@ -1,5 +1,1 @@
-pub mod Files
-pub mod Kind
-pub mod Asking
-pub mod Program
 pub mod Words

@@ -7,10 +7,10 @@ use Rattle.lfs_command.specs.declared.refusal.Refusal.TheVariants.{Memory}
 use Rattle.lfs_step.specs.declared.fault.Fault.{Fault}
 use Rattle.lfs_step.specs.declared.fault.Fault.TheVariants.{Refused}
 use Rattle.lfs_step.specs.Fault.{status_of}
-use Rattle.lfs_words.specs.declared.request.Request.{Request}
-use Rattle.lfs_words.specs.declared.request.Wish.TheVariants.{Explanation}
+use Rattle.lfs_request.specs.declared.request.Request.{Request}
+use Rattle.lfs_words.specs.declared.wish.Wish.TheVariants.{Explanation}
 use Rattle.lfs_words.specs.Words.{IsRequest, IsWish}
-use Rattle.lfsed.specs.Program.{EndsRequest, KeepsScene, Scene, usage}
+use Rattle.lfs_serve.specs.Program.{EndsRequest, KeepsScene, Scene, usage}
 
 -- a command line has taken the words, with these matches
 abbrev pub IsMatched : List (List ℕ) → ArgMatches → Type 0

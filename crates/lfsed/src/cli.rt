@@ -1,17 +1,14 @@
 //! The program, over a host.
 
 ghost use Rattle.std.specs.Prelude.{◌≡◌, IfOk, map};
-ghost use Rattle.lfsed.specs.Program.{scene};
+ghost use Rattle.lfs_serve.specs.Program.{scene};
 ghost use Rattle.lfsed.specs.Words.{EndsWords, ended_with};
 
 use crate::explanations::explained;
-use crate::host::Host;
-use crate::printing::print;
-use crate::serving::{USAGE, served};
-use crate::telling::{MORE, tell_of_image};
 use clap::Error;
 use clap::error::ErrorKind;
 use lfs_edit::Refusal;
+use lfs_serve::{Host, MORE, USAGE, print, served, tell_of_image};
 use lfs_step::Fault;
 use lfs_words::{Wish, command_line, wished};
 use std::alloc::Global;

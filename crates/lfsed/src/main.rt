@@ -1,28 +1,15 @@
 //! An editor for images of littlefs.
 #![tactic(auto)]
 
-mod asking;
 mod cli;
-mod digits;
 mod explanations;
 mod files;
-mod host;
-mod kind;
-mod output;
-mod printing;
-mod replacing;
-mod serving;
-mod stated;
-mod stop;
-mod telling;
 mod terminal;
 
 use crate::cli::cli as run_words;
-use crate::host::Host;
-use crate::serving::USAGE;
-use crate::telling::tell;
 use crate::terminal::Terminal;
 use lfs_edit::Refusal;
+use lfs_serve::{Host, USAGE, tell};
 use lfs_step::Fault;
 use std::io::ErrorKind;
 use std::process::ExitCode;

@@ -1,8 +1,8 @@
 //! The system as a host.
 
 use crate::files::{kept, name_anew, opened, replace, says_kept, written};
-use crate::host::{Host, HostFault, ReadFault};
 use lfs_block::MAX_IMAGE_LENGTH;
+use lfs_serve::{Host, HostFault, ReadFault};
 use lfs_sink::{Out, Sink};
 use std::alloc::Global;
 use std::fmt::Display;

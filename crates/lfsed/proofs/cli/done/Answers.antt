@@ -1,7 +1,7 @@
 use Rattle.std.proofs.Common.{rules, ◌≡◌, inl, inr, subst}
 use Rattle.lfs_words.specs.Words.{IsWish}
-use Rattle.lfs_words.specs.declared.request.Wish.{Wish}
-use Rattle.lfs_words.specs.declared.request.Wish.TheVariants.{Explanation, Step}
+use Rattle.lfs_words.specs.declared.wish.Wish.{Wish}
+use Rattle.lfs_words.specs.declared.wish.Wish.TheVariants.{Explanation, Step}
 use Rattle.lfsed.proofs.cli.done.Goals as goal
 
 pub returns-in-Some-Explanation : goal.returns-in-Some-Explanation

@@ -1,0 +1,50 @@
+-- The step that a task asks for, whose kinds and values are hexadecimal digits (own).
+use Rattle.std.specs.Prelude.{◌≡◌, ℕ, List, [], ◌∷◌, Ok, IsErr}
+use Rattle.hex.specs.declared.error.FromHexError.{FromHexError}
+use Rattle.hex.specs.declared.error.FromHexError.TheVariants.{OutOfMemory}
+use Rattle.hex.specs.Hex.{decode_of, decode_sized}
+use Rattle.lfs_command.specs.declared.refusal.Refusal.TheVariants.{Memory}
+use Rattle.lfs_step.specs.declared.fault.Fault.{Fault}
+use Rattle.lfs_step.specs.declared.fault.Fault.TheVariants.{Refused, BadHex}
+use Rattle.lfs_step.specs.declared.step.Step.{Step}
+use Rattle.lfs_step.specs.declared.step.Step.TheVariants.{Format, Check, Cat, Mkdir, Put, Rm, Mv, SetAttr, RmAttr}
+use Rattle.lfs_request.specs.declared.task.Task.{Task}
+use Rattle.lfs_request.specs.declared.task.Task.TheVariants as task
+
+-- the text is the two hexadecimal digits of a byte
+abbrev pub SpellsByte : List ℕ → ℕ → Type 0
+SpellsByte text byte = decode_sized text 1 ≡ Ok (byte ∷ [])
+
+-- the text is the hexadecimal digits of bytes, two of each
+abbrev pub SpellsBytes : List ℕ → List ℕ → Type 0
+SpellsBytes text bytes = decode_of text ≡ Ok bytes
+
+-- the digits of the task's value; the empty text where it has none
+abbrev pub digits_of : Task → List ℕ
+digits_of (task.SetAttr path kind digits) = digits.now
+digits_of _ = []
+
+-- the kind that the task names isn't two hexadecimal digits
+abbrev pub SpellsNoKind : Task → Type 0
+SpellsNoKind (task.SetAttr path kind digits) = IsErr (decode_sized kind.now 1)
+SpellsNoKind (task.RmAttr path kind) = IsErr (decode_sized kind.now 1)
+SpellsNoKind _ = ⊥
+
+-- the step is what the task asks for
+abbrev pub AsksFor : Task → Step → Type 0
+AsksFor (task.Format n) (Format count) = count ≡ n
+AsksFor task.Check Check = Unit {0}
+AsksFor (task.Cat text) (Cat path) = path.now ≡ text.now
+AsksFor (task.Mkdir text) (Mkdir path) = path.now ≡ text.now
+AsksFor (task.Put text) (Put path) = path.now ≡ text.now
+AsksFor (task.Rm text) (Rm path) = path.now ≡ text.now
+AsksFor (task.Mv from_text to_text) (Mv from to) = (from.now ≡ from_text.now) × (to.now ≡ to_text.now)
+AsksFor (task.SetAttr text digits value_digits) (SetAttr path kind value) =
+    (path.now ≡ text.now) × SpellsByte digits.now kind × SpellsBytes value_digits.now value.now
+AsksFor (task.RmAttr text digits) (RmAttr path kind) = (path.now ≡ text.now) × SpellsByte digits.now kind
+AsksFor _ _ = ⊥
+
+-- a text that is no hexadecimal digits, or want of memory
+abbrev pub fault_of_hex : FromHexError → Fault
+fault_of_hex OutOfMemory = Refused Memory
+fault_of_hex error = BadHex

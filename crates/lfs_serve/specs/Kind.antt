@@ -1,0 +1,12 @@
+-- Whether a step makes an image, asks something of one or changes it (own).
+use Rattle.lfs_serve.specs.declared.kind.Kind.{Kind}
+use Rattle.lfs_serve.specs.declared.kind.Kind.TheVariants.{Makes, Asks, Changes}
+use Rattle.lfs_step.specs.declared.step.Step.{Step}
+use Rattle.lfs_step.specs.declared.step.Step.TheVariants.{Format, Check, Cat}
+
+-- the kind of a step
+abbrev pub kind_of : Step → Kind
+kind_of (Format count) = Makes
+kind_of Check = Asks
+kind_of (Cat path) = Asks
+kind_of _ = Changes

@@ -1,0 +1,4 @@
+pub mod Files
+pub mod Kind
+pub mod Asking
+pub mod Program

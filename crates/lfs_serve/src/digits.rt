@@ -1,0 +1,49 @@
+//! Bytes in hexadecimal digits.
+
+ghost use Rattle.std.specs.Prelude.{◌≡◌, ◌⊎◌, IsErr, IfOk, IfErr};
+ghost use Rattle.hex.specs.Hex.{decode_of, decode_sized};
+ghost use Rattle.lfs_command.specs.declared.refusal.Refusal.TheVariants.{Memory};
+ghost use Rattle.lfs_step.specs.declared.fault.Fault.TheVariants.{Refused, BadHex};
+ghost use Rattle.lfs_serve.specs.Asking.{SpellsByte, SpellsBytes, fault_of_hex};
+
+use hex::{FromHex, FromHexError};
+use lfs_edit::Refusal;
+use lfs_step::Fault;
+use std::alloc::Global;
+
+/// The byte that two hexadecimal digits in either case are. `BadHex` for every other text. Takes no memory.
+///
+/// Source: own.
+pub fn byte_of(text: &str) -> Result<u8, Fault>
+    ensures byte { IfOk result (λ byte. SpellsByte text.now byte) }
+    ensures refused { IfErr result (λ fault. (fault ≡ BadHex) × IsErr (decode_sized text.now 1)) }
+{
+    match <[u8; 1] as FromHex>::from_hex(text) {
+        Ok(bytes) => Ok(bytes[0]),
+        Err(_) => Err(Fault::BadHex),
+    }
+}
+
+/// The bytes that hexadecimal digits in either case are, two of each; none for the empty text. `BadHex` for every
+/// other text, or want of memory.
+///
+/// Source: own.
+pub fn bytes_of(alloc: Global, text: &str) -> Result<Vec<u8>, Fault>
+    ensures bytes { IfOk result (λ bytes. SpellsBytes text.now bytes.items) }
+    ensures refused { IfErr result (λ fault. (fault ≡ Refused Memory) ⊎ ((fault ≡ BadHex) × IsErr (decode_of text.now))) }
+{
+    match hex::decode(alloc, text) {
+        Ok(bytes) => Ok(bytes),
+        Err(error) => Err(fault_of(error)),
+    }
+}
+
+/// What digits that are no bytes are refused with.
+fn fault_of(error: FromHexError) -> Fault
+    ensures { result ≡ fault_of_hex error }
+{
+    match error {
+        FromHexError::OutOfMemory => Fault::Refused(Refusal::Memory),
+        _ => Fault::BadHex,
+    }
+}

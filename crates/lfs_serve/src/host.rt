@@ -1,0 +1,98 @@
+//! What the program needs of the system that it runs on.
+
+ghost use Rattle.std.specs.Prelude.{◌≡◌, ℕ, ◌<◌, ◌≤◌, length, take, List, Option, None, IfOk, IfSome, MatchOption, MatchResult, string_bytes};
+ghost use Rattle.std.specs.Io.KnownBytes.{Appends, Keeps};
+ghost use Rattle.lfs_serve.specs.Files.{Files, IsTarget, KeepsOthers, ReadsFile, ReadsInput, Renames, Writes};
+
+use std::alloc::Global;
+use std::fmt::Display;
+
+/// What the system refused.
+///
+/// Source: own.
+#[derive(Clone, Copy, Debug, PartialEq, Eq)]
+pub struct HostFault;
+
+/// Why a file or standard input was not read.
+///
+/// Source: own.
+#[derive(Clone, Copy, Debug, PartialEq, Eq)]
+pub enum ReadFault {
+    /// A growth of memory was refused.
+    Memory,
+    /// The file is not there, is no regular file, or the system refused to read.
+    CannotRead,
+}
+
+/// Files, standard input, standard output and standard error. Its meaning is what its files hold, what is left on
+/// standard input and what was printed, each where it is known; what the system refuses is its own affair. A call changes
+/// none of these but where it says so.
+///
+/// Source: own.
+pub trait Host {
+    ghost files: { Self → Option Files } = { λ _. None };
+
+    ghost typed: { Self → Option (List ℕ) } = { λ _. None };
+
+    ghost printed: { Self → Option (List ℕ) } = { λ _. None };
+
+    /// The name of the file that a name leads to: that of a link's target, or the name itself.
+    fn target(&mut self, alloc: Global, name: &str) -> Result<String, ReadFault>
+        ensures target { IfOk result (λ target. IsTarget (files self.old) name.now (string_bytes target)) }
+        ensures kept { (files self.new ≡ files self.old) × (typed self.new ≡ typed self.old) × (printed self.new ≡ printed self.old) };
+
+    /// Keeps a file for this run until it ends: `false` where another run keeps it. Refused where there is no such file.
+    fn keep(&mut self, name: &str) -> Result<bool, HostFault>
+        ensures kept { (files self.new ≡ files self.old) × (typed self.new ≡ typed self.old) × (printed self.new ≡ printed self.old) };
+
+    /// The bytes of a file, `most` of them and one more at most.
+    fn read(&mut self, alloc: Global, name: &str, most: u64) -> Result<Vec<u8>, ReadFault>
+        ensures read { IfOk result (λ bytes. ReadsFile (files self.old) name.now most bytes.items) }
+        ensures kept { (files self.new ≡ files self.old) × (typed self.new ≡ typed self.old) × (printed self.new ≡ printed self.old) };
+
+    /// The bytes of standard input, `most` of them and one more at most. What is left there afterwards isn't said.
+    fn input(&mut self, alloc: Global, most: u64) -> Result<Vec<u8>, ReadFault>
+        ensures read { IfOk result (λ bytes. ReadsInput (typed self.old) most bytes.items) }
+        ensures kept { (files self.new ≡ files self.old) × (printed self.new ≡ printed self.old) };
+
+    /// Makes a file of these bytes, with the rights of the file `like` where there is one; what an earlier run left under
+    /// the name is replaced. Where it is refused nothing is left under the name, or what was there.
+    fn write(&mut self, name: &str, bytes: &[u8], like: &str) -> Result<(), HostFault>
+        ensures files { MatchResult result (λ _. Writes (files self.old) (files self.new) name.now bytes.now)
+            (λ _. KeepsOthers (files self.old) (files self.new) name.now) }
+        ensures kept { (typed self.new ≡ typed self.old) × (printed self.new ≡ printed self.old) };
+
+    /// Gives a file another name, in place of the file that this run keeps, or where there is none of nothing. Where it is
+    /// refused both names are as they were.
+    fn rename(&mut self, from: &str, to: &str) -> Result<(), HostFault>
+        ensures files { MatchResult result (λ _. Renames (files self.old) (files self.new) from.now to.now)
+            (λ _. files self.new ≡ files self.old) }
+        ensures kept { (typed self.new ≡ typed self.old) × (printed self.new ≡ printed self.old) };
+
+    /// Takes a file away, where that is not refused.
+    fn remove(&mut self, name: &str)
+        ensures files { KeepsOthers (files self.old) (files self.new) name.now }
+        ensures kept { (typed self.new ≡ typed self.old) × (printed self.new ≡ printed self.old) };
+
+    /// Writes the first of these bytes to standard output, at least one, and answers how many, or fails and writes
+    /// none.
+    fn print(&mut self, bytes: &[u8]) -> Option<usize>
+        requires { 0 < length bytes.now }
+        ensures count { IfSome result (λ n. (0 < n) × (n ≤ length bytes.now)) }
+        ensures printed { MatchOption result (Keeps (printed self.old) (printed self.new))
+            (λ n. Appends (printed self.old) (printed self.new) (take n bytes.now)) }
+        ensures kept { (files self.new ≡ files self.old) × (typed self.new ≡ typed self.old) };
+
+    /// Hands on what was written to standard output.
+    fn flush(&mut self) -> Result<(), HostFault>
+        ensures kept { (files self.new ≡ files self.old) × (typed self.new ≡ typed self.old) × (printed self.new ≡ printed self.old) };
+
+    /// Writes text to standard error. Nothing is told where that fails.
+    fn complain<D: Display + Drop>(&mut self, text: D)
+        ensures kept { (files self.new ≡ files self.old) × (typed self.new ≡ typed self.old) × (printed self.new ≡ printed self.old) };
+
+    /// Writes a line to standard error: what was refused last, the image of this name, standard input or standard output,
+    /// and what the system said. Nothing where it said nothing.
+    fn complain_of(&mut self, image: &str)
+        ensures kept { (files self.new ≡ files self.old) × (typed self.new ≡ typed self.old) × (printed self.new ≡ printed self.old) };
+}

@@ -1,0 +1,50 @@
+//! Standard output as a sink.
+
+ghost use Rattle.std.specs.Prelude.{◌≡◌, false};
+
+use crate::host::{Host, HostFault};
+use lfs_sink::Sink;
+
+/// A host's standard output as a sink: what went out is what the host printed, and no write changes which host it is, its
+/// files or what is left on its standard input.
+///
+/// Source: own.
+#[derive(Drop)]
+pub struct Output<'a, H> {
+    host: &'a mut H,
+    has_failed: bool,
+}
+
+impl<'a, H: Host> Output<'a, H> {
+    /// The standard output of a host, which has not failed. Takes no memory.
+    pub fn new(host: &'a mut H) -> Output<'a, H>
+        ensures sent { ⟦<Output<'a, H> as Sink>⟧.sent result ≡ H.printed host.old }
+        ensures failed { ⟦<Output<'a, H> as Sink>⟧.failed result ≡ false }
+        ensures kept { ⟦<Output<'a, H> as Sink>⟧.kept result ≡ (host.entry.ghost_name, H.files host.old, H.typed host.old) }
+    {
+        Output {
+            host,
+            has_failed: false,
+        }
+    }
+}
+
+impl<H: Host> Sink for Output<'_, H> {
+    ghost use Rattle.std.specs.Prelude.{ℕ, List, Option};
+    ghost use base.Fml.{GName};
+    ghost use Rattle.lfs_serve.specs.Files.{Files};
+
+    ghost sent = { λ output. H.printed output.host.now };
+
+    ghost failed = { λ output. output.has_failed };
+
+    ghost Kept = { GName × Option Files × Option (List ℕ) };
+
+    ghost kept = { λ output. (output.host.ghost_name, H.files output.host.now, H.typed output.host.now) };
+
+    fn write(&mut self, bytes: &[u8]) -> Option<usize> {
+        let count = self.host.print(bytes);
+        self.has_failed = count.is_none();
+        count
+    }
+}
