@@ -1,8 +1,9 @@
 //! Calls of the laws.
 
 use lfs_journal::{
-    commands_are_equations, commands_push_equations, redo_is_exact, runs_keep_histories,
-    undo_and_redo_keep_images, undo_is_exact,
+    commands_are_equations, commands_push_equations, histories_are_books,
+    journals_grow_by_the_need, redo_is_exact, runs_keep_histories, saved_histories_open,
+    steps_keep_geometry, undo_and_redo_keep_images, undo_is_exact,
 };
 use lfs_law::{
     commands_are_frugal, commands_are_written, commands_follow, commands_set_a_part,
@@ -60,4 +61,8 @@ fn laws_of_histories_are_called() {
     redo_is_exact();
     commands_push_equations();
     undo_and_redo_keep_images();
+    histories_are_books();
+    saved_histories_open();
+    steps_keep_geometry();
+    journals_grow_by_the_need();
 }

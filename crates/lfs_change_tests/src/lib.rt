@@ -20,6 +20,8 @@ mod judging;
 mod laws;
 mod new_images;
 #[cfg(test)]
+mod opening;
+#[cfg(test)]
 mod paths;
 #[cfg(test)]
 mod refusals;

@@ -4,3 +4,8 @@ pub mod RunLemmas
 pub mod EquationLemmas
 pub mod KnownLemmas
 pub mod ImageLemmas
+pub mod BookLemmas
+pub mod OpeningLemmas
+pub mod SavedLemmas
+pub mod GrowthLemmas
+pub mod GeometryLemmas

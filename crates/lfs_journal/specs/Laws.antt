@@ -14,7 +14,7 @@ use Rattle.lfs_command.specs.Equation.{equation}
 use Rattle.lfs_command.specs.Accepted.{Follows}
 use Rattle.lfs_command.specs.Planned.{Plans}
 use Rattle.lfs_journal.specs.History.{History, IsHistory}
-use Rattle.lfs_journal.specs.Steps.{Step, Do, Undo, Redo, Reply, Does, Run}
+use Rattle.lfs_journal.specs.Steps.{Step, Do, Undo, Redo, Reply, Does, Takes, Run}
 
 -- the patched image holds a sound volume of the same size, count and limits, whose tree is the command's equation
 pub record IsCarriedOut (asked : Asked) (e : Disk) (v : Volume) (t : Path → Option Node) : Type 0 where
@@ -69,3 +69,12 @@ UndoIsExact = (asked : Asked) (old new : History) → Run (Do asked ∷ Undo ∷
 -- what is undone and redone leaves the history
 abbrev pub RedoIsExact : Type 0
 RedoIsExact = (old new : History) → Run (Undo ∷ Redo ∷ []) (None ∷ None ∷ []) old new → new ≡ old
+
+-- an image of as many blocks, of the same size
+abbrev pub IsOfGeometry : Disk → Disk → Type 0
+IsOfGeometry d e = (e.size ≡ d.size) × (e.count ≡ d.count)
+
+-- a step keeps the size and the number of the blocks
+abbrev pub StepsKeepGeometry : Type 0
+StepsKeepGeometry = (step : Step) (reply : Reply) (old new : History) → IsHistory old → Takes step reply old new
+    → IsOfGeometry old.present new.present

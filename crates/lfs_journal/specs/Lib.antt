@@ -5,3 +5,5 @@ pub mod Moves
 pub mod Steps
 pub mod Meaning
 pub mod Laws
+pub mod Opening
+pub mod OpeningLaws

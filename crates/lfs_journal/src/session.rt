@@ -1,13 +1,16 @@
 //! An image with its changes.
 
 use crate::carried::{Change, carried};
+use crate::opening::{Opened, read_history};
+use crate::refused::Refused;
 use crate::replacing::replace_from;
 use crate::step_fault::StepFault;
 use crate::unmounted::Unmounted;
 use lfs_block::{
-    Image, Patch, applied_patches_change_their_blocks, applied_patches_revert,
+    Blocks, Image, Patch, applied_patches_change_their_blocks, applied_patches_revert,
     reverted_patches_apply_again,
 };
+use lfs_book::write_journal;
 use lfs_edit::Command;
 use lfs_fs::{Outline, mount};
 use lfs_law::cuts_follow;
@@ -42,12 +45,14 @@ impl Model for Session {
 }
 
 impl Session {
-    ghost use Rattle.std.specs.Prelude.{◌≡◌, [], Some, IfOk, IfErr, OnOk, OnErr};
+    ghost use Rattle.std.specs.Prelude.{◌≡◌, [], Some, IfOk, IfErr, IfSome, OnOk, OnErr};
     ghost use Rattle.lfs_fs.specs.Cause.{HasCause};
+    ghost use Rattle.lfs_book.specs.Book.{journal_bytes};
     ghost use Rattle.lfs_command.specs.AskedFor.{asked_for};
     ghost use Rattle.lfs_journal.specs.declared.step_fault.StepFault.TheVariants.{NothingToUndo, NothingToRedo};
     ghost use Rattle.lfs_journal.specs.History.{IsHistory, fresh_history};
     ghost use Rattle.lfs_journal.specs.Moves.{Undoes, Redoes, Forgets};
+    ghost use Rattle.lfs_journal.specs.Opening.{Opens, RefusesOpening, journal_of};
     ghost use Rattle.lfs_journal.specs.Steps.{Does, Takes, Do};
 
     /// A session of an image that nothing was done to. A refusal hands the image back: the image has the cause that the
@@ -67,6 +72,47 @@ impl Session {
             }),
             Err(fault) => Err(Unmounted { fault, image }),
         }
+    }
+
+    /// The session of an image whose journal stands in the bytes: its history is the one that they denote on the image. A
+    /// refusal hands the image back, and says the first of these that holds: the image has a cause for which it does not
+    /// mount; `JournalFormat` where no journal is spelled so; `JournalMismatch` where it denotes no history of the image;
+    /// `JournalImage` where another image of the history does not mount. Want of memory is told as the mount's.
+    pub fn open(alloc: Global, image: Image, journal: &[u8]) -> Result<Session, Refused>
+        ensures opened { IfOk result (λ session. Opens image journal.now session) }
+        ensures refused { IfErr result (λ refused. RefusesOpening refused.fault image journal.now) }
+        ensures handed_back { IfErr result (λ refused. refused.image ≡ image) }
+    {
+        let mut image = image;
+        match read_history(alloc, &mut image, journal) {
+            Ok(
+                Opened {
+                    outline,
+                    patches,
+                    done,
+                },
+            ) => Ok(Session {
+                image,
+                outline: Some(outline),
+                patches,
+                done,
+            }),
+            Err(fault) => Err(Refused { fault, image }),
+        }
+    }
+
+    /// The bytes of the journal: of the image's size and count, with the changes that are done and those that are undone.
+    /// `None` where memory is refused.
+    pub fn journal_bytes(&self, alloc: Global) -> Option<Vec<u8>>
+        ensures { IfSome result (λ bytes. bytes.items ≡ journal_bytes (journal_of self.now)) }
+    {
+        write_journal(
+            alloc,
+            self.image.size(),
+            self.image.count(),
+            &self.patches,
+            self.done,
+        )
     }
 
     /// The image as it is now. Takes no memory.

@@ -1,0 +1,156 @@
+-- How a journal is opened on an image, change by change.
+use Rattle.std.proofs.Common.{◌≡◌, ◌↔◌, ℕ, ◌≤◌, Bool, false, List, [], ◌∷◌, ◌++◌, length, take, drop, refl, ap, sym, ◌∙◌, subst, arith}
+use Rattle.std.specs.Prelude.{reverse, Contains, IsTrue}
+use Rattle.std.specs.List.{AllByRecursion}
+use Rattle.std.proofs.lemmas.Bool.{false≢true}
+use Rattle.std.proofs.lemmas.List.{take-append-drop}
+use Rattle.std.proofs.lemmas.List.Elements.{Contains-append_left, Contains-append_right}
+use Rattle.lfs_block.specs.Disk.{Disk, IsDisk}
+use Rattle.lfs_block.specs.Patch.{ChangeSet, IsPatch, AgreesNew, applied, reverted}
+use Rattle.lfs_fs.specs.Volume.{Volume}
+use Rattle.lfs_fs.specs.Cause.{HasCause}
+use Rattle.lfs_fs.specs.Mounted.{IsOutlineOf}
+use Rattle.lfs_book.specs.Book.{Book, IsBook, IsBookOf, IsPatchOf, book_of, journal_bytes}
+use Rattle.lfs_journal.specs.declared.open_fault.OpenFault.{OpenFault}
+use Rattle.lfs_journal.specs.declared.open_fault.OpenFault.TheVariants.{Mount, JournalFormat, JournalMismatch, JournalImage}
+use Rattle.lfs_journal.specs.History.{IsMounted, GoesBack, GoesOn, past_of, future_of}
+use Rattle.lfs_journal.specs.Opening.{Spells, HasHistory, RefusesOpening, RefusesMount, RefusesMounts, OpensParts, others}
+use Rattle.lfs_journal.proofs.MoveLemmas.{latest}
+
+-- ---- lists
+
+-- what holds of each holds of the last, and of those before it
+pub each_last : (P : ChangeSet → Type 0) (ps : List ChangeSet) (p : ChangeSet) → AllByRecursion P (ps ++ p ∷ [])
+    → AllByRecursion P ps × P p
+each_last P [] p each = (tt, each.0)
+each_last P (q ∷ ps) p (first, each) = let more = each_last P ps p each in ((first, more.0), more.1)
+
+pub last_of : (P : ChangeSet → Type 0) (qs ps : List ChangeSet) (p : ChangeSet) → qs ≡ ps ++ p ∷ [] → AllByRecursion P qs → P p
+last_of P qs ps p is each = (each_last P ps p (subst (AllByRecursion P) is each)).1
+
+patches_of : (size count : ℕ) (ps : List ChangeSet) → AllByRecursion (IsPatchOf size count) ps → AllByRecursion IsPatch ps
+patches_of size count [] each = tt
+patches_of size count (p ∷ ps) (first, each) = (first.0, patches_of size count ps each)
+
+-- each change of a journal is a patch
+pub book_patches : (size count : ℕ) (ps : List ChangeSet) (done : ℕ) → IsBookOf size count ps done → AllByRecursion IsPatch ps
+book_patches size count ps done is =
+    patches_of size count ps (subst (AllByRecursion (IsPatchOf size count)) (take-append-drop done ps) is.book.each)
+
+-- ---- agreement
+
+pub back_agrees : (qs ps : List ChangeSet) (p : ChangeSet) (d : Disk) (t : Bool) → qs ≡ ps ++ p ∷ [] → IsPatch p → AgreesNew p d
+    → IsTrue t ↔ GoesBack (reverse ps) (reverted p d) → IsTrue t ↔ GoesBack (reverse qs) d
+back_agrees qs ps p d t is patch agrees both =
+    subst (λ (xs : List ChangeSet). IsTrue t ↔ GoesBack xs d) (sym (latest ps qs p is))
+    ((λ yes. (patch, agrees, both.0 yes)), (λ back. both.1 back.2))
+
+pub back_disagrees : (qs ps : List ChangeSet) (p : ChangeSet) (d : Disk) → qs ≡ ps ++ p ∷ [] → (AgreesNew p d → ⊥)
+    → IsTrue false ↔ GoesBack (reverse qs) d
+back_disagrees qs ps p d is not =
+    subst (λ (xs : List ChangeSet). IsTrue false ↔ GoesBack xs d) (sym (latest ps qs p is))
+    ((λ yes. absurd (false≢true yes)), (λ back. absurd (not back.1)))
+
+-- ---- images that mount
+
+pub past_first : (qs ps : List ChangeSet) (p : ChangeSet) (d : Disk) → qs ≡ ps ++ p ∷ []
+    → past_of (reverse qs) d ≡ reverted p d ∷ past_of (reverse ps) (reverted p d)
+past_first qs ps p d is = ap (λ (xs : List ChangeSet). past_of xs d) (latest ps qs p is)
+
+pub first_refused : (fault : OpenFault) (e : Disk) (es : List Disk) → RefusesMount fault e → RefusesMounts fault (e ∷ es)
+first_refused (Mount fault) e es h = h
+first_refused JournalImage e es h = (e, (0, omega arith, refl), h)
+first_refused JournalFormat e es h = absurd h
+first_refused JournalMismatch e es h = absurd h
+
+pub later_refused : (fault : OpenFault) (e : Disk) (es : List Disk) → RefusesMounts fault es → RefusesMounts fault (e ∷ es)
+later_refused (Mount fault) e es h = h
+later_refused JournalImage e es (x, there, cause) = (x, Contains-append_right (e ∷ []) es x there, cause)
+later_refused JournalFormat e es h = absurd h
+later_refused JournalMismatch e es h = absurd h
+
+pub past_mounted : (qs ps : List ChangeSet) (p : ChangeSet) (d e : Disk) → qs ≡ ps ++ p ∷ [] → e ≡ reverted p d → IsMounted (reverted p d)
+    → AllByRecursion IsMounted (past_of (reverse ps) e) → AllByRecursion IsMounted (past_of (reverse qs) d)
+past_mounted qs ps p d e is to first more =
+    subst (AllByRecursion IsMounted) (sym (past_first qs ps p d is))
+    (first, subst (λ (x : Disk). AllByRecursion IsMounted (past_of (reverse ps) x)) to more)
+
+pub past_later_refused : (fault : OpenFault) (qs ps : List ChangeSet) (p : ChangeSet) (d e : Disk) → qs ≡ ps ++ p ∷ [] → e ≡ reverted p d
+    → RefusesMounts fault (past_of (reverse ps) e) → RefusesMounts fault (past_of (reverse qs) d)
+past_later_refused fault qs ps p d e is to h =
+    subst (RefusesMounts fault) (sym (past_first qs ps p d is))
+    (later_refused fault (reverted p d) (past_of (reverse ps) (reverted p d))
+    (subst (λ (x : Disk). RefusesMounts fault (past_of (reverse ps) x)) to h))
+
+pub future_later_refused : (fault : OpenFault) (qs ps : List ChangeSet) (p : ChangeSet) (d e : Disk) → qs ≡ p ∷ ps → e ≡ applied p d
+    → RefusesMounts fault (future_of ps e) → RefusesMounts fault (future_of qs d)
+future_later_refused fault qs ps p d e is to h =
+    subst (λ (xs : List ChangeSet). RefusesMounts fault (future_of xs d)) (sym is)
+    (later_refused fault (applied p d) (future_of ps (applied p d)) (subst (λ (x : Disk). RefusesMounts fault (future_of ps x)) to h))
+
+-- ---- what was read
+
+-- the bytes spell these changes, and they agree with the image
+pub record IsAgreed (d : Disk) (bytes : List ℕ) (ps : List ChangeSet) (done : ℕ) : Type 0 where
+  pub within : done ≤ length ps
+  pub spelled : Spells bytes (book_of d.size d.count ps done)
+  pub agrees : HasHistory d (book_of d.size d.count ps done)
+
+pub agreed : (d : Disk) (bytes : List ℕ) (j : Book) (ps : List ChangeSet) (done : ℕ) → IsBook j → journal_bytes j ≡ bytes
+    → book_of j.size j.count ps done ≡ j → done ≤ length ps → j.size ≡ d.size → j.count ≡ d.count
+    → GoesBack (reverse (take done ps)) d → GoesOn (drop done ps) d → IsAgreed d bytes ps done
+agreed d bytes j ps done book read parts within size count back on =
+    let is : book_of d.size d.count ps done ≡ j = ap (λ (n : ℕ). book_of n d.count ps done) (sym size)
+    ∙ ap (λ (n : ℕ). book_of j.size n ps done) (sym count) ∙ parts in
+    record {
+      within = within;
+      spelled = subst (Spells bytes) (sym is) (record { book = book; bytes_are = read });
+      agrees = record { size = refl; count = refl; back = back; on = on };
+    }
+
+pub image_refused : (fault : OpenFault) (d : Disk) (bytes : List ℕ) (ps : List ChangeSet) (done : ℕ) (es : List Disk)
+    → IsMounted d → IsAgreed d bytes ps done
+    → ((e : Disk) → Contains es e → Contains (others d (book_of d.size d.count ps done)) e) → RefusesMounts fault es
+    → RefusesOpening fault d bytes
+image_refused (Mount fault) d bytes ps done es mounts is among h = subst (HasCause d) (sym h) tt
+image_refused JournalImage d bytes ps done es mounts is among (e, there, cause) =
+    (mounts, book_of d.size d.count ps done, is.spelled, is.agrees, e, among e there, cause)
+image_refused JournalFormat d bytes ps done es mounts is among h = absurd h
+image_refused JournalMismatch d bytes ps done es mounts is among h = absurd h
+
+pub past_refused : (fault : OpenFault) (d : Disk) (bytes : List ℕ) (ps : List ChangeSet) (done : ℕ) → IsMounted d
+    → IsAgreed d bytes ps done → RefusesMounts fault (past_of (reverse (take done ps)) d) → RefusesOpening fault d bytes
+past_refused fault d bytes ps done mounts is h =
+    image_refused fault d bytes ps done (past_of (reverse (take done ps)) d) mounts is
+    (λ e there. Contains-append_left (past_of (reverse (take done ps)) d) (future_of (drop done ps) d) e there) h
+
+pub future_refused : (fault : OpenFault) (d : Disk) (bytes : List ℕ) (ps : List ChangeSet) (done : ℕ) → IsMounted d
+    → IsAgreed d bytes ps done → RefusesMounts fault (future_of (drop done ps) d) → RefusesOpening fault d bytes
+future_refused fault d bytes ps done mounts is h =
+    image_refused fault d bytes ps done (future_of (drop done ps) d) mounts is
+    (λ e there. Contains-append_right (past_of (reverse (take done ps)) d) (future_of (drop done ps) d) e there) h
+
+pub parts_opened : (d : Disk) (bytes : List ℕ) (outline : Volume) (ps : List ChangeSet) (done : ℕ) → IsDisk d → IsMounted d
+    → IsOutlineOf d outline → IsAgreed d bytes ps done → AllByRecursion IsMounted (past_of (reverse (take done ps)) d)
+    → AllByRecursion IsMounted (future_of (drop done ps) d) → OpensParts d bytes outline ps done
+parts_opened d bytes outline ps done disk mounts known is past future = record {
+  spelled = is.spelled;
+  agrees = is.agrees;
+  session = record {
+    at = record {
+      within = is.within;
+      history = record {
+        past = refl;
+        future = refl;
+        back = is.agrees.back;
+        on = is.agrees.on;
+        disk = disk;
+        mounts = mounts;
+        past_mounts = past;
+        future_mounts = future;
+        few = is.spelled.book.few;
+      };
+    };
+    known = known;
+  };
+}
