@@ -1,35 +1,39 @@
 -- What a step does with an image (own).
 use Rattle.std.specs.Prelude.{ℕ, List}
 use Rattle.lfs_command.specs.Command as asked
-use Rattle.lfs_command.specs.Command.{Asked}
-use Rattle.lfs_command.specs.AskedFor.{asked_for}
+use Rattle.lfs_journal.specs.Meaning.{step_of}
+use Rattle.lfs_journal.specs.Steps as change
+use Rattle.lfs_journal.specs.Steps.{Do}
 use Rattle.lfs_step.specs.declared.deed.Deed.{Deed as Written}
 use Rattle.lfs_step.specs.declared.deed.Deed.TheVariants as written
 use Rattle.lfs_step.specs.declared.query.Query.{Query}
 use Rattle.lfs_step.specs.declared.query.Query.TheVariants as query
 use Rattle.lfs_step.specs.declared.step.Step.{Step}
-use Rattle.lfs_step.specs.declared.step.Step.TheVariants.{Format, Check, Cat, Mkdir, Put, Rm, Mv, SetAttr, RmAttr}
+use Rattle.lfs_step.specs.declared.step.Step.TheVariants.{Format, Check, Cat, Mkdir, Put, Rm, Mv, SetAttr, RmAttr, Undo, Redo, Forget}
 
--- a new image of so many blocks is made, something is asked of an image, or a command is carried out
+-- a new image of so many blocks is made, something is asked of an image, or a step is taken on its history
 pub data Deed : Type 0 where
   Make : (count : ℕ) → Deed
   Ask : (query : Query) → Deed
-  Change : (asked : Asked) → Deed
+  Change : (step : change.Step) → Deed
 
 -- what a step does, with what it reads
 abbrev pub deed_of : Step → List ℕ → Deed
 deed_of (Format count) input = Make count
 deed_of Check input = Ask query.Check
 deed_of (Cat path) input = Ask (query.Cat path)
-deed_of (Mkdir path) input = Change (asked.Mkdir path.now)
-deed_of (Put path) input = Change (asked.Put path.now input)
-deed_of (Rm path) input = Change (asked.Rm path.now)
-deed_of (Mv from to) input = Change (asked.Mv from.now to.now)
-deed_of (SetAttr path kind value) input = Change (asked.SetAttr path.now kind value.now)
-deed_of (RmAttr path kind) input = Change (asked.RmAttr path.now kind)
+deed_of (Mkdir path) input = Change (Do (asked.Mkdir path.now))
+deed_of (Put path) input = Change (Do (asked.Put path.now input))
+deed_of (Rm path) input = Change (Do (asked.Rm path.now))
+deed_of (Mv from to) input = Change (Do (asked.Mv from.now to.now))
+deed_of (SetAttr path kind value) input = Change (Do (asked.SetAttr path.now kind value.now))
+deed_of (RmAttr path kind) input = Change (Do (asked.RmAttr path.now kind))
+deed_of Undo input = Change change.Undo
+deed_of Redo input = Change change.Redo
+deed_of Forget input = Change change.Forget
 
 -- what the code's value stands for
 abbrev pub deed_held : Written → Deed
 deed_held (written.Make count) = Make count
 deed_held (written.Ask query) = Ask query
-deed_held (written.Change command) = Change (asked_for command)
+deed_held (written.Change step) = Change (step_of step)

@@ -5,11 +5,13 @@ use Rattle.lfs_block.specs.declared.mount_fault.MountFault.TheVariants.{Memory a
 use Rattle.lfs_block.specs.Faults.{image_fault_number, mount_fault_number}
 use Rattle.lfs_command.specs.declared.refusal.Refusal.TheVariants.{Memory}
 use Rattle.lfs_command.specs.Faults.{refusal_number}
+use Rattle.lfs_journal.specs.declared.open_fault.OpenFault.{OpenFault}
+use Rattle.lfs_journal.specs.declared.open_fault.OpenFault.TheVariants as opening
 use Rattle.lfs_journal.specs.declared.step_fault.StepFault.{StepFault}
 use Rattle.lfs_journal.specs.declared.step_fault.StepFault.TheVariants.{Refused as Refused_step}
 use Rattle.lfs_journal.specs.Faults.{step_fault_number}
 use Rattle.lfs_step.specs.declared.fault.Fault.{Fault}
-use Rattle.lfs_step.specs.declared.fault.Fault.TheVariants.{Image, Mount, Refused, Step, JournalFormat, CannotRead, CannotWrite, BadHex}
+use Rattle.lfs_step.specs.declared.fault.Fault.TheVariants.{Image, Mount, Refused, Step, JournalFormat, JournalMismatch, JournalImage, CannotRead, CannotWrite, BadHex}
 
 -- each fault by its number; those of the layers below keep theirs
 abbrev pub fault_number : Fault → ℕ
@@ -18,6 +20,8 @@ fault_number (Mount fault) = mount_fault_number fault
 fault_number (Refused refusal) = refusal_number refusal
 fault_number (Step fault) = step_fault_number fault
 fault_number JournalFormat = 50
+fault_number JournalMismatch = 51
+fault_number JournalImage = 52
 fault_number CannotRead = 60
 fault_number CannotWrite = 61
 fault_number BadHex = 64
@@ -48,3 +52,10 @@ fault_of_mount fault = Mount fault
 abbrev pub fault_of_step : StepFault → Fault
 fault_of_step (Refused_step refusal) = Refused refusal
 fault_of_step fault = Step fault
+
+-- a fault of the image is spelled as that of mounting it
+abbrev pub fault_of_opening : OpenFault → Fault
+fault_of_opening (opening.Mount fault) = fault_of_mount fault
+fault_of_opening opening.JournalFormat = JournalFormat
+fault_of_opening opening.JournalMismatch = JournalMismatch
+fault_of_opening opening.JournalImage = JournalImage

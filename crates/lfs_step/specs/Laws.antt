@@ -1,6 +1,5 @@
--- Laws of bytes that a command changes (own).
-use Rattle.std.specs.Prelude.{◌≡◌, ℕ, List, [], ◌∷◌, Option}
-use Rattle.std.specs.List.{AllByRecursion}
+-- Laws of bytes on which steps are taken (own).
+use Rattle.std.specs.Prelude.{◌≡◌, ℕ, List, [], ◌∷◌, map, Option, Some, None}
 use Rattle.lfs_fs.specs.Path.{Path}
 use Rattle.lfs_fs.specs.Volume.{Volume}
 use Rattle.lfs_fs.specs.Tree.{Node}
@@ -9,28 +8,66 @@ use Rattle.lfs_fs.specs.Holds.{Holds}
 use Rattle.lfs_fs.specs.Mounts.{Mounts}
 use Rattle.lfs_command.specs.Command.{Asked}
 use Rattle.lfs_journal.specs.History.{History}
-use Rattle.lfs_journal.specs.Steps.{Step, Reply, Run}
-use Rattle.lfs_journal.specs.Laws.{IsCarriedOut, IsUndoOrRedo, images}
+use Rattle.lfs_journal.specs.Steps.{Step, Do, Undo, Run}
+use Rattle.lfs_journal.specs.Laws.{IsCarriedOut}
+use Rattle.lfs_step.specs.declared.fault.Fault.{Fault}
 use Rattle.lfs_step.specs.declared.outcome.Outcome.{Outcome}
 use Rattle.lfs_step.specs.Bytes.{image_of}
-use Rattle.lfs_step.specs.Change.{ChangesBytes}
+use Rattle.lfs_step.specs.Change.{Denotes, ChangesBytes, AnswersChange}
+
+-- the image and the journal that a step leaves denote the history that it leaves
+abbrev pub ChangedBytesAreDenoted : Type 0
+ChangedBytesAreDenoted = (step : Step) (size : ℕ) (image journal : List ℕ) (outcome : Outcome)
+    (changes : ChangesBytes step size image journal outcome)
+    → Denotes size outcome.image.items outcome.journal.items changes.1.new
 
 -- Bytes that a command changed are an image that mounts to the command's equation of the tree of the image before, with the same
 -- size, count and limits.
 abbrev pub ChangedBytesAreEquations : Type 0
 ChangedBytesAreEquations = (asked : Asked) (size : ℕ) (image journal : List ℕ) (outcome : Outcome) (v : Volume) (t : Path → Option Node)
-    → ChangesBytes asked size image journal outcome → Holds (reading_of (image_of size image)) v → Mounts (image_of size image) t
-    → IsCarriedOut asked (image_of size outcome.image.items) v t
+    → ChangesBytes (Do asked) size image journal outcome → Holds (reading_of (image_of size image)) v
+    → Mounts (image_of size image) t → IsCarriedOut asked (image_of size outcome.image.items) v t
 
--- a history has two images, and so has each that undo and redo lead to
-pub record HasBoth (new : History) (before after : List ℕ) (size : ℕ) : Type 0 where
-  pub present : new.present ≡ image_of size after
-  pub later : (steps : List Step) (replies : List Reply) (later : History) → AllByRecursion IsUndoOrRedo steps → Run steps replies new later
-      → images later ≡ image_of size before ∷ image_of size after ∷ []
+-- what a command did is undone byte for byte, by the journal that it left
+abbrev pub UndoneBytesStandAgain : Type 0
+UndoneBytesStandAgain = (asked : Asked) (size : ℕ) (image journal : List ℕ) (done undone : Outcome)
+    → ChangesBytes (Do asked) size image journal done
+    → ChangesBytes Undo size done.image.items done.journal.items undone → undone.image.items ≡ image
 
--- A command that changes bytes leaves a history from which undo and redo, in any list, lead to the bytes before and to those
--- after, byte for byte, and to no others.
-abbrev pub ChangedBytesAreTakenBack : Type 0
-ChangedBytesAreTakenBack = (asked : Asked) (size : ℕ) (image journal : List ℕ) (outcome : Outcome)
-    → ChangesBytes asked size image journal outcome
-    → (new : History) × HasBoth new image outcome.image.items size
+-- the bytes of an image and of its journal
+pub record Files : Type 0 where
+  pub image : List ℕ
+  pub journal : List ℕ
+
+-- a step, and its fault where it was refused
+pub record Taken : Type 0 where
+  pub step : Step
+  pub fault : Option Fault
+
+-- steps on bytes, each handed the bytes that the one before left
+abbrev pub RunsOn : ℕ → List Taken → Files → Files → Type 0
+RunsOn size [] old new = new ≡ old
+RunsOn size (t ∷ ts) old new =
+    (outcome : Outcome) × AnswersChange t.fault t.step size old.image old.journal outcome
+    × RunsOn size ts (record { image = outcome.image.items; journal = outcome.journal.items }) new
+
+-- a step before others, unless it was refused
+abbrev pub accepted_before : Option Fault → Step → List Step → List Step
+accepted_before None step steps = step ∷ steps
+accepted_before (Some fault) step steps = steps
+
+-- those of the steps that were not refused
+abbrev pub accepted : List Taken → List Step
+accepted [] = []
+accepted (t ∷ ts) = accepted_before t.fault t.step (accepted ts)
+
+-- a list of runs leads from what the first bytes denote, by the steps that were not refused, to what the last denote
+pub record IsRunOf (size : ℕ) (ts : List Taken) (files : Files) (old : History) : Type 0 where
+  pub new : History
+  pub denotes : Denotes size files.image files.journal new
+  pub run : Run (accepted ts) (map (λ _. None) (accepted ts)) old new
+
+-- a list of runs, each handed the bytes of the one before, is a run of the steps that were not refused
+abbrev pub RunsOfBytesAreRuns : Type 0
+RunsOfBytesAreRuns = (size : ℕ) (ts : List Taken) (first last : Files) (old : History) → Denotes size first.image first.journal old
+    → RunsOn size ts first last → IsRunOf size ts last old

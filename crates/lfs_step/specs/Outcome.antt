@@ -4,6 +4,7 @@ use Rattle.std.specs.Io.KnownBytes.{Keeps}
 use Rattle.lfs_block.specs.Geometry.{IsGeometry}
 use Rattle.lfs_block.specs.declared.image_fault.ImageFault.TheVariants.{BadGeometry}
 use Rattle.lfs_command.specs.Faults.{refusal_number}
+use Rattle.lfs_book.specs.Book.{book_of, journal_bytes}
 use Rattle.lfs_edit.specs.Formatted.{IsFormatted}
 use Rattle.lfs_step.specs.declared.fault.Fault.{Fault}
 use Rattle.lfs_step.specs.declared.fault.Fault.TheVariants.{Image, Refused, CannotWrite}
@@ -33,18 +34,19 @@ RefusesFormat size count _ = ⊥
 abbrev pub Refuses : Deed → Given → Fault → Type 0
 Refuses (Make count) g fault = RefusesFormat g.size count fault
 Refuses (Ask query) g fault = RefusesQuery query g.size g.image fault
-Refuses (Change asked) g fault = RefusesChange asked g.size g.image g.journal fault
+Refuses (Change step) g fault = RefusesChange step g.size g.image g.journal fault
 
 -- image and journal are those that the step was given
 abbrev pub KeepsBoth : Given → Outcome → Type 0
 KeepsBoth g outcome = (outcome.image.items ≡ g.image) × (outcome.journal.items ≡ g.journal)
 
--- the image and the journal once a deed is done: a new image and no journal, those that were given, or the image that a
--- command leaves
+-- the image and the journal once a deed is done: a new image and a journal without changes, those that were given, or those of
+-- the history that a step leaves
 abbrev pub AnswersDone : Deed → Given → Outcome → Type 0
-AnswersDone (Make count) g outcome = IsFormatted g.size count outcome.image.items × (outcome.journal.items ≡ [])
+AnswersDone (Make count) g outcome =
+    IsFormatted g.size count outcome.image.items × (outcome.journal.items ≡ journal_bytes (book_of g.size count [] 0))
 AnswersDone (Ask query) g outcome = KeepsBoth g outcome
-AnswersDone (Change asked) g outcome = ChangesBytes asked g.size g.image g.journal outcome
+AnswersDone (Change step) g outcome = ChangesBytes step g.size g.image g.journal outcome
 
 -- what is answered; with a fault, image and journal are those that were given
 abbrev pub AnswersBy : Option Fault → Deed → Given → Outcome → Type 0
@@ -60,7 +62,7 @@ Answers deed g outcome = AnswersBy outcome.fault deed g outcome
 abbrev pub SendsText : Deed → Given → Option Fault → Option (List ℕ) → Option (List ℕ) → Type 0
 SendsText (Make count) g fault old new = Keeps old new
 SendsText (Ask query) g fault old new = SendsReport query (image_of g.size g.image) fault old new
-SendsText (Change asked) g fault old new = Keeps old new
+SendsText (Change step) g fault old new = Keeps old new
 
 -- the fault is that standard output failed
 abbrev pub blames_output : Option Fault → Bool

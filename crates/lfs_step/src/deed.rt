@@ -6,6 +6,7 @@ ghost use Rattle.lfs_step.specs.Deed.{deed_held, deed_of};
 use crate::query::Query;
 use crate::step::Step;
 use lfs_edit::Command;
+use lfs_journal::Step as Change;
 
 /// What a step does with an image.
 ///
@@ -19,8 +20,8 @@ pub enum Deed<'a> {
     },
     /// Asks something of it.
     Ask(Query<'a>),
-    /// Changes it.
-    Change(Command<'a>),
+    /// Changes it, or what is kept of its changes: a step on its history.
+    Change(Change<'a>),
 }
 
 /// What a step does with an image, `input` being what it reads: the contents of a file that is put. Takes no memory.
@@ -29,15 +30,19 @@ pub enum Deed<'a> {
 pub fn deed_of<'a>(step: &Step<'a>, input: &'a [u8]) -> Deed<'a>
     ensures { deed_held result ≡ deed_of step.now input.now }
 {
-    match *step {
-        Step::Format { count } => Deed::Make { count },
-        Step::Check => Deed::Ask(Query::Check),
-        Step::Cat { path } => Deed::Ask(Query::Cat { path }),
-        Step::Mkdir { path } => Deed::Change(Command::Mkdir { path }),
-        Step::Put { path } => Deed::Change(Command::Put { path, bytes: input }),
-        Step::Rm { path } => Deed::Change(Command::Rm { path }),
-        Step::Mv { from, to } => Deed::Change(Command::Mv { from, to }),
-        Step::SetAttr { path, kind, value } => Deed::Change(Command::SetAttr { path, kind, value }),
-        Step::RmAttr { path, kind } => Deed::Change(Command::RmAttr { path, kind }),
-    }
+    let command = match *step {
+        Step::Format { count } => return Deed::Make { count },
+        Step::Check => return Deed::Ask(Query::Check),
+        Step::Cat { path } => return Deed::Ask(Query::Cat { path }),
+        Step::Undo => return Deed::Change(Change::Undo),
+        Step::Redo => return Deed::Change(Change::Redo),
+        Step::Forget => return Deed::Change(Change::Forget),
+        Step::Mkdir { path } => Command::Mkdir { path },
+        Step::Put { path } => Command::Put { path, bytes: input },
+        Step::Rm { path } => Command::Rm { path },
+        Step::Mv { from, to } => Command::Mv { from, to },
+        Step::SetAttr { path, kind, value } => Command::SetAttr { path, kind, value },
+        Step::RmAttr { path, kind } => Command::RmAttr { path, kind },
+    };
+    Deed::Change(Change::Do(command))
 }

@@ -2,7 +2,7 @@
 
 use lfs_block::{ImageFault, MountFault};
 use lfs_edit::Refusal;
-use lfs_journal::StepFault;
+use lfs_journal::{OpenFault, StepFault};
 use std::alloc::AllocError;
 use thiserror::Error;
 
@@ -26,6 +26,12 @@ pub enum Fault {
     /// The bytes are no journal.
     #[error("JournalFormat")]
     JournalFormat,
+    /// The journal denotes no history of the image.
+    #[error("JournalMismatch")]
+    JournalMismatch,
+    /// Another image of the journal's history does not mount.
+    #[error("JournalImage")]
+    JournalImage,
     /// A file could not be read.
     #[error("CannotRead")]
     CannotRead,
@@ -51,6 +57,8 @@ impl Fault {
             Fault::Refused(refusal) => refusal.number(),
             Fault::Step(fault) => fault.number(),
             Fault::JournalFormat => 50,
+            Fault::JournalMismatch => 51,
+            Fault::JournalImage => 52,
             Fault::CannotRead => 60,
             Fault::CannotWrite => 61,
             Fault::BadHex => 64,
@@ -81,6 +89,22 @@ impl From<MountFault> for Fault {
         match fault {
             MountFault::Memory => Fault::Refused(Refusal::Memory),
             fault => Fault::Mount(fault),
+        }
+    }
+}
+
+impl From<OpenFault> for Fault {
+    ghost use Rattle.std.specs.Prelude.{◌≡◌};
+    ghost use Rattle.lfs_step.specs.Fault.{fault_of_opening};
+
+    ghost from_gives = { λ open_fault fault. fault ≡ fault_of_opening open_fault };
+
+    fn from(fault: OpenFault) -> Fault {
+        match fault {
+            OpenFault::Mount(fault) => Fault::from(fault),
+            OpenFault::JournalFormat => Fault::JournalFormat,
+            OpenFault::JournalMismatch => Fault::JournalMismatch,
+            OpenFault::JournalImage => Fault::JournalImage,
         }
     }
 }

@@ -1,9 +1,22 @@
-//! Laws of bytes that a command changes: each function does nothing but call laws, and its contract is the law.
+//! Laws of bytes on which steps are taken: each function does nothing but call laws, and its contract is the law.
 
-ghost use Rattle.lfs_step.specs.Laws.{ChangedBytesAreEquations, ChangedBytesAreTakenBack};
+ghost use Rattle.lfs_step.specs.Laws.{ChangedBytesAreDenoted, ChangedBytesAreEquations, RunsOfBytesAreRuns, UndoneBytesStandAgain};
 
-use lfs_block::applied_patches_change_their_blocks;
-use lfs_journal::{commands_push_equations, undo_and_redo_keep_images};
+use lfs_journal::{
+    commands_push_equations, runs_keep_histories, saved_histories_open, steps_keep_geometry,
+    undo_is_exact,
+};
+
+/// A law: the image and the journal that a step leaves denote the history that it leaves. Takes no memory.
+///
+/// Source: own.
+pub fn changed_bytes_are_denoted()
+    ensures { ChangedBytesAreDenoted }
+{
+    runs_keep_histories();
+    saved_histories_open();
+    steps_keep_geometry();
+}
 
 /// A law: bytes that a command changed are an image that mounts to the command's equation of the tree of the image before,
 /// with the same size, count and limits. Takes no memory.
@@ -12,17 +25,28 @@ use lfs_journal::{commands_push_equations, undo_and_redo_keep_images};
 pub fn changed_bytes_are_equations()
     ensures { ChangedBytesAreEquations }
 {
+    changed_bytes_are_denoted();
     commands_push_equations();
-    applied_patches_change_their_blocks();
 }
 
-/// A law: from the history that a command leaves, undo and redo, in any list, lead to the bytes before and to those after,
-/// byte for byte, and to no others. Takes no memory.
+/// A law: what a command did is undone byte for byte, by the journal that it left. Takes no memory.
 ///
 /// Source: own.
-pub fn changed_bytes_are_taken_back()
-    ensures { ChangedBytesAreTakenBack }
+pub fn undone_bytes_stand_again()
+    ensures { UndoneBytesStandAgain }
 {
-    undo_and_redo_keep_images();
-    applied_patches_change_their_blocks();
+    changed_bytes_are_denoted();
+    saved_histories_open();
+    undo_is_exact();
+}
+
+/// A law: a list of runs, each handed the image and the journal that the one before left, is a run of its steps that were not
+/// refused: the last bytes denote the history to which these lead from the one that the first denote. Takes no memory.
+///
+/// Source: own.
+pub fn runs_of_bytes_are_runs()
+    ensures { RunsOfBytesAreRuns }
+{
+    changed_bytes_are_denoted();
+    saved_histories_open();
 }

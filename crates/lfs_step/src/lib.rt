@@ -14,7 +14,10 @@ mod summary;
 
 pub use deed::{Deed, deed_of};
 pub use fault::Fault;
-pub use laws::{changed_bytes_are_equations, changed_bytes_are_taken_back};
+pub use laws::{
+    changed_bytes_are_denoted, changed_bytes_are_equations, runs_of_bytes_are_runs,
+    undone_bytes_stand_again,
+};
 pub use outcome::Outcome;
 pub use query::Query;
 pub use running::run;

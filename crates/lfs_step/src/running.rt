@@ -1,6 +1,7 @@
 //! One step on an image.
 
-ghost use Rattle.std.specs.Prelude.{◌≡◌, false, IfOk, IfErr};
+ghost use Rattle.std.specs.Prelude.{◌≡◌, [], false, IfOk, IfErr};
+ghost use Rattle.lfs_book.specs.Book.{book_of, journal_bytes};
 ghost use Rattle.lfs_edit.specs.Formatted.{IsFormatted};
 ghost use Rattle.lfs_step.specs.Fault.{status_of};
 ghost use Rattle.lfs_step.specs.Outcome.{Answers, RefusesFormat, SendsText, blames_output, given};
@@ -9,20 +10,22 @@ ghost use Rattle.lfs_step.specs.Deed.{Make, deed_of};
 use crate::changing::changed;
 use crate::deed::{Deed, deed_of};
 use crate::fault::Fault;
-use crate::laws::{changed_bytes_are_equations, changed_bytes_are_taken_back};
+use crate::laws::{changed_bytes_are_equations, runs_of_bytes_are_runs, undone_bytes_stand_again};
 use crate::outcome::Outcome;
 use crate::querying::queried;
 use crate::step::Step;
 use lfs_block::{ImageFault, geometry_ok};
-use lfs_edit::format;
+use lfs_book::write_journal;
+use lfs_edit::{Refusal, format};
 use lfs_sink::Sink;
 use std::alloc::Global;
 
 /// Takes one step on an image and its journal, with blocks of `size` bytes. `input` is what the step reads: the
 /// contents of a file that is put. What it says goes to `out`, and the caller owes that this has not failed. With a
 /// fault the image and the journal are those that were handed in, and nothing goes out but where `out` itself failed.
-/// No journal is read so far: a step that changes the image answers an empty one, and is refused with `JournalFormat`
-/// where the journal isn't empty. Takes memory.
+/// An empty journal is that of an image that nothing was done to. A step that changes the image is one on the history
+/// that image and journal denote, and answers those of the history that it leaves; a new image gets a journal without
+/// changes. Queries and new images read no journal, and forgetting none either. Takes memory.
 ///
 /// Source: own.
 pub fn run<S: Sink>(
@@ -41,34 +44,39 @@ pub fn run<S: Sink>(
     ensures kept { S.kept out.new ≡ S.kept out.old }
     ensures status { result.status ≡ status_of result.fault }
 {
+    undone_bytes_stand_again();
     changed_bytes_are_equations();
-    changed_bytes_are_taken_back();
+    runs_of_bytes_are_runs();
     match deed_of(step, input) {
         Deed::Make { count } => formatted(alloc, size, count, image, journal),
         Deed::Ask(query) => queried(alloc, &query, size, image, journal, out),
-        Deed::Change(command) => changed(alloc, &command, size, image, journal),
+        Deed::Change(change) => changed(alloc, &change, size, image, journal),
     }
 }
 
-/// A new image with no journal.
+/// A new image, with a journal without changes.
 fn formatted(alloc: Global, size: u32, count: u32, image: Vec<u8>, journal: Vec<u8>) -> Outcome
     ensures answers { Answers (Make count) (given size image.items journal.items) result }
     ensures failed { blames_output result.fault ≡ false }
     ensures status { result.status ≡ status_of result.fault }
 {
     match new_image(alloc, size, count) {
-        Ok(new) => Outcome::new(new, Vec::new(alloc), None),
+        Ok((new, empty)) => Outcome::new(new, empty, None),
         Err(fault) => Outcome::new(image, journal, Some(fault)),
     }
 }
 
-/// The bytes of a new image.
-fn new_image(alloc: Global, size: u32, count: u32) -> Result<Vec<u8>, Fault>
-    ensures made { IfOk result (λ bytes. IsFormatted size count bytes.items) }
+/// The bytes of a new image, and of a journal without changes.
+fn new_image(alloc: Global, size: u32, count: u32) -> Result<(Vec<u8>, Vec<u8>), Fault>
+    ensures made { IfOk result (λ new. IsFormatted size count new.0.items) }
+    ensures empty { IfOk result (λ new. new.1.items ≡ journal_bytes (book_of size count [] 0)) }
     ensures refused { IfErr result (λ fault. RefusesFormat size count fault) }
 {
     if !geometry_ok(size, count) {
         return Err(Fault::Image(ImageFault::BadGeometry));
     }
-    Ok(format(alloc, size, count)?)
+    let Some(journal) = write_journal(alloc, size, count, &[], 0) else {
+        return Err(Fault::Refused(Refusal::Memory));
+    };
+    Ok((format(alloc, size, count)?, journal))
 }

@@ -55,4 +55,10 @@ pub enum Step<'a> {
         /// The attribute's kind.
         kind: u8,
     },
+    /// Takes the latest change back.
+    Undo,
+    /// Makes again the latest change that was taken back.
+    Redo,
+    /// Keeps the image, and no change that led to it or was taken back.
+    Forget,
 }

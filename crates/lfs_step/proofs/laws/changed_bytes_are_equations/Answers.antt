@@ -2,4 +2,4 @@ use Rattle.lfs_step.proofs.LawLemmas.{bytes_are_equations}
 use Rattle.lfs_step.proofs.laws.changed_bytes_are_equations.Goals as goal
 
 pub returns : goal.returns
-returns c = bytes_are_equations c.commands_push_equations.ensures c.applied_patches_change_their_blocks.ensures.disk
+returns c = bytes_are_equations c.changed_bytes_are_denoted.ensures c.commands_push_equations.ensures
