@@ -1,8 +1,12 @@
-//! What is asked for on an image: a task, on an image's file.
+//! What is asked for on an image: a task, on an image's file, and the step that it asks for.
 #![tactic(auto)]
 
+mod asking;
+mod digits;
 mod request;
 mod task;
 
+pub use asking::{digits_of, step_of};
+pub use digits::bytes_of;
 pub use request::Request;
 pub use task::Task;

@@ -55,4 +55,10 @@ pub enum Task<'a> {
         /// The digits of the attribute's kind.
         kind: &'a str,
     },
+    /// The image as it was before its latest change.
+    Undo,
+    /// The image as it was before that was taken back.
+    Redo,
+    /// The image without its changes.
+    Forget,
 }

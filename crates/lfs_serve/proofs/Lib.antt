@@ -1,2 +1,1 @@
-pub mod FileLemmas
 pub mod StepLemmas

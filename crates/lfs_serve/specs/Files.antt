@@ -1,5 +1,5 @@
 -- Files by their names, and standard input, where they are known (own).
-use Rattle.std.specs.Prelude.{ℕ, ◌≡◌, ◌+◌, List, Option, Some, None, take, drop, ⊤}
+use Rattle.std.specs.Prelude.{ℕ, ◌≡◌, ◌+◌, List, [], ◌∷◌, Option, Some, None, take, ⊤}
 
 -- the bytes of the file of each name; none where there is no such file
 abbrev pub Files : Type 0
@@ -19,38 +19,62 @@ abbrev pub ReadsFile : Option Files → List ℕ → ℕ → List ℕ → Type 0
 ReadsFile None name most bytes = ⊤
 ReadsFile (Some files) name most bytes = (whole : List ℕ) × (files name ≡ Some whole) × BeginsWith most whole bytes
 
+-- the bytes of a file, none where there is no such file
+abbrev pub bytes_there : Option (List ℕ) → List ℕ
+bytes_there None = []
+bytes_there (Some whole) = whole
+
+-- what is read of a file that may not be there
+abbrev pub FindsFile : Option Files → List ℕ → ℕ → List ℕ → Type 0
+FindsFile None name most bytes = ⊤
+FindsFile (Some files) name most bytes = BeginsWith most (bytes_there (files name)) bytes
+
 -- what is read of standard input, of which these bytes are known to be left
 abbrev pub ReadsInput : Option (List ℕ) → ℕ → List ℕ → Type 0
 ReadsInput None most bytes = ⊤
 ReadsInput (Some whole) most bytes = BeginsWith most whole bytes
 
+-- what is said of files before and after, where they are known
+abbrev pub OnKnown : (Files → Files → Type 0) → Option Files → Option Files → Type 0
+OnKnown says None new = ⊤
+OnKnown says (Some old) None = ⊥
+OnKnown says (Some old) (Some new) = says old new
+
+-- a name is none of these
+abbrev pub Apart : List ℕ → List (List ℕ) → Type 0
+Apart name [] = ⊤
+Apart name (other ∷ others) = ¬ (name ≡ other) × Apart name others
+
+-- files stay as they were, but for those of these names
+abbrev pub StaysBut : List (List ℕ) → Files → Files → Type 0
+StaysBut names old new = (name : List ℕ) → Apart name names → new name ≡ old name
+
 -- known files stay as they were, but for the file of one name
 abbrev pub KeepsOthers : Option Files → Option Files → List ℕ → Type 0
-KeepsOthers None new name = ⊤
-KeepsOthers (Some old) None name = ⊥
-KeepsOthers (Some old) (Some new) name = (other : List ℕ) → ¬ (other ≡ name) → new other ≡ old other
+KeepsOthers old new name = OnKnown (StaysBut (name ∷ [])) old new
 
--- the file of a name has these bytes now, and known files stay as they were but for it
+-- the file of a name has these bytes now, and files stay as they were but for it
+abbrev pub HasWritten : List ℕ → List ℕ → Files → Files → Type 0
+HasWritten name bytes old new = (new name ≡ Some bytes) × StaysBut (name ∷ []) old new
+
+-- the same where files are known
 abbrev pub Writes : Option Files → Option Files → List ℕ → List ℕ → Type 0
-Writes None new name bytes = ⊤
-Writes (Some old) None name bytes = ⊥
-Writes (Some old) (Some new) name bytes = (new name ≡ Some bytes) × KeepsOthers (Some old) (Some new) name
+Writes old new name bytes = OnKnown (HasWritten name bytes) old new
 
--- what was under one name is under another, and known files stay as they were but for these two
+-- what was under one name is under another, and files stay as they were but for these two
+abbrev pub HasRenamed : List ℕ → List ℕ → Files → Files → Type 0
+HasRenamed from to old new =
+    (new to ≡ old from) × (¬ (from ≡ to) → new from ≡ None) × StaysBut (from ∷ to ∷ []) old new
+
+-- the same where files are known
 abbrev pub Renames : Option Files → Option Files → List ℕ → List ℕ → Type 0
-Renames None new from to = ⊤
-Renames (Some old) None from to = ⊥
-Renames (Some old) (Some new) from to =
-    (new to ≡ old from)
-    × (¬ (from ≡ to) → new from ≡ None)
-    × ((other : List ℕ) → ¬ (other ≡ from) → ¬ (other ≡ to) → new other ≡ old other)
+Renames old new from to = OnKnown (HasRenamed from to) old new
 
--- the file of a name has these bytes now, nothing is under the other name, and known files stay as they were but for
--- these two
+-- the file of a name has these bytes now, nothing is under the other name, and files stay as they were but for these two
+abbrev pub HasReplaced : List ℕ → List ℕ → List ℕ → Files → Files → Type 0
+HasReplaced name leftover bytes old new =
+    (new name ≡ Some bytes) × (new leftover ≡ None) × StaysBut (leftover ∷ name ∷ []) old new
+
+-- the same where files are known
 abbrev pub Replaces : Option Files → Option Files → List ℕ → List ℕ → List ℕ → Type 0
-Replaces None new name leftover bytes = ⊤
-Replaces (Some old) None name leftover bytes = ⊥
-Replaces (Some old) (Some new) name leftover bytes =
-    (new name ≡ Some bytes)
-    × (new leftover ≡ None)
-    × ((other : List ℕ) → ¬ (other ≡ leftover) → ¬ (other ≡ name) → new other ≡ old other)
+Replaces old new name leftover bytes = OnKnown (HasReplaced name leftover bytes) old new

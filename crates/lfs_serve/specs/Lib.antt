@@ -1,4 +1,4 @@
 pub mod Files
 pub mod Kind
-pub mod Asking
+pub mod Storing
 pub mod Program

@@ -1,11 +1,10 @@
 -- What the program does with the files of a host (own).
-use Rattle.std.specs.Prelude.{ℕ, ◌≡◌, ◌⊎◌, ◌++◌, ◌%◌, List, [], Option, Some, None, Result, Ok, Err, IsErr, codes}
-use Rattle.hex.specs.Hex.{decode_of}
+use Rattle.std.specs.Prelude.{ℕ, ◌≡◌, ◌⊎◌, ◌%◌, List, [], Option, Some, None, Result, Ok, Err}
 use Rattle.lfs_command.specs.declared.refusal.Refusal.TheVariants.{Memory}
 use Rattle.lfs_step.specs.declared.fault.Fault.{Fault}
-use Rattle.lfs_step.specs.declared.fault.Fault.TheVariants.{Refused, CannotRead, CannotWrite, BadHex}
+use Rattle.lfs_step.specs.declared.fault.Fault.TheVariants.{Refused, CannotRead, CannotWrite}
 use Rattle.lfs_serve.specs.declared.kind.Kind.{Kind}
-use Rattle.lfs_serve.specs.declared.kind.Kind.TheVariants.{Makes, Asks, Changes}
+use Rattle.lfs_serve.specs.declared.kind.Kind.TheVariants.{Makes, Changes}
 use Rattle.lfs_step.specs.declared.outcome.Outcome.{Outcome}
 use Rattle.lfs_request.specs.declared.request.Request.{Request}
 use Rattle.lfs_step.specs.declared.step.Step.{Step}
@@ -14,10 +13,11 @@ use Rattle.lfs_serve.specs.declared.stop.Stop.{Stop}
 use Rattle.lfs_request.specs.declared.task.Task.{Task}
 use Rattle.lfs_step.specs.Deed.{Deed, deed_of}
 use Rattle.lfs_step.specs.Fault.{status_of}
-use Rattle.lfs_serve.specs.Files.{Files, KeepsOthers, ReadsFile, ReadsInput, Replaces}
+use Rattle.lfs_serve.specs.Files.{Files, FindsFile, ReadsFile, ReadsInput}
 use Rattle.lfs_serve.specs.Kind.{kind_of}
+use Rattle.lfs_serve.specs.Storing.{LeavesFiles, SparesFiles, journal_name}
 use Rattle.lfs_step.specs.Outcome.{Answers, Given, SendsText, given}
-use Rattle.lfs_serve.specs.Asking.{AsksFor, SpellsNoKind, digits_of}
+use Rattle.lfs_request.specs.Asking.{AsksFor, NamesNoStep}
 
 -- what is known of a host: its files, what is left on standard input, and what was printed
 pub record Scene : Type 0 where
@@ -37,39 +37,53 @@ most_image = 67108864
 abbrev pub most_input : ℕ
 most_input = 2147483647
 
--- the name of what is to become the file of a name
-abbrev pub new_name : List ℕ → List ℕ
-new_name name = name ++ codes ".new"
+-- files and what was printed stay as they were
+abbrev pub KeepsScene : Scene → Scene → Type 0
+KeepsScene old new = (new.files ≡ old.files) × (new.printed ≡ old.printed)
+
+-- the most bytes that a journal has: 1,000 changes of all blocks of a largest image
+abbrev pub most_journal : ℕ
+most_journal = 134479876024
 
 -- the bytes of an image that a step is handed: those of its file, none where the image is made
 abbrev pub HandsImage : Kind → Option Files → List ℕ → List ℕ → Type 0
 HandsImage Makes files name image = image ≡ []
-HandsImage Asks files name image = ReadsFile files name most_image image
-HandsImage Changes files name image = ReadsFile files name most_image image
+HandsImage _ files name image = ReadsFile files name most_image image
+
+-- the bytes of a journal that a step is handed: those of its file, where the step reads one and it is there
+abbrev pub HandsJournal : Kind → Option Files → List ℕ → List ℕ → Type 0
+HandsJournal Changes files name journal = FindsFile files (journal_name name) most_journal journal
+HandsJournal _ files name journal = journal ≡ []
 
 -- the contents that a step is handed: those on standard input where a file is put
 abbrev pub HandsInput : Step → Option (List ℕ) → List ℕ → Type 0
 HandsInput (Put path) typed input = ReadsInput typed most_input input
 HandsInput _ typed input = input ≡ []
 
+-- what a step is handed
+pub record HandedBytes : Type 0 where
+  pub image : List ℕ
+  pub journal : List ℕ
+  pub input : List ℕ
+
+-- it is handed this of what is known of a host
+pub record IsHanded (step : Step) (name : List ℕ) (s : Scene) (h : HandedBytes) : Type 0 where
+  pub image : HandsImage (kind_of step) s.files name h.image
+  pub journal : HandsJournal (kind_of step) s.files name h.journal
+  pub input : HandsInput step s.typed h.input
+
 -- `run` answered this outcome to a deed, and said so much of it
 abbrev pub Runs : Deed → Given → Option Fault → Option (List ℕ) → Option (List ℕ) → Outcome → Type 0
 Runs deed g fault old new outcome = Answers deed g outcome × (outcome.fault ≡ fault) × SendsText deed g fault old new
 
+-- the same of a step that was handed these bytes
+abbrev pub RunsOn : Step → ℕ → HandedBytes → Option Fault → Option (List ℕ) → Option (List ℕ) → Outcome → Type 0
+RunsOn step size h fault old new outcome = Runs (deed_of step h.input) (given size h.image h.journal) fault old new outcome
+
 -- the same of a step that was handed what is known of the host
 abbrev pub RunsStep : Step → ℕ → List ℕ → Scene → Scene → Option Fault → Outcome → Type 0
 RunsStep step size name old new fault outcome =
-    (input : List ℕ)
-    × (image : List ℕ)
-    × HandsInput step old.typed input
-    × HandsImage (kind_of step) old.files name image
-    × Runs (deed_of step input) (given size image []) fault old.printed new.printed outcome
-
--- the files once a step is done: what is asked changes none, any other step replaces the image
-abbrev pub LeavesFiles : Kind → Scene → Scene → List ℕ → List ℕ → Type 0
-LeavesFiles Asks old new name image = new.files ≡ old.files
-LeavesFiles Makes old new name image = Replaces old.files new.files name (new_name name) image
-LeavesFiles Changes old new name image = Replaces old.files new.files name (new_name name) image
+    (h : HandedBytes) × IsHanded step name old h × RunsOn step size h fault old.printed new.printed outcome
 
 -- a fault that the host alone gives rise to: what it refused, or want of memory
 abbrev pub IsOfHost : Fault → Type 0
@@ -78,38 +92,20 @@ IsOfHost CannotWrite = Unit {0}
 IsOfHost (Refused refusal) = refusal ≡ Memory
 IsOfHost _ = ⊥
 
--- what went out where the host refused something: nothing, or all that the step says
-abbrev pub SaysBefore : Step → ℕ → List ℕ → Scene → Scene → Type 0
-SaysBefore step size name old new =
-    (new.printed ≡ old.printed) ⊎ ((outcome : Outcome) × RunsStep step size name old new None outcome)
-
--- the files where the host refused something: a leftover of a new image's may have changed
-abbrev pub SparesFiles : Kind → Scene → Scene → List ℕ → Type 0
-SparesFiles Asks old new name = new.files ≡ old.files
-SparesFiles Makes old new name = KeepsOthers old.files new.files (new_name name)
-SparesFiles Changes old new name = KeepsOthers old.files new.files (new_name name)
-
--- why a step wasn't done: `run` refused it, or the host something
+-- why a step wasn't done: `run` refused it, or the host something before it was run, or behind that
 abbrev pub StopsStep : Step → ℕ → List ℕ → Scene → Scene → Fault → Type 0
 StopsStep step size name old new fault =
     ((outcome : Outcome) × RunsStep step size name old new (Some fault) outcome × (new.files ≡ old.files))
-    ⊎ (IsOfHost fault × SaysBefore step size name old new × SparesFiles (kind_of step) old new name)
+    ⊎ (IsOfHost fault × KeepsScene old new)
+    ⊎ (IsOfHost fault × ((outcome : Outcome)
+    × RunsStep step size name old new None outcome × SparesFiles fault (kind_of step) old.files new.files name outcome))
 
--- how a step on an image's file ends: done, and the file has the bytes of the outcome's image; or with a fault
+-- how a step on an image's file ends: done, and the files have the bytes of the outcome; or with a fault
 abbrev pub EndsStep : Step → ℕ → List ℕ → Scene → Scene → Option Fault → Type 0
 EndsStep step size name old new None =
-    (outcome : Outcome) × RunsStep step size name old new None outcome × LeavesFiles (kind_of step) old new name outcome.image.items
+    (outcome : Outcome) × RunsStep step size name old new None outcome
+    × LeavesFiles (kind_of step) old.files new.files name outcome
 EndsStep step size name old new (Some fault) = StopsStep step size name old new fault
-
--- files and what was printed stay as they were
-abbrev pub KeepsScene : Scene → Scene → Type 0
-KeepsScene old new = (new.files ≡ old.files) × (new.printed ≡ old.printed)
-
--- why a task names no step: its digits spell nothing, or want of memory
-abbrev pub NamesNoStep : Task → Fault → Type 0
-NamesNoStep task BadHex = IsErr (decode_of (digits_of task)) ⊎ SpellsNoKind task
-NamesNoStep task (Refused refusal) = refusal ≡ Memory
-NamesNoStep task _ = ⊥
 
 -- how a task on an image's file ends: as the step that it asks for, or with a fault since it names none
 abbrev pub EndsTask : Task → ℕ → List ℕ → Scene → Scene → Option Fault → Type 0

@@ -2,7 +2,7 @@
 
 ghost use Rattle.std.specs.Prelude.{◌≡◌, ℕ, ◌<◌, ◌≤◌, length, take, List, Option, None, IfOk, IfSome, MatchOption, MatchResult, string_bytes};
 ghost use Rattle.std.specs.Io.KnownBytes.{Appends, Keeps};
-ghost use Rattle.lfs_serve.specs.Files.{Files, IsTarget, KeepsOthers, ReadsFile, ReadsInput, Renames, Writes};
+ghost use Rattle.lfs_serve.specs.Files.{Files, FindsFile, IsTarget, KeepsOthers, ReadsFile, ReadsInput, Renames, Writes};
 
 use std::alloc::Global;
 use std::fmt::Display;
@@ -24,6 +24,19 @@ pub enum ReadFault {
     CannotRead,
 }
 
+/// Whether a run keeps a file until it ends.
+///
+/// Source: own.
+#[derive(Clone, Copy, Debug, PartialEq, Eq)]
+pub enum Keeping {
+    /// It does.
+    Kept,
+    /// Another run keeps it.
+    KeptByAnother,
+    /// There is no such file.
+    NoFile,
+}
+
 /// Files, standard input, standard output and standard error. Its meaning is what its files hold, what is left on
 /// standard input and what was printed, each where it is known; what the system refuses is its own affair. A call changes
 /// none of these but where it says so.
@@ -41,13 +54,18 @@ pub trait Host {
         ensures target { IfOk result (λ target. IsTarget (files self.old) name.now (string_bytes target)) }
         ensures kept { (files self.new ≡ files self.old) × (typed self.new ≡ typed self.old) × (printed self.new ≡ printed self.old) };
 
-    /// Keeps a file for this run until it ends: `false` where another run keeps it. Refused where there is no such file.
-    fn keep(&mut self, name: &str) -> Result<bool, HostFault>
+    /// Keeps a file for this run until it ends, so that no other run keeps it.
+    fn keep(&mut self, name: &str) -> Result<Keeping, HostFault>
         ensures kept { (files self.new ≡ files self.old) × (typed self.new ≡ typed self.old) × (printed self.new ≡ printed self.old) };
 
     /// The bytes of a file, `most` of them and one more at most.
     fn read(&mut self, alloc: Global, name: &str, most: u64) -> Result<Vec<u8>, ReadFault>
         ensures read { IfOk result (λ bytes. ReadsFile (files self.old) name.now most bytes.items) }
+        ensures kept { (files self.new ≡ files self.old) × (typed self.new ≡ typed self.old) × (printed self.new ≡ printed self.old) };
+
+    /// The bytes of a file, `most` of them and one more at most; none where there is no such file.
+    fn find(&mut self, alloc: Global, name: &str, most: u64) -> Result<Vec<u8>, ReadFault>
+        ensures found { IfOk result (λ bytes. FindsFile (files self.old) name.now most bytes.items) }
         ensures kept { (files self.new ≡ files self.old) × (typed self.new ≡ typed self.old) × (printed self.new ≡ printed self.old) };
 
     /// The bytes of standard input, `most` of them and one more at most. What is left there afterwards isn't said.
@@ -65,6 +83,13 @@ pub trait Host {
     /// Gives a file another name, in place of the file that this run keeps, or where there is none of nothing. Where it is
     /// refused both names are as they were.
     fn rename(&mut self, from: &str, to: &str) -> Result<(), HostFault>
+        ensures files { MatchResult result (λ _. Renames (files self.old) (files self.new) from.now to.now)
+            (λ _. files self.new ≡ files self.old) }
+        ensures kept { (typed self.new ≡ typed self.old) × (printed self.new ≡ printed self.old) };
+
+    /// Gives a file another name, in place of a file that has it, or where there is none of nothing. Where it is refused
+    /// both names are as they were.
+    fn settle(&mut self, from: &str, to: &str) -> Result<(), HostFault>
         ensures files { MatchResult result (λ _. Renames (files self.old) (files self.new) from.now to.now)
             (λ _. files self.new ≡ files self.old) }
         ensures kept { (typed self.new ≡ typed self.old) × (printed self.new ≡ printed self.old) };

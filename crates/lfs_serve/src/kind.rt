@@ -1,11 +1,11 @@
-//! Whether a step makes an image, asks something of one or changes it.
+//! What a step is to an image and its journal.
 
 ghost use Rattle.std.specs.Prelude.{◌≡◌};
 ghost use Rattle.lfs_serve.specs.Kind.{kind_of};
 
 use lfs_step::Step;
 
-/// What a step is to an image.
+/// What a step is to an image and its journal.
 ///
 /// Source: own.
 #[derive(Clone, Copy, Debug)]
@@ -14,8 +14,10 @@ pub enum Kind {
     Makes,
     /// It asks something of it.
     Asks,
-    /// It changes it.
+    /// It changes it, and its journal with it.
     Changes,
+    /// It changes its journal alone.
+    Forgets,
 }
 
 /// The kind of a step. Takes no memory.
@@ -29,5 +31,7 @@ pub fn kind_of(step: &Step<'_>) -> Kind
         Step::Check | Step::Cat { .. } => Kind::Asks,
         Step::Mkdir { .. } | Step::Put { .. } | Step::Rm { .. } => Kind::Changes,
         Step::Mv { .. } | Step::SetAttr { .. } | Step::RmAttr { .. } => Kind::Changes,
+        Step::Undo | Step::Redo => Kind::Changes,
+        Step::Forget => Kind::Forgets,
     }
 }

@@ -1,35 +1,26 @@
 //! What is asked for on an image's file.
 
-ghost use Rattle.std.specs.Prelude.{◌≡◌, [], Some, IfErr, IfOk, string_bytes};
+ghost use Rattle.std.specs.Prelude.{◌≡◌, Some, IfOk};
 ghost use Rattle.lfs_step.specs.Deed.{deed_of};
 ghost use Rattle.lfs_step.specs.Fault.{status_of};
-ghost use Rattle.lfs_serve.specs.Files.{IsTarget, ReadsFile};
-ghost use Rattle.lfs_serve.specs.Kind.{kind_of};
 ghost use Rattle.lfs_step.specs.Outcome.{Answers, SendsText, given};
-ghost use Rattle.lfs_serve.specs.Program.{EndsRequest, EndsStep, EndsTask, HandsInput, IsOfHost, Runs, most_image, scene, stopped_by, usage};
-ghost use Rattle.lfs_serve.specs.declared.kind.Kind.TheVariants.{Makes, Asks, Changes};
+ghost use Rattle.lfs_serve.specs.Program.{EndsRequest, EndsStep, EndsTask, RunsOn, scene, stopped_by, usage};
 
-use crate::asking::{digits_of, step_of};
-use crate::digits::bytes_of;
-use crate::host::{Host, ReadFault};
-use crate::kind::{Kind, kind_of};
+use crate::handing::{Handed, aimed, hand_over};
+use crate::host::Host;
+use crate::kind::kind_of;
 use crate::output::Output;
-use crate::printing::flush;
-use crate::replacing::replace;
 use crate::stated::{Stated, stated_in};
 use crate::stop::Stop;
+use crate::storing::stored;
 use crate::telling::{MORE, tell_of_image};
-use lfs_block::{MAX_IMAGE_LENGTH, MountFault};
-use lfs_edit::Refusal;
-use lfs_request::Request;
+use lfs_block::MountFault;
+use lfs_request::{Request, bytes_of, digits_of, step_of};
 use lfs_step::{Fault, Outcome, Step, run};
 use std::alloc::Global;
 
 /// What a block size is a multiple of, in bytes.
 const GRAIN: u32 = 16;
-
-/// The most bytes that a file in an image has.
-const MOST_INPUT: u64 = 2_147_483_647;
 
 /// The status of a command line that is refused.
 pub const USAGE: u8 = 2;
@@ -88,7 +79,7 @@ fn done<H: Host>(alloc: Global, host: &mut H, request: &Request<'_>) -> Result<(
     stepped(alloc, host, request.size, request.image, &step)
 }
 
-/// Takes a step on an image's file, and writes the image that it makes.
+/// Takes a step on an image's file, and writes what it leaves.
 fn stepped<H: Host>(
     alloc: Global,
     host: &mut H,
@@ -99,108 +90,43 @@ fn stepped<H: Host>(
     ensures ended { EndsStep step.now size name.now (scene (H.files host.old) (H.typed host.old) (H.printed host.old))
         (scene (H.files host.new) (H.typed host.new) (H.printed host.new)) (stopped_by result) }
 {
-    match kind_of(step) {
-        Kind::Makes => made(alloc, host, size, name, step),
-        Kind::Asks => asked(alloc, host, size, name, step),
-        Kind::Changes => changed(alloc, host, size, name, step),
-    }
+    let kind = kind_of(step);
+    let target = aimed(alloc, host, kind, name)?;
+    let handed = hand_over(alloc, host, step, target.as_str())?;
+    let outcome = taken(alloc, host, size, step, handed)?;
+    Ok(stored(alloc, host, kind, target.as_str(), &outcome)?)
 }
 
-/// Says what is asked of an image.
-fn asked<H: Host>(
-    alloc: Global,
-    host: &mut H,
-    size: u32,
-    name: &str,
-    step: &Step<'_>,
-) -> Result<(), Stop>
-    requires { kind_of step.now ≡ Asks }
-    ensures ended { EndsStep step.now size name.now (scene (H.files host.old) (H.typed host.old) (H.printed host.old))
-        (scene (H.files host.new) (H.typed host.new) (H.printed host.new)) (stopped_by result) }
-{
-    let image = read(alloc, host, name)?;
-    taken(alloc, host, size, step, image, &[])?;
-    Ok(flush(host)?)
-}
-
-/// Makes a new image. A file that it replaces is kept for this run.
-fn made<H: Host>(
-    alloc: Global,
-    host: &mut H,
-    size: u32,
-    name: &str,
-    step: &Step<'_>,
-) -> Result<(), Stop>
-    requires { kind_of step.now ≡ Makes }
-    ensures ended { EndsStep step.now size name.now (scene (H.files host.old) (H.typed host.old) (H.printed host.old))
-        (scene (H.files host.new) (H.typed host.new) (H.printed host.new)) (stopped_by result) }
-{
-    let image = taken(alloc, host, size, step, Vec::new(alloc), &[])?;
-    let target = target_to_write(alloc, host, name)?;
-    if let Ok(false) = host.keep(target.as_str()) {
-        return Err(Stop::from(Fault::CannotWrite));
-    }
-    Ok(replace(alloc, host, target.as_str(), image.as_slice())?)
-}
-
-/// Changes an image, which is kept for this run before it is read. Its file is read before standard input.
-fn changed<H: Host>(
-    alloc: Global,
-    host: &mut H,
-    size: u32,
-    name: &str,
-    step: &Step<'_>,
-) -> Result<(), Stop>
-    requires { kind_of step.now ≡ Changes }
-    ensures ended { EndsStep step.now size name.now (scene (H.files host.old) (H.typed host.old) (H.printed host.old))
-        (scene (H.files host.new) (H.typed host.new) (H.printed host.new)) (stopped_by result) }
-{
-    let target = target_of(alloc, host, name)?;
-    match host.keep(target.as_str()) {
-        Ok(true) => {}
-        Ok(false) => return Err(Stop::from(Fault::CannotWrite)),
-        Err(_) => return Err(Stop::from(Fault::CannotRead)),
-    }
-    let image = read(alloc, host, target.as_str())?;
-    let input = input_of(alloc, host, step)?;
-    let image = taken(alloc, host, size, step, image, input.as_slice())?;
-    Ok(replace(alloc, host, target.as_str(), image.as_slice())?)
-}
-
-/// Runs a step on an image's bytes, without a journal.
-fn ran<H: Host>(
-    alloc: Global,
-    host: &mut H,
-    size: u32,
-    step: &Step<'_>,
-    image: Vec<u8>,
-    input: &[u8],
-) -> Outcome
-    ensures answers { Answers (deed_of step.now input.now) (given size image.items []) result }
-    ensures sent { SendsText (deed_of step.now input.now) (given size image.items []) result.fault (H.printed host.old) (H.printed host.new) }
+/// Runs a step on what it is handed.
+fn ran<H: Host>(alloc: Global, host: &mut H, size: u32, step: &Step<'_>, handed: Handed) -> Outcome
+    ensures answers { Answers (deed_of step.now handed.input.items) (given size handed.image.items handed.journal.items) result }
+    ensures sent { SendsText (deed_of step.now handed.input.items) (given size handed.image.items handed.journal.items) result.fault (H.printed host.old) (H.printed host.new) }
     ensures kept { (H.files host.new ≡ H.files host.old) × (H.typed host.new ≡ H.typed host.old) }
 {
-    let journal = Vec::new(alloc);
+    let Handed {
+        image,
+        journal,
+        input,
+    } = handed;
     let out = &mut Output::new(host);
-    run(alloc, step, size, image, journal, input, out)
+    run(alloc, step, size, image, journal, input.as_slice(), out)
 }
 
-/// Takes a step on an image's bytes, and answers those of the image that it leaves.
+/// Takes a step on what it is handed, and answers what it leaves.
 fn taken<H: Host>(
     alloc: Global,
     host: &mut H,
     size: u32,
     step: &Step<'_>,
-    image: Vec<u8>,
-    input: &[u8],
-) -> Result<Vec<u8>, Stop>
-    ensures ran { (outcome : Outcome) × Runs (deed_of step.now input.now) (given size image.items []) (stopped_by result) (H.printed host.old) (H.printed host.new) outcome
-        × IfOk result (λ bytes. bytes.items ≡ outcome.image.items) }
+    handed: Handed,
+) -> Result<Outcome, Stop>
+    ensures ran { (outcome : Outcome) × RunsOn step.now size (record { image = handed.image.items; journal = handed.journal.items; input = handed.input.items })
+        (stopped_by result) (H.printed host.old) (H.printed host.new) outcome × IfOk result (λ left. left ≡ outcome) }
     ensures kept { (H.files host.new ≡ H.files host.old) × (H.typed host.new ≡ H.typed host.old) }
 {
-    let outcome = ran(alloc, host, size, step, image, input);
+    let outcome = ran(alloc, host, size, step, handed);
     match outcome.fault {
-        None => Ok(outcome.image),
+        None => Ok(outcome),
         Some(fault) => Err(Stop {
             fault,
             stated: stated_for(fault, &outcome.image),
@@ -213,68 +139,5 @@ fn stated_for(fault: Fault, image: &[u8]) -> Option<Stated> {
     match fault {
         Fault::Mount(MountFault::Geometry) => stated_in(image),
         _ => None,
-    }
-}
-
-/// What a step reads: the contents of a file that is put.
-fn input_of<H: Host>(alloc: Global, host: &mut H, step: &Step<'_>) -> Result<Vec<u8>, Fault>
-    ensures input { IfOk result (λ input. HandsInput step.now (H.typed host.old) input.items) }
-    ensures refused { IfErr result IsOfHost }
-    ensures kept { (H.files host.new ≡ H.files host.old) × (H.printed host.new ≡ H.printed host.old) }
-{
-    match step {
-        Step::Put { .. } => host.input(alloc, MOST_INPUT).map_err(fault_of_reading),
-        _ => Ok(Vec::new(alloc)),
-    }
-}
-
-/// The bytes of an image's file, and one more than an image has where there are more.
-fn read<H: Host>(alloc: Global, host: &mut H, name: &str) -> Result<Vec<u8>, Fault>
-    ensures read { IfOk result (λ bytes. ReadsFile (H.files host.old) name.now most_image bytes.items) }
-    ensures refused { IfErr result IsOfHost }
-    ensures kept { (H.files host.new ≡ H.files host.old) × (H.typed host.new ≡ H.typed host.old) × (H.printed host.new ≡ H.printed host.old) }
-{
-    host.read(alloc, name, MAX_IMAGE_LENGTH)
-        .map_err(fault_of_reading)
-}
-
-/// The name of the file that a name leads to.
-fn target_of<H: Host>(alloc: Global, host: &mut H, name: &str) -> Result<String, Fault>
-    ensures target { IfOk result (λ target. IsTarget (H.files host.old) name.now (string_bytes target)) }
-    ensures refused { IfErr result IsOfHost }
-    ensures kept { (H.files host.new ≡ H.files host.old) × (H.typed host.new ≡ H.typed host.old) × (H.printed host.new ≡ H.printed host.old) }
-{
-    host.target(alloc, name).map_err(fault_of_reading)
-}
-
-/// What the program ends with where nothing is read.
-fn fault_of_reading(fault: ReadFault) -> Fault
-    ensures { IsOfHost result }
-{
-    match fault {
-        ReadFault::Memory => Fault::Refused(Refusal::Memory),
-        ReadFault::CannotRead => Fault::CannotRead,
-    }
-}
-
-/// The same fault where a file is written and not read.
-fn of_writing(fault: Fault) -> Fault
-    ensures { IsOfHost fault → IsOfHost result }
-{
-    match fault {
-        Fault::CannotRead => Fault::CannotWrite,
-        other => other,
-    }
-}
-
-/// The same where that file is written and not read.
-fn target_to_write<H: Host>(alloc: Global, host: &mut H, name: &str) -> Result<String, Fault>
-    ensures target { IfOk result (λ target. IsTarget (H.files host.old) name.now (string_bytes target)) }
-    ensures refused { IfErr result IsOfHost }
-    ensures kept { (H.files host.new ≡ H.files host.old) × (H.typed host.new ≡ H.typed host.old) × (H.printed host.new ≡ H.printed host.old) }
-{
-    match target_of(alloc, host, name) {
-        Ok(target) => Ok(target),
-        Err(fault) => Err(of_writing(fault)),
     }
 }

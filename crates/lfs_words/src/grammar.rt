@@ -8,7 +8,7 @@ const VERSION: &str = "0.1.0";
 
 /// What the statuses mean.
 const STATUSES: &str = "Status: 0 done; 1 the change is refused; 2 the command line is refused;
-3 the image is refused; 4 out of memory, or a file is not read or written.";
+3 the image or its journal is refused; 4 out of memory, or a file is not read or written.";
 
 /// What a command takes on its command line.
 #[derive(Clone, Copy)]
@@ -41,7 +41,7 @@ struct CommandRow {
 }
 
 /// The program's commands, in the order of its help. Each but the last takes the block size and the image's file name.
-const COMMANDS: [CommandRow; 10] = [
+const COMMANDS: [CommandRow; 13] = [
     CommandRow {
         name: "format",
         about: "Write a new image, in place of a file of this name",
@@ -102,6 +102,21 @@ const COMMANDS: [CommandRow; 10] = [
             Argument::Path,
             Argument::Kind,
         ],
+    },
+    CommandRow {
+        name: "undo",
+        about: "Take the latest change back, byte for byte",
+        arguments: &[Argument::Block, Argument::Image],
+    },
+    CommandRow {
+        name: "redo",
+        about: "Make the latest change again that was taken back",
+        arguments: &[Argument::Block, Argument::Image],
+    },
+    CommandRow {
+        name: "forget",
+        about: "Keep the image alone: its changes can no longer be taken back",
+        arguments: &[Argument::Block, Argument::Image],
     },
     CommandRow {
         name: "explain",

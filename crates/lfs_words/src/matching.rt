@@ -17,6 +17,9 @@ fn task_of<'a>(name: &str, options: &ArgMatches<'a>) -> Option<Task<'a>>
             count: options.get_one::<u32>("count")?,
         }),
         "check" => Some(Task::Check),
+        "undo" => Some(Task::Undo),
+        "redo" => Some(Task::Redo),
+        "forget" => Some(Task::Forget),
         "mv" => Some(Task::Mv {
             from: options.get_str("from")?,
             to: options.get_str("to")?,

@@ -14,7 +14,7 @@ pub struct Explanation {
 }
 
 /// The faults in the order of their numbers. docs/FAULTS.md has the same table.
-const EXPLANATIONS: [Explanation; 43] = [
+const EXPLANATIONS: [Explanation; 45] = [
     Explanation {
         number: 1,
         name: "ImageLength",
@@ -222,7 +222,19 @@ const EXPLANATIONS: [Explanation; 43] = [
     Explanation {
         number: 50,
         name: "JournalFormat",
-        text: "The bytes are no journal of this program.",
+        text: "The bytes are no journal of this program. `forget` makes a new one, without changes.",
+    },
+    Explanation {
+        number: 51,
+        name: "JournalMismatch",
+        text: "The journal isn't that of this image: another program changed the image, or a run was stopped \
+         between the two files. `forget` keeps the image and makes a new journal, without changes.",
+    },
+    Explanation {
+        number: 52,
+        name: "JournalImage",
+        text: "The journal leads to an image that doesn't mount. `forget` keeps the image and makes a new \
+         journal, without changes.",
     },
     Explanation {
         number: 53,
@@ -237,7 +249,7 @@ const EXPLANATIONS: [Explanation; 43] = [
     Explanation {
         number: 55,
         name: "JournalFull",
-        text: "As many changes were made as a session keeps, 1000. Forget them, and go on.",
+        text: "As many changes were made as a journal keeps, 1000. `forget` drops them all.",
     },
     Explanation {
         number: 60,
@@ -249,7 +261,8 @@ const EXPLANATIONS: [Explanation; 43] = [
         number: 61,
         name: "CannotWrite",
         text: "A file, or standard output, can't be written, or another run is changing the image. The \
-         second line says which, and what the system said. The image is as it was.",
+         second line says which, and what the system said. The image is as it was. Where the next run says 51, \
+         its journal was written already: `forget` makes one that fits.",
     },
     Explanation {
         number: 64,

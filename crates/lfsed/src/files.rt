@@ -54,7 +54,7 @@ pub fn kept(rt: &HostRuntime, name: &str) -> io::Result<File> {
 }
 
 /// Whether an error says that another run keeps the file.
-pub fn says_kept(error: &io::Error) -> bool {
+fn says_kept(error: &io::Error) -> bool {
     error.kind() == ErrorKind::ResourceBusy
 }
 
@@ -144,5 +144,15 @@ pub fn name_anew(rt: &HostRuntime, from: &str, to: &str) -> io::Result<()> {
             let _ = fs::remove_file(rt, to);
             Err(error)
         }
+    }
+}
+
+/// Gives a file another name, in place of a regular file that has it, or of nothing.
+pub fn settle(rt: &HostRuntime, from: &str, to: &str) -> io::Result<()> {
+    match fs::symlink_metadata(rt, to) {
+        Ok(found) if found.is_file() => fs::rename(rt, from, to),
+        Ok(_) => Err(is_no_file()),
+        Err(error) if error.kind() == ErrorKind::NotFound => name_anew(rt, from, to),
+        Err(error) => Err(error),
     }
 }

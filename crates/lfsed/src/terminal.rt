@@ -1,8 +1,8 @@
 //! The system as a host.
 
-use crate::files::{kept, name_anew, opened, replace, says_kept, written};
+use crate::files::{kept, name_anew, opened, replace, settle, written};
 use lfs_block::MAX_IMAGE_LENGTH;
-use lfs_serve::{Host, HostFault, ReadFault};
+use lfs_serve::{Host, HostFault, Keeping, ReadFault};
 use lfs_sink::{Out, Sink};
 use std::alloc::Global;
 use std::fmt::Display;
@@ -12,8 +12,10 @@ use std::io::{self, ErrorKind, Printer, Read};
 /// What the system refused.
 #[derive(Clone, Copy)]
 enum Subject {
-    /// A file, or to give it another name.
-    File,
+    /// The image's file, or to give it another name.
+    Image,
+    /// The journal's, or to give it another name.
+    Journal,
     /// To read standard input.
     Input,
     /// To print.
@@ -29,8 +31,8 @@ pub struct Terminal<'a> {
     out: Out<Printer<'a, HostRuntime>>,
     /// The image's file, kept for this run.
     image: Option<File>,
-    /// The new image's file, kept for this run.
-    new_image: Option<File>,
+    /// The first new file, kept for this run: as long as it is there, no other run makes new files of the same image.
+    new_file: Option<File>,
     /// What the system said when it refused something last.
     said: Option<io::Error>,
     /// What that was about.
@@ -44,9 +46,9 @@ impl<'a> Terminal<'a> {
             rt,
             out: Out::new(io::writer(rt)),
             image: None,
-            new_image: None,
+            new_file: None,
             said: None,
-            subject: Subject::File,
+            subject: Subject::Image,
         }
     }
 
@@ -60,7 +62,7 @@ impl<'a> Terminal<'a> {
     }
 
     /// Says what the system said of something, where it said something.
-    fn say_of(&self, name: &str, said: Option<&io::Error>) {
+    fn say_of<D: Display + Drop>(&self, name: D, said: Option<&io::Error>) {
         if let Some(error) = said {
             let _ = self.rt.eprint(format_args!("lfsed: {name}: {error}\n"));
         }
@@ -70,6 +72,14 @@ impl<'a> Terminal<'a> {
     fn refused(&mut self, error: io::Error) -> HostFault {
         self.said = Some(error);
         HostFault
+    }
+}
+
+/// What a new file is to become: the image that it has the rights of, or that image's journal.
+fn subject_of(name: &str, image: &str) -> Subject {
+    match name.strip_prefix(image) {
+        Some(".new") => Subject::Image,
+        _ => Subject::Journal,
     }
 }
 
@@ -98,22 +108,36 @@ impl Host for Terminal<'_> {
         target_of(self.rt, alloc, name).map_err(|error| self.read_fault(error))
     }
 
-    fn keep(&mut self, name: &str) -> Result<bool, HostFault> {
-        match kept(self.rt, name) {
+    fn keep(&mut self, name: &str) -> Result<Keeping, HostFault> {
+        let error = match kept(self.rt, name) {
             Ok(file) => {
                 self.image = Some(file);
-                Ok(true)
+                return Ok(Keeping::Kept);
             }
-            Err(error) if says_kept(&error) => {
-                self.said = Some(error);
-                Ok(false)
-            }
-            Err(error) => Err(self.refused(error)),
+            Err(error) => error,
+        };
+        let kind = error.kind();
+        self.said = Some(error);
+        match kind {
+            ErrorKind::ResourceBusy => Ok(Keeping::KeptByAnother),
+            ErrorKind::NotFound => Ok(Keeping::NoFile),
+            _ => Err(HostFault),
         }
     }
 
     fn read(&mut self, alloc: Global, name: &str, most: u64) -> Result<Vec<u8>, ReadFault> {
         bytes_of(self.rt, alloc, name, most).map_err(|error| self.read_fault(error))
+    }
+
+    fn find(&mut self, alloc: Global, name: &str, most: u64) -> Result<Vec<u8>, ReadFault> {
+        match bytes_of(self.rt, alloc, name, most) {
+            Ok(bytes) => Ok(bytes),
+            Err(error) if error.kind() == ErrorKind::NotFound => Ok(Vec::new(alloc)),
+            Err(error) => {
+                self.subject = Subject::Journal;
+                Err(self.read_fault(error))
+            }
+        }
     }
 
     fn input(&mut self, alloc: Global, most: u64) -> Result<Vec<u8>, ReadFault> {
@@ -133,9 +157,10 @@ impl Host for Terminal<'_> {
     }
 
     fn write(&mut self, name: &str, bytes: &[u8], like: &str) -> Result<(), HostFault> {
+        self.subject = subject_of(name, like);
         match written(self.rt, name, bytes, like) {
             Ok(file) => {
-                self.new_image = Some(file);
+                self.new_file.get_or_insert(file);
                 Ok(())
             }
             Err(error) => Err(self.refused(error)),
@@ -143,11 +168,17 @@ impl Host for Terminal<'_> {
     }
 
     fn rename(&mut self, from: &str, to: &str) -> Result<(), HostFault> {
+        self.subject = Subject::Image;
         let renamed = match self.image {
             Some(_) => replace(self.rt, from, to),
             None => name_anew(self.rt, from, to),
         };
         renamed.map_err(|error| self.refused(error))
+    }
+
+    fn settle(&mut self, from: &str, to: &str) -> Result<(), HostFault> {
+        self.subject = Subject::Journal;
+        settle(self.rt, from, to).map_err(|error| self.refused(error))
     }
 
     fn remove(&mut self, name: &str) {
@@ -180,7 +211,11 @@ impl Host for Terminal<'_> {
 
     fn complain_of(&mut self, image: &str) {
         match self.subject {
-            Subject::File => self.say_of(image, self.said.as_ref()),
+            Subject::Image => self.say_of(image, self.said.as_ref()),
+            Subject::Journal => {
+                let journal = format_args!("the journal of {image}");
+                self.say_of(journal, self.said.as_ref());
+            }
             Subject::Input => self.say_of("standard input", self.said.as_ref()),
             Subject::Output => self.say_of("standard output", self.out.error()),
         }

@@ -1,7 +1,5 @@
-use Rattle.std.proofs.Common.{rules, ◌≡◌, Option, Some, refl, sym, ap, subst, ◌∙◌, inl, inr}
+use Rattle.std.proofs.Common.{rules, refl, inr}
 use Rattle.std.proofs.lemmas.Result.{err_from_is_err_and}
-use Rattle.lfs_serve.specs.Program.{NamesNoStep, scene, stopped_by}
-use Rattle.lfs_step.specs.declared.fault.Fault.{Fault}
 use Rattle.lfs_serve.proofs.StepLemmas.{no_bytes, no_kind, stopped_at}
 use Rattle.lfs_serve.proofs.serving.done.Goals as goal
 

@@ -1,5 +1,5 @@
-use Rattle.std.proofs.Common.{rules, ◌≡◌, ℕ, Some, sym, ap, subst, ◌∙◌, inr}
-use Rattle.lfs_serve.specs.Program.{EndsTask, Scene, scene, stopped_by}
+use Rattle.std.proofs.Common.{rules, ◌≡◌, Some, sym, subst, inr}
+use Rattle.lfs_serve.specs.Program.{EndsTask, Scene, scene}
 use Rattle.lfs_serve.proofs.serving.served.Goals as goal
 
 pub returns-in-Err : goal.returns-in-Err

@@ -1,7 +1,6 @@
 use Rattle.std.proofs.Common.{refl, Some, None}
 use Rattle.lfs_step.specs.Deed.{deed_of}
 use Rattle.lfs_step.specs.Outcome.{given}
-use Rattle.std.proofs.Common.{[]}
 use Rattle.lfs_serve.proofs.StepLemmas.{runs_with}
 use Rattle.lfs_serve.proofs.serving.taken.Goals as goal
 
@@ -9,7 +8,8 @@ pub returns-in-None-clause-ran : goal.returns-in-None-clause-ran
 returns-in-None-clause-ran g c =
     let o = c.ran-outcome.result in (
       o,
-      runs_with (deed_of c.args.step.now c.args.input.now) (given c.args.size c.args.image.items []) None
+      runs_with (deed_of c.args.step.now c.args.handed.input.items)
+          (given c.args.size c.args.handed.image.items c.args.handed.journal.items) None
           (g.H.Host.printed c.args.host.now) (g.H.Host.printed c.ran-outcome.new.host) o c.ran-outcome.ensures.answers
           c.ran-outcome.ensures.sent c.in-None.is,
       refl,
@@ -19,7 +19,8 @@ pub returns-in-Some-clause-ran : goal.returns-in-Some-clause-ran
 returns-in-Some-clause-ran g c =
     let o = c.ran-outcome.result in (
       o,
-      runs_with (deed_of c.args.step.now c.args.input.now) (given c.args.size c.args.image.items []) (Some c.in-Some.fault)
+      runs_with (deed_of c.args.step.now c.args.handed.input.items)
+          (given c.args.size c.args.handed.image.items c.args.handed.journal.items) (Some c.in-Some.fault)
           (g.H.Host.printed c.args.host.now) (g.H.Host.printed c.ran-outcome.new.host) o c.ran-outcome.ensures.answers
           c.ran-outcome.ensures.sent c.in-Some.is,
       tt,

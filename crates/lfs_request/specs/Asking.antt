@@ -1,5 +1,5 @@
 -- The step that a task asks for, whose kinds and values are hexadecimal digits (own).
-use Rattle.std.specs.Prelude.{◌≡◌, ℕ, List, [], ◌∷◌, Ok, IsErr}
+use Rattle.std.specs.Prelude.{◌≡◌, ◌⊎◌, ℕ, List, [], ◌∷◌, Ok, IsErr}
 use Rattle.hex.specs.declared.error.FromHexError.{FromHexError}
 use Rattle.hex.specs.declared.error.FromHexError.TheVariants.{OutOfMemory}
 use Rattle.hex.specs.Hex.{decode_of, decode_sized}
@@ -7,7 +7,7 @@ use Rattle.lfs_command.specs.declared.refusal.Refusal.TheVariants.{Memory}
 use Rattle.lfs_step.specs.declared.fault.Fault.{Fault}
 use Rattle.lfs_step.specs.declared.fault.Fault.TheVariants.{Refused, BadHex}
 use Rattle.lfs_step.specs.declared.step.Step.{Step}
-use Rattle.lfs_step.specs.declared.step.Step.TheVariants.{Format, Check, Cat, Mkdir, Put, Rm, Mv, SetAttr, RmAttr}
+use Rattle.lfs_step.specs.declared.step.Step.TheVariants.{Format, Check, Cat, Mkdir, Put, Rm, Mv, SetAttr, RmAttr, Undo, Redo, Forget}
 use Rattle.lfs_request.specs.declared.task.Task.{Task}
 use Rattle.lfs_request.specs.declared.task.Task.TheVariants as task
 
@@ -18,6 +18,10 @@ SpellsByte text byte = decode_sized text 1 ≡ Ok (byte ∷ [])
 -- the text is the hexadecimal digits of bytes, two of each
 abbrev pub SpellsBytes : List ℕ → List ℕ → Type 0
 SpellsBytes text bytes = decode_of text ≡ Ok bytes
+
+-- the text is no such digits
+abbrev pub SpellsNoBytes : List ℕ → Type 0
+SpellsNoBytes text = IsErr (decode_of text)
 
 -- the digits of the task's value; the empty text where it has none
 abbrev pub digits_of : Task → List ℕ
@@ -42,7 +46,16 @@ AsksFor (task.Mv from_text to_text) (Mv from to) = (from.now ≡ from_text.now) 
 AsksFor (task.SetAttr text digits value_digits) (SetAttr path kind value) =
     (path.now ≡ text.now) × SpellsByte digits.now kind × SpellsBytes value_digits.now value.now
 AsksFor (task.RmAttr text digits) (RmAttr path kind) = (path.now ≡ text.now) × SpellsByte digits.now kind
+AsksFor task.Undo Undo = Unit {0}
+AsksFor task.Redo Redo = Unit {0}
+AsksFor task.Forget Forget = Unit {0}
 AsksFor _ _ = ⊥
+
+-- why a task asks for no step: its digits spell nothing, or want of memory
+abbrev pub NamesNoStep : Task → Fault → Type 0
+NamesNoStep task BadHex = SpellsNoBytes (digits_of task) ⊎ SpellsNoKind task
+NamesNoStep task (Refused refusal) = refusal ≡ Memory
+NamesNoStep task _ = ⊥
 
 -- a text that is no hexadecimal digits, or want of memory
 abbrev pub fault_of_hex : FromHexError → Fault

@@ -2,10 +2,10 @@
 
 ghost use Rattle.std.specs.Prelude.{◌≡◌, IfOk, IfErr};
 ghost use Rattle.lfs_step.specs.declared.fault.Fault.TheVariants.{BadHex};
-ghost use Rattle.lfs_serve.specs.Asking.{AsksFor, SpellsBytes, SpellsNoKind, digits_of};
+ghost use Rattle.lfs_request.specs.Asking.{AsksFor, SpellsBytes, SpellsNoKind, digits_of};
 
 use crate::digits::byte_of;
-use lfs_request::Task;
+use crate::task::Task;
 use lfs_step::{Fault, Step};
 
 /// The digits of the value that a task sets; none where there is no value. Takes no memory.
@@ -57,6 +57,9 @@ pub fn step_of<'a>(task: &'a Task<'_>, value: &'a [u8]) -> Result<Step<'a>, Faul
             path: path.as_bytes(),
             kind: byte_of(kind)?,
         },
+        Task::Undo => Step::Undo,
+        Task::Redo => Step::Redo,
+        Task::Forget => Step::Forget,
     };
     Ok(step)
 }

@@ -1,10 +1,10 @@
 //! Bytes in hexadecimal digits.
 
 ghost use Rattle.std.specs.Prelude.{◌≡◌, ◌⊎◌, IsErr, IfOk, IfErr};
-ghost use Rattle.hex.specs.Hex.{decode_of, decode_sized};
+ghost use Rattle.hex.specs.Hex.{decode_sized};
 ghost use Rattle.lfs_command.specs.declared.refusal.Refusal.TheVariants.{Memory};
 ghost use Rattle.lfs_step.specs.declared.fault.Fault.TheVariants.{Refused, BadHex};
-ghost use Rattle.lfs_serve.specs.Asking.{SpellsByte, SpellsBytes, fault_of_hex};
+ghost use Rattle.lfs_request.specs.Asking.{SpellsByte, SpellsBytes, SpellsNoBytes, fault_of_hex};
 
 use hex::{FromHex, FromHexError};
 use lfs_edit::Refusal;
@@ -30,7 +30,7 @@ pub fn byte_of(text: &str) -> Result<u8, Fault>
 /// Source: own.
 pub fn bytes_of(alloc: Global, text: &str) -> Result<Vec<u8>, Fault>
     ensures bytes { IfOk result (λ bytes. SpellsBytes text.now bytes.items) }
-    ensures refused { IfErr result (λ fault. (fault ≡ Refused Memory) ⊎ ((fault ≡ BadHex) × IsErr (decode_of text.now))) }
+    ensures refused { IfErr result (λ fault. (fault ≡ Refused Memory) ⊎ ((fault ≡ BadHex) × SpellsNoBytes text.now)) }
 {
     match hex::decode(alloc, text) {
         Ok(bytes) => Ok(bytes),
