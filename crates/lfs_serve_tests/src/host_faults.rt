@@ -1,0 +1,81 @@
+//! Writes and renames that fail.
+
+use crate::journal_bytes::FRESH;
+use crate::memory_host::{Failing, MemoryHost};
+use crate::requests::{
+    DONE, End, IMAGE, JOURNAL, MKDIR, NO_MATCH, PUT, are_done, edited_host, ends, has_files,
+    is_refused, new_host,
+};
+use lfs_request::Task;
+use std::alloc::Global;
+use std::process::Abort;
+use std::test::Fail;
+
+// a file isn't written
+const NOT_WRITTEN: End = End {
+    status: 4,
+    told: "lfsed: 61 CannotWrite\n",
+};
+
+// a host with a directory
+fn middle_host(rt: &impl Abort, alloc: Global) -> MemoryHost {
+    let mut host = new_host(rt, alloc);
+    are_done(rt, alloc, &mut host, &[MKDIR]);
+    host
+}
+
+// a host with a directory, and `put` behind it failed in the call behind so many others
+fn failed_host(rt: &impl Abort, alloc: Global, others: usize) -> MemoryHost {
+    let mut host = middle_host(rt, alloc);
+    host.failing = Failing::Behind(others);
+    ends(rt, alloc, &mut host, &PUT, &NOT_WRITTEN);
+    host
+}
+
+#[test]
+fn files_stay_until_the_journal_has_its_name(rt: HostRuntime) -> Result<(), Fail> {
+    let old = middle_host(&rt, rt.alloc());
+    let (image, journal) = (old.copy(IMAGE)?, old.copy(JOURNAL)?);
+    for others in 0..3 {
+        let host = failed_host(&rt, rt.alloc(), others);
+        has_files(&rt, &host, &image, &journal);
+    }
+    Ok(())
+}
+
+#[test]
+fn the_image_stays_until_it_has_its_name(rt: HostRuntime) -> Result<(), Fail> {
+    let image = middle_host(&rt, rt.alloc()).copy(IMAGE)?;
+    let journal = edited_host(&rt, rt.alloc()).copy(JOURNAL)?;
+    let host = failed_host(&rt, rt.alloc(), 3);
+    has_files(&rt, &host, &image, &journal);
+    Ok(())
+}
+
+// what is said of an image with a directory
+const SAID: &str = "block 512, count 8, free 4, directories 2, files 0\n";
+
+#[test]
+fn an_old_image_with_a_new_journal_is_kept(rt: HostRuntime) -> Result<(), Fail> {
+    let mut host = failed_host(&rt, rt.alloc(), 3);
+    let image = host.copy(IMAGE)?;
+    is_refused(&rt, rt.alloc(), &mut host, &Task::Undo, &NO_MATCH)?;
+    is_refused(&rt, rt.alloc(), &mut host, &Task::Check, &DONE)?;
+    assert!(rt; host.printed.as_slice() == SAID.as_bytes());
+    are_done(&rt, rt.alloc(), &mut host, &[Task::Forget]);
+    has_files(&rt, &host, &image, &FRESH);
+    Ok(())
+}
+
+#[test]
+fn leftovers_are_replaced(rt: HostRuntime) -> Result<(), Fail> {
+    let done = edited_host(&rt, rt.alloc());
+    let (image, journal) = (done.copy(IMAGE)?, done.copy(JOURNAL)?);
+    let mut host = middle_host(&rt, rt.alloc());
+    for name in ["a.img.new", "a.img.lfsj.new"] {
+        host.put(name, b"left")?;
+    }
+    are_done(&rt, rt.alloc(), &mut host, &[PUT]);
+    has_files(&rt, &host, &image, &journal);
+    Ok(())
+}

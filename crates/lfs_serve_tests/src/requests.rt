@@ -1,0 +1,125 @@
+//! Requests on an image in memory, and how they end.
+
+use crate::memory_host::MemoryHost;
+use lfs_request::{Request, Task};
+use lfs_serve::served;
+use std::alloc::{AllocError, Global};
+use std::process::Abort;
+
+/// The image's name.
+pub(crate) const IMAGE: &str = "a.img";
+
+/// The name of its journal.
+pub(crate) const JOURNAL: &str = "a.img.lfsj";
+
+/// A directory.
+pub(crate) const MKDIR: Task<'static> = Task::Mkdir { path: "/a" };
+
+/// A file in it.
+pub(crate) const PUT: Task<'static> = Task::Put { path: "/a/x" };
+
+/// How a request ends.
+#[derive(Clone, Copy)]
+pub(crate) struct End {
+    /// Its status.
+    pub status: u8,
+    /// What it tells on standard error.
+    pub told: &'static str,
+}
+
+/// It is done.
+pub(crate) const DONE: End = End {
+    status: 0,
+    told: "",
+};
+
+/// No change was made.
+pub(crate) const NO_UNDO: End = End {
+    status: 1,
+    told: "lfsed: 53 NothingToUndo\n",
+};
+
+/// No change was taken back.
+pub(crate) const NO_REDO: End = End {
+    status: 1,
+    told: "lfsed: 54 NothingToRedo\n",
+};
+
+/// The bytes are no journal.
+pub(crate) const NO_FORMAT: End = End {
+    status: 3,
+    told: "lfsed: 50 JournalFormat\n",
+};
+
+/// The journal isn't that of the image.
+pub(crate) const NO_MATCH: End = End {
+    status: 3,
+    told: "lfsed: 51 JournalMismatch\n",
+};
+
+/// Asserts how a task on the image ends.
+pub(crate) fn ends(
+    rt: &impl Abort,
+    alloc: Global,
+    host: &mut MemoryHost,
+    task: &Task<'static>,
+    end: &End,
+) {
+    host.printed.clear();
+    host.complained.clear();
+    let request = Request {
+        task: *task,
+        size: 512,
+        image: IMAGE,
+    };
+    let status = served(alloc, host, &request);
+    assert!(rt; host.complains(end.told), "{task:?}");
+    assert_eq!(rt; status, end.status, "{task:?}");
+}
+
+/// Asserts that tasks are done, one after another.
+pub(crate) fn are_done(
+    rt: &impl Abort,
+    alloc: Global,
+    host: &mut MemoryHost,
+    tasks: &[Task<'static>],
+) {
+    for task in tasks {
+        ends(rt, alloc, host, task, &DONE);
+    }
+}
+
+/// Asserts how a task ends, and that it leaves all files as they were.
+pub(crate) fn is_refused(
+    rt: &impl Abort,
+    alloc: Global,
+    host: &mut MemoryHost,
+    task: &Task<'static>,
+    end: &End,
+) -> Result<(), AllocError> {
+    let files = host.copies()?;
+    ends(rt, alloc, host, task, end);
+    assert!(rt; host.files == files, "{task:?}");
+    Ok(())
+}
+
+/// A host with a new image of 8 blocks of 512 bytes, and what comes on its standard input is `hello`.
+pub(crate) fn new_host(rt: &impl Abort, alloc: Global) -> MemoryHost {
+    let mut host = MemoryHost::new(alloc, b"hello");
+    are_done(rt, alloc, &mut host, &[Task::Format { count: 8 }]);
+    host
+}
+
+/// The same, with a directory and a file in it.
+pub(crate) fn edited_host(rt: &impl Abort, alloc: Global) -> MemoryHost {
+    let mut host = new_host(rt, alloc);
+    are_done(rt, alloc, &mut host, &[MKDIR, PUT]);
+    host
+}
+
+/// Asserts that the host has the image's file and its journal with these bytes, and no other file.
+pub(crate) fn has_files(rt: &impl Abort, host: &MemoryHost, image: &[u8], journal: &[u8]) {
+    assert!(rt; host.bytes(IMAGE) == Some(image));
+    assert!(rt; host.bytes(JOURNAL) == Some(journal));
+    assert_eq!(rt; host.files.len(), 2);
+}
