@@ -10,6 +10,8 @@ import subprocess
 import sys
 import tempfile
 
+from support.refusing import Refusing
+
 HOME = pathlib.Path(__file__).resolve().parent.parent
 NOT_READ, NOT_WRITTEN = "lfsed: 60 CannotRead", "lfsed: 61 CannotWrite"
 NOBODY = 65_534
@@ -145,41 +147,48 @@ RUNS_THAT_CALL = (
     (["check", "a.img"], "open read write statx"),
     (["put", "a.img", "/f"], "open read write statx flock fchmod fsync rename"),
     (["put", "link.img", "/f"], "open read write statx flock fchmod fsync rename realpath"),
+    (["undo", "a.img"], "open read write statx flock fchmod fsync rename"),
+    (["forget", "a.img"], "open read write statx flock fchmod fsync rename"),
     (["format", "--count", "8", "a.img"], "open write statx flock fchmod fsync rename"),
     (["format", "--count", "8", "new.img"], "open write statx flock fsync link"),
 )
 
 
 def calls_that_fail(files):
-    """Each call of each run fails in turn: the run ends with 60 or 61 and a second line, and no file has changed."""
-    hit, library = files.folder.parent / (files.folder.name + ".hit"), files.folder.parent / (files.folder.name + ".so")
-    subprocess.run(["cc", "-shared", "-fPIC", "-O1", "-o", library, HOME / "tests/refuse.c", "-ldl"], check=True)
-    library.chmod(0o755)
+    """Each call of each run fails in turn: the run ends with 60 or 61 and a second line, and no file has changed, or the
+    journal alone where the image didn't get its place behind it."""
+    files.must(["put", "--block", "512", "a.img", "/old"], b"contents")
     (files.folder / "link.img").symlink_to("a.img")
-    for (command, *words), calls in RUNS_THAT_CALL:
-        for call in calls.split():
-            fail_in_turn(files, [command, "--block", "512", *words], call, library, hit)
-    library.unlink()
+    with tempfile.TemporaryDirectory() as folder:
+        os.chmod(folder, 0o755)
+        refusing = Refusing(pathlib.Path(folder))
+        for (command, *words), calls in RUNS_THAT_CALL:
+            for call in calls.split():
+                fail_in_turn(files, [command, "--block", "512", *words], call, refusing)
 
 
-def fail_in_turn(files, words, call, library, hit):
+def with_the_journal_of(before, after):
+    """Files as they were but for the one journal that a run leaves."""
+    return {**before, **{file: data for file, data in after.items() if file.suffix == ".lfsj"}}
+
+
+def fail_in_turn(files, words, call, refusing):
     """Each call of a name fails in turn in a run. What the run leaves is put back behind each."""
-    at, is_hit = 0, True
     before = files.listing()
+    status, said = files.run(words, b"contents")
+    between = with_the_journal_of(before, files.listing())
+    files.check(f"{words} without a fault", status == 0, (status, said))
+    files.put_back(before)
+    at, is_hit = 0, True
     while is_hit:
         at += 1
-        env = dict(os.environ, LD_PRELOAD=str(library), FAIL_CALL=call, FAIL_AT=str(at), HIT_FILE=str(hit))
-        status, said = files.run(words, b"contents", env=env)
-        is_hit = hit.exists()
-        hit.unlink(missing_ok=True)
-        if is_hit:
-            is_told = status == 4 and said[:1] in ([NOT_READ], [NOT_WRITTEN]) and len(said) == 2 and files.listing() == before
-            # That a new image's name can't be asked for takes nothing from anybody: the image takes no file's place.
-            is_new = status == 0 and call == "statx" and words[-1] == "new.img"
-            files.check(f"{call} {at} fails in {words}", is_told or is_new, (status, said))
-        else:
-            files.check(f"{words} without a fault", status == 0 and at > 1, (status, said, call))
+        status, said = files.run(words, b"contents", env=refusing.env(at, call))
+        is_hit, left = refusing.was_hit(), files.listing()
+        is_told = status == 4 and said[:1] in ([NOT_READ], [NOT_WRITTEN]) and len(said) == 2
+        is_spared = left in (before, between if call in ("statx", "rename", "link") else before)
+        files.check(f"{call} {at} in {words}", is_told and is_spared if is_hit else status == 0, (status, said, [*left]))
         files.put_back(before)
+    files.check(f"{call} in {words}", at > 1)
 
 
 def links_and_rights(files):
@@ -190,6 +199,9 @@ def links_and_rights(files):
     files.check("a link's target is changed", files.holds("/by-link"))
     files.image.chmod(0o600)
     files.must(["put", "--block", "512", "a.img", "/mode"], b"contents")
+    journal = files.image.with_name("a.img.lfsj")
+    files.check("a journal has its image's rights", journal.stat().st_mode & 0o777 == 0o600, oct(journal.stat().st_mode))
+    files.check("a link has no journal of its own", not (files.folder / "link.img.lfsj").exists())
     files.check("rights stay", files.image.stat().st_mode & 0o777 == 0o600, oct(files.image.stat().st_mode))
     files.run(["format", "--block", "512", "--count", "8", "new.img"], preexec_fn=lambda: os.umask(0o027))
     made = files.folder / "new.img"
@@ -209,6 +221,22 @@ def leftovers(files):
     left.mkdir()
     files.refused("a folder in the way", ["mkdir", "--block", "512", "a.img", "/d"], NOT_WRITTEN, "a.img: not a regular file")
     left.rmdir()
+    left = files.folder / "a.img.lfsj.new"
+    left.write_bytes(b"left over")
+    files.check("a journal's leftover is replaced", files.put("/again")[0] == 0 and not left.exists())
+
+
+def journals_that_are_no_files(files):
+    """What has the journal's name and is no regular file is neither read nor written."""
+    journal, mkdir = files.folder / "a.img.lfsj", ["mkdir", "--block", "512", "a.img", "/d"]
+    journal.unlink()
+    journal.mkdir()
+    said = "the journal of a.img: not a regular file"
+    files.refused("a folder as a journal", mkdir, NOT_READ, said)
+    for words in ["forget", "--block", "512", "a.img"], ["format", "--block", "512", "--count", "8", "a.img"]:
+        files.refused(f"a folder in the journal's place: {words[0]}", words, NOT_WRITTEN, said)
+    journal.rmdir()
+    files.must(mkdir)
 
 
 def limit_files(length):
@@ -220,12 +248,19 @@ def limit_files(length):
 def disks_that_refuse(files):
     mkdir = ["mkdir", "--block", "512", "a.img", "/d"]
     files.refused("a full disk", mkdir, NOT_WRITTEN, "a.img: ", preexec_fn=lambda: limit_files(8_192))
+    for number in range(40):
+        files.must(["put", "--block", "512", "a.img", "/f"], bytes([number]))
+    journal = "the journal of a.img: File too large"
+    files.refused("no room for the journal", mkdir, NOT_WRITTEN, journal, preexec_fn=lambda: limit_files(33_000))
     if os.geteuid() == 0:
         files.folder.chmod(0o555)
         files.image.chmod(0o644)
         files.refused("a read-only folder", mkdir, NOT_WRITTEN, "a.img: Permission denied", user=NOBODY)
         files.image.chmod(0o600)
         files.refused("an unreadable image", mkdir, NOT_READ, "a.img: Permission denied", user=NOBODY)
+        files.image.chmod(0o644)
+        files.image.with_name("a.img.lfsj").chmod(0o600)
+        files.refused("an unreadable journal", mkdir, NOT_READ, "the journal of a.img: Permission denied", user=NOBODY)
         files.folder.chmod(0o755)
 
 
@@ -252,6 +287,7 @@ SCENES = (
     calls_that_fail,
     links_and_rights,
     leftovers,
+    journals_that_are_no_files,
     disks_that_refuse,
     pairs_of_runs,
 )

@@ -1,49 +1,54 @@
 #!/usr/bin/env python3
 """Refuses each request for memory of some runs of lfsed in turn. Each run has to end as it does with ample memory, or with
-`44 Memory` and the image as it was; what went out of it is a beginning of what goes out with ample memory."""
-import os
+`44 Memory` and the image and its journal as they were; what went out of it is a beginning of what goes out with ample memory."""
 import pathlib
 import subprocess
 import sys
 import tempfile
 
+from support.refusing import Refusing
+
 HOME = pathlib.Path(__file__).resolve().parent.parent
 PROGRAM = HOME / "crates/lfsed/out/lfsed"
+# No file, and no journal.
+NOTHING = None, None
+
+
+def word(number):
+    return number.to_bytes(4, "little")
 
 
 class Runs:
-    """Runs in a folder, on the file a.img of it."""
+    """Runs in a folder, on the file a.img of it and its journal."""
 
     def __init__(self, folder):
-        self.image, self.hit, self.library = folder / "a.img", folder / "hit", folder / "refuse.so"
+        self.files = folder / "a.img", folder / "a.img.lfsj"
+        self.refusing = Refusing(folder)
         self.ran = self.wrong = 0
-        subprocess.run(["cc", "-shared", "-fPIC", "-O1", "-o", self.library, HOME / "tests/refuse.c", "-ldl"], check=True)
 
-    def run(self, words, image, contents, at):
-        """How a run ends whose request number `at` is refused: its status, what it prints and complains, and the image."""
-        self.hit.unlink(missing_ok=True)
-        self.image.unlink(missing_ok=True)
-        if image is not None:
-            self.image.write_bytes(image)
-        env = dict(os.environ, FAIL_AT=str(at), HIT_FILE=str(self.hit))
-        if at:
-            env["LD_PRELOAD"] = str(self.library)
+    def run(self, words, state, contents, at):
+        """How a run ends whose request number `at` is refused: its status, what it prints and complains, and the files."""
+        for file, data in zip(self.files, state):
+            file.unlink(missing_ok=True)
+            if data is not None:
+                file.write_bytes(data)
+        env = self.refusing.env(at) if at else None
         command = [PROGRAM, words[0], "--block=512", *words[1:]]
-        ended = subprocess.run(command, cwd=self.image.parent, input=contents, capture_output=True, env=env)
-        after = self.image.read_bytes() if self.image.exists() else None
+        ended = subprocess.run(command, cwd=self.files[0].parent, input=contents, capture_output=True, env=env)
+        after = tuple(file.read_bytes() if file.exists() else None for file in self.files)
         return ended.returncode, ended.stdout, ended.stderr, after
 
-    def row(self, words, image, contents=b""):
-        """Refuses each request of a run in turn; answers the image that the run leaves with ample memory."""
-        ample = self.run(words, image, contents, 0)
+    def row(self, words, state, contents=b""):
+        """Refuses each request of a run in turn; answers the files that the run leaves with ample memory."""
+        ample = self.run(words, state, contents, 0)
         at, memory, is_right = 0, 0, True
-        while at == 0 or self.hit.exists():
+        while at == 0 or self.refusing.was_hit():
             at += 1
-            status, printed, complained, after = ended = self.run(words, image, contents, at)
+            status, printed, complained, after = ended = self.run(words, state, contents, at)
             if ended == ample:
                 continue
             memory += 1
-            if (status, complained, after) != (4, b"lfsed: 44 Memory\n", image) or not ample[1].startswith(printed):
+            if (status, complained, after) != (4, b"lfsed: 44 Memory\n", state) or not ample[1].startswith(printed):
                 print(f"{' '.join(words)}: request {at} refused: status {status}, {complained!r}")
                 is_right = False
         self.ran, self.wrong = self.ran + 1, self.wrong + (not is_right)
@@ -53,7 +58,7 @@ class Runs:
 
 
 def rows(runs):
-    new = runs.row(["format", "--count=8", "a.img"], None)
+    new = runs.row(["format", "--count=8", "a.img"], NOTHING)
     runs.row(["check", "a.img"], new)
     runs.row(["rmattr", "a.img", "/", "74"], new)
     runs.row(["setattr", "a.img", "/x", "74", "01"], new)
@@ -70,7 +75,7 @@ def rows(runs):
 
 
 def directory_rows(runs):
-    new = runs.row(["format", "--count=8", "a.img"], None)
+    new = runs.row(["format", "--count=8", "a.img"], NOTHING)
     made = runs.row(["mkdir", "a.img", "/d"], new)
     filled = runs.row(["put", "a.img", "/d/x"], made, bytes(65))
     runs.row(["rm", "a.img", "/d"], filled)
@@ -86,10 +91,28 @@ def directory_rows(runs):
     runs.row(["mkdir", "a.img", "/" + 200 * "b"], runs.row(["put", "a.img", "/a"], parted, bytes(513)))
 
 
+def history_rows(runs):
+    """Changes that are taken back, made again, dropped and forgotten, and histories that lead to images that don't mount."""
+    new = runs.row(["format", "--count=8", "a.img"], NOTHING)
+    made = runs.row(["mkdir", "a.img", "/a"], new)
+    filled = runs.row(["put", "a.img", "/a/x"], made, b"hello")
+    emptied = runs.row(["undo", "a.img"], filled)
+    undone = runs.row(["undo", "a.img"], emptied)
+    runs.row(["redo", "a.img"], runs.row(["redo", "a.img"], undone))
+    runs.row(["redo", "a.img"], runs.row(["mkdir", "a.img", "/b"], undone))
+    runs.row(["undo", "a.img"], runs.row(["forget", "a.img"], filled))
+    erased, zeroed, first = b"\xff" * 512, bytes(512), new[0][:512]
+    for changes in [(erased, first)], [(erased, zeroed), (erased, first)], [(zeroed, erased), (erased, first)]:
+        journal = new[1][:16] + word(len(changes)) + word(0)
+        journal += b"".join(word(1) + word(0) + old + now for old, now in changes)
+        runs.row(["undo", "a.img"], (new[0], journal))
+
+
 subprocess.run([HOME / "bin/lfsed", "--help"], stdout=subprocess.DEVNULL, check=True)
 with tempfile.TemporaryDirectory() as folder:
     tried = Runs(pathlib.Path(folder))
     rows(tried)
     directory_rows(tried)
+    history_rows(tried)
 print(f"{tried.ran - tried.wrong} passed, {tried.wrong} failed")
 sys.exit(1 if tried.wrong else 0)

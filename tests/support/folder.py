@@ -18,16 +18,18 @@ class Folder:
     def __init__(self):
         self.room = tempfile.TemporaryDirectory()
         self.image = pathlib.Path(self.room.name) / "a.img"
+        self.journal = self.image.with_name("a.img.lfsj")
         self.right = self.wrong = 0
 
     def be(self, front, length):
-        """Makes the image these bytes, with 0xff behind them up to a length."""
+        """Makes the image these bytes, with 0xff behind them up to a length, and takes its journal away."""
+        self.journal.unlink(missing_ok=True)
         self.image.write_bytes(front.ljust(length, b"\xff"))
 
-    def run(self, words, length=0):
+    def run(self, words, length=0, **how):
         """Runs the program; answers its status, what it complained and what it printed."""
         command = [PROGRAM, *words.split(" ")] if words else [PROGRAM]
-        ended = subprocess.run(command, cwd=self.room.name, input=contents(length), capture_output=True, timeout=60)
+        ended = subprocess.run(command, cwd=self.room.name, input=contents(length), capture_output=True, timeout=60, **how)
         return ended.returncode, ended.stderr.decode(), ended.stdout
 
     def check(self, what, is_right, found=""):
@@ -40,16 +42,19 @@ class Folder:
         """The image's bytes, where there is one."""
         return self.image.read_bytes() if self.image.exists() else None
 
+    def saved(self):
+        """The journal's bytes, where there is one."""
+        return self.journal.read_bytes() if self.journal.exists() else None
+
     def play(self, rows):
-        """Runs rows one after another. Where one is refused the image stays as it was, and no other file is there."""
+        """Runs rows one after another. Where one is refused image and journal stay as they were, and no other file is there."""
         for words, length, status, complaint, printed in rows:
-            before = self.old()
+            before = self.old(), self.saved()
             ended = self.run(words, length)
             wanted = printed.encode() if isinstance(printed, str) else contents(printed)
             self.check(words, ended == (status, complaint, wanted), ended)
-            files = [self.image] if self.old() is not None else []
-            kept = (status == 0 or self.old() == before) and list(self.image.parent.iterdir()) == files
-            self.check(f"{words}: files", kept)
+            is_kept = status == 0 or (self.old(), self.saved()) == before
+            self.check(f"{words}: files", is_kept and {*self.image.parent.iterdir()} <= {self.image, self.journal})
 
     def begins(self, words, front):
         """Runs words that are refused, and compares how what is complained begins."""

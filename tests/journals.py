@@ -1,0 +1,208 @@
+#!/usr/bin/env python3
+"""Undo and redo over runs of the program: images and journals byte for byte, and journals that are refused."""
+import pathlib
+import sys
+import tempfile
+
+from support.folder import run_scenes
+from support.refusing import Refusing
+
+NO_FORMAT = "lfsed: 50 JournalFormat\n"
+NO_MATCH = "lfsed: 51 JournalMismatch\n"
+NO_IMAGE = "lfsed: 52 JournalImage\n"
+NO_UNDO = "lfsed: 53 NothingToUndo\n"
+NO_REDO = "lfsed: 54 NothingToRedo\n"
+FULL = "lfsed: 55 JournalFull\n"
+# Without changes, for 8 blocks of 512 bytes.
+FRESH = bytes.fromhex("6c66736a 01000000 00020000 08000000 00000000 00000000")
+
+
+def word(number):
+    return number.to_bytes(4, "little")
+
+
+def changed(data, at, part):
+    """Bytes with others at a place."""
+    return data[:at] + part + data[at + len(part):]
+
+
+class Journal:
+    """A folder with an image of 8 blocks of 512 bytes and its journal."""
+
+    def __init__(self, folder):
+        self.folder = folder
+        self.does("format --count 8", FRESH)
+        self.first = folder.old()
+
+    def now(self):
+        """The journal's bytes, where there is one."""
+        return self.folder.saved()
+
+    def be(self, data):
+        """Makes the journal these bytes."""
+        self.folder.journal.write_bytes(data)
+
+    def ended(self, words, length=0, **how):
+        """Runs a command on the image; answers how it ended."""
+        command, *others = words.split(" ")
+        return self.folder.run(" ".join([command, "-b 512 a.img", *others]), length, **how)
+
+    def does(self, words, journal=None, length=0):
+        """Runs words that are taken, and compares the journal, or its length."""
+        ended = self.ended(words, length)
+        self.folder.check(words, ended == (0, "", b""), ended)
+        right = journal is None or journal in (self.now(), len(self.now()))
+        self.folder.check(f"{words}: journal", right, self.now()[:32])
+
+    def refuses(self, words, status, complaint, what=""):
+        """Runs words that are refused, and compares both files with what they were."""
+        before = self.folder.old(), self.now()
+        ended = self.ended(words)
+        self.folder.check(f"{words}: {what}", ended == (status, complaint, b""), ended)
+        self.folder.check(f"{words}: {what}: files", (self.folder.old(), self.now()) == before)
+
+    def is_image(self, what, wanted):
+        self.folder.check(what, self.folder.old() == wanted)
+
+    def two_commands(self):
+        """A directory, and a file of 5 bytes in it."""
+        self.does("mkdir /a", 3_112)
+        self.middle, self.early = self.folder.old(), self.now()
+        self.does("put /a/x", 4_144, 5)
+        self.later = self.folder.old()
+
+
+def changes_are_taken_back_and_made_again(folder):
+    journal = Journal(folder)
+    journal.two_commands()
+    whole = journal.now()
+    journal.does("undo", changed(whole, 16, word(1) + word(1)))
+    journal.is_image("undo", journal.middle)
+    journal.does("undo", changed(whole, 16, word(0) + word(2)))
+    journal.is_image("undo twice", journal.first)
+    journal.refuses("undo", 1, NO_UNDO)
+    journal.does("redo", changed(whole, 16, word(1) + word(1)))
+    journal.is_image("redo", journal.middle)
+    journal.does("redo", whole)
+    journal.is_image("redo twice", journal.later)
+    journal.refuses("redo", 1, NO_REDO)
+
+
+def nothing_is_there_without_a_journal(folder):
+    journal = Journal(folder)
+    folder.journal.unlink()
+    journal.refuses("undo", 1, NO_UNDO)
+    journal.refuses("redo", 1, NO_REDO)
+    journal.be(b"")
+    journal.refuses("undo", 1, NO_UNDO)
+    journal.does("mkdir /a", 3_112)
+    journal.does("undo")
+    journal.is_image("undo", journal.first)
+
+
+def a_command_drops_what_was_undone(folder):
+    journal = Journal(folder)
+    journal.does("mkdir /a", 3_112)
+    journal.does("undo")
+    journal.does("mkdir /b", 3_112)
+    journal.refuses("redo", 1, NO_REDO)
+    journal.does("undo")
+    journal.is_image("undo", journal.first)
+
+
+def what_was_forgotten_is_gone(folder):
+    journal = Journal(folder)
+    journal.two_commands()
+    journal.does("forget", FRESH)
+    journal.is_image("forget", journal.later)
+    journal.refuses("undo", 1, NO_UNDO)
+
+
+def other_journals_are_refused(folder):
+    journal = Journal(folder)
+    journal.two_commands()
+    whole = journal.now()
+    rows = [
+        ("a new byte of the later change", changed(whole, 4_143, b"\0"), NO_MATCH),
+        ("a new byte of the older change", changed(whole, 1_055, b"\0"), NO_MATCH),
+        ("nine blocks", changed(whole, 12, word(9)), NO_MATCH),
+        ("a byte more", whole + b"\0", NO_FORMAT),
+        ("another letter", b"L" + whole[1:], NO_FORMAT),
+        ("version 7", changed(whole, 4, word(7)), NO_FORMAT),
+        ("no block in a change", changed(whole, 24, word(0)), NO_FORMAT),
+        ("a number twice", changed(whole, 1_056, whole[28:32]), NO_FORMAT),
+        ("block 8", changed(whole, 28, word(8)), NO_FORMAT),
+        ("1,001 changes", changed(whole, 16, word(600) + word(401)), NO_FORMAT),
+        ("1,000 changes", changed(FRESH, 16, word(1_000) + word(0)), NO_FORMAT),
+    ]
+    for what, data, complaint in rows:
+        folder.check(f"{what}: is another", data != whole)
+        journal.be(data)
+        for step in "undo", "redo", "mkdir /b":
+            journal.refuses(step, 3, complaint, what)
+    for length in [*range(1, 24), *range(24, len(whole), 97), len(whole) - 1]:
+        journal.be(whole[:length])
+        journal.refuses("undo", 3, NO_FORMAT, f"the first {length} bytes")
+
+
+def block_zero(old, new):
+    """A change of block 0."""
+    return word(1) + word(0) + old + new
+
+
+def images_of_a_history_mount(folder):
+    journal = Journal(folder)
+    last = block_zero(b"\xff" * 512, journal.first[:512])
+    rows = [
+        ("erased before", [last], NO_IMAGE),
+        ("a change that doesn't lead there", [block_zero(b"\xff" * 512, bytes(512)), last], NO_MATCH),
+        ("a change that leads there", [block_zero(bytes(512), b"\xff" * 512), last], NO_IMAGE),
+    ]
+    for what, changes, complaint in rows:
+        journal.be(changed(FRESH, 16, word(len(changes))) + b"".join(changes))
+        journal.refuses("undo", 3, complaint, what)
+    journal.does("forget", FRESH)
+    journal.is_image("forget", journal.first)
+
+
+def a_thousand_changes_are_kept(folder):
+    journal = Journal(folder)
+    for _ in range(1_000):
+        folder.run("setattr -b 512 a.img / 74 01")
+    journal.refuses("setattr / 74 01", 1, FULL)
+    journal.does("undo")
+    journal.does("setattr / 74 01")
+
+
+def a_run_that_stopped_between_the_files(folder):
+    """The image doesn't get its place behind the new journal: the image is old, and the two don't match."""
+    journal = Journal(folder)
+    journal.two_commands()
+    new, middle = journal.now(), journal.middle
+    folder.be(middle, 0)
+    journal.be(journal.early)
+    with tempfile.TemporaryDirectory() as library:
+        refusing = Refusing(pathlib.Path(library))
+        status, complained, _ = journal.ended("put /a/x", 5, env=refusing.env(2, "rename"))
+        folder.check("a name that isn't given", refusing.was_hit())
+    folder.check("put", status == 4 and complained.startswith("lfsed: 61 CannotWrite\n"), (status, complained))
+    journal.is_image("put", middle)
+    folder.check("the new journal", journal.now() == new)
+    journal.refuses("undo", 3, NO_MATCH)
+    ended = journal.ended("check")
+    folder.check("check", ended == (0, "", b"block 512, count 8, free 4, directories 2, files 0\n"), ended)
+    journal.does("forget", FRESH)
+    journal.is_image("forget", middle)
+
+
+if __name__ == "__main__":
+    sys.exit(run_scenes([
+        changes_are_taken_back_and_made_again,
+        nothing_is_there_without_a_journal,
+        a_command_drops_what_was_undone,
+        what_was_forgotten_is_gone,
+        other_journals_are_refused,
+        images_of_a_history_mount,
+        a_thousand_changes_are_kept,
+        a_run_that_stopped_between_the_files,
+    ]))
