@@ -1,11 +1,4 @@
-pub mod MoveLemmas
 pub mod PlaceLemmas
-pub mod RunLemmas
-pub mod EquationLemmas
+pub mod StepLemmas
 pub mod KnownLemmas
-pub mod ImageLemmas
-pub mod BookLemmas
 pub mod OpeningLemmas
-pub mod SavedLemmas
-pub mod GrowthLemmas
-pub mod GeometryLemmas

@@ -11,11 +11,12 @@ use Rattle.lfs_fs.specs.Volume.{Volume}
 use Rattle.lfs_fs.specs.Cause.{HasCause}
 use Rattle.lfs_fs.specs.Mounted.{IsOutlineOf}
 use Rattle.lfs_book.specs.Book.{Book, IsBook, IsBookOf, IsPatchOf, book_of, journal_bytes}
-use Rattle.lfs_journal.specs.declared.open_fault.OpenFault.{OpenFault}
-use Rattle.lfs_journal.specs.declared.open_fault.OpenFault.TheVariants.{Mount, JournalFormat, JournalMismatch, JournalImage}
-use Rattle.lfs_journal.specs.History.{IsMounted, GoesBack, GoesOn, past_of, future_of}
-use Rattle.lfs_journal.specs.Opening.{Spells, HasHistory, RefusesOpening, RefusesMount, RefusesMounts, OpensParts, others}
-use Rattle.lfs_journal.proofs.MoveLemmas.{latest}
+use Rattle.lfs_history.specs.declared.open_fault.OpenFault.{OpenFault}
+use Rattle.lfs_history.specs.declared.open_fault.OpenFault.TheVariants.{Mount, JournalFormat, JournalMismatch, JournalImage}
+use Rattle.lfs_history.specs.History.{IsMounted, GoesBack, GoesOn, past_of, future_of}
+use Rattle.lfs_history.specs.Opening.{Spells, HasHistory, RefusesOpening, others}
+use Rattle.lfs_journal.specs.Opened.{RefusesMount, RefusesMounts, OpensParts}
+use Rattle.lfs_history.proofs.MoveLemmas.{latest}
 
 -- ---- lists
 

@@ -6,10 +6,10 @@ use Rattle.lfs_block.specs.Disk.{Disk}
 use Rattle.lfs_block.specs.Patch.{ChangeSet, IsPatch, AgreesOld, AgreesNew, applied, reverted}
 use Rattle.lfs_command.specs.Command.{Asked}
 use Rattle.lfs_command.specs.Planned.{Plans}
-use Rattle.lfs_journal.specs.History.{History, IsHistoryAt, history_at, past_of, future_of, GoesBack, GoesOn, most_changes}
-use Rattle.lfs_journal.specs.Moves.{Pushes, Undoes, Redoes}
-use Rattle.lfs_journal.specs.Steps.{Does}
-use Rattle.lfs_journal.proofs.MoveLemmas.{TakeBack, Make, Follow, latest, undo_keeps, redo_keeps, push_keeps}
+use Rattle.lfs_history.specs.History.{History, IsHistoryAt, history_at, past_of, future_of, GoesBack, GoesOn, most_changes}
+use Rattle.lfs_history.specs.Moves.{Pushes, Undoes, Redoes}
+use Rattle.lfs_history.specs.Steps.{Does}
+use Rattle.lfs_history.proofs.MoveLemmas.{TakeBack, Make, Follow, latest, undo_keeps, redo_keeps, push_keeps}
 
 -- the change at a place, between those before it and those behind it
 pub record IsAt (changes : List ChangeSet) (i j : ℕ) (p : ChangeSet) : Type 0 where

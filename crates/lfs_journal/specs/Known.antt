@@ -4,7 +4,7 @@ use Rattle.lfs_block.specs.Disk.{Disk}
 use Rattle.lfs_block.specs.Patch.{ChangeSet}
 use Rattle.lfs_fs.specs.Volume.{Volume}
 use Rattle.lfs_fs.specs.Mounted.{IsOutlineOf}
-use Rattle.lfs_journal.specs.History.{IsHistoryAt}
+use Rattle.lfs_history.specs.History.{IsHistoryAt}
 
 -- what is known is the outline of the image
 abbrev pub IsKnown : Disk → Option Volume → Type 0

@@ -1,9 +1,2 @@
-pub mod Faults
-pub mod History
 pub mod Known
-pub mod Moves
-pub mod Steps
-pub mod Meaning
-pub mod Laws
-pub mod Opening
-pub mod OpeningLaws
+pub mod Opened

@@ -4,7 +4,7 @@ ghost use Rattle.std.specs.Prelude.{◌≡◌, ◌↔◌, IsTrue, reverse};
 ghost use Rattle.std.specs.List.{AllByRecursion};
 ghost use Rattle.lfs_block.specs.Disk.{IsDisk};
 ghost use Rattle.lfs_block.specs.Patch.{IsPatch};
-ghost use Rattle.lfs_journal.specs.History.{GoesBack, GoesOn};
+ghost use Rattle.lfs_history.specs.History.{GoesBack, GoesOn};
 
 use lfs_block::{
     Image, Patch, applied_patches_change_their_blocks, applied_patches_revert,

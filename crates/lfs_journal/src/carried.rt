@@ -5,7 +5,7 @@ ghost use Rattle.lfs_block.specs.Patch.{applied};
 ghost use Rattle.lfs_fs.specs.Mounted.{IsOutlineOf};
 ghost use Rattle.lfs_command.specs.AskedFor.{asked_for};
 ghost use Rattle.lfs_command.specs.Planned.{Plans, RefusesPlan};
-ghost use Rattle.lfs_journal.specs.History.{IsMounted};
+ghost use Rattle.lfs_history.specs.History.{IsMounted};
 ghost use Rattle.lfs_journal.specs.Known.{IsKnown};
 
 use lfs_block::{Image, Patch};

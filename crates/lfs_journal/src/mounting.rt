@@ -3,15 +3,15 @@
 ghost use Rattle.std.specs.Prelude.{◌≡◌, IfOk, IfErr, reverse};
 ghost use Rattle.std.specs.List.{AllByRecursion};
 ghost use Rattle.lfs_block.specs.Disk.{IsDisk};
-ghost use Rattle.lfs_journal.specs.History.{GoesBack, GoesOn, IsMounted, past_of, future_of};
-ghost use Rattle.lfs_journal.specs.Opening.{RefusesMount, RefusesMounts};
+ghost use Rattle.lfs_history.specs.History.{GoesBack, GoesOn, IsMounted, past_of, future_of};
+ghost use Rattle.lfs_journal.specs.Opened.{RefusesMount, RefusesMounts};
 
-use crate::open_fault::OpenFault;
 use lfs_block::{
     Blocks, Image, MountFault, Overlay, Patch, agreeing_patches_fit, applied_patches_revert,
     reverted_patches_apply_again,
 };
 use lfs_fs::mount;
+use lfs_history::OpenFault;
 use std::alloc::Global;
 
 /// Whether an image of a history mounts; `JournalImage` where it has a cause, and want of memory.

@@ -4,15 +4,16 @@ ghost use Rattle.std.specs.Prelude.{◌≡◌, ◌≤◌, ◌↔◌, IsTrue, IfO
 ghost use Rattle.std.specs.List.{AllByRecursion};
 ghost use Rattle.lfs_block.specs.Disk.{IsDisk};
 ghost use Rattle.lfs_block.specs.Patch.{IsPatch};
-ghost use Rattle.lfs_journal.specs.History.{GoesBack, GoesOn};
-ghost use Rattle.lfs_journal.specs.Opening.{OpensParts, RefusesOpening};
+ghost use Rattle.lfs_history.specs.History.{GoesBack, GoesOn};
+ghost use Rattle.lfs_history.specs.Opening.{RefusesOpening};
+ghost use Rattle.lfs_journal.specs.Opened.{OpensParts};
 
 use crate::agreeing::{goes_back, goes_on};
 use crate::mounting::{mounts_back, mounts_on};
-use crate::open_fault::OpenFault;
 use lfs_block::{Blocks, Image, Patch};
 use lfs_book::Journal;
 use lfs_fs::{Outline, mount};
+use lfs_history::OpenFault;
 use std::alloc::Global;
 
 /// What a session keeps beside its image.

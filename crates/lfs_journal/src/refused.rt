@@ -1,7 +1,7 @@
 //! An image on which no journal was opened.
 
-use crate::open_fault::OpenFault;
 use lfs_block::Image;
+use lfs_history::OpenFault;
 
 /// An image on which no journal was opened, and why.
 ///

@@ -4,7 +4,6 @@ use crate::carried::{Change, carried};
 use crate::opening::{Opened, read_history};
 use crate::refused::Refused;
 use crate::replacing::replace_from;
-use crate::step_fault::StepFault;
 use crate::unmounted::Unmounted;
 use lfs_block::{
     Blocks, Image, Patch, applied_patches_change_their_blocks, applied_patches_revert,
@@ -13,6 +12,7 @@ use lfs_block::{
 use lfs_book::write_journal;
 use lfs_edit::Command;
 use lfs_fs::{Outline, mount};
+use lfs_history::StepFault;
 use lfs_law::cuts_follow;
 use std::alloc::Global;
 use std::marker::Model;
@@ -34,7 +34,7 @@ pub struct Session {
 }
 
 impl Model for Session {
-    ghost use Rattle.lfs_journal.specs.History.{History, history_at};
+    ghost use Rattle.lfs_history.specs.History.{History, history_at};
     ghost use Rattle.lfs_journal.specs.Known.{IsSession};
 
     ghost Value = { History };
@@ -49,11 +49,11 @@ impl Session {
     ghost use Rattle.lfs_fs.specs.Cause.{HasCause};
     ghost use Rattle.lfs_book.specs.Book.{journal_bytes};
     ghost use Rattle.lfs_command.specs.AskedFor.{asked_for};
-    ghost use Rattle.lfs_journal.specs.declared.step_fault.StepFault.TheVariants.{NothingToUndo, NothingToRedo};
-    ghost use Rattle.lfs_journal.specs.History.{IsHistory, fresh_history};
-    ghost use Rattle.lfs_journal.specs.Moves.{Undoes, Redoes, Forgets};
-    ghost use Rattle.lfs_journal.specs.Opening.{Opens, RefusesOpening, journal_of};
-    ghost use Rattle.lfs_journal.specs.Steps.{Does, Takes, Do};
+    ghost use Rattle.lfs_history.specs.declared.step_fault.StepFault.TheVariants.{NothingToUndo, NothingToRedo};
+    ghost use Rattle.lfs_history.specs.History.{IsHistory, fresh_history};
+    ghost use Rattle.lfs_history.specs.Moves.{Undoes, Redoes, Forgets};
+    ghost use Rattle.lfs_history.specs.Opening.{Opens, RefusesOpening, journal_of};
+    ghost use Rattle.lfs_history.specs.Steps.{Does, Takes, Do};
 
     /// A session of an image that nothing was done to. A refusal hands the image back: the image has the cause that the
     /// fault names, and `Memory` says only that a growth was refused.

@@ -2,18 +2,17 @@
 
 ghost use Rattle.std.specs.Prelude.{◌≡◌, map, IfOk, OnErr};
 ghost use Rattle.std.specs.Result.{result_err};
-ghost use Rattle.lfs_journal.specs.Meaning.{step_of};
-ghost use Rattle.lfs_journal.specs.Steps.{Run};
+ghost use Rattle.lfs_history.specs.Meaning.{step_of};
+ghost use Rattle.lfs_history.specs.Steps.{Run};
 
 use crate::session::Session;
-use crate::step::Step;
-use crate::step_fault::StepFault;
+use lfs_history::{Step, StepFault};
 use std::alloc::{AllocError, Global};
 
 impl Session {
     ghost use Rattle.std.specs.Result.{result_err};
-    ghost use Rattle.lfs_journal.specs.Meaning.{step_of};
-    ghost use Rattle.lfs_journal.specs.Steps.{Takes};
+    ghost use Rattle.lfs_history.specs.Meaning.{step_of};
+    ghost use Rattle.lfs_history.specs.Steps.{Takes};
 
     /// Takes one step. A refusal leaves all as it was.
     pub fn step(&mut self, alloc: Global, step: &Step<'_>) -> Result<(), StepFault>

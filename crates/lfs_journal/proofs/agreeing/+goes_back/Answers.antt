@@ -2,7 +2,7 @@
 use Rattle.std.proofs.Common.{◌≡◌, ◌↔◌, [], ◌∷◌, ◌++◌, IsTrue, reverse, rules, sym, ap, ◌∙◌, subst}
 use Rattle.lfs_block.specs.Disk.{Disk}
 use Rattle.lfs_block.specs.Patch.{IsPatch, AgreesOld, AgreesNew, applied, reverted}
-use Rattle.lfs_journal.specs.History.{GoesBack}
+use Rattle.lfs_history.specs.History.{GoesBack}
 use Rattle.lfs_journal.proofs.OpeningLemmas.{last_of, back_agrees}
 use Rattle.lfs_journal.proofs.agreeing.+goes_back.Goals as goal
 

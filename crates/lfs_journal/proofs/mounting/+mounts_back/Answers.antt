@@ -3,9 +3,9 @@ use Rattle.std.proofs.Common.{◌≡◌, List, [], ◌∷◌, ◌++◌, reverse,
 use Rattle.std.specs.List.{AllByRecursion}
 use Rattle.std.proofs.lemmas.Result.{IfOk-weaker, IfErr-weaker}
 use Rattle.lfs_block.specs.Patch.{ChangeSet, AgreesOld, applied, reverted}
-use Rattle.lfs_journal.specs.History.{GoesBack, IsMounted, past_of}
-use Rattle.lfs_journal.specs.Opening.{RefusesMounts}
-use Rattle.lfs_journal.proofs.MoveLemmas.{latest}
+use Rattle.lfs_history.specs.History.{GoesBack, IsMounted, past_of}
+use Rattle.lfs_journal.specs.Opened.{RefusesMounts}
+use Rattle.lfs_history.proofs.MoveLemmas.{latest}
 use Rattle.lfs_journal.proofs.OpeningLemmas.{past_mounted, past_later_refused}
 use Rattle.lfs_journal.proofs.mounting.+mounts_back.Goals as goal
 

@@ -2,8 +2,8 @@
 use Rattle.std.proofs.Common.{◌≡◌, ◌∷◌, rules, sym, ap, ◌∙◌, subst}
 use Rattle.std.proofs.lemmas.Result.{IfErr-weaker}
 use Rattle.lfs_block.specs.Patch.{IsPatch, AgreesOld, AgreesNew, applied, reverted}
-use Rattle.lfs_journal.specs.History.{future_of}
-use Rattle.lfs_journal.specs.Opening.{RefusesMounts}
+use Rattle.lfs_history.specs.History.{future_of}
+use Rattle.lfs_journal.specs.Opened.{RefusesMounts}
 use Rattle.lfs_journal.proofs.OpeningLemmas.{future_later_refused}
 use Rattle.lfs_journal.proofs.mounting.+mounts_on.Goals as goal
 

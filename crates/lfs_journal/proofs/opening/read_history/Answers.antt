@@ -1,8 +1,8 @@
 -- The changes that were read agree with the image, and lead to images that mount.
 use Rattle.std.proofs.Common.{◌≡◌, take, drop, reverse, rules, ◌∙◌}
 use Rattle.std.proofs.lemmas.Result.{err_from_is_err_and}
-use Rattle.lfs_journal.specs.History.{GoesBack, GoesOn, past_of, future_of}
-use Rattle.lfs_journal.specs.Opening.{RefusesMounts}
+use Rattle.lfs_history.specs.History.{GoesBack, GoesOn, past_of, future_of}
+use Rattle.lfs_journal.specs.Opened.{RefusesMounts}
 use Rattle.lfs_journal.proofs.OpeningLemmas.{IsAgreed, book_patches, agreed, past_refused, future_refused, parts_opened}
 use Rattle.lfs_journal.proofs.opening.read_history.Goals as goal
 

@@ -1,6 +1,6 @@
 -- One step more goes on with the run.
 use Rattle.std.proofs.Common.{arith, rules}
-use Rattle.lfs_journal.proofs.RunLemmas.{run_more}
+use Rattle.lfs_journal.proofs.StepLemmas.{run_more}
 use Rattle.lfs_journal.proofs.stepping.run_steps.Goals as goal
 
 pub loop-step-preserved : goal.loop-step-preserved

@@ -1,5 +1,5 @@
 -- The changes are a journal.
-use Rattle.lfs_journal.proofs.BookLemmas.{session_is_book}
+use Rattle.lfs_history.proofs.BookLemmas.{session_is_book}
 use Rattle.lfs_journal.proofs.session.Session.journal_bytes.Goals as goal
 
 pub write_journal-requires : goal.write_journal-requires

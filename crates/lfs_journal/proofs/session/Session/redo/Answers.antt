@@ -1,7 +1,7 @@
 -- The change at the place is made again.
 use Rattle.std.proofs.Common.{◌+◌, subst, arith, refl}
-use Rattle.lfs_journal.specs.History.{History, history_at}
-use Rattle.lfs_journal.specs.Moves.{Redoes}
+use Rattle.lfs_history.specs.History.{History, history_at}
+use Rattle.lfs_history.specs.Moves.{Redoes}
 use Rattle.lfs_journal.proofs.PlaceLemmas.{is_at, redone_at}
 use Rattle.lfs_journal.proofs.session.Session.redo.Goals as goal
 

@@ -1,7 +1,7 @@
 -- The change before the place is taken back.
 use Rattle.std.proofs.Common.{◌-◌, subst, arith}
-use Rattle.lfs_journal.specs.History.{History, history_at}
-use Rattle.lfs_journal.specs.Moves.{Undoes}
+use Rattle.lfs_history.specs.History.{History, history_at}
+use Rattle.lfs_history.specs.Moves.{Undoes}
 use Rattle.lfs_journal.proofs.PlaceLemmas.{is_at, made_agrees, undone_at}
 use Rattle.lfs_journal.proofs.session.Session.undo.Goals as goal
 

@@ -1,0 +1,55 @@
+-- Undo takes a command back, and undo and redo keep all images.
+use Rattle.std.proofs.Common.{◌≡◌, List, [], ◌∷◌, ◌++◌, reverse, ap, sym, ◌∙◌, append_assoc, Some, None}
+use Rattle.std.proofs.lemmas.List.{reverse-append, same_from_push}
+use Rattle.lfs_block.specs.Disk.{Disk}
+use Rattle.lfs_history.specs.declared.step_fault.StepFault.TheVariants.{Refused, NothingToUndo, NothingToRedo, JournalFull}
+use Rattle.lfs_history.specs.History.{History}
+use Rattle.lfs_history.specs.Moves.{Undoes}
+use Rattle.lfs_history.specs.Steps.{Step, Do, Undo, Redo, Forget, Reply, Takes}
+use Rattle.lfs_history.specs.Laws.{images, IsUndoOrRedo, UndoAndRedoKeepImages, UndoIsExact}
+
+-- the nearest image of the past becomes the present one: the images are the same
+moved : (front : Disk) (past : List Disk) (x : Disk) (future : List Disk)
+    → reverse past ++ front ∷ (x ∷ future) ≡ reverse (front ∷ past) ++ x ∷ future
+moved front past x future =
+    sym (ap (λ (r : List Disk). r ++ x ∷ future) (reverse-append (front ∷ []) past) ∙ append_assoc (reverse past) (front ∷ []) (x ∷ future))
+
+undo_keeps_images : (old new : History) → Undoes old new → images new ≡ images old
+undo_keeps_images old new u =
+    ap (λ (f : List Disk). reverse new.past ++ new.present ∷ f) u.future
+    ∙ moved new.present new.past old.present old.future
+    ∙ ap (λ (p : List Disk). reverse p ++ old.present ∷ old.future) (sym u.past)
+
+step_keeps_images : (step : Step) (reply : Reply) (old new : History) → IsUndoOrRedo step → Takes step reply old new
+    → images new ≡ images old
+step_keeps_images Undo None old new is t = undo_keeps_images old new t
+step_keeps_images Undo (Some NothingToUndo) old new is t = ap images t.1
+step_keeps_images Redo None old new is t = sym (undo_keeps_images new old t)
+step_keeps_images Redo (Some NothingToRedo) old new is t = ap images t.1
+step_keeps_images Undo (Some (Refused r)) old new is t = absurd t
+step_keeps_images Undo (Some NothingToRedo) old new is t = absurd t
+step_keeps_images Undo (Some JournalFull) old new is t = absurd t
+step_keeps_images Redo (Some (Refused r)) old new is t = absurd t
+step_keeps_images Redo (Some NothingToUndo) old new is t = absurd t
+step_keeps_images Redo (Some JournalFull) old new is t = absurd t
+step_keeps_images (Do asked) reply old new is t = absurd is
+step_keeps_images Forget reply old new is t = absurd is
+
+pub runs_keep_images : UndoAndRedoKeepImages
+runs_keep_images [] [] old new each run = ap images run
+runs_keep_images (step ∷ steps) (reply ∷ replies) old new each (mid, first, rest) =
+    runs_keep_images steps replies mid new each.1 rest ∙ step_keeps_images step reply old mid each.0 first
+runs_keep_images [] (reply ∷ replies) old new each run = absurd run
+runs_keep_images (step ∷ steps) [] old new each run = absurd run
+
+-- ---- a command taken back
+
+same_front : (x y : Disk) (xs ys : List Disk) → x ∷ xs ≡ y ∷ ys → (x ≡ y) × (xs ≡ ys)
+same_front x y xs ys is = (cc, cc)
+
+pub done_is_undone : UndoIsExact
+done_is_undone asked old new (mid, does, (last, undoes, same)) =
+    let front = same_front last.present old.present last.past old.past (sym undoes.past ∙ does.pushes.past) in
+    let made : last.done ≡ old.done = (same_from_push last.done old.done undoes.change does.change
+    (sym undoes.done ∙ does.pushes.done)).0 in
+    (ap (λ (h : History). h.present) same ∙ front.0, ap (λ (h : History). h.past) same ∙ front.1, ap (λ (h : History). h.done) same ∙ made)

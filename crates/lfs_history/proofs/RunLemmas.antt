@@ -1,0 +1,37 @@
+-- Runs lead from a history to a history.
+use Rattle.std.proofs.Common.{◌≡◌, [], ◌∷◌, sym, subst, Some, None}
+use Rattle.lfs_history.specs.declared.step_fault.StepFault.TheVariants.{Refused, NothingToUndo, NothingToRedo, JournalFull}
+use Rattle.lfs_history.specs.History.{History, IsHistory}
+use Rattle.lfs_history.specs.Steps.{Step, Do, Undo, Redo, Forget, Reply, Takes}
+use Rattle.lfs_history.specs.Laws.{RunsKeepHistories}
+use Rattle.lfs_history.proofs.MoveLemmas.{TakeBack, Make, Follow, undo_keeps, redo_keeps, push_keeps, forget_keeps}
+
+same_keeps : (old new : History) → IsHistory old → new ≡ old → IsHistory new
+same_keeps old new h is = subst IsHistory (sym is) h
+
+step_keeps : TakeBack → Make → Follow → (step : Step) (reply : Reply) (old new : History) → Takes step reply old new → IsHistory old
+    → IsHistory new
+step_keeps back make follow (Do asked) None old new t h = push_keeps make follow asked t.change old new h t.room t.plans t.pushes
+step_keeps back make follow (Do asked) (Some JournalFull) old new t h = same_keeps old new h t.1
+step_keeps back make follow (Do asked) (Some (Refused r)) old new t h = same_keeps old new h t.2
+step_keeps back make follow Undo None old new t h = undo_keeps back old new h t
+step_keeps back make follow Undo (Some NothingToUndo) old new t h = same_keeps old new h t.1
+step_keeps back make follow Redo None old new t h = redo_keeps make old new h t
+step_keeps back make follow Redo (Some NothingToRedo) old new t h = same_keeps old new h t.1
+step_keeps back make follow Forget None old new t h = forget_keeps old new h t
+step_keeps back make follow (Do asked) (Some NothingToUndo) old new t h = absurd t
+step_keeps back make follow (Do asked) (Some NothingToRedo) old new t h = absurd t
+step_keeps back make follow Undo (Some (Refused r)) old new t h = absurd t
+step_keeps back make follow Undo (Some NothingToRedo) old new t h = absurd t
+step_keeps back make follow Undo (Some JournalFull) old new t h = absurd t
+step_keeps back make follow Redo (Some (Refused r)) old new t h = absurd t
+step_keeps back make follow Redo (Some NothingToUndo) old new t h = absurd t
+step_keeps back make follow Redo (Some JournalFull) old new t h = absurd t
+step_keeps back make follow Forget (Some fault) old new t h = absurd t
+
+pub runs_keep : TakeBack → Make → Follow → RunsKeepHistories
+runs_keep back make follow [] [] old new run h = same_keeps old new h run
+runs_keep back make follow (step ∷ steps) (reply ∷ replies) old new (mid, first, rest) h =
+    runs_keep back make follow steps replies mid new rest (step_keeps back make follow step reply old mid first h)
+runs_keep back make follow [] (reply ∷ replies) old new run h = absurd run
+runs_keep back make follow (step ∷ steps) [] old new run h = absurd run

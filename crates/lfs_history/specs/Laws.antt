@@ -1,0 +1,80 @@
+-- Laws of histories (own).
+use Rattle.std.specs.Prelude.{◌≡◌, List, [], ◌∷◌, ◌++◌, reverse, Option, None}
+use Rattle.std.specs.List.{AllByRecursion}
+use Rattle.lfs_block.specs.Disk.{Disk}
+use Rattle.lfs_block.specs.Patch.{ChangeSet, applied}
+use Rattle.lfs_fs.specs.Path.{Path}
+use Rattle.lfs_fs.specs.Volume.{Volume}
+use Rattle.lfs_fs.specs.Tree.{Node}
+use Rattle.lfs_fs.specs.Reading.{reading_of}
+use Rattle.lfs_fs.specs.Holds.{Holds}
+use Rattle.lfs_fs.specs.Mounts.{Mounts}
+use Rattle.lfs_command.specs.Command.{Command, Asked, Spells}
+use Rattle.lfs_command.specs.Equation.{equation}
+use Rattle.lfs_command.specs.Accepted.{Follows}
+use Rattle.lfs_command.specs.Planned.{Plans}
+use Rattle.lfs_history.specs.History.{History, IsHistory}
+use Rattle.lfs_history.specs.Steps.{Step, Do, Undo, Redo, Reply, Does, Takes, Run}
+
+-- the patched image holds a sound volume of the same size, count and limits, whose tree is the command's equation
+pub record IsCarriedOut (asked : Asked) (e : Disk) (v : Volume) (t : Path → Option Node) : Type 0 where
+  pub command : Command
+  pub spells : Spells asked command
+  pub volume : Volume
+  pub holds : Holds (reading_of e) volume
+  pub follows : Follows v command volume
+  pub mounts : Mounts e (equation command t)
+
+-- a patch that is planned for a command makes its equation of the tree that the image mounts to
+abbrev pub CommandsAreEquations : Type 0
+CommandsAreEquations = (d : Disk) (asked : Asked) (p : ChangeSet) (v : Volume) (t : Path → Option Node) → Plans d asked p
+    → Holds (reading_of d) v → Mounts d t → IsCarriedOut asked (applied p d) v t
+
+-- the old present is the nearest image of the past, there is no future, and the new present makes the command's equation
+pub record PushesEquation (asked : Asked) (old new : History) (v : Volume) (t : Path → Option Node) : Type 0 where
+  pub past : new.past ≡ old.present ∷ old.past
+  pub future : new.future ≡ []
+  pub present : IsCarriedOut asked new.present v t
+
+-- a command that is carried out puts an image in front that mounts to its equation of the tree of the one before
+abbrev pub CommandsPushEquations : Type 0
+CommandsPushEquations = (asked : Asked) (old new : History) (v : Volume) (t : Path → Option Node) → Does asked old new
+    → Holds (reading_of old.present) v → Mounts old.present t → PushesEquation asked old new v t
+
+-- all images of a history, from the first one on
+abbrev pub images : History → List Disk
+images h = reverse h.past ++ h.present ∷ h.future
+
+-- a step that takes a change back or makes it again
+abbrev pub IsUndoOrRedo : Step → Type 0
+IsUndoOrRedo Undo = Unit {0}
+IsUndoOrRedo Redo = Unit {0}
+IsUndoOrRedo _ = ⊥
+
+-- undo and redo, in any list, keep all images, each byte for byte
+abbrev pub UndoAndRedoKeepImages : Type 0
+UndoAndRedoKeepImages = (steps : List Step) (replies : List Reply) (old new : History) → AllByRecursion IsUndoOrRedo steps
+    → Run steps replies old new → images new ≡ images old
+
+-- a run leaves a history
+abbrev pub RunsKeepHistories : Type 0
+RunsKeepHistories = (steps : List Step) (replies : List Reply) (old new : History) → Run steps replies old new → IsHistory old
+    → IsHistory new
+
+-- what is done and undone leaves the image and the images before it
+abbrev pub UndoIsExact : Type 0
+UndoIsExact = (asked : Asked) (old new : History) → Run (Do asked ∷ Undo ∷ []) (None ∷ None ∷ []) old new
+    → (new.present ≡ old.present) × (new.past ≡ old.past) × (new.done ≡ old.done)
+
+-- what is undone and redone leaves the history
+abbrev pub RedoIsExact : Type 0
+RedoIsExact = (old new : History) → Run (Undo ∷ Redo ∷ []) (None ∷ None ∷ []) old new → new ≡ old
+
+-- an image of as many blocks, of the same size
+abbrev pub IsOfGeometry : Disk → Disk → Type 0
+IsOfGeometry d e = (e.size ≡ d.size) × (e.count ≡ d.count)
+
+-- a step keeps the size and the number of the blocks
+abbrev pub StepsKeepGeometry : Type 0
+StepsKeepGeometry = (step : Step) (reply : Reply) (old new : History) → IsHistory old → Takes step reply old new
+    → IsOfGeometry old.present new.present

@@ -1,0 +1,8 @@
+pub mod Faults
+pub mod History
+pub mod Moves
+pub mod Steps
+pub mod Meaning
+pub mod Laws
+pub mod Opening
+pub mod OpeningLaws

@@ -1,0 +1,36 @@
+-- Laws of journals and of the histories that they denote (own).
+use Rattle.std.specs.Prelude.{◌≡◌, ℕ, ◌+◌, ◌*◌, ◌≤◌, List, length}
+use Rattle.lfs_block.specs.Disk.{Disk}
+use Rattle.lfs_block.specs.declared.mount_fault.MountFault.TheVariants.{Memory}
+use Rattle.lfs_book.specs.Book.{IsBook, journal_bytes}
+use Rattle.lfs_command.specs.Command.{Asked}
+use Rattle.lfs_command.specs.Need.{need}
+use Rattle.lfs_history.specs.declared.open_fault.OpenFault.{OpenFault}
+use Rattle.lfs_history.specs.declared.open_fault.OpenFault.TheVariants.{Mount}
+use Rattle.lfs_history.specs.History.{History, IsHistory}
+use Rattle.lfs_history.specs.Opening.{Opens, RefusesOpening, journal_of}
+use Rattle.lfs_history.specs.Steps.{Does}
+
+-- the changes of a history are a journal
+abbrev pub HistoriesAreBooks : Type 0
+HistoriesAreBooks = (h : History) → IsHistory h → IsBook (journal_of h)
+
+-- bytes denote one history of an image at most
+abbrev pub JournalsDenoteOneHistory : Type 0
+JournalsDenoteOneHistory = (d : Disk) (bytes : List ℕ) (h k : History) → Opens d bytes h → Opens d bytes k → h ≡ k
+
+-- the bytes of a history's journal denote it on its image
+abbrev pub SavedHistoriesOpen : Type 0
+SavedHistoriesOpen = (h : History) → IsHistory h → Opens h.present (journal_bytes (journal_of h)) h
+
+-- and they are refused there for nothing but want of memory
+abbrev pub SavedHistoriesAreTaken : Type 0
+SavedHistoriesAreTaken = (h : History) (fault : OpenFault) → IsHistory h
+    → RefusesOpening fault h.present (journal_bytes (journal_of h)) → fault ≡ Mount Memory
+
+-- a command makes the journal longer by no more than a number and, for each block that it needs and two more, the block's number,
+-- its bytes before and its bytes after
+abbrev pub JournalsGrowByTheNeed : Type 0
+JournalsGrowByTheNeed = (asked : Asked) (old new : History) (does : Does asked old new)
+    → length (journal_bytes (journal_of new)) ≤ length (journal_bytes (journal_of old)) + 4
+    + (need does.plans.volume does.plans.command + 2) * (2 * old.present.size + 4)

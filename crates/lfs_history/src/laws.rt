@@ -1,0 +1,110 @@
+//! Laws of histories: each function does nothing but call laws, and its contract is the law.
+
+ghost use Rattle.lfs_history.specs.OpeningLaws.{HistoriesAreBooks, JournalsDenoteOneHistory, JournalsGrowByTheNeed, SavedHistoriesAreTaken, SavedHistoriesOpen};
+ghost use Rattle.lfs_history.specs.Laws.{CommandsAreEquations, CommandsPushEquations, RunsKeepHistories, StepsKeepGeometry, UndoIsExact, RedoIsExact, UndoAndRedoKeepImages};
+
+use lfs_block::{
+    applied_patches_change_their_blocks, applied_patches_revert, reverted_patches_apply_again,
+};
+use lfs_book::books_are_read_once;
+use lfs_fs::{both_sides_hold, images_mount_to_one_tree, mounted_images_have_no_cause};
+use lfs_law::{cuts_follow, need_is_exact, written_volumes_are_held};
+
+/// A law: a patch that is planned for a command leaves an image that mounts, to the tree that is the command's equation of
+/// the tree before, with the same size, count and limits. Takes no memory.
+///
+/// Source: own.
+pub fn commands_are_equations()
+    ensures { CommandsAreEquations }
+{
+    images_mount_to_one_tree();
+    cuts_follow();
+}
+
+/// A law: a command that is carried out leaves the old present image in front of those before it, and no image to go on to.
+/// The present image mounts to the command's equation of the old one's tree, with the same size, count and limits. Takes no
+/// memory.
+///
+/// Source: own.
+pub fn commands_push_equations()
+    ensures { CommandsPushEquations }
+{
+    commands_are_equations();
+}
+
+/// A law: after any steps the present image stands between whole images, each of which mounts, and which its changes lead
+/// to. Takes no memory.
+///
+/// Source: own.
+pub fn runs_keep_histories()
+    ensures { RunsKeepHistories }
+{
+    applied_patches_change_their_blocks();
+    applied_patches_revert();
+    reverted_patches_apply_again();
+    cuts_follow();
+}
+
+/// A law: a step keeps the size and the number of the image's blocks. Takes no memory.
+///
+/// Source: own.
+pub fn steps_keep_geometry()
+    ensures { StepsKeepGeometry }
+{}
+
+/// A law: a command that is carried out and taken back leaves the image and all images before it. Takes no memory.
+///
+/// Source: own.
+pub fn undo_is_exact()
+    ensures { UndoIsExact }
+{}
+
+/// A law: a change that is taken back and made again leaves the history. Takes no memory.
+///
+/// Source: own.
+pub fn redo_is_exact()
+    ensures { RedoIsExact }
+{}
+
+/// A law: undo and redo, in any list and whatever they reply, keep all images of a history, each byte for byte, and their
+/// order. Takes no memory.
+///
+/// Source: own.
+pub fn undo_and_redo_keep_images()
+    ensures { UndoAndRedoKeepImages }
+{}
+
+/// A law: the changes of a history are a journal. Takes no memory.
+///
+/// Source: own.
+pub fn histories_are_books()
+    ensures { HistoriesAreBooks }
+{}
+
+/// A law: bytes denote one history of an image at most (`one`). The bytes of a history's journal denote it on its image
+/// (`opens`), and they are refused there for nothing but want of memory (`taken`). Takes no memory.
+///
+/// Source: own.
+pub fn saved_histories_open()
+    ensures one { JournalsDenoteOneHistory }
+    ensures opens { SavedHistoriesOpen }
+    ensures taken { SavedHistoriesAreTaken }
+{
+    applied_patches_change_their_blocks();
+    applied_patches_revert();
+    reverted_patches_apply_again();
+    books_are_read_once();
+    mounted_images_have_no_cause();
+}
+
+/// A law: a command makes the journal longer by a number and, for each block that it needs and two more at most, the block's
+/// number, its bytes before and its bytes after. Takes no memory.
+///
+/// Source: own.
+pub fn journals_grow_by_the_need()
+    ensures { JournalsGrowByTheNeed }
+{
+    both_sides_hold();
+    need_is_exact();
+    written_volumes_are_held();
+}

@@ -1,0 +1,64 @@
+//! Why a step is refused.
+
+use lfs_command::Refusal;
+use std::alloc::AllocError;
+use thiserror::Error;
+
+/// Why a step of a session is refused.
+///
+/// Source: own.
+#[derive(Clone, Copy, Debug, PartialEq, Eq, Error)]
+pub enum StepFault {
+    /// The command is refused, or a growth of memory was.
+    #[error(transparent)]
+    Refused(Refusal),
+    /// No change was made that isn't undone.
+    #[error("NothingToUndo")]
+    NothingToUndo,
+    /// No change was undone since the last that was made.
+    #[error("NothingToRedo")]
+    NothingToRedo,
+    /// As many changes were made as a session keeps.
+    #[error("JournalFull")]
+    JournalFull,
+}
+
+impl StepFault {
+    ghost use Rattle.std.specs.Prelude.{◌≡◌};
+    ghost use Rattle.lfs_history.specs.Faults.{step_fault_number};
+
+    /// The fault's number: that of the refusal, or 53 to 55.
+    pub fn number(self) -> u8
+        ensures { result ≡ step_fault_number self }
+    {
+        match self {
+            StepFault::Refused(refusal) => refusal.number(),
+            StepFault::NothingToUndo => 53,
+            StepFault::NothingToRedo => 54,
+            StepFault::JournalFull => 55,
+        }
+    }
+}
+
+impl From<Refusal> for StepFault {
+    ghost use Rattle.std.specs.Prelude.{◌≡◌};
+    ghost use Rattle.lfs_history.specs.declared.step_fault.StepFault.TheVariants.{Refused};
+
+    ghost from_gives = { λ refusal fault. fault ≡ Refused refusal };
+
+    fn from(refusal: Refusal) -> StepFault {
+        StepFault::Refused(refusal)
+    }
+}
+
+impl From<AllocError> for StepFault {
+    ghost use Rattle.std.specs.Prelude.{◌≡◌};
+    ghost use Rattle.lfs_command.specs.declared.refusal.Refusal.TheVariants.{Memory};
+    ghost use Rattle.lfs_history.specs.declared.step_fault.StepFault.TheVariants.{Refused};
+
+    ghost from_gives = { λ error fault. fault ≡ Refused Memory };
+
+    fn from(_error: AllocError) -> StepFault {
+        StepFault::Refused(Refusal::Memory)
+    }
+}

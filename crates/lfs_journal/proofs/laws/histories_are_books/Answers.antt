@@ -1,6 +1,0 @@
--- The changes of a history are a journal.
-use Rattle.lfs_journal.proofs.BookLemmas.{history_is_book}
-use Rattle.lfs_journal.proofs.laws.histories_are_books.Goals as goal
-
-pub returns : goal.returns
-returns c = history_is_book

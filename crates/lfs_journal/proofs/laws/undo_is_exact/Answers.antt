@@ -1,5 +1,0 @@
-use Rattle.lfs_journal.proofs.ImageLemmas.{done_is_undone}
-use Rattle.lfs_journal.proofs.laws.undo_is_exact.Goals as goal
-
-pub returns : goal.returns
-returns c = done_is_undone

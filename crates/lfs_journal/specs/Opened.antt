@@ -1,0 +1,29 @@
+-- What is opened of an image and the bytes of its journal (own).
+use Rattle.std.specs.Prelude.{◌≡◌, ℕ, List, Some, Contains}
+use Rattle.lfs_block.specs.Disk.{Disk}
+use Rattle.lfs_block.specs.declared.mount_fault.MountFault.TheVariants.{Memory}
+use Rattle.lfs_block.specs.Patch.{ChangeSet}
+use Rattle.lfs_fs.specs.Volume.{Volume}
+use Rattle.lfs_book.specs.Book.{book_of}
+use Rattle.lfs_history.specs.declared.open_fault.OpenFault.{OpenFault}
+use Rattle.lfs_history.specs.declared.open_fault.OpenFault.TheVariants.{Mount, JournalImage}
+use Rattle.lfs_history.specs.Opening.{HasHistory, HasSomeCause, Spells}
+use Rattle.lfs_journal.specs.Known.{IsSession}
+
+-- why an image of a history isn't mounted
+abbrev pub RefusesMount : OpenFault → Disk → Type 0
+RefusesMount JournalImage e = HasSomeCause e
+RefusesMount (Mount fault) e = fault ≡ Memory
+RefusesMount _ e = ⊥
+
+-- why not all of these images are mounted
+abbrev pub RefusesMounts : OpenFault → List Disk → Type 0
+RefusesMounts JournalImage es = (e : Disk) × Contains es e × HasSomeCause e
+RefusesMounts (Mount fault) es = fault ≡ Memory
+RefusesMounts _ es = ⊥
+
+-- what a session keeps of an image and the bytes of its journal
+pub record OpensParts (d : Disk) (bytes : List ℕ) (outline : Volume) (patches : List ChangeSet) (done : ℕ) : Type 0 where
+  pub spelled : Spells bytes (book_of d.size d.count patches done)
+  pub agrees : HasHistory d (book_of d.size d.count patches done)
+  pub session : IsSession d (Some outline) patches done
