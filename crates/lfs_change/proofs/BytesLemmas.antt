@@ -1,0 +1,13 @@
+-- Images, and the bytes that they are.
+use Rattle.std.proofs.Common.{◌≡◌, ◌*◌, ◌/◌, ◌<◌, add-zero, length, sym, ap, ◌∙◌, arith}
+use Rattle.std.proofs.lemmas.Nat.{div-mul-add}
+use Rattle.lfs_block.specs.Disk.{Disk, IsDisk}
+use Rattle.lfs_change.specs.Bytes.{image_of}
+
+-- an image is what its bytes are
+pub image_of_disk : (d : Disk) → IsDisk d → image_of d.size d.bytes ≡ d
+image_of_disk d is =
+    let positive : 0 < d.size = omega (arith, is.geometry.size_fits.0) in
+    let count : length d.bytes / d.size ≡ d.count = ap (λ n. n / d.size) is.len ∙ ap (λ n. n / d.size) (sym (add-zero (d.count * d.size)))
+    ∙ div-mul-add d.count d.size 0 positive in
+    ap (λ n. let disk : Disk = record { size = d.size; count = n; bytes = d.bytes } in disk) count

@@ -1,0 +1,4 @@
+pub mod BytesLemmas
+pub mod ChangeLemmas
+pub mod LawLemmas
+pub mod GrowthLemmas

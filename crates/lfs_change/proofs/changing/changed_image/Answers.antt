@@ -1,0 +1,21 @@
+use Rattle.std.proofs.Common.{rules, ◌≡◌, List, ℕ, Option, Some, subst, sym}
+use Rattle.lfs_history.specs.Meaning.{step_of}
+use Rattle.lfs_change.specs.declared.fault.Fault.{Fault}
+use Rattle.lfs_change.specs.Change.{AnswersImage, RefusesDenoting, journal_read}
+use Rattle.lfs_change.specs.Fault.{fault_of_opening}
+use Rattle.lfs_change.proofs.ChangeLemmas.{opening_answers}
+use Rattle.lfs_change.proofs.changing.changed_image.Goals as goal
+
+pub returns-in-Err-clause-answers : goal.returns-in-Err-clause-answers
+returns-in-Err-clause-answers c =
+    let o = c.new-in-Err.result in
+    let step = step_of c.args.change.now in
+    let why = c.in-Err.field-0.fault in
+    let read : c.read_journal.result.now ≡ journal_read step c.args.journal.items = search rules in
+    let refuses : RefusesDenoting why c.args.image (journal_read step c.args.journal.items) =
+    subst (λ (bytes : List ℕ). RefusesDenoting why c.args.image bytes) read c.in-Err.ensures.refused in
+    let image : o.image.items ≡ c.args.image.bytes = search rules in
+    let same : o.journal.items ≡ c.args.journal.items = search rules in
+    let fault : o.fault ≡ Some (fault_of_opening why) = search rules in
+    subst (λ (x : Option Fault). AnswersImage x step c.args.image c.args.journal.items o) (sym fault)
+    (opening_answers why step c.args.image c.args.journal.items o refuses image same)

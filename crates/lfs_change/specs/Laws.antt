@@ -1,0 +1,93 @@
+-- Laws of bytes on which steps are taken (own).
+use Rattle.std.specs.Prelude.{◌≡◌, ◌≤◌, ◌+◌, ◌*◌, ℕ, List, [], ◌∷◌, length, map, Option, Some, None}
+use Rattle.lfs_fs.specs.Path.{Path}
+use Rattle.lfs_fs.specs.Volume.{Volume}
+use Rattle.lfs_fs.specs.Tree.{Node}
+use Rattle.lfs_fs.specs.Reading.{reading_of}
+use Rattle.lfs_fs.specs.Holds.{Holds}
+use Rattle.lfs_fs.specs.Mounts.{Mounts}
+use Rattle.lfs_command.specs.Command.{Asked, Command, Spells}
+use Rattle.lfs_command.specs.Need.{need}
+use Rattle.lfs_history.specs.History.{History}
+use Rattle.lfs_history.specs.Steps.{Step, Do, Undo, Run}
+use Rattle.lfs_history.specs.Laws.{IsCarriedOut}
+use Rattle.lfs_change.specs.declared.fault.Fault.{Fault}
+use Rattle.lfs_change.specs.declared.outcome.Outcome.{Outcome}
+use Rattle.lfs_change.specs.Bytes.{image_of}
+use Rattle.lfs_change.specs.Change.{Denotes, ChangesBytes, AnswersChange}
+
+-- the image and the journal that a step leaves denote the history that it leaves
+abbrev pub ChangedBytesAreDenoted : Type 0
+ChangedBytesAreDenoted = (step : Step) (size : ℕ) (image journal : List ℕ) (outcome : Outcome)
+    (changes : ChangesBytes step size image journal outcome)
+    → Denotes size outcome.image.items outcome.journal.items changes.1.new
+
+-- Bytes that a command changed are an image that mounts to the command's equation of the tree of the image before, with the same
+-- size, count and limits.
+abbrev pub ChangedBytesAreEquations : Type 0
+ChangedBytesAreEquations = (asked : Asked) (size : ℕ) (image journal : List ℕ) (outcome : Outcome) (v : Volume) (t : Path → Option Node)
+    → ChangesBytes (Do asked) size image journal outcome → Holds (reading_of (image_of size image)) v
+    → Mounts (image_of size image) t → IsCarriedOut asked (image_of size outcome.image.items) v t
+
+-- what a command did is undone byte for byte, by the journal that it left
+abbrev pub UndoneBytesStandAgain : Type 0
+UndoneBytesStandAgain = (asked : Asked) (size : ℕ) (image journal : List ℕ) (done undone : Outcome)
+    → ChangesBytes (Do asked) size image journal done
+    → ChangesBytes Undo size done.image.items done.journal.items undone → undone.image.items ≡ image
+
+-- the length of a journal; of one without bytes, that of a journal without changes
+abbrev pub journal_length : List ℕ → ℕ
+journal_length [] = 24
+journal_length (byte ∷ bytes) = length (byte ∷ bytes)
+
+-- On the volume that the image holds the command needs some blocks, and the new journal is longer than the old one by no more than a
+-- number and, for each of these blocks and two more, the block's number, its bytes before and its bytes after.
+pub record GrowsByTheNeed (asked : Asked) (size : ℕ) (image journal : List ℕ) (outcome : Outcome) : Type 0 where
+  pub volume : Volume
+  pub holds : Holds (reading_of (image_of size image)) volume
+  pub command : Command
+  pub spells : Spells asked command
+  pub grows : length outcome.journal.items ≤ journal_length journal + 4 + (need volume command + 2) * (2 * size + 4)
+
+-- the journal of bytes that a command changed grows by no more than the need
+abbrev pub JournalsOfBytesGrowByTheNeed : Type 0
+JournalsOfBytesGrowByTheNeed = (asked : Asked) (size : ℕ) (image journal : List ℕ) (outcome : Outcome)
+    → ChangesBytes (Do asked) size image journal outcome → GrowsByTheNeed asked size image journal outcome
+
+-- the bytes of an image and of its journal
+pub record Files : Type 0 where
+  pub image : List ℕ
+  pub journal : List ℕ
+
+-- a step, and its fault where it was refused
+pub record Taken : Type 0 where
+  pub step : Step
+  pub fault : Option Fault
+
+-- steps on bytes, each handed the bytes that the one before left
+abbrev pub RunsOn : ℕ → List Taken → Files → Files → Type 0
+RunsOn size [] old new = new ≡ old
+RunsOn size (t ∷ ts) old new =
+    (outcome : Outcome) × AnswersChange t.fault t.step size old.image old.journal outcome
+    × RunsOn size ts (record { image = outcome.image.items; journal = outcome.journal.items }) new
+
+-- a step before others, unless it was refused
+abbrev pub accepted_before : Option Fault → Step → List Step → List Step
+accepted_before None step steps = step ∷ steps
+accepted_before (Some fault) step steps = steps
+
+-- those of the steps that were not refused
+abbrev pub accepted : List Taken → List Step
+accepted [] = []
+accepted (t ∷ ts) = accepted_before t.fault t.step (accepted ts)
+
+-- a list of runs leads from what the first bytes denote, by the steps that were not refused, to what the last denote
+pub record IsRunOf (size : ℕ) (ts : List Taken) (files : Files) (old : History) : Type 0 where
+  pub new : History
+  pub denotes : Denotes size files.image files.journal new
+  pub run : Run (accepted ts) (map (λ _. None) (accepted ts)) old new
+
+-- a list of runs, each handed the bytes of the one before, is a run of the steps that were not refused
+abbrev pub RunsOfBytesAreRuns : Type 0
+RunsOfBytesAreRuns = (size : ℕ) (ts : List Taken) (first last : Files) (old : History) → Denotes size first.image first.journal old
+    → RunsOn size ts first last → IsRunOf size ts last old

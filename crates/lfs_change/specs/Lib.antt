@@ -1,0 +1,4 @@
+pub mod Bytes
+pub mod Fault
+pub mod Change
+pub mod Laws

@@ -1,0 +1,108 @@
+//! One step on the history of an image.
+
+ghost use Rattle.std.specs.Prelude.{◌≡◌, false, Some, None, IfOk, IfErr, OnErr};
+ghost use Rattle.lfs_history.specs.History.{History};
+ghost use Rattle.lfs_history.specs.Meaning.{step_of};
+ghost use Rattle.lfs_history.specs.Steps.{Takes};
+ghost use Rattle.lfs_change.specs.Change.{AnswersChange, AnswersImage, DenotesOn, IsSaved, RefusesDenoting, RefusesSaving, journal_read};
+ghost use Rattle.lfs_change.specs.Fault.{blames_output, status_of};
+
+use crate::fault::Fault;
+use crate::outcome::Outcome;
+use lfs_block::Image;
+use lfs_command::Refusal;
+use lfs_history::{OpenFault, Step as Change};
+use lfs_journal::{Refused, Session};
+use std::alloc::Global;
+
+/// Takes a step on the history of bytes that are an image, with blocks of `size` bytes, and of its journal. With a fault
+/// the image and the journal are those that were handed in. Takes memory.
+///
+/// Source: own.
+pub fn changed(
+    alloc: Global,
+    change: &Change<'_>,
+    size: u32,
+    image: Vec<u8>,
+    journal: Vec<u8>,
+) -> Outcome
+    ensures answers { AnswersChange result.fault (step_of change.now) size image.items journal.items result }
+    ensures failed { blames_output result.fault ≡ false }
+    ensures status { result.status ≡ status_of result.fault }
+{
+    match Image::new(image, size) {
+        Ok(image) => changed_image(alloc, change, image, journal),
+        Err((fault, image)) => Outcome::new(image, journal, Some(Fault::Image(fault))),
+    }
+}
+
+/// Takes a step on the history of an image.
+fn changed_image(alloc: Global, change: &Change<'_>, image: Image, journal: Vec<u8>) -> Outcome
+    ensures answers { AnswersImage result.fault (step_of change.now) image journal.items result }
+    ensures failed { blames_output result.fault ≡ false }
+    ensures status { result.status ≡ status_of result.fault }
+{
+    match opened(alloc, image, read_journal(change, &journal)) {
+        Ok(mut session) => match saved(alloc, change, &mut session) {
+            Ok(bytes) => Outcome::new(session.into_image().into_bytes(), bytes, None),
+            Err(fault) => Outcome::new(session.into_image().into_bytes(), journal, Some(fault)),
+        },
+        Err(Refused { fault, image }) => {
+            Outcome::new(image.into_bytes(), journal, Some(Fault::from(fault)))
+        }
+    }
+}
+
+/// The journal that a step reads: to forget reads none.
+fn read_journal<'a>(change: &Change<'_>, journal: &'a [u8]) -> &'a [u8]
+    ensures { result.now ≡ journal_read (step_of change.now) journal.now }
+{
+    match change {
+        Change::Forget => &[],
+        _ => journal,
+    }
+}
+
+/// The session of an image and the bytes of its journal; without any, nothing was done to the image.
+fn opened(alloc: Global, image: Image, journal: &[u8]) -> Result<Session, Refused>
+    ensures opened { IfOk result (λ session. DenotesOn image journal.now session) }
+    ensures refused { IfErr result (λ refused. RefusesDenoting refused.fault image journal.now) }
+    ensures handed_back { IfErr result (λ refused. refused.image ≡ image) }
+{
+    if !journal.is_empty() {
+        return Session::open(alloc, image, journal);
+    }
+    match Session::fresh(alloc, image) {
+        Ok(session) => Ok(session),
+        Err(unmounted) => Err(Refused {
+            fault: OpenFault::Mount(unmounted.fault),
+            image: unmounted.image,
+        }),
+    }
+}
+
+/// Takes a step, and gives the bytes of the journal that it leaves. With a fault the image is as it was.
+fn saved(alloc: Global, change: &Change<'_>, session: &mut Session) -> Result<Vec<u8>, Fault>
+    ensures saved { IfOk result (λ bytes. IsSaved (step_of change.now) session.old session.new bytes.items) }
+    ensures refused { IfErr result (λ fault. RefusesSaving (step_of change.now) session.old fault) }
+    ensures failed { IfErr result (λ fault. blames_output (Some fault) ≡ false) }
+    ensures unchanged { OnErr result (session.new.present ≡ session.old.present) }
+{
+    session.step(alloc, change)?;
+    if let Some(bytes) = session.journal_bytes(alloc) {
+        return Ok(bytes);
+    }
+    take_back(change, session);
+    Err(Fault::Refused(Refusal::Memory))
+}
+
+/// Takes a step back that was just taken, so that the image is as it was before. Takes no memory.
+fn take_back(change: &Change<'_>, session: &mut Session)
+    ensures { (before : History) → Takes (step_of change.now) None before session.old → session.new.present ≡ before.present }
+{
+    let _ = match change {
+        Change::Do(_) | Change::Redo => session.undo(),
+        Change::Undo => session.redo(),
+        Change::Forget => Ok(()),
+    };
+}

@@ -1,0 +1,147 @@
+//! Why the program ends without having done what it was asked for.
+
+use lfs_block::{ImageFault, MountFault};
+use lfs_command::Refusal;
+use lfs_history::{OpenFault, StepFault};
+use std::alloc::AllocError;
+use thiserror::Error;
+
+/// Why the program ends without having done what it was asked for.
+///
+/// Source: own.
+#[derive(Clone, Copy, Debug, PartialEq, Eq, Error)]
+pub enum Fault {
+    /// The bytes are no image.
+    #[error(transparent)]
+    Image(ImageFault),
+    /// The image does not mount.
+    #[error(transparent)]
+    Mount(MountFault),
+    /// The change is refused, or a growth of memory was.
+    #[error(transparent)]
+    Refused(Refusal),
+    /// The step is refused for what was done before it.
+    #[error(transparent)]
+    Step(StepFault),
+    /// The bytes are no journal.
+    #[error("JournalFormat")]
+    JournalFormat,
+    /// The journal denotes no history of the image.
+    #[error("JournalMismatch")]
+    JournalMismatch,
+    /// Another image of the journal's history does not mount.
+    #[error("JournalImage")]
+    JournalImage,
+    /// A file could not be read.
+    #[error("CannotRead")]
+    CannotRead,
+    /// A file or standard output could not be written.
+    #[error("CannotWrite")]
+    CannotWrite,
+    /// An argument is not made of as many hexadecimal digits as it takes.
+    #[error("BadHex")]
+    BadHex,
+}
+
+impl Fault {
+    ghost use Rattle.std.specs.Prelude.{◌≡◌};
+    ghost use Rattle.lfs_change.specs.Fault.{fault_number, status_of_number};
+
+    /// The fault's number.
+    pub fn number(self) -> u8
+        ensures { result ≡ fault_number self }
+    {
+        match self {
+            Fault::Image(fault) => fault.number(),
+            Fault::Mount(fault) => fault.number(),
+            Fault::Refused(refusal) => refusal.number(),
+            Fault::Step(fault) => fault.number(),
+            Fault::JournalFormat => 50,
+            Fault::JournalMismatch => 51,
+            Fault::JournalImage => 52,
+            Fault::CannotRead => 60,
+            Fault::CannotWrite => 61,
+            Fault::BadHex => 64,
+        }
+    }
+
+    /// The status that the program ends with: 1 where a command was refused, 2 for the command line, 3 where an image
+    /// or a journal was refused, 4 for want of memory and for what the host refused.
+    pub fn status(self) -> u8
+        ensures { result ≡ status_of_number (fault_number self) }
+    {
+        match self.number() {
+            30..=43 | 53..=55 => 1,
+            64 => 2,
+            1..=21 | 50..=52 => 3,
+            _ => 4,
+        }
+    }
+}
+
+impl From<MountFault> for Fault {
+    ghost use Rattle.std.specs.Prelude.{◌≡◌};
+    ghost use Rattle.lfs_change.specs.Fault.{fault_of_mount};
+
+    ghost from_gives = { λ mount_fault fault. fault ≡ fault_of_mount mount_fault };
+
+    fn from(fault: MountFault) -> Fault {
+        match fault {
+            MountFault::Memory => Fault::Refused(Refusal::Memory),
+            fault => Fault::Mount(fault),
+        }
+    }
+}
+
+impl From<OpenFault> for Fault {
+    ghost use Rattle.std.specs.Prelude.{◌≡◌};
+    ghost use Rattle.lfs_change.specs.Fault.{fault_of_opening};
+
+    ghost from_gives = { λ open_fault fault. fault ≡ fault_of_opening open_fault };
+
+    fn from(fault: OpenFault) -> Fault {
+        match fault {
+            OpenFault::Mount(fault) => Fault::from(fault),
+            OpenFault::JournalFormat => Fault::JournalFormat,
+            OpenFault::JournalMismatch => Fault::JournalMismatch,
+            OpenFault::JournalImage => Fault::JournalImage,
+        }
+    }
+}
+
+impl From<Refusal> for Fault {
+    ghost use Rattle.std.specs.Prelude.{◌≡◌};
+    ghost use Rattle.lfs_change.specs.declared.fault.Fault.TheVariants.{Refused};
+
+    ghost from_gives = { λ refusal fault. fault ≡ Refused refusal };
+
+    fn from(refusal: Refusal) -> Fault {
+        Fault::Refused(refusal)
+    }
+}
+
+impl From<StepFault> for Fault {
+    ghost use Rattle.std.specs.Prelude.{◌≡◌};
+    ghost use Rattle.lfs_change.specs.Fault.{fault_of_step};
+
+    ghost from_gives = { λ step_fault fault. fault ≡ fault_of_step step_fault };
+
+    fn from(fault: StepFault) -> Fault {
+        match fault {
+            StepFault::Refused(refusal) => Fault::Refused(refusal),
+            fault => Fault::Step(fault),
+        }
+    }
+}
+
+impl From<AllocError> for Fault {
+    ghost use Rattle.std.specs.Prelude.{◌≡◌};
+    ghost use Rattle.lfs_command.specs.declared.refusal.Refusal.TheVariants.{Memory};
+    ghost use Rattle.lfs_change.specs.declared.fault.Fault.TheVariants.{Refused};
+
+    ghost from_gives = { λ error fault. fault ≡ Refused Memory };
+
+    fn from(_error: AllocError) -> Fault {
+        Fault::Refused(Refusal::Memory)
+    }
+}

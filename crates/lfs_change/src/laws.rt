@@ -1,0 +1,63 @@
+//! Laws of bytes on which steps are taken: each function does nothing but call laws, and its contract is the law.
+
+ghost use Rattle.lfs_change.specs.Laws.{ChangedBytesAreDenoted, ChangedBytesAreEquations, JournalsOfBytesGrowByTheNeed, RunsOfBytesAreRuns, UndoneBytesStandAgain};
+
+use lfs_history::{
+    commands_push_equations, journals_grow_by_the_need, runs_keep_histories, saved_histories_open,
+    steps_keep_geometry, undo_is_exact,
+};
+
+/// A law: the image and the journal that a step leaves denote the history that it leaves. Takes no memory.
+///
+/// Source: own.
+pub fn changed_bytes_are_denoted()
+    ensures { ChangedBytesAreDenoted }
+{
+    runs_keep_histories();
+    saved_histories_open();
+    steps_keep_geometry();
+}
+
+/// A law: bytes that a command changed are an image that mounts to the command's equation of the tree of the image before,
+/// with the same size, count and limits. Takes no memory.
+///
+/// Source: own.
+pub fn changed_bytes_are_equations()
+    ensures { ChangedBytesAreEquations }
+{
+    changed_bytes_are_denoted();
+    commands_push_equations();
+}
+
+/// A law: what a command did is undone byte for byte, by the journal that it left. Takes no memory.
+///
+/// Source: own.
+pub fn undone_bytes_stand_again()
+    ensures { UndoneBytesStandAgain }
+{
+    changed_bytes_are_denoted();
+    saved_histories_open();
+    undo_is_exact();
+}
+
+/// A law: a list of runs, each handed the image and the journal that the one before left, is a run of its steps that were not
+/// refused: the last bytes denote the history to which these lead from the one that the first denote. Takes no memory.
+///
+/// Source: own.
+pub fn runs_of_bytes_are_runs()
+    ensures { RunsOfBytesAreRuns }
+{
+    changed_bytes_are_denoted();
+    saved_histories_open();
+}
+
+/// A law: the journal that a command leaves is longer than the one before it by no more than a number and, for each block that the
+/// command needs on the image's volume and two more, the block's number, its bytes before and its bytes after. A journal without bytes
+/// counts as one without changes. Takes no memory.
+///
+/// Source: own.
+pub fn journals_of_bytes_grow_by_the_need()
+    ensures { JournalsOfBytesGrowByTheNeed }
+{
+    journals_grow_by_the_need();
+}

@@ -1,0 +1,15 @@
+//! Steps on bytes that change an image: one step on the history that an image and its journal denote.
+#![tactic(auto)]
+
+mod changing;
+mod fault;
+mod laws;
+mod outcome;
+
+pub use changing::changed;
+pub use fault::Fault;
+pub use laws::{
+    changed_bytes_are_denoted, changed_bytes_are_equations, journals_of_bytes_grow_by_the_need,
+    runs_of_bytes_are_runs, undone_bytes_stand_again,
+};
+pub use outcome::Outcome;
