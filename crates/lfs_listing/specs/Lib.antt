@@ -1,0 +1,3 @@
+pub mod Buffer
+pub mod Listing
+pub mod Unsent

@@ -1,0 +1,26 @@
+//! The lines of rows.
+
+ghost use Rattle.std.specs.Prelude.{◌≡◌, ◌++◌, OnOk, map};
+ghost use Rattle.lfs_fs.specs.Listed.{path_after, row_after};
+ghost use Rattle.lfs_listing.specs.Listing.{row_lines};
+
+use crate::attributes::append_attributes;
+use crate::entries::append_entry;
+use crate::paths::follow;
+use lfs_fs::Row;
+use std::alloc::AllocError;
+
+/// Adds the lines of the row behind one at a path, and turns the path into its own.
+pub(crate) fn append_row<'a>(
+    text: &mut Vec<u8>,
+    path: &mut Vec<&'a [u8]>,
+    row: &Row<'a>,
+) -> Result<(), AllocError>
+    ensures lines { OnOk result (text.new.items ≡ text.old.items ++ row_lines (row_after (map (λ n. n.now) path.old.items) row.now)) }
+    ensures path { OnOk result (map (λ n. n.now) path.new.items
+        ≡ path_after (map (λ n. n.now) path.old.items) row.now.depth row.now.entry.name) }
+{
+    follow(path, row)?;
+    append_entry(text, path, row)?;
+    append_attributes(text, row.attributes)
+}

@@ -1,0 +1,37 @@
+//! Sending a listing.
+
+ghost use Rattle.std.specs.Prelude.{◌≡◌, false};
+ghost use Rattle.std.specs.Result.{result_err};
+ghost use Rattle.lfs_fs.specs.Listed.{rows_listed};
+ghost use Rattle.lfs_listing.specs.Listing.{listing};
+ghost use Rattle.lfs_listing.specs.Unsent.{SendsListing, blames_sink};
+
+use crate::buffer::{send_if_full, send_rest};
+use crate::lines::append_row;
+use crate::unsent::Unsent;
+use lfs_fs::Rows;
+use lfs_sink::Sink;
+use std::alloc::Global;
+
+/// Sends the listing of rows: for each a line with `d` for a directory or `f` for a file, its size in bytes at the right of
+/// ten places, or `-` for a directory, and its path, in which `\x` and two digits stand for each byte that isn't printable
+/// ASCII or is a backslash; then for each of its attributes a line with `@`, the kind and the value in hexadecimal digits.
+/// The caller owes that the sink has not failed before. `CannotWrite` where the sink fails, and a beginning went out, not
+/// all; `Memory` says only that a growth was refused, and a beginning went out, perhaps all. At most 64 KiB of the text and
+/// the lines of one row wait at a time.
+///
+/// Source: own.
+pub fn send_listing<S: Sink>(alloc: Global, rows: Rows<'_>, out: &mut S) -> Result<(), Unsent>
+    requires { S.failed out.old ≡ false }
+    ensures sent { SendsListing (result_err result) (S.sent out.old) (S.sent out.new) (listing (rows_listed rows.entry)) }
+    ensures failed { S.failed out.new ≡ blames_sink (result_err result) }
+    ensures kept { S.kept out.new ≡ S.kept out.old }
+{
+    let mut text = Vec::new(alloc);
+    let mut path = Vec::new(alloc);
+    for row in rows {
+        append_row(&mut text, &mut path, &row)?;
+        send_if_full(&mut text, out)?;
+    }
+    send_rest(&mut text, out)
+}
