@@ -1,7 +1,6 @@
 pub mod FormatLemmas
 pub mod Verdicts
 pub mod VerdictKinds
-pub mod ContentsLemmas
 pub mod Supplied
 pub mod CarryingLemmas
 pub mod PairsOnce

@@ -1,4 +1,3 @@
 pub mod Formatted
-pub mod Contents
 pub mod Carried
 pub mod CarryingLaws

@@ -4,12 +4,10 @@
 mod carrying;
 mod carrying_laws;
 mod carrying_out;
-mod contents;
 mod formatting;
 mod planning;
 
 pub use carrying_out::carry_out;
-pub use contents::file_contents;
 pub use formatting::format;
 pub use lfs_command::{Command, Refusal};
 pub use planning::plan;

@@ -22,7 +22,7 @@ use Rattle.lfs_command.specs.declared.refusal.Refusal.TheVariants.{NotFound, Not
 use Rattle.lfs_command.specs.declared.refusal.Refusal.TheVariants.{Memory, Exists, IsADirectory, NotEmpty, NameTooLong, FileTooLarge}
 use Rattle.lfs_command.specs.declared.refusal.Refusal.TheVariants.{IntoItself, IsRoot, NoSpace}
 use Rattle.lfs_command.specs.Command.{SetAttr}
-use Rattle.lfs_edit.specs.Contents.{IsContents, HasNoFile, RefusesContents, reading_checks}
+use Rattle.lfs_contents.specs.Contents.{IsContents, HasNoFile, RefusesContents, reading_checks}
 use Rattle.lfs_law.specs.HomeChecks.{entry_checks, there_checks}
 use Rattle.lfs_law.specs.JudgedAlike.{OutlinesAreJudgedAlike}
 use Rattle.lfs_command.specs.Verdict.{checks, first_refusal, refuse_if, walk_refusal_at, walk_refusal, is_directory}

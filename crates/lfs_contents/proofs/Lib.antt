@@ -1,0 +1,2 @@
+pub mod ContentsLemmas
+pub mod SentLemmas

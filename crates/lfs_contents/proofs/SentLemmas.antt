@@ -1,0 +1,34 @@
+-- What sends, one after another, send of a text.
+use Rattle.std.proofs.Common.{◌≡◌, ◌<◌, ◌≤◌, ◌+◌, ℕ, List, [], ◌∷◌, ◌++◌, Option, None, Some, take, length, sym, ap, subst, ◌∙◌, append_assoc, append-nil, arith, length-append}
+use Rattle.std.proofs.Math.Seq.{take-append-add}
+use Rattle.std.proofs.lemmas.List.{take-append-le}
+use Rattle.std.specs.List.{concat}
+use Rattle.std.specs.Io.KnownBytes.{Appends}
+use Rattle.lfs_sink.specs.Send.{SendsBeginning}
+
+pub appends_then : (a b c : Option (List ℕ)) (first second : List ℕ) → Appends a b first → Appends b c second → Appends a c (first ++ second)
+appends_then None b c first second p q = tt
+appends_then (Some xs) None c first second p q = absurd p
+appends_then (Some xs) (Some ys) None first second p q = absurd q
+appends_then (Some xs) (Some ys) (Some zs) first second p q = q ∙ ap (λ l. l ++ second) p ∙ append_assoc xs first second
+
+pub appends_none : (a : Option (List ℕ)) → Appends a a []
+appends_none None = tt
+appends_none (Some xs) = sym (append-nil xs)
+
+-- one more slice goes out
+pub slice_sent : (a b c : Option (List ℕ)) (text front slice : List ℕ) (later : List (List ℕ)) → front ++ concat (slice ∷ later) ≡ text
+    → Appends a b front → Appends b c slice → (more : List ℕ) × (more ++ concat later ≡ text) × Appends a c more
+slice_sent a b c text front slice later is p q =
+    (front ++ slice, append_assoc front slice (concat later) ∙ is, appends_then a b c front slice p q)
+
+-- or a beginning of it
+pub slice_cut : (a b c : Option (List ℕ)) (text front slice : List ℕ) (later : List (List ℕ)) → front ++ concat (slice ∷ later) ≡ text
+    → Appends a b front → SendsBeginning b c slice → SendsBeginning a c text
+slice_cut a b c text front slice later is p (n, within, q) =
+    let fits : n ≤ length slice = omega (arith, within) in
+    let whole : take (length front + n) (front ++ (slice ++ concat later)) ≡ front ++ take n slice =
+    take-append-add front (slice ++ concat later) n ∙ ap (λ (l : List ℕ). front ++ l) (take-append-le n slice (concat later) fits) in
+    let long : length front + n < length text =
+    omega (arith, within, ap length (sym is), length-append front (slice ++ concat later), length-append slice (concat later)) in
+    (length front + n, long, subst (Appends a c) (sym whole ∙ ap (take (length front + n)) is) (appends_then a b c front (take n slice) p q))

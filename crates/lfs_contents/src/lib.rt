@@ -1,0 +1,6 @@
+//! What a mounted image shows, sent to a sink.
+#![tactic(auto)]
+
+mod contents;
+
+pub use contents::{send_blocks, send_file};
