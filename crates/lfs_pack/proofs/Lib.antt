@@ -1,0 +1,5 @@
+pub mod LedLemmas
+pub mod OnWay
+pub mod AskedLemmas
+pub mod PackedLemmas
+pub mod NewLemmas

@@ -1,0 +1,13 @@
+-- Laws of packing (own).
+use Rattle.std.specs.Prelude.{◌≡◌, ℕ, List}
+use Rattle.lfs_fs.specs.Formatted.{formatted_volume}
+use Rattle.lfs_fs.specs.Path.{Path}
+use Rattle.lfs_fs.specs.Volume.{Volume}
+use Rattle.lfs_fs.specs.Tree.{tree}
+use Rattle.lfs_pack.specs.Packed.{Packed, ArePackable, commands, packed_at}
+use Rattle.lfs_pack.specs.Leading.{Lead}
+
+-- the commands of rows that can be packed lead from a new volume to one whose tree is the map of the rows
+abbrev pub LedToTheirMap : Type 0
+LedToTheirMap = (size count : ℕ) (rows : List Packed) (v : Volume) → ArePackable rows → Lead (commands rows) (formatted_volume size count) v
+    → (p : Path) → tree v p ≡ packed_at rows p

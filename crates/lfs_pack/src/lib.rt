@@ -1,0 +1,11 @@
+//! New images of rows of paths.
+#![tactic(auto)]
+
+mod laws;
+mod pack_row;
+mod packing;
+mod packing_laws;
+
+pub use laws::rows_are_led_to_their_map;
+pub use pack_row::PackRow;
+pub use packing::pack;
