@@ -16,7 +16,9 @@ use std::alloc::{AllocError, Global};
 
 /// The changes that lay a file of these bytes in these blocks. The caller owes blocks of the image that rise strictly, as many as the
 /// bytes take, and fewer than 2^32.
-fn laid(
+///
+/// Source: own.
+pub fn laid(
     alloc: Global,
     image: &Image,
     bytes: &[u8],

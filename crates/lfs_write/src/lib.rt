@@ -7,6 +7,7 @@ mod storing;
 mod superblock;
 mod writing;
 
-pub use laying::laid_for;
-pub use link_writing::write_links;
+pub use laying::{laid, laid_for};
+pub use link_writing::{hard_to, soft_to, write_links};
+pub use storing::stored_entries;
 pub use superblock::new_superblock;

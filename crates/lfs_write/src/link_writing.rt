@@ -170,15 +170,19 @@ fn write_link(
     Ok(())
 }
 
-/// The tail to another part of the same directory.
-fn hard_to(part: &OutlinePart) -> Tail
+/// The tail to another part of the same directory. Takes no memory.
+///
+/// Source: own.
+pub fn hard_to(part: &OutlinePart) -> Tail
     ensures { result ≡ hard_to part.now.pair }
 {
     Tail::Hard(part.pair.0, part.pair.1)
 }
 
-/// The tail to the first part of another directory.
-fn soft_to(part: &OutlinePart) -> Tail
+/// The tail to the first part of another directory. Takes no memory.
+///
+/// Source: own.
+pub fn soft_to(part: &OutlinePart) -> Tail
     ensures { result ≡ soft_to part.now.pair }
 {
     Tail::Soft(part.pair.0, part.pair.1)

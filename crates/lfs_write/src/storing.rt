@@ -94,7 +94,9 @@ fn superblock_of(alloc: Global, outline: &Outline) -> Result<Entry, AllocError>
 
 /// The entries of a part of an outline, as they are stored: the superblock stands in front in the root's first part. The caller owes
 /// attributes of the root that rise strictly by kind.
-pub(crate) fn stored_entries(
+///
+/// Source: own.
+pub fn stored_entries(
     alloc: Global,
     outline: &Outline,
     part: &OutlinePart,

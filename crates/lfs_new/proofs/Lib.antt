@@ -1,0 +1,4 @@
+pub mod ChangesMade
+pub mod NewImagesHeld
+pub mod PairsFilled
+pub mod SoundOutlinesFit

@@ -1,0 +1,197 @@
+-- An image with the chains of a volume, and its outline written, holds the volume.
+use Rattle.std.proofs.Common.{◌≡◌, ◌≢◌, false, ℕ, ◌+◌, ◌<◌, ◌≤◌, ◌^◌, List, [], ◌∷◌, length, refl, ap, sym, ◌∙◌, subst, arith, inl, inr, map, Some}
+use Rattle.std.specs.Prelude.{Contains, replicate, sum_by}
+use Rattle.std.specs.List.{AllZip}
+use Rattle.std.proofs.lemmas.List.{length-replicate}
+use Rattle.std.proofs.lemmas.List.Elements.{All-contains, All-contains_itself, All-weaker}
+use Rattle.std.proofs.lemmas.List.Sums.{sum_by-cons}
+use Rattle.std.proofs.lemmas.Nat.{from_le_bytes-to_le_bytes_4}
+use Rattle.lfs_block.specs.Disk.{Disk, block_of}
+use Rattle.lfs_file.specs.Laws.{ContentStays, FoundStay}
+use Rattle.lfs_meta.specs.declared.kind.Kind.TheVariants.{Super}
+use Rattle.lfs_fs.specs.AsStored.{head_of, stored_body, stored_entry, stored_kind}
+use Rattle.lfs_fs.specs.declared.limits.Limits.{Limits}
+use Rattle.lfs_fs.specs.Directory.{Directory, Part, thread}
+use Rattle.lfs_fs.specs.Entry.{Body, Inline, Chain, Directory_at, Entry}
+use Rattle.lfs_fs.specs.Outlined.{outlined, outlined_body}
+use Rattle.lfs_fs.specs.Reading.{Reading, reading_of}
+use Rattle.lfs_fs.specs.Stored.{BodyStands, HeldByLinksAreHeld, HoldsLinks, IsStored, SaysVolume, Stands}
+use Rattle.lfs_fs.specs.Superblock.{IsLimits, header_of, word_at}
+use Rattle.lfs_fs.specs.Thread.{Link, links}
+use Rattle.lfs_fs.specs.Uses.{body_uses, entry_uses, pair_uses, times}
+use Rattle.lfs_fs.specs.Volume.{Volume}
+use Rattle.lfs_law.specs.OutlineLaws.{IsThere}
+use Rattle.lfs_law.specs.SuperblockBytes.{volume_bytes}
+use Rattle.lfs_law.specs.WrittenLinks.{link_part}
+use Rattle.lfs_law.proofs.KeptLinks.{contains_cases, contains_first, contains-cons}
+use Rattle.lfs_law.proofs.OutlineEntries.{outlined_entries}
+use Rattle.lfs_law.proofs.OutlinesWritten.{links_outlined, outline_there, outlined_link}
+use Rattle.lfs_law.proofs.WrittenLemmas.{chain_by, one_le, part_there, part_uses, parts_of_links, sum_thread}
+use Rattle.lfs_new.specs.Filled.{FillsPair, first_blocks}
+use Rattle.lfs_new.specs.NewImages.{NewImagesHold, TakesVolume}
+use Rattle.lfs_new.proofs.PairsFilled.{firsts_within, name_of}
+
+-- ---- what stands in a pair
+
+file_or_directory : (b : Body) → stored_kind b ≢ Super
+file_or_directory (Inline bytes) = λ h. cc
+file_or_directory (Chain blocks bytes) = λ h. cc
+file_or_directory (Directory_at pair) = λ h. cc
+
+body_stands : (r : Reading) (b : Body) → IsThere r b → BodyStands r (stored_body (outlined_body b)) b
+body_stands r (Inline bytes) there = refl
+body_stands r (Chain blocks bytes) there =
+    subst (λ (n : ℕ). (r.chain (head_of blocks) n ≡ Some blocks) × (bytes ≡ r.content n blocks))
+    (sym (length-replicate (length bytes) 0)) there
+body_stands r (Directory_at pair) there = refl
+
+entries_stand : (r : Reading) (es : List Entry) → ((e : Entry) → Contains es e → IsThere r e.body)
+    → AllZip (Stands r) (map stored_entry (outlined_entries es)) es
+entries_stand r [] there = tt
+entries_stand r (e ∷ es) there = (
+  record {
+    kind = file_or_directory (outlined_body e.body);
+    name = refl;
+    attributes = refl;
+    body = body_stands r e.body (there e (contains_first e es));
+  },
+  entries_stand r es (λ f inside. there f (contains-cons e es f inside)),
+)
+
+-- ---- what the superblock says
+
+abbrev limits_of : ℕ → ℕ → ℕ → Limits
+limits_of name file attribute = record { name = name; file = file; attribute = attribute }
+
+limits_said : (v : Volume) → IsLimits v.limits → v.limits ≡ (header_of (volume_bytes v) []).limits
+unfolding volume_bytes
+limits_said v fit =
+    let name : word_at (volume_bytes v) 3 ≡ v.limits.name = from_le_bytes-to_le_bytes_4 v.limits.name (omega (arith, fit.name.1)) in
+    let file : word_at (volume_bytes v) 4 ≡ v.limits.file = from_le_bytes-to_le_bytes_4 v.limits.file (omega (arith, fit.file.1)) in
+    let attribute : word_at (volume_bytes v) 5 ≡ v.limits.attribute =
+    from_le_bytes-to_le_bytes_4 v.limits.attribute (omega (arith, fit.attribute.1)) in
+    ap (λ (n : ℕ). limits_of n v.limits.file v.limits.attribute) (sym name)
+    ∙ ap (λ (n : ℕ). limits_of (word_at (volume_bytes v) 3) n v.limits.attribute) (sym file)
+    ∙ ap (limits_of (word_at (volume_bytes v) 3) (word_at (volume_bytes v) 4)) (sym attribute)
+
+volume_said : (v : Volume) → v.size < 2 ^ 32 → v.count < 2 ^ 32 → IsLimits v.limits → SaysVolume v (volume_bytes v)
+unfolding volume_bytes
+volume_said v size count fit = record {
+  len = refl;
+  header = record {
+    version = refl;
+    size_is = from_le_bytes-to_le_bytes_4 v.size size;
+    count_is = from_le_bytes-to_le_bytes_4 v.count count;
+    limits = subst IsLimits (limits_said v fit) fit;
+  };
+  limits = limits_said v fit;
+}
+
+-- ---- chains stay, since their blocks are of no pair
+
+pub pairs_only : (n : ℕ) (ps : List Part) → sum_by (pair_uses n) ps ≤ sum_by (part_uses n) ps
+pairs_only n [] = omega arith
+pairs_only n (p ∷ ps) = omega (arith, pairs_only n ps, sum_by-cons (pair_uses n) p ps, sum_by-cons (part_uses n) p ps)
+
+pairs_and_chain : (n : ℕ) (ps : List Part) (p : Part) (x : Entry) → Contains ps p → Contains p.entries x
+    → sum_by (pair_uses n) ps + entry_uses n x ≤ sum_by (part_uses n) ps
+pairs_and_chain n [] p x there inside = let no : ⊥ = omega (arith, there.1) in absurd no
+pairs_and_chain n (q ∷ ps) p x there inside = elim (contains_cases q ps p there) [
+  | inl same ↦
+      (let le : entry_uses n x ≤ sum_by (entry_uses n) p.entries = one_le (entry_uses n) p.entries x inside in
+      let here : sum_by (entry_uses n) p.entries ≡ sum_by (entry_uses n) q.entries =
+      ap (λ (r : Part). sum_by (entry_uses n) r.entries) same in
+      omega (arith, le, here, pairs_only n ps, sum_by-cons (pair_uses n) q ps, sum_by-cons (part_uses n) q ps))
+  | inr later ↦ omega (
+    arith,
+    pairs_and_chain n ps p x later inside,
+    sum_by-cons (pair_uses n) q ps,
+    sum_by-cons (part_uses n) q ps,
+  )
+]
+
+pub names_of_parts : (n : ℕ) (ls : List Link) → sum_by (name_of n) ls ≡ sum_by (pair_uses n) (map (λ (l : Link). l.part) ls)
+names_of_parts n [] = refl
+names_of_parts n (l ∷ ls) =
+    omega (
+      arith,
+      names_of_parts n ls,
+      sum_by-cons (name_of n) l ls,
+      sum_by-cons (pair_uses n) l.part (map (λ (m : Link). m.part) ls),
+    )
+
+firsts_outlined : (ls : List Link) → first_blocks (map outlined_link ls) ≡ first_blocks ls
+firsts_outlined [] = refl
+firsts_outlined (l ∷ ls) = ap (λ (ns : List ℕ). l.part.pair.0 ∷ ns) (firsts_outlined ls)
+
+module _ (found : FoundStay) (content : ContentStays) (d e : Disk) (v : Volume) (takes : TakesVolume d e v) where
+  -- a block of a chain is the first one of no pair
+  no_first : (n : ℕ) (l : Link) (x : Entry) → Contains (links v.directories) l → Contains l.part.entries x → 0 < entry_uses n x
+      → times n (first_blocks (links (outlined v).directories)) ≡ 0
+  no_first n l x there inside used =
+      let ds : List Directory = v.directories in
+      omega (
+        arith,
+        used,
+        takes.sound.once n,
+        pairs_and_chain n (thread ds) l.part x (part_there ds l there) inside,
+        sum_thread n ds,
+        ap (sum_by (pair_uses n)) (parts_of_links ds),
+        names_of_parts n (links ds),
+        firsts_within n (links ds),
+        ap (times n) (ap first_blocks (links_outlined ds) ∙ firsts_outlined (links ds)),
+      )
+
+  chain_there : (b : Body) → ((n : ℕ) → 0 < body_uses n b → block_of e n ≡ block_of d n) → IsThere (reading_of d) b
+      → IsThere (reading_of e) b
+  chain_there (Inline bytes) stays there = tt
+  chain_there (Directory_at pair) stays there = tt
+  chain_there (Chain blocks bytes) stays there =
+      let same = takes.outline.but.disk in
+      let still = chain_by found content d e takes.disk (Chain blocks bytes) same.size same.count stays (head_of blocks) (length bytes)
+      there.0 in
+      (still.0, there.1 ∙ sym still.1)
+
+  entry_there : (l : Link) → Contains (links v.directories) l → (x : Entry) → Contains l.part.entries x → IsThere (reading_of e) x.body
+  entry_there l there x inside =
+      chain_there x.body (λ n used. takes.outline.but.others n (no_first n l x there inside used)) (takes.there l there x inside)
+
+  -- ---- each link is stored
+
+  link_stored : (l : Link) → Contains (links v.directories) l → IsStored (reading_of e) (volume_bytes v) v.attributes l
+  unfolding volume_bytes
+  link_stored l there =
+      let fills : FillsPair e (volume_bytes v) v.attributes (outlined_link l) = takes.outline.each (outlined_link l) (outline_there v l there)
+      in
+      record {
+        stored = link_part (volume_bytes v) v.attributes (outlined_link l) (replicate 12 0);
+        read = fills.part;
+        others = map stored_entry (outlined_entries l.part.entries);
+        entries = refl;
+        stands = entries_stand (reading_of e) l.part.entries (entry_there l there);
+        tail = refl;
+        delta = sym fills.none;
+        clean = All-contains (λ (p : Part). p.dirty ≡ false) (thread v.directories) l.part takes.clean (part_there v.directories l there);
+      }
+
+  -- ---- the superblock says the volume's size, count and limits
+
+  says : SaysVolume v (volume_bytes v)
+  says =
+      let geometry = takes.disk.geometry in
+      volume_said v (omega (arith, takes.size, geometry.size_fits.1)) (omega (arith, takes.count, geometry.count_fits.1)) takes.limits
+
+  pub volume_held : HoldsLinks (reading_of e) v
+  volume_held =
+      let same = takes.outline.but.disk in
+      record {
+        size = takes.size ∙ sym same.size;
+        count = takes.count ∙ sym same.count;
+        bytes = volume_bytes v;
+        superblock = says;
+        each = All-weaker (Contains (links v.directories)) (IsStored (reading_of e) (volume_bytes v) v.attributes) link_stored
+            (links v.directories) (All-contains_itself (links v.directories));
+      }
+
+pub new_images_hold : FoundStay → ContentStays → HeldByLinksAreHeld → NewImagesHold
+new_images_hold found content by_links d e v takes = by_links (reading_of e) v takes.sound (volume_held found content d e v takes)

@@ -1,0 +1,4 @@
+pub mod DiskBut
+pub mod Filled
+pub mod NewImages
+pub mod NewPairs
