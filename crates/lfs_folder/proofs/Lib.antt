@@ -1,0 +1,4 @@
+pub mod HostNameLemmas
+pub mod PathBelowLemmas
+pub mod WalkLemmas
+pub mod WalkStepLemmas

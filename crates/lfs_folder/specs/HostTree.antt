@@ -1,0 +1,56 @@
+-- What a host has under each name, where that is known (own).
+use Rattle.std.specs.Prelude.{◌≡◌, ℕ, ◌+◌, List, Option, Some, None, ⊤, take, All, Contains}
+use Rattle.std.specs.Str.{IsUtf8}
+use Rattle.lfs_meta.specs.Name.{Name}
+use Rattle.lfs_folder.specs.declared.host_kind.HostKind.{HostKind}
+use Rattle.lfs_folder.specs.declared.host_kind.HostKind.TheVariants.{Missing, File, Folder, Other}
+use Rattle.lfs_folder.specs.declared.host_fault.ListFault.{ListFault}
+use Rattle.lfs_folder.specs.declared.host_fault.ListFault.TheVariants.{Memory, NotText, CannotRead}
+
+-- nothing, a regular file with its bytes, a folder with the names in it, or something else, as a link
+pub data HostNode : Type 0 where
+  NothingThere : HostNode
+  FileOf : (bytes : List ℕ) → HostNode
+  FolderOf : (names : List Name) → HostNode
+  OtherThere : HostNode
+
+-- what there is under each name
+abbrev pub HostTree : Type 0
+HostTree = List ℕ → HostNode
+
+abbrev pub kind_of : HostNode → HostKind
+kind_of NothingThere = Missing
+kind_of (FileOf bytes) = File
+kind_of (FolderOf names) = Folder
+kind_of OtherThere = Other
+
+-- of what kind it is
+abbrev pub IsKind : Option HostTree → List ℕ → HostKind → Type 0
+IsKind None name kind = ⊤
+IsKind (Some tree) name kind = kind ≡ kind_of (tree name)
+
+-- these are the names in a folder, in any order
+pub record AreNamesIn (there listed : List Name) : Type 0 where
+  pub right : All (λ n. Contains there n) listed
+  pub whole : All (λ n. Contains listed n) there
+
+-- what is listed of a folder
+abbrev pub Lists : Option HostTree → List ℕ → List Name → Type 0
+Lists None name listed = ⊤
+Lists (Some tree) name listed = (names : List Name) × (tree name ≡ FolderOf names) × AreNamesIn names listed
+
+-- a folder has a name that isn't UTF-8
+abbrev pub HasOtherThanText : HostTree → List ℕ → Type 0
+HasOtherThanText tree name = (names : List Name) × (n : Name) × (tree name ≡ FolderOf names) × Contains names n × ¬ IsUtf8 n
+
+-- why nothing is listed; a host may refuse for reasons of its own
+abbrev pub CannotList : Option HostTree → List ℕ → ListFault → Type 0
+CannotList (Some tree) name NotText = HasOtherThanText tree name
+CannotList (Some tree) name Memory = ⊤
+CannotList (Some tree) name CannotRead = ⊤
+CannotList None name fault = ⊤
+
+-- what is read of a file: `most` bytes and one more at most
+abbrev pub ReadsFile : Option HostTree → List ℕ → ℕ → List ℕ → Type 0
+ReadsFile None name most bytes = ⊤
+ReadsFile (Some tree) name most bytes = (whole : List ℕ) × (tree name ≡ FileOf whole) × (bytes ≡ take (most + 1) whole)

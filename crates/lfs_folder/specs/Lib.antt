@@ -1,0 +1,6 @@
+pub mod HostTree
+pub mod HostNames
+pub mod FolderFault
+pub mod PathBelow
+pub mod FolderRows
+pub mod FolderWalk

@@ -1,0 +1,66 @@
+//! Why a folder is not read.
+
+use crate::host_fault::{ListFault, ReadFault};
+use std::alloc::AllocError;
+use thiserror::Error;
+
+/// Why a folder is not read.
+///
+/// Source: own.
+#[derive(Clone, Copy, Debug, PartialEq, Eq, Error)]
+pub enum FolderFault {
+    /// A growth of memory was refused.
+    #[error("Memory")]
+    Memory,
+    /// Something below the folder is neither a regular file nor a folder.
+    #[error("HostEntry")]
+    HostEntry,
+    /// A name below the folder isn't UTF-8, or can't be one in an image: it is empty, holds a zero byte or a slash, or is
+    /// `.` or `..`.
+    #[error("HostName")]
+    HostName,
+    /// Something can't be read: the host refuses, the folder is none, a name stands twice in one folder, or there are more
+    /// files and folders than an image can hold.
+    #[error("CannotRead")]
+    CannotRead,
+}
+
+impl From<AllocError> for FolderFault {
+    ghost use Rattle.std.specs.Prelude.{◌≡◌};
+    ghost use Rattle.lfs_folder.specs.declared.folder_fault.FolderFault.TheVariants.{Memory};
+
+    ghost from_gives = { λ error fault. fault ≡ Memory };
+
+    fn from(_error: AllocError) -> FolderFault {
+        FolderFault::Memory
+    }
+}
+
+impl From<ReadFault> for FolderFault {
+    ghost use Rattle.std.specs.Prelude.{◌≡◌};
+    ghost use Rattle.lfs_folder.specs.FolderFault.{fault_of_reading};
+
+    ghost from_gives = { λ read fault. fault ≡ fault_of_reading read };
+
+    fn from(read: ReadFault) -> FolderFault {
+        match read {
+            ReadFault::Memory => FolderFault::Memory,
+            ReadFault::CannotRead => FolderFault::CannotRead,
+        }
+    }
+}
+
+impl From<ListFault> for FolderFault {
+    ghost use Rattle.std.specs.Prelude.{◌≡◌};
+    ghost use Rattle.lfs_folder.specs.FolderFault.{fault_of_listing};
+
+    ghost from_gives = { λ listed fault. fault ≡ fault_of_listing listed };
+
+    fn from(listed: ListFault) -> FolderFault {
+        match listed {
+            ListFault::Memory => FolderFault::Memory,
+            ListFault::NotText => FolderFault::HostName,
+            ListFault::CannotRead => FolderFault::CannotRead,
+        }
+    }
+}

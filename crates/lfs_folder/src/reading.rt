@@ -1,0 +1,32 @@
+//! A host's folder as rows.
+
+ghost use Rattle.std.specs.Prelude.{◌≡◌, IfErr, IfOk};
+ghost use Rattle.lfs_folder.specs.FolderRows.{IsFolder, Refuses};
+
+use crate::folder_fault::FolderFault;
+use crate::folder_row::FolderRow;
+use crate::folders::Folders;
+use crate::walking::{FolderWalk, MOST_BYTES};
+use std::alloc::Global;
+
+/// What is below a host's folder, in the order of paths: the folder itself first, as `/`, and each folder before what is in
+/// it. Links aren't followed, and each file is read once. `HostEntry` where something below is neither a regular file nor a
+/// folder, `HostName` where a name below can't be one in an image, `CannotRead` where something can't be read.
+///
+/// Source: own.
+pub fn folder_rows<H: Folders>(
+    alloc: Global,
+    host: &mut H,
+    dir: &str,
+) -> Result<Vec<FolderRow>, FolderFault>
+    ensures rows { IfOk result (λ rows. IsFolder MOST_BYTES (H.folders host.old) dir.now rows.items) }
+    ensures refused { IfErr result (λ fault. Refuses (H.folders host.old) dir.now fault) }
+    ensures kept { H.folders host.new ≡ H.folders host.old }
+{
+    let mut walk = FolderWalk::start(alloc, host, dir)?;
+    while let Some(name) = walk.waiting.pop() {
+        walk.visit(alloc, host, dir, name.as_str())?;
+    }
+    let FolderWalk { rows, .. } = walk;
+    Ok(rows)
+}
