@@ -4,10 +4,10 @@ use Rattle.hex.specs.declared.error.FromHexError.{FromHexError}
 use Rattle.hex.specs.declared.error.FromHexError.TheVariants.{OutOfMemory}
 use Rattle.hex.specs.Hex.{decode_of, decode_sized}
 use Rattle.lfs_command.specs.declared.refusal.Refusal.TheVariants.{Memory}
-use Rattle.lfs_step.specs.declared.fault.Fault.{Fault}
-use Rattle.lfs_step.specs.declared.fault.Fault.TheVariants.{Refused, BadHex}
+use Rattle.lfs_change.specs.declared.fault.Fault.{Fault}
+use Rattle.lfs_change.specs.declared.fault.Fault.TheVariants.{Refused, BadHex}
 use Rattle.lfs_step.specs.declared.step.Step.{Step}
-use Rattle.lfs_step.specs.declared.step.Step.TheVariants.{Format, Check, Cat, Mkdir, Put, Rm, Mv, SetAttr, RmAttr, Undo, Redo, Forget}
+use Rattle.lfs_step.specs.declared.step.Step.TheVariants.{Format, Check, Ls, Cat, Mkdir, Put, Rm, Mv, SetAttr, RmAttr, Undo, Redo, Forget}
 use Rattle.lfs_request.specs.declared.task.Task.{Task}
 use Rattle.lfs_request.specs.declared.task.Task.TheVariants as task
 
@@ -38,6 +38,7 @@ SpellsNoKind _ = ⊥
 abbrev pub AsksFor : Task → Step → Type 0
 AsksFor (task.Format n) (Format count) = count ≡ n
 AsksFor task.Check Check = Unit {0}
+AsksFor task.Ls Ls = Unit {0}
 AsksFor (task.Cat text) (Cat path) = path.now ≡ text.now
 AsksFor (task.Mkdir text) (Mkdir path) = path.now ≡ text.now
 AsksFor (task.Put text) (Put path) = path.now ≡ text.now

@@ -1,7 +1,7 @@
 //! The step that a task asks for.
 
 ghost use Rattle.std.specs.Prelude.{◌≡◌, IfOk, IfErr};
-ghost use Rattle.lfs_step.specs.declared.fault.Fault.TheVariants.{BadHex};
+ghost use Rattle.lfs_change.specs.declared.fault.Fault.TheVariants.{BadHex};
 ghost use Rattle.lfs_request.specs.Asking.{AsksFor, SpellsBytes, SpellsNoKind, digits_of};
 
 use crate::digits::byte_of;
@@ -32,6 +32,7 @@ pub fn step_of<'a>(task: &'a Task<'_>, value: &'a [u8]) -> Result<Step<'a>, Faul
     let step = match *task {
         Task::Format { count } => Step::Format { count },
         Task::Check => Step::Check,
+        Task::Ls => Step::Ls,
         Task::Cat { path } => Step::Cat {
             path: path.as_bytes(),
         },

@@ -3,7 +3,7 @@
 ghost use Rattle.std.specs.Prelude.{◌≡◌, ◌⊎◌, IsErr, IfOk, IfErr};
 ghost use Rattle.hex.specs.Hex.{decode_sized};
 ghost use Rattle.lfs_command.specs.declared.refusal.Refusal.TheVariants.{Memory};
-ghost use Rattle.lfs_step.specs.declared.fault.Fault.TheVariants.{Refused, BadHex};
+ghost use Rattle.lfs_change.specs.declared.fault.Fault.TheVariants.{Refused, BadHex};
 ghost use Rattle.lfs_request.specs.Asking.{SpellsByte, SpellsBytes, SpellsNoBytes, fault_of_hex};
 
 use hex::{FromHex, FromHexError};

@@ -12,6 +12,8 @@ pub enum Task<'a> {
     },
     /// The verdict on an image.
     Check,
+    /// What stands at each path.
+    Ls,
     /// The contents of a file.
     Cat {
         /// The path.

@@ -2,9 +2,9 @@
 use Rattle.std.proofs.Common.{◌≡◌, ℕ, List, Option, Some, None, Result, Err, ◌⊎◌, refl, sym, ap, subst, ◌∙◌, inl, inr}
 use Rattle.lfs_command.specs.declared.refusal.Refusal.TheVariants.{Memory}
 use Rattle.lfs_request.specs.declared.task.Task.{Task}
-use Rattle.lfs_step.specs.declared.fault.Fault.{Fault}
-use Rattle.lfs_step.specs.declared.fault.Fault.TheVariants.{Refused, BadHex}
-use Rattle.lfs_step.specs.declared.outcome.Outcome.{Outcome}
+use Rattle.lfs_change.specs.declared.fault.Fault.{Fault}
+use Rattle.lfs_change.specs.declared.fault.Fault.TheVariants.{Refused, BadHex}
+use Rattle.lfs_change.specs.declared.outcome.Outcome.{Outcome}
 use Rattle.lfs_step.specs.declared.step.Step.{Step}
 use Rattle.lfs_step.specs.Deed.{Deed}
 use Rattle.lfs_step.specs.Outcome.{Answers, Given, SendsText}

@@ -1,18 +1,18 @@
 -- What the program does with the files of a host (own).
 use Rattle.std.specs.Prelude.{ℕ, ◌≡◌, ◌⊎◌, ◌%◌, List, [], Option, Some, None, Result, Ok, Err}
 use Rattle.lfs_command.specs.declared.refusal.Refusal.TheVariants.{Memory}
-use Rattle.lfs_step.specs.declared.fault.Fault.{Fault}
-use Rattle.lfs_step.specs.declared.fault.Fault.TheVariants.{Refused, CannotRead, CannotWrite}
+use Rattle.lfs_change.specs.declared.fault.Fault.{Fault}
+use Rattle.lfs_change.specs.declared.fault.Fault.TheVariants.{Refused, CannotRead, CannotWrite}
 use Rattle.lfs_serve.specs.declared.kind.Kind.{Kind}
 use Rattle.lfs_serve.specs.declared.kind.Kind.TheVariants.{Makes, Changes}
-use Rattle.lfs_step.specs.declared.outcome.Outcome.{Outcome}
+use Rattle.lfs_change.specs.declared.outcome.Outcome.{Outcome}
 use Rattle.lfs_request.specs.declared.request.Request.{Request}
 use Rattle.lfs_step.specs.declared.step.Step.{Step}
 use Rattle.lfs_step.specs.declared.step.Step.TheVariants.{Put}
 use Rattle.lfs_serve.specs.declared.stop.Stop.{Stop}
 use Rattle.lfs_request.specs.declared.task.Task.{Task}
 use Rattle.lfs_step.specs.Deed.{Deed, deed_of}
-use Rattle.lfs_step.specs.Fault.{status_of}
+use Rattle.lfs_change.specs.Fault.{status_of}
 use Rattle.lfs_serve.specs.Files.{Files, FindsFile, ReadsFile, ReadsInput}
 use Rattle.lfs_serve.specs.Kind.{kind_of}
 use Rattle.lfs_serve.specs.Storing.{LeavesFiles, SparesFiles, journal_name}

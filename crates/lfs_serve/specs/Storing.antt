@@ -1,8 +1,8 @@
 -- What a step leaves in the files of an image and its journal (own).
 use Rattle.std.specs.Prelude.{◌≡◌, ◌⊎◌, ℕ, List, [], ◌∷◌, ◌++◌, Option, Some, None, string_bytes, codes}
-use Rattle.lfs_step.specs.declared.fault.Fault.{Fault}
-use Rattle.lfs_step.specs.declared.fault.Fault.TheVariants.{Refused}
-use Rattle.lfs_step.specs.declared.outcome.Outcome.{Outcome}
+use Rattle.lfs_change.specs.declared.fault.Fault.{Fault}
+use Rattle.lfs_change.specs.declared.fault.Fault.TheVariants.{Refused}
+use Rattle.lfs_change.specs.declared.outcome.Outcome.{Outcome}
 use Rattle.lfs_serve.specs.declared.kind.Kind.{Kind}
 use Rattle.lfs_serve.specs.declared.kind.Kind.TheVariants.{Asks, Forgets}
 use Rattle.lfs_serve.specs.declared.names.Names.{Names}

@@ -27,8 +27,8 @@ pub fn kind_of(step: &Step<'_>) -> Kind
     ensures { result ≡ kind_of step.now }
 {
     match *step {
-        Step::Format { .. } => Kind::Makes,
-        Step::Check | Step::Cat { .. } => Kind::Asks,
+        Step::Format { .. } | Step::Pack { .. } => Kind::Makes,
+        Step::Check | Step::Ls | Step::Cat { .. } => Kind::Asks,
         Step::Mkdir { .. } | Step::Put { .. } | Step::Rm { .. } => Kind::Changes,
         Step::Mv { .. } | Step::SetAttr { .. } | Step::RmAttr { .. } => Kind::Changes,
         Step::Undo | Step::Redo => Kind::Changes,

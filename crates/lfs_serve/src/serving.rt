@@ -2,7 +2,7 @@
 
 ghost use Rattle.std.specs.Prelude.{◌≡◌, Some, IfOk};
 ghost use Rattle.lfs_step.specs.Deed.{deed_of};
-ghost use Rattle.lfs_step.specs.Fault.{status_of};
+ghost use Rattle.lfs_change.specs.Fault.{status_of};
 ghost use Rattle.lfs_step.specs.Outcome.{Answers, SendsText, given};
 ghost use Rattle.lfs_serve.specs.Program.{EndsRequest, EndsStep, EndsTask, RunsOn, scene, stopped_by, usage};
 

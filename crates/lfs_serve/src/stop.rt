@@ -30,7 +30,7 @@ impl From<Fault> for Stop {
 impl From<AllocError> for Stop {
     ghost use Rattle.std.specs.Prelude.{◌≡◌};
     ghost use Rattle.lfs_command.specs.declared.refusal.Refusal.TheVariants.{Memory};
-    ghost use Rattle.lfs_step.specs.declared.fault.Fault.TheVariants.{Refused};
+    ghost use Rattle.lfs_change.specs.declared.fault.Fault.TheVariants.{Refused};
 
     ghost from_gives = { λ error stop. stop.fault ≡ Refused Memory };
 

@@ -1,7 +1,7 @@
 //! What a step leaves in the files of an image and its journal.
 
 ghost use Rattle.std.specs.Prelude.{◌≡◌, ◌⊎◌, IfErr, MatchResult};
-ghost use Rattle.lfs_step.specs.declared.fault.Fault.TheVariants.{CannotWrite};
+ghost use Rattle.lfs_change.specs.declared.fault.Fault.TheVariants.{CannotWrite};
 ghost use Rattle.lfs_serve.specs.Files.{OnKnown};
 ghost use Rattle.lfs_serve.specs.Program.{IsOfHost};
 ghost use Rattle.lfs_serve.specs.Storing.{HasNew, HasPlaced, HasPlacedJournal, IsNames, LeavesBoth, LeavesFiles, LeavesJournal, SparesBoth, SparesFiles, SparesImage, SparesJournal};

@@ -1,7 +1,7 @@
 //! What is told on standard error.
 
 ghost use Rattle.std.specs.Prelude.{◌≡◌, Some};
-ghost use Rattle.lfs_step.specs.Fault.{status_of};
+ghost use Rattle.lfs_change.specs.Fault.{status_of};
 
 use crate::host::Host;
 use lfs_step::Fault;

@@ -1,3 +1,2 @@
-pub mod ChangeLemmas
-pub mod LawLemmas
 pub mod OutcomeLemmas
+pub mod ListingLemmas

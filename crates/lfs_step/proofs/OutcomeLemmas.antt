@@ -1,22 +1,14 @@
 -- What a query answers, from what is said of its image.
-use Rattle.std.proofs.Common.{◌≡◌, ℕ, ◌*◌, ◌/◌, ◌<◌, add-zero, List, Option, Result, Ok, Err, IfErr, length, sym, ap, subst, ◌∙◌, arith}
+use Rattle.std.proofs.Common.{◌≡◌, ℕ, List, Option, Result, Ok, Err, IfErr, sym, subst}
 use Rattle.std.specs.Result.{result_err}
-use Rattle.std.proofs.lemmas.Nat.{div-mul-add}
 use Rattle.lfs_block.specs.Disk.{Disk, IsDisk}
-use Rattle.lfs_step.specs.declared.fault.Fault.{Fault}
-use Rattle.lfs_step.specs.declared.fault.Fault.TheVariants.{Image}
-use Rattle.lfs_step.specs.declared.outcome.Outcome.{Outcome}
+use Rattle.lfs_change.specs.declared.fault.Fault.{Fault}
+use Rattle.lfs_change.specs.declared.fault.Fault.TheVariants.{Image}
+use Rattle.lfs_change.specs.declared.outcome.Outcome.{Outcome}
 use Rattle.lfs_step.specs.declared.query.Query.{Query}
 use Rattle.lfs_step.specs.Query.{RefusesReport, RefusesQuery, AnswersQuery, SendsReport, SendsQuery}
-use Rattle.lfs_step.specs.Bytes.{image_of}
-
--- an image is what its bytes are
-pub image_of_disk : (d : Disk) → IsDisk d → image_of d.size d.bytes ≡ d
-image_of_disk d is =
-    let positive : 0 < d.size = omega (arith, is.geometry.size_fits.0) in
-    let count : length d.bytes / d.size ≡ d.count = ap (λ n. n / d.size) is.len ∙ ap (λ n. n / d.size) (sym (add-zero (d.count * d.size)))
-    ∙ div-mul-add d.count d.size 0 positive in
-    ap (λ n. let disk : Disk = record { size = d.size; count = n; bytes = d.bytes } in disk) count
+use Rattle.lfs_change.specs.Bytes.{image_of}
+use Rattle.lfs_change.proofs.BytesLemmas.{image_of_disk}
 
 refused_bytes : (q : Query) (d : Disk) (fault : Fault) → IsDisk d → RefusesReport q d fault → RefusesQuery q d.size d.bytes fault
 refused_bytes q d (Image fault) is refuses = absurd refuses

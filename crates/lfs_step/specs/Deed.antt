@@ -1,26 +1,31 @@
 -- What a step does with an image (own).
 use Rattle.std.specs.Prelude.{ℕ, List}
 use Rattle.lfs_command.specs.Command as asked
-use Rattle.lfs_journal.specs.Meaning.{step_of}
-use Rattle.lfs_journal.specs.Steps as change
-use Rattle.lfs_journal.specs.Steps.{Do}
+use Rattle.lfs_history.specs.Meaning.{step_of}
+use Rattle.lfs_history.specs.Steps as change
+use Rattle.lfs_history.specs.Steps.{Do}
+use Rattle.lfs_pack.specs.declared.pack_row.PackRow.{PackRow}
 use Rattle.lfs_step.specs.declared.deed.Deed.{Deed as Written}
 use Rattle.lfs_step.specs.declared.deed.Deed.TheVariants as written
 use Rattle.lfs_step.specs.declared.query.Query.{Query}
 use Rattle.lfs_step.specs.declared.query.Query.TheVariants as query
 use Rattle.lfs_step.specs.declared.step.Step.{Step}
-use Rattle.lfs_step.specs.declared.step.Step.TheVariants.{Format, Check, Cat, Mkdir, Put, Rm, Mv, SetAttr, RmAttr, Undo, Redo, Forget}
+use Rattle.lfs_step.specs.declared.step.Step.TheVariants as step
+use Rattle.lfs_step.specs.declared.step.Step.TheVariants.{Format, Check, Ls, Cat, Mkdir, Put, Rm, Mv, SetAttr, RmAttr, Undo, Redo, Forget}
 
--- a new image of so many blocks is made, something is asked of an image, or a step is taken on its history
+-- a new image of so many blocks is made, the root alone or with what rows have at their paths; something is asked of an image, or a step is taken on its history
 pub data Deed : Type 0 where
   Make : (count : ℕ) → Deed
+  Pack : (count : ℕ) → (rows : List PackRow) → Deed
   Ask : (query : Query) → Deed
   Change : (step : change.Step) → Deed
 
 -- what a step does, with what it reads
 abbrev pub deed_of : Step → List ℕ → Deed
 deed_of (Format count) input = Make count
+deed_of (step.Pack count rows) input = Pack count rows.now
 deed_of Check input = Ask query.Check
+deed_of Ls input = Ask query.Ls
 deed_of (Cat path) input = Ask (query.Cat path)
 deed_of (Mkdir path) input = Change (Do (asked.Mkdir path.now))
 deed_of (Put path) input = Change (Do (asked.Put path.now input))
@@ -35,5 +40,6 @@ deed_of Forget input = Change change.Forget
 -- what the code's value stands for
 abbrev pub deed_held : Written → Deed
 deed_held (written.Make count) = Make count
+deed_held (written.Pack count rows) = Pack count rows.now
 deed_held (written.Ask query) = Ask query
 deed_held (written.Change step) = Change (step_of step)

@@ -1,8 +1,4 @@
-pub mod Bytes
-pub mod Change
 pub mod Deed
-pub mod Fault
-pub mod Laws
 pub mod Outcome
 pub mod Query
 pub mod Summary

@@ -1,18 +1,21 @@
 -- The outcome of a run (own).
-use Rattle.std.specs.Prelude.{ℕ, ◌≡◌, Bool, true, false, List, [], Option, Some, None}
+use Rattle.std.specs.Prelude.{ℕ, ◌≡◌, List, [], Option, Some, None}
 use Rattle.std.specs.Io.KnownBytes.{Keeps}
 use Rattle.lfs_block.specs.Geometry.{IsGeometry}
 use Rattle.lfs_block.specs.declared.image_fault.ImageFault.TheVariants.{BadGeometry}
 use Rattle.lfs_command.specs.Faults.{refusal_number}
 use Rattle.lfs_book.specs.Book.{book_of, journal_bytes}
 use Rattle.lfs_edit.specs.Formatted.{IsFormatted}
-use Rattle.lfs_step.specs.declared.fault.Fault.{Fault}
-use Rattle.lfs_step.specs.declared.fault.Fault.TheVariants.{Image, Refused, CannotWrite}
-use Rattle.lfs_step.specs.declared.outcome.Outcome.{Outcome}
-use Rattle.lfs_step.specs.Bytes.{image_of}
-use Rattle.lfs_step.specs.Change.{ChangesBytes, RefusesChange}
+use Rattle.lfs_change.specs.declared.fault.Fault.{Fault}
+use Rattle.lfs_change.specs.declared.fault.Fault.TheVariants.{Image, Refused}
+use Rattle.lfs_change.specs.declared.outcome.Outcome.{Outcome}
+use Rattle.lfs_change.specs.Bytes.{image_of}
+use Rattle.lfs_change.specs.Change.{ChangesBytes, RefusesChange}
 use Rattle.lfs_step.specs.Query.{RefusesQuery, SendsReport}
-use Rattle.lfs_step.specs.Deed.{Deed, Make, Ask, Change}
+use Rattle.lfs_pack.specs.declared.pack_row.PackRow.{PackRow}
+use Rattle.lfs_pack.specs.Packed.{AreRowsOf, Packed}
+use Rattle.lfs_pack.specs.Packing.{IsPacked, RefusesPack}
+use Rattle.lfs_step.specs.Deed.{Deed, Make, Pack, Ask, Change}
 
 -- what a step is given, beside what it reads: the size of a block, the bytes of the image and of the journal
 pub record Given : Type 0 where
@@ -30,9 +33,16 @@ RefusesFormat size count (Image BadGeometry) = ¬ IsGeometry size count
 RefusesFormat size count (Refused refusal) = refusal_number refusal ≡ 44
 RefusesFormat size count _ = ⊥
 
+-- why no new image of rows is made: its geometry, the verdict of the next command of the rows, or want of memory
+abbrev pub RefusesPacking : ℕ → ℕ → List PackRow → Fault → Type 0
+RefusesPacking size count rows (Image BadGeometry) = ¬ IsGeometry size count
+RefusesPacking size count rows (Refused refusal) = (packed : List Packed) → AreRowsOf rows packed → RefusesPack size count packed refusal
+RefusesPacking size count rows _ = ⊥
+
 -- the first fault of a deed that holds, or want of memory
 abbrev pub Refuses : Deed → Given → Fault → Type 0
 Refuses (Make count) g fault = RefusesFormat g.size count fault
+Refuses (Pack count rows) g fault = RefusesPacking g.size count rows fault
 Refuses (Ask query) g fault = RefusesQuery query g.size g.image fault
 Refuses (Change step) g fault = RefusesChange step g.size g.image g.journal fault
 
@@ -45,6 +55,9 @@ KeepsBoth g outcome = (outcome.image.items ≡ g.image) × (outcome.journal.item
 abbrev pub AnswersDone : Deed → Given → Outcome → Type 0
 AnswersDone (Make count) g outcome =
     IsFormatted g.size count outcome.image.items × (outcome.journal.items ≡ journal_bytes (book_of g.size count [] 0))
+AnswersDone (Pack count rows) g outcome =
+    ((packed : List Packed) → AreRowsOf rows packed → IsPacked g.size count packed outcome.image.items)
+    × (outcome.journal.items ≡ journal_bytes (book_of g.size count [] 0))
 AnswersDone (Ask query) g outcome = KeepsBoth g outcome
 AnswersDone (Change step) g outcome = ChangesBytes step g.size g.image g.journal outcome
 
@@ -61,10 +74,6 @@ Answers deed g outcome = AnswersBy outcome.fault deed g outcome
 -- what goes out of a deed's text; only a query has one
 abbrev pub SendsText : Deed → Given → Option Fault → Option (List ℕ) → Option (List ℕ) → Type 0
 SendsText (Make count) g fault old new = Keeps old new
+SendsText (Pack count rows) g fault old new = Keeps old new
 SendsText (Ask query) g fault old new = SendsReport query (image_of g.size g.image) fault old new
 SendsText (Change step) g fault old new = Keeps old new
-
--- the fault is that standard output failed
-abbrev pub blames_output : Option Fault → Bool
-blames_output (Some CannotWrite) = true
-blames_output _ = false

@@ -6,7 +6,8 @@ ghost use Rattle.lfs_step.specs.Deed.{deed_held, deed_of};
 use crate::query::Query;
 use crate::step::Step;
 use lfs_edit::Command;
-use lfs_journal::Step as Change;
+use lfs_history::Step as Change;
+use lfs_pack::PackRow;
 
 /// What a step does with an image.
 ///
@@ -17,6 +18,13 @@ pub enum Deed<'a> {
     Make {
         /// The number of blocks.
         count: u32,
+    },
+    /// Makes a new one of this many blocks, with what the rows have at their paths.
+    Pack {
+        /// The number of blocks.
+        count: u32,
+        /// The rows, in the order of their paths.
+        rows: &'a [PackRow<'a>],
     },
     /// Asks something of it.
     Ask(Query<'a>),
@@ -32,7 +40,9 @@ pub fn deed_of<'a>(step: &Step<'a>, input: &'a [u8]) -> Deed<'a>
 {
     let command = match *step {
         Step::Format { count } => return Deed::Make { count },
+        Step::Pack { count, rows } => return Deed::Pack { count, rows },
         Step::Check => return Deed::Ask(Query::Check),
+        Step::Ls => return Deed::Ask(Query::Ls),
         Step::Cat { path } => return Deed::Ask(Query::Cat { path }),
         Step::Undo => return Deed::Change(Change::Undo),
         Step::Redo => return Deed::Change(Change::Redo),

@@ -7,6 +7,8 @@
 pub enum Query<'a> {
     /// Whether it mounts, and what it holds in numbers.
     Check,
+    /// What stands at each path.
+    Ls,
     /// The contents of a file.
     Cat {
         /// The text of the file's path.

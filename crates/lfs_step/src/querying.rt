@@ -1,19 +1,21 @@
 //! One query of an image.
 
-ghost use Rattle.std.specs.Prelude.{◌≡◌, false, IfOk, IfErr, Some};
+ghost use Rattle.std.specs.Prelude.{◌≡◌, false, IfErr, None, Some, if◌then◌else◌};
 ghost use Rattle.std.specs.Result.{result_err};
 ghost use Rattle.lfs_fs.specs.Mounted.{IsMountOf};
-ghost use Rattle.lfs_step.specs.Fault.{status_of};
-ghost use Rattle.lfs_step.specs.Outcome.{blames_output};
-ghost use Rattle.lfs_step.specs.Query.{AnswersQuery, IsAnswer, RefusesReport, SendsQuery, SendsReport};
+ghost use Rattle.lfs_change.specs.Fault.{blames_output, status_of};
+ghost use Rattle.lfs_change.specs.declared.fault.Fault.TheVariants.{CannotWrite};
+ghost use Rattle.lfs_step.specs.declared.query.Query.TheVariants.{Check, Ls};
+ghost use Rattle.lfs_step.specs.Query.{AnswersQuery, RefusesReport, SendsQuery, SendsReport, fault_of_unsent};
 
-use crate::fault::Fault;
-use crate::outcome::Outcome;
 use crate::query::Query;
 use crate::summary::summary;
 use lfs_block::Image;
-use lfs_edit::file_contents;
+use lfs_change::{Fault, Outcome};
+use lfs_contents::send_file;
+use lfs_edit::Refusal;
 use lfs_fs::{Mounted, mount};
+use lfs_listing::{Unsent, send_listing};
 use lfs_sink::{Sink, send};
 use std::alloc::Global;
 use std::mem::forget;
@@ -46,7 +48,92 @@ pub fn queried<S: Sink>(
     }
 }
 
-/// Says the answer to a query of an image.
+/// What a text that did not go out as a whole is told as.
+fn sent_whole(whole: bool) -> Result<(), Fault>
+    ensures { result_err result ≡ (if whole then None else Some CannotWrite) }
+{
+    if whole {
+        Ok(())
+    } else {
+        Err(Fault::CannotWrite)
+    }
+}
+
+/// What a listing that did not go out as a whole is told as.
+fn fault_of_listing(unsent: Unsent) -> Fault
+    ensures { result ≡ fault_of_unsent unsent }
+{
+    match unsent {
+        Unsent::Memory => Fault::Refused(Refusal::Memory),
+        Unsent::CannotWrite => Fault::CannotWrite,
+    }
+}
+
+/// Says what an image that is mounted holds, in one line.
+fn say_summary<S: Sink>(
+    alloc: Global,
+    image: &Image,
+    mounted: &Mounted,
+    out: &mut S,
+) -> Result<(), Fault>
+    requires mounted { IsMountOf image.now mounted.now }
+    requires works { S.failed out.old ≡ false }
+    ensures refused { IfErr result (λ fault. RefusesReport Check image.now fault) }
+    ensures sent { SendsReport Check image.now (result_err result) (S.sent out.old) (S.sent out.new) }
+    ensures failed { S.failed out.new ≡ blames_output (result_err result) }
+    ensures kept { S.kept out.new ≡ S.kept out.old }
+{
+    let line = summary(alloc, image, mounted)?;
+    sent_whole(send(out, line.as_bytes()))
+}
+
+/// Says what stands at each path of an image that is mounted, row by row.
+fn say_listing<S: Sink>(
+    alloc: Global,
+    image: &Image,
+    mounted: &Mounted,
+    out: &mut S,
+) -> Result<(), Fault>
+    requires mounted { IsMountOf image.now mounted.now }
+    requires works { S.failed out.old ≡ false }
+    ensures refused { IfErr result (λ fault. RefusesReport Ls image.now fault) }
+    ensures sent { SendsReport Ls image.now (result_err result) (S.sent out.old) (S.sent out.new) }
+    ensures failed { S.failed out.new ≡ blames_output (result_err result) }
+    ensures kept { S.kept out.new ≡ S.kept out.old }
+{
+    match send_listing(alloc, mounted.rows(), out) {
+        Ok(()) => Ok(()),
+        Err(unsent) => Err(fault_of_listing(unsent)),
+    }
+}
+
+/// Says the answer to a query of an image that is mounted: a file's contents go out slice by slice.
+fn say<S: Sink>(
+    alloc: Global,
+    query: &Query<'_>,
+    image: &Image,
+    mounted: &Mounted,
+    out: &mut S,
+) -> Result<(), Fault>
+    requires mounted { IsMountOf image.now mounted.now }
+    requires works { S.failed out.old ≡ false }
+    ensures refused { IfErr result (λ fault. RefusesReport query.now image.now fault) }
+    ensures sent { SendsReport query.now image.now (result_err result) (S.sent out.old) (S.sent out.new) }
+    ensures failed { S.failed out.new ≡ blames_output (result_err result) }
+    ensures kept { S.kept out.new ≡ S.kept out.old }
+{
+    match *query {
+        Query::Check => say_summary(alloc, image, mounted, out),
+        Query::Ls => say_listing(alloc, image, mounted, out),
+        Query::Cat { path } => match send_file(alloc, image, mounted, path, out) {
+            Ok(whole) => sent_whole(whole),
+            Err(refusal) => Err(Fault::Refused(refusal)),
+        },
+    }
+}
+
+/// Says the answer to a query of an image. What was mounted isn't given back to the allocator, since the program ends behind
+/// its answer: to give names back one by one takes a tenth of the time of a check.
 fn report<S: Sink>(
     alloc: Global,
     query: &Query<'_>,
@@ -59,41 +146,8 @@ fn report<S: Sink>(
     ensures failed { S.failed out.new ≡ blames_output (result_err result) }
     ensures kept { S.kept out.new ≡ S.kept out.old }
 {
-    let text = answer(alloc, query, image)?;
-    if send(out, text.as_slice()) {
-        Ok(())
-    } else {
-        Err(Fault::CannotWrite)
-    }
-}
-
-/// The answer to a query of an image that is mounted.
-fn answer_from(
-    alloc: Global,
-    query: &Query<'_>,
-    image: &Image,
-    mounted: &Mounted,
-) -> Result<Vec<u8>, Fault>
-    requires { IsMountOf image.now mounted.now }
-    ensures answered { IfOk result (λ text. IsAnswer query.now image.now text.items) }
-    ensures refused { IfErr result (λ fault. RefusesReport query.now image.now fault) }
-    ensures silent { IfErr result (λ fault. blames_output (Some fault) ≡ false) }
-{
-    match *query {
-        Query::Check => Ok(summary(alloc, image, mounted)?.into_bytes()),
-        Query::Cat { path } => Ok(file_contents(alloc, image, mounted, path)?),
-    }
-}
-
-/// The answer to a query of an image. What was mounted isn't given back to the allocator, since the program ends behind
-/// its answer: to give names back one by one takes a tenth of the time of a check.
-fn answer(alloc: Global, query: &Query<'_>, image: &Image) -> Result<Vec<u8>, Fault>
-    ensures answered { IfOk result (λ text. IsAnswer query.now image.now text.items) }
-    ensures refused { IfErr result (λ fault. RefusesReport query.now image.now fault) }
-    ensures silent { IfErr result (λ fault. blames_output (Some fault) ≡ false) }
-{
     let mounted = mount(alloc, image)?;
-    let text = answer_from(alloc, query, image, &mounted);
+    let said = say(alloc, query, image, &mounted, out);
     forget(mounted);
-    text
+    said
 }

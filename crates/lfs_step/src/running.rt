@@ -1,22 +1,28 @@
 //! One step on an image.
 
-ghost use Rattle.std.specs.Prelude.{◌≡◌, [], false, IfOk, IfErr};
+ghost use Rattle.std.specs.Prelude.{◌≡◌, List, [], false, IfOk, IfErr};
+ghost use Rattle.lfs_block.specs.Geometry.{IsGeometry};
 ghost use Rattle.lfs_book.specs.Book.{book_of, journal_bytes};
+ghost use Rattle.lfs_command.specs.declared.refusal.Refusal.TheVariants.{Memory};
 ghost use Rattle.lfs_edit.specs.Formatted.{IsFormatted};
-ghost use Rattle.lfs_step.specs.Fault.{status_of};
-ghost use Rattle.lfs_step.specs.Outcome.{Answers, RefusesFormat, SendsText, blames_output, given};
-ghost use Rattle.lfs_step.specs.Deed.{Make, deed_of};
+ghost use Rattle.lfs_change.specs.Fault.{blames_output, status_of};
+ghost use Rattle.lfs_change.specs.declared.fault.Fault.TheVariants.{Refused};
+ghost use Rattle.lfs_step.specs.Outcome.{Answers, RefusesFormat, RefusesPacking, SendsText, given};
+ghost use Rattle.lfs_pack.specs.Packed.{AreRowsOf, Packed};
+ghost use Rattle.lfs_pack.specs.Packing.{IsPacked};
+ghost use Rattle.lfs_step.specs.Deed.{Make, Pack, deed_of};
 
-use crate::changing::changed;
 use crate::deed::{Deed, deed_of};
-use crate::fault::Fault;
-use crate::laws::{changed_bytes_are_equations, runs_of_bytes_are_runs, undone_bytes_stand_again};
-use crate::outcome::Outcome;
 use crate::querying::queried;
 use crate::step::Step;
 use lfs_block::{ImageFault, geometry_ok};
 use lfs_book::write_journal;
+use lfs_change::{
+    Fault, Outcome, changed, changed_bytes_are_equations, journals_of_bytes_grow_by_the_need,
+    runs_of_bytes_are_runs, undone_bytes_stand_again,
+};
 use lfs_edit::{Refusal, format};
+use lfs_pack::{PackRow, pack};
 use lfs_sink::Sink;
 use std::alloc::Global;
 
@@ -46,9 +52,11 @@ pub fn run<S: Sink>(
 {
     undone_bytes_stand_again();
     changed_bytes_are_equations();
+    journals_of_bytes_grow_by_the_need();
     runs_of_bytes_are_runs();
     match deed_of(step, input) {
         Deed::Make { count } => formatted(alloc, size, count, image, journal),
+        Deed::Pack { count, rows } => packed(alloc, size, count, rows, image, journal),
         Deed::Ask(query) => queried(alloc, &query, size, image, journal, out),
         Deed::Change(change) => changed(alloc, &change, size, image, journal),
     }
@@ -66,6 +74,15 @@ fn formatted(alloc: Global, size: u32, count: u32, image: Vec<u8>, journal: Vec<
     }
 }
 
+/// The bytes of a journal without changes.
+fn empty_journal(alloc: Global, size: u32, count: u32) -> Result<Vec<u8>, Fault>
+    requires { IsGeometry size count }
+    ensures empty { IfOk result (λ bytes. bytes.items ≡ journal_bytes (book_of size count [] 0)) }
+    ensures refused { IfErr result (λ fault. fault ≡ Refused Memory) }
+{
+    write_journal(alloc, size, count, &[], 0).ok_or(Fault::Refused(Refusal::Memory))
+}
+
 /// The bytes of a new image, and of a journal without changes.
 fn new_image(alloc: Global, size: u32, count: u32) -> Result<(Vec<u8>, Vec<u8>), Fault>
     ensures made { IfOk result (λ new. IsFormatted size count new.0.items) }
@@ -75,8 +92,43 @@ fn new_image(alloc: Global, size: u32, count: u32) -> Result<(Vec<u8>, Vec<u8>),
     if !geometry_ok(size, count) {
         return Err(Fault::Image(ImageFault::BadGeometry));
     }
-    let Some(journal) = write_journal(alloc, size, count, &[], 0) else {
-        return Err(Fault::Refused(Refusal::Memory));
-    };
+    let journal = empty_journal(alloc, size, count)?;
     Ok((format(alloc, size, count)?, journal))
+}
+
+/// A new image of rows, with a journal without changes.
+fn packed(
+    alloc: Global,
+    size: u32,
+    count: u32,
+    rows: &[PackRow<'_>],
+    image: Vec<u8>,
+    journal: Vec<u8>,
+) -> Outcome
+    ensures answers { Answers (Pack count rows.now) (given size image.items journal.items) result }
+    ensures failed { blames_output result.fault ≡ false }
+    ensures status { result.status ≡ status_of result.fault }
+{
+    match packed_image(alloc, size, count, rows) {
+        Ok((filled, empty)) => Outcome::new(filled, empty, None),
+        Err(refused) => Outcome::new(image, journal, Some(refused)),
+    }
+}
+
+/// The bytes of a new image of rows, and of a journal without changes.
+fn packed_image(
+    alloc: Global,
+    size: u32,
+    count: u32,
+    rows: &[PackRow<'_>],
+) -> Result<(Vec<u8>, Vec<u8>), Fault>
+    ensures made { IfOk result (λ new. (packed : List Packed) → AreRowsOf rows.now packed → IsPacked size count packed new.0.items) }
+    ensures empty { IfOk result (λ new. new.1.items ≡ journal_bytes (book_of size count [] 0)) }
+    ensures refused { IfErr result (λ fault. RefusesPacking size count rows.now fault) }
+{
+    if !geometry_ok(size, count) {
+        return Err(Fault::Image(ImageFault::BadGeometry));
+    }
+    let journal = empty_journal(alloc, size, count)?;
+    Ok((pack(alloc, size, count, rows)?, journal))
 }

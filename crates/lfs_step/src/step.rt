@@ -1,5 +1,7 @@
 //! The steps that a run takes.
 
+use lfs_pack::PackRow;
+
 /// What a run does with an image.
 ///
 /// Source: own.
@@ -10,8 +12,17 @@ pub enum Step<'a> {
         /// The number of blocks.
         count: u32,
     },
+    /// Makes a new image of this many blocks, with what the rows have at their paths.
+    Pack {
+        /// The number of blocks.
+        count: u32,
+        /// The rows, in the order of their paths.
+        rows: &'a [PackRow<'a>],
+    },
     /// Judges the image, and says what it holds.
     Check,
+    /// Says what stands at each path.
+    Ls,
     /// Says the contents of a file.
     Cat {
         /// The text of the file's path.

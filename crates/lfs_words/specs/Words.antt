@@ -7,7 +7,7 @@ use Rattle.lfs_request.specs.declared.request.Request.{Request}
 use Rattle.lfs_words.specs.declared.wish.Wish.{Wish}
 use Rattle.lfs_words.specs.declared.wish.Wish.TheVariants.{Explanation, Step}
 use Rattle.lfs_request.specs.declared.task.Task.{Task}
-use Rattle.lfs_request.specs.declared.task.Task.TheVariants.{Format, Check, Cat, Mkdir, Put, Rm, Mv, SetAttr, RmAttr, Undo, Redo, Forget}
+use Rattle.lfs_request.specs.declared.task.Task.TheVariants.{Format, Check, Ls, Cat, Mkdir, Put, Rm, Mv, SetAttr, RmAttr, Undo, Redo, Forget}
 
 -- the words name this command, with these options
 abbrev pub NamesCommand : ArgMatches → List ℕ → Found → Type 0
@@ -21,6 +21,7 @@ HasText options id text = first_value options id ≡ Some text
 abbrev pub IsTask : Task → List ℕ → Found → Type 0
 IsTask (Format count) name options = name ≡ codes "format"
 IsTask Check name options = name ≡ codes "check"
+IsTask Ls name options = name ≡ codes "ls"
 IsTask Undo name options = name ≡ codes "undo"
 IsTask Redo name options = name ≡ codes "redo"
 IsTask Forget name options = name ≡ codes "forget"

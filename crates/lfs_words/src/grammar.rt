@@ -41,7 +41,7 @@ struct CommandRow {
 }
 
 /// The program's commands, in the order of its help. Each but the last takes the block size and the image's file name.
-const COMMANDS: [CommandRow; 13] = [
+const COMMANDS: [CommandRow; 14] = [
     CommandRow {
         name: "format",
         about: "Write a new image, in place of a file of this name",
@@ -50,6 +50,11 @@ const COMMANDS: [CommandRow; 13] = [
     CommandRow {
         name: "check",
         about: "Judge an image; print its geometry, free blocks, directories and files",
+        arguments: &[Argument::Block, Argument::Image],
+    },
+    CommandRow {
+        name: "ls",
+        about: "List what stands at each path, with sizes and attributes",
         arguments: &[Argument::Block, Argument::Image],
     },
     CommandRow {

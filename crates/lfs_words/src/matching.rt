@@ -17,6 +17,7 @@ fn task_of<'a>(name: &str, options: &ArgMatches<'a>) -> Option<Task<'a>>
             count: options.get_one::<u32>("count")?,
         }),
         "check" => Some(Task::Check),
+        "ls" => Some(Task::Ls),
         "undo" => Some(Task::Undo),
         "redo" => Some(Task::Redo),
         "forget" => Some(Task::Forget),

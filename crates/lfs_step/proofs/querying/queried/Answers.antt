@@ -1,6 +1,6 @@
 use Rattle.std.proofs.Common.{◌≡◌, Option, ap, subst, sym, ◌∙◌}
 use Rattle.std.specs.Result.{result_err}
-use Rattle.lfs_step.specs.declared.fault.Fault.{Fault}
+use Rattle.lfs_change.specs.declared.fault.Fault.{Fault}
 use Rattle.lfs_step.specs.Query.{SendsReport}
 use Rattle.lfs_step.proofs.OutcomeLemmas.{query_answers, query_sends}
 use Rattle.lfs_step.proofs.querying.queried.Goals as goal

@@ -1,5 +1,0 @@
-use Rattle.lfs_step.proofs.LawLemmas.{bytes_are_denoted}
-use Rattle.lfs_step.proofs.laws.changed_bytes_are_denoted.Goals as goal
-
-pub returns : goal.returns
-returns c = bytes_are_denoted c.runs_keep_histories.ensures c.steps_keep_geometry.ensures c.saved_histories_open.ensures.opens

@@ -1,5 +1,0 @@
-use Rattle.lfs_step.proofs.LawLemmas.{bytes_stand_again}
-use Rattle.lfs_step.proofs.laws.undone_bytes_stand_again.Goals as goal
-
-pub returns : goal.returns
-returns c = bytes_stand_again c.changed_bytes_are_denoted.ensures c.saved_histories_open.ensures.one c.undo_is_exact.ensures

@@ -1,0 +1,24 @@
+-- A listing that didn't go out as a whole is told as what kept it.
+use Rattle.std.proofs.Common.{◌≡◌, List, ℕ, Option, Some, sym, ap, subst}
+use Rattle.lfs_change.specs.declared.fault.Fault.{Fault}
+use Rattle.lfs_fs.specs.Row.{Row}
+use Rattle.lfs_listing.specs.Listing.{listing}
+use Rattle.lfs_listing.specs.Unsent.{SendsListing}
+use Rattle.lfs_step.specs.declared.query.Query.TheVariants.{Ls}
+use Rattle.lfs_step.specs.Query.{RefusesReport, SendsReport}
+use Rattle.lfs_step.proofs.ListingLemmas.{listing_refused, listing_sent}
+use Rattle.lfs_step.proofs.querying.say_listing.Goals as goal
+
+pub returns-in-Err-clause-refused : goal.returns-in-Err-clause-refused
+returns-in-Err-clause-refused g c =
+    subst (λ (f : Fault). RefusesReport Ls c.args.image.now f) (sym c.fault_of_listing.ensures)
+    (listing_refused c.args.image.now c.args.mounted.now c.requires.mounted c.in-Err.unsent)
+
+pub returns-in-Err-clause-sent : goal.returns-in-Err-clause-sent
+returns-in-Err-clause-sent g c =
+    let old = g.S.Sink.sent c.args.out.now in
+    let new = g.S.Sink.sent c.send_listing.new.out in
+    let sent : SendsListing (Some c.in-Err.unsent) old new (listing c.args.mounted.now.rows) =
+    subst (λ (rows : List Row). SendsListing (Some c.in-Err.unsent) old new (listing rows)) c.rows.ensures c.in-Err.ensures.sent in
+    subst (λ (f : Fault). SendsReport Ls c.args.image.now (Some f) old new) (sym c.fault_of_listing.ensures)
+    (listing_sent c.args.image.now c.args.mounted.now c.requires.mounted c.in-Err.unsent old new sent)
