@@ -1,6 +1,6 @@
 //! Calls of the laws.
 
-use lfs_journal::{
+use lfs_history::{
     commands_are_equations, commands_push_equations, histories_are_books,
     journals_grow_by_the_need, redo_is_exact, runs_keep_histories, saved_histories_open,
     steps_keep_geometry, undo_and_redo_keep_images, undo_is_exact,

@@ -22,6 +22,8 @@ mod new_images;
 #[cfg(test)]
 mod opening;
 #[cfg(test)]
+mod packing;
+#[cfg(test)]
 mod paths;
 #[cfg(test)]
 mod refusals;

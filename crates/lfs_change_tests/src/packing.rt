@@ -1,0 +1,75 @@
+//! Rows that are packed into a new image.
+
+use lfs_block::{Image, geometry_ok};
+use lfs_edit::Refusal;
+use lfs_fs::mount;
+use lfs_listing::send_listing;
+use lfs_pack::{PackRow, pack};
+use lfs_sink::Out;
+use std::alloc::Global;
+use std::process::Abort;
+use std::test::Fail;
+
+// what the packed image lists
+const LISTING: &str = "d          - /
+d          - /d
+f         65 /d/f
+@ 74 01
+";
+
+// the attributes of the file that is packed
+fn attributes(alloc: Global) -> Result<[(u8, Vec<u8>); 1], Fail> {
+    Ok([(0x74, Vec::from_slice(alloc, &[1])?)])
+}
+
+// a directory, and a file that takes one block beside its entry
+fn rows(attributes: &[(u8, Vec<u8>)]) -> [PackRow<'_>; 3] {
+    let root = PackRow {
+        path: b"/",
+        bytes: None,
+        attributes: &[],
+    };
+    let directory = PackRow {
+        path: b"/d",
+        ..root
+    };
+    let file = PackRow {
+        path: b"/d/f",
+        bytes: Some(&[7; 65]),
+        attributes,
+    };
+    [root, directory, file]
+}
+
+// asserts what is free in an image, and what it lists
+fn holds(rt: &impl Abort, alloc: Global, image: &Image) -> Result<(), Fail> {
+    let mounted = mount(alloc, image)?;
+    assert_eq!(rt; mounted.free_count(), 3);
+    let mut text = Vec::new(alloc);
+    let mut out = Out::new(&mut text);
+    assert!(rt; send_listing(alloc, mounted.rows(), &mut out).is_ok());
+    assert!(rt; text.as_slice() == LISTING.as_bytes());
+    Ok(())
+}
+
+#[test]
+fn rows_are_packed_into_an_image(rt: HostRuntime) -> Result<(), Fail> {
+    if !geometry_ok(512, 8) {
+        return Err(Fail::new("no image has such blocks"));
+    }
+    let attributes = attributes(rt.alloc())?;
+    let bytes = pack(rt.alloc(), 512, 8, &rows(&attributes))?;
+    let image = Image::new(bytes, 512).ok().ok_or("no image")?;
+    holds(&rt, rt.alloc(), &image)
+}
+
+#[test]
+fn rows_that_do_not_fit_are_refused(rt: HostRuntime) -> Result<(), Fail> {
+    if !geometry_ok(512, 4) {
+        return Err(Fail::new("no image has such blocks"));
+    }
+    let attributes = attributes(rt.alloc())?;
+    let refused = pack(rt.alloc(), 512, 4, &rows(&attributes)).err();
+    assert_eq!(rt; refused, Some(Refusal::NoSpace { need: 1, free: 0 }));
+    Ok(())
+}
