@@ -114,6 +114,7 @@ CUT = (
     (20, ["--help"], b"Edit littlefs images"),
     (7, ["explain", "41"], b"41 IsRo"),
     (1_000, ["cat", "--block", "512", "a.img", "/large"], 1_000 * b"7"),
+    (20, ["ls", "--block", "512", "a.img"], b"d          - /\nf    "),
 )
 
 

@@ -84,6 +84,7 @@ def directory_rows(runs):
     runs.row(["mv", "a.img", "/d", "/d/e"], filled)
     runs.row(["mv", "a.img", "/d/x", "/y"], filled)
     runs.row(["mv", "a.img", "/d", "/e"], filled)
+    runs.row(["ls", "a.img"], filled)
     parted = new
     for letter in "ac":
         parted = runs.row(["put", "a.img", "/" + 200 * letter], parted)
