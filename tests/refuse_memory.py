@@ -92,6 +92,20 @@ def directory_rows(runs):
     runs.row(["mkdir", "a.img", "/" + 200 * "b"], runs.row(["put", "a.img", "/a"], parted, bytes(513)))
 
 
+def folder_rows(runs):
+    """A folder that is packed, in the place of nothing and of an image; a link in it; and one that isn't there."""
+    place = runs.files[0].with_name("src")
+    (place / "d").mkdir(parents=True)
+    (place / "d/f").write_bytes(bytes(65))
+    runs.row(["pack", "--count=4", "a.img", "src"], NOTHING)
+    packed = runs.row(["pack", "--count=8", "a.img", "src"], NOTHING)
+    (place / "d/a").write_bytes(b"more")
+    runs.row(["pack", "--count=8", "a.img", "src"], packed)
+    (place / "d/link").symlink_to("f")
+    runs.row(["pack", "--count=8", "a.img", "src"], packed)
+    runs.row(["pack", "--count=8", "a.img", "none"], packed)
+
+
 def history_rows(runs):
     """Changes that are taken back, made again, dropped and forgotten, and histories that lead to images that don't mount."""
     new = runs.row(["format", "--count=8", "a.img"], NOTHING)
@@ -114,6 +128,7 @@ with tempfile.TemporaryDirectory() as folder:
     tried = Runs(pathlib.Path(folder))
     rows(tried)
     directory_rows(tried)
+    folder_rows(tried)
     history_rows(tried)
 print(f"{tried.ran - tried.wrong} passed, {tried.wrong} failed")
 sys.exit(1 if tried.wrong else 0)

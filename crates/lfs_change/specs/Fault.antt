@@ -11,7 +11,7 @@ use Rattle.lfs_history.specs.declared.step_fault.StepFault.{StepFault}
 use Rattle.lfs_history.specs.declared.step_fault.StepFault.TheVariants.{Refused as Refused_step}
 use Rattle.lfs_history.specs.Faults.{step_fault_number}
 use Rattle.lfs_change.specs.declared.fault.Fault.{Fault}
-use Rattle.lfs_change.specs.declared.fault.Fault.TheVariants.{Image, Mount, Refused, Step, JournalFormat, JournalMismatch, JournalImage, CannotRead, CannotWrite, BadHex}
+use Rattle.lfs_change.specs.declared.fault.Fault.TheVariants.{Image, Mount, Refused, Step, JournalFormat, JournalMismatch, JournalImage, CannotRead, CannotWrite, HostEntry, HostName, BadHex}
 
 -- each fault by its number; those of the layers below keep theirs
 abbrev pub fault_number : Fault → ℕ
@@ -24,6 +24,8 @@ fault_number JournalMismatch = 51
 fault_number JournalImage = 52
 fault_number CannotRead = 60
 fault_number CannotWrite = 61
+fault_number HostEntry = 62
+fault_number HostName = 63
 fault_number BadHex = 64
 
 -- a number lies in a range, both ends included

@@ -32,12 +32,18 @@ pub enum Fault {
     /// Another image of the journal's history does not mount.
     #[error("JournalImage")]
     JournalImage,
-    /// A file could not be read.
+    /// A file or a folder could not be read.
     #[error("CannotRead")]
     CannotRead,
     /// A file or standard output could not be written.
     #[error("CannotWrite")]
     CannotWrite,
+    /// Something below a folder is neither a regular file nor a folder.
+    #[error("HostEntry")]
+    HostEntry,
+    /// A name below a folder can't be one in an image.
+    #[error("HostName")]
+    HostName,
     /// An argument is not made of as many hexadecimal digits as it takes.
     #[error("BadHex")]
     BadHex,
@@ -61,6 +67,8 @@ impl Fault {
             Fault::JournalImage => 52,
             Fault::CannotRead => 60,
             Fault::CannotWrite => 61,
+            Fault::HostEntry => 62,
+            Fault::HostName => 63,
             Fault::BadHex => 64,
         }
     }

@@ -7,7 +7,7 @@ use Rattle.std.proofs.lemmas.Grind.{flat_map-append}
 use Rattle.std.proofs.lemmas.List.{append-nil, get_or-map, length-map}
 use Rattle.lfs_meta.specs.Name.{Name}
 use Rattle.lfs_fs.specs.Path.{Path, path_text}
-use Rattle.lfs_folder.specs.HostTree.{HostTree, FolderOf}
+use Rattle.lfs_host.specs.HostTree.{HostTree, FolderOf}
 use Rattle.lfs_folder.specs.PathBelow.{name_in, host_name, or_root, text_below}
 use Rattle.lfs_folder.specs.FolderRows.{PathRow, folder_row, paths_of, IsBelow}
 use Rattle.lfs_folder.specs.FolderWalk.{IsMet}

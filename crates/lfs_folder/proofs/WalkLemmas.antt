@@ -13,7 +13,7 @@ use Rattle.lfs_fs.specs.Ordered.{apart, AreApart}
 use Rattle.lfs_fs.proofs.ApartLemmas.{apart_below, apart_names, below_precedes}
 use Rattle.lfs_folder.specs.declared.folder_fault.FolderFault.{FolderFault}
 use Rattle.lfs_folder.specs.declared.folder_fault.FolderFault.TheVariants.{Memory, HostEntry, HostName, CannotRead}
-use Rattle.lfs_folder.specs.HostTree.{HostTree, FolderOf, Lists, ReadsFile}
+use Rattle.lfs_host.specs.HostTree.{HostTree, FolderOf, Lists, ReadsEntry}
 use Rattle.lfs_folder.specs.HostNames.{IsHostName, NamesRise, CannotOrder}
 use Rattle.lfs_folder.specs.FolderWalk.{RefusesFolder}
 use Rattle.lfs_folder.specs.PathBelow.{host_name}
@@ -70,7 +70,7 @@ pub record IsPut (most : ℕ) (known : Option HostTree) (dir : List ℕ) (shown 
 
 -- ---- a file
 
-file_tree : (most : ℕ) (known : Option HostTree) (dir : List ℕ) (p : Path) (bytes : List ℕ) → ReadsFile known (host_name dir p) most bytes
+file_tree : (most : ℕ) (known : Option HostTree) (dir : List ℕ) (p : Path) (bytes : List ℕ) → ReadsEntry known (host_name dir p) most bytes
     → IfSome known (λ tree. IsTreePut most dir p (Some bytes) [] tree)
 file_tree most None dir p bytes h = tt
 file_tree most (Some tree) dir p bytes (whole, is, read) = record {
@@ -80,7 +80,7 @@ file_tree most (Some tree) dir p bytes (whole, is, read) = record {
 }
 
 pub file_put : (most : ℕ) (known : Option HostTree) (dir : List ℕ) (shown : List PathRow) (p : Path) (bytes : List ℕ)
-    → ReadsFile known (host_name dir p) most bytes → IsPut most known dir shown p (Some bytes) []
+    → ReadsEntry known (host_name dir p) most bytes → IsPut most known dir shown p (Some bytes) []
 file_put most known dir shown p bytes read = record {
   distinct = tt;
   after = All-nil (λ q. path_precedes p q ≡ true);

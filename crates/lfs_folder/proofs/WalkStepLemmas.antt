@@ -13,8 +13,8 @@ use Rattle.lfs_fs.proofs.ApartLemmas.{All-both, ApartFrom, apart-append, rise_ap
 use Rattle.lfs_folder.specs.declared.folder_row.FolderRow.{FolderRow}
 use Rattle.lfs_folder.specs.declared.folder_fault.FolderFault.{FolderFault}
 use Rattle.lfs_folder.specs.declared.folder_fault.FolderFault.TheVariants.{Memory, HostEntry, HostName, CannotRead}
-use Rattle.lfs_folder.specs.declared.host_kind.HostKind.TheVariants.{Other}
-use Rattle.lfs_folder.specs.HostTree.{HostNode, NothingThere, FileOf, FolderOf, OtherThere, HostTree, kind_of, IsKind, Lists, ReadsFile}
+use Rattle.lfs_host.specs.declared.host_kind.HostKind.TheVariants.{Other}
+use Rattle.lfs_host.specs.HostTree.{HostNode, NothingThere, FileOf, FolderOf, OtherThere, HostTree, kind_of, IsKind, Lists, ReadsEntry}
 use Rattle.lfs_folder.specs.HostNames.{IsHostName}
 use Rattle.lfs_folder.specs.PathBelow.{name_in, host_name, text_below}
 use Rattle.lfs_folder.specs.FolderRows.{PathRow, folder_row, paths_of, IsRow, AreSpelled, IsInside, IsBelow, IsRight, AreAllBelow, IsFolder, RefusesTree, Refuses}
@@ -164,13 +164,13 @@ fits_next most known dir shown p rest walk =
     All-head F p rest (All-both F (paths_of shown) (p ∷ rest) walk.fit).1
 
 pub step_file : (most : ℕ) (known : Option HostTree) (dir name bytes : List ℕ) (rows longer : List FolderRow) (waiting : List (List ℕ))
-    → IsFolderWalk most known dir rows (name ∷ waiting) → ReadsFile known name most bytes
+    → IsFolderWalk most known dir rows (name ∷ waiting) → ReadsEntry known name most bytes
     → ShowsMore (text_below (length dir) name) (Some bytes) rows longer → IsFolderWalk most known dir longer waiting
 step_file most known dir name bytes rows longer waiting walk read (row, is, shows) =
     let next = next_path dir name waiting walk.queue walk.names in
     let p : Path = next.path in
     let here = at_next most known dir walk.shown walk.queue p next.rest next.queue_is walk.walk in
-    let put = file_put most known dir walk.shown p bytes (subst (λ (x : List ℕ). ReadsFile known x most bytes) next.name_is read) in
+    let put = file_put most known dir walk.shown p bytes (subst (λ (x : List ℕ). ReadsEntry known x most bytes) next.name_is read) in
     record {
       shown = walk.shown ++ row_at p (Some bytes) ∷ [];
       queue = next.rest;

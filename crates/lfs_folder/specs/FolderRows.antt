@@ -6,7 +6,7 @@ use Rattle.lfs_fs.specs.Ordered.{PathsRise}
 use Rattle.lfs_folder.specs.declared.folder_row.FolderRow.{FolderRow}
 use Rattle.lfs_folder.specs.declared.folder_fault.FolderFault.{FolderFault}
 use Rattle.lfs_folder.specs.declared.folder_fault.FolderFault.TheVariants.{Memory, HostEntry, HostName, CannotRead}
-use Rattle.lfs_folder.specs.HostTree.{HostNode, NothingThere, FileOf, FolderOf, OtherThere, HostTree}
+use Rattle.lfs_host.specs.HostTree.{HostNode, NothingThere, FileOf, FolderOf, OtherThere, HostTree}
 use Rattle.lfs_folder.specs.HostNames.{IsHostName}
 use Rattle.lfs_folder.specs.PathBelow.{name_in, host_name}
 

@@ -6,7 +6,7 @@ use Rattle.lfs_fs.specs.Ordered.{PathsRise, AreApart}
 use Rattle.lfs_folder.specs.declared.folder_row.FolderRow.{FolderRow}
 use Rattle.lfs_folder.specs.declared.folder_fault.FolderFault.{FolderFault}
 use Rattle.lfs_folder.specs.declared.folder_fault.FolderFault.TheVariants.{Memory, HostEntry, HostName, CannotRead}
-use Rattle.lfs_folder.specs.HostTree.{FolderOf, HostTree, Lists}
+use Rattle.lfs_host.specs.HostTree.{FolderOf, HostTree, Lists}
 use Rattle.lfs_folder.specs.HostNames.{IsHostName, NamesRise}
 use Rattle.lfs_folder.specs.PathBelow.{name_in, host_name, text_below}
 use Rattle.lfs_folder.specs.FolderRows.{PathRow, folder_row, paths_of, IsRow, AreSpelled, IsInside, IsBelow, IsRight}

@@ -1,4 +1,3 @@
-pub mod HostTree
 pub mod HostNames
 pub mod FolderFault
 pub mod PathBelow

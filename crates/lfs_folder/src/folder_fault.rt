@@ -1,6 +1,6 @@
 //! Why a folder is not read.
 
-use crate::host_fault::{ListFault, ReadFault};
+use lfs_host::{ListFault, ReadFault};
 use std::alloc::AllocError;
 use thiserror::Error;
 

@@ -4,8 +4,6 @@
 mod folder_fault;
 mod folder_row;
 mod folders;
-mod host_fault;
-mod host_kind;
 mod host_names;
 mod path_below;
 mod reading;
@@ -16,6 +14,4 @@ mod walking;
 pub use folder_fault::FolderFault;
 pub use folder_row::FolderRow;
 pub use folders::Folders;
-pub use host_fault::{ListFault, ReadFault};
-pub use host_kind::HostKind;
 pub use reading::folder_rows;

@@ -22,6 +22,7 @@ pub fn folder_rows<H: Folders>(
     ensures rows { IfOk result (λ rows. IsFolder MOST_BYTES (H.folders host.old) dir.now rows.items) }
     ensures refused { IfErr result (λ fault. Refuses (H.folders host.old) dir.now fault) }
     ensures kept { H.folders host.new ≡ H.folders host.old }
+    ensures beside { H.kept host.new ≡ H.kept host.old }
 {
     let mut walk = FolderWalk::start(alloc, host, dir)?;
     while let Some(name) = walk.waiting.pop() {

@@ -2,9 +2,8 @@
 
 use crate::folder_fault::FolderFault;
 use crate::folders::Folders;
-use crate::host_fault::{ListFault, ReadFault};
-use crate::host_kind::HostKind;
 use crate::reading::folder_rows;
+use lfs_host::{HostKind, ListFault, ReadFault};
 use std::alloc::{AllocError, Global};
 use std::test::Fail;
 
@@ -41,6 +40,8 @@ fn texts(alloc: Global, names: &[&str]) -> Result<Vec<String>, AllocError> {
 }
 
 impl Folders for Shelf<'_> {
+    ghost kept = { λ _. tt };
+
     fn kind(&mut self, name: &str) -> Result<HostKind, ReadFault> {
         match self.find(name) {
             Some(item) => Ok(item.kind),

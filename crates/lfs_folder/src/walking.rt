@@ -8,9 +8,9 @@ ghost use Rattle.lfs_folder.specs.PathBelow.{name_in, text_below};
 use crate::folder_fault::FolderFault;
 use crate::folder_row::FolderRow;
 use crate::folders::Folders;
-use crate::host_kind::HostKind;
 use crate::host_names::in_order;
 use crate::path_below::{name_in, text_below};
+use lfs_host::HostKind;
 use std::alloc::{AllocError, Global};
 
 /// The most bytes that a file in an image has.
@@ -39,6 +39,7 @@ impl FolderWalk {
             (map (λ s. string_bytes s) (reverse walk.waiting.items))) }
         ensures refused { IfErr result (λ fault. Refuses (H.folders host.old) dir.now fault) }
         ensures kept { H.folders host.new ≡ H.folders host.old }
+        ensures beside { H.kept host.new ≡ H.kept host.old }
     {
         let mut walk = FolderWalk {
             rows: Vec::new(alloc),
@@ -63,6 +64,7 @@ impl FolderWalk {
         ensures more { OnOk result ((length self.old.rows.items < MOST_ROWS) × (length self.new.rows.items ≡ length self.old.rows.items + 1)) }
         ensures refused { IfErr result (λ fault. Refuses (H.folders host.old) dir.now fault) }
         ensures kept { H.folders host.new ≡ H.folders host.old }
+        ensures beside { H.kept host.new ≡ H.kept host.old }
     {
         if self.rows.len() >= MOST_ROWS {
             return Err(FolderFault::CannotRead);
@@ -90,6 +92,7 @@ impl FolderWalk {
             (map (λ s. string_bytes s) (reverse self.old.waiting.items)) (map (λ s. string_bytes s) (reverse self.new.waiting.items))) }
         ensures refused { IfErr result (λ fault. IfSome (H.folders host.old) (RefusesFolder folder.now fault)) }
         ensures kept { H.folders host.new ≡ H.folders host.old }
+        ensures beside { H.kept host.new ≡ H.kept host.old }
     {
         let listed = host.list(alloc, folder)?;
         let names = in_order(listed)?;

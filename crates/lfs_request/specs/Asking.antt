@@ -1,13 +1,14 @@
--- The step that a task asks for, whose kinds and values are hexadecimal digits (own).
+-- The step that a task asks for, whose kinds and values are hexadecimal digits, and whose rows are those of a folder (own).
 use Rattle.std.specs.Prelude.{◌≡◌, ◌⊎◌, ℕ, List, [], ◌∷◌, Ok, IsErr}
 use Rattle.hex.specs.declared.error.FromHexError.{FromHexError}
 use Rattle.hex.specs.declared.error.FromHexError.TheVariants.{OutOfMemory}
 use Rattle.hex.specs.Hex.{decode_of, decode_sized}
 use Rattle.lfs_command.specs.declared.refusal.Refusal.TheVariants.{Memory}
+use Rattle.lfs_pack.specs.declared.pack_row.PackRow.{PackRow}
 use Rattle.lfs_change.specs.declared.fault.Fault.{Fault}
 use Rattle.lfs_change.specs.declared.fault.Fault.TheVariants.{Refused, BadHex}
 use Rattle.lfs_step.specs.declared.step.Step.{Step}
-use Rattle.lfs_step.specs.declared.step.Step.TheVariants.{Format, Check, Ls, Cat, Mkdir, Put, Rm, Mv, SetAttr, RmAttr, Undo, Redo, Forget}
+use Rattle.lfs_step.specs.declared.step.Step.TheVariants.{Format, Pack, Check, Ls, Cat, Mkdir, Put, Rm, Mv, SetAttr, RmAttr, Undo, Redo, Forget}
 use Rattle.lfs_request.specs.declared.task.Task.{Task}
 use Rattle.lfs_request.specs.declared.task.Task.TheVariants as task
 
@@ -34,23 +35,24 @@ SpellsNoKind (task.SetAttr path kind digits) = IsErr (decode_sized kind.now 1)
 SpellsNoKind (task.RmAttr path kind) = IsErr (decode_sized kind.now 1)
 SpellsNoKind _ = ⊥
 
--- the step is what the task asks for
-abbrev pub AsksFor : Task → Step → Type 0
-AsksFor (task.Format n) (Format count) = count ≡ n
-AsksFor task.Check Check = Unit {0}
-AsksFor task.Ls Ls = Unit {0}
-AsksFor (task.Cat text) (Cat path) = path.now ≡ text.now
-AsksFor (task.Mkdir text) (Mkdir path) = path.now ≡ text.now
-AsksFor (task.Put text) (Put path) = path.now ≡ text.now
-AsksFor (task.Rm text) (Rm path) = path.now ≡ text.now
-AsksFor (task.Mv from_text to_text) (Mv from to) = (from.now ≡ from_text.now) × (to.now ≡ to_text.now)
-AsksFor (task.SetAttr text digits value_digits) (SetAttr path kind value) =
+-- the step is what the task asks for, with these rows where it packs a folder
+abbrev pub AsksFor : Task → List PackRow → Step → Type 0
+AsksFor (task.Format n) rows (Format count) = count ≡ n
+AsksFor (task.Pack n dir) rows (Pack count packed) = (count ≡ n) × (packed.now ≡ rows)
+AsksFor task.Check rows Check = Unit {0}
+AsksFor task.Ls rows Ls = Unit {0}
+AsksFor (task.Cat text) rows (Cat path) = path.now ≡ text.now
+AsksFor (task.Mkdir text) rows (Mkdir path) = path.now ≡ text.now
+AsksFor (task.Put text) rows (Put path) = path.now ≡ text.now
+AsksFor (task.Rm text) rows (Rm path) = path.now ≡ text.now
+AsksFor (task.Mv from_text to_text) rows (Mv from to) = (from.now ≡ from_text.now) × (to.now ≡ to_text.now)
+AsksFor (task.SetAttr text digits value_digits) rows (SetAttr path kind value) =
     (path.now ≡ text.now) × SpellsByte digits.now kind × SpellsBytes value_digits.now value.now
-AsksFor (task.RmAttr text digits) (RmAttr path kind) = (path.now ≡ text.now) × SpellsByte digits.now kind
-AsksFor task.Undo Undo = Unit {0}
-AsksFor task.Redo Redo = Unit {0}
-AsksFor task.Forget Forget = Unit {0}
-AsksFor _ _ = ⊥
+AsksFor (task.RmAttr text digits) rows (RmAttr path kind) = (path.now ≡ text.now) × SpellsByte digits.now kind
+AsksFor task.Undo rows Undo = Unit {0}
+AsksFor task.Redo rows Redo = Unit {0}
+AsksFor task.Forget rows Forget = Unit {0}
+AsksFor _ rows _ = ⊥
 
 -- why a task asks for no step: its digits spell nothing, or want of memory
 abbrev pub NamesNoStep : Task → Fault → Type 0

@@ -6,6 +6,7 @@ ghost use Rattle.lfs_request.specs.Asking.{AsksFor, SpellsBytes, SpellsNoKind, d
 
 use crate::digits::byte_of;
 use crate::task::Task;
+use lfs_pack::PackRow;
 use lfs_step::{Fault, Step};
 
 /// The digits of the value that a task sets; none where there is no value. Takes no memory.
@@ -20,17 +21,22 @@ pub fn digits_of<'a>(task: &Task<'a>) -> &'a str
     }
 }
 
-/// The step that a task asks for, whose value the caller has read from its digits. `BadHex` where a kind isn't two
-/// digits. Takes no memory.
+/// The step that a task asks for, whose value the caller has read from its digits, and whose rows from its folder. `BadHex`
+/// where a kind isn't two digits. Takes no memory.
 ///
 /// Source: own.
-pub fn step_of<'a>(task: &'a Task<'_>, value: &'a [u8]) -> Result<Step<'a>, Fault>
+pub fn step_of<'a>(
+    task: &'a Task<'_>,
+    value: &'a [u8],
+    rows: &'a [PackRow<'a>],
+) -> Result<Step<'a>, Fault>
     requires { SpellsBytes (digits_of task.now) value.now }
-    ensures asked { IfOk result (λ step. AsksFor task.now step) }
+    ensures asked { IfOk result (λ step. AsksFor task.now rows.now step) }
     ensures refused { IfErr result (λ fault. (fault ≡ BadHex) × SpellsNoKind task.now) }
 {
     let step = match *task {
         Task::Format { count } => Step::Format { count },
+        Task::Pack { count, .. } => Step::Pack { count, rows },
         Task::Check => Step::Check,
         Task::Ls => Step::Ls,
         Task::Cat { path } => Step::Cat {

@@ -10,6 +10,13 @@ pub enum Task<'a> {
         /// The number of blocks.
         count: u32,
     },
+    /// A new image of this many blocks, with what is below a folder of the host.
+    Pack {
+        /// The number of blocks.
+        count: u32,
+        /// The folder's name.
+        dir: &'a str,
+    },
     /// The verdict on an image.
     Check,
     /// What stands at each path.

@@ -12,7 +12,7 @@ use Rattle.lfs_serve.specs.declared.kind.Kind.{Kind}
 use Rattle.lfs_serve.specs.declared.kind.Kind.TheVariants.{Makes, Asks, Changes, Forgets}
 use Rattle.lfs_serve.specs.declared.stop.Stop.{Stop}
 use Rattle.lfs_request.specs.Asking.{NamesNoStep, SpellsNoBytes, SpellsNoKind, digits_of}
-use Rattle.lfs_serve.specs.Files.{Files, FindsFile, IsTarget, ReadsFile}
+use Rattle.lfs_host.specs.Files.{Files, FindsFile, IsTarget, ReadsFile}
 use Rattle.lfs_serve.specs.Kind.{kind_of}
 use Rattle.lfs_serve.specs.Storing.{LeavesFiles, SparesFiles, journal_name}
 use Rattle.lfs_serve.specs.Program.{HandedBytes, HandsImage, HandsJournal, IsHanded, IsOfHost, Runs, RunsOn, RunsStep}

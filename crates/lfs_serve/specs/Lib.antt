@@ -1,4 +1,4 @@
-pub mod Files
 pub mod Kind
+pub mod HostFolder
 pub mod Storing
 pub mod Program

@@ -13,7 +13,10 @@ use Rattle.lfs_serve.specs.declared.stop.Stop.{Stop}
 use Rattle.lfs_request.specs.declared.task.Task.{Task}
 use Rattle.lfs_step.specs.Deed.{Deed, deed_of}
 use Rattle.lfs_change.specs.Fault.{status_of}
-use Rattle.lfs_serve.specs.Files.{Files, FindsFile, ReadsFile, ReadsInput}
+use Rattle.lfs_host.specs.Files.{Files, FindsFile, ReadsFile, ReadsInput}
+use Rattle.lfs_host.specs.HostTree.{HostTree}
+use Rattle.lfs_pack.specs.declared.pack_row.PackRow.{PackRow}
+use Rattle.lfs_serve.specs.HostFolder.{PacksRows, ReadsNoFolder}
 use Rattle.lfs_serve.specs.Kind.{kind_of}
 use Rattle.lfs_serve.specs.Storing.{LeavesFiles, SparesFiles, journal_name}
 use Rattle.lfs_step.specs.Outcome.{Answers, Given, SendsText, given}
@@ -107,11 +110,16 @@ EndsStep step size name old new None =
     × LeavesFiles (kind_of step) old.files new.files name outcome
 EndsStep step size name old new (Some fault) = StopsStep step size name old new fault
 
--- how a task on an image's file ends: as the step that it asks for, or with a fault since it names none
-abbrev pub EndsTask : Task → ℕ → List ℕ → Scene → Scene → Option Fault → Type 0
-EndsTask task size name old new fault =
-    ((step : Step) × AsksFor task step × EndsStep step size name old new fault)
-    ⊎ (KeepsScene old new × ((why : Fault) × (fault ≡ Some why) × NamesNoStep task why))
+-- why a task comes to no step: it names none, or its folder isn't read
+abbrev pub ComesToNoStep : Task → Option HostTree → Fault → Type 0
+ComesToNoStep task tree why = NamesNoStep task why ⊎ ReadsNoFolder task tree why
+
+-- how a task on an image's file ends: as the step that it asks for, with the rows of its folder, or with a fault since it
+-- comes to none
+abbrev pub EndsTask : Task → ℕ → List ℕ → Option HostTree → Scene → Scene → Option Fault → Type 0
+EndsTask task size name tree old new fault =
+    ((step : Step) × (rows : List PackRow) × PacksRows task tree rows × AsksFor task rows step × EndsStep step size name old new fault)
+    ⊎ (KeepsScene old new × ((why : Fault) × (fault ≡ Some why) × ComesToNoStep task tree why))
 
 -- the fault that a run stopped with, if any
 abbrev pub stopped_by : {T : Type 0} → Result T Stop → Option Fault
@@ -126,10 +134,10 @@ grain = 16
 abbrev pub usage : ℕ
 usage = 2
 
--- how a request ends: refused as the command line is, or as its task
-abbrev pub EndsRequest : Request → Scene → Scene → ℕ → Type 0
-EndsRequest request old new status =
+-- how a request ends on a host with this under its names: refused as the command line is, or as its task
+abbrev pub EndsRequest : Request → Option HostTree → Scene → Scene → ℕ → Type 0
+EndsRequest request tree old new status =
     (¬ (request.size % grain ≡ 0) × (status ≡ usage) × KeepsScene old new)
     ⊎ ((fault : Option Fault)
-    × EndsTask request.task request.size request.image.now old new fault
+    × EndsTask request.task request.size request.image.now tree old new fault
     × (status ≡ status_of fault))

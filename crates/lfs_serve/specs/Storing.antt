@@ -6,7 +6,7 @@ use Rattle.lfs_change.specs.declared.outcome.Outcome.{Outcome}
 use Rattle.lfs_serve.specs.declared.kind.Kind.{Kind}
 use Rattle.lfs_serve.specs.declared.kind.Kind.TheVariants.{Asks, Forgets}
 use Rattle.lfs_serve.specs.declared.names.Names.{Names}
-use Rattle.lfs_serve.specs.Files.{Files, KeepsOthers, OnKnown, Replaces, StaysBut}
+use Rattle.lfs_host.specs.Files.{Files, KeepsOthers, OnKnown, Replaces, StaysBut}
 
 -- the name of what is to become the file of a name
 abbrev pub new_name : List ℕ → List ℕ

@@ -1,14 +1,14 @@
 //! What a step is handed of a host.
 
 ghost use Rattle.std.specs.Prelude.{◌≡◌, IfErr, IfOk, string_bytes};
-ghost use Rattle.lfs_serve.specs.Files.{IsTarget};
+ghost use Rattle.lfs_host.specs.Files.{IsTarget};
 ghost use Rattle.lfs_serve.specs.Program.{HandsImage, HandsInput, HandsJournal, IsHanded, IsOfHost, scene};
 
-use crate::host::{Host, Keeping, ReadFault};
 use crate::kind::{Kind, kind_of};
 use crate::names::journal_name;
 use lfs_block::MAX_IMAGE_LENGTH;
 use lfs_edit::Refusal;
+use lfs_host::{Host, Keeping, ReadFault};
 use lfs_step::{Fault, Step};
 use std::alloc::Global;
 

@@ -2,7 +2,7 @@
 #![tactic(auto)]
 
 mod handing;
-mod host;
+mod host_folder;
 mod kind;
 mod names;
 mod output;
@@ -13,7 +13,6 @@ mod stop;
 mod storing;
 mod telling;
 
-pub use host::{Host, HostFault, Keeping, ReadFault};
 pub use printing::print;
 pub use serving::{USAGE, served};
 pub use telling::{MORE, tell, tell_of_image};

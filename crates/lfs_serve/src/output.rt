@@ -2,7 +2,7 @@
 
 ghost use Rattle.std.specs.Prelude.{◌≡◌, false};
 
-use crate::host::{Host, HostFault};
+use lfs_host::{Host, HostFault};
 use lfs_sink::Sink;
 
 /// A host's standard output as a sink: what went out is what the host printed, and no write changes which host it is, its
@@ -32,7 +32,7 @@ impl<'a, H: Host> Output<'a, H> {
 impl<H: Host> Sink for Output<'_, H> {
     ghost use Rattle.std.specs.Prelude.{ℕ, List, Option};
     ghost use base.Fml.{GName};
-    ghost use Rattle.lfs_serve.specs.Files.{Files};
+    ghost use Rattle.lfs_host.specs.Files.{Files};
 
     ghost sent = { λ output. H.printed output.host.now };
 

@@ -3,8 +3,8 @@
 ghost use Rattle.std.specs.Prelude.{◌≡◌, IfErr};
 ghost use Rattle.lfs_serve.specs.Program.{IsOfHost};
 
-use crate::host::Host;
 use crate::output::Output;
+use lfs_host::Host;
 use lfs_sink::send;
 use lfs_step::Fault;
 

@@ -7,7 +7,7 @@ ghost use Rattle.lfs_step.specs.Outcome.{Answers, SendsText, given};
 ghost use Rattle.lfs_serve.specs.Program.{EndsRequest, EndsStep, EndsTask, RunsOn, scene, stopped_by, usage};
 
 use crate::handing::{Handed, aimed, hand_over};
-use crate::host::Host;
+use crate::host_folder::{folder_of, pack_rows};
 use crate::kind::kind_of;
 use crate::output::Output;
 use crate::stated::{Stated, stated_in};
@@ -15,6 +15,7 @@ use crate::stop::Stop;
 use crate::storing::stored;
 use crate::telling::{MORE, tell_of_image};
 use lfs_block::MountFault;
+use lfs_host::Host;
 use lfs_request::{Request, bytes_of, digits_of, step_of};
 use lfs_step::{Fault, Outcome, Step, run};
 use std::alloc::Global;
@@ -30,7 +31,7 @@ pub const USAGE: u8 = 2;
 ///
 /// Source: own.
 pub fn served<H: Host>(alloc: Global, host: &mut H, request: &Request<'_>) -> u8
-    ensures ended { EndsRequest request.now (scene (H.files host.old) (H.typed host.old) (H.printed host.old))
+    ensures ended { EndsRequest request.now (H.tree host.old) (scene (H.files host.old) (H.typed host.old) (H.printed host.old))
         (scene (H.files host.new) (H.typed host.new) (H.printed host.new)) result }
 {
     if request.size % GRAIN != 0 {
@@ -68,14 +69,16 @@ fn tell_of<H: Host>(host: &mut H, image: &str, stop: &Stop) -> u8
     status
 }
 
-/// Does the task that is asked for. Digits are read before files.
+/// Does the task that is asked for. Digits are read before a folder, and that before files.
 fn done<H: Host>(alloc: Global, host: &mut H, request: &Request<'_>) -> Result<(), Stop>
-    ensures ended { EndsTask request.now.task request.now.size request.now.image.now
+    ensures ended { EndsTask request.now.task request.now.size request.now.image.now (H.tree host.old)
         (scene (H.files host.old) (H.typed host.old) (H.printed host.old))
         (scene (H.files host.new) (H.typed host.new) (H.printed host.new)) (stopped_by result) }
 {
     let value = bytes_of(alloc, digits_of(&request.task))?;
-    let step = step_of(&request.task, value.as_slice())?;
+    let folder = folder_of(alloc, host, &request.task)?;
+    let rows = pack_rows(alloc, &folder)?;
+    let step = step_of(&request.task, value.as_slice(), rows.as_slice())?;
     stepped(alloc, host, request.size, request.image, &step)
 }
 

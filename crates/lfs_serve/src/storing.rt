@@ -2,14 +2,14 @@
 
 ghost use Rattle.std.specs.Prelude.{◌≡◌, ◌⊎◌, IfErr, MatchResult};
 ghost use Rattle.lfs_change.specs.declared.fault.Fault.TheVariants.{CannotWrite};
-ghost use Rattle.lfs_serve.specs.Files.{OnKnown};
+ghost use Rattle.lfs_host.specs.Files.{OnKnown};
 ghost use Rattle.lfs_serve.specs.Program.{IsOfHost};
 ghost use Rattle.lfs_serve.specs.Storing.{HasNew, HasPlaced, HasPlacedJournal, IsNames, LeavesBoth, LeavesFiles, LeavesJournal, SparesBoth, SparesFiles, SparesImage, SparesJournal};
 
-use crate::host::Host;
 use crate::kind::Kind;
 use crate::names::{Names, names_of};
 use crate::printing::flush;
+use lfs_host::Host;
 use lfs_step::{Fault, Outcome};
 use std::alloc::Global;
 

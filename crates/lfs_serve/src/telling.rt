@@ -3,7 +3,7 @@
 ghost use Rattle.std.specs.Prelude.{◌≡◌, Some};
 ghost use Rattle.lfs_change.specs.Fault.{status_of};
 
-use crate::host::Host;
+use lfs_host::Host;
 use lfs_step::Fault;
 
 /// What ends the text on a command line that is refused.
@@ -21,8 +21,8 @@ pub fn tell<H: Host>(host: &mut H, fault: Fault) -> u8
     fault.status()
 }
 
-/// Tells a fault, and where the host refused something what that was: the image of this name, standard input or
-/// standard output. Answers the fault's status.
+/// Tells a fault, and where the host refused something what that was: the image of this name, what is below a folder,
+/// standard input or standard output. Answers the fault's status.
 ///
 /// Source: own.
 pub fn tell_of_image<H: Host>(host: &mut H, image: &str, fault: Fault) -> u8
@@ -30,7 +30,7 @@ pub fn tell_of_image<H: Host>(host: &mut H, image: &str, fault: Fault) -> u8
     ensures kept { (H.files host.new ≡ H.files host.old) × (H.typed host.new ≡ H.typed host.old) × (H.printed host.new ≡ H.printed host.old) }
 {
     let status = tell(host, fault);
-    if let Fault::CannotRead | Fault::CannotWrite = fault {
+    if let Fault::CannotRead | Fault::CannotWrite | Fault::HostEntry | Fault::HostName = fault {
         host.complain_of(image);
     }
     status

@@ -1,12 +1,12 @@
 //! Writes and renames that fail.
 
-use crate::journal_bytes::FRESH;
-use crate::memory_host::{Failing, MemoryHost};
+use crate::asking::ask_in_memory;
 use crate::requests::{
-    DONE, End, IMAGE, JOURNAL, MKDIR, NO_MATCH, PUT, are_done, edited_host, ends, has_files,
-    is_refused, new_host,
+    DONE, End, FRESH, IMAGE, JOURNAL, MKDIR, NO_MATCH, PUT, are_done, copied, edited_host, ends,
+    has_files, is_refused, new_host,
 };
-use lfs_request::Task;
+use lfs_host::{Failing, MemoryHost};
+use lfs_request::{Request, Task};
 use std::alloc::Global;
 use std::process::Abort;
 use std::test::Fail;
@@ -35,7 +35,8 @@ fn failed_host(rt: &impl Abort, alloc: Global, others: usize) -> MemoryHost {
 #[test]
 fn files_stay_until_the_journal_has_its_name(rt: HostRuntime) -> Result<(), Fail> {
     let old = middle_host(&rt, rt.alloc());
-    let (image, journal) = (old.copy(IMAGE)?, old.copy(JOURNAL)?);
+    let image = copied(rt.alloc(), &old, IMAGE)?;
+    let journal = copied(rt.alloc(), &old, JOURNAL)?;
     for others in 0..3 {
         let host = failed_host(&rt, rt.alloc(), others);
         has_files(&rt, &host, &image, &journal);
@@ -45,8 +46,8 @@ fn files_stay_until_the_journal_has_its_name(rt: HostRuntime) -> Result<(), Fail
 
 #[test]
 fn the_image_stays_until_it_has_its_name(rt: HostRuntime) -> Result<(), Fail> {
-    let image = middle_host(&rt, rt.alloc()).copy(IMAGE)?;
-    let journal = edited_host(&rt, rt.alloc()).copy(JOURNAL)?;
+    let image = copied(rt.alloc(), &middle_host(&rt, rt.alloc()), IMAGE)?;
+    let journal = copied(rt.alloc(), &edited_host(&rt, rt.alloc()), JOURNAL)?;
     let host = failed_host(&rt, rt.alloc(), 3);
     has_files(&rt, &host, &image, &journal);
     Ok(())
@@ -58,9 +59,15 @@ const SAID: &str = "block 512, count 8, free 4, directories 2, files 0\n";
 #[test]
 fn an_old_image_with_a_new_journal_is_kept(rt: HostRuntime) -> Result<(), Fail> {
     let mut host = failed_host(&rt, rt.alloc(), 3);
-    let image = host.copy(IMAGE)?;
+    let image = copied(rt.alloc(), &host, IMAGE)?;
     is_refused(&rt, rt.alloc(), &mut host, &Task::Undo, &NO_MATCH)?;
-    is_refused(&rt, rt.alloc(), &mut host, &Task::Check, &DONE)?;
+    let check = Request {
+        task: Task::Check,
+        size: 512,
+        image: IMAGE,
+    };
+    host.printed.clear();
+    assert_eq!(rt; ask_in_memory(rt.alloc(), &mut host, &check), 0);
     assert!(rt; host.printed.as_slice() == SAID.as_bytes());
     are_done(&rt, rt.alloc(), &mut host, &[Task::Forget]);
     has_files(&rt, &host, &image, &FRESH);
@@ -70,7 +77,8 @@ fn an_old_image_with_a_new_journal_is_kept(rt: HostRuntime) -> Result<(), Fail> 
 #[test]
 fn leftovers_are_replaced(rt: HostRuntime) -> Result<(), Fail> {
     let done = edited_host(&rt, rt.alloc());
-    let (image, journal) = (done.copy(IMAGE)?, done.copy(JOURNAL)?);
+    let image = copied(rt.alloc(), &done, IMAGE)?;
+    let journal = copied(rt.alloc(), &done, JOURNAL)?;
     let mut host = middle_host(&rt, rt.alloc());
     for name in ["a.img.new", "a.img.lfsj.new"] {
         host.put(name, b"left")?;

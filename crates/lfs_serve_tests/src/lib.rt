@@ -1,15 +1,11 @@
-//! Tests of requests on a host's files, over a host in memory.
+//! Tests of requests on a host's files, over a host in memory, and a law of them. What commands, undo and redo make of files,
+//! and which journals are refused, is tested by `tests/journals.py` and `tests/rows.py`, over the program.
 #![tactic(auto)]
 
-#[cfg(test)]
-mod changes;
+mod asking;
 #[cfg(test)]
 mod host_faults;
 #[cfg(test)]
-mod journal_bytes;
-#[cfg(test)]
-mod journals;
-#[cfg(test)]
-mod memory_host;
-#[cfg(test)]
 mod requests;
+
+pub use asking::ask_in_memory;

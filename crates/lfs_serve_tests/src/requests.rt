@@ -1,16 +1,22 @@
 //! Requests on an image in memory, and how they end.
 
-use crate::memory_host::MemoryHost;
+use lfs_host::MemoryHost;
 use lfs_request::{Request, Task};
 use lfs_serve::served;
 use std::alloc::{AllocError, Global};
 use std::process::Abort;
+use std::test::Fail;
 
 /// The image's name.
 pub(crate) const IMAGE: &str = "a.img";
 
 /// The name of its journal.
 pub(crate) const JOURNAL: &str = "a.img.lfsj";
+
+/// A journal without changes, for 8 blocks of 512 bytes.
+pub(crate) const FRESH: [u8; 24] = [
+    0x6c, 0x66, 0x73, 0x6a, 1, 0, 0, 0, 0, 2, 0, 0, 8, 0, 0, 0, 0, 0, 0, 0, 0, 0, 0, 0,
+];
 
 /// A directory.
 pub(crate) const MKDIR: Task<'static> = Task::Mkdir { path: "/a" };
@@ -33,29 +39,16 @@ pub(crate) const DONE: End = End {
     told: "",
 };
 
-/// No change was made.
-pub(crate) const NO_UNDO: End = End {
-    status: 1,
-    told: "lfsed: 53 NothingToUndo\n",
-};
-
-/// No change was taken back.
-pub(crate) const NO_REDO: End = End {
-    status: 1,
-    told: "lfsed: 54 NothingToRedo\n",
-};
-
-/// The bytes are no journal.
-pub(crate) const NO_FORMAT: End = End {
-    status: 3,
-    told: "lfsed: 50 JournalFormat\n",
-};
-
 /// The journal isn't that of the image.
 pub(crate) const NO_MATCH: End = End {
     status: 3,
     told: "lfsed: 51 JournalMismatch\n",
 };
+
+/// Whether this text, and no other, went to standard error.
+fn has_told(host: &MemoryHost, text: &str) -> bool {
+    host.complained.as_str() == text
+}
 
 /// Asserts how a task on the image ends.
 pub(crate) fn ends(
@@ -73,7 +66,7 @@ pub(crate) fn ends(
         image: IMAGE,
     };
     let status = served(alloc, host, &request);
-    assert!(rt; host.complains(end.told), "{task:?}");
+    assert!(rt; has_told(host, end.told), "{task:?}");
     assert_eq!(rt; status, end.status, "{task:?}");
 }
 
@@ -97,10 +90,16 @@ pub(crate) fn is_refused(
     task: &Task<'static>,
     end: &End,
 ) -> Result<(), AllocError> {
-    let files = host.copies()?;
+    let files = host.files.clone()?;
     ends(rt, alloc, host, task, end);
     assert!(rt; host.files == files, "{task:?}");
     Ok(())
+}
+
+/// A copy of the bytes of a file that is there.
+pub(crate) fn copied(alloc: Global, host: &MemoryHost, name: &str) -> Result<Vec<u8>, Fail> {
+    let bytes = host.bytes(name).ok_or("no such file")?;
+    Ok(Vec::from_slice(alloc, bytes)?)
 }
 
 /// A host with a new image of 8 blocks of 512 bytes, and what comes on its standard input is `hello`.

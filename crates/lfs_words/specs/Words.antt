@@ -7,7 +7,7 @@ use Rattle.lfs_request.specs.declared.request.Request.{Request}
 use Rattle.lfs_words.specs.declared.wish.Wish.{Wish}
 use Rattle.lfs_words.specs.declared.wish.Wish.TheVariants.{Explanation, Step}
 use Rattle.lfs_request.specs.declared.task.Task.{Task}
-use Rattle.lfs_request.specs.declared.task.Task.TheVariants.{Format, Check, Ls, Cat, Mkdir, Put, Rm, Mv, SetAttr, RmAttr, Undo, Redo, Forget}
+use Rattle.lfs_request.specs.declared.task.Task.TheVariants.{Format, Pack, Check, Ls, Cat, Mkdir, Put, Rm, Mv, SetAttr, RmAttr, Undo, Redo, Forget}
 
 -- the words name this command, with these options
 abbrev pub NamesCommand : ArgMatches → List ℕ → Found → Type 0
@@ -20,6 +20,7 @@ HasText options id text = first_value options id ≡ Some text
 -- the task that a command and its options ask for
 abbrev pub IsTask : Task → List ℕ → Found → Type 0
 IsTask (Format count) name options = name ≡ codes "format"
+IsTask (Pack count dir) name options = (name ≡ codes "pack") × HasText options (codes "dir") dir.now
 IsTask Check name options = name ≡ codes "check"
 IsTask Ls name options = name ≡ codes "ls"
 IsTask Undo name options = name ≡ codes "undo"

@@ -19,6 +19,8 @@ enum Argument {
     Count,
     /// The image's file name.
     Image,
+    /// A folder's name.
+    Dir,
     /// A path within the image.
     Path,
     /// The path of what is moved.
@@ -41,11 +43,21 @@ struct CommandRow {
 }
 
 /// The program's commands, in the order of its help. Each but the last takes the block size and the image's file name.
-const COMMANDS: [CommandRow; 14] = [
+const COMMANDS: [CommandRow; 15] = [
     CommandRow {
         name: "format",
         about: "Write a new image, in place of a file of this name",
         arguments: &[Argument::Block, Argument::Image, Argument::Count],
+    },
+    CommandRow {
+        name: "pack",
+        about: "Write a new image with what is in a folder, in place of a file of this name",
+        arguments: &[
+            Argument::Block,
+            Argument::Image,
+            Argument::Dir,
+            Argument::Count,
+        ],
     },
     CommandRow {
         name: "check",
@@ -130,6 +142,9 @@ const COMMANDS: [CommandRow; 14] = [
     },
 ];
 
+/// What is said of a folder.
+const DIR: &str = "Folder, of whose files and folders the image is made";
+
 /// What is said of a path.
 const PATH: &str = "Path of a file or a directory in the image, from / on";
 
@@ -162,6 +177,7 @@ fn clap_argument<'a>(alloc: Global, argument: Argument) -> Arg<'a> {
             .required(true)
             .help("Number of blocks, from 2 to 65536; at most 67108864 bytes in all"),
         Argument::Image => word(alloc, "image", "IMAGE", "File of the image"),
+        Argument::Dir => word(alloc, "dir", "DIR", DIR),
         Argument::Path => any_word(alloc, "path", "PATH", PATH),
         Argument::From => any_word(alloc, "from", "FROM", FROM),
         Argument::To => any_word(alloc, "to", "TO", TO),

@@ -16,6 +16,10 @@ fn task_of<'a>(name: &str, options: &ArgMatches<'a>) -> Option<Task<'a>>
         "format" => Some(Task::Format {
             count: options.get_one::<u32>("count")?,
         }),
+        "pack" => Some(Task::Pack {
+            count: options.get_one::<u32>("count")?,
+            dir: options.get_str("dir")?,
+        }),
         "check" => Some(Task::Check),
         "ls" => Some(Task::Ls),
         "undo" => Some(Task::Undo),

@@ -1,5 +1,5 @@
 -- How the words of a command line end, as far as clap's clauses say what they ask for (own).
-use Rattle.std.specs.Prelude.{ℕ, ◌≡◌, ◌⊎◌, List, Result, Ok, Err, Some, true}
+use Rattle.std.specs.Prelude.{ℕ, ◌≡◌, ◌⊎◌, List, Option, Result, Ok, Err, Some, true}
 use Rattle.clap.specs.Words.{HasMatchesOf, app_of, takes}
 use Rattle.clap.specs.declared.builder.command.Command.{Command}
 use Rattle.clap.specs.declared.parser.matches.ArgMatches.{ArgMatches}
@@ -7,6 +7,7 @@ use Rattle.lfs_command.specs.declared.refusal.Refusal.TheVariants.{Memory}
 use Rattle.lfs_change.specs.declared.fault.Fault.{Fault}
 use Rattle.lfs_change.specs.declared.fault.Fault.TheVariants.{Refused}
 use Rattle.lfs_change.specs.Fault.{status_of}
+use Rattle.lfs_host.specs.HostTree.{HostTree}
 use Rattle.lfs_request.specs.declared.request.Request.{Request}
 use Rattle.lfs_words.specs.declared.wish.Wish.TheVariants.{Explanation}
 use Rattle.lfs_words.specs.Words.{IsRequest, IsWish}
@@ -32,12 +33,12 @@ ended_with (Err fault) = status_of (Some fault)
 
 -- how a command line ends: as the request that its words ask for; with no step asked for, and no file changed; or with
 -- nothing changed, for want of memory or since no request is read off its matches
-abbrev pub EndsWords : List (List ℕ) → Scene → Scene → ℕ → Type 0
-EndsWords words old new status =
+abbrev pub EndsWords : List (List ℕ) → Option HostTree → Scene → Scene → ℕ → Type 0
+EndsWords words tree old new status =
     ((m : ArgMatches)
     × (request : Request)
     × IsMatched words m
     × IsRequest request m
-    × EndsRequest request old new status)
+    × EndsRequest request tree old new status)
     ⊎ (AsksNoStep words × (new.files ≡ old.files))
     ⊎ (KeepsScene old new × ((status ≡ status_of (Some (Refused Memory))) ⊎ (status ≡ usage)))

@@ -14,7 +14,7 @@ pub struct Explanation {
 }
 
 /// The faults in the order of their numbers. docs/FAULTS.md has the same table.
-const EXPLANATIONS: [Explanation; 45] = [
+const EXPLANATIONS: [Explanation; 47] = [
     Explanation {
         number: 1,
         name: "ImageLength",
@@ -254,8 +254,8 @@ const EXPLANATIONS: [Explanation; 45] = [
     Explanation {
         number: 60,
         name: "CannotRead",
-        text: "A file, or standard input, can't be read. The second line says which, and what the system \
-         said.",
+        text: "A file, a folder or standard input can't be read. The second line says which, and what the \
+         system said.",
     },
     Explanation {
         number: 61,
@@ -263,6 +263,18 @@ const EXPLANATIONS: [Explanation; 45] = [
         text: "A file, or standard output, can't be written, or another run is changing the image. The \
          second line says which, and what the system said. The image is as it was. Where the next run says 51, \
          its journal was written already: `forget` makes one that fits.",
+    },
+    Explanation {
+        number: 62,
+        name: "HostEntry",
+        text: "Something in the folder is neither a regular file nor a folder: a link, a socket or a device. The \
+         second line says which. Put what is meant in its place, or take it away.",
+    },
+    Explanation {
+        number: 63,
+        name: "HostName",
+        text: "A name in the folder can't be one in an image, since it isn't UTF-8. The second line says in which \
+         folder. Give it another name.",
     },
     Explanation {
         number: 64,

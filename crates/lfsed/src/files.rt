@@ -25,6 +25,14 @@ pub fn opened(rt: &HostRuntime, name: &str) -> io::Result<File> {
     File::open(rt, name)
 }
 
+/// A file that is read, but for one that a link leads to.
+pub fn opened_entry(rt: &HostRuntime, name: &str) -> io::Result<File> {
+    if !fs::symlink_metadata(rt, name)?.is_file() {
+        return Err(is_no_file());
+    }
+    File::open(rt, name)
+}
+
 /// Keeps a file for this run, as long as it is open.
 fn lock(file: &File) -> io::Result<()> {
     match file.try_lock() {

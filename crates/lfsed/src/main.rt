@@ -4,12 +4,14 @@
 mod cli;
 mod explanations;
 mod files;
+mod folders;
 mod terminal;
 
 use crate::cli::cli as run_words;
 use crate::terminal::Terminal;
 use lfs_edit::Refusal;
-use lfs_serve::{Host, USAGE, tell};
+use lfs_host::Host;
+use lfs_serve::{USAGE, tell};
 use lfs_step::Fault;
 use std::io::ErrorKind;
 use std::process::ExitCode;

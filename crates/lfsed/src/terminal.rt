@@ -1,10 +1,11 @@
 //! The system as a host.
 
-use crate::files::{kept, name_anew, opened, replace, settle, written};
+use crate::files::{kept, name_anew, opened, opened_entry, replace, settle, written};
+use crate::folders::{is_other, kind_of, names_in};
 use lfs_block::MAX_IMAGE_LENGTH;
-use lfs_serve::{Host, HostFault, Keeping, ReadFault};
+use lfs_host::{Host, HostFault, HostKind, Keeping, ListFault, ReadFault};
 use lfs_sink::{Out, Sink};
-use std::alloc::Global;
+use std::alloc::{AllocError, Global};
 use std::fmt::Display;
 use std::fs::{self, File};
 use std::io::{self, ErrorKind, Printer, Read};
@@ -16,6 +17,8 @@ enum Subject {
     Image,
     /// The journal's, or to give it another name.
     Journal,
+    /// Something in a folder, or the folder.
+    Entry,
     /// To read standard input.
     Input,
     /// To print.
@@ -37,6 +40,8 @@ pub struct Terminal<'a> {
     said: Option<io::Error>,
     /// What that was about.
     subject: Subject,
+    /// The name of what is in a folder, where it was that.
+    entry: String,
 }
 
 impl<'a> Terminal<'a> {
@@ -49,6 +54,26 @@ impl<'a> Terminal<'a> {
             new_file: None,
             said: None,
             subject: Subject::Image,
+            entry: String::new(rt.alloc()),
+        }
+    }
+
+    /// Keeps what was refused of something in a folder.
+    fn note_entry(&mut self, name: &str, error: io::Error) -> Result<(), AllocError> {
+        self.entry = name.to_string(self.rt.alloc())?;
+        self.subject = Subject::Entry;
+        self.said = Some(error);
+        Ok(())
+    }
+
+    /// What an error of reading something in a folder means, which is kept.
+    fn entry_fault(&mut self, name: &str, error: io::Error) -> ReadFault {
+        if error.kind() == ErrorKind::OutOfMemory {
+            return ReadFault::Memory;
+        }
+        match self.note_entry(name, error) {
+            Ok(()) => ReadFault::CannotRead,
+            Err(_) => ReadFault::Memory,
         }
     }
 
@@ -95,12 +120,30 @@ fn target_of(rt: &HostRuntime, alloc: Global, name: &str) -> io::Result<String> 
 
 /// The bytes of a file, `most` of them and one more at most. Room for as many as it has is made at once, so that they
 /// aren't moved as they come.
-fn bytes_of(rt: &HostRuntime, alloc: Global, name: &str, most: u64) -> io::Result<Vec<u8>> {
-    let file = opened(rt, name)?;
+fn bytes_of(alloc: Global, file: File, most: u64) -> io::Result<Vec<u8>> {
     let len = file.metadata()?.len().min(most);
     let mut bytes = Vec::with_capacity(alloc, len as usize)?;
     file.take(most.saturating_add(1)).read_to_end(&mut bytes)?;
     Ok(bytes)
+}
+
+/// The bytes of the file that a name leads to, `most` of them and one more at most.
+fn read_bytes(rt: &HostRuntime, alloc: Global, name: &str, most: u64) -> io::Result<Vec<u8>> {
+    bytes_of(alloc, opened(rt, name)?, most)
+}
+
+/// The bytes of a file in a folder, `most` of them and one more at most.
+fn entry_bytes(rt: &HostRuntime, alloc: Global, name: &str, most: u64) -> io::Result<Vec<u8>> {
+    bytes_of(alloc, opened_entry(rt, name)?, most)
+}
+
+/// Why a folder isn't listed.
+fn list_fault(error: &io::Error) -> ListFault {
+    match error.kind() {
+        ErrorKind::OutOfMemory => ListFault::Memory,
+        ErrorKind::InvalidFilename => ListFault::NotText,
+        _ => ListFault::CannotRead,
+    }
 }
 
 impl Host for Terminal<'_> {
@@ -126,11 +169,11 @@ impl Host for Terminal<'_> {
     }
 
     fn read(&mut self, alloc: Global, name: &str, most: u64) -> Result<Vec<u8>, ReadFault> {
-        bytes_of(self.rt, alloc, name, most).map_err(|error| self.read_fault(error))
+        read_bytes(self.rt, alloc, name, most).map_err(|error| self.read_fault(error))
     }
 
     fn find(&mut self, alloc: Global, name: &str, most: u64) -> Result<Vec<u8>, ReadFault> {
-        match bytes_of(self.rt, alloc, name, most) {
+        match read_bytes(self.rt, alloc, name, most) {
             Ok(bytes) => Ok(bytes),
             Err(error) if error.kind() == ErrorKind::NotFound => Ok(Vec::new(alloc)),
             Err(error) => {
@@ -138,6 +181,34 @@ impl Host for Terminal<'_> {
                 Err(self.read_fault(error))
             }
         }
+    }
+
+    fn kind(&mut self, name: &str) -> Result<HostKind, ReadFault> {
+        match kind_of(self.rt, name) {
+            Ok(HostKind::Other) => match self.note_entry(name, is_other()) {
+                Ok(()) => Ok(HostKind::Other),
+                Err(_) => Err(ReadFault::Memory),
+            },
+            Ok(kind) => Ok(kind),
+            Err(error) => Err(self.entry_fault(name, error)),
+        }
+    }
+
+    fn list(&mut self, alloc: Global, name: &str) -> Result<Vec<String>, ListFault> {
+        match names_in(self.rt, alloc, name) {
+            Ok(names) => Ok(names),
+            Err(error) => {
+                let fault = list_fault(&error);
+                match self.note_entry(name, error) {
+                    Ok(()) => Err(fault),
+                    Err(_) => Err(ListFault::Memory),
+                }
+            }
+        }
+    }
+
+    fn read_entry(&mut self, alloc: Global, name: &str, most: u64) -> Result<Vec<u8>, ReadFault> {
+        entry_bytes(self.rt, alloc, name, most).map_err(|error| self.entry_fault(name, error))
     }
 
     fn input(&mut self, alloc: Global, most: u64) -> Result<Vec<u8>, ReadFault> {
@@ -216,6 +287,7 @@ impl Host for Terminal<'_> {
                 let journal = format_args!("the journal of {image}");
                 self.say_of(journal, self.said.as_ref());
             }
+            Subject::Entry => self.say_of(self.entry.as_str(), self.said.as_ref()),
             Subject::Input => self.say_of("standard input", self.said.as_ref()),
             Subject::Output => self.say_of("standard output", self.out.error()),
         }

@@ -10,9 +10,9 @@ returns-in-Err g c =
     let by_done : Scene = scene (g.H.Host.files c.done.new.host) (g.H.Host.typed c.done.new.host) (g.H.Host.printed c.done.new.host) in
     let old : Scene = scene (g.H.Host.files c.args.host.now) (g.H.Host.typed c.args.host.now) (g.H.Host.printed c.args.host.now) in
     let same : by_tell_of_image ≡ by_done = search rules in
-    let ends = subst (λ (s : ℕ). EndsWords (map g.W.AsStr.text c.args.words.now) old by_done s)
+    let ends = subst (λ (s : ℕ). EndsWords (map g.W.AsStr.text c.args.words.now) (g.H.Host.tree c.args.host.now) old by_done s)
     (sym c.tell_of_image.ensures.status) c.in-Err.ensures.ended in
     record {
-      ended = subst (λ (new : Scene). EndsWords (map g.W.AsStr.text c.args.words.now) old new c.tell_of_image.result)
+      ended = subst (λ (new : Scene). EndsWords (map g.W.AsStr.text c.args.words.now) (g.H.Host.tree c.args.host.now) old new c.tell_of_image.result)
           (sym same) ends;
     }

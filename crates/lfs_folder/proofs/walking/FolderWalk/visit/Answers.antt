@@ -2,7 +2,7 @@ use Rattle.std.proofs.Common.{Option, subst, map, reverse, string_bytes, length}
 use Rattle.std.specs.Prelude.{IfSome}
 use Rattle.std.proofs.lemmas.Result.{on_ok_weaker, IfErr-weaker}
 use Rattle.lfs_folder.specs.declared.walking.TheConstants.{MOST_BYTES}
-use Rattle.lfs_folder.specs.HostTree.{HostTree, IsKind, ReadsFile}
+use Rattle.lfs_host.specs.HostTree.{HostTree, IsKind, ReadsEntry}
 use Rattle.lfs_folder.specs.FolderRows.{Refuses}
 use Rattle.lfs_folder.specs.FolderWalk.{Enters, RefusesFolder}
 use Rattle.lfs_folder.proofs.WalkStepLemmas.{step_file, step_folder, walk_other, walk_refused}
@@ -38,7 +38,7 @@ returns-in_ok-show-in-File-clause-walking g c =
     let waiting = map (λ s. string_bytes s) (reverse c.args.self.now.waiting.items) in
     let name = c.args.name.now in
     let bytes = c.in_ok-bytes-in-File.bytes.items in
-    let read : ReadsFile known name MOST_BYTES bytes = subst (λ (k : Option HostTree). ReadsFile k name MOST_BYTES bytes)
+    let read : ReadsEntry known name MOST_BYTES bytes = subst (λ (k : Option HostTree). ReadsEntry k name MOST_BYTES bytes)
     c.kind.ensures.kept c.in_ok-bytes-in-File.ensures.read in
     rw c.show.ensures.waiting (step_file MOST_BYTES known c.args.dir.now name bytes c.args.self.now.rows.items c.show.new.self.rows.items
     waiting c.requires read c.in_ok-show-in-File.ensures.shown)

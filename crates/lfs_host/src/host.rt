@@ -1,9 +1,12 @@
 //! What the program needs of the system that it runs on.
 
-ghost use Rattle.std.specs.Prelude.{◌≡◌, ℕ, ◌<◌, ◌≤◌, length, take, List, Option, None, IfOk, IfSome, MatchOption, MatchResult, string_bytes};
+ghost use Rattle.std.specs.Prelude.{◌≡◌, ℕ, ◌<◌, ◌≤◌, length, take, List, Option, None, IfErr, IfOk, IfSome, MatchOption, MatchResult, map, string_bytes};
 ghost use Rattle.std.specs.Io.KnownBytes.{Appends, Keeps};
-ghost use Rattle.lfs_serve.specs.Files.{Files, FindsFile, IsTarget, KeepsOthers, ReadsFile, ReadsInput, Renames, Writes};
+ghost use Rattle.lfs_host.specs.Files.{Files, FindsFile, IsTarget, KeepsOthers, ReadsFile, ReadsInput, Renames, Writes};
+ghost use Rattle.lfs_host.specs.HostTree.{CannotList, HostTree, IsKind, Lists, ReadsEntry};
 
+use crate::host_kind::HostKind;
+use crate::list_fault::ListFault;
 use std::alloc::Global;
 use std::fmt::Display;
 
@@ -38,8 +41,9 @@ pub enum Keeping {
 }
 
 /// Files, standard input, standard output and standard error. Its meaning is what its files hold, what is left on
-/// standard input and what was printed, each where it is known; what the system refuses is its own affair. A call changes
-/// none of these but where it says so.
+/// standard input and what was printed, and what there is under each name where links aren't followed, each where it is
+/// known; what the system refuses is its own affair. A call changes none of these but where it says so; of what there is
+/// under names only the calls that look at it say something.
 ///
 /// Source: own.
 pub trait Host {
@@ -48,6 +52,8 @@ pub trait Host {
     ghost typed: { Self → Option (List ℕ) } = { λ _. None };
 
     ghost printed: { Self → Option (List ℕ) } = { λ _. None };
+
+    ghost tree: { Self → Option HostTree } = { λ _. None };
 
     /// The name of the file that a name leads to: that of a link's target, or the name itself.
     fn target(&mut self, alloc: Global, name: &str) -> Result<String, ReadFault>
@@ -66,6 +72,25 @@ pub trait Host {
     /// The bytes of a file, `most` of them and one more at most; none where there is no such file.
     fn find(&mut self, alloc: Global, name: &str, most: u64) -> Result<Vec<u8>, ReadFault>
         ensures found { IfOk result (λ bytes. FindsFile (files self.old) name.now most bytes.items) }
+        ensures kept { (files self.new ≡ files self.old) × (typed self.new ≡ typed self.old) × (printed self.new ≡ printed self.old) };
+
+    /// What is under a name. Links aren't followed.
+    fn kind(&mut self, name: &str) -> Result<HostKind, ReadFault>
+        ensures kind { IfOk result (λ kind. IsKind (tree self.old) name.now kind) }
+        ensures seen { tree self.new ≡ tree self.old }
+        ensures kept { (files self.new ≡ files self.old) × (typed self.new ≡ typed self.old) × (printed self.new ≡ printed self.old) };
+
+    /// The names in a folder, in any order.
+    fn list(&mut self, alloc: Global, name: &str) -> Result<Vec<String>, ListFault>
+        ensures listed { IfOk result (λ names. Lists (tree self.old) name.now (map (λ n. string_bytes n) names.items)) }
+        ensures refused { IfErr result (λ fault. CannotList (tree self.old) name.now fault) }
+        ensures seen { tree self.new ≡ tree self.old }
+        ensures kept { (files self.new ≡ files self.old) × (typed self.new ≡ typed self.old) × (printed self.new ≡ printed self.old) };
+
+    /// The bytes of a regular file that no link leads to, `most` of them and one more at most.
+    fn read_entry(&mut self, alloc: Global, name: &str, most: u64) -> Result<Vec<u8>, ReadFault>
+        ensures read { IfOk result (λ bytes. ReadsEntry (tree self.old) name.now most bytes.items) }
+        ensures seen { tree self.new ≡ tree self.old }
         ensures kept { (files self.new ≡ files self.old) × (typed self.new ≡ typed self.old) × (printed self.new ≡ printed self.old) };
 
     /// The bytes of standard input, `most` of them and one more at most. What is left there afterwards isn't said.
@@ -116,8 +141,8 @@ pub trait Host {
     fn complain<D: Display + Drop>(&mut self, text: D)
         ensures kept { (files self.new ≡ files self.old) × (typed self.new ≡ typed self.old) × (printed self.new ≡ printed self.old) };
 
-    /// Writes a line to standard error: what was refused last, the image of this name, standard input or standard output,
-    /// and what the system said. Nothing where it said nothing.
+    /// Writes a line to standard error: what was refused last, the image of this name, its journal, what is below a folder,
+    /// standard input or standard output, and what the system said. Nothing where it said nothing.
     fn complain_of(&mut self, image: &str)
         ensures kept { (files self.new ≡ files self.old) × (typed self.new ≡ typed self.old) × (printed self.new ≡ printed self.old) };
 }

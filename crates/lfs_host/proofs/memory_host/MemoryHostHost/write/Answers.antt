@@ -1,0 +1,5 @@
+use Rattle.std.proofs.Common.{ap}
+use Rattle.lfs_host.proofs.memory_host.MemoryHostHost.write.Goals as goal
+
+pub returns-in-Err-clause-files : goal.returns-in-Err-clause-files
+returns-in-Err-clause-files c name apart = ap (λ files. files name) c.in-Err.ensures.kept

@@ -1,0 +1,4 @@
+pub mod Files
+pub mod HostTree
+pub mod Failing
+pub mod MemoryFiles

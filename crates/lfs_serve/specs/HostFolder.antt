@@ -1,0 +1,73 @@
+-- What a task reads of a host's folder, and what is packed of it (own).
+use Rattle.std.specs.Prelude.{◌≡◌, ℕ, ⊤, List, [], Option, IfSome, map}
+use Rattle.std.specs.Option.{option_map}
+use Rattle.lfs_meta.specs.Attribute.{Attributes}
+use Rattle.lfs_command.specs.declared.refusal.Refusal.TheVariants as refusal
+use Rattle.lfs_change.specs.declared.fault.Fault.{Fault}
+use Rattle.lfs_change.specs.declared.fault.Fault.TheVariants as fault
+use Rattle.lfs_folder.specs.declared.folder_row.FolderRow.{FolderRow}
+use Rattle.lfs_folder.specs.declared.folder_fault.FolderFault.{FolderFault}
+use Rattle.lfs_folder.specs.declared.folder_fault.FolderFault.TheVariants.{Memory, HostEntry, HostName, CannotRead}
+use Rattle.lfs_folder.specs.FolderRows.{AreAllBelow, AreFolderRows, IsFolder, PathRow, Refuses}
+use Rattle.lfs_host.specs.HostTree.{HostTree}
+use Rattle.lfs_pack.specs.declared.pack_row.PackRow.{PackRow}
+use Rattle.lfs_pack.specs.Packed.{AreRowsOf, Packed, attribute_of, row_bytes}
+use Rattle.lfs_request.specs.declared.task.Task.{Task}
+use Rattle.lfs_request.specs.declared.task.Task.TheVariants.{Pack}
+
+-- the most bytes that a file in an image has
+abbrev pub most_contents : ℕ
+most_contents = 2147483647
+
+-- ---- what is read
+
+-- what a fault of reading a folder is told as
+abbrev pub fault_of_folder : FolderFault → Fault
+fault_of_folder Memory = fault.Refused refusal.Memory
+fault_of_folder HostEntry = fault.HostEntry
+fault_of_folder HostName = fault.HostName
+fault_of_folder CannotRead = fault.CannotRead
+
+-- the rows of the folder that a task packs; none of any other task
+abbrev pub ReadsFolder : Task → Option HostTree → List FolderRow → Type 0
+ReadsFolder (Pack count dir) tree folder = IsFolder most_contents tree dir.now folder
+ReadsFolder _ tree folder = folder ≡ []
+
+-- why the folder that a task packs isn't read
+abbrev pub ReadsNoFolder : Task → Option HostTree → Fault → Type 0
+ReadsNoFolder (Pack count dir) tree why = (cause : FolderFault) × (why ≡ fault_of_folder cause) × Refuses tree dir.now cause
+ReadsNoFolder _ tree why = ⊥
+
+-- ---- what is packed
+
+-- what is below a folder at a path, without attributes
+abbrev pub packed_of : PathRow → Packed
+packed_of r = record { path = r.path; bytes = r.bytes; attributes = [] }
+
+-- rows say what is below a folder: all of it and nothing else, where the host is known
+pub record PacksFolder (tree : Option HostTree) (dir : List ℕ) (rows : List PackRow) : Type 0 where
+  pub shown : List PathRow
+  pub ordered : AreFolderRows shown
+  pub all : IfSome tree (λ t. AreAllBelow most_contents t dir shown)
+  pub packed : AreRowsOf rows (map packed_of shown)
+
+-- the rows that a task packs are those of its folder
+abbrev pub PacksRows : Task → Option HostTree → List PackRow → Type 0
+PacksRows (Pack count dir) tree rows = PacksFolder tree dir.now rows
+PacksRows _ tree rows = ⊤
+
+-- ---- rows, as the code has them
+
+-- a path's text, a file's bytes, and attributes
+pub record RowText : Type 0 where
+  pub text : List ℕ
+  pub bytes : Option (List ℕ)
+  pub attributes : Attributes
+
+-- those of a folder's row, without attributes
+abbrev pub folder_text : FolderRow → RowText
+folder_text row = record { text = row.path.items; bytes = option_map (λ b. b.items) row.bytes; attributes = [] }
+
+-- those of a row that is packed
+abbrev pub pack_text : PackRow → RowText
+pack_text row = record { text = row.path.now; bytes = row_bytes row; attributes = map attribute_of row.attributes.now }

@@ -1,0 +1,66 @@
+-- What asks changes no file, however it ends.
+use Rattle.std.proofs.Common.{◌≡◌, ℕ, List, Option, Some, None, ◌⊎◌, refl, ap, subst, inl, inr}
+use Rattle.lfs_change.specs.declared.fault.Fault.{Fault}
+use Rattle.lfs_change.specs.declared.fault.Fault.TheVariants.{Refused}
+use Rattle.lfs_change.specs.declared.outcome.Outcome.{Outcome}
+use Rattle.lfs_step.specs.declared.step.Step.{Step}
+use Rattle.lfs_step.specs.declared.step.Step.TheVariants.{Check, Ls, Cat}
+use Rattle.lfs_request.specs.declared.request.Request.{Request}
+use Rattle.lfs_request.specs.declared.task.Task.{Task}
+use Rattle.lfs_request.specs.declared.task.Task.TheVariants as task
+use Rattle.lfs_request.specs.Asking.{AsksFor}
+use Rattle.lfs_serve.specs.declared.kind.Kind.{Kind}
+use Rattle.lfs_serve.specs.declared.kind.Kind.TheVariants.{Asks}
+use Rattle.lfs_host.specs.Files.{Files}
+use Rattle.lfs_host.specs.HostTree.{HostTree}
+use Rattle.lfs_pack.specs.declared.pack_row.PackRow.{PackRow}
+use Rattle.lfs_serve.specs.Kind.{kind_of}
+use Rattle.lfs_serve.specs.Storing.{LeavesFiles, SparesFiles}
+use Rattle.lfs_serve_tests.specs.Asking.{OnlyAsks}
+use Rattle.lfs_serve.specs.Program.{EndsRequest, EndsStep, EndsTask, Scene}
+
+-- the step that asks, where the task does
+asks_for : (task : Task) (rows : List PackRow) (step : Step) → OnlyAsks task → AsksFor task rows step → kind_of step ≡ Asks
+asks_for task.Check rows Check only asks = refl
+asks_for task.Ls rows Ls only asks = refl
+asks_for (task.Cat text) rows (Cat path) only asks = refl
+asks_for task.Check rows _ only asks = absurd asks
+asks_for task.Ls rows _ only asks = absurd asks
+asks_for (task.Cat text) rows _ only asks = absurd asks
+asks_for _ rows step only asks = absurd only
+
+-- where the host refused something, all files stay
+all_spared : (fault : Fault) (old new : Option Files) (name : List ℕ) (o : Outcome) → SparesFiles fault Asks old new name o → new ≡ old
+all_spared (Refused refusal) old new name o same = same
+all_spared _ old new name o same = same
+
+step_keeps : (fault : Option Fault) (step : Step) (size : ℕ) (name : List ℕ) (old new : Scene) → kind_of step ≡ Asks
+    → EndsStep step size name old new fault → new.files ≡ old.files
+step_keeps None step size name old new asks (o, runs, leaves) =
+    subst (λ (kind : Kind). LeavesFiles kind old.files new.files name o) asks leaves
+step_keeps (Some fault) step size name old new asks (inl (o, runs, same)) = same
+step_keeps (Some fault) step size name old new asks (inr (inl (of_host, keeps))) = keeps.0
+step_keeps (Some fault) step size name old new asks (inr (inr (of_host, (o, runs, spares)))) =
+    all_spared fault old.files new.files name o
+    (subst (λ (kind : Kind). SparesFiles fault kind old.files new.files name o) asks spares)
+
+task_keeps : (fault : Option Fault) (task : Task) (size : ℕ) (name : List ℕ) (tree : Option HostTree) (old new : Scene) → OnlyAsks task
+    → EndsTask task size name tree old new fault → new.files ≡ old.files
+task_keeps fault task size name tree old new only (inl (step, rows, packs, asks, ends)) =
+    step_keeps fault step size name old new (asks_for task rows step only asks) ends
+task_keeps fault task size name tree old new only (inr (keeps, why)) = keeps.0
+
+-- a request that asks changes no file
+pub asking_keeps : (request : Request) (tree : Option HostTree) (old new : Scene) (status : ℕ) → OnlyAsks request.task
+    → EndsRequest request tree old new status → new.files ≡ old.files
+asking_keeps request tree old new status only (inl (size, usage, keeps)) = keeps.0
+asking_keeps request tree old new status only (inr (fault, ends, told)) =
+    task_keeps fault request.task request.size request.image.now tree old new only ends
+
+-- what is there is there alike
+pub some_same : {X : Type 0} (x y : X) → Some x ≡ Some y → x ≡ y
+some_same x y same = ap (get_some x) same
+  where
+    get_some : {X : Type 0} → X → Option X → X
+    get_some d None = d
+    get_some d (Some z) = z

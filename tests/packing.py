@@ -1,0 +1,205 @@
+#!/usr/bin/env python3
+"""Packs real folders into images, and compares each image with its folder: by the listing that the folder makes, and by the
+contents that a reader apart from the program finds in the image."""
+import os
+import pathlib
+import random
+import socket
+import struct
+import sys
+import tempfile
+
+from support.folder import contents, run_scenes
+from support.littlefs import IN_BLOCKS, ROOT, DIRECTORY, Reader
+from support.refusing import Refusing
+
+# The journal of 8 blocks of 512 bytes without changes.
+FRESH = bytes.fromhex("6c66736a 01000000 00020000 08000000 00000000 00000000")
+
+
+def source(folder):
+    """The folder that is packed."""
+    return folder.image.with_name("src")
+
+
+def in_order(names):
+    """Names in an image's order: bytes rise, and a name comes behind those that it begins."""
+    return sorted(names, key=lambda name: [*os.fsencode(name), 256])
+
+
+def paths_of(place):
+    """The paths below a folder as an image has them, each with its place."""
+    found, waiting = [], [("/", place)]
+    while waiting:
+        path, here = waiting.pop()
+        found.append((path, here))
+        names = in_order(os.listdir(here)) if here.is_dir() else []
+        waiting += [(f"{path.rstrip('/')}/{name}", here / name) for name in reversed(names)]
+    return found
+
+
+def shown(path):
+    """A path with its odd bytes in hexadecimal digits."""
+    return "".join(chr(b) if 0x20 <= b <= 0x7E and b != 0x5C else f"\\x{b:02x}" for b in os.fsencode(path))
+
+
+def listing_of(place):
+    """The listing of the image of a folder."""
+    rows = [(path, "-" if here.is_dir() else here.stat().st_size, here.is_dir()) for path, here in paths_of(place)]
+    return "".join(f"{'d' if is_folder else 'f'} {size:>10} {shown(path)}\n" for path, size, is_folder in rows)
+
+
+def contents_of(reader, entry):
+    """The contents of a file in an image: behind block n's pointers, of which it has as many as n has factors 2, and one more."""
+    if entry.kind != IN_BLOCKS:
+        return entry.value
+    blocks = reversed(reader.blocks_of(entry))
+    parts = [reader.block(block)[4 * (n & -n).bit_length():] for n, block in enumerate(blocks)]
+    return b"".join(parts)[:struct.unpack("<2I", entry.value)[1]]
+
+
+def files_in(image, size):
+    """The files of an image by their paths, with their contents."""
+    reader, files, waiting = Reader(image, size), {}, [(b"", ROOT)]
+    while waiting:
+        path, pair = waiting.pop()
+        for entry in reader.entries(pair):
+            name = path + b"/" + entry.name
+            if entry.kind == DIRECTORY:
+                waiting.append((name, entry.pair()))
+            else:
+                files[name] = contents_of(reader, entry)
+    return files
+
+
+def is_packed(folder, what, size, count):
+    """Packs the folder, and compares the image, its listing and its check with the folder."""
+    place = source(folder)
+    folder.check(f"{what}: pack", folder.run(f"pack -b {size} --count {count} a.img src") == (0, "", b""))
+    folder.check(f"{what}: length", len(folder.old()) == size * count)
+    wanted = {os.fsencode(path): here.read_bytes() for path, here in paths_of(place) if here.is_file()}
+    folder.check(f"{what}: contents", files_in(folder.old(), size) == wanted)
+    ended = folder.run(f"ls -b {size} a.img")
+    folder.check(f"{what}: ls", ended == (0, "", listing_of(place).encode()), ended[:2])
+    paths = paths_of(place)
+    folders = sum(here.is_dir() for _, here in paths)
+    said = f"block {size}, count {count}, free {Reader(folder.old(), size).free()}, directories {folders}, files {len(paths) - folders}\n"
+    ended = folder.run(f"check -b {size} a.img")
+    folder.check(f"{what}: check", ended == (0, "", said.encode()), ended)
+
+
+def is_refused(folder, what, status, complaint, second, words="pack -b 512 --count 8 a.img src", **how):
+    """Packs the folder, which is refused: the fault is told, on its second line what was meant, and no file changes."""
+    before = folder.old(), folder.saved(), {*folder.image.parent.iterdir()}
+    ended = folder.run(words, **how)
+    wanted = f"{complaint}\n{second}\n" if second else f"{complaint}\n"
+    folder.check(what, ended == (status, wanted, b""), ended)
+    folder.check(f"{what}: files", (folder.old(), folder.saved(), {*folder.image.parent.iterdir()}) == before)
+
+
+def worked_folder(folder):
+    place = source(folder)
+    (place / "d").mkdir(parents=True)
+    (place / "d/f").write_bytes(contents(65))
+    is_refused(folder, "too few blocks", 1, "lfsed: 43 NoSpace need 1 free 0", "", "pack -b 512 --count 4 a.img src")
+    is_packed(folder, "a file in a folder", 512, 8)
+    ended = folder.run("ls -b 512 a.img")
+    folder.check("listing", ended[2] == b"d          - /\nd          - /d\nf         65 /d/f\n", ended)
+    ended = folder.run("check -b 512 a.img")
+    folder.check("free", ended[2] == b"block 512, count 8, free 3, directories 2, files 1\n", ended)
+    folder.check("journal", folder.saved() == FRESH, folder.saved())
+    first = folder.old()
+    folder.check("mkdir", folder.run("mkdir -b 512 a.img /e") == (0, "", b""))
+    folder.check("undo", folder.run("undo -b 512 a.img") == (0, "", b""))
+    folder.check("undone", folder.old() == first)
+    folder.check("packed again", folder.run("pack -b 512 --count 8 a.img src") == (0, "", b"") and folder.old() == first)
+    folder.check("journal again", folder.saved() == FRESH, folder.saved())
+
+
+def odd_folders(folder):
+    place = source(folder)
+    place.mkdir()
+    is_packed(folder, "an empty folder", 512, 8)
+    for name in "ab", "a", "b", "é", " ", "\\", "a\nb", "-", "x" * 255:
+        (place / name).write_bytes(name.encode())
+    is_packed(folder, "odd names", 1_024, 16)
+    deep = place
+    for _ in range(60):
+        deep = deep / "d"
+        deep.mkdir()
+    (deep / "f").write_bytes(b"deep")
+    is_packed(folder, "nested folders", 1_024, 200)
+    folder.check("a link to the folder", not os.symlink("src", folder.image.with_name("link")))
+    packed = folder.old()
+    ended = folder.run("pack -b 1024 --count 200 a.img link")
+    folder.check("a link to the folder: pack", ended == (0, "", b"") and folder.old() == packed, ended)
+
+
+def what_is_refused(folder):
+    place = source(folder)
+    is_refused(folder, "no folder", 4, "lfsed: 60 CannotRead", "lfsed: src: No such file or directory (os error 2)")
+    place.write_bytes(b"a file")
+    is_refused(folder, "a file", 4, "lfsed: 60 CannotRead", "lfsed: src: Not a directory (os error 20)")
+    place.unlink()
+    place.mkdir()
+    folder.check("pack", folder.run("pack -b 512 --count 8 a.img src") == (0, "", b""))
+    folder.check("mkdir", folder.run("mkdir -b 512 a.img /kept") == (0, "", b""))
+    (place / "d").mkdir()
+    odd = place / "d/odd"
+    odd.symlink_to("missing")
+    other = "lfsed: src/d/odd: neither a regular file nor a folder"
+    is_refused(folder, "a link", 4, "lfsed: 62 HostEntry", other)
+    odd.unlink()
+    os.mkfifo(odd)
+    is_refused(folder, "a pipe", 4, "lfsed: 62 HostEntry", other)
+    odd.unlink()
+    with socket.socket(socket.AF_UNIX) as bound:
+        bound.bind(str(odd))
+        is_refused(folder, "a socket", 4, "lfsed: 62 HostEntry", other)
+    odd.unlink()
+    name = os.fsencode(place / "d") + b"/\xff"
+    pathlib.Path(os.fsdecode(name)).write_bytes(b"")
+    is_refused(folder, "a name that isn't UTF-8", 4, "lfsed: 63 HostName", "lfsed: src/d: invalid filename")
+    os.unlink(name)
+    (place / "d/long").write_bytes(contents(4_000))
+    is_refused(folder, "more than fits", 1, "lfsed: 43 NoSpace need 8 free 4", "")
+
+
+def what_is_not_read(folder):
+    """Each call by which a folder is read is refused in turn."""
+    place = source(folder)
+    (place / "d").mkdir(parents=True)
+    (place / "d/f").write_bytes(b"contents")
+    with tempfile.TemporaryDirectory() as library:
+        refusing = Refusing(pathlib.Path(library))
+        for call in "open", "statx", "read":
+            for at in range(1, 100):
+                before = folder.old(), folder.saved()
+                status, complained, _ = folder.run("pack -b 512 --count 8 a.img src", env=refusing.env(at, call))
+                if not refusing.was_hit():
+                    break
+                is_told = status == 4 and complained.startswith(("lfsed: 60 CannotRead\n", "lfsed: 61 CannotWrite\n"))
+                is_kept = (folder.old(), folder.saved()) == before
+                folder.check(f"{call} {at}", status == 0 or is_told and is_kept, (status, complained))
+
+
+def many_files(folder):
+    """5,000 files of mixed sizes in 300 folders, packed twice."""
+    chance, place = random.Random(5), source(folder)
+    places = [place]
+    place.mkdir()
+    for n in range(299):
+        places.append(chance.choice(places[-40:]) / f"folder{n}")
+        places[-1].mkdir()
+    for n in range(5_000):
+        size = chance.choice([0, 1, 60, 511, 512, 513, 3_000, chance.randrange(40_000)])
+        (chance.choice(places) / f"{chance.choice('abc')}{n}").write_bytes(chance.randbytes(size))
+    is_packed(folder, "many files", 4_096, 16_384)
+    first = folder.old()
+    folder.check("packed twice", folder.run("pack --count 16384 a.img src") == (0, "", b"") and folder.old() == first)
+    status, complained, _ = folder.run("pack --count 2048 a.img src")
+    folder.check("more than fits", status == 1 and complained.startswith("lfsed: 43 NoSpace need ") and folder.old() == first)
+
+
+if __name__ == "__main__":
+    sys.exit(run_scenes([worked_folder, odd_folders, what_is_refused, what_is_not_read, many_files]))
