@@ -1,0 +1,81 @@
+#!/usr/bin/env python3
+"""Installs the program into a folder of its own; compares the manual page and the completions with what bin/manual makes of the
+program's commands now, and asks the completions of bash what they complete."""
+import pathlib
+import subprocess
+import sys
+import tempfile
+
+HOME = pathlib.Path(__file__).resolve().parent.parent
+MADE = ["man/lfsed.1", "completions/lfsed.bash", "completions/_lfsed", "completions/lfsed.fish"]
+INSTALLED = {
+    "bin/lfsed": "crates/lfsed/out/lfsed",
+    "share/man/man1/lfsed.1": "man/lfsed.1",
+    "share/bash-completion/completions/lfsed": "completions/lfsed.bash",
+    "share/zsh/site-functions/_lfsed": "completions/_lfsed",
+    "share/fish/vendor_completions.d/lfsed.fish": "completions/lfsed.fish",
+}
+COMMANDS = "cat check explain forget format ls mkdir mv pack put redo rm rmattr setattr undo"
+# The words of a command line, of which the last one is completed, and what it may become.
+COMPLETED = [
+    ("lfsed ", f"--help --version {COMMANDS} help"),
+    ("lfsed p", "pack put"),
+    ("lfsed help und", "undo"),
+    ("lfsed check -", "--block --help -b -h"),
+    ("lfsed pack --c", "--count"),
+    ("lfsed check ", "fw.img src"),
+    ("lfsed check fw", "fw.img"),
+    ("lfsed check fw.img ", ""),
+    ("lfsed check -b ", ""),
+    ("lfsed check -b 512 f", "fw.img"),
+    ("lfsed pack --count 8 fw.img ", "src"),
+    ("lfsed pack --block=512 fw.img s", "src"),
+    ("lfsed cat fw.img /", ""),
+    ("lfsed explain ", ""),
+]
+
+
+class Counts:
+    """How many things were right and wrong."""
+
+    def __init__(self):
+        self.right = self.wrong = 0
+
+    def check(self, what, is_right, found=""):
+        self.right, self.wrong = self.right + is_right, self.wrong + (not is_right)
+        if not is_right:
+            print(f"wrong: {what}: {found}")
+
+
+def completed(folder, line):
+    """What bash completes the last word of a line to."""
+    words = line.split(" ")
+    script = 'source "$1"; shift; COMP_WORDS=("$@"); COMP_CWORD=$(($# - 1)); _lfsed; printf "%s\\n" "${COMPREPLY[@]}"'
+    command = ["bash", "-c", script, "bash", HOME / "completions/lfsed.bash", *words]
+    return sorted(subprocess.run(command, cwd=folder, stdout=subprocess.PIPE, check=True, text=True).stdout.split())
+
+
+def main():
+    counts = Counts()
+    with tempfile.TemporaryDirectory() as room:
+        folder = pathlib.Path(room)
+        subprocess.run([HOME / "bin/manual", folder / "made"], check=True)
+        for name in MADE:
+            is_same = (folder / "made" / name).read_bytes() == (HOME / name).read_bytes()
+            counts.check(name, is_same, "bin/manual makes another one")
+        ended = subprocess.run([HOME / "bin/install", folder / "prefix"], stdout=subprocess.PIPE, text=True)
+        counts.check("install", (ended.returncode, ended.stdout) == (0, "lfsed 0.1.0\n"), ended)
+        for name, source in INSTALLED.items():
+            counts.check(name, (folder / "prefix" / name).read_bytes() == (HOME / source).read_bytes())
+        ended = subprocess.run([folder / "prefix/bin/lfsed", "--version"], stdout=subprocess.PIPE, text=True)
+        counts.check("installed", ended.stdout == "lfsed 0.1.0\n", ended)
+        place = folder / "place"
+        (place / "src").mkdir(parents=True)
+        (place / "fw.img").write_bytes(b"")
+        for line, wanted in COMPLETED:
+            counts.check(line, completed(place, line) == sorted(wanted.split()), completed(place, line))
+    print(f"{counts.right} passed, {counts.wrong} failed")
+    return 1 if counts.wrong else 0
+
+
+sys.exit(main())
