@@ -2,6 +2,7 @@
 complete -c lfsed -n __fish_use_subcommand -f
 complete -c lfsed -n __fish_use_subcommand -a format -d 'Write a new image, in place of a file of this name'
 complete -c lfsed -n __fish_use_subcommand -a pack -d 'Write a new image with what is in a folder, in place of a file of this name'
+complete -c lfsed -n __fish_use_subcommand -a extract -d 'Make a new folder with what is in an image; attributes are left behind'
 complete -c lfsed -n __fish_use_subcommand -a check -d 'Judge an image; print its geometry, free blocks, directories and files'
 complete -c lfsed -n __fish_use_subcommand -a ls -d 'List what stands at each path, with sizes and attributes'
 complete -c lfsed -n __fish_use_subcommand -a cat -d 'Print the contents of a file'
@@ -21,6 +22,8 @@ complete -c lfsed -n '__fish_seen_subcommand_from format' -s h -l help -d 'Print
 complete -c lfsed -n '__fish_seen_subcommand_from pack' -s b -l block -x -d 'Size of a block, a multiple of 16 from 256 to 65536 [default: 4096]'
 complete -c lfsed -n '__fish_seen_subcommand_from pack' -l count -x -d 'Number of blocks, from 2 to 65536; at most 67108864 bytes in all'
 complete -c lfsed -n '__fish_seen_subcommand_from pack' -s h -l help -d 'Print help'
+complete -c lfsed -n '__fish_seen_subcommand_from extract' -s b -l block -x -d 'Size of a block, a multiple of 16 from 256 to 65536 [default: 4096]'
+complete -c lfsed -n '__fish_seen_subcommand_from extract' -s h -l help -d 'Print help'
 complete -c lfsed -n '__fish_seen_subcommand_from check' -s b -l block -x -d 'Size of a block, a multiple of 16 from 256 to 65536 [default: 4096]'
 complete -c lfsed -n '__fish_seen_subcommand_from check' -s h -l help -d 'Print help'
 complete -c lfsed -n '__fish_seen_subcommand_from ls' -s b -l block -x -d 'Size of a block, a multiple of 16 from 256 to 65536 [default: 4096]'

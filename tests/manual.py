@@ -15,7 +15,7 @@ INSTALLED = {
     "share/zsh/site-functions/_lfsed": "completions/_lfsed",
     "share/fish/vendor_completions.d/lfsed.fish": "completions/lfsed.fish",
 }
-COMMANDS = "cat check explain forget format ls mkdir mv pack put redo rm rmattr setattr undo"
+COMMANDS = "cat check explain extract forget format ls mkdir mv pack put redo rm rmattr setattr undo"
 # The words of a command line, of which the last one is completed, and what it may become.
 COMPLETED = [
     ("lfsed ", f"--help --version {COMMANDS} help"),

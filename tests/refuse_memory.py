@@ -2,6 +2,7 @@
 """Refuses each request for memory of some runs of lfsed in turn. Each run has to end as it does with ample memory, or with
 `44 Memory` and the image and its journal as they were; what went out of it is a beginning of what goes out with ample memory."""
 import pathlib
+import shutil
 import subprocess
 import sys
 import tempfile
@@ -28,6 +29,7 @@ class Runs:
 
     def run(self, words, state, contents, at):
         """How a run ends whose request number `at` is refused: its status, what it prints and complains, and the files."""
+        shutil.rmtree(self.files[0].with_name("made"), ignore_errors=True)
         for file, data in zip(self.files, state):
             file.unlink(missing_ok=True)
             if data is not None:
@@ -104,6 +106,8 @@ def folder_rows(runs):
     (place / "d/link").symlink_to("f")
     runs.row(["pack", "--count=8", "a.img", "src"], packed)
     runs.row(["pack", "--count=8", "a.img", "none"], packed)
+    runs.row(["extract", "a.img", "made"], packed)
+    runs.row(["extract", "a.img", "src"], packed)
 
 
 def history_rows(runs):

@@ -1,4 +1,5 @@
 pub mod Files
 pub mod HostTree
+pub mod NewFolder
 pub mod Failing
 pub mod MemoryFiles

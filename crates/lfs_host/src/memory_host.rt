@@ -17,7 +17,8 @@ use std::fmt::{Display, Write};
 
 /// A host whose files, standard input and standard output are in memory, and known: no file is a link, and no other run
 /// keeps one. A slash in a file's name stands behind a folder's, which is there as long as something is below it; what its
-/// calls on folders answer isn't said. Its calls that write or rename a file can be made to fail.
+/// calls on folders answer isn't said, and what is made in new folders isn't kept. Its calls that write, rename or make a file,
+/// or make a folder, can be made to fail.
 ///
 /// Source: own.
 #[derive(Drop)]
@@ -186,6 +187,28 @@ impl Host for MemoryHost {
 
     fn remove(&mut self, name: &str) {
         take(&mut self.files, name);
+    }
+
+    fn make_folder(&mut self, _name: &str) -> Result<(), HostFault> {
+        if self.failing.fails() {
+            return Err(HostFault);
+        }
+        Ok(())
+    }
+
+    fn begin_file(&mut self, _name: &str) -> Result<(), HostFault> {
+        if self.failing.fails() {
+            return Err(HostFault);
+        }
+        Ok(())
+    }
+
+    fn fill(&mut self, bytes: &[u8]) -> Option<usize> {
+        Some(bytes.len())
+    }
+
+    fn end_file(&mut self, _name: &str) -> Result<(), HostFault> {
+        Ok(())
     }
 
     fn print(&mut self, bytes: &[u8]) -> Option<usize> {

@@ -3,10 +3,12 @@
 
 mod asking;
 mod digits;
+mod extraction;
 mod request;
 mod task;
 
 pub use asking::{digits_of, step_of};
 pub use digits::bytes_of;
+pub use extraction::Extraction;
 pub use request::Request;
 pub use task::Task;

@@ -20,7 +20,7 @@ use Rattle.lfs_serve.specs.Program.{Scene, StopsStep, EndsStep, KeepsScene, most
 
 -- ---- the file that a name leads to
 
-reads_target : (files : Option Files) (name target bytes : List ℕ) (most : ℕ) → IsTarget files name target
+pub reads_target : (files : Option Files) (name target bytes : List ℕ) (most : ℕ) → IsTarget files name target
     → ReadsFile files target most bytes → ReadsFile files name most bytes
 reads_target None name target bytes most leads reads = tt
 reads_target (Some files) name target bytes most leads reads = subst (λ (at : List ℕ). ReadsFile (Some files) at most bytes) leads reads

@@ -21,7 +21,7 @@ use lfs_step::{Fault, Outcome, Step, run};
 use std::alloc::Global;
 
 /// What a block size is a multiple of, in bytes.
-const GRAIN: u32 = 16;
+pub(crate) const GRAIN: u32 = 16;
 
 /// The status of a command line that is refused.
 pub const USAGE: u8 = 2;
@@ -44,8 +44,9 @@ pub fn served<H: Host>(alloc: Global, host: &mut H, request: &Request<'_>) -> u8
 }
 
 /// Tells that a block size isn't one of images, as a size out of range is told, and answers the status.
-fn refuse_size<H: Host>(host: &mut H, size: u32) -> u8
+pub(crate) fn refuse_size<H: Host>(host: &mut H, size: u32) -> u8
     ensures status { result ≡ usage }
+    ensures making { H.made host.new ≡ H.made host.old }
     ensures kept { (H.files host.new ≡ H.files host.old) × (H.typed host.new ≡ H.typed host.old) × (H.printed host.new ≡ H.printed host.old) }
 {
     host.complain(format_args!(
@@ -55,8 +56,9 @@ fn refuse_size<H: Host>(host: &mut H, size: u32) -> u8
 }
 
 /// Tells why a run ended early, and answers the status.
-fn tell_of<H: Host>(host: &mut H, image: &str, stop: &Stop) -> u8
+pub(crate) fn tell_of<H: Host>(host: &mut H, image: &str, stop: &Stop) -> u8
     ensures status { result ≡ status_of (Some stop.now.fault) }
+    ensures making { H.made host.new ≡ H.made host.old }
     ensures kept { (H.files host.new ≡ H.files host.old) × (H.typed host.new ≡ H.typed host.old) × (H.printed host.new ≡ H.printed host.old) }
 {
     let status = tell_of_image(host, image, stop.fault);
@@ -138,7 +140,7 @@ fn taken<H: Host>(
 }
 
 /// The geometry that an image's superblock states, where the fault is that it isn't the image's.
-fn stated_for(fault: Fault, image: &[u8]) -> Option<Stated> {
+pub(crate) fn stated_for(fault: Fault, image: &[u8]) -> Option<Stated> {
     match fault {
         Fault::Mount(MountFault::Geometry) => stated_in(image),
         _ => None,

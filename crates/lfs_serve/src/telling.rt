@@ -14,6 +14,7 @@ pub const MORE: &str = "\n\nFor more information, try '--help'.\n";
 /// Source: own.
 pub fn tell<H: Host>(host: &mut H, fault: Fault) -> u8
     ensures status { result ≡ status_of (Some fault) }
+    ensures making { H.made host.new ≡ H.made host.old }
     ensures kept { (H.files host.new ≡ H.files host.old) × (H.typed host.new ≡ H.typed host.old) × (H.printed host.new ≡ H.printed host.old) }
 {
     let number = fault.number();
@@ -27,6 +28,7 @@ pub fn tell<H: Host>(host: &mut H, fault: Fault) -> u8
 /// Source: own.
 pub fn tell_of_image<H: Host>(host: &mut H, image: &str, fault: Fault) -> u8
     ensures status { result ≡ status_of (Some fault) }
+    ensures making { H.made host.new ≡ H.made host.old }
     ensures kept { (H.files host.new ≡ H.files host.old) × (H.typed host.new ≡ H.typed host.old) × (H.printed host.new ≡ H.printed host.old) }
 {
     let status = tell(host, fault);

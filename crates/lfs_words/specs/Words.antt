@@ -3,9 +3,10 @@ use Rattle.std.specs.Prelude.{ℕ, ◌≡◌, List, Some, codes}
 use Rattle.clap.specs.Words.{first_value, rows_of, subcommand_rows_of}
 use Rattle.clap.specs.declared.parser.matches.ArgMatches.{ArgMatches}
 use Rattle.clap.specs.declared.parser.matches.Found.{Found}
+use Rattle.lfs_request.specs.declared.extraction.Extraction.{Extraction}
 use Rattle.lfs_request.specs.declared.request.Request.{Request}
 use Rattle.lfs_words.specs.declared.wish.Wish.{Wish}
-use Rattle.lfs_words.specs.declared.wish.Wish.TheVariants.{Explanation, Step}
+use Rattle.lfs_words.specs.declared.wish.Wish.TheVariants.{Explanation, Step, Extraction as Wished_folder}
 use Rattle.lfs_request.specs.declared.task.Task.{Task}
 use Rattle.lfs_request.specs.declared.task.Task.TheVariants.{Format, Pack, Check, Ls, Cat, Mkdir, Put, Rm, Mv, SetAttr, RmAttr, Undo, Redo, Forget}
 
@@ -49,7 +50,16 @@ IsRequest request m =
     × IsTask request.task name options
     × HasText options (codes "image") request.image.now
 
+-- the folder that the matches ask for
+abbrev pub IsExtraction : Extraction → ArgMatches → Type 0
+IsExtraction extraction m =
+    (options : Found)
+    × NamesCommand m (codes "extract") options
+    × HasText options (codes "image") extraction.image.now
+    × HasText options (codes "dir") extraction.dir.now
+
 -- what the matches ask for
 abbrev pub IsWish : Wish → ArgMatches → Type 0
 IsWish (Explanation number) m = (options : Found) × NamesCommand m (codes "explain") options
+IsWish (Wished_folder extraction) m = IsExtraction extraction m
 IsWish (Step request) m = IsRequest request m

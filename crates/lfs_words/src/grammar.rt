@@ -19,8 +19,10 @@ enum Argument {
     Count,
     /// The image's file name.
     Image,
-    /// A folder's name.
+    /// The name of a folder that is read.
     Dir,
+    /// The name of a folder that is made.
+    NewDir,
     /// A path within the image.
     Path,
     /// The path of what is moved.
@@ -43,7 +45,7 @@ struct CommandRow {
 }
 
 /// The program's commands, in the order of its help. Each but the last takes the block size and the image's file name.
-const COMMANDS: [CommandRow; 15] = [
+const COMMANDS: [CommandRow; 16] = [
     CommandRow {
         name: "format",
         about: "Write a new image, in place of a file of this name",
@@ -58,6 +60,11 @@ const COMMANDS: [CommandRow; 15] = [
             Argument::Dir,
             Argument::Count,
         ],
+    },
+    CommandRow {
+        name: "extract",
+        about: "Make a new folder with what is in an image; attributes are left behind",
+        arguments: &[Argument::Block, Argument::Image, Argument::NewDir],
     },
     CommandRow {
         name: "check",
@@ -142,8 +149,11 @@ const COMMANDS: [CommandRow; 15] = [
     },
 ];
 
-/// What is said of a folder.
+/// What is said of a folder that is read.
 const DIR: &str = "Folder, of whose files and folders the image is made";
+
+/// What is said of a folder that is made.
+const NEW_DIR: &str = "Folder that is made; nothing may be there";
 
 /// What is said of a path.
 const PATH: &str = "Path of a file or a directory in the image, from / on";
@@ -178,6 +188,7 @@ fn clap_argument<'a>(alloc: Global, argument: Argument) -> Arg<'a> {
             .help("Number of blocks, from 2 to 65536; at most 67108864 bytes in all"),
         Argument::Image => word(alloc, "image", "IMAGE", "File of the image"),
         Argument::Dir => word(alloc, "dir", "DIR", DIR),
+        Argument::NewDir => word(alloc, "dir", "DIR", NEW_DIR),
         Argument::Path => any_word(alloc, "path", "PATH", PATH),
         Argument::From => any_word(alloc, "from", "FROM", FROM),
         Argument::To => any_word(alloc, "to", "TO", TO),

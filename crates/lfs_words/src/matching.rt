@@ -6,7 +6,7 @@ ghost use Rattle.lfs_words.specs.Words.{HasText, IsTask, IsWish};
 
 use crate::wish::Wish;
 use clap::ArgMatches;
-use lfs_request::{Request, Task};
+use lfs_request::{Extraction, Request, Task};
 
 /// What a command's words ask to be done.
 fn task_of<'a>(name: &str, options: &ArgMatches<'a>) -> Option<Task<'a>>
@@ -56,6 +56,18 @@ fn task_at<'a>(name: &str, path: &'a str, options: &ArgMatches<'a>) -> Option<Ta
     }
 }
 
+/// The folder that a command's words ask to be made.
+fn extraction_of<'a>(options: &ArgMatches<'a>) -> Option<Extraction<'a>>
+    ensures { IfSome result (λ extraction. HasText (found_of options.now) (codes "image") extraction.image.now
+        × HasText (found_of options.now) (codes "dir") extraction.dir.now) }
+{
+    Some(Extraction {
+        size: options.get_one::<u32>("block")?,
+        image: options.get_str("image")?,
+        dir: options.get_str("dir")?,
+    })
+}
+
 /// What the words that were matched ask for. `None` where they ask for nothing. Takes no memory.
 ///
 /// Source: own.
@@ -67,6 +79,9 @@ pub fn wished<'a>(matches: &ArgMatches<'a>) -> Option<Wish<'a>>
         return Some(Wish::Explanation {
             number: options.get_one::<u32>("number")?,
         });
+    }
+    if name == "extract" {
+        return Some(Wish::Extraction(extraction_of(options)?));
     }
     Some(Wish::Step(Request {
         task: task_of(name, options)?,

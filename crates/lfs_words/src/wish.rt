@@ -1,6 +1,6 @@
 //! What a command line asks for.
 
-use lfs_request::Request;
+use lfs_request::{Extraction, Request};
 
 /// What a command line asks for.
 ///
@@ -12,6 +12,8 @@ pub enum Wish<'a> {
         /// The number.
         number: u32,
     },
+    /// A folder of the host that is made of an image.
+    Extraction(Extraction<'a>),
     /// A step on an image.
     Step(Request<'a>),
 }

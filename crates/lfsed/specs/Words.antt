@@ -8,9 +8,12 @@ use Rattle.lfs_change.specs.declared.fault.Fault.{Fault}
 use Rattle.lfs_change.specs.declared.fault.Fault.TheVariants.{Refused}
 use Rattle.lfs_change.specs.Fault.{status_of}
 use Rattle.lfs_host.specs.HostTree.{HostTree}
+use Rattle.lfs_host.specs.NewFolder.{Made}
+use Rattle.lfs_request.specs.declared.extraction.Extraction.{Extraction}
+use Rattle.lfs_serve.specs.Extracting.{EndsExtraction}
 use Rattle.lfs_request.specs.declared.request.Request.{Request}
 use Rattle.lfs_words.specs.declared.wish.Wish.TheVariants.{Explanation}
-use Rattle.lfs_words.specs.Words.{IsRequest, IsWish}
+use Rattle.lfs_words.specs.Words.{IsExtraction, IsRequest, IsWish}
 use Rattle.lfs_serve.specs.Program.{EndsRequest, KeepsScene, Scene, usage}
 
 -- a command line has taken the words, with these matches
@@ -26,19 +29,40 @@ abbrev pub AsksNoStep : List (List ℕ) → Type 0
 AsksNoStep words =
     IsRefused words ⊎ ((m : ArgMatches) × (number : ℕ) × IsMatched words m × IsWish (Explanation number) m)
 
+-- what is known of the host's folders: what there is under each name, what was made in new ones before, and what has been now
+pub record Known : Type 0 where
+  pub tree : Option HostTree
+  pub made : Option (List Made)
+  pub now : Option (List Made)
+
+-- the same, from its parts
+abbrev pub known : Option HostTree → Option (List Made) → Option (List Made) → Known
+known tree made now = record { tree = tree; made = made; now = now }
+
+-- the words ask for a folder that is made of an image, and this is what is made; no file changes, and nothing is printed
+abbrev pub EndsFolder : List (List ℕ) → Known → Scene → Scene → ℕ → Type 0
+EndsFolder words k old new status =
+    (m : ArgMatches)
+    × (extraction : Extraction)
+    × IsMatched words m
+    × IsExtraction extraction m
+    × EndsExtraction extraction old.files k.tree k.made k.now status
+    × KeepsScene old new
+
 -- the status that a command line ends with
 abbrev pub ended_with : Result ℕ Fault → ℕ
 ended_with (Ok status) = status
 ended_with (Err fault) = status_of (Some fault)
 
--- how a command line ends: as the request that its words ask for; with no step asked for, and no file changed; or with
+-- how a command line ends: as the request that its words ask for; with a folder that is made of an image; with no step asked for, and no file changed; or with
 -- nothing changed, for want of memory or since no request is read off its matches
-abbrev pub EndsWords : List (List ℕ) → Option HostTree → Scene → Scene → ℕ → Type 0
-EndsWords words tree old new status =
+abbrev pub EndsWords : List (List ℕ) → Known → Scene → Scene → ℕ → Type 0
+EndsWords words k old new status =
     ((m : ArgMatches)
     × (request : Request)
     × IsMatched words m
     × IsRequest request m
-    × EndsRequest request tree old new status)
+    × EndsRequest request k.tree old new status)
+    ⊎ EndsFolder words k old new status
     ⊎ (AsksNoStep words × (new.files ≡ old.files))
     ⊎ (KeepsScene old new × ((status ≡ status_of (Some (Refused Memory))) ⊎ (status ≡ usage)))

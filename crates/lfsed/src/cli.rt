@@ -2,14 +2,14 @@
 
 ghost use Rattle.std.specs.Prelude.{◌≡◌, IfOk, map};
 ghost use Rattle.lfs_serve.specs.Program.{scene};
-ghost use Rattle.lfsed.specs.Words.{EndsWords, ended_with};
+ghost use Rattle.lfsed.specs.Words.{EndsWords, ended_with, known};
 
 use crate::explanations::explained;
 use clap::Error;
 use clap::error::ErrorKind;
 use lfs_edit::Refusal;
 use lfs_host::Host;
-use lfs_serve::{MORE, USAGE, print, served, tell_of_image};
+use lfs_serve::{MORE, USAGE, extracted, print, served, tell_of_image};
 use lfs_step::Fault;
 use lfs_words::{Wish, command_line, wished};
 use std::alloc::Global;
@@ -23,7 +23,7 @@ const OUTPUT: &str = "standard output";
 ///
 /// Source: own.
 pub fn cli<H: Host, W: AsStr>(alloc: Global, host: &mut H, words: &[W]) -> u8
-    ensures ended { EndsWords (map W.text words.now) (H.tree host.old) (scene (H.files host.old) (H.typed host.old) (H.printed host.old))
+    ensures ended { EndsWords (map W.text words.now) (known (H.tree host.old) (H.made host.old) (H.made host.new)) (scene (H.files host.old) (H.typed host.old) (H.printed host.old))
         (scene (H.files host.new) (H.typed host.new) (H.printed host.new)) result }
 {
     match done(alloc, host, words) {
@@ -34,12 +34,13 @@ pub fn cli<H: Host, W: AsStr>(alloc: Global, host: &mut H, words: &[W]) -> u8
 
 /// Reads the words, and does what they ask for.
 fn done<H: Host, W: AsStr>(alloc: Global, host: &mut H, words: &[W]) -> Result<u8, Fault>
-    ensures ended { EndsWords (map W.text words.now) (H.tree host.old) (scene (H.files host.old) (H.typed host.old) (H.printed host.old))
+    ensures ended { EndsWords (map W.text words.now) (known (H.tree host.old) (H.made host.old) (H.made host.new)) (scene (H.files host.old) (H.typed host.old) (H.printed host.old))
         (scene (H.files host.new) (H.typed host.new) (H.printed host.new)) (ended_with result) }
 {
     match command_line(alloc)?.try_get_matches_from(words) {
         Ok(matches) => match wished(&matches) {
             Some(Wish::Explanation { number }) => explain(alloc, host, number),
+            Some(Wish::Extraction(extraction)) => Ok(extracted(alloc, host, &extraction)),
             Some(Wish::Step(request)) => Ok(served(alloc, host, &request)),
             None => Ok(USAGE),
         },

@@ -267,14 +267,15 @@ const EXPLANATIONS: [Explanation; 47] = [
     Explanation {
         number: 62,
         name: "HostEntry",
-        text: "Something in the folder is neither a regular file nor a folder: a link, a socket or a device. The \
-         second line says which. Put what is meant in its place, or take it away.",
+        text: "Something in the folder that is packed is neither a regular file nor a folder, and the second line says \
+         which: put what is meant in its place, or take it away. Or something is under the name of the folder that is to be \
+         made: give another name.",
     },
     Explanation {
         number: 63,
         name: "HostName",
-        text: "A name in the folder can't be one in an image, since it isn't UTF-8. The second line says in which \
-         folder. Give it another name.",
+        text: "A name in the folder that is packed isn't UTF-8, and the second line says in which folder; or a name in \
+         the image isn't UTF-8 or holds a zero byte, so that no file of the host is given it. Give it another name.",
     },
     Explanation {
         number: 64,

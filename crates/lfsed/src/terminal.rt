@@ -8,7 +8,7 @@ use lfs_sink::{Out, Sink};
 use std::alloc::{AllocError, Global};
 use std::fmt::Display;
 use std::fs::{self, File};
-use std::io::{self, ErrorKind, Printer, Read};
+use std::io::{self, ErrorKind, Printer, Read, Write};
 
 /// What the system refused.
 #[derive(Clone, Copy)]
@@ -19,6 +19,8 @@ enum Subject {
     Journal,
     /// Something in a folder, or the folder.
     Entry,
+    /// A file that is being made in a new folder.
+    Making,
     /// To read standard input.
     Input,
     /// To print.
@@ -36,6 +38,8 @@ pub struct Terminal<'a> {
     image: Option<File>,
     /// The first new file, kept for this run: as long as it is there, no other run makes new files of the same image.
     new_file: Option<File>,
+    /// The file that is being made in a new folder.
+    making: Option<File>,
     /// What the system said when it refused something last.
     said: Option<io::Error>,
     /// What that was about.
@@ -52,6 +56,7 @@ impl<'a> Terminal<'a> {
             out: Out::new(io::writer(rt)),
             image: None,
             new_file: None,
+            making: None,
             said: None,
             subject: Subject::Image,
             entry: String::new(rt.alloc()),
@@ -64,6 +69,16 @@ impl<'a> Terminal<'a> {
         self.subject = Subject::Entry;
         self.said = Some(error);
         Ok(())
+    }
+
+    /// What was refused of something in a new folder, which is kept, with its name where there is memory for it.
+    fn refused_entry(&mut self, name: &str, error: io::Error) -> HostFault {
+        self.subject = Subject::Making;
+        if let Ok(entry) = name.to_string(self.rt.alloc()) {
+            self.entry = entry;
+            self.subject = Subject::Entry;
+        }
+        self.refused(error)
     }
 
     /// What an error of reading something in a folder means, which is kept.
@@ -256,6 +271,39 @@ impl Host for Terminal<'_> {
         let _ = fs::remove_file(self.rt, name);
     }
 
+    fn make_folder(&mut self, name: &str) -> Result<(), HostFault> {
+        fs::create_dir(self.rt, name).map_err(|error| self.refused_entry(name, error))
+    }
+
+    fn begin_file(&mut self, name: &str) -> Result<(), HostFault> {
+        match File::create_new(self.rt, name) {
+            Ok(file) => {
+                self.making = Some(file);
+                Ok(())
+            }
+            Err(error) => Err(self.refused_entry(name, error)),
+        }
+    }
+
+    fn fill(&mut self, bytes: &[u8]) -> Option<usize> {
+        let Some(file) = &mut self.making else {
+            return None;
+        };
+        match file.write_all(bytes) {
+            Ok(()) => Some(bytes.len()),
+            Err(error) => {
+                self.subject = Subject::Making;
+                self.said = Some(error);
+                None
+            }
+        }
+    }
+
+    fn end_file(&mut self, _name: &str) -> Result<(), HostFault> {
+        self.making = None;
+        Ok(())
+    }
+
     fn print(&mut self, bytes: &[u8]) -> Option<usize> {
         if self.out.has_failed() {
             return None;
@@ -288,6 +336,7 @@ impl Host for Terminal<'_> {
                 self.say_of(journal, self.said.as_ref());
             }
             Subject::Entry => self.say_of(self.entry.as_str(), self.said.as_ref()),
+            Subject::Making => self.say_of("a file in the new folder", self.said.as_ref()),
             Subject::Input => self.say_of("standard input", self.said.as_ref()),
             Subject::Output => self.say_of("standard output", self.out.error()),
         }

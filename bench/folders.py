@@ -1,0 +1,85 @@
+#!/usr/bin/env python3
+"""Measures the packing of folders by the program: one of 5,000 files of 40 MiB in 300 folders beside `cp -r` of the folder and `cp`
+of the image, and empty files and folders in one folder, in rising numbers. Of each the least processor time of five runs."""
+import os
+import pathlib
+import random
+import subprocess
+import sys
+import tempfile
+
+HOME = pathlib.Path(__file__).resolve().parent.parent
+PROGRAM = HOME / "crates/lfsed/out/lfsed"
+ROUNDS = 5
+
+
+def measure(*commands):
+    """The seconds of processor time that commands take together, and the peak memory of the first in MiB."""
+    spent, peak = 0, 0
+    for command in commands:
+        child = subprocess.Popen(command, stdout=subprocess.DEVNULL)
+        _, status, usage = os.wait4(child.pid, 0)
+        if status:
+            sys.exit(f"{command} failed")
+        spent, peak = spent + usage.ru_utime + usage.ru_stime, peak or usage.ru_maxrss / 1024
+    return spent, peak
+
+
+def least(*commands):
+    """The least of some runs."""
+    return min(measure(*commands) for _ in range(ROUNDS))
+
+
+def pack(image, folder, size, count):
+    return [PROGRAM, "pack", "--block", str(size), "--count", str(count), image, folder]
+
+
+def fill(place):
+    """5,000 files of mixed sizes, 40 MiB together, in 300 folders."""
+    chance, places = random.Random(9), [place]
+    place.mkdir()
+    for n in range(299):
+        places.append(chance.choice(places[-40:]) / f"folder{n}")
+        places[-1].mkdir()
+    sizes = [chance.choice([0, 100, 2_000, chance.randrange(40_000)]) for _ in range(5_000)]
+    rate = 40 * 2**20 / sum(sizes)
+    for n, size in enumerate(sizes):
+        (chance.choice(places) / f"file{n}").write_bytes(chance.randbytes(round(size * rate)))
+
+
+def mixed(room):
+    """A folder of mixed files beside the copies."""
+    folder, image, copied = room / "mixed", room / "mixed.img", room / "copied"
+    fill(folder)
+    spent, peak = least(pack(image, folder, 4_096, 16_384))
+    copies = []
+    for _ in range(ROUNDS):
+        subprocess.run(["rm", "-rf", copied], check=True)
+        copies.append(measure(["cp", "-r", folder, copied], ["cp", image, room / "copy.img"])[0])
+    print(f"mixed: pack {spent:.2f} s, copies {min(copies):.2f} s, {spent / min(copies):.1f} times, {peak:.0f} MiB")
+    judged, _ = least([PROGRAM, "check", image])
+    listed, _ = least([PROGRAM, "ls", image])
+    print(f"mixed: check {judged:.3f} s, ls {listed:.3f} s, {listed / judged:.2f} times")
+
+
+def empty(room, kind, count):
+    """So many empty files or folders in one folder."""
+    folder = room / f"{kind}{count}"
+    folder.mkdir()
+    for n in range(count):
+        place = folder / f"entry{n}"
+        place.mkdir() if kind == "folders" else place.touch()
+    spent, peak = measure(pack(room / "empty.img", folder, 512, 65_536))
+    print(f"{count} empty {kind}: pack {spent:.2f} s, {peak:.0f} MiB")
+
+
+def main():
+    with tempfile.TemporaryDirectory() as folder:
+        room = pathlib.Path(folder)
+        mixed(room)
+        for count in 7_500, 15_000, 30_000:
+            for kind in "files", "folders":
+                empty(room, kind, count)
+
+
+main()

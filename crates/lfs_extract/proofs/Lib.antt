@@ -1,0 +1,4 @@
+pub mod HostPathLemmas
+pub mod MakingLemmas
+pub mod NameLemmas
+pub mod TreeLemmas

@@ -1,0 +1,69 @@
+-- What is made of the rows of an image in a folder of a host (own).
+use Rattle.std.specs.Prelude.{◌≡◌, ◌≢◌, ℕ, List, ◌∷◌, ◌++◌, Option, Some, None, map, All, Contains}
+use Rattle.std.specs.Str.{IsUtf8}
+use Rattle.lfs_block.specs.Disk.{Disk}
+use Rattle.lfs_meta.specs.Name.{Name}
+use Rattle.lfs_fs.specs.Tree.{Node, File, Dir}
+use Rattle.lfs_fs.specs.Row.{Row}
+use Rattle.lfs_fs.specs.RowShown.{shown_node}
+use Rattle.lfs_folder.specs.HostNames.{IsHostName}
+use Rattle.lfs_folder.specs.PathBelow.{host_name}
+use Rattle.lfs_host.specs.NewFolder.{Made, FolderMade, FileMade, Makes}
+use Rattle.lfs_extract.specs.declared.extract_fault.ExtractFault.{ExtractFault}
+use Rattle.lfs_extract.specs.declared.extract_fault.ExtractFault.TheVariants.{Memory, HostName, CannotWrite}
+
+-- ---- what is made
+
+-- what stands in a tree, under a host's name; attributes are left out
+abbrev pub made_as : List ℕ → Node → Made
+made_as name (File bytes attributes) = FileMade name bytes
+made_as name (Dir attributes) = FolderMade name
+
+-- of a row what it shows on a disk, under the name of a folder with a slash before each name of the row's path
+abbrev pub made_of : Disk → List ℕ → Row → Made
+made_of d dir r = made_as (host_name dir r.path) (shown_node d r.entry)
+
+-- of each row
+abbrev pub all_made : Disk → List ℕ → List Row → List Made
+all_made d dir rows = map (made_of d dir) rows
+
+-- those in front of one of them were made, and no other
+pub record MakesFront (old new : Option (List Made)) (whole : List Made) : Type 0 where
+  pub front : List Made
+  pub next : Made
+  pub rest : List Made
+  pub split : front ++ next ∷ rest ≡ whole
+  pub made : Makes old new front
+
+-- all of them, by what is answered; nothing where a name is refused, and else those in front of one
+abbrev pub Extracts : Option ExtractFault → Option (List Made) → Option (List Made) → List Made → Type 0
+Extracts None old new whole = Makes old new whole
+Extracts (Some HostName) old new whole = new ≡ old
+Extracts (Some Memory) old new whole = MakesFront old new whole
+Extracts (Some CannotWrite) old new whole = MakesFront old new whole
+
+-- ---- names
+
+-- UTF-8 with no byte of zero
+pub record IsHostText (n : Name) : Type 0 where
+  pub text : IsUtf8 n
+  pub no_zero : All (λ b. b ≢ 0) n
+
+-- each name is such a text
+abbrev pub HaveTexts : List Row → Type 0
+HaveTexts rows = All (λ r. IsHostText r.entry.name) rows
+
+-- some name is none
+abbrev pub HasOtherName : List Row → Type 0
+HasOtherName rows = (r : Row) × Contains rows r × ¬ IsHostText r.entry.name
+
+-- each path goes down from the folder: its names are not empty, hold no slash and no byte of zero, aren't `.` or `..`, and are UTF-8
+abbrev pub StayBelow : List Row → Type 0
+StayBelow rows = All (λ r. All IsHostName r.path) rows
+
+-- a name is refused just where one is no host's text
+abbrev pub JudgesNames : Option ExtractFault → List Row → Type 0
+JudgesNames None rows = StayBelow rows
+JudgesNames (Some HostName) rows = HasOtherName rows
+JudgesNames (Some Memory) rows = StayBelow rows
+JudgesNames (Some CannotWrite) rows = StayBelow rows

@@ -1,0 +1,11 @@
+-- The contents of a row's file (own).
+use Rattle.std.specs.Prelude.{ℕ, List, [], length}
+use Rattle.lfs_block.specs.Disk.{Disk}
+use Rattle.lfs_file.specs.Content.{content}
+use Rattle.lfs_fs.specs.Entry.{Body, Inline, Chain, Directory_at}
+
+-- the bytes that a row's file has on a disk; a directory has none
+abbrev pub contents_of : Disk → Body → List ℕ
+contents_of d (Inline bytes) = bytes
+contents_of d (Chain blocks zeros) = content d (length zeros) blocks
+contents_of d (Directory_at pair) = []

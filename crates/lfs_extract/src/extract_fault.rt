@@ -1,0 +1,43 @@
+//! Why the rows of an image do not all become files and folders of a host.
+
+use lfs_host::HostFault;
+use std::alloc::AllocError;
+use thiserror::Error;
+
+/// Why the rows of an image do not all become files and folders of a host.
+///
+/// Source: own.
+#[derive(Clone, Copy, Debug, PartialEq, Eq, Error)]
+pub enum ExtractFault {
+    /// A growth of memory was refused.
+    #[error("Memory")]
+    Memory,
+    /// A name of a row isn't UTF-8, or holds a zero byte.
+    #[error("HostName")]
+    HostName,
+    /// The host refuses to make a folder or a file, or to write to one.
+    #[error("CannotWrite")]
+    CannotWrite,
+}
+
+impl From<AllocError> for ExtractFault {
+    ghost use Rattle.std.specs.Prelude.{◌≡◌};
+    ghost use Rattle.lfs_extract.specs.declared.extract_fault.ExtractFault.TheVariants.{Memory};
+
+    ghost from_gives = { λ error fault. fault ≡ Memory };
+
+    fn from(_error: AllocError) -> ExtractFault {
+        ExtractFault::Memory
+    }
+}
+
+impl From<HostFault> for ExtractFault {
+    ghost use Rattle.std.specs.Prelude.{◌≡◌};
+    ghost use Rattle.lfs_extract.specs.declared.extract_fault.ExtractFault.TheVariants.{CannotWrite};
+
+    ghost from_gives = { λ refused fault. fault ≡ CannotWrite };
+
+    fn from(_refused: HostFault) -> ExtractFault {
+        ExtractFault::CannotWrite
+    }
+}

@@ -1,0 +1,79 @@
+//! A folder of a host, made of rows.
+
+ghost use Rattle.std.specs.Prelude.{◌≡◌, ◌≢◌, All, MatchResult};
+ghost use Rattle.std.specs.Result.{result_err};
+ghost use Rattle.lfs_fs.specs.Listed.{rows_listed};
+ghost use Rattle.lfs_fs.specs.Mounted.{IsMountOf};
+ghost use Rattle.lfs_fs.specs.RowShown.{HasBlocks};
+ghost use Rattle.lfs_host.specs.NewFolder.{Makes};
+ghost use Rattle.lfs_extract.specs.Extracted.{Extracts, HaveTexts, JudgesNames, MakesFront, all_made};
+ghost use Rattle.lfs_extract.specs.TreeMade.{AreOfTree};
+ghost use Rattle.lfs_extract.specs.declared.extract_fault.ExtractFault.TheVariants.{HostName};
+
+use crate::extract_fault::ExtractFault;
+use crate::host_path::{follow, host_name};
+use crate::making::make_row;
+use crate::name_texts::have_host_texts;
+use crate::new_folder::NewFolder;
+use lfs_block::Blocks;
+use lfs_fs::{Mounted, Rows, outlines_are_sound, rows_show_the_tree};
+use std::alloc::Global;
+
+/// Makes what rows show, one after another. The caller owes that their blocks are on the disk, and no more than it has, and that each
+/// name is UTF-8 with no byte of zero.
+fn make_rows<B: Blocks, F: NewFolder>(
+    alloc: Global,
+    disk: &B,
+    rows: Rows<'_>,
+    dir: &str,
+    folder: &mut F,
+) -> Result<(), ExtractFault>
+    requires blocks { All (λ r. HasBlocks (B.disk disk.now) r.entry.body) (rows_listed rows) }
+    requires texts { HaveTexts (rows_listed rows) }
+    ensures made { MatchResult result
+        (λ _. Makes (F.made folder.old) (F.made folder.new) (all_made (B.disk disk.now) dir.now (rows_listed rows.entry)))
+        (λ fault. (fault ≢ HostName)
+        × MakesFront (F.made folder.old) (F.made folder.new) (all_made (B.disk disk.now) dir.now (rows_listed rows.entry))) }
+    ensures kept { F.kept folder.new ≡ F.kept folder.old }
+{
+    let mut path = Vec::new(alloc);
+    for row in rows {
+        follow(&mut path, &row)?;
+        let name = host_name(alloc, dir, &path)?;
+        make_row(disk, &row, name.as_str(), folder)?;
+    }
+    Ok(())
+}
+
+/// Makes a folder of a host out of a mounted image: for each of its rows, in their order, a folder or a file with the row's contents,
+/// without its attributes, under the name `dir` with a slash before each name of the row's path. So the root becomes the folder `dir`,
+/// each folder is made before what is in it, and nothing is made outside `dir`, since no name of an image holds a slash or is `.` or
+/// `..`. The caller owes that `mounted` is the mount of the disk. Contents are written slice by slice, and a name waits at a time.
+///
+/// All names are looked at first: `HostName` where one isn't UTF-8 or holds a zero byte, and nothing is made. `CannotWrite` where the
+/// host refuses to make a folder or a file, or to write to one: then all rows before this one are made, and a file that was begun may
+/// be left with a beginning of its contents. `Memory` says only that a growth was refused, and some of the first rows are made.
+///
+/// Source: own.
+pub fn extract_rows<B: Blocks, F: NewFolder>(
+    alloc: Global,
+    disk: &B,
+    mounted: &Mounted,
+    dir: &str,
+    folder: &mut F,
+) -> Result<(), ExtractFault>
+    requires mounted { IsMountOf (B.disk disk.now) mounted.now }
+    ensures made { Extracts (result_err result) (F.made folder.old) (F.made folder.new)
+        (all_made (B.disk disk.now) dir.now mounted.now.rows) }
+    ensures tree { AreOfTree (B.disk disk.now) dir.now (all_made (B.disk disk.now) dir.now mounted.now.rows) }
+    ensures names { JudgesNames (result_err result) mounted.now.rows }
+    ensures kept { F.kept folder.new ≡ F.kept folder.old }
+{
+    rows_show_the_tree();
+    outlines_are_sound();
+    let _within_limits = disk.size();
+    if !have_host_texts(mounted.rows()) {
+        return Err(ExtractFault::HostName);
+    }
+    make_rows(alloc, disk, mounted.rows(), dir, folder)
+}

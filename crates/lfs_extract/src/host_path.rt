@@ -1,0 +1,46 @@
+//! Paths of rows, and a host's names of them.
+
+ghost use Rattle.std.specs.Prelude.{◌≡◌, IfOk, OnOk, map, string_bytes};
+ghost use Rattle.std.specs.Str.{IsUtf8};
+ghost use Rattle.lfs_fs.specs.Listed.{path_after};
+ghost use Rattle.lfs_folder.specs.PathBelow.{host_name};
+
+use lfs_fs::Row;
+use std::alloc::{AllocError, Global};
+
+/// A name as a text. The caller owes that it is UTF-8.
+fn text_of(name: &[u8]) -> &str
+    requires { IsUtf8 name.now }
+    ensures { result.now ≡ name.now }
+{
+    match std::str::from_utf8(name) {
+        Ok(text) => text,
+        Err(_) => unreachable!(),
+    }
+}
+
+/// Turns the path of a row into that of the next one, whose name is UTF-8.
+pub(crate) fn follow<'a>(path: &mut Vec<&'a str>, next: &Row<'a>) -> Result<(), AllocError>
+    requires { IsUtf8 next.now.entry.name }
+    ensures { OnOk result (map (λ n. n.now) path.new.items
+        ≡ path_after (map (λ n. n.now) path.old.items) next.now.depth next.now.entry.name) }
+{
+    if next.depth == 0 {
+        path.clear();
+        return Ok(());
+    }
+    path.truncate(next.depth - 1);
+    Ok(path.push(text_of(next.name))?)
+}
+
+/// The host's name of a path below a folder.
+pub(crate) fn host_name(alloc: Global, dir: &str, path: &[&str]) -> Result<String, AllocError>
+    ensures { IfOk result (λ name. string_bytes name ≡ host_name dir.now (map (λ n. n.now) path.now)) }
+{
+    let mut name = String::from_str(alloc, dir)?;
+    for part in path {
+        name.push_str("/")?;
+        name.push_str(part)?;
+    }
+    Ok(name)
+}

@@ -1,0 +1,16 @@
+//! A folder of a host, made of the rows of a mounted image.
+#![tactic(auto)]
+
+mod extract_fault;
+mod extracting;
+mod file_sink;
+mod host_path;
+mod making;
+mod name_texts;
+mod new_folder;
+#[cfg(test)]
+mod tests;
+
+pub use extract_fault::ExtractFault;
+pub use extracting::extract_rows;
+pub use new_folder::NewFolder;

@@ -1,0 +1,83 @@
+//! What a host makes of a row.
+
+ghost use Rattle.std.specs.Prelude.{◌≡◌, [], ◌∷◌, false, not, List, ℕ, MatchResult};
+ghost use Rattle.lfs_meta.specs.Attribute.{Attributes};
+ghost use Rattle.lfs_fs.specs.RowHeld.{row_body_held};
+ghost use Rattle.lfs_fs.specs.RowShown.{HasBlocks, shown_node};
+ghost use Rattle.lfs_sink.specs.Send.{Sends};
+ghost use Rattle.lfs_extract.specs.Making.{contents_of};
+ghost use Rattle.lfs_host.specs.NewFolder.{FileMade, Makes};
+ghost use Rattle.lfs_extract.specs.Extracted.{made_as};
+
+use crate::file_sink::FileSink;
+use crate::new_folder::NewFolder;
+use lfs_block::Blocks;
+use lfs_contents::send_blocks;
+use lfs_fs::{Row, RowBody};
+use lfs_host::HostFault;
+use lfs_sink::{Sink, send};
+
+/// Sends the contents of a row, slice by slice: `true` where they went out, `false` where the sink failed after a beginning of them.
+/// The caller owes that the row's blocks are on the disk, and no more than it has, and that the sink has not failed before.
+fn send_contents<B: Blocks, S: Sink>(disk: &B, body: &RowBody<'_>, out: &mut S) -> bool
+    requires blocks { HasBlocks (B.disk disk.now) (row_body_held body.now) }
+    requires works { S.failed out.old ≡ false }
+    ensures sent { Sends result (S.sent out.old) (S.sent out.new) (contents_of (B.disk disk.now) (row_body_held body.now)) }
+    ensures failed { S.failed out.new ≡ not result }
+    ensures kept { S.kept out.new ≡ S.kept out.old }
+{
+    match body {
+        RowBody::Inline(bytes) => send(out, bytes),
+        RowBody::Chain { blocks, size } => send_blocks(disk, blocks, *size, out),
+        RowBody::Dir(..) => true,
+    }
+}
+
+/// Writes the contents of a row to the file that is being made: `true` where they were written.
+fn fill_file<B: Blocks, F: NewFolder>(disk: &B, body: &RowBody<'_>, folder: &mut F) -> bool
+    requires blocks { HasBlocks (B.disk disk.now) (row_body_held body.now) }
+    ensures filled { Sends result (F.filled folder.old) (F.filled folder.new) (contents_of (B.disk disk.now) (row_body_held body.now)) }
+    ensures made { F.made folder.new ≡ F.made folder.old }
+    ensures kept { F.kept folder.new ≡ F.kept folder.old }
+{
+    send_contents(disk, body, &mut FileSink::new(folder))
+}
+
+/// Makes a file of a name with the contents of a row.
+fn make_file<B: Blocks, F: NewFolder>(
+    disk: &B,
+    body: &RowBody<'_>,
+    name: &str,
+    folder: &mut F,
+) -> Result<(), HostFault>
+    requires blocks { HasBlocks (B.disk disk.now) (row_body_held body.now) }
+    ensures made { MatchResult result
+        (λ _. Makes (F.made folder.old) (F.made folder.new) (FileMade name.now (contents_of (B.disk disk.now) (row_body_held body.now)) ∷ []))
+        (λ _. F.made folder.new ≡ F.made folder.old) }
+    ensures kept { F.kept folder.new ≡ F.kept folder.old }
+{
+    folder.begin_file(name)?;
+    if !fill_file(disk, body, folder) {
+        return Err(HostFault);
+    }
+    folder.end_file(name)
+}
+
+/// Makes what a row shows, under a name: a folder, or a file with its contents.
+pub(crate) fn make_row<B: Blocks, F: NewFolder>(
+    disk: &B,
+    row: &Row<'_>,
+    name: &str,
+    folder: &mut F,
+) -> Result<(), HostFault>
+    requires blocks { HasBlocks (B.disk disk.now) row.now.entry.body }
+    ensures made { MatchResult result
+        (λ _. Makes (F.made folder.old) (F.made folder.new) (made_as name.now (shown_node (B.disk disk.now) row.now.entry) ∷ []))
+        (λ _. F.made folder.new ≡ F.made folder.old) }
+    ensures kept { F.kept folder.new ≡ F.kept folder.old }
+{
+    match &row.body {
+        RowBody::Dir(..) => folder.make_folder(name),
+        body => make_file(disk, body, name, folder),
+    }
+}

@@ -1,0 +1,57 @@
+-- How making a folder of an image ends.
+use Rattle.std.proofs.Common.{◌≡◌, ◌⊎◌, ℕ, List, Option, Some, None, refl, sym, subst, inl, inr}
+use Rattle.std.specs.Option.{option_map}
+use Rattle.lfs_block.specs.Disk.{Disk, IsDisk}
+use Rattle.lfs_change.specs.Bytes.{image_of}
+use Rattle.lfs_change.proofs.BytesLemmas.{image_of_disk}
+use Rattle.lfs_change.specs.declared.fault.Fault.{Fault}
+use Rattle.lfs_change.specs.declared.fault.Fault.TheVariants.{Image, HostEntry}
+use Rattle.lfs_extract.specs.declared.extract_fault.ExtractFault.{ExtractFault}
+use Rattle.lfs_extract.specs.declared.extract_fault.ExtractFault.TheVariants.{Memory, HostName, CannotWrite}
+use Rattle.lfs_host.specs.Files.{Files, IsTarget, ReadsFile}
+use Rattle.lfs_host.specs.HostTree.{HostTree}
+use Rattle.lfs_host.specs.NewFolder.{Made}
+use Rattle.lfs_serve.specs.Program.{most_image}
+use Rattle.lfs_serve.proofs.StepLemmas.{reads_target}
+use Rattle.lfs_serve.specs.Extracting.{EndsBytes, EndsExtract, EndsMaking, FindsFolder, IsUnread, MakesRows, StopsMaking, fault_of_extracting}
+
+-- what isn't missing ends it, and nothing is made
+pub there_ends : (d : Disk) (dir : List ℕ) (tree : Option HostTree) (old new : Option (List Made)) (fault : Fault)
+    → IsUnread fault ⊎ ((fault ≡ HostEntry) × FindsFolder dir tree old new) → new ≡ old → StopsMaking d dir tree old new fault
+there_ends d dir tree old new fault (inl (inl is)) same = subst (StopsMaking d dir tree old new) (sym is) same
+there_ends d dir tree old new fault (inl (inr is)) same = subst (StopsMaking d dir tree old new) (sym is) (refl, inl same)
+there_ends d dir tree old new fault (inr (is, finds)) same = subst (StopsMaking d dir tree old new) (sym is) finds
+
+-- rows that were made end it, by what is told
+pub rows_end : (d : Disk) (dir : List ℕ) (tree : Option HostTree) (old new : Option (List Made)) (why : Option ExtractFault)
+    → MakesRows d dir tree old new why → EndsMaking d dir tree old new (option_map fault_of_extracting why)
+rows_end d dir tree old new None makes = makes
+rows_end d dir tree old new (Some Memory) makes = (refl, inr makes)
+rows_end d dir tree old new (Some HostName) makes = makes
+rows_end d dir tree old new (Some CannotWrite) makes = makes
+
+-- what is made of a disk is made of its bytes
+of_disk : (d : Disk) (dir : List ℕ) (tree : Option HostTree) (old new : Option (List Made)) (fault : Option Fault) → IsDisk d
+    → EndsMaking d dir tree old new fault → EndsBytes d.size d.bytes dir tree old new fault
+of_disk d dir tree old new (Some (Image fault)) is ends = absurd ends
+of_disk d dir tree old new fault is ends =
+    let same = sym (image_of_disk d is) in
+    (subst (λ (e : Disk). IsDisk e) same is, subst (λ (e : Disk). EndsMaking e dir tree old new fault) same ends)
+
+pub bytes_end : (size : ℕ) (bytes : List ℕ) (d : Disk) (dir : List ℕ) (tree : Option HostTree) (old new : Option (List Made))
+    (ended fault : Option Fault) → IsDisk d → d.size ≡ size → d.bytes ≡ bytes → ended ≡ fault → EndsMaking d dir tree old new fault
+    → EndsBytes size bytes dir tree old new ended
+bytes_end size bytes d dir tree old new ended fault is size_is bytes_are told ends =
+    let at = of_disk d dir tree old new fault is ends in
+    let by_size = subst (λ (n : ℕ). EndsBytes n d.bytes dir tree old new fault) size_is at in
+    let by_bytes = subst (λ (bs : List ℕ). EndsBytes size bs dir tree old new fault) bytes_are by_size in
+    subst (EndsBytes size bytes dir tree old new) (sym told) by_bytes
+
+-- what is made of the bytes of the file that a name leads to
+pub file_ends : (size : ℕ) (name target dir bytes : List ℕ) (files : Option Files) (tree seen : Option HostTree)
+    (old made new : Option (List Made)) (ended : Option Fault) → IsTarget files name target → ReadsFile files target most_image bytes
+    → seen ≡ tree → made ≡ old → EndsBytes size bytes dir seen made new ended → EndsExtract size name dir files tree old new ended
+file_ends size name target dir bytes files tree seen old made new ended leads reads tree_is made_is ends =
+    let by_tree = subst (λ (t : Option HostTree). EndsBytes size bytes dir t made new ended) tree_is ends in
+    let by_made = subst (λ (before : Option (List Made)). EndsBytes size bytes dir tree before new ended) made_is by_tree in
+    inr (bytes, reads_target files name target bytes most_image leads reads, by_made)

@@ -1,0 +1,22 @@
+use Rattle.std.proofs.Common.{rules, ◌≡◌, Option, Some, None}
+use Rattle.std.specs.Result.{result_err}
+use Rattle.lfs_change.specs.declared.fault.Fault.{Fault}
+use Rattle.lfs_serve.specs.Program.{stopped_by}
+use Rattle.lfs_serve.proofs.ExtractingLemmas.{bytes_end}
+use Rattle.lfs_serve.proofs.extracting.extract_bytes.Goals as goal
+
+pub returns-in-Ok-extract_image-clause-made : goal.returns-in-Ok-extract_image-clause-made
+returns-in-Ok-extract_image-clause-made g c =
+    let fault : Option Fault = result_err c.extract_image.result in
+    let told : None ≡ fault = search rules in
+    bytes_end c.args.size c.args.bytes.items c.in-Ok.image c.args.dir.now (g.H.Host.tree c.args.host.now) (g.H.Host.made c.args.host.now)
+    (g.H.Host.made c.extract_image.new.host) None fault c.in-Ok.ensures.disk c.in-Ok.ensures.size c.in-Ok.ensures.bytes told
+    c.extract_image.ensures.made
+
+pub returns-in-Err-extract_image-clause-made : goal.returns-in-Err-extract_image-clause-made
+returns-in-Err-extract_image-clause-made g c =
+    let fault : Option Fault = result_err c.extract_image.result in
+    let told : Some c.in-Err-extract_image.fault ≡ fault = search rules in
+    bytes_end c.args.size c.args.bytes.items c.in-Ok.image c.args.dir.now (g.H.Host.tree c.args.host.now) (g.H.Host.made c.args.host.now)
+    (g.H.Host.made c.extract_image.new.host) (Some c.in-Err-extract_image.fault) fault c.in-Ok.ensures.disk c.in-Ok.ensures.size
+    c.in-Ok.ensures.bytes told c.extract_image.ensures.made

@@ -1,0 +1,92 @@
+-- What is made of an image in a new folder of the host (own).
+use Rattle.std.specs.Prelude.{◌≡◌, ◌⊎◌, ◌%◌, ℕ, Bool, true, false, List, Option, Some, None}
+use Rattle.lfs_block.specs.Disk.{Disk, IsDisk}
+use Rattle.lfs_block.specs.ImageFault.{IsNoImage}
+use Rattle.lfs_fs.specs.Cause.{HasCause}
+use Rattle.lfs_fs.specs.Mounted.{MountedValue, IsMountOf}
+use Rattle.lfs_change.specs.Bytes.{image_of}
+use Rattle.lfs_change.specs.Fault.{status_of}
+use Rattle.lfs_command.specs.declared.refusal.Refusal.TheVariants as refusal
+use Rattle.lfs_change.specs.declared.fault.Fault.{Fault}
+use Rattle.lfs_change.specs.declared.fault.Fault.TheVariants.{Image, Mount, Refused, CannotRead, CannotWrite, HostEntry, HostName}
+use Rattle.lfs_extract.specs.Extracted.{Extracts, JudgesNames, all_made}
+use Rattle.lfs_extract.specs.declared.extract_fault.ExtractFault.{ExtractFault}
+use Rattle.lfs_extract.specs.declared.extract_fault.ExtractFault.TheVariants as extracting
+use Rattle.lfs_host.specs.Files.{Files, ReadsFile}
+use Rattle.lfs_host.specs.HostTree.{HostTree, IsKind}
+use Rattle.lfs_host.specs.NewFolder.{Made}
+use Rattle.lfs_host.specs.declared.host_kind.HostKind.{HostKind}
+use Rattle.lfs_host.specs.declared.host_kind.HostKind.TheVariants.{Missing}
+use Rattle.lfs_request.specs.declared.extraction.Extraction.{Extraction}
+use Rattle.lfs_serve.specs.Program.{grain, most_image, usage}
+
+-- ---- a mounted image
+
+-- what a fault of making the folder is told as
+abbrev pub fault_of_extracting : ExtractFault → Fault
+fault_of_extracting extracting.Memory = Refused refusal.Memory
+fault_of_extracting extracting.HostName = HostName
+fault_of_extracting extracting.CannotWrite = CannotWrite
+
+-- nothing is there under the folder's name, the rows of the image's mount are made in it, as far as is answered, and of their
+-- names it is judged which a host can have
+pub record MakesRows (d : Disk) (dir : List ℕ) (tree : Option HostTree) (old new : Option (List Made)) (why : Option ExtractFault)
+    : Type 0 where
+  pub mounted : MountedValue
+  pub mount : IsMountOf d mounted
+  pub missing : IsKind tree dir Missing
+  pub made : Extracts why old new (all_made d dir mounted.rows)
+  pub names : JudgesNames why mounted.rows
+
+-- nothing is there
+abbrev pub is_missing : HostKind → Bool
+is_missing Missing = true
+is_missing _ = false
+
+-- something is there under the folder's name, and nothing is made
+pub record FindsFolder (dir : List ℕ) (tree : Option HostTree) (old new : Option (List Made)) : Type 0 where
+  pub kind : HostKind
+  pub there : is_missing kind ≡ false
+  pub is : IsKind tree dir kind
+  pub made : new ≡ old
+
+-- why nothing, or not all, is made of an image
+abbrev pub StopsMaking : Disk → List ℕ → Option HostTree → Option (List Made) → Option (List Made) → Fault → Type 0
+StopsMaking d dir tree old new (Mount fault) = HasCause d fault × (new ≡ old)
+StopsMaking d dir tree old new HostEntry = FindsFolder dir tree old new
+StopsMaking d dir tree old new HostName = MakesRows d dir tree old new (Some extracting.HostName)
+StopsMaking d dir tree old new CannotWrite = MakesRows d dir tree old new (Some extracting.CannotWrite)
+StopsMaking d dir tree old new CannotRead = new ≡ old
+StopsMaking d dir tree old new (Refused r) =
+    (r ≡ refusal.Memory) × ((new ≡ old) ⊎ MakesRows d dir tree old new (Some extracting.Memory))
+StopsMaking d dir tree old new _ = ⊥
+
+-- what is made of an image, by the fault that it ends with
+abbrev pub EndsMaking : Disk → List ℕ → Option HostTree → Option (List Made) → Option (List Made) → Option Fault → Type 0
+EndsMaking d dir tree old new None = MakesRows d dir tree old new None
+EndsMaking d dir tree old new (Some fault) = StopsMaking d dir tree old new fault
+
+-- ---- bytes
+
+-- why nothing, or not all, is made of bytes: they are no image, or as of an image
+abbrev pub EndsBytes : ℕ → List ℕ → List ℕ → Option HostTree → Option (List Made) → Option (List Made) → Option Fault → Type 0
+EndsBytes size bytes dir tree old new (Some (Image fault)) = IsNoImage fault size bytes × (new ≡ old)
+EndsBytes size bytes dir tree old new fault = IsDisk (image_of size bytes) × EndsMaking (image_of size bytes) dir tree old new fault
+
+-- ---- an image's file
+
+-- the host refuses to read, or memory was wanting
+abbrev pub IsUnread : Fault → Type 0
+IsUnread fault = (fault ≡ CannotRead) ⊎ (fault ≡ Refused refusal.Memory)
+
+-- what is made of an image's file: nothing where the host refuses to read it, or memory was wanting, and else as of its bytes
+abbrev pub EndsExtract : ℕ → List ℕ → List ℕ → Option Files → Option HostTree → Option (List Made) → Option (List Made) → Option Fault → Type 0
+EndsExtract size name dir files tree old new fault =
+    ((new ≡ old) × ((why : Fault) × (fault ≡ Some why) × IsUnread why))
+    ⊎ ((bytes : List ℕ) × ReadsFile files name most_image bytes × EndsBytes size bytes dir tree old new fault)
+
+-- what is made for a request, by its status: nothing where the block size is none of images
+abbrev pub EndsExtraction : Extraction → Option Files → Option HostTree → Option (List Made) → Option (List Made) → ℕ → Type 0
+EndsExtraction e files tree old new status =
+    (¬ (e.size % grain ≡ 0) × (status ≡ usage) × (new ≡ old))
+    ⊎ ((fault : Option Fault) × EndsExtract e.size e.image.now e.dir.now files tree old new fault × (status ≡ status_of fault))

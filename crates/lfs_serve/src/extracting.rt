@@ -1,0 +1,155 @@
+//! What is made of an image in a new folder of the host.
+
+ghost use Rattle.std.specs.Prelude.{◌≡◌, ◌⊎◌, IfErr, OnOk};
+ghost use Rattle.std.specs.Option.{option_map};
+ghost use Rattle.std.specs.Result.{result_err};
+ghost use Rattle.lfs_change.specs.declared.fault.Fault.TheVariants.{HostEntry};
+ghost use Rattle.lfs_host.specs.HostTree.{IsKind};
+ghost use Rattle.lfs_host.specs.declared.host_kind.HostKind.TheVariants.{Missing};
+ghost use Rattle.lfs_extract.specs.Extracted.{Extracts, JudgesNames, all_made};
+ghost use Rattle.lfs_fs.specs.Mounted.{IsMountOf};
+ghost use Rattle.lfs_serve.specs.Extracting.{EndsBytes, EndsExtract, EndsExtraction, EndsMaking, FindsFolder, IsUnread, fault_of_extracting};
+ghost use Rattle.lfs_serve.specs.Program.{stopped_by};
+
+use crate::host_maker::HostMaker;
+use crate::serving::{GRAIN, refuse_size, stated_for, tell_of};
+use crate::stop::Stop;
+use lfs_block::{Image, MAX_IMAGE_LENGTH};
+use lfs_edit::Refusal;
+use lfs_extract::{ExtractFault, extract_rows};
+use lfs_fs::{Mounted, mount};
+use lfs_host::{Host, HostKind, ReadFault};
+use lfs_request::Extraction;
+use lfs_step::Fault;
+use std::alloc::Global;
+
+/// Makes a folder of the host out of an image, and answers the status that the program ends with. A fault is told on standard
+/// error, with what is known of it beside. Takes memory.
+///
+/// Source: own.
+pub fn extracted<H: Host>(alloc: Global, host: &mut H, extraction: &Extraction<'_>) -> u8
+    ensures made { EndsExtraction extraction.now (H.files host.old) (H.tree host.old) (H.made host.old) (H.made host.new) result }
+    ensures kept { (H.files host.new ≡ H.files host.old) × (H.typed host.new ≡ H.typed host.old) × (H.printed host.new ≡ H.printed host.old) }
+{
+    if extraction.size % GRAIN != 0 {
+        return refuse_size(host, extraction.size);
+    }
+    match extract_file(alloc, host, extraction) {
+        Ok(()) => 0,
+        Err(stop) => tell_of(host, extraction.image, &stop),
+    }
+}
+
+/// Makes a folder out of an image's file.
+fn extract_file<H: Host>(
+    alloc: Global,
+    host: &mut H,
+    extraction: &Extraction<'_>,
+) -> Result<(), Stop>
+    ensures made { EndsExtract extraction.now.size extraction.now.image.now extraction.now.dir.now (H.files host.old) (H.tree host.old)
+        (H.made host.old) (H.made host.new) (stopped_by result) }
+    ensures kept { (H.files host.new ≡ H.files host.old) × (H.typed host.new ≡ H.typed host.old) × (H.printed host.new ≡ H.printed host.old) }
+{
+    let target = match host.target(alloc, extraction.image) {
+        Ok(target) => target,
+        Err(fault) => return Err(Stop::from(fault_of_reading(fault))),
+    };
+    match host.read(alloc, target.as_str(), MAX_IMAGE_LENGTH) {
+        Ok(bytes) => extract_bytes(alloc, host, extraction.size, bytes, extraction.dir),
+        Err(fault) => Err(Stop::from(fault_of_reading(fault))),
+    }
+}
+
+/// Makes a folder out of bytes that are an image.
+fn extract_bytes<H: Host>(
+    alloc: Global,
+    host: &mut H,
+    size: u32,
+    bytes: Vec<u8>,
+    dir: &str,
+) -> Result<(), Stop>
+    ensures made { EndsBytes size bytes.items dir.now (H.tree host.old) (H.made host.old) (H.made host.new) (stopped_by result) }
+    ensures kept { (H.files host.new ≡ H.files host.old) × (H.typed host.new ≡ H.typed host.old) × (H.printed host.new ≡ H.printed host.old) }
+{
+    let image = match Image::new(bytes, size) {
+        Ok(image) => image,
+        Err((fault, _)) => return Err(Stop::from(Fault::Image(fault))),
+    };
+    match extract_image(alloc, host, &image, dir) {
+        Ok(()) => Ok(()),
+        Err(fault) => Err(Stop {
+            fault,
+            stated: stated_for(fault, &image.into_bytes()),
+        }),
+    }
+}
+
+/// Makes a folder out of an image.
+fn extract_image<H: Host>(
+    alloc: Global,
+    host: &mut H,
+    image: &Image,
+    dir: &str,
+) -> Result<(), Fault>
+    ensures made { EndsMaking image.now dir.now (H.tree host.old) (H.made host.old) (H.made host.new) (result_err result) }
+    ensures kept { (H.files host.new ≡ H.files host.old) × (H.typed host.new ≡ H.typed host.old) × (H.printed host.new ≡ H.printed host.old) }
+{
+    let mounted = mount(alloc, image)?;
+    must_be_missing(host, dir)?;
+    told(make_rows(alloc, host, image, &mounted, dir))
+}
+
+/// Makes what the rows of a mounted image show on a host.
+fn make_rows<H: Host>(
+    alloc: Global,
+    host: &mut H,
+    image: &Image,
+    mounted: &Mounted,
+    dir: &str,
+) -> Result<(), ExtractFault>
+    requires { IsMountOf image.now mounted.now }
+    ensures made { Extracts (result_err result) (H.made host.old) (H.made host.new) (all_made image.now dir.now mounted.now.rows) }
+    ensures names { JudgesNames (result_err result) mounted.now.rows }
+    ensures kept { (H.files host.new ≡ H.files host.old) × (H.typed host.new ≡ H.typed host.old) × (H.printed host.new ≡ H.printed host.old) }
+{
+    extract_rows(alloc, image, mounted, dir, &mut HostMaker::new(host))
+}
+
+/// What a fault of making a folder is told as, where there is one.
+fn told(made: Result<(), ExtractFault>) -> Result<(), Fault>
+    ensures { result_err result ≡ option_map fault_of_extracting (result_err made) }
+{
+    match made {
+        Ok(()) => Ok(()),
+        Err(ExtractFault::Memory) => Err(Fault::Refused(Refusal::Memory)),
+        Err(ExtractFault::HostName) => Err(Fault::HostName),
+        Err(ExtractFault::CannotWrite) => Err(Fault::CannotWrite),
+    }
+}
+
+/// Refuses a folder under whose name there is something already.
+fn must_be_missing<H: Host>(host: &mut H, dir: &str) -> Result<(), Fault>
+    ensures missing { OnOk result (IsKind (H.tree host.old) dir.now Missing) }
+    ensures refused { IfErr result (λ fault. IsUnread fault ⊎ ((fault ≡ HostEntry) × FindsFolder dir.now (H.tree host.old) (H.made host.old) (H.made host.new))) }
+    ensures seen { H.tree host.new ≡ H.tree host.old }
+    ensures making { H.made host.new ≡ H.made host.old }
+    ensures kept { (H.files host.new ≡ H.files host.old) × (H.typed host.new ≡ H.typed host.old) × (H.printed host.new ≡ H.printed host.old) }
+{
+    match host.kind(dir) {
+        Ok(HostKind::Missing) => Ok(()),
+        Ok(HostKind::File) => Err(Fault::HostEntry),
+        Ok(HostKind::Folder) => Err(Fault::HostEntry),
+        Ok(HostKind::Other) => Err(Fault::HostEntry),
+        Err(fault) => Err(fault_of_reading(fault)),
+    }
+}
+
+/// What is told where the host doesn't read.
+fn fault_of_reading(fault: ReadFault) -> Fault
+    ensures { IsUnread result }
+{
+    match fault {
+        ReadFault::Memory => Fault::Refused(Refusal::Memory),
+        ReadFault::CannotRead => Fault::CannotRead,
+    }
+}

@@ -1,0 +1,128 @@
+#!/usr/bin/env python3
+"""Makes folders of images, packed ones among them, and compares them with what the images hold."""
+import pathlib
+import random
+import sys
+import tempfile
+
+from support.folder import contents, run_scenes
+from support.logs import directory, file, image, log, superblock, tail, SOFT
+from support.refusing import Refusing
+
+
+def holds(place):
+    """What a folder holds: its paths, with the bytes of files."""
+    return {path.relative_to(place): path.read_bytes() if path.is_file() else None for path in place.rglob("*")}
+
+
+def is_extracted(folder, what, size, wanted):
+    """Makes a folder of the image, and compares it; image and journal stay as they were."""
+    before, place = (folder.old(), folder.saved()), folder.image.with_name("made")
+    ended = folder.run(f"extract -b {size} a.img made")
+    folder.check(what, ended == (0, "", b""), ended)
+    found = holds(place)
+    folder.check(f"{what}: contents", found == wanted, [*found][:9])
+    folder.check(f"{what}: image", (folder.old(), folder.saved()) == before)
+    again = folder.run(f"extract -b {size} a.img made")
+    folder.check(f"{what}: again", again == (4, "lfsed: 62 HostEntry\n", b"") and holds(place) == found, again)
+
+
+def is_refused(folder, what, status, complaint, words="extract -b 512 a.img made", **how):
+    """Makes no folder; answers what was made all the same."""
+    ended = folder.run(words, **how)
+    folder.check(what, ended == (status, complaint, b""), ended)
+    place = folder.image.with_name("made")
+    folder.check(f"{what}: nothing is made", not place.exists())
+
+
+def worked_folder(folder):
+    for words, length in ("format --count 8", 0), ("mkdir", 0), ("put", 65), ("setattr", 0):
+        command, *more = words.split(" ")
+        path = {"mkdir": ["/d"], "put": ["/d/f"], "setattr": ["/d/f", "74", "01"]}.get(command, [])
+        ended = folder.run(" ".join([command, "-b 512", *more, "a.img", *path]), length)
+        folder.check(words, ended == (0, "", b""), ended)
+    is_extracted(folder, "a file in a folder", 512, {pathlib.Path("d"): None, pathlib.Path("d/f"): contents(65)})
+
+
+def what_is_refused(folder):
+    is_refused(folder, "no image", 4, "lfsed: 60 CannotRead\nlfsed: a.img: No such file or directory (os error 2)\n")
+    folder.be(b"", 4_095)
+    is_refused(folder, "another length", 3, "lfsed: 1 ImageLength\n")
+    folder.be(b"", 4_096)
+    is_refused(folder, "no superblock", 3, "lfsed: 3 NoValidCommit\n")
+    for name in b"\xff", b"a\0b":
+        folder.be(image(512, 8, {0: log(1, superblock(512, 8) + file(1, b"A", b"first") + file(2, name))}), 0)
+        is_refused(folder, f"the name {name}", 4, "lfsed: 63 HostName\n")
+    folder.run("format -b 512 --count 8 a.img")
+    is_refused(folder, "another geometry", 3, "lfsed: 11 Geometry\nlfsed: a.img: its superblock states 8 blocks of 512 bytes\n",
+               "extract -b 256 a.img made")
+    is_refused(folder, "no folder above", 4, "lfsed: 61 CannotWrite\nlfsed: none/made: No such file or directory (os error 2)\n",
+               "extract -b 512 a.img none/made")
+    for there in "file", "folder", "link":
+        place = folder.image.with_name(there)
+        if there == "file":
+            place.write_bytes(b"kept")
+        elif there == "folder":
+            place.mkdir()
+        else:
+            place.symlink_to("missing")
+        second = "lfsed: link: neither a regular file nor a folder\n" if there == "link" else ""
+        is_refused(folder, f"a {there}", 4, f"lfsed: 62 HostEntry\n{second}", f"extract -b 512 a.img {there}")
+    folder.check("the file is kept", folder.image.with_name("file").read_bytes() == b"kept")
+
+
+def what_is_not_written(folder):
+    """Each call by which a folder is made is refused in turn: what was made is a beginning of the whole."""
+    source = folder.image.with_name("src")
+    (source / "d").mkdir(parents=True)
+    (source / "d/f").write_bytes(contents(1_000))
+    (source / "e").write_bytes(b"small")
+    folder.run("pack -b 512 --count 16 a.img src")
+    with tempfile.TemporaryDirectory() as library:
+        refusing = Refusing(pathlib.Path(library))
+        for call in "open", "write", "statx", "read":
+            for at in range(1, 60):
+                name = f"{call}{at}"
+                ended = folder.run(f"extract -b 512 a.img {name}", env=refusing.env(at, call))
+                if not refusing.was_hit():
+                    break
+                is_told = ended[0] == 4 and ended[1].startswith(("lfsed: 60 CannotRead\n", "lfsed: 61 CannotWrite\n"))
+                folder.check(f"{call} {at}", is_told or ended[0] == 0, ended)
+                place = folder.image.with_name(name)
+                found = holds(place) if place.exists() else {}
+                whole = holds(source)
+                is_front = all(bytes_ is None or whole[path].startswith(bytes_) for path, bytes_ in found.items())
+                folder.check(f"{call} {at}: a beginning", set(found) <= set(whole) and is_front, found)
+                folder.check(f"{call} {at}: done", ended[0] != 0 or found == whole, found)
+
+
+def nested(folder):
+    """Folders in each other, and a file in the deepest."""
+    count, size = 60, 512
+    blocks = {0: log(1, superblock(size, 2 * count + 2) + directory(1, b"d", (2, 3)) + tail(SOFT, (2, 3)))}
+    for n in range(1, count):
+        pair = 2 * n + 2, 2 * n + 3
+        blocks[2 * n] = log(1, directory(0, b"d", pair) + tail(SOFT, pair))
+    blocks[2 * count] = log(1, file(0, b"f", b"deep"))
+    folder.be(image(size, 2 * count + 2, blocks), 0)
+    wanted = {pathlib.Path(*["d"] * n): None for n in range(1, count + 1)}
+    is_extracted(folder, "nested folders", size, {**wanted, pathlib.Path(*["d"] * count, "f"): b"deep"})
+
+
+def many_files(folder):
+    """5,000 files of mixed sizes in 300 folders, packed and extracted."""
+    chance, place = random.Random(5), folder.image.with_name("src")
+    places = [place]
+    place.mkdir()
+    for n in range(299):
+        places.append(chance.choice(places[-40:]) / f"folder{n}")
+        places[-1].mkdir()
+    for n in range(5_000):
+        size = chance.choice([0, 1, 60, 511, 512, 513, 3_000, chance.randrange(40_000)])
+        (chance.choice(places) / f"{chance.choice('abc')}{n}").write_bytes(chance.randbytes(size))
+    folder.check("pack", folder.run("pack --count 16384 a.img src") == (0, "", b""))
+    is_extracted(folder, "many files", 4_096, holds(place))
+
+
+if __name__ == "__main__":
+    sys.exit(run_scenes([worked_folder, what_is_refused, what_is_not_written, nested, many_files]))
