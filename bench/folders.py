@@ -1,6 +1,7 @@
 #!/usr/bin/env python3
-"""Measures the packing of folders by the program: one of 5,000 files of 40 MiB in 300 folders beside `cp -r` of the folder and `cp`
-of the image, and empty files and folders in one folder, in rising numbers. Of each the least processor time of five runs."""
+"""Measures the packing and the making of folders by the program: one of 5,000 files of 40 MiB in 300 folders beside `cp -r` of the
+folder and `cp` of the image, and empty files and folders in one folder, in rising numbers. Of the first the least processor time of
+five runs."""
 import os
 import pathlib
 import random
@@ -57,6 +58,13 @@ def mixed(room):
         subprocess.run(["rm", "-rf", copied], check=True)
         copies.append(measure(["cp", "-r", folder, copied], ["cp", image, room / "copy.img"])[0])
     print(f"mixed: pack {spent:.2f} s, copies {min(copies):.2f} s, {spent / min(copies):.1f} times, {peak:.0f} MiB")
+    made = []
+    for _ in range(ROUNDS):
+        subprocess.run(["rm", "-rf", room / "made", copied], check=True)
+        extracted = measure([PROGRAM, "extract", image, room / "made"])
+        made.append((extracted[0], measure(["cp", "-r", folder, copied])[0], extracted[1]))
+    spent, copy, peak = min(made)[0], min(row[1] for row in made), made[0][2]
+    print(f"mixed: extract {spent:.2f} s, copy {copy:.2f} s, {spent / copy:.1f} times, {peak:.0f} MiB")
     judged, _ = least([PROGRAM, "check", image])
     listed, _ = least([PROGRAM, "ls", image])
     print(f"mixed: check {judged:.3f} s, ls {listed:.3f} s, {listed / judged:.2f} times")
