@@ -1,11 +1,10 @@
 #!/usr/bin/env python3
 """Makes folders of images, packed ones among them, and compares them with what the images hold."""
 import pathlib
-import random
 import sys
 import tempfile
 
-from support.folder import contents, run_scenes
+from support.folder import contents, fill, run_scenes
 from support.logs import directory, file, image, log, superblock, tail, SOFT
 from support.refusing import Refusing
 
@@ -111,15 +110,8 @@ def nested(folder):
 
 def many_files(folder):
     """5,000 files of mixed sizes in 300 folders, packed and extracted."""
-    chance, place = random.Random(5), folder.image.with_name("src")
-    places = [place]
-    place.mkdir()
-    for n in range(299):
-        places.append(chance.choice(places[-40:]) / f"folder{n}")
-        places[-1].mkdir()
-    for n in range(5_000):
-        size = chance.choice([0, 1, 60, 511, 512, 513, 3_000, chance.randrange(40_000)])
-        (chance.choice(places) / f"{chance.choice('abc')}{n}").write_bytes(chance.randbytes(size))
+    place = folder.image.with_name("src")
+    fill(place)
     folder.check("pack", folder.run("pack --count 16384 a.img src") == (0, "", b""))
     is_extracted(folder, "many files", 4_096, holds(place))
 

@@ -3,13 +3,12 @@
 contents that a reader apart from the program finds in the image."""
 import os
 import pathlib
-import random
 import socket
 import struct
 import sys
 import tempfile
 
-from support.folder import contents, run_scenes
+from support.folder import contents, fill, run_scenes
 from support.littlefs import IN_BLOCKS, ROOT, DIRECTORY, Reader
 from support.refusing import Refusing
 
@@ -185,15 +184,7 @@ def what_is_not_read(folder):
 
 def many_files(folder):
     """5,000 files of mixed sizes in 300 folders, packed twice."""
-    chance, place = random.Random(5), source(folder)
-    places = [place]
-    place.mkdir()
-    for n in range(299):
-        places.append(chance.choice(places[-40:]) / f"folder{n}")
-        places[-1].mkdir()
-    for n in range(5_000):
-        size = chance.choice([0, 1, 60, 511, 512, 513, 3_000, chance.randrange(40_000)])
-        (chance.choice(places) / f"{chance.choice('abc')}{n}").write_bytes(chance.randbytes(size))
+    fill(source(folder))
     is_packed(folder, "many files", 4_096, 16_384)
     first = folder.old()
     folder.check("packed twice", folder.run("pack --count 16384 a.img src") == (0, "", b"") and folder.old() == first)

@@ -1,5 +1,6 @@
 """A folder in which the program is run, and counts of what was right and wrong."""
 import pathlib
+import random
 import subprocess
 import tempfile
 
@@ -10,6 +11,18 @@ PROGRAM = HOME / "crates/lfsed/out/lfsed"
 def contents(length):
     """The contents of a file, as they come from standard input."""
     return bytes(n % 251 for n in range(length))
+
+
+def fill(place):
+    """Makes a folder of 5,000 files of mixed sizes in 300 folders, always the same."""
+    chance, places = random.Random(5), [place]
+    place.mkdir()
+    for n in range(299):
+        places.append(chance.choice(places[-40:]) / f"folder{n}")
+        places[-1].mkdir()
+    for n in range(5_000):
+        size = chance.choice([0, 1, 60, 511, 512, 513, 3_000, chance.randrange(40_000)])
+        (chance.choice(places) / f"{chance.choice('abc')}{n}").write_bytes(chance.randbytes(size))
 
 
 class Folder:
