@@ -1,0 +1,5 @@
+pub mod Ending
+pub mod EndEdits
+pub mod EndCuts
+pub mod Way
+pub mod WayLaws

@@ -1,0 +1,8 @@
+//! Laws of volumes that grow at the end of a directory.
+#![tactic(auto)]
+
+mod laws;
+mod way_laws;
+
+pub use laws::{commands_edit_at_the_end, parts_grow_at_their_end};
+pub use way_laws::{ends_are_judged, next_names_come_last, ways_lead_to_ends};
