@@ -4,3 +4,6 @@ pub mod Leading
 pub mod Packing
 pub mod Laws
 pub mod PackingLaws
+pub mod Growing
+pub mod AtTheEnd
+pub mod EndLaws
