@@ -6,6 +6,7 @@ mod explanations;
 mod files;
 mod folders;
 mod terminal;
+mod waiting;
 
 use crate::cli::cli as run_words;
 use crate::terminal::Terminal;

@@ -2,13 +2,14 @@
 
 use crate::files::{kept, name_anew, opened, opened_entry, replace, settle, written};
 use crate::folders::{is_other, kind_of, names_in};
+use crate::waiting::{write_later, write_rest};
 use lfs_block::MAX_IMAGE_LENGTH;
 use lfs_host::{Host, HostFault, HostKind, Keeping, ListFault, ReadFault};
 use lfs_sink::{Out, Sink};
 use std::alloc::{AllocError, Global};
 use std::fmt::Display;
 use std::fs::{self, File};
-use std::io::{self, ErrorKind, Printer, Read, Write};
+use std::io::{self, ErrorKind, Printer, Read};
 
 /// What the system refused.
 #[derive(Clone, Copy)]
@@ -40,6 +41,8 @@ pub struct Terminal<'a> {
     new_file: Option<File>,
     /// The file that is being made in a new folder.
     making: Option<File>,
+    /// What waits to be written to it.
+    waiting: Vec<u8>,
     /// What the system said when it refused something last.
     said: Option<io::Error>,
     /// What that was about.
@@ -57,6 +60,7 @@ impl<'a> Terminal<'a> {
             image: None,
             new_file: None,
             making: None,
+            waiting: Vec::new(rt.alloc()),
             said: None,
             subject: Subject::Image,
             entry: String::new(rt.alloc()),
@@ -279,6 +283,7 @@ impl Host for Terminal<'_> {
         match File::create_new(self.rt, name) {
             Ok(file) => {
                 self.making = Some(file);
+                self.waiting.clear();
                 Ok(())
             }
             Err(error) => Err(self.refused_entry(name, error)),
@@ -289,7 +294,7 @@ impl Host for Terminal<'_> {
         let Some(file) = &mut self.making else {
             return None;
         };
-        match file.write_all(bytes) {
+        match write_later(bytes, &mut self.waiting, file) {
             Ok(()) => Some(bytes.len()),
             Err(error) => {
                 self.subject = Subject::Making;
@@ -299,9 +304,11 @@ impl Host for Terminal<'_> {
         }
     }
 
-    fn end_file(&mut self, _name: &str) -> Result<(), HostFault> {
-        self.making = None;
-        Ok(())
+    fn end_file(&mut self, name: &str) -> Result<(), HostFault> {
+        let Some(mut file) = self.making.take() else {
+            return Err(HostFault);
+        };
+        write_rest(&mut self.waiting, &mut file).map_err(|error| self.refused_entry(name, error))
     }
 
     fn print(&mut self, bytes: &[u8]) -> Option<usize> {
