@@ -1,7 +1,8 @@
 #!/usr/bin/env python3
 """Measures the packing and the making of folders by the program: one of 5,000 files of 40 MiB in 300 folders beside `cp -r` of the
 folder and `cp` of the image, and empty files and folders in one folder, in rising numbers. Of the first the least processor time of
-five runs."""
+five runs, each into a folder of its own: where another one was taken away just before, file systems look for places that are free
+again, which costs more than the copy."""
 import os
 import pathlib
 import random
@@ -50,19 +51,17 @@ def fill(place):
 
 def mixed(room):
     """A folder of mixed files beside the copies."""
-    folder, image, copied = room / "mixed", room / "mixed.img", room / "copied"
+    folder, image = room / "mixed", room / "mixed.img"
     fill(folder)
     spent, peak = least(pack(image, folder, 4_096, 16_384))
     copies = []
-    for _ in range(ROUNDS):
-        subprocess.run(["rm", "-rf", copied], check=True)
-        copies.append(measure(["cp", "-r", folder, copied], ["cp", image, room / "copy.img"])[0])
+    for n in range(ROUNDS):
+        copies.append(measure(["cp", "-r", folder, room / f"copied{n}"], ["cp", image, room / "copy.img"])[0])
     print(f"mixed: pack {spent:.2f} s, copies {min(copies):.2f} s, {spent / min(copies):.1f} times, {peak:.0f} MiB")
     made = []
-    for _ in range(ROUNDS):
-        subprocess.run(["rm", "-rf", room / "made", copied], check=True)
-        extracted = measure([PROGRAM, "extract", image, room / "made"])
-        made.append((extracted[0], measure(["cp", "-r", folder, copied])[0], extracted[1]))
+    for n in range(ROUNDS):
+        extracted = measure([PROGRAM, "extract", image, room / f"made{n}"])
+        made.append((extracted[0], measure(["cp", "-r", folder, room / f"again{n}"])[0], extracted[1]))
     spent, copy, peak = min(made)[0], min(row[1] for row in made), made[0][2]
     print(f"mixed: extract {spent:.2f} s, copy {copy:.2f} s, {spent / copy:.1f} times, {peak:.0f} MiB")
     judged, _ = least([PROGRAM, "check", image])

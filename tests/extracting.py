@@ -108,6 +108,17 @@ def nested(folder):
     is_extracted(folder, "nested folders", size, {**wanted, pathlib.Path(*["d"] * count, "f"): b"deep"})
 
 
+def large_files(folder):
+    """Files about as long as what is written at once, and longer ones."""
+    source = folder.image.with_name("src")
+    source.mkdir()
+    for length in 65_535, 65_536, 65_537, 131_071, 131_072, 131_073, 200_000, 1_000_003:
+        source.joinpath(f"file{length}").write_bytes(contents(length))
+    ended = folder.run("pack -b 512 --count 8192 a.img src")
+    folder.check("large files: packed", ended == (0, "", b""), ended)
+    is_extracted(folder, "large files", 512, holds(source))
+
+
 def many_files(folder):
     """5,000 files of mixed sizes in 300 folders, packed and extracted."""
     place = folder.image.with_name("src")
@@ -117,4 +128,4 @@ def many_files(folder):
 
 
 if __name__ == "__main__":
-    sys.exit(run_scenes([worked_folder, what_is_refused, what_is_not_written, nested, many_files]))
+    sys.exit(run_scenes([worked_folder, what_is_refused, what_is_not_written, nested, large_files, many_files]))
