@@ -11,7 +11,10 @@ import sys
 import tempfile
 
 HOME = pathlib.Path(__file__).resolve().parent.parent
-PROGRAM = HOME / "crates/lfsed/out/lfsed"
+sys.path.insert(0, str(HOME / "tests"))
+
+from support.folder import PROGRAM, spread
+
 ROUNDS = 5
 
 
@@ -38,15 +41,10 @@ def pack(image, folder, size, count):
 
 def fill(place):
     """5,000 files of mixed sizes, 40 MiB together, in 300 folders."""
-    chance, places = random.Random(9), [place]
-    place.mkdir()
-    for n in range(299):
-        places.append(chance.choice(places[-40:]) / f"folder{n}")
-        places[-1].mkdir()
+    chance = random.Random(9)
     sizes = [chance.choice([0, 100, 2_000, chance.randrange(40_000)]) for _ in range(5_000)]
     rate = 40 * 2**20 / sum(sizes)
-    for n, size in enumerate(sizes):
-        (chance.choice(places) / f"file{n}").write_bytes(chance.randbytes(round(size * rate)))
+    spread(place, chance, [round(size * rate) for size in sizes])
 
 
 def mixed(room):

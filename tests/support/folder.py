@@ -13,16 +13,21 @@ def contents(length):
     return bytes(n % 251 for n in range(length))
 
 
-def fill(place):
-    """Makes a folder of 5,000 files of mixed sizes in 300 folders, always the same."""
-    chance, places = random.Random(5), [place]
+def spread(place, chance, sizes):
+    """Makes a folder of files of these sizes in 300 folders, as chance has it."""
+    places = [place]
     place.mkdir()
     for n in range(299):
         places.append(chance.choice(places[-40:]) / f"folder{n}")
         places[-1].mkdir()
-    for n in range(5_000):
-        size = chance.choice([0, 1, 60, 511, 512, 513, 3_000, chance.randrange(40_000)])
+    for n, size in enumerate(sizes):
         (chance.choice(places) / f"{chance.choice('abc')}{n}").write_bytes(chance.randbytes(size))
+
+
+def fill(place):
+    """Makes a folder of 5,000 files of mixed sizes in 300 folders, always the same."""
+    chance = random.Random(5)
+    spread(place, chance, [chance.choice([0, 1, 60, 511, 512, 513, 3_000, chance.randrange(40_000)]) for _ in range(5_000)])
 
 
 class Folder:
