@@ -21,7 +21,9 @@ use lfs_fs::{Delta, OutlineBody, OutlineDirectory, OutlineEntry, OutlinePart, en
 use std::alloc::{AllocError, Global};
 
 /// An entry without attributes. The caller owes a name of at most 1,022 bytes, and a body that fits into a tag.
-fn new_entry(alloc: Global, name: &[u8], body: OutlineBody) -> Result<OutlineEntry, AllocError>
+///
+/// Source: own.
+pub fn new_entry(alloc: Global, name: &[u8], body: OutlineBody) -> Result<OutlineEntry, AllocError>
     requires name { length name.now < 1023 }
     requires body { BodyFits (stored_body (outline_body_held body)) }
     ensures { IfOk result (λ entry. entry ≡ new_entry name.now (outline_body_held body)) }

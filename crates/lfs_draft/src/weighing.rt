@@ -28,7 +28,9 @@ fn body_weight(body: &OutlineBody) -> u32
 
 /// The bytes that an entry takes of a block: four for each of its tags, with its name, its struct's data and its attributes'
 /// values. Takes no memory.
-pub(crate) fn weight(entry: &OutlineEntry) -> u32
+///
+/// Source: SPEC.md, "Metadata tags".
+pub fn weight(entry: &OutlineEntry) -> u32
     ensures value { result ≡ weight entry.now }
     ensures small { result ≤ 264708 }
 {
