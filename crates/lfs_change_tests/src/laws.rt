@@ -1,5 +1,12 @@
 //! Calls of the laws.
 
+use lfs_build::{
+    built_can_be_finished, built_volumes_begin, directories_are_walked, entries_are_added,
+};
+use lfs_grow::{
+    commands_edit_at_the_end, ends_are_judged, ends_are_put, next_names_come_last,
+    parts_grow_at_their_end, volumes_grow, ways_lead_to_ends,
+};
 use lfs_history::{
     commands_are_equations, commands_push_equations, histories_are_books,
     journals_grow_by_the_need, redo_is_exact, runs_keep_histories, saved_histories_open,
@@ -14,6 +21,8 @@ use lfs_law::{
     parts_are_cut_by_themselves, plans_are_frugal, plans_hold, tables_tell_new_pairs,
     walks_go_by_pairs, written_blocks_are_taken, written_volumes_are_held,
 };
+use lfs_new::{new_images_hold, sound_outlines_can_be_taken};
+use lfs_pack::rows_are_led_to_their_map;
 
 #[test]
 fn laws_are_called() {
@@ -51,6 +60,28 @@ fn laws_of_what_is_written_are_called() {
     written_blocks_are_taken();
     cut_links_can_be_written();
     held_superblocks_are_made();
+}
+
+#[test]
+fn laws_of_what_grows_are_called() {
+    commands_edit_at_the_end();
+    parts_grow_at_their_end();
+    ways_lead_to_ends();
+    next_names_come_last();
+    ends_are_judged();
+    volumes_grow();
+    ends_are_put();
+}
+
+#[test]
+fn laws_of_new_images_are_called() {
+    sound_outlines_can_be_taken();
+    new_images_hold();
+    built_volumes_begin();
+    entries_are_added();
+    directories_are_walked();
+    built_can_be_finished();
+    rows_are_led_to_their_map();
 }
 
 #[test]

@@ -27,5 +27,7 @@ mod packing;
 mod paths;
 #[cfg(test)]
 mod refusals;
+#[cfg(test)]
+mod weighing;
 
 pub use new_images::new_image_of;

@@ -43,13 +43,8 @@ fn rows(attributes: &[(u8, Vec<u8>)]) -> [PackRow<'_>; 3] {
 
 // asserts what is free in an image, and what it lists
 fn holds(rt: &impl Abort, alloc: Global, image: &Image) -> Result<(), Fail> {
-    let mounted = mount(alloc, image)?;
-    assert_eq!(rt; mounted.free_count(), 3);
-    let mut text = Vec::new(alloc);
-    let mut out = Out::new(&mut text);
-    assert!(rt; send_listing(alloc, mounted.rows(), &mut out).is_ok());
-    assert!(rt; text.as_slice() == LISTING.as_bytes());
-    Ok(())
+    assert_eq!(rt; mount(alloc, image)?.free_count(), 3);
+    lists(rt, alloc, image, LISTING)
 }
 
 #[test]
@@ -61,6 +56,32 @@ fn rows_are_packed_into_an_image(rt: HostRuntime) -> Result<(), Fail> {
     let bytes = pack(rt.alloc(), 512, 8, &rows(&attributes))?;
     let image = Image::new(bytes, 512).ok().ok_or("no image")?;
     holds(&rt, rt.alloc(), &image)
+}
+
+// asserts what an image lists
+fn lists(rt: &impl Abort, alloc: Global, image: &Image, listing: &str) -> Result<(), Fail> {
+    let mounted = mount(alloc, image)?;
+    let mut text = Vec::new(alloc);
+    let mut out = Out::new(&mut text);
+    assert!(rt; send_listing(alloc, mounted.rows(), &mut out).is_ok());
+    assert!(rt; text.as_slice() == listing.as_bytes());
+    Ok(())
+}
+
+#[test]
+fn the_root_gets_attributes(rt: HostRuntime) -> Result<(), Fail> {
+    if !geometry_ok(512, 2) {
+        return Err(Fail::new("no image has such blocks"));
+    }
+    let attributes = attributes(rt.alloc())?;
+    let root = PackRow {
+        path: b"/",
+        bytes: None,
+        attributes: &attributes,
+    };
+    let bytes = pack(rt.alloc(), 512, 2, &[root])?;
+    let image = Image::new(bytes, 512).ok().ok_or("no image")?;
+    lists(&rt, rt.alloc(), &image, "d          - /\n@ 74 01\n")
 }
 
 #[test]

@@ -8,3 +8,6 @@ pub mod LastEntries
 pub mod WayLemmas
 pub mod ComingLast
 pub mod JudgedEnds
+pub mod Ranges
+pub mod GrownVolumes
+pub mod EndCommands

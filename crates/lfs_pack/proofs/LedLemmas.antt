@@ -1,7 +1,7 @@
 -- The commands of rows lead to the map of the rows.
-use Rattle.std.proofs.Common.{◌≡◌, ◌⊎◌, ◌<◌, ◌==◌, ℕ, nat_lt, Bool, true, false, List, [], ◌∷◌, ◌++◌, Option, Some, None, All}
+use Rattle.std.proofs.Common.{◌≡◌, ◌<◌, ◌==◌, ℕ, nat_lt, Bool, true, false, List, [], ◌∷◌, ◌++◌, Option, Some, None, All}
 use Rattle.std.proofs.Common.{refl, ap, sym, ◌∙◌, subst, arith, append_assoc, append-nil, inl, inr}
-use Rattle.std.specs.Prelude.{if◌then◌else◌, map, flat_map}
+use Rattle.std.specs.Prelude.{if◌then◌else◌}
 use Rattle.std.specs.Option.{option_map}
 use Rattle.std.proofs.lemmas.Bool.Decides.{nat_tests}
 use Rattle.std.proofs.lemmas.List.Elements.{All-head, All-tail, All-cons, All-nil}
@@ -12,17 +12,16 @@ use Rattle.lfs_fs.specs.Row.{path_precedes, PathsAreOrdered}
 use Rattle.lfs_fs.specs.Tree.{Node, File, Dir, tree}
 use Rattle.lfs_fs.specs.Volume.{Volume}
 use Rattle.lfs_command.specs.Accepted.{Follows}
-use Rattle.lfs_command.specs.Clean.{clean}
 use Rattle.lfs_command.specs.Command.{Command, Mkdir, Put, SetAttr}
 use Rattle.lfs_command.specs.Cut.{cut}
 use Rattle.lfs_command.specs.Edited.{edited}
-use Rattle.lfs_command.specs.Equation.{equation, with_attributes, attributes_at}
+use Rattle.lfs_command.specs.Equation.{with_attributes, attributes_at}
 use Rattle.lfs_command.specs.PathMap.{same_path, put_at}
 use Rattle.lfs_law.specs.Laws.{CutsFollow, CleansFollow}
 use Rattle.lfs_law.proofs.PathMapLemmas.{same_path_decides, same_path_or_not, put_at_there, put_at_other}
 use Rattle.lfs_pack.specs.Packed.{Packed, packed_node, packed_at, making, setting, row_commands, commands}
-use Rattle.lfs_pack.specs.Packed.{Rise, KindsRise, BeginAtRoot, ArePackable}
-use Rattle.lfs_pack.specs.Leading.{CarriesOut, Lead}
+use Rattle.lfs_pack.specs.Packed.{Rise, KindsRise}
+use Rattle.lfs_grow.specs.Leading.{CarriesOut, Lead}
 use Rattle.lfs_pack.specs.Laws.{LedToTheirMap}
 
 -- ---- one command

@@ -1,8 +1,10 @@
 pub mod LedLemmas
-pub mod OnWay
-pub mod AskedLemmas
+pub mod ItemsInTurn
+pub mod LedOn
+pub mod AttributesInTurn
+pub mod RowsSpelled
+pub mod RowPlaced
+pub mod RowInParts
+pub mod RowsInTurn
+pub mod BareIsAt
 pub mod PackedLemmas
-pub mod NewLemmas
-pub mod Ranges
-pub mod GrownVolumes
-pub mod EndCommands

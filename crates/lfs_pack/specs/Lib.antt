@@ -1,9 +1,5 @@
 pub mod Packed
-pub mod AskedRows
-pub mod Leading
 pub mod Packing
+pub mod RowsAdded
 pub mod Laws
 pub mod PackingLaws
-pub mod Growing
-pub mod AtTheEnd
-pub mod EndLaws

@@ -1,6 +1,6 @@
 -- What is packed into a new image: rows of paths (own).
 use Rattle.std.specs.Global.{Vec}
-use Rattle.std.specs.Prelude.{◌≡◌, ◌<◌, ℕ, Bool, true, List, [], ◌∷◌, ◌++◌, Option, Some, None, All, if◌then◌else◌, map, flat_map}
+use Rattle.std.specs.Prelude.{◌≡◌, ◌<◌, ℕ, true, List, [], ◌∷◌, ◌++◌, Option, Some, None, All, if◌then◌else◌, map, flat_map}
 use Rattle.std.specs.Option.{option_map}
 use Rattle.std.specs.List.{AllZip}
 use Rattle.lfs_meta.specs.Name.{IsName}

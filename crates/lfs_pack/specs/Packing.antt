@@ -1,6 +1,6 @@
 -- A new image of rows, and why there is none (own).
 use Rattle.std.specs.Prelude.{◌≡◌, ℕ, List, ◌∷◌, ◌++◌, Some}
-use Rattle.lfs_block.specs.Disk.{Disk, IsDisk}
+use Rattle.lfs_block.specs.Disk.{IsDisk}
 use Rattle.lfs_fs.specs.Formatted.{formatted_volume}
 use Rattle.lfs_fs.specs.Path.{Path}
 use Rattle.lfs_fs.specs.Volume.{Volume}
@@ -8,7 +8,6 @@ use Rattle.lfs_fs.specs.Tree.{tree}
 use Rattle.lfs_fs.specs.Sound.{IsSound}
 use Rattle.lfs_fs.specs.Reading.{reading_of}
 use Rattle.lfs_fs.specs.Holds.{Holds}
-use Rattle.lfs_fs.specs.Mounted.{IsOutlineOf}
 use Rattle.lfs_command.specs.declared.refusal.Refusal.{Refusal}
 use Rattle.lfs_command.specs.declared.refusal.Refusal.TheVariants.{Memory}
 use Rattle.lfs_command.specs.Command.{Command}
@@ -16,7 +15,7 @@ use Rattle.lfs_command.specs.Verdict.{verdict}
 use Rattle.lfs_edit.specs.Formatted.{disk_with}
 use Rattle.lfs_law.specs.SuperblockBytes.{new_limits}
 use Rattle.lfs_pack.specs.Packed.{Packed, commands, packed_at}
-use Rattle.lfs_pack.specs.Leading.{Lead}
+use Rattle.lfs_grow.specs.Leading.{Lead}
 
 -- The bytes are an image with the limits of a new one, whose tree is the map of the rows. The volume is the one that the commands of
 -- the rows lead to from a new one.
@@ -43,11 +42,3 @@ pub record IsNotPacked (size count : ℕ) (rows : List Packed) (r : Refusal) : T
 abbrev pub RefusesPack : ℕ → ℕ → List Packed → Refusal → Type 0
 RefusesPack size count rows Memory = Unit {0}
 RefusesPack size count rows r = IsNotPacked size count rows r
-
--- a new image, with the outline of its volume
-pub record IsNew (size count : ℕ) (d : Disk) (o : Volume) : Type 0 where
-  pub size_is : d.size ≡ size
-  pub count_is : d.count ≡ count
-  pub disk : IsDisk d
-  pub holds : Holds (reading_of d) (formatted_volume size count)
-  pub outline : IsOutlineOf d o

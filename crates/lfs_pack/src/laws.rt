@@ -1,13 +1,9 @@
 //! Laws of packing: each function does nothing but call laws, and its contract is the law.
 
-ghost use Rattle.lfs_pack.specs.AtTheEnd.{AttributesAreSet, DirectoriesAreMade, FilesArePut};
-ghost use Rattle.lfs_pack.specs.Growing.{VolumesGrow};
 ghost use Rattle.lfs_pack.specs.Laws.{LedToTheirMap};
 
-use crate::end_laws::end_laws;
 use lfs_fs::paths_are_ordered;
-use lfs_grow::parts_grow_at_their_end;
-use lfs_law::{cuts_follow, free_after, least_blocks_are_free, outlines_are_carried};
+use lfs_law::cuts_follow;
 
 /// A law: the commands of rows, each accepted, lead from the volume of a new image to one whose tree is the map of the rows: at each
 /// path it has what the row of that path says, and nothing elsewhere. Takes no memory.
@@ -18,32 +14,4 @@ pub fn rows_are_led_to_their_map()
 {
     paths_are_ordered();
     cuts_follow();
-}
-
-/// A law: a command that puts one more entry at the end of a directory, on a volume whose free blocks are those from one on, takes the
-/// first of them, and leaves those behind; or the entry weighs more than a block has room for, or too few blocks are free, and it is
-/// refused. Takes no memory.
-///
-/// Source: own.
-pub fn volumes_grow()
-    ensures { VolumesGrow }
-{
-    outlines_are_carried();
-    least_blocks_are_free();
-    cuts_follow();
-    free_after();
-    parts_grow_at_their_end();
-}
-
-/// A law: a file that is put (`put`) and a directory that is made (`made`) under a name that comes last in its directory, and an
-/// attribute that is set of a directory's last entry (`set`), grow the volume so; before that they are refused for a name, contents or a
-/// value that is too long. Takes no memory.
-///
-/// Source: own.
-pub fn ends_are_put()
-    ensures put { FilesArePut }
-    ensures made { DirectoriesAreMade }
-    ensures set { AttributesAreSet }
-{
-    end_laws();
 }

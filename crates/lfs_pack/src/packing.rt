@@ -1,158 +1,122 @@
 //! Packing rows of paths into a new image.
 
-ghost use Rattle.std.specs.Prelude.{◌≡◌, List, [], ◌∷◌, map, flat_map, IfOk, IfErr, OnOk};
+ghost use Rattle.std.specs.Prelude.{IfErr, IfOk, List, OnOk, map};
 ghost use Rattle.lfs_block.specs.Geometry.{IsGeometry};
-ghost use Rattle.lfs_fs.specs.Mounted.{IsOutlineOf};
-ghost use Rattle.lfs_command.specs.AskedFor.{asked_for};
-ghost use Rattle.lfs_command.specs.declared.refusal.Refusal.TheVariants.{Memory};
-ghost use Rattle.lfs_command.specs.Command.{SetAttr};
-ghost use Rattle.lfs_pack.specs.AskedRows.{AreStopped, LeadOn, making_asked, row_asked, rows_asked, setting_asked};
+ghost use Rattle.lfs_fs.specs.Path.{Path};
+ghost use Rattle.lfs_fs.specs.Volume.{Volume};
+ghost use Rattle.lfs_build.specs.NewVolumes.{HasEntry, IsAt, IsBare};
+ghost use Rattle.lfs_pack.specs.RowsAdded.{AddsRow, AddsRows, IsBareAt, PacksVolume, Places, SetsAll};
+ghost use Rattle.lfs_pack.specs.RowsAdded.{RefusesAdding, RefusesAll, RefusesPlace, RefusesRows};
 ghost use Rattle.lfs_pack.specs.Packed.{AreRowsOf, Packed, attribute_of, row_bytes};
-ghost use Rattle.lfs_pack.specs.Packing.{IsNew, IsPacked, RefusesPack};
+ghost use Rattle.lfs_pack.specs.Packing.{IsPacked, RefusesPack};
 
 use crate::pack_row::PackRow;
 use crate::packing_laws::packing_laws;
-use lfs_block::Image;
-use lfs_command::{Command, Refusal};
-use lfs_edit::{carry_out, format};
-use lfs_fs::{Outline, outline_of};
+use lfs_block::Blocks;
+use lfs_build::NewVolume;
+use lfs_command::{Refusal, names_of};
 use std::alloc::Global;
 
-/// Carries a command out on an image and its outline.
-fn carry(
-    alloc: Global,
-    image: &mut Image,
-    outline: &mut Outline,
-    command: &Command<'_>,
-) -> Result<(), Refusal>
-    requires { IsOutlineOf image.old outline.old }
-    ensures led { OnOk result (LeadOn (asked_for command.now ∷ []) image.old image.new) }
-    ensures outline { OnOk result (IsOutlineOf image.new outline.new) }
-    ensures stopped { IfErr result (λ r. AreStopped (asked_for command.now ∷ []) image.old r) }
-{
-    let patch = carry_out(alloc, image, outline, command)?;
-    patch.apply(image);
-    Ok(())
-}
-
-/// The command that sets an attribute of what is at a path.
-fn setting_command<'a>(path: &'a [u8], attribute: &'a (u8, Vec<u8>)) -> Command<'a>
-    ensures { asked_for result ≡ SetAttr path.now (attribute_of attribute.now).0 (attribute_of attribute.now).1 }
-{
-    Command::SetAttr {
-        path,
-        kind: attribute.0,
-        value: &attribute.1,
-    }
-}
-
-/// Sets the attributes of a row, one after another.
+/// Sets attributes of the last row, one after another.
 fn set_attributes(
     alloc: Global,
-    image: &mut Image,
-    outline: &mut Outline,
-    row: &PackRow<'_>,
+    volume: &mut NewVolume,
+    attributes: &[(u8, Vec<u8>)],
 ) -> Result<(), Refusal>
-    requires { IsOutlineOf image.old outline.old }
-    ensures led { OnOk result (LeadOn (setting_asked row.now) image.old image.new) }
-    ensures outline { OnOk result (IsOutlineOf image.new outline.new) }
-    ensures stopped { IfErr result (λ r. AreStopped (setting_asked row.now) image.old r) }
+    requires { (p : Path) × (v : Volume) × HasEntry volume.old p v }
+    ensures set { OnOk result (SetsAll HasEntry (map attribute_of attributes.now) volume.old volume.new) }
+    ensures refused { IfErr result (λ r. RefusesAll HasEntry (map attribute_of attributes.now) volume.old r) }
 {
-    let path = row.path;
-    let attributes = row.attributes;
     'each: for attribute in attributes {
-        let command = setting_command(path, attribute);
-        carry(alloc, image, outline, &command)?;
+        volume.set_attribute(alloc, attribute.0, &attribute.1)?;
     }
     Ok(())
 }
 
-/// The command that makes what a row has at its path.
-fn making_command<'a>(row: &PackRow<'a>) -> Command<'a>
-    ensures { asked_for result ≡ making_asked row.now.path.now (row_bytes row.now) }
+/// Sets attributes of the root, one after another.
+fn set_root_attributes(
+    alloc: Global,
+    volume: &mut NewVolume,
+    attributes: &[(u8, Vec<u8>)],
+) -> Result<(), Refusal>
+    requires { (v : Volume) × IsBare volume.old v }
+    ensures set { OnOk result (SetsAll IsBareAt (map attribute_of attributes.now) volume.old volume.new) }
+    ensures refused { IfErr result (λ r. RefusesAll IsBareAt (map attribute_of attributes.now) volume.old r) }
 {
-    let path = row.path;
+    'each: for attribute in attributes {
+        volume.set_root_attribute(alloc, attribute.0, &attribute.1)?;
+    }
+    Ok(())
+}
+
+/// Makes what a row has at its path: a directory, or a file.
+fn place(alloc: Global, volume: &mut NewVolume, row: &PackRow<'_>) -> Result<(), Refusal>
+    requires { (q : Path) × (v : Volume) × IsAt volume.old q v }
+    ensures placed { OnOk result (Places row.now.path.now (row_bytes row.now) volume.old volume.new) }
+    ensures refused { IfErr result (λ r. RefusesPlace row.now.path.now (row_bytes row.now) volume.old r) }
+{
+    packing_laws();
+    let path = names_of(alloc, row.path)?;
     match row.bytes {
-        Some(bytes) => Command::Put { path, bytes },
-        None => Command::Mkdir { path },
+        Some(bytes) => volume.put_file(alloc, &path, bytes),
+        None => volume.make_directory(alloc, &path),
     }
 }
 
-/// Makes what a row has at its path, and sets its attributes.
-fn add_row(
-    alloc: Global,
-    image: &mut Image,
-    outline: &mut Outline,
-    row: &PackRow<'_>,
-) -> Result<(), Refusal>
-    requires { IsOutlineOf image.old outline.old }
-    ensures led { OnOk result (LeadOn (row_asked row.now) image.old image.new) }
-    ensures outline { OnOk result (IsOutlineOf image.new outline.new) }
-    ensures stopped { IfErr result (λ r. AreStopped (row_asked row.now) image.old r) }
+/// Adds a row, with its attributes.
+fn add_row(alloc: Global, volume: &mut NewVolume, row: &PackRow<'_>) -> Result<(), Refusal>
+    requires { (q : Path) × (v : Volume) × IsAt volume.old q v }
+    ensures added { OnOk result (AddsRow row.now volume.old volume.new) }
+    ensures refused { IfErr result (λ r. RefusesAdding row.now volume.old r) }
 {
-    let command = making_command(row);
-    carry(alloc, image, outline, &command)?;
-    set_attributes(alloc, image, outline, row)?;
+    packing_laws();
+    place(alloc, volume, row)?;
+    set_attributes(alloc, volume, row.attributes)?;
+    volume.enter(alloc)?;
     Ok(())
 }
 
-/// Makes what rows have at their paths, one after another.
-fn add_rows(
-    alloc: Global,
-    image: &mut Image,
-    outline: &mut Outline,
-    rows: &[PackRow<'_>],
-) -> Result<(), Refusal>
-    requires { IsOutlineOf image.old outline.old }
-    ensures led { OnOk result (LeadOn (flat_map row_asked rows.now) image.old image.new) }
-    ensures outline { OnOk result (IsOutlineOf image.new outline.new) }
-    ensures stopped { IfErr result (λ r. AreStopped (flat_map row_asked rows.now) image.old r) }
+/// Adds rows, one after another.
+fn add_rows(alloc: Global, volume: &mut NewVolume, rows: &[PackRow<'_>]) -> Result<(), Refusal>
+    requires { (q : Path) × (v : Volume) × IsAt volume.old q v }
+    ensures added { OnOk result (AddsRows rows.now volume.old volume.new) }
+    ensures refused { IfErr result (λ r. RefusesRows rows.now volume.old r) }
 {
+    packing_laws();
     'each: for row in rows {
-        add_row(alloc, image, outline, row)?;
+        add_row(alloc, volume, row)?;
     }
     Ok(())
 }
 
-/// Makes what rows have at their paths, the first of which is the root's: it is there, and gets its attributes.
-fn add_all(
+/// A new volume with all rows, the first of which is the root's: it is there, and gets its attributes.
+fn packed_volume(
     alloc: Global,
-    image: &mut Image,
-    outline: &mut Outline,
+    size: u32,
+    count: u32,
     rows: &[PackRow<'_>],
-) -> Result<(), Refusal>
-    requires { IsOutlineOf image.old outline.old }
-    ensures led { OnOk result (LeadOn (rows_asked rows.now) image.old image.new) }
-    ensures stopped { IfErr result (λ r. AreStopped (rows_asked rows.now) image.old r) }
-{
-    let Some((root, others)) = rows.split_first() else {
-        return Ok(());
-    };
-    set_attributes(alloc, image, outline, root)?;
-    add_rows(alloc, image, outline, others)?;
-    Ok(())
-}
-
-/// A new image, with the outline of its volume.
-fn new_image(alloc: Global, size: u32, count: u32) -> Result<(Image, Outline), Refusal>
+) -> Result<NewVolume, Refusal>
     requires { IsGeometry size count }
-    ensures made { IfOk result (λ new. IsNew size count new.0 new.1) }
-    ensures refused { IfErr result (λ r. r ≡ Memory) }
+    ensures packed { IfOk result (λ t. PacksVolume size count rows.now t) }
+    ensures refused { IfErr result (λ r. (packed : List Packed) → AreRowsOf rows.now packed → RefusesPack size count packed r) }
 {
-    let bytes = format(alloc, size, count)?;
-    let Ok(image) = Image::new(bytes, size) else {
-        unreachable!();
+    packing_laws();
+    let mut volume = NewVolume::new(alloc, size, count)?;
+    let Some((root, others)) = rows.split_first() else {
+        return Ok(volume);
     };
-    let outline = outline_of(alloc, &image)?;
-    Ok((image, outline))
+    set_root_attributes(alloc, &mut volume, root.attributes)?;
+    add_rows(alloc, &mut volume, others)?;
+    Ok(volume)
 }
 
 /// A new image of `count` blocks of `size` bytes with what the rows have at their paths: one with the limits of a new image that mounts
-/// to exactly the map of the rows. The caller owes a good geometry; and of the rows, for which this is said, that the root's is the first
-/// and has no bytes, that the texts spell paths, each of which comes before all later ones in the order of a mounted image's rows, and that
-/// the kinds of each row's attributes rise strictly. A refusal is what the next of these commands is refused with, with its numbers, once
-/// those before it are carried out: for each row but the root's, to make the directory or to put the file; then to set its attributes, one
-/// after another. `Memory` says only that a growth was refused.
+/// to exactly the map of the rows. Contents go straight into the image, and each part of a directory is written once, into the first block of
+/// its pair. Takes time that is near-linear in bytes and rows. The caller owes a good geometry; and of the rows, for which this is said, that
+/// the root's is the first and has no bytes, that the texts spell paths, each of which comes before all later ones in the order of a mounted
+/// image's rows, and that the kinds of each row's attributes rise strictly. A refusal is what the next of these commands is refused with, with
+/// its numbers, once those before it are carried out: for each row but the root's, to make the directory or to put the file; then to set its
+/// attributes, one after another. `Memory` says only that a growth was refused.
 ///
 /// Source: own.
 pub fn pack(alloc: Global, size: u32, count: u32, rows: &[PackRow<'_>]) -> Result<Vec<u8>, Refusal>
@@ -161,7 +125,8 @@ pub fn pack(alloc: Global, size: u32, count: u32, rows: &[PackRow<'_>]) -> Resul
     ensures refused { IfErr result (λ r. (packed : List Packed) → AreRowsOf rows.now packed → RefusesPack size count packed r) }
 {
     packing_laws();
-    let (mut image, mut outline) = new_image(alloc, size, count)?;
-    add_all(alloc, &mut image, &mut outline, rows)?;
+    let volume = packed_volume(alloc, size, count, rows)?;
+    let image = volume.finish(alloc)?;
+    let _size = image.size();
     Ok(image.into_bytes())
 }

@@ -3,8 +3,7 @@
 ghost use Rattle.lfs_pack.specs.PackingLaws.{PackingLaws};
 
 use crate::laws::rows_are_led_to_their_map;
-use lfs_block::applied_patches_change_their_blocks;
-use lfs_fs::{formatted_volumes_are_sound, images_mount_to_one_tree, texts_spell_one_path};
+use lfs_fs::texts_spell_one_path;
 use lfs_law::cuts_follow;
 
 /// The laws that packing stands on. Takes no memory.
@@ -13,8 +12,5 @@ pub(crate) fn packing_laws()
 {
     rows_are_led_to_their_map();
     texts_spell_one_path();
-    images_mount_to_one_tree();
-    applied_patches_change_their_blocks();
-    formatted_volumes_are_sound();
     cuts_follow();
 }

@@ -1,0 +1,64 @@
+-- A volume whose last open directories are closed.
+use Rattle.std.proofs.Common.{◌≡◌, List, [], ◌∷◌, ◌++◌, length, refl, ap, sym, ◌∙◌, subst, All, map, append_assoc}
+use Rattle.std.specs.Prelude.{reverse}
+use Rattle.std.proofs.lemmas.List.{length-map, map-append}
+use Rattle.lfs_meta.specs.Fits.{RiseFrom}
+use Rattle.lfs_fs.specs.Directory.{Directory}
+use Rattle.lfs_fs.specs.Outlined.{outlined}
+use Rattle.lfs_fs.specs.Path.{Path}
+use Rattle.lfs_fs.specs.Volume.{Volume}
+use Rattle.lfs_law.proofs.Cuts.{All-left}
+use Rattle.lfs_build.specs.declared.new_volume.NewVolume.{NewVolume}
+use Rattle.lfs_build.specs.declared.open_directory.OpenDirectory.{OpenDirectory}
+use Rattle.lfs_build.specs.Closing.{ClosesDown}
+use Rattle.lfs_build.specs.NewVolumes.{IsGrowing}
+use Rattle.lfs_build.specs.Opened.{IsWeighed, opened}
+use Rattle.lfs_build.specs.Walking.{BuiltAreClosed}
+use Rattle.lfs_build.proofs.Added.{built_as}
+
+-- the directories that were on the way
+pub way_before : (t u : NewVolume) (down : ClosesDown t u) → map opened t.above.items ++ opened t.deepest ∷ []
+    ≡ map opened u.above.items ++ opened u.deepest ∷ map opened down.gone
+way_before t u down =
+    sym (map-append opened t.above.items (t.deepest ∷ [])) ∙ ap (map opened) down.are
+    ∙ map-append opened u.above.items (u.deepest ∷ down.gone)
+
+again : (xs : List OpenDirectory) (x : OpenDirectory) (ys : List OpenDirectory) → (xs ++ x ∷ []) ++ ys ≡ xs ++ x ∷ ys
+again [] x ys = refl
+again (z ∷ xs) x ys = ap (λ (l : List OpenDirectory). z ∷ l) (again xs x ys)
+
+pub closed_growing : BuiltAreClosed → (t u : NewVolume) (front more : Path) (v : Volume) → ClosesDown t u → IsGrowing t (front ++ more) v
+    → length u.above.items ≡ length front → IsGrowing u front v
+closed_growing close t u front more v down growing len = record {
+  built =
+      built_as t.image u.image t.next u.next (map opened u.above.items) (map opened u.above.items) (opened u.deepest) (opened u.deepest)
+      (map opened down.gone ++ reverse t.closed.items) (reverse u.closed.items) front v down.image down.next refl refl down.closed
+      (close t.image t.next (map opened t.above.items) (opened t.deepest) (reverse t.closed.items) front more v
+      (map opened u.above.items) (opened u.deepest) (map opened down.gone) growing.built (way_before t u down)
+      (length-map u.above.items opened ∙ len));
+  attributes = growing.attributes ∙ ap (λ (a : _). a.items) (sym down.attributes);
+  rise = subst (λ (a : _). RiseFrom 0 a.items) (sym down.attributes) growing.rise;
+  weighed =
+      All-left (IsWeighed (outlined v)) (u.above.items ++ u.deepest ∷ []) down.gone
+      (subst (All (IsWeighed (outlined v))) (down.are ∙ sym (again u.above.items u.deepest down.gone)) growing.weighed);
+}
+
+-- ---- closed one after another
+
+pub none_closed : (t : NewVolume) → ClosesDown t t
+none_closed t = record { image = refl; attributes = refl; next = refl; gone = []; are = refl; closed = refl }
+
+pub closed_on : (t u w : NewVolume) → ClosesDown t u → ClosesDown u w → ClosesDown t w
+closed_on t u w first then = record {
+  image = then.image ∙ first.image;
+  attributes = then.attributes ∙ first.attributes;
+  next = then.next ∙ first.next;
+  gone = then.gone ++ first.gone;
+  are =
+      first.are ∙ sym (again u.above.items u.deepest first.gone) ∙ ap (λ (l : List OpenDirectory). l ++ first.gone) then.are
+      ∙ append_assoc w.above.items (w.deepest ∷ then.gone) first.gone;
+  closed =
+      then.closed ∙ ap (λ (l : List Directory). map opened then.gone ++ l) first.closed
+      ∙ sym (append_assoc (map opened then.gone) (map opened first.gone) (reverse t.closed.items))
+      ∙ ap (λ (l : List Directory). l ++ reverse t.closed.items) (sym (map-append opened then.gone first.gone));
+}

@@ -1,0 +1,89 @@
+-- A file that is put under a name of the deepest directory of a new volume.
+use Rattle.std.proofs.Common.{◌≡◌, ◌+◌, ◌-◌, ◌<◌, ◌≤◌, ℕ, Bool, true, false, List, [], ◌∷◌, ◌++◌, None, length, refl, ap, ◌∙◌, subst, inl, inr, map}
+use Rattle.std.specs.Prelude.{if◌then◌else◌, nat_le, replicate, reverse}
+use Rattle.std.specs.List.{range_with_len}
+use Rattle.lfs_file.specs.Capacity.{least_blocks}
+use Rattle.lfs_meta.specs.Name.{Name}
+use Rattle.lfs_fs.specs.Entry.{Inline, Chain, Entry, body_target, target}
+use Rattle.lfs_fs.specs.Path.{Path}
+use Rattle.lfs_fs.specs.Volume.{Volume}
+use Rattle.lfs_fs.specs.Weight.{weight}
+use Rattle.lfs_command.specs.declared.refusal.Refusal.{Refusal}
+use Rattle.lfs_command.specs.declared.refusal.Refusal.TheVariants.{FileTooLarge, NameTooLong}
+use Rattle.lfs_command.specs.Command.{Put}
+use Rattle.lfs_command.specs.Edited.{new_entry}
+use Rattle.lfs_command.specs.Supplies.{most_inline}
+use Rattle.lfs_grow.specs.Ending.{last_part}
+use Rattle.lfs_grow.specs.WayLaws.{DirectoriesGrow}
+use Rattle.lfs_build.specs.declared.new_volume.NewVolume.{NewVolume}
+use Rattle.lfs_build.specs.Adding.{AddsFile, FilesAreAdded, LaysFile, file_blocks, file_body}
+use Rattle.lfs_build.specs.AtHome.{PutsName, RefusesName}
+use Rattle.lfs_build.specs.NewVolumes.{IsHome}
+use Rattle.lfs_build.specs.Opened.{opened}
+use Rattle.lfs_build.specs.Pushed.{HasNoRoom, IsPushed, IsWithImage, blocks_for}
+use Rattle.lfs_build.proofs.EntryPut.{IsCarried, deepest_counted, is_put, none_made, not_put, same_end}
+
+-- its entry leads to no directory
+none_led : (b : Bool) (bytes blocks blank : List ℕ) → body_target (if b then Inline bytes else Chain blocks blank) ≡ None
+none_led true bytes blocks blank = refl
+none_led false bytes blocks blank = refl
+
+file_target : (n : Name) (size next : ℕ) (bytes : List ℕ) → target (new_entry n (file_body size next bytes)) ≡ None
+file_target n size next bytes =
+    none_led (nat_le (length bytes) (most_inline size)) bytes (range_with_len next (least_blocks size (length bytes)))
+    (replicate (length bytes) 0)
+
+module _ (n : Name) (bytes : List ℕ) (t : NewVolume) (adds : FilesAreAdded) where
+  added_at : (home : Path) (v : Volume) → IsHome t home n v
+      → AddsFile n bytes t.image t.next (map opened t.above.items) (opened t.deepest) (reverse t.closed.items) home v
+  added_at home v is =
+      adds n bytes t.image t.next (map opened t.above.items) (opened t.deepest) (reverse t.closed.items) home v is.growing.built is.names
+      is.last
+
+  pub too_long : 255 < length n → RefusesName (λ p. Put p bytes) n t NameTooLong
+  too_long long = inr (λ home v is. (added_at home v is).long long)
+
+  pub too_large : length n ≤ 255 → 2147483647 < length bytes → RefusesName (λ p. Put p bytes) n t FileTooLarge
+  too_large short large = inr (λ home v is. (added_at home v is).large short large)
+
+  module _ (short : length n ≤ 255) (small : length bytes ≤ 2147483647) (e : Entry)
+      (is : e ≡ new_entry n (file_body t.image.size t.next bytes)) (k : ℕ) (weighs : k ≡ weight e) (before : ℕ)
+      (counts : before ≡ file_blocks t.image.size bytes) where
+    same : k ≡ weight (new_entry n (file_body t.image.size t.next bytes))
+    same = weighs ∙ ap weight is
+
+    pub no_place : (r : Refusal) → HasNoRoom k before t r → RefusesName (λ p. Put p bytes) n t r
+    no_place r none = inr (λ home v at.
+        not_put t t (Put (home ++ n ∷ []) bytes) (file_blocks t.image.size bytes) [] (last_part (opened t.deepest)).entries
+        (new_entry n (file_body t.image.size t.next bytes)) (LaysFile t.image t.next bytes) home v (same_end t) at.growing
+        (deepest_counted t home v at.growing) ((added_at home v at).added short small) r
+        (subst (λ (m : ℕ). HasNoRoom m (file_blocks t.image.size bytes) t r) same
+        (subst (λ (m : ℕ). HasNoRoom k m t r) counts none)))
+
+    pub file_put : DirectoriesGrow → k ≤ t.image.size - 40 → t.next + blocks_for k before t ≤ t.image.count → (l u : NewVolume)
+        → LaysFile t.image t.next bytes l.image → IsWithImage t l → IsPushed e before l u → PutsName (λ p. Put p bytes) n t u
+    file_put grows light fits l u laid others pushed home v at =
+        let new = new_entry n (file_body t.image.size t.next bytes) in
+        let blocks = file_blocks t.image.size bytes in
+        let done : IsCarried (Put (home ++ n ∷ []) bytes) new home v u =
+        is_put t t (Put (home ++ n ∷ []) bytes) blocks [] (last_part (opened t.deepest)).entries new (LaysFile t.image t.next bytes) home v
+        (same_end t) at.growing (deepest_counted t home v at.growing) ((added_at home v at).added short small) grows l u u others
+        laid.but.disk.size laid
+        (subst (λ (x : Entry). IsPushed x blocks l u) is (subst (λ (m : ℕ). IsPushed e m l u) counts pushed)) (none_made u)
+        (subst (λ (m : ℕ). m ≤ t.image.size - 40) same light)
+        (subst (λ (m : ℕ). t.next + blocks_for m blocks t ≤ t.image.count) same
+        (subst (λ (m : ℕ). t.next + blocks_for k m t ≤ t.image.count) counts fits)) in (
+          done.w,
+          done.carried,
+          record {
+            home = home;
+            n = n;
+            is = refl;
+            names = at.names;
+            growing = done.growing;
+            es = done.fs;
+            e = new;
+            ends = done.ends;
+            leads = inl (file_target n t.image.size t.next bytes);
+          },
+        )

@@ -1,0 +1,10 @@
+pub mod Built
+pub mod Adding
+pub mod Rooted
+pub mod Walking
+pub mod Finished
+pub mod Opened
+pub mod Pushed
+pub mod NewVolumes
+pub mod Closing
+pub mod AtHome

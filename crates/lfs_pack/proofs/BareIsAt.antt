@@ -1,0 +1,33 @@
+-- A new volume of the root alone is at the root's path.
+use Rattle.std.proofs.Common.{◌≡◌, ℕ, List, [], ◌∷◌, ◌++◌, refl, ap, sym, subst, inl, All, map, reverse}
+use Rattle.std.proofs.lemmas.List.Elements.{All-cons, All-nil}
+use Rattle.lfs_fs.specs.Directory.{Directory, entries}
+use Rattle.lfs_fs.specs.Outlined.{outlined}
+use Rattle.lfs_fs.specs.Pair.{root}
+use Rattle.lfs_fs.specs.Volume.{Volume}
+use Rattle.lfs_build.specs.declared.new_volume.NewVolume.{NewVolume}
+use Rattle.lfs_build.specs.declared.open_directory.OpenDirectory.{OpenDirectory}
+use Rattle.lfs_build.specs.Built.{IsBuilt}
+use Rattle.lfs_build.specs.NewVolumes.{IsAt, IsBare, IsGrowing}
+use Rattle.lfs_build.specs.Opened.{IsWeighed, opened}
+use Rattle.lfs_build.specs.Rooted.{bare_directory}
+
+pub bare_grows : (t : NewVolume) (v : Volume) → IsBare t v → IsGrowing t [] v
+bare_grows t v bare = record {
+  built = subst (λ (ds : List Directory). IsBuilt t.image t.next (map opened t.above.items) (opened t.deepest) ds [] v)
+      (sym (ap reverse bare.closed))
+      (subst (λ (d : Directory). IsBuilt t.image t.next (map opened t.above.items) d [] [] v) (sym bare.deepest)
+      (subst (λ (ds : List Directory). IsBuilt t.image t.next ds (bare_directory root) [] [] v) (sym (ap (map opened) bare.above))
+      (subst (λ (n : ℕ). IsBuilt t.image n [] (bare_directory root) [] [] v) (sym bare.next) bare.built)));
+  attributes = bare.attributes;
+  rise = bare.rise;
+  weighed = subst (λ (l : List OpenDirectory). All (IsWeighed (outlined v)) (l ++ t.deepest ∷ [])) (sym bare.above)
+      (All-cons (IsWeighed (outlined v)) t.deepest [] bare.weighed (All-nil (IsWeighed (outlined v))));
+}
+
+pub bare_is_at : (t : NewVolume) (v : Volume) → IsBare t v → IsAt t [] v
+bare_is_at t v bare = record {
+  names = [];
+  growing = bare_grows t v bare;
+  last = inl (refl, subst (λ (d : Directory). entries d ≡ []) (sym bare.deepest) refl);
+}

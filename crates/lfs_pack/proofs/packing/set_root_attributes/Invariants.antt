@@ -1,0 +1,10 @@
+-- The root's attributes so far are set.
+use Rattle.std.proofs.Common.{drop, map}
+use Rattle.lfs_pack.specs.Packed.{attribute_of}
+use Rattle.lfs_pack.specs.RowsAdded.{IsBareAt}
+use Rattle.lfs_pack.proofs.AttributesInTurn.{AreBeingSet}
+use Rattle.lfs_pack.proofs.packing.set_root_attributes.Given as goal
+
+abbrev pub invariant-each : goal.invariant-each
+invariant-each l =
+    AreBeingSet IsBareAt (map attribute_of l.attributes) (map attribute_of (drop l.attribute-index l.attributes)) l.fn.volume l.volume
