@@ -78,11 +78,14 @@ def is_packed(folder, what, size, count):
     folder.check(f"{what}: length", len(folder.old()) == size * count)
     wanted = {os.fsencode(path): here.read_bytes() for path, here in paths_of(place) if here.is_file()}
     folder.check(f"{what}: contents", files_in(folder.old(), size) == wanted)
+    reader = Reader(folder.old(), size)
+    once = all(reader.block(second) == b"\xff" * size for _, second in reader.thread())
+    folder.check(f"{what}: each pair is written once", once)
     ended = folder.run(f"ls -b {size} a.img")
     folder.check(f"{what}: ls", ended == (0, "", listing_of(place).encode()), ended[:2])
     paths = paths_of(place)
     folders = sum(here.is_dir() for _, here in paths)
-    said = f"block {size}, count {count}, free {Reader(folder.old(), size).free()}, directories {folders}, files {len(paths) - folders}\n"
+    said = f"block {size}, count {count}, free {reader.free()}, directories {folders}, files {len(paths) - folders}\n"
     ended = folder.run(f"check -b {size} a.img")
     folder.check(f"{what}: check", ended == (0, "", said.encode()), ended)
 
