@@ -1,2 +1,4 @@
 pub mod OutcomeLemmas
 pub mod ListingLemmas
+pub mod HistoriesLeft
+pub mod RunsLeft

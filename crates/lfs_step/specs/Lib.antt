@@ -2,3 +2,5 @@ pub mod Deed
 pub mod Outcome
 pub mod Query
 pub mod Summary
+pub mod Histories
+pub mod Runs

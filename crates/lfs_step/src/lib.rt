@@ -2,6 +2,7 @@
 #![tactic(auto)]
 
 mod deed;
+mod laws;
 mod query;
 mod querying;
 mod running;
@@ -9,6 +10,7 @@ mod step;
 mod summary;
 
 pub use deed::{Deed, deed_of};
+pub use laws::{runs_go_on, steps_leave_histories};
 pub use lfs_change::{Fault, Outcome};
 pub use query::Query;
 pub use running::run;

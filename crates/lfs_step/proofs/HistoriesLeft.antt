@@ -1,0 +1,74 @@
+-- What a step leaves denotes the history to which it leads.
+use Rattle.std.proofs.Common.{◌≡◌, ◌≢◌, ◌≤◌, ℕ, List, [], ◌∷◌, Option, Some, None, refl, sym, subst, arith}
+use Rattle.lfs_block.specs.Disk.{Disk, IsDisk}
+use Rattle.lfs_book.specs.Book.{Book, book_of, journal_bytes}
+use Rattle.lfs_edit.specs.Formatted.{disk_with}
+use Rattle.lfs_history.specs.History.{History, IsHistory, IsMounted, fresh_history}
+use Rattle.lfs_history.specs.OpeningLaws.{JournalsDenoteOneHistory, SavedHistoriesOpen}
+use Rattle.lfs_history.specs.Steps.{Takes}
+use Rattle.lfs_change.specs.declared.fault.Fault.{Fault}
+use Rattle.lfs_change.specs.declared.outcome.Outcome.{Outcome}
+use Rattle.lfs_change.specs.Bytes.{image_of}
+use Rattle.lfs_change.specs.Change.{Denotes, DenotesOn, journal_read}
+use Rattle.lfs_change.specs.Laws.{ChangedBytesAreDenoted}
+use Rattle.lfs_change.proofs.BytesLemmas.{image_of_disk}
+use Rattle.lfs_change.proofs.ChangeLemmas.{opened_denotes}
+use Rattle.lfs_change.proofs.LawLemmas.{one_denoted}
+use Rattle.lfs_step.specs.Deed.{Deed, Make, Pack, Ask, Change}
+use Rattle.lfs_step.specs.Histories.{KeepsHistories, LeavesHistory, StepsLeaveHistories}
+use Rattle.lfs_step.specs.Outcome.{Answers, AnswersBy, AnswersDone, Given}
+
+-- ---- a new image
+
+some_bytes : (j : Book) → journal_bytes j ≢ []
+unfolding journal_bytes
+some_bytes j none = cc
+
+fresh_is : (d : Disk) → IsDisk d → IsMounted d → IsHistory (fresh_history d)
+fresh_is d disk mounts = record {
+  past = refl;
+  future = refl;
+  back = tt;
+  on = tt;
+  disk = disk;
+  mounts = mounts;
+  past_mounts = tt;
+  future_mounts = tt;
+  few = omega arith;
+}
+
+begins : SavedHistoriesOpen → (size count : ℕ) (image journal : List ℕ) → IsDisk (disk_with size count image)
+    → IsMounted (disk_with size count image) → journal ≡ journal_bytes (book_of size count [] 0)
+    → Denotes size image journal (fresh_history (image_of size image))
+begins opens size count image journal disk mounts empty =
+    let d = disk_with size count image in
+    let bytes = journal_bytes (book_of size count [] 0) in
+    let opened : DenotesOn d bytes (fresh_history d) =
+    opened_denotes d bytes (fresh_history d) (some_bytes (book_of size count [] 0)) (opens (fresh_history d) (fresh_is d disk mounts)) in
+    let read : DenotesOn d journal (fresh_history d) = subst (λ (l : List ℕ). DenotesOn d l (fresh_history d)) (sym empty) opened in
+    subst (λ (e : Disk). IsDisk e × DenotesOn e journal (fresh_history e)) (sym (image_of_disk d disk)) (disk, read)
+
+-- ---- any step
+
+pub steps_leave_histories : JournalsDenoteOneHistory → SavedHistoriesOpen → ChangedBytesAreDenoted → StepsLeaveHistories
+steps_leave_histories one opens denoted (Make count) g outcome (formatted, empty) =
+    let mount = formatted.mount in
+    begins opens g.size count outcome.image.items outcome.journal.items formatted.disk (mount.volume, mount.holds, mount.sound) empty
+steps_leave_histories one opens denoted (Pack count rows) g outcome (is, empty) = λ packed are.
+    let packs = is packed are in
+    begins opens g.size count outcome.image.items outcome.journal.items packs.disk (packs.volume, packs.holds, packs.sound) empty
+steps_leave_histories one opens denoted (Ask query) g outcome (image, journal) = λ old denotes.
+    subst (λ (l : List ℕ). Denotes g.size l outcome.journal.items old) (sym image)
+    (subst (λ (l : List ℕ). Denotes g.size g.image l old) (sym journal) denotes)
+steps_leave_histories one opens denoted (Change step) g outcome changes = λ old denotes.
+    let is = changes.1 in
+    let d = image_of g.size g.image in
+    let same = one_denoted one d (journal_read step g.journal) is.old old is.denotes denotes.1 in (
+      is.new,
+      subst (λ (h : History). Takes step None h is.new) same is.takes,
+      denoted step g.size g.image g.journal outcome changes,
+    )
+
+pub keeps : StepsLeaveHistories → (deed : Deed) (g : Given) (outcome : Outcome) → Answers deed g outcome → KeepsHistories deed g outcome
+keeps leaves deed g outcome answers none =
+    leaves deed g outcome (subst (λ (f : Option Fault). AnswersBy f deed g outcome) none answers)

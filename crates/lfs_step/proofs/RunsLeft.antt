@@ -1,0 +1,62 @@
+-- Where lists of runs lead.
+use Rattle.std.proofs.Common.{◌≡◌, ℕ, List, [], ◌∷◌, Option, Some, None, refl, sym, subst}
+use Rattle.std.specs.List.{AllByRecursion}
+use Rattle.lfs_history.specs.History.{History, fresh_history}
+use Rattle.lfs_history.specs.Steps.{Takes}
+use Rattle.lfs_change.specs.declared.fault.Fault.{Fault}
+use Rattle.lfs_change.specs.declared.outcome.Outcome.{Outcome}
+use Rattle.lfs_change.specs.Bytes.{image_of}
+use Rattle.lfs_change.specs.Change.{Denotes}
+use Rattle.lfs_change.specs.Laws.{Files, RunsOfBytesAreRuns, Taken}
+use Rattle.lfs_step.specs.Deed.{Deed, Make, Pack, Ask, Change}
+use Rattle.lfs_step.specs.Histories.{Leaves, StepsLeaveHistories}
+use Rattle.lfs_step.specs.Outcome.{AnswersBy, Given, given}
+use Rattle.lfs_step.specs.Runs.{AreRuns, GoesBy, HasGoodRows, LeadTo, Ran, RunsGoOn, left_files}
+
+-- the history to which one run leads
+record Goes (fault : Option Fault) (deed : Deed) (g : Given) (outcome : Outcome) (old : History) : Type 0 where
+  new : History
+  goes : GoesBy fault deed old new
+  leaves : Leaves g outcome new
+
+one_goes : StepsLeaveHistories → RunsOfBytesAreRuns → (fault : Option Fault) (deed : Deed) (g : Given) (outcome : Outcome) (old : History)
+    → HasGoodRows deed → Denotes g.size g.image g.journal old → AnswersBy fault deed g outcome → Goes fault deed g outcome old
+one_goes leaves runs None (Make count) g outcome old good denotes answers = record {
+  new = fresh_history (image_of g.size outcome.image.items);
+  goes = refl;
+  leaves = leaves (Make count) g outcome answers;
+}
+one_goes leaves runs None (Pack count rows) g outcome old (packed, are) denotes answers = record {
+  new = fresh_history (image_of g.size outcome.image.items);
+  goes = refl;
+  leaves = leaves (Pack count rows) g outcome answers packed are;
+}
+one_goes leaves runs None (Ask query) g outcome old good denotes answers = record {
+  new = old;
+  goes = refl;
+  leaves = leaves (Ask query) g outcome answers old denotes;
+}
+one_goes leaves runs None (Change step) g outcome old good denotes answers =
+    let first : Files = record { image = g.image; journal = g.journal } in
+    let taken : Taken = record { step = step; fault = None } in
+    let run = runs g.size (taken ∷ []) first (left_files outcome) old denotes (outcome, answers, refl) in
+    let (mid, takes, same) = run.run in
+    record { new = run.new; goes = subst (Takes step None old) (sym same) takes; leaves = run.denotes }
+one_goes leaves runs (Some fault) deed g outcome old good denotes answers = record {
+  new = old;
+  goes = refl;
+  leaves =
+      subst (λ (l : List ℕ). Denotes g.size l outcome.journal.items old) (sym answers.0)
+      (subst (λ (l : List ℕ). Denotes g.size g.image l old) (sym answers.1) denotes);
+}
+
+pub runs_go_on : StepsLeaveHistories → RunsOfBytesAreRuns → RunsGoOn
+runs_go_on leaves runs size [] first last old good denotes same = record {
+  new = old;
+  denotes = subst (λ (f : Files). Denotes size f.image f.journal old) (sym same) denotes;
+  goes = refl;
+}
+runs_go_on leaves runs size (r ∷ rs) first last old good denotes (outcome, answers, later) =
+    let one = one_goes leaves runs r.fault r.deed (given size first.image first.journal) outcome old good.0 denotes answers in
+    let to = runs_go_on leaves runs size rs (left_files outcome) last one.new good.1 one.leaves later in
+    record { new = to.new; denotes = to.denotes; goes = (one.new, one.goes, to.goes) }

@@ -1,0 +1,33 @@
+-- Which history the bytes denote that a step leaves (own).
+use Rattle.std.specs.Prelude.{◌≡◌, List, None}
+use Rattle.lfs_history.specs.History.{History, fresh_history}
+use Rattle.lfs_history.specs.Steps.{Takes}
+use Rattle.lfs_change.specs.declared.outcome.Outcome.{Outcome}
+use Rattle.lfs_change.specs.Bytes.{image_of}
+use Rattle.lfs_change.specs.Change.{Denotes, journal_read}
+use Rattle.lfs_pack.specs.Packed.{AreRowsOf, Packed}
+use Rattle.lfs_step.specs.Deed.{Deed, Make, Pack, Ask, Change}
+use Rattle.lfs_step.specs.Outcome.{AnswersDone, Given}
+
+-- the image and the journal that are left denote this history
+abbrev pub Leaves : Given → Outcome → History → Type 0
+Leaves g outcome h = Denotes g.size outcome.image.items outcome.journal.items h
+
+-- A new image, empty or of rows, begins a history. A question leaves the history that image and journal denoted, and a change
+-- leaves the one to which it leads from there; where all is forgotten, whatever the journal was.
+abbrev pub LeavesHistory : Deed → Given → Outcome → Type 0
+LeavesHistory (Make count) g outcome = Leaves g outcome (fresh_history (image_of g.size outcome.image.items))
+LeavesHistory (Pack count rows) g outcome =
+    (packed : List Packed) → AreRowsOf rows packed → Leaves g outcome (fresh_history (image_of g.size outcome.image.items))
+LeavesHistory (Ask query) g outcome = (old : History) → Denotes g.size g.image g.journal old → Leaves g outcome old
+LeavesHistory (Change step) g outcome =
+    (old : History) → Denotes g.size g.image (journal_read step g.journal) old
+    → (new : History) × Takes step None old new × Leaves g outcome new
+
+-- the law: what a step that is done answers denotes such a history
+abbrev pub StepsLeaveHistories : Type 0
+StepsLeaveHistories = (deed : Deed) (g : Given) (outcome : Outcome) → AnswersDone deed g outcome → LeavesHistory deed g outcome
+
+-- a step that isn't refused leaves bytes that denote it
+abbrev pub KeepsHistories : Deed → Given → Outcome → Type 0
+KeepsHistories deed g outcome = outcome.fault ≡ None → LeavesHistory deed g outcome

@@ -1,0 +1,30 @@
+//! Laws of steps: each function does nothing but call laws, and its contract is the law.
+
+ghost use Rattle.lfs_step.specs.Histories.{StepsLeaveHistories};
+ghost use Rattle.lfs_step.specs.Runs.{RunsGoOn};
+
+use lfs_change::{changed_bytes_are_denoted, runs_of_bytes_are_runs};
+use lfs_history::saved_histories_open;
+
+/// A law: the image and the journal that a step leaves denote the history to which it leads from the one that they denoted
+/// before. A new image begins one, empty or of rows; a question leaves the one that was there; and a change is a step of it.
+/// Takes no memory.
+///
+/// Source: own.
+pub fn steps_leave_histories()
+    ensures { StepsLeaveHistories }
+{
+    changed_bytes_are_denoted();
+    saved_histories_open();
+}
+
+/// A law: a list of runs of any steps, each handed the image and the journal that the one before left, leads from the history
+/// that the first image and journal denote to the one that the last denote. A run that is refused leads nowhere. Takes no memory.
+///
+/// Source: own.
+pub fn runs_go_on()
+    ensures { RunsGoOn }
+{
+    steps_leave_histories();
+    runs_of_bytes_are_runs();
+}
