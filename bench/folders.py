@@ -1,8 +1,8 @@
 #!/usr/bin/env python3
 """Measures the packing and the making of folders by the program: one of 5,000 files of 40 MiB in 300 folders beside `cp -r` of the
-folder and `cp` of the image, and empty files and folders in one folder, in rising numbers. Of the first the least processor time of
-five runs, each into a folder of its own: where another one was taken away just before, file systems look for places that are free
-again, which costs more than the copy. Ends with 1 where a mark is missed."""
+folder and `cp` of the image; and, in rising numbers, empty files in one folder, empty folders in one, and empty files in folders of
+their own. Of the first the least processor time of five runs, each into a folder of its own: where another one was taken away just
+before, file systems look for places that are free again, which costs more than the copy. Ends with 1 where a mark is missed."""
 import os
 import pathlib
 import random
@@ -81,12 +81,14 @@ def mixed(room):
 
 
 def empty(room, kind, count):
-    """So many empty files or folders in one folder."""
+    """So many empty files or folders in one folder, or empty files in folders of their own."""
     folder = room / f"{kind}{count}"
     folder.mkdir()
     for n in range(count):
         place = folder / f"entry{n}"
-        place.mkdir() if kind == "folders" else place.touch()
+        place.touch() if kind == "files" else place.mkdir()
+        if kind == "files in folders":
+            (place / "file").touch()
     spent, peak = measure(pack(room / "empty.img", folder, 512, 65_536))
     print(f"{count} empty {kind}: pack {spent:.2f} s, {peak:.0f} MiB")
     return spent
@@ -96,7 +98,7 @@ def main():
     with tempfile.TemporaryDirectory() as folder:
         room = pathlib.Path(folder)
         mixed(room)
-        for kind in "files", "folders":
+        for kind in "files", "folders", "files in folders":
             few, _, many = [empty(room, kind, count) for count in (7_500, 15_000, 30_000)]
             mark(f"packing four times as many {kind}, by four", many / few / 4, 1.5)
     sys.exit(1 if MISSED else 0)
