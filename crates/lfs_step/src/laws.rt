@@ -18,8 +18,9 @@ pub fn steps_leave_histories()
     saved_histories_open();
 }
 
-/// A law: a list of runs of any steps, each handed the image and the journal that the one before left, leads from the history
-/// that the first image and journal denote to the one that the last denote. A run that is refused leads nowhere. Takes no memory.
+/// A law: a list of runs of any steps, with blocks of one size, each handed the image and the journal that the one before left,
+/// leads from the history that the first image and journal denote to the one that the last denote. A run that is refused leaves
+/// the history. Takes no memory.
 ///
 /// Source: own.
 pub fn runs_go_on()
