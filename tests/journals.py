@@ -134,15 +134,36 @@ def other_journals_are_refused(folder):
         ("block 8", changed(whole, 28, word(8)), NO_FORMAT),
         ("1,001 changes", changed(whole, 16, word(600) + word(401)), NO_FORMAT),
         ("1,000 changes", changed(FRESH, 16, word(1_000) + word(0)), NO_FORMAT),
+        ("more changes than a word", changed(whole, 16, word(2**32 - 1) + word(3)), NO_FORMAT),
+        ("one change more than there are", changed(whole, 16, word(3)), NO_FORMAT),
+        ("one change less than there are", changed(whole, 16, word(1)), NO_FORMAT),
+        ("numbers that fall", changed(changed(whole, 28, word(3)), 1_056, word(0)), NO_FORMAT),
+        ("greater blocks", changed(whole, 8, word(528)), NO_FORMAT),
+        ("blocks of 255 bytes", changed(FRESH, 8, word(255)), NO_FORMAT),
+        ("one block", changed(FRESH, 12, word(1)), NO_FORMAT),
+        ("blocks of another size", changed(FRESH, 8, word(256)), NO_MATCH),
     ]
     for what, data, complaint in rows:
         folder.check(f"{what}: is another", data != whole)
         journal.be(data)
         for step in "undo", "redo", "mkdir /b":
             journal.refuses(step, 3, complaint, what)
-    for length in [*range(1, 24), *range(24, len(whole), 97), len(whole) - 1]:
+
+
+def journals_cut_at_every_length(folder):
+    journal = Journal(folder)
+    for value in "01", "02":
+        journal.does(f"setattr / 74 {value}")
+    whole = journal.now()
+    folder.check("the journal's length", len(whole) == 24 + 2 * 1_032, len(whole))
+    for length in range(1, len(whole)):
         journal.be(whole[:length])
-        journal.refuses("undo", 3, NO_FORMAT, f"the first {length} bytes")
+        ended = journal.ended("undo")
+        folder.check(f"the first {length} bytes", ended == (3, NO_FORMAT, b"") and journal.now() == whole[:length], ended)
+    journal.be(whole)
+    for _ in range(2):
+        journal.does("undo")
+    journal.is_image("undo twice", journal.first)
 
 
 def block_zero(old, new):
@@ -202,6 +223,7 @@ if __name__ == "__main__":
         a_command_drops_what_was_undone,
         what_was_forgotten_is_gone,
         other_journals_are_refused,
+        journals_cut_at_every_length,
         images_of_a_history_mount,
         a_thousand_changes_are_kept,
         a_run_that_stopped_between_the_files,

@@ -6,6 +6,7 @@ complained, and what is printed: a text, or so many bytes of contents."""
 import sys
 
 from support.folder import run_scenes
+from support.littlefs import IN_BLOCKS, ROOT, Reader
 
 # The first bytes of a new image of 8 blocks of 512 bytes, computed by another program, as those below.
 NEW = bytes.fromhex(
@@ -142,6 +143,16 @@ INLINE = [
     ],
 ]
 
+# How many of 64 blocks are free beside a file of so many bytes, by the size of a block.
+TAKEN = {
+    512: [(0, 62), (64, 62), (65, 61), (512, 61), (513, 60), (1_020, 60), (1_021, 59), (3_040, 56), (3_041, 55)],
+    16_384: [(1_022, 62), (1_023, 61), (16_384, 61), (16_385, 60)],
+}
+
+# The least and the greatest images, by the size of a block and their number, and one that is too great.
+GEOMETRIES = [(256, 2), (512, 65_536), (65_536, 1_024)]
+TOO_GREAT = [("format --block 65536 --count 1025 a.img", 0, 3, "lfsed: 2 BadGeometry\n", "")]
+
 # A file that takes all blocks.
 FULL = [
     ("put --block=512 a.img /f", 3_041, 1, "lfsed: 43 NoSpace need 7 free 6\n", ""),
@@ -235,6 +246,9 @@ REFUSED = [
     ("rmattr --block=512 a.img /. 74", 0, 1, "lfsed: 35 BadPath\n", ""),
     ("setattr --block=512 a.img /.. 74 01", 0, 1, "lfsed: 35 BadPath\n", ""),
     ("rmattr --block=512 a.img /.. 74", 0, 1, "lfsed: 35 BadPath\n", ""),
+    ("mkdir --block=512 a.img /a//b", 0, 1, "lfsed: 35 BadPath\n", ""),
+    ("mkdir --block=512 a.img /a/../b", 0, 1, "lfsed: 35 BadPath\n", ""),
+    ("mkdir --block=512 a.img //a", 0, 1, "lfsed: 35 BadPath\n", ""),
 ]
 
 # An attribute of the root is set.
@@ -373,12 +387,26 @@ def verdicts(folder):
     folder.play(CIRCLE)
     folder.be(EMPTY_WITH_HEAD, 4_096)
     folder.play(EMPTY)
-    folder.check("the head stays", b"\x09\0\0\0\0\0\0\0" in folder.old()[512:])
+    (entry,) = Reader(folder.old(), 512).entries(ROOT)
+    folder.check("a head of 0", (entry.kind, entry.value, entry.attributes) == (IN_BLOCKS, bytes(8), {0x74: b"\1"}), entry.value)
     folder.image.unlink()
-    folder.play(TOO_MANY)
+    folder.play([*TOO_MANY, *TOO_GREAT])
+    for size, count in GEOMETRIES:
+        free = f"block {size}, count {count}, free {count - 2}, directories 1, files 0\n"
+        folder.play([(f"format -b {size} --count {count} a.img", 0, 0, "", ""), (f"check -b {size} a.img", 0, 0, "", free)])
+        folder.check(f"length of {count} blocks", len(folder.old()) == size * count)
+        folder.image.unlink()
 
 
 def files(folder):
+    for size, rows in TAKEN.items():
+        for length, free in rows:
+            said = f"block {size}, count 64, free {free}, directories 1, files 1\n"
+            folder.play([
+                (f"format -b {size} --count 64 a.img", 0, 0, "", ""),
+                (f"put -b {size} a.img /f", length, 0, "", ""),
+                (f"check -b {size} a.img", 0, 0, "", said),
+            ])
     for rows in [*INLINE, REPLACED, NOT_READ, NOT_PUT]:
         folder.be(NEW, 4_096)
         folder.play(rows)

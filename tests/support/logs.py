@@ -8,17 +8,38 @@ FILE, DIRECTORY, SUPERBLOCK = 0x001, 0x002, 0x0FF
 SOFT, HARD = 0x600, 0x601
 
 
+class Draft:
+    """A log that is put together commit by commit: a revision, and what is added to it."""
+
+    def __init__(self, revision):
+        self.bytes, self.begin, self.before = struct.pack("<I", revision), 0, 0xFFFF_FFFF
+
+    def tag(self, kind, number, length, value=b""):
+        """Adds a tag and its bytes."""
+        word = kind << 20 | number << 10 | length
+        self.bytes, self.before = self.bytes + struct.pack(">I", word ^ self.before) + value, word
+        return self
+
+    def add(self, items):
+        """Adds items of kind, entry and value. A value of None is a deleted one."""
+        for kind, number, value in items:
+            self.tag(kind, number, DELETED if value is None else len(value), value or b"")
+        return self
+
+    def close(self, kind=0x500, padding=0, length=None):
+        """Closes a commit by the checksum and padding, or by a tag that says another length."""
+        self.tag(kind, NO_ENTRY, 4 + padding if length is None else length)
+        checksum = zlib.crc32(self.bytes[self.begin:]) ^ 0xFFFF_FFFF
+        self.bytes += struct.pack("<I", checksum) + padding * b"\xff"
+        self.begin, self.before = len(self.bytes), self.before ^ (kind & 1) << 31
+        return self
+
+
 def log(revision, items, step=1):
     """A log of one commit: items of kind, entry and value, and their checksum. A value of None is a deleted one. The commit
     is padded so that it ends at a multiple of a step."""
-    bytes_out, before = struct.pack("<I", revision), 0xFFFF_FFFF
-    for kind, number, value in items:
-        word = kind << 20 | number << 10 | (DELETED if value is None else len(value))
-        bytes_out += struct.pack(">I", word ^ before) + (value or b"")
-        before = word
-    padding = -(len(bytes_out) + 8) % step
-    bytes_out += struct.pack(">I", (0x500 << 20 | NO_ENTRY << 10 | 4 + padding) ^ before)
-    return bytes_out + struct.pack("<I", zlib.crc32(bytes_out) ^ 0xFFFF_FFFF) + padding * b"\xff"
+    draft = Draft(revision).add(items)
+    return draft.close(padding=-(len(draft.bytes) + 8) % step).bytes
 
 
 def superblock(size, count, name=255, file=2_147_483_647, attribute=1_022):

@@ -3,12 +3,12 @@
 ghost use Rattle.std.specs.Prelude.{◌≡◌, ◌<◌, ◌≤◌, ◌∷◌, [], length, sum_by, IfOk};
 ghost use Rattle.lfs_fs.specs.Directory.{thread};
 ghost use Rattle.lfs_command.specs.Need.{dirty_parts, part_blocks};
-ghost use Rattle.lfs_draft.specs.Chosen.{HasPairsOnce};
+ghost use Rattle.lfs_cut.specs.Chosen.{HasPairsOnce};
 
 use crate::images::small_image;
 use arrayvec::ArrayVec;
 use lfs_command::Refusal;
-use lfs_draft::{NewPairs, choose, clean, cut, needed};
+use lfs_cut::{NewPairs, choose, clean, cut, needed};
 use lfs_fs::{
     Delta, Limits, Outline, OutlineBody, OutlineDirectory, OutlineEntry, OutlinePart, UsedBlocks,
     mount, outlines_are_sound,

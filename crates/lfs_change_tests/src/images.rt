@@ -62,7 +62,7 @@ pub(crate) fn carries_out(
     commands: &[Command<'_>],
 ) {
     for command in commands {
-        assert_eq!(rt; session.command(alloc, command), Ok(()), "{command:?}");
+        assert_eq!(rt; session.command(alloc, command), Ok(()));
     }
 }
 

@@ -188,7 +188,7 @@ const ATTRIBUTES: [Judged; 4] = [
 // asserts what commands are refused for
 fn are_judged(rt: &impl Abort, alloc: Global, outline: &Outline, rows: &[Judged]) {
     for (command, wanted) in rows {
-        assert_eq!(rt; refusal(alloc, outline, command), *wanted, "{command:?}");
+        assert_eq!(rt; refusal(alloc, outline, command), *wanted);
     }
 }
 
@@ -229,7 +229,7 @@ fn parts_lead_that_have_the_entry(rt: HostRuntime) -> Result<(), Fail> {
     let outline = small_outline(rt.alloc())?;
     for (command, wanted) in &LEADING {
         let named = by_names(rt.alloc(), command)?;
-        assert_eq!(rt; leading_pair(&outline, &named), *wanted, "{command:?}");
+        assert_eq!(rt; leading_pair(&outline, &named), *wanted);
     }
     Ok(())
 }

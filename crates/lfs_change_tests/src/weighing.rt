@@ -1,6 +1,7 @@
 //! What an entry takes of a block.
 
-use lfs_draft::{new_entry, run_takes, weight};
+use lfs_cut::{run_takes, weight};
+use lfs_draft::new_entry;
 use lfs_fs::OutlineBody;
 use std::test::Fail;
 

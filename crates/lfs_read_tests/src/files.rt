@@ -78,60 +78,34 @@ fn lay_in(alloc: Global, file: &[u8], blocks: &[u32], size: u32) -> Option<Vec<V
 fn gives_the_contents(rt: HostRuntime) -> Result<(), Fail> {
     let alloc = rt.alloc();
     let image = Image::new(image_bytes(alloc)?, 512).map_err(|refused| refused.0)?;
-    for (head, size) in [(7, 0), (2, 1), (2, 512), (3, 513), (7, 2_533), (7, 3_040)] {
-        let found = chain(alloc, &image, head, size)?;
-        let bytes = join(alloc, &image, &found, size)?;
-        let want = file_bytes(alloc, size as usize)?;
-        assert!(rt; bytes == want, "at {size}");
-    }
+    let found = chain(alloc, &image, 7, 3_040)?;
+    assert!(rt; found.as_slice() == [2, 3, 4, 5, 6, 7].as_slice());
+    let bytes = join(alloc, &image, &found, 3_040)?;
+    let want = file_bytes(alloc, 3_040)?;
+    assert!(rt; bytes == want);
     Ok(())
 }
 
+/// A size of blocks, and how many the longest file takes.
+const LONGEST: [(u32, u32); 2] = [(256, 17_318_417), (65_536, 65_545)];
+
 #[test]
-fn cuts_a_slice_for_each_block(rt: HostRuntime) -> Result<(), Fail> {
-    let alloc = rt.alloc();
-    let image = Image::new(image_bytes(alloc)?, 512).map_err(|refused| refused.0)?;
-    let found = chain(alloc, &image, 7, 2_533)?;
-    let mut lengths = Vec::new(alloc);
-    for slice in read_file(&image, &found, 2_533) {
-        lengths.push(slice.len())?;
+fn takes_the_least_blocks(rt: HostRuntime) {
+    for (size, want) in &LONGEST {
+        assert_eq!(rt; blocks_for(0xffff_ffff, *size), *want);
     }
-    assert_eq!(rt; lengths.as_slice(), [512, 508, 504, 508, 500, 1].as_slice());
-    Ok(())
 }
 
 #[test]
 fn lays_blocks(rt: HostRuntime) -> Result<(), Fail> {
     let alloc = rt.alloc();
     let file = file_bytes(alloc, 3_040)?;
-    let laid = lay_in(alloc, &file, &[2, 3, 4, 5, 6, 7], 512).expect(&rt, "laid");
+    let laid = lay_in(alloc, &file, &[2, 3, 4, 5, 6, 7], 512).ok_or("not laid")?;
     let mut bytes = vec![in alloc; 0u8; 1_024]?;
     for block in &laid {
-        assert_eq!(rt; block.len(), 512);
         bytes.extend_from_slice(block)?;
     }
     let want = image_bytes(alloc)?;
     assert!(rt; bytes == want);
-    let image = Image::new(bytes, 512).map_err(|refused| refused.0)?;
-    let found = chain(alloc, &image, 7, 3_040)?;
-    assert_eq!(rt; found.as_slice(), [2, 3, 4, 5, 6, 7].as_slice());
-    Ok(())
-}
-
-#[test]
-fn fills_the_last_block(rt: HostRuntime) -> Result<(), Fail> {
-    let alloc = rt.alloc();
-    let file = file_bytes(alloc, 257)?;
-    let laid = lay_in(alloc, &file, &[0x0102, 9], 256).expect(&rt, "laid");
-    let mut bytes = Vec::new(alloc);
-    for block in &laid {
-        bytes.extend_from_slice(block)?;
-    }
-    let mut want = file_bytes(alloc, 256)?;
-    want.extend_from_slice(&[2, 1, 0, 0, 5])?;
-    want.resize(512, 0xff)?;
-    assert!(rt; bytes == want);
-    let none = lay_in(alloc, &[], &[], 256).expect(&rt, "laid");
-    assert!(rt; none.is_empty());
     Ok(())
 }

@@ -1,7 +1,7 @@
 //! Images that the tests read.
 
 use crate::samples::block_of;
-use lfs_block::{Image, MountFault};
+use lfs_block::Image;
 use lfs_meta::{Body, Entry, Kind, Part, read_pair};
 use std::alloc::{AllocError, Global};
 use std::test::Fail;
@@ -13,22 +13,13 @@ pub(crate) fn pair_of(alloc: Global, first: &[u8], second: &[u8]) -> Result<Imag
     Ok(Image::new(bytes, 256).map_err(|refused| refused.0)?)
 }
 
-/// What the pair of two such blocks holds, or why it holds nothing.
-pub(crate) fn read(
-    alloc: Global,
-    first: &[u8],
-    second: &[u8],
-) -> Result<Result<Part, MountFault>, Fail> {
-    let image = pair_of(alloc, first, second)?;
-    Ok(read_pair(alloc, &image, (0, 1)))
-}
-
 /// What the pair of such a block and an erased one holds.
 pub(crate) fn part_of(alloc: Global, log: &[u8]) -> Result<Part, Fail> {
-    Ok(read(alloc, log, b"")??)
+    let image = pair_of(alloc, log, b"")?;
+    Ok(read_pair(alloc, &image, (0, 1))?)
 }
 
-/// A file without contents, which weighs 9.
+/// A file without contents.
 pub(crate) fn file(alloc: Global) -> Result<Entry, AllocError> {
     Ok(Entry {
         name: Vec::from_slice(alloc, b"f")?,

@@ -1,17 +1,6 @@
 //! Logs of small images, which were put together tag by tag, with checksums of their own, by another program. An image of
 //! them has 8 blocks of 512 bytes, and each block is erased behind its log.
 
-// The superblock of 512 by 8, a file `a` with `hi` and an attribute 7 of `!`, a directory `d` of {2, 3}, and a hard
-// tail to {4, 5}.
-pub(crate) const ROOT: &[u8] = b"\
-    \x01\x00\x00\x00\xf0\x0f\xff\xf7littlefs/\xe0\x00\x10\x00\x00\x02\x00\x00\x02\x00\x00\x08\
-    \x00\x00\x00\xff\x00\x00\x00\xff\xff\xff\x7f\xfe\x03\x00\x00`\x00\x04\x18@\x00\x00\x01a \
-    \x00\x00\x03hi\x10`\x00\x03!p`\x0c\x01@0\x00\x01d  \x00\x09\x02\x00\x00\x00\x03\x00\x00\x00\
-    @\x1f\xf4\x00\x04\x00\x00\x00\x05\x00\x00\x000\x10\x00\x03\x1f\xe8\xa6b";
-// A file `e` of 600 bytes whose last block is 7, and a soft tail to {2, 3}.
-pub(crate) const MORE: &[u8] = b"\
-    \x01\x00\x00\x00\xff\xef\xff\xfee 0\x00\x09\x07\x00\x00\x00X\x02\x00\x00@/\xfc\x00\x02\x00\
-    \x00\x00\x03\x00\x00\x000\x00\x00\x03\x8b\x01\xfb\x81";
 // A file `x`.
 pub(crate) const BELOW: &[u8] = b"\x01\x00\x00\x00\xff\xef\xff\xfex \x00\x00\x01p\x1f\xfc\x0fd'yy";
 // The superblock, a file `ab` with `hi`, an empty file `a` with an attribute 7 of `!`, a directory `d` of {4, 3}, a file `e` of

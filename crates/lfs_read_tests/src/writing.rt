@@ -3,7 +3,7 @@
 ghost use Rattle.std.specs.Prelude.{◌≡◌, ◌≤◌, length};
 ghost use Rattle.lfs_meta.specs.Weighing.{weights};
 
-use crate::images::{pair_of, part_of, read};
+use crate::images::pair_of;
 use crate::samples::block_of;
 use lfs_block::{Blocks, Image, MountFault};
 use lfs_meta::{Entry, Tail, first_block, read_pair, rewrite, weight};
@@ -34,24 +34,6 @@ const LAST_BUT_ONE: &[u8] =
     b"\xfe\xff\xff\xff\xff\xef\xff\xfez \x00\x00\x01p\x1f\xfc\x04(\xd8M\xf6";
 
 const DELTA: [u8; 12] = [0, 0, 0xf0, 0x4f, 2, 0, 0, 0, 3, 0, 0, 0];
-
-/// What the three entries weigh.
-const WEIGHTS: [u32; 3] = [28, 19, 19];
-
-/// Asserts what entries weigh.
-fn weigh(rt: &impl Abort, entries: &[Entry], wanted: &[u32]) {
-    assert_eq!(rt; entries.len(), wanted.len());
-    for (entry, wanted) in entries.iter().zip(wanted) {
-        assert_eq!(rt; weight(entry), *wanted);
-    }
-}
-
-#[test]
-fn entries_have_weights(rt: HostRuntime) -> Result<(), Fail> {
-    let part = part_of(rt.alloc(), THREE_ENTRIES)?;
-    weigh(&rt, &part.entries, &WEIGHTS);
-    Ok(())
-}
 
 /// The bytes that at most 1,000 entries take of a block.
 fn weights(entries: &[Entry]) -> u32
@@ -87,7 +69,7 @@ fn rewritten(rt: &impl Abort, alloc: Global, image: &Image) -> Result<(u32, Vec<
 /// Asserts that bytes are a block with this log.
 fn is_block(rt: &impl Abort, alloc: Global, bytes: &[u8], log: &[u8]) -> Result<(), AllocError> {
     let block = block_of(alloc, 256, log)?;
-    assert_eq!(rt; bytes, block.as_slice());
+    assert!(rt; bytes == block.as_slice());
     Ok(())
 }
 
@@ -98,16 +80,6 @@ fn rewrites_the_block_that_is_not_live(rt: HostRuntime) -> Result<(), Fail> {
     let (number, bytes) = rewritten(&rt, rt.alloc(), &image)?;
     assert_eq!(rt; number, 1);
     is_block(&rt, rt.alloc(), &bytes, REWRITTEN)?;
-    Ok(())
-}
-
-#[test]
-fn a_rewritten_pair_is_read(rt: HostRuntime) -> Result<(), Fail> {
-    let first = three_entries(rt.alloc())?;
-    let part = read(rt.alloc(), &first, REWRITTEN)??;
-    let (tail, delta) = (part.tail, part.delta);
-    assert_eq!(rt; tail, Tail::Hard(6, 7));
-    assert_eq!(rt; delta, DELTA);
     Ok(())
 }
 

@@ -9,15 +9,16 @@ use Rattle.lfs_request.specs.declared.request.Request.{Request}
 use Rattle.lfs_request.specs.declared.task.Task.{Task}
 use Rattle.lfs_request.specs.declared.task.Task.TheVariants as task
 use Rattle.lfs_request.specs.Asking.{AsksFor}
-use Rattle.lfs_serve.specs.declared.kind.Kind.{Kind}
-use Rattle.lfs_serve.specs.declared.kind.Kind.TheVariants.{Asks}
+use Rattle.lfs_exchange.specs.declared.kind.Kind.{Kind}
+use Rattle.lfs_exchange.specs.declared.kind.Kind.TheVariants.{Asks}
 use Rattle.lfs_host.specs.Files.{Files}
 use Rattle.lfs_host.specs.HostTree.{HostTree}
 use Rattle.lfs_pack.specs.declared.pack_row.PackRow.{PackRow}
-use Rattle.lfs_serve.specs.Kind.{kind_of}
-use Rattle.lfs_serve.specs.Storing.{LeavesFiles, SparesFiles}
+use Rattle.lfs_exchange.specs.Kind.{kind_of}
+use Rattle.lfs_exchange.specs.Storing.{LeavesFiles, SparesFiles}
 use Rattle.lfs_serve_tests.specs.Asking.{OnlyAsks}
-use Rattle.lfs_serve.specs.Program.{EndsRequest, EndsStep, EndsTask, Scene}
+use Rattle.lfs_exchange.specs.Handing.{Scene}
+use Rattle.lfs_serve.specs.Program.{EndsRequest, EndsStep, EndsTask}
 
 -- the step that asks, where the task does
 asks_for : (task : Task) (rows : List PackRow) (step : Step) → OnlyAsks task → AsksFor task rows step → kind_of step ≡ Asks

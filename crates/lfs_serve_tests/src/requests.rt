@@ -66,8 +66,8 @@ pub(crate) fn ends(
         image: IMAGE,
     };
     let status = served(alloc, host, &request);
-    assert!(rt; has_told(host, end.told), "{task:?}");
-    assert_eq!(rt; status, end.status, "{task:?}");
+    assert!(rt; has_told(host, end.told));
+    assert_eq!(rt; status, end.status);
 }
 
 /// Asserts that tasks are done, one after another.
@@ -92,7 +92,7 @@ pub(crate) fn is_refused(
 ) -> Result<(), AllocError> {
     let files = host.files.clone()?;
     ends(rt, alloc, host, task, end);
-    assert!(rt; host.files == files, "{task:?}");
+    assert!(rt; host.files == files);
     Ok(())
 }
 

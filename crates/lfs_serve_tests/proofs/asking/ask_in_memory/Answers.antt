@@ -1,6 +1,6 @@
 use Rattle.std.proofs.Common.{Some, None}
 use Rattle.lfs_host.specs.MemoryFiles.{files_of}
-use Rattle.lfs_serve.specs.Program.{Scene, scene}
+use Rattle.lfs_exchange.specs.Handing.{Scene, scene}
 use Rattle.lfs_serve_tests.proofs.AskingLemmas.{asking_keeps, some_same}
 use Rattle.lfs_serve_tests.proofs.asking.ask_in_memory.Goals as goal
 
