@@ -3,7 +3,7 @@
 /// Before a change, or after it.
 ///
 /// Source: own.
-#[derive(Clone, Copy, Debug, PartialEq, Eq)]
+#[derive(Clone, Copy, PartialEq, Eq)]
 pub enum Side {
     /// Before it.
     Old,

@@ -1,6 +1,7 @@
 //! Why bytes are no journal.
 
 use std::alloc::{AllocError, AllocFailed};
+use std::fmt;
 use thiserror::Error;
 
 /// Why bytes are not read as a journal.
@@ -9,10 +10,8 @@ use thiserror::Error;
 #[derive(Clone, Copy, Debug, PartialEq, Eq, Error)]
 pub enum JournalFault {
     /// The bytes are no journal.
-    #[error("JournalFormat")]
     JournalFormat,
     /// A growth of memory was refused.
-    #[error("Memory")]
     Memory,
 }
 
@@ -28,6 +27,20 @@ impl JournalFault {
             JournalFault::JournalFormat => 50,
             JournalFault::Memory => 44,
         }
+    }
+
+    /// The fault's name, as the program prints it.
+    pub fn name(self) -> &'static str {
+        match self {
+            JournalFault::JournalFormat => "JournalFormat",
+            JournalFault::Memory => "Memory",
+        }
+    }
+}
+
+impl fmt::Display for JournalFault {
+    fn fmt<W: fmt::Write>(&self, f: &mut fmt::Formatter<W>) -> fmt::Result {
+        f.write_str(self.name())
     }
 }
 

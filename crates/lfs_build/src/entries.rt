@@ -11,7 +11,7 @@ ghost use Rattle.lfs_build.specs.Adding.{file_blocks, file_body};
 use crate::new_volume::NewVolume;
 use lfs_block::Blocks;
 use lfs_command::most_inline;
-use lfs_draft::weight;
+use lfs_cut::weight;
 use lfs_file::blocks_for;
 use lfs_fs::{OutlineBody, OutlineEntry};
 use std::alloc::{AllocError, Global};

@@ -2,7 +2,7 @@
 
 ghost use Rattle.std.specs.Prelude.{◌≤◌};
 
-use lfs_draft::{run_takes, weight};
+use lfs_cut::{run_takes, weight};
 use lfs_fs::{Delta, OutlineDirectory, OutlineEntry, OutlinePart, precedes};
 use std::alloc::{AllocError, Global};
 

@@ -4,6 +4,7 @@ use lfs_block::{ImageFault, MountFault};
 use lfs_command::Refusal;
 use lfs_history::{OpenFault, StepFault};
 use std::alloc::AllocError;
+use std::fmt;
 use thiserror::Error;
 
 /// Why the program ends without having done what it was asked for.
@@ -12,40 +13,28 @@ use thiserror::Error;
 #[derive(Clone, Copy, Debug, PartialEq, Eq, Error)]
 pub enum Fault {
     /// The bytes are no image.
-    #[error(transparent)]
     Image(ImageFault),
     /// The image does not mount.
-    #[error(transparent)]
     Mount(MountFault),
     /// The change is refused, or a growth of memory was.
-    #[error(transparent)]
     Refused(Refusal),
     /// The step is refused for what was done before it.
-    #[error(transparent)]
     Step(StepFault),
     /// The bytes are no journal.
-    #[error("JournalFormat")]
     JournalFormat,
     /// The journal denotes no history of the image.
-    #[error("JournalMismatch")]
     JournalMismatch,
     /// Another image of the journal's history does not mount.
-    #[error("JournalImage")]
     JournalImage,
     /// A file or a folder could not be read.
-    #[error("CannotRead")]
     CannotRead,
     /// A file or standard output could not be written.
-    #[error("CannotWrite")]
     CannotWrite,
     /// Something below a folder is neither a regular file nor a folder.
-    #[error("HostEntry")]
     HostEntry,
     /// A name below a folder can't be one in an image.
-    #[error("HostName")]
     HostName,
     /// An argument is not made of as many hexadecimal digits as it takes.
-    #[error("BadHex")]
     BadHex,
 }
 
@@ -83,6 +72,34 @@ impl Fault {
             64 => 2,
             1..=21 | 50..=52 => 3,
             _ => 4,
+        }
+    }
+
+    /// The fault's name, as the program prints it.
+    pub fn name(self) -> &'static str {
+        match self {
+            Fault::Image(fault) => fault.name(),
+            Fault::Mount(fault) => fault.name(),
+            Fault::Refused(refusal) => refusal.name(),
+            Fault::Step(fault) => fault.name(),
+            Fault::JournalFormat => "JournalFormat",
+            Fault::JournalMismatch => "JournalMismatch",
+            Fault::JournalImage => "JournalImage",
+            Fault::CannotRead => "CannotRead",
+            Fault::CannotWrite => "CannotWrite",
+            Fault::HostEntry => "HostEntry",
+            Fault::HostName => "HostName",
+            Fault::BadHex => "BadHex",
+        }
+    }
+}
+
+impl fmt::Display for Fault {
+    fn fmt<W: fmt::Write>(&self, f: &mut fmt::Formatter<W>) -> fmt::Result {
+        match self {
+            Fault::Refused(refusal) => refusal.fmt(f),
+            Fault::Step(fault) => fault.fmt(f),
+            fault => f.write_str(fault.name()),
         }
     }
 }

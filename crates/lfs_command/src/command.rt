@@ -3,7 +3,7 @@
 /// A change of an image that is asked for, its paths as texts.
 ///
 /// Source: own.
-#[derive(Clone, Copy, Debug)]
+#[derive(Clone, Copy)]
 pub enum Command<'a> {
     /// Makes a directory.
     Mkdir {

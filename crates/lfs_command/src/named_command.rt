@@ -3,7 +3,7 @@
 /// A command, its paths as names from the root on.
 ///
 /// Source: own.
-#[derive(Debug, Drop)]
+#[derive(Drop)]
 pub enum NamedCommand<'a> {
     /// Makes a directory.
     Mkdir {

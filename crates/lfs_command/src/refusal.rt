@@ -1,6 +1,7 @@
 //! Why a new image or a change is refused.
 
 use std::alloc::AllocError;
+use std::fmt;
 use thiserror::Error;
 
 /// Why a new image or a change is refused.
@@ -9,46 +10,32 @@ use thiserror::Error;
 #[derive(Clone, Copy, Debug, PartialEq, Eq, Error)]
 pub enum Refusal {
     /// Nothing is at the path, or at a front of it.
-    #[error("NotFound")]
     NotFound,
     /// Something is at the path already.
-    #[error("Exists")]
     Exists,
     /// A file is at a front of the path.
-    #[error("NotADirectory")]
     NotADirectory,
     /// A directory is at the path of a file.
-    #[error("IsADirectory")]
     IsADirectory,
     /// The directory to be removed has an entry.
-    #[error("NotEmpty")]
     NotEmpty,
     /// The text spells no path.
-    #[error("BadPath")]
     BadPath,
     /// The new name is longer than the image's limit.
-    #[error("NameTooLong")]
     NameTooLong,
     /// The contents are longer than the image's limit.
-    #[error("FileTooLarge")]
     FileTooLarge,
     /// The attribute's value is longer than the image's limit.
-    #[error("AttrTooLarge")]
     AttrTooLarge,
     /// There is no attribute of that kind.
-    #[error("NoAttr")]
     NoAttr,
     /// A directory can't be moved to a place below itself.
-    #[error("IntoItself")]
     IntoItself,
     /// The root can't be made, put, removed or moved.
-    #[error("IsRoot")]
     IsRoot,
     /// An entry of a part that the command sets is larger than a block has room for.
-    #[error("EntryTooLarge")]
     EntryTooLarge,
     /// The command needs more new blocks than are free.
-    #[error("NoSpace need {need} free {free}")]
     NoSpace {
         /// How many new blocks the command needs.
         need: u32,
@@ -56,7 +43,6 @@ pub enum Refusal {
         free: u32,
     },
     /// A growth of memory was refused.
-    #[error("Memory")]
     Memory,
 }
 
@@ -84,6 +70,36 @@ impl Refusal {
             Refusal::EntryTooLarge => 42,
             Refusal::NoSpace { .. } => 43,
             Refusal::Memory => 44,
+        }
+    }
+
+    /// The refusal's name, as the program prints it.
+    pub fn name(self) -> &'static str {
+        match self {
+            Refusal::NotFound => "NotFound",
+            Refusal::Exists => "Exists",
+            Refusal::NotADirectory => "NotADirectory",
+            Refusal::IsADirectory => "IsADirectory",
+            Refusal::NotEmpty => "NotEmpty",
+            Refusal::BadPath => "BadPath",
+            Refusal::NameTooLong => "NameTooLong",
+            Refusal::FileTooLarge => "FileTooLarge",
+            Refusal::AttrTooLarge => "AttrTooLarge",
+            Refusal::NoAttr => "NoAttr",
+            Refusal::IntoItself => "IntoItself",
+            Refusal::IsRoot => "IsRoot",
+            Refusal::EntryTooLarge => "EntryTooLarge",
+            Refusal::NoSpace { .. } => "NoSpace",
+            Refusal::Memory => "Memory",
+        }
+    }
+}
+
+impl fmt::Display for Refusal {
+    fn fmt<W: fmt::Write>(&self, f: &mut fmt::Formatter<W>) -> fmt::Result {
+        match self {
+            Refusal::NoSpace { need, free } => write!(f, "NoSpace need {need} free {free}"),
+            refusal => f.write_str(refusal.name()),
         }
     }
 }

@@ -5,14 +5,8 @@ pub mod LastParts
 pub mod AddedDirectories
 pub mod OneNamed
 pub mod TakenDirectories
-pub mod RunSplits
-pub mod SetPartLemmas
 pub mod WalkSteps
 pub mod EditableLemmas
 pub mod BareDirectories
 pub mod PathsBelow
-pub mod GrowthLemmas
-pub mod SumLemmas
-pub mod ChosenPairs
-pub mod CutPartLemmas
 pub mod NoHome

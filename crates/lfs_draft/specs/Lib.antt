@@ -1,10 +1,4 @@
 pub mod LeastSupplies
-pub mod RoomChecks
 pub mod EntryChange
-pub mod Splitting
 pub mod Editable
-pub mod SetParts
-pub mod Growth
-pub mod Chosen
-pub mod CutParts
 pub mod Leading

@@ -8,7 +8,7 @@ use lfs_meta::{remove_attribute, set_attribute};
 use std::alloc::{AllocError, Global};
 
 /// What a command does to an entry that is there.
-#[derive(Debug, Drop)]
+#[derive(Drop)]
 pub(crate) enum EntryChange<'a> {
     /// Its contents are others.
     Body(OutlineBody),

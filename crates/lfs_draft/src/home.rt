@@ -10,7 +10,7 @@ use lfs_command::Refusal;
 use lfs_fs::Outline;
 
 /// The directory that a path's last name belongs to, and that name.
-#[derive(Clone, Copy, Debug)]
+#[derive(Clone, Copy)]
 pub(crate) struct Home<'a> {
     /// The directory's pair, the lesser block first.
     pub(crate) pair: (u32, u32),

@@ -28,7 +28,7 @@ use Rattle.lfs_command.specs.declared.refusal.Refusal.{Refusal}
 use Rattle.lfs_command.specs.declared.refusal.Refusal.TheVariants.{EntryTooLarge, FileTooLarge, IsADirectory, IsRoot, Memory, NameTooLong}
 use Rattle.lfs_command.specs.declared.refusal.Refusal.TheVariants.{NoSpace}
 use Rattle.lfs_draft.specs.LeastSupplies.{least_pair, least_supplies, made_blocks}
-use Rattle.lfs_draft.specs.RoomChecks.{room_checks_on}
+use Rattle.lfs_cut.specs.RoomChecks.{room_checks_on}
 use Rattle.lfs_edit.specs.Carried.{IsJudged, IsReady, IsRefusedBy, IsUnweighed, supplies_of}
 use Rattle.lfs_edit.specs.CarryingLaws.{CarryingLaws}
 use Rattle.lfs_command.specs.Command.{Asked, Command, Mkdir, Mv, Put, Rm, RmAttr, SetAttr, Spells}

@@ -7,7 +7,7 @@ use Rattle.lfs_fs.specs.Pair.{same_pair}
 use Rattle.lfs_fs.specs.Directory.{Part, thread}
 use Rattle.lfs_fs.specs.Volume.{Volume}
 use Rattle.lfs_fs.specs.Uses.{pair_uses, times, uses}
-use Rattle.lfs_draft.specs.Chosen.{HasPairsOnce}
+use Rattle.lfs_cut.specs.Chosen.{HasPairsOnce}
 use Rattle.lfs_law.proofs.Decided.{same_pair_decides}
 use Rattle.lfs_law.proofs.WrittenLemmas.{part_uses, sum_thread}
 

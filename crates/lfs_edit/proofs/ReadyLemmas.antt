@@ -13,7 +13,7 @@ use Rattle.lfs_command.specs.Accepted.{Follows, IsAccepted}
 use Rattle.lfs_draft.specs.LeastSupplies.{made_blocks}
 use Rattle.lfs_edit.specs.Carried.{IsReady, supplies_of}
 use Rattle.lfs_edit.specs.CarryingLaws.{CarryingLaws}
-use Rattle.lfs_draft.specs.Chosen.{HasPairsOnce}
+use Rattle.lfs_cut.specs.Chosen.{HasPairsOnce}
 use Rattle.lfs_command.specs.Command.{Command}
 use Rattle.lfs_command.specs.Edited.{edited}
 use Rattle.lfs_command.specs.Need.{dirty_parts, need, part_blocks}

@@ -10,9 +10,9 @@ ghost use Rattle.lfs_fs.specs.Volume.{Volume};
 ghost use Rattle.lfs_command.specs.declared.refusal.Refusal.TheVariants.{Memory};
 ghost use Rattle.lfs_command.specs.AskedFor.{asked_for};
 ghost use Rattle.lfs_draft.specs.LeastSupplies.{least_supplies};
-ghost use Rattle.lfs_draft.specs.RoomChecks.{room_checks_on};
+ghost use Rattle.lfs_cut.specs.RoomChecks.{room_checks_on};
 ghost use Rattle.lfs_edit.specs.Carried.{IsCutOver, IsCutReady, IsFinished, IsJudged, IsReady, IsRefusedBy};
-ghost use Rattle.lfs_draft.specs.Chosen.{HasPairsOnce};
+ghost use Rattle.lfs_cut.specs.Chosen.{HasPairsOnce};
 ghost use Rattle.lfs_command.specs.Clean.{clean};
 ghost use Rattle.lfs_command.specs.Cut.{runs};
 ghost use Rattle.lfs_draft.specs.Editable.{IsEditable};
@@ -25,7 +25,8 @@ ghost use Rattle.lfs_command.specs.Verdict.{first_refusal};
 use crate::carrying_laws::carrying_laws;
 use lfs_block::{Blocks, Image, Patch};
 use lfs_command::{NamedCommand, Refusal, data_blocks, directory_blocks};
-use lfs_draft::{choose, clean, cut, edit, leading_pair, least_supplies, needed};
+use lfs_cut::{choose, clean, cut, needed};
+use lfs_draft::{edit, leading_pair, least_supplies};
 use lfs_fs::{Outline, UsedBlocks, names_are_ordered, outlines_are_sound};
 use lfs_law::{
     commands_set_a_part, cut_links_can_be_written, held_superblocks_are_made,

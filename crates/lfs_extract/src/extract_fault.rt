@@ -2,6 +2,7 @@
 
 use lfs_host::HostFault;
 use std::alloc::AllocError;
+use std::fmt;
 use thiserror::Error;
 
 /// Why the rows of an image do not all become files and folders of a host.
@@ -10,14 +11,28 @@ use thiserror::Error;
 #[derive(Clone, Copy, Debug, PartialEq, Eq, Error)]
 pub enum ExtractFault {
     /// A growth of memory was refused.
-    #[error("Memory")]
     Memory,
     /// A name of a row isn't UTF-8, or holds a zero byte.
-    #[error("HostName")]
     HostName,
     /// The host refuses to make a folder or a file, or to write to one.
-    #[error("CannotWrite")]
     CannotWrite,
+}
+
+impl ExtractFault {
+    /// The fault's name, as the program prints it.
+    pub fn name(self) -> &'static str {
+        match self {
+            ExtractFault::Memory => "Memory",
+            ExtractFault::HostName => "HostName",
+            ExtractFault::CannotWrite => "CannotWrite",
+        }
+    }
+}
+
+impl fmt::Display for ExtractFault {
+    fn fmt<W: fmt::Write>(&self, f: &mut fmt::Formatter<W>) -> fmt::Result {
+        f.write_str(self.name())
+    }
 }
 
 impl From<AllocError> for ExtractFault {

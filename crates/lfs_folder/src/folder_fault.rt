@@ -2,6 +2,7 @@
 
 use lfs_host::{ListFault, ReadFault};
 use std::alloc::AllocError;
+use std::fmt;
 use thiserror::Error;
 
 /// Why a folder is not read.
@@ -10,19 +11,33 @@ use thiserror::Error;
 #[derive(Clone, Copy, Debug, PartialEq, Eq, Error)]
 pub enum FolderFault {
     /// A growth of memory was refused.
-    #[error("Memory")]
     Memory,
     /// Something below the folder is neither a regular file nor a folder.
-    #[error("HostEntry")]
     HostEntry,
     /// A name below the folder isn't UTF-8, or can't be one in an image: it is empty, holds a zero byte or a slash, or is
     /// `.` or `..`.
-    #[error("HostName")]
     HostName,
     /// Something can't be read: the host refuses, the folder is none, a name stands twice in one folder, or there are more
     /// files and folders than an image can hold.
-    #[error("CannotRead")]
     CannotRead,
+}
+
+impl FolderFault {
+    /// The fault's name, as the program prints it.
+    pub fn name(self) -> &'static str {
+        match self {
+            FolderFault::Memory => "Memory",
+            FolderFault::HostEntry => "HostEntry",
+            FolderFault::HostName => "HostName",
+            FolderFault::CannotRead => "CannotRead",
+        }
+    }
+}
+
+impl fmt::Display for FolderFault {
+    fn fmt<W: fmt::Write>(&self, f: &mut fmt::Formatter<W>) -> fmt::Result {
+        f.write_str(self.name())
+    }
 }
 
 impl From<AllocError> for FolderFault {

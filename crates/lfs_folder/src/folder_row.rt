@@ -3,7 +3,7 @@
 /// What stands at a path below a host's folder.
 ///
 /// Source: own.
-#[derive(Debug, Drop)]
+#[derive(Drop)]
 pub struct FolderRow {
     /// The path's text: `/` for the folder itself, and else a slash before each name.
     pub path: Vec<u8>,

@@ -9,7 +9,7 @@ use std::marker::Model;
 /// A pair's share of the global state: twelve bytes as a little-endian number.
 ///
 /// Source: SPEC.md, "0x7xx global state".
-#[derive(Debug, Drop)]
+#[derive(Drop)]
 pub struct Delta {
     // the first four bytes
     word: u32,

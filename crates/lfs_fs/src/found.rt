@@ -6,7 +6,7 @@ use crate::thread_reading::ROOT;
 /// What stands at a path: the root, which has no entry, or an entry of a directory.
 ///
 /// Source: own.
-#[derive(Clone, Copy, Debug, Drop)]
+#[derive(Clone, Copy, Drop)]
 pub enum Found<'a> {
     /// The root.
     Root,

@@ -3,7 +3,7 @@
 /// The greatest length of a name, a file and an attribute, in bytes.
 ///
 /// Source: SPEC.md, "0x0ff superblock".
-#[derive(Clone, Copy, Debug, PartialEq, Eq)]
+#[derive(Clone, Copy, PartialEq, Eq)]
 pub struct Limits {
     /// Of a name.
     pub name: u32,

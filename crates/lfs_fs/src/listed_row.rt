@@ -9,7 +9,7 @@ use std::marker::Model;
 /// contents of a chain have bytes stand for them.
 ///
 /// Source: own.
-#[derive(Debug, Drop)]
+#[derive(Drop)]
 pub struct Row<'a> {
     /// The number of names in its path.
     pub depth: usize,

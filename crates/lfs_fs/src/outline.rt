@@ -12,7 +12,7 @@ use std::marker::Model;
 /// meaning is that volume. The root's attributes rise by kind, and fit into tags.
 ///
 /// Source: own.
-#[derive(Debug, Drop)]
+#[derive(Drop)]
 pub struct Outline {
     /// The size of a block in bytes.
     pub size: u32,

@@ -3,7 +3,7 @@
 /// Where what stands under a name is: a file's bytes, a file's chain with its size, or a directory's first pair.
 ///
 /// Source: SPEC.md, "Metadata types".
-#[derive(Debug, Drop)]
+#[derive(Drop)]
 pub enum OutlineBody {
     /// The bytes of a file that stand in its entry.
     Held(Vec<u8>),

@@ -7,7 +7,7 @@ use std::marker::Model;
 /// A first part and the parts that hard tails join to it. Its meaning is the directory of a volume.
 ///
 /// Source: own.
-#[derive(Debug, Drop)]
+#[derive(Drop)]
 pub struct OutlineDirectory {
     /// The first part.
     pub first: OutlinePart,

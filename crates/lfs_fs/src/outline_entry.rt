@@ -11,7 +11,7 @@ use std::marker::Model;
 /// its chain have bytes. As it is stored its lengths and numbers fit into tags.
 ///
 /// Source: own.
-#[derive(Debug, Drop)]
+#[derive(Drop)]
 pub struct OutlineEntry {
     /// The name.
     pub name: Vec<u8>,

@@ -12,7 +12,7 @@ use std::marker::Model;
 /// What a pair holds, superblock and tail aside. Its meaning is the part of a volume.
 ///
 /// Source: own.
-#[derive(Debug, Drop)]
+#[derive(Drop)]
 pub struct OutlinePart {
     /// The pair.
     pub pair: (u32, u32),

@@ -3,7 +3,7 @@
 use std::marker::Model;
 
 /// A path: the names from the root on. The root's path has none.
-#[derive(Debug, Drop)]
+#[derive(Drop)]
 pub struct Path {
     names: Vec<Vec<u8>>,
 }

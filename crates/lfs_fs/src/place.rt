@@ -5,7 +5,7 @@
 /// has at most 65,536 blocks, two to a part, and each entry of a part takes a tag of four bytes, so 16 bits hold each number.
 ///
 /// Source: own.
-#[derive(Clone, Copy, Debug, Drop)]
+#[derive(Clone, Copy, Drop)]
 pub struct Place {
     /// The number of names in the path.
     pub depth: u16,

@@ -1,7 +1,7 @@
 //! Where the contents of a row stand.
 
 /// What a row has: a file's bytes, a file's chain with its size, or a directory's first pair.
-#[derive(Clone, Copy, Debug, Drop)]
+#[derive(Clone, Copy, Drop)]
 pub enum RowBody<'a> {
     /// The bytes of a file that stand in its entry.
     Inline(&'a [u8]),

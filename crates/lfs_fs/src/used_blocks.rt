@@ -9,7 +9,7 @@ use std::marker::Model;
 /// The blocks of an image that are used. Its meaning is a table with one flag a block.
 ///
 /// Source: own.
-#[derive(Debug, Drop)]
+#[derive(Drop)]
 pub struct UsedBlocks {
     flags: Vec<bool>,
 }

@@ -2,6 +2,7 @@
 
 use lfs_block::MountFault;
 use lfs_book::JournalFault;
+use std::fmt;
 use thiserror::Error;
 
 /// Why a journal is not opened on an image. Want of memory is `Mount(MountFault::Memory)`.
@@ -10,16 +11,12 @@ use thiserror::Error;
 #[derive(Clone, Copy, Debug, PartialEq, Eq, Error)]
 pub enum OpenFault {
     /// The image does not mount, or a growth of memory was refused.
-    #[error(transparent)]
     Mount(MountFault),
     /// The bytes spell no journal.
-    #[error("JournalFormat")]
     JournalFormat,
     /// The journal denotes no history of the image.
-    #[error("JournalMismatch")]
     JournalMismatch,
     /// Another image of the history does not mount.
-    #[error("JournalImage")]
     JournalImage,
 }
 
@@ -37,6 +34,22 @@ impl OpenFault {
             OpenFault::JournalMismatch => 51,
             OpenFault::JournalImage => 52,
         }
+    }
+
+    /// The fault's name, as the program prints it.
+    pub fn name(self) -> &'static str {
+        match self {
+            OpenFault::Mount(fault) => fault.name(),
+            OpenFault::JournalFormat => "JournalFormat",
+            OpenFault::JournalMismatch => "JournalMismatch",
+            OpenFault::JournalImage => "JournalImage",
+        }
+    }
+}
+
+impl fmt::Display for OpenFault {
+    fn fmt<W: fmt::Write>(&self, f: &mut fmt::Formatter<W>) -> fmt::Result {
+        f.write_str(self.name())
     }
 }
 

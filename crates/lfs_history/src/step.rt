@@ -5,7 +5,7 @@ use lfs_command::Command;
 /// A step of a session.
 ///
 /// Source: own.
-#[derive(Clone, Copy, Debug)]
+#[derive(Clone, Copy)]
 pub enum Step<'a> {
     /// Carries a command out.
     Do(Command<'a>),

@@ -2,6 +2,7 @@
 
 use lfs_command::Refusal;
 use std::alloc::AllocError;
+use std::fmt;
 use thiserror::Error;
 
 /// Why a step of a session is refused.
@@ -10,16 +11,12 @@ use thiserror::Error;
 #[derive(Clone, Copy, Debug, PartialEq, Eq, Error)]
 pub enum StepFault {
     /// The command is refused, or a growth of memory was.
-    #[error(transparent)]
     Refused(Refusal),
     /// No change was made that isn't undone.
-    #[error("NothingToUndo")]
     NothingToUndo,
     /// No change was undone since the last that was made.
-    #[error("NothingToRedo")]
     NothingToRedo,
     /// As many changes were made as a session keeps.
-    #[error("JournalFull")]
     JournalFull,
 }
 
@@ -36,6 +33,25 @@ impl StepFault {
             StepFault::NothingToUndo => 53,
             StepFault::NothingToRedo => 54,
             StepFault::JournalFull => 55,
+        }
+    }
+
+    /// The fault's name, as the program prints it.
+    pub fn name(self) -> &'static str {
+        match self {
+            StepFault::Refused(refusal) => refusal.name(),
+            StepFault::NothingToUndo => "NothingToUndo",
+            StepFault::NothingToRedo => "NothingToRedo",
+            StepFault::JournalFull => "JournalFull",
+        }
+    }
+}
+
+impl fmt::Display for StepFault {
+    fn fmt<W: fmt::Write>(&self, f: &mut fmt::Formatter<W>) -> fmt::Result {
+        match self {
+            StepFault::Refused(refusal) => refusal.fmt(f),
+            fault => f.write_str(fault.name()),
         }
     }
 }

@@ -6,7 +6,7 @@ ghost use Rattle.lfs_host.specs.Failing.{behind_next, fails_next};
 /// Which of the calls that write or rename a file fails.
 ///
 /// Source: own.
-#[derive(Clone, Copy, Debug, PartialEq, Eq)]
+#[derive(Clone, Copy, PartialEq, Eq)]
 pub enum Failing {
     /// None of them.
     Never,

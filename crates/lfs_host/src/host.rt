@@ -31,7 +31,7 @@ pub enum ReadFault {
 /// Whether a run keeps a file until it ends.
 ///
 /// Source: own.
-#[derive(Clone, Copy, Debug, PartialEq, Eq)]
+#[derive(Clone, Copy, PartialEq, Eq)]
 pub enum Keeping {
     /// It does.
     Kept,

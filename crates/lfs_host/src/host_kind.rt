@@ -3,7 +3,7 @@
 /// What a host has under a name. Links aren't followed.
 ///
 /// Source: own.
-#[derive(Clone, Copy, Debug, PartialEq, Eq)]
+#[derive(Clone, Copy, PartialEq, Eq)]
 pub enum HostKind {
     /// Nothing.
     Missing,

@@ -6,7 +6,7 @@ use lfs_tag::{DELETED, NO_ID, Tag};
 /// What a tag does to the part of a pair, by its type.
 ///
 /// Source: SPEC.md, "Metadata types".
-#[derive(Clone, Copy, Debug, PartialEq, Eq)]
+#[derive(Clone, Copy, PartialEq, Eq)]
 pub(crate) enum Action {
     /// Puts a blank entry in at the tag's id; later ones move up.
     Create,

@@ -11,7 +11,7 @@ use std::marker::Model;
 /// A user attribute. Its meaning is its kind with the bytes of its value.
 ///
 /// Source: SPEC.md, "0x3xx user attribute".
-#[derive(Debug, Drop)]
+#[derive(Drop)]
 pub struct Attribute {
     /// The kind.
     pub kind: u8,

@@ -6,7 +6,7 @@ use std::marker::Model;
 /// A user attribute. Its meaning is its kind with the bytes of its value.
 ///
 /// Source: SPEC.md, "0x3xx user attribute".
-#[derive(Debug, Drop)]
+#[derive(Drop)]
 pub(crate) struct AttributeRef<'a> {
     /// The kind.
     pub(crate) kind: u8,

@@ -3,7 +3,7 @@
 /// Where an entry's contents stand.
 ///
 /// Source: SPEC.md, "Metadata types".
-#[derive(Debug, Drop)]
+#[derive(Drop)]
 pub enum Body {
     /// The contents, of at most 1,022 bytes.
     Inline(Vec<u8>),

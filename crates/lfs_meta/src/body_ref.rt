@@ -9,7 +9,7 @@ use byteorder::{ByteOrder, LittleEndian};
 /// Where an entry's contents stand.
 ///
 /// Source: SPEC.md, "Metadata types".
-#[derive(Clone, Copy, Debug)]
+#[derive(Clone, Copy)]
 pub(crate) enum BodyRef<'a> {
     /// The contents.
     Inline(&'a [u8]),

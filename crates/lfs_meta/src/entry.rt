@@ -9,7 +9,7 @@ use std::marker::Model;
 /// An entry that has its name and its struct. Its name, its contents and each value have at most 1,022 bytes.
 ///
 /// Source: SPEC.md, "Metadata types".
-#[derive(Debug, Drop)]
+#[derive(Drop)]
 pub struct Entry {
     /// The name.
     pub name: Vec<u8>,

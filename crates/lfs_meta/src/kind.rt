@@ -3,7 +3,7 @@
 /// What an entry is.
 ///
 /// Source: SPEC.md, "0x0xx name".
-#[derive(Clone, Copy, Debug, PartialEq, Eq)]
+#[derive(Clone, Copy, PartialEq, Eq)]
 pub enum Kind {
     /// A regular file.
     File,

@@ -29,7 +29,7 @@ pub(crate) fn is_later(a: u32, b: u32) -> bool
 /// Which block of a pair is live, with its log.
 ///
 /// Source: SPEC.md, "Metadata pairs".
-#[derive(Debug, Drop)]
+#[derive(Drop)]
 pub enum LiveBlock<'a> {
     /// The first one.
     First(Log<'a>),

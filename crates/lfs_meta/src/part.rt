@@ -7,7 +7,7 @@ use std::marker::Model;
 /// What a metadata pair holds. Its meaning is the pair with the part that it holds.
 ///
 /// Source: SPEC.md, "Metadata pairs".
-#[derive(Debug, Drop)]
+#[derive(Drop)]
 pub struct Part {
     /// The pair.
     pub pair: (u32, u32),

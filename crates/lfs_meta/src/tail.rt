@@ -9,7 +9,7 @@ use crate::body_ref::struct_word;
 /// How the thread goes on behind a pair. The numbers are the next pair's blocks.
 ///
 /// Source: SPEC.md, "0x6xx tail".
-#[derive(Clone, Copy, Debug, PartialEq, Eq)]
+#[derive(Clone, Copy, PartialEq, Eq)]
 pub enum Tail {
     /// It ends.
     End,

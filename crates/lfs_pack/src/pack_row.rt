@@ -3,7 +3,7 @@
 /// What is packed at a path: a directory or a file, with its attributes.
 ///
 /// Source: own.
-#[derive(Clone, Copy, Debug)]
+#[derive(Clone, Copy)]
 pub struct PackRow<'a> {
     /// The text of the path.
     pub path: &'a [u8],

@@ -3,7 +3,7 @@
 /// A folder of the host that is to be made of an image.
 ///
 /// Source: own.
-#[derive(Clone, Copy, Debug)]
+#[derive(Clone, Copy)]
 pub struct Extraction<'a> {
     /// The block size, in bytes.
     pub size: u32,

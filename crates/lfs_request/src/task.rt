@@ -3,7 +3,7 @@
 /// What the words of a command line ask for. Kinds and values of attributes are texts of hexadecimal digits.
 ///
 /// Source: own.
-#[derive(Clone, Copy, Debug)]
+#[derive(Clone, Copy)]
 pub enum Task<'a> {
     /// A new image of this many blocks.
     Format {

@@ -11,7 +11,7 @@ use Rattle.lfs_extract.specs.declared.extract_fault.ExtractFault.TheVariants.{Me
 use Rattle.lfs_host.specs.Files.{Files, IsTarget, ReadsFile}
 use Rattle.lfs_host.specs.HostTree.{HostTree}
 use Rattle.lfs_host.specs.NewFolder.{Made}
-use Rattle.lfs_serve.specs.Program.{most_image}
+use Rattle.lfs_exchange.specs.Handing.{most_image}
 use Rattle.lfs_serve.proofs.StepLemmas.{reads_target}
 use Rattle.lfs_serve.specs.Extracting.{EndsBytes, EndsExtract, EndsMaking, FindsFolder, IsUnread, MakesRows, StopsMaking, fault_of_extracting}
 

@@ -1,3 +1,3 @@
 pub mod StepLemmas
-pub mod HostFolderLemmas
 pub mod ExtractingLemmas
+pub mod HostFolderLemmas

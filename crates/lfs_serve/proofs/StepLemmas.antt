@@ -8,15 +8,17 @@ use Rattle.lfs_change.specs.declared.outcome.Outcome.{Outcome}
 use Rattle.lfs_step.specs.declared.step.Step.{Step}
 use Rattle.lfs_step.specs.Deed.{Deed}
 use Rattle.lfs_step.specs.Outcome.{Answers, Given, SendsText}
-use Rattle.lfs_serve.specs.declared.kind.Kind.{Kind}
-use Rattle.lfs_serve.specs.declared.kind.Kind.TheVariants.{Makes, Asks, Changes, Forgets}
+use Rattle.lfs_exchange.specs.declared.kind.Kind.{Kind}
+use Rattle.lfs_exchange.specs.declared.kind.Kind.TheVariants.{Makes, Asks, Changes, Forgets}
 use Rattle.lfs_serve.specs.declared.stop.Stop.{Stop}
 use Rattle.lfs_request.specs.Asking.{NamesNoStep, SpellsNoBytes, SpellsNoKind, digits_of}
 use Rattle.lfs_host.specs.Files.{Files, FindsFile, IsTarget, ReadsFile}
-use Rattle.lfs_serve.specs.Kind.{kind_of}
-use Rattle.lfs_serve.specs.Storing.{LeavesFiles, SparesFiles, journal_name}
-use Rattle.lfs_serve.specs.Program.{HandedBytes, HandsImage, HandsJournal, IsHanded, IsOfHost, Runs, RunsOn, RunsStep}
-use Rattle.lfs_serve.specs.Program.{Scene, StopsStep, EndsStep, KeepsScene, most_image, most_journal, stopped_by}
+use Rattle.lfs_exchange.specs.Kind.{kind_of}
+use Rattle.lfs_exchange.specs.Storing.{LeavesFiles, SparesFiles, journal_name}
+use Rattle.lfs_exchange.specs.Handing.{HandedBytes, HandsImage, HandsJournal, IsHanded, IsOfHost}
+use Rattle.lfs_serve.specs.Program.{Runs, RunsOn, RunsStep}
+use Rattle.lfs_exchange.specs.Handing.{Scene, KeepsScene, most_image, most_journal}
+use Rattle.lfs_serve.specs.Program.{StopsStep, EndsStep, stopped_by}
 
 -- ---- the file that a name leads to
 

@@ -18,7 +18,8 @@ use Rattle.lfs_host.specs.NewFolder.{Made}
 use Rattle.lfs_host.specs.declared.host_kind.HostKind.{HostKind}
 use Rattle.lfs_host.specs.declared.host_kind.HostKind.TheVariants.{Missing}
 use Rattle.lfs_request.specs.declared.extraction.Extraction.{Extraction}
-use Rattle.lfs_serve.specs.Program.{grain, most_image, usage}
+use Rattle.lfs_exchange.specs.Handing.{most_image}
+use Rattle.lfs_serve.specs.Program.{grain, usage}
 
 -- ---- a mounted image
 

@@ -1,5 +1,3 @@
-pub mod Kind
-pub mod HostFolder
-pub mod Storing
 pub mod Program
 pub mod Extracting
+pub mod HostFolder

@@ -6,7 +6,7 @@ use byteorder::{ByteOrder, LittleEndian};
 const MAGIC: &[u8] = b"littlefs";
 
 /// The block size and count that a superblock states.
-#[derive(Clone, Copy, Debug)]
+#[derive(Clone, Copy)]
 pub struct Stated {
     /// The size of a block, in bytes.
     pub size: u32,

@@ -6,7 +6,7 @@ use std::alloc::AllocError;
 
 /// Why a run ends without having done what it was asked for, and the geometry that the image's superblock states, where
 /// that is why.
-#[derive(Clone, Copy, Debug)]
+#[derive(Clone, Copy)]
 pub struct Stop {
     /// The fault.
     pub fault: Fault,

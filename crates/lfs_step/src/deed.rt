@@ -12,7 +12,7 @@ use lfs_pack::PackRow;
 /// What a step does with an image.
 ///
 /// Source: own.
-#[derive(Clone, Copy, Debug)]
+#[derive(Clone, Copy)]
 pub enum Deed<'a> {
     /// Makes a new one of this many blocks.
     Make {

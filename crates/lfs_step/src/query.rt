@@ -3,7 +3,7 @@
 /// What is asked of an image, which it leaves as it is.
 ///
 /// Source: own.
-#[derive(Clone, Copy, Debug)]
+#[derive(Clone, Copy)]
 pub enum Query<'a> {
     /// Whether it mounts, and what it holds in numbers.
     Check,

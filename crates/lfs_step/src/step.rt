@@ -5,7 +5,7 @@ use lfs_pack::PackRow;
 /// What a run does with an image.
 ///
 /// Source: own.
-#[derive(Clone, Copy, Debug)]
+#[derive(Clone, Copy)]
 pub enum Step<'a> {
     /// Makes a new image of this many blocks.
     Format {

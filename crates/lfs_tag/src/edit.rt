@@ -8,7 +8,7 @@ use crate::edit_data::EditData;
 use crate::tag::Tag;
 
 /// A tag with its data, to be written into a commit. It is no checksum's, and has as many bytes as it says.
-#[derive(Clone, Copy, Debug)]
+#[derive(Clone, Copy)]
 pub struct Edit<'a> {
     /// The tag.
     pub tag: Tag,

@@ -1,7 +1,7 @@
 //! The data of a tag to be written.
 
 /// The data of a tag to be written: bytes that stand elsewhere, or eight bytes of its own.
-#[derive(Clone, Copy, Debug)]
+#[derive(Clone, Copy)]
 pub enum EditData<'a> {
     /// Bytes that stand elsewhere.
     Bytes(&'a [u8]),

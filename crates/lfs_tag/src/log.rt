@@ -43,7 +43,7 @@ fn is_erased(bytes: &[u8]) -> bool
 /// commits.
 ///
 /// Source: SPEC.md, "Metadata pairs".
-#[derive(Debug, Drop)]
+#[derive(Drop)]
 pub struct Log<'a> {
     /// Where the last commit ends, in bytes from the block's beginning.
     pub end: usize,

@@ -5,7 +5,7 @@ ghost use Rattle.std.specs.Prelude.{◌<◌, ◌^◌};
 /// A tag: what it is about, and how much data follows it.
 ///
 /// Source: SPEC.md, "Metadata tags".
-#[derive(Clone, Copy, Debug, PartialEq, Eq)]
+#[derive(Clone, Copy, PartialEq, Eq)]
 pub struct Tag {
     /// The type: 3 bits of main type, then 8 bits of chunk.
     pub kind: u16,

@@ -1,15 +1,16 @@
 //! The program, over a host.
 
 ghost use Rattle.std.specs.Prelude.{◌≡◌, IfOk, map};
-ghost use Rattle.lfs_serve.specs.Program.{scene};
+ghost use Rattle.lfs_exchange.specs.Handing.{scene};
 ghost use Rattle.lfsed.specs.Words.{EndsWords, ended_with, known};
 
 use crate::explanations::explained;
 use clap::Error;
 use clap::error::ErrorKind;
 use lfs_edit::Refusal;
+use lfs_exchange::{MORE, print, tell_of_image};
 use lfs_host::Host;
-use lfs_serve::{MORE, USAGE, extracted, print, served, tell_of_image};
+use lfs_serve::{USAGE, extracted, served};
 use lfs_step::Fault;
 use lfs_words::{Wish, command_line, wished};
 use std::alloc::Global;

@@ -3,7 +3,7 @@
 /// What a fault means, and what to do.
 ///
 /// Source: own.
-#[derive(Clone, Copy, Debug)]
+#[derive(Clone, Copy)]
 pub struct Explanation {
     /// The fault's number.
     pub number: u8,
@@ -54,7 +54,7 @@ const EXPLANATIONS: [Explanation; 47] = [
     Explanation {
         number: 7,
         name: "BadName",
-        text: "The name of a file or a directory is empty, `.` or `..`, or has a slash or a byte 0 in it. \
+        text: "The name of a file or a directory is empty, `.` or `..`, or has a slash in it. \
          Rename it with what wrote the image.",
     },
     Explanation {
@@ -124,7 +124,9 @@ const EXPLANATIONS: [Explanation; 47] = [
     Explanation {
         number: 19,
         name: "SuperblockElsewhere",
-        text: "A superblock stands where none may be. The image is damaged.",
+        text: "A superblock stands behind the first one: a device makes such a chain where its root is \
+         changed very often. The image need not be damaged, but a chain of superblocks isn't edited: \
+         put its files into a new image.",
     },
     Explanation {
         number: 20,
@@ -168,7 +170,7 @@ const EXPLANATIONS: [Explanation; 47] = [
         number: 35,
         name: "BadPath",
         text: "The text is no path. A path is `/` before each name, and `/` alone for the root; a name \
-         isn't empty, `.` or `..`, and has no byte 0.",
+         isn't empty, `.` or `..`.",
     },
     Explanation {
         number: 36,
@@ -217,7 +219,8 @@ const EXPLANATIONS: [Explanation; 47] = [
     Explanation {
         number: 44,
         name: "Memory",
-        text: "A growth of memory was refused. Nothing was changed; give the program more memory.",
+        text: "A growth of memory was refused. No image and no journal was changed; of a folder that is \
+         being made the first entries may be there. Give the program more memory.",
     },
     Explanation {
         number: 50,

@@ -3,17 +3,14 @@
 
 mod cli;
 mod explanations;
-mod files;
-mod folders;
-mod terminal;
-mod waiting;
 
 use crate::cli::cli as run_words;
-use crate::terminal::Terminal;
 use lfs_edit::Refusal;
+use lfs_exchange::tell;
 use lfs_host::Host;
-use lfs_serve::{USAGE, tell};
+use lfs_serve::USAGE;
 use lfs_step::Fault;
+use lfs_system::Terminal;
 use std::io::ErrorKind;
 use std::process::ExitCode;
 use std::{env, io};

@@ -4,7 +4,7 @@ use Rattle.std.specs.Prelude.{sum_by}
 use Rattle.std.proofs.lemmas.Result.{err_from_is_err_and}
 use Rattle.lfs_fs.specs.Unused.{unused}
 use Rattle.lfs_draft.specs.LeastSupplies.{made_blocks}
-use Rattle.lfs_draft.specs.RoomChecks.{room_checks_on}
+use Rattle.lfs_cut.specs.RoomChecks.{room_checks_on}
 use Rattle.lfs_command.specs.NamedCommand.{named_command}
 use Rattle.lfs_command.specs.Need.{dirty_parts, part_blocks}
 use Rattle.lfs_command.specs.Verdict.{first_refusal}

@@ -1,6 +1,7 @@
 use Rattle.std.proofs.Common.{rules, ◌≡◌, List, ℕ, Option, string_bytes}
 use Rattle.lfs_host.specs.Files.{Files, IsTarget, ReadsFile}
-use Rattle.lfs_serve.specs.Program.{most_image, stopped_by}
+use Rattle.lfs_exchange.specs.Handing.{most_image}
+use Rattle.lfs_serve.specs.Program.{stopped_by}
 use Rattle.lfs_serve.proofs.ExtractingLemmas.{file_ends}
 use Rattle.lfs_serve.proofs.extracting.extract_file.Goals as goal
 

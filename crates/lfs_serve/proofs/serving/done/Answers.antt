@@ -6,7 +6,8 @@ use Rattle.lfs_change.specs.declared.fault.Fault.TheVariants.{Refused}
 use Rattle.lfs_pack.specs.declared.pack_row.PackRow.{PackRow}
 use Rattle.lfs_request.specs.Asking.{AsksFor}
 use Rattle.lfs_serve.specs.HostFolder.{ReadsFolder}
-use Rattle.lfs_serve.specs.Program.{EndsStep, Scene, scene, stopped_by}
+use Rattle.lfs_exchange.specs.Handing.{Scene, scene}
+use Rattle.lfs_serve.specs.Program.{EndsStep, stopped_by}
 use Rattle.lfs_serve.proofs.HostFolderLemmas.{packs_rows}
 use Rattle.lfs_serve.proofs.StepLemmas.{no_bytes, no_kind, stopped_at}
 use Rattle.lfs_serve.proofs.serving.done.Goals as goal

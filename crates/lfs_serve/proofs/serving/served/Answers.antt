@@ -1,5 +1,6 @@
 use Rattle.std.proofs.Common.{rules, ◌≡◌, Some, sym, subst, inr}
-use Rattle.lfs_serve.specs.Program.{EndsTask, Scene, scene}
+use Rattle.lfs_exchange.specs.Handing.{Scene, scene}
+use Rattle.lfs_serve.specs.Program.{EndsTask}
 use Rattle.lfs_serve.proofs.serving.served.Goals as goal
 
 pub returns-in-Err : goal.returns-in-Err

@@ -1,6 +1,7 @@
 use Rattle.std.proofs.Common.{rules, ◌≡◌, Some, None, refl, ◌∙◌, string_bytes}
-use Rattle.lfs_serve.specs.Kind.{kind_of}
-use Rattle.lfs_serve.specs.Program.{HandedBytes, IsHanded, RunsStep, Scene, scene}
+use Rattle.lfs_exchange.specs.Kind.{kind_of}
+use Rattle.lfs_exchange.specs.Handing.{HandedBytes, IsHanded, Scene, scene}
+use Rattle.lfs_serve.specs.Program.{RunsStep}
 use Rattle.lfs_serve.proofs.StepLemmas.{ends_behind, ends_refused, handed_at, leaves_at, spares_at, step_ran}
 use Rattle.lfs_serve.proofs.serving.stepped.Goals as goal
 

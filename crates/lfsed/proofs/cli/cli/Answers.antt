@@ -1,5 +1,5 @@
 use Rattle.std.proofs.Common.{rules, ◌≡◌, ℕ, map, sym, subst}
-use Rattle.lfs_serve.specs.Program.{Scene, scene}
+use Rattle.lfs_exchange.specs.Handing.{Scene, scene}
 use Rattle.lfsed.specs.Words.{EndsWords, Known, known}
 use Rattle.lfsed.proofs.cli.cli.Goals as goal
 

@@ -1,0 +1,66 @@
+//! Which of the new blocks become the pairs of which new parts.
+
+ghost use Rattle.std.specs.Prelude.{◌≡◌, ℕ, ◌*◌, ◌≤◌, All, nat_lt, length, map, flat_map, sum_by, IfOk};
+ghost use Rattle.std.specs.List.{filter};
+ghost use Rattle.lfs_fs.specs.Directory.{thread};
+ghost use Rattle.lfs_fs.specs.Uses.{times};
+ghost use Rattle.lfs_cut.specs.Chosen.{AreRows, HasPairsOnce, chosen_for};
+ghost use Rattle.lfs_command.specs.Cut.{HasEnough, new_pair_uses, runs};
+ghost use Rattle.lfs_command.specs.Need.{dirty_parts, part_blocks};
+
+use crate::block_room::block_room;
+use crate::growth::{Growth, growths_of, put_first};
+use crate::new_pairs::{NewPairs, pairs_of};
+use arrayvec::ArrayVec;
+use lfs_fs::Outline;
+use std::alloc::{AllocError, Global};
+
+/// A row for each part that has grown, in order, whose pairs are the next of the blocks two by two. The caller owes at most two
+/// parts, and as many blocks as they need.
+fn rows_of(
+    alloc: Global,
+    growths: &[Growth],
+    blocks: &[u32],
+) -> Result<ArrayVec<NewPairs, 2, Global>, AllocError>
+    requires few { length growths.now ≤ 2 }
+    requires enough { sum_by (λ g. 2 * g.len) growths.now ≡ length blocks.now }
+    ensures { IfOk result (λ rows. AreRows growths.now blocks.now rows.items) }
+{
+    let mut rows = ArrayVec::new_in(alloc);
+    let mut left = blocks;
+    'each: for growth in growths {
+        let (own, others) = left.split_at(2 * growth.len);
+        rows.push(NewPairs {
+            pair: growth.pair,
+            pairs: pairs_of(alloc, own, growth.len)?,
+        });
+        left = others;
+    }
+    Ok(rows)
+}
+
+/// The pairs for the new parts of an outline: a row for each part that is set and has more than one run, that of the pair
+/// `leading` first, then in the order of the thread. The pairs of all rows are the blocks two by two in order. The caller owes
+/// what `block_room` asks, as many blocks as the parts need (`new_blocks`), that no two parts have the same pair, and at most two
+/// parts with more than one run.
+///
+/// Source: own.
+pub fn choose(
+    alloc: Global,
+    outline: &Outline,
+    leading: Option<(u32, u32)>,
+    blocks: &[u32],
+) -> Result<ArrayVec<NewPairs, 2, Global>, AllocError>
+    requires size { outline.now.size ≤ 65536 }
+    requires needed { length blocks.now ≡ sum_by (part_blocks outline.now) (dirty_parts outline.now) }
+    requires once { HasPairsOnce outline.now }
+    requires few { length (filter (λ p. nat_lt 1 (length (runs outline.now p))) (dirty_parts outline.now)) ≤ 2 }
+    ensures enough { IfOk result (λ rows. All (HasEnough (chosen_for rows.items) outline.now) (thread outline.now.directories)) }
+    ensures uses { IfOk result (λ rows. (b : ℕ) → new_pair_uses (chosen_for rows.items) outline.now b ≡ times b blocks.now) }
+{
+    let room = block_room(outline);
+    let mut growths = growths_of(room, &outline.directories);
+    put_first(&mut growths, leading);
+    let rows = rows_of(alloc, &growths, blocks)?;
+    Ok(rows)
+}

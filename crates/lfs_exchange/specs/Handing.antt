@@ -1,0 +1,72 @@
+-- What a step is handed of a host, and which faults the host gives rise to (own).
+use Rattle.std.specs.Prelude.{ℕ, ◌≡◌, List, [], Option}
+use Rattle.lfs_command.specs.declared.refusal.Refusal.TheVariants.{Memory}
+use Rattle.lfs_change.specs.declared.fault.Fault.{Fault}
+use Rattle.lfs_change.specs.declared.fault.Fault.TheVariants.{Refused, CannotRead, CannotWrite}
+use Rattle.lfs_exchange.specs.declared.kind.Kind.{Kind}
+use Rattle.lfs_exchange.specs.declared.kind.Kind.TheVariants.{Makes, Changes}
+use Rattle.lfs_step.specs.declared.step.Step.{Step}
+use Rattle.lfs_step.specs.declared.step.Step.TheVariants.{Put}
+use Rattle.lfs_host.specs.Files.{Files, FindsFile, ReadsFile, ReadsInput}
+use Rattle.lfs_exchange.specs.Kind.{kind_of}
+use Rattle.lfs_exchange.specs.Storing.{journal_name}
+
+-- what is known of a host: its files, what is left on standard input, and what was printed
+pub record Scene : Type 0 where
+  pub files : Option Files
+  pub typed : Option (List ℕ)
+  pub printed : Option (List ℕ)
+
+-- the same, from its parts
+abbrev pub scene : Option Files → Option (List ℕ) → Option (List ℕ) → Scene
+scene files typed printed = record { files = files; typed = typed; printed = printed }
+
+-- the most bytes that an image has
+abbrev pub most_image : ℕ
+most_image = 67108864
+
+-- the most bytes that a file in an image has
+abbrev pub most_input : ℕ
+most_input = 2147483647
+
+-- files and what was printed stay as they were
+abbrev pub KeepsScene : Scene → Scene → Type 0
+KeepsScene old new = (new.files ≡ old.files) × (new.printed ≡ old.printed)
+
+-- the most bytes that a journal has: 1,000 changes of all blocks of a largest image
+abbrev pub most_journal : ℕ
+most_journal = 134479876024
+
+-- the bytes of an image that a step is handed: those of its file, none where the image is made
+abbrev pub HandsImage : Kind → Option Files → List ℕ → List ℕ → Type 0
+HandsImage Makes files name image = image ≡ []
+HandsImage _ files name image = ReadsFile files name most_image image
+
+-- the bytes of a journal that a step is handed: those of its file, where the step reads one and it is there
+abbrev pub HandsJournal : Kind → Option Files → List ℕ → List ℕ → Type 0
+HandsJournal Changes files name journal = FindsFile files (journal_name name) most_journal journal
+HandsJournal _ files name journal = journal ≡ []
+
+-- the contents that a step is handed: those on standard input where a file is put
+abbrev pub HandsInput : Step → Option (List ℕ) → List ℕ → Type 0
+HandsInput (Put path) typed input = ReadsInput typed most_input input
+HandsInput _ typed input = input ≡ []
+
+-- what a step is handed
+pub record HandedBytes : Type 0 where
+  pub image : List ℕ
+  pub journal : List ℕ
+  pub input : List ℕ
+
+-- it is handed this of what is known of a host
+pub record IsHanded (step : Step) (name : List ℕ) (s : Scene) (h : HandedBytes) : Type 0 where
+  pub image : HandsImage (kind_of step) s.files name h.image
+  pub journal : HandsJournal (kind_of step) s.files name h.journal
+  pub input : HandsInput step s.typed h.input
+
+-- a fault that the host alone gives rise to: what it refused, or want of memory
+abbrev pub IsOfHost : Fault → Type 0
+IsOfHost CannotRead = Unit {0}
+IsOfHost CannotWrite = Unit {0}
+IsOfHost (Refused refusal) = refusal ≡ Memory
+IsOfHost _ = ⊥

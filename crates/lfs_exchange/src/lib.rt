@@ -1,0 +1,19 @@
+//! What a host and a step exchange: what the step is handed of the host's files and standard input, and how what it leaves is
+//! stored, printed and told.
+#![tactic(auto)]
+
+mod handing;
+mod kind;
+mod names;
+mod output;
+mod printing;
+mod storing;
+mod telling;
+
+pub use handing::{Handed, aimed, hand_over};
+pub use kind::{Kind, kind_of};
+pub use names::{Names, names_of};
+pub use output::Output;
+pub use printing::{flush, print};
+pub use storing::stored;
+pub use telling::{MORE, tell, tell_of_image};

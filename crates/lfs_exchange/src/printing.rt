@@ -1,0 +1,34 @@
+//! What goes to standard output.
+
+ghost use Rattle.std.specs.Prelude.{◌≡◌, IfErr};
+ghost use Rattle.lfs_exchange.specs.Handing.{IsOfHost};
+
+use crate::output::Output;
+use lfs_host::Host;
+use lfs_sink::send;
+use lfs_step::Fault;
+
+/// Writes a text to standard output, and hands it on.
+///
+/// Source: own.
+pub fn print<H: Host>(host: &mut H, text: &str) -> Result<(), Fault>
+    ensures kept { H.files host.new ≡ H.files host.old }
+{
+    if !send(&mut Output::new(host), text.as_bytes()) {
+        return Err(Fault::CannotWrite);
+    }
+    flush(host)
+}
+
+/// Hands on what was printed.
+///
+/// Source: own.
+pub fn flush<H: Host>(host: &mut H) -> Result<(), Fault>
+    ensures refused { IfErr result IsOfHost }
+    ensures kept { (H.files host.new ≡ H.files host.old) × (H.typed host.new ≡ H.typed host.old) × (H.printed host.new ≡ H.printed host.old) }
+{
+    match host.flush() {
+        Ok(()) => Ok(()),
+        Err(_) => Err(Fault::CannotWrite),
+    }
+}

@@ -1,0 +1,137 @@
+//! What a step leaves in the files of an image and its journal.
+
+ghost use Rattle.std.specs.Prelude.{◌≡◌, ◌⊎◌, IfErr, MatchResult};
+ghost use Rattle.lfs_change.specs.declared.fault.Fault.TheVariants.{CannotWrite};
+ghost use Rattle.lfs_host.specs.Files.{OnKnown};
+ghost use Rattle.lfs_exchange.specs.Handing.{IsOfHost};
+ghost use Rattle.lfs_exchange.specs.Storing.{HasNew, HasPlaced, HasPlacedJournal, IsNames, LeavesBoth, LeavesFiles, LeavesJournal, SparesBoth, SparesFiles, SparesImage, SparesJournal};
+
+use crate::kind::Kind;
+use crate::names::{Names, names_of};
+use crate::printing::flush;
+use lfs_host::Host;
+use lfs_step::{Fault, Outcome};
+use std::alloc::Global;
+
+/// Writes what a step leaves; the answer to a question is handed on. What memory it takes is taken before a file is
+/// changed.
+pub fn stored<H: Host>(
+    alloc: Global,
+    host: &mut H,
+    kind: Kind,
+    name: &str,
+    outcome: &Outcome,
+) -> Result<(), Fault>
+    ensures files { MatchResult result
+        (λ _. LeavesFiles kind (H.files host.old) (H.files host.new) name.now outcome.now)
+        (λ fault. SparesFiles fault kind (H.files host.old) (H.files host.new) name.now outcome.now) }
+    ensures refused { IfErr result IsOfHost }
+    ensures kept { H.printed host.new ≡ H.printed host.old }
+{
+    match kind {
+        Kind::Asks => flush(host),
+        Kind::Forgets => {
+            let names = names_of(alloc, name)?;
+            put_journal(host, name, &names, outcome.journal.as_slice())
+        }
+        Kind::Makes | Kind::Changes => {
+            let names = names_of(alloc, name)?;
+            put_both(host, name, &names, outcome)
+        }
+    }
+}
+
+/// Puts a new journal in the place of an image's, with the rights of the image. Takes no memory.
+fn put_journal<H: Host>(host: &mut H, name: &str, names: &Names, bytes: &[u8]) -> Result<(), Fault>
+    requires { IsNames names.now name.now }
+    ensures files { MatchResult result
+        (λ _. LeavesJournal (H.files host.old) (H.files host.new) name.now bytes.now)
+        (λ _. SparesJournal (H.files host.old) (H.files host.new) name.now) }
+    ensures refused { IfErr result (λ fault. fault ≡ CannotWrite) }
+    ensures kept { H.printed host.new ≡ H.printed host.old }
+{
+    let new = names.new_journal.as_str();
+    if host.write(new, bytes, name).is_err() {
+        return Err(Fault::CannotWrite);
+    }
+    if host.settle(new, names.journal.as_str()).is_err() {
+        host.remove(new);
+        return Err(Fault::CannotWrite);
+    }
+    Ok(())
+}
+
+/// Puts a new journal and a new image in the places of the old ones. Both are written before either gets its place, so
+/// that a host without room leaves both as they were. Takes no memory.
+fn put_both<H: Host>(
+    host: &mut H,
+    name: &str,
+    names: &Names,
+    outcome: &Outcome,
+) -> Result<(), Fault>
+    requires { IsNames names.now name.now }
+    ensures files { MatchResult result
+        (λ _. LeavesBoth (H.files host.old) (H.files host.new) name.now outcome.now)
+        (λ _. SparesBoth (H.files host.old) (H.files host.new) name.now ⊎ SparesImage (H.files host.old) (H.files host.new) name.now outcome.now) }
+    ensures refused { IfErr result (λ fault. fault ≡ CannotWrite) }
+    ensures kept { H.printed host.new ≡ H.printed host.old }
+{
+    prepared(host, name, names, outcome)?;
+    placed(host, name, names)
+}
+
+/// Writes the new image and the new journal beside the old ones, with the rights of the image: the image first, which
+/// keeps other runs from both names. Where that fails nothing is left of them.
+fn prepared<H: Host>(
+    host: &mut H,
+    name: &str,
+    names: &Names,
+    outcome: &Outcome,
+) -> Result<(), Fault>
+    requires { IsNames names.now name.now }
+    ensures files { MatchResult result
+        (λ _. OnKnown (HasNew name.now outcome.now.image.items outcome.now.journal.items) (H.files host.old) (H.files host.new))
+        (λ _. SparesBoth (H.files host.old) (H.files host.new) name.now) }
+    ensures refused { IfErr result (λ fault. fault ≡ CannotWrite) }
+    ensures kept { H.printed host.new ≡ H.printed host.old }
+{
+    let new_image = names.new_image.as_str();
+    let new_journal = names.new_journal.as_str();
+    if host
+        .write(new_image, outcome.image.as_slice(), name)
+        .is_err()
+    {
+        return Err(Fault::CannotWrite);
+    }
+    if host
+        .write(new_journal, outcome.journal.as_slice(), name)
+        .is_err()
+    {
+        host.remove(new_image);
+        return Err(Fault::CannotWrite);
+    }
+    Ok(())
+}
+
+/// Gives the new journal and then the new image their places. Where that fails nothing is left of what has none.
+fn placed<H: Host>(host: &mut H, name: &str, names: &Names) -> Result<(), Fault>
+    requires { IsNames names.now name.now }
+    ensures files { MatchResult result
+        (λ _. OnKnown (HasPlaced name.now) (H.files host.old) (H.files host.new))
+        (λ _. SparesBoth (H.files host.old) (H.files host.new) name.now ⊎ OnKnown (HasPlacedJournal name.now) (H.files host.old) (H.files host.new)) }
+    ensures refused { IfErr result (λ fault. fault ≡ CannotWrite) }
+    ensures kept { H.printed host.new ≡ H.printed host.old }
+{
+    let new_image = names.new_image.as_str();
+    let new_journal = names.new_journal.as_str();
+    if host.settle(new_journal, names.journal.as_str()).is_err() {
+        host.remove(new_journal);
+        host.remove(new_image);
+        return Err(Fault::CannotWrite);
+    }
+    if host.rename(new_image, name).is_err() {
+        host.remove(new_image);
+        return Err(Fault::CannotWrite);
+    }
+    Ok(())
+}

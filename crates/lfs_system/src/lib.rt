@@ -1,0 +1,9 @@
+//! The system as a host: its files and folders, standard input, standard output and standard error.
+#![tactic(auto)]
+
+mod files;
+mod folders;
+mod terminal;
+mod waiting;
+
+pub use terminal::Terminal;
