@@ -137,6 +137,19 @@ def odd_folders(folder):
     folder.check("a link to the folder: pack", ended == (0, "", b"") and folder.old() == packed, ended)
 
 
+def many_files_in_one_folder(folder):
+    """A part has at most a thousand entries."""
+    place = source(folder)
+    (place / "d").mkdir(parents=True)
+    for number in range(2_001):
+        (place / f"d/{number:04}").write_bytes(b"")
+    is_packed(folder, "2,001 files", 65_536, 8)
+    reader = Reader(folder.old(), 65_536)
+    ((_, pair),) = [row for row in reader.rows() if row[0] == b"/d"]
+    found = [len(part.entries) for part in reader.parts_of(pair)]
+    folder.check("2,001 files: parts", found == [1_000, 1_000, 1], found)
+
+
 def what_is_refused(folder):
     place = source(folder)
     is_refused(folder, "no folder", 4, "lfsed: 60 CannotRead", "lfsed: src: No such file or directory (os error 2)")
@@ -196,4 +209,4 @@ def many_files(folder):
 
 
 if __name__ == "__main__":
-    sys.exit(run_scenes([worked_folder, odd_folders, what_is_refused, what_is_not_read, many_files]))
+    sys.exit(run_scenes([worked_folder, odd_folders, many_files_in_one_folder, what_is_refused, what_is_not_read, many_files]))

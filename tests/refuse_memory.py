@@ -20,9 +20,10 @@ def word(number):
 
 
 class Runs:
-    """Runs in a folder, on the file a.img of it and its journal."""
+    """Runs in a folder, on the file a.img of it and its journal, with blocks of one size at a time."""
 
     def __init__(self, folder):
+        self.size = 512
         self.files = folder / "a.img", folder / "a.img.lfsj"
         self.refusing = Refusing(folder)
         self.ran = self.wrong = 0
@@ -35,7 +36,7 @@ class Runs:
             if data is not None:
                 file.write_bytes(data)
         env = self.refusing.env(at) if at else None
-        command = [PROGRAM, words[0], "--block=512", *words[1:]]
+        command = [PROGRAM, words[0], f"--block={self.size}", *words[1:]]
         ended = subprocess.run(command, cwd=self.files[0].parent, input=contents, capture_output=True, env=env)
         after = tuple(file.read_bytes() if file.exists() else None for file in self.files)
         return ended.returncode, ended.stdout, ended.stderr, after
@@ -94,6 +95,20 @@ def directory_rows(runs):
     runs.row(["mkdir", "a.img", "/" + 200 * "b"], runs.row(["put", "a.img", "/a"], parted, bytes(513)))
 
 
+def small_block_rows(runs):
+    """Blocks of 256 bytes: a file of two, and a part that is cut into two and three."""
+    runs.size = 256
+    new = runs.row(["format", "--count=16", "a.img"], NOTHING)
+    runs.row(["cat", "a.img", "/f"], runs.row(["put", "a.img", "/f"], new, bytes(257)))
+    parted = runs.row(["mkdir", "a.img", "/d"], new)
+    for letter in "ace":
+        parted = runs.row(["put", "a.img", "/d/" + 80 * letter], parted)
+    runs.row(["put", "a.img", "/d/" + 130 * "b"], parted)
+    runs.row(["mv", "a.img", "/d/" + 80 * "a", "/" + 180 * "a"], parted)
+    runs.row(["ls", "a.img"], parted)
+    runs.size = 512
+
+
 def folder_rows(runs):
     """A folder that is packed, in the place of nothing and of an image; a link in it; and one that isn't there."""
     place = runs.files[0].with_name("src")
@@ -132,6 +147,7 @@ with tempfile.TemporaryDirectory() as folder:
     tried = Runs(pathlib.Path(folder))
     rows(tried)
     directory_rows(tried)
+    small_block_rows(tried)
     folder_rows(tried)
     history_rows(tried)
 print(f"{tried.ran - tried.wrong} passed, {tried.wrong} failed")

@@ -122,6 +122,21 @@ def directories_of_three_parts_come_and_go(folder):
     blocks.stand("what is left", [ROOT], [ROOT], 14)
 
 
+# The lengths of two names in a directory whose parts have a room of 216 bytes, and how many entries each part has.
+FITTING = (((100, 100), [2]), ((100, 101), [1, 1]))
+
+
+def parts_are_filled_to_the_last_byte(folder):
+    for lengths, counts in FITTING:
+        blocks = Blocks(folder, 256)
+        blocks.new(8)
+        blocks.do("mkdir /d")
+        for letter, length in zip("ab", lengths):
+            blocks.do(f"put /d/{length * letter}")
+        found = [len(part.entries) for part in blocks.read().parts_of((2, 3))]
+        folder.check(f"entries with names of {lengths} bytes", found == counts, found)
+
+
 # A root of three parts in blocks of 512 bytes, with the files b and d, f, and h.
 THREE_PARTS = {
     0: log(1, superblock(512, 8) + file(1, b"b") + file(2, b"d") + tail(HARD, (2, 3))),
@@ -189,6 +204,29 @@ def heavy_parts_are_cut_where_they_get_a_tail(folder):
     blocks.do("mkdir /b", 0, "lfsed: 43 NoSpace need 4 free 3\n")
 
 
+# Two directories in blocks of 256 bytes, b before a in the thread. The part of a weighs 232, and 223 without its file f; that of
+# b weighs 216, which is the room of a block, and 225 with it.
+TWO_HEAVY_PARTS = {
+    0: log(1, superblock(256, 10) + directory(1, b"a", (2, 3)) + directory(2, b"b", (4, 5)) + tail(SOFT, (4, 5))),
+    2: log(1, file(0, b"f") + file(1, 103 * b"m") + file(2, 104 * b"n")),
+    4: log(1, file(0, 105 * b"m") + file(1, 95 * b"n") + tail(SOFT, (2, 3))),
+}
+
+# What moves a file between them, the pairs then, and how many entries each part has: the part that the file leaves gets the
+# first new blocks.
+LED = (("mv /a/f /b/f", [ROOT, (4, 5), (8, 9), (2, 3), (6, 7)], [3, 2, 1, 1, 1]),)
+
+
+def the_part_that_an_entry_leaves_is_cut_first(folder):
+    for line, thread, counts in LED:
+        blocks = Blocks(folder, 256)
+        blocks.be(10, TWO_HEAVY_PARTS)
+        blocks.do(line)
+        blocks.stand(line, thread, [ROOT, (2, 3), (4, 5)], 0)
+        found = [len(part.entries) for part in blocks.read().parts]
+        folder.check(f"entries behind {line}", found == counts, found)
+
+
 def a_thousand_files_take_two_parts(folder):
     blocks = Blocks(folder, 65_536)
     named = [item for number in range(999) for item in file(number + 1, b"%04d" % number)]
@@ -197,6 +235,17 @@ def a_thousand_files_take_two_parts(folder):
     blocks.stand("a thousand files", [ROOT, (2, 3)], [ROOT], 0)
     found = [len(part.entries) for part in blocks.read().parts]
     folder.check("a thousand entries", found == [1_000, 1], found)
+
+
+def a_thousand_files_of_a_directory_take_one_part(folder):
+    blocks = Blocks(folder, 65_536)
+    named = [item for number in range(999) for item in file(number, b"%04d" % number)]
+    root = superblock(65_536, 6) + directory(1, b"d", (2, 3)) + tail(SOFT, (2, 3))
+    blocks.be(6, {0: log(1, root), 2: log(1, named)})
+    for name, counts in ("0999", [1_000]), ("1000", [1_000, 1]):
+        blocks.do(f"put /d/{name}")
+        found = [len(part.entries) for part in blocks.read().parts_of((2, 3))]
+        folder.check(f"entries behind {name}", found == counts, found)
 
 
 # Files on an image of four blocks of 256 bytes: the path, the length, what is complained, and how many blocks are free then.
@@ -214,6 +263,9 @@ FILES = (
     ("/a", 0, "", 2),
     ("/b", 33, "", 1),
 )
+
+# The length of a directory's name, and what is complained on four blocks of 256 bytes: its pair isn't all that it takes there.
+NAMES = ((200, "lfsed: 43 NoSpace need 4 free 2\n"), (201, TOO_LARGE))
 
 # The length of a name, that of a file, and what is complained.
 LENGTHS = (
@@ -234,6 +286,32 @@ def files_have_to_fit(folder):
     for name, length, complaint in LENGTHS:
         blocks.new(4)
         blocks.do(f"put /{name * 'a'}", length, complaint)
+
+
+def names_of_directories_have_to_fit(folder):
+    blocks = Blocks(folder, 256)
+    blocks.new(4)
+    for name, complaint in NAMES:
+        blocks.do(f"mkdir /{name * 'a'}", 0, complaint)
+
+
+def commits_end_at_multiples_of_sixteen(folder):
+    blocks = Blocks(folder, 512)
+    for length in range(1, 17):
+        blocks.new(8)
+        blocks.do(f"put /{length * 'a'}")
+        wanted = log(2, superblock(512, 8) + file(1, length * b"a"), 16).ljust(512, b"\xff")
+        folder.holds(f"a name of {length} bytes", 512, wanted)
+
+
+def pointers_have_more_than_one_byte(folder):
+    """A file of the blocks 2 to 257, and one of 257 bytes behind it: block 259 names block 258, and has one byte more."""
+    blocks = Blocks(folder, 256)
+    blocks.new(260)
+    blocks.do("put /a", 63_528)
+    blocks.do("put /b", 257)
+    folder.holds("the first block", 258 * 256, contents(256))
+    folder.holds("the last block", 259 * 256, b"\x02\x01\x00\x00" + contents(257)[256:] + 251 * b"\xff")
 
 
 def values_have_to_fit(folder):
@@ -326,12 +404,18 @@ sys.exit(run_scenes([
     directories_go_with_what_is_below,
     entries_move_in_their_part,
     parts_are_cut,
+    parts_are_filled_to_the_last_byte,
     directories_of_three_parts_come_and_go,
     entries_go_where_their_names_belong,
     what_others_have_written,
     heavy_parts_are_cut_where_they_get_a_tail,
+    the_part_that_an_entry_leaves_is_cut_first,
     a_thousand_files_take_two_parts,
+    a_thousand_files_of_a_directory_take_one_part,
     files_have_to_fit,
+    names_of_directories_have_to_fit,
+    commits_end_at_multiples_of_sixteen,
+    pointers_have_more_than_one_byte,
     values_have_to_fit,
     the_superblock_stands_in_front_of_the_root_alone,
     commands_are_judged,

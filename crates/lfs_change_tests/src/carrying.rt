@@ -1,12 +1,10 @@
 //! Plans of commands, and files that are read.
 
-ghost use Rattle.lfs_fs.specs.Mounted.{IsMountOf};
-
 use crate::images::{carries_out, new_image, new_session};
 use lfs_block::{Image, Patch};
 use lfs_contents::send_file;
-use lfs_edit::{Command, Refusal, plan};
-use lfs_fs::{Mounted, mount};
+use lfs_edit::{Command, plan};
+use lfs_fs::mount;
 use lfs_sink::Out;
 use std::alloc::Global;
 use std::process::Abort;
@@ -37,31 +35,13 @@ fn a_plan_writes_the_root_and_the_least_free_block(rt: HostRuntime) -> Result<()
     Ok(())
 }
 
-// why the file at a path isn't read
-fn refusal(
-    alloc: Global,
-    image: &Image,
-    mounted: &Mounted,
-    path: &[u8],
-) -> Result<Option<Refusal>, Fail>
-    requires { IsMountOf image.now mounted.now }
-{
-    let mut bytes = Vec::new(alloc);
-    let mut out = Out::new(&mut bytes);
-    Ok(send_file(alloc, image, mounted, path, &mut out).err())
-}
-
-// asserts what is read of an image with that file
+// asserts that the file is read from an image
 fn are_read(rt: &impl Abort, alloc: Global, image: &Image) -> Result<(), Fail> {
     let mounted = mount(alloc, image)?;
     let mut bytes = Vec::new(alloc);
     let mut out = Out::new(&mut bytes);
     assert!(rt; send_file(alloc, image, &mounted, b"/a", &mut out)?);
     assert!(rt; bytes.as_slice() == [7; 65].as_slice());
-    let nowhere = refusal(alloc, image, &mounted, b"/b")?;
-    assert_eq!(rt; nowhere, Some(Refusal::NotFound));
-    let root = refusal(alloc, image, &mounted, b"/")?;
-    assert_eq!(rt; root, Some(Refusal::IsADirectory));
     Ok(())
 }
 

@@ -49,17 +49,6 @@ fn folder(alloc: Global, letter: u8, len: u16) -> Result<OutlineEntry, AllocErro
     })
 }
 
-// so many such files
-fn files(alloc: Global, count: u32, len: u16) -> Result<Vec<OutlineEntry>, AllocError>
-    requires { len < 1023 }
-{
-    let mut entries = Vec::new(alloc);
-    for _ in 0..count {
-        entries.push(file(alloc, b'a', len)?)?;
-    }
-    Ok(entries)
-}
-
 // an outline of 64 blocks with these directories, without attributes
 fn outline(alloc: Global, size: u32, directories: Vec<OutlineDirectory>) -> Outline
     ensures size { result.size ≡ size }
@@ -118,19 +107,6 @@ fn one_part(
     Ok(outline(alloc, size, directories))
 }
 
-// an outline of two such directories, at {2,3} and {4,8}, each of two files that take a block each
-fn two_parts(rt: &impl Abort, alloc: Global) -> Result<Outline, AllocError>
-    ensures size { IfOk result (λ o. o.size ≡ 256) }
-    ensures few { IfOk result (λ o. sum_by (λ p. length p.entries) (thread o.directories) < 65536) }
-    ensures once { IfOk result (λ o. HasPairsOnce o) }
-    ensures parts { IfOk result (λ o. length (thread o.directories) ≤ 2) }
-{
-    let first = directory(rt, alloc, (2, 3), files(alloc, 2, 120)?);
-    let second = directory(rt, alloc, (4, 8), files(alloc, 2, 120)?);
-    let directories = vec![in alloc; first, second]?;
-    Ok(outline(alloc, 256, directories))
-}
-
 // the blocks of a new image of 64 blocks, of which all but two are free
 fn used_blocks(alloc: Global) -> Result<UsedBlocks, Fail> {
     outlines_are_sound();
@@ -153,7 +129,6 @@ fn rows_of(
     rt: &impl Abort,
     alloc: Global,
     outline: &Outline,
-    leading: Option<(u32, u32)>,
     blocks: &[u32],
 ) -> Result<ArrayVec<NewPairs, 2, Global>, Fail>
     requires size { outline.now.size ≤ 65536 }
@@ -164,7 +139,7 @@ fn rows_of(
     let used = used_blocks(alloc)?;
     let need = need(outline, &used)?;
     assert!(rt; need as usize == blocks.len());
-    Ok(choose(alloc, outline, leading, blocks)?)
+    Ok(choose(alloc, outline, None, blocks)?)
 }
 
 // asserts that a part has a pair, and one entry whose name begins with a letter
@@ -202,122 +177,9 @@ fn three_entries(alloc: Global) -> Result<Vec<OutlineEntry>, AllocError> {
 fn parts_are_cut_into_the_next_blocks(rt: HostRuntime) -> Result<(), Fail> {
     let alloc = rt.alloc();
     let mut outline = one_part(&rt, alloc, 256, (0, 1), three_entries(alloc)?)?;
-    let rows = rows_of(&rt, alloc, &outline, None, &[5, 6, 9, 7])?;
+    let rows = rows_of(&rt, alloc, &outline, &[5, 6, 9, 7])?;
     cut(alloc, &mut outline, &rows)?;
     clean(&mut outline);
     is_cut(&rt, &outline);
-    Ok(())
-}
-
-// A part's pair, how many empty files it has, and its new blocks: a run has at most 1,000 entries, the superblock among them.
-const MANY: [((u32, u32), u32, u32); 4] = [
-    ((0, 1), 999, 0),
-    ((0, 1), 1_001, 2),
-    ((2, 3), 1_000, 0),
-    ((2, 3), 1_001, 2),
-];
-
-#[test]
-fn runs_have_few_entries(rt: HostRuntime) -> Result<(), Fail> {
-    let alloc = rt.alloc();
-    let used = used_blocks(alloc)?;
-    for (pair, count, wanted) in &MANY {
-        let outline = one_part(&rt, alloc, 65_536, *pair, files(alloc, *count, 4)?)?;
-        assert_eq!(rt; need(&outline, &used), Ok(*wanted));
-    }
-    Ok(())
-}
-
-// an outline whose root has one directory, with a name of so many letters
-fn with_folder(rt: &impl Abort, alloc: Global, len: u16) -> Result<Outline, AllocError>
-    requires { len < 1023 }
-    ensures size { IfOk result (λ o. o.size ≡ 256) }
-    ensures few { IfOk result (λ o. sum_by (λ p. length p.entries) (thread o.directories) < 65536) }
-{
-    let entries = vec![in alloc; folder(alloc, b'a', len)?]?;
-    one_part(rt, alloc, 256, (0, 1), entries)
-}
-
-// In a room of 216 bytes a directory's name has at most 200; with the superblock's 40 it takes another block.
-#[test]
-fn entries_are_too_large(rt: HostRuntime) -> Result<(), Fail> {
-    let alloc = rt.alloc();
-    let used = used_blocks(alloc)?;
-    let large = with_folder(&rt, alloc, 200)?;
-    assert_eq!(rt; need(&large, &used), Ok(2));
-    let too_large = with_folder(&rt, alloc, 201)?;
-    assert_eq!(rt; need(&too_large, &used), Err(Refusal::EntryTooLarge));
-    Ok(())
-}
-
-// the first pair of the directory that has a part at {10,11}
-fn owner(outline: &Outline) -> Option<(u32, u32)> {
-    for directory in &outline.directories {
-        if directory.more.first().is_some_and(|part| part.pair.0 == 10) {
-            return Some(directory.first.pair);
-        }
-    }
-    None
-}
-
-// the part that leads, and the one that gets the first new blocks
-const LEADING: [(Option<(u32, u32)>, (u32, u32)); 3] = [
-    (Some((2, 3)), (2, 3)),
-    (None, (2, 3)),
-    (Some((4, 8)), (4, 8)),
-];
-
-#[test]
-fn one_part_leads(rt: HostRuntime) -> Result<(), Fail> {
-    let alloc = rt.alloc();
-    for (leading, first) in &LEADING {
-        let mut outline = two_parts(&rt, alloc)?;
-        let rows = rows_of(&rt, alloc, &outline, *leading, &[10, 11, 12, 13])?;
-        cut(alloc, &mut outline, &rows)?;
-        assert_eq!(rt; owner(&outline), Some(*first));
-    }
-    Ok(())
-}
-
-// five new pairs for the part of a pair
-fn five_pairs(
-    rt: &impl Abort,
-    alloc: Global,
-    pair: (u32, u32),
-) -> Result<ArrayVec<NewPairs, 2, Global>, Fail> {
-    let outline = one_part(rt, alloc, 256, pair, files(alloc, 6, 120)?)?;
-    let blocks = [10, 11, 12, 13, 14, 15, 16, 17, 18, 19];
-    rows_of(rt, alloc, &outline, None, &blocks)
-}
-
-// asserts how many entries the parts of a directory have: the first one, and those behind it
-fn have_entries(rt: &impl Abort, outline: &Outline, first: usize, more: &[usize]) {
-    for directory in &outline.directories {
-        assert_eq!(rt; directory.first.entries.len(), first);
-        assert_eq!(rt; directory.more.len(), more.len());
-        for (part, len) in directory.more.iter().zip(more) {
-            assert_eq!(rt; part.entries.len(), *len);
-        }
-    }
-}
-
-// A size of blocks, of which 40 bytes are kept, a part's pair, the length of the names of its five files, which weigh 8 more, and how
-// many of them its first run and those behind it have. In the root's first part the superblock weighs 40.
-const RUNS: [(u32, (u32, u32), u16, usize, &[usize]); 4] = [
-    (85, (2, 3), 1, 5, &[]),
-    (60, (2, 3), 1, 2, &[2, 1]),
-    (120, (0, 1), 22, 1, &[2, 2]),
-    (48, (2, 3), 1, 0, &[1, 1, 1, 1, 1]),
-];
-
-#[test]
-fn entries_are_split_greedily(rt: HostRuntime) -> Result<(), Fail> {
-    let alloc = rt.alloc();
-    for (size, pair, len, first, more) in &RUNS {
-        assert!(rt; *size <= 65_536 && *len < 1_023);
-        let mut outline = one_part(&rt, alloc, *size, *pair, files(alloc, 5, *len)?)?;
-        cut(alloc, &mut outline, &five_pairs(&rt, alloc, *pair)?)?;
-        have_entries(&rt, &outline, *first, more);
-    }
     Ok(())
 }

@@ -23,13 +23,3 @@ fn new_image_has_one_commit(rt: HostRuntime) -> Result<(), Fail> {
     }
     Ok(())
 }
-
-#[test]
-fn least_and_greatest_images(rt: HostRuntime) -> Result<(), Fail> {
-    for (size, count) in [(256, 2), (512, 65_536), (65_536, 1_024)] {
-        assert!(rt; lfs_block::geometry_ok(size, count));
-        let bytes = format(rt.alloc(), size, count)?;
-        assert_eq!(rt; bytes.len(), size as usize * count as usize);
-    }
-    Ok(())
-}

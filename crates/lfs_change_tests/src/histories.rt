@@ -1,55 +1,12 @@
-//! Sessions by example: what is undone and made again.
+//! Sessions by example: runs of steps, and lists of commands.
 
-use crate::images::{are_same, copy_of, fresh, has_image, new_image, new_session, replies};
-use lfs_block::{Image, MountFault};
+use crate::images::{fresh, has_image, new_image, new_session, replies};
+use lfs_block::Image;
 use lfs_edit::{Command, Refusal};
 use lfs_journal::{Session, Step, StepFault, run_steps};
 use std::alloc::{AllocError, Global};
 use std::process::Abort;
 use std::test::Fail;
-
-// asserts that there is nothing to undo, and that trying leaves this image
-fn cannot_undo(rt: &impl Abort, session: &mut Session, image: &Image) {
-    assert_eq!(rt; session.undo(), Err(StepFault::NothingToUndo));
-    has_image(rt, session, image);
-}
-
-// asserts that there is nothing to redo, and that trying leaves this image
-fn cannot_redo(rt: &impl Abort, session: &mut Session, image: &Image) {
-    assert_eq!(rt; session.redo(), Err(StepFault::NothingToRedo));
-    has_image(rt, session, image);
-}
-
-#[test]
-fn fresh_session_has_nothing_to_undo_or_redo(rt: HostRuntime) -> Result<(), Fail> {
-    let first = new_image(rt.alloc())?;
-    let mut session = new_session(rt.alloc())?;
-    cannot_undo(&rt, &mut session, &first);
-    cannot_redo(&rt, &mut session, &first);
-    session.forget();
-    has_image(&rt, &session, &first);
-    assert!(rt; are_same(&session.into_image(), &first));
-    Ok(())
-}
-
-// asserts that an image has 4,096 bytes, all of them erased
-fn is_erased(rt: &impl Abort, image: Image) {
-    let bytes = image.into_bytes();
-    assert_eq!(rt; bytes.len(), 4_096);
-    assert!(rt; bytes.iter().all(|byte| *byte == 0xff));
-}
-
-#[test]
-fn image_that_does_not_mount_is_handed_back(rt: HostRuntime) -> Result<(), Fail> {
-    let bytes = vec![in rt.alloc(); 0xff; 4_096]?;
-    let image = Image::new(bytes, 512).map_err(|refused| refused.0)?;
-    let Err(unmounted) = Session::fresh(rt.alloc(), image) else {
-        return Err(Fail::new("erased bytes mount"));
-    };
-    assert_eq!(rt; unmounted.fault, MountFault::NoValidCommit);
-    is_erased(&rt, unmounted.image);
-    Ok(())
-}
 
 // the command that sets an attribute of the root
 fn set_root<'a>(value: &'a [u8]) -> Command<'a> {
@@ -58,80 +15,6 @@ fn set_root<'a>(value: &'a [u8]) -> Command<'a> {
         kind: 0x74,
         value,
     }
-}
-
-// carries that command out
-fn change(alloc: Global, session: &mut Session, value: &[u8]) -> Result<(), StepFault> {
-    session.command(alloc, &set_root(value))
-}
-
-// asserts that a change is undone and made again exactly
-fn goes_back_and_forth(rt: &impl Abort, session: &mut Session, first: &Image, later: &Image) {
-    assert!(rt; !are_same(later, first));
-    assert_eq!(rt; session.undo(), Ok(()));
-    has_image(rt, session, first);
-    assert_eq!(rt; session.redo(), Ok(()));
-    has_image(rt, session, later);
-    cannot_redo(rt, session, later);
-}
-
-#[test]
-fn undo_and_redo_are_exact(rt: HostRuntime) -> Result<(), Fail> {
-    let first = new_image(rt.alloc())?;
-    let mut session = new_session(rt.alloc())?;
-    change(rt.alloc(), &mut session, &[1, 2])?;
-    let later = copy_of(rt.alloc(), session.image())?;
-    goes_back_and_forth(&rt, &mut session, &first, &later);
-    Ok(())
-}
-
-#[test]
-fn command_drops_what_was_undone(rt: HostRuntime) -> Result<(), Fail> {
-    let mut session = new_session(rt.alloc())?;
-    change(rt.alloc(), &mut session, &[1, 2])?;
-    assert_eq!(rt; session.undo(), Ok(()));
-    change(rt.alloc(), &mut session, &[3])?;
-    let later = copy_of(rt.alloc(), session.image())?;
-    cannot_redo(&rt, &mut session, &later);
-    Ok(())
-}
-
-#[test]
-fn forgotten_changes_cannot_be_undone(rt: HostRuntime) -> Result<(), Fail> {
-    let mut session = new_session(rt.alloc())?;
-    change(rt.alloc(), &mut session, &[1, 2])?;
-    let later = copy_of(rt.alloc(), session.image())?;
-    session.forget();
-    has_image(&rt, &session, &later);
-    cannot_undo(&rt, &mut session, &later);
-    assert!(rt; are_same(&session.into_image(), &later));
-    Ok(())
-}
-
-// makes as many changes as a journal keeps
-fn fill(alloc: Global, session: &mut Session) -> Result<(), StepFault> {
-    for _ in 0..1_000 {
-        change(alloc, session, &[1])?;
-    }
-    Ok(())
-}
-
-// asserts that a session takes no more changes, and one again once the last was undone
-fn is_full(rt: &impl Abort, alloc: Global, session: &mut Session, full: &Image) {
-    assert_eq!(rt; change(alloc, session, &[1]), Err(StepFault::JournalFull));
-    has_image(rt, session, full);
-    assert_eq!(rt; session.undo(), Ok(()));
-    assert_eq!(rt; change(alloc, session, &[1]), Ok(()));
-    has_image(rt, session, full);
-}
-
-#[test]
-fn a_thousand_changes_fill_the_journal(rt: HostRuntime) -> Result<(), Fail> {
-    let mut session = new_session(rt.alloc())?;
-    fill(rt.alloc(), &mut session)?;
-    let full = copy_of(rt.alloc(), session.image())?;
-    is_full(&rt, rt.alloc(), &mut session, &full);
-    Ok(())
 }
 
 // asserts how a session replies to a run of steps
@@ -148,22 +31,6 @@ fn replies_to(
 }
 
 #[test]
-fn runs_go_on_behind_a_refusal(rt: HostRuntime) -> Result<(), Fail> {
-    let first = new_image(rt.alloc())?;
-    let mut session = new_session(rt.alloc())?;
-    let steps = [Step::Undo, Step::Redo, Step::Forget, Step::Undo];
-    let expected = [
-        Err(StepFault::NothingToUndo),
-        Err(StepFault::NothingToRedo),
-        Ok(()),
-        Err(StepFault::NothingToUndo),
-    ];
-    replies_to(&rt, rt.alloc(), &mut session, &steps, &expected)?;
-    has_image(&rt, &session, &first);
-    Ok(())
-}
-
-#[test]
 fn runs_carry_commands_out(rt: HostRuntime) -> Result<(), Fail> {
     let first = new_image(rt.alloc())?;
     let mut session = new_session(rt.alloc())?;
@@ -175,13 +42,19 @@ fn runs_carry_commands_out(rt: HostRuntime) -> Result<(), Fail> {
         Step::Do(set_root(&[1, 2])),
         Step::Do(nowhere),
         Step::Undo,
+        Step::Redo,
         Step::Undo,
+        Step::Forget,
+        Step::Redo,
     ];
     let expected = [
         Ok(()),
         Err(StepFault::Refused(Refusal::NotFound)),
         Ok(()),
-        Err(StepFault::NothingToUndo),
+        Ok(()),
+        Ok(()),
+        Ok(()),
+        Err(StepFault::NothingToRedo),
     ];
     replies_to(&rt, rt.alloc(), &mut session, &steps, &expected)?;
     has_image(&rt, &session, &first);

@@ -1,4 +1,4 @@
-//! Tests of commands and their layers, which call them as the crates above do: refusals, outlines, what is written, sessions.
+//! Tests of commands and their layers, which call them as the crates above do: refusals, outlines, what is written, sessions, writers.
 //! What a command makes of an image is tested by `tests/trees.py` and `tests/rows.py`, over the program.
 #![tactic(auto)]
 
@@ -26,8 +26,8 @@ mod packing;
 #[cfg(test)]
 mod paths;
 #[cfg(test)]
-mod refusals;
-#[cfg(test)]
 mod weighing;
+#[cfg(test)]
+mod writers;
 
 pub use new_images::new_image_of;

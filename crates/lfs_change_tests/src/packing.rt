@@ -1,7 +1,6 @@
 //! Rows that are packed into a new image.
 
 use lfs_block::{Image, geometry_ok};
-use lfs_edit::Refusal;
 use lfs_fs::mount;
 use lfs_listing::send_listing;
 use lfs_pack::{PackRow, pack};
@@ -82,15 +81,4 @@ fn the_root_gets_attributes(rt: HostRuntime) -> Result<(), Fail> {
     let bytes = pack(rt.alloc(), 512, 2, &[root])?;
     let image = Image::new(bytes, 512).ok().ok_or("no image")?;
     lists(&rt, rt.alloc(), &image, "d          - /\n@ 74 01\n")
-}
-
-#[test]
-fn rows_that_do_not_fit_are_refused(rt: HostRuntime) -> Result<(), Fail> {
-    if !geometry_ok(512, 4) {
-        return Err(Fail::new("no image has such blocks"));
-    }
-    let attributes = attributes(rt.alloc())?;
-    let refused = pack(rt.alloc(), 512, 4, &rows(&attributes)).err();
-    assert_eq!(rt; refused, Some(Refusal::NoSpace { need: 1, free: 0 }));
-    Ok(())
 }

@@ -8,8 +8,6 @@ mod host_path;
 mod making;
 mod name_texts;
 mod new_folder;
-#[cfg(test)]
-mod tests;
 
 pub use extract_fault::ExtractFault;
 pub use extracting::extract_rows;

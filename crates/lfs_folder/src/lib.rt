@@ -7,8 +7,6 @@ mod folders;
 mod host_names;
 mod path_below;
 mod reading;
-#[cfg(test)]
-mod tests;
 mod walking;
 
 pub use folder_fault::FolderFault;

@@ -1,11 +1,16 @@
-//! Tests of requests on a host's files, over a host in memory, and a law of them. What commands, undo and redo make of files,
-//! and which journals are refused, is tested by `tests/journals.py` and `tests/rows.py`, over the program.
+//! Tests of requests on a host's files, over a host in memory, and a law of them; and of folders that are read and made. What
+//! commands, undo and redo make of files, and which journals are refused, is tested by `tests/journals.py` and `tests/rows.py`, over
+//! the program.
 #![tactic(auto)]
 
 mod asking;
 #[cfg(test)]
 mod host_faults;
 #[cfg(test)]
+mod recorders;
+#[cfg(test)]
 mod requests;
+#[cfg(test)]
+mod shelves;
 
 pub use asking::ask_in_memory;

@@ -3,8 +3,6 @@
 
 mod sending;
 mod sink;
-#[cfg(test)]
-mod tests;
 mod writer_sink;
 
 pub use sending::send;

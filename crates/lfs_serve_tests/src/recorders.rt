@@ -3,12 +3,13 @@
 ghost use Rattle.std.specs.Prelude.{Some, if◌then◌else◌, map, string_bytes};
 ghost use Rattle.lfs_host.specs.NewFolder.{FileMade, FolderMade};
 
-use crate::making::make_row;
-use crate::new_folder::NewFolder;
-use lfs_block::Image;
-use lfs_fs::{Row, RowBody};
+use lfs_block::{Image, geometry_ok};
+use lfs_extract::{NewFolder, extract_rows};
+use lfs_fs::mount;
 use lfs_host::HostFault;
+use lfs_pack::{PackRow, pack};
 use std::alloc::Global;
+use std::process::Abort;
 use std::test::Fail;
 
 /// A folder, or a file with its bytes.
@@ -78,10 +79,40 @@ impl NewFolder for Recorder {
     }
 }
 
+/// An image whose root has a file with these bytes, `bytes`.
+fn image_of_a_file(alloc: Global) -> Result<Image, Fail> {
+    if !geometry_ok(256, 2) {
+        return Err(Fail::new("no image has such blocks"));
+    }
+    let root = PackRow {
+        path: b"/",
+        bytes: None,
+        attributes: &[],
+    };
+    let file = PackRow {
+        path: b"/f",
+        bytes: Some(b"bytes"),
+        attributes: &[],
+    };
+    let bytes = pack(alloc, 256, 2, &[root, file])?;
+    Ok(Image::new(bytes, 256).map_err(|refused| refused.0)?)
+}
+
+/// Asserts that these are the folder `out`, and the file in it where it is made.
+fn are_made(rt: &impl Abort, things: &[Thing], is_made: bool) {
+    assert_eq!(rt; things.len(), 1 + usize::from(is_made));
+    for (thing, name) in things.iter().zip(["out", "out/f"]) {
+        assert!(rt; thing.name.as_str() == name);
+        assert_eq!(rt; thing.is_folder, name == "out");
+        assert!(rt; thing.is_folder || thing.bytes.as_slice() == b"bytes".as_slice());
+    }
+}
+
 #[test]
 fn a_file_is_made_whole_or_not_at_all(rt: HostRuntime) -> Result<(), Fail> {
     let alloc = rt.alloc();
-    let image = Image::new(vec![in alloc; 0; 512]?, 256).map_err(|_| "no image")?;
+    let image = image_of_a_file(alloc)?;
+    let mounted = mount(alloc, &image)?;
     for (room, is_made) in [(4, false), (5, true)] {
         let mut host = Recorder {
             alloc,
@@ -89,19 +120,9 @@ fn a_file_is_made_whole_or_not_at_all(rt: HostRuntime) -> Result<(), Fail> {
             bytes: Vec::new(alloc),
             room,
         };
-        let row = Row {
-            depth: 1,
-            name: b"f",
-            body: RowBody::Inline(b"bytes"),
-            attributes: &[],
-        };
-        assert_eq!(rt; make_row(&image, &row, "out/f", &mut host).is_ok(), is_made);
-        assert_eq!(rt; host.things.len(), usize::from(is_made));
-        for thing in &host.things {
-            assert!(rt; !thing.is_folder);
-            assert!(rt; thing.name.as_str() == "out/f");
-            assert!(rt; thing.bytes.as_slice() == b"bytes".as_slice());
-        }
+        let made = extract_rows(alloc, &image, &mounted, "out", &mut host);
+        assert_eq!(rt; made.is_ok(), is_made);
+        are_made(&rt, &host.things, is_made);
     }
     Ok(())
 }

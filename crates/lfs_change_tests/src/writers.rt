@@ -1,7 +1,6 @@
 //! Writers that misbehave.
 
-use crate::sending::send;
-use crate::writer_sink::Out;
+use lfs_sink::{Out, Sink, send};
 use std::io;
 use std::io::{ErrorKind, Write};
 use std::test::Fail;

@@ -1,8 +1,6 @@
 //! A folder in memory, read as rows.
 
-use crate::folder_fault::FolderFault;
-use crate::folders::Folders;
-use crate::reading::folder_rows;
+use lfs_folder::{FolderFault, Folders, folder_rows};
 use lfs_host::{HostKind, ListFault, ReadFault};
 use std::alloc::{AllocError, Global};
 use std::test::Fail;
