@@ -92,6 +92,9 @@ WITHOUT_ATTRIBUTE = bytes.fromhex(
     "704cd982"
 )
 
+# What is said of blocks of 260 bytes.
+OFF_GRAIN = "lfsed: 2 BadGeometry\nlfsed: --block 260: a block is a multiple of 16 bytes\n"
+
 # Images, which are these bytes with 0xff behind them up to a length, and what is said of each.
 JUDGED = [
     (NEW, 4_095, ("check --block 512 a.img", 0, 3, "lfsed: 1 ImageLength\n", "")),
@@ -106,6 +109,11 @@ JUDGED = [
     (SHARED, 4_096, ("check --block 512 a.img", 0, 3, "lfsed: 15 BlockTwice\n", "")),
     (SHORT_FIRST, 4_096, ("check --block 512 a.img", 0, 3, "lfsed: 13 OrderFault\n", "")),
     (b"", 0, ("check a.img", 0, 3, "lfsed: 2 BadGeometry\n", "")),
+    (NEW, 4_096, ("check -b 260 a.img", 0, 3, OFF_GRAIN, "")),
+    (NEW, 4_096, ("mkdir -b 260 a.img /a", 0, 3, OFF_GRAIN, "")),
+    (NEW, 4_096, ("forget -b 260 a.img", 0, 3, OFF_GRAIN, "")),
+    (NEW, 4_096, ("extract -b 260 a.img made", 0, 3, OFF_GRAIN, "")),
+    (NEW, 4_096, ("format -b 260 --count 8 a.img", 0, 3, OFF_GRAIN, "")),
     (WITH_DELETED, 4_096, ("check --block 512 a.img", 0, 0, "", "block 512, count 8, free 6, directories 1, files 0\n")),
     (NEW, 4_095, ("setattr --block=512 a.img / 74 01", 0, 3, "lfsed: 1 ImageLength\n", "")),
     (b"", 4_096, ("setattr --block=512 a.img / 74 01", 0, 3, "lfsed: 3 NoValidCommit\n", "")),
@@ -329,7 +337,6 @@ USAGE = [
     ("explain 22", "error: invalid value '22' for '<NUMBER>': no fault has this number\n\nFor more information, try '--help'.\n"),
     ("", "error: 'lfsed' requires a subcommand but one was not provided\n"),
     ("frob", "error: unrecognized subcommand 'frob'\n"),
-    ("check -b 260 a.img", "error: invalid value '260' for '--block <BYTES>': 260 is not a multiple of 16\n\nFor more information, try '--help'.\n"),
     ("format a.img", "error: the following required arguments were not provided:\n  --count <N>\n"),
     ("format --count 8", "error: the following required arguments were not provided:\n  <IMAGE>\n"),
     ("format --count 1 a.img", "error: invalid value '1' for '--count <N>': 1 is not in 2..=65536\n"),

@@ -1,3 +1,4 @@
 pub mod Handing
 pub mod Kind
 pub mod Storing
+pub mod Printing

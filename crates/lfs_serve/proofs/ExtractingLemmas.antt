@@ -11,16 +11,17 @@ use Rattle.lfs_extract.specs.declared.extract_fault.ExtractFault.TheVariants.{Me
 use Rattle.lfs_host.specs.Files.{Files, IsTarget, ReadsFile}
 use Rattle.lfs_host.specs.HostTree.{HostTree}
 use Rattle.lfs_host.specs.NewFolder.{Made}
+use Rattle.lfs_step.specs.Query.{HasMount}
 use Rattle.lfs_exchange.specs.Handing.{most_image}
 use Rattle.lfs_serve.proofs.StepLemmas.{reads_target}
 use Rattle.lfs_serve.specs.Extracting.{EndsBytes, EndsExtract, EndsMaking, FindsFolder, IsUnread, MakesRows, StopsMaking, fault_of_extracting}
 
--- what isn't missing ends it, and nothing is made
-pub there_ends : (d : Disk) (dir : List ℕ) (tree : Option HostTree) (old new : Option (List Made)) (fault : Fault)
+-- on an image that mounts, what isn't missing ends it, and nothing is made
+pub there_ends : (d : Disk) → HasMount d → (dir : List ℕ) (tree : Option HostTree) (old new : Option (List Made)) (fault : Fault)
     → IsUnread fault ⊎ ((fault ≡ HostEntry) × FindsFolder dir tree old new) → new ≡ old → StopsMaking d dir tree old new fault
-there_ends d dir tree old new fault (inl (inl is)) same = subst (StopsMaking d dir tree old new) (sym is) same
-there_ends d dir tree old new fault (inl (inr is)) same = subst (StopsMaking d dir tree old new) (sym is) (refl, inl same)
-there_ends d dir tree old new fault (inr (is, finds)) same = subst (StopsMaking d dir tree old new) (sym is) finds
+there_ends d mounts dir tree old new fault (inl (inl is)) same = subst (StopsMaking d dir tree old new) (sym is) same
+there_ends d mounts dir tree old new fault (inl (inr is)) same = subst (StopsMaking d dir tree old new) (sym is) (refl, inl same)
+there_ends d mounts dir tree old new fault (inr (is, finds)) same = subst (StopsMaking d dir tree old new) (sym is) (mounts, finds)
 
 -- rows that were made end it, by what is told
 pub rows_end : (d : Disk) (dir : List ℕ) (tree : Option HostTree) (old new : Option (List Made)) (why : Option ExtractFault)

@@ -1,5 +1,5 @@
 -- What is made of an image in a new folder of the host (own).
-use Rattle.std.specs.Prelude.{◌≡◌, ◌⊎◌, ◌%◌, ℕ, Bool, true, false, List, Option, Some, None}
+use Rattle.std.specs.Prelude.{◌≡◌, ◌⊎◌, ℕ, Bool, true, false, List, Option, Some, None}
 use Rattle.lfs_block.specs.Disk.{Disk, IsDisk}
 use Rattle.lfs_block.specs.ImageFault.{IsNoImage}
 use Rattle.lfs_fs.specs.Cause.{HasCause}
@@ -18,8 +18,8 @@ use Rattle.lfs_host.specs.NewFolder.{Made}
 use Rattle.lfs_host.specs.declared.host_kind.HostKind.{HostKind}
 use Rattle.lfs_host.specs.declared.host_kind.HostKind.TheVariants.{Missing}
 use Rattle.lfs_request.specs.declared.extraction.Extraction.{Extraction}
+use Rattle.lfs_step.specs.Query.{HasMount}
 use Rattle.lfs_exchange.specs.Handing.{most_image}
-use Rattle.lfs_serve.specs.Program.{grain, usage}
 
 -- ---- a mounted image
 
@@ -54,7 +54,7 @@ pub record FindsFolder (dir : List ℕ) (tree : Option HostTree) (old new : Opti
 -- why nothing, or not all, is made of an image
 abbrev pub StopsMaking : Disk → List ℕ → Option HostTree → Option (List Made) → Option (List Made) → Fault → Type 0
 StopsMaking d dir tree old new (Mount fault) = HasCause d fault × (new ≡ old)
-StopsMaking d dir tree old new HostEntry = FindsFolder dir tree old new
+StopsMaking d dir tree old new HostEntry = HasMount d × FindsFolder dir tree old new
 StopsMaking d dir tree old new HostName = MakesRows d dir tree old new (Some extracting.HostName)
 StopsMaking d dir tree old new CannotWrite = MakesRows d dir tree old new (Some extracting.CannotWrite)
 StopsMaking d dir tree old new CannotRead = new ≡ old
@@ -86,8 +86,7 @@ EndsExtract size name dir files tree old new fault =
     ((new ≡ old) × ((why : Fault) × (fault ≡ Some why) × IsUnread why))
     ⊎ ((bytes : List ℕ) × ReadsFile files name most_image bytes × EndsBytes size bytes dir tree old new fault)
 
--- what is made for a request, by its status: nothing where the block size is none of images
+-- what is made for a request, by its status
 abbrev pub EndsExtraction : Extraction → Option Files → Option HostTree → Option (List Made) → Option (List Made) → ℕ → Type 0
 EndsExtraction e files tree old new status =
-    (¬ (e.size % grain ≡ 0) × (status ≡ usage) × (new ≡ old))
-    ⊎ ((fault : Option Fault) × EndsExtract e.size e.image.now e.dir.now files tree old new fault × (status ≡ status_of fault))
+    (fault : Option Fault) × EndsExtract e.size e.image.now e.dir.now files tree old new fault × (status ≡ status_of fault)

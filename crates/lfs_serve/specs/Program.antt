@@ -1,5 +1,5 @@
 -- What the program does with the files of a host (own).
-use Rattle.std.specs.Prelude.{ℕ, ◌≡◌, ◌⊎◌, ◌%◌, List, Option, Some, None, Result, Ok, Err}
+use Rattle.std.specs.Prelude.{ℕ, ◌≡◌, ◌⊎◌, List, Option, Some, None, Result, Ok, Err}
 use Rattle.lfs_change.specs.declared.fault.Fault.{Fault}
 use Rattle.lfs_change.specs.declared.outcome.Outcome.{Outcome}
 use Rattle.lfs_request.specs.declared.request.Request.{Request}
@@ -61,18 +61,7 @@ abbrev pub stopped_by : {T : Type 0} → Result T Stop → Option Fault
 stopped_by (Ok value) = None
 stopped_by (Err stop) = Some stop.fault
 
--- a size of blocks that images have is a multiple of this
-abbrev pub grain : ℕ
-grain = 16
-
--- the status of a command line that is refused
-abbrev pub usage : ℕ
-usage = 2
-
--- how a request ends on a host with this under its names: refused as the command line is, or as its task
+-- how a request ends on a host with this under its names: as its task
 abbrev pub EndsRequest : Request → Option HostTree → Scene → Scene → ℕ → Type 0
 EndsRequest request tree old new status =
-    (¬ (request.size % grain ≡ 0) × (status ≡ usage) × KeepsScene old new)
-    ⊎ ((fault : Option Fault)
-    × EndsTask request.task request.size request.image.now tree old new fault
-    × (status ≡ status_of fault))
+    (fault : Option Fault) × EndsTask request.task request.size request.image.now tree old new fault × (status ≡ status_of fault)

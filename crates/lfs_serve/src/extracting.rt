@@ -12,7 +12,7 @@ ghost use Rattle.lfs_serve.specs.Extracting.{EndsBytes, EndsExtract, EndsExtract
 ghost use Rattle.lfs_serve.specs.Program.{stopped_by};
 
 use crate::host_maker::HostMaker;
-use crate::serving::{GRAIN, refuse_size, stated_for, tell_of};
+use crate::serving::{stated_for, tell_of};
 use crate::stop::Stop;
 use lfs_block::{Image, MAX_IMAGE_LENGTH};
 use lfs_edit::Refusal;
@@ -31,12 +31,9 @@ pub fn extracted<H: Host>(alloc: Global, host: &mut H, extraction: &Extraction<'
     ensures made { EndsExtraction extraction.now (H.files host.old) (H.tree host.old) (H.made host.old) (H.made host.new) result }
     ensures kept { (H.files host.new ≡ H.files host.old) × (H.typed host.new ≡ H.typed host.old) × (H.printed host.new ≡ H.printed host.old) }
 {
-    if extraction.size % GRAIN != 0 {
-        return refuse_size(host, extraction.size);
-    }
     match extract_file(alloc, host, extraction) {
         Ok(()) => 0,
-        Err(stop) => tell_of(host, extraction.image, &stop),
+        Err(stop) => tell_of(host, extraction.image, extraction.size, &stop),
     }
 }
 

@@ -9,4 +9,4 @@ mod stated;
 mod stop;
 
 pub use extracting::extracted;
-pub use serving::{USAGE, served};
+pub use serving::served;

@@ -5,23 +5,20 @@ ghost use Rattle.lfs_step.specs.Deed.{deed_of};
 ghost use Rattle.lfs_change.specs.Fault.{status_of};
 ghost use Rattle.lfs_step.specs.Outcome.{Answers, SendsText, given};
 ghost use Rattle.lfs_exchange.specs.Handing.{scene};
-ghost use Rattle.lfs_serve.specs.Program.{EndsRequest, EndsStep, EndsTask, RunsOn, stopped_by, usage};
+ghost use Rattle.lfs_serve.specs.Program.{EndsRequest, EndsStep, EndsTask, RunsOn, stopped_by};
 
 use crate::host_folder::{folder_of, pack_rows};
 use crate::stated::{Stated, stated_in};
 use crate::stop::Stop;
-use lfs_block::MountFault;
-use lfs_exchange::{Handed, MORE, Output, aimed, hand_over, kind_of, stored, tell_of_image};
+use lfs_block::{ImageFault, MountFault};
+use lfs_exchange::{Handed, Output, aimed, hand_over, kind_of, stored, tell_of_image};
 use lfs_host::Host;
 use lfs_request::{Request, bytes_of, digits_of, step_of};
 use lfs_step::{Fault, Outcome, Step, run};
 use std::alloc::Global;
 
 /// What a block size is a multiple of, in bytes.
-pub(crate) const GRAIN: u32 = 16;
-
-/// The status of a command line that is refused.
-pub const USAGE: u8 = 2;
+const GRAIN: u32 = 16;
 
 /// Does what is asked for, and answers the status that the program ends with. A fault is told on standard error, with
 /// what is known of it beside. Takes memory.
@@ -31,29 +28,14 @@ pub fn served<H: Host>(alloc: Global, host: &mut H, request: &Request<'_>) -> u8
     ensures ended { EndsRequest request.now (H.tree host.old) (scene (H.files host.old) (H.typed host.old) (H.printed host.old))
         (scene (H.files host.new) (H.typed host.new) (H.printed host.new)) result }
 {
-    if request.size % GRAIN != 0 {
-        return refuse_size(host, request.size);
-    }
     match done(alloc, host, request) {
         Ok(()) => 0,
-        Err(stop) => tell_of(host, request.image, &stop),
+        Err(stop) => tell_of(host, request.image, request.size, &stop),
     }
 }
 
-/// Tells that a block size isn't one of images, as a size out of range is told, and answers the status.
-pub(crate) fn refuse_size<H: Host>(host: &mut H, size: u32) -> u8
-    ensures status { result ≡ usage }
-    ensures making { H.made host.new ≡ H.made host.old }
-    ensures kept { (H.files host.new ≡ H.files host.old) × (H.typed host.new ≡ H.typed host.old) × (H.printed host.new ≡ H.printed host.old) }
-{
-    host.complain(format_args!(
-        "error: invalid value '{size}' for '--block <BYTES>': {size} is not a multiple of {GRAIN}{MORE}"
-    ));
-    USAGE
-}
-
-/// Tells why a run ended early, and answers the status.
-pub(crate) fn tell_of<H: Host>(host: &mut H, image: &str, stop: &Stop) -> u8
+/// Tells why a run on an image with blocks of this size ended early, and answers the status.
+pub(crate) fn tell_of<H: Host>(host: &mut H, image: &str, size: u32, stop: &Stop) -> u8
     ensures status { result ≡ status_of (Some stop.now.fault) }
     ensures making { H.made host.new ≡ H.made host.old }
     ensures kept { (H.files host.new ≡ H.files host.old) × (H.typed host.new ≡ H.typed host.old) × (H.printed host.new ≡ H.printed host.old) }
@@ -63,6 +45,11 @@ pub(crate) fn tell_of<H: Host>(host: &mut H, image: &str, stop: &Stop) -> u8
         host.complain(format_args!(
             "lfsed: {image}: its superblock states {} blocks of {} bytes\n",
             stated.count, stated.size
+        ));
+    }
+    if size % GRAIN != 0 && matches!(stop.fault, Fault::Image(ImageFault::BadGeometry)) {
+        host.complain(format_args!(
+            "lfsed: --block {size}: a block is a multiple of {GRAIN} bytes\n"
         ));
     }
     status

@@ -54,8 +54,7 @@ task_keeps fault task size name tree old new only (inr (keeps, why)) = keeps.0
 -- a request that asks changes no file
 pub asking_keeps : (request : Request) (tree : Option HostTree) (old new : Scene) (status : ℕ) → OnlyAsks request.task
     → EndsRequest request tree old new status → new.files ≡ old.files
-asking_keeps request tree old new status only (inl (size, usage, keeps)) = keeps.0
-asking_keeps request tree old new status only (inr (fault, ends, told)) =
+asking_keeps request tree old new status only (fault, ends, told) =
     task_keeps fault request.task request.size request.image.now tree old new only ends
 
 -- what is there is there alike

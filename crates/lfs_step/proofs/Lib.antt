@@ -2,3 +2,4 @@ pub mod OutcomeLemmas
 pub mod ListingLemmas
 pub mod HistoriesLeft
 pub mod RunsLeft
+pub mod RefusalLemmas

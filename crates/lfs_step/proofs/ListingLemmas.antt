@@ -10,7 +10,7 @@ use Rattle.lfs_step.specs.declared.query.Query.TheVariants.{Ls}
 use Rattle.lfs_step.specs.Query.{RefusesReport, SendsReport, fault_of_unsent}
 
 pub listing_refused : (d : Disk) (m : MountedValue) → IsMountOf d m → (u : Unsent) → RefusesReport Ls d (fault_of_unsent u)
-listing_refused d m is Memory = refl
+listing_refused d m is Memory = tt
 listing_refused d m is CannotWrite = (listing m.rows, (m, is, refl))
 
 pub listing_sent : (d : Disk) (m : MountedValue) → IsMountOf d m → (u : Unsent) (old new : Option (List ℕ))

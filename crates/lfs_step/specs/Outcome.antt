@@ -3,6 +3,7 @@ use Rattle.std.specs.Prelude.{ℕ, ◌≡◌, List, [], Option, Some, None}
 use Rattle.std.specs.Io.KnownBytes.{Keeps}
 use Rattle.lfs_block.specs.Geometry.{IsGeometry}
 use Rattle.lfs_block.specs.declared.image_fault.ImageFault.TheVariants.{BadGeometry}
+use Rattle.lfs_command.specs.declared.refusal.Refusal.TheVariants.{Memory}
 use Rattle.lfs_command.specs.Faults.{refusal_number}
 use Rattle.lfs_book.specs.Book.{book_of, journal_bytes}
 use Rattle.lfs_edit.specs.Formatted.{IsFormatted}
@@ -33,10 +34,12 @@ RefusesFormat size count (Image BadGeometry) = ¬ IsGeometry size count
 RefusesFormat size count (Refused refusal) = refusal_number refusal ≡ 44
 RefusesFormat size count _ = ⊥
 
--- why no new image of rows is made: its geometry, the verdict of the next command of the rows, or want of memory
+-- why no new image of rows is made: its geometry, where that is good the verdict of the next command of the rows, or want of memory
 abbrev pub RefusesPacking : ℕ → ℕ → List PackRow → Fault → Type 0
 RefusesPacking size count rows (Image BadGeometry) = ¬ IsGeometry size count
-RefusesPacking size count rows (Refused refusal) = (packed : List Packed) → AreRowsOf rows packed → RefusesPack size count packed refusal
+RefusesPacking size count rows (Refused Memory) = Unit {0}
+RefusesPacking size count rows (Refused refusal) =
+    IsGeometry size count × ((packed : List Packed) → AreRowsOf rows packed → RefusesPack size count packed refusal)
 RefusesPacking size count rows _ = ⊥
 
 -- the first fault of a deed that holds, or want of memory

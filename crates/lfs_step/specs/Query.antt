@@ -7,7 +7,6 @@ use Rattle.lfs_fs.specs.Cause.{HasCause}
 use Rattle.lfs_fs.specs.Mounted.{MountedValue, IsMountOf}
 use Rattle.lfs_command.specs.declared.refusal.Refusal.{Refusal}
 use Rattle.lfs_command.specs.declared.refusal.Refusal.TheVariants.{Memory}
-use Rattle.lfs_command.specs.Faults.{refusal_number}
 use Rattle.lfs_contents.specs.Contents.{IsContents, RefusesContents}
 use Rattle.lfs_listing.specs.Listing.{listing}
 use Rattle.lfs_listing.specs.declared.unsent.Unsent.{Unsent}
@@ -27,11 +26,15 @@ IsAnswer Check disk text = (mounted : MountedValue) × IsMountOf disk mounted ×
 IsAnswer Ls disk text = (mounted : MountedValue) × IsMountOf disk mounted × (text ≡ listing mounted.rows)
 IsAnswer (Cat path) disk text = IsContents disk path.now text
 
--- why there is none: want of memory, or that there is no file to be read
+-- an image mounts
+abbrev pub HasMount : Disk → Type 0
+HasMount disk = (mounted : MountedValue) × IsMountOf disk mounted
+
+-- why there is none: want of memory, or that the image mounts and has no file to be read
 abbrev pub RefusesAnswer : Query → Disk → Refusal → Type 0
-RefusesAnswer Check disk refusal = refusal_number refusal ≡ 44
-RefusesAnswer Ls disk refusal = refusal_number refusal ≡ 44
-RefusesAnswer (Cat path) disk refusal = RefusesContents disk path.now refusal
+RefusesAnswer query disk Memory = Unit {0}
+RefusesAnswer (Cat path) disk refusal = HasMount disk × RefusesContents disk path.now refusal
+RefusesAnswer _ disk refusal = ⊥
 
 -- why nothing, or not all, is said of an image: a cause that it has, no answer, or standard output
 abbrev pub RefusesReport : Query → Disk → Fault → Type 0

@@ -15,7 +15,11 @@ use Rattle.lfs_request.specs.declared.request.Request.{Request}
 use Rattle.lfs_words.specs.declared.wish.Wish.TheVariants.{Explanation}
 use Rattle.lfs_words.specs.Words.{IsExtraction, IsRequest, IsWish}
 use Rattle.lfs_exchange.specs.Handing.{KeepsScene, Scene}
-use Rattle.lfs_serve.specs.Program.{EndsRequest, usage}
+use Rattle.lfs_serve.specs.Program.{EndsRequest}
+
+-- the status of a command line that is refused
+abbrev pub usage : ℕ
+usage = 2
 
 -- a command line has taken the words, with these matches
 abbrev pub IsMatched : List (List ℕ) → ArgMatches → Type 0

@@ -10,11 +10,14 @@ use clap::error::ErrorKind;
 use lfs_edit::Refusal;
 use lfs_exchange::{MORE, print, tell_of_image};
 use lfs_host::Host;
-use lfs_serve::{USAGE, extracted, served};
+use lfs_serve::{extracted, served};
 use lfs_step::Fault;
 use lfs_words::{Wish, command_line, wished};
 use std::alloc::Global;
 use std::convert::AsStr;
+
+/// The status of a command line that is refused.
+pub const USAGE: u8 = 2;
 
 /// What a step without an image writes.
 const OUTPUT: &str = "standard output";

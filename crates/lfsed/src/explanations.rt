@@ -25,8 +25,8 @@ const EXPLANATIONS: [Explanation; 47] = [
     Explanation {
         number: 2,
         name: "BadGeometry",
-        text: "The block size, the number of blocks or the length is out of its limit. A block has 256 to \
-         65536 bytes, an image 2 to 65536 blocks and at most 67108864 bytes.",
+        text: "The block size, the number of blocks or the length is out of its limit. A block has a multiple of \
+         16 bytes, from 256 to 65536, an image 2 to 65536 blocks and at most 67108864 bytes.",
     },
     Explanation {
         number: 3,

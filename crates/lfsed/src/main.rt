@@ -4,11 +4,10 @@
 mod cli;
 mod explanations;
 
-use crate::cli::cli as run_words;
+use crate::cli::{USAGE, cli as run_words};
 use lfs_edit::Refusal;
 use lfs_exchange::tell;
 use lfs_host::Host;
-use lfs_serve::USAGE;
 use lfs_step::Fault;
 use lfs_system::Terminal;
 use std::io::ErrorKind;

@@ -11,7 +11,7 @@ use Rattle.lfs_serve.proofs.extracting.extract_image.Goals as goal
 pub returns-in_err-must_be_missing-clause-made : goal.returns-in_err-must_be_missing-clause-made
 returns-in_err-must_be_missing-clause-made g c =
     let p = err_from_is_err_and c.from_residual-in_err-must_be_missing.result c.from_residual-in_err-must_be_missing.ensures.1 in
-    rw (p.1, p.2) (there_ends c.args.image.now c.args.dir.now (g.H.Host.tree c.args.host.now) (g.H.Host.made c.args.host.now)
+    rw (p.1, p.2) (there_ends c.args.image.now (c.in_ok-mounted.mounted, c.in_ok-mounted.ensures.mounted) c.args.dir.now (g.H.Host.tree c.args.host.now) (g.H.Host.made c.args.host.now)
     (g.H.Host.made c.must_be_missing.new.host) c.in_err-must_be_missing.field-0.0 c.in_err-must_be_missing.ensures.refused
     c.must_be_missing.ensures.making)
 

@@ -1,4 +1,4 @@
-use Rattle.std.proofs.Common.{rules, ◌≡◌, Some, sym, subst, inr}
+use Rattle.std.proofs.Common.{rules, ◌≡◌, Some, sym, subst}
 use Rattle.lfs_exchange.specs.Handing.{Scene, scene}
 use Rattle.lfs_serve.specs.Program.{EndsTask}
 use Rattle.lfs_serve.proofs.serving.served.Goals as goal
@@ -15,7 +15,7 @@ returns-in-Err g c =
     let ends : EndsTask c.args.request.now.task c.args.request.now.size c.args.request.now.image.now tree old by_done fault =
     c.in-Err.ensures.ended in
     record {
-      ended = inr (
+      ended = (
         fault,
         subst (λ (new : Scene). EndsTask c.args.request.now.task c.args.request.now.size
             c.args.request.now.image.now tree old new fault) (sym same) ends,

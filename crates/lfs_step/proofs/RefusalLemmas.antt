@@ -1,0 +1,28 @@
+-- What refusals of contents and of packing say once the image mounts and the geometry is good.
+use Rattle.std.proofs.Common.{ℕ, List, Bor}
+use Rattle.lfs_block.specs.Disk.{Disk}
+use Rattle.lfs_block.specs.Geometry.{IsGeometry}
+use Rattle.lfs_fs.specs.Mounted.{MountedValue, IsMountOf}
+use Rattle.lfs_command.specs.declared.refusal.Refusal.{Refusal}
+use Rattle.lfs_command.specs.declared.refusal.Refusal.TheVariants.{Memory}
+use Rattle.lfs_contents.specs.Contents.{RefusesContents}
+use Rattle.lfs_pack.specs.declared.pack_row.PackRow.{PackRow}
+use Rattle.lfs_pack.specs.Packed.{AreRowsOf, Packed}
+use Rattle.lfs_pack.specs.Packing.{RefusesPack}
+use Rattle.lfs_change.specs.declared.fault.Fault.TheVariants.{Refused}
+use Rattle.lfs_step.specs.declared.query.Query.{Query}
+use Rattle.lfs_step.specs.declared.query.Query.TheVariants.{Cat}
+use Rattle.lfs_step.specs.Outcome.{RefusesPacking}
+use Rattle.lfs_step.specs.Query.{RefusesReport}
+
+-- contents of an image that mounts
+pub contents_refused : (path : Bor (List ℕ)) (d : Disk) (m : MountedValue) → IsMountOf d m → (r : Refusal) → RefusesContents d path.now r
+    → RefusesReport (Cat path) d (Refused r)
+contents_refused path d m is Memory refuses = tt
+contents_refused path d m is r refuses = ((m, is), refuses)
+
+-- rows of an image whose geometry is good
+pub rows_refused : (size count : ℕ) (rows : List PackRow) → IsGeometry size count → (r : Refusal)
+    → ((packed : List Packed) → AreRowsOf rows packed → RefusesPack size count packed r) → RefusesPacking size count rows (Refused r)
+rows_refused size count rows is Memory refuses = tt
+rows_refused size count rows is r refuses = (is, refuses)
