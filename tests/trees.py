@@ -110,6 +110,19 @@ def parts_are_cut(folder):
         blocks.stand(f"{command} in {count}", *standing)
 
 
+def new_pairs_hold_a_part_beside_an_erased_block(folder):
+    blocks = Blocks(folder, 512)
+    blocks.new(8)
+    blocks.do("mkdir /a")
+    folder.holds("a directory", 2 * 512, log(1, [], 16).ljust(2 * 512, b"\xff"))
+    blocks = Blocks(folder, 256)
+    blocks.new(6)
+    for letter, length in ("a", 80), ("c", 80), ("b", 130):
+        blocks.do(f"put /{length * letter}")
+    parts = file(0, 130 * b"b") + tail(HARD, (4, 5)), file(0, 80 * b"c")
+    folder.holds("parts that were cut", 2 * 256, b"".join(log(1, part, 16).ljust(2 * 256, b"\xff") for part in parts))
+
+
 def directories_of_three_parts_come_and_go(folder):
     blocks = Blocks(folder, 256)
     blocks.new(16)
@@ -405,6 +418,7 @@ sys.exit(run_scenes([
     entries_move_in_their_part,
     parts_are_cut,
     parts_are_filled_to_the_last_byte,
+    new_pairs_hold_a_part_beside_an_erased_block,
     directories_of_three_parts_come_and_go,
     entries_go_where_their_names_belong,
     what_others_have_written,

@@ -15,13 +15,13 @@ use Rattle.lfs_command.specs.declared.refusal.Refusal.{Refusal}
 use Rattle.lfs_command.specs.declared.refusal.Refusal.TheVariants.{NoSpace}
 use Rattle.lfs_command.specs.Command.{Command}
 use Rattle.lfs_command.specs.Verdict.{verdict}
-use Rattle.lfs_grow.specs.Ending.{grown, last_part, takes_entry}
-use Rattle.lfs_grow.specs.EndCuts.{made}
-use Rattle.lfs_grow.specs.Leading.{CarriesOut}
+use Rattle.lfs_ends.specs.Ending.{with_more, last_part, takes_entry}
+use Rattle.lfs_ends.specs.EndCuts.{made}
+use Rattle.lfs_ends.specs.Leading.{CarriesOut}
 use Rattle.lfs_build.specs.declared.new_volume.NewVolume.{NewVolume}
 use Rattle.lfs_build.specs.Adding.{IsAdded, blocks_behind, blocks_with, pair_behind}
 use Rattle.lfs_build.specs.Built.{IsBuilt}
-use Rattle.lfs_build.specs.NewVolumes.{IsGrowing}
+use Rattle.lfs_build.specs.NewVolumes.{TakesMore}
 use Rattle.lfs_build.specs.Opened.{IsWeighed, opened}
 use Rattle.lfs_build.specs.Pushed.{HasNoRoom, blocks_for, takes}
 use Rattle.lfs_build.proofs.Weighed.{all_weighed}
@@ -33,7 +33,7 @@ abbrev pub IsAddedTo : Command → List Pair → List Entry → Entry → ℕ �
     → Volume → Type 0
 IsAddedTo c new es e before n f next above d closed home v =
     (w : Volume) × CarriesOut c v w × (w.attributes ≡ v.attributes)
-    × IsBuilt f (next + n) above (grown (outlined v) es e (pair_behind next before) d) (made new ++ closed) home w
+    × IsBuilt f (next + n) above (with_more (outlined v) es e (pair_behind next before) d) (made new ++ closed) home w
 
 module _ (t : NewVolume) (c : Command) (before : ℕ) (new : List Pair) (es : List Entry) (e : Entry) (laid : Disk → Type 0)
     (above : List Directory) (d : Directory) (closed : List Directory) (home : Path) (v : Volume)
@@ -67,11 +67,11 @@ built_as d e n m above ds x y closed cs names w disk next same deepest gone buil
     (subst (λ (z : Directory). IsBuilt d n above z cs names w) (sym deepest)
     (subst (λ (z : List Directory). IsBuilt d n above x z names w) (sym gone) built))))
 
-pub growing_after : (u : NewVolume) (home : Path) (v w : Volume)
+pub taking_after : (u : NewVolume) (home : Path) (v w : Volume)
     → IsBuilt u.image u.next (map opened u.above.items) (opened u.deepest) (reverse u.closed.items) home w
     → w.attributes ≡ v.attributes → v.attributes ≡ u.attributes.items → RiseFrom 0 u.attributes.items → All (IsWeighed (outlined v)) u.above.items
-    → IsWeighed (outlined v) u.deepest → IsGrowing u home w
-growing_after u home v w built same attributes rise above deepest = record {
+    → IsWeighed (outlined v) u.deepest → TakesMore u home w
+taking_after u home v w built same attributes rise above deepest = record {
   built = built;
   attributes = same ∙ attributes;
   rise = rise;

@@ -1,4 +1,4 @@
--- An entry that grows a built volume is added to it, or refused.
+-- An entry that a built volume takes is added to it, or refused.
 use Rattle.std.proofs.Common.{◌≡◌, ◌+◌, ◌-◌, ◌≤◌, ℕ, List, length, ap, ◌∙◌, subst, arith, sym}
 use Rattle.std.proofs.Common.{Some}
 use Rattle.std.specs.Prelude.{All, sum_by}
@@ -21,13 +21,13 @@ use Rattle.lfs_draft.specs.LeastSupplies.{least_supplies, made_blocks}
 use Rattle.lfs_law.specs.OutlineLaws.{IsThere}
 use Rattle.lfs_law.proofs.KnownBodies.{OfNew}
 use Rattle.lfs_new.specs.NewPairs.{front_count, front_weight}
-use Rattle.lfs_grow.specs.Ending.{FitBlock, last_part, takes_entry}
-use Rattle.lfs_grow.specs.Growing.{IsGrownOrRefused, IsGrownTo, blocks_to_grow}
-use Rattle.lfs_grow.proofs.GrownVolumes.{free_range}
+use Rattle.lfs_ends.specs.Ending.{FitBlock, last_part, takes_entry}
+use Rattle.lfs_ends.specs.OneMore.{IsWithMoreOrRefused, IsWithMore, blocks_for_more}
+use Rattle.lfs_ends.proofs.VolumesWithMore.{free_range}
 use Rattle.lfs_build.specs.Adding.{IsAdded, blocks_behind, blocks_with}
 use Rattle.lfs_build.specs.Built.{IsBuilt}
-use Rattle.lfs_build.proofs.GrownBuilt.{BuildingLaws, blocks_within, grown_blocks, grown_built}
-use Rattle.lfs_build.proofs.GrownFit.{HasErased}
+use Rattle.lfs_build.proofs.MoreBuilt.{BuildingLaws, blocks_within, blocks_of_more, more_built}
+use Rattle.lfs_build.proofs.MoreFits.{HasErased}
 use Rattle.lfs_build.proofs.Leaving.{Leaves}
 
 -- A command puts an entry x that weighs what e does, and is e where so many blocks are free; its directories are the new ones then. An image
@@ -46,16 +46,16 @@ pub record Supplied (c : Command) (before : ℕ) (new made : List Pair) (e x : E
 module _ (laws : BuildingLaws) (d : Disk) (next : ℕ) (above : List Directory) (deepest : Directory) (closed : List Directory) (names : Path)
     (v : Volume) (built : IsBuilt d next above deepest closed names v) (c : Command) (before : ℕ) (new made : List Pair) (es : List Entry)
     (e x : Entry) (laid : Disk → Type 0) (block : FitBlock (outlined v) (last_part deepest) es)
-    (supplied : Supplied c before new made e x laid d next v) (grows : IsGrownOrRefused v c next above deepest closed es x made) where
+    (supplied : Supplied c before new made e x laid d next v) (takes_more : IsWithMoreOrRefused v c next above deepest closed es x made) where
   abbrev o : Volume
   o = outlined v
 
   abbrev count : ℕ
   count = blocks_behind v deepest es e before
 
-  blocks_are : blocks_to_grow v c next es x deepest ≡ count
+  blocks_are : blocks_for_more v c next es x deepest ≡ count
   blocks_are =
-      grown_blocks v c next es x deepest before supplied.count
+      blocks_of_more v c next es x deepest before supplied.count
       ∙ ap (λ (n : ℕ). blocks_with (run_takes (room o) (front_weight o (last_part deepest) + sum_by weight es)
       (front_count (last_part deepest) + length es) n) before) supplied.weighs
 
@@ -68,27 +68,27 @@ module _ (laws : BuildingLaws) (d : Disk) (next : ℕ) (above : List Directory) 
   some_free : next + count ≤ d.count → next + before ≤ d.count
   some_free enough = omega (arith, enough, blocks_within (takes_entry o (last_part deepest) es e) before)
 
-  grown_to : weight e ≤ d.size - 40 → next + count ≤ d.count → (w : Volume) × IsGrownTo v c next above deepest closed es e new w
-  grown_to light enough =
-      subst (λ (y : Entry). (w : Volume) × IsGrownTo v c next above deepest closed es y new w) (supplied.entry (some_free enough))
-      (subst (λ (ps : List Pair). (w : Volume) × IsGrownTo v c next above deepest closed es x ps w)
+  more_to : weight e ≤ d.size - 40 → next + count ≤ d.count → (w : Volume) × IsWithMore v c next above deepest closed es e new w
+  more_to light enough =
+      subst (λ (y : Entry). (w : Volume) × IsWithMore v c next above deepest closed es y new w) (supplied.entry (some_free enough))
+      (subst (λ (ps : List Pair). (w : Volume) × IsWithMore v c next above deepest closed es x ps w)
       (supplied.directories (some_free enough))
-      (grows.grown (omega (arith, light, supplied.weighs, built.size)) (omega (arith, enough, blocks_are, built.count))))
+      (takes_more.with_more (omega (arith, light, supplied.weighs, built.size)) (omega (arith, enough, blocks_are, built.count))))
 
   -- the entry is added where there is room, and else refused
   pub is_added : IsAdded c before new es e laid d next above deepest closed names v
   is_added = record {
-    heavy = λ lt. grows.large (omega (arith, lt, supplied.weighs, built.size));
-    full = λ le lt. grows.full (omega (arith, le, supplied.weighs, built.size)) (omega (arith, lt, blocks_are, built.count))
+    heavy = λ lt. takes_more.large (omega (arith, lt, supplied.weighs, built.size));
+    full = λ le lt. takes_more.full (omega (arith, le, supplied.weighs, built.size)) (omega (arith, lt, blocks_are, built.count))
         ∙ ap (λ (n : ℕ). Some (NoSpace n (length (free_blocks v)))) blocks_are
         ∙ ap (λ (n : ℕ). Some (NoSpace count n)) free_many;
     added = λ light enough f lays.
-        let to = grown_to light enough in
+        let to = more_to light enough in
         let some = some_free enough in (
           to.0,
           to.1.carries,
           ap (λ (w : Volume). w.attributes) to.1.outline,
-          grown_built laws d next above deepest closed names v built c before new es e supplied.count block supplied.behind light enough f
+          more_built laws d next above deepest closed names v built c before new es e supplied.count block supplied.behind light enough f
               (supplied.leaves f lays) (supplied.erased some f lays) to.0 to.1
               (subst (OfNew (IsThere (reading_of f)) v c) (sym to.1.least) (supplied.contents some f lays)),
         );

@@ -17,9 +17,9 @@ use Rattle.lfs_command.specs.declared.refusal.Refusal.TheVariants.{AttrTooLarge}
 use Rattle.lfs_command.specs.Command.{SetAttr}
 use Rattle.lfs_command.specs.Edited.{with_entry_attributes}
 use Rattle.lfs_command.specs.Verdict.{verdict}
-use Rattle.lfs_grow.specs.EndEdits.{EndsWithName}
-use Rattle.lfs_grow.specs.Leading.{CarriesOut}
-use Rattle.lfs_grow.specs.WayLaws.{DirectoriesGrow}
+use Rattle.lfs_ends.specs.EndEdits.{EndsWithName}
+use Rattle.lfs_ends.specs.Leading.{CarriesOut}
+use Rattle.lfs_ends.specs.WayLaws.{DirectoriesTakeMore}
 use Rattle.lfs_new.specs.NewPairs.{front_count, front_weight}
 use Rattle.lfs_build.specs.declared.new_volume.NewVolume.{NewVolume}
 use Rattle.lfs_build.specs.Adding.{AddsAttribute, AttributesAreAdded}
@@ -109,7 +109,7 @@ module _ (k : ℕ) (value : List ℕ) (t : NewVolume) (adds : AttributesAreAdded
       → AddsAttribute has.n k value es e t.image t.next (map opened t.above.items) (opened t.deepest) (reverse t.closed.items) has.home v
   added_at p v has es e ends =
       adds has.n k value es e t.image t.next (map opened t.above.items) (opened t.deepest) (reverse t.closed.items) has.home v
-      has.growing.built (subst (λ (q : Path). All IsName q) has.is has.names) ends
+      has.taking.built (subst (λ (q : Path). All IsName q) has.is has.names) ends
 
   pub too_long : 1022 < length value → RefusesAttribute k value t AttrTooLarge
   too_long long = inr (λ p v has.
@@ -126,22 +126,22 @@ module _ (k : ℕ) (value : List ℕ) (t : NewVolume) (adds : AttributesAreAdded
         let es = m.deepest.last.entries in
         let new = with_entry_attributes (set_attribute k value) e in
         subst (λ (q : Path). verdict v (SetAttr q k value) ≡ Some r) (sym has.is)
-        (not_put t m (SetAttr (has.home ++ has.n ∷ []) k value) 0 [] es new (λ f. f ≡ t.image) has.home v (ready e t m without) has.growing
-        (counted e t m without _ (deepest_counted t has.home v has.growing))
+        (not_put t m (SetAttr (has.home ++ has.n ∷ []) k value) 0 [] es new (λ f. f ≡ t.image) has.home v (ready e t m without) has.taking
+        (counted e t m without _ (deepest_counted t has.home v has.taking))
         ((added_at p v has es e (ends e t m without has.n has.es has.e has.ends)).added short) r
         (subst (λ (j : ℕ). HasNoRoom j 0 m r) same none)))
 
-    pub is_set : DirectoriesGrow → i ≤ m.image.size - 40 → m.next + blocks_for i 0 m ≤ m.image.count → (u : NewVolume)
+    pub is_set : DirectoriesTakeMore → i ≤ m.image.size - 40 → m.next + blocks_for i 0 m ≤ m.image.count → (u : NewVolume)
         → IsPushed x 0 m u → SetsAttribute k value t u
-    is_set grows light fits u pushed p v has =
+    is_set takes_more light fits u pushed p v has =
         let es = m.deepest.last.entries in
         let new = with_entry_attributes (set_attribute k value) e in
         let closed : reverse u.closed.items ≡ reverse t.closed.items =
         ap (λ (ds : Vec Directory). reverse ds.items) (pushed.closed ∙ without.closed) in
         let done : IsCarried (SetAttr (has.home ++ has.n ∷ []) k value) new has.home v u =
-        is_put t m (SetAttr (has.home ++ has.n ∷ []) k value) 0 [] es new (λ f. f ≡ t.image) has.home v (ready e t m without) has.growing
-        (counted e t m without _ (deepest_counted t has.home v has.growing))
-        ((added_at p v has es e (ends e t m without has.n has.es has.e has.ends)).added short) grows m u u (same_volume m) refl without.image
+        is_put t m (SetAttr (has.home ++ has.n ∷ []) k value) 0 [] es new (λ f. f ≡ t.image) has.home v (ready e t m without) has.taking
+        (counted e t m without _ (deepest_counted t has.home v has.taking))
+        ((added_at p v has es e (ends e t m without has.n has.es has.e has.ends)).added short) takes_more m u u (same_volume m) refl without.image
         (subst (λ (y : Entry). IsPushed y 0 m u) is pushed) (none_made u) (subst (λ (j : ℕ). j ≤ m.image.size - 40) same light)
         (subst (λ (j : ℕ). m.next + blocks_for j 0 m ≤ m.image.count) same fits) in
         let name = (ends e t m without has.n has.es has.e has.ends).name in (
@@ -152,7 +152,7 @@ module _ (k : ℕ) (value : List ℕ) (t : NewVolume) (adds : AttributesAreAdded
             n = has.n;
             is = has.is;
             names = has.names;
-            growing = done.growing;
+            taking = done.taking;
             es = done.fs;
             e = new;
             ends = record { entries = done.ends.entries; name = done.ends.name ∙ name };

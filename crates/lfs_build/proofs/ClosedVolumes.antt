@@ -11,7 +11,7 @@ use Rattle.lfs_law.proofs.Cuts.{All-left}
 use Rattle.lfs_build.specs.declared.new_volume.NewVolume.{NewVolume}
 use Rattle.lfs_build.specs.declared.open_directory.OpenDirectory.{OpenDirectory}
 use Rattle.lfs_build.specs.Closing.{ClosesDown}
-use Rattle.lfs_build.specs.NewVolumes.{IsGrowing}
+use Rattle.lfs_build.specs.NewVolumes.{TakesMore}
 use Rattle.lfs_build.specs.Opened.{IsWeighed, opened}
 use Rattle.lfs_build.specs.Walking.{BuiltAreClosed}
 use Rattle.lfs_build.proofs.Added.{built_as}
@@ -27,20 +27,20 @@ again : (xs : List OpenDirectory) (x : OpenDirectory) (ys : List OpenDirectory) 
 again [] x ys = refl
 again (z ∷ xs) x ys = ap (λ (l : List OpenDirectory). z ∷ l) (again xs x ys)
 
-pub closed_growing : BuiltAreClosed → (t u : NewVolume) (front more : Path) (v : Volume) → ClosesDown t u → IsGrowing t (front ++ more) v
-    → length u.above.items ≡ length front → IsGrowing u front v
-closed_growing close t u front more v down growing len = record {
+pub closed_taking : BuiltAreClosed → (t u : NewVolume) (front more : Path) (v : Volume) → ClosesDown t u → TakesMore t (front ++ more) v
+    → length u.above.items ≡ length front → TakesMore u front v
+closed_taking close t u front more v down taking len = record {
   built =
       built_as t.image u.image t.next u.next (map opened u.above.items) (map opened u.above.items) (opened u.deepest) (opened u.deepest)
       (map opened down.gone ++ reverse t.closed.items) (reverse u.closed.items) front v down.image down.next refl refl down.closed
       (close t.image t.next (map opened t.above.items) (opened t.deepest) (reverse t.closed.items) front more v
-      (map opened u.above.items) (opened u.deepest) (map opened down.gone) growing.built (way_before t u down)
+      (map opened u.above.items) (opened u.deepest) (map opened down.gone) taking.built (way_before t u down)
       (length-map u.above.items opened ∙ len));
-  attributes = growing.attributes ∙ ap (λ (a : _). a.items) (sym down.attributes);
-  rise = subst (λ (a : _). RiseFrom 0 a.items) (sym down.attributes) growing.rise;
+  attributes = taking.attributes ∙ ap (λ (a : _). a.items) (sym down.attributes);
+  rise = subst (λ (a : _). RiseFrom 0 a.items) (sym down.attributes) taking.rise;
   weighed =
       All-left (IsWeighed (outlined v)) (u.above.items ++ u.deepest ∷ []) down.gone
-      (subst (All (IsWeighed (outlined v))) (down.are ∙ sym (again u.above.items u.deepest down.gone)) growing.weighed);
+      (subst (All (IsWeighed (outlined v))) (down.are ∙ sym (again u.above.items u.deepest down.gone)) taking.weighed);
 }
 
 -- ---- closed one after another

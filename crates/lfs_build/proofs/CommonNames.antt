@@ -8,7 +8,7 @@ use Rattle.lfs_meta.specs.Body.{Pair}
 use Rattle.lfs_meta.specs.Name.{Name}
 use Rattle.lfs_fs.specs.Directory.{Directory}
 use Rattle.lfs_fs.specs.Path.{Path}
-use Rattle.lfs_grow.specs.Way.{IsAllCommon, OnWay}
+use Rattle.lfs_ends.specs.Way.{IsAllCommon, OnWay}
 use Rattle.lfs_build.specs.declared.open_directory.OpenDirectory.{OpenDirectory}
 use Rattle.lfs_build.specs.Opened.{common, ends_named, opened}
 use Rattle.lfs_build.proofs.LastEntry.{ends_named_of, same_name}

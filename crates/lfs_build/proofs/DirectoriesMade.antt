@@ -14,8 +14,8 @@ use Rattle.lfs_command.specs.declared.refusal.Refusal.{Refusal}
 use Rattle.lfs_command.specs.declared.refusal.Refusal.TheVariants.{NameTooLong}
 use Rattle.lfs_command.specs.Command.{Mkdir}
 use Rattle.lfs_command.specs.Edited.{new_entry}
-use Rattle.lfs_grow.specs.Ending.{last_part}
-use Rattle.lfs_grow.specs.WayLaws.{DirectoriesGrow}
+use Rattle.lfs_ends.specs.Ending.{last_part}
+use Rattle.lfs_ends.specs.WayLaws.{DirectoriesTakeMore}
 use Rattle.lfs_build.specs.declared.new_volume.NewVolume.{NewVolume}
 use Rattle.lfs_build.specs.Adding.{AddsDirectory, DirectoriesAreAdded}
 use Rattle.lfs_build.specs.AtHome.{PutsName, RefusesName}
@@ -60,7 +60,7 @@ module _ (n : Name) (t : NewVolume) (adds : DirectoriesAreAdded) where
   added_at : (home : Path) (v : Volume) → IsHome t home n v
       → AddsDirectory n t.image t.next (map opened t.above.items) (opened t.deepest) (reverse t.closed.items) home v
   added_at home v is =
-      adds n t.image t.next (map opened t.above.items) (opened t.deepest) (reverse t.closed.items) home v is.growing.built is.names is.last
+      adds n t.image t.next (map opened t.above.items) (opened t.deepest) (reverse t.closed.items) home v is.taking.built is.names is.last
 
   pub too_long : 255 < length n → RefusesName (λ p. Mkdir p) n t NameTooLong
   too_long long = inr (λ home v is. (added_at home v is).long long)
@@ -70,18 +70,18 @@ module _ (n : Name) (t : NewVolume) (adds : DirectoriesAreAdded) where
   no_place short e is k weighs r none = inr (λ home v at.
       let new = new_entry n (Directory_at (t.next, t.next + 1)) in
       not_put t t (Mkdir (home ++ n ∷ [])) 2 ((t.next, t.next + 1) ∷ []) (last_part (opened t.deepest)).entries new (λ f. f ≡ t.image) home v
-      (same_end t) at.growing (deepest_counted t home v at.growing) ((added_at home v at).added short) r
+      (same_end t) at.taking (deepest_counted t home v at.taking) ((added_at home v at).added short) r
       (subst (λ (m : ℕ). HasNoRoom m 2 t r) (weighs ∙ ap weight is) none))
 
-  pub is_made : DirectoriesGrow → length n ≤ 255 → (e : Entry) → e ≡ new_entry n (Directory_at (t.next, t.next + 1)) → (k : ℕ) → k ≡ weight e
+  pub is_made : DirectoriesTakeMore → length n ≤ 255 → (e : Entry) → e ≡ new_entry n (Directory_at (t.next, t.next + 1)) → (k : ℕ) → k ≡ weight e
       → k ≤ t.image.size - 40 → t.next + blocks_for k 2 t ≤ t.image.count → (u y : NewVolume) → IsPushed e 2 t u
       → IsWithClosed (bare_directory (t.next, t.next + 1)) u y → PutsName (λ p. Mkdir p) n t y
-  is_made grows short e is k weighs light fits u y pushed closed home v at =
+  is_made takes_more short e is k weighs light fits u y pushed closed home v at =
       let new = new_entry n (Directory_at (t.next, t.next + 1)) in
       let same : k ≡ weight new = weighs ∙ ap weight is in
       let done : IsCarried (Mkdir (home ++ n ∷ [])) new home v y =
       is_put t t (Mkdir (home ++ n ∷ [])) 2 ((t.next, t.next + 1) ∷ []) (last_part (opened t.deepest)).entries new (λ f. f ≡ t.image) home v
-      (same_end t) at.growing (deepest_counted t home v at.growing) ((added_at home v at).added short) grows t u y (same_volume t) refl refl
+      (same_end t) at.taking (deepest_counted t home v at.taking) ((added_at home v at).added short) takes_more t u y (same_volume t) refl refl
       (subst (λ (x : Entry). IsPushed x 2 t u) is pushed) (with_made t.next u y closed) (subst (λ (m : ℕ). m ≤ t.image.size - 40) same light)
       (subst (λ (m : ℕ). t.next + blocks_for m 2 t ≤ t.image.count) same fits) in (
         done.w,
@@ -91,11 +91,11 @@ module _ (n : Name) (t : NewVolume) (adds : DirectoriesAreAdded) where
           n = n;
           is = refl;
           names = at.names;
-          growing = done.growing;
+          taking = done.taking;
           es = done.fs;
           e = new;
           ends = done.ends;
-          leads = inr (leads_first t.next n new (reverse y.closed.items) (reverse u.closed.items) at.growing.built.begin refl
+          leads = inr (leads_first t.next n new (reverse y.closed.items) (reverse u.closed.items) at.taking.built.begin refl
               (closed_first t.next u y closed));
         },
       )

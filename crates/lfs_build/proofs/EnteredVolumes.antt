@@ -56,7 +56,7 @@ pub at_file : (t : NewVolume) (p : Path) (v : Volume) → HasEntry t p v
     → is_some (option_and_then target (last_entry t.deepest.last.entries)) ≡ false → IsAt t p v
 at_file t p v has not = record {
   names = has.home;
-  growing = has.growing;
+  taking = has.taking;
   last = inr (has.n, has.is, record { es = has.es; e = has.e; ends = has.ends; file = none (target has.e) (sym (last_leads t p v has) ∙ not) });
 }
   where
@@ -99,7 +99,7 @@ entered enter t u opens p v has leads =
     ap (map opened) opens.above ∙ map-append opened t.above.items (t.deepest ∷ []) in
     record {
       names = has.home ++ has.n ∷ [];
-      growing = record {
+      taking = record {
         built =
             built_as t.image u.image t.next u.next (map opened t.above.items ++ opened t.deepest ∷ []) (map opened u.above.items)
             (bare_directory leads.pair) (opened u.deepest) leads.more (reverse u.closed.items) (has.home ++ has.n ∷ []) v opens.image opens.next
@@ -107,13 +107,13 @@ entered enter t u opens p v has leads =
             (enter t.image t.next (map opened t.above.items) (opened t.deepest) (bare_directory leads.pair) leads.more has.home v has.n
             (built_as t.image t.image t.next t.next (map opened t.above.items) (map opened t.above.items) (opened t.deepest)
             (opened t.deepest) (reverse t.closed.items) (bare_directory leads.pair ∷ leads.more) has.home v refl refl refl refl (sym leads.are)
-            has.growing.built)
+            has.taking.built)
             (record { es = has.es; e = has.e; ends = has.ends; leads = leads.leads }));
-        attributes = has.growing.attributes ∙ ap (λ (a : _). a.items) (sym opens.attributes);
-        rise = subst (λ (a : _). RiseFrom 0 a.items) (sym opens.attributes) has.growing.rise;
+        attributes = has.taking.attributes ∙ ap (λ (a : _). a.items) (sym opens.attributes);
+        rise = subst (λ (a : _). RiseFrom 0 a.items) (sym opens.attributes) has.taking.rise;
         weighed =
             All-append (IsWeighed (outlined v)) u.above.items (u.deepest ∷ [])
-            (subst (All (IsWeighed (outlined v))) (sym opens.above) has.growing.weighed)
+            (subst (All (IsWeighed (outlined v))) (sym opens.above) has.taking.weighed)
             (All-cons (IsWeighed (outlined v)) u.deepest []
             (bare_weighed (outlined v) u.deepest leads.pair leads.below opens.full last opens.weight opens.count)
             (All-nil (IsWeighed (outlined v))));

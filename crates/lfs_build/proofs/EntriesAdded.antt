@@ -19,19 +19,19 @@ use Rattle.lfs_fs.specs.Volume.{Volume}
 use Rattle.lfs_command.specs.Command.{Mkdir, Put, SetAttr}
 use Rattle.lfs_command.specs.Edited.{new_entry, with_entry_attributes}
 use Rattle.lfs_draft.specs.LeastSupplies.{least_pair}
-use Rattle.lfs_grow.specs.AtTheEnd.{AttributesAreSet, DirectoriesAreMade, FilesArePut, IsAttributeSet, IsDirectoryMade, IsFilePut, IsOpenAt}
-use Rattle.lfs_grow.specs.AtTheEnd.{file_entry, new_pair}
-use Rattle.lfs_grow.specs.EndEdits.{ComesLast, EndsWithName}
-use Rattle.lfs_grow.specs.Ending.{FitBlock, last_part}
-use Rattle.lfs_grow.specs.WayLaws.{WaysLead}
-use Rattle.lfs_grow.proofs.EndCommands.{fits_less}
-use Rattle.lfs_grow.proofs.GrownVolumes.{free_range}
+use Rattle.lfs_ends.specs.AtTheEnd.{AttributesAreSet, DirectoriesAreMade, FilesArePut, IsAttributeSet, IsDirectoryMade, IsFilePut, IsOpenAt}
+use Rattle.lfs_ends.specs.AtTheEnd.{file_entry, new_pair}
+use Rattle.lfs_ends.specs.EndEdits.{ComesLast, EndsWithName}
+use Rattle.lfs_ends.specs.Ending.{FitBlock, last_part}
+use Rattle.lfs_ends.specs.WayLaws.{WaysLead}
+use Rattle.lfs_ends.proofs.EndCommands.{fits_less}
+use Rattle.lfs_ends.proofs.VolumesWithMore.{free_range}
 use Rattle.lfs_build.specs.Adding.{AddsAttribute, AddsDirectory, AddsFile, AttributesAreAdded, DirectoriesAreAdded, FilesAreAdded, LaysFile}
 use Rattle.lfs_build.specs.Adding.{file_blocks, file_body}
 use Rattle.lfs_build.specs.Built.{IsBuilt}
 use Rattle.lfs_build.proofs.AddedEntries.{Supplied, is_added}
-use Rattle.lfs_build.proofs.GrownBuilt.{BuildingLaws}
-use Rattle.lfs_build.proofs.GrownFit.{HasErased}
+use Rattle.lfs_build.proofs.MoreBuilt.{BuildingLaws}
+use Rattle.lfs_build.proofs.MoreFits.{HasErased}
 use Rattle.lfs_build.proofs.LaidFiles.{file_count, file_is, file_there, file_weighs}
 use Rattle.lfs_build.proofs.Leaving.{leaves_itself, leaves_range}
 use Rattle.lfs_build.proofs.OpenDeepest.{opened}

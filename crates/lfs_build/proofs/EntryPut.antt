@@ -17,19 +17,19 @@ use Rattle.lfs_command.specs.declared.refusal.Refusal.{Refusal}
 use Rattle.lfs_command.specs.Command.{Command}
 use Rattle.lfs_command.specs.Verdict.{verdict}
 use Rattle.lfs_law.proofs.Cuts.{All-left, All-right}
-use Rattle.lfs_grow.specs.Ending.{grown, last_part, takes_entry}
-use Rattle.lfs_grow.specs.EndCuts.{made}
-use Rattle.lfs_grow.specs.EndEdits.{EndsWithName}
-use Rattle.lfs_grow.specs.Leading.{CarriesOut}
-use Rattle.lfs_grow.specs.WayLaws.{DirectoriesGrow}
+use Rattle.lfs_ends.specs.Ending.{with_more, last_part, takes_entry}
+use Rattle.lfs_ends.specs.EndCuts.{made}
+use Rattle.lfs_ends.specs.EndEdits.{EndsWithName}
+use Rattle.lfs_ends.specs.Leading.{CarriesOut}
+use Rattle.lfs_ends.specs.WayLaws.{DirectoriesTakeMore}
 use Rattle.lfs_build.specs.declared.new_volume.NewVolume.{NewVolume}
 use Rattle.lfs_build.specs.declared.open_directory.OpenDirectory.{OpenDirectory}
 use Rattle.lfs_build.specs.Adding.{IsAdded, blocks_with, pair_behind}
-use Rattle.lfs_build.specs.NewVolumes.{IsGrowing}
+use Rattle.lfs_build.specs.NewVolumes.{TakesMore}
 use Rattle.lfs_build.specs.Opened.{IsCounted, IsWeighed, directory_of, opened}
 use Rattle.lfs_build.specs.Pushed.{HasNoRoom, IsPushed, IsWithImage, blocks_for, takes}
-use Rattle.lfs_build.proofs.Added.{IsAddedTo, built_as, growing_after, has_room, no_room}
-use Rattle.lfs_build.proofs.OpenedLemmas.{grown_same, last_opened, other_part, takes_counted}
+use Rattle.lfs_build.proofs.Added.{IsAddedTo, built_as, taking_after, has_room, no_room}
+use Rattle.lfs_build.proofs.OpenedLemmas.{more_same, last_opened, other_part, takes_counted}
 
 -- A volume is as it was, but that the last part of its deepest directory has these entries.
 pub record EndsSo (es : List Entry) (t m : NewVolume) : Type 0 where
@@ -54,7 +54,7 @@ pub record IsWithMade (new : List Pair) (u y : NewVolume) : Type 0 where
 pub record IsCarried (c : Command) (e : Entry) (home : Path) (v : Volume) (y : NewVolume) : Type 0 where
   pub w : Volume
   pub carried : CarriesOut c v w
-  pub growing : IsGrowing y home w
+  pub taking : TakesMore y home w
   pub fs : List Entry
   pub ends : EndsWithName e.name (opened y.deepest) fs e
 
@@ -78,19 +78,19 @@ pub none_made : (t : NewVolume) → IsWithMade [] t t
 none_made t = record { image = refl; attributes = refl; above = refl; deepest = refl; closed = refl; next = refl }
 
 -- the deepest directory is counted
-pub deepest_counted : (t : NewVolume) (home : Path) (v : Volume) → IsGrowing t home v → IsCounted (outlined v) t.deepest
-deepest_counted t home v growing =
+pub deepest_counted : (t : NewVolume) (home : Path) (v : Volume) → TakesMore t home v → IsCounted (outlined v) t.deepest
+deepest_counted t home v taking =
     (All-head (IsWeighed (outlined v)) t.deepest []
-    (All-right (IsWeighed (outlined v)) t.above.items (t.deepest ∷ []) growing.weighed)).counted
+    (All-right (IsWeighed (outlined v)) t.above.items (t.deepest ∷ []) taking.weighed)).counted
 
 module _ (t m : NewVolume) (c : Command) (before : ℕ) (new : List Pair) (es : List Entry) (e : Entry) (laid : Disk → Type 0) (home : Path)
-    (v : Volume) (ready : EndsSo es t m) (growing : IsGrowing t home v) (counted : IsCounted (outlined v) m.deepest)
+    (v : Volume) (ready : EndsSo es t m) (taking : TakesMore t home v) (counted : IsCounted (outlined v) m.deepest)
     (added : IsAdded c before new es e laid t.image t.next (map opened t.above.items) (opened t.deepest) (reverse t.closed.items) home v) where
   entries_so : es ≡ m.deepest.last.entries
   entries_so = ap (λ (p : Part). p.entries) (sym ready.last)
 
   size_so : v.size ≡ m.image.size
-  size_so = growing.built.size ∙ ap (λ (d : Disk). d.size) (sym ready.image)
+  size_so = taking.built.size ∙ ap (λ (d : Disk). d.size) (sym ready.image)
 
   test : takes_entry (outlined v) (last_part (opened t.deepest)) es e ≡ takes (weight e) m
   test =
@@ -121,15 +121,15 @@ module _ (t m : NewVolume) (c : Command) (before : ℕ) (new : List Pair) (es : 
       ∙ ap (λ (p : Part). directory_of t.deepest.full.items p) ready.last
 
   -- and after
-  grown_so : (l u : NewVolume) → IsWithImage m l → l.image.size ≡ m.image.size → IsPushed e before l u
-      → opened u.deepest ≡ grown (outlined v) es e (pair_behind m.next before) (opened t.deepest)
-  grown_so l u others size pushed =
+  more_so : (l u : NewVolume) → IsWithImage m l → l.image.size ≡ m.image.size → IsPushed e before l u
+      → opened u.deepest ≡ with_more (outlined v) es e (pair_behind m.next before) (opened t.deepest)
+  more_so l u others size pushed =
       pushed.deepest (outlined v) (size_so ∙ sym size) (subst (λ (x : OpenDirectory). IsCounted (outlined v) x) (sym others.deepest) counted)
-      ∙ ap (λ (n : ℕ). grown (outlined v) l.deepest.last.entries e (pair_behind n before) (opened l.deepest)) others.next
-      ∙ ap (λ (x : OpenDirectory). grown (outlined v) x.last.entries e (pair_behind m.next before) (opened x)) others.deepest
-      ∙ ap (λ (ds : List Entry). grown (outlined v) ds e (pair_behind m.next before) (opened m.deepest)) (sym entries_so)
-      ∙ ap (grown (outlined v) es e (pair_behind m.next before)) opened_so
-      ∙ grown_same (outlined v) es e (pair_behind m.next before) t.deepest.full.items t.deepest.last es
+      ∙ ap (λ (n : ℕ). with_more (outlined v) l.deepest.last.entries e (pair_behind n before) (opened l.deepest)) others.next
+      ∙ ap (λ (x : OpenDirectory). with_more (outlined v) x.last.entries e (pair_behind m.next before) (opened x)) others.deepest
+      ∙ ap (λ (ds : List Entry). with_more (outlined v) ds e (pair_behind m.next before) (opened m.deepest)) (sym entries_so)
+      ∙ ap (with_more (outlined v) es e (pair_behind m.next before)) opened_so
+      ∙ more_same (outlined v) es e (pair_behind m.next before) t.deepest.full.items t.deepest.last es
 
   blocks_so : (l : NewVolume) → IsWithImage m l → l.image.size ≡ m.image.size
       → l.next + blocks_for (weight e) before l ≡ m.next + blocks_for (weight e) before m
@@ -138,18 +138,18 @@ module _ (t m : NewVolume) (c : Command) (before : ℕ) (new : List Pair) (es : 
       ∙ ap (λ (s : ℕ). m.next + blocks_with (run_takes (s - 40) l.deepest.weight l.deepest.count (weight e)) before) size
       ∙ ap (λ (x : OpenDirectory). m.next + blocks_with (run_takes (m.image.size - 40) x.weight x.count (weight e)) before) others.deepest
 
-  pub is_put : DirectoriesGrow → (l u y : NewVolume) → IsWithImage m l → l.image.size ≡ m.image.size → laid l.image → IsPushed e before l u
+  pub is_put : DirectoriesTakeMore → (l u y : NewVolume) → IsWithImage m l → l.image.size ≡ m.image.size → laid l.image → IsPushed e before l u
       → IsWithMade new u y → weight e ≤ m.image.size - 40 → m.next + blocks_for (weight e) before m ≤ m.image.count
       → IsCarried c e home v y
-  is_put grows l u y others size is pushed with light fits =
+  is_put takes_more l u y others size is pushed with light fits =
       let room : IsAddedTo c new es e before (blocks_for (weight e) before m) l.image m.next (map opened t.above.items) (opened t.deepest)
       (reverse t.closed.items) home v =
       has_room m c before new es e laid (map opened t.above.items) (opened t.deepest) (reverse t.closed.items) home v test added_so light fits
       l.image is in
-      let ends = grows (outlined v) es e (pair_behind m.next before) (opened t.deepest) in
+      let ends = takes_more (outlined v) es e (pair_behind m.next before) (opened t.deepest) in
       let above : y.above ≡ t.above = with.above ∙ pushed.above ∙ others.above ∙ ready.above in
-      let deepest : opened y.deepest ≡ grown (outlined v) es e (pair_behind m.next before) (opened t.deepest) =
-      ap opened with.deepest ∙ grown_so l u others size pushed in
+      let deepest : opened y.deepest ≡ with_more (outlined v) es e (pair_behind m.next before) (opened t.deepest) =
+      ap opened with.deepest ∙ more_so l u others size pushed in
       let closed : reverse y.closed.items ≡ made new ++ reverse t.closed.items =
       with.closed
       ∙ ap (λ (ds : Vec Directory). made new ++ reverse ds.items) (pushed.closed ∙ others.closed ∙ ready.closed) in
@@ -158,19 +158,19 @@ module _ (t m : NewVolume) (c : Command) (before : ℕ) (new : List Pair) (es : 
       record {
         w = room.0;
         carried = room.1;
-        growing =
-            growing_after y home v room.0
+        taking =
+            taking_after y home v room.0
             (built_as l.image y.image (m.next + blocks_for (weight e) before m) y.next (map opened t.above.items) (map opened y.above.items)
-            (grown (outlined v) es e (pair_behind m.next before) (opened t.deepest)) (opened y.deepest) (made new ++ reverse t.closed.items)
+            (with_more (outlined v) es e (pair_behind m.next before) (opened t.deepest)) (opened y.deepest) (made new ++ reverse t.closed.items)
             (reverse y.closed.items) home room.0 (with.image ∙ pushed.image) (with.next ∙ pushed.next ∙ blocks_so l others size)
             (ap (λ (xs : Vec OpenDirectory). map opened xs.items) above) deepest closed room.3)
-            room.2 (growing.attributes ∙ ap (λ (a : Vec (ℕ × List ℕ)). a.items) attributes)
-            (subst (λ (a : Vec (ℕ × List ℕ)). RiseFrom 0 a.items) attributes growing.rise)
+            room.2 (taking.attributes ∙ ap (λ (a : Vec (ℕ × List ℕ)). a.items) attributes)
+            (subst (λ (a : Vec (ℕ × List ℕ)). RiseFrom 0 a.items) attributes taking.rise)
             (subst (λ (xs : Vec OpenDirectory). All (IsWeighed (outlined v)) xs.items) (sym above)
-            (All-left (IsWeighed (outlined v)) t.above.items (t.deepest ∷ []) growing.weighed))
+            (All-left (IsWeighed (outlined v)) t.above.items (t.deepest ∷ []) taking.weighed))
             (subst (λ (x : OpenDirectory). IsWeighed (outlined v) x) (sym with.deepest)
             (pushed.weighed (outlined v) (size_so ∙ sym size)
-            (subst (λ (n : ℕ). 2 ≤ n) (sym (others.next ∙ ready.next)) growing.built.begin)
+            (subst (λ (n : ℕ). 2 ≤ n) (sym (others.next ∙ ready.next)) taking.built.begin)
             (subst (λ (x : OpenDirectory). IsCounted (outlined v) x) (sym others.deepest) counted)));
         fs = ends.ends.0;
         ends = subst (λ (d : Directory). EndsWithName e.name d ends.ends.0 e) (sym deepest) ends.ends.1;

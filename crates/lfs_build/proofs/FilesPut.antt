@@ -13,8 +13,8 @@ use Rattle.lfs_command.specs.declared.refusal.Refusal.TheVariants.{FileTooLarge,
 use Rattle.lfs_command.specs.Command.{Put}
 use Rattle.lfs_command.specs.Edited.{new_entry}
 use Rattle.lfs_command.specs.Supplies.{most_inline}
-use Rattle.lfs_grow.specs.Ending.{last_part}
-use Rattle.lfs_grow.specs.WayLaws.{DirectoriesGrow}
+use Rattle.lfs_ends.specs.Ending.{last_part}
+use Rattle.lfs_ends.specs.WayLaws.{DirectoriesTakeMore}
 use Rattle.lfs_build.specs.declared.new_volume.NewVolume.{NewVolume}
 use Rattle.lfs_build.specs.Adding.{AddsFile, FilesAreAdded, LaysFile, file_blocks, file_body}
 use Rattle.lfs_build.specs.AtHome.{PutsName, RefusesName}
@@ -37,7 +37,7 @@ module _ (n : Name) (bytes : List ℕ) (t : NewVolume) (adds : FilesAreAdded) wh
   added_at : (home : Path) (v : Volume) → IsHome t home n v
       → AddsFile n bytes t.image t.next (map opened t.above.items) (opened t.deepest) (reverse t.closed.items) home v
   added_at home v is =
-      adds n bytes t.image t.next (map opened t.above.items) (opened t.deepest) (reverse t.closed.items) home v is.growing.built is.names
+      adds n bytes t.image t.next (map opened t.above.items) (opened t.deepest) (reverse t.closed.items) home v is.taking.built is.names
       is.last
 
   pub too_long : 255 < length n → RefusesName (λ p. Put p bytes) n t NameTooLong
@@ -55,19 +55,19 @@ module _ (n : Name) (bytes : List ℕ) (t : NewVolume) (adds : FilesAreAdded) wh
     pub no_place : (r : Refusal) → HasNoRoom k before t r → RefusesName (λ p. Put p bytes) n t r
     no_place r none = inr (λ home v at.
         not_put t t (Put (home ++ n ∷ []) bytes) (file_blocks t.image.size bytes) [] (last_part (opened t.deepest)).entries
-        (new_entry n (file_body t.image.size t.next bytes)) (LaysFile t.image t.next bytes) home v (same_end t) at.growing
-        (deepest_counted t home v at.growing) ((added_at home v at).added short small) r
+        (new_entry n (file_body t.image.size t.next bytes)) (LaysFile t.image t.next bytes) home v (same_end t) at.taking
+        (deepest_counted t home v at.taking) ((added_at home v at).added short small) r
         (subst (λ (m : ℕ). HasNoRoom m (file_blocks t.image.size bytes) t r) same
         (subst (λ (m : ℕ). HasNoRoom k m t r) counts none)))
 
-    pub file_put : DirectoriesGrow → k ≤ t.image.size - 40 → t.next + blocks_for k before t ≤ t.image.count → (l u : NewVolume)
+    pub file_put : DirectoriesTakeMore → k ≤ t.image.size - 40 → t.next + blocks_for k before t ≤ t.image.count → (l u : NewVolume)
         → LaysFile t.image t.next bytes l.image → IsWithImage t l → IsPushed e before l u → PutsName (λ p. Put p bytes) n t u
-    file_put grows light fits l u laid others pushed home v at =
+    file_put takes_more light fits l u laid others pushed home v at =
         let new = new_entry n (file_body t.image.size t.next bytes) in
         let blocks = file_blocks t.image.size bytes in
         let done : IsCarried (Put (home ++ n ∷ []) bytes) new home v u =
         is_put t t (Put (home ++ n ∷ []) bytes) blocks [] (last_part (opened t.deepest)).entries new (LaysFile t.image t.next bytes) home v
-        (same_end t) at.growing (deepest_counted t home v at.growing) ((added_at home v at).added short small) grows l u u others
+        (same_end t) at.taking (deepest_counted t home v at.taking) ((added_at home v at).added short small) takes_more l u u others
         laid.but.disk.size laid
         (subst (λ (x : Entry). IsPushed x blocks l u) is (subst (λ (m : ℕ). IsPushed e m l u) counts pushed)) (none_made u)
         (subst (λ (m : ℕ). m ≤ t.image.size - 40) same light)
@@ -80,7 +80,7 @@ module _ (n : Name) (bytes : List ℕ) (t : NewVolume) (adds : FilesAreAdded) wh
             n = n;
             is = refl;
             names = at.names;
-            growing = done.growing;
+            taking = done.taking;
             es = done.fs;
             e = new;
             ends = done.ends;

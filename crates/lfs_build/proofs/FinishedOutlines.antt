@@ -15,7 +15,7 @@ use Rattle.lfs_build.specs.Closing.{ClosesDown}
 use Rattle.lfs_build.specs.NewVolumes.{IsAt}
 use Rattle.lfs_build.specs.Opened.{opened}
 use Rattle.lfs_build.specs.Walking.{BuiltAreClosed}
-use Rattle.lfs_build.proofs.ClosedVolumes.{closed_growing}
+use Rattle.lfs_build.proofs.ClosedVolumes.{closed_taking}
 
 -- nothing is above the deepest directory
 none_above : (xs : List OpenDirectory) → length xs ≡ 0 → xs ≡ []
@@ -32,9 +32,9 @@ pub outline_is : BuiltAreClosed → (t u : NewVolume) (q : Path) (v : Volume) �
     → ds ≡ reverse (u.closed.items ++ opened u.deepest ∷ [])
     → record { size = size; count = count; limits = new_limits; attributes = u.attributes.items; directories = ds } ≡ outlined v
 outline_is close t u q v at down none size count ds size_is count_is ds_is =
-    let growing = closed_growing close t u [] at.names v down at.growing none in
-    volume_is (outlined v) size count new_limits u.attributes.items ds (size_is ∙ sym growing.built.size) (count_is ∙ sym growing.built.count)
-    (sym growing.built.limits) (sym growing.attributes)
+    let taking = closed_taking close t u [] at.names v down at.taking none in
+    volume_is (outlined v) size count new_limits u.attributes.items ds (size_is ∙ sym taking.built.size) (count_is ∙ sym taking.built.count)
+    (sym taking.built.limits) (sym taking.attributes)
     (ds_is ∙ reverse-append u.closed.items (opened u.deepest ∷ [])
     ∙ ap (λ (xs : List OpenDirectory). map opened xs ++ opened u.deepest ∷ reverse u.closed.items) (sym (none_above u.above.items none))
-    ∙ sym growing.built.directories)
+    ∙ sym taking.built.directories)

@@ -24,7 +24,7 @@ use Rattle.lfs_command.specs.Edited.{new_entry}
 use Rattle.lfs_command.specs.Supplies.{most_inline, new_body}
 use Rattle.lfs_draft.specs.LeastSupplies.{least_supplies, made_blocks}
 use Rattle.lfs_law.specs.OutlineLaws.{IsThere}
-use Rattle.lfs_grow.proofs.Ranges.{take_range}
+use Rattle.lfs_ends.proofs.Ranges.{take_range}
 use Rattle.lfs_build.specs.Adding.{LaysFile, file_blocks, file_body}
 
 -- ---- its entry

@@ -11,8 +11,8 @@ use Rattle.lfs_fs.specs.Sound.{Rise}
 use Rattle.lfs_law.proofs.Cuts.{All-right}
 use Rattle.lfs_law.proofs.EntryEdits.{name_is, named_so}
 use Rattle.lfs_law.proofs.Walks.{last_name}
-use Rattle.lfs_grow.specs.EndEdits.{ComesLast, EndsWithName}
-use Rattle.lfs_grow.proofs.LastEntries.{comes_last_behind, entries_end}
+use Rattle.lfs_ends.specs.EndEdits.{ComesLast, EndsWithName}
+use Rattle.lfs_ends.proofs.LastEntries.{comes_last_behind, entries_end}
 use Rattle.lfs_build.specs.declared.open_directory.OpenDirectory.{OpenDirectory}
 use Rattle.lfs_build.specs.Opened.{comes_behind, directory_of, ends_named, last_entry, opened}
 use Rattle.lfs_build.proofs.OpenedLemmas.{last_opened}

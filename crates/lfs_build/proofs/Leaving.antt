@@ -7,7 +7,7 @@ use Rattle.lfs_block.specs.Disk.{Disk, IsDisk, block_of}
 use Rattle.lfs_block.specs.PatchLaws.{IsDiskAs}
 use Rattle.lfs_fs.specs.Uses.{times}
 use Rattle.lfs_new.specs.DiskBut.{IsDiskBut}
-use Rattle.lfs_grow.proofs.Ranges.{once_if, times_range}
+use Rattle.lfs_ends.proofs.Ranges.{once_if, times_range}
 
 -- image f is d but for so many blocks from one on
 pub record Leaves (d : Disk) (next before : ℕ) (f : Disk) : Type 0 where

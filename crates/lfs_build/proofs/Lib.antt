@@ -1,9 +1,9 @@
 pub mod OpenDeepest
 pub mod UsedBefore
 pub mod Leaving
-pub mod GrownFit
+pub mod MoreFits
 pub mod StillThere
-pub mod GrownBuilt
+pub mod MoreBuilt
 pub mod AddedEntries
 pub mod LaidFiles
 pub mod EntriesAdded

@@ -10,10 +10,10 @@ use Rattle.lfs_fs.specs.Volume.{Volume}
 use Rattle.lfs_command.specs.declared.refusal.Refusal.TheVariants.{NotADirectory, NotFound}
 use Rattle.lfs_command.specs.Verdict.{walk_refusal}
 use Rattle.lfs_law.specs.JudgedAlike.{OutlinesAreJudgedAlike}
-use Rattle.lfs_grow.specs.EndEdits.{ComesLast, StandsAt}
-use Rattle.lfs_grow.specs.Way.{EndsWithFile, IsLastIn, IsLastOf}
-use Rattle.lfs_grow.specs.WayLaws.{FilesHaveNothingBelow, LastNamesAreNew, NextNamesComeLast, WaysAreCut, WaysLead}
-use Rattle.lfs_grow.proofs.LastEntries.{directory_rises}
+use Rattle.lfs_ends.specs.EndEdits.{ComesLast, StandsAt}
+use Rattle.lfs_ends.specs.Way.{EndsWithFile, IsLastIn, IsLastOf}
+use Rattle.lfs_ends.specs.WayLaws.{FilesHaveNothingBelow, LastNamesAreNew, NextNamesComeLast, WaysAreCut, WaysLead}
+use Rattle.lfs_ends.proofs.LastEntries.{directory_rises}
 use Rattle.lfs_build.specs.Walking.{IsOnTheWay, NextAreOnTheWay}
 use Rattle.lfs_build.proofs.OutlineWalks.{outline_clean, walks_alike}
 use Rattle.lfs_build.proofs.PartedLists.{last_alike}

@@ -11,11 +11,11 @@ use Rattle.lfs_fs.specs.Volume.{Volume}
 use Rattle.lfs_command.specs.Clean.{IsClean}
 use Rattle.lfs_fs.proofs.OutlinedLemmas.{outlined_thread}
 use Rattle.lfs_new.specs.NewPairs.{FitsNewPair}
-use Rattle.lfs_grow.specs.AtTheEnd.{IsOpenAt}
-use Rattle.lfs_grow.specs.EndEdits.{StandsAt}
-use Rattle.lfs_grow.specs.Ending.{last_part}
-use Rattle.lfs_grow.specs.WayLaws.{WaysLead}
-use Rattle.lfs_grow.proofs.EndCommands.{of_last}
+use Rattle.lfs_ends.specs.AtTheEnd.{IsOpenAt}
+use Rattle.lfs_ends.specs.EndEdits.{StandsAt}
+use Rattle.lfs_ends.specs.Ending.{last_part}
+use Rattle.lfs_ends.specs.WayLaws.{WaysLead}
+use Rattle.lfs_ends.proofs.EndCommands.{of_last}
 use Rattle.lfs_build.specs.Built.{IsBuilt}
 
 -- the outline of a volume without marks has none

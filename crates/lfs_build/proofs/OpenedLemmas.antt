@@ -8,7 +8,7 @@ use Rattle.lfs_fs.specs.Entry.{Entry}
 use Rattle.lfs_fs.specs.Volume.{Volume}
 use Rattle.lfs_fs.specs.Weight.{weight}
 use Rattle.lfs_command.specs.DirectoryEdit.{behind}
-use Rattle.lfs_grow.specs.Ending.{ending_with, grown, last_of, last_part, lone_part, takes_entry, with_entries, with_last_of, with_part}
+use Rattle.lfs_ends.specs.Ending.{ending_with, with_more, last_of, last_part, lone_part, takes_entry, with_entries, with_last_of, with_part}
 use Rattle.lfs_new.specs.NewPairs.{front_count, front_weight}
 use Rattle.lfs_build.specs.declared.open_directory.OpenDirectory.{OpenDirectory}
 use Rattle.lfs_build.specs.Opened.{IsCounted, directory_of, opened}
@@ -73,25 +73,25 @@ if_false false x y is = refl
 abbrev pub other_part : Part → List Entry → Part
 other_part p es = record { pair = p.pair; entries = es; delta = p.delta; dirty = p.dirty }
 
-pub grown_here : (o : Volume) (es : List Entry) (e : Entry) (pair : Pair) (ps : List Part) (last : Part)
+pub more_here : (o : Volume) (es : List Entry) (e : Entry) (pair : Pair) (ps : List Part) (last : Part)
     → takes_entry o (last_part (directory_of ps last)) es e ≡ true
-    → directory_of ps (other_part last (es ++ e ∷ [])) ≡ grown o es e pair (directory_of ps last)
-grown_here o es e pair ps last takes =
+    → directory_of ps (other_part last (es ++ e ∷ [])) ≡ with_more o es e pair (directory_of ps last)
+more_here o es e pair ps last takes =
     sym (if_true (takes_entry o (last_part (directory_of ps last)) es e) (ending_with (es ++ e ∷ []) (directory_of ps last))
     (with_part (lone_part pair e) (ending_with es (directory_of ps last))) takes ∙ ending_opened (es ++ e ∷ []) ps last)
 
-pub grown_alone : (o : Volume) (es : List Entry) (e : Entry) (pair : Pair) (ps : List Part) (last : Part)
+pub more_alone : (o : Volume) (es : List Entry) (e : Entry) (pair : Pair) (ps : List Part) (last : Part)
     → takes_entry o (last_part (directory_of ps last)) es e ≡ false
-    → directory_of (ps ++ other_part last es ∷ []) (lone_part pair e) ≡ grown o es e pair (directory_of ps last)
-grown_alone o es e pair ps last takes =
+    → directory_of (ps ++ other_part last es ∷ []) (lone_part pair e) ≡ with_more o es e pair (directory_of ps last)
+more_alone o es e pair ps last takes =
     sym (if_false (takes_entry o (last_part (directory_of ps last)) es e) (ending_with (es ++ e ∷ []) (directory_of ps last))
     (with_part (lone_part pair e) (ending_with es (directory_of ps last))) takes
     ∙ ap (with_part (lone_part pair e)) (ending_opened es ps last) ∙ part_opened (lone_part pair e) ps (other_part last es))
 
 -- whichever entries the last part has, these are put there
-pub grown_same : (o : Volume) (es : List Entry) (e : Entry) (pair : Pair) (ps : List Part) (last : Part) (fs : List Entry)
-    → grown o es e pair (directory_of ps (other_part last fs)) ≡ grown o es e pair (directory_of ps last)
-grown_same o es e pair ps last fs =
+pub more_same : (o : Volume) (es : List Entry) (e : Entry) (pair : Pair) (ps : List Part) (last : Part) (fs : List Entry)
+    → with_more o es e pair (directory_of ps (other_part last fs)) ≡ with_more o es e pair (directory_of ps last)
+more_same o es e pair ps last fs =
     let before : Directory = directory_of ps last in
     let other : Directory = directory_of ps (other_part last fs) in
     let test : takes_entry o (last_part other) es e ≡ takes_entry o (last_part before) es e =

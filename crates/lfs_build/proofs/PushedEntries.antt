@@ -6,11 +6,11 @@ use Rattle.lfs_fs.specs.Directory.{Part}
 use Rattle.lfs_fs.specs.Entry.{Entry}
 use Rattle.lfs_fs.specs.Volume.{Volume}
 use Rattle.lfs_fs.specs.Weight.{weight}
-use Rattle.lfs_grow.specs.Ending.{grown, lone_part}
+use Rattle.lfs_ends.specs.Ending.{with_more, lone_part}
 use Rattle.lfs_build.specs.declared.open_directory.OpenDirectory.{OpenDirectory}
 use Rattle.lfs_build.specs.Opened.{IsCounted, IsWeighed, directory_of, opened}
-use Rattle.lfs_build.proofs.GrownFit.{not_root}
-use Rattle.lfs_build.proofs.OpenedLemmas.{grown_alone, grown_here, other_part, takes_counted}
+use Rattle.lfs_build.proofs.MoreFits.{not_root}
+use Rattle.lfs_build.proofs.OpenedLemmas.{more_alone, more_here, other_part, takes_counted}
 use Rattle.lfs_build.proofs.Weighed.{alone_weighed, pushed_weighed}
 
 -- whether its last part takes the entry
@@ -21,7 +21,7 @@ same_takes t size room taken number w weighs most heavy is =
 
 -- what becomes of it where an entry is put at its end
 pub record HasOneMore (e : Entry) (size : ℕ) (pair : Pair) (x y : OpenDirectory) : Type 0 where
-  pub grows : (o : Volume) → o.size ≡ size → IsCounted o x → opened y ≡ grown o x.last.entries e pair (opened x)
+  pub takes_more : (o : Volume) → o.size ≡ size → IsCounted o x → opened y ≡ with_more o x.last.entries e pair (opened x)
   pub weighed : (o : Volume) → o.size ≡ size → 2 ≤ pair.0 → IsCounted o x → IsWeighed o y
 
 module _ (e : Entry) (size : ℕ) (pair : Pair) (x y : OpenDirectory) where
@@ -30,10 +30,10 @@ module _ (e : Entry) (size : ℕ) (pair : Pair) (x y : OpenDirectory) where
       → y.last ≡ other_part x.last (x.last.entries ++ e ∷ []) → y.weight ≡ x.weight + weight e → y.count ≡ x.count + 1
       → HasOneMore e size pair x y
   one_more_here takes full last heavier more = record {
-    grows = λ o same counted.
+    takes_more = λ o same counted.
         ap (λ (ps : List Part). directory_of ps y.last) full
         ∙ ap (directory_of x.full.items) last
-        ∙ grown_here o x.last.entries e pair x.full.items x.last
+        ∙ more_here o x.last.entries e pair x.full.items x.last
         (takes_counted o size (weight e) x same counted x.last.entries refl e refl ∙ takes);
     weighed = λ o same far counted. pushed_weighed o x y e counted last heavier more;
   }
@@ -42,10 +42,10 @@ module _ (e : Entry) (size : ℕ) (pair : Pair) (x y : OpenDirectory) where
   pub one_more_alone : run_takes (size - 40) x.weight x.count (weight e) ≡ false → y.full.items ≡ x.full.items ++ x.last ∷ []
       → y.last ≡ lone_part pair e → y.weight ≡ weight e → y.count ≡ 1 → HasOneMore e size pair x y
   one_more_alone takes full last weighs one = record {
-    grows = λ o same counted.
+    takes_more = λ o same counted.
         ap (λ (ps : List Part). directory_of ps y.last) full
         ∙ ap (directory_of (x.full.items ++ x.last ∷ [])) last
-        ∙ grown_alone o x.last.entries e pair x.full.items x.last
+        ∙ more_alone o x.last.entries e pair x.full.items x.last
         (takes_counted o size (weight e) x same counted x.last.entries refl e refl ∙ takes);
     weighed = λ o same far counted. alone_weighed o y e pair (not_root pair far) last weighs one;
   }

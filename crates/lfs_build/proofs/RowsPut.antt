@@ -9,7 +9,7 @@ use Rattle.lfs_command.specs.declared.refusal.Refusal.{Refusal}
 use Rattle.lfs_command.specs.declared.refusal.Refusal.TheVariants.{Exists, FileTooLarge, IsADirectory, IsRoot, Memory, NameTooLong}
 use Rattle.lfs_command.specs.Command.{Command, Mkdir, Put}
 use Rattle.lfs_command.specs.Verdict.{first_refusal, is_directory, is_root, last_length, refuse_if, room_checks, verdict, walk_refusal}
-use Rattle.lfs_grow.specs.Leading.{CarriesOut}
+use Rattle.lfs_ends.specs.Leading.{CarriesOut}
 use Rattle.lfs_build.specs.declared.new_volume.NewVolume.{NewVolume}
 use Rattle.lfs_build.specs.AtHome.{PutsName}
 use Rattle.lfs_build.specs.Closing.{FindsHome, IsWayRefused, RefusesWay}
@@ -52,5 +52,5 @@ made_way_refused p t r refused = way_refused (Mkdir p) p t r (λ v way. made_jud
 
 pub row_put : (c : Path → Command) (p : Path) (n : Name) (t m u : NewVolume) → FindsHome p n t m → PutsName c n m u → PutsRow (c p) p t u
 row_put c p n t m u found puts q v at =
-    let home = found at.names v at.growing in
+    let home = found at.names v at.taking in
     subst (λ (x : Path). (w : Volume) × CarriesOut (c x) v w × HasEntry u x w) (sym home.1) (puts home.0 v home.2)

@@ -18,13 +18,13 @@ use Rattle.lfs_command.specs.declared.refusal.Refusal.{Refusal}
 use Rattle.lfs_command.specs.declared.refusal.Refusal.TheVariants.{NotADirectory, NotFound}
 use Rattle.lfs_command.specs.Verdict.{is_root, walk_refusal}
 use Rattle.lfs_law.proofs.Cuts.{All-right}
-use Rattle.lfs_grow.specs.Way.{IsLastIn}
+use Rattle.lfs_ends.specs.Way.{IsLastIn}
 use Rattle.lfs_build.specs.declared.new_volume.NewVolume.{NewVolume}
 use Rattle.lfs_build.specs.Closing.{ClosesDown, FindsHome, RefusesWay}
-use Rattle.lfs_build.specs.NewVolumes.{IsAt, IsGrowing}
+use Rattle.lfs_build.specs.NewVolumes.{IsAt, TakesMore}
 use Rattle.lfs_build.specs.Opened.{IsWeighed, comes_behind, common, ends_named, opened}
 use Rattle.lfs_build.specs.Walking.{BuiltAreClosed, IsOnTheWay, NextAreOnTheWay}
-use Rattle.lfs_build.proofs.ClosedVolumes.{closed_growing, way_before}
+use Rattle.lfs_build.proofs.ClosedVolumes.{closed_taking, way_before}
 use Rattle.lfs_build.proofs.CommonNames.{IsCommon, common_way}
 use Rattle.lfs_build.proofs.LastEntry.{behind_last, comes_last_of, ends_named_of, not_named}
 
@@ -44,40 +44,40 @@ none_left front k (n ∷ left) is len le =
     absurd (omega (arith, ap length is, length-append (take k front) (n ∷ left), len, le))
 
 -- the deepest directory has names that rise
-deepest_rises : OutlinesAreSound → (u : NewVolume) (names : Path) (v : Volume) → IsGrowing u names v → Rise (entries (opened u.deepest))
-deepest_rises sound u names v growing =
+deepest_rises : OutlinesAreSound → (u : NewVolume) (names : Path) (v : Volume) → TakesMore u names v → Rise (entries (opened u.deepest))
+deepest_rises sound u names v taking =
     middle (λ (d : Directory). Rise (entries d)) (map opened u.above.items) (opened u.deepest) (reverse u.closed.items)
-    (subst (All (λ (d : Directory). Rise (entries d))) growing.built.directories (sound v growing.built.sound).order)
+    (subst (All (λ (d : Directory). Rise (entries d))) taking.built.directories (sound v taking.built.sound).order)
 
 module _ (laws : SeekingLaws) (t u : NewVolume) (front : Path) (name : Name) (down : ClosesDown t u)
     (len : length u.above.items ≡ common t.above.items front) where
   abbrev k : ℕ
   k = common t.above.items front
 
-  common_of : (names : Path) (v : Volume) → IsGrowing t names v → IsCommon names front name k
-  common_of names v growing = common_way root t.above.items (opened t.deepest) names front name growing.built.way
+  common_of : (names : Path) (v : Volume) → TakesMore t names v → IsCommon names front name k
+  common_of names v taking = common_way root t.above.items (opened t.deepest) names front name taking.built.way
 
   -- the volume, with the deepest directory where the path leaves the way
-  growing_on : (names : Path) (v : Volume) (growing : IsGrowing t names v) → IsGrowing u (take k front) v
-  growing_on names v growing =
-      let all = common_of names v growing in
-      closed_growing laws.close t u (take k front) all.more v down
-      (subst (λ (p : Path). IsGrowing t p v) all.names_are growing) (len ∙ sym all.len)
+  taking_on : (names : Path) (v : Volume) (taking : TakesMore t names v) → TakesMore u (take k front) v
+  taking_on names v taking =
+      let all = common_of names v taking in
+      closed_taking laws.close t u (take k front) all.more v down
+      (subst (λ (p : Path). TakesMore t p v) all.names_are taking) (len ∙ sym all.len)
 
   -- ---- the directory is there
 
   pub finds_home : All IsName (front ++ name ∷ []) → length front ≤ k → comes_behind name u.deepest.last.entries ≡ true
       → FindsHome (front ++ name ∷ []) name t u
-  finds_home names_are le behind names v growing =
-      let all = common_of names v growing in
+  finds_home names_are le behind names v taking =
+      let all = common_of names v taking in
       let nothing = none_left front k all.left all.front_is all.len le in
       let whole : take k front ≡ front =
       sym (append-nil (take k front)) ∙ ap (λ (p : Path). take k front ++ p) (sym nothing) ∙ sym all.front_is in
-      let here : IsGrowing u front v = subst (λ (p : Path). IsGrowing u p v) whole (growing_on names v growing) in (
+      let here : TakesMore u front v = subst (λ (p : Path). TakesMore u p v) whole (taking_on names v taking) in (
         front,
         refl,
         record {
-          growing = here;
+          taking = here;
           names = names_are;
           last =
               comes_last_of laws.order name u.deepest
@@ -90,16 +90,16 @@ module _ (laws : SeekingLaws) (t u : NewVolume) (front : Path) (name : Name) (do
 
   -- what stands in the way of a path behind the last row
   on_the_way : (q : Path) (v : Volume) (at : IsAt t q v) → path_precedes q (front ++ name ∷ []) ≡ true
-      → (n : Name) (rest : Path) → (common_of at.names v at.growing).left ++ name ∷ [] ≡ n ∷ rest
+      → (n : Name) (rest : Path) → (common_of at.names v at.taking).left ++ name ∷ [] ≡ n ∷ rest
       → IsOnTheWay (take k front) n rest (opened u.deepest) v × (front ++ name ∷ [] ≡ take k front ++ n ∷ rest)
   on_the_way q v at ordered n rest is =
-      let all = common_of at.names v at.growing in
+      let all = common_of at.names v at.taking in
       let same : front ++ name ∷ [] ≡ take k front ++ n ∷ rest =
       ap (λ (p : Path). p ++ name ∷ []) all.front_is ∙ append_assoc (take k front) all.left (name ∷ [])
       ∙ ap (λ (p : Path). take k front ++ p) is in
-      let growing : IsGrowing t (take k front ++ all.more) v = subst (λ (p : Path). IsGrowing t p v) all.names_are at.growing in (
+      let taking : TakesMore t (take k front ++ all.more) v = subst (λ (p : Path). TakesMore t p v) all.names_are at.taking in (
         laws.next t.image t.next (map opened t.above.items) (opened t.deepest) (reverse t.closed.items) (take k front) all.more v
-            (map opened u.above.items) (opened u.deepest) (map opened down.gone) q n rest growing.built (way_before t u down)
+            (map opened u.above.items) (opened u.deepest) (map opened down.gone) q n rest taking.built (way_before t u down)
             (length-map u.above.items opened ∙ len ∙ sym all.len)
             (subst (λ (p : Path). IsLastIn q p (opened t.deepest)) all.names_are at.last)
             (subst (λ (p : Path). path_precedes q p ≡ true) same ordered) (all.all n rest is),
@@ -109,7 +109,7 @@ module _ (laws : SeekingLaws) (t u : NewVolume) (front : Path) (name : Name) (do
   pub refuses_order : length front ≤ k → comes_behind name u.deepest.last.entries ≡ false → (r : Refusal)
       → RefusesWay (front ++ name ∷ []) t r
   refuses_order le behind r q v at ordered =
-      let all = common_of at.names v at.growing in
+      let all = common_of at.names v at.taking in
       let nothing = none_left front k all.left all.front_is all.len le in
       let way = (on_the_way q v at ordered name [] (ap (λ (p : Path). p ++ name ∷ []) nothing)).0 in
       absurd (true_false (sym (behind_last name u.deepest (way.last refl)) ∙ behind))
@@ -117,10 +117,10 @@ module _ (laws : SeekingLaws) (t u : NewVolume) (front : Path) (name : Name) (do
       true_false : true ≡ false → ⊥
       true_false h = cc
 
-  left_of : (names : Path) (v : Volume) (growing : IsGrowing t names v) (next : Name) (later : Path) → drop k front ≡ next ∷ later
-      → (common_of names v growing).left ≡ next ∷ later
-  left_of names v growing next later at =
-      let all = common_of names v growing in
+  left_of : (names : Path) (v : Volume) (taking : TakesMore t names v) (next : Name) (later : Path) → drop k front ≡ next ∷ later
+      → (common_of names v taking).left ≡ next ∷ later
+  left_of names v taking next later at =
+      let all = common_of names v taking in
       sym (behind (take k front) all.left) ∙ ap (λ (i : ℕ). drop i (take k front ++ all.left)) all.len
       ∙ ap (λ (p : Path). drop k p) (sym all.front_is) ∙ at
     where
@@ -139,7 +139,7 @@ module _ (laws : SeekingLaws) (t u : NewVolume) (front : Path) (name : Name) (do
   pub refuses_front : (next : Name) (later : Path) → drop k front ≡ next ∷ later
       → RefusesWay (front ++ name ∷ []) t (if ends_named next u.deepest.last.entries then NotADirectory else NotFound)
   refuses_front next later at_k q v at ordered =
-      let left = left_of at.names v at.growing next later at_k in
+      let left = left_of at.names v at.taking next later at_k in
       let way = on_the_way q v at ordered next (later ++ name ∷ []) (ap (λ (p : Path). p ++ name ∷ []) left) in
       let more = more_left later in
       record {

@@ -22,8 +22,8 @@ use Rattle.lfs_command.specs.Edited.{edited}
 use Rattle.lfs_law.specs.OutlineLaws.{IsThere}
 use Rattle.lfs_law.proofs.KnownBodies.{Bodies, OfBodies, OfNew, by_parts, cut_bodies, edited_bodies, link_has}
 use Rattle.lfs_law.proofs.WrittenLemmas.{chain_by, parts_of_links}
-use Rattle.lfs_grow.specs.Growing.{AreFreeFrom}
-use Rattle.lfs_grow.specs.Leading.{CarriesOut}
+use Rattle.lfs_ends.specs.OneMore.{AreFreeFrom}
+use Rattle.lfs_ends.specs.Leading.{CarriesOut}
 use Rattle.lfs_build.specs.Built.{AreThere}
 use Rattle.lfs_build.proofs.Leaving.{Leaves}
 use Rattle.lfs_build.proofs.UsedBefore.{chain_before}

@@ -10,7 +10,7 @@ use Rattle.lfs_fs.specs.Uses.{entry_uses, uses}
 use Rattle.lfs_fs.specs.Volume.{Volume}
 use Rattle.lfs_law.proofs.OutlineRoom.{uses_outlined}
 use Rattle.lfs_law.proofs.WrittenLemmas.{one_le, pair_used, part_uses, sum_thread}
-use Rattle.lfs_grow.specs.Growing.{AreFreeFrom}
+use Rattle.lfs_ends.specs.OneMore.{AreFreeFrom}
 
 used_by : (n next b : ℕ) → (n == 0) ≡ nat_le next b → 0 < n → b < next
 used_by n next b free used = by (nat_le next b) refl

@@ -7,8 +7,8 @@ use Rattle.lfs_fs.specs.Outlined.{outlined}
 use Rattle.lfs_fs.specs.Pair.{root}
 use Rattle.lfs_fs.specs.Path.{Path}
 use Rattle.lfs_fs.specs.Volume.{Volume}
-use Rattle.lfs_grow.specs.Way.{OnWay}
-use Rattle.lfs_grow.specs.WayLaws.{WaysAreCut, WaysEnter}
+use Rattle.lfs_ends.specs.Way.{OnWay}
+use Rattle.lfs_ends.specs.WayLaws.{WaysAreCut, WaysEnter}
 use Rattle.lfs_new.specs.NewPairs.{FitsNewPair}
 use Rattle.lfs_build.specs.Built.{IsBuilt}
 use Rattle.lfs_build.specs.Walking.{BuiltAreClosed, BuiltAreEntered}

@@ -18,10 +18,10 @@ use Rattle.lfs_command.specs.Command.{Command, Mkdir, Put, SetAttr}
 use Rattle.lfs_command.specs.Edited.{new_entry, with_entry_attributes}
 use Rattle.lfs_command.specs.Supplies.{most_inline}
 use Rattle.lfs_command.specs.Verdict.{verdict}
-use Rattle.lfs_grow.specs.Ending.{grown, last_part, takes_entry}
-use Rattle.lfs_grow.specs.EndCuts.{made}
-use Rattle.lfs_grow.specs.EndEdits.{ComesLast, EndsWithName}
-use Rattle.lfs_grow.specs.Leading.{CarriesOut}
+use Rattle.lfs_ends.specs.Ending.{with_more, last_part, takes_entry}
+use Rattle.lfs_ends.specs.EndCuts.{made}
+use Rattle.lfs_ends.specs.EndEdits.{ComesLast, EndsWithName}
+use Rattle.lfs_ends.specs.Leading.{CarriesOut}
 use Rattle.lfs_new.specs.DiskBut.{IsDiskBut}
 use Rattle.lfs_build.specs.Built.{IsBuilt}
 
@@ -47,7 +47,7 @@ pub record IsAdded (c : Command) (before : ℕ) (new : List Pair) (es : List Ent
   pub added : weight e ≤ d.size - 40 → next + blocks_behind v deepest es e before ≤ d.count
       → (f : Disk) → laid f
       → (w : Volume) × CarriesOut c v w × (w.attributes ≡ v.attributes)
-      × IsBuilt f (next + blocks_behind v deepest es e before) above (grown (outlined v) es e (pair_behind next before) deepest)
+      × IsBuilt f (next + blocks_behind v deepest es e before) above (with_more (outlined v) es e (pair_behind next before) deepest)
       (made new ++ closed) names w
 
 -- ---- a file

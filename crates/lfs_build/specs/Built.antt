@@ -13,8 +13,8 @@ use Rattle.lfs_fs.specs.Volume.{Volume}
 use Rattle.lfs_command.specs.Clean.{IsClean}
 use Rattle.lfs_law.specs.OutlineLaws.{IsThere}
 use Rattle.lfs_law.specs.SuperblockBytes.{new_limits}
-use Rattle.lfs_grow.specs.Growing.{AreFreeFrom}
-use Rattle.lfs_grow.specs.Way.{OnWay}
+use Rattle.lfs_ends.specs.OneMore.{AreFreeFrom}
+use Rattle.lfs_ends.specs.Way.{OnWay}
 use Rattle.lfs_new.specs.NewPairs.{FitsNewPair}
 
 -- each block of an image from one on is erased

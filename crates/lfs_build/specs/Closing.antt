@@ -10,7 +10,7 @@ use Rattle.lfs_command.specs.declared.refusal.Refusal.{Refusal}
 use Rattle.lfs_command.specs.Verdict.{is_root, walk_refusal}
 use Rattle.lfs_build.specs.declared.new_volume.NewVolume.{NewVolume}
 use Rattle.lfs_build.specs.declared.open_directory.OpenDirectory.{OpenDirectory}
-use Rattle.lfs_build.specs.NewVolumes.{IsAt, IsGrowing, IsHome}
+use Rattle.lfs_build.specs.NewVolumes.{IsAt, TakesMore, IsHome}
 use Rattle.lfs_build.specs.Opened.{opened}
 use Rattle.lfs_build.specs.Rooted.{bare_directory}
 
@@ -25,7 +25,7 @@ pub record ClosesDown (t u : NewVolume) : Type 0 where
 
 -- The deepest directory is now the one that has the last name of a path, which comes last there.
 abbrev pub FindsHome : List Name → Name → NewVolume → NewVolume → Type 0
-FindsHome p n t u = (names : Path) (v : Volume) → IsGrowing t names v → (home : Path) × (p ≡ home ++ n ∷ []) × IsHome u home n v
+FindsHome p n t u = (names : Path) (v : Volume) → TakesMore t names v → (home : Path) × (p ≡ home ++ n ∷ []) × IsHome u home n v
 
 -- a front of a path isn't a directory
 pub record IsWayRefused (p : Path) (v : Volume) (r : Refusal) : Type 0 where

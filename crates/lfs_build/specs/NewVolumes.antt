@@ -19,9 +19,9 @@ use Rattle.lfs_command.specs.declared.refusal.Refusal.TheVariants.{Memory}
 use Rattle.lfs_command.specs.Command.{Command, SetAttr}
 use Rattle.lfs_command.specs.Verdict.{verdict}
 use Rattle.lfs_law.specs.SuperblockBytes.{new_limits}
-use Rattle.lfs_grow.specs.EndEdits.{ComesLast, EndsWithName}
-use Rattle.lfs_grow.specs.Leading.{CarriesOut}
-use Rattle.lfs_grow.specs.Way.{IsLastIn}
+use Rattle.lfs_ends.specs.EndEdits.{ComesLast, EndsWithName}
+use Rattle.lfs_ends.specs.Leading.{CarriesOut}
+use Rattle.lfs_ends.specs.Way.{IsLastIn}
 use Rattle.lfs_build.specs.declared.new_volume.NewVolume.{NewVolume}
 use Rattle.lfs_build.specs.Built.{IsBuilt}
 use Rattle.lfs_build.specs.Opened.{IsWeighed, opened}
@@ -30,7 +30,7 @@ use Rattle.lfs_build.specs.Rooted.{IsBareBuilt, bare_directory}
 -- ---- the volume
 
 -- The volume, with its deepest directory at the path of names.
-pub record IsGrowing (t : NewVolume) (names : Path) (v : Volume) : Type 0 where
+pub record TakesMore (t : NewVolume) (names : Path) (v : Volume) : Type 0 where
   pub built : IsBuilt t.image t.next (map opened t.above.items) (opened t.deepest) (reverse t.closed.items) names v
   pub attributes : v.attributes ≡ t.attributes.items
   pub rise : RiseFrom 0 t.attributes.items
@@ -39,12 +39,12 @@ pub record IsGrowing (t : NewVolume) (names : Path) (v : Volume) : Type 0 where
 -- the volume after a row at a path
 pub record IsAt (t : NewVolume) (q : Path) (v : Volume) : Type 0 where
   pub names : Path
-  pub growing : IsGrowing t names v
+  pub taking : TakesMore t names v
   pub last : IsLastIn q names (opened t.deepest)
 
 -- The volume with a name that comes last in its deepest directory.
 pub record IsHome (t : NewVolume) (home : Path) (n : Name) (v : Volume) : Type 0 where
-  pub growing : IsGrowing t home v
+  pub taking : TakesMore t home v
   pub names : All IsName (home ++ n ∷ [])
   pub last : ComesLast n (opened t.deepest)
 
@@ -62,7 +62,7 @@ pub record HasEntry (t : NewVolume) (p : Path) (v : Volume) : Type 0 where
   pub n : Name
   pub is : p ≡ home ++ n ∷ []
   pub names : All IsName p
-  pub growing : IsGrowing t home v
+  pub taking : TakesMore t home v
   pub es : List Entry
   pub e : Entry
   pub ends : EndsWithName n (opened t.deepest) es e

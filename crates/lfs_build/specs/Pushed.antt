@@ -7,7 +7,7 @@ use Rattle.lfs_fs.specs.Volume.{Volume}
 use Rattle.lfs_fs.specs.Weight.{weight}
 use Rattle.lfs_command.specs.declared.refusal.Refusal.{Refusal}
 use Rattle.lfs_command.specs.declared.refusal.Refusal.TheVariants.{EntryTooLarge, NoSpace}
-use Rattle.lfs_grow.specs.Ending.{grown}
+use Rattle.lfs_ends.specs.Ending.{with_more}
 use Rattle.lfs_build.specs.declared.new_volume.NewVolume.{NewVolume}
 use Rattle.lfs_build.specs.Adding.{blocks_with, pair_behind}
 use Rattle.lfs_build.specs.Opened.{IsCounted, IsWeighed, opened}
@@ -35,7 +35,7 @@ pub record IsPushed (e : Entry) (before : ℕ) (t u : NewVolume) : Type 0 where
   pub closed : u.closed ≡ t.closed
   pub next : u.next ≡ t.next + blocks_for (weight e) before t
   pub deepest : (o : Volume) → o.size ≡ t.image.size → IsCounted o t.deepest
-      → opened u.deepest ≡ grown o t.deepest.last.entries e (pair_behind t.next before) (opened t.deepest)
+      → opened u.deepest ≡ with_more o t.deepest.last.entries e (pair_behind t.next before) (opened t.deepest)
   pub weighed : (o : Volume) → o.size ≡ t.image.size → 2 ≤ t.next → IsCounted o t.deepest → IsWeighed o u.deepest
 
 -- All but the image is as it was.

@@ -12,7 +12,7 @@ use Rattle.lfs_fs.specs.Weight.{superblock_weight}
 use Rattle.lfs_command.specs.declared.refusal.Refusal.TheVariants.{AttrTooLarge, EntryTooLarge}
 use Rattle.lfs_command.specs.Command.{SetAttr}
 use Rattle.lfs_command.specs.Verdict.{verdict}
-use Rattle.lfs_grow.specs.Leading.{CarriesOut}
+use Rattle.lfs_ends.specs.Leading.{CarriesOut}
 use Rattle.lfs_build.specs.Built.{AreErasedFrom, IsBuilt}
 
 -- a directory without entries, at a pair

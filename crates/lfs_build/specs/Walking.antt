@@ -9,8 +9,8 @@ use Rattle.lfs_fs.specs.Tree.{tree}
 use Rattle.lfs_fs.specs.Volume.{Volume}
 use Rattle.lfs_command.specs.declared.refusal.Refusal.TheVariants.{NotADirectory, NotFound}
 use Rattle.lfs_command.specs.Verdict.{walk_refusal}
-use Rattle.lfs_grow.specs.EndEdits.{ComesLast}
-use Rattle.lfs_grow.specs.Way.{EndsLeading, EndsWithFile, IsAllCommon, IsLastIn}
+use Rattle.lfs_ends.specs.EndEdits.{ComesLast}
+use Rattle.lfs_ends.specs.Way.{EndsLeading, EndsWithFile, IsAllCommon, IsLastIn}
 use Rattle.lfs_build.specs.Built.{IsBuilt}
 
 -- the law: the directory that the deepest one ends with, the first of those behind it, is entered

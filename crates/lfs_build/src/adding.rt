@@ -12,8 +12,8 @@ use lfs_block::Blocks;
 use lfs_command::Refusal;
 use lfs_cut::weight;
 use lfs_draft::new_entry;
+use lfs_ends::ways_lead_to_ends;
 use lfs_fs::{Delta, OutlineBody, OutlineDirectory, OutlineEntry, OutlinePart};
-use lfs_grow::ways_lead_to_ends;
 use lfs_meta::set_attribute;
 use std::alloc::{AllocError, Global};
 

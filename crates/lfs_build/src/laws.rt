@@ -5,9 +5,9 @@ ghost use Rattle.lfs_build.specs.Finished.{BuiltCanBeFinished};
 ghost use Rattle.lfs_build.specs.Rooted.{ErasedAreNew, RootAttributesAreAdded};
 ghost use Rattle.lfs_build.specs.Walking.{BuiltAreClosed, BuiltAreEntered, NextAreOnTheWay};
 
+use lfs_ends::{ends_are_judged, ends_are_put, next_names_come_last, ways_lead_to_ends};
 use lfs_file::{chains_stay_on_their_blocks, laid_blocks_are_chains};
 use lfs_fs::{entries_are_cut_greedily, formatted_volumes_are_sound, outlines_are_sound};
-use lfs_grow::{ends_are_judged, ends_are_put, next_names_come_last, ways_lead_to_ends};
 use lfs_law::{cuts_follow, outlines_are_judged_alike};
 use lfs_new::{new_images_hold, sound_outlines_can_be_taken};
 

@@ -31,7 +31,7 @@ impl NewVolume {
     ghost use Rattle.lfs_fs.specs.Volume.{Volume};
     ghost use Rattle.lfs_command.specs.declared.refusal.Refusal.TheVariants.{Memory, NotADirectory, NotFound};
     ghost use Rattle.lfs_build.specs.Closing.{FindsHome, RefusesWay};
-    ghost use Rattle.lfs_build.specs.NewVolumes.{IsAt, IsGrowing};
+    ghost use Rattle.lfs_build.specs.NewVolumes.{IsAt, TakesMore};
     ghost use Rattle.lfs_build.specs.Opened.{ends_named};
 
     /// Why there is no directory for a name that more names follow. Takes no memory.
@@ -48,7 +48,7 @@ impl NewVolume {
     /// Closes directories until the deepest one has the last name of a path, and gives that name, which comes last there. A front of the path
     /// may be missing, or a file; `BadPath` where the path doesn't come after the last row.
     pub(crate) fn seek<'a>(&mut self, path: &[&'a [u8]]) -> Result<&'a [u8], Refusal>
-        requires open { (names : Path) × (v : Volume) × IsGrowing self.old names v }
+        requires open { (names : Path) × (v : Volume) × TakesMore self.old names v }
         requires names { All IsName (map (λ n. n.now) path.now) }
         ensures found { IfOk result (λ name. FindsHome (map (λ n. n.now) path.now) name.now self.old self.new) }
         ensures refused { IfErr result (λ r. (r ≡ Memory) ⊎ RefusesWay (map (λ n. n.now) path.now) self.old r) }

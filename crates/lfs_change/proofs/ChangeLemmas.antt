@@ -11,7 +11,7 @@ use Rattle.lfs_history.specs.declared.step_fault.StepFault.TheVariants.{Refused 
 use Rattle.lfs_history.specs.History.{History, IsHistory}
 use Rattle.lfs_history.specs.Moves.{Undoes}
 use Rattle.lfs_history.specs.Opening.{Opens, RefusesOpening}
-use Rattle.lfs_history.specs.Steps.{Step, Do, Undo, Redo, Forget, Takes}
+use Rattle.lfs_history.specs.Taking.{Move, Do, Undo, Redo, Forget, Takes}
 use Rattle.lfs_change.specs.declared.fault.Fault.{Fault}
 use Rattle.lfs_change.specs.declared.fault.Fault.TheVariants as fault
 use Rattle.lfs_change.specs.declared.fault.Fault.TheVariants.{Image, Refused}
@@ -24,7 +24,7 @@ use Rattle.lfs_change.proofs.BytesLemmas.{image_of_disk}
 -- ---- a step that is refused
 
 -- it leaves the history
-pub refused_keeps : (step : Step) (f : StepFault) (old new : History) → Takes step (Some f) old new → new ≡ old
+pub refused_keeps : (step : Move) (f : StepFault) (old new : History) → Takes step (Some f) old new → new ≡ old
 refused_keeps (Do asked) JournalFull old new takes = takes.1
 refused_keeps (Do asked) (Refused_step r) old new takes = takes.2
 refused_keeps (Do asked) NothingToUndo old new takes = absurd takes
@@ -39,10 +39,10 @@ refused_keeps Redo NothingToUndo old new takes = absurd takes
 refused_keeps Redo JournalFull old new takes = absurd takes
 refused_keeps Forget f old new takes = absurd takes
 
-refused_here : (step : Step) (f : StepFault) (old new : History) → Takes step (Some f) old new → Takes step (Some f) old old
+refused_here : (step : Move) (f : StepFault) (old new : History) → Takes step (Some f) old new → Takes step (Some f) old old
 refused_here step f old new takes = subst (λ (h : History). Takes step (Some f) old h) (refused_keeps step f old new takes) takes
 
-pub refused_saving : (step : Step) (f : StepFault) (old new : History) → Takes step (Some f) old new
+pub refused_saving : (step : Move) (f : StepFault) (old new : History) → Takes step (Some f) old new
     → RefusesSaving step old (fault_of_step f)
 refused_saving step (Refused_step r) old new takes = inr (refused_here step (Refused_step r) old new takes)
 refused_saving step NothingToUndo old new takes = refused_here step NothingToUndo old new takes
@@ -58,7 +58,7 @@ none_first : (x : Disk) (xs : List Disk) → x ∷ xs ≡ [] → ⊥
 none_first x xs h = cc
 
 -- behind a command, or a change that was made again, stands the image before it
-past_first : (step : Step) (before mid : History) → (step ≡ Undo → ⊥) → (step ≡ Forget → ⊥) → Takes step None before mid
+past_first : (step : Move) (before mid : History) → (step ≡ Undo → ⊥) → (step ≡ Forget → ⊥) → Takes step None before mid
     → mid.past ≡ before.present ∷ before.past
 past_first (Do asked) before mid not_undo not_forget takes = takes.pushes.past
 past_first Redo before mid not_undo not_forget takes = takes.past
@@ -104,7 +104,7 @@ opening_refused opening.JournalImage d journal some refuses = (some, refuses)
 
 -- ---- what is answered on an image
 
-pub done_answers : (step : Step) (d : Disk) (journal bytes : List ℕ) (old new : History) (o : Outcome)
+pub done_answers : (step : Move) (d : Disk) (journal bytes : List ℕ) (old new : History) (o : Outcome)
     → DenotesOn d (journal_read step journal) old → IsSaved step old new bytes → o.image.items ≡ new.present.bytes
     → o.journal.items ≡ bytes → IsChanged step d journal o
 done_answers step d journal bytes old new o denotes saved image same = record {
@@ -116,7 +116,7 @@ done_answers step d journal bytes old new o denotes saved image same = record {
   journal_is = same ∙ saved.journal;
 }
 
-saving_refused : (f : Fault) (step : Step) (d : Disk) (journal : List ℕ) (old : History) → DenotesOn d (journal_read step journal) old
+saving_refused : (f : Fault) (step : Move) (d : Disk) (journal : List ℕ) (old : History) → DenotesOn d (journal_read step journal) old
     → RefusesSaving step old f → RefusesImage step d journal f
 saving_refused (Refused r) step d journal old denotes (inl memory) = inl memory
 saving_refused (Refused r) step d journal old denotes (inr takes) = inr (old, denotes, takes)
@@ -126,7 +126,7 @@ saving_refused (fault.Step NothingToRedo) step d journal old denotes refuses = (
 saving_refused (fault.Step JournalFull) step d journal old denotes refuses = (old, denotes, refuses)
 saving_refused _ step d journal old denotes refuses = absurd refuses
 
-pub fault_answers : (f : Fault) (step : Step) (d : Disk) (journal : List ℕ) (old new : History) (o : Outcome)
+pub fault_answers : (f : Fault) (step : Move) (d : Disk) (journal : List ℕ) (old new : History) (o : Outcome)
     → DenotesOn d (journal_read step journal) old → RefusesSaving step old f → new.present ≡ old.present
     → o.image.items ≡ new.present.bytes → o.journal.items ≡ journal → AnswersImage (Some f) step d journal o
 fault_answers f step d journal old new o denotes refuses kept image same = (
@@ -135,39 +135,39 @@ fault_answers f step d journal old new o denotes refuses kept image same = (
   saving_refused f step d journal old denotes refuses,
 )
 
-mount_refused : (f : MountFault) (step : Step) (d : Disk) (journal : List ℕ) → HasCause d f → RefusesImage step d journal (fault_of_mount f)
+mount_refused : (f : MountFault) (step : Move) (d : Disk) (journal : List ℕ) → HasCause d f → RefusesImage step d journal (fault_of_mount f)
 mount_refused No_memory step d journal cause = inl refl
 mount_refused _ step d journal cause = cause
 
-opening_faults : (f : OpenFault) (step : Step) (d : Disk) (journal : List ℕ) → RefusesDenoting f d (journal_read step journal)
+opening_faults : (f : OpenFault) (step : Move) (d : Disk) (journal : List ℕ) → RefusesDenoting f d (journal_read step journal)
     → RefusesImage step d journal (fault_of_opening f)
 opening_faults (opening.Mount f) step d journal refuses = mount_refused f step d journal refuses
 opening_faults opening.JournalFormat step d journal refuses = refuses
 opening_faults opening.JournalMismatch step d journal refuses = refuses
 opening_faults opening.JournalImage step d journal refuses = refuses
 
-pub opening_answers : (f : OpenFault) (step : Step) (d : Disk) (journal : List ℕ) (o : Outcome)
+pub opening_answers : (f : OpenFault) (step : Move) (d : Disk) (journal : List ℕ) (o : Outcome)
     → RefusesDenoting f d (journal_read step journal) → o.image.items ≡ d.bytes → o.journal.items ≡ journal
     → AnswersImage (Some (fault_of_opening f)) step d journal o
 opening_answers f step d journal o refuses image same = (image, same, opening_faults f step d journal refuses)
 
 -- ---- what is answered on bytes
 
-change_refused : (step : Step) (d : Disk) (journal : List ℕ) (f : Fault) → IsDisk d → RefusesImage step d journal f
+change_refused : (step : Move) (d : Disk) (journal : List ℕ) (f : Fault) → IsDisk d → RefusesImage step d journal f
     → RefusesChange step d.size d.bytes journal f
 change_refused step d journal (Image f) is refuses = absurd refuses
 change_refused step d journal f is refuses =
     let same = sym (image_of_disk d is) in
     (subst IsDisk same is, subst (λ (e : Disk). RefusesImage step e journal f) same refuses)
 
-change_at : (f : Option Fault) (step : Step) (d : Disk) (journal : List ℕ) (o : Outcome) → IsDisk d → AnswersImage f step d journal o
+change_at : (f : Option Fault) (step : Move) (d : Disk) (journal : List ℕ) (o : Outcome) → IsDisk d → AnswersImage f step d journal o
     → AnswersChange f step d.size d.bytes journal o
 change_at None step d journal o is changed =
     let same = sym (image_of_disk d is) in
     (subst IsDisk same is, subst (λ (e : Disk). IsChanged step e journal o) same changed)
 change_at (Some f) step d journal o is answers = (answers.0, answers.1, change_refused step d journal f is answers.2)
 
-pub change_answers : (step : Step) (size : ℕ) (bytes journal : List ℕ) (d : Disk) (o : Outcome) → IsDisk d → d.size ≡ size
+pub change_answers : (step : Move) (size : ℕ) (bytes journal : List ℕ) (d : Disk) (o : Outcome) → IsDisk d → d.size ≡ size
     → d.bytes ≡ bytes → AnswersImage o.fault step d journal o → AnswersChange o.fault step size bytes journal o
 change_answers step size bytes journal d o is e f answers =
     let at = change_at o.fault step d journal o is answers in

@@ -9,7 +9,7 @@ use Rattle.lfs_history.specs.History.{History, IsHistory, fresh_history}
 use Rattle.lfs_history.specs.Laws.{IsCarriedOut, CommandsPushEquations, RunsKeepHistories, StepsKeepGeometry, UndoIsExact}
 use Rattle.lfs_history.specs.Opening.{journal_of}
 use Rattle.lfs_history.specs.OpeningLaws.{JournalsDenoteOneHistory, SavedHistoriesOpen}
-use Rattle.lfs_history.specs.Steps.{Step, Do, Undo, Redo, Forget, Takes, Run}
+use Rattle.lfs_history.specs.Taking.{Move, Do, Undo, Redo, Forget, Takes, Run}
 use Rattle.lfs_change.specs.declared.fault.Fault.{Fault}
 use Rattle.lfs_change.specs.declared.outcome.Outcome.{Outcome}
 use Rattle.lfs_change.specs.Bytes.{image_of}
@@ -31,7 +31,7 @@ pub record IsLeft (size : ℕ) (h : History) : Type 0 where
   pub history : IsHistory h
   pub size_is : h.present.size ≡ size
 
-step_left : RunsKeepHistories → StepsKeepGeometry → (step : Step) (size : ℕ) (image journal : List ℕ) (o : Outcome)
+step_left : RunsKeepHistories → StepsKeepGeometry → (step : Move) (size : ℕ) (image journal : List ℕ) (o : Outcome)
     → (changes : ChangesBytes step size image journal o) → IsLeft size changes.1.new
 step_left keep geometry step size image journal o (disk, is) =
     let old = denoted_history (image_of size image) (journal_read step journal) is.old is.denotes in
@@ -89,7 +89,7 @@ bytes_stand_again denoted one exact asked size image journal done undone first s
 -- ---- runs
 
 -- a step on bytes is one on what they denote
-takes_from : JournalsDenoteOneHistory → (step : Step) (d : Disk) (journal : List ℕ) (old : History) (o : Outcome)
+takes_from : JournalsDenoteOneHistory → (step : Move) (d : Disk) (journal : List ℕ) (old : History) (o : Outcome)
     → DenotesOn d journal old → (is : IsChanged step d journal o) → Takes step None old is.new
 takes_from one (Do asked) d journal old o denotes is =
     subst (λ (h : History). Takes (Do asked) None h is.new) (one_denoted one d journal is.old old is.denotes denotes) is.takes
@@ -104,7 +104,7 @@ takes_from one Forget d journal old o denotes is =
 left_files : Outcome → Files
 left_files o = record { image = o.image.items; journal = o.journal.items }
 
-run_more : JournalsDenoteOneHistory → ChangedBytesAreDenoted → (size : ℕ) (f : Option Fault) (step : Step) (ts : List Taken)
+run_more : JournalsDenoteOneHistory → ChangedBytesAreDenoted → (size : ℕ) (f : Option Fault) (step : Move) (ts : List Taken)
     (first last : Files) (old : History) (o : Outcome) → Denotes size first.image first.journal old
     → AnswersChange f step size first.image first.journal o
     → ((mid : History) → Denotes size o.image.items o.journal.items mid → IsRunOf size ts last mid)

@@ -11,7 +11,7 @@ use Rattle.lfs_history.specs.declared.step_fault.StepFault.{StepFault}
 use Rattle.lfs_history.specs.declared.step_fault.StepFault.TheVariants.{Refused as Refused_step}
 use Rattle.lfs_history.specs.History.{History, IsHistory, fresh_history}
 use Rattle.lfs_history.specs.Opening.{Opens, RefusesOpening, journal_of}
-use Rattle.lfs_history.specs.Steps.{Step, Forget, Takes}
+use Rattle.lfs_history.specs.Taking.{Move, Forget, Takes}
 use Rattle.lfs_change.specs.declared.fault.Fault.{Fault}
 use Rattle.lfs_change.specs.declared.fault.Fault.TheVariants as fault
 use Rattle.lfs_change.specs.declared.fault.Fault.TheVariants.{Image, Mount, Refused, JournalFormat, JournalMismatch, JournalImage}
@@ -28,13 +28,13 @@ abbrev pub Denotes : ℕ → List ℕ → List ℕ → History → Type 0
 Denotes size image journal h = IsDisk (image_of size image) × DenotesOn (image_of size image) journal h
 
 -- the journal that a step reads: to forget reads none
-abbrev pub journal_read : Step → List ℕ → List ℕ
+abbrev pub journal_read : Move → List ℕ → List ℕ
 journal_read Forget journal = []
 journal_read _ journal = journal
 
 -- The step is taken on the history that the image and the journal denote. The outcome is the image and the journal of the
 -- history that it leaves.
-pub record IsChanged (step : Step) (disk : Disk) (journal : List ℕ) (outcome : Outcome) : Type 0 where
+pub record IsChanged (step : Move) (disk : Disk) (journal : List ℕ) (outcome : Outcome) : Type 0 where
   pub old : History
   pub denotes : DenotesOn disk (journal_read step journal) old
   pub new : History
@@ -52,12 +52,12 @@ RefusesDenoting (opening.Mount fault) disk journal = HasCause disk fault
 RefusesDenoting fault disk journal = RefusesJournal fault disk journal
 
 -- the step is refused on the history that the image and the journal denote
-abbrev pub RefusesStep : Step → Disk → List ℕ → StepFault → Type 0
+abbrev pub RefusesStep : Move → Disk → List ℕ → StepFault → Type 0
 RefusesStep step disk journal fault =
     (old : History) × DenotesOn disk (journal_read step journal) old × Takes step (Some fault) old old
 
 -- why an image isn't changed: a cause that it has, then what its journal is refused for, then what the step is; or want of memory
-abbrev pub RefusesImage : Step → Disk → List ℕ → Fault → Type 0
+abbrev pub RefusesImage : Move → Disk → List ℕ → Fault → Type 0
 RefusesImage step disk journal (Mount fault) = HasCause disk fault
 RefusesImage step disk journal (Refused refusal) = (refusal ≡ Memory) ⊎ RefusesStep step disk journal (Refused_step refusal)
 RefusesImage step disk journal (fault.Step (Refused_step refusal)) = ⊥
@@ -68,33 +68,33 @@ RefusesImage step disk journal JournalImage = RefusesJournal opening.JournalImag
 RefusesImage step disk journal _ = ⊥
 
 -- what a step on an image answers; with a fault, image and journal are those that were handed in
-abbrev pub AnswersImage : Option Fault → Step → Disk → List ℕ → Outcome → Type 0
+abbrev pub AnswersImage : Option Fault → Move → Disk → List ℕ → Outcome → Type 0
 AnswersImage None step disk journal outcome = IsChanged step disk journal outcome
 AnswersImage (Some fault) step disk journal outcome =
     (outcome.image.items ≡ disk.bytes) × (outcome.journal.items ≡ journal) × RefusesImage step disk journal fault
 
 -- a step is taken on bytes that are an image
-abbrev pub ChangesBytes : Step → ℕ → List ℕ → List ℕ → Outcome → Type 0
+abbrev pub ChangesBytes : Move → ℕ → List ℕ → List ℕ → Outcome → Type 0
 ChangesBytes step size image journal outcome = IsDisk (image_of size image) × IsChanged step (image_of size image) journal outcome
 
 -- why bytes aren't changed: they are no image, or else as for an image
-abbrev pub RefusesChange : Step → ℕ → List ℕ → List ℕ → Fault → Type 0
+abbrev pub RefusesChange : Move → ℕ → List ℕ → List ℕ → Fault → Type 0
 RefusesChange step size image journal (Image fault) = IsNoImage fault size image
 RefusesChange step size image journal fault = IsDisk (image_of size image) × RefusesImage step (image_of size image) journal fault
 
 -- what a step on bytes answers; with a fault, image and journal are those that were handed in
-abbrev pub AnswersChange : Option Fault → Step → ℕ → List ℕ → List ℕ → Outcome → Type 0
+abbrev pub AnswersChange : Option Fault → Move → ℕ → List ℕ → List ℕ → Outcome → Type 0
 AnswersChange None step size image journal outcome = ChangesBytes step size image journal outcome
 AnswersChange (Some fault) step size image journal outcome =
     (outcome.image.items ≡ image) × (outcome.journal.items ≡ journal) × RefusesChange step size image journal fault
 
 -- what a session does with a step: it takes it, and these are the bytes of the journal that it leaves
-pub record IsSaved (step : Step) (old new : History) (bytes : List ℕ) : Type 0 where
+pub record IsSaved (step : Move) (old new : History) (bytes : List ℕ) : Type 0 where
   pub takes : Takes step None old new
   pub journal : bytes ≡ journal_bytes (journal_of new)
 
 -- why a session doesn't take a step, or can't save it
-abbrev pub RefusesSaving : Step → History → Fault → Type 0
+abbrev pub RefusesSaving : Move → History → Fault → Type 0
 RefusesSaving step old (Refused refusal) = (refusal ≡ Memory) ⊎ Takes step (Some (Refused_step refusal)) old old
 RefusesSaving step old (fault.Step (Refused_step refusal)) = ⊥
 RefusesSaving step old (fault.Step fault) = Takes step (Some fault) old old

@@ -9,7 +9,7 @@ use Rattle.lfs_fs.specs.Mounts.{Mounts}
 use Rattle.lfs_command.specs.Command.{Asked, Command, Spells}
 use Rattle.lfs_command.specs.Need.{need}
 use Rattle.lfs_history.specs.History.{History}
-use Rattle.lfs_history.specs.Steps.{Step, Do, Undo, Run}
+use Rattle.lfs_history.specs.Taking.{Move, Do, Undo, Run}
 use Rattle.lfs_history.specs.Laws.{IsCarriedOut}
 use Rattle.lfs_change.specs.declared.fault.Fault.{Fault}
 use Rattle.lfs_change.specs.declared.outcome.Outcome.{Outcome}
@@ -18,7 +18,7 @@ use Rattle.lfs_change.specs.Change.{Denotes, ChangesBytes, AnswersChange}
 
 -- the image and the journal that a step leaves denote the history that it leaves
 abbrev pub ChangedBytesAreDenoted : Type 0
-ChangedBytesAreDenoted = (step : Step) (size : ℕ) (image journal : List ℕ) (outcome : Outcome)
+ChangedBytesAreDenoted = (step : Move) (size : ℕ) (image journal : List ℕ) (outcome : Outcome)
     (changes : ChangesBytes step size image journal outcome)
     → Denotes size outcome.image.items outcome.journal.items changes.1.new
 
@@ -61,7 +61,7 @@ pub record Files : Type 0 where
 
 -- a step, and its fault where it was refused
 pub record Taken : Type 0 where
-  pub step : Step
+  pub step : Move
   pub fault : Option Fault
 
 -- steps on bytes, each handed the bytes that the one before left
@@ -72,12 +72,12 @@ RunsOn size (t ∷ ts) old new =
     × RunsOn size ts (record { image = outcome.image.items; journal = outcome.journal.items }) new
 
 -- a step before others, unless it was refused
-abbrev pub accepted_before : Option Fault → Step → List Step → List Step
+abbrev pub accepted_before : Option Fault → Move → List Move → List Move
 accepted_before None step steps = step ∷ steps
 accepted_before (Some fault) step steps = steps
 
 -- those of the steps that were not refused
-abbrev pub accepted : List Taken → List Step
+abbrev pub accepted : List Taken → List Move
 accepted [] = []
 accepted (t ∷ ts) = accepted_before t.fault t.step (accepted ts)
 

@@ -3,7 +3,7 @@
 ghost use Rattle.std.specs.Prelude.{◌≡◌, false, Some, None, IfOk, IfErr, OnErr};
 ghost use Rattle.lfs_history.specs.History.{History};
 ghost use Rattle.lfs_history.specs.Meaning.{step_of};
-ghost use Rattle.lfs_history.specs.Steps.{Takes};
+ghost use Rattle.lfs_history.specs.Taking.{Takes};
 ghost use Rattle.lfs_change.specs.Change.{AnswersChange, AnswersImage, DenotesOn, IsSaved, RefusesDenoting, RefusesSaving, journal_read};
 ghost use Rattle.lfs_change.specs.Fault.{blames_output, status_of};
 
@@ -11,7 +11,7 @@ use crate::fault::Fault;
 use crate::outcome::Outcome;
 use lfs_block::Image;
 use lfs_command::Refusal;
-use lfs_history::{OpenFault, Step as Change};
+use lfs_history::{Move, OpenFault};
 use lfs_journal::{Refused, Session};
 use std::alloc::Global;
 
@@ -21,7 +21,7 @@ use std::alloc::Global;
 /// Source: own.
 pub fn changed(
     alloc: Global,
-    change: &Change<'_>,
+    change: &Move<'_>,
     size: u32,
     image: Vec<u8>,
     journal: Vec<u8>,
@@ -37,7 +37,7 @@ pub fn changed(
 }
 
 /// Takes a step on the history of an image.
-fn changed_image(alloc: Global, change: &Change<'_>, image: Image, journal: Vec<u8>) -> Outcome
+fn changed_image(alloc: Global, change: &Move<'_>, image: Image, journal: Vec<u8>) -> Outcome
     ensures answers { AnswersImage result.fault (step_of change.now) image journal.items result }
     ensures failed { blames_output result.fault ≡ false }
     ensures status { result.status ≡ status_of result.fault }
@@ -54,11 +54,11 @@ fn changed_image(alloc: Global, change: &Change<'_>, image: Image, journal: Vec<
 }
 
 /// The journal that a step reads: to forget reads none.
-fn read_journal<'a>(change: &Change<'_>, journal: &'a [u8]) -> &'a [u8]
+fn read_journal<'a>(change: &Move<'_>, journal: &'a [u8]) -> &'a [u8]
     ensures { result.now ≡ journal_read (step_of change.now) journal.now }
 {
     match change {
-        Change::Forget => &[],
+        Move::Forget => &[],
         _ => journal,
     }
 }
@@ -82,7 +82,7 @@ fn opened(alloc: Global, image: Image, journal: &[u8]) -> Result<Session, Refuse
 }
 
 /// Takes a step, and gives the bytes of the journal that it leaves. With a fault the image is as it was.
-fn saved(alloc: Global, change: &Change<'_>, session: &mut Session) -> Result<Vec<u8>, Fault>
+fn saved(alloc: Global, change: &Move<'_>, session: &mut Session) -> Result<Vec<u8>, Fault>
     ensures saved { IfOk result (λ bytes. IsSaved (step_of change.now) session.old session.new bytes.items) }
     ensures refused { IfErr result (λ fault. RefusesSaving (step_of change.now) session.old fault) }
     ensures failed { IfErr result (λ fault. blames_output (Some fault) ≡ false) }
@@ -97,12 +97,12 @@ fn saved(alloc: Global, change: &Change<'_>, session: &mut Session) -> Result<Ve
 }
 
 /// Takes a step back that was just taken, so that the image is as it was before. Takes no memory.
-fn take_back(change: &Change<'_>, session: &mut Session)
+fn take_back(change: &Move<'_>, session: &mut Session)
     ensures { (before : History) → Takes (step_of change.now) None before session.old → session.new.present ≡ before.present }
 {
     let _ = match change {
-        Change::Do(_) | Change::Redo => session.undo(),
-        Change::Undo => session.redo(),
-        Change::Forget => Ok(()),
+        Move::Do(_) | Move::Redo => session.undo(),
+        Move::Undo => session.redo(),
+        Move::Forget => Ok(()),
     };
 }

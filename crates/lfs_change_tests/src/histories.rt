@@ -3,7 +3,7 @@
 use crate::images::{fresh, has_image, new_image, new_session, replies};
 use lfs_block::Image;
 use lfs_edit::{Command, Refusal};
-use lfs_journal::{Session, Step, StepFault, run_steps};
+use lfs_journal::{Move, Session, StepFault, run_steps};
 use std::alloc::{AllocError, Global};
 use std::process::Abort;
 use std::test::Fail;
@@ -22,7 +22,7 @@ fn replies_to(
     rt: &impl Abort,
     alloc: Global,
     session: &mut Session,
-    steps: &[Step<'_>],
+    steps: &[Move<'_>],
     expected: &[Result<(), StepFault>],
 ) -> Result<(), AllocError> {
     let replies = run_steps(alloc, session, steps)?;
@@ -39,13 +39,13 @@ fn runs_carry_commands_out(rt: HostRuntime) -> Result<(), Fail> {
         kind: 0x74,
     };
     let steps = [
-        Step::Do(set_root(&[1, 2])),
-        Step::Do(nowhere),
-        Step::Undo,
-        Step::Redo,
-        Step::Undo,
-        Step::Forget,
-        Step::Redo,
+        Move::Do(set_root(&[1, 2])),
+        Move::Do(nowhere),
+        Move::Undo,
+        Move::Redo,
+        Move::Undo,
+        Move::Forget,
+        Move::Redo,
     ];
     let expected = [
         Ok(()),

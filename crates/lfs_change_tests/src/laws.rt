@@ -3,9 +3,9 @@
 use lfs_build::{
     built_can_be_finished, built_volumes_begin, directories_are_walked, entries_are_added,
 };
-use lfs_grow::{
+use lfs_ends::{
     commands_edit_at_the_end, ends_are_judged, ends_are_put, next_names_come_last,
-    parts_grow_at_their_end, volumes_grow, ways_lead_to_ends,
+    parts_take_one_more, volumes_take_one_more, ways_lead_to_ends,
 };
 use lfs_history::{
     commands_are_equations, commands_push_equations, histories_are_books,
@@ -63,13 +63,13 @@ fn laws_of_what_is_written_are_called() {
 }
 
 #[test]
-fn laws_of_what_grows_are_called() {
+fn laws_of_ends_are_called() {
     commands_edit_at_the_end();
-    parts_grow_at_their_end();
+    parts_take_one_more();
     ways_lead_to_ends();
     next_names_come_last();
     ends_are_judged();
-    volumes_grow();
+    volumes_take_one_more();
     ends_are_put();
 }
 

@@ -1,4 +1,4 @@
--- How parts that have grown past their room are cut (own).
+-- How parts that overflow past their room are cut (own).
 use Rattle.std.specs.Prelude.{ℕ, ◌≡◌, ◌-◌, Bool, true, List, [], ◌∷◌, ◌++◌, if◌then◌else◌, map, flat_map, length, sum_by}
 use Rattle.lfs_meta.specs.Body.{Pair}
 use Rattle.lfs_meta.specs.Runs.{runs_after, first_run, later_runs}

@@ -1,4 +1,4 @@
--- What a command does to a volume, before parts that have grown too large are cut (own).
+-- What a command does to a volume, before parts that overflow are cut (own).
 use Rattle.std.specs.Prelude.{List, [], true, Option, Some, None}
 use Rattle.lfs_meta.specs.Name.{Name}
 use Rattle.lfs_meta.specs.Attribute.{Attributes, set_attribute, remove_attribute}

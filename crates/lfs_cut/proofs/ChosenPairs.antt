@@ -1,4 +1,4 @@
--- Rows for the parts that have grown are enough for them, and use their blocks once.
+-- Rows for the parts that overflow are enough for them, and use their blocks once.
 use Rattle.std.proofs.Common.{◌≡◌, ℕ, ◌+◌, ◌-◌, ◌*◌, ◌≤◌, ◌&&◌, Bool, true, false, cond, List, [], ◌∷◌, ◌++◌, length, map, refl, ap, sym}
 use Rattle.std.proofs.Common.{◌∙◌, subst, arith, append-nil}
 use Rattle.std.specs.Prelude.{All, Contains, IsPermutation, filter, if◌then◌else◌, flat_map, count_by, sum_by, nat_lt}
@@ -15,12 +15,12 @@ use Rattle.lfs_fs.specs.Weight.{superblock_weight}
 use Rattle.lfs_fs.specs.Directory.{Part, Directory, thread}
 use Rattle.lfs_fs.specs.Volume.{Volume}
 use Rattle.lfs_fs.specs.Uses.{times}
-use Rattle.lfs_cut.specs.declared.growth.Growth.{Growth}
+use Rattle.lfs_cut.specs.declared.overflow.Overflow.{Overflow}
 use Rattle.lfs_command.specs.Cut.{room, runs, new_pairs, HasEnough, new_pair_uses}
 use Rattle.lfs_command.specs.Need.{dirty_parts, part_blocks}
 use Rattle.lfs_law.specs.PartsCut.{runs_by}
-use Rattle.lfs_cut.specs.Growth.{grows, growth_of, growths_of}
-use Rattle.lfs_cut.specs.Chosen.{PairRow, chosen_for, pair_blocks, row_blocks, growth_for, AreRows, HasPairsOnce}
+use Rattle.lfs_cut.specs.Overflow.{is_overfull, overflow_of, overflows_of}
+use Rattle.lfs_cut.specs.Chosen.{PairRow, chosen_for, pair_blocks, row_blocks, overflow_for, AreRows, HasPairsOnce}
 use Rattle.lfs_law.proofs.Decided.{same_pair_decides}
 use Rattle.lfs_law.proofs.OutlineRoom.{sum_over}
 use Rattle.lfs_law.proofs.NamedBlocks.{sum_zero, times_flat}
@@ -78,37 +78,37 @@ first_is_all p (r ∷ rows) few = by (same_pair p.pair r.0) refl (first_is_all p
         sym (append-nil r.1) ∙ ap (λ (qs : List Pair). r.1 ++ qs) (sym (none_for p.pair rows none))
     by false is rest = rest (omega (arith, few, sum_by-cons (λ (x : PairRow). cond {A = ℕ} (same_pair p.pair x.0) 1 0) r rows))
 
--- ---- a sum over rows is one over the parts that have grown
+-- ---- a sum over rows is one over the parts that overflow
 
-one_growth : (f : Growth → ℕ) (g : Growth) (t : Bool) → sum_by f (if t then g ∷ [] else []) ≡ (if t then f g else 0)
-one_growth f g true = omega (arith, sum_by-cons f g [])
-one_growth f g false = refl
+one_overflow : (f : Overflow → ℕ) (g : Overflow) (t : Bool) → sum_by f (if t then g ∷ [] else []) ≡ (if t then f g else 0)
+one_overflow f g true = omega (arith, sum_by-cons f g [])
+one_overflow f g false = refl
 
-abbrev growth : ℕ → ℕ → Part → Growth
-growth bytes superblock p = record { pair = p.pair; len = length (runs_by bytes superblock p) - 1 }
+abbrev overflow : ℕ → ℕ → Part → Overflow
+overflow bytes superblock p = record { pair = p.pair; len = length (runs_by bytes superblock p) - 1 }
 
-over_parts : (f : Growth → ℕ) (bytes superblock : ℕ) (ps : List Part) (gs : List Growth) (rows : List PairRow)
-    → IsPermutation (growths_of bytes superblock ps) gs → map growth_for rows ≡ gs
-    → sum_by (λ r. f (growth_for r)) rows ≡ sum_by (λ p. sum_by f (growth_of bytes superblock p)) ps
+over_parts : (f : Overflow → ℕ) (bytes superblock : ℕ) (ps : List Part) (gs : List Overflow) (rows : List PairRow)
+    → IsPermutation (overflows_of bytes superblock ps) gs → map overflow_for rows ≡ gs
+    → sum_by (λ r. f (overflow_for r)) rows ≡ sum_by (λ p. sum_by f (overflow_of bytes superblock p)) ps
 over_parts f bytes superblock ps gs rows same is =
-    sym (sum_over (λ (r : PairRow). f (growth_for r)) f growth_for (λ r. refl) rows) ∙ ap (sum_by f) is
-    ∙ sum_by-IsPermutation f (growths_of bytes superblock ps) gs same ∙ sum_flat f (growth_of bytes superblock) ps
+    sym (sum_over (λ (r : PairRow). f (overflow_for r)) f overflow_for (λ r. refl) rows) ∙ ap (sum_by f) is
+    ∙ sum_by-IsPermutation f (overflows_of bytes superblock ps) gs same ∙ sum_flat f (overflow_of bytes superblock) ps
 
 -- the rows of a pair are few, as the parts are
-few_rows : (bytes superblock : ℕ) (ps : List Part) (gs : List Growth) (rows : List PairRow)
-    → IsPermutation (growths_of bytes superblock ps) gs
-    → map growth_for rows ≡ gs → (k : Pair)
+few_rows : (bytes superblock : ℕ) (ps : List Part) (gs : List Overflow) (rows : List PairRow)
+    → IsPermutation (overflows_of bytes superblock ps) gs
+    → map overflow_for rows ≡ gs → (k : Pair)
     → count_by (λ p. same_pair p.pair k) ps ≤ 1 → count_by (λ r. same_pair k r.0) rows ≤ 1
 few_rows bytes superblock ps gs rows same is k once =
-    let f : Growth → ℕ = λ g. cond {A = ℕ} (same_pair k g.pair) 1 0 in
-    let all : count_by (λ (r : PairRow). same_pair k r.0) rows ≡ sum_by (λ p. sum_by f (growth_of bytes superblock p)) ps =
+    let f : Overflow → ℕ = λ g. cond {A = ℕ} (same_pair k g.pair) 1 0 in
+    let all : count_by (λ (r : PairRow). same_pair k r.0) rows ≡ sum_by (λ p. sum_by f (overflow_of bytes superblock p)) ps =
     over_parts f bytes superblock ps gs rows same is in
-    let le : sum_by (λ p. sum_by f (growth_of bytes superblock p)) ps ≤ count_by (λ p. same_pair p.pair k) ps =
-    sum_by-le-sum_by (λ p. sum_by f (growth_of bytes superblock p)) (λ p. cond {A = ℕ} (same_pair p.pair k) 1 0) ps
+    let le : sum_by (λ p. sum_by f (overflow_of bytes superblock p)) ps ≤ count_by (λ p. same_pair p.pair k) ps =
+    sum_by-le-sum_by (λ p. sum_by f (overflow_of bytes superblock p)) (λ p. cond {A = ℕ} (same_pair p.pair k) 1 0) ps
     (λ p. omega (
       arith,
-      one_growth f (growth bytes superblock p) (grows bytes superblock p),
-      at_most (grows bytes superblock p) (same_pair k p.pair),
+      one_overflow f (overflow bytes superblock p) (is_overfull bytes superblock p),
+      at_most (is_overfull bytes superblock p) (same_pair k p.pair),
       ap (λ (t : Bool). cond {A = ℕ} t 1 0) (either_way k p.pair),
     )) in
     omega (arith, all, le, once)
@@ -123,32 +123,32 @@ own_length : (k : Pair) (r : PairRow) (t : Bool) → length (if t then r.1 else 
 own_length k r true = refl
 own_length k r false = refl
 
-grown_len : (p : Part) (n : ℕ) → p.dirty ≡ true → cond {A = ℕ} (p.dirty && nat_lt 1 n) (n - 1) 0 ≡ n - 1
-grown_len p n set = ap (λ (t : Bool). cond {A = ℕ} (t && nat_lt 1 n) (n - 1) 0) set ∙ by (nat_lt 1 n) refl
+overflow_len : (p : Part) (n : ℕ) → p.dirty ≡ true → cond {A = ℕ} (p.dirty && nat_lt 1 n) (n - 1) 0 ≡ n - 1
+overflow_len p n set = ap (λ (t : Bool). cond {A = ℕ} (t && nat_lt 1 n) (n - 1) 0) set ∙ by (nat_lt 1 n) refl
   where
     by : (t : Bool) → nat_lt 1 n ≡ t → cond {A = ℕ} t (n - 1) 0 ≡ n - 1
     by true is = refl
     by false is = grind (arith, nat_tests)
 
-enough_for : (bytes superblock : ℕ) (ps : List Part) (gs : List Growth) (rows : List PairRow)
-    → IsPermutation (growths_of bytes superblock ps) gs
-    → map growth_for rows ≡ gs → (p : Part)
+enough_for : (bytes superblock : ℕ) (ps : List Part) (gs : List Overflow) (rows : List PairRow)
+    → IsPermutation (overflows_of bytes superblock ps) gs
+    → map overflow_for rows ≡ gs → (p : Part)
     → Contains ps p → count_by (λ q. same_pair q.pair p.pair) ps ≤ 1 → p.dirty ≡ true
     → length (all_for rows p.pair) ≡ length (runs_by bytes superblock p) - 1
 enough_for bytes superblock ps gs rows same is p there once set =
-    let f : Growth → ℕ = λ g. cond {A = ℕ} (same_pair p.pair g.pair) g.len 0 in
+    let f : Overflow → ℕ = λ g. cond {A = ℕ} (same_pair p.pair g.pair) g.len 0 in
     let own_pair : same_pair p.pair p.pair ≡ true = (same_pair_decides p.pair p.pair).1 refl in
     length-flat_map (own p.pair) rows
-    ∙ sum_same (λ (r : PairRow). length (own p.pair r)) (λ (r : PairRow). f (growth_for r)) rows
+    ∙ sum_same (λ (r : PairRow). length (own p.pair r)) (λ (r : PairRow). f (overflow_for r)) rows
     (λ r. own_length p.pair r (same_pair p.pair r.0))
     ∙ over_parts f bytes superblock ps gs rows same is
-    ∙ sum_one (λ (q : Part). sum_by f (growth_of bytes superblock q)) (λ (q : Part). same_pair q.pair p.pair) ps p there once own_pair
-    (λ q other. one_growth f (growth bytes superblock q) (grows bytes superblock q)
-    ∙ ap (λ (t : Bool). cond {A = ℕ} (grows bytes superblock q) (cond {A = ℕ} t (growth bytes superblock q).len 0) 0)
-    (either_way p.pair q.pair ∙ other) ∙ zero (grows bytes superblock q))
-    ∙ one_growth f (growth bytes superblock p) (grows bytes superblock p)
-    ∙ ap (λ (t : Bool). cond {A = ℕ} (grows bytes superblock p) (cond {A = ℕ} t (length (runs_by bytes superblock p) - 1) 0) 0) own_pair
-    ∙ grown_len p (length (runs_by bytes superblock p)) set
+    ∙ sum_one (λ (q : Part). sum_by f (overflow_of bytes superblock q)) (λ (q : Part). same_pair q.pair p.pair) ps p there once own_pair
+    (λ q other. one_overflow f (overflow bytes superblock q) (is_overfull bytes superblock q)
+    ∙ ap (λ (t : Bool). cond {A = ℕ} (is_overfull bytes superblock q) (cond {A = ℕ} t (overflow bytes superblock q).len 0) 0)
+    (either_way p.pair q.pair ∙ other) ∙ zero (is_overfull bytes superblock q))
+    ∙ one_overflow f (overflow bytes superblock p) (is_overfull bytes superblock p)
+    ∙ ap (λ (t : Bool). cond {A = ℕ} (is_overfull bytes superblock p) (cond {A = ℕ} t (length (runs_by bytes superblock p) - 1) 0) 0) own_pair
+    ∙ overflow_len p (length (runs_by bytes superblock p)) set
   where
     zero : (t : Bool) → cond {A = ℕ} t 0 0 ≡ 0
     zero true = refl
@@ -194,19 +194,19 @@ all_use b ps (r ∷ rows) one =
     omega (arith, split, once, rest, sum_by-cons (λ (x : PairRow). pairs_use b x.1) r rows)
 
 -- a row is for one part that is set
-for_one : (bytes superblock : ℕ) (ps : List Part) (gs : List Growth) (rows : List PairRow)
-    → IsPermutation (growths_of bytes superblock ps) gs
-    → map growth_for rows ≡ gs
+for_one : (bytes superblock : ℕ) (ps : List Part) (gs : List Overflow) (rows : List PairRow)
+    → IsPermutation (overflows_of bytes superblock ps) gs
+    → map overflow_for rows ≡ gs
     → ((k : Pair) → count_by (λ p. same_pair p.pair k) ps ≤ 1) → All (λ r. set_with ps r.0 ≡ 1) rows
 for_one bytes superblock ps gs rows same is once =
-    let f : Growth → ℕ = λ g. 1 - set_with ps g.pair in
-    let none : sum_by (λ (r : PairRow). f (growth_for r)) rows ≡ 0 =
+    let f : Overflow → ℕ = λ g. 1 - set_with ps g.pair in
+    let none : sum_by (λ (r : PairRow). f (overflow_for r)) rows ≡ 0 =
     over_parts f bytes superblock ps gs rows same is
-    ∙ sum_zero (λ (p : Part). sum_by f (growth_of bytes superblock p)) ps
-    (λ p there. one_growth f (growth bytes superblock p) (grows bytes superblock p)
+    ∙ sum_zero (λ (p : Part). sum_by f (overflow_of bytes superblock p)) ps
+    (λ p there. one_overflow f (overflow bytes superblock p) (is_overfull bytes superblock p)
     ∙ set_there p there p.dirty (nat_lt 1 (length (runs_by bytes superblock p))) refl) in
     All-weaker (Contains rows) (λ r. set_with ps r.0 ≡ 1)
-    (λ r there. omega (arith, none, one_le (λ (x : PairRow). f (growth_for x)) rows r there, set_are_few r.0, once r.0)) rows
+    (λ r there. omega (arith, none, one_le (λ (x : PairRow). f (overflow_for x)) rows r there, set_are_few r.0, once r.0)) rows
     (All-contains_itself rows)
   where
     set_there : (p : Part) → Contains ps p → (t u : Bool) → p.dirty ≡ t → cond {A = ℕ} (t && u) (1 - set_with ps p.pair) 0 ≡ 0
@@ -239,7 +239,7 @@ later_length : (rs : List (List Entry)) → length (later_runs rs) ≡ length rs
 later_length [] = refl
 later_length (run ∷ rs) = omega arith
 
-one_counted : (g : Growth) (p : Part) (t u : Bool) (gs : List Growth) (qs : List Part) → length gs ≡ length qs
+one_counted : (g : Overflow) (p : Part) (t u : Bool) (gs : List Overflow) (qs : List Part) → length gs ≡ length qs
     → length ((if t && u then g ∷ [] else []) ++ gs) ≡ length (if t then (if u then p ∷ qs else qs) else qs)
 one_counted g p true true gs qs same = omega (arith, same)
 one_counted g p true false gs qs same = same
@@ -252,22 +252,22 @@ filter_by : (f : Part → Bool) (p : Part) (t : Bool) (ps : List Part) → filte
 filter_by f p true ps = refl
 filter_by f p false ps = refl
 
-grown_many : (bytes superblock : ℕ) (ps : List Part)
-    → length (growths_of bytes superblock ps) ≡ length (filter (λ p. nat_lt 1 (length (runs_by bytes superblock p)))
+overflow_many : (bytes superblock : ℕ) (ps : List Part)
+    → length (overflows_of bytes superblock ps) ≡ length (filter (λ p. nat_lt 1 (length (runs_by bytes superblock p)))
     (filter (λ p. p.dirty) ps))
-grown_many bytes superblock [] = refl
-grown_many bytes superblock (p ∷ ps) =
-    one_counted (growth bytes superblock p) p p.dirty (nat_lt 1 (length (runs_by bytes superblock p))) (growths_of bytes superblock ps)
-    (filter (λ q. nat_lt 1 (length (runs_by bytes superblock q))) (filter (λ q. q.dirty) ps)) (grown_many bytes superblock ps)
+overflow_many bytes superblock [] = refl
+overflow_many bytes superblock (p ∷ ps) =
+    one_counted (overflow bytes superblock p) p p.dirty (nat_lt 1 (length (runs_by bytes superblock p))) (overflows_of bytes superblock ps)
+    (filter (λ q. nat_lt 1 (length (runs_by bytes superblock q))) (filter (λ q. q.dirty) ps)) (overflow_many bytes superblock ps)
     ∙ ap (λ (qs : List Part). length qs) (sym (filter_by (λ q. nat_lt 1 (length (runs_by bytes superblock q))) p p.dirty ps))
 
--- as many parts of an outline have grown as are set and have more than one run
-pub grown_count : (v : Volume) (bytes superblock : ℕ) → bytes ≡ room v → superblock ≡ superblock_weight v.attributes
-    → length (growths_of bytes superblock (thread v.directories)) ≡ length (filter (λ p. nat_lt 1 (length (runs v p))) (dirty_parts v))
-grown_count v bytes superblock is weighs =
-    ap (λ (n : ℕ). length (growths_of n superblock (thread v.directories))) is
-    ∙ ap (λ (n : ℕ). length (growths_of (room v) n (thread v.directories))) weighs
-    ∙ grown_many (room v) (superblock_weight v.attributes) (thread v.directories)
+-- as many parts of an outline overflow as are set and have more than one run
+pub overflow_count : (v : Volume) (bytes superblock : ℕ) → bytes ≡ room v → superblock ≡ superblock_weight v.attributes
+    → length (overflows_of bytes superblock (thread v.directories)) ≡ length (filter (λ p. nat_lt 1 (length (runs v p))) (dirty_parts v))
+overflow_count v bytes superblock is weighs =
+    ap (λ (n : ℕ). length (overflows_of n superblock (thread v.directories))) is
+    ∙ ap (λ (n : ℕ). length (overflows_of (room v) n (thread v.directories))) weighs
+    ∙ overflow_many (room v) (superblock_weight v.attributes) (thread v.directories)
 
 one_need : (t : Bool) (n : ℕ) → cond {A = ℕ} (t && nat_lt 1 n) (2 * (n - 1)) 0 ≡ (if t then 2 * (n - 1) else 0)
 one_need true n = by (nat_lt 1 n) refl
@@ -278,35 +278,35 @@ one_need true n = by (nat_lt 1 n) refl
 one_need false n = refl
 
 -- they need as many blocks as the parts that are set
-pub grown_need : (v : Volume) (bytes superblock : ℕ) (gs : List Growth) → bytes ≡ room v → superblock ≡ superblock_weight v.attributes
-    → IsPermutation (growths_of bytes superblock (thread v.directories)) gs
+pub overflow_need : (v : Volume) (bytes superblock : ℕ) (gs : List Overflow) → bytes ≡ room v → superblock ≡ superblock_weight v.attributes
+    → IsPermutation (overflows_of bytes superblock (thread v.directories)) gs
     → sum_by (λ g. 2 * g.len) gs ≡ sum_by (part_blocks v) (dirty_parts v)
-grown_need v bytes superblock gs is weighs same =
-    sum_by-IsPermutation (λ (g : Growth). 2 * g.len) (growths_of bytes superblock (thread v.directories)) gs same
-    ∙ ap (λ (n : ℕ). sum_by (λ (g : Growth). 2 * g.len) (growths_of n superblock (thread v.directories))) is
-    ∙ ap (λ (n : ℕ). sum_by (λ (g : Growth). 2 * g.len) (growths_of (room v) n (thread v.directories))) weighs
-    ∙ sum_flat (λ (g : Growth). 2 * g.len) (growth_of (room v) (superblock_weight v.attributes)) (thread v.directories)
-    ∙ sum_same (λ (p : Part). sum_by (λ g. 2 * g.len) (growth_of (room v) (superblock_weight v.attributes) p))
+overflow_need v bytes superblock gs is weighs same =
+    sum_by-IsPermutation (λ (g : Overflow). 2 * g.len) (overflows_of bytes superblock (thread v.directories)) gs same
+    ∙ ap (λ (n : ℕ). sum_by (λ (g : Overflow). 2 * g.len) (overflows_of n superblock (thread v.directories))) is
+    ∙ ap (λ (n : ℕ). sum_by (λ (g : Overflow). 2 * g.len) (overflows_of (room v) n (thread v.directories))) weighs
+    ∙ sum_flat (λ (g : Overflow). 2 * g.len) (overflow_of (room v) (superblock_weight v.attributes)) (thread v.directories)
+    ∙ sum_same (λ (p : Part). sum_by (λ g. 2 * g.len) (overflow_of (room v) (superblock_weight v.attributes) p))
     (λ (p : Part). cond {A = ℕ} p.dirty (part_blocks v p) 0) (thread v.directories)
-    (λ p. one_growth (λ (g : Growth). 2 * g.len) (growth (room v) (superblock_weight v.attributes) p)
-    (grows (room v) (superblock_weight v.attributes) p) ∙ one_need p.dirty (length (runs v p)))
+    (λ p. one_overflow (λ (g : Overflow). 2 * g.len) (overflow (room v) (superblock_weight v.attributes) p)
+    (is_overfull (room v) (superblock_weight v.attributes) p) ∙ one_need p.dirty (length (runs v p)))
     ∙ sym (sum_set (part_blocks v) (thread v.directories))
 
--- rows for the parts of an outline that have grown, in some order
+-- rows for the parts of an outline that overflow, in some order
 pub record AreRowsOf (v : Volume) (bytes superblock : ℕ) (blocks : List ℕ) (rows : List PairRow) : Type 0 where
-  pub gs : List Growth
+  pub gs : List Overflow
   pub bytes_is : bytes ≡ room v
   pub superblock_is : superblock ≡ superblock_weight v.attributes
   pub once : HasPairsOnce v
-  pub order : IsPermutation (growths_of bytes superblock (thread v.directories)) gs
+  pub order : IsPermutation (overflows_of bytes superblock (thread v.directories)) gs
   pub rows_are : AreRows gs blocks rows
 
-pub in_order : (v : Volume) (bytes superblock : ℕ) (ds : List Directory) (found ordered gs : List Growth) → ds ≡ v.directories
-    → found ≡ growths_of bytes superblock (thread ds)
-    → IsPermutation found ordered → gs ≡ ordered → IsPermutation (growths_of bytes superblock (thread v.directories)) gs
+pub in_order : (v : Volume) (bytes superblock : ℕ) (ds : List Directory) (found ordered gs : List Overflow) → ds ≡ v.directories
+    → found ≡ overflows_of bytes superblock (thread ds)
+    → IsPermutation found ordered → gs ≡ ordered → IsPermutation (overflows_of bytes superblock (thread v.directories)) gs
 in_order v bytes superblock ds found ordered gs all is same put =
-    subst (λ (xs : List Growth). IsPermutation xs gs) (is ∙ ap (λ (es : List Directory). growths_of bytes superblock (thread es)) all)
-    (subst (λ (xs : List Growth). IsPermutation found xs) (sym put) same)
+    subst (λ (xs : List Overflow). IsPermutation xs gs) (is ∙ ap (λ (es : List Directory). overflows_of bytes superblock (thread es)) all)
+    (subst (λ (xs : List Overflow). IsPermutation found xs) (sym put) same)
 
 chosen_all : (v : Volume) (bytes superblock : ℕ) (blocks : List ℕ) (rows : List PairRow) → (of_v : AreRowsOf v bytes superblock blocks rows)
     → (p : Part) → chosen_for rows p ≡ all_for rows p.pair

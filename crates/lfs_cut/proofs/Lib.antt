@@ -1,6 +1,6 @@
 pub mod RunSplits
 pub mod SetPartLemmas
-pub mod GrowthLemmas
+pub mod OverflowLemmas
 pub mod SumLemmas
 pub mod ChosenPairs
 pub mod CutPartLemmas

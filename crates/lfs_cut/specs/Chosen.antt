@@ -4,7 +4,7 @@ use Rattle.lfs_meta.specs.Body.{Pair}
 use Rattle.lfs_fs.specs.Pair.{same_pair}
 use Rattle.lfs_fs.specs.Directory.{Part, thread}
 use Rattle.lfs_fs.specs.Volume.{Volume}
-use Rattle.lfs_cut.specs.declared.growth.Growth.{Growth}
+use Rattle.lfs_cut.specs.declared.overflow.Overflow.{Overflow}
 
 -- a part's pair, and those of its new parts
 abbrev pub PairRow : Type 0
@@ -24,12 +24,12 @@ abbrev pub row_blocks : PairRow → List ℕ
 row_blocks r = flat_map pair_blocks r.1
 
 -- what a row is for
-abbrev pub growth_for : PairRow → Growth
-growth_for r = record { pair = r.0; len = length r.1 }
+abbrev pub overflow_for : PairRow → Overflow
+overflow_for r = record { pair = r.0; len = length r.1 }
 
 -- rows for these parts, each with as many pairs as it needs, which are the blocks two by two in order
-pub record AreRows (gs : List Growth) (blocks : List ℕ) (rows : List PairRow) : Type 0 where
-  pub for_each : map growth_for rows ≡ gs
+pub record AreRows (gs : List Overflow) (blocks : List ℕ) (rows : List PairRow) : Type 0 where
+  pub for_each : map overflow_for rows ≡ gs
   pub in_order : flat_map row_blocks rows ≡ blocks
 
 -- each pair is that of one part at most

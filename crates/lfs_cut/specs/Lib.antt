@@ -1,6 +1,6 @@
 pub mod Splitting
 pub mod SetParts
 pub mod RoomChecks
-pub mod Growth
+pub mod Overflow
 pub mod Chosen
 pub mod CutParts

@@ -9,30 +9,30 @@ ghost use Rattle.lfs_command.specs.Cut.{HasEnough, new_pair_uses, runs};
 ghost use Rattle.lfs_command.specs.Need.{dirty_parts, part_blocks};
 
 use crate::block_room::block_room;
-use crate::growth::{Growth, growths_of, put_first};
 use crate::new_pairs::{NewPairs, pairs_of};
+use crate::overflow::{Overflow, overflows_of, put_first};
 use arrayvec::ArrayVec;
 use lfs_fs::Outline;
 use std::alloc::{AllocError, Global};
 
-/// A row for each part that has grown, in order, whose pairs are the next of the blocks two by two. The caller owes at most two
+/// A row for each part that overflows, in order, whose pairs are the next of the blocks two by two. The caller owes at most two
 /// parts, and as many blocks as they need.
 fn rows_of(
     alloc: Global,
-    growths: &[Growth],
+    overflows: &[Overflow],
     blocks: &[u32],
 ) -> Result<ArrayVec<NewPairs, 2, Global>, AllocError>
-    requires few { length growths.now ≤ 2 }
-    requires enough { sum_by (λ g. 2 * g.len) growths.now ≡ length blocks.now }
-    ensures { IfOk result (λ rows. AreRows growths.now blocks.now rows.items) }
+    requires few { length overflows.now ≤ 2 }
+    requires enough { sum_by (λ g. 2 * g.len) overflows.now ≡ length blocks.now }
+    ensures { IfOk result (λ rows. AreRows overflows.now blocks.now rows.items) }
 {
     let mut rows = ArrayVec::new_in(alloc);
     let mut left = blocks;
-    'each: for growth in growths {
-        let (own, others) = left.split_at(2 * growth.len);
+    'each: for overflow in overflows {
+        let (own, others) = left.split_at(2 * overflow.len);
         rows.push(NewPairs {
-            pair: growth.pair,
-            pairs: pairs_of(alloc, own, growth.len)?,
+            pair: overflow.pair,
+            pairs: pairs_of(alloc, own, overflow.len)?,
         });
         left = others;
     }
@@ -59,8 +59,8 @@ pub fn choose(
     ensures uses { IfOk result (λ rows. (b : ℕ) → new_pair_uses (chosen_for rows.items) outline.now b ≡ times b blocks.now) }
 {
     let room = block_room(outline);
-    let mut growths = growths_of(room, &outline.directories);
-    put_first(&mut growths, leading);
-    let rows = rows_of(alloc, &growths, blocks)?;
+    let mut overflows = overflows_of(room, &outline.directories);
+    put_first(&mut overflows, leading);
+    let rows = rows_of(alloc, &overflows, blocks)?;
     Ok(rows)
 }

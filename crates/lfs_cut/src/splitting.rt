@@ -1,4 +1,4 @@
-//! How the entries of a part that has grown too large are split into runs.
+//! How the entries of a part that overflows are split into runs.
 
 ghost use Rattle.std.specs.Prelude.{◌≡◌, ◌+◌, ◌<◌, ◌≤◌, ◌^◌, map, IfOk};
 ghost use Rattle.lfs_meta.specs.Runs.{runs_after, run_takes};

@@ -5,7 +5,7 @@ pub mod Supplied
 pub mod CarryingLemmas
 pub mod PairsOnce
 pub mod WritingLemmas
-pub mod FewGrow
+pub mod FewOverflow
 pub mod ReadyLemmas
 pub mod EditedSizes
 pub mod JudgedLemmas

@@ -20,7 +20,7 @@ use Rattle.lfs_command.specs.Need.{dirty_parts, need, part_blocks}
 use Rattle.lfs_law.specs.OutlineCarried.{IsCarried}
 use Rattle.lfs_law.specs.PlansHold.{rewritten_parts}
 use Rattle.lfs_edit.proofs.CarryingLemmas.{pairs_differ, within_need}
-use Rattle.lfs_edit.proofs.FewGrow.{few_are_more, is_more}
+use Rattle.lfs_edit.proofs.FewOverflow.{few_are_more, is_more}
 use Rattle.lfs_law.proofs.FrugalPlans.{enough_free}
 use Rattle.lfs_law.proofs.OutlineRoom.{outlines_take_same_room}
 use Rattle.lfs_edit.proofs.PairsOnce.{pairs_once}

@@ -3,12 +3,12 @@ use Rattle.std.specs.Prelude.{ℕ, ◌≡◌, List, [], Option}
 use Rattle.lfs_command.specs.declared.refusal.Refusal.TheVariants.{Memory}
 use Rattle.lfs_change.specs.declared.fault.Fault.{Fault}
 use Rattle.lfs_change.specs.declared.fault.Fault.TheVariants.{Refused, CannotRead, CannotWrite}
-use Rattle.lfs_exchange.specs.declared.kind.Kind.{Kind}
-use Rattle.lfs_exchange.specs.declared.kind.Kind.TheVariants.{Makes, Changes}
+use Rattle.lfs_exchange.specs.declared.step_kind.StepKind.{StepKind}
+use Rattle.lfs_exchange.specs.declared.step_kind.StepKind.TheVariants.{Makes, Changes}
 use Rattle.lfs_step.specs.declared.step.Step.{Step}
 use Rattle.lfs_step.specs.declared.step.Step.TheVariants.{Put}
 use Rattle.lfs_host.specs.Files.{Files, FindsFile, ReadsFile, ReadsInput}
-use Rattle.lfs_exchange.specs.Kind.{kind_of}
+use Rattle.lfs_exchange.specs.StepKind.{kind_of}
 use Rattle.lfs_exchange.specs.Storing.{journal_name}
 
 -- what is known of a host: its files, what is left on standard input, and what was printed
@@ -38,12 +38,12 @@ abbrev pub most_journal : ℕ
 most_journal = 134479876024
 
 -- the bytes of an image that a step is handed: those of its file, none where the image is made
-abbrev pub HandsImage : Kind → Option Files → List ℕ → List ℕ → Type 0
+abbrev pub HandsImage : StepKind → Option Files → List ℕ → List ℕ → Type 0
 HandsImage Makes files name image = image ≡ []
 HandsImage _ files name image = ReadsFile files name most_image image
 
 -- the bytes of a journal that a step is handed: those of its file, where the step reads one and it is there
-abbrev pub HandsJournal : Kind → Option Files → List ℕ → List ℕ → Type 0
+abbrev pub HandsJournal : StepKind → Option Files → List ℕ → List ℕ → Type 0
 HandsJournal Changes files name journal = FindsFile files (journal_name name) most_journal journal
 HandsJournal _ files name journal = journal ≡ []
 

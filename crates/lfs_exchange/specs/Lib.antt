@@ -1,4 +1,4 @@
 pub mod Handing
-pub mod Kind
+pub mod StepKind
 pub mod Storing
 pub mod Printing

@@ -3,8 +3,8 @@ use Rattle.std.specs.Prelude.{◌≡◌, ◌⊎◌, ℕ, List, [], ◌∷◌, �
 use Rattle.lfs_change.specs.declared.fault.Fault.{Fault}
 use Rattle.lfs_change.specs.declared.fault.Fault.TheVariants.{Refused}
 use Rattle.lfs_change.specs.declared.outcome.Outcome.{Outcome}
-use Rattle.lfs_exchange.specs.declared.kind.Kind.{Kind}
-use Rattle.lfs_exchange.specs.declared.kind.Kind.TheVariants.{Asks, Forgets}
+use Rattle.lfs_exchange.specs.declared.step_kind.StepKind.{StepKind}
+use Rattle.lfs_exchange.specs.declared.step_kind.StepKind.TheVariants.{Asks, Forgets}
 use Rattle.lfs_exchange.specs.declared.names.Names.{Names}
 use Rattle.lfs_host.specs.Files.{Files, KeepsOthers, OnKnown, Replaces, StaysBut}
 
@@ -67,7 +67,7 @@ abbrev pub LeavesBoth : Option Files → Option Files → List ℕ → Outcome �
 LeavesBoth old new name outcome = OnKnown (HasBoth name outcome.image.items outcome.journal.items) old new
 
 -- the files once a step is done: what is asked changes none, forgetting the journal alone, any other step both
-abbrev pub LeavesFiles : Kind → Option Files → Option Files → List ℕ → Outcome → Type 0
+abbrev pub LeavesFiles : StepKind → Option Files → Option Files → List ℕ → Outcome → Type 0
 LeavesFiles Asks old new name outcome = new ≡ old
 LeavesFiles Forgets old new name outcome = LeavesJournal old new name outcome.journal.items
 LeavesFiles _ old new name outcome = LeavesBoth old new name outcome
@@ -85,7 +85,7 @@ abbrev pub SparesImage : Option Files → Option Files → List ℕ → Outcome 
 SparesImage old new name outcome = OnKnown (HasJournal name outcome.journal.items) old new
 
 -- the files where the host refused something behind a run: all of them stay where that was memory
-abbrev pub SparesFiles : Fault → Kind → Option Files → Option Files → List ℕ → Outcome → Type 0
+abbrev pub SparesFiles : Fault → StepKind → Option Files → Option Files → List ℕ → Outcome → Type 0
 SparesFiles (Refused refusal) kind old new name outcome = new ≡ old
 SparesFiles _ Asks old new name outcome = new ≡ old
 SparesFiles _ Forgets old new name outcome = SparesJournal old new name

@@ -4,8 +4,8 @@ ghost use Rattle.std.specs.Prelude.{◌≡◌, IfErr, IfOk, string_bytes};
 ghost use Rattle.lfs_host.specs.Files.{IsTarget};
 ghost use Rattle.lfs_exchange.specs.Handing.{HandsImage, HandsInput, HandsJournal, IsHanded, IsOfHost, scene};
 
-use crate::kind::{Kind, kind_of};
 use crate::names::journal_name;
+use crate::step_kind::{StepKind, kind_of};
 use lfs_block::MAX_IMAGE_LENGTH;
 use lfs_edit::Refusal;
 use lfs_host::{Host, Keeping, ReadFault};
@@ -30,7 +30,12 @@ pub struct Handed {
 }
 
 /// The file that a name leads to, kept for this run where it is to be changed or replaced.
-pub fn aimed<H: Host>(alloc: Global, host: &mut H, kind: Kind, name: &str) -> Result<String, Fault>
+pub fn aimed<H: Host>(
+    alloc: Global,
+    host: &mut H,
+    kind: StepKind,
+    name: &str,
+) -> Result<String, Fault>
     ensures target { IfOk result (λ target. IsTarget (H.files host.old) name.now (string_bytes target)) }
     ensures refused { IfErr result IsOfHost }
     ensures kept { (H.files host.new ≡ H.files host.old) × (H.typed host.new ≡ H.typed host.old) × (H.printed host.new ≡ H.printed host.old) }
@@ -40,20 +45,20 @@ pub fn aimed<H: Host>(alloc: Global, host: &mut H, kind: Kind, name: &str) -> Re
         Err(fault) => return Err(fault_at(kind, fault)),
     };
     match kind {
-        Kind::Asks => {}
+        StepKind::Asks => {}
         _ => keep(host, kind, target.as_str())?,
     }
     Ok(target)
 }
 
 /// Keeps an image's file for this run. One that is made need not be there.
-fn keep<H: Host>(host: &mut H, kind: Kind, name: &str) -> Result<(), Fault>
+fn keep<H: Host>(host: &mut H, kind: StepKind, name: &str) -> Result<(), Fault>
     ensures refused { IfErr result IsOfHost }
     ensures kept { (H.files host.new ≡ H.files host.old) × (H.typed host.new ≡ H.typed host.old) × (H.printed host.new ≡ H.printed host.old) }
 {
     match (host.keep(name), kind) {
-        (Ok(Keeping::Kept), _) | (Ok(Keeping::NoFile), Kind::Makes) => Ok(()),
-        (Ok(Keeping::KeptByAnother), _) | (Err(_), Kind::Makes) => Err(Fault::CannotWrite),
+        (Ok(Keeping::Kept), _) | (Ok(Keeping::NoFile), StepKind::Makes) => Ok(()),
+        (Ok(Keeping::KeptByAnother), _) | (Err(_), StepKind::Makes) => Err(Fault::CannotWrite),
         (Ok(Keeping::NoFile), _) | (Err(_), _) => Err(Fault::CannotRead),
     }
 }
@@ -82,13 +87,18 @@ pub fn hand_over<H: Host>(
 }
 
 /// The bytes of an image's file, and one more than an image has where there are more; none where the image is made.
-fn image_of<H: Host>(alloc: Global, host: &mut H, kind: Kind, name: &str) -> Result<Vec<u8>, Fault>
+fn image_of<H: Host>(
+    alloc: Global,
+    host: &mut H,
+    kind: StepKind,
+    name: &str,
+) -> Result<Vec<u8>, Fault>
     ensures image { IfOk result (λ bytes. HandsImage kind (H.files host.old) name.now bytes.items) }
     ensures refused { IfErr result IsOfHost }
     ensures kept { (H.files host.new ≡ H.files host.old) × (H.typed host.new ≡ H.typed host.old) × (H.printed host.new ≡ H.printed host.old) }
 {
     match kind {
-        Kind::Makes => Ok(Vec::new(alloc)),
+        StepKind::Makes => Ok(Vec::new(alloc)),
         _ => host
             .read(alloc, name, MAX_IMAGE_LENGTH)
             .map_err(fault_of_reading),
@@ -99,7 +109,7 @@ fn image_of<H: Host>(alloc: Global, host: &mut H, kind: Kind, name: &str) -> Res
 fn journal_of<H: Host>(
     alloc: Global,
     host: &mut H,
-    kind: Kind,
+    kind: StepKind,
     name: &str,
 ) -> Result<Vec<u8>, Fault>
     ensures journal { IfOk result (λ bytes. HandsJournal kind (H.files host.old) name.now bytes.items) }
@@ -107,7 +117,7 @@ fn journal_of<H: Host>(
     ensures kept { (H.files host.new ≡ H.files host.old) × (H.typed host.new ≡ H.typed host.old) × (H.printed host.new ≡ H.printed host.old) }
 {
     match kind {
-        Kind::Changes => {
+        StepKind::Changes => {
             let journal = journal_name(alloc, name)?;
             host.find(alloc, journal.as_str(), MOST_JOURNAL)
                 .map_err(fault_of_reading)
@@ -139,11 +149,11 @@ fn fault_of_reading(fault: ReadFault) -> Fault
 }
 
 /// The same for a file that is written and not read, where the image is made.
-fn fault_at(kind: Kind, fault: ReadFault) -> Fault
+fn fault_at(kind: StepKind, fault: ReadFault) -> Fault
     ensures { IsOfHost result }
 {
     match (kind, fault) {
-        (Kind::Makes, ReadFault::CannotRead) => Fault::CannotWrite,
+        (StepKind::Makes, ReadFault::CannotRead) => Fault::CannotWrite,
         (_, fault) => fault_of_reading(fault),
     }
 }

@@ -3,17 +3,17 @@
 #![tactic(auto)]
 
 mod handing;
-mod kind;
 mod names;
 mod output;
 mod printing;
+mod step_kind;
 mod storing;
 mod telling;
 
 pub use handing::{Handed, aimed, hand_over};
-pub use kind::{Kind, kind_of};
 pub use names::{Names, names_of};
 pub use output::Output;
 pub use printing::{flush, print};
+pub use step_kind::{StepKind, kind_of};
 pub use storing::stored;
 pub use telling::{MORE, tell, tell_of_image};

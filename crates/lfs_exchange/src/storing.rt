@@ -6,9 +6,9 @@ ghost use Rattle.lfs_host.specs.Files.{OnKnown};
 ghost use Rattle.lfs_exchange.specs.Handing.{IsOfHost};
 ghost use Rattle.lfs_exchange.specs.Storing.{HasNew, HasPlaced, HasPlacedJournal, IsNames, LeavesBoth, LeavesFiles, LeavesJournal, SparesBoth, SparesFiles, SparesImage, SparesJournal};
 
-use crate::kind::Kind;
 use crate::names::{Names, names_of};
 use crate::printing::flush;
+use crate::step_kind::StepKind;
 use lfs_host::Host;
 use lfs_step::{Fault, Outcome};
 use std::alloc::Global;
@@ -18,7 +18,7 @@ use std::alloc::Global;
 pub fn stored<H: Host>(
     alloc: Global,
     host: &mut H,
-    kind: Kind,
+    kind: StepKind,
     name: &str,
     outcome: &Outcome,
 ) -> Result<(), Fault>
@@ -29,12 +29,12 @@ pub fn stored<H: Host>(
     ensures kept { H.printed host.new ≡ H.printed host.old }
 {
     match kind {
-        Kind::Asks => flush(host),
-        Kind::Forgets => {
+        StepKind::Asks => flush(host),
+        StepKind::Forgets => {
             let names = names_of(alloc, name)?;
             put_journal(host, name, &names, outcome.journal.as_slice())
         }
-        Kind::Makes | Kind::Changes => {
+        StepKind::Makes | StepKind::Changes => {
             let names = names_of(alloc, name)?;
             put_both(host, name, &names, outcome)
         }

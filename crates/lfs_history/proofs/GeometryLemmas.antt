@@ -1,4 +1,4 @@
--- Steps keep the size and the number of an image's blocks.
+-- Moves keep the size and the number of an image's blocks.
 use Rattle.std.proofs.Common.{◌≡◌, List, ◌∷◌, Some, None, ap, sym, ◌∙◌}
 use Rattle.std.specs.Prelude.{reverse}
 use Rattle.lfs_block.specs.Change.{flip}
@@ -8,7 +8,7 @@ use Rattle.lfs_block.specs.Patch.{ChangeSet, applied, reverted}
 use Rattle.lfs_history.specs.declared.step_fault.StepFault.TheVariants.{Refused, NothingToUndo, NothingToRedo, JournalFull}
 use Rattle.lfs_history.specs.History.{History, IsHistory, past_of, future_of}
 use Rattle.lfs_history.specs.Moves.{Undoes, Redoes}
-use Rattle.lfs_history.specs.Steps.{Step, Do, Undo, Redo, Forget, Reply, Takes}
+use Rattle.lfs_history.specs.Taking.{Move, Do, Undo, Redo, Forget, Reply, Takes}
 use Rattle.lfs_history.specs.Laws.{IsOfGeometry}
 use Rattle.lfs_history.proofs.MoveLemmas.{latest}
 use Rattle.lfs_history.proofs.BookLemmas.{size_kept, count_kept}
@@ -44,7 +44,7 @@ redone_geometry old new h u =
 kept_geometry : (old new : History) → new ≡ old → IsOfGeometry old.present new.present
 kept_geometry old new is = same_geometry old.present new.present (ap (λ (h : History). h.present) is)
 
-pub taken_geometry : (step : Step) (reply : Reply) (old new : History) → IsHistory old → Takes step reply old new
+pub taken_geometry : (step : Move) (reply : Reply) (old new : History) → IsHistory old → Takes step reply old new
     → IsOfGeometry old.present new.present
 taken_geometry (Do asked) None old new h does = applied_geometry does.change old.present new.present does.pushes.present
 taken_geometry (Do asked) (Some JournalFull) old new h takes = kept_geometry old new takes.1

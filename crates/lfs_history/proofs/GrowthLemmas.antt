@@ -20,7 +20,7 @@ use Rattle.lfs_law.specs.Laws.{FewPartsChange}
 use Rattle.lfs_law.specs.Written.{HeldAreClean}
 use Rattle.lfs_history.specs.History.{History}
 use Rattle.lfs_history.specs.Opening.{journal_of}
-use Rattle.lfs_history.specs.Steps.{Does}
+use Rattle.lfs_history.specs.Taking.{Does}
 
 change_len : (size : ℕ) (c : Change) → IsBlockChange size c → length (change_bytes c) ≡ 2 * size + 4
 change_len size c whole =

@@ -5,7 +5,7 @@ use Rattle.lfs_block.specs.Disk.{Disk}
 use Rattle.lfs_history.specs.declared.step_fault.StepFault.TheVariants.{Refused, NothingToUndo, NothingToRedo, JournalFull}
 use Rattle.lfs_history.specs.History.{History}
 use Rattle.lfs_history.specs.Moves.{Undoes}
-use Rattle.lfs_history.specs.Steps.{Step, Do, Undo, Redo, Forget, Reply, Takes}
+use Rattle.lfs_history.specs.Taking.{Move, Do, Undo, Redo, Forget, Reply, Takes}
 use Rattle.lfs_history.specs.Laws.{images, IsUndoOrRedo, UndoAndRedoKeepImages, UndoIsExact}
 
 -- the nearest image of the past becomes the present one: the images are the same
@@ -20,7 +20,7 @@ undo_keeps_images old new u =
     ∙ moved new.present new.past old.present old.future
     ∙ ap (λ (p : List Disk). reverse p ++ old.present ∷ old.future) (sym u.past)
 
-step_keeps_images : (step : Step) (reply : Reply) (old new : History) → IsUndoOrRedo step → Takes step reply old new
+step_keeps_images : (step : Move) (reply : Reply) (old new : History) → IsUndoOrRedo step → Takes step reply old new
     → images new ≡ images old
 step_keeps_images Undo None old new is t = undo_keeps_images old new t
 step_keeps_images Undo (Some NothingToUndo) old new is t = ap images t.1

@@ -2,14 +2,14 @@
 use Rattle.std.proofs.Common.{◌≡◌, [], ◌∷◌, sym, subst, Some, None}
 use Rattle.lfs_history.specs.declared.step_fault.StepFault.TheVariants.{Refused, NothingToUndo, NothingToRedo, JournalFull}
 use Rattle.lfs_history.specs.History.{History, IsHistory}
-use Rattle.lfs_history.specs.Steps.{Step, Do, Undo, Redo, Forget, Reply, Takes}
+use Rattle.lfs_history.specs.Taking.{Move, Do, Undo, Redo, Forget, Reply, Takes}
 use Rattle.lfs_history.specs.Laws.{RunsKeepHistories}
 use Rattle.lfs_history.proofs.MoveLemmas.{TakeBack, Make, Follow, undo_keeps, redo_keeps, push_keeps, forget_keeps}
 
 same_keeps : (old new : History) → IsHistory old → new ≡ old → IsHistory new
 same_keeps old new h is = subst IsHistory (sym is) h
 
-step_keeps : TakeBack → Make → Follow → (step : Step) (reply : Reply) (old new : History) → Takes step reply old new → IsHistory old
+step_keeps : TakeBack → Make → Follow → (step : Move) (reply : Reply) (old new : History) → Takes step reply old new → IsHistory old
     → IsHistory new
 step_keeps back make follow (Do asked) None old new t h = push_keeps make follow asked t.change old new h t.room t.plans t.pushes
 step_keeps back make follow (Do asked) (Some JournalFull) old new t h = same_keeps old new h t.1

@@ -14,7 +14,7 @@ use Rattle.lfs_command.specs.Equation.{equation}
 use Rattle.lfs_command.specs.Accepted.{Follows}
 use Rattle.lfs_command.specs.Planned.{Plans}
 use Rattle.lfs_history.specs.History.{History, IsHistory}
-use Rattle.lfs_history.specs.Steps.{Step, Do, Undo, Redo, Reply, Does, Takes, Run}
+use Rattle.lfs_history.specs.Taking.{Move, Do, Undo, Redo, Reply, Does, Takes, Run}
 
 -- the patched image holds a sound volume of the same size, count and limits, whose tree is the command's equation
 pub record IsCarriedOut (asked : Asked) (e : Disk) (v : Volume) (t : Path → Option Node) : Type 0 where
@@ -46,19 +46,19 @@ abbrev pub images : History → List Disk
 images h = reverse h.past ++ h.present ∷ h.future
 
 -- a step that takes a change back or makes it again
-abbrev pub IsUndoOrRedo : Step → Type 0
+abbrev pub IsUndoOrRedo : Move → Type 0
 IsUndoOrRedo Undo = Unit {0}
 IsUndoOrRedo Redo = Unit {0}
 IsUndoOrRedo _ = ⊥
 
 -- undo and redo, in any list, keep all images, each byte for byte
 abbrev pub UndoAndRedoKeepImages : Type 0
-UndoAndRedoKeepImages = (steps : List Step) (replies : List Reply) (old new : History) → AllByRecursion IsUndoOrRedo steps
+UndoAndRedoKeepImages = (steps : List Move) (replies : List Reply) (old new : History) → AllByRecursion IsUndoOrRedo steps
     → Run steps replies old new → images new ≡ images old
 
 -- a run leaves a history
 abbrev pub RunsKeepHistories : Type 0
-RunsKeepHistories = (steps : List Step) (replies : List Reply) (old new : History) → Run steps replies old new → IsHistory old
+RunsKeepHistories = (steps : List Move) (replies : List Reply) (old new : History) → Run steps replies old new → IsHistory old
     → IsHistory new
 
 -- what is done and undone leaves the image and the images before it
@@ -76,5 +76,5 @@ IsOfGeometry d e = (e.size ≡ d.size) × (e.count ≡ d.count)
 
 -- a step keeps the size and the number of the blocks
 abbrev pub StepsKeepGeometry : Type 0
-StepsKeepGeometry = (step : Step) (reply : Reply) (old new : History) → IsHistory old → Takes step reply old new
+StepsKeepGeometry = (step : Move) (reply : Reply) (old new : History) → IsHistory old → Takes step reply old new
     → IsOfGeometry old.present new.present

@@ -1,7 +1,7 @@
 pub mod Faults
 pub mod History
 pub mod Moves
-pub mod Steps
+pub mod Taking
 pub mod Meaning
 pub mod Laws
 pub mod Opening

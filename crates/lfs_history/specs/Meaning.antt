@@ -1,10 +1,10 @@
 -- What a step of the code asks for (own).
 use Rattle.lfs_command.specs.AskedFor.{asked_for}
-use Rattle.lfs_history.specs.declared.step.Step.{Step as Written}
-use Rattle.lfs_history.specs.declared.step.Step.TheVariants as case
-use Rattle.lfs_history.specs.Steps.{Step, Do, Undo, Redo, Forget}
+use Rattle.lfs_history.specs.declared.moves.Move.{Move as Written}
+use Rattle.lfs_history.specs.declared.moves.Move.TheVariants as case
+use Rattle.lfs_history.specs.Taking.{Move, Do, Undo, Redo, Forget}
 
-abbrev pub step_of : Written → Step
+abbrev pub step_of : Written → Move
 step_of (case.Do command) = Do (asked_for command)
 step_of case.Undo = Undo
 step_of case.Redo = Redo

@@ -9,7 +9,7 @@ use Rattle.lfs_history.specs.declared.open_fault.OpenFault.{OpenFault}
 use Rattle.lfs_history.specs.declared.open_fault.OpenFault.TheVariants.{Mount}
 use Rattle.lfs_history.specs.History.{History, IsHistory}
 use Rattle.lfs_history.specs.Opening.{Opens, RefusesOpening, journal_of}
-use Rattle.lfs_history.specs.Steps.{Does}
+use Rattle.lfs_history.specs.Taking.{Does}
 
 -- the changes of a history are a journal
 abbrev pub HistoriesAreBooks : Type 0

@@ -1,10 +1,10 @@
-//! Histories: an image between those before it and those that were taken back, the steps that lead from one history to
+//! Histories: an image between those before it and those that were taken back, the moves that lead from one history to
 //! another, and the journals that denote them.
 #![tactic(auto)]
 
 mod laws;
+mod moves;
 mod open_fault;
-mod step;
 mod step_fault;
 
 pub use laws::{
@@ -12,6 +12,6 @@ pub use laws::{
     journals_grow_by_the_need, redo_is_exact, runs_keep_histories, saved_histories_open,
     steps_keep_geometry, undo_and_redo_keep_images, undo_is_exact,
 };
+pub use moves::Move;
 pub use open_fault::OpenFault;
-pub use step::Step;
 pub use step_fault::StepFault;

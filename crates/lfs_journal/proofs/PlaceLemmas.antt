@@ -8,7 +8,7 @@ use Rattle.lfs_command.specs.Command.{Asked}
 use Rattle.lfs_command.specs.Planned.{Plans}
 use Rattle.lfs_history.specs.History.{History, IsHistoryAt, history_at, past_of, future_of, GoesBack, GoesOn, most_changes}
 use Rattle.lfs_history.specs.Moves.{Pushes, Undoes, Redoes}
-use Rattle.lfs_history.specs.Steps.{Does}
+use Rattle.lfs_history.specs.Taking.{Does}
 use Rattle.lfs_history.proofs.MoveLemmas.{TakeBack, Make, Follow, latest, undo_keeps, redo_keeps, push_keeps}
 
 -- the change at a place, between those before it and those behind it

@@ -3,14 +3,14 @@ use Rattle.std.proofs.Common.{◌≡◌, ℕ, ◌+◌, ◌<◌, List, [], ◌∷
 use Rattle.std.proofs.Common.{Result}
 use Rattle.std.specs.Result.{result_err}
 use Rattle.std.proofs.lemmas.List.{map_more, map_push}
-use Rattle.lfs_history.specs.declared.step.Step.{Step as Written}
+use Rattle.lfs_history.specs.declared.moves.Move.{Move as Written}
 use Rattle.lfs_history.specs.declared.step_fault.StepFault.{StepFault}
 use Rattle.lfs_history.specs.History.{History}
-use Rattle.lfs_history.specs.Steps.{Step, Reply, Takes, Run}
+use Rattle.lfs_history.specs.Taking.{Move, Reply, Takes, Run}
 use Rattle.lfs_history.specs.Meaning.{step_of}
 
 -- a run goes on by one step
-pub run_on : (steps : List Step) (replies : List Reply) (step : Step) (reply : Reply) (old mid new : History) → Run steps replies old mid
+pub run_on : (steps : List Move) (replies : List Reply) (step : Move) (reply : Reply) (old mid new : History) → Run steps replies old mid
     → Takes step reply mid new
     → Run (steps ++ step ∷ []) (replies ++ reply ∷ []) old new
 run_on [] [] step reply old mid new is next = (new, subst (λ (h : History). Takes step reply h new) is next, refl)
@@ -33,4 +33,4 @@ run_more steps i d before after r old mid new within more run next =
     let longer = run_on (map step_of (take i steps)) (map result_err before) (step_of (get_or steps i d))
     (result_err r) old mid new run next in
     subst (λ (x : List Reply). Run (map step_of (take (i + 1) steps)) x old new) rs
-    (subst (λ (x : List Step). Run x (map result_err before ++ result_err r ∷ []) old new) ss longer)
+    (subst (λ (x : List Move). Run x (map result_err before ++ result_err r ∷ []) old new) ss longer)

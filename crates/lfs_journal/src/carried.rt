@@ -15,19 +15,19 @@ use std::alloc::Global;
 
 /// A patch of an image, and the outline of the patched image.
 #[derive(Drop)]
-pub(crate) struct Change {
+pub(crate) struct Carried {
     pub(crate) patch: Patch,
     pub(crate) outline: Outline,
 }
 
 /// Carries a command out on an image and its outline, which is read again where it isn't known. It is known no longer once the
 /// command is carried out, or memory was wanting. The caller owes that the image mounts.
-pub(crate) fn carried(
+pub(crate) fn carried_out(
     alloc: Global,
     image: &Image,
     outline: &mut Option<Outline>,
     command: &Command<'_>,
-) -> Result<Change, Refusal>
+) -> Result<Carried, Refusal>
     requires mounts { IsMounted image.now }
     requires known { IsKnown image.now outline.old }
     ensures planned { IfOk result (λ change. Plans image.now (asked_for command.now) change.patch) }
@@ -40,7 +40,7 @@ pub(crate) fn carried(
         None => outline_of(alloc, image)?,
     };
     match carry_out(alloc, image, &mut taken, command) {
-        Ok(patch) => Ok(Change {
+        Ok(patch) => Ok(Carried {
             patch,
             outline: taken,
         }),

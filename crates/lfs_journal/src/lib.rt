@@ -11,7 +11,7 @@ mod session;
 mod stepping;
 mod unmounted;
 
-pub use lfs_history::{OpenFault, Step, StepFault};
+pub use lfs_history::{Move, OpenFault, StepFault};
 pub use refused::Refused;
 pub use session::Session;
 pub use stepping::run_steps;

@@ -1,6 +1,6 @@
 //! An image with its changes.
 
-use crate::carried::{Change, carried};
+use crate::carried::{Carried, carried_out};
 use crate::opening::{Opened, read_history};
 use crate::refused::Refused;
 use crate::replacing::replace_from;
@@ -53,7 +53,7 @@ impl Session {
     ghost use Rattle.lfs_history.specs.History.{IsHistory, fresh_history};
     ghost use Rattle.lfs_history.specs.Moves.{Undoes, Redoes, Forgets};
     ghost use Rattle.lfs_history.specs.Opening.{Opens, RefusesOpening, journal_of};
-    ghost use Rattle.lfs_history.specs.Steps.{Does, Takes, Do};
+    ghost use Rattle.lfs_history.specs.Taking.{Does, Takes, Do};
 
     /// A session of an image that nothing was done to. A refusal hands the image back: the image has the cause that the
     /// fault names, and `Memory` says only that a growth was refused.
@@ -149,7 +149,12 @@ impl Session {
         if self.done >= MOST_CHANGES {
             return Err(StepFault::JournalFull);
         }
-        let Change { patch, outline } = carried(alloc, &self.image, &mut self.outline, command)?;
+        let Carried { patch, outline } = carried_out(
+            alloc,
+            &self.image,
+            &mut self.outline,
+            command,
+        )?;
         replace_from(&mut self.patches, self.done, patch)?;
         self.patches[self.done].apply(&mut self.image);
         self.outline = Some(outline);

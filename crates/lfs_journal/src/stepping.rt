@@ -3,26 +3,26 @@
 ghost use Rattle.std.specs.Prelude.{◌≡◌, map, IfOk, OnErr};
 ghost use Rattle.std.specs.Result.{result_err};
 ghost use Rattle.lfs_history.specs.Meaning.{step_of};
-ghost use Rattle.lfs_history.specs.Steps.{Run};
+ghost use Rattle.lfs_history.specs.Taking.{Run};
 
 use crate::session::Session;
-use lfs_history::{Step, StepFault};
+use lfs_history::{Move, StepFault};
 use std::alloc::{AllocError, Global};
 
 impl Session {
     ghost use Rattle.std.specs.Result.{result_err};
     ghost use Rattle.lfs_history.specs.Meaning.{step_of};
-    ghost use Rattle.lfs_history.specs.Steps.{Takes};
+    ghost use Rattle.lfs_history.specs.Taking.{Takes};
 
     /// Takes one step. A refusal leaves all as it was.
-    pub fn step(&mut self, alloc: Global, step: &Step<'_>) -> Result<(), StepFault>
+    pub fn step(&mut self, alloc: Global, step: &Move<'_>) -> Result<(), StepFault>
         ensures { Takes (step_of step.now) (result_err result) self.old self.new }
     {
         match step {
-            Step::Do(command) => self.command(alloc, command),
-            Step::Undo => self.undo(),
-            Step::Redo => self.redo(),
-            Step::Forget => {
+            Move::Do(command) => self.command(alloc, command),
+            Move::Undo => self.undo(),
+            Move::Redo => self.redo(),
+            Move::Forget => {
                 self.forget();
                 Ok(())
             }
@@ -37,7 +37,7 @@ impl Session {
 pub fn run_steps(
     alloc: Global,
     session: &mut Session,
-    steps: &[Step<'_>],
+    steps: &[Move<'_>],
 ) -> Result<Vec<Result<(), StepFault>>, AllocError>
     ensures run { IfOk result (λ replies. Run (map step_of steps.now) (map result_err replies.items) session.old session.new) }
     ensures unchanged { OnErr result (session.new ≡ session.old) }

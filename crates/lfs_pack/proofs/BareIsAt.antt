@@ -8,12 +8,12 @@ use Rattle.lfs_fs.specs.Volume.{Volume}
 use Rattle.lfs_build.specs.declared.new_volume.NewVolume.{NewVolume}
 use Rattle.lfs_build.specs.declared.open_directory.OpenDirectory.{OpenDirectory}
 use Rattle.lfs_build.specs.Built.{IsBuilt}
-use Rattle.lfs_build.specs.NewVolumes.{IsAt, IsBare, IsGrowing}
+use Rattle.lfs_build.specs.NewVolumes.{IsAt, IsBare, TakesMore}
 use Rattle.lfs_build.specs.Opened.{IsWeighed, opened}
 use Rattle.lfs_build.specs.Rooted.{bare_directory}
 
-pub bare_grows : (t : NewVolume) (v : Volume) → IsBare t v → IsGrowing t [] v
-bare_grows t v bare = record {
+pub bare_takes_more : (t : NewVolume) (v : Volume) → IsBare t v → TakesMore t [] v
+bare_takes_more t v bare = record {
   built = subst (λ (ds : List Directory). IsBuilt t.image t.next (map opened t.above.items) (opened t.deepest) ds [] v)
       (sym (ap reverse bare.closed))
       (subst (λ (d : Directory). IsBuilt t.image t.next (map opened t.above.items) d [] [] v) (sym bare.deepest)
@@ -28,6 +28,6 @@ bare_grows t v bare = record {
 pub bare_is_at : (t : NewVolume) (v : Volume) → IsBare t v → IsAt t [] v
 bare_is_at t v bare = record {
   names = [];
-  growing = bare_grows t v bare;
+  taking = bare_takes_more t v bare;
   last = inl (refl, subst (λ (d : Directory). entries d ≡ []) (sym bare.deepest) refl);
 }

@@ -21,7 +21,7 @@ use Rattle.lfs_law.specs.Laws.{CutsFollow, CleansFollow}
 use Rattle.lfs_law.proofs.PathMapLemmas.{same_path_decides, same_path_or_not, put_at_there, put_at_other}
 use Rattle.lfs_pack.specs.Packed.{Packed, packed_node, packed_at, making, setting, row_commands, commands}
 use Rattle.lfs_pack.specs.Packed.{Rise, KindsRise}
-use Rattle.lfs_grow.specs.Leading.{CarriesOut, Lead}
+use Rattle.lfs_ends.specs.Leading.{CarriesOut, Lead}
 use Rattle.lfs_pack.specs.Laws.{LedToTheirMap}
 
 -- ---- one command

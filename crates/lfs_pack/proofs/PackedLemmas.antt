@@ -12,7 +12,7 @@ use Rattle.lfs_command.specs.declared.refusal.Refusal.{Refusal}
 use Rattle.lfs_command.specs.declared.refusal.Refusal.TheVariants.{Memory}
 use Rattle.lfs_command.specs.Command.{Command}
 use Rattle.lfs_edit.specs.Formatted.{disk_with}
-use Rattle.lfs_grow.specs.Leading.{Lead}
+use Rattle.lfs_ends.specs.Leading.{Lead}
 use Rattle.lfs_build.specs.declared.new_volume.NewVolume.{NewVolume}
 use Rattle.lfs_pack.specs.declared.pack_row.PackRow.{PackRow}
 use Rattle.lfs_pack.specs.Laws.{LedToTheirMap}

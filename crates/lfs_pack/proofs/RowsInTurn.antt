@@ -6,7 +6,7 @@ use Rattle.lfs_fs.specs.Path.{Path, TextsSpellOnePath}
 use Rattle.lfs_fs.specs.Row.{path_precedes}
 use Rattle.lfs_fs.specs.Volume.{Volume}
 use Rattle.lfs_command.specs.declared.refusal.Refusal.{Refusal}
-use Rattle.lfs_grow.specs.Leading.{Lead}
+use Rattle.lfs_ends.specs.Leading.{Lead}
 use Rattle.lfs_build.specs.declared.new_volume.NewVolume.{NewVolume}
 use Rattle.lfs_pack.specs.declared.pack_row.PackRow.{PackRow}
 use Rattle.lfs_build.specs.NewVolumes.{IsAt}

@@ -8,12 +8,12 @@ use Rattle.lfs_change.specs.declared.outcome.Outcome.{Outcome}
 use Rattle.lfs_step.specs.declared.step.Step.{Step}
 use Rattle.lfs_step.specs.Deed.{Deed}
 use Rattle.lfs_step.specs.Outcome.{Answers, Given, SendsText}
-use Rattle.lfs_exchange.specs.declared.kind.Kind.{Kind}
-use Rattle.lfs_exchange.specs.declared.kind.Kind.TheVariants.{Makes, Asks, Changes, Forgets}
+use Rattle.lfs_exchange.specs.declared.step_kind.StepKind.{StepKind}
+use Rattle.lfs_exchange.specs.declared.step_kind.StepKind.TheVariants.{Makes, Asks, Changes, Forgets}
 use Rattle.lfs_serve.specs.declared.stop.Stop.{Stop}
 use Rattle.lfs_request.specs.Asking.{NamesNoStep, SpellsNoBytes, SpellsNoKind, digits_of}
 use Rattle.lfs_host.specs.Files.{Files, FindsFile, IsTarget, ReadsFile}
-use Rattle.lfs_exchange.specs.Kind.{kind_of}
+use Rattle.lfs_exchange.specs.StepKind.{kind_of}
 use Rattle.lfs_exchange.specs.Storing.{LeavesFiles, SparesFiles, journal_name}
 use Rattle.lfs_exchange.specs.Handing.{HandedBytes, HandsImage, HandsJournal, IsHanded, IsOfHost}
 use Rattle.lfs_serve.specs.Program.{Runs, RunsOn, RunsStep}
@@ -33,14 +33,14 @@ finds_target None name target bytes most leads found = tt
 finds_target (Some files) name target bytes most leads found =
     subst (λ (at : List ℕ). FindsFile (Some files) (journal_name at) most bytes) leads found
 
-image_target : (kind : Kind) (files : Option Files) (name target image : List ℕ) → IsTarget files name target
+image_target : (kind : StepKind) (files : Option Files) (name target image : List ℕ) → IsTarget files name target
     → HandsImage kind files target image → HandsImage kind files name image
 image_target Makes files name target image leads h = h
 image_target Asks files name target image leads h = reads_target files name target image most_image leads h
 image_target Changes files name target image leads h = reads_target files name target image most_image leads h
 image_target Forgets files name target image leads h = reads_target files name target image most_image leads h
 
-journal_target : (kind : Kind) (files : Option Files) (name target journal : List ℕ) → IsTarget files name target
+journal_target : (kind : StepKind) (files : Option Files) (name target journal : List ℕ) → IsTarget files name target
     → HandsJournal kind files target journal → HandsJournal kind files name journal
 journal_target Makes files name target journal leads h = h
 journal_target Asks files name target journal leads h = h
@@ -57,7 +57,7 @@ handed_target step name target s h leads is = record {
 }
 
 -- what is left in it is left in the name's
-leaves_target : (kind : Kind) (old new : Option Files) (name target : List ℕ) (o : Outcome) → IsTarget old name target
+leaves_target : (kind : StepKind) (old new : Option Files) (name target : List ℕ) (o : Outcome) → IsTarget old name target
     → LeavesFiles kind old new target o → LeavesFiles kind old new name o
 leaves_target kind (Some old) new name target o leads leaves = subst (λ (at : List ℕ). LeavesFiles kind (Some old) new at o) leads leaves
 leaves_target Asks None new name target o leads leaves = leaves
@@ -66,7 +66,7 @@ leaves_target Makes None new name target o leads leaves = tt
 leaves_target Changes None new name target o leads leaves = tt
 
 -- and what is spared of it
-spares_target : (fault : Fault) (kind : Kind) (old new : Option Files) (name target : List ℕ) (o : Outcome) → IsTarget old name target
+spares_target : (fault : Fault) (kind : StepKind) (old new : Option Files) (name target : List ℕ) (o : Outcome) → IsTarget old name target
     → SparesFiles fault kind old new target o → SparesFiles fault kind old new name o
 spares_target fault kind (Some old) new name target o leads spares =
     subst (λ (at : List ℕ). SparesFiles fault kind (Some old) new at o) leads spares
@@ -83,20 +83,20 @@ handed_at step name target at old mid h leads at_is mid_is is =
     handed_target step name target old h leads
     (subst (λ (s : Scene). IsHanded step target s h) mid_is (subst (λ (a : List ℕ). IsHanded step a mid h) at_is is))
 
-pub leaves_at : (kind other : Kind) (old mid new : Option Files) (name target at : List ℕ) (o left : Outcome) → IsTarget old name target
+pub leaves_at : (kind other : StepKind) (old mid new : Option Files) (name target at : List ℕ) (o left : Outcome) → IsTarget old name target
     → at ≡ target → mid ≡ old → kind ≡ other → left ≡ o → LeavesFiles kind mid new at left → LeavesFiles other old new name o
 leaves_at kind other old mid new name target at o left leads at_is mid_is kind_is left_is leaves =
     leaves_target other old new name target o leads
-    (subst (λ (k : Kind). LeavesFiles k old new target o) kind_is
+    (subst (λ (k : StepKind). LeavesFiles k old new target o) kind_is
     (subst (λ (f : Option Files). LeavesFiles kind f new target o) mid_is
     (subst (λ (a : List ℕ). LeavesFiles kind mid new a o) at_is (subst (LeavesFiles kind mid new at) left_is leaves))))
 
-pub spares_at : (fault : Fault) (kind other : Kind) (old mid new : Option Files) (name target at : List ℕ) (o left : Outcome) → IsTarget old name target
+pub spares_at : (fault : Fault) (kind other : StepKind) (old mid new : Option Files) (name target at : List ℕ) (o left : Outcome) → IsTarget old name target
     → at ≡ target → mid ≡ old → kind ≡ other → left ≡ o → SparesFiles fault kind mid new at left
     → SparesFiles fault other old new name o
 spares_at fault kind other old mid new name target at o left leads at_is mid_is kind_is left_is spares =
     spares_target fault other old new name target o leads
-    (subst (λ (k : Kind). SparesFiles fault k old new target o) kind_is
+    (subst (λ (k : StepKind). SparesFiles fault k old new target o) kind_is
     (subst (λ (f : Option Files). SparesFiles fault kind f new target o) mid_is
     (subst (λ (a : List ℕ). SparesFiles fault kind mid new a o) at_is (subst (SparesFiles fault kind mid new at) left_is spares))))
 

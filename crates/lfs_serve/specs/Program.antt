@@ -12,7 +12,7 @@ use Rattle.lfs_host.specs.HostTree.{HostTree}
 use Rattle.lfs_pack.specs.declared.pack_row.PackRow.{PackRow}
 use Rattle.lfs_exchange.specs.Handing.{HandedBytes, IsHanded, IsOfHost, KeepsScene, Scene}
 use Rattle.lfs_serve.specs.HostFolder.{PacksRows, ReadsNoFolder}
-use Rattle.lfs_exchange.specs.Kind.{kind_of}
+use Rattle.lfs_exchange.specs.StepKind.{kind_of}
 use Rattle.lfs_exchange.specs.Storing.{LeavesFiles, SparesFiles}
 use Rattle.lfs_step.specs.Outcome.{Answers, Given, SendsText, given}
 use Rattle.lfs_request.specs.Asking.{AsksFor, NamesNoStep}

@@ -9,12 +9,12 @@ use Rattle.lfs_request.specs.declared.request.Request.{Request}
 use Rattle.lfs_request.specs.declared.task.Task.{Task}
 use Rattle.lfs_request.specs.declared.task.Task.TheVariants as task
 use Rattle.lfs_request.specs.Asking.{AsksFor}
-use Rattle.lfs_exchange.specs.declared.kind.Kind.{Kind}
-use Rattle.lfs_exchange.specs.declared.kind.Kind.TheVariants.{Asks}
+use Rattle.lfs_exchange.specs.declared.step_kind.StepKind.{StepKind}
+use Rattle.lfs_exchange.specs.declared.step_kind.StepKind.TheVariants.{Asks}
 use Rattle.lfs_host.specs.Files.{Files}
 use Rattle.lfs_host.specs.HostTree.{HostTree}
 use Rattle.lfs_pack.specs.declared.pack_row.PackRow.{PackRow}
-use Rattle.lfs_exchange.specs.Kind.{kind_of}
+use Rattle.lfs_exchange.specs.StepKind.{kind_of}
 use Rattle.lfs_exchange.specs.Storing.{LeavesFiles, SparesFiles}
 use Rattle.lfs_serve_tests.specs.Asking.{OnlyAsks}
 use Rattle.lfs_exchange.specs.Handing.{Scene}
@@ -38,12 +38,12 @@ all_spared _ old new name o same = same
 step_keeps : (fault : Option Fault) (step : Step) (size : ℕ) (name : List ℕ) (old new : Scene) → kind_of step ≡ Asks
     → EndsStep step size name old new fault → new.files ≡ old.files
 step_keeps None step size name old new asks (o, runs, leaves) =
-    subst (λ (kind : Kind). LeavesFiles kind old.files new.files name o) asks leaves
+    subst (λ (kind : StepKind). LeavesFiles kind old.files new.files name o) asks leaves
 step_keeps (Some fault) step size name old new asks (inl (o, runs, same)) = same
 step_keeps (Some fault) step size name old new asks (inr (inl (of_host, keeps))) = keeps.0
 step_keeps (Some fault) step size name old new asks (inr (inr (of_host, (o, runs, spares)))) =
     all_spared fault old.files new.files name o
-    (subst (λ (kind : Kind). SparesFiles fault kind old.files new.files name o) asks spares)
+    (subst (λ (kind : StepKind). SparesFiles fault kind old.files new.files name o) asks spares)
 
 task_keeps : (fault : Option Fault) (task : Task) (size : ℕ) (name : List ℕ) (tree : Option HostTree) (old new : Scene) → OnlyAsks task
     → EndsTask task size name tree old new fault → new.files ≡ old.files

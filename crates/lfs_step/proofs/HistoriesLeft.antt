@@ -5,7 +5,7 @@ use Rattle.lfs_book.specs.Book.{Book, book_of, journal_bytes}
 use Rattle.lfs_edit.specs.Formatted.{disk_with}
 use Rattle.lfs_history.specs.History.{History, IsHistory, IsMounted, fresh_history}
 use Rattle.lfs_history.specs.OpeningLaws.{JournalsDenoteOneHistory, SavedHistoriesOpen}
-use Rattle.lfs_history.specs.Steps.{Takes}
+use Rattle.lfs_history.specs.Taking.{Takes}
 use Rattle.lfs_change.specs.declared.fault.Fault.{Fault}
 use Rattle.lfs_change.specs.declared.outcome.Outcome.{Outcome}
 use Rattle.lfs_change.specs.Bytes.{image_of}

@@ -2,8 +2,8 @@
 use Rattle.std.specs.Prelude.{ℕ, List}
 use Rattle.lfs_command.specs.Command as asked
 use Rattle.lfs_history.specs.Meaning.{step_of}
-use Rattle.lfs_history.specs.Steps as change
-use Rattle.lfs_history.specs.Steps.{Do}
+use Rattle.lfs_history.specs.Taking as change
+use Rattle.lfs_history.specs.Taking.{Do}
 use Rattle.lfs_pack.specs.declared.pack_row.PackRow.{PackRow}
 use Rattle.lfs_step.specs.declared.deed.Deed.{Deed as Written}
 use Rattle.lfs_step.specs.declared.deed.Deed.TheVariants as written
@@ -18,7 +18,7 @@ pub data Deed : Type 0 where
   Make : (count : ℕ) → Deed
   Pack : (count : ℕ) → (rows : List PackRow) → Deed
   Ask : (query : Query) → Deed
-  Change : (step : change.Step) → Deed
+  Change : (step : change.Move) → Deed
 
 -- what a step does, with what it reads
 abbrev pub deed_of : Step → List ℕ → Deed

@@ -1,7 +1,7 @@
 -- Which history the bytes denote that a step leaves (own).
 use Rattle.std.specs.Prelude.{◌≡◌, List, None}
 use Rattle.lfs_history.specs.History.{History, fresh_history}
-use Rattle.lfs_history.specs.Steps.{Takes}
+use Rattle.lfs_history.specs.Taking.{Takes}
 use Rattle.lfs_change.specs.declared.outcome.Outcome.{Outcome}
 use Rattle.lfs_change.specs.Bytes.{image_of}
 use Rattle.lfs_change.specs.Change.{Denotes, journal_read}

@@ -6,7 +6,7 @@ ghost use Rattle.lfs_step.specs.Deed.{deed_held, deed_of};
 use crate::query::Query;
 use crate::step::Step;
 use lfs_edit::Command;
-use lfs_history::Step as Change;
+use lfs_history::Move;
 use lfs_pack::PackRow;
 
 /// What a step does with an image.
@@ -29,7 +29,7 @@ pub enum Deed<'a> {
     /// Asks something of it.
     Ask(Query<'a>),
     /// Changes it, or what is kept of its changes: a step on its history.
-    Change(Change<'a>),
+    Change(Move<'a>),
 }
 
 /// What a step does with an image, `input` being what it reads: the contents of a file that is put. Takes no memory.
@@ -44,9 +44,9 @@ pub fn deed_of<'a>(step: &Step<'a>, input: &'a [u8]) -> Deed<'a>
         Step::Check => return Deed::Ask(Query::Check),
         Step::Ls => return Deed::Ask(Query::Ls),
         Step::Cat { path } => return Deed::Ask(Query::Cat { path }),
-        Step::Undo => return Deed::Change(Change::Undo),
-        Step::Redo => return Deed::Change(Change::Redo),
-        Step::Forget => return Deed::Change(Change::Forget),
+        Step::Undo => return Deed::Change(Move::Undo),
+        Step::Redo => return Deed::Change(Move::Redo),
+        Step::Forget => return Deed::Change(Move::Forget),
         Step::Mkdir { path } => Command::Mkdir { path },
         Step::Put { path } => Command::Put { path, bytes: input },
         Step::Rm { path } => Command::Rm { path },
@@ -54,5 +54,5 @@ pub fn deed_of<'a>(step: &Step<'a>, input: &'a [u8]) -> Deed<'a>
         Step::SetAttr { path, kind, value } => Command::SetAttr { path, kind, value },
         Step::RmAttr { path, kind } => Command::RmAttr { path, kind },
     };
-    Deed::Change(Change::Do(command))
+    Deed::Change(Move::Do(command))
 }

@@ -1,4 +1,4 @@
--- At most two parts are at most two that grow.
+-- At most two parts are at most two that overflow.
 use Rattle.std.proofs.Common.{arith, length}
 use Rattle.std.specs.Prelude.{nat_lt}
 use Rattle.lfs_fs.specs.Directory.{thread}

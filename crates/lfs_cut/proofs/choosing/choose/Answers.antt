@@ -1,33 +1,33 @@
--- The rows are for the parts that have grown.
+-- The rows are for the parts that overflow.
 use Rattle.std.proofs.Common.{◌≡◌, List, length, ap, sym, ◌∙◌, arith}
 use Rattle.lfs_fs.specs.Directory.{Directory, thread}
 use Rattle.lfs_fs.specs.Volume.{Volume}
-use Rattle.lfs_cut.specs.Growth.{growths_of}
-use Rattle.lfs_cut.proofs.ChosenPairs.{AreRowsOf, in_order, grown_count, grown_need, chosen_enough, chosen_uses}
+use Rattle.lfs_cut.specs.Overflow.{overflows_of}
+use Rattle.lfs_cut.proofs.ChosenPairs.{AreRowsOf, in_order, overflow_count, overflow_need, chosen_enough, chosen_uses}
 use Rattle.lfs_cut.proofs.choosing.choose.Goals as goal
 
-pub growths_of-growths-requires : goal.growths_of-growths-requires
-growths_of-growths-requires c =
-    let all : length (growths_of c.block_room-room.result.bytes c.block_room-room.result.superblock (thread c.deref.result.now))
-    ≡ length (growths_of c.block_room-room.result.bytes c.block_room-room.result.superblock (thread c.args.outline.now.directories)) =
-    ap (λ (ds : List Directory). length (growths_of c.block_room-room.result.bytes c.block_room-room.result.superblock (thread ds)))
+pub overflows_of-overflows-requires : goal.overflows_of-overflows-requires
+overflows_of-overflows-requires c =
+    let all : length (overflows_of c.block_room-room.result.bytes c.block_room-room.result.superblock (thread c.deref.result.now))
+    ≡ length (overflows_of c.block_room-room.result.bytes c.block_room-room.result.superblock (thread c.args.outline.now.directories)) =
+    ap (λ (ds : List Directory). length (overflows_of c.block_room-room.result.bytes c.block_room-room.result.superblock (thread ds)))
     (c.deref.ensures.value ∙ ap (λ (v : Volume). v.directories) c.outline.view_is) in
     omega (
       arith,
       all,
       c.requires.few,
-      grown_count c.args.outline.now c.block_room-room.result.bytes c.block_room-room.result.superblock c.block_room-room.ensures.bytes
+      overflow_count c.args.outline.now c.block_room-room.result.bytes c.block_room-room.result.superblock c.block_room-room.ensures.bytes
           c.block_room-room.ensures.superblock,
     )
 
 pub rows_of-requires-clause-enough : goal.rows_of-requires-clause-enough
 rows_of-requires-clause-enough c =
     let order = in_order c.args.outline.now c.block_room-room.result.bytes c.block_room-room.result.superblock c.deref.result.now
-    c.growths_of-growths.result.items
-    c.put_first.new.growths.items c.deref-2.result.now
-    (c.deref.ensures.value ∙ ap (λ (v : Volume). v.directories) c.outline.view_is) c.growths_of-growths.ensures
+    c.overflows_of-overflows.result.items
+    c.put_first.new.overflows.items c.deref-2.result.now
+    (c.deref.ensures.value ∙ ap (λ (v : Volume). v.directories) c.outline.view_is) c.overflows_of-overflows.ensures
     c.put_first.ensures c.deref-2.ensures.0 in
-    grown_need c.args.outline.now c.block_room-room.result.bytes c.block_room-room.result.superblock c.deref-2.result.now
+    overflow_need c.args.outline.now c.block_room-room.result.bytes c.block_room-room.result.superblock c.deref-2.result.now
     c.block_room-room.ensures.bytes c.block_room-room.ensures.superblock order
     ∙ sym c.requires.needed
 
@@ -39,8 +39,8 @@ rows_made c = record {
   superblock_is = c.block_room-room.ensures.superblock;
   once = c.requires.once;
   order = in_order c.args.outline.now c.block_room-room.result.bytes c.block_room-room.result.superblock c.deref.result.now
-      c.growths_of-growths.result.items c.put_first.new.growths.items
-      c.deref-2.result.now (c.deref.ensures.value ∙ ap (λ (v : Volume). v.directories) c.outline.view_is) c.growths_of-growths.ensures
+      c.overflows_of-overflows.result.items c.put_first.new.overflows.items
+      c.deref-2.result.now (c.deref.ensures.value ∙ ap (λ (v : Volume). v.directories) c.outline.view_is) c.overflows_of-overflows.ensures
       c.put_first.ensures c.deref-2.ensures.0;
   rows_are = c.in_ok-rows.ensures;
 }

@@ -1,7 +1,7 @@
 use Rattle.std.proofs.Common.{◌≡◌, ◌≤◌, map, length, take, vec_len, vec_capacity}
 use Rattle.std.specs.Result.{result_err}
 use Rattle.lfs_history.specs.Meaning.{step_of}
-use Rattle.lfs_history.specs.Steps.{Run}
+use Rattle.lfs_history.specs.Taking.{Run}
 use Rattle.lfs_journal.proofs.stepping.run_steps.Given as goal
 
 -- the steps so far got the replies so far, and there is room for the others

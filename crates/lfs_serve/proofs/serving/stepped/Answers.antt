@@ -1,5 +1,5 @@
 use Rattle.std.proofs.Common.{rules, ◌≡◌, Some, None, refl, ◌∙◌, string_bytes}
-use Rattle.lfs_exchange.specs.Kind.{kind_of}
+use Rattle.lfs_exchange.specs.StepKind.{kind_of}
 use Rattle.lfs_exchange.specs.Handing.{HandedBytes, IsHanded, Scene, scene}
 use Rattle.lfs_serve.specs.Program.{RunsStep}
 use Rattle.lfs_serve.proofs.StepLemmas.{ends_behind, ends_refused, handed_at, leaves_at, spares_at, step_ran}

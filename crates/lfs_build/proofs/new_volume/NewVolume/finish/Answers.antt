@@ -9,21 +9,21 @@ use Rattle.lfs_build.proofs.new_volume.NewVolume.finish.Goals as goal
 pub write_outline-requires : goal.write_outline-requires
 write_outline-requires c =
     let (q, v, at) = c.requires in
-    let can : CanBeFinished c.args.self.image v = c.built_can_be_finished.ensures _ _ _ _ _ _ v at.growing.built in
+    let can : CanBeFinished c.args.self.image v = c.built_can_be_finished.ensures _ _ _ _ _ _ v at.taking.built in
     subst (λ (d : Disk). CanTakeOutline d c.in_ok-image.outline) (sym c.in_ok-image.ensures.image)
     (subst (λ (o : Volume). CanTakeOutline c.args.self.image o) (sym (c.in_ok-image.ensures.outline q v at)) can.can)
 
 pub returns : goal.returns
 returns c q v at =
-    let can : CanBeFinished c.args.self.image v = c.built_can_be_finished.ensures _ _ _ _ _ _ v at.growing.built in
+    let can : CanBeFinished c.args.self.image v = c.built_can_be_finished.ensures _ _ _ _ _ _ v at.taking.built in
     let image = c.in_ok-image.ensures.image in
     let taken : TakesOutline c.args.self.image c.write_outline.new.image _ =
     subst (λ (d : Disk). TakesOutline d c.write_outline.new.image c.in_ok-image.outline) image c.in_ok-write_outline.ensures.taken in
     record {
       holds = can.holds c.write_outline.new.image (subst (λ (o : Volume). TakesOutline c.args.self.image c.write_outline.new.image o)
           (c.in_ok-image.ensures.outline q v at) taken);
-      sound = at.growing.built.sound;
-      size = at.growing.built.size ∙ sym taken.but.disk.size;
-      count = at.growing.built.count ∙ sym taken.but.disk.count;
-      limits = at.growing.built.limits;
+      sound = at.taking.built.sound;
+      size = at.taking.built.size ∙ sym taken.but.disk.size;
+      count = at.taking.built.count ∙ sym taken.but.disk.count;
+      limits = at.taking.built.limits;
     }

@@ -9,7 +9,7 @@ use Rattle.lfs_build.proofs.new_volume.NewVolume.into_outline.Goals as goal
 pub invariant_of-outline : goal.invariant_of-outline
 invariant_of-outline c =
     let (q, v, at) = c.requires in
-    subst (λ (a : _). RiseFrom 0 a.items) (sym c.in_ok-close_down.ensures.down.attributes) at.growing.rise
+    subst (λ (a : _). RiseFrom 0 a.items) (sym c.in_ok-close_down.ensures.down.attributes) at.taking.rise
 
 pub returns-clause-outline : goal.returns-clause-outline
 returns-clause-outline c q v at =

@@ -2,7 +2,7 @@ use Rattle.std.proofs.Common.{◌≡◌, ◌+◌, ◌≤◌, ℕ, Bool, true, fa
 use Rattle.lfs_fs.specs.Weight.{weight}
 use Rattle.lfs_build.specs.Adding.{blocks_with, pair_behind}
 use Rattle.lfs_build.specs.Pushed.{takes}
-use Rattle.lfs_build.proofs.GrownBuilt.{blocks_within}
+use Rattle.lfs_build.proofs.MoreBuilt.{blocks_within}
 use Rattle.lfs_build.proofs.PushedEntries.{HasOneMore, one_more_alone, one_more_here, same_takes}
 use Rattle.lfs_build.proofs.new_volume.NewVolume.push.Goals as goal
 use Rattle.lfs_build.proofs.new_volume.NewVolume.push.Goals.{then-takes+in_ok-push, else-takes+in_ok-push_alone}
@@ -54,6 +54,6 @@ returns c =
       above = refl;
       closed = refl;
       next = ap (λ (n : ℕ). t.next + n) c.requires.need;
-      deepest = more.grows;
+      deepest = more.takes_more;
       weighed = λ o same far. more.weighed o same (omega (arith, far));
     }

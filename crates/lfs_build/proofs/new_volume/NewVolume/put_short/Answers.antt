@@ -11,7 +11,7 @@ pub file_body-requires-clause-next : goal.file_body-requires-clause-next
 file_body-requires-clause-next c =
     let few = file_few c.size-size.result c.args.bytes.now in
     let disk = c.size-size.ensures.disk in
-    let within = c.requires.home.2.growing.built.within in
+    let within = c.requires.home.2.taking.built.within in
     omega (arith, few, within, disk.geometry.count_fits.1, c.requires.small)
 
 pub needed-requires-clause-before : goal.needed-requires-clause-before
@@ -42,6 +42,6 @@ returns-clause-put c =
     ∙ ap (new_entry n) (c.in_ok-body.ensures.body ∙ ap (λ (s : ℕ). file_body s t.next bytes) c.size-size.ensures.value))
     c.weight.result c.weight.ensures.value c.file_blocks-blocks.result
     (c.file_blocks-blocks.ensures ∙ ap (λ (s : ℕ). file_blocks s bytes) c.size-size.ensures.value)
-    c.ways_lead_to_ends.ensures.grown c.in_ok-need.ensures.light
+    c.ways_lead_to_ends.ensures.with_more c.in_ok-need.ensures.light
     (subst (λ (m : ℕ). t.next + m ≤ t.image.count) c.in_ok-need.ensures.need c.in_ok-need.ensures.fits) c.lay.new.self c.push.new.self
     c.in_ok-lay.ensures.laid c.in_ok-lay.ensures.others c.in_ok-push.ensures

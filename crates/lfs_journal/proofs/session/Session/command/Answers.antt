@@ -8,7 +8,7 @@ use Rattle.lfs_fs.specs.Mounted.{IsOutlineOf}
 use Rattle.lfs_command.specs.AskedFor.{asked_for}
 use Rattle.lfs_command.specs.Planned.{RefusesPlan}
 use Rattle.lfs_history.specs.History.{History, history_at, most_changes}
-use Rattle.lfs_history.specs.Steps.{Does}
+use Rattle.lfs_history.specs.Taking.{Does}
 use Rattle.lfs_journal.proofs.PlaceLemmas.{IsPut, put_makes, done_at}
 use Rattle.lfs_journal.proofs.session.Session.command.Goals as goal
 

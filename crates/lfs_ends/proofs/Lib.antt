@@ -1,0 +1,13 @@
+pub mod OneOfMany
+pub mod LastParts
+pub mod EndEdits
+pub mod EndRuns
+pub mod SetParts
+pub mod EndCuts
+pub mod LastEntries
+pub mod WayLemmas
+pub mod ComingLast
+pub mod JudgedEnds
+pub mod Ranges
+pub mod VolumesWithMore
+pub mod EndCommands

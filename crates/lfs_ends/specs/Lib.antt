@@ -1,0 +1,9 @@
+pub mod Ending
+pub mod EndEdits
+pub mod EndCuts
+pub mod Way
+pub mod WayLaws
+pub mod Leading
+pub mod OneMore
+pub mod AtTheEnd
+pub mod EndLaws

@@ -1,0 +1,37 @@
+//! What a step is to an image and its journal.
+
+ghost use Rattle.std.specs.Prelude.{◌≡◌};
+ghost use Rattle.lfs_exchange.specs.StepKind.{kind_of};
+
+use lfs_step::Step;
+
+/// What a step is to an image and its journal.
+///
+/// Source: own.
+#[derive(Clone, Copy)]
+pub enum StepKind {
+    /// It makes a new one.
+    Makes,
+    /// It asks something of it.
+    Asks,
+    /// It changes it, and its journal with it.
+    Changes,
+    /// It changes its journal alone.
+    Forgets,
+}
+
+/// The kind of a step. Takes no memory.
+///
+/// Source: own.
+pub fn kind_of(step: &Step<'_>) -> StepKind
+    ensures { result ≡ kind_of step.now }
+{
+    match *step {
+        Step::Format { .. } | Step::Pack { .. } => StepKind::Makes,
+        Step::Check | Step::Ls | Step::Cat { .. } => StepKind::Asks,
+        Step::Mkdir { .. } | Step::Put { .. } | Step::Rm { .. } => StepKind::Changes,
+        Step::Mv { .. } | Step::SetAttr { .. } | Step::RmAttr { .. } => StepKind::Changes,
+        Step::Undo | Step::Redo => StepKind::Changes,
+        Step::Forget => StepKind::Forgets,
+    }
+}
