@@ -1,12 +1,13 @@
 -- How many new blocks a command needs, and which parts it changes (own).
-use Rattle.std.specs.Prelude.{ℕ, ◌+◌, ◌-◌, ◌*◌, ◌&&◌, not, List, nat_le, if◌then◌else◌, length, sum_by}
+use Rattle.std.specs.Prelude.{ℕ, ◌+◌, ◌-◌, ◌*◌, ◌==◌, ◌&&◌, not, Bool, List, nat_le, if◌then◌else◌, length, sum_by}
 use Rattle.std.specs.List.{filter}
 use Rattle.lfs_file.specs.Capacity.{least_blocks}
-use Rattle.lfs_fs.specs.Pair.{same_pair}
+use Rattle.lfs_meta.specs.Body.{Pair}
 use Rattle.lfs_fs.specs.Directory.{Part, thread}
+use Rattle.lfs_fs.specs.Uses.{uses}
 use Rattle.lfs_fs.specs.Volume.{Volume}
 use Rattle.lfs_command.specs.Command.{Command, Mkdir, Put, Rm, Mv, SetAttr, RmAttr}
-use Rattle.lfs_command.specs.Supplies.{Supplies, nothing, most_inline}
+use Rattle.lfs_command.specs.Supplies.{nothing, most_inline}
 use Rattle.lfs_command.specs.Edited.{edited}
 use Rattle.lfs_command.specs.Cut.{runs}
 
@@ -14,9 +15,13 @@ use Rattle.lfs_command.specs.Cut.{runs}
 abbrev pub dirty_parts : Volume → List Part
 dirty_parts v = filter (λ p. p.dirty) (thread v.directories)
 
--- those of them that stood before: all but the one of a new directory
-abbrev pub changed_parts : Supplies → Volume → List Part
-changed_parts s w = filter (λ p. p.dirty && not (same_pair p.pair s.pair)) (thread w.directories)
+-- a pair whose first block the volume doesn't use
+abbrev pub is_new_to : Volume → Pair → Bool
+is_new_to v pair = uses pair.0 v == 0
+
+-- the parts that are set in w whose pairs v has
+abbrev pub changed_parts : Volume → Volume → List Part
+changed_parts v w = filter (λ p. p.dirty && not (is_new_to v p.pair)) (thread w.directories)
 
 -- the blocks of the contents, where they don't stand in the entry
 abbrev pub data_blocks : Volume → Command → ℕ

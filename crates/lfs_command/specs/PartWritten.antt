@@ -1,9 +1,10 @@
 -- What is written of an image: changes of its blocks (own).
-use Rattle.std.specs.Prelude.{ℕ, nat_lt, List, [], ◌∷◌, if◌then◌else◌, map}
+use Rattle.std.specs.Prelude.{◌≡◌, ℕ, nat_lt, List, [], ◌∷◌, if◌then◌else◌, map, replicate}
 use Rattle.lfs_block.specs.Change.{Change}
 use Rattle.lfs_block.specs.Disk.{Disk, block_of}
 use Rattle.lfs_block.specs.Patch.{ChangeSet}
 use Rattle.lfs_meta.specs.Body.{Pair}
+use Rattle.lfs_meta.specs.LiveBlock.{revision}
 use Rattle.lfs_meta.specs.Part.{StoredPart}
 
 -- a pair with what it holds
@@ -28,3 +29,8 @@ with_change c (e ∷ es) = if nat_lt e.number c.number then e ∷ with_change c 
 -- the numbers of the blocks that a patch names
 abbrev pub numbers_of : ChangeSet → List ℕ
 numbers_of p = map (λ c. c.number) p.changes
+
+-- the two blocks of a pair that is filled for the first time: the first one has revision 1, and the second one is erased
+pub record FirstIsFilled (size : ℕ) (first second : List ℕ) : Type 0 where
+  pub revised : revision first ≡ 1
+  pub erased : second ≡ replicate size 0xff

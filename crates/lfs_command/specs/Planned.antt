@@ -1,10 +1,10 @@
 -- What is planned for a command that is asked for, and why none is (own).
-use Rattle.std.specs.Prelude.{ℕ, ◌≡◌, ◌+◌, List, [], ◌∷◌, Some, All, Contains, length, take}
+use Rattle.std.specs.Prelude.{ℕ, ◌≡◌, ◌+◌, List, [], ◌∷◌, true, Some, All, Contains, length, take}
 use Rattle.std.specs.List.{Any}
-use Rattle.lfs_block.specs.Disk.{Disk}
+use Rattle.lfs_block.specs.Disk.{Disk, block_of}
 use Rattle.lfs_block.specs.Patch.{ChangeSet, IsPatch, AgreesOld, applied}
 use Rattle.lfs_meta.specs.Body.{Pair}
-use Rattle.lfs_fs.specs.Directory.{Part}
+use Rattle.lfs_fs.specs.Directory.{Part, thread}
 use Rattle.lfs_fs.specs.Volume.{Volume}
 use Rattle.lfs_fs.specs.Free.{free_blocks}
 use Rattle.lfs_fs.specs.Uses.{times}
@@ -17,12 +17,12 @@ use Rattle.lfs_command.specs.Command.{Command, Asked, Spells, SpellsNone}
 use Rattle.lfs_command.specs.Supplies.{Supplies, supply_uses}
 use Rattle.lfs_command.specs.Edited.{edited}
 use Rattle.lfs_command.specs.Cut.{cut, new_pair_uses}
-use Rattle.lfs_command.specs.Need.{need, data_blocks, changed_parts}
+use Rattle.lfs_command.specs.Need.{need, data_blocks, is_new_to, changed_parts}
 use Rattle.lfs_command.specs.Verdict.{verdict}
 use Rattle.lfs_command.specs.Clean.{clean}
 use Rattle.lfs_command.specs.Accepted.{IsAccepted, AreChosen}
 use Rattle.lfs_command.specs.Freed.{free_after}
-use Rattle.lfs_command.specs.PartWritten.{numbers_of}
+use Rattle.lfs_command.specs.PartWritten.{numbers_of, FirstIsFilled}
 
 -- one of the numbers is a block of the part's pair
 abbrev pub HasOneOf : List ℕ → Part → Type 0
@@ -32,17 +32,22 @@ HasOneOf numbers p = Any (Contains numbers) (p.pair.0 ∷ p.pair.1 ∷ [])
 -- changes
 pub record IsFrugal (v : Volume) (c : Command) (s : Supplies) (numbers : List ℕ) : Type 0 where
   pub free : All (Contains numbers) (take (need v c) (free_blocks v))
-  pub changed : All (HasOneOf numbers) (changed_parts s (edited v c s))
-  pub len : length numbers ≡ need v c + length (changed_parts s (edited v c s))
+  pub changed : All (HasOneOf numbers) (changed_parts v (edited v c s))
+  pub len : length numbers ≡ need v c + length (changed_parts v (edited v c s))
 
 -- the blocks that a command takes are the least free ones
 abbrev pub TakesLeast : Volume → Command → Supplies → (Part → List Pair) → Type 0
 TakesLeast v c s chosen = (n : ℕ) → supply_uses v c s n + new_pair_uses chosen (edited v c s) n ≡ times n (take (need v c) (free_blocks v))
 
+-- in an image each part that is set in w whose pair v hasn't stands in the first block of its pair, beside an erased one
+abbrev pub FillsNewPairs : Volume → Volume → Disk → Type 0
+FillsNewPairs v w d = (p : Part) → Contains (thread w.directories) p → p.dirty ≡ true → is_new_to v p.pair ≡ true
+    → FirstIsFilled d.size (block_of d p.pair.0) (block_of d p.pair.1)
+
 -- A patch of an image carries out a command that is asked for: on the volume that the image holds no check refuses the
 -- command, the patch stands in the image, and the patched image holds the edited volume. The blocks that the command takes are the
 -- least free ones, which the patch names, and what is free then are the blocks that were, without them, and those of what was
--- removed or replaced.
+-- removed or replaced. What is new stands in the first blocks of new pairs, the second ones of which are erased.
 pub record Plans (d : Disk) (asked : Asked) (p : ChangeSet) : Type 0 where
   pub volume : Volume
   pub holds : Holds (reading_of d) volume
@@ -56,6 +61,7 @@ pub record Plans (d : Disk) (asked : Asked) (p : ChangeSet) : Type 0 where
   pub patch : IsPatch p
   pub stands : AgreesOld p d
   pub after : Holds (reading_of (applied p d)) (clean (cut chosen (edited volume command supplies)))
+  pub filled : FillsNewPairs volume (cut chosen (edited volume command supplies)) (applied p d)
   pub frugal : IsFrugal volume command supplies (numbers_of p)
   pub taken : TakesLeast volume command supplies chosen
   pub free : free_blocks (clean (cut chosen (edited volume command supplies))) ≡ free_after volume command supplies chosen

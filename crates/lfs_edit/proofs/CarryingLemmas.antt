@@ -31,11 +31,11 @@ use Rattle.lfs_command.specs.Cut.{cut, new_pair_uses}
 use Rattle.lfs_law.specs.CutOutline.{for_parts}
 use Rattle.lfs_command.specs.DirectoryEdit.{each_part}
 use Rattle.lfs_command.specs.Edited.{edited}
-use Rattle.lfs_command.specs.Need.{changed_parts, data_blocks, need}
+use Rattle.lfs_command.specs.Need.{data_blocks, is_new_to, need}
 use Rattle.lfs_law.specs.OutlineCarried.{IsCarried}
 use Rattle.lfs_law.specs.OutlineLaws.{WritesOutline}
-use Rattle.lfs_command.specs.Planned.{HasOneOf, IsFrugal, Plans, TakesLeast}
-use Rattle.lfs_law.specs.PlansHold.{NamesLeast, is_new_to, is_unmarked, rewritten_parts}
+use Rattle.lfs_command.specs.Planned.{IsFrugal, Plans, TakesLeast}
+use Rattle.lfs_law.specs.PlansHold.{is_unmarked}
 use Rattle.lfs_law.specs.PlansWritten.{WritesCommand}
 use Rattle.lfs_command.specs.Supplies.{AreFree, Supplies, supply_uses}
 use Rattle.lfs_law.specs.SuperblockBytes.{volume_bytes}
@@ -247,18 +247,8 @@ finish laws d c used blocks o w p disk ready cuts says writes = record { plans =
     holds : Holds (reading_of (applied p d)) (clean after)
     holds = laws.hold d v held c s chosen (is_new_to v) writes.base p accepted pairs volume
 
-    least : NamesLeast v c s (changed_blocks p.changes)
-    least = laws.frugal d v held c s chosen writes.base p accepted pairs taken writes.contents volume
-
-    rewritten : rewritten_parts v (edited v c s) ≡ changed_parts s (edited v c s)
-    rewritten = laws.changed v c s accepted (pairs_differ v ready.sound)
-
     frugal : IsFrugal v c s (changed_blocks p.changes)
-    frugal = record {
-      free = least.free;
-      changed = subst (All (HasOneOf (changed_blocks p.changes))) rewritten least.rewritten;
-      len = least.len ∙ ap (λ (ps : List Part). need v c + length ps) rewritten;
-    }
+    frugal = laws.frugal d v held c s chosen writes.base p accepted pairs taken writes.contents volume
 
     plans : (asked : Asked) → Spells asked c → Plans d asked p
     plans asked spells = record {
@@ -274,6 +264,7 @@ finish laws d c used blocks o w p disk ready cuts says writes = record { plans =
       patch = writes.patch;
       stands = writes.stands;
       after = holds;
+      filled = laws.filled d v after held writes.base p volume;
       frugal = frugal;
       taken = taken;
       free = laws.freed v c s chosen accepted pairs;

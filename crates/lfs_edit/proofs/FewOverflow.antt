@@ -14,8 +14,7 @@ use Rattle.lfs_command.specs.Command.{Command}
 use Rattle.lfs_command.specs.Cut.{is_first, room, runs}
 use Rattle.lfs_command.specs.Edited.{edited}
 use Rattle.lfs_law.specs.Laws.{CommandsFollow}
-use Rattle.lfs_command.specs.Need.{dirty_parts}
-use Rattle.lfs_law.specs.PlansHold.{is_new_to, rewritten_parts}
+use Rattle.lfs_command.specs.Need.{changed_parts, dirty_parts, is_new_to}
 use Rattle.lfs_command.specs.Supplies.{Supplies}
 use Rattle.lfs_law.proofs.FreshPairs.{edited_zero}
 use Rattle.lfs_law.proofs.KeptLinks.{contains_first, contains-cons}
@@ -81,7 +80,7 @@ more_by follow v c s ok p there new =
 -- those of its outline that take more than a block are among those that it rewrites
 pub few_are_more : CommandsFollow → (v : Volume) (c : Command) (s : Supplies) → IsAccepted v c s
     → length (filter (is_more (outlined (edited v c s))) (dirty_parts (outlined (edited v c s))))
-    ≤ length (rewritten_parts v (edited v c s))
+    ≤ length (changed_parts v (edited v c s))
 few_are_more follow v c s ok =
     let w : Volume = edited v c s in
     let o : Volume = outlined w in

@@ -16,10 +16,9 @@ use Rattle.lfs_edit.specs.CarryingLaws.{CarryingLaws}
 use Rattle.lfs_cut.specs.Chosen.{HasPairsOnce}
 use Rattle.lfs_command.specs.Command.{Command}
 use Rattle.lfs_command.specs.Edited.{edited}
-use Rattle.lfs_command.specs.Need.{dirty_parts, need, part_blocks}
+use Rattle.lfs_command.specs.Need.{changed_parts, dirty_parts, need, part_blocks}
 use Rattle.lfs_law.specs.OutlineCarried.{IsCarried}
-use Rattle.lfs_law.specs.PlansHold.{rewritten_parts}
-use Rattle.lfs_edit.proofs.CarryingLemmas.{pairs_differ, within_need}
+use Rattle.lfs_edit.proofs.CarryingLemmas.{within_need}
 use Rattle.lfs_edit.proofs.FewOverflow.{few_are_more, is_more}
 use Rattle.lfs_law.proofs.FrugalPlans.{enough_free}
 use Rattle.lfs_law.proofs.OutlineRoom.{outlines_take_same_room}
@@ -82,10 +81,5 @@ known_ready laws d c used blocks o ready = record {
     carried : IsCarried v c (supplies_of v c) (λ p. []) o
     carried = subst (IsCarried v c (supplies_of v c) (λ p. [])) (sym ready.outline) (laws.carried v c (supplies_of v c) (λ p. []))
 
-    few : length (rewritten_parts v w) ≤ 2
-    few =
-        omega (
-          arith,
-          ap length (laws.changed v c (supplies_of v c) accepted (pairs_differ v ready.sound)),
-          laws.few v c (supplies_of v c) accepted (laws.marks (reading_of d) v held),
-        )
+    few : length (changed_parts v w) ≤ 2
+    few = laws.few v c (supplies_of v c) accepted (laws.marks (reading_of d) v held)

@@ -27,9 +27,9 @@ use Rattle.lfs_law.specs.CutOutline.{for_parts}
 use Rattle.lfs_law.specs.CutWritten.{CutLinksCanBeAdded, HeldBytesAreMade}
 use Rattle.lfs_command.specs.Edited.{edited}
 use Rattle.lfs_write.specs.Laid.{AreLaidFor}
-use Rattle.lfs_command.specs.Need.{data_blocks, need}
+use Rattle.lfs_command.specs.Need.{changed_parts, data_blocks, is_new_to, need}
 use Rattle.lfs_law.specs.PairWritten.{CanBeAdded}
-use Rattle.lfs_law.specs.PlansHold.{is_new_to, is_unmarked, rewritten_blocks, rewritten_parts}
+use Rattle.lfs_law.specs.PlansHold.{is_unmarked, rewritten_blocks}
 use Rattle.lfs_command.specs.Supplies.{Supplies}
 use Rattle.lfs_law.specs.SuperblockBytes.{volume_bytes}
 use Rattle.lfs_law.specs.WrittenLinks.{AreWritten, CanBeMade, changed_blocks}
@@ -177,7 +177,7 @@ writes_over laws some d c used blocks w ready known base cs laid written = recor
     named = changed_named d v c s chosen (volume_bytes w) after.attributes base cs known.all.accepted known.all.pairs known.all.taken
         laid.contents old
 
-    by : (ps : List Part) → rewritten_parts v (edited v c s) ≡ ps → 1 ≤ length ps → cs ≡ [] → ⊥
+    by : (ps : List Part) → changed_parts v (edited v c s) ≡ ps → 1 ≤ length ps → cs ≡ [] → ⊥
     by [] is many none = absurd (omega (arith, many))
     by (p ∷ ps) is many none =
         let n : ℕ = other_number d p.pair in
@@ -193,4 +193,4 @@ writes_over laws some d c used blocks w ready known base cs laid written = recor
         ))
 
     something : cs ≢ []
-    something = by (rewritten_parts v (edited v c s)) refl (some v c s known.all.accepted)
+    something = by (changed_parts v (edited v c s)) refl (some v c s known.all.accepted)

@@ -29,7 +29,7 @@ use Rattle.lfs_command.specs.Home.{home_of}
 use Rattle.lfs_command.specs.Edited.{with_body, with_entry_attributes, renamed, new_entry, empty_directory, set_attributes, make_directory}
 use Rattle.lfs_command.specs.Edited.{put_file, drop_target, remove_entry, move_entry, edited}
 use Rattle.lfs_command.specs.Accepted.{IsAccepted}
-use Rattle.lfs_law.specs.PlansHold.{is_new_to}
+use Rattle.lfs_command.specs.Need.{is_new_to}
 use Rattle.lfs_law.specs.CommandsSet.{CommandsSetAPart}
 use Rattle.lfs_command.specs.declared.refusal.Refusal.TheVariants.{IsRoot, NotFound, IntoItself}
 use Rattle.lfs_command.specs.Verdict.{refuse_if, walk_refusal, is_root, lies_below}

@@ -31,7 +31,7 @@ use Rattle.lfs_law.specs.CutWritten.{CutLinksCanBeWritten}
 use Rattle.lfs_command.specs.Cut.{cut, is_first, new_pairs}
 use Rattle.lfs_command.specs.Edited.{edited}
 use Rattle.lfs_law.specs.Laws.{CutsFollow}
-use Rattle.lfs_law.specs.PlansHold.{is_new_to}
+use Rattle.lfs_command.specs.Need.{is_new_to}
 use Rattle.lfs_law.specs.WrittenLinks.{stored_entries, CanBeWritten}
 use Rattle.lfs_law.proofs.Cuts.{All-left, All-right}
 use Rattle.lfs_law.proofs.DirectoryEdits.{entries_of}

@@ -1,6 +1,6 @@
 -- A command changes at most two parts, a new directory's own aside.
 use Rattle.std.proofs.Common.{◌≡◌, ℕ, ◌+◌, ◌≤◌, ◌&&◌, ◌||◌, not, Bool, true, false, cond, List, [], ◌∷◌, length, refl, ap, sym, ◌∙◌, subst}
-use Rattle.std.proofs.Common.{arith, Option, Some, None}
+use Rattle.std.proofs.Common.{arith, Option, Some, None, true≢false}
 use Rattle.std.specs.Prelude.{All, sum_by, count_by}
 use Rattle.std.specs.Option.{option_and_then, option_map}
 use Rattle.std.proofs.lemmas.Option.{none-some, same_Some}
@@ -25,7 +25,7 @@ use Rattle.lfs_command.specs.Home.{split_last, home_of}
 use Rattle.lfs_command.specs.Edited.{with_body, with_entry_attributes, renamed, new_entry, empty_directory, set_attributes, make_directory}
 use Rattle.lfs_command.specs.Edited.{put_file, drop_target, remove_entry, move_entry, edited}
 use Rattle.lfs_command.specs.Clean.{IsClean}
-use Rattle.lfs_command.specs.Need.{changed_parts}
+use Rattle.lfs_command.specs.Need.{is_new_to, changed_parts}
 use Rattle.lfs_command.specs.declared.refusal.Refusal.TheVariants.{IsRoot}
 use Rattle.lfs_command.specs.Verdict.{refuse_if, walk_refusal, is_root}
 use Rattle.lfs_law.specs.Laws.{FewPartsChange}
@@ -33,6 +33,8 @@ use Rattle.lfs_law.proofs.Decided.{same_pair_decides}
 use Rattle.lfs_law.proofs.Found.{found_le}
 use Rattle.lfs_law.proofs.AddAfter.{add_found}
 use Rattle.lfs_law.proofs.ThreadEdits.{link_effect, unlink_effect}
+use Rattle.lfs_law.proofs.LinksAdded.{first_used}
+use Rattle.lfs_law.proofs.NamedBlocks.{new_is}
 use Rattle.lfs_law.proofs.Marks.{marks, marks_link, marks_unlink, marks_change, marks_add_after, marks_drop, marks_touch_first}
 use Rattle.lfs_law.proofs.EdgeEdits.{sound_is_good}
 use Rattle.lfs_law.proofs.Homes.{first_passes, test_passes}
@@ -71,12 +73,27 @@ fewer_by true true = omega arith
 fewer_by true false = omega arith
 fewer_by false new = omega arith
 
-pub changed_are_marked : (s : Supplies) (w : Volume) → length (changed_parts s w) ≤ marks (thread w.directories)
-changed_are_marked s w =
-    let few : count_by (λ p. p.dirty && not (same_pair p.pair s.pair)) (thread w.directories) ≤ marks (thread w.directories) =
-    sum_by-le-sum_by (λ (p : Part). cond {A = ℕ} (p.dirty && not (same_pair p.pair s.pair)) 1 0) (λ (p : Part). cond {A = ℕ} p.dirty 1 0)
-    (thread w.directories) (λ p. fewer_by p.dirty (same_pair p.pair s.pair)) in
-    omega (arith, length-filter (λ (p : Part). p.dirty && not (same_pair p.pair s.pair)) (thread w.directories), few)
+pub changed_are_marked : (v w : Volume) → length (changed_parts v w) ≤ marks (thread w.directories)
+changed_are_marked v w =
+    let few : count_by (λ p. p.dirty && not (is_new_to v p.pair)) (thread w.directories) ≤ marks (thread w.directories) =
+    sum_by-le-sum_by (λ (p : Part). cond {A = ℕ} (p.dirty && not (is_new_to v p.pair)) 1 0) (λ (p : Part). cond {A = ℕ} p.dirty 1 0)
+    (thread w.directories) (λ p. fewer_by p.dirty (is_new_to v p.pair)) in
+    omega (arith, length-filter (λ (p : Part). p.dirty && not (is_new_to v p.pair)) (thread w.directories), few)
+
+-- a part whose pair isn't new has another pair than a new one
+other_by : (dirty new same : Bool) → (same ≡ true → new ≡ true) → cond {A = ℕ} (dirty && not new) 1 0 ≤ cond {A = ℕ} (dirty && not same) 1 0
+other_by false new same h = omega arith
+other_by true true same h = omega arith
+other_by true false true h = absurd (true≢false (sym (h refl)))
+other_by true false false h = omega arith
+
+changed_others : (v : Volume) (pair : Pair) → is_new_to v pair ≡ true → (ps : List Part)
+    → count_by (λ p. p.dirty && not (is_new_to v p.pair)) ps ≤ count_by (λ p. p.dirty && not (same_pair p.pair pair)) ps
+changed_others v pair new ps =
+    sum_by-le-sum_by (λ (p : Part). cond {A = ℕ} (p.dirty && not (is_new_to v p.pair)) 1 0)
+    (λ (p : Part). cond {A = ℕ} (p.dirty && not (same_pair p.pair pair)) 1 0) ps
+    (λ p. other_by p.dirty (is_new_to v p.pair) (same_pair p.pair pair)
+    (λ same. ap (is_new_to v) ((same_pair_decides p.pair pair).0 same) ∙ new))
 
 pub unmarked : (ps : List Part) → All (λ p. p.dirty ≡ false) ps → marks ps ≡ 0
 unmarked [] clean = refl
@@ -188,8 +205,8 @@ new_part : (pair : Pair) → count_by (λ p. p.dirty && same_pair p.pair pair) (
 new_part pair = rw ((same_pair_decides pair pair).1 refl) refl
 
 make_few : (v : Volume) (p : Path) (s : Supplies) → IsSound v → IsClean v → IsNewPair v s.pair → (h : Option (Pair × Name))
-    → home_of v p ≡ h → length (changed_parts s (make_directory v s.pair h)) ≤ 2
-make_few v p s sound clean new None is = omega (arith, changed_are_marked s v, unmarked (thread v.directories) clean)
+    → home_of v p ≡ h → length (changed_parts v (make_directory v s.pair h)) ≤ 2
+make_few v p s sound clean new None is = omega (arith, changed_are_marked v v, unmarked (thread v.directories) clean)
 make_few v p s sound clean new (Some h) is =
     let d : Directory = empty_directory s.pair in
     let e : Entry = new_entry h.1 (Directory_at s.pair) in
@@ -204,7 +221,8 @@ make_few v p s sound clean new (Some h) is =
     found_le (λ (x : Directory). count_by (λ q. q.dirty && same_pair q.pair s.pair) (parts x)) (begins_at (key d)) ds d found in
     omega (
       arith,
-      length-filter (λ (q : Part). q.dirty && not (same_pair q.pair s.pair)) (thread ds),
+      length-filter (λ (q : Part). q.dirty && not (is_new_to v q.pair)) (thread ds),
+      changed_others v s.pair (new_is v s.pair (omega (arith, new.once s.pair.0, first_used s.pair))) (thread ds),
       count_splits s.pair (thread ds),
       there,
       new_part s.pair,
@@ -231,13 +249,13 @@ few_parts_change ordered v (Mkdir p) s ok clean = make_few v p s ok.sound clean 
 few_parts_change ordered v (Put p bytes) s ok clean =
     omega (
       arith,
-      changed_are_marked s (edited v (Put p bytes) s),
+      changed_are_marked v (edited v (Put p bytes) s),
       put_few v p (new_body v s bytes) ordered ok.sound clean (home_of v p)
           (entry_at v p) refl,
     )
 few_parts_change ordered v (Rm p) s ok clean = omega (
   arith,
-  changed_are_marked s (edited v (Rm p) s),
+  changed_are_marked v (edited v (Rm p) s),
   remove_few v p ordered ok.sound clean (home_of v p) (entry_at v p) refl,
 )
 few_parts_change ordered v (Mv p q) s ok clean =
@@ -247,20 +265,20 @@ few_parts_change ordered v (Mv p q) s ok clean =
     let at = is_placed v p ok.sound (All-head (All IsName) p (q ∷ []) ok.names) roots.0 walk.0 in
     omega (
       arith,
-      changed_are_marked s (edited v (Mv p q) s),
+      changed_are_marked v (edited v (Mv p q) s),
       move_few v p q ordered ok.sound clean (home_of v p) (home_of v q)
           (entry_at v p) refl refl refl (at_home v p at),
     )
 few_parts_change ordered v (SetAttr p k value) s ok clean =
     omega (
       arith,
-      changed_are_marked s (edited v (SetAttr p k value) s),
+      changed_are_marked v (edited v (SetAttr p k value) s),
       set_few v p (set_attribute k value) ordered ok.sound clean (home_of v p) refl,
     )
 few_parts_change ordered v (RmAttr p k) s ok clean =
     omega (
       arith,
-      changed_are_marked s (edited v (RmAttr p k) s),
+      changed_are_marked v (edited v (RmAttr p k) s),
       set_few v p (remove_attribute k) ordered ok.sound clean
           (home_of v p) refl,
     )

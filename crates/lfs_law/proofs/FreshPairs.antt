@@ -25,7 +25,7 @@ use Rattle.lfs_command.specs.DirectoryEdit.{link_in, touch_last}
 use Rattle.lfs_command.specs.Edited.{new_entry, empty_directory, make_directory, edited}
 use Rattle.lfs_command.specs.Home.{home_of}
 use Rattle.lfs_law.specs.Laws.{CommandsFollow}
-use Rattle.lfs_law.specs.PlansHold.{is_new_to}
+use Rattle.lfs_command.specs.Need.{is_new_to}
 use Rattle.lfs_command.specs.Supplies.{Supplies}
 use Rattle.lfs_command.specs.ThreadEdit.{link, add_after}
 use Rattle.lfs_command.specs.Verdict.{refuse_if, walk_refusal, is_root}

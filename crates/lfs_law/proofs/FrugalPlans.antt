@@ -23,12 +23,12 @@ use Rattle.lfs_command.specs.Command.{Command}
 use Rattle.lfs_command.specs.Supplies.{Supplies, nothing}
 use Rattle.lfs_command.specs.Edited.{edited}
 use Rattle.lfs_command.specs.Cut.{cut}
-use Rattle.lfs_command.specs.Need.{dirty_parts, need}
+use Rattle.lfs_command.specs.Need.{dirty_parts, changed_parts, is_new_to, need}
 use Rattle.lfs_command.specs.Verdict.{first_refusal, refuse_if, checks, is_too_large, room_checks, verdict}
 use Rattle.lfs_command.specs.Accepted.{AreChosen, IsAccepted}
 use Rattle.lfs_command.specs.Planned.{HasOneOf, TakesLeast}
 use Rattle.lfs_law.specs.WrittenLinks.{AreWritten, changed_blocks}
-use Rattle.lfs_law.specs.PlansHold.{content_blocks, is_new_to, rewritten_parts, rewritten_blocks, PlansAreFrugal}
+use Rattle.lfs_law.specs.PlansHold.{content_blocks, rewritten_blocks, PlansAreFrugal}
 use Rattle.lfs_law.proofs.BlockLemmas.{other_is_one}
 use Rattle.lfs_law.proofs.Homes.{first_passes, test_passes}
 use Rattle.lfs_law.proofs.KeptLinks.{contains_first, contains-cons}
@@ -141,21 +141,21 @@ plans_are_frugal d v held c s chosen base p ok pairs least contents writes =
     let old : List ℕ = rewritten_blocks d v w in
     let named = changed_named d v c s chosen held.bytes (cut chosen w).attributes base p.changes ok pairs least contents writes.written in
     let len : length numbers ≡ length (taken ++ old) = same_length numbers (taken ++ old) named in
-    let many : length old ≡ length (rewritten_parts v w) = length-map (rewritten_parts v w) (λ (q : Part). other_number d q.pair) in
+    let many : length old ≡ length (changed_parts v w) = length-map (changed_parts v w) (λ (q : Part). other_number d q.pair) in
     let all : length taken ≡ need v c = length-take-le (need v c) (free_blocks v) (enough_free v c ok.unrefused) in
     record {
       free = All-weaker (Contains taken) (Contains numbers) (λ n there. times_contains n numbers
           (omega (arith, named n, times_append n taken old, times_there n taken there)))
           taken (All-contains_itself taken);
-      rewritten = All-weaker (Contains (rewritten_parts v w)) (HasOneOf numbers)
+      changed = All-weaker (Contains (changed_parts v w)) (HasOneOf numbers)
           (λ q there. one_of d q numbers
           (times_contains (other_number d q.pair) numbers
           (omega (
             arith,
             named (other_number d q.pair),
             times_append (other_number d q.pair) taken old,
-            times_there (other_number d q.pair) old (contains-map (λ (x : Part). other_number d x.pair) (rewritten_parts v w) q there),
+            times_there (other_number d q.pair) old (contains-map (λ (x : Part). other_number d x.pair) (changed_parts v w) q there),
           ))))
-          (rewritten_parts v w) (All-contains_itself (rewritten_parts v w));
+          (changed_parts v w) (All-contains_itself (changed_parts v w));
       len = omega (arith, len, length-append taken old, many, all);
     }

@@ -1,4 +1,4 @@
--- The least free blocks are free, and the parts that a command rewrites are those that it changes.
+-- The least free blocks are free, and a new pair is that of the supplies.
 use Rattle.std.proofs.Common.{◌≡◌, ◌⊎◌, ℕ, zero, suc, ◌+◌, ◌<◌, ◌≤◌, Bool, true, false, cond, List, [], ◌∷◌, take, refl, ap, sym, ◌∙◌}
 use Rattle.std.proofs.Common.{subst, arith, inl, inr}
 use Rattle.std.specs.Prelude.{All, Contains, ◌&&◌, not, if◌then◌else◌}
@@ -14,9 +14,9 @@ use Rattle.lfs_command.specs.Command.{Command, Mkdir, Put, Rm, Mv, SetAttr, RmAt
 use Rattle.lfs_command.specs.Supplies.{Supplies, supply_uses}
 use Rattle.lfs_command.specs.Edited.{edited}
 use Rattle.lfs_command.specs.Cut.{new_pair_uses}
-use Rattle.lfs_command.specs.Need.{need}
+use Rattle.lfs_command.specs.Need.{need, is_new_to}
 use Rattle.lfs_command.specs.Accepted.{IsAccepted}
-use Rattle.lfs_law.specs.PlansHold.{is_new_to, LeastAreFree, RewrittenAreChanged}
+use Rattle.lfs_law.specs.PlansHold.{LeastAreFree}
 use Rattle.lfs_law.proofs.Decided.{same_pair_decides}
 use Rattle.lfs_law.proofs.FreeBlocks.{taken_once, taken_free}
 use Rattle.lfs_law.proofs.KeptLinks.{contains_first, contains-cons}
@@ -48,7 +48,7 @@ least_are_free v c s chosen sound least = (
       | inr some ↦ omega (arith, least b, taken_once v (need v c) b, (taken_free v (need v c) b some).0)
     ]
 
--- ---- the parts that are rewritten
+-- ---- new pairs
 
 -- one, where a pair is new and isn't the pair of the supplies
 abbrev new_elsewhere : Volume → Supplies → Pair → ℕ
@@ -92,49 +92,3 @@ new_is_supplied v c s p there new =
     by : (t : Bool) → cond {A = ℕ} t 0 1 ≡ 0 → t ≡ true
     by true h = refl
     by false h = let no : ⊥ = omega (arith, h) in absurd no
-
--- one for the pair of the supplies
-abbrev supplied_total : Supplies → Pair → ℕ
-supplied_total s pair = if same_pair pair s.pair then 1 else 0
-
--- where a command makes no directory, and the volume hasn't the pair of the supplies, no part has it
-not_supplied : (v : Volume) (c : Command) (s : Supplies) → made_total (supplied_total s) c s ≡ 0
-    → All (λ p. same_pair p.pair s.pair ≡ false) (thread v.directories)
-    → (p : Part) → Contains (thread (edited v c s).directories) p → same_pair p.pair s.pair ≡ true → ⊥
-not_supplied v c s none others p there same =
-    let before : total (supplied_total s) v.directories ≡ 0 =
-    sum_zero (λ (x : Part). supplied_total s x.pair) (thread v.directories)
-    (λ x inside. ap (λ (t : Bool). cond {A = ℕ} t 1 0) (All-contains (λ (y : Part). same_pair y.pair s.pair ≡ false)
-    (thread v.directories) x others inside)) in
-    let le : supplied_total s p.pair ≤ total (supplied_total s) (edited v c s).directories =
-    one_le (λ (x : Part). supplied_total s x.pair) (thread (edited v c s).directories) p there in
-    let one : supplied_total s p.pair ≡ 1 = ap (λ (t : Bool). cond {A = ℕ} t 1 0) same in
-    omega (arith, before, le, one, none, edited_total (supplied_total s) v c s)
-
-supplied_is_new : (v : Volume) (c : Command) (s : Supplies) → IsAccepted v c s
-    → All (λ p. same_pair p.pair s.pair ≡ false) (thread v.directories)
-    → (p : Part) → Contains (thread (edited v c s).directories) p → same_pair p.pair s.pair ≡ true → is_new_to v p.pair ≡ true
-supplied_is_new v (Mkdir path) s ok others p there same =
-    let is : p.pair ≡ s.pair = (same_pair_decides p.pair s.pair).0 same in
-    subst (λ (k : Pair). is_new_to v k ≡ true) (sym is) (new_is v s.pair (omega (arith, ok.free.once s.pair.0, first_used s.pair)))
-supplied_is_new v (Put path bytes) s ok others p there same = absurd (not_supplied v (Put path bytes) s refl others p there same)
-supplied_is_new v (Rm path) s ok others p there same = absurd (not_supplied v (Rm path) s refl others p there same)
-supplied_is_new v (Mv from to) s ok others p there same = absurd (not_supplied v (Mv from to) s refl others p there same)
-supplied_is_new v (SetAttr path k value) s ok others p there same = absurd
-    (not_supplied v (SetAttr path k value) s refl others p there same)
-supplied_is_new v (RmAttr path k) s ok others p there same = absurd (not_supplied v (RmAttr path k) s refl others p there same)
-
-same_test : (a b : Bool) → (a ≡ true → b ≡ true) → (b ≡ true → a ≡ true) → a ≡ b
-same_test true b there back = sym (there refl)
-same_test false true there back = back refl
-same_test false false there back = refl
-
-filter_on : (f g : Part → Bool) (ps : List Part) → ((p : Part) → Contains ps p → f p ≡ g p) → filter f ps ≡ filter g ps
-filter_on f g [] same = refl
-filter_on f g (p ∷ ps) same = rw (same p (contains_first p ps), filter_on f g ps (λ q there. same q (contains-cons p ps q there))) refl
-
-pub rewritten_are_changed : RewrittenAreChanged
-rewritten_are_changed v c s ok others =
-    filter_on (λ p. p.dirty && not (is_new_to v p.pair)) (λ p. p.dirty && not (same_pair p.pair s.pair)) (thread (edited v c s).directories)
-    (λ p there. ap (λ (t : Bool). p.dirty && not t)
-    (same_test (is_new_to v p.pair) (same_pair p.pair s.pair) (new_is_supplied v c s p there) (supplied_is_new v c s ok others p there)))

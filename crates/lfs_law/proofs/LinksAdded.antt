@@ -9,13 +9,14 @@ use Rattle.std.proofs.lemmas.List.Sums.{sum_by-cons, sum_by-append}
 use Rattle.lfs_block.specs.Change.{Change}
 use Rattle.lfs_block.specs.Disk.{Disk}
 use Rattle.lfs_meta.specs.Body.{Pair}
+use Rattle.lfs_meta.specs.LiveBlock.{revision}
 use Rattle.lfs_meta.specs.Part.{StoredPart}
 use Rattle.lfs_meta.specs.Writing.{other_number, part_in}
 use Rattle.lfs_fs.specs.Directory.{Part}
 use Rattle.lfs_fs.specs.Thread.{Link}
 use Rattle.lfs_fs.specs.Uses.{times, pair_uses}
 use Rattle.lfs_law.specs.WrittenLinks.{changed_blocks, block_after, part_after, written_blocks, set_blocks, links_blocks, set_uses}
-use Rattle.lfs_law.specs.WrittenLinks.{link_part, MakesLink}
+use Rattle.lfs_law.specs.WrittenLinks.{link_part, FillsFirst, MakesLink}
 use Rattle.lfs_law.specs.OutlineLaws.{LinksAreAdded, LinksAreFree, LinksAreLeft, NoLinksAreWritten}
 use Rattle.lfs_law.proofs.BlockLemmas.{other_is_one}
 use Rattle.lfs_law.proofs.KeptLinks.{contains_cases}
@@ -100,6 +101,10 @@ pub pair_stays : (d : Disk) (pair : Pair) (old new : List Change) (part : Stored
 pair_stays d pair old new part first second holds =
     ap (λ (b : List ℕ). part_in b (block_after d new pair.1)) first ∙ ap (part_in (block_after d old pair.0)) second ∙ holds
 
+pub first_stays : (d : Disk) (pair : Pair) (old new : List Change) → block_after d new pair.0 ≡ block_after d old pair.0
+    → block_after d new pair.1 ≡ block_after d old pair.1 → FillsFirst d old pair → FillsFirst d new pair
+first_stays d pair old new first second filled = record { revised = ap revision first ∙ filled.revised; erased = second ∙ filled.erased }
+
 -- what the last link writes is of no block of an earlier one
 apart_from : (d : Disk) (is_new : Pair → Bool) (ls : List Link) (l m : Link) (n : ℕ) → l.part.dirty ≡ true → Contains ls m
     → m.part.dirty ≡ true → 1 ≤ pair_uses n m.part
@@ -126,8 +131,8 @@ links_are_added d bytes attributes is_new base ls l old new set once written add
       adds.adds.others n none ∙ written.kept n some;
   makes = λ m there set_there. elim (Contains-append_cases ls (l ∷ []) m there) [
     | inl before ↦ makes_before m before set_there
-    | inr last ↦ subst (MakesLink d bytes attributes new) (sym (contains_one l m last))
-        (record { delta = adds.delta; delta_is = adds.delta_is; part = adds.adds.back })
+    | inr last ↦ subst (MakesLink d bytes attributes is_new new) (sym (contains_one l m last))
+        (record { delta = adds.delta; delta_is = adds.delta_is; part = adds.adds.back; filled = adds.filled })
   ];
 }
   where
@@ -136,15 +141,17 @@ links_are_added d bytes attributes is_new base ls l old new set once written add
     block_stays m n before set_before used = adds.adds.others n (apart_from d is_new ls l m n set before set_before used
         (omega (arith, once n)))
 
-    makes_before : (m : Link) → Contains ls m → m.part.dirty ≡ true → MakesLink d bytes attributes new m
+    makes_before : (m : Link) → Contains ls m → m.part.dirty ≡ true → MakesLink d bytes attributes is_new new m
     makes_before m before set_before =
-        let made : MakesLink d bytes attributes old m = written.makes m before set_before in
+        let made : MakesLink d bytes attributes is_new old m = written.makes m before set_before in
         record {
           delta = made.delta;
           delta_is = made.delta_is;
           part = pair_stays d m.part.pair old new (link_part bytes attributes m made.delta)
               (block_stays m m.part.pair.0 before set_before (first_used m.part.pair))
               (block_stays m m.part.pair.1 before set_before (second_used m.part.pair)) made.part;
+          filled = λ fresh. first_stays d m.part.pair old new (block_stays m m.part.pair.0 before set_before (first_used m.part.pair))
+              (block_stays m m.part.pair.1 before set_before (second_used m.part.pair)) (made.filled fresh);
         }
 
 true-false : true ≡ false → ⊥

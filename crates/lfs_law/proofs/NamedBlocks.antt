@@ -32,7 +32,8 @@ use Rattle.lfs_command.specs.Cut.{runs, more_parts, cut, new_pairs, HasEnough, n
 use Rattle.lfs_command.specs.Verdict.{refuse_if, walk_refusal, is_root}
 use Rattle.lfs_command.specs.Accepted.{IsAccepted, AreChosen}
 use Rattle.lfs_law.specs.WrittenLinks.{written_blocks, set_blocks, links_blocks, set_uses}
-use Rattle.lfs_law.specs.PlansHold.{content_blocks, is_new_to, BlocksAreWrittenOnce, BlocksAreTaken}
+use Rattle.lfs_command.specs.Need.{is_new_to}
+use Rattle.lfs_law.specs.PlansHold.{content_blocks, BlocksAreWrittenOnce, BlocksAreTaken}
 use Rattle.lfs_law.proofs.Cuts.{cut_part, pair_times, pairs_for, head_by, tail_by, all_uses, cut_thread}
 use Rattle.lfs_law.proofs.DirectoryEdits.{keeps_link}
 use Rattle.lfs_law.proofs.Homes.{first_passes, test_passes}

@@ -1,10 +1,11 @@
 -- Where the links of an outline are written, its volume is.
 use Rattle.std.proofs.Common.{◌≡◌, ◌≢◌, ℕ, ◌==◌, Bool, true, false, cond, List, [], ◌∷◌, ◌++◌, length, refl, ap, sym, ◌∙◌, subst, arith}
 use Rattle.std.proofs.Common.{map, Some}
-use Rattle.std.specs.Prelude.{Contains}
+use Rattle.std.specs.Prelude.{All, Contains, replicate}
 use Rattle.std.specs.List.{AllZip, AllByRecursion}
 use Rattle.std.proofs.lemmas.Bool.Decides.{nat_tests}
 use Rattle.std.proofs.lemmas.List.{length-replicate, map-append}
+use Rattle.std.proofs.lemmas.List.Elements.{All-map, All-contains, All-contains_itself, All-weaker}
 use Rattle.std.proofs.lemmas.List.Folds.{flat_map-map}
 use Rattle.std.proofs.lemmas.List.Sums.{sum_by-cons}
 use Rattle.lfs_block.specs.Change.{Change}
@@ -14,26 +15,29 @@ use Rattle.lfs_block.specs.PatchLaws.{AppliedBlocks, AppliedIsDisk}
 use Rattle.lfs_meta.specs.declared.kind.Kind.TheVariants.{Super}
 use Rattle.lfs_meta.specs.declared.tail.Tail.{Tail}
 use Rattle.lfs_meta.specs.Body.{Pair}
-use Rattle.lfs_meta.specs.LiveBlock.{stored_part_of}
+use Rattle.lfs_meta.specs.LiveBlock.{revision, stored_part_of}
 use Rattle.lfs_meta.specs.Writing.{part_in}
 use Rattle.lfs_fs.specs.AsStored.{head_of, stored_kind, stored_body, stored_entry}
 use Rattle.lfs_fs.specs.Entry.{Body, Inline, Chain, Directory_at, Entry}
-use Rattle.lfs_fs.specs.Directory.{Part, Directory}
+use Rattle.lfs_fs.specs.Directory.{Part, Directory, thread}
 use Rattle.lfs_fs.specs.Outlined.{outlined_body, outlined_part, outlined_directories, outlined}
 use Rattle.lfs_fs.specs.Volume.{Volume}
 use Rattle.lfs_fs.specs.Thread.{Link, links_of, links, tail_to, hard_to}
 use Rattle.lfs_fs.specs.Uses.{times, pair_uses}
 use Rattle.lfs_fs.specs.Reading.{Reading, reading_of}
 use Rattle.lfs_fs.specs.Stored.{BodyStands, Stands, IsStored, HoldsLinks}
+use Rattle.lfs_command.specs.Need.{is_new_to}
+use Rattle.lfs_command.specs.PartWritten.{FirstIsFilled}
 use Rattle.lfs_law.specs.Written.{cleaned_link}
-use Rattle.lfs_law.specs.WrittenLinks.{changed_blocks, block_after, set_blocks, links_blocks, set_uses, link_part, MakesLink}
-use Rattle.lfs_law.specs.OutlineLaws.{IsThere, WritesOutline, OutlinesAreWritten}
+use Rattle.lfs_law.specs.WrittenLinks.{changed_blocks, block_after, set_blocks, links_blocks, set_uses, link_part}
+use Rattle.lfs_law.specs.WrittenLinks.{FillsFirst, MakesLink}
+use Rattle.lfs_law.specs.OutlineLaws.{IsThere, WritesOutline, NewPairsAreFilled, OutlinesAreWritten}
 use Rattle.lfs_law.proofs.ChangesAt.{overlaid_none}
 use Rattle.lfs_law.proofs.KeptLinks.{contains_first, contains-cons}
 use Rattle.lfs_law.proofs.LinksAdded.{times_cons, times_append, written_within, one_use, set_is}
 use Rattle.lfs_law.proofs.OutlineEntries.{outlined_entries}
 use Rattle.lfs_law.proofs.OutlineDirectories.{outlined_parts}
-use Rattle.lfs_law.proofs.WrittenLemmas.{contains-map, part_there}
+use Rattle.lfs_law.proofs.WrittenLemmas.{contains-map, part_there, parts_of_links}
 
 -- ---- the links of an outline
 
@@ -151,7 +155,7 @@ link_stored : AppliedBlocks → (d : Disk) (v w : Volume) (held : HoldsLinks (re
     → (l : Link) → Contains (links w.directories) l → l.part.dirty ≡ true
     → IsStored (reading_of (applied p d)) held.bytes w.attributes (cleaned_link l)
 link_stored blocks d v w held is_new base p writes l there set =
-    let made : MakesLink d held.bytes w.attributes p.changes (outlined_link l) =
+    let made : MakesLink d held.bytes w.attributes is_new p.changes (outlined_link l) =
     writes.written.makes (outlined_link l) (outline_there w l there) set in
     record {
       stored = link_part held.bytes w.attributes (outlined_link l) made.delta;
@@ -186,3 +190,26 @@ outlines_are_written disk blocks d v w held is_new base p writes =
       written = link_stored blocks d v w held is_new base p writes;
       attributes = writes.attributes;
     }
+
+-- what holds of the parts of links holds of parts
+of_links : (P : Part → Type 0) (ls : List Link) → ((l : Link) → Contains ls l → P l.part) → All P (map (λ (l : Link). l.part) ls)
+of_links P ls each = All-map P (λ (l : Link). l.part) ls (All-weaker (Contains ls) (λ (l : Link). P l.part) each ls (All-contains_itself ls))
+
+pub new_pairs_are_filled : AppliedIsDisk → AppliedBlocks → NewPairsAreFilled
+new_pairs_are_filled disk blocks d v w held base p writes q there = All-contains Filled (thread w.directories) q
+    (subst (All Filled) (parts_of_links w.directories) (of_links Filled (links w.directories) of_link)) there
+  where
+    Filled : Part → Type 0
+    Filled x = x.dirty ≡ true → is_new_to v x.pair ≡ true
+        → FirstIsFilled (applied p d).size (block_of (applied p d) x.pair.0) (block_of (applied p d) x.pair.1)
+
+    of_link : (l : Link) → Contains (links w.directories) l → Filled l.part
+    of_link l inside set new =
+        let made : MakesLink d held.bytes w.attributes (is_new_to v) p.changes (outlined_link l) =
+        writes.written.makes (outlined_link l) (outline_there w l inside) set in
+        let first : FillsFirst d p.changes l.part.pair = made.filled new in
+        record {
+          revised = ap revision (blocks p d l.part.pair.0 writes.disk writes.patch writes.stands) ∙ first.revised;
+          erased = blocks p d l.part.pair.1 writes.disk writes.patch writes.stands ∙ first.erased
+              ∙ ap (λ (n : ℕ). replicate n 0xff) (sym (disk p d writes.disk writes.patch writes.stands).size);
+        }

@@ -10,7 +10,8 @@ use Rattle.lfs_fs.specs.Thread.{Link}
 use Rattle.lfs_fs.specs.Used.{Marks}
 use Rattle.lfs_fs.specs.Uses.{times, uses}
 use Rattle.lfs_law.specs.WrittenLinks.{set_blocks, links_blocks}
-use Rattle.lfs_law.specs.PlansHold.{is_new_to, is_unmarked, TablesTellNew}
+use Rattle.lfs_command.specs.Need.{is_new_to}
+use Rattle.lfs_law.specs.PlansHold.{is_unmarked, TablesTellNew}
 
 told : (t : Bool) (n : ℕ) → cond {A = ℕ} t 1 0 ≡ n → not t ≡ (n == 0)
 told true n h = ap (λ (m : ℕ). m == 0) h
@@ -36,5 +37,12 @@ tables_tell_new v used marks d bytes attributes base ls cs written = record {
   made = written.made;
   named = λ n. omega (arith, written.named n, ap (times n) (links_alike d (is_unmarked used) (is_new_to v) (told_so v used marks) ls));
   kept = written.kept;
-  makes = written.makes;
+  makes = λ l there set.
+      let made = written.makes l there set in
+      record {
+        delta = made.delta;
+        delta_is = made.delta_is;
+        part = made.part;
+        filled = λ new. made.filled (told_so v used marks l.part.pair ∙ new);
+      };
 }

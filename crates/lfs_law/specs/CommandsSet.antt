@@ -5,8 +5,8 @@ use Rattle.lfs_command.specs.Command.{Command}
 use Rattle.lfs_command.specs.Supplies.{Supplies}
 use Rattle.lfs_command.specs.Edited.{edited}
 use Rattle.lfs_command.specs.Accepted.{IsAccepted}
-use Rattle.lfs_law.specs.PlansHold.{rewritten_parts}
+use Rattle.lfs_command.specs.Need.{changed_parts}
 
 -- the law: an accepted command sets a part whose pair the volume has
 abbrev pub CommandsSetAPart : Type 0
-CommandsSetAPart = (v : Volume) (c : Command) (s : Supplies) → IsAccepted v c s → 1 ≤ length (rewritten_parts v (edited v c s))
+CommandsSetAPart = (v : Volume) (c : Command) (s : Supplies) → IsAccepted v c s → 1 ≤ length (changed_parts v (edited v c s))

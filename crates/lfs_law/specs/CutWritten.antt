@@ -18,7 +18,8 @@ use Rattle.lfs_command.specs.Command.{Command}
 use Rattle.lfs_command.specs.Cut.{cut}
 use Rattle.lfs_command.specs.Edited.{edited}
 use Rattle.lfs_law.specs.PairWritten.{CanBeAdded}
-use Rattle.lfs_law.specs.PlansHold.{content_blocks, is_new_to, is_unmarked}
+use Rattle.lfs_command.specs.Need.{is_new_to}
+use Rattle.lfs_law.specs.PlansHold.{content_blocks, is_unmarked}
 use Rattle.lfs_law.specs.SuperblockBytes.{volume_bytes}
 use Rattle.lfs_command.specs.Supplies.{Supplies}
 use Rattle.lfs_law.specs.WrittenLinks.{changed_blocks, CanBeMade, CanBeWritten}

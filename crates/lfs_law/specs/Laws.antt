@@ -49,7 +49,7 @@ NeedIsExact = (v : Volume) (c : Command) (s : Supplies) (chosen : Part → List 
 
 -- at most two parts are changed, a new directory's own aside
 abbrev pub FewPartsChange : Type 0
-FewPartsChange = (v : Volume) (c : Command) (s : Supplies) → IsAccepted v c s → IsClean v → length (changed_parts s (edited v c s)) ≤ 2
+FewPartsChange = (v : Volume) (c : Command) (s : Supplies) → IsAccepted v c s → IsClean v → length (changed_parts v (edited v c s)) ≤ 2
 
 -- a command's uses of blocks: what it removes or replaces goes, its supplies and new pairs come
 abbrev pub UsesAfter : Type 0

@@ -15,6 +15,8 @@ use Rattle.lfs_fs.specs.Thread.{Link, links}
 use Rattle.lfs_fs.specs.Uses.{times, uses}
 use Rattle.lfs_fs.specs.Reading.{Reading, reading_of}
 use Rattle.lfs_fs.specs.Stored.{HoldsLinks}
+use Rattle.lfs_command.specs.Need.{is_new_to}
+use Rattle.lfs_command.specs.Planned.{FillsNewPairs}
 use Rattle.lfs_law.specs.Written.{Writes}
 use Rattle.lfs_law.specs.WrittenLinks.{changed_blocks, set_uses, CanBeMade, IsFreeFor, AddsLink, AreWritten}
 
@@ -69,3 +71,8 @@ abbrev pub OutlinesAreWritten : Type 0
 OutlinesAreWritten = (d : Disk) (v w : Volume) (held : HoldsLinks (reading_of d) v) (is_new : Pair → Bool) (base : List Change)
     (p : ChangeSet)
     → WritesOutline d v w held is_new base p → Writes d (applied p d) v w held
+
+-- the law: then new pairs are filled
+abbrev pub NewPairsAreFilled : Type 0
+NewPairsAreFilled = (d : Disk) (v w : Volume) (held : HoldsLinks (reading_of d) v) (base : List Change) (p : ChangeSet)
+    → WritesOutline d v w held (is_new_to v) base p → FillsNewPairs v w (applied p d)

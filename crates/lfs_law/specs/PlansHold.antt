@@ -1,21 +1,18 @@
 -- What a written outline of an accepted command leaves, and which blocks it is written to (own).
-use Rattle.std.specs.Prelude.{◌≡◌, ℕ, ◌+◌, ◌<◌, ◌≤◌, ◌==◌, ◌&&◌, not, nat_le, Bool, false, List, [], All, Contains, if◌then◌else◌, length}
-use Rattle.std.specs.Prelude.{map, take, slice_index_or}
-use Rattle.std.specs.List.{filter}
+use Rattle.std.specs.Prelude.{◌≡◌, ℕ, ◌+◌, ◌<◌, ◌≤◌, not, nat_le, Bool, false, List, [], if◌then◌else◌, length, map}
+use Rattle.std.specs.Prelude.{slice_index_or}
 use Rattle.lfs_block.specs.Change.{Change}
 use Rattle.lfs_block.specs.Disk.{Disk}
 use Rattle.lfs_block.specs.Patch.{ChangeSet, applied}
 use Rattle.lfs_meta.specs.Attribute.{Attributes}
 use Rattle.lfs_meta.specs.Body.{Pair}
 use Rattle.lfs_meta.specs.Writing.{other_number}
-use Rattle.lfs_fs.specs.Pair.{same_pair}
-use Rattle.lfs_fs.specs.Directory.{Part, thread}
+use Rattle.lfs_fs.specs.Directory.{Part}
 use Rattle.lfs_fs.specs.Outlined.{outlined}
 use Rattle.lfs_fs.specs.Volume.{Volume}
 use Rattle.lfs_fs.specs.Thread.{Link, links}
 use Rattle.lfs_fs.specs.Used.{Marks}
 use Rattle.lfs_fs.specs.Uses.{times, uses}
-use Rattle.lfs_fs.specs.Free.{free_blocks}
 use Rattle.lfs_fs.specs.Sound.{IsSound}
 use Rattle.lfs_fs.specs.Reading.{reading_of}
 use Rattle.lfs_fs.specs.Holds.{Holds}
@@ -26,8 +23,8 @@ use Rattle.lfs_command.specs.Edited.{edited}
 use Rattle.lfs_command.specs.Cut.{cut, new_pair_uses}
 use Rattle.lfs_command.specs.Clean.{clean}
 use Rattle.lfs_command.specs.Accepted.{IsAccepted, AreChosen}
-use Rattle.lfs_command.specs.Need.{changed_parts, need}
-use Rattle.lfs_command.specs.Planned.{HasOneOf, TakesLeast}
+use Rattle.lfs_command.specs.Need.{is_new_to, changed_parts}
+use Rattle.lfs_command.specs.Planned.{IsFrugal, TakesLeast}
 use Rattle.lfs_law.specs.WrittenLinks.{changed_blocks, links_blocks, set_uses, AreWritten}
 use Rattle.lfs_law.specs.OutlineLaws.{WritesOutline}
 
@@ -49,10 +46,6 @@ content_blocks v (Mv p q) s = []
 content_blocks v (SetAttr p k value) s = []
 content_blocks v (RmAttr p k) s = []
 
--- a pair whose first block the volume doesn't use
-abbrev pub is_new_to : Volume → Pair → Bool
-is_new_to v pair = uses pair.0 v == 0
-
 -- a pair whose first block a table doesn't mark
 abbrev pub is_unmarked : List Bool → Pair → Bool
 is_unmarked used pair = not (slice_index_or used pair.0 false)
@@ -63,13 +56,9 @@ TablesTellNew = (v : Volume) (used : List Bool) → Marks used (λ b. uses b v)
     → (d : Disk) (bytes : List ℕ) (attributes : Attributes) (base : List Change) (ls : List Link) (cs : List Change)
     → AreWritten d bytes attributes (is_unmarked used) base ls cs → AreWritten d bytes attributes (is_new_to v) base ls cs
 
--- the parts that are set in w whose pairs v has
-abbrev pub rewritten_parts : Volume → Volume → List Part
-rewritten_parts v w = filter (λ p. p.dirty && not (is_new_to v p.pair)) (thread w.directories)
-
--- those of their blocks that aren't live, one of each pair
+-- the blocks that aren't live of the parts that are set in w whose pairs v has, one of each pair
 abbrev pub rewritten_blocks : Disk → Volume → Volume → List ℕ
-rewritten_blocks d v w = map (λ p. other_number d p.pair) (rewritten_parts v w)
+rewritten_blocks d v w = map (λ p. other_number d p.pair) (changed_parts v w)
 
 -- the law: no block is written twice
 abbrev pub BlocksAreWrittenOnce : Type 0
@@ -90,21 +79,9 @@ LeastAreFree = (v : Volume) (c : Command) (s : Supplies) (chosen : Part → List
     × ((b : ℕ) → uses b v + supply_uses v c s b + new_pair_uses chosen (edited v c s) b ≤ 1)
     × ((b : ℕ) → 0 < new_pair_uses chosen (edited v c s) b → b < v.count)
 
--- the law: the parts that are rewritten are those that are changed, where the pair of the supplies is none of the volume's
-abbrev pub RewrittenAreChanged : Type 0
-RewrittenAreChanged = (v : Volume) (c : Command) (s : Supplies) → IsAccepted v c s
-    → All (λ p. same_pair p.pair s.pair ≡ false) (thread v.directories)
-    → rewritten_parts v (edited v c s) ≡ changed_parts s (edited v c s)
-
--- The blocks that are changed: the least free ones, as many as the command needs, and one of the pair of each part that it rewrites.
-pub record NamesLeast (v : Volume) (c : Command) (s : Supplies) (numbers : List ℕ) : Type 0 where
-  pub free : All (Contains numbers) (take (need v c) (free_blocks v))
-  pub rewritten : All (HasOneOf numbers) (rewritten_parts v (edited v c s))
-  pub len : length numbers ≡ need v c + length (rewritten_parts v (edited v c s))
-
--- the law: so many blocks are changed
+-- the law: no block is changed but the least free ones that the command takes, and one of the pair of each part that it changes
 abbrev pub PlansAreFrugal : Type 0
 PlansAreFrugal = (d : Disk) (v : Volume) (held : HoldsLinks (reading_of d) v) (c : Command) (s : Supplies)
     (chosen : Part → List Pair) (base : List Change) (p : ChangeSet)
     → IsAccepted v c s → AreChosen v c s chosen → TakesLeast v c s chosen → changed_blocks base ≡ content_blocks v c s
-    → WritesOutline d v (cut chosen (edited v c s)) held (is_new_to v) base p → NamesLeast v c s (changed_blocks p.changes)
+    → WritesOutline d v (cut chosen (edited v c s)) held (is_new_to v) base p → IsFrugal v c s (changed_blocks p.changes)

@@ -19,6 +19,7 @@ use Rattle.lfs_fs.specs.State.{little_endian}
 use Rattle.lfs_fs.specs.Thread.{Link}
 use Rattle.lfs_fs.specs.Uses.{pair_uses, times}
 use Rattle.lfs_fs.specs.Stored.{stored_before}
+use Rattle.lfs_command.specs.PartWritten.{FirstIsFilled}
 
 -- the stored entries of a part, the superblock's in front in the root's first one
 abbrev pub stored_entries : List ℕ → Attributes → Part → List StoredEntry
@@ -37,6 +38,10 @@ block_after d cs n = overlaid cs n (block_of d n)
 -- the part that a pair then holds
 abbrev pub part_after : Disk → List Change → Pair → Option StoredPart
 part_after d cs pair = part_in (block_after d cs pair.0) (block_after d cs pair.1)
+
+-- the first block of a pair then has revision 1, and the second one is erased
+abbrev pub FillsFirst : Disk → List Change → Pair → Type 0
+FillsFirst d cs pair = FirstIsFilled d.size (block_after d cs pair.0) (block_after d cs pair.1)
 
 -- a change that can be made of an image
 pub record CanBeMade (d : Disk) (c : Change) : Type 0 where
@@ -92,20 +97,23 @@ pub record AddsPart (d : Disk) (pair : Pair) (blocks : List ℕ) (part : StoredP
 abbrev pub link_part : List ℕ → Attributes → Link → List ℕ → StoredPart
 link_part bytes attributes l delta = stored_part (stored_entries bytes attributes l.part) l.tail delta
 
--- the same of a link's pair and the part that it is to hold
+-- the same of a link's pair and the part that it is to hold, where a new pair holds it in its first block
 pub record AddsLink (d : Disk) (bytes : List ℕ) (attributes : Attributes) (is_new : Pair → Bool) (l : Link)
     (old new : List Change) : Type 0 where
   pub delta : List ℕ
   pub delta_is : little_endian delta ≡ l.part.delta
   pub adds : AddsPart d l.part.pair (written_blocks d is_new l.part.pair) (link_part bytes attributes l delta) old new
+  pub filled : is_new l.part.pair ≡ true → FillsFirst d new l.part.pair
 
 -- ---- all links
 
--- the changes make a link's pair hold it
-pub record MakesLink (d : Disk) (bytes : List ℕ) (attributes : Attributes) (cs : List Change) (l : Link) : Type 0 where
+-- the changes make a link's pair hold it, a new one in its first block
+pub record MakesLink (d : Disk) (bytes : List ℕ) (attributes : Attributes) (is_new : Pair → Bool)
+    (cs : List Change) (l : Link) : Type 0 where
   pub delta : List ℕ
   pub delta_is : little_endian delta ≡ l.part.delta
   pub part : part_after d cs l.part.pair ≡ Some (link_part bytes attributes l delta)
+  pub filled : is_new l.part.pair ≡ true → FillsFirst d cs l.part.pair
 
 -- Changes of blocks of the pairs of links that are set, beside those in `base`, and no others, which stay. They make the pairs
 -- of the links that are set hold them.
@@ -115,4 +123,4 @@ pub record AreWritten (d : Disk) (bytes : List ℕ) (attributes : Attributes) (i
   pub made : AllByRecursion (CanBeMade d) cs
   pub named : (n : ℕ) → times n (changed_blocks cs) ≡ times n (changed_blocks base) + times n (links_blocks d is_new ls)
   pub kept : (n : ℕ) → 0 < times n (changed_blocks base) → block_after d cs n ≡ block_after d base n
-  pub makes : (l : Link) → Contains ls l → l.part.dirty ≡ true → MakesLink d bytes attributes cs l
+  pub makes : (l : Link) → Contains ls l → l.part.dirty ≡ true → MakesLink d bytes attributes is_new cs l

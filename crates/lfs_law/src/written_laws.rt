@@ -1,8 +1,8 @@
 //! Laws of what is written of an outline: each function does nothing but call laws, and its contract is the law.
 
 ghost use Rattle.lfs_law.specs.CutWritten.{CutLinksCanBeAdded, CutLinksCanBeWritten, HeldBytesAreMade, NewPairsAreFresh};
-ghost use Rattle.lfs_law.specs.OutlineLaws.{LinksAreAdded, LinksAreFree, LinksAreLeft, NoLinksAreWritten, OutlinesAreWritten};
-ghost use Rattle.lfs_law.specs.PlansHold.{BlocksAreTaken, BlocksAreWrittenOnce, LeastAreFree, PlansAreFrugal, PlansHold, RewrittenAreChanged, TablesTellNew};
+ghost use Rattle.lfs_law.specs.OutlineLaws.{LinksAreAdded, LinksAreFree, LinksAreLeft, NewPairsAreFilled, NoLinksAreWritten, OutlinesAreWritten};
+ghost use Rattle.lfs_law.specs.PlansHold.{BlocksAreTaken, BlocksAreWrittenOnce, LeastAreFree, PlansAreFrugal, PlansHold, TablesTellNew};
 ghost use Rattle.lfs_law.specs.PlansWritten.{CommandsAreWritten, LaidAreThere};
 
 use crate::laws::{commands_are_frugal, commands_follow, cuts_follow, written_volumes_are_held};
@@ -28,11 +28,13 @@ pub fn links_are_written_in_turn()
 {}
 
 /// A law: where a patch writes the links of an outline, the chains of its volume are there, and nothing else that the old volume
-/// used is written, the patch writes the volume. Takes no memory.
+/// used is written, the patch writes the volume (`written`), and what is new stands in the first blocks of new pairs (`filled`). Takes no
+/// memory.
 ///
 /// Source: own.
 pub fn outlines_are_written()
-    ensures { OutlinesAreWritten }
+    ensures written { OutlinesAreWritten }
+    ensures filled { NewPairsAreFilled }
 {
     applied_patches_change_their_blocks();
 }
@@ -59,13 +61,11 @@ pub fn written_blocks_are_taken()
     ensures once { BlocksAreWrittenOnce }
 {}
 
-/// A law: the least free blocks are free (`free`), and the parts that a command rewrites are those that it changes (`changed`). Takes
-/// no memory.
+/// A law: the least free blocks are free. Takes no memory.
 ///
 /// Source: own.
 pub fn least_blocks_are_free()
-    ensures free { LeastAreFree }
-    ensures changed { RewrittenAreChanged }
+    ensures { LeastAreFree }
 {}
 
 /// A law: a table of the blocks that a volume uses tells its pairs from new ones. Takes no memory.

@@ -20,7 +20,7 @@ use Rattle.lfs_law.specs.WrittenLinks.{IsFreeFor, AddsLink, AreWritten}
 use Rattle.lfs_law.proofs.ChangesAt.{overlaid_none}
 use Rattle.lfs_law.proofs.KeptLinks.{contains_first, contains_left, contains_right}
 use Rattle.lfs_law.proofs.LeastBlocks.{none_or_some}
-use Rattle.lfs_law.proofs.LinksAdded.{times_append, first_used, second_used, one_use, set_use, pair_stays, written_uses, links_are_added}
+use Rattle.lfs_law.proofs.LinksAdded.{times_append, first_used, second_used, one_use, set_use, pair_stays, first_stays, written_uses, links_are_added}
 use Rattle.lfs_law.proofs.LinksAdded.{links_are_free, no_links_are_written}
 use Rattle.lfs_law.proofs.OutlinesWritten.{none_named}
 use Rattle.lfs_law.proofs.WrittenLemmas.{one_le}
@@ -86,15 +86,17 @@ module _ (d : Disk) (bytes : List ℕ) (attributes : Attributes) (is_new : Pair 
 
   link_stays : (old mid new : List Change) (ls ms : List Link) → CanBeAdded d bytes attributes is_new old (ls ++ ms)
       → AreWritten d bytes attributes is_new old ls mid → AreWritten d bytes attributes is_new mid ms new
-      → (l : Link) → Contains ls l → l.part.dirty ≡ true → MakesLink d bytes attributes new l
+      → (l : Link) → Contains ls l → l.part.dirty ≡ true → MakesLink d bytes attributes is_new new l
   link_stays old mid new ls ms can first second l there set =
-      let made : MakesLink d bytes attributes mid l = first.makes l there set in
+      let made : MakesLink d bytes attributes is_new mid l = first.makes l there set in
       let stays = block_stays old mid new ls ms can first second l there set in
       record {
         delta = made.delta;
         delta_is = made.delta_is;
         part = pair_stays d l.part.pair mid new (link_part bytes attributes l made.delta) (stays l.part.pair.0 (first_used l.part.pair))
             (stays l.part.pair.1 (second_used l.part.pair)) made.part;
+        filled = λ fresh. first_stays d l.part.pair mid new (stays l.part.pair.0 (first_used l.part.pair))
+            (stays l.part.pair.1 (second_used l.part.pair)) (made.filled fresh);
       }
 
   pub both_written : (old mid new : List Change) (ls ms : List Link) → CanBeAdded d bytes attributes is_new old (ls ++ ms)

@@ -1,6 +1,6 @@
 -- Changes put among others that make a pair hold a part.
 use Rattle.std.proofs.Common.{◌≡◌, ◌≢◌, ℕ, ◌+◌, ◌<◌, ◌==◌, nat_lt, Bool, true, false, cond, List, [], ◌∷◌, refl, ap, sym, ◌∙◌, subst, arith}
-use Rattle.std.proofs.Common.{inl, inr, length, Some}
+use Rattle.std.proofs.Common.{inl, inr, length, Some, true≢false}
 use Rattle.std.specs.Prelude.{if◌then◌else◌, replicate}
 use Rattle.std.specs.List.{AllByRecursion}
 use Rattle.std.proofs.lemmas.Bool.{cases_eq}
@@ -9,17 +9,19 @@ use Rattle.lfs_block.specs.Bytes.{IsBytes}
 use Rattle.lfs_block.specs.Change.{Change, IsRising, overlaid}
 use Rattle.lfs_block.specs.Disk.{Disk, IsDisk, block_of, put}
 use Rattle.lfs_block.specs.PatchLaws.{BlockPut, BlockPutOther}
+use Rattle.lfs_tag.specs.Commit.{Item}
 use Rattle.lfs_meta.specs.Attribute.{Attributes}
 use Rattle.lfs_meta.specs.Body.{Pair}
 use Rattle.lfs_meta.specs.Entry.{StoredEntry}
-use Rattle.lfs_meta.specs.LiveBlock.{stored_part_of}
+use Rattle.lfs_meta.specs.LiveBlock.{revision, stored_part_of}
 use Rattle.lfs_meta.specs.Part.{StoredPart}
-use Rattle.lfs_meta.specs.Writing.{other_number, part_in, stored_part}
+use Rattle.lfs_meta.specs.Spelling.{part_tags}
+use Rattle.lfs_meta.specs.Writing.{IsFirstBlock, log_written, other_number, part_in, stored_part}
 use Rattle.lfs_fs.specs.Thread.{Link}
 use Rattle.lfs_fs.specs.Uses.{times}
 use Rattle.lfs_law.specs.PairWritten.{AddsChange, IsLinkStored}
 use Rattle.lfs_command.specs.PartWritten.{Found, change_at, with_change}
-use Rattle.lfs_law.specs.WrittenLinks.{changed_blocks, block_after, link_part, CanBeMade, IsFreeFor, AddsPart, AddsLink}
+use Rattle.lfs_law.specs.WrittenLinks.{changed_blocks, block_after, link_part, CanBeMade, FillsFirst, IsFreeFor, AddsPart, AddsLink}
 use Rattle.lfs_law.proofs.BlockLemmas.{block_bytes, other_is_one}
 use Rattle.lfs_law.proofs.ChangesAt.{change_whole, overlaid_none, with_all, with_rising}
 use Rattle.lfs_law.proofs.LinksAdded.{times_cons}
@@ -149,10 +151,9 @@ second_free d pair block old mid apart free adds =
     omega (arith, adds.named pair.1, free.second, other)
 
 pub pair_filled : (d : Disk) (pair : Pair) (first second : List ℕ) (part : StoredPart) (old mid cs : List Change) → pair.0 ≢ pair.1
-    → part_in first second ≡ Some part
     → AddsChange d (change_at d pair.0 first) old mid → AddsChange d (change_at d pair.1 second) mid cs
-    → AddsPart d pair (pair.0 ∷ pair.1 ∷ []) part old cs
-pair_filled d pair first second part old mid cs apart back one two = record {
+    → part_in first second ≡ Some part → AddsPart d pair (pair.0 ∷ pair.1 ∷ []) part old cs
+pair_filled d pair first second part old mid cs apart one two back = record {
   rising = two.rising;
   made = two.made;
   named = λ n. omega (arith, one.named n, two.named n, times_cons n pair.0 (pair.1 ∷ []), times_cons n pair.0 []);
@@ -163,14 +164,27 @@ pair_filled d pair first second part old mid cs apart back one two = record {
   back = ap (λ (b : List ℕ). part_in b (block_after d cs pair.1)) (two.others pair.0 apart ∙ one.here) ∙ ap (part_in first) two.here ∙ back;
 }
 
+-- revision 1 is read back
+log_first : (tags : List Item) (block : List ℕ) → revision (log_written 1 tags block) ≡ 1
+log_first tags block = refl
+
+pub first_filled : (d : Disk) (pair : Pair) (size : ℕ) (part : StoredPart) (first second : List ℕ) (old mid cs : List Change)
+    → pair.0 ≢ pair.1 → size ≡ d.size → IsFirstBlock size part first → second ≡ replicate size 0xff
+    → AddsChange d (change_at d pair.0 first) old mid → AddsChange d (change_at d pair.1 second) mid cs
+    → FillsFirst d cs pair
+first_filled d pair size part first second old mid cs apart same is erased one two = record {
+  revised = ap revision (two.others pair.0 apart ∙ one.here ∙ is.bytes) ∙ log_first (part_tags part) (replicate size 0xff);
+  erased = two.here ∙ erased ∙ ap (λ (n : ℕ). replicate n 0xff) same;
+}
+
 -- ---- a link
 
 pub link_filled : (d : Disk) (bytes : List ℕ) (attributes : Attributes) (is_new : Pair → Bool) (l : Link) (part : Found)
     (old cs : List Change) → is_new l.part.pair ≡ true → l.part.delta ≡ 0
     → IsLinkStored bytes attributes l part → AddsPart d part.0 (part.0.0 ∷ part.0.1 ∷ [])
-    (stored_part part.1.entries part.1.tail (replicate 12 0)) old cs
+    (stored_part part.1.entries part.1.tail (replicate 12 0)) old cs → FillsFirst d cs part.0
     → AddsLink d bytes attributes is_new l old cs
-link_filled d bytes attributes is_new l part old cs new none stored adds = record {
+link_filled d bytes attributes is_new l part old cs new none stored adds filled = record {
   delta = replicate 12 0;
   delta_is = sym none;
   adds = subst (λ (t : Bool). AddsPart d l.part.pair (if t then l.part.pair.0 ∷ l.part.pair.1 ∷ [] else other_number d l.part.pair ∷ [])
@@ -179,6 +193,7 @@ link_filled d bytes attributes is_new l part old cs new none stored adds = recor
       (stored_part s.entries s.tail (replicate 12 0)) old cs) stored.part_is
       (subst (λ (k : Pair). AddsPart d k (k.0 ∷ k.1 ∷ []) (stored_part part.1.entries part.1.tail (replicate 12 0)) old cs) stored.pair
       adds));
+  filled = λ fresh. subst (FillsFirst d cs) stored.pair filled;
 }
 
 pub link_rewritten : (d : Disk) (bytes : List ℕ) (attributes : Attributes) (is_new : Pair → Bool) (l : Link) (part : Found)
@@ -192,4 +207,5 @@ link_rewritten d bytes attributes is_new l part old cs unset stored adds = recor
       (link_part bytes attributes l stored.delta) old cs) (sym unset)
       (subst (λ (s : StoredPart). AddsPart d l.part.pair (other_number d l.part.pair ∷ []) s old cs) stored.part_is
       (subst (λ (k : Pair). AddsPart d k (other_number d k ∷ []) part.1 old cs) stored.pair adds));
+  filled = λ new. absurd (true≢false (sym new ∙ unset));
 }

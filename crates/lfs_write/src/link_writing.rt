@@ -11,7 +11,7 @@ ghost use Rattle.lfs_law.specs.PairWritten.{AddsChange, CanBeAdded, FitsPair, Is
 ghost use Rattle.lfs_command.specs.PartWritten.{change_at};
 ghost use Rattle.lfs_law.specs.PlansHold.{is_unmarked};
 ghost use Rattle.lfs_law.specs.SuperblockBytes.{volume_bytes};
-ghost use Rattle.lfs_law.specs.WrittenLinks.{AddsLink, AddsPart, AreWritten, CanBeMade, CanBeWritten, IsFreeFor, changed_blocks};
+ghost use Rattle.lfs_law.specs.WrittenLinks.{AddsLink, AddsPart, AreWritten, CanBeMade, CanBeWritten, FillsFirst, IsFreeFor, changed_blocks};
 
 use crate::storing::stored_entries;
 use crate::writing::{add, change_of};
@@ -70,8 +70,8 @@ fn rewrite_pair(
     Ok(())
 }
 
-/// Puts the changes that make a new pair hold a part among others: of both its blocks, the second of which is erased. The part's delta
-/// is zero then. The caller owes what `FitsPair` says, and that no other change is of the pair's blocks.
+/// Puts the changes that make a new pair hold a part among others: of both its blocks, of which the first one has the part and the second
+/// one is erased. The part's delta is zero then. The caller owes what `FitsPair` says, and that no other change is of the pair's blocks.
 fn fill_pair(
     alloc: Global,
     image: &Image,
@@ -80,8 +80,9 @@ fn fill_pair(
 ) -> Result<(), AllocError>
     requires fits { FitsPair image.now part.now }
     requires free { IsFreeFor image.now part.now.0 changes.old.items }
-    ensures { OnOk result (AddsPart image.now part.now.0 (part.now.0.0 ∷ part.now.0.1 ∷ [])
+    ensures adds { OnOk result (AddsPart image.now part.now.0 (part.now.0.0 ∷ part.now.0.1 ∷ [])
         (stored_part part.now.1.entries part.now.1.tail (replicate 12 0)) changes.old.items changes.new.items) }
+    ensures filled { OnOk result (FillsFirst image.now changes.new.items part.now.0) }
 {
     let size = image.size();
     let Some(block) = first_block(alloc, size, &part.entries, part.tail) else {

@@ -5,7 +5,7 @@ pub returns : goal.returns
 returns c =
     volumes_take_one_more (record {
       carried = c.outlines_are_carried.ensures.carried;
-      least = c.least_blocks_are_free.ensures.free;
+      least = c.least_blocks_are_free.ensures;
       cuts = c.cuts_follow.ensures.cut;
       cleans = c.cuts_follow.ensures.clean;
       after = c.free_after.ensures.uses;

@@ -1,5 +1,9 @@
-use Rattle.lfs_law.proofs.OutlinesWritten.{outlines_are_written}
+use Rattle.lfs_law.proofs.OutlinesWritten.{outlines_are_written, new_pairs_are_filled}
 use Rattle.lfs_law.proofs.written_laws.outlines_are_written.Goals as goal
 
-pub returns : goal.returns
-returns c = outlines_are_written c.applied_patches_change_their_blocks.ensures.disk c.applied_patches_change_their_blocks.ensures.blocks
+pub returns-clause-written : goal.returns-clause-written
+returns-clause-written c = outlines_are_written c.applied_patches_change_their_blocks.ensures.disk c.applied_patches_change_their_blocks.ensures.blocks
+
+pub returns-clause-filled : goal.returns-clause-filled
+returns-clause-filled c = new_pairs_are_filled c.applied_patches_change_their_blocks.ensures.disk
+    c.applied_patches_change_their_blocks.ensures.blocks

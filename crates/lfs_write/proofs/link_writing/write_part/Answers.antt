@@ -23,7 +23,7 @@ returns c =
       | then-is_unmarked+in_ok-fill_pair w ↦
           (let new : is_new c.args.part.now.pair ≡ true = sym told ∙ w.if-is_unmarked.true in
           rw w.changes-is (link_filled d bytes attributes is_new l stored old w.fill_pair.new.changes.items new
-          (c.requires.fresh new) c.in_ok-stored.ensures w.in_ok-fill_pair.ensures))
+          (c.requires.fresh new) c.in_ok-stored.ensures w.in_ok-fill_pair.ensures.adds w.in_ok-fill_pair.ensures.filled))
       | else-is_unmarked+in_ok-rewrite_pair w ↦
           rw w.changes-is (link_rewritten d bytes attributes is_new l stored old w.rewrite_pair.new.changes.items (sym told
           ∙ w.if-is_unmarked.false) c.in_ok-stored.ensures w.in_ok-rewrite_pair.ensures)
