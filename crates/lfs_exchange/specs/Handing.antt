@@ -1,5 +1,5 @@
 -- What a step is handed of a host, and which faults the host gives rise to (own).
-use Rattle.std.specs.Prelude.{ℕ, ◌≡◌, List, [], Option}
+use Rattle.std.specs.Prelude.{ℕ, ◌≡◌, ◌⊎◌, List, [], Option}
 use Rattle.lfs_command.specs.declared.refusal.Refusal.TheVariants.{Memory}
 use Rattle.lfs_change.specs.declared.fault.Fault.{Fault}
 use Rattle.lfs_change.specs.declared.fault.Fault.TheVariants.{Refused, CannotRead, CannotWrite}
@@ -7,19 +7,12 @@ use Rattle.lfs_exchange.specs.declared.step_kind.StepKind.{StepKind}
 use Rattle.lfs_exchange.specs.declared.step_kind.StepKind.TheVariants.{Makes, Changes}
 use Rattle.lfs_step.specs.declared.step.Step.{Step}
 use Rattle.lfs_step.specs.declared.step.Step.TheVariants.{Put}
-use Rattle.lfs_host.specs.Files.{Files, FindsFile, ReadsFile, ReadsInput}
+use Rattle.lfs_host.specs.declared.read_fault.ReadFault.{ReadFault}
+use Rattle.lfs_host.specs.declared.read_fault.ReadFault.TheVariants as reading
+use Rattle.lfs_host.specs.Files.{Files, FindsFile, IsMissing, ReadsFile, ReadsInput}
+use Rattle.lfs_host.specs.Scene.{HasRefused, Scene}
 use Rattle.lfs_exchange.specs.StepKind.{kind_of}
 use Rattle.lfs_exchange.specs.Storing.{journal_name}
-
--- what is known of a host: its files, what is left on standard input, and what was printed
-pub record Scene : Type 0 where
-  pub files : Option Files
-  pub typed : Option (List ℕ)
-  pub printed : Option (List ℕ)
-
--- the same, from its parts
-abbrev pub scene : Option Files → Option (List ℕ) → Option (List ℕ) → Scene
-scene files typed printed = record { files = files; typed = typed; printed = printed }
 
 -- the most bytes that an image has
 abbrev pub most_image : ℕ
@@ -28,10 +21,6 @@ most_image = 67108864
 -- the most bytes that a file in an image has
 abbrev pub most_input : ℕ
 most_input = 2147483647
-
--- files and what was printed stay as they were
-abbrev pub KeepsScene : Scene → Scene → Type 0
-KeepsScene old new = (new.files ≡ old.files) × (new.printed ≡ old.printed)
 
 -- the most bytes that a journal has: 1,000 changes of all blocks of a largest image
 abbrev pub most_journal : ℕ
@@ -64,9 +53,25 @@ pub record IsHanded (step : Step) (name : List ℕ) (s : Scene) (h : HandedBytes
   pub journal : HandsJournal (kind_of step) s.files name h.journal
   pub input : HandsInput step s.typed h.input
 
--- a fault that the host alone gives rise to: what it refused, or want of memory
-abbrev pub IsOfHost : Fault → Type 0
-IsOfHost CannotRead = Unit {0}
-IsOfHost CannotWrite = Unit {0}
-IsOfHost (Refused refusal) = refusal ≡ Memory
-IsOfHost _ = ⊥
+-- ---- faults of the host
+
+-- a fault that the host alone gives rise to: it has refused something, or memory was wanting
+abbrev pub IsOfHost : Scene → Fault → Type 0
+IsOfHost scene CannotRead = HasRefused scene
+IsOfHost scene CannotWrite = HasRefused scene
+IsOfHost scene (Refused refusal) = refusal ≡ Memory
+IsOfHost scene _ = ⊥
+
+-- why the file of a name isn't at hand: such a fault, or there is no such file
+abbrev pub IsNotAimed : Scene → List ℕ → Fault → Type 0
+IsNotAimed scene name fault = IsOfHost scene fault ⊎ ((fault ≡ CannotRead) × IsMissing scene.files name)
+
+-- what a fault of reading is told as
+abbrev pub fault_of_reading : ReadFault → Fault
+fault_of_reading reading.Memory = Refused Memory
+fault_of_reading reading.CannotRead = CannotRead
+
+-- the same of a file that is written and not read, where the image is made
+abbrev pub fault_at : StepKind → ReadFault → Fault
+fault_at Makes reading.CannotRead = CannotWrite
+fault_at kind fault = fault_of_reading fault

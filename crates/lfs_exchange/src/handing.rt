@@ -1,14 +1,16 @@
 //! What a step is handed of a host.
 
 ghost use Rattle.std.specs.Prelude.{◌≡◌, IfErr, IfOk, string_bytes};
-ghost use Rattle.lfs_host.specs.Files.{IsTarget};
-ghost use Rattle.lfs_exchange.specs.Handing.{HandsImage, HandsInput, HandsJournal, IsHanded, IsOfHost, scene};
+ghost use Rattle.lfs_host.specs.Files.{FindsFile, IsTarget};
+ghost use Rattle.lfs_host.specs.Scene.{KeepsAll, KeepsScene};
+ghost use Rattle.lfs_exchange.specs.Handing.{HandsImage, HandsInput, HandsJournal, IsHanded, IsNotAimed, IsOfHost, fault_at, fault_of_reading, most_journal};
+ghost use Rattle.lfs_exchange.specs.Storing.{journal_name};
 
 use crate::names::journal_name;
 use crate::step_kind::{StepKind, kind_of};
 use lfs_block::MAX_IMAGE_LENGTH;
 use lfs_edit::Refusal;
-use lfs_host::{Host, Keeping, ReadFault};
+use lfs_host::{Host, Lock, ReadFault};
 use lfs_step::{Fault, Step};
 use std::alloc::Global;
 
@@ -29,16 +31,16 @@ pub struct Handed {
     pub input: Vec<u8>,
 }
 
-/// The file that a name leads to, kept for this run where it is to be changed or replaced.
+/// The file that a name leads to, locked for this run where it is to be changed or replaced.
 pub fn aimed<H: Host>(
     alloc: Global,
     host: &mut H,
     kind: StepKind,
     name: &str,
 ) -> Result<String, Fault>
-    ensures target { IfOk result (λ target. IsTarget (H.files host.old) name.now (string_bytes target)) }
-    ensures refused { IfErr result IsOfHost }
-    ensures kept { (H.files host.new ≡ H.files host.old) × (H.typed host.new ≡ H.typed host.old) × (H.printed host.new ≡ H.printed host.old) }
+    ensures target { IfOk result (λ target. IsTarget (H.known host.old).files name.now (string_bytes target)) }
+    ensures refused { IfErr result (IsNotAimed (H.known host.new) name.now) }
+    ensures kept { KeepsAll (H.known host.old) (H.known host.new) }
 {
     let target = match host.target(alloc, name) {
         Ok(target) => target,
@@ -46,20 +48,20 @@ pub fn aimed<H: Host>(
     };
     match kind {
         StepKind::Asks => {}
-        _ => keep(host, kind, target.as_str())?,
+        _ => lock(host, kind, target.as_str())?,
     }
     Ok(target)
 }
 
-/// Keeps an image's file for this run. One that is made need not be there.
-fn keep<H: Host>(host: &mut H, kind: StepKind, name: &str) -> Result<(), Fault>
-    ensures refused { IfErr result IsOfHost }
-    ensures kept { (H.files host.new ≡ H.files host.old) × (H.typed host.new ≡ H.typed host.old) × (H.printed host.new ≡ H.printed host.old) }
+/// Locks an image's file for this run. One that is made need not be there.
+fn lock<H: Host>(host: &mut H, kind: StepKind, name: &str) -> Result<(), Fault>
+    ensures refused { IfErr result (IsNotAimed (H.known host.new) name.now) }
+    ensures kept { KeepsAll (H.known host.old) (H.known host.new) }
 {
-    match (host.keep(name), kind) {
-        (Ok(Keeping::Kept), _) | (Ok(Keeping::NoFile), StepKind::Makes) => Ok(()),
-        (Ok(Keeping::KeptByAnother), _) | (Err(_), StepKind::Makes) => Err(Fault::CannotWrite),
-        (Ok(Keeping::NoFile), _) | (Err(_), _) => Err(Fault::CannotRead),
+    match (host.lock(name), kind) {
+        (Ok(Lock::Held), _) | (Ok(Lock::NoFile), StepKind::Makes) => Ok(()),
+        (Ok(Lock::HeldByAnother), _) | (Err(_), StepKind::Makes) => Err(Fault::CannotWrite),
+        (Ok(Lock::NoFile), _) | (Err(_), _) => Err(Fault::CannotRead),
     }
 }
 
@@ -70,10 +72,10 @@ pub fn hand_over<H: Host>(
     step: &Step<'_>,
     name: &str,
 ) -> Result<Handed, Fault>
-    ensures handed { IfOk result (λ h. IsHanded step.now name.now (scene (H.files host.old) (H.typed host.old) (H.printed host.old))
+    ensures handed { IfOk result (λ h. IsHanded step.now name.now (H.known host.old)
         (record { image = h.image.items; journal = h.journal.items; input = h.input.items })) }
-    ensures refused { IfErr result IsOfHost }
-    ensures kept { (H.files host.new ≡ H.files host.old) × (H.printed host.new ≡ H.printed host.old) }
+    ensures refused { IfErr result (IsOfHost (H.known host.new)) }
+    ensures kept { KeepsScene (H.known host.old) (H.known host.new) }
 {
     let kind = kind_of(step);
     let image = image_of(alloc, host, kind, name)?;
@@ -93,15 +95,16 @@ fn image_of<H: Host>(
     kind: StepKind,
     name: &str,
 ) -> Result<Vec<u8>, Fault>
-    ensures image { IfOk result (λ bytes. HandsImage kind (H.files host.old) name.now bytes.items) }
-    ensures refused { IfErr result IsOfHost }
-    ensures kept { (H.files host.new ≡ H.files host.old) × (H.typed host.new ≡ H.typed host.old) × (H.printed host.new ≡ H.printed host.old) }
+    ensures image { IfOk result (λ bytes. HandsImage kind (H.known host.old).files name.now bytes.items) }
+    ensures refused { IfErr result (IsOfHost (H.known host.new)) }
+    ensures kept { KeepsAll (H.known host.old) (H.known host.new) }
 {
-    match kind {
-        StepKind::Makes => Ok(Vec::new(alloc)),
-        _ => host
-            .read(alloc, name, MAX_IMAGE_LENGTH)
-            .map_err(fault_of_reading),
+    if let StepKind::Makes = kind {
+        return Ok(Vec::new(alloc));
+    }
+    match host.read(alloc, name, MAX_IMAGE_LENGTH) {
+        Ok(bytes) => Ok(bytes),
+        Err(fault) => Err(fault_of_reading(fault)),
     }
 }
 
@@ -112,35 +115,49 @@ fn journal_of<H: Host>(
     kind: StepKind,
     name: &str,
 ) -> Result<Vec<u8>, Fault>
-    ensures journal { IfOk result (λ bytes. HandsJournal kind (H.files host.old) name.now bytes.items) }
-    ensures refused { IfErr result IsOfHost }
-    ensures kept { (H.files host.new ≡ H.files host.old) × (H.typed host.new ≡ H.typed host.old) × (H.printed host.new ≡ H.printed host.old) }
+    ensures journal { IfOk result (λ bytes. HandsJournal kind (H.known host.old).files name.now bytes.items) }
+    ensures refused { IfErr result (IsOfHost (H.known host.new)) }
+    ensures kept { KeepsAll (H.known host.old) (H.known host.new) }
 {
     match kind {
-        StepKind::Changes => {
-            let journal = journal_name(alloc, name)?;
-            host.find(alloc, journal.as_str(), MOST_JOURNAL)
-                .map_err(fault_of_reading)
-        }
+        StepKind::Changes => find_journal(alloc, host, name),
         _ => Ok(Vec::new(alloc)),
+    }
+}
+
+/// The bytes of the journal of an image's file; none where there is no such journal.
+fn find_journal<H: Host>(alloc: Global, host: &mut H, name: &str) -> Result<Vec<u8>, Fault>
+    ensures journal { IfOk result (λ bytes. FindsFile (H.known host.old).files (journal_name name.now) most_journal bytes.items) }
+    ensures refused { IfErr result (IsOfHost (H.known host.new)) }
+    ensures kept { KeepsAll (H.known host.old) (H.known host.new) }
+{
+    let journal = journal_name(alloc, name)?;
+    match host.find(alloc, journal.as_str(), MOST_JOURNAL) {
+        Ok(bytes) => Ok(bytes),
+        Err(fault) => Err(fault_of_reading(fault)),
     }
 }
 
 /// What a step reads: the contents of a file that is put.
 fn input_of<H: Host>(alloc: Global, host: &mut H, step: &Step<'_>) -> Result<Vec<u8>, Fault>
-    ensures input { IfOk result (λ input. HandsInput step.now (H.typed host.old) input.items) }
-    ensures refused { IfErr result IsOfHost }
-    ensures kept { (H.files host.new ≡ H.files host.old) × (H.printed host.new ≡ H.printed host.old) }
+    ensures input { IfOk result (λ input. HandsInput step.now (H.known host.old).typed input.items) }
+    ensures refused { IfErr result (IsOfHost (H.known host.new)) }
+    ensures kept { KeepsScene (H.known host.old) (H.known host.new) }
 {
-    match step {
-        Step::Put { .. } => host.input(alloc, MOST_INPUT).map_err(fault_of_reading),
-        _ => Ok(Vec::new(alloc)),
+    let Step::Put { .. } = step else {
+        return Ok(Vec::new(alloc));
+    };
+    match host.input(alloc, MOST_INPUT) {
+        Ok(bytes) => Ok(bytes),
+        Err(fault) => Err(fault_of_reading(fault)),
     }
 }
 
-/// What the program ends with where nothing is read.
-fn fault_of_reading(fault: ReadFault) -> Fault
-    ensures { IsOfHost result }
+/// What a fault of reading is told as.
+///
+/// Source: own.
+pub fn fault_of_reading(fault: ReadFault) -> Fault
+    ensures { result ≡ fault_of_reading fault }
 {
     match fault {
         ReadFault::Memory => Fault::Refused(Refusal::Memory),
@@ -150,7 +167,7 @@ fn fault_of_reading(fault: ReadFault) -> Fault
 
 /// The same for a file that is written and not read, where the image is made.
 fn fault_at(kind: StepKind, fault: ReadFault) -> Fault
-    ensures { IsOfHost result }
+    ensures { result ≡ fault_at kind fault }
 {
     match (kind, fault) {
         (StepKind::Makes, ReadFault::CannotRead) => Fault::CannotWrite,

@@ -1,12 +1,12 @@
 //! Standard output as a sink.
 
-ghost use Rattle.std.specs.Prelude.{◌≡◌, false};
+ghost use Rattle.std.specs.Prelude.{◌≡◌, false, true};
 
 use lfs_host::{Host, HostFault};
 use lfs_sink::Sink;
 
-/// A host's standard output as a sink: what went out is what the host printed, and no write changes which host it is, its
-/// files or what is left on its standard input.
+/// A host's standard output as a sink: what went out is what the host printed. No write changes which host it is, its files, what is
+/// left on its standard input, and that it has failed only where the host has refused something.
 ///
 /// Source: own.
 #[derive(Drop)]
@@ -18,9 +18,14 @@ pub struct Output<'a, H> {
 impl<'a, H: Host> Output<'a, H> {
     /// The standard output of a host, which has not failed. Takes no memory.
     pub fn new(host: &'a mut H) -> Output<'a, H>
-        ensures sent { ⟦<Output<'a, H> as Sink>⟧.sent result ≡ H.printed host.old }
+        ensures sent { ⟦<Output<'a, H> as Sink>⟧.sent result ≡ (H.known host.old).printed }
         ensures failed { ⟦<Output<'a, H> as Sink>⟧.failed result ≡ false }
-        ensures kept { ⟦<Output<'a, H> as Sink>⟧.kept result ≡ (host.entry.ghost_name, H.files host.old, H.typed host.old) }
+        ensures kept { ⟦<Output<'a, H> as Sink>⟧.kept result ≡ (
+          host.entry.ghost_name,
+          (H.known host.old).files,
+          (H.known host.old).typed,
+          true,
+        ) }
     {
         Output {
             host,
@@ -30,17 +35,23 @@ impl<'a, H: Host> Output<'a, H> {
 }
 
 impl<H: Host> Sink for Output<'_, H> {
-    ghost use Rattle.std.specs.Prelude.{ℕ, List, Option};
+    ghost use Rattle.std.specs.Prelude.{ℕ, Bool, List, Option};
     ghost use base.Fml.{GName};
     ghost use Rattle.lfs_host.specs.Files.{Files};
+    ghost use Rattle.lfs_host.specs.Scene.{is_blamed};
 
-    ghost sent = { λ output. H.printed output.host.now };
+    ghost sent = { λ output. (H.known output.host.now).printed };
 
     ghost failed = { λ output. output.has_failed };
 
-    ghost Kept = { GName × Option Files × Option (List ℕ) };
+    ghost Kept = { GName × Option Files × Option (List ℕ) × Bool };
 
-    ghost kept = { λ output. (output.host.ghost_name, H.files output.host.now, H.typed output.host.now) };
+    ghost kept = { λ output. (
+      output.host.ghost_name,
+      (H.known output.host.now).files,
+      (H.known output.host.now).typed,
+      is_blamed output.has_failed (H.known output.host.now).has_refused,
+    ) };
 
     fn write(&mut self, bytes: &[u8]) -> Option<usize> {
         let count = self.host.print(bytes);

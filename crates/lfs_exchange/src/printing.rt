@@ -3,7 +3,7 @@
 ghost use Rattle.std.specs.Prelude.{◌≡◌, IfErr, MatchResult};
 ghost use Rattle.std.specs.Io.KnownBytes.{Appends};
 ghost use Rattle.lfs_change.specs.declared.fault.Fault.TheVariants.{CannotWrite};
-ghost use Rattle.lfs_exchange.specs.Handing.{IsOfHost};
+ghost use Rattle.lfs_host.specs.Scene.{HasRefused, KeepsAll};
 ghost use Rattle.lfs_exchange.specs.Printing.{PrintsBeginning};
 
 use crate::output::Output;
@@ -16,10 +16,10 @@ use lfs_step::Fault;
 ///
 /// Source: own.
 pub fn print<H: Host>(host: &mut H, text: &str) -> Result<(), Fault>
-    ensures printed { MatchResult result (λ _. Appends (H.printed host.old) (H.printed host.new) text.now)
-        (λ _. PrintsBeginning (H.printed host.old) (H.printed host.new) text.now) }
-    ensures refused { IfErr result (λ fault. fault ≡ CannotWrite) }
-    ensures kept { (H.files host.new ≡ H.files host.old) × (H.typed host.new ≡ H.typed host.old) }
+    ensures printed { MatchResult result (λ _. Appends (H.known host.old).printed (H.known host.new).printed text.now)
+        (λ _. PrintsBeginning (H.known host.old).printed (H.known host.new).printed text.now) }
+    ensures refused { IfErr result (λ fault. (fault ≡ CannotWrite) × HasRefused (H.known host.new)) }
+    ensures kept { ((H.known host.new).files ≡ (H.known host.old).files) × ((H.known host.new).typed ≡ (H.known host.old).typed) }
 {
     if !send(&mut Output::new(host), text.as_bytes()) {
         return Err(Fault::CannotWrite);
@@ -31,8 +31,8 @@ pub fn print<H: Host>(host: &mut H, text: &str) -> Result<(), Fault>
 ///
 /// Source: own.
 pub fn flush<H: Host>(host: &mut H) -> Result<(), Fault>
-    ensures refused { IfErr result IsOfHost }
-    ensures kept { (H.files host.new ≡ H.files host.old) × (H.typed host.new ≡ H.typed host.old) × (H.printed host.new ≡ H.printed host.old) }
+    ensures refused { IfErr result (λ fault. (fault ≡ CannotWrite) × HasRefused (H.known host.new)) }
+    ensures kept { KeepsAll (H.known host.old) (H.known host.new) }
 {
     match host.flush() {
         Ok(()) => Ok(()),

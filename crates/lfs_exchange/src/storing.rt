@@ -3,6 +3,7 @@
 ghost use Rattle.std.specs.Prelude.{◌≡◌, ◌⊎◌, IfErr, MatchResult};
 ghost use Rattle.lfs_change.specs.declared.fault.Fault.TheVariants.{CannotWrite};
 ghost use Rattle.lfs_host.specs.Files.{OnKnown};
+ghost use Rattle.lfs_host.specs.Scene.{HasRefused};
 ghost use Rattle.lfs_exchange.specs.Handing.{IsOfHost};
 ghost use Rattle.lfs_exchange.specs.Storing.{HasNew, HasPlaced, HasPlacedJournal, IsNames, LeavesBoth, LeavesFiles, LeavesJournal, SparesBoth, SparesFiles, SparesImage, SparesJournal};
 
@@ -23,10 +24,10 @@ pub fn stored<H: Host>(
     outcome: &Outcome,
 ) -> Result<(), Fault>
     ensures files { MatchResult result
-        (λ _. LeavesFiles kind (H.files host.old) (H.files host.new) name.now outcome.now)
-        (λ fault. SparesFiles fault kind (H.files host.old) (H.files host.new) name.now outcome.now) }
-    ensures refused { IfErr result IsOfHost }
-    ensures kept { H.printed host.new ≡ H.printed host.old }
+        (λ _. LeavesFiles kind (H.known host.old).files (H.known host.new).files name.now outcome.now)
+        (λ fault. SparesFiles fault kind (H.known host.old).files (H.known host.new).files name.now outcome.now) }
+    ensures refused { IfErr result (IsOfHost (H.known host.new)) }
+    ensures kept { (H.known host.new).printed ≡ (H.known host.old).printed }
 {
     match kind {
         StepKind::Asks => flush(host),
@@ -45,10 +46,10 @@ pub fn stored<H: Host>(
 fn put_journal<H: Host>(host: &mut H, name: &str, names: &Names, bytes: &[u8]) -> Result<(), Fault>
     requires { IsNames names.now name.now }
     ensures files { MatchResult result
-        (λ _. LeavesJournal (H.files host.old) (H.files host.new) name.now bytes.now)
-        (λ _. SparesJournal (H.files host.old) (H.files host.new) name.now) }
-    ensures refused { IfErr result (λ fault. fault ≡ CannotWrite) }
-    ensures kept { H.printed host.new ≡ H.printed host.old }
+        (λ _. LeavesJournal (H.known host.old).files (H.known host.new).files name.now bytes.now)
+        (λ _. SparesJournal (H.known host.old).files (H.known host.new).files name.now) }
+    ensures refused { IfErr result (λ fault. (fault ≡ CannotWrite) × HasRefused (H.known host.new)) }
+    ensures kept { (H.known host.new).printed ≡ (H.known host.old).printed }
 {
     let new = names.new_journal.as_str();
     if host.write(new, bytes, name).is_err() {
@@ -71,10 +72,10 @@ fn put_both<H: Host>(
 ) -> Result<(), Fault>
     requires { IsNames names.now name.now }
     ensures files { MatchResult result
-        (λ _. LeavesBoth (H.files host.old) (H.files host.new) name.now outcome.now)
-        (λ _. SparesBoth (H.files host.old) (H.files host.new) name.now ⊎ SparesImage (H.files host.old) (H.files host.new) name.now outcome.now) }
-    ensures refused { IfErr result (λ fault. fault ≡ CannotWrite) }
-    ensures kept { H.printed host.new ≡ H.printed host.old }
+        (λ _. LeavesBoth (H.known host.old).files (H.known host.new).files name.now outcome.now)
+        (λ _. SparesBoth (H.known host.old).files (H.known host.new).files name.now ⊎ SparesImage (H.known host.old).files (H.known host.new).files name.now outcome.now) }
+    ensures refused { IfErr result (λ fault. (fault ≡ CannotWrite) × HasRefused (H.known host.new)) }
+    ensures kept { (H.known host.new).printed ≡ (H.known host.old).printed }
 {
     prepared(host, name, names, outcome)?;
     placed(host, name, names)
@@ -90,10 +91,10 @@ fn prepared<H: Host>(
 ) -> Result<(), Fault>
     requires { IsNames names.now name.now }
     ensures files { MatchResult result
-        (λ _. OnKnown (HasNew name.now outcome.now.image.items outcome.now.journal.items) (H.files host.old) (H.files host.new))
-        (λ _. SparesBoth (H.files host.old) (H.files host.new) name.now) }
-    ensures refused { IfErr result (λ fault. fault ≡ CannotWrite) }
-    ensures kept { H.printed host.new ≡ H.printed host.old }
+        (λ _. OnKnown (HasNew name.now outcome.now.image.items outcome.now.journal.items) (H.known host.old).files (H.known host.new).files)
+        (λ _. SparesBoth (H.known host.old).files (H.known host.new).files name.now) }
+    ensures refused { IfErr result (λ fault. (fault ≡ CannotWrite) × HasRefused (H.known host.new)) }
+    ensures kept { (H.known host.new).printed ≡ (H.known host.old).printed }
 {
     let new_image = names.new_image.as_str();
     let new_journal = names.new_journal.as_str();
@@ -117,10 +118,10 @@ fn prepared<H: Host>(
 fn placed<H: Host>(host: &mut H, name: &str, names: &Names) -> Result<(), Fault>
     requires { IsNames names.now name.now }
     ensures files { MatchResult result
-        (λ _. OnKnown (HasPlaced name.now) (H.files host.old) (H.files host.new))
-        (λ _. SparesBoth (H.files host.old) (H.files host.new) name.now ⊎ OnKnown (HasPlacedJournal name.now) (H.files host.old) (H.files host.new)) }
-    ensures refused { IfErr result (λ fault. fault ≡ CannotWrite) }
-    ensures kept { H.printed host.new ≡ H.printed host.old }
+        (λ _. OnKnown (HasPlaced name.now) (H.known host.old).files (H.known host.new).files)
+        (λ _. SparesBoth (H.known host.old).files (H.known host.new).files name.now ⊎ OnKnown (HasPlacedJournal name.now) (H.known host.old).files (H.known host.new).files) }
+    ensures refused { IfErr result (λ fault. (fault ≡ CannotWrite) × HasRefused (H.known host.new)) }
+    ensures kept { (H.known host.new).printed ≡ (H.known host.old).printed }
 {
     let new_image = names.new_image.as_str();
     let new_journal = names.new_journal.as_str();

@@ -14,8 +14,7 @@ pub const MORE: &str = "\n\nFor more information, try '--help'.\n";
 /// Source: own.
 pub fn tell<H: Host>(host: &mut H, fault: Fault) -> u8
     ensures status { result ≡ status_of (Some fault) }
-    ensures making { H.made host.new ≡ H.made host.old }
-    ensures kept { (H.files host.new ≡ H.files host.old) × (H.typed host.new ≡ H.typed host.old) × (H.printed host.new ≡ H.printed host.old) }
+    ensures kept { H.known host.new ≡ H.known host.old }
 {
     let number = fault.number();
     host.complain(format_args!("lfsed: {number} {fault}\n"));
@@ -28,8 +27,7 @@ pub fn tell<H: Host>(host: &mut H, fault: Fault) -> u8
 /// Source: own.
 pub fn tell_of_image<H: Host>(host: &mut H, image: &str, fault: Fault) -> u8
     ensures status { result ≡ status_of (Some fault) }
-    ensures making { H.made host.new ≡ H.made host.old }
-    ensures kept { (H.files host.new ≡ H.files host.old) × (H.typed host.new ≡ H.typed host.old) × (H.printed host.new ≡ H.printed host.old) }
+    ensures kept { H.known host.new ≡ H.known host.old }
 {
     let status = tell(host, fault);
     if let Fault::CannotRead | Fault::CannotWrite | Fault::HostEntry | Fault::HostName = fault {

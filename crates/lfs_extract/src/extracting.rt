@@ -1,22 +1,23 @@
 //! A folder of a host, made of rows.
 
-ghost use Rattle.std.specs.Prelude.{◌≡◌, ◌≢◌, All, MatchResult};
+ghost use Rattle.std.specs.Prelude.{◌≡◌, ◌≢◌, All, IfErr, MatchResult};
 ghost use Rattle.std.specs.Result.{result_err};
 ghost use Rattle.lfs_fs.specs.Listed.{rows_listed};
 ghost use Rattle.lfs_fs.specs.Mounted.{IsMountOf};
 ghost use Rattle.lfs_fs.specs.RowShown.{HasBlocks};
 ghost use Rattle.lfs_host.specs.NewFolder.{Makes};
+ghost use Rattle.lfs_host.specs.Scene.{HasRefused, KeepsFiles};
 ghost use Rattle.lfs_extract.specs.Extracted.{Extracts, HaveTexts, JudgesNames, MakesFront, all_made};
 ghost use Rattle.lfs_extract.specs.TreeMade.{AreOfTree};
-ghost use Rattle.lfs_extract.specs.declared.extract_fault.ExtractFault.TheVariants.{HostName};
+ghost use Rattle.lfs_extract.specs.declared.extract_fault.ExtractFault.TheVariants.{CannotWrite, HostName};
 
 use crate::extract_fault::ExtractFault;
 use crate::host_path::{follow, host_name};
 use crate::making::make_row;
 use crate::name_texts::have_host_texts;
-use crate::new_folder::NewFolder;
 use lfs_block::Blocks;
 use lfs_fs::{Mounted, Rows, outlines_are_sound, rows_show_the_tree};
+use lfs_host::NewFolder;
 use std::alloc::Global;
 
 /// Makes what rows show, one after another. The caller owes that their blocks are on the disk, and no more than it has, and that each
@@ -31,10 +32,11 @@ fn make_rows<B: Blocks, F: NewFolder>(
     requires blocks { All (λ r. HasBlocks (B.disk disk.now) r.entry.body) (rows_listed rows) }
     requires texts { HaveTexts (rows_listed rows) }
     ensures made { MatchResult result
-        (λ _. Makes (F.made folder.old) (F.made folder.new) (all_made (B.disk disk.now) dir.now (rows_listed rows.entry)))
+        (λ _. Makes (F.known folder.old).made (F.known folder.new).made (all_made (B.disk disk.now) dir.now (rows_listed rows.entry)))
         (λ fault. (fault ≢ HostName)
-        × MakesFront (F.made folder.old) (F.made folder.new) (all_made (B.disk disk.now) dir.now (rows_listed rows.entry))) }
-    ensures kept { F.kept folder.new ≡ F.kept folder.old }
+        × MakesFront (F.known folder.old).made (F.known folder.new).made (all_made (B.disk disk.now) dir.now (rows_listed rows.entry))) }
+    ensures blamed { IfErr result (λ fault. fault ≡ CannotWrite → HasRefused (F.known folder.new)) }
+    ensures kept { KeepsFiles (F.known folder.old) (F.known folder.new) }
 {
     let mut path = Vec::new(alloc);
     for row in rows {
@@ -63,11 +65,12 @@ pub fn extract_rows<B: Blocks, F: NewFolder>(
     folder: &mut F,
 ) -> Result<(), ExtractFault>
     requires mounted { IsMountOf (B.disk disk.now) mounted.now }
-    ensures made { Extracts (result_err result) (F.made folder.old) (F.made folder.new)
+    ensures made { Extracts (result_err result) (F.known folder.old).made (F.known folder.new).made
         (all_made (B.disk disk.now) dir.now mounted.now.rows) }
     ensures tree { AreOfTree (B.disk disk.now) dir.now (all_made (B.disk disk.now) dir.now mounted.now.rows) }
     ensures names { JudgesNames (result_err result) mounted.now.rows }
-    ensures kept { F.kept folder.new ≡ F.kept folder.old }
+    ensures blamed { IfErr result (λ fault. fault ≡ CannotWrite → HasRefused (F.known folder.new)) }
+    ensures kept { KeepsFiles (F.known folder.old) (F.known folder.new) }
 {
     rows_show_the_tree();
     outlines_are_sound();

@@ -1,12 +1,12 @@
 //! The file that is being made, as a sink.
 
-ghost use Rattle.std.specs.Prelude.{◌≡◌, false};
+ghost use Rattle.std.specs.Prelude.{◌≡◌, false, true};
 
-use crate::new_folder::NewFolder;
+use lfs_host::NewFolder;
 use lfs_sink::Sink;
 
-/// The file that a host is making, as a sink: what went out is what was written to the file, and no write changes which host it is,
-/// what was made before, or what is kept beside.
+/// The file that a host is making, as a sink: what went out is what was written to the file. No write changes which host it is, what
+/// was made before, files, standard input and what was printed, and that it has failed only where the host has refused something.
 #[derive(Drop)]
 pub(crate) struct FileSink<'a, F> {
     folder: &'a mut F,
@@ -16,9 +16,16 @@ pub(crate) struct FileSink<'a, F> {
 impl<'a, F: NewFolder> FileSink<'a, F> {
     /// The file that a host is making, which has not failed. Takes no memory.
     pub(crate) fn new(folder: &'a mut F) -> FileSink<'a, F>
-        ensures sent { ⟦<FileSink<'a, F> as Sink>⟧.sent result ≡ F.filled folder.old }
+        ensures sent { ⟦<FileSink<'a, F> as Sink>⟧.sent result ≡ (F.known folder.old).filled }
         ensures failed { ⟦<FileSink<'a, F> as Sink>⟧.failed result ≡ false }
-        ensures kept { ⟦<FileSink<'a, F> as Sink>⟧.kept result ≡ (folder.entry.ghost_name, F.made folder.old, F.kept folder.old) }
+        ensures kept { ⟦<FileSink<'a, F> as Sink>⟧.kept result ≡ (
+          folder.entry.ghost_name,
+          (F.known folder.old).made,
+          (F.known folder.old).files,
+          (F.known folder.old).typed,
+          (F.known folder.old).printed,
+          true,
+        ) }
     {
         FileSink {
             folder,
@@ -28,17 +35,26 @@ impl<'a, F: NewFolder> FileSink<'a, F> {
 }
 
 impl<F: NewFolder> Sink for FileSink<'_, F> {
-    ghost use Rattle.std.specs.Prelude.{List, Option};
+    ghost use Rattle.std.specs.Prelude.{ℕ, Bool, List, Option};
     ghost use base.Fml.{GName};
+    ghost use Rattle.lfs_host.specs.Files.{Files};
     ghost use Rattle.lfs_host.specs.NewFolder.{Made};
+    ghost use Rattle.lfs_host.specs.Scene.{is_blamed};
 
-    ghost sent = { λ sink. F.filled sink.folder.now };
+    ghost sent = { λ sink. (F.known sink.folder.now).filled };
 
     ghost failed = { λ sink. sink.has_failed };
 
-    ghost Kept = { GName × Option (List Made) × F.Kept };
+    ghost Kept = { GName × Option (List Made) × Option Files × Option (List ℕ) × Option (List ℕ) × Bool };
 
-    ghost kept = { λ sink. (sink.folder.ghost_name, F.made sink.folder.now, F.kept sink.folder.now) };
+    ghost kept = { λ sink. (
+      sink.folder.ghost_name,
+      (F.known sink.folder.now).made,
+      (F.known sink.folder.now).files,
+      (F.known sink.folder.now).typed,
+      (F.known sink.folder.now).printed,
+      is_blamed sink.has_failed (F.known sink.folder.now).has_refused,
+    ) };
 
     fn write(&mut self, bytes: &[u8]) -> Option<usize> {
         let count = self.folder.fill(bytes);

@@ -7,8 +7,6 @@ mod file_sink;
 mod host_path;
 mod making;
 mod name_texts;
-mod new_folder;
 
 pub use extract_fault::ExtractFault;
 pub use extracting::extract_rows;
-pub use new_folder::NewFolder;

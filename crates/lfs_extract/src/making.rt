@@ -1,20 +1,20 @@
 //! What a host makes of a row.
 
-ghost use Rattle.std.specs.Prelude.{◌≡◌, [], ◌∷◌, false, not, List, ℕ, MatchResult};
+ghost use Rattle.std.specs.Prelude.{◌≡◌, [], ◌∷◌, false, not, List, ℕ, MatchResult, OnErr};
 ghost use Rattle.lfs_meta.specs.Attribute.{Attributes};
 ghost use Rattle.lfs_fs.specs.RowHeld.{row_body_held};
 ghost use Rattle.lfs_fs.specs.RowShown.{HasBlocks, shown_node};
 ghost use Rattle.lfs_sink.specs.Send.{Sends};
 ghost use Rattle.lfs_extract.specs.Making.{contents_of};
 ghost use Rattle.lfs_host.specs.NewFolder.{FileMade, Makes};
+ghost use Rattle.lfs_host.specs.Scene.{HasRefused, KeepsFiles};
 ghost use Rattle.lfs_extract.specs.Extracted.{made_as};
 
 use crate::file_sink::FileSink;
-use crate::new_folder::NewFolder;
 use lfs_block::Blocks;
 use lfs_contents::send_blocks;
 use lfs_fs::{Row, RowBody};
-use lfs_host::HostFault;
+use lfs_host::{HostFault, NewFolder};
 use lfs_sink::{Sink, send};
 
 /// Sends the contents of a row, slice by slice: `true` where they went out, `false` where the sink failed after a beginning of them.
@@ -36,9 +36,10 @@ fn send_contents<B: Blocks, S: Sink>(disk: &B, body: &RowBody<'_>, out: &mut S) 
 /// Writes the contents of a row to the file that is being made: `true` where they were written.
 fn fill_file<B: Blocks, F: NewFolder>(disk: &B, body: &RowBody<'_>, folder: &mut F) -> bool
     requires blocks { HasBlocks (B.disk disk.now) (row_body_held body.now) }
-    ensures filled { Sends result (F.filled folder.old) (F.filled folder.new) (contents_of (B.disk disk.now) (row_body_held body.now)) }
-    ensures made { F.made folder.new ≡ F.made folder.old }
-    ensures kept { F.kept folder.new ≡ F.kept folder.old }
+    ensures filled { Sends result (F.known folder.old).filled (F.known folder.new).filled (contents_of (B.disk disk.now) (row_body_held body.now)) }
+    ensures made { (F.known folder.new).made ≡ (F.known folder.old).made }
+    ensures blamed { result ≡ false → HasRefused (F.known folder.new) }
+    ensures kept { KeepsFiles (F.known folder.old) (F.known folder.new) }
 {
     send_contents(disk, body, &mut FileSink::new(folder))
 }
@@ -52,9 +53,10 @@ fn make_file<B: Blocks, F: NewFolder>(
 ) -> Result<(), HostFault>
     requires blocks { HasBlocks (B.disk disk.now) (row_body_held body.now) }
     ensures made { MatchResult result
-        (λ _. Makes (F.made folder.old) (F.made folder.new) (FileMade name.now (contents_of (B.disk disk.now) (row_body_held body.now)) ∷ []))
-        (λ _. F.made folder.new ≡ F.made folder.old) }
-    ensures kept { F.kept folder.new ≡ F.kept folder.old }
+        (λ _. Makes (F.known folder.old).made (F.known folder.new).made (FileMade name.now (contents_of (B.disk disk.now) (row_body_held body.now)) ∷ []))
+        (λ _. (F.known folder.new).made ≡ (F.known folder.old).made) }
+    ensures blamed { OnErr result (HasRefused (F.known folder.new)) }
+    ensures kept { KeepsFiles (F.known folder.old) (F.known folder.new) }
 {
     folder.begin_file(name)?;
     if !fill_file(disk, body, folder) {
@@ -72,9 +74,10 @@ pub(crate) fn make_row<B: Blocks, F: NewFolder>(
 ) -> Result<(), HostFault>
     requires blocks { HasBlocks (B.disk disk.now) row.now.entry.body }
     ensures made { MatchResult result
-        (λ _. Makes (F.made folder.old) (F.made folder.new) (made_as name.now (shown_node (B.disk disk.now) row.now.entry) ∷ []))
-        (λ _. F.made folder.new ≡ F.made folder.old) }
-    ensures kept { F.kept folder.new ≡ F.kept folder.old }
+        (λ _. Makes (F.known folder.old).made (F.known folder.new).made (made_as name.now (shown_node (B.disk disk.now) row.now.entry) ∷ []))
+        (λ _. (F.known folder.new).made ≡ (F.known folder.old).made) }
+    ensures blamed { OnErr result (HasRefused (F.known folder.new)) }
+    ensures kept { KeepsFiles (F.known folder.old) (F.known folder.new) }
 {
     match &row.body {
         RowBody::Dir(..) => folder.make_folder(name),

@@ -1,8 +1,8 @@
 -- What a host's refusals become (own).
 use Rattle.lfs_folder.specs.declared.folder_fault.FolderFault.{FolderFault}
 use Rattle.lfs_folder.specs.declared.folder_fault.FolderFault.TheVariants.{Memory, HostName, CannotRead}
-use Rattle.lfs_host.specs.declared.host.ReadFault.{ReadFault}
-use Rattle.lfs_host.specs.declared.host.ReadFault.TheVariants as reading
+use Rattle.lfs_host.specs.declared.read_fault.ReadFault.{ReadFault}
+use Rattle.lfs_host.specs.declared.read_fault.ReadFault.TheVariants as reading
 use Rattle.lfs_host.specs.declared.list_fault.ListFault.{ListFault}
 use Rattle.lfs_host.specs.declared.list_fault.ListFault.TheVariants as listing
 

@@ -3,7 +3,6 @@
 
 mod folder_fault;
 mod folder_row;
-mod folders;
 mod host_names;
 mod path_below;
 mod reading;
@@ -11,5 +10,4 @@ mod walking;
 
 pub use folder_fault::FolderFault;
 pub use folder_row::FolderRow;
-pub use folders::Folders;
 pub use reading::folder_rows;

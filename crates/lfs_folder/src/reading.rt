@@ -1,12 +1,13 @@
 //! A host's folder as rows.
 
 ghost use Rattle.std.specs.Prelude.{◌≡◌, IfErr, IfOk};
+ghost use Rattle.lfs_host.specs.Scene.{KeepsAll};
 ghost use Rattle.lfs_folder.specs.FolderRows.{IsFolder, Refuses};
 
 use crate::folder_fault::FolderFault;
 use crate::folder_row::FolderRow;
-use crate::folders::Folders;
 use crate::walking::{FolderWalk, MOST_BYTES};
+use lfs_host::Folders;
 use std::alloc::Global;
 
 /// What is below a host's folder, in the order of paths: the folder itself first, as `/`, and each folder before what is in
@@ -19,10 +20,9 @@ pub fn folder_rows<H: Folders>(
     host: &mut H,
     dir: &str,
 ) -> Result<Vec<FolderRow>, FolderFault>
-    ensures rows { IfOk result (λ rows. IsFolder MOST_BYTES (H.folders host.old) dir.now rows.items) }
-    ensures refused { IfErr result (λ fault. Refuses (H.folders host.old) dir.now fault) }
-    ensures kept { H.folders host.new ≡ H.folders host.old }
-    ensures beside { H.kept host.new ≡ H.kept host.old }
+    ensures rows { IfOk result (λ rows. IsFolder MOST_BYTES (H.known host.old).tree dir.now rows.items) }
+    ensures refused { IfErr result (λ fault. Refuses (H.known host.old).tree dir.now fault) }
+    ensures kept { KeepsAll (H.known host.old) (H.known host.new) }
 {
     let mut walk = FolderWalk::start(alloc, host, dir)?;
     while let Some(name) = walk.waiting.pop() {

@@ -1,16 +1,16 @@
 //! The state of a walk over what is below a host's folder, and its steps.
 
 ghost use Rattle.std.specs.Prelude.{◌≡◌, ◌+◌, ◌<◌, ◌++◌, ◌∷◌, IfErr, IfOk, IfSome, OnOk, length, map, option_map, reverse, string_bytes};
+ghost use Rattle.lfs_host.specs.Scene.{KeepsAll};
 ghost use Rattle.lfs_folder.specs.FolderRows.{Refuses};
 ghost use Rattle.lfs_folder.specs.FolderWalk.{Enters, IsFolderWalk, RefusesFolder, ShowsMore};
 ghost use Rattle.lfs_folder.specs.PathBelow.{name_in, text_below};
 
 use crate::folder_fault::FolderFault;
 use crate::folder_row::FolderRow;
-use crate::folders::Folders;
 use crate::host_names::in_order;
 use crate::path_below::{name_in, text_below};
-use lfs_host::HostKind;
+use lfs_host::{Folders, HostKind};
 use std::alloc::{AllocError, Global};
 
 /// The most bytes that a file in an image has.
@@ -35,11 +35,10 @@ impl FolderWalk {
         host: &mut H,
         dir: &str,
     ) -> Result<FolderWalk, FolderFault>
-        ensures walking { IfOk result (λ walk. IsFolderWalk MOST_BYTES (H.folders host.old) dir.now walk.rows.items
+        ensures walking { IfOk result (λ walk. IsFolderWalk MOST_BYTES (H.known host.old).tree dir.now walk.rows.items
             (map (λ s. string_bytes s) (reverse walk.waiting.items))) }
-        ensures refused { IfErr result (λ fault. Refuses (H.folders host.old) dir.now fault) }
-        ensures kept { H.folders host.new ≡ H.folders host.old }
-        ensures beside { H.kept host.new ≡ H.kept host.old }
+        ensures refused { IfErr result (λ fault. Refuses (H.known host.old).tree dir.now fault) }
+        ensures kept { KeepsAll (H.known host.old) (H.known host.new) }
     {
         let mut walk = FolderWalk {
             rows: Vec::new(alloc),
@@ -57,14 +56,13 @@ impl FolderWalk {
         dir: &str,
         name: &str,
     ) -> Result<(), FolderFault>
-        requires { IsFolderWalk MOST_BYTES (H.folders host.old) dir.now self.old.rows.items
+        requires { IsFolderWalk MOST_BYTES (H.known host.old).tree dir.now self.old.rows.items
             (name.now ∷ map (λ s. string_bytes s) (reverse self.old.waiting.items)) }
-        ensures walking { OnOk result (IsFolderWalk MOST_BYTES (H.folders host.old) dir.now self.new.rows.items
+        ensures walking { OnOk result (IsFolderWalk MOST_BYTES (H.known host.old).tree dir.now self.new.rows.items
             (map (λ s. string_bytes s) (reverse self.new.waiting.items))) }
         ensures more { OnOk result ((length self.old.rows.items < MOST_ROWS) × (length self.new.rows.items ≡ length self.old.rows.items + 1)) }
-        ensures refused { IfErr result (λ fault. Refuses (H.folders host.old) dir.now fault) }
-        ensures kept { H.folders host.new ≡ H.folders host.old }
-        ensures beside { H.kept host.new ≡ H.kept host.old }
+        ensures refused { IfErr result (λ fault. Refuses (H.known host.old).tree dir.now fault) }
+        ensures kept { KeepsAll (H.known host.old) (H.known host.new) }
     {
         if self.rows.len() >= MOST_ROWS {
             return Err(FolderFault::CannotRead);
@@ -72,7 +70,7 @@ impl FolderWalk {
         match host.kind(name)? {
             HostKind::Folder => self.enter(alloc, host, dir.len(), name),
             HostKind::File => {
-                let bytes = host.read(alloc, name, MOST_BYTES)?;
+                let bytes = host.read_entry(alloc, name, MOST_BYTES)?;
                 Ok(self.show(alloc, dir.len(), name, Some(bytes))?)
             }
             HostKind::Other => Err(FolderFault::HostEntry),
@@ -88,11 +86,10 @@ impl FolderWalk {
         len: usize,
         folder: &str,
     ) -> Result<(), FolderFault>
-        ensures entered { OnOk result (Enters (H.folders host.old) len folder.now self.old.rows.items self.new.rows.items
+        ensures entered { OnOk result (Enters (H.known host.old).tree len folder.now self.old.rows.items self.new.rows.items
             (map (λ s. string_bytes s) (reverse self.old.waiting.items)) (map (λ s. string_bytes s) (reverse self.new.waiting.items))) }
-        ensures refused { IfErr result (λ fault. IfSome (H.folders host.old) (RefusesFolder folder.now fault)) }
-        ensures kept { H.folders host.new ≡ H.folders host.old }
-        ensures beside { H.kept host.new ≡ H.kept host.old }
+        ensures refused { IfErr result (λ fault. IfSome (H.known host.old).tree (RefusesFolder folder.now fault)) }
+        ensures kept { KeepsAll (H.known host.old) (H.known host.new) }
     {
         let listed = host.list(alloc, folder)?;
         let names = in_order(listed)?;

@@ -1,5 +1,7 @@
 -- Files by their names, and standard input, where they are known (own).
 use Rattle.std.specs.Prelude.{ℕ, ◌≡◌, ◌+◌, List, [], ◌∷◌, Option, Some, None, take, ⊤}
+use Rattle.lfs_host.specs.declared.lock.Lock.{Lock}
+use Rattle.lfs_host.specs.declared.lock.Lock.TheVariants.{NoFile}
 
 -- the bytes of the file of each name; none where there is no such file
 abbrev pub Files : Type 0
@@ -9,6 +11,16 @@ Files = List ℕ → Option (List ℕ)
 abbrev pub IsTarget : Option Files → List ℕ → List ℕ → Type 0
 IsTarget None name target = ⊤
 IsTarget (Some files) name target = target ≡ name
+
+-- there is no file of a name, where the files are known
+abbrev pub IsMissing : Option Files → List ℕ → Type 0
+IsMissing None name = ⊤
+IsMissing (Some files) name = files name ≡ None
+
+-- that there is no file of a name is said only where it is so
+abbrev pub IsLocked : Option Files → List ℕ → Lock → Type 0
+IsLocked files name NoFile = IsMissing files name
+IsLocked files name _ = ⊤
 
 -- these are the first bytes of known ones, `most` of them and one more at most
 abbrev pub BeginsWith : ℕ → List ℕ → List ℕ → Type 0

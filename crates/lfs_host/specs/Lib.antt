@@ -1,5 +1,6 @@
 pub mod Files
 pub mod HostTree
 pub mod NewFolder
+pub mod Scene
 pub mod Failing
 pub mod MemoryFiles

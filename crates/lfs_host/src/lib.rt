@@ -2,15 +2,27 @@
 #![tactic(auto)]
 
 mod failing;
+mod folders;
 mod host;
+mod host_fault;
 mod host_kind;
+mod known;
 mod list_fault;
+mod lock;
 mod memory_files;
 mod memory_host;
+mod new_folder;
+mod read_fault;
 
 pub use failing::Failing;
-pub use host::{Host, HostFault, Keeping, ReadFault};
+pub use folders::Folders;
+pub use host::Host;
+pub use host_fault::HostFault;
 pub use host_kind::HostKind;
+pub use known::Known;
 pub use list_fault::ListFault;
+pub use lock::Lock;
 pub use memory_files::MemoryFiles;
 pub use memory_host::MemoryHost;
+pub use new_folder::NewFolder;
+pub use read_fault::ReadFault;

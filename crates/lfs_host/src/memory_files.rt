@@ -4,7 +4,7 @@ ghost use Rattle.std.specs.Prelude.{◌≡◌, ◌∷◌, [], None, OnOk, OnErr}
 ghost use Rattle.lfs_host.specs.Files.{HasRenamed, HasWritten, StaysBut};
 ghost use Rattle.lfs_host.specs.MemoryFiles.{files_of};
 
-use crate::host::HostFault;
+use crate::host_fault::HostFault;
 use std::alloc::{AllocError, Global};
 use std::collections::BTreeMap;
 

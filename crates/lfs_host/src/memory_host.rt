@@ -1,16 +1,22 @@
 //! A host in memory.
 
-ghost use Rattle.std.specs.Prelude.{◌≡◌, ◌∷◌, ℕ, List, [], None, OnErr, OnOk};
+ghost use Rattle.std.specs.Prelude.{◌≡◌, ◌∷◌, ℕ, List, [], None, OnErr, OnOk, false, is_err, ◌||◌};
 ghost use Rattle.std.specs.Option.{option_map};
 ghost use Rattle.lfs_host.specs.declared.failing.Failing.TheVariants.{Never};
 ghost use Rattle.lfs_host.specs.Files.{BeginsWith, HasWritten, StaysBut};
 ghost use Rattle.lfs_host.specs.MemoryFiles.{files_of};
 
 use crate::failing::Failing;
-use crate::host::{Host, HostFault, Keeping, ReadFault};
+use crate::folders::Folders;
+use crate::host::Host;
+use crate::host_fault::HostFault;
 use crate::host_kind::HostKind;
+use crate::known::Known;
 use crate::list_fault::ListFault;
+use crate::lock::Lock;
 use crate::memory_files::{MemoryFiles, has_below, move_file, names_in, put, take};
+use crate::new_folder::NewFolder;
+use crate::read_fault::ReadFault;
 use std::alloc::{AllocError, Global};
 use std::collections::BTreeMap;
 use std::fmt::{Display, Write};
@@ -34,6 +40,8 @@ pub struct MemoryHost {
     pub complained: String,
     /// Which call fails.
     pub failing: Failing,
+    /// Whether a call was refused.
+    pub has_refused: bool,
 }
 
 impl MemoryHost {
@@ -45,6 +53,7 @@ impl MemoryHost {
         ensures typed { result.typed.now ≡ typed.now }
         ensures printed { result.printed.items ≡ [] }
         ensures failing { result.failing ≡ Never }
+        ensures refused { result.has_refused ≡ false }
     {
         MemoryHost {
             alloc,
@@ -53,6 +62,7 @@ impl MemoryHost {
             printed: Vec::new(alloc),
             complained: String::new(alloc),
             failing: Failing::Never,
+            has_refused: false,
         }
     }
 
@@ -97,45 +107,37 @@ fn beginning(bytes: &[u8], most: u64) -> &[u8]
     &bytes[..most as usize + 1]
 }
 
-impl Host for MemoryHost {
+impl Known for MemoryHost {
     ghost use Rattle.std.specs.Prelude.{Some};
 
-    ghost files = { λ host. Some (files_of host.files) };
+    ghost known = { λ host. record {
+      files = Some (files_of host.files);
+      typed = Some host.typed.now;
+      printed = Some host.printed.items;
+      tree = None;
+      made = None;
+      filled = None;
+      has_refused = Some host.has_refused;
+    } };
+}
 
-    ghost typed = { λ host. Some host.typed.now };
-
-    ghost printed = { λ host. Some host.printed.items };
-
-    fn target(&mut self, alloc: Global, name: &str) -> Result<String, ReadFault> {
-        String::from_str(alloc, name).map_err(|_| ReadFault::Memory)
-    }
-
-    fn keep(&mut self, name: &str) -> Result<Keeping, HostFault> {
-        if self.files.contains_key(name) {
-            Ok(Keeping::Kept)
-        } else {
-            Ok(Keeping::NoFile)
+impl MemoryHost {
+    /// Counts a call that can be made to fail, and refuses it where it is the one.
+    fn must_work(&mut self) -> Result<(), HostFault>
+        ensures noted { self.new.has_refused ≡ is_err result || self.old.has_refused }
+        ensures files { self.new.files ≡ self.old.files }
+        ensures typed { self.new.typed ≡ self.old.typed }
+        ensures printed { self.new.printed ≡ self.old.printed }
+    {
+        if self.failing.fails() {
+            self.has_refused = true;
+            return Err(HostFault);
         }
+        Ok(())
     }
+}
 
-    fn read(&mut self, alloc: Global, name: &str, most: u64) -> Result<Vec<u8>, ReadFault> {
-        match self.files.get(name) {
-            Some(bytes) => {
-                Vec::from_slice(alloc, beginning(bytes, most)).map_err(|_| ReadFault::Memory)
-            }
-            None => Err(ReadFault::CannotRead),
-        }
-    }
-
-    fn find(&mut self, alloc: Global, name: &str, most: u64) -> Result<Vec<u8>, ReadFault> {
-        match self.files.get(name) {
-            Some(bytes) => {
-                Vec::from_slice(alloc, beginning(bytes, most)).map_err(|_| ReadFault::Memory)
-            }
-            None => Ok(Vec::new(alloc)),
-        }
-    }
-
+impl Folders for MemoryHost {
     fn kind(&mut self, name: &str) -> Result<HostKind, ReadFault> {
         if self.files.contains_key(name) {
             Ok(HostKind::File)
@@ -148,6 +150,7 @@ impl Host for MemoryHost {
 
     fn list(&mut self, alloc: Global, name: &str) -> Result<Vec<String>, ListFault> {
         if !has_below(&self.files, name) {
+            self.has_refused = true;
             return Err(ListFault::CannotRead);
         }
         names_in(alloc, &self.files, name).map_err(|_| ListFault::Memory)
@@ -156,51 +159,15 @@ impl Host for MemoryHost {
     fn read_entry(&mut self, alloc: Global, name: &str, most: u64) -> Result<Vec<u8>, ReadFault> {
         self.read(alloc, name, most)
     }
+}
 
-    fn input(&mut self, alloc: Global, most: u64) -> Result<Vec<u8>, ReadFault> {
-        Vec::from_slice(alloc, beginning(self.typed, most)).map_err(|_| ReadFault::Memory)
-    }
-
-    fn write(&mut self, name: &str, bytes: &[u8], _like: &str) -> Result<(), HostFault> {
-        if self.failing.fails() {
-            return Err(HostFault);
-        }
-        match put(self.alloc, &mut self.files, name, bytes) {
-            Ok(()) => Ok(()),
-            Err(_) => Err(HostFault),
-        }
-    }
-
-    fn rename(&mut self, from: &str, to: &str) -> Result<(), HostFault> {
-        if self.failing.fails() {
-            return Err(HostFault);
-        }
-        move_file(self.alloc, &mut self.files, from, to)
-    }
-
-    fn settle(&mut self, from: &str, to: &str) -> Result<(), HostFault> {
-        if self.failing.fails() {
-            return Err(HostFault);
-        }
-        move_file(self.alloc, &mut self.files, from, to)
-    }
-
-    fn remove(&mut self, name: &str) {
-        take(&mut self.files, name);
-    }
-
+impl NewFolder for MemoryHost {
     fn make_folder(&mut self, _name: &str) -> Result<(), HostFault> {
-        if self.failing.fails() {
-            return Err(HostFault);
-        }
-        Ok(())
+        self.must_work()
     }
 
     fn begin_file(&mut self, _name: &str) -> Result<(), HostFault> {
-        if self.failing.fails() {
-            return Err(HostFault);
-        }
-        Ok(())
+        self.must_work()
     }
 
     fn fill(&mut self, bytes: &[u8]) -> Option<usize> {
@@ -210,9 +177,79 @@ impl Host for MemoryHost {
     fn end_file(&mut self, _name: &str) -> Result<(), HostFault> {
         Ok(())
     }
+}
+
+impl Host for MemoryHost {
+    fn target(&mut self, alloc: Global, name: &str) -> Result<String, ReadFault> {
+        String::from_str(alloc, name).map_err(|_| ReadFault::Memory)
+    }
+
+    fn lock(&mut self, name: &str) -> Result<Lock, HostFault> {
+        if self.files.contains_key(name) {
+            Ok(Lock::Held)
+        } else {
+            Ok(Lock::NoFile)
+        }
+    }
+
+    fn read(&mut self, alloc: Global, name: &str, most: u64) -> Result<Vec<u8>, ReadFault> {
+        match self.files.get(name) {
+            Some(bytes) => {
+                Vec::from_slice(alloc, beginning(bytes, most)).map_err(|_| ReadFault::Memory)
+            }
+            None => {
+                self.has_refused = true;
+                Err(ReadFault::CannotRead)
+            }
+        }
+    }
+
+    fn find(&mut self, alloc: Global, name: &str, most: u64) -> Result<Vec<u8>, ReadFault> {
+        match self.files.get(name) {
+            Some(bytes) => {
+                Vec::from_slice(alloc, beginning(bytes, most)).map_err(|_| ReadFault::Memory)
+            }
+            None => Ok(Vec::new(alloc)),
+        }
+    }
+
+    fn input(&mut self, alloc: Global, most: u64) -> Result<Vec<u8>, ReadFault> {
+        Vec::from_slice(alloc, beginning(self.typed, most)).map_err(|_| ReadFault::Memory)
+    }
+
+    fn write(&mut self, name: &str, bytes: &[u8], _like: &str) -> Result<(), HostFault> {
+        self.must_work()?;
+        match put(self.alloc, &mut self.files, name, bytes) {
+            Ok(()) => Ok(()),
+            Err(_) => {
+                self.has_refused = true;
+                Err(HostFault)
+            }
+        }
+    }
+
+    fn rename(&mut self, from: &str, to: &str) -> Result<(), HostFault> {
+        self.must_work()?;
+        let moved = move_file(self.alloc, &mut self.files, from, to);
+        if moved.is_err() {
+            self.has_refused = true;
+        }
+        moved
+    }
+
+    fn settle(&mut self, from: &str, to: &str) -> Result<(), HostFault> {
+        self.rename(from, to)
+    }
+
+    fn remove(&mut self, name: &str) {
+        take(&mut self.files, name);
+    }
 
     fn print(&mut self, bytes: &[u8]) -> Option<usize> {
-        self.printed.extend_from_slice(bytes).ok()?;
+        if self.printed.extend_from_slice(bytes).is_err() {
+            self.has_refused = true;
+            return None;
+        }
         Some(bytes.len())
     }
 

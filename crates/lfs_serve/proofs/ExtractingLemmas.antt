@@ -1,6 +1,8 @@
 -- How making a folder of an image ends.
-use Rattle.std.proofs.Common.{◌≡◌, ◌⊎◌, ℕ, List, Option, Some, None, refl, sym, subst, inl, inr}
+use Rattle.std.proofs.Common.{◌≡◌, ◌⊎◌, ℕ, List, Option, Some, None, Result, Ok, Err, refl, sym, subst, inl, inr}
 use Rattle.std.specs.Option.{option_map}
+use Rattle.std.specs.Prelude.{IfErr, IfSome}
+use Rattle.std.specs.Result.{result_err}
 use Rattle.lfs_block.specs.Disk.{Disk, IsDisk}
 use Rattle.lfs_change.specs.Bytes.{image_of}
 use Rattle.lfs_change.proofs.BytesLemmas.{image_of_disk}
@@ -11,35 +13,50 @@ use Rattle.lfs_extract.specs.declared.extract_fault.ExtractFault.TheVariants.{Me
 use Rattle.lfs_host.specs.Files.{Files, IsTarget, ReadsFile}
 use Rattle.lfs_host.specs.HostTree.{HostTree}
 use Rattle.lfs_host.specs.NewFolder.{Made}
+use Rattle.lfs_host.specs.Scene.{HasRefused, Notes, Scene, refuses_reading}
+use Rattle.lfs_host.specs.declared.read_fault.ReadFault.{ReadFault}
+use Rattle.lfs_host.specs.declared.read_fault.ReadFault.TheVariants as reading
 use Rattle.lfs_step.specs.Query.{HasMount}
-use Rattle.lfs_exchange.specs.Handing.{most_image}
+use Rattle.lfs_exchange.specs.Handing.{fault_of_reading, most_image}
 use Rattle.lfs_serve.proofs.StepLemmas.{reads_target}
 use Rattle.lfs_serve.specs.Extracting.{EndsBytes, EndsExtract, EndsMaking, FindsFolder, IsUnread, MakesRows, StopsMaking, fault_of_extracting}
 
+-- what the host refuses to read
+pub unread : (fault : ReadFault) (old new : Scene) → Notes (refuses_reading fault) old new → IsUnread new (fault_of_reading fault)
+unread reading.Memory old new notes = inr refl
+unread reading.CannotRead old new notes = inl (refl, notes)
+
 -- on an image that mounts, what isn't missing ends it, and nothing is made
-pub there_ends : (d : Disk) → HasMount d → (dir : List ℕ) (tree : Option HostTree) (old new : Option (List Made)) (fault : Fault)
-    → IsUnread fault ⊎ ((fault ≡ HostEntry) × FindsFolder dir tree old new) → new ≡ old → StopsMaking d dir tree old new fault
-there_ends d mounts dir tree old new fault (inl (inl is)) same = subst (StopsMaking d dir tree old new) (sym is) same
+pub there_ends : (d : Disk) → HasMount d → (dir : List ℕ) (tree : Option HostTree) (old : Option (List Made)) (new : Scene) (fault : Fault)
+    → IsUnread new fault ⊎ ((fault ≡ HostEntry) × FindsFolder dir tree old new.made) → new.made ≡ old → StopsMaking d dir tree old new fault
+there_ends d mounts dir tree old new fault (inl (inl is)) same = subst (StopsMaking d dir tree old new) (sym is.0) (is.1, same)
 there_ends d mounts dir tree old new fault (inl (inr is)) same = subst (StopsMaking d dir tree old new) (sym is) (refl, inl same)
 there_ends d mounts dir tree old new fault (inr (is, finds)) same = subst (StopsMaking d dir tree old new) (sym is) (mounts, finds)
 
+-- the fault of a result is blamed where the result is
+pub fault_blamed : {T : Type 0} (made : Result T ExtractFault) (new : Scene) → IfErr made (λ fault. fault ≡ CannotWrite → HasRefused new)
+    → IfSome (result_err made) (λ fault. fault ≡ CannotWrite → HasRefused new)
+fault_blamed (Ok done) new blamed = tt
+fault_blamed (Err fault) new blamed = blamed
+
 -- rows that were made end it, by what is told
-pub rows_end : (d : Disk) (dir : List ℕ) (tree : Option HostTree) (old new : Option (List Made)) (why : Option ExtractFault)
-    → MakesRows d dir tree old new why → EndsMaking d dir tree old new (option_map fault_of_extracting why)
-rows_end d dir tree old new None makes = makes
-rows_end d dir tree old new (Some Memory) makes = (refl, inr makes)
-rows_end d dir tree old new (Some HostName) makes = makes
-rows_end d dir tree old new (Some CannotWrite) makes = makes
+pub rows_end : (d : Disk) (dir : List ℕ) (tree : Option HostTree) (old : Option (List Made)) (new : Scene) (why : Option ExtractFault)
+    → MakesRows d dir tree old new.made why → IfSome why (λ fault. fault ≡ CannotWrite → HasRefused new)
+    → EndsMaking d dir tree old new (option_map fault_of_extracting why)
+rows_end d dir tree old new None makes blamed = makes
+rows_end d dir tree old new (Some Memory) makes blamed = (refl, inr makes)
+rows_end d dir tree old new (Some HostName) makes blamed = makes
+rows_end d dir tree old new (Some CannotWrite) makes blamed = (blamed refl, makes)
 
 -- what is made of a disk is made of its bytes
-of_disk : (d : Disk) (dir : List ℕ) (tree : Option HostTree) (old new : Option (List Made)) (fault : Option Fault) → IsDisk d
+of_disk : (d : Disk) (dir : List ℕ) (tree : Option HostTree) (old : Option (List Made)) (new : Scene) (fault : Option Fault) → IsDisk d
     → EndsMaking d dir tree old new fault → EndsBytes d.size d.bytes dir tree old new fault
 of_disk d dir tree old new (Some (Image fault)) is ends = absurd ends
 of_disk d dir tree old new fault is ends =
     let same = sym (image_of_disk d is) in
     (subst (λ (e : Disk). IsDisk e) same is, subst (λ (e : Disk). EndsMaking e dir tree old new fault) same ends)
 
-pub bytes_end : (size : ℕ) (bytes : List ℕ) (d : Disk) (dir : List ℕ) (tree : Option HostTree) (old new : Option (List Made))
+pub bytes_end : (size : ℕ) (bytes : List ℕ) (d : Disk) (dir : List ℕ) (tree : Option HostTree) (old : Option (List Made)) (new : Scene)
     (ended fault : Option Fault) → IsDisk d → d.size ≡ size → d.bytes ≡ bytes → ended ≡ fault → EndsMaking d dir tree old new fault
     → EndsBytes size bytes dir tree old new ended
 bytes_end size bytes d dir tree old new ended fault is size_is bytes_are told ends =
@@ -50,8 +67,9 @@ bytes_end size bytes d dir tree old new ended fault is size_is bytes_are told en
 
 -- what is made of the bytes of the file that a name leads to
 pub file_ends : (size : ℕ) (name target dir bytes : List ℕ) (files : Option Files) (tree seen : Option HostTree)
-    (old made new : Option (List Made)) (ended : Option Fault) → IsTarget files name target → ReadsFile files target most_image bytes
-    → seen ≡ tree → made ≡ old → EndsBytes size bytes dir seen made new ended → EndsExtract size name dir files tree old new ended
+    (old made : Option (List Made)) (new : Scene) (ended : Option Fault) → IsTarget files name target
+    → ReadsFile files target most_image bytes → seen ≡ tree → made ≡ old → EndsBytes size bytes dir seen made new ended
+    → EndsExtract size name dir files tree old new ended
 file_ends size name target dir bytes files tree seen old made new ended leads reads tree_is made_is ends =
     let by_tree = subst (λ (t : Option HostTree). EndsBytes size bytes dir t made new ended) tree_is ends in
     let by_made = subst (λ (before : Option (List Made)). EndsBytes size bytes dir tree before new ended) made_is by_tree in

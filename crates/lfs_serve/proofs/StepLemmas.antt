@@ -1,9 +1,9 @@
 -- How steps end, by what was handed, run and written.
-use Rattle.std.proofs.Common.{◌≡◌, ℕ, List, Option, Some, None, Result, Err, ◌⊎◌, refl, sym, ap, subst, ◌∙◌, inl, inr}
+use Rattle.std.proofs.Common.{◌≡◌, ℕ, Bool, true, List, Option, Some, None, Result, Err, ◌⊎◌, refl, sym, ap, subst, ◌∙◌, inl, inr}
 use Rattle.lfs_command.specs.declared.refusal.Refusal.TheVariants.{Memory}
 use Rattle.lfs_request.specs.declared.task.Task.{Task}
 use Rattle.lfs_change.specs.declared.fault.Fault.{Fault}
-use Rattle.lfs_change.specs.declared.fault.Fault.TheVariants.{Refused, BadHex}
+use Rattle.lfs_change.specs.declared.fault.Fault.TheVariants.{Refused, CannotWrite, BadHex}
 use Rattle.lfs_change.specs.declared.outcome.Outcome.{Outcome}
 use Rattle.lfs_step.specs.declared.step.Step.{Step}
 use Rattle.lfs_step.specs.Deed.{Deed}
@@ -15,10 +15,11 @@ use Rattle.lfs_request.specs.Asking.{NamesNoStep, SpellsNoBytes, SpellsNoKind, d
 use Rattle.lfs_host.specs.Files.{Files, FindsFile, IsTarget, ReadsFile}
 use Rattle.lfs_exchange.specs.StepKind.{kind_of}
 use Rattle.lfs_exchange.specs.Storing.{LeavesFiles, SparesFiles, journal_name}
-use Rattle.lfs_exchange.specs.Handing.{HandedBytes, HandsImage, HandsJournal, IsHanded, IsOfHost}
-use Rattle.lfs_serve.specs.Program.{Runs, RunsOn, RunsStep}
-use Rattle.lfs_exchange.specs.Handing.{Scene, KeepsScene, most_image, most_journal}
-use Rattle.lfs_serve.specs.Program.{StopsStep, EndsStep, stopped_by}
+use Rattle.lfs_host.specs.Scene.{KeepsScene, Scene, is_blamed}
+use Rattle.lfs_host.proofs.BlameLemmas.{blamed_has_refused}
+use Rattle.lfs_change.specs.Fault.{blames_output}
+use Rattle.lfs_exchange.specs.Handing.{HandedBytes, HandsImage, HandsInput, HandsJournal, IsHanded, IsNotAimed, IsOfHost, most_image, most_journal}
+use Rattle.lfs_serve.specs.Program.{EndsStep, IsBlamed, Runs, RunsOn, RunsStep, StopsStep, stopped_by}
 
 -- ---- the file that a name leads to
 
@@ -76,12 +77,21 @@ spares_target _ Forgets None new name target o leads spares = tt
 spares_target _ Makes None new name target o leads spares = inl tt
 spares_target _ Changes None new name target o leads spares = inl tt
 
+-- what is handed of a host whose files and standard input are the same
+handed_from : (step : Step) (name : List ℕ) (mid old : Scene) (h : HandedBytes) → mid.files ≡ old.files → mid.typed ≡ old.typed
+    → IsHanded step name mid h → IsHanded step name old h
+handed_from step name mid old h files typed is = record {
+  image = subst (λ (f : Option Files). HandsImage (kind_of step) f name h.image) files is.image;
+  journal = subst (λ (f : Option Files). HandsJournal (kind_of step) f name h.journal) files is.journal;
+  input = subst (λ (t : Option (List ℕ)). HandsInput step t h.input) typed is.input;
+}
+
 -- the same by what is known of the target's name, of the files that were there, of the kind and of the outcome
 pub handed_at : (step : Step) (name target at : List ℕ) (old mid : Scene) (h : HandedBytes) → IsTarget old.files name target
-    → at ≡ target → mid ≡ old → IsHanded step at mid h → IsHanded step name old h
-handed_at step name target at old mid h leads at_is mid_is is =
+    → at ≡ target → mid.files ≡ old.files → mid.typed ≡ old.typed → IsHanded step at mid h → IsHanded step name old h
+handed_at step name target at old mid h leads at_is files typed is =
     handed_target step name target old h leads
-    (subst (λ (s : Scene). IsHanded step target s h) mid_is (subst (λ (a : List ℕ). IsHanded step a mid h) at_is is))
+    (handed_from step target mid old h files typed (subst (λ (a : List ℕ). IsHanded step a mid h) at_is is))
 
 pub leaves_at : (kind other : StepKind) (old mid new : Option Files) (name target at : List ℕ) (o left : Outcome) → IsTarget old name target
     → at ≡ target → mid ≡ old → kind ≡ other → left ≡ o → LeavesFiles kind mid new at left → LeavesFiles other old new name o
@@ -108,15 +118,22 @@ pub runs_with : (deed : Deed) (g : Given) (fault : Option Fault) (old new : Opti
 runs_with deed g fault old new outcome answers sends is =
     (answers, is, subst (λ (f : Option Fault). SendsText deed g f old new) is sends)
 
+-- output that has failed is blamed
+pub blames : (fault : Option Fault) (failed : Bool) (s : Scene) → failed ≡ blames_output fault → is_blamed failed s.has_refused ≡ true
+    → IsBlamed fault s
+blames (Some CannotWrite) failed s is blamed = blamed_has_refused failed s is blamed
+blames _ failed s is blamed = tt
+
 -- a step that ran on what it was handed; nothing was printed before it nor behind it
 pub step_ran : (step : Step) (size : ℕ) (name : List ℕ) (old new : Scene) (h : HandedBytes) (fault : Option Fault)
     (before after : Option (List ℕ)) (outcome : Outcome) → IsHanded step name old h → RunsOn step size h fault before after outcome
-    → before ≡ old.printed → new.printed ≡ after → RunsStep step size name old new fault outcome
-step_ran step size name old new h fault before after outcome is runs first last = (
+    → before ≡ old.printed → new.printed ≡ after → IsBlamed fault new → RunsStep step size name old new fault outcome
+step_ran step size name old new h fault before after outcome is runs first last blamed = (
   h,
   is,
   subst (λ (p : Option (List ℕ)). RunsOn step size h fault old.printed p outcome) (sym last)
       (subst (λ (p : Option (List ℕ)). RunsOn step size h fault p after outcome) first runs),
+  blamed,
 )
 
 -- what a result was stopped by, where its fault is known
@@ -130,11 +147,11 @@ ends_stopped : (step : Step) (size : ℕ) (name : List ℕ) (old new : Scene) (e
     → ended ≡ Some fault → StopsStep step size name old new fault → EndsStep step size name old new ended
 ends_stopped step size name old new ended fault is stops = subst (EndsStep step size name old new) (sym is) stops
 
--- what the host refuses before a run changes nothing
+-- what isn't at hand changes nothing
 pub ends_before : (step : Step) (size : ℕ) (name : List ℕ) (old new : Scene) (ended : Option Fault) (fault : Fault)
-    → ended ≡ Some fault → IsOfHost fault → KeepsScene old new → EndsStep step size name old new ended
-ends_before step size name old new ended fault is of_host keeps =
-    ends_stopped step size name old new ended fault is (inr (inl (of_host, keeps)))
+    → ended ≡ Some fault → IsNotAimed new name fault → KeepsScene old new → EndsStep step size name old new ended
+ends_before step size name old new ended fault is not_aimed keeps =
+    ends_stopped step size name old new ended fault is (inr (inl (not_aimed, keeps)))
 
 -- a run that is refused changes no file
 pub ends_refused : (step : Step) (size : ℕ) (name : List ℕ) (old new : Scene) (ended : Option Fault) (fault : Fault) (outcome : Outcome)
@@ -145,10 +162,44 @@ ends_refused step size name old new ended fault outcome is runs same =
 
 -- what the host refuses behind a run spares the files
 pub ends_behind : (step : Step) (size : ℕ) (name : List ℕ) (old new : Scene) (ended : Option Fault) (fault : Fault) (outcome : Outcome)
-    → ended ≡ Some fault → IsOfHost fault → RunsStep step size name old new None outcome
+    → ended ≡ Some fault → IsOfHost new fault → RunsStep step size name old new None outcome
     → SparesFiles fault (kind_of step) old.files new.files name outcome → EndsStep step size name old new ended
 ends_behind step size name old new ended fault outcome is of_host runs spares =
     ends_stopped step size name old new ended fault is (inr (inr (of_host, (outcome, runs, spares))))
+
+-- ---- a step on a host with the same files, standard input and standard output
+
+runs_from : (step : Step) (size : ℕ) (name : List ℕ) (mid old new : Scene) (fault : Option Fault) (outcome : Outcome)
+    → mid.files ≡ old.files → mid.typed ≡ old.typed → mid.printed ≡ old.printed → RunsStep step size name mid new fault outcome
+    → RunsStep step size name old new fault outcome
+runs_from step size name mid old new fault outcome files typed printed (h, is, runs, blamed) = (
+  h,
+  handed_from step name mid old h files typed is,
+  subst (λ (p : Option (List ℕ)). RunsOn step size h fault p new.printed outcome) printed runs,
+  blamed,
+)
+
+pub step_from : (step : Step) (size : ℕ) (name : List ℕ) (mid old new : Scene) (ended : Option Fault)
+    → mid.files ≡ old.files → mid.typed ≡ old.typed → mid.printed ≡ old.printed → EndsStep step size name mid new ended
+    → EndsStep step size name old new ended
+step_from step size name mid old new None files typed printed (outcome, runs, leaves) = (
+  outcome,
+  runs_from step size name mid old new None outcome files typed printed runs,
+  subst (λ (f : Option Files). LeavesFiles (kind_of step) f new.files name outcome) files leaves,
+)
+step_from step size name mid old new (Some fault) files typed printed (inl (outcome, runs, same)) =
+    inl (outcome, runs_from step size name mid old new (Some fault) outcome files typed printed runs, same ∙ files)
+step_from step size name mid old new (Some fault) files typed printed (inr (inl (not_aimed, keeps))) =
+    inr (inl (not_aimed, (keeps.0 ∙ files, keeps.1 ∙ printed)))
+step_from step size name mid old new (Some fault) files typed printed (inr (inr (of_host, (outcome, runs, spares)))) =
+    inr (inr (
+      of_host,
+      (
+        outcome,
+        runs_from step size name mid old new None outcome files typed printed runs,
+        subst (λ (f : Option Files). SparesFiles fault (kind_of step) f new.files name outcome) files spares,
+      ),
+    ))
 
 -- ---- tasks that name no step
 

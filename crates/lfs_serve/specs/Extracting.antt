@@ -15,6 +15,7 @@ use Rattle.lfs_extract.specs.declared.extract_fault.ExtractFault.TheVariants as 
 use Rattle.lfs_host.specs.Files.{Files, ReadsFile}
 use Rattle.lfs_host.specs.HostTree.{HostTree, IsKind}
 use Rattle.lfs_host.specs.NewFolder.{Made}
+use Rattle.lfs_host.specs.Scene.{HasRefused, Scene}
 use Rattle.lfs_host.specs.declared.host_kind.HostKind.{HostKind}
 use Rattle.lfs_host.specs.declared.host_kind.HostKind.TheVariants.{Missing}
 use Rattle.lfs_request.specs.declared.extraction.Extraction.{Extraction}
@@ -51,42 +52,42 @@ pub record FindsFolder (dir : List ℕ) (tree : Option HostTree) (old new : Opti
   pub is : IsKind tree dir kind
   pub made : new ≡ old
 
+-- the host refuses to read, or memory was wanting
+abbrev pub IsUnread : Scene → Fault → Type 0
+IsUnread s fault = ((fault ≡ CannotRead) × HasRefused s) ⊎ (fault ≡ Refused refusal.Memory)
+
 -- why nothing, or not all, is made of an image
-abbrev pub StopsMaking : Disk → List ℕ → Option HostTree → Option (List Made) → Option (List Made) → Fault → Type 0
-StopsMaking d dir tree old new (Mount fault) = HasCause d fault × (new ≡ old)
-StopsMaking d dir tree old new HostEntry = HasMount d × FindsFolder dir tree old new
-StopsMaking d dir tree old new HostName = MakesRows d dir tree old new (Some extracting.HostName)
-StopsMaking d dir tree old new CannotWrite = MakesRows d dir tree old new (Some extracting.CannotWrite)
-StopsMaking d dir tree old new CannotRead = new ≡ old
+abbrev pub StopsMaking : Disk → List ℕ → Option HostTree → Option (List Made) → Scene → Fault → Type 0
+StopsMaking d dir tree old new (Mount fault) = HasCause d fault × (new.made ≡ old)
+StopsMaking d dir tree old new HostEntry = HasMount d × FindsFolder dir tree old new.made
+StopsMaking d dir tree old new HostName = MakesRows d dir tree old new.made (Some extracting.HostName)
+StopsMaking d dir tree old new CannotWrite = HasRefused new × MakesRows d dir tree old new.made (Some extracting.CannotWrite)
+StopsMaking d dir tree old new CannotRead = HasRefused new × (new.made ≡ old)
 StopsMaking d dir tree old new (Refused r) =
-    (r ≡ refusal.Memory) × ((new ≡ old) ⊎ MakesRows d dir tree old new (Some extracting.Memory))
+    (r ≡ refusal.Memory) × ((new.made ≡ old) ⊎ MakesRows d dir tree old new.made (Some extracting.Memory))
 StopsMaking d dir tree old new _ = ⊥
 
 -- what is made of an image, by the fault that it ends with
-abbrev pub EndsMaking : Disk → List ℕ → Option HostTree → Option (List Made) → Option (List Made) → Option Fault → Type 0
-EndsMaking d dir tree old new None = MakesRows d dir tree old new None
+abbrev pub EndsMaking : Disk → List ℕ → Option HostTree → Option (List Made) → Scene → Option Fault → Type 0
+EndsMaking d dir tree old new None = MakesRows d dir tree old new.made None
 EndsMaking d dir tree old new (Some fault) = StopsMaking d dir tree old new fault
 
 -- ---- bytes
 
 -- why nothing, or not all, is made of bytes: they are no image, or as of an image
-abbrev pub EndsBytes : ℕ → List ℕ → List ℕ → Option HostTree → Option (List Made) → Option (List Made) → Option Fault → Type 0
-EndsBytes size bytes dir tree old new (Some (Image fault)) = IsNoImage fault size bytes × (new ≡ old)
+abbrev pub EndsBytes : ℕ → List ℕ → List ℕ → Option HostTree → Option (List Made) → Scene → Option Fault → Type 0
+EndsBytes size bytes dir tree old new (Some (Image fault)) = IsNoImage fault size bytes × (new.made ≡ old)
 EndsBytes size bytes dir tree old new fault = IsDisk (image_of size bytes) × EndsMaking (image_of size bytes) dir tree old new fault
 
 -- ---- an image's file
 
--- the host refuses to read, or memory was wanting
-abbrev pub IsUnread : Fault → Type 0
-IsUnread fault = (fault ≡ CannotRead) ⊎ (fault ≡ Refused refusal.Memory)
-
 -- what is made of an image's file: nothing where the host refuses to read it, or memory was wanting, and else as of its bytes
-abbrev pub EndsExtract : ℕ → List ℕ → List ℕ → Option Files → Option HostTree → Option (List Made) → Option (List Made) → Option Fault → Type 0
+abbrev pub EndsExtract : ℕ → List ℕ → List ℕ → Option Files → Option HostTree → Option (List Made) → Scene → Option Fault → Type 0
 EndsExtract size name dir files tree old new fault =
-    ((new ≡ old) × ((why : Fault) × (fault ≡ Some why) × IsUnread why))
+    ((new.made ≡ old) × ((why : Fault) × (fault ≡ Some why) × IsUnread new why))
     ⊎ ((bytes : List ℕ) × ReadsFile files name most_image bytes × EndsBytes size bytes dir tree old new fault)
 
 -- what is made for a request, by its status
-abbrev pub EndsExtraction : Extraction → Option Files → Option HostTree → Option (List Made) → Option (List Made) → ℕ → Type 0
-EndsExtraction e files tree old new status =
-    (fault : Option Fault) × EndsExtract e.size e.image.now e.dir.now files tree old new fault × (status ≡ status_of fault)
+abbrev pub EndsExtraction : Extraction → Scene → Scene → ℕ → Type 0
+EndsExtraction e old new status =
+    (fault : Option Fault) × EndsExtract e.size e.image.now e.dir.now old.files old.tree old.made new fault × (status ≡ status_of fault)

@@ -1,6 +1,7 @@
 -- What the program does with the files of a host (own).
-use Rattle.std.specs.Prelude.{ℕ, ◌≡◌, ◌⊎◌, List, Option, Some, None, Result, Ok, Err}
+use Rattle.std.specs.Prelude.{ℕ, ◌≡◌, ◌⊎◌, ⊤, List, Option, Some, None, Result, Ok, Err}
 use Rattle.lfs_change.specs.declared.fault.Fault.{Fault}
+use Rattle.lfs_change.specs.declared.fault.Fault.TheVariants.{CannotWrite}
 use Rattle.lfs_change.specs.declared.outcome.Outcome.{Outcome}
 use Rattle.lfs_request.specs.declared.request.Request.{Request}
 use Rattle.lfs_step.specs.declared.step.Step.{Step}
@@ -10,7 +11,8 @@ use Rattle.lfs_step.specs.Deed.{Deed, deed_of}
 use Rattle.lfs_change.specs.Fault.{status_of}
 use Rattle.lfs_host.specs.HostTree.{HostTree}
 use Rattle.lfs_pack.specs.declared.pack_row.PackRow.{PackRow}
-use Rattle.lfs_exchange.specs.Handing.{HandedBytes, IsHanded, IsOfHost, KeepsScene, Scene}
+use Rattle.lfs_host.specs.Scene.{HasRefused, KeepsScene, Scene}
+use Rattle.lfs_exchange.specs.Handing.{HandedBytes, IsHanded, IsNotAimed, IsOfHost}
 use Rattle.lfs_serve.specs.HostFolder.{PacksRows, ReadsNoFolder}
 use Rattle.lfs_exchange.specs.StepKind.{kind_of}
 use Rattle.lfs_exchange.specs.Storing.{LeavesFiles, SparesFiles}
@@ -25,17 +27,22 @@ Runs deed g fault old new outcome = Answers deed g outcome × (outcome.fault ≡
 abbrev pub RunsOn : Step → ℕ → HandedBytes → Option Fault → Option (List ℕ) → Option (List ℕ) → Outcome → Type 0
 RunsOn step size h fault old new outcome = Runs (deed_of step h.input) (given size h.image h.journal) fault old new outcome
 
+-- standard output is blamed only where the host has refused something
+abbrev pub IsBlamed : Option Fault → Scene → Type 0
+IsBlamed (Some CannotWrite) s = HasRefused s
+IsBlamed _ s = ⊤
+
 -- the same of a step that was handed what is known of the host
 abbrev pub RunsStep : Step → ℕ → List ℕ → Scene → Scene → Option Fault → Outcome → Type 0
 RunsStep step size name old new fault outcome =
-    (h : HandedBytes) × IsHanded step name old h × RunsOn step size h fault old.printed new.printed outcome
+    (h : HandedBytes) × IsHanded step name old h × RunsOn step size h fault old.printed new.printed outcome × IsBlamed fault new
 
 -- why a step wasn't done: `run` refused it, or the host something before it was run, or behind that
 abbrev pub StopsStep : Step → ℕ → List ℕ → Scene → Scene → Fault → Type 0
 StopsStep step size name old new fault =
     ((outcome : Outcome) × RunsStep step size name old new (Some fault) outcome × (new.files ≡ old.files))
-    ⊎ (IsOfHost fault × KeepsScene old new)
-    ⊎ (IsOfHost fault × ((outcome : Outcome)
+    ⊎ (IsNotAimed new name fault × KeepsScene old new)
+    ⊎ (IsOfHost new fault × ((outcome : Outcome)
     × RunsStep step size name old new None outcome × SparesFiles fault (kind_of step) old.files new.files name outcome))
 
 -- how a step on an image's file ends: done, and the files have the bytes of the outcome; or with a fault
@@ -51,17 +58,17 @@ ComesToNoStep task tree why = NamesNoStep task why ⊎ ReadsNoFolder task tree w
 
 -- how a task on an image's file ends: as the step that it asks for, with the rows of its folder, or with a fault since it
 -- comes to none
-abbrev pub EndsTask : Task → ℕ → List ℕ → Option HostTree → Scene → Scene → Option Fault → Type 0
-EndsTask task size name tree old new fault =
-    ((step : Step) × (rows : List PackRow) × PacksRows task tree rows × AsksFor task rows step × EndsStep step size name old new fault)
-    ⊎ (KeepsScene old new × ((why : Fault) × (fault ≡ Some why) × ComesToNoStep task tree why))
+abbrev pub EndsTask : Task → ℕ → List ℕ → Scene → Scene → Option Fault → Type 0
+EndsTask task size name old new fault =
+    ((step : Step) × (rows : List PackRow) × PacksRows task old.tree rows × AsksFor task rows step × EndsStep step size name old new fault)
+    ⊎ (KeepsScene old new × ((why : Fault) × (fault ≡ Some why) × ComesToNoStep task old.tree why))
 
 -- the fault that a run stopped with, if any
 abbrev pub stopped_by : {T : Type 0} → Result T Stop → Option Fault
 stopped_by (Ok value) = None
 stopped_by (Err stop) = Some stop.fault
 
--- how a request ends on a host with this under its names: as its task
-abbrev pub EndsRequest : Request → Option HostTree → Scene → Scene → ℕ → Type 0
-EndsRequest request tree old new status =
-    (fault : Option Fault) × EndsTask request.task request.size request.image.now tree old new fault × (status ≡ status_of fault)
+-- how a request ends: as its task
+abbrev pub EndsRequest : Request → Scene → Scene → ℕ → Type 0
+EndsRequest request old new status =
+    (fault : Option Fault) × EndsTask request.task request.size request.image.now old new fault × (status ≡ status_of fault)

@@ -6,19 +6,18 @@ ghost use Rattle.std.specs.Result.{result_err};
 ghost use Rattle.lfs_change.specs.declared.fault.Fault.TheVariants.{HostEntry};
 ghost use Rattle.lfs_host.specs.HostTree.{IsKind};
 ghost use Rattle.lfs_host.specs.declared.host_kind.HostKind.TheVariants.{Missing};
-ghost use Rattle.lfs_extract.specs.Extracted.{Extracts, JudgesNames, all_made};
-ghost use Rattle.lfs_fs.specs.Mounted.{IsMountOf};
+ghost use Rattle.lfs_host.specs.Scene.{KeepsAll, KeepsFiles};
 ghost use Rattle.lfs_serve.specs.Extracting.{EndsBytes, EndsExtract, EndsExtraction, EndsMaking, FindsFolder, IsUnread, fault_of_extracting};
 ghost use Rattle.lfs_serve.specs.Program.{stopped_by};
 
-use crate::host_maker::HostMaker;
 use crate::serving::{stated_for, tell_of};
 use crate::stop::Stop;
 use lfs_block::{Image, MAX_IMAGE_LENGTH};
 use lfs_edit::Refusal;
+use lfs_exchange::fault_of_reading;
 use lfs_extract::{ExtractFault, extract_rows};
-use lfs_fs::{Mounted, mount};
-use lfs_host::{Host, HostKind, ReadFault};
+use lfs_fs::mount;
+use lfs_host::{Host, HostKind};
 use lfs_request::Extraction;
 use lfs_step::Fault;
 use std::alloc::Global;
@@ -28,8 +27,8 @@ use std::alloc::Global;
 ///
 /// Source: own.
 pub fn extracted<H: Host>(alloc: Global, host: &mut H, extraction: &Extraction<'_>) -> u8
-    ensures made { EndsExtraction extraction.now (H.files host.old) (H.tree host.old) (H.made host.old) (H.made host.new) result }
-    ensures kept { (H.files host.new ≡ H.files host.old) × (H.typed host.new ≡ H.typed host.old) × (H.printed host.new ≡ H.printed host.old) }
+    ensures made { EndsExtraction extraction.now (H.known host.old) (H.known host.new) result }
+    ensures kept { KeepsFiles (H.known host.old) (H.known host.new) }
 {
     match extract_file(alloc, host, extraction) {
         Ok(()) => 0,
@@ -43,9 +42,9 @@ fn extract_file<H: Host>(
     host: &mut H,
     extraction: &Extraction<'_>,
 ) -> Result<(), Stop>
-    ensures made { EndsExtract extraction.now.size extraction.now.image.now extraction.now.dir.now (H.files host.old) (H.tree host.old)
-        (H.made host.old) (H.made host.new) (stopped_by result) }
-    ensures kept { (H.files host.new ≡ H.files host.old) × (H.typed host.new ≡ H.typed host.old) × (H.printed host.new ≡ H.printed host.old) }
+    ensures made { EndsExtract extraction.now.size extraction.now.image.now extraction.now.dir.now (H.known host.old).files (H.known host.old).tree
+        (H.known host.old).made (H.known host.new) (stopped_by result) }
+    ensures kept { KeepsFiles (H.known host.old) (H.known host.new) }
 {
     let target = match host.target(alloc, extraction.image) {
         Ok(target) => target,
@@ -65,8 +64,8 @@ fn extract_bytes<H: Host>(
     bytes: Vec<u8>,
     dir: &str,
 ) -> Result<(), Stop>
-    ensures made { EndsBytes size bytes.items dir.now (H.tree host.old) (H.made host.old) (H.made host.new) (stopped_by result) }
-    ensures kept { (H.files host.new ≡ H.files host.old) × (H.typed host.new ≡ H.typed host.old) × (H.printed host.new ≡ H.printed host.old) }
+    ensures made { EndsBytes size bytes.items dir.now (H.known host.old).tree (H.known host.old).made (H.known host.new) (stopped_by result) }
+    ensures kept { KeepsFiles (H.known host.old) (H.known host.new) }
 {
     let image = match Image::new(bytes, size) {
         Ok(image) => image,
@@ -88,28 +87,12 @@ fn extract_image<H: Host>(
     image: &Image,
     dir: &str,
 ) -> Result<(), Fault>
-    ensures made { EndsMaking image.now dir.now (H.tree host.old) (H.made host.old) (H.made host.new) (result_err result) }
-    ensures kept { (H.files host.new ≡ H.files host.old) × (H.typed host.new ≡ H.typed host.old) × (H.printed host.new ≡ H.printed host.old) }
+    ensures made { EndsMaking image.now dir.now (H.known host.old).tree (H.known host.old).made (H.known host.new) (result_err result) }
+    ensures kept { KeepsFiles (H.known host.old) (H.known host.new) }
 {
     let mounted = mount(alloc, image)?;
     must_be_missing(host, dir)?;
-    told(make_rows(alloc, host, image, &mounted, dir))
-}
-
-/// Makes what the rows of a mounted image show on a host.
-fn make_rows<H: Host>(
-    alloc: Global,
-    host: &mut H,
-    image: &Image,
-    mounted: &Mounted,
-    dir: &str,
-) -> Result<(), ExtractFault>
-    requires { IsMountOf image.now mounted.now }
-    ensures made { Extracts (result_err result) (H.made host.old) (H.made host.new) (all_made image.now dir.now mounted.now.rows) }
-    ensures names { JudgesNames (result_err result) mounted.now.rows }
-    ensures kept { (H.files host.new ≡ H.files host.old) × (H.typed host.new ≡ H.typed host.old) × (H.printed host.new ≡ H.printed host.old) }
-{
-    extract_rows(alloc, image, mounted, dir, &mut HostMaker::new(host))
+    told(extract_rows(alloc, image, &mounted, dir, host))
 }
 
 /// What a fault of making a folder is told as, where there is one.
@@ -126,11 +109,9 @@ fn told(made: Result<(), ExtractFault>) -> Result<(), Fault>
 
 /// Refuses a folder under whose name there is something already.
 fn must_be_missing<H: Host>(host: &mut H, dir: &str) -> Result<(), Fault>
-    ensures missing { OnOk result (IsKind (H.tree host.old) dir.now Missing) }
-    ensures refused { IfErr result (λ fault. IsUnread fault ⊎ ((fault ≡ HostEntry) × FindsFolder dir.now (H.tree host.old) (H.made host.old) (H.made host.new))) }
-    ensures seen { H.tree host.new ≡ H.tree host.old }
-    ensures making { H.made host.new ≡ H.made host.old }
-    ensures kept { (H.files host.new ≡ H.files host.old) × (H.typed host.new ≡ H.typed host.old) × (H.printed host.new ≡ H.printed host.old) }
+    ensures missing { OnOk result (IsKind (H.known host.old).tree dir.now Missing) }
+    ensures refused { IfErr result (λ fault. IsUnread (H.known host.new) fault ⊎ ((fault ≡ HostEntry) × FindsFolder dir.now (H.known host.old).tree (H.known host.old).made (H.known host.new).made)) }
+    ensures kept { KeepsAll (H.known host.old) (H.known host.new) }
 {
     match host.kind(dir) {
         Ok(HostKind::Missing) => Ok(()),
@@ -138,15 +119,5 @@ fn must_be_missing<H: Host>(host: &mut H, dir: &str) -> Result<(), Fault>
         Ok(HostKind::Folder) => Err(Fault::HostEntry),
         Ok(HostKind::Other) => Err(Fault::HostEntry),
         Err(fault) => Err(fault_of_reading(fault)),
-    }
-}
-
-/// What is told where the host doesn't read.
-fn fault_of_reading(fault: ReadFault) -> Fault
-    ensures { IsUnread result }
-{
-    match fault {
-        ReadFault::Memory => Fault::Refused(Refusal::Memory),
-        ReadFault::CannotRead => Fault::CannotRead,
     }
 }

@@ -3,7 +3,6 @@
 
 mod extracting;
 mod host_folder;
-mod host_maker;
 mod serving;
 mod stated;
 mod stop;

@@ -4,8 +4,7 @@ ghost use Rattle.std.specs.Prelude.{◌≡◌, Some, IfOk};
 ghost use Rattle.lfs_step.specs.Deed.{deed_of};
 ghost use Rattle.lfs_change.specs.Fault.{status_of};
 ghost use Rattle.lfs_step.specs.Outcome.{Answers, SendsText, given};
-ghost use Rattle.lfs_exchange.specs.Handing.{scene};
-ghost use Rattle.lfs_serve.specs.Program.{EndsRequest, EndsStep, EndsTask, RunsOn, stopped_by};
+ghost use Rattle.lfs_serve.specs.Program.{EndsRequest, EndsStep, EndsTask, IsBlamed, RunsOn, stopped_by};
 
 use crate::host_folder::{folder_of, pack_rows};
 use crate::stated::{Stated, stated_in};
@@ -25,8 +24,7 @@ const GRAIN: u32 = 16;
 ///
 /// Source: own.
 pub fn served<H: Host>(alloc: Global, host: &mut H, request: &Request<'_>) -> u8
-    ensures ended { EndsRequest request.now (H.tree host.old) (scene (H.files host.old) (H.typed host.old) (H.printed host.old))
-        (scene (H.files host.new) (H.typed host.new) (H.printed host.new)) result }
+    ensures ended { EndsRequest request.now (H.known host.old) (H.known host.new) result }
 {
     match done(alloc, host, request) {
         Ok(()) => 0,
@@ -37,8 +35,7 @@ pub fn served<H: Host>(alloc: Global, host: &mut H, request: &Request<'_>) -> u8
 /// Tells why a run on an image with blocks of this size ended early, and answers the status.
 pub(crate) fn tell_of<H: Host>(host: &mut H, image: &str, size: u32, stop: &Stop) -> u8
     ensures status { result ≡ status_of (Some stop.now.fault) }
-    ensures making { H.made host.new ≡ H.made host.old }
-    ensures kept { (H.files host.new ≡ H.files host.old) × (H.typed host.new ≡ H.typed host.old) × (H.printed host.new ≡ H.printed host.old) }
+    ensures kept { H.known host.new ≡ H.known host.old }
 {
     let status = tell_of_image(host, image, stop.fault);
     if let Some(stated) = stop.stated {
@@ -57,9 +54,8 @@ pub(crate) fn tell_of<H: Host>(host: &mut H, image: &str, size: u32, stop: &Stop
 
 /// Does the task that is asked for. Digits are read before a folder, and that before files.
 fn done<H: Host>(alloc: Global, host: &mut H, request: &Request<'_>) -> Result<(), Stop>
-    ensures ended { EndsTask request.now.task request.now.size request.now.image.now (H.tree host.old)
-        (scene (H.files host.old) (H.typed host.old) (H.printed host.old))
-        (scene (H.files host.new) (H.typed host.new) (H.printed host.new)) (stopped_by result) }
+    ensures ended { EndsTask request.now.task request.now.size request.now.image.now
+        (H.known host.old) (H.known host.new) (stopped_by result) }
 {
     let value = bytes_of(alloc, digits_of(&request.task))?;
     let folder = folder_of(alloc, host, &request.task)?;
@@ -76,8 +72,7 @@ fn stepped<H: Host>(
     name: &str,
     step: &Step<'_>,
 ) -> Result<(), Stop>
-    ensures ended { EndsStep step.now size name.now (scene (H.files host.old) (H.typed host.old) (H.printed host.old))
-        (scene (H.files host.new) (H.typed host.new) (H.printed host.new)) (stopped_by result) }
+    ensures ended { EndsStep step.now size name.now (H.known host.old) (H.known host.new) (stopped_by result) }
 {
     let kind = kind_of(step);
     let target = aimed(alloc, host, kind, name)?;
@@ -89,8 +84,9 @@ fn stepped<H: Host>(
 /// Runs a step on what it is handed.
 fn ran<H: Host>(alloc: Global, host: &mut H, size: u32, step: &Step<'_>, handed: Handed) -> Outcome
     ensures answers { Answers (deed_of step.now handed.input.items) (given size handed.image.items handed.journal.items) result }
-    ensures sent { SendsText (deed_of step.now handed.input.items) (given size handed.image.items handed.journal.items) result.fault (H.printed host.old) (H.printed host.new) }
-    ensures kept { (H.files host.new ≡ H.files host.old) × (H.typed host.new ≡ H.typed host.old) }
+    ensures sent { SendsText (deed_of step.now handed.input.items) (given size handed.image.items handed.journal.items) result.fault (H.known host.old).printed (H.known host.new).printed }
+    ensures blamed { IsBlamed result.fault (H.known host.new) }
+    ensures kept { ((H.known host.new).files ≡ (H.known host.old).files) × ((H.known host.new).typed ≡ (H.known host.old).typed) }
 {
     let Handed {
         image,
@@ -110,8 +106,9 @@ fn taken<H: Host>(
     handed: Handed,
 ) -> Result<Outcome, Stop>
     ensures ran { (outcome : Outcome) × RunsOn step.now size (record { image = handed.image.items; journal = handed.journal.items; input = handed.input.items })
-        (stopped_by result) (H.printed host.old) (H.printed host.new) outcome × IfOk result (λ left. left ≡ outcome) }
-    ensures kept { (H.files host.new ≡ H.files host.old) × (H.typed host.new ≡ H.typed host.old) }
+        (stopped_by result) (H.known host.old).printed (H.known host.new).printed outcome × IfOk result (λ left. left ≡ outcome) }
+    ensures blamed { IsBlamed (stopped_by result) (H.known host.new) }
+    ensures kept { ((H.known host.new).files ≡ (H.known host.old).files) × ((H.known host.new).typed ≡ (H.known host.old).typed) }
 {
     let outcome = ran(alloc, host, size, step, handed);
     match outcome.fault {

@@ -12,12 +12,11 @@ use Rattle.lfs_request.specs.Asking.{AsksFor}
 use Rattle.lfs_exchange.specs.declared.step_kind.StepKind.{StepKind}
 use Rattle.lfs_exchange.specs.declared.step_kind.StepKind.TheVariants.{Asks}
 use Rattle.lfs_host.specs.Files.{Files}
-use Rattle.lfs_host.specs.HostTree.{HostTree}
 use Rattle.lfs_pack.specs.declared.pack_row.PackRow.{PackRow}
 use Rattle.lfs_exchange.specs.StepKind.{kind_of}
 use Rattle.lfs_exchange.specs.Storing.{LeavesFiles, SparesFiles}
 use Rattle.lfs_serve_tests.specs.Asking.{OnlyAsks}
-use Rattle.lfs_exchange.specs.Handing.{Scene}
+use Rattle.lfs_host.specs.Scene.{Scene}
 use Rattle.lfs_serve.specs.Program.{EndsRequest, EndsStep, EndsTask}
 
 -- the step that asks, where the task does
@@ -45,17 +44,17 @@ step_keeps (Some fault) step size name old new asks (inr (inr (of_host, (o, runs
     all_spared fault old.files new.files name o
     (subst (λ (kind : StepKind). SparesFiles fault kind old.files new.files name o) asks spares)
 
-task_keeps : (fault : Option Fault) (task : Task) (size : ℕ) (name : List ℕ) (tree : Option HostTree) (old new : Scene) → OnlyAsks task
-    → EndsTask task size name tree old new fault → new.files ≡ old.files
-task_keeps fault task size name tree old new only (inl (step, rows, packs, asks, ends)) =
+task_keeps : (fault : Option Fault) (task : Task) (size : ℕ) (name : List ℕ) (old new : Scene) → OnlyAsks task
+    → EndsTask task size name old new fault → new.files ≡ old.files
+task_keeps fault task size name old new only (inl (step, rows, packs, asks, ends)) =
     step_keeps fault step size name old new (asks_for task rows step only asks) ends
-task_keeps fault task size name tree old new only (inr (keeps, why)) = keeps.0
+task_keeps fault task size name old new only (inr (keeps, why)) = keeps.0
 
 -- a request that asks changes no file
-pub asking_keeps : (request : Request) (tree : Option HostTree) (old new : Scene) (status : ℕ) → OnlyAsks request.task
-    → EndsRequest request tree old new status → new.files ≡ old.files
-asking_keeps request tree old new status only (fault, ends, told) =
-    task_keeps fault request.task request.size request.image.now tree old new only ends
+pub asking_keeps : (request : Request) (old new : Scene) (status : ℕ) → OnlyAsks request.task → EndsRequest request old new status
+    → new.files ≡ old.files
+asking_keeps request old new status only (fault, ends, told) =
+    task_keeps fault request.task request.size request.image.now old new only ends
 
 -- what is there is there alike
 pub some_same : {X : Type 0} (x y : X) → Some x ≡ Some y → x ≡ y

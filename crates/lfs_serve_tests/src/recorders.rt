@@ -1,12 +1,9 @@
 //! A host that records what is made on it.
 
-ghost use Rattle.std.specs.Prelude.{Some, if◌then◌else◌, map, string_bytes};
-ghost use Rattle.lfs_host.specs.NewFolder.{FileMade, FolderMade};
-
 use lfs_block::{Image, geometry_ok};
-use lfs_extract::{NewFolder, extract_rows};
+use lfs_extract::extract_rows;
 use lfs_fs::mount;
-use lfs_host::HostFault;
+use lfs_host::{HostFault, Known, NewFolder};
 use lfs_pack::{PackRow, pack};
 use std::alloc::Global;
 use std::process::Abort;
@@ -29,14 +26,22 @@ struct Recorder {
     room: usize,
 }
 
+impl Known for Recorder {
+    ghost use Rattle.std.specs.Prelude.{None, Some, if◌then◌else◌, map, string_bytes};
+    ghost use Rattle.lfs_host.specs.NewFolder.{FileMade, FolderMade};
+
+    ghost known = { λ r. record {
+      files = None;
+      typed = None;
+      printed = None;
+      tree = None;
+      made = Some (map (λ t. if t.is_folder then FolderMade (string_bytes t.name) else FileMade (string_bytes t.name) t.bytes.items) r.things.items);
+      filled = Some r.bytes.items;
+      has_refused = None;
+    } };
+}
+
 impl NewFolder for Recorder {
-    ghost made = { λ r. Some (map (λ t. if t.is_folder then FolderMade (string_bytes t.name)
-        else FileMade (string_bytes t.name) t.bytes.items) r.things.items) };
-
-    ghost filled = { λ r. Some r.bytes.items };
-
-    ghost kept = { λ _. tt };
-
     fn make_folder(&mut self, name: &str) -> Result<(), HostFault> {
         let Ok(name) = String::from_str(self.alloc, name) else {
             return Err(HostFault);

@@ -1,7 +1,7 @@
 //! A folder in memory, read as rows.
 
-use lfs_folder::{FolderFault, Folders, folder_rows};
-use lfs_host::{HostKind, ListFault, ReadFault};
+use lfs_folder::{FolderFault, folder_rows};
+use lfs_host::{Folders, HostKind, Known, ListFault, ReadFault};
 use std::alloc::{AllocError, Global};
 use std::test::Fail;
 
@@ -37,9 +37,9 @@ fn texts(alloc: Global, names: &[&str]) -> Result<Vec<String>, AllocError> {
     Ok(texts)
 }
 
-impl Folders for Shelf<'_> {
-    ghost kept = { λ _. tt };
+impl Known for Shelf<'_> {}
 
+impl Folders for Shelf<'_> {
     fn kind(&mut self, name: &str) -> Result<HostKind, ReadFault> {
         match self.find(name) {
             Some(item) => Ok(item.kind),
@@ -54,7 +54,7 @@ impl Folders for Shelf<'_> {
         }
     }
 
-    fn read(&mut self, alloc: Global, name: &str, _most: u64) -> Result<Vec<u8>, ReadFault> {
+    fn read_entry(&mut self, alloc: Global, name: &str, _most: u64) -> Result<Vec<u8>, ReadFault> {
         match self.find(name) {
             Some(item) => Vec::from_slice(alloc, item.bytes).map_err(|_| ReadFault::Memory),
             None => Err(ReadFault::CannotRead),

@@ -12,8 +12,8 @@ fn is_no_file() -> io::Error {
     io::Error::new(ErrorKind::InvalidInput, "not a regular file")
 }
 
-/// What is said of a file that another run keeps.
-fn is_kept() -> io::Error {
+/// What is said of a file whose lock another run holds.
+fn is_locked() -> io::Error {
     io::Error::new(ErrorKind::ResourceBusy, "another run is changing it")
 }
 
@@ -33,11 +33,11 @@ pub fn opened_entry(rt: &HostRuntime, name: &str) -> io::Result<File> {
     File::open(rt, name)
 }
 
-/// Keeps a file for this run, as long as it is open.
+/// Locks a file for this run, as long as it is open.
 fn lock(file: &File) -> io::Result<()> {
     match file.try_lock() {
         Ok(()) => Ok(()),
-        Err(TryLockError::WouldBlock) => Err(is_kept()),
+        Err(TryLockError::WouldBlock) => Err(is_locked()),
         Err(TryLockError::Error(error)) => Err(error),
     }
 }
@@ -49,8 +49,8 @@ fn leads_to(rt: &HostRuntime, name: &str, file: &File) -> io::Result<bool> {
     Ok(named.dev() == open.dev() && named.ino() == open.ino())
 }
 
-/// The file of a name, kept for this run.
-pub fn kept(rt: &HostRuntime, name: &str) -> io::Result<File> {
+/// The file of a name, whose lock this run holds then.
+pub fn locked(rt: &HostRuntime, name: &str) -> io::Result<File> {
     for _ in 0..MOST_TRIES {
         let file = opened(rt, name)?;
         lock(&file)?;
@@ -58,15 +58,15 @@ pub fn kept(rt: &HostRuntime, name: &str) -> io::Result<File> {
             return Ok(file);
         }
     }
-    Err(is_kept())
+    Err(is_locked())
 }
 
-/// Whether an error says that another run keeps the file.
-fn says_kept(error: &io::Error) -> bool {
+/// Whether an error says that another run holds the file's lock.
+fn says_locked(error: &io::Error) -> bool {
     error.kind() == ErrorKind::ResourceBusy
 }
 
-/// Takes away what an earlier run left under a name: a regular file that no run keeps.
+/// Takes away what an earlier run left under a name: a regular file whose lock no run holds.
 fn take_leftover_away(rt: &HostRuntime, name: &str) -> io::Result<()> {
     if !fs::symlink_metadata(rt, name)?.is_file() {
         return Err(is_no_file());
@@ -79,22 +79,22 @@ fn take_leftover_away(rt: &HostRuntime, name: &str) -> io::Result<()> {
     Ok(())
 }
 
-/// Whether a name leads to a new file, which is kept for this run. Where that can't be known the file is taken away, but
-/// not where another run keeps it as a leftover, and takes it away itself.
+/// Whether a name leads to a new file, whose lock this run holds. Where that can't be known the file is taken away, but
+/// not where another run holds its lock as a leftover's, and takes it away itself.
 fn is_held(rt: &HostRuntime, name: &str, file: &File) -> io::Result<bool> {
     let held = match lock(file) {
         Ok(()) => leads_to(rt, name, file),
         Err(error) => Err(error),
     };
     if let Err(error) = &held
-        && !says_kept(error)
+        && !says_locked(error)
     {
         let _ = fs::remove_file(rt, name);
     }
     held
 }
 
-/// A new file, kept for this run. What an earlier run left under the name is replaced.
+/// A new file, whose lock this run holds. What an earlier run left under the name is replaced.
 fn created(rt: &HostRuntime, name: &str) -> io::Result<File> {
     for _ in 0..MOST_TRIES {
         match File::create_new(rt, name) {
@@ -109,7 +109,7 @@ fn created(rt: &HostRuntime, name: &str) -> io::Result<File> {
             Err(error) => return Err(error),
         }
     }
-    Err(is_kept())
+    Err(is_locked())
 }
 
 /// Fills a new file, with the rights of the file `like` where there is one, and waits until the disk has it.
@@ -123,7 +123,7 @@ fn fill(rt: &HostRuntime, file: &mut File, bytes: &[u8], like: &str) -> io::Resu
     file.sync_all()
 }
 
-/// A new file of these bytes, kept for this run. Where it can't be filled it is taken away again.
+/// A new file of these bytes, whose lock this run holds. Where it can't be filled it is taken away again.
 pub fn written(rt: &HostRuntime, name: &str, bytes: &[u8], like: &str) -> io::Result<File> {
     let mut file = created(rt, name)?;
     match fill(rt, &mut file, bytes, like) {

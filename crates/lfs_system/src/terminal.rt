@@ -1,10 +1,10 @@
 //! The system as a host.
 
-use crate::files::{kept, name_anew, opened, opened_entry, replace, settle, written};
+use crate::files::{locked, name_anew, opened, opened_entry, replace, settle, written};
 use crate::folders::{is_other, kind_of, names_in};
 use crate::waiting::{write_later, write_rest};
 use lfs_block::MAX_IMAGE_LENGTH;
-use lfs_host::{Host, HostFault, HostKind, Keeping, ListFault, ReadFault};
+use lfs_host::{Folders, Host, HostFault, HostKind, Known, ListFault, Lock, NewFolder, ReadFault};
 use lfs_sink::{Out, Sink};
 use std::alloc::{AllocError, Global};
 use std::fmt::Display;
@@ -35,9 +35,9 @@ enum Subject {
 pub struct Terminal<'a> {
     rt: &'a HostRuntime,
     out: Out<Printer<'a, HostRuntime>>,
-    /// The image's file, kept for this run.
+    /// The image's file, whose lock this run holds.
     image: Option<File>,
-    /// The first new file, kept for this run: as long as it is there, no other run makes new files of the same image.
+    /// The first new file, whose lock this run holds: as long as it is there, no other run makes new files of the same image.
     new_file: Option<File>,
     /// The file that is being made in a new folder.
     making: Option<File>,
@@ -165,43 +165,9 @@ fn list_fault(error: &io::Error) -> ListFault {
     }
 }
 
-impl Host for Terminal<'_> {
-    fn target(&mut self, alloc: Global, name: &str) -> Result<String, ReadFault> {
-        target_of(self.rt, alloc, name).map_err(|error| self.read_fault(error))
-    }
+impl Known for Terminal<'_> {}
 
-    fn keep(&mut self, name: &str) -> Result<Keeping, HostFault> {
-        let error = match kept(self.rt, name) {
-            Ok(file) => {
-                self.image = Some(file);
-                return Ok(Keeping::Kept);
-            }
-            Err(error) => error,
-        };
-        let kind = error.kind();
-        self.said = Some(error);
-        match kind {
-            ErrorKind::ResourceBusy => Ok(Keeping::KeptByAnother),
-            ErrorKind::NotFound => Ok(Keeping::NoFile),
-            _ => Err(HostFault),
-        }
-    }
-
-    fn read(&mut self, alloc: Global, name: &str, most: u64) -> Result<Vec<u8>, ReadFault> {
-        read_bytes(self.rt, alloc, name, most).map_err(|error| self.read_fault(error))
-    }
-
-    fn find(&mut self, alloc: Global, name: &str, most: u64) -> Result<Vec<u8>, ReadFault> {
-        match read_bytes(self.rt, alloc, name, most) {
-            Ok(bytes) => Ok(bytes),
-            Err(error) if error.kind() == ErrorKind::NotFound => Ok(Vec::new(alloc)),
-            Err(error) => {
-                self.subject = Subject::Journal;
-                Err(self.read_fault(error))
-            }
-        }
-    }
-
+impl Folders for Terminal<'_> {
     fn kind(&mut self, name: &str) -> Result<HostKind, ReadFault> {
         match kind_of(self.rt, name) {
             Ok(HostKind::Other) => match self.note_entry(name, is_other()) {
@@ -228,6 +194,82 @@ impl Host for Terminal<'_> {
 
     fn read_entry(&mut self, alloc: Global, name: &str, most: u64) -> Result<Vec<u8>, ReadFault> {
         entry_bytes(self.rt, alloc, name, most).map_err(|error| self.entry_fault(name, error))
+    }
+}
+
+impl NewFolder for Terminal<'_> {
+    fn make_folder(&mut self, name: &str) -> Result<(), HostFault> {
+        fs::create_dir(self.rt, name).map_err(|error| self.refused_entry(name, error))
+    }
+
+    fn begin_file(&mut self, name: &str) -> Result<(), HostFault> {
+        match File::create_new(self.rt, name) {
+            Ok(file) => {
+                self.making = Some(file);
+                self.waiting.clear();
+                Ok(())
+            }
+            Err(error) => Err(self.refused_entry(name, error)),
+        }
+    }
+
+    fn fill(&mut self, bytes: &[u8]) -> Option<usize> {
+        let Some(file) = &mut self.making else {
+            return None;
+        };
+        match write_later(bytes, &mut self.waiting, file) {
+            Ok(()) => Some(bytes.len()),
+            Err(error) => {
+                self.subject = Subject::Making;
+                self.said = Some(error);
+                None
+            }
+        }
+    }
+
+    fn end_file(&mut self, name: &str) -> Result<(), HostFault> {
+        let Some(mut file) = self.making.take() else {
+            return Err(HostFault);
+        };
+        write_rest(&mut self.waiting, &mut file).map_err(|error| self.refused_entry(name, error))
+    }
+}
+
+impl Host for Terminal<'_> {
+    fn target(&mut self, alloc: Global, name: &str) -> Result<String, ReadFault> {
+        target_of(self.rt, alloc, name).map_err(|error| self.read_fault(error))
+    }
+
+    fn lock(&mut self, name: &str) -> Result<Lock, HostFault> {
+        let error = match locked(self.rt, name) {
+            Ok(file) => {
+                self.image = Some(file);
+                return Ok(Lock::Held);
+            }
+            Err(error) => error,
+        };
+        let kind = error.kind();
+        self.said = Some(error);
+        match kind {
+            ErrorKind::ResourceBusy => Ok(Lock::HeldByAnother),
+            ErrorKind::NotFound => Ok(Lock::NoFile),
+            _ => Err(HostFault),
+        }
+    }
+
+    fn read(&mut self, alloc: Global, name: &str, most: u64) -> Result<Vec<u8>, ReadFault> {
+        read_bytes(self.rt, alloc, name, most).map_err(|error| self.read_fault(error))
+    }
+
+    fn find(&mut self, alloc: Global, name: &str, most: u64) -> Result<Vec<u8>, ReadFault> {
+        match read_bytes(self.rt, alloc, name, most) {
+            Ok(bytes) => Ok(bytes),
+            Err(error) if error.kind() == ErrorKind::NotFound => Ok(Vec::new(alloc)),
+            Err(error) => {
+                self.subject = Subject::Journal;
+                Err(self.read_fault(error))
+            }
+        }
     }
 
     fn input(&mut self, alloc: Global, most: u64) -> Result<Vec<u8>, ReadFault> {
@@ -273,42 +315,6 @@ impl Host for Terminal<'_> {
 
     fn remove(&mut self, name: &str) {
         let _ = fs::remove_file(self.rt, name);
-    }
-
-    fn make_folder(&mut self, name: &str) -> Result<(), HostFault> {
-        fs::create_dir(self.rt, name).map_err(|error| self.refused_entry(name, error))
-    }
-
-    fn begin_file(&mut self, name: &str) -> Result<(), HostFault> {
-        match File::create_new(self.rt, name) {
-            Ok(file) => {
-                self.making = Some(file);
-                self.waiting.clear();
-                Ok(())
-            }
-            Err(error) => Err(self.refused_entry(name, error)),
-        }
-    }
-
-    fn fill(&mut self, bytes: &[u8]) -> Option<usize> {
-        let Some(file) = &mut self.making else {
-            return None;
-        };
-        match write_later(bytes, &mut self.waiting, file) {
-            Ok(()) => Some(bytes.len()),
-            Err(error) => {
-                self.subject = Subject::Making;
-                self.said = Some(error);
-                None
-            }
-        }
-    }
-
-    fn end_file(&mut self, name: &str) -> Result<(), HostFault> {
-        let Some(mut file) = self.making.take() else {
-            return Err(HostFault);
-        };
-        write_rest(&mut self.waiting, &mut file).map_err(|error| self.refused_entry(name, error))
     }
 
     fn print(&mut self, bytes: &[u8]) -> Option<usize> {

@@ -1,5 +1,5 @@
 -- How the words of a command line end, as far as clap's clauses say what they ask for (own).
-use Rattle.std.specs.Prelude.{ℕ, ◌≡◌, ◌⊎◌, List, Option, Result, Ok, Err, Some, true}
+use Rattle.std.specs.Prelude.{ℕ, ◌≡◌, ◌⊎◌, List, Result, Ok, Err, Some, true}
 use Rattle.clap.specs.Words.{HasMatchesOf, app_of, takes}
 use Rattle.clap.specs.declared.builder.command.Command.{Command}
 use Rattle.clap.specs.declared.parser.matches.ArgMatches.{ArgMatches}
@@ -7,14 +7,12 @@ use Rattle.lfs_command.specs.declared.refusal.Refusal.TheVariants.{Memory}
 use Rattle.lfs_change.specs.declared.fault.Fault.{Fault}
 use Rattle.lfs_change.specs.declared.fault.Fault.TheVariants.{Refused}
 use Rattle.lfs_change.specs.Fault.{status_of}
-use Rattle.lfs_host.specs.HostTree.{HostTree}
-use Rattle.lfs_host.specs.NewFolder.{Made}
 use Rattle.lfs_request.specs.declared.extraction.Extraction.{Extraction}
 use Rattle.lfs_serve.specs.Extracting.{EndsExtraction}
 use Rattle.lfs_request.specs.declared.request.Request.{Request}
 use Rattle.lfs_words.specs.declared.wish.Wish.TheVariants.{Explanation}
 use Rattle.lfs_words.specs.Words.{IsExtraction, IsRequest, IsWish}
-use Rattle.lfs_exchange.specs.Handing.{KeepsScene, Scene}
+use Rattle.lfs_host.specs.Scene.{KeepsScene, Scene}
 use Rattle.lfs_serve.specs.Program.{EndsRequest}
 
 -- the status of a command line that is refused
@@ -34,24 +32,14 @@ abbrev pub AsksNoStep : List (List ℕ) → Type 0
 AsksNoStep words =
     IsRefused words ⊎ ((m : ArgMatches) × (number : ℕ) × IsMatched words m × IsWish (Explanation number) m)
 
--- what is known of the host's folders: what there is under each name, what was made in new ones before, and what has been now
-pub record Known : Type 0 where
-  pub tree : Option HostTree
-  pub made : Option (List Made)
-  pub now : Option (List Made)
-
--- the same, from its parts
-abbrev pub known : Option HostTree → Option (List Made) → Option (List Made) → Known
-known tree made now = record { tree = tree; made = made; now = now }
-
 -- the words ask for a folder that is made of an image, and this is what is made; no file changes, and nothing is printed
-abbrev pub EndsFolder : List (List ℕ) → Known → Scene → Scene → ℕ → Type 0
-EndsFolder words k old new status =
+abbrev pub EndsFolder : List (List ℕ) → Scene → Scene → ℕ → Type 0
+EndsFolder words old new status =
     (m : ArgMatches)
     × (extraction : Extraction)
     × IsMatched words m
     × IsExtraction extraction m
-    × EndsExtraction extraction old.files k.tree k.made k.now status
+    × EndsExtraction extraction old new status
     × KeepsScene old new
 
 -- the status that a command line ends with
@@ -61,13 +49,13 @@ ended_with (Err fault) = status_of (Some fault)
 
 -- how a command line ends: as the request that its words ask for; with a folder that is made of an image; with no step asked for, and no file changed; or with
 -- nothing changed, for want of memory or since no request is read off its matches
-abbrev pub EndsWords : List (List ℕ) → Known → Scene → Scene → ℕ → Type 0
-EndsWords words k old new status =
+abbrev pub EndsWords : List (List ℕ) → Scene → Scene → ℕ → Type 0
+EndsWords words old new status =
     ((m : ArgMatches)
     × (request : Request)
     × IsMatched words m
     × IsRequest request m
-    × EndsRequest request k.tree old new status)
-    ⊎ EndsFolder words k old new status
+    × EndsRequest request old new status)
+    ⊎ EndsFolder words old new status
     ⊎ (AsksNoStep words × (new.files ≡ old.files))
     ⊎ (KeepsScene old new × ((status ≡ status_of (Some (Refused Memory))) ⊎ (status ≡ usage)))

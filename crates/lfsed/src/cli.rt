@@ -1,8 +1,7 @@
 //! The program, over a host.
 
 ghost use Rattle.std.specs.Prelude.{◌≡◌, IfOk, map};
-ghost use Rattle.lfs_exchange.specs.Handing.{scene};
-ghost use Rattle.lfsed.specs.Words.{EndsWords, ended_with, known};
+ghost use Rattle.lfsed.specs.Words.{EndsWords, ended_with};
 
 use crate::explanations::explained;
 use clap::Error;
@@ -27,8 +26,7 @@ const OUTPUT: &str = "standard output";
 ///
 /// Source: own.
 pub fn cli<H: Host, W: AsStr>(alloc: Global, host: &mut H, words: &[W]) -> u8
-    ensures ended { EndsWords (map W.text words.now) (known (H.tree host.old) (H.made host.old) (H.made host.new)) (scene (H.files host.old) (H.typed host.old) (H.printed host.old))
-        (scene (H.files host.new) (H.typed host.new) (H.printed host.new)) result }
+    ensures ended { EndsWords (map W.text words.now) (H.known host.old) (H.known host.new) result }
 {
     match done(alloc, host, words) {
         Ok(status) => status,
@@ -38,8 +36,7 @@ pub fn cli<H: Host, W: AsStr>(alloc: Global, host: &mut H, words: &[W]) -> u8
 
 /// Reads the words, and does what they ask for.
 fn done<H: Host, W: AsStr>(alloc: Global, host: &mut H, words: &[W]) -> Result<u8, Fault>
-    ensures ended { EndsWords (map W.text words.now) (known (H.tree host.old) (H.made host.old) (H.made host.new)) (scene (H.files host.old) (H.typed host.old) (H.printed host.old))
-        (scene (H.files host.new) (H.typed host.new) (H.printed host.new)) (ended_with result) }
+    ensures ended { EndsWords (map W.text words.now) (H.known host.old) (H.known host.new) (ended_with result) }
 {
     match command_line(alloc)?.try_get_matches_from(words) {
         Ok(matches) => match wished(&matches) {
@@ -57,7 +54,7 @@ fn done<H: Host, W: AsStr>(alloc: Global, host: &mut H, words: &[W]) -> Result<u
 
 /// Says what the fault of a number means. A number that no fault has is refused.
 fn explain<H: Host>(alloc: Global, host: &mut H, number: u32) -> Result<u8, Fault>
-    ensures kept { H.files host.new ≡ H.files host.old }
+    ensures kept { (H.known host.new).files ≡ (H.known host.old).files }
 {
     let Some(found) = explained(number) else {
         host.complain(format_args!(
@@ -73,7 +70,7 @@ fn explain<H: Host>(alloc: Global, host: &mut H, number: u32) -> Result<u8, Faul
 
 /// Tells what is wrong with the words, or the help that they ask for.
 fn refused<H: Host>(alloc: Global, host: &mut H, error: Error) -> Result<u8, Fault>
-    ensures kept { H.files host.new ≡ H.files host.old }
+    ensures kept { (H.known host.new).files ≡ (H.known host.old).files }
 {
     if error.use_stderr() {
         host.complain(error);

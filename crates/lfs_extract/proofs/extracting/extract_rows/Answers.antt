@@ -38,3 +38,6 @@ pub returns-clause-tree : goal.returns-clause-tree
 returns-clause-tree g c =
     of_tree c.rows_show_the_tree.ensures (g.B.Blocks.disk c.args.disk.now) c.size-within_limits.ensures.disk c.args.mounted.now
     c.requires.mounted c.args.dir.now
+
+pub returns-clause-blamed : goal.returns-clause-blamed
+returns-clause-blamed g c = c.make_rows.ensures.blamed

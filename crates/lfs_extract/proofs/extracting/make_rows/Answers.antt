@@ -14,7 +14,7 @@ use Rattle.lfs_extract.proofs.extracting.make_rows.Goals as goal
 
 pub loop-row-init : goal.loop-row-init
 loop-row-init g c =
-    let old : Option (List Made) = g.F.NewFolder.made c.args.folder.now in
+    let old : Option (List Made) = (g.F.Known.known c.args.folder.now).made in
     let d : Disk = g.B.Blocks.disk c.args.disk.now in
     let rows : List Row = rows_listed c.args.rows in
     let same : c.into_iter-row-iterator.result ≡ c.args.rows = search rules in
@@ -37,9 +37,9 @@ make_row-requires g c = record {
 
 pub loop-row-preserved : goal.loop-row-preserved
 loop-row-preserved g c =
-    let old : Option (List Made) = g.F.NewFolder.made c.args.folder.now in
-    let mid : Option (List Made) = g.F.NewFolder.made c.loop-row.folder in
-    let new : Option (List Made) = g.F.NewFolder.made c.make_row.new.folder in
+    let old : Option (List Made) = (g.F.Known.known c.args.folder.now).made in
+    let mid : Option (List Made) = (g.F.Known.known c.loop-row.folder).made in
+    let new : Option (List Made) = (g.F.Known.known c.make_row.new.folder).made in
     let d : Disk = g.B.Blocks.disk c.args.disk.now in
     let dir : List ℕ = c.args.dir.now in
     let q : Path = map (λ (n : Bor Name). n.now) c.loop-row.path.items in
@@ -53,5 +53,9 @@ loop-row-preserved g c =
     record {
       left = left_behind old new d dir (map (λ (n : Bor Name). n.now) c.follow.new.path.items) (path_after q x.depth x.entry.name)
           c.next.new.self (rows_listed c.args.rows) c.in_ok-follow.ensures left;
-      kept = c.in_ok-make_row.ensures.kept ∙ c.loop-row.invariant.kept;
+      kept = (
+        c.in_ok-make_row.ensures.kept.0 ∙ c.loop-row.invariant.kept.0,
+        c.in_ok-make_row.ensures.kept.1 ∙ c.loop-row.invariant.kept.1,
+        c.in_ok-make_row.ensures.kept.2 ∙ c.loop-row.invariant.kept.2,
+      );
     }

@@ -9,4 +9,4 @@ returns-clause-rows g c =
     let old = c.loop-name.walk in
     let empty : old.waiting.items ≡ [] = no_elements old.waiting.items (omega (arith, c.in_default.ensures.cases.0)) in
     let walking = c.loop-name.invariant.walking in
-    walk_end MOST_BYTES (g.H.Folders.folders c.args.host.now) c.args.dir.now old.rows.items (rw empty at walking)
+    walk_end MOST_BYTES (g.H.Known.known c.args.host.now).tree c.args.dir.now old.rows.items (rw empty at walking)

@@ -8,11 +8,11 @@ use Rattle.lfs_serve.proofs.extracting.extract_file.Goals as goal
 pub returns-in-Ok-read-clause-made : goal.returns-in-Ok-read-clause-made
 returns-in-Ok-read-clause-made g c =
     let e = c.args.extraction.now in
-    let files = g.H.Host.files c.args.host.now in
+    let files = (g.H.Known.known c.args.host.now).files in
     let target = string_bytes c.in-Ok.target in
     let bytes = c.in-Ok-read.bytes.items in
     let leads : IsTarget files e.image.now target = search rules in
     let reads : ReadsFile files target most_image bytes = search rules in
-    file_ends e.size e.image.now target e.dir.now bytes files (g.H.Host.tree c.args.host.now) (g.H.Host.tree c.read.new.self)
-    (g.H.Host.made c.args.host.now) (g.H.Host.made c.read.new.self) (g.H.Host.made c.extract_bytes.new.host)
+    file_ends e.size e.image.now target e.dir.now bytes files (g.H.Known.known c.args.host.now).tree (g.H.Known.known c.read.new.self).tree
+    (g.H.Known.known c.args.host.now).made (g.H.Known.known c.read.new.self).made (g.H.Known.known c.extract_bytes.new.host)
     (stopped_by c.extract_bytes.result) leads reads (search rules) (search rules) c.extract_bytes.ensures.made

@@ -10,7 +10,7 @@ returns-in-None-clause-ran g c =
       o,
       runs_with (deed_of c.args.step.now c.args.handed.input.items)
           (given c.args.size c.args.handed.image.items c.args.handed.journal.items) None
-          (g.H.Host.printed c.args.host.now) (g.H.Host.printed c.ran-outcome.new.host) o c.ran-outcome.ensures.answers
+          (g.H.Known.known c.args.host.now).printed (g.H.Known.known c.ran-outcome.new.host).printed o c.ran-outcome.ensures.answers
           c.ran-outcome.ensures.sent c.in-None.is,
       refl,
     )
@@ -21,7 +21,7 @@ returns-in-Some-clause-ran g c =
       o,
       runs_with (deed_of c.args.step.now c.args.handed.input.items)
           (given c.args.size c.args.handed.image.items c.args.handed.journal.items) (Some c.in-Some.fault)
-          (g.H.Host.printed c.args.host.now) (g.H.Host.printed c.ran-outcome.new.host) o c.ran-outcome.ensures.answers
+          (g.H.Known.known c.args.host.now).printed (g.H.Known.known c.ran-outcome.new.host).printed o c.ran-outcome.ensures.answers
           c.ran-outcome.ensures.sent c.in-Some.is,
       tt,
     )

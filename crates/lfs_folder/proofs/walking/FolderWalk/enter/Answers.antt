@@ -8,7 +8,7 @@ use Rattle.lfs_folder.proofs.walking.FolderWalk.enter.Goals as goal
 pub returns-in_err-names-clause-refused : goal.returns-in_err-names-clause-refused
 returns-in_err-names-clause-refused g c =
     let p = err_from_is_err_and c.from_residual-in_err-names.result c.from_residual-in_err-names.ensures.1 in
-    rw (p.1, p.2) (order_refused (g.H.Folders.folders c.args.host.now) c.args.folder.now
+    rw (p.1, p.2) (order_refused (g.H.Known.known c.args.host.now).tree c.args.folder.now
     (map (λ n. string_bytes n) c.in_ok-listed.listed.items) c.in_err-names.field-0.0 c.in_ok-listed.ensures.listed c.in_err-names.ensures.refused)
 
 pub returns-clause-entered : goal.returns-clause-entered
@@ -18,7 +18,7 @@ returns-clause-entered g c =
     let folder = c.args.folder.now in
     record {
       names = names;
-      listed = lists_sorted (g.H.Folders.folders c.args.host.now) folder (map (λ n. string_bytes n) c.in_ok-listed.listed.items)
+      listed = lists_sorted (g.H.Known.known c.args.host.now).tree folder (map (λ n. string_bytes n) c.in_ok-listed.listed.items)
           names c.in_ok-listed.ensures.listed ordered.same;
       rise = ordered.rise;
       fit = ordered.fit;

@@ -10,42 +10,42 @@ use Rattle.lfs_folder.proofs.walking.FolderWalk.visit.Goals as goal
 
 pub returns-in-Folder-clause-walking : goal.returns-in-Folder-clause-walking
 returns-in-Folder-clause-walking g c =
-    let known = g.H.Folders.folders c.args.host.now in
+    let known = (g.H.Known.known c.args.host.now).tree in
     let waiting = map (λ s. string_bytes s) (reverse c.args.self.now.waiting.items) in
     let more = map (λ s. string_bytes s) (reverse c.enter.new.self.waiting.items) in
     let dir = c.args.dir.now in
     let name = c.args.name.now in
     let enters : Option HostTree → Type 0 = λ (k : Option HostTree). Enters k (length dir) name c.args.self.now.rows.items
     c.enter.new.self.rows.items waiting more in
-    on_ok_weaker c.enter.result (λ (entered : enters (g.H.Folders.folders c.kind.new.self)). step_folder MOST_BYTES known dir name
-    c.args.self.now.rows.items c.enter.new.self.rows.items waiting more c.requires (subst enters c.kind.ensures.kept entered))
+    on_ok_weaker c.enter.result (λ (entered : enters (g.H.Known.known c.kind.new.self).tree). step_folder MOST_BYTES known dir name
+    c.args.self.now.rows.items c.enter.new.self.rows.items waiting more c.requires (subst enters c.kind.ensures.kept.1 entered))
     c.enter.ensures.entered
 
 pub returns-in-Folder-clause-refused : goal.returns-in-Folder-clause-refused
 returns-in-Folder-clause-refused g c =
-    let known = g.H.Folders.folders c.args.host.now in
+    let known = (g.H.Known.known c.args.host.now).tree in
     let waiting = map (λ s. string_bytes s) (reverse c.args.self.now.waiting.items) in
     let dir = c.args.dir.now in
     let name = c.args.name.now in
-    IfErr-weaker c.enter.result (λ fault. IfSome (g.H.Folders.folders c.kind.new.self) (RefusesFolder name fault))
+    IfErr-weaker c.enter.result (λ fault. IfSome (g.H.Known.known c.kind.new.self).tree (RefusesFolder name fault))
     (λ fault. Refuses known dir fault)
     (λ fault why. walk_refused MOST_BYTES known dir name c.args.self.now.rows.items waiting fault c.requires
-    (subst (λ (k : Option HostTree). IfSome k (RefusesFolder name fault)) c.kind.ensures.kept why)) c.enter.ensures.refused
+    (subst (λ (k : Option HostTree). IfSome k (RefusesFolder name fault)) c.kind.ensures.kept.1 why)) c.enter.ensures.refused
 
 pub returns-in_ok-show-in-File-clause-walking : goal.returns-in_ok-show-in-File-clause-walking
 returns-in_ok-show-in-File-clause-walking g c =
-    let known = g.H.Folders.folders c.args.host.now in
+    let known = (g.H.Known.known c.args.host.now).tree in
     let waiting = map (λ s. string_bytes s) (reverse c.args.self.now.waiting.items) in
     let name = c.args.name.now in
     let bytes = c.in_ok-bytes-in-File.bytes.items in
     let read : ReadsEntry known name MOST_BYTES bytes = subst (λ (k : Option HostTree). ReadsEntry k name MOST_BYTES bytes)
-    c.kind.ensures.kept c.in_ok-bytes-in-File.ensures.read in
+    c.kind.ensures.kept.1 c.in_ok-bytes-in-File.ensures.read in
     rw c.show.ensures.waiting (step_file MOST_BYTES known c.args.dir.now name bytes c.args.self.now.rows.items c.show.new.self.rows.items
     waiting c.requires read c.in_ok-show-in-File.ensures.shown)
 
 pub returns-in-Other-clause-refused : goal.returns-in-Other-clause-refused
 returns-in-Other-clause-refused g c =
-    let known = g.H.Folders.folders c.args.host.now in
+    let known = (g.H.Known.known c.args.host.now).tree in
     let waiting = map (λ s. string_bytes s) (reverse c.args.self.now.waiting.items) in
     walk_other MOST_BYTES known c.args.dir.now c.args.name.now c.args.self.now.rows.items waiting c.requires
     (subst (IsKind known c.args.name.now) c.in-Other.is c.in_ok-kind.ensures.kind)

@@ -1,0 +1,13 @@
+//! What is known of a host.
+
+ghost use Rattle.lfs_host.specs.Scene.{Scene, unknown};
+
+/// A host of which something is known, or nothing: its files, what is left on standard input and what was printed; what there
+/// is under each name, where links aren't followed; what was made in new folders so far, in order, and the bytes that were
+/// written to the file that is being made there; and whether it has refused something. What the system refuses is its own
+/// affair.
+///
+/// Source: own.
+pub trait Known {
+    ghost known: { Self → Scene } = { λ _. unknown };
+}
