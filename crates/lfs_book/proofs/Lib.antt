@@ -4,3 +4,4 @@ pub mod Patches
 pub mod Heads
 pub mod Books
 pub mod Loops
+pub mod Lengths

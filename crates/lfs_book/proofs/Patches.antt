@@ -56,7 +56,7 @@ each_from_zero : (cs : List Change) → AllByRecursion (λ e. 0 ≤ e.number) cs
 each_from_zero [] = tt
 each_from_zero (c ∷ cs) = (omega arith, each_from_zero cs)
 
-changes_of : (size count : ℕ) (p : ChangeSet) → IsPatchOf size count p → AreChanges size count 0 p.changes
+pub changes_of : (size count : ℕ) (p : ChangeSet) → IsPatchOf size count p → AreChanges size count 0 p.changes
 changes_of size count p is = record {
   from = each_from_zero p.changes;
   rising = is.0.rising;

@@ -47,3 +47,7 @@ pub record IsBook (j : Book) : Type 0 where
 pub record IsBookOf (size count : ℕ) (patches : List ChangeSet) (done : ℕ) : Type 0 where
   pub within : done ≤ length patches
   pub book : IsBook (book_of size count patches done)
+
+-- the most bytes that a journal has: 1,000 changes of all blocks of a largest image
+abbrev pub most_journal : ℕ
+most_journal = 134479876024

@@ -7,6 +7,11 @@ use lfs_block::Patch;
 use std::alloc::Global;
 use std::marker::Model;
 
+/// The greatest length of a journal, in bytes: 1,000 changes of all blocks of a largest image.
+///
+/// Source: own.
+pub const MAX_JOURNAL_LENGTH: u64 = 134_479_876_024;
+
 /// The journal of an image: its changes, up to 1,000, those that are done and those that were taken back. Its meaning is
 /// a `Book`.
 ///

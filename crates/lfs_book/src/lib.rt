@@ -7,7 +7,7 @@ mod laws;
 mod reading;
 mod writing;
 
-pub use journal::Journal;
+pub use journal::{Journal, MAX_JOURNAL_LENGTH};
 pub use journal_fault::JournalFault;
-pub use laws::books_are_read_once;
+pub use laws::{books_are_read_once, journals_are_short};
 pub use writing::write_journal;

@@ -1,10 +1,11 @@
 -- What a step is handed of a host, and which faults the host gives rise to (own).
 use Rattle.std.specs.Prelude.{ℕ, ◌≡◌, ◌⊎◌, List, [], Option}
+use Rattle.lfs_book.specs.Book.{most_journal}
 use Rattle.lfs_command.specs.declared.refusal.Refusal.TheVariants.{Memory}
 use Rattle.lfs_change.specs.declared.fault.Fault.{Fault}
 use Rattle.lfs_change.specs.declared.fault.Fault.TheVariants.{Refused, CannotRead, CannotWrite}
 use Rattle.lfs_exchange.specs.declared.step_kind.StepKind.{StepKind}
-use Rattle.lfs_exchange.specs.declared.step_kind.StepKind.TheVariants.{Makes, Changes}
+use Rattle.lfs_exchange.specs.declared.step_kind.StepKind.TheVariants.{Makes, Asks, Changes}
 use Rattle.lfs_step.specs.declared.step.Step.{Step}
 use Rattle.lfs_step.specs.declared.step.Step.TheVariants.{Put}
 use Rattle.lfs_host.specs.declared.read_fault.ReadFault.{ReadFault}
@@ -21,10 +22,6 @@ most_image = 67108864
 -- the most bytes that a file in an image has
 abbrev pub most_input : ℕ
 most_input = 2147483647
-
--- the most bytes that a journal has: 1,000 changes of all blocks of a largest image
-abbrev pub most_journal : ℕ
-most_journal = 134479876024
 
 -- the bytes of an image that a step is handed: those of its file, none where the image is made
 abbrev pub HandsImage : StepKind → Option Files → List ℕ → List ℕ → Type 0
@@ -55,6 +52,12 @@ pub record IsHanded (step : Step) (name : List ℕ) (s : Scene) (h : HandedBytes
 
 -- ---- faults of the host
 
+-- the host has refused to read, or memory was wanting
+abbrev pub IsUnread : Scene → Fault → Type 0
+IsUnread scene CannotRead = HasRefused scene
+IsUnread scene (Refused refusal) = refusal ≡ Memory
+IsUnread scene _ = ⊥
+
 -- a fault that the host alone gives rise to: it has refused something, or memory was wanting
 abbrev pub IsOfHost : Scene → Fault → Type 0
 IsOfHost scene CannotRead = HasRefused scene
@@ -62,9 +65,14 @@ IsOfHost scene CannotWrite = HasRefused scene
 IsOfHost scene (Refused refusal) = refusal ≡ Memory
 IsOfHost scene _ = ⊥
 
--- why the file of a name isn't at hand: such a fault, or there is no such file
-abbrev pub IsNotAimed : Scene → List ℕ → Fault → Type 0
-IsNotAimed scene name fault = IsOfHost scene fault ⊎ ((fault ≡ CannotRead) × IsMissing scene.files name)
+-- why the file of a name isn't locked: such a fault, or there is no such file
+abbrev pub IsNotLocked : Scene → List ℕ → Fault → Type 0
+IsNotLocked scene name fault = IsOfHost scene fault ⊎ ((fault ≡ CannotRead) × IsMissing scene.files name)
+
+-- why the file of a name isn't at hand: one that is only read isn't read, another isn't locked
+abbrev pub IsNotAimed : StepKind → Scene → List ℕ → Fault → Type 0
+IsNotAimed Asks scene name fault = IsUnread scene fault
+IsNotAimed _ scene name fault = IsNotLocked scene name fault
 
 -- what a fault of reading is told as
 abbrev pub fault_of_reading : ReadFault → Fault

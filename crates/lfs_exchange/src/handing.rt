@@ -1,14 +1,16 @@
 //! What a step is handed of a host.
 
 ghost use Rattle.std.specs.Prelude.{◌≡◌, IfErr, IfOk, string_bytes};
+ghost use Rattle.lfs_book.specs.Book.{most_journal};
 ghost use Rattle.lfs_host.specs.Files.{FindsFile, IsTarget};
 ghost use Rattle.lfs_host.specs.Scene.{KeepsAll, KeepsScene};
-ghost use Rattle.lfs_exchange.specs.Handing.{HandsImage, HandsInput, HandsJournal, IsHanded, IsNotAimed, IsOfHost, fault_at, fault_of_reading, most_journal};
+ghost use Rattle.lfs_exchange.specs.Handing.{HandsImage, HandsInput, HandsJournal, IsHanded, IsNotAimed, IsNotLocked, IsUnread, fault_at, fault_of_reading};
 ghost use Rattle.lfs_exchange.specs.Storing.{journal_name};
 
 use crate::names::journal_name;
 use crate::step_kind::{StepKind, kind_of};
 use lfs_block::MAX_IMAGE_LENGTH;
+use lfs_book::MAX_JOURNAL_LENGTH;
 use lfs_edit::Refusal;
 use lfs_host::{Host, Lock, ReadFault};
 use lfs_step::{Fault, Step};
@@ -16,9 +18,6 @@ use std::alloc::Global;
 
 /// The most bytes that a file in an image has.
 const MOST_INPUT: u64 = 2_147_483_647;
-
-/// The most bytes that a journal has: 1,000 changes of all blocks of a largest image.
-const MOST_JOURNAL: u64 = 134_479_876_024;
 
 /// What a step is handed.
 #[derive(Drop)]
@@ -39,7 +38,7 @@ pub fn aimed<H: Host>(
     name: &str,
 ) -> Result<String, Fault>
     ensures target { IfOk result (λ target. IsTarget (H.known host.old).files name.now (string_bytes target)) }
-    ensures refused { IfErr result (IsNotAimed (H.known host.new) name.now) }
+    ensures refused { IfErr result (IsNotAimed kind (H.known host.new) name.now) }
     ensures kept { KeepsAll (H.known host.old) (H.known host.new) }
 {
     let target = match host.target(alloc, name) {
@@ -55,7 +54,7 @@ pub fn aimed<H: Host>(
 
 /// Locks an image's file for this run. One that is made need not be there.
 fn lock<H: Host>(host: &mut H, kind: StepKind, name: &str) -> Result<(), Fault>
-    ensures refused { IfErr result (IsNotAimed (H.known host.new) name.now) }
+    ensures refused { IfErr result (IsNotLocked (H.known host.new) name.now) }
     ensures kept { KeepsAll (H.known host.old) (H.known host.new) }
 {
     match (host.lock(name), kind) {
@@ -74,11 +73,11 @@ pub fn hand_over<H: Host>(
 ) -> Result<Handed, Fault>
     ensures handed { IfOk result (λ h. IsHanded step.now name.now (H.known host.old)
         (record { image = h.image.items; journal = h.journal.items; input = h.input.items })) }
-    ensures refused { IfErr result (IsOfHost (H.known host.new)) }
+    ensures refused { IfErr result (IsUnread (H.known host.new)) }
     ensures kept { KeepsScene (H.known host.old) (H.known host.new) }
 {
     let kind = kind_of(step);
-    let image = image_of(alloc, host, kind, name)?;
+    let image = read_image(alloc, host, kind, name)?;
     let journal = journal_of(alloc, host, kind, name)?;
     let input = input_of(alloc, host, step)?;
     Ok(Handed {
@@ -88,15 +87,18 @@ pub fn hand_over<H: Host>(
     })
 }
 
-/// The bytes of an image's file, and one more than an image has where there are more; none where the image is made.
-fn image_of<H: Host>(
+/// The bytes of an image's file, and one more than an image has where there are more; none where the image is made. Takes
+/// memory.
+///
+/// Source: own.
+pub fn read_image<H: Host>(
     alloc: Global,
     host: &mut H,
     kind: StepKind,
     name: &str,
 ) -> Result<Vec<u8>, Fault>
     ensures image { IfOk result (λ bytes. HandsImage kind (H.known host.old).files name.now bytes.items) }
-    ensures refused { IfErr result (IsOfHost (H.known host.new)) }
+    ensures refused { IfErr result (IsUnread (H.known host.new)) }
     ensures kept { KeepsAll (H.known host.old) (H.known host.new) }
 {
     if let StepKind::Makes = kind {
@@ -116,7 +118,7 @@ fn journal_of<H: Host>(
     name: &str,
 ) -> Result<Vec<u8>, Fault>
     ensures journal { IfOk result (λ bytes. HandsJournal kind (H.known host.old).files name.now bytes.items) }
-    ensures refused { IfErr result (IsOfHost (H.known host.new)) }
+    ensures refused { IfErr result (IsUnread (H.known host.new)) }
     ensures kept { KeepsAll (H.known host.old) (H.known host.new) }
 {
     match kind {
@@ -128,11 +130,11 @@ fn journal_of<H: Host>(
 /// The bytes of the journal of an image's file; none where there is no such journal.
 fn find_journal<H: Host>(alloc: Global, host: &mut H, name: &str) -> Result<Vec<u8>, Fault>
     ensures journal { IfOk result (λ bytes. FindsFile (H.known host.old).files (journal_name name.now) most_journal bytes.items) }
-    ensures refused { IfErr result (IsOfHost (H.known host.new)) }
+    ensures refused { IfErr result (IsUnread (H.known host.new)) }
     ensures kept { KeepsAll (H.known host.old) (H.known host.new) }
 {
     let journal = journal_name(alloc, name)?;
-    match host.find(alloc, journal.as_str(), MOST_JOURNAL) {
+    match host.find(alloc, journal.as_str(), MAX_JOURNAL_LENGTH) {
         Ok(bytes) => Ok(bytes),
         Err(fault) => Err(fault_of_reading(fault)),
     }
@@ -141,7 +143,7 @@ fn find_journal<H: Host>(alloc: Global, host: &mut H, name: &str) -> Result<Vec<
 /// What a step reads: the contents of a file that is put.
 fn input_of<H: Host>(alloc: Global, host: &mut H, step: &Step<'_>) -> Result<Vec<u8>, Fault>
     ensures input { IfOk result (λ input. HandsInput step.now (H.known host.old).typed input.items) }
-    ensures refused { IfErr result (IsOfHost (H.known host.new)) }
+    ensures refused { IfErr result (IsUnread (H.known host.new)) }
     ensures kept { KeepsScene (H.known host.old) (H.known host.new) }
 {
     let Step::Put { .. } = step else {

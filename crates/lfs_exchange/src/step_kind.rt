@@ -29,9 +29,7 @@ pub fn kind_of(step: &Step<'_>) -> StepKind
     match *step {
         Step::Format { .. } | Step::Pack { .. } => StepKind::Makes,
         Step::Check | Step::Ls | Step::Cat { .. } => StepKind::Asks,
-        Step::Mkdir { .. } | Step::Put { .. } | Step::Rm { .. } => StepKind::Changes,
-        Step::Mv { .. } | Step::SetAttr { .. } | Step::RmAttr { .. } => StepKind::Changes,
-        Step::Undo | Step::Redo => StepKind::Changes,
         Step::Forget => StepKind::Forgets,
+        _ => StepKind::Changes,
     }
 }

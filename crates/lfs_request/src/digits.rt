@@ -1,10 +1,9 @@
 //! Bytes in hexadecimal digits.
 
-ghost use Rattle.std.specs.Prelude.{◌≡◌, ◌⊎◌, IsErr, IfOk, IfErr};
-ghost use Rattle.hex.specs.Hex.{decode_sized};
+ghost use Rattle.std.specs.Prelude.{◌≡◌, ◌⊎◌, IfOk, IfErr};
 ghost use Rattle.lfs_command.specs.declared.refusal.Refusal.TheVariants.{Memory};
 ghost use Rattle.lfs_change.specs.declared.fault.Fault.TheVariants.{Refused, BadHex};
-ghost use Rattle.lfs_request.specs.Asking.{SpellsByte, SpellsBytes, SpellsNoBytes, fault_of_hex};
+ghost use Rattle.lfs_request.specs.Asking.{SpellsByte, SpellsBytes, SpellsNoByte, SpellsNoBytes, fault_of_hex};
 
 use hex::{FromHex, FromHexError};
 use lfs_edit::Refusal;
@@ -16,7 +15,7 @@ use std::alloc::Global;
 /// Source: own.
 pub fn byte_of(text: &str) -> Result<u8, Fault>
     ensures byte { IfOk result (λ byte. SpellsByte text.now byte) }
-    ensures refused { IfErr result (λ fault. (fault ≡ BadHex) × IsErr (decode_sized text.now 1)) }
+    ensures refused { IfErr result (λ fault. (fault ≡ BadHex) × SpellsNoByte text.now) }
 {
     match <[u8; 1] as FromHex>::from_hex(text) {
         Ok(bytes) => Ok(bytes[0]),

@@ -1,14 +1,10 @@
-//! What is asked for on an image: a task, on an image's file, and the step that it asks for.
+//! What is asked for on an image: a task, on an image's file, and the digits of what it sets.
 #![tactic(auto)]
 
-mod asking;
 mod digits;
-mod extraction;
 mod request;
 mod task;
 
-pub use asking::{digits_of, step_of};
-pub use digits::bytes_of;
-pub use extraction::Extraction;
+pub use digits::{byte_of, bytes_of};
 pub use request::Request;
 pub use task::Task;

@@ -4,33 +4,38 @@ use Rattle.std.specs.Option.{option_map}
 use Rattle.std.specs.Prelude.{IfErr, IfSome}
 use Rattle.std.specs.Result.{result_err}
 use Rattle.lfs_block.specs.Disk.{Disk, IsDisk}
-use Rattle.lfs_change.specs.Bytes.{image_of}
 use Rattle.lfs_change.proofs.BytesLemmas.{image_of_disk}
 use Rattle.lfs_change.specs.declared.fault.Fault.{Fault}
-use Rattle.lfs_change.specs.declared.fault.Fault.TheVariants.{Image, HostEntry}
+use Rattle.lfs_change.specs.declared.fault.Fault.TheVariants.{Image, Refused, CannotRead, HostEntry}
 use Rattle.lfs_extract.specs.declared.extract_fault.ExtractFault.{ExtractFault}
 use Rattle.lfs_extract.specs.declared.extract_fault.ExtractFault.TheVariants.{Memory, HostName, CannotWrite}
-use Rattle.lfs_host.specs.Files.{Files, IsTarget, ReadsFile}
+use Rattle.lfs_host.specs.Files.{IsTarget, ReadsFile}
 use Rattle.lfs_host.specs.HostTree.{HostTree}
 use Rattle.lfs_host.specs.NewFolder.{Made}
-use Rattle.lfs_host.specs.Scene.{HasRefused, Notes, Scene, refuses_reading}
+use Rattle.lfs_host.specs.Scene.{HasRefused, KeepsScene, Notes, Scene, refuses_reading}
 use Rattle.lfs_host.specs.declared.read_fault.ReadFault.{ReadFault}
 use Rattle.lfs_host.specs.declared.read_fault.ReadFault.TheVariants as reading
 use Rattle.lfs_step.specs.Query.{HasMount}
-use Rattle.lfs_exchange.specs.Handing.{fault_of_reading, most_image}
+use Rattle.lfs_exchange.specs.Handing.{IsUnread, fault_of_reading, most_image}
 use Rattle.lfs_serve.proofs.StepLemmas.{reads_target}
-use Rattle.lfs_serve.specs.Extracting.{EndsBytes, EndsExtract, EndsMaking, FindsFolder, IsUnread, MakesRows, StopsMaking, fault_of_extracting}
+use Rattle.lfs_serve.specs.Extracting.{EndsBytes, EndsExtract, EndsMaking, FindsFolder, MakesRows, StopsMaking, fault_of_extracting}
 
 -- what the host refuses to read
 pub unread : (fault : ReadFault) (old new : Scene) → Notes (refuses_reading fault) old new → IsUnread new (fault_of_reading fault)
-unread reading.Memory old new notes = inr refl
-unread reading.CannotRead old new notes = inl (refl, notes)
+unread reading.Memory old new notes = refl
+unread reading.CannotRead old new notes = notes
+
+-- what isn't read ends it, and nothing is made
+unread_ends : (d : Disk) (dir : List ℕ) (tree : Option HostTree) (old : Option (List Made)) (new : Scene) (fault : Fault) → IsUnread new fault
+    → new.made ≡ old → StopsMaking d dir tree old new fault
+unread_ends d dir tree old new CannotRead unread same = (unread, same)
+unread_ends d dir tree old new (Refused refusal) unread same = (unread, inl same)
+unread_ends d dir tree old new _ unread same = absurd unread
 
 -- on an image that mounts, what isn't missing ends it, and nothing is made
 pub there_ends : (d : Disk) → HasMount d → (dir : List ℕ) (tree : Option HostTree) (old : Option (List Made)) (new : Scene) (fault : Fault)
     → IsUnread new fault ⊎ ((fault ≡ HostEntry) × FindsFolder dir tree old new.made) → new.made ≡ old → StopsMaking d dir tree old new fault
-there_ends d mounts dir tree old new fault (inl (inl is)) same = subst (StopsMaking d dir tree old new) (sym is.0) (is.1, same)
-there_ends d mounts dir tree old new fault (inl (inr is)) same = subst (StopsMaking d dir tree old new) (sym is) (refl, inl same)
+there_ends d mounts dir tree old new fault (inl is) same = unread_ends d dir tree old new fault is same
 there_ends d mounts dir tree old new fault (inr (is, finds)) same = subst (StopsMaking d dir tree old new) (sym is) (mounts, finds)
 
 -- the fault of a result is blamed where the result is
@@ -66,11 +71,15 @@ bytes_end size bytes d dir tree old new ended fault is size_is bytes_are told en
     subst (EndsBytes size bytes dir tree old new) (sym told) by_bytes
 
 -- what is made of the bytes of the file that a name leads to
-pub file_ends : (size : ℕ) (name target dir bytes : List ℕ) (files : Option Files) (tree seen : Option HostTree)
-    (old made : Option (List Made)) (new : Scene) (ended : Option Fault) → IsTarget files name target
-    → ReadsFile files target most_image bytes → seen ≡ tree → made ≡ old → EndsBytes size bytes dir seen made new ended
-    → EndsExtract size name dir files tree old new ended
-file_ends size name target dir bytes files tree seen old made new ended leads reads tree_is made_is ends =
-    let by_tree = subst (λ (t : Option HostTree). EndsBytes size bytes dir t made new ended) tree_is ends in
-    let by_made = subst (λ (before : Option (List Made)). EndsBytes size bytes dir tree before new ended) made_is by_tree in
-    inr (bytes, reads_target files name target bytes most_image leads reads, by_made)
+pub file_ends : (size : ℕ) (name target dir bytes : List ℕ) (old mid new : Scene) (ended : Option Fault) → IsTarget old.files name target
+    → ReadsFile old.files target most_image bytes → mid.tree ≡ old.tree → mid.made ≡ old.made → KeepsScene old new
+    → EndsBytes size bytes dir mid.tree mid.made new ended → EndsExtract size name dir old new ended
+file_ends size name target dir bytes old mid new ended leads reads tree_is made_is keeps ends =
+    let by_tree = subst (λ (t : Option HostTree). EndsBytes size bytes dir t mid.made new ended) tree_is ends in
+    let by_made = subst (λ (before : Option (List Made)). EndsBytes size bytes dir old.tree before new ended) made_is by_tree in
+    (keeps, inr (bytes, reads_target old.files name target bytes most_image leads reads, by_made))
+
+-- nothing is made of a file that isn't read
+pub file_unread : (size : ℕ) (name dir : List ℕ) (old new : Scene) (ended : Option Fault) (fault : Fault) → KeepsScene old new
+    → new.made ≡ old.made → ended ≡ Some fault → IsUnread new fault → EndsExtract size name dir old new ended
+file_unread size name dir old new ended fault keeps made_is is unread = (keeps, inl (made_is, (fault, is, unread)))

@@ -1,22 +1,22 @@
 -- What is packed of a host's folder: rows that say what is below it.
-use Rattle.std.proofs.Common.{◌≡◌, ℕ, List, [], ◌∷◌, ◌++◌, Option, true, All, map, length, drop, get_or, refl, sym, ap, subst, ◌∙◌, arith}
-use Rattle.std.specs.Prelude.{IfSome}
+use Rattle.std.proofs.Common.{◌≡◌, ℕ, List, [], ◌∷◌, ◌++◌, Option, Some, None, true, All, map, length, drop, get_or, refl, sym, ap, subst, ◌∙◌, arith}
 use Rattle.std.proofs.lemmas.List.Elements.{All-cons, All-head, All-nil, All-tail, All-weaker}
 use Rattle.std.proofs.lemmas.List.{append-nil, append_assoc, map-append}
 use Rattle.std.specs.List.{AllZip}
 use Rattle.lfs_meta.specs.Name.{IsName}
-use Rattle.lfs_fs.specs.Path.{Path, IsPathText, path_text}
+use Rattle.lfs_fs.specs.Path.{Path, path_text}
 use Rattle.lfs_fs.specs.Ordered.{PathsRise}
 use Rattle.lfs_fs.specs.Row.{path_precedes}
+use Rattle.lfs_command.specs.declared.refusal.Refusal.TheVariants.{Memory as No_memory}
+use Rattle.lfs_change.specs.declared.fault.Fault.TheVariants.{Refused}
+use Rattle.lfs_folder.specs.declared.folder_fault.FolderFault.TheVariants.{Memory}
 use Rattle.lfs_folder.specs.declared.folder_row.FolderRow.{FolderRow}
 use Rattle.lfs_folder.specs.FolderRows.{AreFolderRows, AreSpelled, IsFolder, IsRow, PathRow, paths_of}
 use Rattle.lfs_folder.specs.HostNames.{IsHostName}
 use Rattle.lfs_host.specs.HostTree.{HostTree}
 use Rattle.lfs_pack.specs.declared.pack_row.PackRow.{PackRow}
-use Rattle.lfs_pack.specs.Packed.{ArePackable, AreRowsOf, BeginAtRoot, IsRowOf, KindsRise, Packed, Rise}
-use Rattle.lfs_request.specs.declared.task.Task.{Task}
-use Rattle.lfs_request.specs.declared.task.Task.TheVariants.{Pack}
-use Rattle.lfs_serve.specs.HostFolder.{PacksFolder, PacksRows, ReadsFolder, RowText, folder_text, most_contents, pack_text, packed_of}
+use Rattle.lfs_pack.specs.Packed.{ArePackable, BeginAtRoot, IsRowOf, KindsRise, Packed, Rise}
+use Rattle.lfs_serve.specs.HostFolder.{PacksFolder, ReadsNoFolder, RowText, folder_text, most_contents, pack_text, packed_of}
 
 -- ---- rows of paths can be packed
 
@@ -89,7 +89,7 @@ rows_of (row ∷ rows) (f ∷ folder) (r ∷ shown) same spelled fits = (
 )
 
 -- the rows of a folder are packed
-packs : (tree : Option HostTree) (dir : List ℕ) (folder : List FolderRow) (rows : List PackRow)
+pub packs : (tree : Option HostTree) (dir : List ℕ) (folder : List FolderRow) (rows : List PackRow)
     → IsFolder most_contents tree dir folder → map pack_text rows ≡ map folder_text folder → PacksFolder tree dir rows
 packs tree dir folder rows is same = record {
   shown = is.shown;
@@ -100,11 +100,6 @@ packs tree dir folder rows is same = record {
     packable = packable is.shown is.ordered;
   };
 }
-
-pub packs_rows : (task : Task) (tree : Option HostTree) (folder : List FolderRow) (rows : List PackRow)
-    → ReadsFolder task tree folder → map pack_text rows ≡ map folder_text folder → PacksRows task tree rows
-packs_rows (Pack count dir) tree folder rows is same = packs tree dir.now folder rows is same
-packs_rows _ tree folder rows is same = tt
 
 -- ---- rows that are packed one after another
 
@@ -127,3 +122,8 @@ pub all_packed : (folder left : List FolderRow) (rows : List PackRow) → left �
     → map pack_text rows ≡ map folder_text folder
 all_packed folder left rows none so_far =
     sym (append-nil (map pack_text rows)) ∙ ap (λ fs. map pack_text rows ++ map folder_text fs) (sym none) ∙ so_far
+
+-- want of memory says nothing of the host
+pub wants_memory : (tree : Option HostTree) (dir : List ℕ) → ReadsNoFolder tree dir (Refused No_memory)
+wants_memory None dir = (Memory, refl, tt)
+wants_memory (Some tree) dir = (Memory, refl, tt)

@@ -1,3 +1,4 @@
 pub mod StepLemmas
 pub mod ExtractingLemmas
 pub mod HostFolderLemmas
+pub mod RequestsLead

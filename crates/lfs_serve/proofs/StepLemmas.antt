@@ -1,9 +1,10 @@
 -- How steps end, by what was handed, run and written.
-use Rattle.std.proofs.Common.{◌≡◌, ℕ, Bool, true, List, Option, Some, None, Result, Err, ◌⊎◌, refl, sym, ap, subst, ◌∙◌, inl, inr}
-use Rattle.lfs_command.specs.declared.refusal.Refusal.TheVariants.{Memory}
-use Rattle.lfs_request.specs.declared.task.Task.{Task}
+use Rattle.std.proofs.Common.{◌≡◌, ℕ, Bor, Bool, true, List, Option, Some, None, Result, Err, ◌⊎◌, refl, sym, ap, subst, ◌∙◌, inl, inr}
 use Rattle.lfs_change.specs.declared.fault.Fault.{Fault}
-use Rattle.lfs_change.specs.declared.fault.Fault.TheVariants.{Refused, CannotWrite, BadHex}
+use Rattle.lfs_change.specs.declared.fault.Fault.TheVariants.{Refused, CannotRead, CannotWrite, BadHex}
+use Rattle.lfs_command.specs.declared.refusal.Refusal.TheVariants.{Memory}
+use Rattle.lfs_request.specs.declared.task.Task.TheVariants.{SetAttr, RmAttr}
+use Rattle.lfs_request.specs.Asking.{NamesNoStep, SpellsNoByte, SpellsNoBytes}
 use Rattle.lfs_change.specs.declared.outcome.Outcome.{Outcome}
 use Rattle.lfs_step.specs.declared.step.Step.{Step}
 use Rattle.lfs_step.specs.Deed.{Deed}
@@ -11,14 +12,14 @@ use Rattle.lfs_step.specs.Outcome.{Answers, Given, SendsText}
 use Rattle.lfs_exchange.specs.declared.step_kind.StepKind.{StepKind}
 use Rattle.lfs_exchange.specs.declared.step_kind.StepKind.TheVariants.{Makes, Asks, Changes, Forgets}
 use Rattle.lfs_serve.specs.declared.stop.Stop.{Stop}
-use Rattle.lfs_request.specs.Asking.{NamesNoStep, SpellsNoBytes, SpellsNoKind, digits_of}
 use Rattle.lfs_host.specs.Files.{Files, FindsFile, IsTarget, ReadsFile}
 use Rattle.lfs_exchange.specs.StepKind.{kind_of}
 use Rattle.lfs_exchange.specs.Storing.{LeavesFiles, SparesFiles, journal_name}
 use Rattle.lfs_host.specs.Scene.{KeepsScene, Scene, is_blamed}
 use Rattle.lfs_host.proofs.BlameLemmas.{blamed_has_refused}
 use Rattle.lfs_change.specs.Fault.{blames_output}
-use Rattle.lfs_exchange.specs.Handing.{HandedBytes, HandsImage, HandsInput, HandsJournal, IsHanded, IsNotAimed, IsOfHost, most_image, most_journal}
+use Rattle.lfs_exchange.specs.Handing.{HandedBytes, HandsImage, HandsInput, HandsJournal, IsHanded, IsNotAimed, IsOfHost, IsUnread, most_image}
+use Rattle.lfs_book.specs.Book.{most_journal}
 use Rattle.lfs_serve.specs.Program.{EndsStep, IsBlamed, Runs, RunsOn, RunsStep, StopsStep, stopped_by}
 
 -- ---- the file that a name leads to
@@ -78,7 +79,7 @@ spares_target _ Makes None new name target o leads spares = inl tt
 spares_target _ Changes None new name target o leads spares = inl tt
 
 -- what is handed of a host whose files and standard input are the same
-handed_from : (step : Step) (name : List ℕ) (mid old : Scene) (h : HandedBytes) → mid.files ≡ old.files → mid.typed ≡ old.typed
+pub handed_from : (step : Step) (name : List ℕ) (mid old : Scene) (h : HandedBytes) → mid.files ≡ old.files → mid.typed ≡ old.typed
     → IsHanded step name mid h → IsHanded step name old h
 handed_from step name mid old h files typed is = record {
   image = subst (λ (f : Option Files). HandsImage (kind_of step) f name h.image) files is.image;
@@ -149,9 +150,21 @@ ends_stopped step size name old new ended fault is stops = subst (EndsStep step 
 
 -- what isn't at hand changes nothing
 pub ends_before : (step : Step) (size : ℕ) (name : List ℕ) (old new : Scene) (ended : Option Fault) (fault : Fault)
-    → ended ≡ Some fault → IsNotAimed new name fault → KeepsScene old new → EndsStep step size name old new ended
+    → ended ≡ Some fault → IsNotAimed (kind_of step) new name fault → KeepsScene old new → EndsStep step size name old new ended
 ends_before step size name old new ended fault is not_aimed keeps =
     ends_stopped step size name old new ended fault is (inr (inl (not_aimed, keeps)))
+
+-- what isn't read
+unread_is_of_host : (new : Scene) (fault : Fault) → IsUnread new fault → IsOfHost new fault
+unread_is_of_host new CannotRead unread = unread
+unread_is_of_host new (Refused refusal) unread = unread
+unread_is_of_host new _ unread = absurd unread
+
+pub unread_is_not_aimed : (kind : StepKind) (new : Scene) (name : List ℕ) (fault : Fault) → IsUnread new fault → IsNotAimed kind new name fault
+unread_is_not_aimed Asks new name fault unread = unread
+unread_is_not_aimed Makes new name fault unread = inl (unread_is_of_host new fault unread)
+unread_is_not_aimed Changes new name fault unread = inl (unread_is_of_host new fault unread)
+unread_is_not_aimed Forgets new name fault unread = inl (unread_is_of_host new fault unread)
 
 -- a run that is refused changes no file
 pub ends_refused : (step : Step) (size : ℕ) (name : List ℕ) (old new : Scene) (ended : Option Fault) (fault : Fault) (outcome : Outcome)
@@ -201,12 +214,17 @@ step_from step size name mid old new (Some fault) files typed printed (inr (inr 
       ),
     ))
 
--- ---- tasks that name no step
+-- ---- tasks that become no step
 
-pub no_bytes : (task : Task) (fault : Fault) → (fault ≡ Refused Memory) ⊎ ((fault ≡ BadHex) × SpellsNoBytes (digits_of task))
-    → NamesNoStep task fault
-no_bytes task fault (inl is) = subst (NamesNoStep task) (sym is) refl
-no_bytes task fault (inr is) = subst (NamesNoStep task) (sym is.0) (inl is.1)
+pub no_byte : (path : Bor (List ℕ)) (kind : Bor (List ℕ)) (fault : Fault) → (fault ≡ BadHex) × SpellsNoByte kind.now
+    → NamesNoStep (RmAttr path kind) fault
+no_byte path kind fault is = subst (NamesNoStep (RmAttr path kind)) (sym is.0) is.1
 
-pub no_kind : (task : Task) (fault : Fault) → (fault ≡ BadHex) × SpellsNoKind task → NamesNoStep task fault
-no_kind task fault is = subst (NamesNoStep task) (sym is.0) (inr is.1)
+pub no_kind : (path : Bor (List ℕ)) (kind value : Bor (List ℕ)) (fault : Fault) → (fault ≡ BadHex) × SpellsNoByte kind.now
+    → NamesNoStep (SetAttr path kind value) fault
+no_kind path kind value fault is = subst (NamesNoStep (SetAttr path kind value)) (sym is.0) (inl is.1)
+
+pub no_bytes : (path : Bor (List ℕ)) (kind value : Bor (List ℕ)) (fault : Fault)
+    → (fault ≡ Refused Memory) ⊎ ((fault ≡ BadHex) × SpellsNoBytes value.now) → NamesNoStep (SetAttr path kind value) fault
+no_bytes path kind value fault (inl is) = subst (NamesNoStep (SetAttr path kind value)) (sym is) refl
+no_bytes path kind value fault (inr is) = subst (NamesNoStep (SetAttr path kind value)) (sym is.0) (inr is.1)

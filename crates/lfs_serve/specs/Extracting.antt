@@ -5,22 +5,20 @@ use Rattle.lfs_block.specs.ImageFault.{IsNoImage}
 use Rattle.lfs_fs.specs.Cause.{HasCause}
 use Rattle.lfs_fs.specs.Mounted.{MountedValue, IsMountOf}
 use Rattle.lfs_change.specs.Bytes.{image_of}
-use Rattle.lfs_change.specs.Fault.{status_of}
 use Rattle.lfs_command.specs.declared.refusal.Refusal.TheVariants as refusal
 use Rattle.lfs_change.specs.declared.fault.Fault.{Fault}
 use Rattle.lfs_change.specs.declared.fault.Fault.TheVariants.{Image, Mount, Refused, CannotRead, CannotWrite, HostEntry, HostName}
 use Rattle.lfs_extract.specs.Extracted.{Extracts, JudgesNames, all_made}
 use Rattle.lfs_extract.specs.declared.extract_fault.ExtractFault.{ExtractFault}
 use Rattle.lfs_extract.specs.declared.extract_fault.ExtractFault.TheVariants as extracting
-use Rattle.lfs_host.specs.Files.{Files, ReadsFile}
+use Rattle.lfs_host.specs.Files.{ReadsFile}
 use Rattle.lfs_host.specs.HostTree.{HostTree, IsKind}
 use Rattle.lfs_host.specs.NewFolder.{Made}
-use Rattle.lfs_host.specs.Scene.{HasRefused, Scene}
+use Rattle.lfs_host.specs.Scene.{HasRefused, KeepsScene, Scene}
 use Rattle.lfs_host.specs.declared.host_kind.HostKind.{HostKind}
 use Rattle.lfs_host.specs.declared.host_kind.HostKind.TheVariants.{Missing}
-use Rattle.lfs_request.specs.declared.extraction.Extraction.{Extraction}
 use Rattle.lfs_step.specs.Query.{HasMount}
-use Rattle.lfs_exchange.specs.Handing.{most_image}
+use Rattle.lfs_exchange.specs.Handing.{IsUnread, most_image}
 
 -- ---- a mounted image
 
@@ -52,10 +50,6 @@ pub record FindsFolder (dir : List ℕ) (tree : Option HostTree) (old new : Opti
   pub is : IsKind tree dir kind
   pub made : new ≡ old
 
--- the host refuses to read, or memory was wanting
-abbrev pub IsUnread : Scene → Fault → Type 0
-IsUnread s fault = ((fault ≡ CannotRead) × HasRefused s) ⊎ (fault ≡ Refused refusal.Memory)
-
 -- why nothing, or not all, is made of an image
 abbrev pub StopsMaking : Disk → List ℕ → Option HostTree → Option (List Made) → Scene → Fault → Type 0
 StopsMaking d dir tree old new (Mount fault) = HasCause d fault × (new.made ≡ old)
@@ -81,13 +75,9 @@ EndsBytes size bytes dir tree old new fault = IsDisk (image_of size bytes) × En
 
 -- ---- an image's file
 
--- what is made of an image's file: nothing where the host refuses to read it, or memory was wanting, and else as of its bytes
-abbrev pub EndsExtract : ℕ → List ℕ → List ℕ → Option Files → Option HostTree → Option (List Made) → Scene → Option Fault → Type 0
-EndsExtract size name dir files tree old new fault =
-    ((new.made ≡ old) × ((why : Fault) × (fault ≡ Some why) × IsUnread new why))
-    ⊎ ((bytes : List ℕ) × ReadsFile files name most_image bytes × EndsBytes size bytes dir tree old new fault)
-
--- what is made for a request, by its status
-abbrev pub EndsExtraction : Extraction → Scene → Scene → ℕ → Type 0
-EndsExtraction e old new status =
-    (fault : Option Fault) × EndsExtract e.size e.image.now e.dir.now old.files old.tree old.made new fault × (status ≡ status_of fault)
+-- what is made of an image's file: nothing where it isn't read, and else as of its bytes; no file changes, and nothing is printed
+abbrev pub EndsExtract : ℕ → List ℕ → List ℕ → Scene → Scene → Option Fault → Type 0
+EndsExtract size name dir old new fault =
+    KeepsScene old new
+    × (((new.made ≡ old.made) × ((why : Fault) × (fault ≡ Some why) × IsUnread new why))
+    ⊎ ((bytes : List ℕ) × ReadsFile old.files name most_image bytes × EndsBytes size bytes dir old.tree old.made new fault))

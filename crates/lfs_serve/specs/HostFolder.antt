@@ -1,4 +1,4 @@
--- What a task reads of a host's folder, and what is packed of it (own).
+-- What is read of a host's folder, and what is packed of it (own).
 use Rattle.std.specs.Prelude.{◌≡◌, ℕ, ⊤, List, [], Option, IfSome, map}
 use Rattle.std.specs.Option.{option_map}
 use Rattle.lfs_meta.specs.Attribute.{Attributes}
@@ -8,7 +8,7 @@ use Rattle.lfs_change.specs.declared.fault.Fault.TheVariants as fault
 use Rattle.lfs_folder.specs.declared.folder_row.FolderRow.{FolderRow}
 use Rattle.lfs_folder.specs.declared.folder_fault.FolderFault.{FolderFault}
 use Rattle.lfs_folder.specs.declared.folder_fault.FolderFault.TheVariants.{Memory, HostEntry, HostName, CannotRead}
-use Rattle.lfs_folder.specs.FolderRows.{AreAllBelow, AreFolderRows, IsFolder, PathRow, Refuses}
+use Rattle.lfs_folder.specs.FolderRows.{AreAllBelow, AreFolderRows, PathRow, Refuses}
 use Rattle.lfs_host.specs.HostTree.{HostTree}
 use Rattle.lfs_pack.specs.declared.pack_row.PackRow.{PackRow}
 use Rattle.lfs_pack.specs.Packed.{AreRowsOf, Packed, attribute_of, row_bytes}
@@ -28,15 +28,9 @@ fault_of_folder HostEntry = fault.HostEntry
 fault_of_folder HostName = fault.HostName
 fault_of_folder CannotRead = fault.CannotRead
 
--- the rows of the folder that a task packs; none of any other task
-abbrev pub ReadsFolder : Task → Option HostTree → List FolderRow → Type 0
-ReadsFolder (Pack count dir) tree folder = IsFolder most_contents tree dir.now folder
-ReadsFolder _ tree folder = folder ≡ []
-
--- why the folder that a task packs isn't read
-abbrev pub ReadsNoFolder : Task → Option HostTree → Fault → Type 0
-ReadsNoFolder (Pack count dir) tree why = (cause : FolderFault) × (why ≡ fault_of_folder cause) × Refuses tree dir.now cause
-ReadsNoFolder _ tree why = ⊥
+-- why a folder isn't read
+abbrev pub ReadsNoFolder : Option HostTree → List ℕ → Fault → Type 0
+ReadsNoFolder tree dir why = (cause : FolderFault) × (why ≡ fault_of_folder cause) × Refuses tree dir cause
 
 -- ---- what is packed
 

@@ -1,3 +1,4 @@
 pub mod Program
 pub mod Extracting
 pub mod HostFolder
+pub mod Requests

@@ -7,12 +7,15 @@ use Rattle.lfs_request.specs.declared.request.Request.{Request}
 use Rattle.lfs_step.specs.declared.step.Step.{Step}
 use Rattle.lfs_serve.specs.declared.stop.Stop.{Stop}
 use Rattle.lfs_request.specs.declared.task.Task.{Task}
+use Rattle.lfs_request.specs.declared.task.Task.TheVariants as task
+use Rattle.lfs_request.specs.declared.task.Task.TheVariants.{Extract, Pack}
 use Rattle.lfs_step.specs.Deed.{Deed, deed_of}
 use Rattle.lfs_change.specs.Fault.{status_of}
 use Rattle.lfs_host.specs.HostTree.{HostTree}
 use Rattle.lfs_pack.specs.declared.pack_row.PackRow.{PackRow}
 use Rattle.lfs_host.specs.Scene.{HasRefused, KeepsScene, Scene}
 use Rattle.lfs_exchange.specs.Handing.{HandedBytes, IsHanded, IsNotAimed, IsOfHost}
+use Rattle.lfs_serve.specs.Extracting.{EndsExtract}
 use Rattle.lfs_serve.specs.HostFolder.{PacksRows, ReadsNoFolder}
 use Rattle.lfs_exchange.specs.StepKind.{kind_of}
 use Rattle.lfs_exchange.specs.Storing.{LeavesFiles, SparesFiles}
@@ -41,7 +44,7 @@ RunsStep step size name old new fault outcome =
 abbrev pub StopsStep : Step → ℕ → List ℕ → Scene → Scene → Fault → Type 0
 StopsStep step size name old new fault =
     ((outcome : Outcome) × RunsStep step size name old new (Some fault) outcome × (new.files ≡ old.files))
-    ⊎ (IsNotAimed new name fault × KeepsScene old new)
+    ⊎ (IsNotAimed (kind_of step) new name fault × KeepsScene old new)
     ⊎ (IsOfHost new fault × ((outcome : Outcome)
     × RunsStep step size name old new None outcome × SparesFiles fault (kind_of step) old.files new.files name outcome))
 
@@ -52,16 +55,26 @@ EndsStep step size name old new None =
     × LeavesFiles (kind_of step) old.files new.files name outcome
 EndsStep step size name old new (Some fault) = StopsStep step size name old new fault
 
--- why a task comes to no step: it names none, or its folder isn't read
-abbrev pub ComesToNoStep : Task → Option HostTree → Fault → Type 0
-ComesToNoStep task tree why = NamesNoStep task why ⊎ ReadsNoFolder task tree why
+-- the step that a task becomes, with the rows of the folder that it packs
+abbrev pub BecomesStep : Task → Option HostTree → Step → Type 0
+BecomesStep task tree step = (rows : List PackRow) × PacksRows task tree rows × AsksFor task rows step
 
--- how a task on an image's file ends: as the step that it asks for, with the rows of its folder, or with a fault since it
--- comes to none
+-- why it becomes none: its folder isn't read, or it names none
+abbrev pub BecomesNoStep : Task → Option HostTree → Fault → Type 0
+BecomesNoStep (Pack count dir) tree why = ReadsNoFolder tree dir.now why
+BecomesNoStep task tree why = NamesNoStep task why
+
+-- how a task ends for which something is read first: as the step that it becomes, or with a fault since it becomes none
+abbrev pub EndsReading : Task → ℕ → List ℕ → Scene → Scene → Option Fault → Type 0
+EndsReading task size name old new fault =
+    ((step : Step) × BecomesStep task old.tree step × EndsStep step size name old new fault)
+    ⊎ (KeepsScene old new × ((why : Fault) × (fault ≡ Some why) × BecomesNoStep task old.tree why))
+
+-- how a task on an image's file ends: as the step that its words say, as a folder that is made, or by what is read first
 abbrev pub EndsTask : Task → ℕ → List ℕ → Scene → Scene → Option Fault → Type 0
-EndsTask task size name old new fault =
-    ((step : Step) × (rows : List PackRow) × PacksRows task old.tree rows × AsksFor task rows step × EndsStep step size name old new fault)
-    ⊎ (KeepsScene old new × ((why : Fault) × (fault ≡ Some why) × ComesToNoStep task old.tree why))
+EndsTask (task.Step step) size name old new fault = EndsStep step size name old new fault
+EndsTask (Extract dir) size name old new fault = EndsExtract size name dir.now old new fault
+EndsTask task size name old new fault = EndsReading task size name old new fault
 
 -- the fault that a run stopped with, if any
 abbrev pub stopped_by : {T : Type 0} → Result T Stop → Option Fault

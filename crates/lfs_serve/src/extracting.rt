@@ -4,56 +4,38 @@ ghost use Rattle.std.specs.Prelude.{◌≡◌, ◌⊎◌, IfErr, OnOk};
 ghost use Rattle.std.specs.Option.{option_map};
 ghost use Rattle.std.specs.Result.{result_err};
 ghost use Rattle.lfs_change.specs.declared.fault.Fault.TheVariants.{HostEntry};
+ghost use Rattle.lfs_exchange.specs.Handing.{IsUnread};
 ghost use Rattle.lfs_host.specs.HostTree.{IsKind};
 ghost use Rattle.lfs_host.specs.declared.host_kind.HostKind.TheVariants.{Missing};
 ghost use Rattle.lfs_host.specs.Scene.{KeepsAll, KeepsFiles};
-ghost use Rattle.lfs_serve.specs.Extracting.{EndsBytes, EndsExtract, EndsExtraction, EndsMaking, FindsFolder, IsUnread, fault_of_extracting};
+ghost use Rattle.lfs_serve.specs.Extracting.{EndsBytes, EndsExtract, EndsMaking, FindsFolder, fault_of_extracting};
 ghost use Rattle.lfs_serve.specs.Program.{stopped_by};
 
-use crate::serving::{stated_for, tell_of};
+use crate::stated::stated_for;
 use crate::stop::Stop;
-use lfs_block::{Image, MAX_IMAGE_LENGTH};
+use lfs_block::Image;
 use lfs_edit::Refusal;
-use lfs_exchange::fault_of_reading;
+use lfs_exchange::{StepKind, aimed, fault_of_reading, read_image};
 use lfs_extract::{ExtractFault, extract_rows};
 use lfs_fs::mount;
 use lfs_host::{Host, HostKind};
-use lfs_request::Extraction;
+use lfs_request::Request;
 use lfs_step::Fault;
 use std::alloc::Global;
 
-/// Makes a folder of the host out of an image, and answers the status that the program ends with. A fault is told on standard
-/// error, with what is known of it beside. Takes memory.
-///
-/// Source: own.
-pub fn extracted<H: Host>(alloc: Global, host: &mut H, extraction: &Extraction<'_>) -> u8
-    ensures made { EndsExtraction extraction.now (H.known host.old) (H.known host.new) result }
-    ensures kept { KeepsFiles (H.known host.old) (H.known host.new) }
-{
-    match extract_file(alloc, host, extraction) {
-        Ok(()) => 0,
-        Err(stop) => tell_of(host, extraction.image, extraction.size, &stop),
-    }
-}
-
-/// Makes a folder out of an image's file.
-fn extract_file<H: Host>(
+/// Makes a folder of the host out of an image's file. Takes memory.
+pub fn extracted<H: Host>(
     alloc: Global,
     host: &mut H,
-    extraction: &Extraction<'_>,
+    request: &Request<'_>,
+    dir: &str,
 ) -> Result<(), Stop>
-    ensures made { EndsExtract extraction.now.size extraction.now.image.now extraction.now.dir.now (H.known host.old).files (H.known host.old).tree
-        (H.known host.old).made (H.known host.new) (stopped_by result) }
+    ensures made { EndsExtract request.now.size request.now.image.now dir.now (H.known host.old) (H.known host.new) (stopped_by result) }
     ensures kept { KeepsFiles (H.known host.old) (H.known host.new) }
 {
-    let target = match host.target(alloc, extraction.image) {
-        Ok(target) => target,
-        Err(fault) => return Err(Stop::from(fault_of_reading(fault))),
-    };
-    match host.read(alloc, target.as_str(), MAX_IMAGE_LENGTH) {
-        Ok(bytes) => extract_bytes(alloc, host, extraction.size, bytes, extraction.dir),
-        Err(fault) => Err(Stop::from(fault_of_reading(fault))),
-    }
+    let target = aimed(alloc, host, StepKind::Asks, request.image)?;
+    let bytes = read_image(alloc, host, StepKind::Asks, target.as_str())?;
+    extract_bytes(alloc, host, request.size, bytes, dir)
 }
 
 /// Makes a folder out of bytes that are an image.

@@ -1,30 +1,23 @@
-//! What a task reads of a host's folder, and what is packed of it.
+//! What is read of a host's folder, and what is packed of it.
 
 ghost use Rattle.std.specs.Prelude.{◌≡◌, IfErr, IfOk, map};
+ghost use Rattle.lfs_folder.specs.FolderRows.{IsFolder};
 ghost use Rattle.lfs_host.specs.Scene.{KeepsAll};
-ghost use Rattle.lfs_serve.specs.HostFolder.{ReadsFolder, ReadsNoFolder, fault_of_folder, folder_text, pack_text};
+ghost use Rattle.lfs_serve.specs.HostFolder.{ReadsNoFolder, fault_of_folder, folder_text, most_contents, pack_text};
 
 use lfs_edit::Refusal;
 use lfs_folder::{FolderFault, FolderRow, folder_rows};
 use lfs_host::Host;
 use lfs_pack::PackRow;
-use lfs_request::Task;
 use lfs_step::Fault;
 use std::alloc::{AllocError, Global};
 
-/// What is below the folder that a task packs, the folder itself first; nothing for any other task.
-pub fn folder_of<H: Host>(
-    alloc: Global,
-    host: &mut H,
-    task: &Task<'_>,
-) -> Result<Vec<FolderRow>, Fault>
-    ensures read { IfOk result (λ folder. ReadsFolder task.now (H.known host.old).tree folder.items) }
-    ensures refused { IfErr result (λ fault. ReadsNoFolder task.now (H.known host.old).tree fault) }
+/// What is below a folder, the folder itself first.
+pub fn folder_of<H: Host>(alloc: Global, host: &mut H, dir: &str) -> Result<Vec<FolderRow>, Fault>
+    ensures read { IfOk result (λ folder. IsFolder most_contents (H.known host.old).tree dir.now folder.items) }
+    ensures refused { IfErr result (ReadsNoFolder (H.known host.old).tree dir.now) }
     ensures kept { KeepsAll (H.known host.old) (H.known host.new) }
 {
-    let Task::Pack { dir, .. } = *task else {
-        return Ok(Vec::new(alloc));
-    };
     match folder_rows(alloc, host, dir) {
         Ok(folder) => Ok(folder),
         Err(fault) => Err(fault_of_folder(fault)),

@@ -3,9 +3,10 @@
 
 mod extracting;
 mod host_folder;
+mod laws;
 mod serving;
 mod stated;
 mod stop;
 
-pub use extracting::extracted;
+pub use laws::requests_lead_on;
 pub use serving::served;

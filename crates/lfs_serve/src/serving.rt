@@ -1,18 +1,20 @@
 //! What is asked for on an image's file.
 
 ghost use Rattle.std.specs.Prelude.{◌≡◌, Some, IfOk};
+ghost use Rattle.lfs_request.specs.declared.task.Task.TheVariants.{Pack, SetAttr, RmAttr};
 ghost use Rattle.lfs_step.specs.Deed.{deed_of};
 ghost use Rattle.lfs_change.specs.Fault.{status_of};
 ghost use Rattle.lfs_step.specs.Outcome.{Answers, SendsText, given};
 ghost use Rattle.lfs_serve.specs.Program.{EndsRequest, EndsStep, EndsTask, IsBlamed, RunsOn, stopped_by};
 
+use crate::extracting::extracted;
 use crate::host_folder::{folder_of, pack_rows};
-use crate::stated::{Stated, stated_in};
+use crate::stated::stated_for;
 use crate::stop::Stop;
-use lfs_block::{ImageFault, MountFault};
+use lfs_block::ImageFault;
 use lfs_exchange::{Handed, Output, aimed, hand_over, kind_of, stored, tell_of_image};
 use lfs_host::Host;
-use lfs_request::{Request, bytes_of, digits_of, step_of};
+use lfs_request::{Request, Task, byte_of, bytes_of};
 use lfs_step::{Fault, Outcome, Step, run};
 use std::alloc::Global;
 
@@ -28,15 +30,16 @@ pub fn served<H: Host>(alloc: Global, host: &mut H, request: &Request<'_>) -> u8
 {
     match done(alloc, host, request) {
         Ok(()) => 0,
-        Err(stop) => tell_of(host, request.image, request.size, &stop),
+        Err(stop) => tell_of(host, request, &stop),
     }
 }
 
-/// Tells why a run on an image with blocks of this size ended early, and answers the status.
-pub(crate) fn tell_of<H: Host>(host: &mut H, image: &str, size: u32, stop: &Stop) -> u8
+/// Tells why a request ended early, and answers the status.
+fn tell_of<H: Host>(host: &mut H, request: &Request<'_>, stop: &Stop) -> u8
     ensures status { result ≡ status_of (Some stop.now.fault) }
     ensures kept { H.known host.new ≡ H.known host.old }
 {
+    let (image, size) = (request.image, request.size);
     let status = tell_of_image(host, image, stop.fault);
     if let Some(stated) = stop.stated {
         host.complain(format_args!(
@@ -52,32 +55,84 @@ pub(crate) fn tell_of<H: Host>(host: &mut H, image: &str, size: u32, stop: &Stop
     status
 }
 
-/// Does the task that is asked for. Digits are read before a folder, and that before files.
+/// Does the task that is asked for.
 fn done<H: Host>(alloc: Global, host: &mut H, request: &Request<'_>) -> Result<(), Stop>
     ensures ended { EndsTask request.now.task request.now.size request.now.image.now
         (H.known host.old) (H.known host.new) (stopped_by result) }
 {
-    let value = bytes_of(alloc, digits_of(&request.task))?;
-    let folder = folder_of(alloc, host, &request.task)?;
+    match request.task {
+        Task::Step(ref step) => stepped(alloc, host, request, step),
+        Task::Pack { count, dir } => packed(alloc, host, request, count, dir),
+        Task::Extract { dir } => extracted(alloc, host, request, dir),
+        Task::SetAttr { path, kind, value } => set(alloc, host, request, path, kind, value),
+        Task::RmAttr { path, kind } => cleared(alloc, host, request, path, kind),
+    }
+}
+
+/// Packs what is below a folder of the host.
+fn packed<H: Host>(
+    alloc: Global,
+    host: &mut H,
+    request: &Request<'_>,
+    count: u32,
+    dir: &str,
+) -> Result<(), Stop>
+    ensures ended { EndsTask (Pack count dir.entry) request.now.size request.now.image.now
+        (H.known host.old) (H.known host.new) (stopped_by result) }
+{
+    let folder = folder_of(alloc, host, dir)?;
     let rows = pack_rows(alloc, &folder)?;
-    let step = step_of(&request.task, value.as_slice(), rows.as_slice())?;
-    stepped(alloc, host, request.size, request.image, &step)
+    let rows = rows.as_slice();
+    stepped(alloc, host, request, &Step::Pack { count, rows })
+}
+
+/// Sets the attribute that digits spell.
+fn set<H: Host>(
+    alloc: Global,
+    host: &mut H,
+    request: &Request<'_>,
+    path: &[u8],
+    kind: &str,
+    value: &str,
+) -> Result<(), Stop>
+    ensures ended { EndsTask (SetAttr path.entry kind.entry value.entry) request.now.size request.now.image.now
+        (H.known host.old) (H.known host.new) (stopped_by result) }
+{
+    let value = bytes_of(alloc, value)?;
+    let kind = byte_of(kind)?;
+    let value = value.as_slice();
+    stepped(alloc, host, request, &Step::SetAttr { path, kind, value })
+}
+
+/// Removes the attribute of the kind that digits spell.
+fn cleared<H: Host>(
+    alloc: Global,
+    host: &mut H,
+    request: &Request<'_>,
+    path: &[u8],
+    kind: &str,
+) -> Result<(), Stop>
+    ensures ended { EndsTask (RmAttr path.entry kind.entry) request.now.size request.now.image.now
+        (H.known host.old) (H.known host.new) (stopped_by result) }
+{
+    let kind = byte_of(kind)?;
+    stepped(alloc, host, request, &Step::RmAttr { path, kind })
 }
 
 /// Takes a step on an image's file, and writes what it leaves.
 fn stepped<H: Host>(
     alloc: Global,
     host: &mut H,
-    size: u32,
-    name: &str,
+    request: &Request<'_>,
     step: &Step<'_>,
 ) -> Result<(), Stop>
-    ensures ended { EndsStep step.now size name.now (H.known host.old) (H.known host.new) (stopped_by result) }
+    ensures ended { EndsStep step.now request.now.size request.now.image.now
+        (H.known host.old) (H.known host.new) (stopped_by result) }
 {
     let kind = kind_of(step);
-    let target = aimed(alloc, host, kind, name)?;
+    let target = aimed(alloc, host, kind, request.image)?;
     let handed = hand_over(alloc, host, step, target.as_str())?;
-    let outcome = taken(alloc, host, size, step, handed)?;
+    let outcome = taken(alloc, host, request.size, step, handed)?;
     Ok(stored(alloc, host, kind, target.as_str(), &outcome)?)
 }
 
@@ -117,13 +172,5 @@ fn taken<H: Host>(
             fault,
             stated: stated_for(fault, &outcome.image),
         }),
-    }
-}
-
-/// The geometry that an image's superblock states, where the fault is that it isn't the image's.
-pub(crate) fn stated_for(fault: Fault, image: &[u8]) -> Option<Stated> {
-    match fault {
-        Fault::Mount(MountFault::Geometry) => stated_in(image),
-        _ => None,
     }
 }

@@ -1,6 +1,8 @@
 //! The geometry that an image states of itself.
 
 use byteorder::{ByteOrder, LittleEndian};
+use lfs_block::MountFault;
+use lfs_step::Fault;
 
 /// What stands in front of the superblock's fields.
 const MAGIC: &[u8] = b"littlefs";
@@ -14,9 +16,17 @@ pub struct Stated {
     pub count: u32,
 }
 
+/// The geometry that an image's superblock states, where the fault is that it isn't the image's. Takes no memory.
+pub fn stated_for(fault: Fault, image: &[u8]) -> Option<Stated> {
+    match fault {
+        Fault::Mount(MountFault::Geometry) => stated_in(image),
+        _ => None,
+    }
+}
+
 /// The geometry that the superblock at the front of block 0 states, whatever the size of a block is; nothing where there
-/// is no superblock. Takes no memory.
-pub fn stated_in(image: &[u8]) -> Option<Stated> {
+/// is no superblock.
+fn stated_in(image: &[u8]) -> Option<Stated> {
     let front = image.get(8..32)?;
     if !front.starts_with(MAGIC) {
         return None;

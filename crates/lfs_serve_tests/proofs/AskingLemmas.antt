@@ -1,33 +1,20 @@
 -- What asks changes no file, however it ends.
-use Rattle.std.proofs.Common.{◌≡◌, ℕ, List, Option, Some, None, ◌⊎◌, refl, ap, subst, inl, inr}
+use Rattle.std.proofs.Common.{◌≡◌, ℕ, List, Option, Some, None, ap, subst, inl, inr}
 use Rattle.lfs_change.specs.declared.fault.Fault.{Fault}
 use Rattle.lfs_change.specs.declared.fault.Fault.TheVariants.{Refused}
 use Rattle.lfs_change.specs.declared.outcome.Outcome.{Outcome}
 use Rattle.lfs_step.specs.declared.step.Step.{Step}
-use Rattle.lfs_step.specs.declared.step.Step.TheVariants.{Check, Ls, Cat}
 use Rattle.lfs_request.specs.declared.request.Request.{Request}
 use Rattle.lfs_request.specs.declared.task.Task.{Task}
 use Rattle.lfs_request.specs.declared.task.Task.TheVariants as task
-use Rattle.lfs_request.specs.Asking.{AsksFor}
 use Rattle.lfs_exchange.specs.declared.step_kind.StepKind.{StepKind}
 use Rattle.lfs_exchange.specs.declared.step_kind.StepKind.TheVariants.{Asks}
 use Rattle.lfs_host.specs.Files.{Files}
-use Rattle.lfs_pack.specs.declared.pack_row.PackRow.{PackRow}
 use Rattle.lfs_exchange.specs.StepKind.{kind_of}
 use Rattle.lfs_exchange.specs.Storing.{LeavesFiles, SparesFiles}
 use Rattle.lfs_serve_tests.specs.Asking.{OnlyAsks}
 use Rattle.lfs_host.specs.Scene.{Scene}
 use Rattle.lfs_serve.specs.Program.{EndsRequest, EndsStep, EndsTask}
-
--- the step that asks, where the task does
-asks_for : (task : Task) (rows : List PackRow) (step : Step) → OnlyAsks task → AsksFor task rows step → kind_of step ≡ Asks
-asks_for task.Check rows Check only asks = refl
-asks_for task.Ls rows Ls only asks = refl
-asks_for (task.Cat text) rows (Cat path) only asks = refl
-asks_for task.Check rows _ only asks = absurd asks
-asks_for task.Ls rows _ only asks = absurd asks
-asks_for (task.Cat text) rows _ only asks = absurd asks
-asks_for _ rows step only asks = absurd only
 
 -- where the host refused something, all files stay
 all_spared : (fault : Fault) (old new : Option Files) (name : List ℕ) (o : Outcome) → SparesFiles fault Asks old new name o → new ≡ old
@@ -44,11 +31,11 @@ step_keeps (Some fault) step size name old new asks (inr (inr (of_host, (o, runs
     all_spared fault old.files new.files name o
     (subst (λ (kind : StepKind). SparesFiles fault kind old.files new.files name o) asks spares)
 
-task_keeps : (fault : Option Fault) (task : Task) (size : ℕ) (name : List ℕ) (old new : Scene) → OnlyAsks task
-    → EndsTask task size name old new fault → new.files ≡ old.files
-task_keeps fault task size name old new only (inl (step, rows, packs, asks, ends)) =
-    step_keeps fault step size name old new (asks_for task rows step only asks) ends
-task_keeps fault task size name old new only (inr (keeps, why)) = keeps.0
+task_keeps : (fault : Option Fault) (t : Task) (size : ℕ) (name : List ℕ) (old new : Scene) → OnlyAsks t
+    → EndsTask t size name old new fault → new.files ≡ old.files
+task_keeps fault (task.Step step) size name old new asks ends = step_keeps fault step size name old new asks ends
+task_keeps fault (task.Extract dir) size name old new asks ends = ends.0.0
+task_keeps fault _ size name old new only ends = absurd only
 
 -- a request that asks changes no file
 pub asking_keeps : (request : Request) (old new : Scene) (status : ℕ) → OnlyAsks request.task → EndsRequest request old new status

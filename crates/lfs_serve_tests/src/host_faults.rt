@@ -7,6 +7,7 @@ use crate::requests::{
 };
 use lfs_host::{Failing, MemoryHost};
 use lfs_request::{Request, Task};
+use lfs_step::Step;
 use std::alloc::Global;
 use std::process::Abort;
 use std::test::Fail;
@@ -60,16 +61,16 @@ const SAID: &str = "block 512, count 8, free 4, directories 2, files 0\n";
 fn an_old_image_with_a_new_journal_is_kept(rt: HostRuntime) -> Result<(), Fail> {
     let mut host = failed_host(&rt, rt.alloc(), 3);
     let image = copied(rt.alloc(), &host, IMAGE)?;
-    is_refused(&rt, rt.alloc(), &mut host, &Task::Undo, &NO_MATCH)?;
+    is_refused(&rt, rt.alloc(), &mut host, &Step::Undo, &NO_MATCH)?;
     let check = Request {
-        task: Task::Check,
+        task: Task::Step(Step::Check),
         size: 512,
         image: IMAGE,
     };
     host.printed.clear();
     assert_eq!(rt; ask_in_memory(rt.alloc(), &mut host, &check), 0);
     assert!(rt; host.printed.as_slice() == SAID.as_bytes());
-    are_done(&rt, rt.alloc(), &mut host, &[Task::Forget]);
+    are_done(&rt, rt.alloc(), &mut host, &[Step::Forget]);
     has_files(&rt, &host, &image, &FRESH);
     Ok(())
 }

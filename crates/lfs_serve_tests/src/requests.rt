@@ -3,6 +3,7 @@
 use lfs_host::MemoryHost;
 use lfs_request::{Request, Task};
 use lfs_serve::served;
+use lfs_step::Step;
 use std::alloc::{AllocError, Global};
 use std::process::Abort;
 use std::test::Fail;
@@ -19,10 +20,10 @@ pub(crate) const FRESH: [u8; 24] = [
 ];
 
 /// A directory.
-pub(crate) const MKDIR: Task<'static> = Task::Mkdir { path: "/a" };
+pub(crate) const MKDIR: Step<'static> = Step::Mkdir { path: b"/a" };
 
 /// A file in it.
-pub(crate) const PUT: Task<'static> = Task::Put { path: "/a/x" };
+pub(crate) const PUT: Step<'static> = Step::Put { path: b"/a/x" };
 
 /// How a request ends.
 #[derive(Clone, Copy)]
@@ -50,18 +51,18 @@ fn has_told(host: &MemoryHost, text: &str) -> bool {
     host.complained.as_str() == text
 }
 
-/// Asserts how a task on the image ends.
+/// Asserts how a step on the image ends.
 pub(crate) fn ends(
     rt: &impl Abort,
     alloc: Global,
     host: &mut MemoryHost,
-    task: &Task<'static>,
+    step: &Step<'static>,
     end: &End,
 ) {
     host.printed.clear();
     host.complained.clear();
     let request = Request {
-        task: *task,
+        task: Task::Step(*step),
         size: 512,
         image: IMAGE,
     };
@@ -70,28 +71,28 @@ pub(crate) fn ends(
     assert_eq!(rt; status, end.status);
 }
 
-/// Asserts that tasks are done, one after another.
+/// Asserts that steps are done, one after another.
 pub(crate) fn are_done(
     rt: &impl Abort,
     alloc: Global,
     host: &mut MemoryHost,
-    tasks: &[Task<'static>],
+    steps: &[Step<'static>],
 ) {
-    for task in tasks {
-        ends(rt, alloc, host, task, &DONE);
+    for step in steps {
+        ends(rt, alloc, host, step, &DONE);
     }
 }
 
-/// Asserts how a task ends, and that it leaves all files as they were.
+/// Asserts how a step ends, and that it leaves all files as they were.
 pub(crate) fn is_refused(
     rt: &impl Abort,
     alloc: Global,
     host: &mut MemoryHost,
-    task: &Task<'static>,
+    step: &Step<'static>,
     end: &End,
 ) -> Result<(), AllocError> {
     let files = host.files.clone()?;
-    ends(rt, alloc, host, task, end);
+    ends(rt, alloc, host, step, end);
     assert!(rt; host.files == files);
     Ok(())
 }
@@ -105,7 +106,7 @@ pub(crate) fn copied(alloc: Global, host: &MemoryHost, name: &str) -> Result<Vec
 /// A host with a new image of 8 blocks of 512 bytes, and what comes on its standard input is `hello`.
 pub(crate) fn new_host(rt: &impl Abort, alloc: Global) -> MemoryHost {
     let mut host = MemoryHost::new(alloc, b"hello");
-    are_done(rt, alloc, &mut host, &[Task::Format { count: 8 }]);
+    are_done(rt, alloc, &mut host, &[Step::Format { count: 8 }]);
     host
 }
 

@@ -3,3 +3,5 @@ pub mod ListingLemmas
 pub mod HistoriesLeft
 pub mod RunsLeft
 pub mod RefusalLemmas
+pub mod EquationsMet
+pub mod PackedListed

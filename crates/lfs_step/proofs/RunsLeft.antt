@@ -1,6 +1,5 @@
 -- Where lists of runs lead.
-use Rattle.std.proofs.Common.{◌≡◌, ℕ, List, [], ◌∷◌, Option, Some, None, refl, sym, subst}
-use Rattle.std.specs.List.{AllByRecursion}
+use Rattle.std.proofs.Common.{ℕ, List, [], ◌∷◌, Option, Some, None, refl, sym, subst}
 use Rattle.lfs_history.specs.History.{History, fresh_history}
 use Rattle.lfs_history.specs.Taking.{Takes}
 use Rattle.lfs_change.specs.declared.fault.Fault.{Fault}
@@ -11,24 +10,24 @@ use Rattle.lfs_change.specs.Laws.{Files, RunsOfBytesAreRuns, Taken}
 use Rattle.lfs_step.specs.Deed.{Deed, Make, Pack, Ask, Change}
 use Rattle.lfs_step.specs.Histories.{Leaves, StepsLeaveHistories}
 use Rattle.lfs_step.specs.Outcome.{AnswersBy, Given, given}
-use Rattle.lfs_step.specs.Runs.{AreRuns, GoesBy, HasGoodRows, LeadTo, Ran, RunsGoOn, left_files}
+use Rattle.lfs_step.specs.Runs.{GoesBy, HasGoodRows, RunsGoOn, left_files}
 
 -- the history to which one run leads
-record Goes (fault : Option Fault) (deed : Deed) (g : Given) (outcome : Outcome) (old : History) : Type 0 where
-  new : History
-  goes : GoesBy fault deed old new
-  leaves : Leaves g outcome new
+pub record Goes (fault : Option Fault) (deed : Deed) (g : Given) (outcome : Outcome) (old : History) : Type 0 where
+  pub new : History
+  pub goes : GoesBy fault deed g old new
+  pub leaves : Leaves g outcome new
 
-one_goes : StepsLeaveHistories → RunsOfBytesAreRuns → (fault : Option Fault) (deed : Deed) (g : Given) (outcome : Outcome) (old : History)
+pub one_goes : StepsLeaveHistories → RunsOfBytesAreRuns → (fault : Option Fault) (deed : Deed) (g : Given) (outcome : Outcome) (old : History)
     → HasGoodRows deed → Denotes g.size g.image g.journal old → AnswersBy fault deed g outcome → Goes fault deed g outcome old
 one_goes leaves runs None (Make count) g outcome old good denotes answers = record {
   new = fresh_history (image_of g.size outcome.image.items);
-  goes = refl;
+  goes = (refl, answers.0);
   leaves = leaves (Make count) g outcome answers;
 }
 one_goes leaves runs None (Pack count rows) g outcome old (packed, are) denotes answers = record {
   new = fresh_history (image_of g.size outcome.image.items);
-  goes = refl;
+  goes = (refl, answers.0);
   leaves = leaves (Pack count rows) g outcome answers packed are;
 }
 one_goes leaves runs None (Ask query) g outcome old good denotes answers = record {
@@ -44,7 +43,7 @@ one_goes leaves runs None (Change step) g outcome old good denotes answers =
     record { new = run.new; goes = subst (Takes step None old) (sym same) takes; leaves = run.denotes }
 one_goes leaves runs (Some fault) deed g outcome old good denotes answers = record {
   new = old;
-  goes = refl;
+  goes = (refl, answers.2);
   leaves =
       subst (λ (l : List ℕ). Denotes g.size l outcome.journal.items old) (sym answers.0)
       (subst (λ (l : List ℕ). Denotes g.size g.image l old) (sym answers.1) denotes);
@@ -56,7 +55,8 @@ runs_go_on leaves runs size [] first last old good denotes same = record {
   denotes = subst (λ (f : Files). Denotes size f.image f.journal old) (sym same) denotes;
   goes = refl;
 }
-runs_go_on leaves runs size (r ∷ rs) first last old good denotes (outcome, answers, later) =
-    let one = one_goes leaves runs r.fault r.deed (given size first.image first.journal) outcome old good.0 denotes answers in
-    let to = runs_go_on leaves runs size rs (left_files outcome) last one.new good.1 one.leaves later in
-    record { new = to.new; denotes = to.denotes; goes = (one.new, one.goes, to.goes) }
+runs_go_on leaves runs size (r ∷ rs) first last old good denotes (answers, later) =
+    let g = given size first.image first.journal in
+    let one = one_goes leaves runs r.outcome.fault r.deed g r.outcome old good.0 denotes answers in
+    let to = runs_go_on leaves runs size rs (left_files r.outcome) last one.new good.1 one.leaves later in
+    record { new = to.new; denotes = to.denotes; goes = (one.new, one.goes, one.leaves, to.goes) }

@@ -4,3 +4,5 @@ pub mod Query
 pub mod Summary
 pub mod Histories
 pub mod Runs
+pub mod Equations
+pub mod PackedListed

@@ -1,6 +1,7 @@
 -- Lists of runs of any steps, each of which is handed the bytes that the one before left (own).
 use Rattle.std.specs.Prelude.{◌≡◌, ℕ, List, [], ◌∷◌, Option, Some, None}
 use Rattle.std.specs.List.{AllByRecursion}
+use Rattle.lfs_edit.specs.Formatted.{IsFormatted}
 use Rattle.lfs_history.specs.History.{History, fresh_history}
 use Rattle.lfs_history.specs.Taking.{Takes}
 use Rattle.lfs_change.specs.declared.fault.Fault.{Fault}
@@ -8,13 +9,14 @@ use Rattle.lfs_change.specs.declared.outcome.Outcome.{Outcome}
 use Rattle.lfs_change.specs.Change.{Denotes}
 use Rattle.lfs_change.specs.Laws.{Files}
 use Rattle.lfs_pack.specs.Packed.{AreRowsOf, Packed}
+use Rattle.lfs_pack.specs.Packing.{IsPacked}
 use Rattle.lfs_step.specs.Deed.{Deed, Make, Pack, Ask, Change}
-use Rattle.lfs_step.specs.Outcome.{AnswersBy, given}
+use Rattle.lfs_step.specs.Outcome.{Answers, Given, Refuses, given}
 
--- a deed, and its fault where it was refused
+-- a deed, and what was answered to it
 pub record Ran : Type 0 where
   pub deed : Deed
-  pub fault : Option Fault
+  pub outcome : Outcome
 
 -- the image and the journal of an outcome
 abbrev pub left_files : Outcome → Files
@@ -24,37 +26,44 @@ left_files outcome = record { image = outcome.image.items; journal = outcome.jou
 abbrev pub AreRuns : ℕ → List Ran → Files → Files → Type 0
 AreRuns size [] old new = new ≡ old
 AreRuns size (r ∷ rs) old new =
-    (outcome : Outcome) × AnswersBy r.fault r.deed (given size old.image old.journal) outcome × AreRuns size rs (left_files outcome) new
+    Answers r.deed (given size old.image old.journal) r.outcome × AreRuns size rs (left_files r.outcome) new
 
 -- rows that are packed say what is packed, as it is taken
 abbrev pub HasGoodRows : Deed → Type 0
 HasGoodRows (Pack count rows) = (packed : List Packed) × AreRowsOf rows packed
 HasGoodRows _ = Unit {0}
 
--- a new image begins a history, a question leaves the one that was there, and a change is a step of it
-abbrev pub GoesOn : Deed → History → History → Type 0
-GoesOn (Make count) old new = new ≡ fresh_history new.present
-GoesOn (Pack count rows) old new = new ≡ fresh_history new.present
-GoesOn (Ask query) old new = new ≡ old
-GoesOn (Change step) old new = Takes step None old new
+-- a new image begins a history, and has the root alone, or the map of its rows; a question leaves the history that was there, and
+-- a change is a step of it
+abbrev pub GoesOn : ℕ → Deed → History → History → Type 0
+GoesOn size (Make count) old new = (new ≡ fresh_history new.present) × IsFormatted size count new.present.bytes
+GoesOn size (Pack count rows) old new =
+    (new ≡ fresh_history new.present)
+    × ((packed : List Packed) → AreRowsOf rows packed → IsPacked size count packed new.present.bytes)
+GoesOn size (Ask query) old new = new ≡ old
+GoesOn size (Change step) old new = Takes step None old new
 
--- a deed that is refused leaves the history
-abbrev pub GoesBy : Option Fault → Deed → History → History → Type 0
-GoesBy None deed old new = GoesOn deed old new
-GoesBy (Some fault) deed old new = new ≡ old
+-- a deed that is refused leaves the history, and the cause holds of what it was given
+abbrev pub GoesBy : Option Fault → Deed → Given → History → History → Type 0
+GoesBy None deed g old new = GoesOn g.size deed old new
+GoesBy (Some fault) deed g old new = (new ≡ old) × Refuses deed g fault
 
--- one after another
-abbrev pub GoOn : List Ran → History → History → Type 0
-GoOn [] old new = new ≡ old
-GoOn (r ∷ rs) old new = (mid : History) × GoesBy r.fault r.deed old mid × GoOn rs mid new
+-- one after another; what each leaves denotes the history to which it leads
+abbrev pub GoOn : ℕ → List Ran → Files → History → History → Type 0
+GoOn size [] files old new = new ≡ old
+GoOn size (r ∷ rs) files old new =
+    (mid : History)
+    × GoesBy r.outcome.fault r.deed (given size files.image files.journal) old mid
+    × Denotes size r.outcome.image.items r.outcome.journal.items mid
+    × GoOn size rs (left_files r.outcome) mid new
 
 -- the last image and the last journal denote the history to which the runs lead
-pub record LeadTo (size : ℕ) (rs : List Ran) (last : Files) (old : History) : Type 0 where
+pub record LeadTo (size : ℕ) (rs : List Ran) (first last : Files) (old : History) : Type 0 where
   pub new : History
   pub denotes : Denotes size last.image last.journal new
-  pub goes : GoOn rs old new
+  pub goes : GoOn size rs first old new
 
 -- the law: a list of runs leads from the history that the first image and journal denote to the one that the last denote
 abbrev pub RunsGoOn : Type 0
 RunsGoOn = (size : ℕ) (rs : List Ran) (first last : Files) (old : History) → AllByRecursion (λ r. HasGoodRows r.deed) rs
-    → Denotes size first.image first.journal old → AreRuns size rs first last → LeadTo size rs last old
+    → Denotes size first.image first.journal old → AreRuns size rs first last → LeadTo size rs first last old

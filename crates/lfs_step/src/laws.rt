@@ -1,9 +1,11 @@
 //! Laws of steps: each function does nothing but call laws, and its contract is the law.
 
 ghost use Rattle.lfs_step.specs.Histories.{StepsLeaveHistories};
+ghost use Rattle.lfs_step.specs.PackedListed.{PackedImagesListTheirRows};
 ghost use Rattle.lfs_step.specs.Runs.{RunsGoOn};
 
 use lfs_change::{changed_bytes_are_denoted, runs_of_bytes_are_runs};
+use lfs_fs::{images_mount_to_one_tree, paths_are_ordered, rows_are_unique};
 use lfs_history::saved_histories_open;
 
 /// A law: the image and the journal that a step leaves denote the history to which it leads from the one that they denoted
@@ -28,4 +30,16 @@ pub fn runs_go_on()
 {
     steps_leave_histories();
     runs_of_bytes_are_runs();
+}
+
+/// A law: an image that was packed is listed as the rows that it was packed of: each path with its kind, its size and its attributes,
+/// in their order. Takes no memory.
+///
+/// Source: own.
+pub fn packed_images_list_their_rows()
+    ensures { PackedImagesListTheirRows }
+{
+    paths_are_ordered();
+    rows_are_unique();
+    images_mount_to_one_tree();
 }

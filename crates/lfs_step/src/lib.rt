@@ -10,7 +10,7 @@ mod step;
 mod summary;
 
 pub use deed::{Deed, deed_of};
-pub use laws::{runs_go_on, steps_leave_histories};
+pub use laws::{packed_images_list_their_rows, runs_go_on, steps_leave_histories};
 pub use lfs_change::{Fault, Outcome};
 pub use query::Query;
 pub use running::run;

@@ -7,6 +7,7 @@ ghost use Rattle.lfs_command.specs.declared.refusal.Refusal.TheVariants.{Memory}
 ghost use Rattle.lfs_edit.specs.Formatted.{IsFormatted};
 ghost use Rattle.lfs_change.specs.Fault.{blames_output, status_of};
 ghost use Rattle.lfs_change.specs.declared.fault.Fault.TheVariants.{Refused};
+ghost use Rattle.lfs_step.specs.Equations.{KeepsEquations, KeepsNeeds};
 ghost use Rattle.lfs_step.specs.Histories.{KeepsHistories};
 ghost use Rattle.lfs_step.specs.Outcome.{Answers, RefusesFormat, RefusesPacking, SendsText, given};
 ghost use Rattle.lfs_pack.specs.Packed.{AreRowsOf, Packed};
@@ -14,14 +15,13 @@ ghost use Rattle.lfs_pack.specs.Packing.{IsPacked};
 ghost use Rattle.lfs_step.specs.Deed.{Make, Pack, deed_of};
 
 use crate::deed::{Deed, deed_of};
-use crate::laws::{runs_go_on, steps_leave_histories};
+use crate::laws::steps_leave_histories;
 use crate::querying::queried;
 use crate::step::Step;
 use lfs_block::{ImageFault, geometry_ok};
 use lfs_book::write_journal;
 use lfs_change::{
     Fault, Outcome, changed, changed_bytes_are_equations, journals_of_bytes_grow_by_the_need,
-    undone_bytes_stand_again,
 };
 use lfs_edit::{Refusal, format};
 use lfs_pack::{PackRow, pack};
@@ -34,7 +34,8 @@ use std::alloc::Global;
 /// An empty journal is that of an image that nothing was done to. A step that changes the image is one on the history
 /// that image and journal denote, and answers those of the history that it leaves; a new image gets a journal without
 /// changes. Queries and new images read no journal, and forgetting none either. A step that is done leaves an image and a journal
-/// that denote the history to which it leads. Takes memory.
+/// that denote the history to which it leads; a command, an image that mounts to the command's equation, and a journal that has
+/// grown by no more than the command's need. Takes memory.
 ///
 /// Source: own.
 pub fn run<S: Sink>(
@@ -49,16 +50,16 @@ pub fn run<S: Sink>(
     requires { S.failed out.old ≡ false }
     ensures answers { Answers (deed_of step.now input.now) (given size image.items journal.items) result }
     ensures history { KeepsHistories (deed_of step.now input.now) (given size image.items journal.items) result }
+    ensures equation { KeepsEquations (deed_of step.now input.now) (given size image.items journal.items) result }
+    ensures growth { KeepsNeeds (deed_of step.now input.now) (given size image.items journal.items) result }
     ensures sent { SendsText (deed_of step.now input.now) (given size image.items journal.items) result.fault (S.sent out.old) (S.sent out.new) }
     ensures failed { S.failed out.new ≡ blames_output result.fault }
     ensures kept { S.kept out.new ≡ S.kept out.old }
     ensures status { result.status ≡ status_of result.fault }
 {
-    undone_bytes_stand_again();
     changed_bytes_are_equations();
     journals_of_bytes_grow_by_the_need();
     steps_leave_histories();
-    runs_go_on();
     match deed_of(step, input) {
         Deed::Make { count } => formatted(alloc, size, count, image, journal),
         Deed::Pack { count, rows } => packed(alloc, size, count, rows, image, journal),

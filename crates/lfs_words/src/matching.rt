@@ -2,70 +2,78 @@
 
 ghost use Rattle.std.specs.Prelude.{IfSome, codes};
 ghost use Rattle.clap.specs.Words.{found_of};
-ghost use Rattle.lfs_words.specs.Words.{HasText, IsTask, IsWish};
+ghost use Rattle.lfs_words.specs.Words.{HasText, IsStep, IsTask, IsWish};
 
 use crate::wish::Wish;
 use clap::ArgMatches;
-use lfs_request::{Extraction, Request, Task};
+use lfs_request::{Request, Task};
+use lfs_step::Step;
+
+/// The bytes of a word.
+fn word<'a>(options: &ArgMatches<'a>, id: &str) -> Option<&'a [u8]>
+    ensures { IfSome result (λ word. HasText (found_of options.now) id.now word.now) }
+{
+    Some(options.get_str(id)?.as_bytes())
+}
+
+/// The step that a command's words say.
+fn step_of<'a>(name: &str, options: &ArgMatches<'a>) -> Option<Step<'a>>
+    ensures { IfSome result (λ step. IsStep step name.now (found_of options.now)) }
+{
+    match name {
+        "format" => Some(Step::Format {
+            count: options.get_one::<u32>("count")?,
+        }),
+        "check" => Some(Step::Check),
+        "ls" => Some(Step::Ls),
+        "undo" => Some(Step::Undo),
+        "redo" => Some(Step::Redo),
+        "forget" => Some(Step::Forget),
+        "mv" => Some(Step::Mv {
+            from: word(options, "from")?,
+            to: word(options, "to")?,
+        }),
+        _ => step_at(name, word(options, "path")?, options),
+    }
+}
+
+/// The step at a path that a command's words say.
+fn step_at<'a>(name: &str, path: &'a [u8], options: &ArgMatches<'a>) -> Option<Step<'a>>
+    requires { HasText (found_of options.now) (codes "path") path.now }
+    ensures { IfSome result (λ step. IsStep step name.now (found_of options.now)) }
+{
+    match name {
+        "cat" => Some(Step::Cat { path }),
+        "mkdir" => Some(Step::Mkdir { path }),
+        "put" => Some(Step::Put { path }),
+        "rm" => Some(Step::Rm { path }),
+        _ => None,
+    }
+}
 
 /// What a command's words ask to be done.
 fn task_of<'a>(name: &str, options: &ArgMatches<'a>) -> Option<Task<'a>>
     ensures { IfSome result (λ task. IsTask task name.now (found_of options.now)) }
 {
     match name {
-        "format" => Some(Task::Format {
-            count: options.get_one::<u32>("count")?,
-        }),
         "pack" => Some(Task::Pack {
             count: options.get_one::<u32>("count")?,
             dir: options.get_str("dir")?,
         }),
-        "check" => Some(Task::Check),
-        "ls" => Some(Task::Ls),
-        "undo" => Some(Task::Undo),
-        "redo" => Some(Task::Redo),
-        "forget" => Some(Task::Forget),
-        "mv" => Some(Task::Mv {
-            from: options.get_str("from")?,
-            to: options.get_str("to")?,
+        "extract" => Some(Task::Extract {
+            dir: options.get_str("dir")?,
         }),
-        _ => task_at(name, options.get_str("path")?, options),
-    }
-}
-
-/// What a command's words ask to be done at a path.
-fn task_at<'a>(name: &str, path: &'a str, options: &ArgMatches<'a>) -> Option<Task<'a>>
-    requires { HasText (found_of options.now) (codes "path") path.now }
-    ensures { IfSome result (λ task. IsTask task name.now (found_of options.now)) }
-{
-    match name {
-        "cat" => Some(Task::Cat { path }),
-        "mkdir" => Some(Task::Mkdir { path }),
-        "put" => Some(Task::Put { path }),
-        "rm" => Some(Task::Rm { path }),
         "setattr" => Some(Task::SetAttr {
-            path,
+            path: word(options, "path")?,
             kind: options.get_str("kind")?,
             value: options.get_str("hex")?,
         }),
         "rmattr" => Some(Task::RmAttr {
-            path,
+            path: word(options, "path")?,
             kind: options.get_str("kind")?,
         }),
-        _ => None,
+        _ => Some(Task::Step(step_of(name, options)?)),
     }
-}
-
-/// The folder that a command's words ask to be made.
-fn extraction_of<'a>(options: &ArgMatches<'a>) -> Option<Extraction<'a>>
-    ensures { IfSome result (λ extraction. HasText (found_of options.now) (codes "image") extraction.image.now
-        × HasText (found_of options.now) (codes "dir") extraction.dir.now) }
-{
-    Some(Extraction {
-        size: options.get_one::<u32>("block")?,
-        image: options.get_str("image")?,
-        dir: options.get_str("dir")?,
-    })
 }
 
 /// What the words that were matched ask for. `None` where they ask for nothing. Takes no memory.
@@ -80,10 +88,7 @@ pub fn wished<'a>(matches: &ArgMatches<'a>) -> Option<Wish<'a>>
             number: options.get_one::<u32>("number")?,
         });
     }
-    if name == "extract" {
-        return Some(Wish::Extraction(extraction_of(options)?));
-    }
-    Some(Wish::Step(Request {
+    Some(Wish::Request(Request {
         task: task_of(name, options)?,
         size: options.get_one::<u32>("block")?,
         image: options.get_str("image")?,

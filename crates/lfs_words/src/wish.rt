@@ -1,6 +1,6 @@
 //! What a command line asks for.
 
-use lfs_request::{Extraction, Request};
+use lfs_request::Request;
 
 /// What a command line asks for.
 ///
@@ -12,8 +12,6 @@ pub enum Wish<'a> {
         /// The number.
         number: u32,
     },
-    /// A folder of the host that is made of an image.
-    Extraction(Extraction<'a>),
-    /// A step on an image.
-    Step(Request<'a>),
+    /// What is asked for on an image.
+    Request(Request<'a>),
 }

@@ -7,11 +7,9 @@ use Rattle.lfs_command.specs.declared.refusal.Refusal.TheVariants.{Memory}
 use Rattle.lfs_change.specs.declared.fault.Fault.{Fault}
 use Rattle.lfs_change.specs.declared.fault.Fault.TheVariants.{Refused}
 use Rattle.lfs_change.specs.Fault.{status_of}
-use Rattle.lfs_request.specs.declared.extraction.Extraction.{Extraction}
-use Rattle.lfs_serve.specs.Extracting.{EndsExtraction}
 use Rattle.lfs_request.specs.declared.request.Request.{Request}
 use Rattle.lfs_words.specs.declared.wish.Wish.TheVariants.{Explanation}
-use Rattle.lfs_words.specs.Words.{IsExtraction, IsRequest, IsWish}
+use Rattle.lfs_words.specs.Words.{IsRequest, IsWish}
 use Rattle.lfs_host.specs.Scene.{KeepsScene, Scene}
 use Rattle.lfs_serve.specs.Program.{EndsRequest}
 
@@ -32,23 +30,13 @@ abbrev pub AsksNoStep : List (List ℕ) → Type 0
 AsksNoStep words =
     IsRefused words ⊎ ((m : ArgMatches) × (number : ℕ) × IsMatched words m × IsWish (Explanation number) m)
 
--- the words ask for a folder that is made of an image, and this is what is made; no file changes, and nothing is printed
-abbrev pub EndsFolder : List (List ℕ) → Scene → Scene → ℕ → Type 0
-EndsFolder words old new status =
-    (m : ArgMatches)
-    × (extraction : Extraction)
-    × IsMatched words m
-    × IsExtraction extraction m
-    × EndsExtraction extraction old new status
-    × KeepsScene old new
-
 -- the status that a command line ends with
 abbrev pub ended_with : Result ℕ Fault → ℕ
 ended_with (Ok status) = status
 ended_with (Err fault) = status_of (Some fault)
 
--- how a command line ends: as the request that its words ask for; with a folder that is made of an image; with no step asked for, and no file changed; or with
--- nothing changed, for want of memory or since no request is read off its matches
+-- how a command line ends: as the request that its words ask for; with no step asked for, and no file changed; or with nothing
+-- changed, for want of memory or since no request is read off its matches
 abbrev pub EndsWords : List (List ℕ) → Scene → Scene → ℕ → Type 0
 EndsWords words old new status =
     ((m : ArgMatches)
@@ -56,6 +44,5 @@ EndsWords words old new status =
     × IsMatched words m
     × IsRequest request m
     × EndsRequest request old new status)
-    ⊎ EndsFolder words old new status
     ⊎ (AsksNoStep words × (new.files ≡ old.files))
     ⊎ (KeepsScene old new × ((status ≡ status_of (Some (Refused Memory))) ⊎ (status ≡ usage)))

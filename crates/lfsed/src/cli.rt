@@ -9,7 +9,7 @@ use clap::error::ErrorKind;
 use lfs_edit::Refusal;
 use lfs_exchange::{MORE, print, tell_of_image};
 use lfs_host::Host;
-use lfs_serve::{extracted, served};
+use lfs_serve::served;
 use lfs_step::Fault;
 use lfs_words::{Wish, command_line, wished};
 use std::alloc::Global;
@@ -41,8 +41,7 @@ fn done<H: Host, W: AsStr>(alloc: Global, host: &mut H, words: &[W]) -> Result<u
     match command_line(alloc)?.try_get_matches_from(words) {
         Ok(matches) => match wished(&matches) {
             Some(Wish::Explanation { number }) => explain(alloc, host, number),
-            Some(Wish::Extraction(extraction)) => Ok(extracted(alloc, host, &extraction)),
-            Some(Wish::Step(request)) => Ok(served(alloc, host, &request)),
+            Some(Wish::Request(request)) => Ok(served(alloc, host, &request)),
             None => Ok(USAGE),
         },
         Err(error) if error.kind() == ErrorKind::OutOfMemory => {

@@ -1,4 +1,4 @@
-use Rattle.std.proofs.Common.{◌≡◌, List, Option, subst, sym}
+use Rattle.std.proofs.Common.{List, Option, subst, sym}
 use Rattle.std.proofs.lemmas.Result.{err_from_is_err_and}
 use Rattle.std.specs.Result.{result_err}
 use Rattle.lfs_extract.specs.Extracted.{Extracts, all_made}

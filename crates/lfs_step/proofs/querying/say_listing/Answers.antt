@@ -1,5 +1,5 @@
 -- A listing that didn't go out as a whole is told as what kept it.
-use Rattle.std.proofs.Common.{◌≡◌, List, ℕ, Option, Some, sym, ap, subst}
+use Rattle.std.proofs.Common.{List, Some, sym, subst}
 use Rattle.lfs_change.specs.declared.fault.Fault.{Fault}
 use Rattle.lfs_fs.specs.Row.{Row}
 use Rattle.lfs_listing.specs.Listing.{listing}

@@ -13,14 +13,6 @@ returns-then-eq c =
     let rows : option_map (λ p. p.1) (subcommand_rows_of c.args.matches.now) ≡ Some (rows_of options) = search rules in
     (options, names_command c.args.matches.now (codes "explain") (rows_of options) name rows)
 
-pub returns-then-eq-2 : goal.returns-then-eq-2
-returns-then-eq-2 c =
-    let options = found_of c.in_ok-name.options.now in
-    let name : subcommand_name_of c.args.matches.now ≡ Some (codes "extract") = search rules in
-    let rows : option_map (λ p. p.1) (subcommand_rows_of c.args.matches.now) ≡ Some (rows_of options) = search rules in
-    let texts = c.in_ok-extraction_of.ensures in
-    (options, names_command c.args.matches.now (codes "extract") (rows_of options) name rows, texts.0, texts.1)
-
 pub returns : goal.returns
 returns c =
     let options = found_of c.in_ok-name.options.now in

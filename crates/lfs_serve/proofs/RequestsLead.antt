@@ -1,0 +1,434 @@
+-- Where lists of requests lead.
+use Rattle.std.proofs.Common.{◌≡◌, ◌⊎◌, ◌<◌, ◌≤◌, ◌+◌, ℕ, Bor, List, [], ◌∷◌, ◌++◌, Option, Some, None, length, refl, sym, ap, subst, ◌∙◌, arith, inl, inr, length-append}
+use Rattle.std.specs.Prelude.{codes, map}
+use Rattle.std.proofs.lemmas.List.{take_all}
+use Rattle.lfs_block.specs.Disk.{Disk, IsDisk}
+use Rattle.lfs_book.specs.Book.{most_journal}
+use Rattle.lfs_book.specs.Laws.{JournalsAreShort}
+use Rattle.lfs_command.specs.declared.refusal.Refusal.{Refusal}
+use Rattle.lfs_history.specs.History.{History, IsMounted, fresh_history}
+use Rattle.lfs_history.specs.Taking.{Move, Do, Undo, Redo, Forget}
+use Rattle.lfs_command.specs.Command as asked
+use Rattle.lfs_step.specs.declared.query.Query.TheVariants as query
+use Rattle.lfs_serve.proofs.StepLemmas.{handed_from}
+use Rattle.lfs_change.specs.declared.fault.Fault.{Fault}
+use Rattle.lfs_change.specs.declared.fault.Fault.TheVariants.{Refused, CannotRead, CannotWrite}
+use Rattle.lfs_change.specs.declared.outcome.Outcome.{Outcome}
+use Rattle.lfs_change.specs.Bytes.{image_of}
+use Rattle.lfs_change.specs.Change.{Denotes, DenotesOn}
+use Rattle.lfs_change.specs.Fault.{status_of}
+use Rattle.lfs_change.specs.Laws.{RunsOfBytesAreRuns}
+use Rattle.lfs_change.proofs.ChangeLemmas.{denoted_history, denoted_present}
+use Rattle.lfs_pack.specs.declared.pack_row.PackRow.{PackRow}
+use Rattle.lfs_pack.specs.Packed.{AreRowsOf}
+use Rattle.lfs_step.specs.declared.step.Step.{Step}
+use Rattle.lfs_step.specs.declared.step.Step.TheVariants as step
+use Rattle.lfs_step.specs.Deed.{Deed, Make, Pack, Ask, Change, deed_of}
+use Rattle.lfs_step.specs.Histories.{StepsLeaveHistories}
+use Rattle.lfs_step.specs.Outcome.{AnswersBy, AnswersDone, given}
+use Rattle.lfs_step.specs.Runs.{GoesOn, HasGoodRows}
+use Rattle.lfs_step.proofs.HistoriesLeft.{fresh_is}
+use Rattle.lfs_step.proofs.RunsLeft.{one_goes}
+use Rattle.lfs_exchange.specs.declared.step_kind.StepKind.{StepKind}
+use Rattle.lfs_exchange.specs.declared.step_kind.StepKind.TheVariants.{Makes, Asks, Changes, Forgets}
+use Rattle.lfs_exchange.specs.Handing.{HandedBytes, HandsInput, IsHanded, IsOfHost, most_image}
+use Rattle.lfs_exchange.specs.StepKind.{kind_of}
+use Rattle.lfs_exchange.specs.Storing.{HasBoth, LeavesFiles, SparesFiles, journal_name, new_name, new_names}
+use Rattle.lfs_host.specs.Files.{Apart, BeginsWith, Files, FindsFile, HasReplaced, ReadsFile, bytes_there}
+use Rattle.lfs_host.specs.HostTree.{HostTree}
+use Rattle.lfs_host.specs.Scene.{Scene}
+use Rattle.lfs_request.specs.declared.task.Task.{Task}
+use Rattle.lfs_request.specs.declared.task.Task.TheVariants as task
+use Rattle.lfs_serve.specs.HostFolder.{packed_of}
+use Rattle.lfs_serve.specs.Program.{BecomesStep, EndsReading, EndsStep, EndsTask, StopsStep}
+use Rattle.lfs_serve.specs.Requests.{FilesDenote, IsServedOn, IsTorn, RequestGoes, RequestsLeadOn, SaysGoodRows, Served, StepGoes, TaskGoes, TaskGoesBy}
+
+some_is : {X : Type 0} (x y : X) → Some x ≡ Some y → x ≡ y
+some_is {X} x y same = ap (get_some x) same
+  where
+    get_some : X → Option X → X
+    get_some d None = d
+    get_some d (Some z) = z
+
+-- ---- names
+
+longer : (name more : List ℕ) → 0 < length more → ¬ (name ≡ name ++ more)
+longer name more some same = omega (arith, ap length same, length-append name more, some)
+
+other_ends : (name a b : List ℕ) → ¬ (length a ≡ length b) → ¬ (name ++ a ≡ name ++ b)
+other_ends name a b differ same = differ (omega (arith, ap length same, length-append name a, length-append name b))
+
+-- the name of an image, and that of its journal, are none of what is to become them
+image_apart : (name : List ℕ) → Apart name (new_names name)
+image_apart name = (
+  longer name (codes ".new") (omega arith),
+  (λ same. omega (arith, ap length same, length-append name (codes ".lfsj"), length-append (journal_name name) (codes ".new")), tt),
+)
+
+journal_apart : (name : List ℕ) → Apart (journal_name name) (new_names name)
+journal_apart name = (
+  λ same. omega (arith, ap length same, length-append name (codes ".lfsj"), length-append name (codes ".new")),
+  (longer (journal_name name) (codes ".new") (omega arith), tt),
+)
+
+-- nor that of a new journal alone
+apart_at : (name : List ℕ) → Apart name (new_name (journal_name name) ∷ []) × Apart (journal_name name) (new_name (journal_name name) ∷ [])
+apart_at name = (((image_apart name).1.0, tt), ((journal_apart name).1.0, tt))
+
+image_not_journal : (name : List ℕ) → ¬ (name ≡ journal_name name)
+image_not_journal name = longer name (codes ".lfsj") (omega arith)
+
+-- ---- what is read
+
+whole_read : (most : ℕ) (whole read : List ℕ) → length whole ≤ most → BeginsWith most whole read → read ≡ whole
+whole_read most whole read short begins = begins ∙ take_all (most + 1) whole (omega (arith, short))
+
+-- an image isn't longer than what is read of one
+image_short : (size : ℕ) (image : List ℕ) → IsDisk (image_of size image) → length image ≤ most_image
+image_short size image is = omega (arith, is.len, is.geometry.length_fits)
+
+-- nor is a journal
+journal_short : JournalsAreShort → (d : Disk) (journal : List ℕ) (h : History) → DenotesOn d journal h → length journal ≤ most_journal
+journal_short short d [] h denotes = omega arith
+journal_short short d (byte ∷ bytes) h denotes =
+    omega (arith, short denotes.book denotes.spelled.book, ap length denotes.spelled.bytes_are)
+
+image_read : (size : ℕ) (name read : List ℕ) (files : Files) (h : History) (denotes : FilesDenote size name files h)
+    → ReadsFile (Some files) name most_image read → read ≡ denotes.0
+image_read size name read files h (image, is, denotes) (whole, there, begins) =
+    let same : whole ≡ image = some_is whole image (sym there ∙ is) in
+    whole_read most_image image read (image_short size image denotes.0)
+    (subst (λ (w : List ℕ). BeginsWith most_image w read) same begins)
+
+journal_read : JournalsAreShort → (size : ℕ) (name read : List ℕ) (files : Files) (h : History) → FilesDenote size name files h
+    → FindsFile (Some files) (journal_name name) most_journal read → read ≡ bytes_there (files (journal_name name))
+journal_read short size name read files h (image, is, denotes) found =
+    whole_read most_journal (bytes_there (files (journal_name name))) read
+    (journal_short short (image_of size image) (bytes_there (files (journal_name name))) h denotes.1) found
+
+-- ---- files that denote a history
+
+-- where image and journal stay
+stays : (size : ℕ) (name : List ℕ) (old new : Files) (h : History) → new name ≡ old name
+    → new (journal_name name) ≡ old (journal_name name) → FilesDenote size name old h → FilesDenote size name new h
+stays size name old new h image journal (bytes, is, denotes) =
+    (bytes, image ∙ is, subst (λ (j : Option (List ℕ)). Denotes size bytes (bytes_there j) h) (sym journal) denotes)
+
+-- where all files stay
+same_files : (size : ℕ) (name : List ℕ) (old new : Files) (h : History) → Some new ≡ Some old → FilesDenote size name old h
+    → FilesDenote size name new h
+same_files size name old new h same denotes = subst (λ (f : Files). FilesDenote size name f h) (sym (some_is new old same)) denotes
+
+-- where an outcome's image and journal are written
+written : (size : ℕ) (name : List ℕ) (old new : Files) (outcome : Outcome) (h : History)
+    → HasBoth name outcome.image.items outcome.journal.items old new → Denotes size outcome.image.items outcome.journal.items h
+    → FilesDenote size name new h
+written size name old new outcome h both denotes = (
+  outcome.image.items,
+  both.image_is,
+  subst (λ (j : Option (List ℕ)). Denotes size outcome.image.items (bytes_there j) h) (sym both.journal_is) denotes,
+)
+
+-- ---- where a step leads that was done
+
+record StepLeads (size : ℕ) (name : List ℕ) (s : Step) (typed : Option (List ℕ)) (new : Files) (old : History) : Type 0 where
+  next : History
+  goes : StepGoes size s typed old next
+  denotes : FilesDenote size name new next
+
+-- what a change was handed is what the files have
+handed_change : JournalsAreShort → (size : ℕ) (name : List ℕ) (files : Files) (h : History) (b : HandedBytes) → FilesDenote size name files h
+    → ReadsFile (Some files) name most_image b.image → FindsFile (Some files) (journal_name name) most_journal b.journal
+    → Denotes size b.image b.journal h
+handed_change short size name files h b denotes image journal =
+    subst (λ (i : List ℕ). Denotes size i b.journal h) (sym (image_read size name b.image files h denotes image))
+    (subst (λ (j : List ℕ). Denotes size denotes.0 j h) (sym (journal_read short size name b.journal files h denotes journal)) denotes.2)
+
+-- the laws that this stands on
+record Laws : Type 0 where
+  short : JournalsAreShort
+  leaves : StepsLeaveHistories
+  runs : RunsOfBytesAreRuns
+
+-- a step on a history
+changes : Laws → (m : Move) (s : Step) (size : ℕ) (name : List ℕ) (typed : Option (List ℕ)) (old new : Files) (h : History) (b : HandedBytes)
+    (outcome : Outcome) → deed_of s b.input ≡ Change m → FilesDenote size name old h → ReadsFile (Some old) name most_image b.image
+    → FindsFile (Some old) (journal_name name) most_journal b.journal → HandsInput s typed b.input
+    → AnswersDone (Change m) (given size b.image b.journal) outcome → HasBoth name outcome.image.items outcome.journal.items old new
+    → StepLeads size name s typed new h
+changes laws m s size name typed old new h b outcome is denotes image journal input answers both =
+    let handed = handed_change laws.short size name old h b denotes image journal in
+    let one = one_goes laws.leaves laws.runs None (Change m) (given size b.image b.journal) outcome h tt handed answers in
+    record {
+      next = one.new;
+      goes = (b.input, input, subst (λ (d : Deed). GoesOn size d h one.new) (sym is) one.goes);
+      denotes = written size name old new outcome one.new both one.leaves;
+    }
+
+-- a question
+asks : (q : Deed) (s : Step) (size : ℕ) (name : List ℕ) (typed : Option (List ℕ)) (old new : Files) (h : History) (b : HandedBytes)
+    → GoesOn size q h h → deed_of s b.input ≡ q → FilesDenote size name old h → HandsInput s typed b.input → Some new ≡ Some old
+    → StepLeads size name s typed new h
+asks q s size name typed old new h b goes is denotes input same = record {
+  next = h;
+  goes = (b.input, input, subst (λ (d : Deed). GoesOn size d h h) (sym is) goes);
+  denotes = same_files size name old new h same denotes;
+}
+
+-- all but the image is forgotten
+forgets : Laws → (size : ℕ) (name : List ℕ) (typed : Option (List ℕ)) (old new : Files) (h : History) (b : HandedBytes) (outcome : Outcome)
+    → FilesDenote size name old h → ReadsFile (Some old) name most_image b.image → b.journal ≡ [] → HandsInput step.Forget typed b.input
+    → AnswersDone (Change Forget) (given size b.image b.journal) outcome
+    → HasReplaced (journal_name name) (new_name (journal_name name)) outcome.journal.items old new
+    → StepLeads size name step.Forget typed new h
+forgets laws size name typed old new h b outcome denotes image none input answers replaced =
+    let d = image_of size b.image in
+    let read = image_read size name b.image old h denotes image in
+    let journal = bytes_there (old (journal_name name)) in
+    let on : Denotes size b.image journal h = subst (λ (i : List ℕ). Denotes size i journal h) (sym read) denotes.2 in
+    let present : h.present ≡ d = denoted_present d journal h on.1 in
+    let is = denoted_history d journal h on.1 in
+    let fresh = fresh_is d on.0 (subst (λ (e : Disk). IsMounted e) present is.mounts) in
+    let handed : Denotes size b.image b.journal (fresh_history d) =
+    subst (λ (j : List ℕ). Denotes size b.image j (fresh_history d)) (sym none) (on.0, (refl, fresh)) in
+    let one = one_goes laws.leaves laws.runs None (Change Forget) (given size b.image b.journal) outcome (fresh_history d) tt handed answers in
+    let goes : one.new ≡ fresh_history h.present = one.goes ∙ ap fresh_history (sym present) in
+    let kept : outcome.image.items ≡ b.image = ap (λ (e : Disk). e.bytes) (sym (denoted_present (image_of size outcome.image.items)
+    outcome.journal.items one.new one.leaves.1) ∙ ap (λ (k : History). k.present) one.goes) in
+    let there : new name ≡ Some b.image = replaced.2 name (
+      λ same. omega (arith, ap length same, length-append name (codes ".lfsj"), length-append (journal_name name) (codes ".new")),
+      (image_not_journal name, tt),
+    ) ∙ denotes.1 ∙ ap Some (sym read) in
+    record {
+      next = one.new;
+      goes = (b.input, input, goes);
+      denotes = (
+        b.image,
+        there,
+        subst (λ (j : Option (List ℕ)). Denotes size b.image (bytes_there j) one.new) (sym replaced.0)
+            (subst (λ (i : List ℕ). Denotes size i outcome.journal.items one.new) kept one.leaves),
+      );
+    }
+
+-- a new image
+makes : Laws → (count : ℕ) (s : Step) (size : ℕ) (name : List ℕ) (typed : Option (List ℕ)) (old new : Files) (h : History) (b : HandedBytes)
+    (outcome : Outcome) → deed_of s b.input ≡ Make count → HandsInput s typed b.input
+    → AnswersDone (Make count) (given size b.image b.journal) outcome → HasBoth name outcome.image.items outcome.journal.items old new
+    → StepLeads size name s typed new h
+makes laws count s size name typed old new h b outcome is input answers both =
+    let next = fresh_history (image_of size outcome.image.items) in
+    let goes : GoesOn size (Make count) h next = (refl, answers.0) in
+    record {
+      next = next;
+      goes = (b.input, input, subst (λ (d : Deed). GoesOn size d h next) (sym is) goes);
+      denotes = written size name old new outcome next both (laws.leaves (Make count) (given size b.image b.journal) outcome answers);
+    }
+
+packs : Laws → (count : ℕ) (rows : List PackRow) (s : Step) (size : ℕ) (name : List ℕ) (typed : Option (List ℕ)) (old new : Files) (h : History)
+    (b : HandedBytes) (outcome : Outcome) → HasGoodRows (Pack count rows) → deed_of s b.input ≡ Pack count rows → HandsInput s typed b.input
+    → AnswersDone (Pack count rows) (given size b.image b.journal) outcome → HasBoth name outcome.image.items outcome.journal.items old new
+    → StepLeads size name s typed new h
+packs laws count rows s size name typed old new h b outcome (packed, are) is input answers both =
+    let next = fresh_history (image_of size outcome.image.items) in
+    let goes : GoesOn size (Pack count rows) h next = (refl, answers.0) in
+    record {
+      next = next;
+      goes = (b.input, input, subst (λ (d : Deed). GoesOn size d h next) (sym is) goes);
+      denotes = written size name old new outcome next both
+          (laws.leaves (Pack count rows) (given size b.image b.journal) outcome answers packed are);
+    }
+
+-- a host of which the same is known, whose files are these
+abbrev with_files : Scene → Files → Scene
+with_files scene files = record scene { files = Some files }
+
+-- any step
+done_leads : Laws → (s : Step) (size : ℕ) (name : List ℕ) (scene : Scene) (old new : Files) (h : History) (b : HandedBytes) (outcome : Outcome)
+    → HasGoodRows (deed_of s []) → FilesDenote size name old h → IsHanded s name (with_files scene old) b
+    → AnswersDone (deed_of s b.input) (given size b.image b.journal) outcome → LeavesFiles (kind_of s) (Some old) (Some new) name outcome
+    → StepLeads size name s scene.typed new h
+done_leads laws (step.Format count) size name scene old new h b outcome good denotes handed answers leaves =
+    makes laws count (step.Format count) size name scene.typed old new h b outcome refl handed.input answers leaves
+done_leads laws (step.Pack count rows) size name scene old new h b outcome good denotes handed answers leaves =
+    packs laws count rows.now (step.Pack count rows) size name scene.typed old new h b outcome good refl handed.input answers leaves
+done_leads laws step.Check size name scene old new h b outcome good denotes handed answers leaves =
+    asks (Ask query.Check) step.Check size name scene.typed old new h b refl refl denotes handed.input leaves
+done_leads laws step.Ls size name scene old new h b outcome good denotes handed answers leaves =
+    asks (Ask query.Ls) step.Ls size name scene.typed old new h b refl refl denotes handed.input leaves
+done_leads laws (step.Cat path) size name scene old new h b outcome good denotes handed answers leaves =
+    asks (Ask (query.Cat path)) (step.Cat path) size name scene.typed old new h b refl refl denotes handed.input leaves
+done_leads laws (step.Mkdir path) size name scene old new h b outcome good denotes handed answers leaves =
+    changes laws (Do (asked.Mkdir path.now)) (step.Mkdir path) size name scene.typed old new h b outcome refl denotes handed.image handed.journal handed.input answers leaves
+done_leads laws (step.Put path) size name scene old new h b outcome good denotes handed answers leaves =
+    changes laws (Do (asked.Put path.now b.input)) (step.Put path) size name scene.typed old new h b outcome refl denotes handed.image handed.journal handed.input answers leaves
+done_leads laws (step.Rm path) size name scene old new h b outcome good denotes handed answers leaves =
+    changes laws (Do (asked.Rm path.now)) (step.Rm path) size name scene.typed old new h b outcome refl denotes handed.image handed.journal handed.input answers leaves
+done_leads laws (step.Mv from to) size name scene old new h b outcome good denotes handed answers leaves =
+    changes laws (Do (asked.Mv from.now to.now)) (step.Mv from to) size name scene.typed old new h b outcome refl denotes handed.image handed.journal handed.input answers leaves
+done_leads laws (step.SetAttr path kind value) size name scene old new h b outcome good denotes handed answers leaves =
+    changes laws (Do (asked.SetAttr path.now kind value.now)) (step.SetAttr path kind value) size name scene.typed old new h b outcome refl denotes handed.image handed.journal handed.input answers leaves
+done_leads laws (step.RmAttr path kind) size name scene old new h b outcome good denotes handed answers leaves =
+    changes laws (Do (asked.RmAttr path.now kind)) (step.RmAttr path kind) size name scene.typed old new h b outcome refl denotes handed.image handed.journal handed.input answers leaves
+done_leads laws step.Undo size name scene old new h b outcome good denotes handed answers leaves =
+    changes laws Undo step.Undo size name scene.typed old new h b outcome refl denotes handed.image handed.journal handed.input answers leaves
+done_leads laws step.Redo size name scene old new h b outcome good denotes handed answers leaves =
+    changes laws Redo step.Redo size name scene.typed old new h b outcome refl denotes handed.image handed.journal handed.input answers leaves
+done_leads laws step.Forget size name scene old new h b outcome good denotes handed answers leaves =
+    forgets laws size name scene.typed old new h b outcome denotes handed.image handed.journal handed.input answers leaves
+
+-- a step that was done
+step_leads : Laws → (s : Step) (size : ℕ) (name : List ℕ) (scene behind : Scene) (old new : Files) (h : History) → HasGoodRows (deed_of s [])
+    → scene.files ≡ Some old → behind.files ≡ Some new → FilesDenote size name old h → EndsStep s size name scene behind None
+    → StepLeads size name s scene.typed new h
+step_leads laws s size name scene behind old new h good before later denotes (outcome, (b, handed, (answers, none, sends), blamed), leaves) =
+    let at : IsHanded s name (with_files scene old) b = handed_from s name scene (with_files scene old) b before refl handed in
+    let done = subst (λ (f : Option Fault). AnswersBy f (deed_of s b.input) (given size b.image b.journal) outcome) none answers in
+    let left : LeavesFiles (kind_of s) (Some old) (Some new) name outcome =
+    subst (λ (f : Option Files). LeavesFiles (kind_of s) (Some old) f name outcome) later
+    (subst (λ (f : Option Files). LeavesFiles (kind_of s) f behind.files name outcome) before leaves) in
+    done_leads laws s size name scene old new h b outcome good denotes at done left
+
+-- ---- what a step leaves that wasn't done
+
+-- the status of what the host refuses
+host_status : (scene : Scene) (fault : Fault) → IsOfHost scene fault → status_of (Some fault) ≡ 4
+host_status scene CannotRead of_host = refl
+host_status scene CannotWrite of_host = refl
+host_status scene (Refused refusal) of_host = subst (λ (r : Refusal). status_of (Some (Refused r)) ≡ 4) (sym of_host) refl
+host_status scene _ of_host = absurd of_host
+
+-- image and journal stay, or the image does
+spared : (fault : Fault) (kind : StepKind) (size : ℕ) (name : List ℕ) (old new : Files) (h : History) (outcome : Outcome)
+    → FilesDenote size name old h → SparesFiles fault kind (Some old) (Some new) name outcome
+    → FilesDenote size name new h ⊎ (new name ≡ old name)
+spared (Refused refusal) kind size name old new h outcome denotes same = inl (same_files size name old new h same denotes)
+spared _ Asks size name old new h outcome denotes same = inl (same_files size name old new h same denotes)
+spared _ Forgets size name old new h outcome denotes kept =
+    inl (stays size name old new h (kept name (apart_at name).0) (kept (journal_name name) (apart_at name).1) denotes)
+spared _ Makes size name old new h outcome denotes (inl kept) =
+    inl (stays size name old new h (kept name (image_apart name)) (kept (journal_name name) (journal_apart name)) denotes)
+spared _ Changes size name old new h outcome denotes (inl kept) =
+    inl (stays size name old new h (kept name (image_apart name)) (kept (journal_name name) (journal_apart name)) denotes)
+spared _ Makes size name old new h outcome denotes (inr torn) = inr (torn.others name (image_not_journal name, image_apart name))
+spared _ Changes size name old new h outcome denotes (inr torn) = inr (torn.others name (image_not_journal name, image_apart name))
+
+-- the files denote the history still, or the host tore them apart
+stop_leaves : (s : Step) (size : ℕ) (name : List ℕ) (scene behind : Scene) (fault : Fault) (old new : Files) (h : History)
+    → scene.files ≡ Some old → behind.files ≡ Some new → FilesDenote size name old h → StopsStep s size name scene behind fault
+    → FilesDenote size name new h ⊎ ((status_of (Some fault) ≡ 4) × (new name ≡ old name))
+stop_leaves s size name scene behind fault old new h before later denotes (inl (outcome, runs, same)) =
+    inl (same_files size name old new h (sym later ∙ same ∙ before) denotes)
+stop_leaves s size name scene behind fault old new h before later denotes (inr (inl (not_aimed, keeps))) =
+    inl (same_files size name old new h (sym later ∙ keeps.0 ∙ before) denotes)
+stop_leaves s size name scene behind fault old new h before later denotes (inr (inr (of_host, (outcome, runs, spares)))) =
+    let left : SparesFiles fault (kind_of s) (Some old) (Some new) name outcome =
+    subst (λ (f : Option Files). SparesFiles fault (kind_of s) (Some old) f name outcome) later
+    (subst (λ (f : Option Files). SparesFiles fault (kind_of s) f behind.files name outcome) before spares) in
+    elim (spared fault (kind_of s) size name old new h outcome denotes left) [
+      | inl kept ↦ inl kept
+      | inr image ↦ inr (host_status behind fault of_host, image)
+    ]
+
+-- ---- tasks
+
+-- rows of a folder are good, and no other step has any
+good_step : (t : Task) (tree : Option HostTree) (s : Step) → BecomesStep t tree s → HasGoodRows (deed_of s [])
+good_step (task.Pack n dir) tree (step.Pack count packed) (rows, folder, asks) =
+    (map packed_of folder.shown, subst (λ (rs : List PackRow). AreRowsOf rs (map packed_of folder.shown)) (sym asks.1) folder.packed)
+good_step (task.Pack n dir) tree _ (rows, folder, asks) = absurd asks
+good_step (task.SetAttr path kind value) tree (step.SetAttr at of to) becomes = tt
+good_step (task.SetAttr path kind value) tree _ (rows, folder, asks) = absurd asks
+good_step (task.RmAttr path kind) tree (step.RmAttr at of) becomes = tt
+good_step (task.RmAttr path kind) tree _ (rows, folder, asks) = absurd asks
+good_step _ tree s (rows, folder, asks) = absurd asks
+
+-- where a request leads, or that it is torn
+data Ends (size : ℕ) (name : List ℕ) (t : Task) (scene : Scene) (fault : Option Fault) (old new : Files) (h : History) : Type 0 where
+  Leads : (next : History) → TaskGoesBy fault size t scene h next → FilesDenote size name new next → Ends size name t scene fault old new h
+  Tears : status_of fault ≡ 4 → new name ≡ old name → Ends size name t scene fault old new h
+
+-- what wasn't done leaves the history, or tears
+stopped : (size : ℕ) (name : List ℕ) (t : Task) (scene : Scene) (fault : Fault) (old new : Files) (h : History)
+    → FilesDenote size name new h ⊎ ((status_of (Some fault) ≡ 4) × (new name ≡ old name)) → Ends size name t scene (Some fault) old new h
+stopped size name t scene fault old new h (inl denotes) = Leads h refl denotes
+stopped size name t scene fault old new h (inr (status, image)) = Tears status image
+
+-- a folder that is made leaves the history
+extracted : (fault : Option Fault) (size : ℕ) (dir : Bor (List ℕ)) (scene : Scene) (h : History) → TaskGoesBy fault size (task.Extract dir) scene h h
+extracted None size dir scene h = refl
+extracted (Some fault) size dir scene h = refl
+
+-- a task whose words say all of it
+step_ends : Laws → (fault : Option Fault) (s : Step) (size : ℕ) (name : List ℕ) (scene behind : Scene) (old new : Files) (h : History)
+    → HasGoodRows (deed_of s []) → scene.files ≡ Some old → behind.files ≡ Some new → FilesDenote size name old h
+    → EndsStep s size name scene behind fault → Ends size name (task.Step s) scene fault old new h
+step_ends laws None s size name scene behind old new h good before later denotes ends =
+    let leads = step_leads laws s size name scene behind old new h good before later denotes ends in
+    Leads leads.next leads.goes leads.denotes
+step_ends laws (Some fault) s size name scene behind old new h good before later denotes ends =
+    stopped size name (task.Step s) scene fault old new h (stop_leaves s size name scene behind fault old new h before later denotes ends)
+
+-- a task for which something is read first
+reading_ends : Laws → (fault : Option Fault) (t : Task) (size : ℕ) (name : List ℕ) (scene behind : Scene) (old new : Files) (h : History)
+    → ((next : History) → (s : Step) × BecomesStep t scene.tree s × StepGoes size s scene.typed h next → TaskGoes size t scene h next)
+    → scene.files ≡ Some old → behind.files ≡ Some new → FilesDenote size name old h → EndsReading t size name scene behind fault
+    → Ends size name t scene fault old new h
+reading_ends laws None t size name scene behind old new h turn before later denotes (inl (s, becomes, ends)) =
+    let leads = step_leads laws s size name scene behind old new h (good_step t scene.tree s becomes) before later denotes ends in
+    Leads leads.next (turn leads.next (s, becomes, leads.goes)) leads.denotes
+reading_ends laws None t size name scene behind old new h turn before later denotes (inr (keeps, (why, is, no_step))) = absurd cc
+reading_ends laws (Some fault) t size name scene behind old new h turn before later denotes (inl (s, becomes, ends)) =
+    stopped size name t scene fault old new h (stop_leaves s size name scene behind fault old new h before later denotes ends)
+reading_ends laws (Some fault) t size name scene behind old new h turn before later denotes (inr (keeps, no_step)) =
+    Leads h refl (same_files size name old new h (sym later ∙ keeps.0 ∙ before) denotes)
+
+-- any task
+task_ends : Laws → (fault : Option Fault) (t : Task) (size : ℕ) (name : List ℕ) (scene behind : Scene) (old new : Files) (h : History)
+    → SaysGoodRows t → scene.files ≡ Some old → behind.files ≡ Some new → FilesDenote size name old h
+    → EndsTask t size name scene behind fault → Ends size name t scene fault old new h
+task_ends laws fault (task.Step s) size name scene behind old new h good before later denotes ends =
+    step_ends laws fault s size name scene behind old new h good before later denotes ends
+task_ends laws fault (task.Extract dir) size name scene behind old new h good before later denotes ends =
+    Leads h (extracted fault size dir scene h) (same_files size name old new h (sym later ∙ ends.0.0 ∙ before) denotes)
+task_ends laws fault (task.Pack count dir) size name scene behind old new h good before later denotes ends =
+    reading_ends laws fault (task.Pack count dir) size name scene behind old new h (λ next goes. goes) before later denotes ends
+task_ends laws fault (task.SetAttr path kind value) size name scene behind old new h good before later denotes ends =
+    reading_ends laws fault (task.SetAttr path kind value) size name scene behind old new h (λ next goes. goes) before later denotes ends
+task_ends laws fault (task.RmAttr path kind) size name scene behind old new h good before later denotes ends =
+    reading_ends laws fault (task.RmAttr path kind) size name scene behind old new h (λ next goes. goes) before later denotes ends
+
+-- ---- requests
+
+-- a request leads to a history that the files denote, or is torn
+abbrev GoesOrTears : ℕ → List ℕ → Served → Files → Files → History → Type 0
+GoesOrTears size name s old new h =
+    IsTorn name s old new ⊎ ((next : History) × RequestGoes size s h next × FilesDenote size name new next)
+
+by_end : (size : ℕ) (name : List ℕ) (s : Served) (fault : Option Fault) (old new : Files) (h : History) → s.status ≡ status_of fault
+    → Ends size name s.request.task s.old fault old new h → GoesOrTears size name s old new h
+by_end size name s fault old new h status (Leads next goes denotes) = inr (next, (fault, status, goes), denotes)
+by_end size name s fault old new h status (Tears four image) = inl (record { status = status ∙ four; image = image })
+
+request_ends : Laws → (size : ℕ) (name : List ℕ) (s : Served) (old new : Files) (h : History) → FilesDenote size name old h
+    → IsServedOn size name s old new → GoesOrTears size name s old new h
+request_ends laws size name s old new h denotes is =
+    let fault = is.ends.0 in
+    let t = s.request.task in
+    let by_size = subst (λ (n : ℕ). EndsTask t n s.request.image.now s.old s.new fault) is.size_is is.ends.1 in
+    let by_name = subst (λ (n : List ℕ). EndsTask t size n s.old s.new fault) is.name_is by_size in
+    by_end size name s fault old new h is.ends.2
+    (task_ends laws fault t size name s.old s.new old new h is.rows is.before is.behind denotes by_name)
+
+lead_on : Laws → RequestsLeadOn
+lead_on laws size name [] old last h denotes same = subst (λ (f : Files). FilesDenote size name f h) (sym same) denotes
+lead_on laws size name (s ∷ ss) old last h denotes (mid, is, later) = (
+  mid,
+  is.behind,
+  elim (request_ends laws size name s old mid h denotes is) [
+    | inl torn ↦ inl torn
+    | inr leads ↦ inr (leads.0, leads.1, leads.2, lead_on laws size name ss mid last leads.0 leads.2 later)
+  ],
+)
+
+pub requests_lead_on : JournalsAreShort → StepsLeaveHistories → RunsOfBytesAreRuns → RequestsLeadOn
+requests_lead_on short leaves runs = lead_on (record { short = short; leaves = leaves; runs = runs })

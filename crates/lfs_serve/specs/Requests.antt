@@ -1,0 +1,93 @@
+-- Lists of requests on one image's files, each of which finds the files as the one before left them (own).
+use Rattle.std.specs.Prelude.{◌≡◌, ◌⊎◌, ℕ, List, [], ◌∷◌, Option, Some, None}
+use Rattle.lfs_change.specs.declared.fault.Fault.{Fault}
+use Rattle.lfs_change.specs.Change.{Denotes}
+use Rattle.lfs_change.specs.Fault.{status_of}
+use Rattle.lfs_exchange.specs.Handing.{HandsInput}
+use Rattle.lfs_exchange.specs.Storing.{journal_name}
+use Rattle.lfs_history.specs.History.{History}
+use Rattle.lfs_host.specs.Files.{Files, bytes_there}
+use Rattle.lfs_host.specs.Scene.{Scene}
+use Rattle.lfs_request.specs.declared.request.Request.{Request}
+use Rattle.lfs_request.specs.declared.task.Task.{Task}
+use Rattle.lfs_request.specs.declared.task.Task.TheVariants as task
+use Rattle.lfs_request.specs.declared.task.Task.TheVariants.{Extract}
+use Rattle.lfs_step.specs.declared.step.Step.{Step}
+use Rattle.lfs_step.specs.Deed.{deed_of}
+use Rattle.lfs_step.specs.Runs.{GoesOn, HasGoodRows}
+use Rattle.lfs_serve.specs.Program.{BecomesStep, EndsRequest}
+
+-- the files of a name denote a history: an image, and a journal, which counts as one without bytes where it isn't there
+abbrev pub FilesDenote : ℕ → List ℕ → Files → History → Type 0
+FilesDenote size name files h =
+    (image : List ℕ) × (files name ≡ Some image) × Denotes size image (bytes_there (files (journal_name name))) h
+
+-- ---- requests that were served
+
+-- a request, what was known of the host before and behind it, and the status that it ended with
+pub record Served : Type 0 where
+  pub request : Request
+  pub old : Scene
+  pub new : Scene
+  pub status : ℕ
+
+-- rows that a step has say what is packed, as it is taken; those of a folder always do
+abbrev pub SaysGoodRows : Task → Type 0
+SaysGoodRows (task.Step step) = HasGoodRows (deed_of step [])
+SaysGoodRows _ = Unit {0}
+
+-- it was one on the image of this name, with blocks of this size, and it ended as it does, on files that are known
+pub record IsServedOn (size : ℕ) (name : List ℕ) (s : Served) (old new : Files) : Type 0 where
+  pub size_is : s.request.size ≡ size
+  pub name_is : s.request.image.now ≡ name
+  pub rows : SaysGoodRows s.request.task
+  pub before : s.old.files ≡ Some old
+  pub behind : s.new.files ≡ Some new
+  pub ends : EndsRequest s.request s.old s.new s.status
+
+-- one after another
+abbrev pub AreServed : ℕ → List ℕ → List Served → Files → Files → Type 0
+AreServed size name [] old new = new ≡ old
+AreServed size name (s ∷ ss) old new = (mid : Files) × IsServedOn size name s old mid × AreServed size name ss mid new
+
+-- ---- where they lead
+
+-- where a step leads that was done, with what it was handed of standard input
+abbrev pub StepGoes : ℕ → Step → Option (List ℕ) → History → History → Type 0
+StepGoes size step typed old new = (input : List ℕ) × HandsInput step typed input × GoesOn size (deed_of step input) old new
+
+-- where a task leads that was done: as the step that it says, or that it becomes; a folder that is made leaves the history
+abbrev pub TaskGoes : ℕ → Task → Scene → History → History → Type 0
+TaskGoes size (task.Step step) s old new = StepGoes size step s.typed old new
+TaskGoes size (Extract dir) s old new = new ≡ old
+TaskGoes size t s old new = (step : Step) × BecomesStep t s.tree step × StepGoes size step s.typed old new
+
+-- one that wasn't done leaves the history
+abbrev pub TaskGoesBy : Option Fault → ℕ → Task → Scene → History → History → Type 0
+TaskGoesBy None size t s old new = TaskGoes size t s old new
+TaskGoesBy (Some fault) size t s old new = new ≡ old
+
+-- where a request leads, by the fault that its status tells
+abbrev pub RequestGoes : ℕ → Served → History → History → Type 0
+RequestGoes size s old new =
+    (fault : Option Fault) × (s.status ≡ status_of fault) × TaskGoesBy fault size s.request.task s.old old new
+
+-- The host refused the new image its place, where the new journal had got its own: the image is the one that was there. The next
+-- request is told so, and `forget` keeps that image.
+pub record IsTorn (name : List ℕ) (s : Served) (old new : Files) : Type 0 where
+  pub status : s.status ≡ 4
+  pub image : new name ≡ old name
+
+-- From a history that the files denote each request leads to one that the files denote which it leaves, up to the last, or up to
+-- one where the host tore image and journal apart.
+abbrev pub LeadOn : ℕ → List ℕ → List Served → Files → Files → History → Type 0
+LeadOn size name [] old last h = FilesDenote size name last h
+LeadOn size name (s ∷ ss) old last h =
+    (mid : Files) × (s.new.files ≡ Some mid)
+    × (IsTorn name s old mid
+    ⊎ ((next : History) × RequestGoes size s h next × FilesDenote size name mid next × LeadOn size name ss mid last next))
+
+-- the law: so do all lists of requests
+abbrev pub RequestsLeadOn : Type 0
+RequestsLeadOn = (size : ℕ) (name : List ℕ) (ss : List Served) (old last : Files) (h : History) → FilesDenote size name old h
+    → AreServed size name ss old last → LeadOn size name ss old last h
