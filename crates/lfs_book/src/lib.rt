@@ -10,4 +10,5 @@ mod writing;
 pub use journal::Journal;
 pub use journal_fault::JournalFault;
 pub use laws::books_are_read_once;
+pub use reading::MOST_CHANGES;
 pub use writing::write_journal;
