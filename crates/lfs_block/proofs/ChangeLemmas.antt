@@ -1,12 +1,12 @@
 -- The change of a block among changes whose numbers rise.
-use Rattle.std.proofs.Common.{◌≡◌, ◌≢◌, ◌⊎◌, ℕ, zero, suc, ◌<◌, ◌≤◌, ◌==◌, Bool, true, false, nat_lt, List, [], ◌∷◌, length, map, Option}
+use Rattle.std.proofs.Common.{◌≡◌, ◌≢◌, ℕ, zero, suc, ◌<◌, ◌≤◌, ◌==◌, true, false, nat_lt, List, [], ◌∷◌, length, Option}
 use Rattle.std.proofs.Common.{Some, None}
-use Rattle.std.proofs.Common.{slice_index_or, cond, option_map, refl, ap, sym, subst, ◌∙◌, arith, inl, inr}
+use Rattle.std.proofs.Common.{slice_index_or, refl, ap, sym, ◌∙◌, arith, inl, inr}
 use Rattle.std.specs.List.Sorted.{IsPartitionedBy, IsPartitionPoint}
 use Rattle.std.proofs.lemmas.Bool.{cases_eq, cond-true, cond-false, eq-eqb, ne_eqb}
 use Rattle.std.proofs.lemmas.Bool.Decides.{nat_tests}
 use Rattle.std.proofs.lemmas.List.Elements.{All-from_recursion}
-use Rattle.lfs_block.specs.Change.{Change, IsRising, change_of, flip, overlaid}
+use Rattle.lfs_block.specs.Change.{Change, IsRising, change_of, overlaid}
 
 pub change-here : (c : Change) (cs : List Change) (n : ℕ) → c.number ≡ n → change_of n (c ∷ cs) ≡ Some c
 change-here c cs n same = cond-true (c.number == n) (Some c) (change_of n cs) (eq-eqb c.number n same)

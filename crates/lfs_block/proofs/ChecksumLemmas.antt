@@ -272,7 +272,7 @@ add-eight c w met bytes w0 w1 w2 w3 w4 w5 w6 w7 fits len each is meets e4 e5 e6 
     ∙ ap (crc_shifted 5) (met-byte c w 24 ∙ ap (bit_xor (c / 16777216 % 256)) b3))
     e4 e5 e6 e7
 
-take-more : (m n : ℕ) (bytes : List ℕ) → take m bytes ++ take n (drop m bytes) ≡ take (m + n) bytes
+pub take-more : (m n : ℕ) (bytes : List ℕ) → take m bytes ++ take n (drop m bytes) ≡ take (m + n) bytes
 take-more m n bytes =
     ap₂ ◌++◌ (sym (take-take m (m + n) bytes (omega arith))) (sym (drop-take m n bytes))
     ∙ take-append-drop m (take (m + n) bytes)

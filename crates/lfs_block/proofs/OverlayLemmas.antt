@@ -1,17 +1,17 @@
 -- What the blocks of an overlay hold.
-use Rattle.std.proofs.Common.{◌≡◌, ◌≢◌, ℕ, ◌<◌, ◌==◌, List, [], ◌∷◌, map, Option, Some, None, option_map, refl, ap, sym, subst, ◌∙◌, inl}
+use Rattle.std.proofs.Common.{◌≡◌, ℕ, ◌<◌, List, [], ◌∷◌, map, Some, None, option_map, refl, ap, sym, subst, ◌∙◌, inl}
 use Rattle.std.proofs.Common.{inr}
 use Rattle.std.specs.List.{AllByRecursion}
 use Rattle.std.proofs.lemmas.Bool.{cases_eq}
-use Rattle.lfs_block.specs.Change.{Change, IsBlockChange, IsRising, change_of, flip, overlaid}
+use Rattle.lfs_block.specs.Change.{Change, IsBlockChange, change_of, flip}
 use Rattle.lfs_block.specs.Disk.{Disk, IsDisk, block_of}
 use Rattle.lfs_block.specs.Overlay.{FitsPatch, IsOverlay, laid, side_of}
 use Rattle.lfs_block.specs.OverlayLaws.{AgreedOldFits, AgreedNewFits}
-use Rattle.lfs_block.specs.Patch.{ChangeSet, IsPatch, Stands, put_all}
+use Rattle.lfs_block.specs.Patch.{ChangeSet, IsPatch, Stands}
 use Rattle.lfs_block.specs.PatchLaws.{FitsDisk, IsDiskAs}
 use Rattle.lfs_block.specs.declared.side.Side.{Side}
 use Rattle.lfs_block.specs.declared.side.Side.TheVariants.{Old, New}
-use Rattle.lfs_block.proofs.ChangeLemmas.{change-here, change-past, held_by, overlaid-by}
+use Rattle.lfs_block.proofs.ChangeLemmas.{change-here, change-past, overlaid-by}
 use Rattle.lfs_block.proofs.PatchLemmas.{changed-blocks, changed-is_disk, each-both, each-flipped, each-one, each-unflipped, flip-rising}
 use Rattle.lfs_block.proofs.PatchLemmas.{flip-whole}
 

@@ -7,7 +7,9 @@ ghost use Rattle.lfs_block.specs.Geometry.{IsGeometry};
 pub const MIN_BLOCK_SIZE: u32 = 256;
 /// The greatest block size, in bytes.
 pub const MAX_BLOCK_SIZE: u32 = 65_536;
-/// Each block size is a multiple of this many bytes.
+/// Each block size is a multiple of this many bytes, to which a written commit reaches.
+///
+/// Source: own.
 pub const BLOCK_SIZE_STEP: u32 = 16;
 /// The least number of blocks.
 pub const MIN_BLOCK_COUNT: u32 = 2;

@@ -14,10 +14,11 @@ mod patch;
 mod patch_laws;
 mod record;
 mod side;
+mod word;
 
 pub use blocks::Blocks;
 pub use checksum::crc32;
-pub use geometry::{MAX_IMAGE_LENGTH, geometry_ok};
+pub use geometry::{BLOCK_SIZE_STEP, MAX_IMAGE_LENGTH, geometry_ok};
 pub use image::Image;
 pub use image_fault::ImageFault;
 pub use mount_fault::MountFault;
@@ -29,3 +30,4 @@ pub use patch_laws::{
     put_blocks_stand, reverted_patches_apply_again,
 };
 pub use record::Record;
+pub use word::little_word;

@@ -6,6 +6,7 @@ use Rattle.std.specs.Int.{w32, to_le_bytes}
 use Rattle.std.specs.List.{flat_map, AllByRecursion}
 use Rattle.std.proofs.lemmas.Bool.{eqb-true}
 use Rattle.std.proofs.lemmas.List.{append-nil, nil_from_length, take_at, drop_at, take-append-drop, length-append, length-take, length-drop}
+use Rattle.std.proofs.lemmas.Option.{cond_some, same_Some}
 use Rattle.lfs_block.specs.Bytes.{IsBytes}
 use Rattle.lfs_block.specs.Geometry.{IsGeometry}
 use Rattle.lfs_block.specs.Patch.{ChangeSet}
@@ -15,7 +16,7 @@ use Rattle.lfs_book.specs.declared.journal_fault.JournalFault.{JournalFault}
 use Rattle.lfs_book.specs.declared.journal_fault.JournalFault.TheVariants.{JournalFormat, Memory}
 use Rattle.lfs_book.specs.Faults.{Gives, IsNoJournal}
 use Rattle.lfs_book.specs.Laws.{BooksAreReadOnce}
-use Rattle.lfs_book.proofs.Fields.{bind_some, bind_is, guard_some, some_is, Takes-then}
+use Rattle.lfs_book.proofs.Fields.{bind_some, bind_is, Takes-then}
 use Rattle.lfs_book.proofs.Heads.{head_bytes, head_with, head_takes, head_again}
 use Rattle.lfs_book.proofs.Patches.{patches_take, patches_again}
 
@@ -62,7 +63,7 @@ book_takes bytes j h e =
     let b = bind_some (patches_at head.size head.count (head.done + head.undone) a.0.1)
     (λ patches. cond (eqb (length patches.1) 0) (Some (book_of head.size head.count patches.0 head.done)) None) j a.2 in
     let ps : List ChangeSet = b.0.0 in
-    let g = guard_some (eqb (length b.0.1) 0) (book_of head.size head.count ps head.done) j b.2 in
+    let g = cond_some (eqb (length b.0.1) 0) (book_of head.size head.count ps head.done) j b.2 in
     let first = head_takes bytes a.0 h a.1 in
     let second = patches_take head.size head.count (head.done + head.undone) a.0.1 b.0 first.takes.rest_bytes b.1 in
     let nothing : b.0.1 ≡ [] = nil_from_length b.0.1 (eqb-true _ _ g.0) in
@@ -106,7 +107,7 @@ book_again j is =
     (ps, []) (Some j) second back)
 
 pub books_once : BooksAreReadOnce
-books_once i j first second same = some_is i j (sym (book_again i first) ∙ ap read_book same ∙ book_again j second)
+books_once i j first second same = same_Some i j (sym (book_again i first) ∙ ap read_book same ∙ book_again j second)
 
 -- bytes, and behind them what stands before the changes
 abbrev pub headed : List ℕ → Head → List ℕ

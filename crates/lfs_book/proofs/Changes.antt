@@ -1,23 +1,17 @@
 -- Changes of one block each that are read are spelled so, and those that are spelled so are read.
-use Rattle.std.proofs.Common.{◌≡◌, ℕ, zero, suc, ◌+◌, ◌<◌, ◌≤◌, Bool, true, false, cond, ltb, leb, ◌||◌, List, [], ◌∷◌, ◌++◌, length}
+use Rattle.std.proofs.Common.{◌≡◌, ℕ, zero, suc, ◌+◌, ◌<◌, ◌≤◌, false, cond, ltb, leb, ◌||◌, List, [], ◌∷◌, ◌++◌, length}
 use Rattle.std.proofs.Common.{Option, Some, None, refl, sym, ap, subst, ◌∙◌, append_assoc, arith}
 use Rattle.std.specs.Int.{w32, to_le_bytes}
 use Rattle.std.specs.List.{flat_map, AllByRecursion}
-use Rattle.std.proofs.lemmas.Bool.{ltb-false, leb-false, le-ltb, lt-leb}
+use Rattle.std.proofs.lemmas.Bool.{ltb-false, leb-false, le-ltb, lt-leb, or_parts}
 use Rattle.std.proofs.lemmas.List.Concat.{flat_map-cons}
+use Rattle.std.proofs.lemmas.Option.{same_Some}
 use Rattle.lfs_block.specs.Bytes.{IsBytes}
 use Rattle.lfs_block.specs.Change.{Change, IsRising, IsBlockChange}
+use Rattle.lfs_block.proofs.PatchLemmas.{each-one}
 use Rattle.lfs_book.specs.Book.{change_bytes}
 use Rattle.lfs_book.specs.Reading.{◌>>=◌, word_at, block_at, change_at, changes_at}
-use Rattle.lfs_book.proofs.Fields.{bind_some, guard_none, some_is, Takes, Takes-then, word_takes, word_again, block_takes, block_again}
-
-or_false : (a b : Bool) → (a || b) ≡ false → (a ≡ false) × (b ≡ false)
-or_false true b e = absurd cc
-or_false false b e = (refl, e)
-
-each-map : (P Q : Change → Type 0) → ((c : Change) → P c → Q c) → (cs : List Change) → AllByRecursion P cs → AllByRecursion Q cs
-each-map P Q turn [] each = tt
-each-map P Q turn (c ∷ cs) each = (turn c each.0, each-map P Q turn cs each.1)
+use Rattle.lfs_book.proofs.Fields.{bind_some, guard_none, Takes, Takes-then, word_takes, word_again, block_takes, block_again}
 
 -- ---- one block
 
@@ -42,7 +36,7 @@ change_takes size count least bytes x h e =
     let n = bind_some (word_at bytes) (λ n. cond (ltb n.0 least || leb count n.0) None (blocks_at size n.0 n.1)) x e in
     let t = word_takes bytes n.0.0 n.0.1 h n.1 in
     let g = guard_none (ltb n.0.0 least || leb count n.0.0) (blocks_at size n.0.0 n.0.1) x n.2 in
-    let tests = or_false (ltb n.0.0 least) (leb count n.0.0) g.0 in
+    let tests = or_parts (ltb n.0.0 least) (leb count n.0.0) g.0 in
     let o = bind_some (block_at size n.0.1) (λ old. block_at size old.1 >>= λ new. Some (
       record {
         number = n.0.0;
@@ -65,7 +59,7 @@ change_takes size count least bytes x h e =
         whole = record { old = old.len; new = new.len; old_bytes = old.block_bytes; new_bytes = new.block_bytes };
       };
     } in
-    subst (TakesChange size count least bytes) (some_is made x w.2) all
+    subst (TakesChange size count least bytes) (same_Some made x w.2) all
 
 pub change_again : (size count least : ℕ) (c : Change) (rest : List ℕ) → count ≤ 65536 → IsChange size count least c
     → change_at size count least (change_bytes c ++ rest) ≡ Some (c, rest)
@@ -102,7 +96,7 @@ first_change size count least c cs are = record { from = are.from.0; below = are
 later_changes : (size count least : ℕ) (c : Change) (cs : List Change) → AreChanges size count least (c ∷ cs)
     → AreChanges size count (c.number + 1) cs
 later_changes size count least c cs are = record {
-  from = each-map (λ e. c.number < e.number) (λ e. c.number + 1 ≤ e.number) (λ e lt. omega (arith, lt)) cs are.rising.0;
+  from = each-one (λ e. c.number < e.number) (λ e. c.number + 1 ≤ e.number) (λ e lt. omega (arith, lt)) cs are.rising.0;
   rising = are.rising.1;
   whole = are.whole.1;
   below = are.below.1;
@@ -113,8 +107,8 @@ one_change_more : (size count least : ℕ) (c : Change) (cs : List Change) → I
 one_change_more size count least c cs is are =
     let from : least ≤ c.number = is.from in
     record {
-      from = (from, each-map (λ e. c.number + 1 ≤ e.number) (λ e. least ≤ e.number) (λ e le. omega (arith, le, from)) cs are.from);
-      rising = (each-map (λ e. c.number + 1 ≤ e.number) (λ e. c.number < e.number) (λ e le. omega (arith, le)) cs are.from, are.rising);
+      from = (from, each-one (λ e. c.number + 1 ≤ e.number) (λ e. least ≤ e.number) (λ e le. omega (arith, le, from)) cs are.from);
+      rising = (each-one (λ e. c.number + 1 ≤ e.number) (λ e. c.number < e.number) (λ e le. omega (arith, le)) cs are.from, are.rising);
       whole = (is.whole, are.whole);
       below = (is.below, are.below);
     }
@@ -146,7 +140,7 @@ changes_take size count zero least bytes x h e =
       len = refl;
       are = record { from = tt; rising = tt; whole = tt; below = tt };
     } in
-    subst (TakesChanges size count least zero bytes) (some_is made x e) all
+    subst (TakesChanges size count least zero bytes) (same_Some made x e) all
 changes_take size count (suc n) least bytes x h e =
     let a = bind_some (change_at size count least bytes) (λ first. changes_at size count n (first.0.number + 1) first.1 >>= λ others. Some
     (first.0 ∷ others.0, others.1)) x e in
@@ -161,7 +155,7 @@ changes_take size count (suc n) least bytes x h e =
       len = ap suc others.len;
       are = one_change_more size count least a.0.0 b.0.0 first.is others.are;
     } in
-    subst (TakesChanges size count least (suc n) bytes) (some_is made x b.2) all
+    subst (TakesChanges size count least (suc n) bytes) (same_Some made x b.2) all
 
 pub changes_again : (size count least : ℕ) (cs : List Change) (rest : List ℕ) → count ≤ 65536 → AreChanges size count least cs
     → changes_at size count (length cs) least (flat_map change_bytes cs ++ rest) ≡ Some (cs, rest)

@@ -1,22 +1,14 @@
 -- A number or a block that is read is spelled so, and what is spelled so is read.
 use Rattle.std.proofs.Common.{◌≡◌, ℕ, ◌+◌, ◌^◌, ◌<◌, ◌≤◌, Bool, true, false, cond, ltb, List, ◌++◌, length, take, drop, Option, Some, None}
-use Rattle.std.proofs.Common.{refl, sym, ap, subst, ◌∙◌, append_assoc, arith, inl, inr}
+use Rattle.std.proofs.Common.{refl, sym, ap, subst, ◌∙◌, append_assoc, arith}
 use Rattle.std.specs.Int.{w32, from_le_bytes, to_le_bytes}
-use Rattle.std.proofs.lemmas.Bool.{cases_lt, ltb-false, le-ltb}
-use Rattle.std.proofs.lemmas.List.{take_at, drop_at, take-append-drop, length-append, length-take, get_or-drop, get_or-take, get_or_past}
+use Rattle.std.proofs.lemmas.Bool.{ltb-false, le-ltb}
+use Rattle.std.proofs.lemmas.List.{take_at, drop_at, take-append-drop, length-append, length-take}
 use Rattle.std.proofs.lemmas.Nat.{le_bytes_4, from_le_bytes-to_le_bytes_4}
+use Rattle.std.proofs.lemmas.Option.{same_Some}
 use Rattle.lfs_block.specs.Bytes.{IsBytes}
+use Rattle.lfs_block.proofs.PutLemmas.{IsBytes-drop, IsBytes-take}
 use Rattle.lfs_book.specs.Reading.{◌>>=◌, word_at, block_at}
-
-IsBytes-drop : (n : ℕ) (bytes : List ℕ) → IsBytes bytes → IsBytes (drop n bytes)
-IsBytes-drop n bytes h i = rw get_or-drop (h (n + i))
-
-IsBytes-take : (n : ℕ) (bytes : List ℕ) → IsBytes bytes → IsBytes (take n bytes)
-IsBytes-take n bytes h i =
-    elim (cases_lt i n) [
-      | inl lt ↦ rw (get_or-take n bytes i 0 lt) (h i)
-      | inr le ↦ rw (get_or_past (take n bytes) i 0 (omega (arith, length-take n bytes))) (omega arith)
-    ]
 
 -- the value of a step that read something
 pub bind_some : {A B : Type 0} (o : Option A) (f : A → Option B) (y : B) → (o >>= f) ≡ Some y → (x : A) × (o ≡ Some x) × (f x ≡ Some y)
@@ -27,17 +19,9 @@ bind_some (Some x) f y e = (x, refl, e)
 pub bind_is : {A B : Type 0} (o : Option A) (f : A → Option B) (x : A) (y : Option B) → o ≡ Some x → f x ≡ y → (o >>= f) ≡ y
 bind_is {A} o f x y e g = ap (λ (p : Option A). p >>= f) e ∙ g
 
--- a choice between something and nothing that gave something
-pub guard_some : {A : Type 0} (b : Bool) (x y : A) → cond b (Some x) None ≡ Some y → (b ≡ true) × (x ≡ y)
-guard_some true x y e = (refl, cc)
-guard_some false x y e = absurd cc
-
 pub guard_none : {A : Type 0} (b : Bool) (o : Option A) (y : A) → cond b None o ≡ Some y → (b ≡ false) × (o ≡ Some y)
 guard_none true o y e = absurd cc
 guard_none false o y e = (refl, e)
-
-pub some_is : {A : Type 0} (x y : A) → Some x ≡ Some y → x ≡ y
-some_is x y e = cc
 
 -- what a reader took from the front
 pub record Takes (bytes text rest : List ℕ) : Type 0 where
@@ -60,7 +44,7 @@ word_takes bytes n rest h e =
     let g = guard_none (ltb (length bytes) 4) (Some (from_le_bytes w32 (take 4 bytes), drop 4 bytes)) (n, rest) e in
     let long : 4 ≤ length bytes = ltb-false _ _ g.0 in
     let read : ℕ × List ℕ = (from_le_bytes w32 (take 4 bytes), drop 4 bytes) in
-    let same : read ≡ (n, rest) = some_is read (n, rest) g.1 in
+    let same : read ≡ (n, rest) = same_Some read (n, rest) g.1 in
     let fits : IsBytes (take 4 bytes) = IsBytes-take 4 bytes h in
     let number : ℕ = from_le_bytes w32 (take 4 bytes) in
     let back : to_le_bytes w32 number ≡ take 4 bytes = le_bytes_4 (take 4 bytes) number (omega (arith, length-take 4 bytes)) fits refl in
@@ -92,7 +76,7 @@ block_takes size bytes block rest h e =
     let g = guard_none (ltb (length bytes) size) (Some (take size bytes, drop size bytes)) (block, rest) e in
     let long : size ≤ length bytes = ltb-false _ _ g.0 in
     let read : List ℕ × List ℕ = (take size bytes, drop size bytes) in
-    let same : read ≡ (block, rest) = some_is read (block, rest) g.1 in
+    let same : read ≡ (block, rest) = same_Some read (block, rest) g.1 in
     let all : TakesBlock size bytes (take size bytes) (drop size bytes) = record {
       takes = record { parts = sym (take-append-drop size bytes); rest_bytes = IsBytes-drop size bytes h };
       len = omega (arith, length-take size bytes);

@@ -1,17 +1,13 @@
 -- What stands before the changes is spelled so where it is read, and is read where it is spelled so.
 use Rattle.std.proofs.Common.{◌≡◌, ℕ, ◌+◌, ◌*◌, ◌%◌, ◌^◌, ◌<◌, ◌≤◌, Bool, true, false, cond, eqb, leb, ◌&&◌, List, ◌++◌}
-use Rattle.std.proofs.Common.{Option, Some, None, refl, ap, subst, arith, eq-eqb}
+use Rattle.std.proofs.Common.{Option, Some, None, ap, subst, arith, eq-eqb}
 use Rattle.std.specs.Int.{w32, to_le_bytes}
-use Rattle.std.proofs.lemmas.Bool.{eqb-true, leb-true, le-leb}
+use Rattle.std.proofs.lemmas.Bool.{eqb-true, leb-true, le-leb, and_parts}
+use Rattle.std.proofs.lemmas.Option.{cond_some}
 use Rattle.lfs_block.specs.Bytes.{IsBytes}
 use Rattle.lfs_block.specs.Geometry.{IsGeometry}
 use Rattle.lfs_book.specs.Reading.{◌>>=◌, word_at, Head, is_geometry, is_head, checked_head, head_at}
-use Rattle.lfs_book.proofs.Fields.{bind_some, bind_is, guard_some, Takes, Takes-then, word_takes, word_again}
-
-and_true : (a b : Bool) → (a && b) ≡ true → (a ≡ true) × (b ≡ true)
-and_true true true e = (refl, refl)
-and_true true false e = absurd cc
-and_true false b e = absurd cc
+use Rattle.lfs_book.proofs.Fields.{bind_some, bind_is, Takes, Takes-then, word_takes, word_again}
 
 true_and : (a b : Bool) → a ≡ true → b ≡ true → (a && b) ≡ true
 true_and true b e f = f
@@ -21,11 +17,11 @@ true_and false b e f = absurd cc
 
 pub geometry_true : (size count : ℕ) → is_geometry size count ≡ true → IsGeometry size count
 geometry_true size count e =
-    let a = and_true _ (leb (count * size) 67108864) e in
-    let b = and_true _ (leb count 65536) a.0 in
-    let c = and_true _ (leb 2 count) b.0 in
-    let d = and_true _ (eqb (size % 16) 0) c.0 in
-    let f = and_true (leb 256 size) (leb size 65536) d.0 in
+    let a = and_parts _ (leb (count * size) 67108864) e in
+    let b = and_parts _ (leb count 65536) a.0 in
+    let c = and_parts _ (leb 2 count) b.0 in
+    let d = and_parts _ (eqb (size % 16) 0) c.0 in
+    let f = and_parts (leb 256 size) (leb size 65536) d.0 in
     record {
       size_fits = (leb-true _ _ f.0, leb-true _ _ f.1, eqb-true _ _ d.1);
       count_fits = (leb-true _ _ c.1, leb-true _ _ b.1);
@@ -84,9 +80,9 @@ word_then bytes n text rest h e more =
 head_true : (letters version : ℕ) (h : Head) → ((eqb letters 0x6a73666c && eqb version 1) && is_head h) ≡ true
     → (letters ≡ 0x6a73666c) × (version ≡ 1) × IsHead h
 head_true letters version h e =
-    let a = and_true (eqb letters 0x6a73666c && eqb version 1) (is_head h) e in
-    let b = and_true (eqb letters 0x6a73666c) (eqb version 1) a.0 in
-    let c = and_true (is_geometry h.size h.count) (leb (h.done + h.undone) 1000) a.1 in
+    let a = and_parts (eqb letters 0x6a73666c && eqb version 1) (is_head h) e in
+    let b = and_parts (eqb letters 0x6a73666c) (eqb version 1) a.0 in
+    let c = and_parts (is_geometry h.size h.count) (leb (h.done + h.undone) 1000) a.1 in
     (eqb-true _ _ b.0, eqb-true _ _ b.1, record { geometry = geometry_true h.size h.count c.0; few = leb-true _ _ c.1 })
 
 pub head_takes : (bytes : List ℕ) (x : Head × List ℕ) → IsBytes bytes → head_at bytes ≡ Some x → TakesHead bytes x
@@ -100,7 +96,7 @@ head_takes bytes x h e =
     let g = bind_some (word_at f.0.1) (λ undone. checked_head a.0.0 b.0.0 (head_with c.0.0 d.0.0 f.0.0 undone.0) undone.1) x f.2 in
     let head : Head = head_with c.0.0 d.0.0 f.0.0 g.0.0 in
     let made : Head × List ℕ = (head, g.0.1) in
-    let t = guard_some ((eqb a.0.0 0x6a73666c && eqb b.0.0 1) && is_head head) made x g.2 in
+    let t = cond_some ((eqb a.0.0 0x6a73666c && eqb b.0.0 1) && is_head head) made x g.2 in
     let is = head_true a.0.0 b.0.0 head t.0 in
     let parts : Takes bytes (to_le_bytes w32 a.0.0 ++ to_le_bytes w32 b.0.0 ++ to_le_bytes w32 c.0.0 ++ to_le_bytes w32 d.0.0
     ++ to_le_bytes w32 f.0.0 ++ to_le_bytes w32 g.0.0) g.0.1 =

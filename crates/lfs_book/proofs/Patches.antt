@@ -6,12 +6,13 @@ use Rattle.std.specs.List.{flat_map, AllByRecursion}
 use Rattle.std.proofs.lemmas.Bool.{eqb-false, ne_eqb}
 use Rattle.std.proofs.lemmas.List.Elements.{All-from_recursion}
 use Rattle.std.proofs.lemmas.List.Concat.{flat_map-cons}
+use Rattle.std.proofs.lemmas.Option.{same_Some}
 use Rattle.lfs_block.specs.Bytes.{IsBytes}
 use Rattle.lfs_block.specs.Change.{Change, IsBlockChange}
 use Rattle.lfs_block.specs.Patch.{ChangeSet}
 use Rattle.lfs_book.specs.Book.{change_bytes, patch_bytes, IsPatchOf}
 use Rattle.lfs_book.specs.Reading.{◌>>=◌, word_at, changes_at, patch_at, patches_at}
-use Rattle.lfs_book.proofs.Fields.{bind_some, guard_none, some_is, Takes, Takes-then, word_takes, word_again}
+use Rattle.lfs_book.proofs.Fields.{bind_some, guard_none, Takes, Takes-then, word_takes, word_again}
 use Rattle.lfs_book.proofs.Changes.{AreChanges, changes_take, changes_again, changes_few}
 
 -- ---- one change
@@ -50,7 +51,7 @@ patch_takes size count bytes x h e =
       takes = subst (λ (k : ℕ). Takes bytes (to_le_bytes w32 k ++ flat_map change_bytes c.0.0) c.0.1) (sym changes.len) both;
       is = patch_of_changes size count n.0.0 c.0.0 changes.len g.0 changes.are;
     } in
-    subst (TakesPatch size count bytes) (some_is made x c.2) all
+    subst (TakesPatch size count bytes) (same_Some made x c.2) all
 
 each_from_zero : (cs : List Change) → AllByRecursion (λ e. 0 ≤ e.number) cs
 each_from_zero [] = tt
@@ -107,7 +108,7 @@ unfolding patches_at
 patches_take size count zero bytes x h e =
     let made : List ChangeSet × List ℕ = ([], bytes) in
     let all : TakesPatches size count zero bytes made = record { takes = record { parts = refl; rest_bytes = h }; len = refl; each = tt } in
-    subst (TakesPatches size count zero bytes) (some_is made x e) all
+    subst (TakesPatches size count zero bytes) (same_Some made x e) all
 patches_take size count (suc n) bytes x h e =
     let a = bind_some (patch_at size count bytes) (λ first. patches_at size count n first.1 >>= λ others. Some (
       first.0 ∷ others.0,
@@ -124,7 +125,7 @@ patches_take size count (suc n) bytes x h e =
       len = ap suc others.len;
       each = (first.is, others.each);
     } in
-    subst (TakesPatches size count (suc n) bytes) (some_is made x b.2) all
+    subst (TakesPatches size count (suc n) bytes) (same_Some made x b.2) all
 
 pub patches_again : (size count : ℕ) (ps : List ChangeSet) (rest : List ℕ) → count ≤ 65536 → AllByRecursion (IsPatchOf size count) ps
     → patches_at size count (length ps) (flat_map patch_bytes ps ++ rest) ≡ Some (ps, rest)

@@ -37,11 +37,15 @@ journal_bytes j =
 abbrev pub IsPatchOf : ℕ → ℕ → ChangeSet → Type 0
 IsPatchOf size count p = IsPatch p × (p.size ≡ size) × AllByRecursion (λ c. c.number < count) p.changes
 
+-- the most changes that are kept, done and undone
+abbrev pub most_changes : ℕ
+most_changes = 1000
+
 -- the image keeps the limits of images, each change is one of its blocks, and there are not too many changes
 pub record IsBook (j : Book) : Type 0 where
   pub geometry : IsGeometry j.size j.count
   pub each : AllByRecursion (IsPatchOf j.size j.count) (j.done ++ j.undone)
-  pub few : length (j.done ++ j.undone) ≤ 1000
+  pub few : length (j.done ++ j.undone) ≤ most_changes
 
 -- one list of changes, of which so many are done, is a book
 pub record IsBookOf (size count : ℕ) (patches : List ChangeSet) (done : ℕ) : Type 0 where

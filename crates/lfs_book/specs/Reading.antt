@@ -4,7 +4,8 @@ use Rattle.std.specs.Prelude.{Option, Some, None, if◌then◌else◌}
 use Rattle.std.specs.Int.{w32, from_le_bytes}
 use Rattle.lfs_block.specs.Change.{Change}
 use Rattle.lfs_block.specs.Patch.{ChangeSet}
-use Rattle.lfs_book.specs.Book.{Book, book_of}
+use Rattle.lfs_block.specs.Geometry.{block_size_step}
+use Rattle.lfs_book.specs.Book.{Book, book_of, most_changes}
 
 -- what is read of what was read, if there is any
 infixl 10 ◌>>=◌
@@ -63,11 +64,11 @@ pub record Head : Type 0 where
 -- whether blocks of this size and number are an image
 abbrev pub is_geometry : ℕ → ℕ → Bool
 is_geometry size count =
-    nat_le 256 size && nat_le size 65536 && (size % 16 == 0) && nat_le 2 count && nat_le count 65536 && nat_le (count * size) 67108864
+    nat_le 256 size && nat_le size 65536 && (size % block_size_step == 0) && nat_le 2 count && nat_le count 65536 && nat_le (count * size) 67108864
 
 -- whether the image keeps its limits, and there are not too many changes
 abbrev pub is_head : Head → Bool
-is_head h = is_geometry h.size h.count && nat_le (h.done + h.undone) 1000
+is_head h = is_geometry h.size h.count && nat_le (h.done + h.undone) most_changes
 
 -- the letters `lfsj` and version 1, and what is wanted of the other words
 abbrev pub checked_head : ℕ → ℕ → Head → List ℕ → Option (Head × List ℕ)

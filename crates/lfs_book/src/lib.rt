@@ -10,4 +10,5 @@ mod writing;
 pub use journal::{Journal, MAX_JOURNAL_LENGTH};
 pub use journal_fault::JournalFault;
 pub use laws::{books_are_read_once, journals_are_short};
+pub use reading::MOST_CHANGES;
 pub use writing::write_journal;

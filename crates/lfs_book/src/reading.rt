@@ -2,23 +2,24 @@
 //! with `JournalFormat` where nothing of the kind stands there.
 
 ghost use Rattle.std.specs.Prelude.{◌≡◌, ◌<◌, ◌≤◌, ◌+◌, length, IfOk};
-ghost use Rattle.std.specs.Int.{w32, from_le_bytes};
 ghost use Rattle.lfs_block.specs.Geometry.{IsGeometry};
 ghost use Rattle.lfs_book.specs.Faults.{Gives};
 ghost use Rattle.lfs_book.specs.Reading.{word_at, block_at, change_at, changes_at, patch_at, patches_at, is_geometry, is_head, head_at};
 ghost use Rattle.lfs_book.specs.HeadSeen.{head_seen};
+ghost use Rattle.lfs_book.specs.Book.{most_changes};
 
 use crate::journal_fault::JournalFault;
-use byteorder::{ByteOrder, LittleEndian};
-use lfs_block::{Patch, Record, geometry_ok};
+use lfs_block::{Patch, Record, geometry_ok, little_word};
 use std::alloc::Global;
 
 /// The first word of a journal: the letters `lfsj`.
 const LETTERS: u32 = 0x6a73_666c;
 /// The version of the format.
 pub(crate) const VERSION: u32 = 1;
-/// The most changes that a journal holds.
-const MOST_CHANGES: u64 = 1_000;
+/// The most changes that a journal holds, done and undone.
+///
+/// Source: own.
+pub const MOST_CHANGES: u32 = 1_000;
 
 /// What stands before the changes.
 #[derive(Clone, Copy)]
@@ -31,14 +32,6 @@ pub(crate) struct Head {
     pub(crate) done: u32,
     /// The number of changes that are undone.
     pub(crate) undone: u32,
-}
-
-/// The first four bytes, the lowest first.
-fn little_word(bytes: &[u8]) -> u32
-    requires { 4 ≤ length bytes.now }
-    ensures { result ≡ from_le_bytes w32 bytes.now }
-{
-    LittleEndian::read_u32(bytes)
 }
 
 /// A number of four bytes.
@@ -152,14 +145,14 @@ fn is_head(head: Head) -> bool
     ensures { result ≡ is_head (head_seen head) }
 {
     is_geometry(head.size, head.count)
-        && u64::from(head.done) + u64::from(head.undone) <= MOST_CHANGES
+        && u64::from(head.done) + u64::from(head.undone) <= u64::from(MOST_CHANGES)
 }
 
 /// What stands before the changes.
 #[tactic(auto, unfolding(crate::specs::Reading::head_at))]
 pub(crate) fn head_at(bytes: &[u8]) -> Result<(Head, &[u8]), JournalFault>
     ensures given { Gives (λ x. (head_seen x.0, x.1.now)) result (head_at bytes.now) }
-    ensures few { IfOk result (λ x. x.0.done + x.0.undone ≤ 1000) }
+    ensures few { IfOk result (λ x. x.0.done + x.0.undone ≤ most_changes) }
 {
     let (letters, rest) = word_at(bytes)?;
     let (version, rest) = word_at(rest)?;

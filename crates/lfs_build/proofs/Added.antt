@@ -15,9 +15,9 @@ use Rattle.lfs_command.specs.declared.refusal.Refusal.{Refusal}
 use Rattle.lfs_command.specs.declared.refusal.Refusal.TheVariants.{NoSpace}
 use Rattle.lfs_command.specs.Command.{Command}
 use Rattle.lfs_command.specs.Verdict.{verdict}
+use Rattle.lfs_command.specs.Planned.{CarriesOut}
 use Rattle.lfs_ends.specs.Ending.{with_more, last_part, takes_entry}
 use Rattle.lfs_ends.specs.EndCuts.{made}
-use Rattle.lfs_ends.specs.Leading.{CarriesOut}
 use Rattle.lfs_build.specs.declared.new_volume.NewVolume.{NewVolume}
 use Rattle.lfs_build.specs.Adding.{IsAdded, blocks_behind, blocks_with, pair_behind}
 use Rattle.lfs_build.specs.Built.{IsBuilt}

@@ -17,8 +17,8 @@ use Rattle.lfs_command.specs.declared.refusal.Refusal.TheVariants.{AttrTooLarge}
 use Rattle.lfs_command.specs.Command.{SetAttr}
 use Rattle.lfs_command.specs.Edited.{with_entry_attributes}
 use Rattle.lfs_command.specs.Verdict.{verdict}
+use Rattle.lfs_command.specs.Planned.{CarriesOut}
 use Rattle.lfs_ends.specs.EndEdits.{EndsWithName}
-use Rattle.lfs_ends.specs.Leading.{CarriesOut}
 use Rattle.lfs_ends.specs.WayLaws.{DirectoriesTakeMore}
 use Rattle.lfs_new.specs.NewPairs.{front_count, front_weight}
 use Rattle.lfs_build.specs.declared.new_volume.NewVolume.{NewVolume}

@@ -1,5 +1,6 @@
 -- The names that a path has in common with the way to the deepest open directory.
-use Rattle.std.proofs.Common.{◌≡◌, ◌+◌, ◌<◌, ◌≤◌, ℕ, suc, Bool, true, false, List, [], ◌∷◌, ◌++◌, length, take, drop, get_or, refl, ap, sym, ◌∙◌, subst, arith, map, Bor}
+use Rattle.std.proofs.Common.{◌≡◌, ◌+◌, ◌<◌, ◌≤◌, ℕ, suc, Bool, true, false, List, [], ◌∷◌, ◌++◌, length, take, drop, get_or, refl, ap}
+use Rattle.std.proofs.Common.{sym, ◌∙◌, arith, map, Bor}
 use Rattle.std.specs.Prelude.{if◌then◌else◌}
 use Rattle.std.proofs.lemmas.List.{drop-map}
 use Rattle.std.proofs.Math.ListN.{drop_of_length-le}
@@ -8,6 +9,7 @@ use Rattle.lfs_meta.specs.Body.{Pair}
 use Rattle.lfs_meta.specs.Name.{Name}
 use Rattle.lfs_fs.specs.Directory.{Directory}
 use Rattle.lfs_fs.specs.Path.{Path}
+use Rattle.lfs_fs.proofs.ItemLemmas.{drop_at}
 use Rattle.lfs_ends.specs.Way.{IsAllCommon, OnWay}
 use Rattle.lfs_build.specs.declared.open_directory.OpenDirectory.{OpenDirectory}
 use Rattle.lfs_build.specs.Opened.{common, ends_named, opened}
@@ -79,11 +81,6 @@ common_way j (x ∷ above) d (m ∷ names) (n ∷ front) last (here, k, leading,
 
 -- ---- name by name
 
-drop_one : {X : Type 0} (xs : List X) (i : ℕ) (x : X) → i < length xs → x ≡ get_or xs i x → drop i xs ≡ x ∷ drop (i + 1) xs
-drop_one xs i x within here =
-    let next : suc i ≡ i + 1 = omega arith in
-    subst (λ n. drop i xs ≡ x ∷ drop n xs) next (drop-cons xs i x within ∙ ap (λ y. y ∷ drop (suc i) xs) (sym here))
-
 -- names that are lent
 abbrev pub lent : List (Bor Name) → Path
 lent names = map (λ (n : Bor Name). n.now) names
@@ -102,7 +99,7 @@ pub one_more : (xs : List OpenDirectory) (names : List (Bor Name)) (i : ℕ) (x 
 unfolding common
 one_more xs names i x n in_xs in_names x_is named =
     let both : common (drop i xs) (drop i (lent names)) ≡ common (x ∷ drop (i + 1) xs) ((get_or names i n).now ∷ drop (i + 1) (lent names)) =
-    ap (λ (l : List OpenDirectory). common l (drop i (lent names))) (drop_one xs i x in_xs x_is)
+    ap (λ (l : List OpenDirectory). common l (drop i (lent names))) (drop_at xs i x in_xs x_is)
     ∙ ap (common (x ∷ drop (i + 1) xs)) (drop_name names i n in_names) in
     let first : common (x ∷ drop (i + 1) xs) ((get_or names i n).now ∷ drop (i + 1) (lent names))
     ≡ suc (common (drop (i + 1) xs) (drop (i + 1) (lent names))) =
@@ -113,7 +110,7 @@ pub no_more : (xs : List OpenDirectory) (names : List (Bor Name)) (i : ℕ) (x :
     → x ≡ get_or xs i x → ends_named (get_or names i n).now x.last.entries ≡ false → common (drop i xs) (drop i (lent names)) ≡ 0
 unfolding common
 no_more xs names i x n in_xs in_names x_is other =
-    ap (λ (l : List OpenDirectory). common l (drop i (lent names))) (drop_one xs i x in_xs x_is)
+    ap (λ (l : List OpenDirectory). common l (drop i (lent names))) (drop_at xs i x in_xs x_is)
     ∙ ap (common (x ∷ drop (i + 1) xs)) (drop_name names i n in_names)
     ∙ ap (λ (b : Bool). if b then suc (common (drop (i + 1) xs) (drop (i + 1) (lent names))) else 0) other
 

@@ -16,11 +16,11 @@ use Rattle.lfs_fs.specs.Weight.{weight}
 use Rattle.lfs_command.specs.declared.refusal.Refusal.{Refusal}
 use Rattle.lfs_command.specs.Command.{Command}
 use Rattle.lfs_command.specs.Verdict.{verdict}
+use Rattle.lfs_command.specs.Planned.{CarriesOut}
 use Rattle.lfs_law.proofs.Cuts.{All-left, All-right}
 use Rattle.lfs_ends.specs.Ending.{with_more, last_part, takes_entry}
 use Rattle.lfs_ends.specs.EndCuts.{made}
 use Rattle.lfs_ends.specs.EndEdits.{EndsWithName}
-use Rattle.lfs_ends.specs.Leading.{CarriesOut}
 use Rattle.lfs_ends.specs.WayLaws.{DirectoriesTakeMore}
 use Rattle.lfs_build.specs.declared.new_volume.NewVolume.{NewVolume}
 use Rattle.lfs_build.specs.declared.open_directory.OpenDirectory.{OpenDirectory}

@@ -1,5 +1,5 @@
 -- Bytes that are erased are an image of a geometry.
-use Rattle.std.proofs.Common.{◌≡◌, ◌+◌, ◌-◌, ◌*◌, ◌/◌, ◌%◌, ◌<◌, ◌≤◌, ℕ, zero, suc, List, length, take, drop, ap, sym, ◌∙◌, subst, arith}
+use Rattle.std.proofs.Common.{◌≡◌, ◌+◌, ◌-◌, ◌*◌, ◌/◌, ◌%◌, ◌<◌, ◌≤◌, ℕ, List, length, take, drop, ap, sym, ◌∙◌, subst, arith}
 use Rattle.std.proofs.Common.{inl, inr, add-zero}
 use Rattle.std.specs.Prelude.{replicate}
 use Rattle.std.proofs.Math.Nat.{eq_of_mul-eq-mul_right, mul-le-mul_right, mul-mod_left}
@@ -11,14 +11,10 @@ use Rattle.lfs_block.specs.Geometry.{IsGeometry}
 use Rattle.lfs_block.specs.ImageFault.{IsNoImage}
 use Rattle.lfs_block.specs.declared.image_fault.ImageFault.{ImageFault}
 use Rattle.lfs_block.specs.declared.image_fault.ImageFault.TheVariants.{ImageLength, BadGeometry}
+use Rattle.lfs_file.proofs.LaidByteLemmas.{IsBytes-fill}
 use Rattle.lfs_build.specs.Built.{AreErasedFrom, IsErased}
 
 -- ---- they are no fault
-
-is_bytes : (n : ℕ) → IsBytes (replicate n 0xff)
-is_bytes zero i = omega arith
-is_bytes (suc n) zero = omega arith
-is_bytes (suc n) (suc i) = is_bytes n i
 
 -- bytes that are an image are none
 whole : (d : Disk) → IsDisk d → (length d.bytes % d.size ≡ 0) × (length d.bytes / d.size ≡ d.count)
@@ -43,7 +39,7 @@ module _ (size count : ℕ) (bytes : List ℕ) (fits : IsGeometry size count) (a
   pub never_fails : (fault : ImageFault) → IsNoImage fault size bytes → ⊥
   never_fails fault none =
       no_fault (record { size = size; count = count; bytes = bytes }) fault
-      (record { geometry = fits; len = len; bytes = subst IsBytes (sym are) (is_bytes (size * count)) }) none
+      (record { geometry = fits; len = len; bytes = subst IsBytes (sym are) (IsBytes-fill (size * count)) }) none
 
 -- ---- its blocks are erased
 

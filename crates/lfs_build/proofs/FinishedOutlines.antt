@@ -8,7 +8,7 @@ use Rattle.lfs_fs.specs.Directory.{Directory}
 use Rattle.lfs_fs.specs.Outlined.{outlined}
 use Rattle.lfs_fs.specs.Path.{Path}
 use Rattle.lfs_fs.specs.Volume.{Volume}
-use Rattle.lfs_law.specs.SuperblockBytes.{new_limits}
+use Rattle.lfs_fs.specs.Limits.{new_limits}
 use Rattle.lfs_build.specs.declared.new_volume.NewVolume.{NewVolume}
 use Rattle.lfs_build.specs.declared.open_directory.OpenDirectory.{OpenDirectory}
 use Rattle.lfs_build.specs.Closing.{ClosesDown}

@@ -1,21 +1,15 @@
 -- The blocks from one on, in which the contents of a file are laid, or none.
-use Rattle.std.proofs.Common.{◌≡◌, ◌+◌, ◌<◌, ◌≤◌, ℕ, Bool, true, false, List, [], length, map, get_or, refl, sym, subst, arith}
+use Rattle.std.proofs.Common.{◌≡◌, ◌+◌, ◌<◌, ◌≤◌, ℕ, Bool, true, false, List, [], length, map, refl, sym, subst}
 use Rattle.std.specs.Prelude.{◌≢◌, if◌then◌else◌, All, AllPairs, nat_le}
 use Rattle.std.specs.List.{range_with_len}
-use Rattle.std.proofs.lemmas.List.FromFn.{get_or-range_with_len, length-range_with_len}
+use Rattle.std.proofs.lemmas.List.FromFn.{length-range_with_len}
 use Rattle.lfs_block.specs.Disk.{Disk, IsDisk, block_of}
 use Rattle.lfs_file.specs.Capacity.{least_blocks}
 use Rattle.lfs_file.specs.Laying.{laid}
 use Rattle.lfs_command.specs.Supplies.{most_inline}
+use Rattle.lfs_law.proofs.FreeBlocks.{range_rises}
 use Rattle.lfs_build.specs.Adding.{LaysFile, file_blocks}
 use Rattle.lfs_build.proofs.LaidFiles.{range_below}
-
-range_rises : (a n : ℕ) → AllPairs ◌<◌ (range_with_len a n)
-range_rises a n i j d less within =
-    let long : length (range_with_len a n) ≡ n = length-range_with_len a n in
-    let first : get_or (range_with_len a n) i d ≡ a + i = get_or-range_with_len a n i d (omega (arith, less, within, long)) in
-    let later : get_or (range_with_len a n) j d ≡ a + j = get_or-range_with_len a n j d (omega (arith, within, long)) in
-    omega (arith, first, later, less)
 
 -- blocks that are so many from one on, within an image
 pub record AreBlocks (count : ℕ) (n : ℕ) (blocks : List ℕ) : Type 0 where

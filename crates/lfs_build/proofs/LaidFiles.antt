@@ -1,11 +1,10 @@
 -- The entry of a file that is laid from one block on, and its contents there.
-use Rattle.std.proofs.Common.{◌≡◌, ◌+◌, ◌-◌, ◌<◌, ◌≤◌, ℕ, Bool, true, false, List, [], length, map, take, get_or, refl, ap, sym, ◌∙◌, subst, arith}
-use Rattle.std.proofs.Common.{Some}
-use Rattle.std.specs.Prelude.{◌≢◌, if◌then◌else◌, All, AllPairs, nat_le, replicate, slice_get}
+use Rattle.std.proofs.Common.{◌≡◌, ◌+◌, ◌-◌, ◌<◌, ◌≤◌, ℕ, Bool, true, false, List, [], length, map, take, get_or, refl, ap, sym, ◌∙◌}
+use Rattle.std.proofs.Common.{subst, arith}
+use Rattle.std.specs.Prelude.{◌≢◌, if◌then◌else◌, All, AllPairs, nat_le, replicate}
 use Rattle.std.specs.List.{range_with_len}
 use Rattle.std.proofs.lemmas.List.FromFn.{get_or-range_with_len, length-range_with_len}
 use Rattle.std.proofs.lemmas.List.Elements.{All-from_get_or}
-use Rattle.std.proofs.lemmas.Option.{slice_get-get_or, unwrap_or-slice_get}
 use Rattle.lfs_block.specs.Disk.{Disk, block_of}
 use Rattle.lfs_file.specs.Capacity.{least_blocks}
 use Rattle.lfs_file.specs.Laws.{LaidIsContent, LaidIsFound}
@@ -24,6 +23,7 @@ use Rattle.lfs_command.specs.Edited.{new_entry}
 use Rattle.lfs_command.specs.Supplies.{most_inline, new_body}
 use Rattle.lfs_draft.specs.LeastSupplies.{least_supplies, made_blocks}
 use Rattle.lfs_law.specs.OutlineLaws.{IsThere}
+use Rattle.lfs_law.proofs.LaidContents.{head_is}
 use Rattle.lfs_ends.proofs.Ranges.{take_range}
 use Rattle.lfs_build.specs.Adding.{LaysFile, file_blocks, file_body}
 
@@ -111,11 +111,6 @@ range_below a n count within =
     let here : i < n = omega (arith, lt, length-range_with_len a n) in
     omega (arith, get_or-range_with_len a n i 0 here, within))
 
--- the last block of a chain is its head
-last_is : (blocks : List ℕ) → 0 < length blocks → slice_get blocks (length blocks - 1) ≡ Some (head_of blocks)
-last_is blocks some =
-    slice_get-get_or blocks (length blocks - 1) 0 (omega (arith, some)) ∙ ap Some (sym (unwrap_or-slice_get blocks (length blocks - 1) 0))
-
 chain_there : LaidIsFound → LaidIsContent → (d f : Disk) (next : ℕ) (bytes : List ℕ) → LaysFile d next bytes f
     → nat_le (length bytes) (most_inline d.size) ≡ false → next + least_blocks d.size (length bytes) ≤ d.count
     → IsThere (reading_of f) (Chain (range_with_len next (least_blocks d.size (length bytes))) bytes)
@@ -127,7 +122,7 @@ chain_there found content d f next bytes lays chain enough =
     chain lays.laid in
     let is : IsLaid f (head_of blocks) bytes blocks = record {
       count = length-range_with_len next least ∙ ap (λ (n : ℕ). least_blocks n (length bytes)) (sym lays.but.disk.size);
-      last = last_is blocks;
+      last = head_is blocks;
       below = range_below next least f.count (omega (arith, enough, lays.but.disk.count));
       apart = range_differs next least;
       same = here ∙ ap (λ (n : ℕ). laid n bytes blocks) (sym lays.but.disk.size);

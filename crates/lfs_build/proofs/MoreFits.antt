@@ -1,38 +1,30 @@
 -- The parts of a directory that takes one more entry fit new pairs.
-use Rattle.std.proofs.Common.{◌≡◌, ◌+◌, ◌<◌, ◌≤◌, ◌==◌, ◌&&◌, ℕ, nat_lt, Bool, true, false, List, [], ◌∷◌, ◌++◌, length, refl, ap, arith}
-use Rattle.std.specs.Prelude.{if◌then◌else◌, All, nat_le, replicate, sum_by}
+use Rattle.std.proofs.Common.{◌≡◌, ◌+◌, ◌≤◌, ◌==◌, ◌&&◌, Bool, true, false, List, [], ◌∷◌, ◌++◌, length, refl, ap, arith}
+use Rattle.std.specs.Prelude.{if◌then◌else◌, All, replicate, sum_by}
 use Rattle.std.proofs.lemmas.Bool.Decides.{nat_tests}
 use Rattle.std.proofs.lemmas.List.{length-append}
 use Rattle.std.proofs.lemmas.List.Elements.{All-append, All-cons, All-head, All-nil, All-tail}
 use Rattle.std.proofs.lemmas.List.Sums.{sum_by-append}
 use Rattle.lfs_block.specs.Disk.{Disk, block_of}
 use Rattle.lfs_meta.specs.Body.{Pair}
-use Rattle.lfs_meta.specs.Runs.{run_takes}
 use Rattle.lfs_fs.specs.Directory.{Directory, Part, parts, thread}
 use Rattle.lfs_fs.specs.Entry.{Entry}
 use Rattle.lfs_fs.specs.Pair.{root, same_pair}
 use Rattle.lfs_fs.specs.Volume.{Volume}
 use Rattle.lfs_fs.specs.Weight.{superblock_weight, weight}
 use Rattle.lfs_command.specs.Cut.{room}
+use Rattle.lfs_law.proofs.RunsFit.{takes_says}
 use Rattle.lfs_new.specs.NewPairs.{FitsNewPair, front_count, front_weight}
 use Rattle.lfs_ends.specs.EndCuts.{made}
-use Rattle.lfs_ends.specs.Ending.{FitBlock, ending_with, with_more, last_of, last_part, lone_part, takes_entry, with_entries, with_last_of, with_part}
+use Rattle.lfs_ends.specs.Ending.{FitBlock, ending_with, with_more, last_of, last_part, lone_part, takes_entry, with_entries}
+use Rattle.lfs_ends.specs.Ending.{with_last_of, with_part}
 
 -- ---- one more entry
-
-takes_few : (most taken number weighs : ℕ) → run_takes most taken number weighs ≡ true → (taken + weighs ≤ most) × (number < 1000)
-takes_few most taken number weighs takes = by (nat_le (taken + weighs) most) (nat_lt number 1000) refl refl takes
-  where
-    by : (s t : Bool) → nat_le (taken + weighs) most ≡ s → nat_lt number 1000 ≡ t → (s && t) ≡ true
-        → (taken + weighs ≤ most) × (number < 1000)
-    by true true light few both = (grind (arith, nat_tests, light), grind (arith, nat_tests, few))
-    by true false light few both = absurd (cc)
-    by false t light few both = absurd (cc)
 
 -- a block that takes one more entry fits it
 taken_fits : (o : Volume) (p : Part) (es : List Entry) (e : Entry) → takes_entry o p es e ≡ true → FitBlock o p (es ++ e ∷ [])
 taken_fits o p es e takes =
-    let both = takes_few (room o) (front_weight o p + sum_by weight es) (front_count p + length es) (weight e) takes in record {
+    let both = takes_says (room o) (front_weight o p + sum_by weight es) (front_count p + length es) (weight e) takes in record {
       few = omega (arith, both.1, length-append es (e ∷ []));
       light = omega (arith, both.0, sum_by-append weight es (e ∷ []));
     }

@@ -1,15 +1,11 @@
 -- A volume that is built is open at its deepest directory.
-use Rattle.std.proofs.Common.{◌≡◌, ℕ, false, List, sym, subst, arith}
-use Rattle.std.specs.Prelude.{All}
-use Rattle.std.proofs.lemmas.List.Elements.{All-map}
+use Rattle.std.proofs.Common.{ℕ, List, arith}
 use Rattle.lfs_block.specs.Disk.{Disk}
-use Rattle.lfs_fs.specs.Directory.{Directory, Part, thread}
-use Rattle.lfs_fs.specs.Outlined.{outlined, outlined_part}
+use Rattle.lfs_fs.specs.Directory.{Directory}
+use Rattle.lfs_fs.specs.Outlined.{outlined}
 use Rattle.lfs_fs.specs.Path.{Path}
 use Rattle.lfs_fs.specs.SoundOutlines.{OutlinesAreSound}
 use Rattle.lfs_fs.specs.Volume.{Volume}
-use Rattle.lfs_command.specs.Clean.{IsClean}
-use Rattle.lfs_fs.proofs.OutlinedLemmas.{outlined_thread}
 use Rattle.lfs_new.specs.NewPairs.{FitsNewPair}
 use Rattle.lfs_ends.specs.AtTheEnd.{IsOpenAt}
 use Rattle.lfs_ends.specs.EndEdits.{StandsAt}
@@ -17,12 +13,7 @@ use Rattle.lfs_ends.specs.Ending.{last_part}
 use Rattle.lfs_ends.specs.WayLaws.{WaysLead}
 use Rattle.lfs_ends.proofs.EndCommands.{of_last}
 use Rattle.lfs_build.specs.Built.{IsBuilt}
-
--- the outline of a volume without marks has none
-outline_clean : (v : Volume) → IsClean v → IsClean (outlined v)
-outline_clean v clean =
-    subst (All (λ (p : Part). p.dirty ≡ false)) (sym (outlined_thread v.directories))
-    (All-map (λ (p : Part). p.dirty ≡ false) outlined_part (thread v.directories) clean)
+use Rattle.lfs_build.proofs.OutlineWalks.{outline_clean}
 
 -- the last part of the deepest directory fits
 pub last_fits : (d : Disk) (next : ℕ) (above : List Directory) (deepest : Directory) (closed : List Directory) (names : Path) (v : Volume)

@@ -10,20 +10,16 @@ use Rattle.lfs_fs.specs.Weight.{weight}
 use Rattle.lfs_command.specs.DirectoryEdit.{behind}
 use Rattle.lfs_ends.specs.Ending.{ending_with, with_more, last_of, last_part, lone_part, takes_entry, with_entries, with_last_of, with_part}
 use Rattle.lfs_new.specs.NewPairs.{front_count, front_weight}
+use Rattle.lfs_ends.proofs.WayLemmas.{last_behind}
 use Rattle.lfs_build.specs.declared.open_directory.OpenDirectory.{OpenDirectory}
 use Rattle.lfs_build.specs.Opened.{IsCounted, directory_of, opened}
 
 -- ---- the last part
 
-last_of_more : (p : Part) (ps : List Part) (last : Part) → last_of p (ps ++ last ∷ []) ≡ last
-unfolding last_of
-last_of_more p [] last = refl
-last_of_more p (q ∷ ps) last = last_of_more q ps last
-
 pub last_opened : (ps : List Part) (last : Part) → last_part (directory_of ps last) ≡ last
 unfolding last_of
 last_opened [] last = refl
-last_opened (p ∷ ps) last = last_of_more p ps last
+last_opened (p ∷ ps) last = last_behind p ps last
 
 -- ---- it changes
 
@@ -61,7 +57,7 @@ takes_counted o size w x same counted es is e weighs =
     ∙ ap (λ (n : ℕ). run_takes (size - 40) x.weight n (weight e)) (sym counted.count_is)
     ∙ ap (λ (n : ℕ). run_takes (size - 40) x.weight x.count n) weighs
 
-if_true : {X : Type 0} (b : Bool) (x y : X) → b ≡ true → (if b then x else y) ≡ x
+pub if_true : {X : Type 0} (b : Bool) (x y : X) → b ≡ true → (if b then x else y) ≡ x
 if_true true x y is = refl
 if_true false x y is = absurd (cc)
 

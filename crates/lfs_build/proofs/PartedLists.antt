@@ -1,5 +1,6 @@
 -- Lists that are parted at the same place, or at their end.
 use Rattle.std.proofs.Common.{◌≡◌, List, [], ◌∷◌, ◌++◌, length, sym, arith}
+use Rattle.lfs_ends.proofs.WayLemmas.{end_alone}
 
 -- what is parted behind as many elements has the same ones so far
 pub parted_alike : {X : Type 0} (xs : List X) (x : X) (more : List X) (ys : List X) (y : X) (others : List X)
@@ -12,11 +13,6 @@ parted_alike (w ∷ xs) x more (z ∷ ys) y others is len =
     let later : xs ++ x ∷ more ≡ ys ++ y ∷ others = cc in
     let same : xs ++ x ∷ [] ≡ ys ++ y ∷ [] = parted_alike xs x more ys y others later (omega arith) in
     cc
-
--- a list that ends with an element has one
-end_alone : {X : Type 0} (xs : List X) (x : X) → xs ++ x ∷ [] ≡ [] → ⊥
-end_alone [] x is = cc
-end_alone (y ∷ xs) x is = cc
 
 -- its last element is known
 pub last_alike : {X : Type 0} (xs : List X) (x : X) (ys : List X) (y : X) → xs ++ x ∷ [] ≡ ys ++ y ∷ [] → x ≡ y

@@ -22,11 +22,10 @@ use Rattle.lfs_command.specs.Command.{Command, SetAttr}
 use Rattle.lfs_command.specs.Cut.{HasEnough, cut}
 use Rattle.lfs_command.specs.Edited.{edited}
 use Rattle.lfs_command.specs.Need.{dirty_parts, need}
-use Rattle.lfs_command.specs.Planned.{TakesLeast}
+use Rattle.lfs_command.specs.Planned.{TakesLeast, CarriesOut}
 use Rattle.lfs_command.specs.Supplies.{nothing}
 use Rattle.lfs_command.specs.Verdict.{first_refusal, is_too_large, refuse_if, room_checks, verdict}
 use Rattle.lfs_law.specs.Laws.{CleansFollow, CutsFollow}
-use Rattle.lfs_ends.specs.Leading.{CarriesOut}
 use Rattle.lfs_build.specs.Rooted.{AddsRootAttribute, IsBareBuilt, RootAttributesAreAdded}
 use Rattle.lfs_build.proofs.BareVolumes.{bare_is, bare_is_built, bare_volume, second_erased}
 

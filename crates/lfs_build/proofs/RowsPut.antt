@@ -9,7 +9,7 @@ use Rattle.lfs_command.specs.declared.refusal.Refusal.{Refusal}
 use Rattle.lfs_command.specs.declared.refusal.Refusal.TheVariants.{Exists, FileTooLarge, IsADirectory, IsRoot, Memory, NameTooLong}
 use Rattle.lfs_command.specs.Command.{Command, Mkdir, Put}
 use Rattle.lfs_command.specs.Verdict.{first_refusal, is_directory, is_root, last_length, refuse_if, room_checks, verdict, walk_refusal}
-use Rattle.lfs_ends.specs.Leading.{CarriesOut}
+use Rattle.lfs_command.specs.Planned.{CarriesOut}
 use Rattle.lfs_build.specs.declared.new_volume.NewVolume.{NewVolume}
 use Rattle.lfs_build.specs.AtHome.{PutsName}
 use Rattle.lfs_build.specs.Closing.{FindsHome, IsWayRefused, RefusesWay}

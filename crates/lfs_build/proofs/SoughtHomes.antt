@@ -1,8 +1,8 @@
 -- The directory that has the last name of a path, where open directories behind what is common are closed.
-use Rattle.std.proofs.Common.{◌≡◌, ◌≤◌, ℕ, Bool, true, false, List, [], ◌∷◌, ◌++◌, Some, length, take, drop, refl, ap, sym, ◌∙◌, subst, arith, All, inl, inr, map, append-nil, append_assoc}
+use Rattle.std.proofs.Common.{◌≡◌, ◌≤◌, ℕ, Bool, true, false, [], ◌∷◌, ◌++◌, Some, length, take, drop, refl, ap, sym, ◌∙◌, subst, arith}
+use Rattle.std.proofs.Common.{All, inl, inr, map, append-nil, append_assoc}
 use Rattle.std.specs.Prelude.{if◌then◌else◌, reverse}
 use Rattle.std.proofs.lemmas.List.{length-append, length-map}
-use Rattle.std.proofs.lemmas.List.Elements.{All-head}
 use Rattle.lfs_meta.specs.Name.{Name, IsName}
 use Rattle.lfs_fs.specs.Directory.{Directory, entries}
 use Rattle.lfs_fs.specs.NameOrder.{NamesAreOrdered}
@@ -17,8 +17,8 @@ use Rattle.lfs_fs.specs.Volume.{Volume}
 use Rattle.lfs_command.specs.declared.refusal.Refusal.{Refusal}
 use Rattle.lfs_command.specs.declared.refusal.Refusal.TheVariants.{NotADirectory, NotFound}
 use Rattle.lfs_command.specs.Verdict.{is_root, walk_refusal}
-use Rattle.lfs_law.proofs.Cuts.{All-right}
 use Rattle.lfs_ends.specs.Way.{IsLastIn}
+use Rattle.lfs_ends.proofs.LastEntries.{middle_has}
 use Rattle.lfs_build.specs.declared.new_volume.NewVolume.{NewVolume}
 use Rattle.lfs_build.specs.Closing.{ClosesDown, FindsHome, RefusesWay}
 use Rattle.lfs_build.specs.NewVolumes.{IsAt, TakesMore}
@@ -35,9 +35,6 @@ pub record SeekingLaws : Type 0 where
   pub close : BuiltAreClosed
   pub next : NextAreOnTheWay
 
-middle : {X : Type 0} (P : X → Type 0) (xs : List X) (x : X) (ys : List X) → All P (xs ++ x ∷ ys) → P x
-middle P xs x ys all = All-head P x ys (All-right P xs (x ∷ ys) all)
-
 none_left : (front : Path) (k : ℕ) (left : Path) → front ≡ take k front ++ left → length (take k front) ≡ k → length front ≤ k → left ≡ []
 none_left front k [] is len le = refl
 none_left front k (n ∷ left) is len le =
@@ -46,7 +43,7 @@ none_left front k (n ∷ left) is len le =
 -- the deepest directory has names that rise
 deepest_rises : OutlinesAreSound → (u : NewVolume) (names : Path) (v : Volume) → TakesMore u names v → Rise (entries (opened u.deepest))
 deepest_rises sound u names v taking =
-    middle (λ (d : Directory). Rise (entries d)) (map opened u.above.items) (opened u.deepest) (reverse u.closed.items)
+    middle_has (λ (d : Directory). Rise (entries d)) (map opened u.above.items) (opened u.deepest) (reverse u.closed.items)
     (subst (All (λ (d : Directory). Rise (entries d))) taking.built.directories (sound v taking.built.sound).order)
 
 module _ (laws : SeekingLaws) (t u : NewVolume) (front : Path) (name : Name) (down : ClosesDown t u)
@@ -81,7 +78,7 @@ module _ (laws : SeekingLaws) (t u : NewVolume) (front : Path) (name : Name) (do
           names = names_are;
           last =
               comes_last_of laws.order name u.deepest
-              (middle (IsWeighed (outlined v)) u.above.items u.deepest [] here.weighed).filled
+              (middle_has (IsWeighed (outlined v)) u.above.items u.deepest [] here.weighed).filled
               (deepest_rises laws.outlines u front v here) behind;
         },
       )

@@ -1,15 +1,13 @@
 -- The contents of a built volume's files are there in an image that leaves its blocks, and those of one that a command leaves.
-use Rattle.std.proofs.Common.{◌∙◌, ℕ, List, length, sym, subst, map}
+use Rattle.std.proofs.Common.{ℕ, List, sym, subst, map}
 use Rattle.std.specs.Prelude.{All, Contains}
 use Rattle.std.proofs.lemmas.List.Elements.{All-contains, All-contains_itself, All-map, All-weaker}
 use Rattle.std.proofs.lemmas.List.Folds.{flat_map-map}
 use Rattle.lfs_block.specs.Disk.{Disk, IsDisk}
 use Rattle.lfs_file.specs.Laws.{ContentStays, FoundStay}
 use Rattle.lfs_meta.specs.RunLaws.{RunsJoin}
-use Rattle.lfs_fs.specs.Alike.{ChainStays}
-use Rattle.lfs_fs.specs.AsStored.{head_of}
 use Rattle.lfs_fs.specs.Directory.{Directory, Part, entries, parts, thread}
-use Rattle.lfs_fs.specs.Entry.{Body, Inline, Chain, Directory_at, Entry}
+use Rattle.lfs_fs.specs.Entry.{Body, Entry}
 use Rattle.lfs_fs.specs.Reading.{Reading, reading_of}
 use Rattle.lfs_fs.specs.Sound.{IsSound}
 use Rattle.lfs_fs.specs.Thread.{Link, links}
@@ -19,21 +17,17 @@ use Rattle.lfs_command.specs.Command.{Command}
 use Rattle.lfs_command.specs.Cut.{cut}
 use Rattle.lfs_command.specs.DirectoryEdit.{each_part}
 use Rattle.lfs_command.specs.Edited.{edited}
+use Rattle.lfs_command.specs.Planned.{CarriesOut}
 use Rattle.lfs_law.specs.OutlineLaws.{IsThere}
 use Rattle.lfs_law.proofs.KnownBodies.{Bodies, OfBodies, OfNew, by_parts, cut_bodies, edited_bodies, link_has}
 use Rattle.lfs_law.proofs.WrittenLemmas.{chain_by, parts_of_links}
+use Rattle.lfs_law.proofs.CommandsWritten.{body_stays}
 use Rattle.lfs_ends.specs.OneMore.{AreFreeFrom}
-use Rattle.lfs_ends.specs.Leading.{CarriesOut}
 use Rattle.lfs_build.specs.Built.{AreThere}
 use Rattle.lfs_build.proofs.Leaving.{Leaves}
 use Rattle.lfs_build.proofs.UsedBefore.{chain_before}
 
 -- ---- bodies that are there
-
-still_there : (r q : Reading) (b : Body) → ChainStays r q b → IsThere r b → IsThere q b
-still_there r q (Inline bytes) stays there = tt
-still_there r q (Directory_at pair) stays there = tt
-still_there r q (Chain blocks bytes) stays there = let now = stays (head_of blocks) (length bytes) there.0 in (now.0, there.1 ∙ sym now.1)
 
 -- by parts
 parts_there : (d : Disk) (v : Volume) → AreThere d v → All (λ p. OfBodies (IsThere (reading_of d)) p.entries) (thread v.directories)
@@ -61,7 +55,7 @@ bodies_kept found content d f next before v disk sound free leaves there =
     in_part : (p : Part) → Contains (thread v.directories) p → OfBodies (IsThere (reading_of f)) p.entries
     in_part p at =
         All-weaker (Contains p.entries) (λ (x : Entry). IsThere (reading_of f) x.body)
-        (λ x inside. still_there (reading_of d) (reading_of f) x.body
+        (λ x inside. body_stays (reading_of d) (reading_of f) x.body
         (chain_by found content d f disk x.body leaves.disk.size leaves.disk.count
         (λ b used. leaves.ahead b (chain_before v next sound free p at x inside b used)))
         (was p at x inside))

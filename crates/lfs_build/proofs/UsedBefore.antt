@@ -8,8 +8,9 @@ use Rattle.lfs_fs.specs.Outlined.{outlined}
 use Rattle.lfs_fs.specs.Sound.{IsSound}
 use Rattle.lfs_fs.specs.Uses.{entry_uses, uses}
 use Rattle.lfs_fs.specs.Volume.{Volume}
-use Rattle.lfs_law.proofs.OutlineRoom.{uses_outlined}
-use Rattle.lfs_law.proofs.WrittenLemmas.{one_le, pair_used, part_uses, sum_thread}
+use Rattle.lfs_fs.proofs.CountLemmas.{element_le}
+use Rattle.lfs_fs.proofs.OutlinedLemmas.{outlined_uses}
+use Rattle.lfs_law.proofs.WrittenLemmas.{pair_used, part_uses, sum_thread}
 use Rattle.lfs_ends.specs.OneMore.{AreFreeFrom}
 
 used_by : (n next b : ℕ) → (n == 0) ≡ nat_le next b → 0 < n → b < next
@@ -28,19 +29,19 @@ pub pair_before : (v : Volume) (next : ℕ) → IsSound v → AreFreeFrom v next
     → p.pair.1 < next
 pair_before v next sound free p there =
     let all : part_uses p.pair.1 p ≤ sum_by (part_uses p.pair.1) (thread (outlined v).directories) =
-    one_le (part_uses p.pair.1) (thread (outlined v).directories) p there in
+    element_le (part_uses p.pair.1) (thread (outlined v).directories) p there in
     used_before v next sound free p.pair.1 (omega (
       arith,
       all,
       (pair_used p).1,
       sum_thread p.pair.1 (outlined v).directories,
-      uses_outlined p.pair.1 v,
+      outlined_uses p.pair.1 v,
     ))
 
 -- the blocks of a chain are
 pub chain_before : (v : Volume) (next : ℕ) → IsSound v → AreFreeFrom v next → (p : Part) → Contains (thread v.directories) p
     → (x : Entry) → Contains p.entries x → (b : ℕ) → 0 < entry_uses b x → b < next
 chain_before v next sound free p there x inside b used =
-    let one : entry_uses b x ≤ sum_by (entry_uses b) p.entries = one_le (entry_uses b) p.entries x inside in
-    let all : part_uses b p ≤ sum_by (part_uses b) (thread v.directories) = one_le (part_uses b) (thread v.directories) p there in
+    let one : entry_uses b x ≤ sum_by (entry_uses b) p.entries = element_le (entry_uses b) p.entries x inside in
+    let all : part_uses b p ≤ sum_by (part_uses b) (thread v.directories) = element_le (part_uses b) (thread v.directories) p there in
     used_before v next sound free b (omega (arith, one, all, used, sum_thread b v.directories))

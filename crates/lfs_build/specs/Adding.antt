@@ -1,5 +1,6 @@
 -- What becomes of a volume that is built where a command adds an entry at its end (own).
-use Rattle.std.specs.Prelude.{ℕ, ◌≡◌, ◌+◌, ◌-◌, ◌<◌, ◌≤◌, Bool, Some, List, [], ◌∷◌, ◌++◌, All, if◌then◌else◌, length, map, nat_le, replicate}
+use Rattle.std.specs.Prelude.{ℕ, ◌≡◌, ◌+◌, ◌-◌, ◌<◌, ◌≤◌, Bool, Some, List, [], ◌∷◌, ◌++◌, All, if◌then◌else◌, length, map, nat_le}
+use Rattle.std.specs.Prelude.{replicate}
 use Rattle.std.specs.List.{range_with_len}
 use Rattle.lfs_block.specs.Disk.{Disk, block_of}
 use Rattle.lfs_file.specs.Capacity.{least_blocks}
@@ -13,15 +14,16 @@ use Rattle.lfs_fs.specs.Outlined.{outlined}
 use Rattle.lfs_fs.specs.Path.{Path}
 use Rattle.lfs_fs.specs.Volume.{Volume}
 use Rattle.lfs_fs.specs.Weight.{weight}
+use Rattle.lfs_fs.specs.Limits.{new_limits}
 use Rattle.lfs_command.specs.declared.refusal.Refusal.TheVariants.{AttrTooLarge, EntryTooLarge, FileTooLarge, NameTooLong, NoSpace}
 use Rattle.lfs_command.specs.Command.{Command, Mkdir, Put, SetAttr}
 use Rattle.lfs_command.specs.Edited.{new_entry, with_entry_attributes}
 use Rattle.lfs_command.specs.Supplies.{most_inline}
 use Rattle.lfs_command.specs.Verdict.{verdict}
+use Rattle.lfs_command.specs.Planned.{CarriesOut}
 use Rattle.lfs_ends.specs.Ending.{with_more, last_part, takes_entry}
 use Rattle.lfs_ends.specs.EndCuts.{made}
 use Rattle.lfs_ends.specs.EndEdits.{ComesLast, EndsWithName}
-use Rattle.lfs_ends.specs.Leading.{CarriesOut}
 use Rattle.lfs_new.specs.DiskBut.{IsDiskBut}
 use Rattle.lfs_build.specs.Built.{IsBuilt}
 
@@ -72,9 +74,9 @@ pub record LaysFile (d : Disk) (next : ℕ) (bytes : List ℕ) (e : Disk) : Type
 -- A name that is too long is refused, then contents that are too large; else the file is added, or there is no room.
 pub record AddsFile (n : Name) (bytes : List ℕ) (d : Disk) (next : ℕ) (above : List Directory) (deepest : Directory) (closed : List Directory)
     (names : Path) (v : Volume) : Type 0 where
-  pub long : 255 < length n → verdict v (Put (names ++ n ∷ []) bytes) ≡ Some NameTooLong
-  pub large : length n ≤ 255 → 2147483647 < length bytes → verdict v (Put (names ++ n ∷ []) bytes) ≡ Some FileTooLarge
-  pub added : length n ≤ 255 → length bytes ≤ 2147483647
+  pub long : new_limits.name < length n → verdict v (Put (names ++ n ∷ []) bytes) ≡ Some NameTooLong
+  pub large : length n ≤ new_limits.name → new_limits.file < length bytes → verdict v (Put (names ++ n ∷ []) bytes) ≡ Some FileTooLarge
+  pub added : length n ≤ new_limits.name → length bytes ≤ new_limits.file
       → IsAdded (Put (names ++ n ∷ []) bytes) (file_blocks d.size bytes) [] (last_part deepest).entries
       (new_entry n (file_body d.size next bytes)) (LaysFile d next bytes) d next above deepest closed names v
 
@@ -89,8 +91,8 @@ FilesAreAdded = (n : Name) (bytes : List ℕ) (d : Disk) (next : ℕ) (above : L
 -- A name that is too long is refused; else the directory is added, or there is no room.
 pub record AddsDirectory (n : Name) (d : Disk) (next : ℕ) (above : List Directory) (deepest : Directory) (closed : List Directory)
     (names : Path) (v : Volume) : Type 0 where
-  pub long : 255 < length n → verdict v (Mkdir (names ++ n ∷ [])) ≡ Some NameTooLong
-  pub added : length n ≤ 255
+  pub long : new_limits.name < length n → verdict v (Mkdir (names ++ n ∷ [])) ≡ Some NameTooLong
+  pub added : length n ≤ new_limits.name
       → IsAdded (Mkdir (names ++ n ∷ [])) 2 ((next, next + 1) ∷ []) (last_part deepest).entries
       (new_entry n (Directory_at (next, next + 1))) (λ e. e ≡ d) d next above deepest closed names v
 
@@ -105,8 +107,8 @@ DirectoriesAreAdded = (n : Name) (d : Disk) (next : ℕ) (above : List Directory
 -- A value that is too long is refused; else the last entry gets it, or there is no room.
 pub record AddsAttribute (n : Name) (k : ℕ) (value : List ℕ) (es : List Entry) (e : Entry) (d : Disk) (next : ℕ) (above : List Directory)
     (deepest : Directory) (closed : List Directory) (names : Path) (v : Volume) : Type 0 where
-  pub long : 1022 < length value → verdict v (SetAttr (names ++ n ∷ []) k value) ≡ Some AttrTooLarge
-  pub added : length value ≤ 1022
+  pub long : new_limits.attribute < length value → verdict v (SetAttr (names ++ n ∷ []) k value) ≡ Some AttrTooLarge
+  pub added : length value ≤ new_limits.attribute
       → IsAdded (SetAttr (names ++ n ∷ []) k value) 0 [] es (with_entry_attributes (set_attribute k value) e) (λ f. f ≡ d)
       d next above deepest closed names v
 

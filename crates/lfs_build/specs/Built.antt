@@ -10,9 +10,9 @@ use Rattle.lfs_fs.specs.Reading.{reading_of}
 use Rattle.lfs_fs.specs.Sound.{IsSound}
 use Rattle.lfs_fs.specs.Thread.{Link, links}
 use Rattle.lfs_fs.specs.Volume.{Volume}
+use Rattle.lfs_fs.specs.Limits.{new_limits}
 use Rattle.lfs_command.specs.Clean.{IsClean}
 use Rattle.lfs_law.specs.OutlineLaws.{IsThere}
-use Rattle.lfs_law.specs.SuperblockBytes.{new_limits}
 use Rattle.lfs_ends.specs.OneMore.{AreFreeFrom}
 use Rattle.lfs_ends.specs.Way.{OnWay}
 use Rattle.lfs_new.specs.NewPairs.{FitsNewPair}

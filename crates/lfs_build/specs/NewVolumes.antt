@@ -14,13 +14,13 @@ use Rattle.lfs_fs.specs.Reading.{reading_of}
 use Rattle.lfs_fs.specs.Row.{path_precedes}
 use Rattle.lfs_fs.specs.Sound.{IsSound}
 use Rattle.lfs_fs.specs.Volume.{Volume}
+use Rattle.lfs_fs.specs.Limits.{new_limits}
 use Rattle.lfs_command.specs.declared.refusal.Refusal.{Refusal}
 use Rattle.lfs_command.specs.declared.refusal.Refusal.TheVariants.{Memory}
 use Rattle.lfs_command.specs.Command.{Command, SetAttr}
 use Rattle.lfs_command.specs.Verdict.{verdict}
-use Rattle.lfs_law.specs.SuperblockBytes.{new_limits}
+use Rattle.lfs_command.specs.Planned.{CarriesOut}
 use Rattle.lfs_ends.specs.EndEdits.{ComesLast, EndsWithName}
-use Rattle.lfs_ends.specs.Leading.{CarriesOut}
 use Rattle.lfs_ends.specs.Way.{IsLastIn}
 use Rattle.lfs_build.specs.declared.new_volume.NewVolume.{NewVolume}
 use Rattle.lfs_build.specs.Built.{IsBuilt}

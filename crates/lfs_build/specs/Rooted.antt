@@ -9,10 +9,11 @@ use Rattle.lfs_fs.specs.Formatted.{formatted_volume}
 use Rattle.lfs_fs.specs.Pair.{root}
 use Rattle.lfs_fs.specs.Volume.{Volume}
 use Rattle.lfs_fs.specs.Weight.{superblock_weight}
+use Rattle.lfs_fs.specs.Limits.{new_limits}
 use Rattle.lfs_command.specs.declared.refusal.Refusal.TheVariants.{AttrTooLarge, EntryTooLarge}
 use Rattle.lfs_command.specs.Command.{SetAttr}
 use Rattle.lfs_command.specs.Verdict.{verdict}
-use Rattle.lfs_ends.specs.Leading.{CarriesOut}
+use Rattle.lfs_command.specs.Planned.{CarriesOut}
 use Rattle.lfs_build.specs.Built.{AreErasedFrom, IsBuilt}
 
 -- a directory without entries, at a pair
@@ -29,10 +30,10 @@ ErasedAreNew = (d : Disk) → IsDisk d → IsGeometry d.size d.count → AreEras
 
 -- A value that is too long is refused, then attributes that are too heavy for a block; else the root gets it.
 pub record AddsRootAttribute (k : ℕ) (value : List ℕ) (d : Disk) (v : Volume) : Type 0 where
-  pub long : 1022 < length value → verdict v (SetAttr [] k value) ≡ Some AttrTooLarge
-  pub heavy : length value ≤ 1022 → d.size - 40 < superblock_weight (set_attribute k value v.attributes)
+  pub long : new_limits.attribute < length value → verdict v (SetAttr [] k value) ≡ Some AttrTooLarge
+  pub heavy : length value ≤ new_limits.attribute → d.size - 40 < superblock_weight (set_attribute k value v.attributes)
       → verdict v (SetAttr [] k value) ≡ Some EntryTooLarge
-  pub added : length value ≤ 1022 → superblock_weight (set_attribute k value v.attributes) ≤ d.size - 40
+  pub added : length value ≤ new_limits.attribute → superblock_weight (set_attribute k value v.attributes) ≤ d.size - 40
       → (w : Volume) × CarriesOut (SetAttr [] k value) v w × (w.attributes ≡ set_attribute k value v.attributes) × IsBareBuilt d w
 
 -- the law: so it is

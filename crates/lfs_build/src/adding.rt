@@ -13,16 +13,9 @@ use lfs_command::Refusal;
 use lfs_cut::weight;
 use lfs_draft::new_entry;
 use lfs_ends::ways_lead_to_ends;
-use lfs_fs::{Delta, OutlineBody, OutlineDirectory, OutlineEntry, OutlinePart};
+use lfs_fs::{Delta, NEW_LIMITS, OutlineBody, OutlineDirectory, OutlineEntry, OutlinePart};
 use lfs_meta::set_attribute;
 use std::alloc::{AllocError, Global};
-
-/// The most bytes of a name in a new image.
-const MOST_NAME: usize = 255;
-/// The most bytes of a file.
-const MOST_FILE: usize = 2_147_483_647;
-/// The most bytes of an attribute's value.
-pub(crate) const MOST_ATTRIBUTE: usize = 1_022;
 
 /// A directory without entries. Takes no memory.
 fn bare_directory(alloc: Global, pair: (u32, u32)) -> OutlineDirectory
@@ -58,6 +51,7 @@ impl NewVolume {
     ghost use Rattle.lfs_meta.specs.Name.{Name, IsName};
     ghost use Rattle.lfs_fs.specs.Path.{Path};
     ghost use Rattle.lfs_fs.specs.Volume.{Volume};
+    ghost use Rattle.lfs_fs.specs.Limits.{new_limits};
     ghost use Rattle.lfs_command.specs.Command.{Mkdir, Put};
     ghost use Rattle.lfs_build.specs.AtHome.{IsWithoutLast, PutsName, RefusesName};
     ghost use Rattle.lfs_build.specs.Pushed.{IsWithClosed};
@@ -67,8 +61,8 @@ impl NewVolume {
     /// Puts a file under a name of the deepest directory. The caller owes contents that aren't too large.
     fn put_short(&mut self, alloc: Global, name: &[u8], bytes: &[u8]) -> Result<(), Refusal>
         requires home { (home : Path) × (v : Volume) × IsHome self.old home name.now v }
-        requires short { length name.now ≤ 255 }
-        requires small { length bytes.now ≤ 2147483647 }
+        requires short { length name.now ≤ new_limits.name }
+        requires small { length bytes.now ≤ new_limits.file }
         ensures put { OnOk result (PutsName (λ p. Put p bytes.now) name.now self.old self.new) }
         ensures refused { IfErr result (λ r. RefusesName (λ p. Put p bytes.now) name.now self.old r) }
     {
@@ -91,10 +85,10 @@ impl NewVolume {
         ensures refused { IfErr result (λ r. RefusesName (λ p. Put p bytes.now) name.now self.old r) }
     {
         entries_are_added();
-        if name.len() > MOST_NAME {
+        if name.len() > NEW_LIMITS.name as usize {
             return Err(Refusal::NameTooLong);
         }
-        if bytes.len() > MOST_FILE {
+        if bytes.len() > NEW_LIMITS.file as usize {
             return Err(Refusal::FileTooLarge);
         }
         self.put_short(alloc, name, bytes)
@@ -117,7 +111,7 @@ impl NewVolume {
     {
         entries_are_added();
         ways_lead_to_ends();
-        if name.len() > MOST_NAME {
+        if name.len() > NEW_LIMITS.name as usize {
             return Err(Refusal::NameTooLong);
         }
         let first = self.next;
@@ -180,7 +174,7 @@ impl NewVolume {
     {
         entries_are_added();
         ways_lead_to_ends();
-        if value.len() > MOST_ATTRIBUTE {
+        if value.len() > NEW_LIMITS.attribute as usize {
             return Err(Refusal::AttrTooLarge);
         }
         let last = self.take_last();

@@ -3,16 +3,9 @@
 use crate::laws::{built_can_be_finished, directories_are_walked};
 use crate::new_volume::NewVolume;
 use lfs_block::{Blocks, Image};
-use lfs_fs::{Limits, Outline};
+use lfs_fs::{NEW_LIMITS, Outline};
 use lfs_new::write_outline;
 use std::alloc::{AllocError, Global};
-
-/// The limits of a new image.
-const NEW_LIMITS: Limits = Limits {
-    name: 255,
-    file: 2_147_483_647,
-    attribute: 1_022,
-};
 
 impl NewVolume {
     ghost use Rattle.std.specs.Prelude.{◌≡◌, IfOk};

@@ -1,9 +1,11 @@
 //! A directory that is open for more entries at its end.
 
 ghost use Rattle.std.specs.Prelude.{◌≤◌};
+ghost use Rattle.lfs_meta.specs.Runs.{most_entries};
 
-use lfs_cut::{run_takes, weight};
+use lfs_cut::weight;
 use lfs_fs::{Delta, OutlineDirectory, OutlineEntry, OutlinePart, precedes};
+use lfs_meta::run_takes;
 use std::alloc::{AllocError, Global};
 
 /// A directory that is open for more entries at its end.
@@ -17,19 +19,19 @@ pub(crate) struct OpenDirectory {
     pub(crate) weight: u32,
     pub(crate) count: usize,
     pub(crate) ghost light: { weight ≤ 65536 },
-    pub(crate) ghost few: { count ≤ 1000 },
+    pub(crate) ghost few: { count ≤ most_entries },
 }
 
 impl OpenDirectory {
     ghost use Rattle.std.specs.Prelude.{◌≡◌, ◌+◌, ◌≤◌, ◌<◌, [], ◌∷◌, ◌++◌, false, length, option_to_list, sum_by, IfOk, IsSome, OnOk};
-    ghost use Rattle.lfs_meta.specs.Runs.{run_takes};
+    ghost use Rattle.lfs_meta.specs.Runs.{most_entries, run_takes};
     ghost use Rattle.lfs_fs.specs.Weight.{weight};
     ghost use Rattle.lfs_build.specs.Opened.{comes_behind, ends_named, opened};
 
     /// A directory without entries, in the block of whose pair this much stands already. Takes no memory.
     pub(crate) fn new(alloc: Global, pair: (u32, u32), weight: u32, count: usize) -> OpenDirectory
         requires light { weight ≤ 65536 }
-        requires few { count ≤ 1000 }
+        requires few { count ≤ most_entries }
         ensures full { result.full.items ≡ [] }
         ensures last { result.last ≡ record { pair = pair; entries = []; delta = 0; dirty = false } }
         ensures weight { result.weight ≡ weight }
@@ -80,7 +82,7 @@ impl OpenDirectory {
     /// Puts an entry of a weight at the end of its last part. The caller owes that the part takes it.
     pub(crate) fn push(&mut self, entry: OutlineEntry, weight: u32) -> Result<(), AllocError>
         requires light { self.old.weight + weight ≤ 65536 }
-        requires few { self.old.count < 1000 }
+        requires few { self.old.count < most_entries }
         ensures full { OnOk result (self.new.full ≡ self.old.full) }
         ensures last { OnOk result (self.new.last ≡ record {
           pair = self.old.last.pair;

@@ -4,12 +4,12 @@ ghost use Rattle.std.specs.Prelude.{IfOk};
 ghost use Rattle.lfs_block.specs.Geometry.{IsGeometry};
 ghost use Rattle.lfs_build.specs.Built.{IsErased};
 
-use crate::adding::MOST_ATTRIBUTE;
 use crate::laws::built_volumes_begin;
 use crate::new_volume::NewVolume;
 use crate::open_directory::OpenDirectory;
 use lfs_block::Image;
 use lfs_command::Refusal;
+use lfs_fs::NEW_LIMITS;
 use lfs_meta::{attributes_weight, set_attribute};
 use std::alloc::{AllocError, Global};
 
@@ -70,7 +70,7 @@ impl NewVolume {
         ensures refused { IfErr result (λ r. RefusesRootAttribute kind value.now self.old r) }
     {
         built_volumes_begin();
-        if value.len() > MOST_ATTRIBUTE {
+        if value.len() > NEW_LIMITS.attribute as usize {
             return Err(Refusal::AttrTooLarge);
         }
         set_attribute(&mut self.attributes, alloc, kind, value)?;

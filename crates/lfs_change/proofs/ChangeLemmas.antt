@@ -1,5 +1,6 @@
 -- What a step on an image answers, from what is said of its session, and what it answers on bytes.
-use Rattle.std.proofs.Common.{◌≡◌, ◌≢◌, ◌==◌, ℕ, Bool, false, List, [], ◌∷◌, length, Option, Some, None, inl, inr, refl, sym, subst, ap, ◌∙◌}
+use Rattle.std.proofs.Common.{◌≡◌, ◌≢◌, ◌==◌, ℕ, Bool, false, List, [], ◌∷◌, length, Option, Some, None, inl, inr, refl, sym, subst, ap}
+use Rattle.std.proofs.Common.{◌∙◌}
 use Rattle.lfs_block.specs.Disk.{Disk, IsDisk}
 use Rattle.lfs_block.specs.declared.mount_fault.MountFault.{MountFault}
 use Rattle.lfs_block.specs.declared.mount_fault.MountFault.TheVariants.{Memory as No_memory}
@@ -12,6 +13,7 @@ use Rattle.lfs_history.specs.History.{History, IsHistory}
 use Rattle.lfs_history.specs.Moves.{Undoes}
 use Rattle.lfs_history.specs.Opening.{Opens, RefusesOpening}
 use Rattle.lfs_history.specs.Taking.{Move, Do, Undo, Redo, Forget, Takes}
+use Rattle.lfs_history.proofs.MoveLemmas.{first_same}
 use Rattle.lfs_change.specs.declared.fault.Fault.{Fault}
 use Rattle.lfs_change.specs.declared.fault.Fault.TheVariants as fault
 use Rattle.lfs_change.specs.declared.fault.Fault.TheVariants.{Image, Refused}
@@ -50,9 +52,6 @@ refused_saving step NothingToRedo old new takes = refused_here step NothingToRed
 refused_saving step JournalFull old new takes = refused_here step JournalFull old new takes
 
 -- ---- a step that is taken back
-
-first_same : (x y : Disk) (xs ys : List Disk) → x ∷ xs ≡ y ∷ ys → x ≡ y
-first_same x y xs ys h = cc
 
 none_first : (x : Disk) (xs : List Disk) → x ∷ xs ≡ [] → ⊥
 none_first x xs h = cc

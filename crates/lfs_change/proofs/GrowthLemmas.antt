@@ -1,13 +1,12 @@
 -- How much longer a journal of bytes gets.
-use Rattle.std.proofs.Common.{◌≡◌, ◌≤◌, ◌+◌, ◌*◌, ◌++◌, ℕ, List, [], ◌∷◌, length, refl, ap, sym, ◌∙◌, subst, arith}
-use Rattle.std.specs.Prelude.{flat_map}
+use Rattle.std.proofs.Common.{◌≡◌, ◌≤◌, ◌+◌, ◌*◌, ℕ, List, [], ◌∷◌, length, ap, sym, ◌∙◌, subst, arith}
 use Rattle.lfs_block.specs.Disk.{Disk}
 use Rattle.lfs_block.specs.Patch.{ChangeSet}
-use Rattle.lfs_book.specs.Book.{Book, journal_bytes, patch_bytes}
+use Rattle.lfs_book.specs.Book.{Book, journal_bytes}
 use Rattle.lfs_fs.specs.Holds.{Holds}
 use Rattle.lfs_fs.specs.Reading.{reading_of}
 use Rattle.lfs_command.specs.Need.{need}
-use Rattle.lfs_history.specs.History.{History, fresh_history}
+use Rattle.lfs_history.specs.History.{History}
 use Rattle.lfs_history.specs.Opening.{journal_of}
 use Rattle.lfs_history.specs.OpeningLaws.{JournalsGrowByTheNeed}
 use Rattle.lfs_change.specs.Bytes.{image_of}

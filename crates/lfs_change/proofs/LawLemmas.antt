@@ -22,7 +22,7 @@ use Rattle.lfs_change.proofs.ChangeLemmas.{denoted_present, denoted_history, ope
 -- ---- what a step leaves
 
 -- a journal has bytes
-some_bytes : (j : Book) → journal_bytes j ≢ []
+pub some_bytes : (j : Book) → journal_bytes j ≢ []
 unfolding journal_bytes
 some_bytes j none = cc
 

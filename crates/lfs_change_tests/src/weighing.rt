@@ -1,8 +1,9 @@
 //! What an entry takes of a block.
 
-use lfs_cut::{run_takes, weight};
+use lfs_cut::weight;
 use lfs_draft::new_entry;
 use lfs_fs::OutlineBody;
+use lfs_meta::run_takes;
 use std::test::Fail;
 
 #[test]

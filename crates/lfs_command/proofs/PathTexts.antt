@@ -14,6 +14,7 @@ use Rattle.bstr.specs.Text.{part, split_at}
 use Rattle.lfs_meta.specs.Name.{Name, IsName, is_name}
 use Rattle.lfs_meta.specs.Laws.{NamesAreDecided}
 use Rattle.lfs_fs.specs.Path.{path_text, IsPathText, IsNoPath}
+use Rattle.lfs_fs.proofs.PathTextLemmas.{one_name_first}
 
 abbrev pub HasNoSlash : Name → Type 0
 HasNoSlash = All (λ b. b ≢ 47)
@@ -132,25 +133,12 @@ behind_pieces : (ps : List Name) → IsBehind (flat_map (λ p. 47 ∷ p) ps)
 behind_pieces [] = tt
 behind_pieces (p ∷ ps) = refl
 
-one_piece_first : (x y : Name) (xs ys : List ℕ) → HasNoSlash x → HasNoSlash y → IsBehind xs → IsBehind ys → x ++ xs ≡ y ++ ys
-    → (x ≡ y) × (xs ≡ ys)
-one_piece_first [] [] xs ys free_x free_y behind_x behind_y is = (refl, is)
-one_piece_first [] (b ∷ y) xs ys free_x free_y behind_x behind_y is =
-    absurd (All-head (λ c. c ≢ 47) b y free_y (subst IsBehind is behind_x))
-one_piece_first (a ∷ x) [] xs ys free_x free_y behind_x behind_y is =
-    absurd (All-head (λ c. c ≢ 47) a x free_x (subst IsBehind (sym is) behind_y))
-one_piece_first (a ∷ x) (b ∷ y) xs ys free_x free_y behind_x behind_y is =
-    let heads : a ≡ b = ap (λ zs. get_or zs 0 0) is in
-    let rest = one_piece_first x y xs ys (All-tail (λ c. c ≢ 47) a x free_x) (All-tail (λ c. c ≢ 47) b y free_y) behind_x behind_y
-    (ap (drop 1) is) in
-    (ap (λ c. c ∷ x) heads ∙ ap (λ z. b ∷ z) rest.0, rest.1)
-
 one_split : (ps qs : List Name) → All HasNoSlash ps → All HasNoSlash qs → flat_map (λ p. 47 ∷ p) ps ≡ flat_map (λ p. 47 ∷ p) qs → ps ≡ qs
 one_split [] [] free_p free_q is = refl
 one_split [] (q ∷ qs) free_p free_q is = absurd (cc)
 one_split (p ∷ ps) [] free_p free_q is = absurd (cc)
 one_split (p ∷ ps) (q ∷ qs) free_p free_q is =
-    let first = one_piece_first p q (flat_map (λ n. 47 ∷ n) ps) (flat_map (λ n. 47 ∷ n) qs) (All-head HasNoSlash p ps free_p)
+    let first = one_name_first p q (flat_map (λ n. 47 ∷ n) ps) (flat_map (λ n. 47 ∷ n) qs) (All-head HasNoSlash p ps free_p)
     (All-head HasNoSlash q qs free_q)
     (behind_pieces ps) (behind_pieces qs) (ap (drop 1) is) in
     let rest = one_split ps qs (All-tail HasNoSlash p ps free_p) (All-tail HasNoSlash q qs free_q) first.1 in

@@ -44,27 +44,33 @@ abbrev pub FillsNewPairs : Volume → Volume → Disk → Type 0
 FillsNewPairs v w d = (p : Part) → Contains (thread w.directories) p → p.dirty ≡ true → is_new_to v p.pair ≡ true
     → FirstIsFilled d.size (block_of d p.pair.0) (block_of d p.pair.1)
 
--- A patch of an image carries out a command that is asked for: on the volume that the image holds no check refuses the
--- command, the patch stands in the image, and the patched image holds the edited volume. The blocks that the command takes are the
--- least free ones, which the patch names, and what is free then are the blocks that were, without them, and those of what was
--- removed or replaced. What is new stands in the first blocks of new pairs, the second ones of which are erased.
+-- An accepted command takes the least free blocks of a volume, and leaves another one.
+pub record CarriesOut (c : Command) (v w : Volume) : Type 0 where
+  pub supplies : Supplies
+  pub blocks : length supplies.blocks ≡ data_blocks v c
+  pub accepted : IsAccepted v c supplies
+  pub chosen : Part → List Pair
+  pub pairs : AreChosen v c supplies chosen
+  pub taken : TakesLeast v c supplies chosen
+  pub is : w ≡ clean (cut chosen (edited v c supplies))
+
+-- A patch of an image carries out a command that is asked for: the command leads from the volume that the image holds to the one
+-- that the patched image holds, and the patch stands in the image. It names the blocks that the command takes; what is free then are
+-- the blocks that were, without them, and those of what was removed or replaced. What is new stands in the first blocks of new pairs,
+-- the second ones of which are erased.
 pub record Plans (d : Disk) (asked : Asked) (p : ChangeSet) : Type 0 where
   pub volume : Volume
   pub holds : Holds (reading_of d) volume
   pub command : Command
   pub spells : Spells asked command
-  pub supplies : Supplies
-  pub blocks : length supplies.blocks ≡ data_blocks volume command
-  pub accepted : IsAccepted volume command supplies
-  pub chosen : Part → List Pair
-  pub pairs : AreChosen volume command supplies chosen
+  pub next : Volume
+  pub carried : CarriesOut command volume next
   pub patch : IsPatch p
   pub stands : AgreesOld p d
-  pub after : Holds (reading_of (applied p d)) (clean (cut chosen (edited volume command supplies)))
-  pub filled : FillsNewPairs volume (cut chosen (edited volume command supplies)) (applied p d)
-  pub frugal : IsFrugal volume command supplies (numbers_of p)
-  pub taken : TakesLeast volume command supplies chosen
-  pub free : free_blocks (clean (cut chosen (edited volume command supplies))) ≡ free_after volume command supplies chosen
+  pub after : Holds (reading_of (applied p d)) next
+  pub filled : FillsNewPairs volume (cut carried.chosen (edited volume command carried.supplies)) (applied p d)
+  pub frugal : IsFrugal volume command carried.supplies (numbers_of p)
+  pub free : free_blocks next ≡ free_after volume command carried.supplies carried.chosen
 
 -- A command that is asked for is refused on the sound volume that an image holds.
 pub record IsRefused (d : Disk) (asked : Asked) (r : Refusal) : Type 0 where

@@ -4,6 +4,7 @@ use Rattle.lfs_meta.specs.Body.{Pair}
 use Rattle.lfs_fs.specs.Entry.{Body, Inline, Chain}
 use Rattle.lfs_fs.specs.Volume.{Volume}
 use Rattle.lfs_fs.specs.Uses.{times, body_uses, uses}
+use Rattle.lfs_fs.specs.Limits.{most_held}
 use Rattle.lfs_command.specs.Command.{Command, Mkdir, Put, Rm, Mv, SetAttr, RmAttr}
 
 -- blocks for its contents, and a pair for its directory
@@ -17,7 +18,7 @@ nothing = record { blocks = []; pair = (0, 0) }
 
 -- the most bytes of a file that stand in its entry: an eighth of a block, and never more than 1,022
 abbrev pub most_inline : ℕ → ℕ
-most_inline size = if nat_le (size / 8) 1022 then size / 8 else 1022
+most_inline size = if nat_le (size / 8) most_held then size / 8 else most_held
 
 -- where a file's contents are put
 abbrev pub new_body : Volume → Supplies → List ℕ → Body

@@ -6,9 +6,7 @@ ghost use Rattle.lfs_file.specs.Capacity.{least_blocks};
 ghost use Rattle.lfs_command.specs.Supplies.{most_inline};
 
 use lfs_file::blocks_for;
-
-/// The most bytes that a struct's tag can hold.
-const MOST_HELD: u32 = 1_022;
+use lfs_fs::MOST_HELD;
 
 /// The most bytes of a file that stand in its entry, in blocks of this size.
 ///

@@ -17,6 +17,7 @@ use Rattle.lfs_fs.specs.Tree.{Node, File, Dir, entry_in, entry_at, node, node_of
 use Rattle.lfs_fs.specs.Outlined.{outlined}
 use Rattle.lfs_fs.specs.RowShown.{HasBlocks, RowsShowTheTree, shown_body, shown_node}
 use Rattle.lfs_fs.specs.Mounted.{MountedValue, IsMountOf}
+use Rattle.lfs_fs.proofs.EntryAtLemmas.{walk-append, step_some}
 use Rattle.lfs_command.specs.declared.refusal.Refusal.{Refusal}
 use Rattle.lfs_command.specs.declared.refusal.Refusal.TheVariants.{NotFound, NotADirectory, BadPath, AttrTooLarge, NoAttr, EntryTooLarge}
 use Rattle.lfs_command.specs.declared.refusal.Refusal.TheVariants.{Memory, Exists, IsADirectory, NotEmpty, NameTooLong, FileTooLarge}
@@ -28,7 +29,7 @@ use Rattle.lfs_law.specs.JudgedAlike.{OutlinesAreJudgedAlike}
 use Rattle.lfs_command.specs.Verdict.{checks, first_refusal, refuse_if, walk_refusal_at, walk_refusal, is_directory}
 use Rattle.lfs_edit.proofs.VerdictKinds.{IsOfVerdict, MayBeOfVerdict, of_first, of_test, of_walk}
 use Rattle.lfs_edit.proofs.Verdicts.{refused_first}
-use Rattle.lfs_law.proofs.Walks.{walk-append, walk-none, step_some}
+use Rattle.lfs_law.proofs.Walks.{walk-none}
 
 -- ---- the walk of a path where something is
 
@@ -57,7 +58,7 @@ walk_reached v front (n ∷ ns) e there =
     (ap (option_map node) above.2 ∙ ap Some (shows_directory f.body f.attributes above.1 above.3))
     ∙ walk_reached v (front ++ n ∷ []) ns e (ap (entry_at v) (append_assoc front (n ∷ []) ns) ∙ there)
 
-some_entry : (o : Option Entry) (x : Node) → option_map node o ≡ Some x → (e : Entry) × (o ≡ Some e)
+pub some_entry : (o : Option Entry) (x : Node) → option_map node o ≡ Some x → (e : Entry) × (o ≡ Some e)
 some_entry None x h = absurd (none-some x h)
 some_entry (Some e) x h = (e, refl)
 

@@ -1,20 +1,12 @@
 -- What sends, one after another, send of a text.
-use Rattle.std.proofs.Common.{◌≡◌, ◌<◌, ◌≤◌, ◌+◌, ℕ, List, [], ◌∷◌, ◌++◌, Option, None, Some, take, length, sym, ap, subst, ◌∙◌, append_assoc, append-nil, arith, length-append}
+use Rattle.std.proofs.Common.{◌≡◌, ◌<◌, ◌≤◌, ◌+◌, ℕ, List, ◌∷◌, ◌++◌, Option, take, length, sym, ap, subst, ◌∙◌, append_assoc, arith}
+use Rattle.std.proofs.Common.{length-append}
 use Rattle.std.proofs.Math.Seq.{take-append-add}
 use Rattle.std.proofs.lemmas.List.{take-append-le}
 use Rattle.std.specs.List.{concat}
 use Rattle.std.specs.Io.KnownBytes.{Appends}
 use Rattle.lfs_sink.specs.Send.{SendsBeginning}
-
-pub appends_then : (a b c : Option (List ℕ)) (first second : List ℕ) → Appends a b first → Appends b c second → Appends a c (first ++ second)
-appends_then None b c first second p q = tt
-appends_then (Some xs) None c first second p q = absurd p
-appends_then (Some xs) (Some ys) None first second p q = absurd q
-appends_then (Some xs) (Some ys) (Some zs) first second p q = q ∙ ap (λ l. l ++ second) p ∙ append_assoc xs first second
-
-pub appends_none : (a : Option (List ℕ)) → Appends a a []
-appends_none None = tt
-appends_none (Some xs) = sym (append-nil xs)
+use Rattle.lfs_sink.proofs.SendLemmas.{appends_then}
 
 -- one more slice goes out
 pub slice_sent : (a b c : Option (List ℕ)) (text front slice : List ℕ) (later : List (List ℕ)) → front ++ concat (slice ∷ later) ≡ text

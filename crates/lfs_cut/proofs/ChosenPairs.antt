@@ -15,6 +15,8 @@ use Rattle.lfs_fs.specs.Weight.{superblock_weight}
 use Rattle.lfs_fs.specs.Directory.{Part, Directory, thread}
 use Rattle.lfs_fs.specs.Volume.{Volume}
 use Rattle.lfs_fs.specs.Uses.{times}
+use Rattle.lfs_fs.proofs.PairLemmas.{same_pair-symmetric}
+use Rattle.lfs_fs.proofs.CountLemmas.{element_le}
 use Rattle.lfs_cut.specs.declared.overflow.Overflow.{Overflow}
 use Rattle.lfs_command.specs.Cut.{room, runs, new_pairs, HasEnough, new_pair_uses}
 use Rattle.lfs_command.specs.Need.{dirty_parts, part_blocks}
@@ -24,20 +26,11 @@ use Rattle.lfs_cut.specs.Chosen.{PairRow, chosen_for, pair_blocks, row_blocks, o
 use Rattle.lfs_law.proofs.Decided.{same_pair_decides}
 use Rattle.lfs_law.proofs.OutlineRoom.{sum_over}
 use Rattle.lfs_law.proofs.NamedBlocks.{sum_zero, times_flat}
-use Rattle.lfs_law.proofs.WrittenLemmas.{one_le}
-use Rattle.lfs_cut.proofs.SetPartLemmas.{sum_set}
-use Rattle.lfs_cut.proofs.SumLemmas.{sum_same, sum_flat, sum_both, sum_counted, sum_one}
+use Rattle.lfs_law.proofs.CommandsWritten.{sum_both}
+use Rattle.lfs_law.proofs.Needs.{sum_set}
+use Rattle.lfs_cut.proofs.SumLemmas.{sum_same, sum_flat, sum_counted, sum_one}
 
 -- ---- one test for pairs
-
-same_by : (p q : Pair) (t u : Bool) → same_pair p q ≡ t → same_pair q p ≡ u → t ≡ u
-same_by p q true true h k = refl
-same_by p q false false h k = refl
-same_by p q true false h k = sym (sym k ∙ (same_pair_decides q p).1 (sym ((same_pair_decides p q).0 h)))
-same_by p q false true h k = sym h ∙ (same_pair_decides p q).1 (sym ((same_pair_decides q p).0 k))
-
-either_way : (p q : Pair) → same_pair p q ≡ same_pair q p
-either_way p q = same_by p q (same_pair p q) (same_pair q p) refl refl
 
 -- ---- all rows for a pair
 
@@ -109,7 +102,7 @@ few_rows bytes superblock ps gs rows same is k once =
       arith,
       one_overflow f (overflow bytes superblock p) (is_overfull bytes superblock p),
       at_most (is_overfull bytes superblock p) (same_pair k p.pair),
-      ap (λ (t : Bool). cond {A = ℕ} t 1 0) (either_way k p.pair),
+      ap (λ (t : Bool). cond {A = ℕ} t 1 0) (same_pair-symmetric k p.pair),
     )) in
     omega (arith, all, le, once)
   where
@@ -145,7 +138,7 @@ enough_for bytes superblock ps gs rows same is p there once set =
     ∙ sum_one (λ (q : Part). sum_by f (overflow_of bytes superblock q)) (λ (q : Part). same_pair q.pair p.pair) ps p there once own_pair
     (λ q other. one_overflow f (overflow bytes superblock q) (is_overfull bytes superblock q)
     ∙ ap (λ (t : Bool). cond {A = ℕ} (is_overfull bytes superblock q) (cond {A = ℕ} t (overflow bytes superblock q).len 0) 0)
-    (either_way p.pair q.pair ∙ other) ∙ zero (is_overfull bytes superblock q))
+    (same_pair-symmetric p.pair q.pair ∙ other) ∙ zero (is_overfull bytes superblock q))
     ∙ one_overflow f (overflow bytes superblock p) (is_overfull bytes superblock p)
     ∙ ap (λ (t : Bool). cond {A = ℕ} (is_overfull bytes superblock p) (cond {A = ℕ} t (length (runs_by bytes superblock p) - 1) 0) 0) own_pair
     ∙ overflow_len p (length (runs_by bytes superblock p)) set
@@ -206,7 +199,7 @@ for_one bytes superblock ps gs rows same is once =
     (λ p there. one_overflow f (overflow bytes superblock p) (is_overfull bytes superblock p)
     ∙ set_there p there p.dirty (nat_lt 1 (length (runs_by bytes superblock p))) refl) in
     All-weaker (Contains rows) (λ r. set_with ps r.0 ≡ 1)
-    (λ r there. omega (arith, none, one_le (λ (x : PairRow). f (overflow_for x)) rows r there, set_are_few r.0, once r.0)) rows
+    (λ r there. omega (arith, none, element_le (λ (x : PairRow). f (overflow_for x)) rows r there, set_are_few r.0, once r.0)) rows
     (All-contains_itself rows)
   where
     set_there : (p : Part) → Contains ps p → (t u : Bool) → p.dirty ≡ t → cond {A = ℕ} (t && u) (1 - set_with ps p.pair) 0 ≡ 0
@@ -214,7 +207,7 @@ for_one bytes superblock ps gs rows same is once =
         let here : cond {A = ℕ} (p.dirty && same_pair p.pair p.pair) 1 0 ≡ 1 =
         ap (λ (t : Bool). cond {A = ℕ} (t && same_pair p.pair p.pair) 1 0) set
         ∙ ap (λ (t : Bool). cond {A = ℕ} t 1 0) ((same_pair_decides p.pair p.pair).1 refl) in
-        omega (arith, here, one_le (λ (q : Part). cond {A = ℕ} (q.dirty && same_pair q.pair p.pair) 1 0) ps p there)
+        omega (arith, here, element_le (λ (q : Part). cond {A = ℕ} (q.dirty && same_pair q.pair p.pair) 1 0) ps p there)
     set_there p there true false set = refl
     set_there p there false u set = refl
 

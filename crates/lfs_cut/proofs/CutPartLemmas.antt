@@ -1,7 +1,8 @@
 -- Parts and directories that are cut where they stand.
 use Rattle.std.proofs.Common.{◌≡◌, ℕ, Bool, true, false, List, [], ◌∷◌, ◌++◌, refl, ap, sym, ◌∙◌}
-use Rattle.std.specs.Prelude.{if◌then◌else◌, ◌||◌}
+use Rattle.std.specs.Prelude.{if◌then◌else◌}
 use Rattle.std.specs.List.{list_any}
+use Rattle.std.proofs.lemmas.Bool.{or_parts}
 use Rattle.lfs_meta.specs.Body.{Pair}
 use Rattle.lfs_meta.specs.Runs.{later_runs}
 use Rattle.lfs_fs.specs.Pair.{same_pair}
@@ -21,10 +22,6 @@ same_choice (r ∷ rows) p q same =
 
 -- ---- parts that are not set
 
-either_false : (a b : Bool) → (a || b) ≡ false → (a ≡ false) × (b ≡ false)
-either_false true b h = (h, cc)
-either_false false b h = (refl, h)
-
 head_stays : (bytes superblock : ℕ) (p : Part) → p.dirty ≡ false → head_by bytes superblock p ≡ p
 head_stays bytes superblock p is = rw is refl
 
@@ -35,7 +32,7 @@ all_stay : (bytes superblock : ℕ) (rows : List PairRow) (ps : List Part) → l
     → cut_all bytes superblock rows ps ≡ ps
 all_stay bytes superblock rows [] none = refl
 all_stay bytes superblock rows (p ∷ ps) none =
-    let both = either_false p.dirty (list_any (λ q. q.dirty) ps) none in
+    let both = or_parts p.dirty (list_any (λ q. q.dirty) ps) none in
     ap (λ (q : Part). q ∷ (tail_by bytes superblock rows p ++ cut_all bytes superblock rows ps)) (head_stays bytes superblock p both.0)
     ∙ ap (λ (qs : List Part). p ∷ (qs ++ cut_all bytes superblock rows ps)) (no_tail bytes superblock rows p both.0)
     ∙ ap (λ (qs : List Part). p ∷ qs) (all_stay bytes superblock rows ps both.1)
@@ -43,7 +40,7 @@ all_stay bytes superblock rows (p ∷ ps) none =
 pub none_set : (bytes superblock : ℕ) (rows : List PairRow) (d : Directory) → list_any (λ p. p.dirty) (parts d) ≡ false
     → d ≡ directory_by bytes superblock rows d
 none_set bytes superblock rows d none =
-    let both = either_false d.first.dirty (list_any (λ q. q.dirty) d.more) none in
+    let both = or_parts d.first.dirty (list_any (λ q. q.dirty) d.more) none in
     sym (ap (λ (p : Part). record { first = p; more = tail_by bytes superblock rows d.first ++ cut_all bytes superblock rows d.more })
     (head_stays bytes superblock d.first both.0)
     ∙ ap (λ (qs : List Part). record { first = d.first; more = qs ++ cut_all bytes superblock rows d.more })

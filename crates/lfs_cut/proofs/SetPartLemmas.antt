@@ -1,7 +1,7 @@
 -- What is said of the parts that are set, directory by directory.
-use Rattle.std.proofs.Common.{◌≡◌, ℕ, ◌+◌, Bool, true, false, cond, List, [], ◌∷◌, refl, ap, sym, ◌∙◌, arith}
-use Rattle.std.specs.Prelude.{◌||◌, if◌then◌else◌, sum_by}
-use Rattle.std.specs.List.{filter, list_any}
+use Rattle.std.proofs.Common.{◌≡◌, ℕ, Bool, List, [], ◌∷◌, refl, ap, sym, ◌∙◌, arith}
+use Rattle.std.specs.Prelude.{◌||◌, sum_by}
+use Rattle.std.specs.List.{list_any}
 use Rattle.std.proofs.lemmas.List.Folds.{list_any-append}
 use Rattle.std.proofs.lemmas.List.Concat.{flat_map-cons}
 use Rattle.std.proofs.lemmas.List.Sums.{sum_by-cons, sum_by-append}
@@ -14,6 +14,7 @@ use Rattle.lfs_law.specs.OutlineCarried.{has_too_large}
 use Rattle.lfs_cut.specs.SetParts.{is_set_too_large, has_too_large_by, set_blocks, set_blocks_of}
 use Rattle.lfs_command.specs.Verdict.{is_too_large}
 use Rattle.lfs_law.proofs.LargeParts.{any_set}
+use Rattle.lfs_law.proofs.Needs.{sum_set}
 
 any_thread : (f : Part → Bool) (ds : List Directory) → list_any f (thread ds) ≡ list_any (λ d. list_any f (parts d)) ds
 any_thread f [] = refl
@@ -24,17 +25,6 @@ pub any_large_part : (v : Volume) (bytes superblock : ℕ) → bytes ≡ room v 
 any_large_part v bytes superblock is weighs =
     rw (is, weighs) (sym (any_thread (is_set_too_large (room v) (superblock_weight v.attributes)) v.directories)
     ∙ sym (any_set (is_too_large v) (thread v.directories)))
-
-sum_set_by : (f : Part → ℕ) (p : Part) (ps : List Part) (t : Bool) → sum_by f (filter (λ q. q.dirty) ps)
-    ≡ sum_by (λ q. if q.dirty then f q else 0) ps
-    → sum_by f (if t then p ∷ filter (λ q. q.dirty) ps else filter (λ q. q.dirty) ps)
-    ≡ (if t then f p else 0) + sum_by (λ q. if q.dirty then f q else 0) ps
-sum_set_by f p ps true rest = omega (arith, rest, sum_by-cons f p (filter (λ (q : Part). q.dirty) ps))
-sum_set_by f p ps false rest = omega (arith, rest)
-
-pub sum_set : (f : Part → ℕ) (ps : List Part) → sum_by f (filter (λ p. p.dirty) ps) ≡ sum_by (λ p. if p.dirty then f p else 0) ps
-sum_set f [] = refl
-sum_set f (p ∷ ps) = sum_set_by f p ps p.dirty (sum_set f ps) ∙ sym (sum_by-cons (λ (q : Part). cond {A = ℕ} q.dirty (f q) 0) p ps)
 
 pub sum_thread : (f : Part → ℕ) (ds : List Directory) → sum_by f (thread ds) ≡ sum_by (λ d. sum_by f (parts d)) ds
 sum_thread f [] = refl

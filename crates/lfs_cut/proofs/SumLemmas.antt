@@ -3,8 +3,8 @@ use Rattle.std.proofs.Common.{◌≡◌, ℕ, ◌+◌, ◌*◌, ◌≤◌, Bool,
 use Rattle.std.specs.Prelude.{Contains, flat_map, count_by, sum_by}
 use Rattle.std.proofs.lemmas.List.Concat.{flat_map-cons}
 use Rattle.std.proofs.lemmas.List.Sums.{sum_by-cons, sum_by-append}
-use Rattle.lfs_law.proofs.KeptLinks.{contains_cases}
-use Rattle.lfs_law.proofs.WrittenLemmas.{one_le}
+use Rattle.lfs_fs.proofs.ContainsLemmas.{contains_cases}
+use Rattle.lfs_fs.proofs.CountLemmas.{element_le}
 
 pub sum_same : {X : Type 0} (f g : X → ℕ) (xs : List X) → ((x : X) → f x ≡ g x) → sum_by f xs ≡ sum_by g xs
 sum_same f g [] same = refl
@@ -20,10 +20,6 @@ sum_flat h f (x ∷ xs) =
       sum_flat h f xs,
       sum_by-cons (λ y. sum_by h (f y)) x xs,
     )
-
-pub sum_both : {X : Type 0} (f g : X → ℕ) (xs : List X) → sum_by (λ x. f x + g x) xs ≡ sum_by f xs + sum_by g xs
-sum_both f g [] = refl
-sum_both f g (x ∷ xs) = omega (arith, sum_by-cons (λ y. f y + g y) x xs, sum_by-cons f x xs, sum_by-cons g x xs, sum_both f g xs)
 
 -- the same number for each element that passes a test, of which there is one
 pub sum_counted : {X : Type 0} (t : X → Bool) (n : ℕ) (xs : List X) → sum_by (λ x. cond {A = ℕ} (t x) n 0) xs ≡ count_by t xs * n
@@ -71,7 +67,7 @@ sum_one {X} f t (y ∷ ys) x there once passes zero = elim (contains_cases y ys 
       let none : count_by t ys ≡ 0 = omega (arith, once, one, sum_by-cons (λ z. cond {A = ℕ} (t z) 1 0) y ys) in
       omega (arith, sum_by-cons f y ys, none_passes f t ys none zero, ap f here))
   | inr later ↦
-      (let some : cond {A = ℕ} (t x) 1 0 ≤ count_by t ys = one_le (λ z. cond {A = ℕ} (t z) 1 0) ys x later in
+      (let some : cond {A = ℕ} (t x) 1 0 ≤ count_by t ys = element_le (λ z. cond {A = ℕ} (t z) 1 0) ys x later in
       let one : cond {A = ℕ} (t x) 1 0 ≡ 1 = ap (λ (b : Bool). cond {A = ℕ} b 1 0) passes in
       let not_here : t y ≡ false = out (t y) (omega (arith, once, one, some, sum_by-cons (λ z. cond {A = ℕ} (t z) 1 0) y ys)) in
       let few : count_by t ys ≤ 1 = omega (arith, once, sum_by-cons (λ z. cond {A = ℕ} (t z) 1 0) y ys) in

@@ -1,6 +1,6 @@
 -- A list of entries that is split into runs, one entry after another (own).
 use Rattle.std.specs.Prelude.{◌≡◌, ℕ, ◌≤◌, List, [], ◌∷◌, ◌++◌}
-use Rattle.lfs_meta.specs.Runs.{runs_after}
+use Rattle.lfs_meta.specs.Runs.{runs_after, most_entries}
 use Rattle.lfs_fs.specs.Entry.{Entry}
 use Rattle.lfs_fs.specs.Weight.{weight}
 
@@ -14,4 +14,4 @@ pub record IsSplitTo (whole : List (List Entry)) (room : ℕ) (runs : List (List
     (left : List Entry) : Type 0 where
   pub is : whole ≡ runs ++ with_run run (runs_after weight room taken len left)
   pub light : taken ≤ 330244
-  pub few : len ≤ 1000
+  pub few : len ≤ most_entries

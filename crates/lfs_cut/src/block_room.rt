@@ -1,7 +1,7 @@
 //! What a block has room for, and what stands in it before its entries.
 
 ghost use Rattle.std.specs.Prelude.{◌≡◌, ◌≤◌, List};
-ghost use Rattle.lfs_meta.specs.Runs.{runs_after};
+ghost use Rattle.lfs_meta.specs.Runs.{runs_after, most_entries};
 ghost use Rattle.lfs_fs.specs.Entry.{Entry};
 ghost use Rattle.lfs_fs.specs.Pair.{root, same_pair};
 ghost use Rattle.lfs_fs.specs.Weight.{superblock_weight, weight};
@@ -52,7 +52,7 @@ pub(crate) fn is_root(pair: (u32, u32)) -> bool
 pub(crate) fn begun_run(room: BlockRoom, pair: (u32, u32)) -> (u32, usize)
     ensures runs { (es : List Entry) → runs_after weight room.bytes result.0 result.1 es ≡ runs_at room.bytes room.superblock pair es }
     ensures light { result.0 ≤ 330244 }
-    ensures few { result.1 ≤ 1000 }
+    ensures few { result.1 ≤ most_entries }
 {
     if is_root(pair) {
         (room.superblock, 1)

@@ -19,5 +19,4 @@ pub use cleaning::clean;
 pub use cutting::cut;
 pub use new_pairs::NewPairs;
 pub use room_check::needed;
-pub use runs::run_takes;
 pub use weighing::weight;

@@ -1,34 +1,21 @@
 //! How many runs the entries of a part make.
 
 ghost use Rattle.std.specs.Prelude.{◌≡◌, ◌+◌, ◌<◌, ◌≤◌, ◌^◌, length};
-ghost use Rattle.lfs_meta.specs.Runs.{runs_after, run_takes};
+ghost use Rattle.lfs_meta.specs.Runs.{most_entries, runs_after};
 ghost use Rattle.lfs_fs.specs.Weight.{weight};
 ghost use Rattle.lfs_law.specs.PartsCut.{runs_by};
 
 use crate::block_room::{BlockRoom, begun_run};
 use crate::weighing::weight;
 use lfs_fs::{OutlineEntry, OutlinePart};
-
-/// The most entries of one pair.
-const MOST_ENTRIES: usize = 1_000;
-
-/// Whether a run that weighs `taken` and has `len` entries takes one more of weight `next`: it weighs no more than the room, and has at
-/// most 1,000 entries. Takes no memory.
-///
-/// Source: own.
-pub fn run_takes(room: u32, taken: u32, len: usize, next: u32) -> bool
-    requires { taken + next < 2 ^ 32 }
-    ensures { result ≡ run_takes room taken len next }
-{
-    taken + next <= room && len < MOST_ENTRIES
-}
+use lfs_meta::run_takes;
 
 /// The number of runs of entries where a block has `room` bytes for them and the first run weighs `taken` and has `len` entries
 /// already, as `split` makes them. Takes no memory.
 pub(crate) fn run_count(entries: &[OutlineEntry], room: u32, taken: u32, len: usize) -> usize
     requires room { room ≤ 65536 }
     requires light { taken ≤ 330244 }
-    requires few { len ≤ 1000 }
+    requires few { len ≤ most_entries }
     ensures { result ≡ length (runs_after weight room taken len entries.now) }
 {
     let mut count = 1;

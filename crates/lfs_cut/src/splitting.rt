@@ -1,12 +1,12 @@
 //! How the entries of a part that overflows are split into runs.
 
 ghost use Rattle.std.specs.Prelude.{◌≡◌, ◌+◌, ◌<◌, ◌≤◌, ◌^◌, map, IfOk};
-ghost use Rattle.lfs_meta.specs.Runs.{runs_after, run_takes};
+ghost use Rattle.lfs_meta.specs.Runs.{most_entries, runs_after, run_takes};
 ghost use Rattle.lfs_fs.specs.Weight.{weight};
 
-use crate::runs::run_takes;
 use crate::weighing::weight;
 use lfs_fs::OutlineEntry;
+use lfs_meta::run_takes;
 use std::alloc::{AllocError, Global};
 
 /// Runs of entries, the last of which is at work.
@@ -45,7 +45,7 @@ impl Splitting {
     fn add(&mut self, alloc: Global, room: u32, entry: OutlineEntry) -> Result<(), AllocError>
         requires room { room ≤ 65536 }
         requires light { self.old.taken ≤ 330244 }
-        requires few { self.old.len ≤ 1000 }
+        requires few { self.old.len ≤ most_entries }
         ensures { OnOk result ((whole : List (List Entry)) (left : List Entry)
             → IsSplitTo whole room (map (λ run. run.items) self.old.done.items) self.old.run.items self.old.taken self.old.len (entry ∷ left)
             → IsSplitTo whole room (map (λ run. run.items) self.new.done.items) self.new.run.items self.new.taken self.new.len left) }
@@ -72,7 +72,7 @@ pub(crate) fn split(
 ) -> Result<Vec<Vec<OutlineEntry>>, AllocError>
     requires room { room ≤ 65536 }
     requires light { taken ≤ 330244 }
-    requires few { len ≤ 1000 }
+    requires few { len ≤ most_entries }
     ensures { IfOk result (λ runs. map (λ run. run.items) runs.items ≡ runs_after weight room taken len entries.items) }
 {
     let mut splitting = Splitting {

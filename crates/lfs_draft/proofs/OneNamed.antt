@@ -1,7 +1,7 @@
 -- The one entry of a name in the parts of a directory.
 use Rattle.std.proofs.Common.{◌≡◌, ℕ, ◌+◌, ◌<◌, ◌≤◌, suc, zero, Bool, true, false, List, [], ◌∷◌, length, map, refl, ap, sym, ◌∙◌, arith}
 use Rattle.std.proofs.Common.{cond}
-use Rattle.std.specs.Prelude.{if◌then◌else◌, count_by, find, flat_map, slice_index_or, None}
+use Rattle.std.specs.Prelude.{if◌then◌else◌, count_by, find, slice_index_or, None}
 use Rattle.std.specs.List.{list_any}
 use Rattle.std.proofs.lemmas.List.Sums.{sum_by-append}
 use Rattle.lfs_meta.specs.Name.{Name}
@@ -10,6 +10,7 @@ use Rattle.lfs_fs.specs.Directory.{Part}
 use Rattle.lfs_command.specs.EntryEdit.{changed}
 use Rattle.lfs_command.specs.DirectoryEdit.{touch, has_name, change_in}
 use Rattle.lfs_law.proofs.OneElement.{where_passes, where_none, none_counted, count_cases}
+use Rattle.lfs_law.proofs.DirectoryEdits.{entries_of}
 
 -- what is there is counted, what isn't is not
 some_counted : {X : Type 0} (t : X → Bool) (xs : List X) → list_any t xs ≡ true → 1 ≤ count_by t xs
@@ -20,21 +21,17 @@ none_found : {X : Type 0} (t : X → Bool) (xs : List X) → list_any t xs ≡ f
 none_found t [] none = refl
 none_found t (x ∷ xs) none = grind (arith, none_found t xs)
 
--- entries that all parts have
-abbrev pub all_entries : List Part → List Entry
-all_entries ps = flat_map (λ p. p.entries) ps
-
-count_parts : (n : Name) (p : Part) (ps : List Part) → count_by (is_named n) (all_entries (p ∷ ps))
-    ≡ count_by (is_named n) p.entries + count_by (is_named n) (all_entries ps)
-count_parts n p ps = sum_by-append (λ (x : Entry). cond {A = ℕ} (is_named n x) 1 0) p.entries (all_entries ps)
+pub count_parts : (n : Name) (p : Part) (ps : List Part) → count_by (is_named n) (entries_of (p ∷ ps))
+    ≡ count_by (is_named n) p.entries + count_by (is_named n) (entries_of ps)
+count_parts n p ps = sum_by-append (λ (x : Entry). cond {A = ℕ} (is_named n x) 1 0) p.entries (entries_of ps)
 
 -- the parts that have it are one at most, and each has it once at most
-pub few_have : (n : Name) (ps : List Part) → count_by (has_name n) ps ≤ count_by (is_named n) (all_entries ps)
+pub few_have : (n : Name) (ps : List Part) → count_by (has_name n) ps ≤ count_by (is_named n) (entries_of ps)
 few_have n [] = omega arith
 few_have n (p ∷ ps) = grind (arith, count_cases (has_name n) p ps, count_parts n p ps, some_counted (is_named n) p.entries, few_have n ps)
 
 pub few_in : (n : Name) (ps : List Part) (i : ℕ) (d : Part) → i < length ps
-    → count_by (is_named n) (slice_index_or ps i d).entries ≤ count_by (is_named n) (all_entries ps)
+    → count_by (is_named n) (slice_index_or ps i d).entries ≤ count_by (is_named n) (entries_of ps)
 few_in n [] i d within = absurd (omega arith)
 few_in n (p ∷ ps) zero d within = omega (arith, count_parts n p ps)
 few_in n (p ∷ ps) (suc i) d within = omega (arith, count_parts n p ps, few_in n ps i d (omega arith))
@@ -64,7 +61,7 @@ where_named n f (p ∷ ps) = by (has_name n p) refl (where_named n f ps)
 -- ---- the first part, and the others
 
 pub changed_in_first : (n : Name) (f : Entry → Entry) (p new : Part) (ps : List Part) → has_name n p ≡ true
-    → count_by (is_named n) (all_entries (p ∷ ps)) ≤ 1 → new ≡ touch true (changed n f) p
+    → count_by (is_named n) (entries_of (p ∷ ps)) ≤ 1 → new ≡ touch true (changed n f) p
     → record { first = new; more = ps } ≡ change_in n f (record { first = p; more = ps })
 changed_in_first n f p new ps has once is =
     let none : count_by (has_name n) ps ≡ 0 = omega (arith, count_parts n p ps, some_counted (is_named n) p.entries has, few_have n ps) in

@@ -19,9 +19,7 @@ use std::alloc::{AllocError, Global};
 pub(crate) fn has_name(part: &OutlinePart, name: &[u8]) -> bool
     ensures { result ≡ has_name name.now part.now }
 {
-    part.entries
-        .iter()
-        .any(|entry| name == entry.name.as_slice())
+    part.entries.iter().any(|entry| entry.is_named(name))
 }
 
 /// Whether an entry of a part has a greater name.

@@ -39,7 +39,7 @@ pub(crate) fn take_out(entries: &mut Vec<OutlineEntry>, name: &[u8])
     entries.retain(
         |entry| -> bool
             ensures { result ≡ not (is_named name.entry.now entry.now) }
-        { name != entry.name.as_slice() },
+        { !entry.is_named(name) },
     );
 }
 
@@ -47,9 +47,7 @@ pub(crate) fn take_out(entries: &mut Vec<OutlineEntry>, name: &[u8])
 fn index_of(entries: &[OutlineEntry], name: &[u8]) -> Option<usize>
     ensures { result ≡ position (is_named name.now) entries.now }
 {
-    entries
-        .iter()
-        .position(|entry| name == entry.name.as_slice())
+    entries.iter().position(|entry| entry.is_named(name))
 }
 
 /// Changes the entry of a name. The caller owes that no two entries have it, and what `change_entry` asks. Want of memory

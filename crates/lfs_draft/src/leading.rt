@@ -2,16 +2,15 @@
 
 ghost use Rattle.std.specs.Prelude.{◌≡◌, find, map};
 ghost use Rattle.std.specs.Option.{option_map};
-ghost use Rattle.lfs_fs.specs.Directory.{begins_at, parts};
+ghost use Rattle.lfs_fs.specs.Directory.{parts};
 ghost use Rattle.lfs_command.specs.DirectoryEdit.{has_name};
 ghost use Rattle.lfs_command.specs.NamedCommand.{named_command};
 ghost use Rattle.lfs_draft.specs.Leading.{leading_pair, pair_in, path_of};
 
 use crate::directory_edit::has_name;
 use crate::home::home_of;
-use crate::thread_edit::begins_at;
 use lfs_command::NamedCommand;
-use lfs_fs::{Outline, OutlineDirectory, OutlinePart};
+use lfs_fs::{Outline, OutlineDirectory, OutlinePart, directory_at};
 
 /// The first of these parts that has an entry of a name. Takes no memory.
 fn part_among<'a>(parts: &'a [OutlinePart], name: &[u8]) -> Option<&'a OutlinePart>
@@ -39,15 +38,6 @@ fn pair_in(directory: &OutlineDirectory, name: &[u8]) -> Option<(u32, u32)>
     Some(part.pair)
 }
 
-/// The first of these directories that begins at a pair. Takes no memory.
-fn beginning_at(directories: &[OutlineDirectory], pair: (u32, u32)) -> Option<&OutlineDirectory>
-    ensures { option_map (λ d. d.now) result ≡ find (begins_at pair) directories.now }
-{
-    directories
-        .iter()
-        .find(|directory| begins_at(pair, directory))
-}
-
 /// The path of a command; of a move the one from which.
 fn path_of<'b, 'a>(command: &'b NamedCommand<'a>) -> &'b [&'a [u8]]
     ensures { map (λ n. n.now) result.now ≡ path_of (named_command command.now) }
@@ -69,6 +59,6 @@ pub fn leading_pair(outline: &Outline, command: &NamedCommand<'_>) -> Option<(u3
     ensures { result ≡ leading_pair outline.now (named_command command.now) }
 {
     let home = home_of(outline, path_of(command)).ok()?;
-    let directory = beginning_at(&outline.directories, home.pair)?;
+    let directory = directory_at(&outline.directories, home.pair)?;
     pair_in(directory, home.name)
 }

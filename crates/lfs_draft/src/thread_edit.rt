@@ -13,26 +13,13 @@ use crate::entry_change::EntryChange;
 use lfs_fs::{OutlineDirectory, OutlineEntry};
 use std::alloc::{AllocError, Global};
 
-/// Whether a directory begins at a pair, the lesser block of which stands first.
-pub(crate) fn begins_at(pair: (u32, u32), directory: &OutlineDirectory) -> bool
-    ensures { result ≡ begins_at pair directory.now }
-{
-    let (first, second) = directory.first.pair;
-    let key = if first <= second {
-        (first, second)
-    } else {
-        (second, first)
-    };
-    pair.0 == key.0 && pair.1 == key.1
-}
-
 /// The place of the first directory that begins at a pair, the lesser block of which stands first.
 pub(crate) fn directory_of(directories: &[OutlineDirectory], pair: (u32, u32)) -> Option<usize>
     ensures { result ≡ position (begins_at pair) directories.now }
 {
     directories
         .iter()
-        .position(|directory| begins_at(pair, directory))
+        .position(|directory| directory.begins_at(pair))
 }
 
 /// Puts an entry into the directory of a pair. The caller owes that no two directories begin there. Want of memory changes

@@ -11,10 +11,7 @@ ghost use Rattle.lfs_law.specs.PairWalk.{pair_at};
 ghost use Rattle.lfs_law.specs.WalkRefusal.{refuses_at, walk_all};
 
 use lfs_command::Refusal;
-use lfs_fs::{OutlineDirectory, entry_in};
-
-/// The root's first pair.
-const ROOT: (u32, u32) = (0, 1);
+use lfs_fs::{OutlineDirectory, ROOT, entry_in};
 
 /// The directory under a name in the directory of a pair: `NotFound` where nothing is there, `NotADirectory` where a file is.
 fn step(

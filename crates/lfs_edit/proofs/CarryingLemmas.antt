@@ -21,6 +21,8 @@ use Rattle.lfs_fs.specs.Stored.{HoldsLinks}
 use Rattle.lfs_fs.specs.Thread.{links}
 use Rattle.lfs_fs.specs.Uses.{times, uses}
 use Rattle.lfs_fs.specs.Volume.{Volume}
+use Rattle.lfs_fs.proofs.ContainsLemmas.{contains_first}
+use Rattle.lfs_fs.proofs.CountLemmas.{element_le}
 use Rattle.lfs_command.specs.Accepted.{AreChosen, Follows, IsAccepted}
 use Rattle.lfs_draft.specs.LeastSupplies.{least_pair, made_blocks}
 use Rattle.lfs_edit.specs.Carried.{IsCutOver, IsFinished, IsReady, WritesOver, supplies_of}
@@ -34,7 +36,7 @@ use Rattle.lfs_command.specs.Edited.{edited}
 use Rattle.lfs_command.specs.Need.{data_blocks, is_new_to, need}
 use Rattle.lfs_law.specs.OutlineCarried.{IsCarried}
 use Rattle.lfs_law.specs.OutlineLaws.{WritesOutline}
-use Rattle.lfs_command.specs.Planned.{IsFrugal, Plans, TakesLeast}
+use Rattle.lfs_command.specs.Planned.{CarriesOut, IsFrugal, Plans, TakesLeast}
 use Rattle.lfs_law.specs.PlansHold.{is_unmarked}
 use Rattle.lfs_law.specs.PlansWritten.{WritesCommand}
 use Rattle.lfs_command.specs.Supplies.{AreFree, Supplies, supply_uses}
@@ -43,10 +45,9 @@ use Rattle.lfs_law.specs.WrittenLinks.{AreWritten, changed_blocks}
 use Rattle.lfs_law.proofs.Decided.{same_pair_decides}
 use Rattle.lfs_law.proofs.FreeBlocks.{taken_unused}
 use Rattle.lfs_law.proofs.FrugalPlans.{enough_free}
-use Rattle.lfs_law.proofs.KeptLinks.{contains_first}
 use Rattle.lfs_law.proofs.LinksAdded.{first_used}
 use Rattle.lfs_edit.proofs.Supplied.{supplies_taken}
-use Rattle.lfs_law.proofs.WrittenLemmas.{one_le, part_uses, sum_thread}
+use Rattle.lfs_law.proofs.WrittenLemmas.{part_uses, sum_thread}
 
 -- ---- marks are taken off an outline as off its volume
 
@@ -75,7 +76,7 @@ outlined_clean w =
 blocks_differ : (v : Volume) → IsSound v → (p : Part) → Contains (thread v.directories) p → p.pair.0 ≡ p.pair.1 → ⊥
 blocks_differ v sound p there same =
     let le : part_uses p.pair.0 p ≤ sum_by (part_uses p.pair.0) (thread v.directories) =
-    one_le (part_uses p.pair.0) (thread v.directories) p there in
+    element_le (part_uses p.pair.0) (thread v.directories) p there in
     let twice : 2 ≤ times p.pair.0 (p.pair.0 ∷ p.pair.1 ∷ []) = grind (arith, nat_tests) in
     omega (arith, le, twice, sum_thread p.pair.0 v.directories, sound.once p.pair.0)
 
@@ -86,7 +87,7 @@ differs_by v sound p there [] none is = blocks_differ v sound p there (ap (λ (q
 differs_by v sound p there (a ∷ []) none is = blocks_differ v sound p there (ap (λ (q : Pair). q.0) is ∙ sym (ap (λ (q : Pair). q.1) is))
 differs_by v sound p there (a ∷ b ∷ more) none is =
     let le : part_uses p.pair.0 p ≤ sum_by (part_uses p.pair.0) (thread v.directories) =
-    one_le (part_uses p.pair.0) (thread v.directories) p there in
+    element_le (part_uses p.pair.0) (thread v.directories) p there in
     let first : uses p.pair.0 v ≡ 0 = ap (λ (q : Pair). uses q.0 v) is ∙ none a (contains_first a (b ∷ more)) in
     omega (arith, le, first, first_used p.pair, sum_thread p.pair.0 v.directories)
 
@@ -250,23 +251,30 @@ finish laws d c used blocks o w p disk ready cuts says writes = record { plans =
     frugal : IsFrugal v c s (changed_blocks p.changes)
     frugal = laws.frugal d v held c s chosen writes.base p accepted pairs taken writes.contents volume
 
+    carried : CarriesOut c v (clean after)
+    carried = record {
+      supplies = s;
+      blocks = length-take-le (data_blocks v c) (free_blocks v) (omega (arith, within_need v c, enough_free v c ready.unrefused));
+      accepted = accepted;
+      chosen = chosen;
+      pairs = pairs;
+      taken = taken;
+      is = refl;
+    }
+
     plans : (asked : Asked) → Spells asked c → Plans d asked p
     plans asked spells = record {
       volume = v;
       holds = ready.holds;
       command = c;
       spells = spells;
-      supplies = s;
-      blocks = length-take-le (data_blocks v c) (free_blocks v) (omega (arith, within_need v c, enough_free v c ready.unrefused));
-      accepted = accepted;
-      chosen = chosen;
-      pairs = pairs;
+      next = clean after;
+      carried = carried;
       patch = writes.patch;
       stands = writes.stands;
       after = holds;
       filled = laws.filled d v after held writes.base p volume;
       frugal = frugal;
-      taken = taken;
       free = laws.freed v c s chosen accepted pairs;
     }
 

@@ -9,6 +9,7 @@ use Rattle.lfs_fs.specs.Entry.{Entry}
 use Rattle.lfs_fs.specs.Outlined.{outlined, outlined_entry, outlined_part}
 use Rattle.lfs_fs.specs.Volume.{Volume}
 use Rattle.lfs_fs.specs.Weight.{superblock_weight, weight}
+use Rattle.lfs_fs.proofs.ContainsLemmas.{contains_first, contains_later}
 use Rattle.lfs_command.specs.Accepted.{IsAccepted}
 use Rattle.lfs_command.specs.Command.{Command}
 use Rattle.lfs_command.specs.Cut.{is_first, room, runs}
@@ -17,7 +18,6 @@ use Rattle.lfs_law.specs.Laws.{CommandsFollow}
 use Rattle.lfs_command.specs.Need.{changed_parts, dirty_parts, is_new_to}
 use Rattle.lfs_command.specs.Supplies.{Supplies}
 use Rattle.lfs_law.proofs.FreshPairs.{edited_zero}
-use Rattle.lfs_law.proofs.KeptLinks.{contains_first, contains-cons}
 use Rattle.lfs_law.proofs.OutlineDirectories.{thread_outlined}
 
 -- a part takes more than a block
@@ -44,7 +44,7 @@ sum_le f g (x ∷ xs) le =
       sum_by-cons f x xs,
       sum_by-cons g x xs,
       le x (contains_first x xs),
-      sum_le f g xs (λ y there. le y (contains-cons x xs y there)),
+      sum_le f g xs (λ y there. le y (contains_later x xs y there)),
     )
 
 sum_map : {X Y : Type 0} (f : Y → ℕ) (g : X → Y) (xs : List X) → sum_by f (map g xs) ≡ sum_by (λ x. f (g x)) xs

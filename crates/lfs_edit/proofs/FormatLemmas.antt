@@ -1,6 +1,6 @@
 -- A root block filled up with erased bytes is a new image.
 use Rattle.std.proofs.Common.{◌≡◌, ℕ, ◌-◌, ◌*◌, ◌<◌, ◌≤◌, ◌^◌, List, [], ◌∷◌, ◌++◌, length, take, drop, refl, ap, sym, ◌∙◌, arith, subst}
-use Rattle.std.proofs.Common.{length-append, zero, suc, Some}
+use Rattle.std.proofs.Common.{length-append, Some}
 use Rattle.std.specs.Prelude.{replicate}
 use Rattle.std.proofs.Math.Nat.{mul-le-mul_left}
 use Rattle.std.proofs.Math.Seq.{take-append_seam, drop-append_seam}
@@ -9,27 +9,20 @@ use Rattle.std.proofs.lemmas.Nat.{from_le_bytes-to_le_bytes_4}
 use Rattle.lfs_block.specs.Bytes.{IsBytes}
 use Rattle.lfs_block.specs.Geometry.{IsGeometry}
 use Rattle.lfs_block.specs.Disk.{Disk, IsDisk, block_of}
+use Rattle.lfs_block.proofs.PutLemmas.{IsBytes-append}
 use Rattle.lfs_meta.specs.declared.tail.Tail.TheVariants.{End}
 use Rattle.lfs_meta.specs.Entry.{StoredEntry}
 use Rattle.lfs_meta.specs.Part.{StoredPart}
 use Rattle.lfs_meta.specs.LiveBlock.{stored_part_of}
 use Rattle.lfs_meta.specs.Spelling.{part_tags}
 use Rattle.lfs_meta.specs.Writing.{log_written, part_in, stored_part}
+use Rattle.lfs_file.proofs.LaidByteLemmas.{IsBytes-fill}
 use Rattle.lfs_fs.specs.Header.{IsHeader}
 use Rattle.lfs_fs.specs.LoneSuperblock.{LoneSuperblockMounts, IsLoneSuperblock}
 use Rattle.lfs_fs.specs.Pair.{root}
-use Rattle.lfs_law.specs.SuperblockBytes.{superblock_bytes, new_limits, new_superblock}
+use Rattle.lfs_fs.specs.Limits.{new_limits}
+use Rattle.lfs_law.specs.SuperblockBytes.{superblock_bytes, new_superblock}
 use Rattle.lfs_edit.specs.Formatted.{disk_with, root_block, IsFormatted}
-
-IsBytes-append : (xs ys : List ℕ) → IsBytes xs → IsBytes ys → IsBytes (xs ++ ys)
-IsBytes-append [] ys here there i = there i
-IsBytes-append (x ∷ xs) ys here there zero = here 0
-IsBytes-append (x ∷ xs) ys here there (suc i) = IsBytes-append xs ys (λ j. here (suc j)) there i
-
-IsBytes-erased : (n : ℕ) → IsBytes (replicate n 0xff)
-IsBytes-erased zero i = omega arith
-IsBytes-erased (suc n) zero = omega arith
-IsBytes-erased (suc n) (suc i) = IsBytes-erased n i
 
 -- the superblock's words are read back
 is_header : (size count : ℕ) → size < 2 ^ 32 → count < 2 ^ 32 → IsHeader size count (superblock_bytes size count new_limits)
@@ -60,7 +53,7 @@ whole size count first lone geometry len bytes is part =
     let is_disk : IsDisk disk = record {
       geometry = geometry;
       len = all_len;
-      bytes = IsBytes-append first rest bytes (IsBytes-erased (size * count - size));
+      bytes = IsBytes-append first rest bytes (IsBytes-fill (size * count - size));
     } in
     let no_blocks : 0 * size ≡ 0 = omega arith in
     let one_block : 1 * size ≡ length first = omega (arith, len) in

@@ -1,6 +1,6 @@
 -- A command that no check refuses, those on room aside: it can be edited, and then is refused for want of room, or ready to be cut.
-use Rattle.std.proofs.Common.{◌≡◌, ◌+◌, ◌<◌, ◌^◌, ◌++◌, ◌&&◌, ℕ, Bool, false, List, [], ◌∷◌, length, map, take, refl, ap, sym, ◌∙◌, subst}
-use Rattle.std.proofs.Common.{arith, inl, inr, Option, Some, None}
+use Rattle.std.proofs.Common.{◌≡◌, ◌+◌, ◌<◌, ◌^◌, ◌&&◌, ℕ, Bool, false, List, [], ◌∷◌, length, map, take, refl, ap, sym, ◌∙◌, subst}
+use Rattle.std.proofs.Common.{arith, inl, inr, Some, None}
 use Rattle.std.specs.Prelude.{◌⊎◌, Contains, is_none, nat_lt, sum_by}
 use Rattle.std.proofs.lemmas.Bool.Decides.{nat_tests}
 use Rattle.std.proofs.lemmas.List.{take_all}
@@ -22,6 +22,8 @@ use Rattle.lfs_fs.specs.Unused.{unused}
 use Rattle.lfs_fs.specs.Used.{Marks}
 use Rattle.lfs_fs.specs.Uses.{uses}
 use Rattle.lfs_fs.specs.Volume.{Volume}
+use Rattle.lfs_fs.proofs.ContainsLemmas.{contains_first}
+use Rattle.lfs_fs.proofs.OutlinedLemmas.{outlined_uses, outlined_free}
 use Rattle.lfs_command.specs.declared.named_command.NamedCommand.{NamedCommand}
 use Rattle.lfs_command.specs.declared.named_command.NamedCommand.TheVariants as case
 use Rattle.lfs_command.specs.declared.refusal.Refusal.{Refusal}
@@ -48,11 +50,9 @@ use Rattle.lfs_draft.proofs.EditableLemmas.{begin_once, each_named_once}
 use Rattle.lfs_edit.proofs.EditedSizes.{edited_size}
 use Rattle.lfs_law.proofs.FreeBlocks.{taken_unused}
 use Rattle.lfs_law.proofs.Homes.{first_passes, test_passes}
-use Rattle.lfs_law.proofs.KeptLinks.{contains_first}
-use Rattle.lfs_law.proofs.OutlineRoom.{free_outlined, uses_outlined}
 use Rattle.lfs_law.proofs.PartsFit.{not_root}
 use Rattle.lfs_edit.proofs.VerdictKinds.{refuses}
-use Rattle.lfs_edit.proofs.Verdicts.{refused_first}
+use Rattle.lfs_edit.proofs.Verdicts.{refused_first, passed_first}
 
 -- ---- checks that refuse
 
@@ -144,7 +144,7 @@ unweighed laws d c o new used judged marks free edits = record {
   sound = judged.outline.sound;
   names = judged.names;
   unrefused = ap first_refusal (sym (laws.judged v c).checked ∙ ap (λ (x : Volume). checks x c) (sym is)) ∙ judged.unrefused;
-  marks = λ b. marks b ∙ ap (uses b) is ∙ uses_outlined b v;
+  marks = λ b. marks b ∙ ap (uses b) is ∙ outlined_uses b v;
   free = unused_is;
   outline = edits ∙ ap (edited_outline o c) (ap (least_supplies o c) unused_is
       ∙ least_same v o c (free_blocks v) (ap (λ (x : Volume). x.size) is))
@@ -158,7 +158,7 @@ unweighed laws d c o new used judged marks free edits = record {
     is = judged.outline.outline
 
     unused_is : unused used ≡ free_blocks v
-    unused_is = free ∙ ap free_blocks is ∙ free_outlined v
+    unused_is = free ∙ ap free_blocks is ∙ outlined_free v
 
 -- ---- behind the edit
 
@@ -174,11 +174,6 @@ least_not_root v sound =
     least_by v sound (free_blocks v)
     (λ b free. taken_unused v (length (free_blocks v)) b (subst (λ (xs : List ℕ). Contains xs b)
     (sym (take_all (length (free_blocks v)) (free_blocks v) (omega arith))) free))
-
-first_both : (rs more : List (Option Refusal)) → first_refusal rs ≡ None → first_refusal (rs ++ more) ≡ first_refusal more
-first_both [] more none = refl
-first_both (None ∷ rs) more none = first_both rs more none
-first_both (Some r ∷ rs) more none = cc
 
 -- what is known of such an outline
 pub record IsWeighed (d : Disk) (c : Command) (used : List Bool) (o : Volume) (u : IsUnweighed d c used o) : Type 0 where
@@ -222,7 +217,7 @@ weighed laws small few d c used o disk u = record {
         ∙ ap (λ (free : List ℕ). room_checks_on o (made_blocks v c) free) (sym u.free)
 
     judged : first_refusal (room_checks_on o (made_blocks v c) (unused used)) ≡ verdict v c
-    judged = ap first_refusal (sym rows) ∙ sym (first_both (checks v c) (room_checks v c) u.unrefused)
+    judged = ap first_refusal (sym rows) ∙ sym (passed_first (checks v c) (room_checks v c) u.unrefused)
 
 pub refused_by : (d : Disk) (c : Command) (used : List Bool) (o : Volume) (u : IsUnweighed d c used o) (r : Refusal)
     → IsWeighed d c used o u

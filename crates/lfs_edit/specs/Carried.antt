@@ -1,5 +1,5 @@
 -- How a command is carried out on the outline of an image (own).
-use Rattle.std.specs.Prelude.{ℕ, ◌≡◌, ◌+◌, Bool, List, [], ◌∷◌, Option, None, All, drop, nat_lt, length, take, sum_by}
+use Rattle.std.specs.Prelude.{ℕ, ◌≡◌, Bool, List, None, All, drop, take}
 use Rattle.lfs_block.specs.Change.{Change}
 use Rattle.lfs_block.specs.Disk.{Disk}
 use Rattle.lfs_block.specs.Patch.{ChangeSet, IsPatch, AgreesOld, applied}
@@ -17,13 +17,12 @@ use Rattle.lfs_fs.specs.Uses.{times, uses}
 use Rattle.lfs_fs.specs.Reading.{reading_of}
 use Rattle.lfs_fs.specs.Holds.{Holds}
 use Rattle.lfs_command.specs.declared.refusal.Refusal.{Refusal}
-use Rattle.lfs_command.specs.declared.refusal.Refusal.TheVariants.{EntryTooLarge, NoSpace}
 use Rattle.lfs_command.specs.Command.{Command, Asked, Spells, HasNames}
 use Rattle.lfs_command.specs.Supplies.{Supplies}
 use Rattle.lfs_law.specs.EditedOutline.{edited_outline}
 use Rattle.lfs_command.specs.Cut.{cut, HasEnough, new_pair_uses}
-use Rattle.lfs_command.specs.Need.{need, data_blocks, directory_blocks, part_blocks, dirty_parts}
-use Rattle.lfs_command.specs.Verdict.{checks, first_refusal, refuse_if, verdict}
+use Rattle.lfs_command.specs.Need.{need}
+use Rattle.lfs_command.specs.Verdict.{checks, first_refusal, verdict}
 use Rattle.lfs_draft.specs.LeastSupplies.{least_supplies, made_blocks}
 use Rattle.lfs_command.specs.Planned.{Plans, RefusesPlan}
 use Rattle.lfs_law.specs.PlansHold.{content_blocks, is_unmarked}

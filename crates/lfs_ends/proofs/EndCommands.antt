@@ -30,10 +30,9 @@ use Rattle.lfs_command.specs.Freed.{freed_uses}
 use Rattle.lfs_command.specs.Verdict.{checks, first_refusal, refuse_if, room_checks, verdict}
 use Rattle.lfs_draft.specs.LeastSupplies.{least_pair, least_supplies}
 use Rattle.lfs_law.specs.EditedOutline.{edited_outline}
-use Rattle.lfs_fs.proofs.OutlinedLemmas.{outlined_thread}
+use Rattle.lfs_fs.proofs.OutlinedLemmas.{outlined_thread, outlined_free}
 use Rattle.lfs_law.proofs.Cuts.{All-left, All-right}
 use Rattle.lfs_law.proofs.Decided.{same_pair_decides}
-use Rattle.lfs_law.proofs.OutlineRoom.{free_outlined}
 use Rattle.lfs_edit.proofs.CarryingLemmas.{pairs_differ}
 use Rattle.lfs_edit.proofs.Verdicts.{refused_first}
 use Rattle.lfs_ends.specs.Ending.{FitBlock, last_of, last_part}
@@ -42,7 +41,8 @@ use Rattle.lfs_ends.specs.EndEdits.{ComesLast, EndsWithName, StandsAt, set_at}
 use Rattle.lfs_ends.specs.WayLaws.{IsJudgedNew}
 use Rattle.lfs_ends.proofs.LastEntries.{none_in}
 use Rattle.lfs_ends.specs.EndLaws.{EndLaws}
-use Rattle.lfs_ends.specs.AtTheEnd.{AttributesAreSet, DirectoriesAreMade, FilesArePut, IsAttributeSet, IsDirectoryMade, IsFilePut, IsOpenAt, file_entry, new_pair}
+use Rattle.lfs_ends.specs.AtTheEnd.{AttributesAreSet, DirectoriesAreMade, FilesArePut, IsAttributeSet, IsDirectoryMade, IsFilePut}
+use Rattle.lfs_ends.specs.AtTheEnd.{IsOpenAt, file_entry, new_pair}
 use Rattle.lfs_ends.specs.OneMore.{PutsAtEnd}
 use Rattle.lfs_ends.proofs.VolumesWithMore.{free_range, range_not_root}
 
@@ -110,7 +110,7 @@ module _ (laws : EndLaws) (v : Volume) (home : Path) (next : ℕ) (before : List
       (of_last (λ (p : Part). same_pair p.pair (new_pair v) ≡ false) before d after
       (subst (λ (ds : List Directory). All (λ (p : Part). same_pair p.pair (new_pair v) ≡ false) (thread ds)) at_end.directories
       (subst (λ (free : List ℕ). All (λ (p : Part). same_pair p.pair (least_pair free) ≡ false) (thread (outlined v).directories))
-      (free_outlined v) (pairs_differ (outlined v) outline_sound))))
+      (outlined_free v) (pairs_differ (outlined v) outline_sound))))
 
   new_below : same_pair (new_pair v) root ≡ false
   new_below =

@@ -19,7 +19,7 @@ use Rattle.lfs_command.specs.declared.refusal.Refusal.TheVariants.{NotFound}
 use Rattle.lfs_command.specs.Verdict.{is_directory, is_root, last_length, refuse_if, walk_refusal}
 use Rattle.lfs_law.specs.PairWalk.{pair_at, WalksGoByPairs}
 use Rattle.lfs_law.specs.WalkRefusal.{goes_on, refuses_at, walk_from, WalksAreRefusedByPairs}
-use Rattle.lfs_law.proofs.HomeSteps.{split_behind}
+use Rattle.lfs_law.proofs.HomeSteps.{split_behind, no_root}
 use Rattle.lfs_ends.specs.WayLaws.{FilesHaveNothingBelow, LastEntriesAreThere, LastNamesAreNew}
 use Rattle.lfs_ends.proofs.LastEntries.{last_entry_in, none_in}
 
@@ -40,10 +40,6 @@ walks_through ds k (a ∷ front) n rest j at =
     ∙ option_and_then_some (λ i. pair_at ds i front) (option_and_then target (entry_in ds k a)) j at
     (λ i led later. option_and_then_some target (entry_in ds k a) i led
     (λ e there leads. ap (refuses_at next) there ∙ ap (goes_on next) leads ∙ walks_through ds i front n rest j later))
-
-no_root : (front : Path) (n : Name) → is_root (front ++ n ∷ []) ≡ false
-no_root [] n = refl
-no_root (m ∷ front) n = refl
 
 last_length_is : (front : Path) (n : Name) → last_length (front ++ n ∷ []) ≡ length n
 last_length_is front n =

@@ -39,7 +39,7 @@ entries_end n d es e ends =
 
 -- ---- names in order
 
-middle_has : {X : Type 0} (P : X → Type 0) (xs : List X) (x : X) (ys : List X) → All P (xs ++ x ∷ ys) → P x
+pub middle_has : {X : Type 0} (P : X → Type 0) (xs : List X) (x : X) (ys : List X) → All P (xs ++ x ∷ ys) → P x
 middle_has P [] x ys all = All-head P x ys all
 middle_has P (z ∷ xs) x ys all = middle_has P xs x ys (All-tail P z (xs ++ x ∷ ys) all)
 

@@ -1,5 +1,6 @@
 -- A command that puts one more entry at the end of a directory is carried out with the blocks behind those in use, or refused.
-use Rattle.std.proofs.Common.{◌≡◌, ◌+◌, ◌-◌, ◌*◌, ◌<◌, ◌≤◌, ◌==◌, ℕ, suc, zero, Bool, true, false, List, [], ◌∷◌, ◌++◌, length, take, refl, ap, sym, ◌∙◌, subst, arith, cond}
+use Rattle.std.proofs.Common.{◌≡◌, ◌+◌, ◌-◌, ◌*◌, ◌<◌, ◌≤◌, ◌==◌, ℕ, suc, zero, Bool, true, false, List, [], ◌∷◌, ◌++◌, length, take}
+use Rattle.std.proofs.Common.{refl, ap, sym, ◌∙◌, subst, arith, cond}
 use Rattle.std.proofs.Common.{Some, None}
 use Rattle.std.specs.Prelude.{◌||◌, All, map, nat_le, nat_lt, sum_by}
 use Rattle.std.specs.List.{range_with_len}
@@ -24,7 +25,7 @@ use Rattle.lfs_command.specs.Command.{Command}
 use Rattle.lfs_command.specs.Cut.{cut, new_pair_uses, room}
 use Rattle.lfs_command.specs.Edited.{edited, with_directories}
 use Rattle.lfs_command.specs.Need.{data_blocks, need}
-use Rattle.lfs_command.specs.Planned.{TakesLeast}
+use Rattle.lfs_command.specs.Planned.{TakesLeast, CarriesOut}
 use Rattle.lfs_command.specs.Supplies.{AreFree, Supplies, nothing, supply_uses}
 use Rattle.lfs_command.specs.Verdict.{checks, first_refusal, refuse_if, room_checks, verdict}
 use Rattle.lfs_draft.specs.LeastSupplies.{least_pair, least_supplies, made_blocks}
@@ -41,7 +42,6 @@ use Rattle.lfs_ends.specs.Ending.{with_more, last_part, new_part_pairs, takes_en
 use Rattle.lfs_ends.specs.EndCuts.{PartsTakeOneMore, TakesOneMore, chosen_for_last, made}
 use Rattle.lfs_ends.specs.EndEdits.{set_at}
 use Rattle.lfs_ends.specs.OneMore.{AreFreeFrom, IsWithMore, PutsAtEnd, VolumesTakeOneMore, blocks_for_more, part_pair}
-use Rattle.lfs_ends.specs.Leading.{CarriesOut}
 use Rattle.lfs_ends.proofs.Ranges.{filter_from, once_if, take_range, times_range, two_behind}
 
 -- ---- the free blocks

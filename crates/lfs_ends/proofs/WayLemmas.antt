@@ -23,7 +23,7 @@ use Rattle.lfs_ends.proofs.LastEntries.{last_entry_in}
 -- ---- a way leads to the last directory
 
 -- a list that ends with an element has one
-end_alone : {X : Type 0} (xs : List X) (x : X) → xs ++ x ∷ [] ≡ [] → ⊥
+pub end_alone : {X : Type 0} (xs : List X) (x : X) → xs ++ x ∷ [] ≡ [] → ⊥
 end_alone [] x is = cc
 end_alone (y ∷ xs) x is = cc
 
@@ -99,7 +99,7 @@ unfolding with_last_of last_of
 last_set f p [] = refl
 last_set f p (q ∷ ps) = last_set f q ps
 
-last_behind : (p : Part) (ps : List Part) (q : Part) → last_of p (ps ++ q ∷ []) ≡ q
+pub last_behind : (p : Part) (ps : List Part) (q : Part) → last_of p (ps ++ q ∷ []) ≡ q
 unfolding last_of
 last_behind p [] q = refl
 last_behind p (r ∷ ps) q = last_behind r ps q

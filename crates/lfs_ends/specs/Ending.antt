@@ -1,7 +1,7 @@
 -- The end of a directory: its last part, the entries of which are followed by one more (own).
 use Rattle.std.specs.Prelude.{◌+◌, ◌≤◌, Bool, true, false, List, [], ◌∷◌, ◌++◌, if◌then◌else◌, length, sum_by}
 use Rattle.lfs_meta.specs.Body.{Pair}
-use Rattle.lfs_meta.specs.Runs.{run_takes}
+use Rattle.lfs_meta.specs.Runs.{run_takes, most_entries}
 use Rattle.lfs_fs.specs.Directory.{Part, Directory}
 use Rattle.lfs_fs.specs.Entry.{Entry}
 use Rattle.lfs_fs.specs.Volume.{Volume}
@@ -47,7 +47,7 @@ ending_with es = with_last (with_entries false es)
 
 -- Entries fit into the block of a part, behind the superblock where that stands there.
 pub record FitBlock (o : Volume) (p : Part) (es : List Entry) : Type 0 where
-  pub few : front_count p + length es ≤ 1000
+  pub few : front_count p + length es ≤ most_entries
   pub light : front_weight o p + sum_by weight es ≤ room o
 
 -- the block of a part takes one more entry behind others

@@ -18,11 +18,11 @@ use Rattle.lfs_command.specs.Freed.{freed_uses}
 use Rattle.lfs_command.specs.Verdict.{checks, first_refusal, verdict}
 use Rattle.lfs_draft.specs.LeastSupplies.{least_supplies, made_blocks}
 use Rattle.lfs_fs.specs.Free.{free_blocks}
+use Rattle.lfs_command.specs.Planned.{CarriesOut}
 use Rattle.lfs_law.specs.EditedOutline.{edited_outline}
 use Rattle.lfs_ends.specs.Ending.{with_more, new_part_pairs}
 use Rattle.lfs_ends.specs.EndCuts.{CanTakeMore, made}
 use Rattle.lfs_ends.specs.EndEdits.{set_at}
-use Rattle.lfs_ends.specs.Leading.{CarriesOut}
 
 -- the blocks from one on are those that are free
 abbrev pub AreFreeFrom : Volume → ℕ → Type 0

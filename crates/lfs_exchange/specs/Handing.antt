@@ -1,6 +1,7 @@
 -- What a step is handed of a host, and which faults the host gives rise to (own).
 use Rattle.std.specs.Prelude.{ℕ, ◌≡◌, ◌⊎◌, List, [], Option}
 use Rattle.lfs_book.specs.Book.{most_journal}
+use Rattle.lfs_fs.specs.Limits.{most_file}
 use Rattle.lfs_command.specs.declared.refusal.Refusal.TheVariants.{Memory}
 use Rattle.lfs_change.specs.declared.fault.Fault.{Fault}
 use Rattle.lfs_change.specs.declared.fault.Fault.TheVariants.{Refused, CannotRead, CannotWrite}
@@ -19,10 +20,6 @@ use Rattle.lfs_exchange.specs.Storing.{journal_name}
 abbrev pub most_image : ℕ
 most_image = 67108864
 
--- the most bytes that a file in an image has
-abbrev pub most_input : ℕ
-most_input = 2147483647
-
 -- the bytes of an image that a step is handed: those of its file, none where the image is made
 abbrev pub HandsImage : StepKind → Option Files → List ℕ → List ℕ → Type 0
 HandsImage Makes files name image = image ≡ []
@@ -35,7 +32,7 @@ HandsJournal _ files name journal = journal ≡ []
 
 -- the contents that a step is handed: those on standard input where a file is put
 abbrev pub HandsInput : Step → Option (List ℕ) → List ℕ → Type 0
-HandsInput (Put path) typed input = ReadsInput typed most_input input
+HandsInput (Put path) typed input = ReadsInput typed most_file input
 HandsInput _ typed input = input ≡ []
 
 -- what a step is handed

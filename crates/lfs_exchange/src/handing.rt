@@ -11,13 +11,11 @@ use crate::names::journal_name;
 use crate::step_kind::{StepKind, kind_of};
 use lfs_block::MAX_IMAGE_LENGTH;
 use lfs_book::MAX_JOURNAL_LENGTH;
+use lfs_fs::MOST_FILE;
 use lfs_edit::Refusal;
 use lfs_host::{Host, Lock, ReadFault};
 use lfs_step::{Fault, Step};
 use std::alloc::Global;
-
-/// The most bytes that a file in an image has.
-const MOST_INPUT: u64 = 2_147_483_647;
 
 /// What a step is handed.
 #[derive(Drop)]
@@ -149,7 +147,7 @@ fn input_of<H: Host>(alloc: Global, host: &mut H, step: &Step<'_>) -> Result<Vec
     let Step::Put { .. } = step else {
         return Ok(Vec::new(alloc));
     };
-    match host.input(alloc, MOST_INPUT) {
+    match host.input(alloc, u64::from(MOST_FILE)) {
         Ok(bytes) => Ok(bytes),
         Err(fault) => Err(fault_of_reading(fault)),
     }

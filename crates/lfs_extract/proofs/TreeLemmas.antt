@@ -1,24 +1,23 @@
 -- Rows of a mounted image are made as its tree has them.
-use Rattle.std.proofs.Common.{◌≡◌, ℕ, true, List, [], ◌∷◌, Option, Some, None, refl, ap, ◌∙◌, map}
+use Rattle.std.proofs.Common.{◌≡◌, ℕ, true, List, [], ◌∷◌, Option, Some, refl, ap, ◌∙◌, map}
 use Rattle.std.specs.Prelude.{All, Contains}
 use Rattle.std.specs.List.{AllZip}
 use Rattle.std.specs.Option.{option_map}
-use Rattle.std.proofs.lemmas.Option.{none-some}
 use Rattle.std.proofs.lemmas.List.Elements.{All-contains_itself, All-head, All-map, All-tail, All-weaker}
 use Rattle.lfs_block.specs.Disk.{Disk, IsDisk}
-use Rattle.lfs_fs.specs.Entry.{Entry}
 use Rattle.lfs_fs.specs.Mounted.{MountedValue, IsMountOf}
 use Rattle.lfs_fs.specs.Ordered.{PathsRise}
 use Rattle.lfs_fs.specs.Outlined.{outlined_entry}
 use Rattle.lfs_fs.specs.Path.{Path}
 use Rattle.lfs_fs.specs.Row.{Row, RowsRise, path_precedes}
 use Rattle.lfs_fs.specs.RowShown.{RowsShowTheTree, shown_node}
-use Rattle.lfs_fs.specs.Tree.{Node, entry_at, node, tree}
+use Rattle.lfs_fs.specs.Tree.{Node, entry_at, tree}
 use Rattle.lfs_fs.specs.Volume.{Volume}
 use Rattle.lfs_fs.proofs.OutlinedLemmas.{outlined_at}
-use Rattle.lfs_folder.proofs.HostNameLemmas.{contains_map}
+use Rattle.lfs_fs.proofs.ContainsLemmas.{contains_mapped}
 use Rattle.lfs_extract.specs.Extracted.{all_made}
 use Rattle.lfs_extract.specs.TreeMade.{AreOfTree, IsMadeAt}
+use Rattle.lfs_contents.proofs.ContentsLemmas.{some_entry}
 
 abbrev paths_of : List Row → List Path
 paths_of rows = map (λ (r : Row). r.path) rows
@@ -36,17 +35,13 @@ each_made t d dir (r ∷ rows) h = (
   each_made t d dir rows (All-tail (λ (s : Row). t s.path ≡ Some (shown_node d s.entry)) r rows h),
 )
 
-some_entry : (o : Option Entry) (x : Node) → option_map node o ≡ Some x → (e : Entry) × (o ≡ Some e)
-some_entry None x h = absurd (none-some x h)
-some_entry (Some e) x h = (e, refl)
-
 has_path : (d : Disk) (m : MountedValue) (is : IsMountOf d m) (p : Path) (x : Node) → tree is.volume p ≡ Some x
     → Contains (paths_of m.rows) p
 has_path d m is p x there =
     let found = some_entry (entry_at is.volume p) x there in
     let at : entry_at m.outline p ≡ Some (outlined_entry found.0) =
     ap (λ (v : Volume). entry_at v p) is.outline ∙ outlined_at is.volume p ∙ ap (option_map outlined_entry) found.1 in
-    contains_map (λ (r : Row). r.path) m.rows (record { path = p; entry = outlined_entry found.0 })
+    contains_mapped (λ (r : Row). r.path) m.rows (record { path = p; entry = outlined_entry found.0 })
     (is.rows.whole p (outlined_entry found.0) at)
 
 pub of_tree : RowsShowTheTree → (d : Disk) → IsDisk d → (m : MountedValue) → IsMountOf d m → (dir : List ℕ)

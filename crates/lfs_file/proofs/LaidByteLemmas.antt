@@ -1,31 +1,16 @@
 -- Laid blocks are bytes.
-use Rattle.std.proofs.Common.{◌≡◌, ℕ, zero, suc, ◌+◌, ◌-◌, ◌^◌, List, [], ◌∷◌, ◌++◌, length, take, drop, replicate, sym, subst, arith}
+use Rattle.std.proofs.Common.{◌≡◌, ℕ, zero, suc, ◌+◌, ◌-◌, ◌^◌, List, [], ◌++◌, length, drop, replicate, sym, subst, arith}
 use Rattle.std.proofs.Common.{add-one, slice_index, All}
 use Rattle.std.specs.Int.{w32, to_le_bytes}
 use Rattle.std.proofs.lemmas.List.Elements.{All-from_get_or}
 use Rattle.lfs_block.specs.Bytes.{IsBytes}
+use Rattle.lfs_block.proofs.PutLemmas.{IsBytes-drop, IsBytes-take, IsBytes-append}
 use Rattle.lfs_file.specs.Capacity.{capacity, pointers, room}
 use Rattle.lfs_file.specs.Laying.{filled, laid, laid_pointers, share_of}
 use Rattle.lfs_file.proofs.LaidLemmas.{length-laid, get_or-laid}
 use Rattle.lfs_file.proofs.LayingLemmas.{pointers-none, pointers-more}
 
-IsBytes-append : (xs ys : List ℕ) → IsBytes xs → IsBytes ys → IsBytes (xs ++ ys)
-IsBytes-append [] ys first second i = second i
-IsBytes-append (x ∷ xs) ys first second zero = first 0
-IsBytes-append (x ∷ xs) ys first second (suc i) = IsBytes-append xs ys (λ k. first (suc k)) second i
-
-IsBytes-take : (n : ℕ) (xs : List ℕ) → IsBytes xs → IsBytes (take n xs)
-IsBytes-take zero xs all i = omega arith
-IsBytes-take (suc n) [] all i = omega arith
-IsBytes-take (suc n) (x ∷ xs) all zero = all 0
-IsBytes-take (suc n) (x ∷ xs) all (suc i) = IsBytes-take n xs (λ k. all (suc k)) i
-
-IsBytes-drop : (n : ℕ) (xs : List ℕ) → IsBytes xs → IsBytes (drop n xs)
-IsBytes-drop zero xs all i = all i
-IsBytes-drop (suc n) [] all i = omega arith
-IsBytes-drop (suc n) (x ∷ xs) all i = IsBytes-drop n xs (λ k. all (suc k)) i
-
-IsBytes-fill : (n : ℕ) → IsBytes (replicate n 0xff)
+pub IsBytes-fill : (n : ℕ) → IsBytes (replicate n 0xff)
 IsBytes-fill zero i = omega arith
 IsBytes-fill (suc n) zero = omega arith
 IsBytes-fill (suc n) (suc i) = IsBytes-fill n i

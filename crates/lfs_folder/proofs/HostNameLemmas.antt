@@ -1,5 +1,6 @@
 -- Host's names and their order.
-use Rattle.std.proofs.Common.{◌≡◌, ◌≢◌, ◌⊎◌, ◌==◌, ◌+◌, ◌<◌, ℕ, not, Bool, true, false, List, [], ◌∷◌, refl, ap, sym, ◌∙◌, arith, suc, add-one, inl, inr, length, get_or, map, subst}
+use Rattle.std.proofs.Common.{◌≡◌, ◌≢◌, ◌⊎◌, ◌==◌, ◌+◌, ◌<◌, ℕ, not, Bool, true, false, List, [], ◌∷◌, refl, sym, arith, suc, add-one}
+use Rattle.std.proofs.Common.{inl, inr, length, get_or, map, subst}
 use Rattle.std.specs.Prelude.{◌&&◌}
 use Rattle.std.specs.Bool.{Decides}
 use Rattle.std.specs.Cmp.{IsStrictWeakOrder}
@@ -10,10 +11,12 @@ use Rattle.std.proofs.lemmas.Bool.Decides.{Decides-and, Decides-like, nat_tests}
 use Rattle.std.proofs.lemmas.List.{get_or-map, length-map}
 use Rattle.std.proofs.lemmas.List.Elements.{All-nil, All-cons, All-head, All-tail, All-weaker}
 use Rattle.std.proofs.lemmas.List.Sorted.{IsPermutation-map}
+use Rattle.std.proofs.lemmas.Bool.{and_parts}
 use Rattle.lfs_meta.specs.Name.{Name, is_name}
 use Rattle.lfs_meta.proofs.NameLemmas.{is_name-decides}
 use Rattle.lfs_fs.specs.NameOrder.{precedes}
 use Rattle.lfs_fs.proofs.NameOrderLemmas.{precedes_irreflexive, precedes_transitive, precedes_compares}
+use Rattle.lfs_fs.proofs.ContainsLemmas.{contains_later}
 use Rattle.lfs_folder.specs.HostNames.{IsHostName, is_host_name, NamesRise, NoneFalls, IsTwiceIn}
 
 -- ---- which names fit
@@ -42,29 +45,19 @@ no_host_name n text is = λ h. let yes : is_host_name n ≡ true = (is_host_name
 
 -- ---- lists of names
 
-first_passes : (b c : Bool) → (b && c) ≡ true → (b ≡ true) × (c ≡ true)
-first_passes true c h = (refl, h)
-first_passes false c h = cc
-
 pub all_pass : {X : Type 0} (p : X → Bool) (xs : List X) → list_all p xs ≡ true → All (λ x. p x ≡ true) xs
 all_pass p [] h = All-nil (λ x. p x ≡ true)
-all_pass p (x ∷ xs) h = let both = first_passes (p x) (list_all p xs) h in
+all_pass p (x ∷ xs) h = let both = and_parts (p x) (list_all p xs) h in
     All-cons (λ y. p y ≡ true) x xs both.0 (all_pass p xs both.1)
-
-later : {X : Type 0} (y : X) (xs : List X) (x : X) → Contains xs x → Contains (y ∷ xs) x
-later y xs x (i, within, is) = (suc i, omega arith, is)
 
 fails_by : {X : Type 0} (p : X → Bool) (b : Bool) (x : X) (xs : List X) → p x ≡ b → (b && list_all p xs) ≡ false
     → (list_all p xs ≡ false → (y : X) × Contains xs y × (p y ≡ false)) → (y : X) × Contains (x ∷ xs) y × (p y ≡ false)
-fails_by p true x xs is h rest = let one = rest h in (one.0, later x xs one.0 one.1, one.2)
+fails_by p true x xs is h rest = let one = rest h in (one.0, contains_later x xs one.0 one.1, one.2)
 fails_by p false x xs is h rest = (x, (0, omega arith, refl), is)
 
 pub some_fails : {X : Type 0} (p : X → Bool) (xs : List X) → list_all p xs ≡ false → (x : X) × Contains xs x × (p x ≡ false)
 some_fails p [] h = cc
 some_fails p (x ∷ xs) h = fails_by p (p x) x xs refl h (some_fails p xs)
-
-pub contains_map : {X Y : Type 0} (f : X → Y) (xs : List X) (x : X) → Contains xs x → Contains (map f xs) (f x)
-contains_map f xs x (i, within, is) = (i, omega (arith, length-map xs f), get_or-map f xs i x (f x) within ∙ ap f is)
 
 -- ---- the order
 

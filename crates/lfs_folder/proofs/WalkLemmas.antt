@@ -1,5 +1,5 @@
 -- What is put before what waits, as a folder's names, or nothing.
-use Rattle.std.proofs.Common.{◌≡◌, ℕ, true, List, [], ◌∷◌, ◌++◌, Option, Some, None, refl, ap, subst, arith, inr, map, get_or}
+use Rattle.std.proofs.Common.{◌≡◌, ℕ, true, List, [], ◌∷◌, ◌++◌, Option, Some, None, refl, ap, subst, arith, inr, map}
 use Rattle.std.specs.Prelude.{IfSome}
 use Rattle.std.specs.List.{All, Contains}
 use Rattle.std.specs.List.Sorted.{IsPermutation}
@@ -11,6 +11,8 @@ use Rattle.lfs_fs.specs.Path.{Path}
 use Rattle.lfs_fs.specs.Row.{path_precedes}
 use Rattle.lfs_fs.specs.Ordered.{apart, AreApart}
 use Rattle.lfs_fs.proofs.ApartLemmas.{apart_below, apart_names, below_precedes}
+use Rattle.lfs_fs.proofs.ContainsLemmas.{contains_mapped}
+use Rattle.lfs_fs.proofs.OrderedLemmas.{every}
 use Rattle.lfs_folder.specs.declared.folder_fault.FolderFault.{FolderFault}
 use Rattle.lfs_folder.specs.declared.folder_fault.FolderFault.TheVariants.{Memory, HostEntry, HostName, CannotRead}
 use Rattle.lfs_host.specs.HostTree.{HostTree, FolderOf, Lists, ReadsEntry}
@@ -18,7 +20,6 @@ use Rattle.lfs_folder.specs.HostNames.{IsHostName, NamesRise, CannotOrder}
 use Rattle.lfs_folder.specs.FolderWalk.{RefusesFolder}
 use Rattle.lfs_folder.specs.PathBelow.{host_name}
 use Rattle.lfs_folder.specs.FolderRows.{PathRow, folder_row, IsInside, IsBelow, Shows}
-use Rattle.lfs_folder.proofs.HostNameLemmas.{contains_map}
 use Rattle.lfs_folder.proofs.PathBelowLemmas.{below_in}
 
 -- ---- what a folder lists
@@ -92,10 +93,6 @@ file_put most known dir shown p bytes read = record {
 
 -- ---- a folder
 
--- what holds of everything holds of all of a list
-every : {X : Type 0} (P : X → Type 0) (xs : List X) → ((x : X) → P x) → All P xs
-every P xs h = λ i d within. h (get_or xs i d)
-
 child_paths : (P : Path → Type 0) (p : Path) (names : List Name) → All (λ n. P (p ++ n ∷ [])) names → All P (children p names)
 child_paths P p names h = All-map P (λ (n : Name). p ++ n ∷ []) names h
 
@@ -121,7 +118,7 @@ folder_tree most (Some tree) dir p names (there, is, same) below = record {
       let equal : others ≡ there = cc in
       let one : Contains there n = subst (λ (ns : List Name). Contains ns n) equal inside in
       let listed : Contains names n = subst (Contains names) one.2 (same.whole one.0 n one.1) in
-      contains_map (λ (m : Name). p ++ m ∷ []) names n listed;
+      contains_mapped (λ (m : Name). p ++ m ∷ []) names n listed;
 }
 
 pub folder_put : (most : ℕ) (known : Option HostTree) (dir : List ℕ) (shown : List PathRow) (p : Path) (names : List Name) → NamesRise names

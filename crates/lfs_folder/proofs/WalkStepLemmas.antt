@@ -1,15 +1,18 @@
 -- Steps of a walk over what is below a host's folder, its start and its end.
-use Rattle.std.proofs.Common.{◌≡◌, ◌≢◌, ℕ, true, List, [], ◌∷◌, ◌++◌, Option, Some, None, refl, ap, sym, ◌∙◌, subst, arith, inl, inr, map, append_assoc, length, get_or, suc}
+use Rattle.std.proofs.Common.{◌≡◌, ◌≢◌, ℕ, true, List, [], ◌∷◌, ◌++◌, Option, Some, None, refl, ap, sym, ◌∙◌, subst, arith, inl, inr, map}
+use Rattle.std.proofs.Common.{append_assoc, length, get_or}
 use Rattle.std.specs.Prelude.{IfSome}
 use Rattle.std.specs.List.{All, Contains}
 use Rattle.std.proofs.lemmas.List.{map-append, append-nil}
 use Rattle.std.proofs.lemmas.List.Elements.{All-nil, All-cons, All-head, All-tail, All-append, All-push, All-weaker}
-use Rattle.std.proofs.lemmas.List.Elements.{Contains-append_left, Contains-append_right, Contains-append_cases}
+use Rattle.std.proofs.lemmas.List.Elements.{Contains-append_left, Contains-append_right}
 use Rattle.lfs_meta.specs.Name.{Name}
 use Rattle.lfs_fs.specs.Path.{Path, path_text}
 use Rattle.lfs_fs.specs.Row.{path_precedes}
 use Rattle.lfs_fs.specs.Ordered.{AreApart, PathsRise}
 use Rattle.lfs_fs.proofs.ApartLemmas.{All-both, ApartFrom, apart-append, rise_apart, rise-insert}
+use Rattle.lfs_fs.proofs.ContainsLemmas.{contains_later}
+use Rattle.lfs_fs.proofs.OrderedLemmas.{met_stays}
 use Rattle.lfs_folder.specs.declared.folder_row.FolderRow.{FolderRow}
 use Rattle.lfs_folder.specs.declared.folder_fault.FolderFault.{FolderFault}
 use Rattle.lfs_folder.specs.declared.folder_fault.FolderFault.TheVariants.{Memory, HostEntry, HostName, CannotRead}
@@ -17,7 +20,8 @@ use Rattle.lfs_host.specs.declared.host_kind.HostKind.TheVariants.{Other}
 use Rattle.lfs_host.specs.HostTree.{HostNode, NothingThere, FileOf, FolderOf, OtherThere, HostTree, kind_of, IsKind, Lists, ReadsEntry}
 use Rattle.lfs_folder.specs.HostNames.{IsHostName}
 use Rattle.lfs_folder.specs.PathBelow.{name_in, host_name, text_below}
-use Rattle.lfs_folder.specs.FolderRows.{PathRow, folder_row, paths_of, IsRow, AreSpelled, IsInside, IsBelow, IsRight, AreAllBelow, IsFolder, RefusesTree, Refuses}
+use Rattle.lfs_folder.specs.FolderRows.{PathRow, folder_row, paths_of, IsRow, AreSpelled, IsInside, IsBelow, IsRight, AreAllBelow}
+use Rattle.lfs_folder.specs.FolderRows.{IsFolder, RefusesTree, Refuses}
 use Rattle.lfs_folder.specs.FolderWalk.{IsMet, IsTreeWalk, IsWalk, IsFolderWalk, ShowsMore, Enters, RefusesFolder}
 use Rattle.lfs_folder.proofs.PathBelowLemmas.{text_is, name_of_root, name_below, below_in, all_met}
 use Rattle.lfs_folder.proofs.WalkLemmas.{children, IsTreePut, IsPut, file_put, folder_put}
@@ -33,20 +37,6 @@ met_after : (shown : List PathRow) (p : Path) (bytes : Option (List ℕ)) (rest 
 met_after shown p bytes rest =
     ap (λ (ps : List Path). ps ++ rest) (map-append (λ (r : PathRow). r.path) shown (row_at p bytes ∷ []))
     ∙ append_assoc (paths_of shown) (p ∷ []) rest
-
-later : {X : Type 0} (y : X) (xs : List X) (x : X) → Contains xs x → Contains (y ∷ xs) x
-later y xs x (i, within, is) = (suc i, omega arith, is)
-
--- what was met stays met
-met_stays : (ps : List Path) (p : Path) (more rest : List Path) (q : Path) → Contains (ps ++ p ∷ rest) q
-    → Contains (ps ++ (p ∷ (more ++ rest))) q
-met_stays ps p more rest q there = elim (Contains-append_cases ps (p ∷ rest) q there) [
-  | inl front ↦ Contains-append_left ps (p ∷ (more ++ rest)) q front
-  | inr back ↦ Contains-append_right ps (p ∷ (more ++ rest)) q (elim (Contains-append_cases (p ∷ []) rest q back) [
-    | inl one ↦ Contains-append_left (p ∷ []) (more ++ rest) q one
-    | inr late ↦ later p (more ++ rest) q (Contains-append_right more rest q late)
-  ])
-]
 
 -- what is in a folder that is shown stays so
 inside_stays : (shown : List PathRow) (r : PathRow) (q : Path) → IsInside shown q → IsInside (shown ++ r ∷ []) q
@@ -77,7 +67,7 @@ step_tree most dir shown p bytes more rest tree walk put =
     let old : All (IsMet tree dir met) shown = All-weaker (IsMet tree dir (ps ++ p ∷ rest)) (IsMet tree dir met)
     (λ row is names folder n there. met_stays ps p more rest (row.path ++ n ∷ []) (is names folder n there)) shown walk.met in
     let new : IsMet tree dir met r = λ names folder n there. Contains-append_right ps (p ∷ (more ++ rest)) (p ++ n ∷ [])
-    (later p (more ++ rest) (p ++ n ∷ []) (Contains-append_left more rest (p ++ n ∷ []) (put.met names folder n there))) in
+    (contains_later p (more ++ rest) (p ++ n ∷ []) (Contains-append_left more rest (p ++ n ∷ []) (put.met names folder n there))) in
     record {
       right = All-push (IsRight most tree dir) shown r walk.right (here, put.shows);
       waits = All-append (IsBelow tree dir) more rest put.waits (All-tail (IsBelow tree dir) p rest walk.waits);
@@ -214,7 +204,7 @@ start_tree most dir more tree put =
     record {
       right = All-cons R (folder_row []) [] (tt, put.shows) (All-nil R);
       waits = put.waits;
-      met = All-cons M (folder_row []) [] (λ names folder n there. later [] more (n ∷ []) (put.met names folder n there)) (All-nil M);
+      met = All-cons M (folder_row []) [] (λ names folder n there. contains_later [] more (n ∷ []) (put.met names folder n there)) (All-nil M);
     }
 
 nothing_above : (known : Option HostTree) (dir : List ℕ) → IfSome known (λ tree. IsBelow tree dir [])

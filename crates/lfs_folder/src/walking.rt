@@ -10,11 +10,12 @@ use crate::folder_fault::FolderFault;
 use crate::folder_row::FolderRow;
 use crate::host_names::in_order;
 use crate::path_below::{name_in, text_below};
+use lfs_fs::MOST_FILE;
 use lfs_host::{Folders, HostKind};
 use std::alloc::{AllocError, Global};
 
 /// The most bytes that a file in an image has.
-pub(crate) const MOST_BYTES: u64 = 2_147_483_647;
+pub(crate) const MOST_BYTES: u64 = MOST_FILE as u64;
 
 /// More files and folders than the largest image can hold, where each takes 9 bytes at least in each block of a pair.
 pub(crate) const MOST_ROWS: usize = 4_194_304;

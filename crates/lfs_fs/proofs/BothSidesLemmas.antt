@@ -1,8 +1,7 @@
 -- What an image holds along its thread is what it holds link by link.
 use Rattle.std.proofs.Common.{◌≡◌, ◌≢◌, ℕ, ◌≤◌, ◌<◌, Bool, true, false, List, [], ◌∷◌, Option, Some, None, map, refl, ap, sym, ◌∙◌, subst}
 use Rattle.std.proofs.Common.{arith, get_or}
-use Rattle.std.specs.Prelude.{◌==◌, All, Contains, IsSome, if◌then◌else◌}
-use Rattle.std.proofs.lemmas.Bool.Decides.{Decides-and, Decides-eqb}
+use Rattle.std.specs.Prelude.{All, Contains, IsSome, if◌then◌else◌}
 use Rattle.std.proofs.lemmas.List.Elements.{All-head, All-tail, All-map, All-contains, All-weaker, Contains-get_or}
 use mathlib.Core.Logic.{inl, inr}
 use Rattle.lfs_meta.specs.Attribute.{Attributes}
@@ -27,6 +26,7 @@ use Rattle.lfs_fs.proofs.ChainedLemmas.{pairs_used}
 use Rattle.lfs_fs.proofs.StandsLemmas.{all_are_resolved, read_at, stored_step, stored_at}
 use Rattle.lfs_fs.proofs.CountLemmas.{link_pair}
 use Rattle.lfs_fs.proofs.StoredLemmas.{same_or_not}
+use Rattle.lfs_fs.proofs.PairLemmas.{same_pair-is}
 
 -- ---- the pairs of a thread of links
 
@@ -62,13 +62,8 @@ false_unless : (b : Bool) → (b ≡ true → ⊥) → b ≡ false
 false_unless true never = absurd (never refl)
 false_unless false never = refl
 
-same_pairs : (p q : Pair) → same_pair p q ≡ true → p ≡ q
-same_pairs p q h =
-    let both = (Decides-and (p.0 == q.0) (p.1 == q.1) (Decides-eqb p.0 q.0) (Decides-eqb p.1 q.1)).0 h in
-    ap (λ (x : ℕ). (x, p.1)) both.0 ∙ ap (λ (y : ℕ). (q.0, y)) both.1
-
 pub not_root : (p : Pair) → p ≢ root → same_pair p root ≡ false
-not_root p other = false_unless (same_pair p root) (λ h. other (same_pairs p root h))
+not_root p other = false_unless (same_pair p root) (λ h. other (same_pair-is p root h))
 
 -- elsewhere no superblock stands before the entries
 pub others_alone : (bytes : List ℕ) (attributes : Attributes) (p : Pair) (others : List StoredEntry) → p ≢ root

@@ -150,7 +150,7 @@ named_once k v sound =
 pub element_le : {X : Type 0} (f : X → ℕ) (xs : List X) (x : X) → Contains xs x → f x ≤ sum_by f xs
 element_le f xs x (k, within, is) = subst (λ y. f y ≤ sum_by f xs) is (get_or-le-sum_by f xs k x within)
 
-leads_once : (k : Pair) (o : Option Pair) → o ≡ Some k → leads_to k o ≡ 1
+pub leads_once : (k : Pair) (o : Option Pair) → o ≡ Some k → leads_to k o ≡ 1
 leads_once k None is = cc
 leads_once k (Some j) is = let same : j ≡ k = cc in rw same (grind (arith, nat_tests))
 

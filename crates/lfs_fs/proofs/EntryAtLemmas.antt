@@ -22,7 +22,7 @@ use Rattle.lfs_fs.proofs.ApartLemmas.{same_bytes}
 
 -- ---- paths by their last name
 
-onwards : {N : Type 0} (P : List N → Type 0) → ((p : List N) (n : N) → P p → P (p ++ n ∷ [])) → (front rest : List N) → P front
+pub onwards : {N : Type 0} (P : List N → Type 0) → ((p : List N) (n : N) → P p → P (p ++ n ∷ [])) → (front rest : List N) → P front
     → P (front ++ rest)
 onwards P more front [] h = subst P (sym (append-nil front)) h
 onwards P more front (n ∷ rest) h = subst P (append_assoc front (n ∷ []) rest) (onwards P more (front ++ n ∷ []) rest (more front n h))
@@ -33,18 +33,18 @@ by_last_name P none more p = onwards P more [] p none
 
 -- ---- steps
 
-walk-append : {K N E : Type 0} (target : E → Option K) (edge : K → N → Option E) (here : Option E) (p q : List N)
+pub walk-append : {K N E : Type 0} (target : E → Option K) (edge : K → N → Option E) (here : Option E) (p q : List N)
     → walk target edge here (p ++ q) ≡ walk target edge (walk target edge here p) q
 walk-append target edge here [] q = refl
 walk-append target edge here (n ∷ p) q = walk-append target edge (step target edge n here) p q
 
-led_some : {K N E : Type 0} (edge : K → N → Option E) (n : N) (f : E) (o : Option K) → option_and_then (λ k. edge k n) o ≡ Some f
+pub led_some : {K N E : Type 0} (edge : K → N → Option E) (n : N) (f : E) (o : Option K) → option_and_then (λ k. edge k n) o ≡ Some f
     → (k : K) × (o ≡ Some k) × (edge k n ≡ Some f)
 led_some edge n f None h = absurd (none-some f h)
 led_some edge n f (Some k) h = (k, refl, h)
 
 -- where a step comes from
-step_some : {K N E : Type 0} (target : E → Option K) (edge : K → N → Option E) (n : N) (here : Option E) (f : E)
+pub step_some : {K N E : Type 0} (target : E → Option K) (edge : K → N → Option E) (n : N) (here : Option E) (f : E)
     → step target edge n here ≡ Some f → (e : E) × (k : K) × (here ≡ Some e) × (target e ≡ Some k) × (edge k n ≡ Some f)
 step_some target edge n None f h = absurd (none-some f h)
 step_some target edge n (Some e) f h = let led = led_some edge n f (target e) h in (e, led.0, refl, led.1, led.2)

@@ -12,6 +12,7 @@ use Rattle.lfs_fs.specs.Uses.{uses}
 use Rattle.lfs_fs.specs.Free.{free_blocks}
 use Rattle.lfs_fs.specs.Sound.{IsSound, IsProper, AreAttributes, Rise}
 use Rattle.lfs_fs.specs.Formatted.{empty_volume, FormattedIsSound, FormattedLeavesTheRest}
+use Rattle.lfs_fs.specs.Limits.{new_limits}
 
 uses_once : (size count b : ℕ) (l : Limits) (a : Attributes) → uses b (empty_volume size count l a) ≤ 1
 uses_once size count b l a = grind (arith, nat_tests)
@@ -60,7 +61,7 @@ empty_leaves_the_rest size (suc (suc n)) l a h =
     rw rest (rest_is_free size (suc (suc n)) 2 n l a (omega arith))
 
 pub formatted_is_sound : FormattedIsSound
-formatted_is_sound size count h = empty_is_sound size count (record { name = 255; file = 2147483647; attribute = 1022 }) [] h tt
+formatted_is_sound size count h = empty_is_sound size count new_limits [] h tt
 
 pub formatted_leaves_the_rest : FormattedLeavesTheRest
-formatted_leaves_the_rest size count h = empty_leaves_the_rest size count (record { name = 255; file = 2147483647; attribute = 1022 }) [] h
+formatted_leaves_the_rest size count h = empty_leaves_the_rest size count new_limits [] h

@@ -35,10 +35,10 @@ use Rattle.lfs_fs.specs.Gathering.{PairPart, delta_from, StateCause, NamesFall, 
 use Rattle.lfs_fs.specs.ThreadRead.{pairs_of, IsPartRead, IsThreadRead}
 use Rattle.lfs_fs.specs.Judged.{IsJudged, SaysBytes, JudgedCause, with_entries, BeginsWithNone}
 use Rattle.lfs_fs.proofs.CountLemmas.{element_le}
-use Rattle.lfs_fs.proofs.InVolumeLemmas.{contains_map}
 use Rattle.lfs_fs.proofs.ThreadReadLemmas.{no_header}
 use Rattle.lfs_fs.proofs.OutlinedLemmas.{outlined_entries}
 use Rattle.lfs_fs.proofs.GatheredLemmas.{RootRead, root_superblock, later_links, same_links, uses_are, state_is}
+use Rattle.lfs_fs.proofs.ContainsLemmas.{contains_mapped}
 
 -- ---- the global state
 
@@ -176,7 +176,7 @@ found_entry r start p e others rest P h (zero, q, within, at, any) =
     }
 found_entry r start p e others rest P h (suc k, q, within, at, (i, x, inside, is, holds)) =
     let there : Contains rest q = (k, omega arith, at) in
-    let pairs : Contains (pairs_of rest) q.0 = contains_map (λ (y : PairPart). y.0) rest q there in
+    let pairs : Contains (pairs_of rest) q.0 = contains_mapped (λ (y : PairPart). y.0) rest q there in
     record {
       entry = x;
       stored = record {

@@ -11,6 +11,7 @@ use Rattle.lfs_block.specs.declared.mount_fault.MountFault.TheVariants as fault
 use Rattle.lfs_meta.specs.Name.{Name}
 use Rattle.lfs_meta.specs.Entry.{StoredEntry}
 use Rattle.lfs_meta.specs.Spelling.{IsWhole}
+use Rattle.lfs_meta.proofs.PartlessLemmas.{any_later}
 use Rattle.lfs_fs.specs.declared.limits.Limits.{Limits}
 use Rattle.lfs_fs.specs.NameOrder.{precedes}
 use Rattle.lfs_fs.specs.Uses.{entry_uses}
@@ -113,9 +114,6 @@ uses_more r b e es = omega (
   sum_by-append (entry_uses b) (resolved r e) (flat_map (resolved r) es),
   sum_by-append (entry_uses b) (resolved r e) [],
 )
-
-pub any_later : {X : Type 0} (P : X → Type 0) (x : X) (xs : List X) → Any P xs → Any P (x ∷ xs)
-any_later P x xs (k, y, within, is, holds) = (suc k, y, omega arith, is, holds)
 
 pub any_here : {X : Type 0} (P : X → Type 0) (x : X) (xs : List X) → P x → Any P (x ∷ xs)
 any_here P x xs holds = (0, x, omega arith, refl, holds)

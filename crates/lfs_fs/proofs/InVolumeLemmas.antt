@@ -1,5 +1,5 @@
 -- Each entry that is read along a thread stands in a directory of the volume.
-use Rattle.std.proofs.Common.{◌≡◌, ◌≢◌, ℕ, Bool, true, false, List, [], ◌∷◌, refl, ap, sym, subst, arith, map, Option, Some, None, zero}
+use Rattle.std.proofs.Common.{◌≡◌, ◌≢◌, ℕ, Bool, true, false, List, [], ◌∷◌, refl, sym, subst, arith, map, Option, Some, None, zero}
 use Rattle.std.proofs.Common.{suc}
 use Rattle.std.specs.Prelude.{Contains, flat_map, if◌then◌else◌}
 use Rattle.std.specs.List.{slice_get}
@@ -15,9 +15,11 @@ use Rattle.lfs_fs.specs.Thread.{Link, is_hard, joined_to, pieces}
 use Rattle.lfs_fs.specs.Reading.{Reading}
 use Rattle.lfs_fs.specs.Front.{IsThread}
 use Rattle.lfs_fs.specs.FrontCause.{StoredOn}
-use Rattle.lfs_fs.specs.Held.{resolved_body, resolved_as, resolved, link_of, link_at, directories_at}
+use Rattle.lfs_fs.specs.Held.{resolved_as, resolved, link_of, link_at, directories_at}
 use Rattle.lfs_fs.proofs.PrefixLemmas.{contains_more}
 use Rattle.lfs_fs.proofs.StoredLemmas.{front_of_thread, there_in_thread}
+use Rattle.lfs_fs.proofs.ContainsLemmas.{contains_mapped}
+use Rattle.lfs_fs.proofs.ResolvedLemmas.{stood_for}
 
 -- a directory with all entries of a list
 pub record Home (ds : List Directory) (es : List Entry) : Type 0 where
@@ -73,11 +75,6 @@ home (m ∷ ls) l (zero, within, is) = subst (λ (x : Link). Home (pieces (m ∷
     (home_step_first (is_hard m.tail) m.part (pieces ls))
 home (m ∷ ls) l (suc k, within, is) = home_step_later (is_hard m.tail) m.part (pieces ls) l.part.entries (home ls l (k, omega arith, is))
 
-pub contains_map : {X Y : Type 0} (f : X → Y) (xs : List X) (x : X) → Contains xs x → Contains (map f xs) (f x)
-contains_map f [] x there = absurd (omega arith)
-contains_map f (y ∷ xs) x (zero, within, is) = (0, omega arith, ap f is)
-contains_map f (y ∷ xs) x (suc k, within, is) = contains_more (f x) (f y) (map f xs) (contains_map f xs x (k, omega arith, is))
-
 contains_flat : {X Y : Type 0} (f : X → List Y) (xs : List X) (i : ℕ) (x : X) (y : Y) → slice_get xs i ≡ Some x → Contains (f x) y
     → Contains (flat_map f xs) y
 contains_flat f [] i x y is there = cc
@@ -85,22 +82,18 @@ contains_flat f (z ∷ xs) zero x y is there = let same : z ≡ x = cc in
     Contains-append_left (f z) (flat_map f xs) y (subst (λ w. Contains (f w) y) (sym same) there)
 contains_flat f (z ∷ xs) (suc i) x y is there = Contains-append_right (f z) (flat_map f xs) y (contains_flat f xs i x y is there)
 
--- what a stored entry stands for
-abbrev pub entry_of : Reading → StoredEntry → Entry
-entry_of r e = record { name = e.name; body = resolved_body r e.body; attributes = e.attributes }
-
-is_resolved_as : (r : Reading) (e : StoredEntry) (kind : Kind) → kind ≢ Super → Contains (resolved_as r e kind) (entry_of r e)
+is_resolved_as : (r : Reading) (e : StoredEntry) (kind : Kind) → kind ≢ Super → Contains (resolved_as r e kind) (stood_for r e)
 is_resolved_as r e File other = (0, omega arith, refl)
 is_resolved_as r e Dir other = (0, omega arith, refl)
 is_resolved_as r e Super other = absurd (other refl)
 
 in_link : (r : Reading) (p : Pair) (o : Option StoredPart) (s : StoredPart) (i : ℕ) (e : StoredEntry) → o ≡ Some s
-    → slice_get s.entries i ≡ Some e → e.kind ≢ Super → Contains (link_of r p o).part.entries (entry_of r e)
+    → slice_get s.entries i ≡ Some e → e.kind ≢ Super → Contains (link_of r p o).part.entries (stood_for r e)
 in_link r p None s i e is at other = cc
 in_link r p (Some t) s i e is at other =
     let same : t ≡ s = cc in
-    subst (λ (x : StoredPart). Contains (link_of r p (Some x)).part.entries (entry_of r e)) (sym same)
-    (contains_flat (resolved r) s.entries i e (entry_of r e) at (is_resolved_as r e e.kind other))
+    subst (λ (x : StoredPart). Contains (link_of r p (Some x)).part.entries (stood_for r e)) (sym same)
+    (contains_flat (resolved r) s.entries i e (stood_for r e) at (is_resolved_as r e e.kind other))
 
 -- an entry of a directory
 pub record Stands (ds : List Directory) (e : Entry) : Type 0 where
@@ -109,13 +102,13 @@ pub record Stands (ds : List Directory) (e : Entry) : Type 0 where
   pub member : Contains (entries directory) e
 
 pub stands : (r : Reading) (ps : List Pair) (e : StoredEntry) (s : StoredOn r e) → IsThread r ps → e.kind ≢ Super
-    → Stands (directories_at r ps) (entry_of r e)
+    → Stands (directories_at r ps) (stood_for r e)
 stands r ps e s thread other =
     let there = there_in_thread s.front ps s.pair (front_of_thread r ps s.front thread s.is_front) s.there in
-    let h = home (map (link_at r) ps) (link_at r s.pair) (contains_map (link_at r) ps s.pair there) in
+    let h = home (map (link_at r) ps) (link_at r s.pair) (contains_mapped (link_at r) ps s.pair there) in
     record {
       directory = h.directory;
       there = h.there;
-      member = h.all (entry_of r e)
+      member = h.all (stood_for r e)
           (in_link r s.pair (r.part s.pair) s.part s.index e s.read s.member other);
     }

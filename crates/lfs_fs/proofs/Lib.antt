@@ -1,3 +1,4 @@
+pub mod ContainsLemmas
 pub mod NameOrderLemmas
 pub mod PathOrderLemmas
 pub mod PathTextLemmas

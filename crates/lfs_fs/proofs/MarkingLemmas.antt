@@ -25,7 +25,7 @@ marks_then a b c u w v is first later = record {
       (first.marks n within) (later.marks n (omega (arith, first.len)));
 }
 
-parts_split : (b : ℕ) (ps : List Part) → sum_by (part_uses b) ps ≡ sum_by (pair_uses b) ps
+pub parts_split : (b : ℕ) (ps : List Part) → sum_by (part_uses b) ps ≡ sum_by (pair_uses b) ps
     + sum_by (entry_uses b) (flat_map (λ p. p.entries) ps)
 parts_split b [] = refl
 parts_split b (p ∷ ps) =

@@ -46,7 +46,8 @@ use Rattle.lfs_fs.proofs.OneMountLemmas.{one_thread, one_superblock}
 use Rattle.lfs_fs.proofs.PrefixLemmas.{Extension, extension, pieces_extend}
 use Rattle.lfs_fs.proofs.StoredLemmas.{Standing, First, Later, standing, front_of_thread, there_in_thread}
 use Rattle.lfs_fs.proofs.CountLemmas.{Ends, ends_by, uses_of_front, named_of_front, count_uses, named_once, element_le, names_some}
-use Rattle.lfs_fs.proofs.InVolumeLemmas.{entry_of, stands}
+use Rattle.lfs_fs.proofs.InVolumeLemmas.{stands}
+use Rattle.lfs_fs.proofs.ResolvedLemmas.{stood_for}
 
 -- the volume as it is read
 abbrev pub here : (r : Reading) (v : Volume) → Holds r v → Volume
@@ -118,8 +119,8 @@ ranged r v h sound e s pair body past (First at zero' is) = let inline : Stored_
     sym (ap (λ (x : StoredEntry). x.body) is) ∙ body in cc
 ranged r v h sound e s pair body past (Later resolved) =
     let there = stands r h.pairs e s h.is_thread resolved.0 in
-    let leads : target (entry_of r e) ≡ Some (unordered pair) = ap (λ (b : StoredBody). body_target (resolved_body r b)) body in
-    let some = names_some (unordered pair) (here r v h) there.directory (entry_of r e) there.there there.member leads in
+    let leads : target (stood_for r e) ≡ Some (unordered pair) = ap (λ (b : StoredBody). body_target (resolved_body r b)) body in
+    let some = names_some (unordered pair) (here r v h) there.directory (stood_for r e) there.there there.member leads in
     let within = unordered_within (nat_le pair.0 pair.1) pair r.count (within_count (here r v h) (unordered pair) sound some) in
     elim past [ inl p ↦ let w = within.0 in omega arith | inr p ↦ let w = within.1 in omega arith ]
 
@@ -241,7 +242,7 @@ no_longer limit (y ∷ a) h (zero, x, within, is, long) = let same : length y.1 
     let fits = h.0 in omega arith
 no_longer limit (y ∷ a) h (suc k, x, within, is, long) = no_longer limit a h.2 (k, x, omega arith, is, long)
 
-within_limits : (l : Limits) (r : Reading) (e : StoredEntry) → Lengths r → IsResolved r e → IsProper l (entry_of r e) → IsOversized l e → ⊥
+within_limits : (l : Limits) (r : Reading) (e : StoredEntry) → Lengths r → IsResolved r e → IsProper l (stood_for r e) → IsOversized l e → ⊥
 within_limits l r e lengths resolved proper (inl name) = let most = name_at_most e.kind e.name in let fits = proper.name_fits in omega arith
 within_limits l r e lengths resolved proper (inr (inl size)) = let most = size_at_most r e.kind e.body lengths resolved.1 in
     let fits = proper.file_fits in omega arith
@@ -262,7 +263,7 @@ oversized r v h sound lengths e s over (Later resolved) =
     let all = All-contains (λ (d : Directory). All (IsProper (header_of h.bytes []).limits) (entries d))
     (directories_at r h.pairs) there.directory sound.proper there.there in
     within_limits (header_of h.bytes []).limits r e lengths resolved (All-contains (IsProper (header_of h.bytes []).limits)
-    (entries there.directory) (entry_of r e) all there.member) over
+    (entries there.directory) (stood_for r e) all there.member) over
 
 no_oversized : (r : Reading) (v : Volume) (h : Holds r v) → IsSound (here r v h) → Lengths r → EntryOversized r → ⊥
 no_oversized r v h sound lengths c =

@@ -4,7 +4,7 @@ use Rattle.std.proofs.Common.{arith, map, append_assoc, inl, inr, cond, get_or, 
 use Rattle.std.specs.Prelude.{find, sum_by, count_by, slice_get, is_some}
 use Rattle.std.specs.List.{All, Contains}
 use Rattle.std.proofs.lemmas.Option.{none-some, same_Some, slice_get_within, get_or_from_slice_get}
-use Rattle.std.proofs.lemmas.List.{map-append, length-map, get_or-map, length-set}
+use Rattle.std.proofs.lemmas.List.{map-append, length-set}
 use Rattle.std.proofs.lemmas.List.Sums.{sum_by-cons, sum_by-append, sum_by_push}
 use Rattle.std.proofs.lemmas.List.Elements.{All-nil, All-head, All-tail, All-append, All-push, All-weaker, All-contains, All-map}
 use Rattle.std.proofs.lemmas.List.Elements.{Contains-append_left, Contains-append_right, Contains-append_cases, Contains-get_or}
@@ -30,6 +30,7 @@ use Rattle.lfs_fs.proofs.PairLemmas.{same_pair-is}
 use Rattle.lfs_fs.proofs.CountLemmas.{element_le}
 use Rattle.lfs_fs.proofs.FlaggedLemmas.{flagged_set}
 use Rattle.lfs_fs.proofs.ListedLemmas.{row_below}
+use Rattle.lfs_fs.proofs.ContainsLemmas.{contains_later, contains_mapped}
 
 -- ---- a step, whatever is put before what waits
 
@@ -50,17 +51,14 @@ met_after rows x more rest =
     ap (λ (ps : List Path). ps ++ row_paths (more ++ rest)) paths ∙ append_assoc (row_paths rows) (x.path ∷ []) (row_paths (more ++ rest))
     ∙ ap (λ (ps : List Path). row_paths rows ++ (x.path ∷ ps)) queue
 
-tail_contained : {X : Type 0} (y : X) (xs : List X) (x : X) → Contains xs x → Contains (y ∷ xs) x
-tail_contained y xs x (i, within, is) = (suc i, omega arith, is)
-
 -- what was met stays met
-met_stays : (ps : List Path) (p : Path) (more rest : List Path) (q : Path) → Contains (ps ++ p ∷ rest) q
+pub met_stays : (ps : List Path) (p : Path) (more rest : List Path) (q : Path) → Contains (ps ++ p ∷ rest) q
     → Contains (ps ++ (p ∷ (more ++ rest))) q
 met_stays ps p more rest q there = elim (Contains-append_cases ps (p ∷ rest) q there) [
   | inl front ↦ Contains-append_left ps (p ∷ (more ++ rest)) q front
   | inr back ↦ Contains-append_right ps (p ∷ (more ++ rest)) q (elim (Contains-append_cases (p ∷ []) rest q back) [
     | inl one ↦ Contains-append_left (p ∷ []) (more ++ rest) q one
-    | inr later ↦ tail_contained p (more ++ rest) q (Contains-append_right more rest q later)
+    | inr later ↦ contains_later p (more ++ rest) q (Contains-append_right more rest q later)
   ])
 ]
 
@@ -101,7 +99,7 @@ step_paths v rows x more rest opened again grows put walk =
     let new : IsOpened v again met x.path = record {
       named = put.named;
       below = λ n e there. Contains-append_right ps (x.path ∷ (cs ++ qs)) (x.path ++ n ∷ [])
-          (tail_contained x.path (cs ++ qs) (x.path ++ n ∷ []) (Contains-append_left cs qs (x.path ++ n ∷ []) (put.below n e there)));
+          (contains_later x.path (cs ++ qs) (x.path ++ n ∷ []) (Contains-append_left cs qs (x.path ++ n ∷ []) (put.below n e there)));
     } in
     let done : All (IsOpened v again met) (row_paths (rows ++ x ∷ [])) =
     subst (All (IsOpened v again met)) (sym paths) (All-push (IsOpened v again met) ps x.path old new) in
@@ -155,11 +153,8 @@ step_file v rows x rest opened none walk =
 -- ---- a directory is listed, and its entries wait
 
 -- what holds of everything holds of all of a list
-every : {X : Type 0} (P : X → Type 0) (xs : List X) → ((x : X) → P x) → All P xs
+pub every : {X : Type 0} (P : X → Type 0) (xs : List X) → ((x : X) → P x) → All P xs
 every P xs h = λ i d within. h (get_or xs i d)
-
-contains-map : {X Y : Type 0} (f : X → Y) (xs : List X) (x : X) → Contains xs x → Contains (map f xs) (f x)
-contains-map f xs x (i, within, is) = (i, omega (arith, length-map xs f), get_or-map f xs i x (f x) within ∙ ap f is)
 
 -- what holds of the paths of all entries
 child_paths : (P : Path → Type 0) (p : Path) (es : List Entry) → All (λ (f : Entry). P (p ++ f.name ∷ [])) es
@@ -194,8 +189,8 @@ children_put v x opened k d there leads begins rise many = record {
       let one = found (is_named n) (entries d) f (sym (entry_below v x.path n x.entry k d there leads begins) ∙ is) in
       let same : n ≡ f.name = (bytes_eq-Decides n f.name).0 one.1 in
       let member : Contains (row_paths (map (row_below x.path) (entries d))) (x.path ++ f.name ∷ []) =
-      contains-map (λ (y : Row). y.path) (map (row_below x.path) (entries d)) (row_below x.path f)
-      (contains-map (row_below x.path) (entries d) f one.0) in
+      contains_mapped (λ (y : Row). y.path) (map (row_below x.path) (entries d)) (row_below x.path f)
+      (contains_mapped (row_below x.path) (entries d) f one.0) in
       subst (λ (m : Name). Contains (row_paths (map (row_below x.path) (entries d))) (x.path ++ m ∷ [])) (sym same) member;
 }
 

@@ -62,7 +62,7 @@ outlined_length (Inline bytes) = refl
 outlined_length (Chain blocks bytes) = length-replicate (length bytes) 0
 outlined_length (Directory_at pair) = refl
 
-body_leads_on : (b : Body) → body_target (outlined_body b) ≡ body_target b
+pub body_leads_on : (b : Body) → body_target (outlined_body b) ≡ body_target b
 body_leads_on (Inline bytes) = refl
 body_leads_on (Chain blocks bytes) = refl
 body_leads_on (Directory_at pair) = refl
@@ -70,14 +70,14 @@ body_leads_on (Directory_at pair) = refl
 pub outlined_target : (e : Entry) → target (outlined_entry e) ≡ target e
 outlined_target e = body_leads_on e.body
 
-body_uses_same : (b : ℕ) (body : Body) → body_uses b (outlined_body body) ≡ body_uses b body
+pub body_uses_same : (b : ℕ) (body : Body) → body_uses b (outlined_body body) ≡ body_uses b body
 body_uses_same b (Inline bytes) = refl
 body_uses_same b (Chain blocks bytes) = refl
 body_uses_same b (Directory_at pair) = refl
 
 -- ---- blocks
 
-directory_uses_same : (b : ℕ) (d : Directory) → directory_uses b (outlined_directory d) ≡ directory_uses b d
+pub directory_uses_same : (b : ℕ) (d : Directory) → directory_uses b (outlined_directory d) ≡ directory_uses b d
 directory_uses_same b d =
     let pairs : sum_by (pair_uses b) (parts (outlined_directory d)) ≡ sum_by (pair_uses b) (parts d) =
     sum_same (pair_uses b) outlined_part (λ p. refl) (parts d) in
@@ -163,17 +163,17 @@ all_rise_outlined ds all =
 
 -- ---- paths
 
-entry_of_found : (n : Name) (o : Option Directory) → option_and_then (λ d. find (is_named n) (entries d)) (option_map outlined_directory o)
+pub entry_of_found : (n : Name) (o : Option Directory) → option_and_then (λ d. find (is_named n) (entries d)) (option_map outlined_directory o)
     ≡ option_map outlined_entry (option_and_then (λ d. find (is_named n) (entries d)) o)
 entry_of_found n None = refl
 entry_of_found n (Some d) = ap (find (is_named n)) (outlined_entries d) ∙ find_mapped (is_named n) outlined_entry (λ e. refl) (entries d)
 
-entry_in_same : (ds : List Directory) (k : Pair) (n : Name) → entry_in (outlined_directories ds) k n
+pub entry_in_same : (ds : List Directory) (k : Pair) (n : Name) → entry_in (outlined_directories ds) k n
     ≡ option_map outlined_entry (entry_in ds k n)
 entry_in_same ds k n = ap (option_and_then (λ d. find (is_named n) (entries d)))
     (find_mapped (begins_at k) outlined_directory (λ d. refl) ds) ∙ entry_of_found n (find (begins_at k) ds)
 
-step_on : (ds : List Directory) (n : Name) (o : Option Pair) → option_and_then (λ k. entry_in (outlined_directories ds) k n) o
+pub step_on : (ds : List Directory) (n : Name) (o : Option Pair) → option_and_then (λ k. entry_in (outlined_directories ds) k n) o
     ≡ option_map outlined_entry (option_and_then (λ k. entry_in ds k n) o)
 step_on ds n None = refl
 step_on ds n (Some k) = entry_in_same ds k n
@@ -183,7 +183,7 @@ step_same : (ds : List Directory) (n : Name) (here : Option Entry) → step targ
 step_same ds n None = refl
 step_same ds n (Some e) = ap (option_and_then (λ k. entry_in (outlined_directories ds) k n)) (outlined_target e) ∙ step_on ds n (target e)
 
-walk_same : (ds : List Directory) (here : Option Entry) (path : Path)
+pub walk_same : (ds : List Directory) (here : Option Entry) (path : Path)
     → walk target (entry_in (outlined_directories ds)) (option_map outlined_entry here) path
     ≡ option_map outlined_entry (walk target (entry_in ds) here path)
 walk_same ds here [] = refl

@@ -10,6 +10,7 @@ use Rattle.std.proofs.lemmas.List.Sums.{sum_by-cons}
 use Rattle.lfs_block.specs.declared.mount_fault.MountFault.{MountFault}
 use Rattle.lfs_block.specs.declared.mount_fault.MountFault.TheVariants as fault
 use Rattle.lfs_meta.specs.Spelling.{IsWhole}
+use Rattle.lfs_meta.proofs.PartlessLemmas.{any_later}
 use Rattle.lfs_fs.specs.declared.limits.Limits.{Limits}
 use Rattle.lfs_fs.specs.Used.{marked}
 use Rattle.lfs_fs.specs.Directory.{Part, Directory, parts, entries}
@@ -20,7 +21,7 @@ use Rattle.lfs_fs.specs.Reading.{Reading}
 use Rattle.lfs_fs.specs.Outlined.{outlined_part}
 use Rattle.lfs_fs.specs.Gathering.{PairPart, NamesFall, EntryFault, EntriesCause, KeepsPart, link_from, stored_uses, parts_use}
 use Rattle.lfs_fs.specs.Gathering.{part_entries, as_directory, outlined_pieces, IsProperPart, KeepsParts, PartsCause}
-use Rattle.lfs_fs.proofs.GatheringLemmas.{any_later, any_here}
+use Rattle.lfs_fs.proofs.GatheringLemmas.{any_here}
 use Rattle.lfs_fs.proofs.FoldersLemmas.{cut_here, all_joined, outlined_cut, joined_more, joined_ends, joined_last}
 
 -- the entries of a part are whole

@@ -21,7 +21,7 @@ behind_names : (ns : List Name) → IsBehind (joined ns)
 behind_names [] = tt
 behind_names (n ∷ ns) = refl
 
-one_name_first : (x y : Name) (xs ys : List ℕ) → HasNoSlash x → HasNoSlash y → IsBehind xs → IsBehind ys → x ++ xs ≡ y ++ ys
+pub one_name_first : (x y : Name) (xs ys : List ℕ) → HasNoSlash x → HasNoSlash y → IsBehind xs → IsBehind ys → x ++ xs ≡ y ++ ys
     → (x ≡ y) × (xs ≡ ys)
 one_name_first [] [] xs ys free_x free_y behind_x behind_y is = (refl, is)
 one_name_first [] (b ∷ y) xs ys free_x free_y behind_x behind_y is = absurd (All-head (λ c. c ≢ 47) b y free_y (subst IsBehind is behind_x))

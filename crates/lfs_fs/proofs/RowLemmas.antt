@@ -1,5 +1,5 @@
 -- A map from paths has one list of rows.
-use Rattle.std.proofs.Common.{◌≡◌, ◌⊎◌, true, List, [], ◌∷◌, refl, arith, sym, subst, zero, suc, get_or}
+use Rattle.std.proofs.Common.{◌≡◌, ◌⊎◌, true, List, [], ◌∷◌, refl, sym, subst, get_or}
 use Rattle.std.specs.Prelude.{Option}
 use Rattle.std.specs.List.{All, Contains}
 use Rattle.std.proofs.lemmas.List.Elements.{All-contains, All-tail, All-head}
@@ -8,18 +8,11 @@ use Rattle.lfs_fs.specs.Path.{Path}
 use Rattle.lfs_fs.specs.Entry.{Entry}
 use Rattle.lfs_fs.specs.Row.{path_precedes, Row, RowsRise, AreRows, RowsAreUnique}
 use Rattle.lfs_fs.proofs.PathOrderLemmas.{path_irreflexive, path_transitive}
+use Rattle.lfs_fs.proofs.ContainsLemmas.{contains_none, contains_cases}
 
 -- two paths don't precede each other
 paths_not_both : (p q : Path) → path_precedes p q ≡ true → path_precedes q p ≡ true → ⊥
 paths_not_both p q h k = cc (path_transitive p q p h k, path_irreflexive p)
-
--- an element of a list is its first one or one of the others
-contains_cases : {X : Type 0} (y : X) (ys : List X) (x : X) → Contains (y ∷ ys) x → (x ≡ y) ⊎ Contains ys x
-contains_cases y ys x (zero, within, is) = inl (sym is)
-contains_cases y ys x (suc k, within, is) = inr (k, omega arith, is)
-
-contains_none : {X : Type 0} (x : X) → Contains [] x → ⊥
-contains_none x h = omega arith
 
 -- what is in a list is its first row, or comes after it
 after_first : (r : Row) (rows : List Row) (x : Row) → RowsRise (r ∷ rows) → Contains (r ∷ rows) x

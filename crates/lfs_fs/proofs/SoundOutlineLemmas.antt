@@ -1,20 +1,17 @@
 -- Outlines of sound volumes are sound.
-use Rattle.std.proofs.Common.{List, [], ◌∷◌, sym, ◌∙◌, subst, arith}
+use Rattle.std.proofs.Common.{sym, ◌∙◌, subst, arith}
 use Rattle.std.specs.Prelude.{All}
 use Rattle.std.proofs.lemmas.List.Elements.{All-map, All-weaker}
 use Rattle.lfs_fs.specs.Directory.{Directory, entries, key}
 use Rattle.lfs_fs.specs.Entry.{Entry}
-use Rattle.lfs_fs.specs.Outlined.{outlined, outlined_directories, outlined_directory, outlined_entry}
-use Rattle.lfs_fs.specs.Sound.{IsProper, StartsAtRoot}
+use Rattle.lfs_fs.specs.Outlined.{outlined, outlined_directory, outlined_entry}
+use Rattle.lfs_fs.specs.Sound.{IsProper}
 use Rattle.lfs_fs.specs.SoundOutlines.{OutlinesAreSound}
 use Rattle.lfs_fs.specs.Tree.{Reached}
 use Rattle.lfs_fs.specs.declared.limits.Limits.{Limits}
 use Rattle.lfs_fs.proofs.OutlinedLemmas.{all_rise_outlined, outlined_begins, outlined_delta, outlined_entries, outlined_length}
 use Rattle.lfs_fs.proofs.OutlinedLemmas.{outlined_named, outlined_reached, outlined_uses}
-
-starts : (ds : List Directory) → StartsAtRoot ds → StartsAtRoot (outlined_directories ds)
-starts [] is = is
-starts (d ∷ ds) is = is
+use Rattle.lfs_fs.proofs.OutlinedFaultLemmas.{starts_outlined}
 
 proper : (limits : Limits) (e : Entry) → IsProper limits e → IsProper limits (outlined_entry e)
 proper limits e is = record {
@@ -32,7 +29,7 @@ proper_in limits d all =
 
 pub outlines_are_sound : OutlinesAreSound
 outlines_are_sound v sound = record {
-  starts = starts v.directories sound.starts;
+  starts = starts_outlined v.directories sound.starts;
   order = all_rise_outlined v.directories sound.order;
   proper =
       All-map (λ (d : Directory). All (IsProper v.limits) (entries d)) outlined_directory v.directories

@@ -7,6 +7,7 @@ use Rattle.lfs_fs.specs.Pair.{root}
 use Rattle.lfs_fs.specs.Volume.{Volume}
 use Rattle.lfs_fs.specs.Free.{free_blocks}
 use Rattle.lfs_fs.specs.Sound.{IsSound}
+use Rattle.lfs_fs.specs.Limits.{new_limits}
 
 -- the root alone, without entries
 abbrev pub empty_volume : ℕ → ℕ → Limits → Attributes → Volume
@@ -20,7 +21,7 @@ empty_volume size count limits attributes = record {
 
 -- the same without attributes, and with these limits
 abbrev pub formatted_volume : ℕ → ℕ → Volume
-formatted_volume size count = empty_volume size count (record { name = 255; file = 2147483647; attribute = 1022 }) []
+formatted_volume size count = empty_volume size count new_limits []
 
 -- the law: it is sound
 abbrev pub FormattedIsSound : Type 0

@@ -1,3 +1,4 @@
+pub mod Limits
 pub mod NameOrder
 pub mod Path
 pub mod Graph

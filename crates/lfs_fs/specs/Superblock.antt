@@ -10,6 +10,7 @@ use Rattle.lfs_meta.specs.Part.{StoredPart}
 use Rattle.lfs_fs.specs.Pair.{root}
 use Rattle.lfs_fs.specs.declared.limits.Limits.{Limits}
 use Rattle.lfs_fs.specs.Reading.{Reading}
+use Rattle.lfs_fs.specs.Limits.{most_file, most_held}
 
 -- its name
 abbrev pub littlefs : Name
@@ -52,6 +53,6 @@ header_of bytes attributes = record {
 
 -- the ranges of the three limits (own)
 pub record IsLimits (l : Limits) : Type 0 where
-  pub name : (1 ≤ l.name) × (l.name ≤ 1022)
-  pub file : (1 ≤ l.file) × (l.file ≤ 2147483647)
-  pub attribute : (1 ≤ l.attribute) × (l.attribute ≤ 1022)
+  pub name : (1 ≤ l.name) × (l.name ≤ most_held)
+  pub file : (1 ≤ l.file) × (l.file ≤ most_file)
+  pub attribute : (1 ≤ l.attribute) × (l.attribute ≤ most_held)

@@ -14,8 +14,10 @@ use crate::outline_directory::OutlineDirectory;
 use crate::outline_entry::OutlineEntry;
 use crate::path::Path;
 
-/// The first directory that begins at a pair, the lesser block first.
-fn directory_at<'a>(
+/// The first directory that begins at a pair, the lesser block first. Takes no memory.
+///
+/// Source: own.
+pub fn directory_at<'a>(
     directories: &'a [OutlineDirectory],
     pair: (u32, u32),
 ) -> Option<&'a OutlineDirectory>

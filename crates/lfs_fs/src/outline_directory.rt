@@ -53,7 +53,9 @@ impl OutlineDirectory {
     }
 
     /// Whether its first pair has these blocks, the lesser one first. Takes no memory.
-    pub(crate) fn begins_at(&self, pair: (u32, u32)) -> bool
+    ///
+    /// Source: own.
+    pub fn begins_at(&self, pair: (u32, u32)) -> bool
         ensures { result ≡ begins_at pair self.now }
     {
         let (first, second) = self.key();

@@ -1,8 +1,8 @@
 //! What stands under a name of a directory, in an outline.
 
 use crate::directory_table::unordered;
-use crate::listed_row::Row;
 use crate::outline_body::OutlineBody;
+use crate::row::Row;
 use crate::row_body::RowBody;
 use lfs_meta::Attribute;
 use std::marker::Model;
@@ -70,7 +70,9 @@ impl OutlineEntry {
     }
 
     /// Whether it has a name. Takes no memory.
-    pub(crate) fn is_named(&self, name: &[u8]) -> bool
+    ///
+    /// Source: own.
+    pub fn is_named(&self, name: &[u8]) -> bool
         ensures { result ≡ is_named name.now self.now }
     {
         name == self.name.as_slice()

@@ -4,9 +4,8 @@ ghost use Rattle.std.specs.Prelude.{IfOk};
 ghost use Rattle.lfs_fs.specs.Mounted.{IsOutlineOf};
 ghost use Rattle.lfs_fs.specs.Outlining.{HasOutline, IsEachOutline};
 
+use crate::laws::{images_mount_to_one_tree, mounted_images_have_no_cause};
 use crate::mounting::mount;
-use crate::no_cause::mounted_images_have_no_cause;
-use crate::one_mount::images_mount_to_one_tree;
 use crate::outline::Outline;
 use lfs_block::{Blocks, MountFault};
 use std::alloc::{AllocError, Global};

@@ -1,32 +1,48 @@
-//! The rows of a volume, and the order of their paths.
+//! Rows of an image's tree.
 
-ghost use Rattle.lfs_fs.specs.Row.{PathsAreOrdered, RowsAreUnique};
-ghost use Rattle.lfs_fs.specs.RowShown.{RowsShowTheTree};
+use crate::row_body::RowBody;
+use lfs_meta::Attribute;
+use std::marker::Model;
 
-use lfs_file::{blocks_of_chains_differ, contents_have_their_length, files_have_one_chain};
-
-/// A law: one list has the rows of a map from paths. Takes no memory.
+/// What stands at a path, less the path. Its path is the name behind as many names of the row before it as the depth less
+/// one; the root's row has depth 0 and no name. Its meaning is its depth with an entry, in which as many zeros as the
+/// contents of a chain have bytes stand for them.
 ///
 /// Source: own.
-pub fn rows_are_unique()
-    ensures { RowsAreUnique }
-{}
+#[derive(Drop)]
+pub struct Row<'a> {
+    /// The number of names in its path.
+    pub depth: usize,
+    /// The last name of its path.
+    pub name: &'a [u8],
+    /// A directory, or where a file's bytes are.
+    pub body: RowBody<'a>,
+    /// The attributes, strictly rising by kind.
+    pub attributes: &'a [Attribute],
+}
 
-/// A law: paths are in a strict total order. Takes no memory.
-///
-/// Source: own.
-pub fn paths_are_ordered()
-    ensures { PathsAreOrdered }
-{}
+impl<'a> Model for Row<'a> {
+    ghost use Rattle.lfs_fs.specs.Listed.{Listed};
+    ghost use Rattle.lfs_fs.specs.RowHeld.{row_body_held};
 
-/// A law: the rows of a mounted image show what its tree has at their paths; the contents of a file in a chain are those of the
-/// row's blocks, which are the image's. Takes no memory.
-///
-/// Source: own.
-pub fn rows_show_the_tree()
-    ensures { RowsShowTheTree }
-{
-    files_have_one_chain();
-    contents_have_their_length();
-    blocks_of_chains_differ();
+    ghost Value = { Listed };
+
+    ghost view = { λ r. record { depth = r.depth; entry = record { name = r.name.now; body = row_body_held r.body; attributes = r.attributes.now } } };
+
+    ghost invariant = { λ r. Unit };
+}
+
+impl<'a> Row<'a> {
+    ghost use Rattle.std.specs.Prelude.{◌≡◌};
+    ghost use Rattle.lfs_fs.specs.Entry.{leads};
+
+    /// Whether it is a directory. Takes no memory.
+    pub fn is_dir(&self) -> bool
+        ensures { result ≡ leads self.now.entry }
+    {
+        match &self.body {
+            RowBody::Dir(..) => true,
+            _ => false,
+        }
+    }
 }

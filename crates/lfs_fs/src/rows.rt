@@ -5,10 +5,10 @@ ghost use Rattle.lfs_fs.specs.Tree.{top};
 ghost use Rattle.std.specs.Iterator.{YieldsFirst, item_count};
 ghost use Rattle.lfs_fs.specs.Placed.{entry_placed, listed_at};
 
-use crate::listed_row::Row;
 use crate::outline::Outline;
 use crate::place::Place;
 use crate::placing::entry_in_directories;
+use crate::row::Row;
 use crate::row_body::RowBody;
 use crate::thread_reading::ROOT;
 use std::marker::Model;

@@ -6,7 +6,7 @@ ghost use Rattle.lfs_fs.specs.Header.{IsHeader, HeaderCause};
 ghost use Rattle.lfs_fs.specs.Judged.{IsJudged, JudgedCause, TakesFirst, BeginsWithNone};
 ghost use Rattle.lfs_fs.specs.Superblock.{IsLimits, IsSuperblock, header_of, word_at};
 
-use crate::limits::Limits;
+use crate::limits::{Limits, MOST_FILE, MOST_HELD};
 use byteorder::{ByteOrder, LittleEndian};
 use lfs_block::MountFault;
 use lfs_meta::{Attribute, Body, Entry, Kind, Part};
@@ -17,12 +17,6 @@ const NAME: [u8; 8] = *b"littlefs";
 const LEN: usize = 24;
 /// Version 2.0 of the disk format.
 const VERSION: u32 = 0x0002_0000;
-/// The greatest limit of a name, in bytes.
-const MAX_NAME: u32 = 1_022;
-/// The greatest limit of a file, in bytes.
-const MAX_FILE: u32 = 2_147_483_647;
-/// The greatest limit of an attribute, in bytes.
-const MAX_ATTRIBUTE: u32 = 1_022;
 
 /// The struct of an entry, where the entry is a superblock.
 fn struct_of(entry: &Entry) -> Option<&[u8]>
@@ -52,9 +46,9 @@ fn word_at(bytes: &[u8], index: usize) -> u32
 fn are_limits(limits: Limits) -> bool
     ensures { IsTrue result ↔ IsLimits limits }
 {
-    (1..=MAX_NAME).contains(&limits.name)
-        && (1..=MAX_FILE).contains(&limits.file)
-        && (1..=MAX_ATTRIBUTE).contains(&limits.attribute)
+    (1..=MOST_HELD).contains(&limits.name)
+        && (1..=MOST_FILE).contains(&limits.file)
+        && (1..=MOST_HELD).contains(&limits.attribute)
 }
 
 /// The limits that a superblock's struct says, where its version and geometry are those of an image of `count` blocks

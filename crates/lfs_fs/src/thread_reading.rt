@@ -14,7 +14,9 @@ use lfs_meta::{Part, Tail, read_pair};
 use std::alloc::Global;
 
 /// The root's first pair.
-pub(crate) const ROOT: (u32, u32) = (0, 1);
+///
+/// Source: SPEC.md, "0x0ff superblock".
+pub const ROOT: (u32, u32) = (0, 1);
 
 /// The pair that a tail names.
 fn next_pair(tail: Tail) -> Option<(u32, u32)>

@@ -8,10 +8,8 @@ use Rattle.lfs_fs.specs.Tree.{Node, tree}
 use Rattle.lfs_fs.specs.Reading.{reading_of}
 use Rattle.lfs_fs.specs.Holds.{VolumesAreOne}
 use Rattle.lfs_command.specs.Equation.{equation}
-use Rattle.lfs_command.specs.Edited.{edited}
-use Rattle.lfs_command.specs.Cut.{cut}
-use Rattle.lfs_command.specs.Clean.{clean}
 use Rattle.lfs_command.specs.Accepted.{Follows}
+use Rattle.lfs_law.proofs.CarriedFollow.{carried_follow}
 use Rattle.lfs_history.specs.Laws.{IsCarriedOut, CommandsAreEquations, CommandsPushEquations}
 use Rattle.lfs_history.proofs.MoveLemmas.{Follow}
 
@@ -19,9 +17,8 @@ pub equations : VolumesAreOne → Follow → CommandsAreEquations
 equations one law d asked p v t plans holds (w, shown, sound, is) =
     let u = plans.volume in
     let c = plans.command in
-    let after : Volume = clean (cut plans.chosen (edited u c plans.supplies)) in
-    let made : Follows u c after = law.clean u (cut plans.chosen (edited u c plans.supplies)) c
-    (law.cut u c plans.supplies plans.chosen plans.accepted plans.pairs) in
+    let after : Volume = plans.next in
+    let made : Follows u c after = carried_follow law.cut law.clean c u after plans.carried in
     let follows : Follows v c after = subst (λ (x : Volume). Follows x c after) (one (reading_of d) u v plans.holds holds) made in
     let before : t ≡ tree v = fun_ext (λ (q : Path). is q ∙ ap (λ (x : Volume). tree x q) (one (reading_of d) w v shown holds)) in
     record {

@@ -10,11 +10,8 @@ use Rattle.lfs_history.specs.History.{History, IsHistory, past_of, future_of}
 use Rattle.lfs_history.specs.Moves.{Undoes, Redoes}
 use Rattle.lfs_history.specs.Taking.{Move, Do, Undo, Redo, Forget, Reply, Takes}
 use Rattle.lfs_history.specs.Laws.{IsOfGeometry}
-use Rattle.lfs_history.proofs.MoveLemmas.{latest}
+use Rattle.lfs_history.proofs.MoveLemmas.{latest, first_same}
 use Rattle.lfs_history.proofs.BookLemmas.{size_kept, count_kept}
-
-first_same : (x y : Disk) (xs ys : List Disk) → x ∷ xs ≡ y ∷ ys → x ≡ y
-first_same x y xs ys h = cc
 
 same_geometry : (d e : Disk) → e ≡ d → IsOfGeometry d e
 same_geometry d e is = (ap (λ (x : Disk). x.size) is, ap (λ (x : Disk). x.count) is)

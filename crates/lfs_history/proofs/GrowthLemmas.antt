@@ -25,7 +25,7 @@ changes_few : FewPartsChange → HeldAreClean → HeldAreHeldByLinks → (d : Di
     → length p.changes ≤ need plans.volume plans.command + 2
 changes_few few clean links d asked p plans =
     let v = plans.volume in
-    let parts = few v plans.command plans.supplies plans.accepted (clean (reading_of d) v (links (reading_of d) v plans.holds)) in
+    let parts = few v plans.command plans.carried.supplies plans.carried.accepted (clean (reading_of d) v (links (reading_of d) v plans.holds)) in
     let named = plans.frugal.len in
     let numbers = length-map p.changes (λ (c : Change). c.number) in
     omega arith

@@ -7,14 +7,14 @@ use Rattle.lfs_block.specs.Disk.{Disk, IsDisk}
 use Rattle.lfs_block.specs.Patch.{ChangeSet, IsPatch, AgreesOld, AgreesNew, applied, reverted}
 use Rattle.lfs_block.specs.PatchLaws.{AppliedIsDisk, AppliedAgrees, AppliedRevertsBack, RevertedIsDisk, RevertedAgrees}
 use Rattle.lfs_block.specs.PatchLaws.{RevertedAppliesAgain}
+use Rattle.lfs_book.specs.Book.{most_changes}
 use Rattle.lfs_command.specs.Command.{Asked}
 use Rattle.lfs_law.specs.Laws.{CutsFollow, CleansFollow}
-use Rattle.lfs_command.specs.Edited.{edited}
 use Rattle.lfs_command.specs.Cut.{cut}
 use Rattle.lfs_command.specs.Clean.{clean}
-use Rattle.lfs_command.specs.Accepted.{Follows}
 use Rattle.lfs_command.specs.Planned.{Plans}
-use Rattle.lfs_history.specs.History.{History, IsHistory, IsMounted, past_of, future_of, GoesBack, GoesOn, most_changes}
+use Rattle.lfs_law.proofs.CarriedFollow.{carried_follow}
+use Rattle.lfs_history.specs.History.{History, IsHistory, IsMounted, past_of, future_of, GoesBack, GoesOn}
 use Rattle.lfs_history.specs.Moves.{Pushes, Undoes, Redoes, Forgets}
 
 -- ---- what is owed by the layers below
@@ -38,7 +38,7 @@ pub record Follow : Type 0 where
 
 -- ---- lists
 
-first_same : (x y : Disk) (xs ys : List Disk) → x ∷ xs ≡ y ∷ ys → x ≡ y
+pub first_same : (x y : Disk) (xs ys : List Disk) → x ∷ xs ≡ y ∷ ys → x ≡ y
 first_same x y xs ys h = cc
 
 rest_same : (x y : Disk) (xs ys : List Disk) → x ∷ xs ≡ y ∷ ys → xs ≡ ys
@@ -132,11 +132,8 @@ redo_keeps law old new h u =
 -- the image that a planned patch makes mounts
 pub planned_mounts : Follow → (d : Disk) (asked : Asked) (p : ChangeSet) → Plans d asked p → IsMounted (applied p d)
 planned_mounts law d asked p plans =
-    let v = plans.volume in
-    let w = cut plans.chosen (edited v plans.command plans.supplies) in
-    let follows : Follows v plans.command (clean w) = law.clean v w plans.command
-    (law.cut v plans.command plans.supplies plans.chosen plans.accepted plans.pairs) in
-    (clean w, plans.after, follows.sound)
+    let follows = carried_follow law.cut law.clean plans.command plans.volume plans.next plans.carried in
+    (plans.next, plans.after, follows.sound)
 
 pub push_keeps : Make → Follow → (asked : Asked) (p : ChangeSet) (old new : History) → IsHistory old → length old.done < most_changes
     → Plans old.present asked p → Pushes p old new → IsHistory new

@@ -3,6 +3,7 @@ use Rattle.std.specs.Prelude.{◌≡◌, ℕ, ◌≤◌, List, [], ◌∷◌, �
 use Rattle.std.specs.List.{AllByRecursion}
 use Rattle.lfs_block.specs.Disk.{Disk, IsDisk}
 use Rattle.lfs_block.specs.Patch.{ChangeSet, IsPatch, AgreesOld, AgreesNew, applied, reverted}
+use Rattle.lfs_book.specs.Book.{most_changes}
 use Rattle.lfs_fs.specs.Volume.{Volume}
 use Rattle.lfs_fs.specs.Sound.{IsSound}
 use Rattle.lfs_fs.specs.Reading.{reading_of}
@@ -54,10 +55,6 @@ fresh_history d = history d [] []
 -- the image holds a sound volume
 abbrev pub IsMounted : Disk → Type 0
 IsMounted d = (v : Volume) × Holds (reading_of d) v × IsSound v
-
--- the most changes that are kept
-abbrev pub most_changes : ℕ
-most_changes = 1000
 
 -- the images are those of the changes, each of them mounts, and there are not too many changes
 pub record IsHistory (h : History) : Type 0 where

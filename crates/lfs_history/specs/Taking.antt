@@ -1,11 +1,12 @@
 -- Moves of a session, their replies, and runs of them (own).
 use Rattle.std.specs.Prelude.{◌≡◌, ◌<◌, ◌≤◌, List, [], ◌∷◌, Option, Some, None, length}
 use Rattle.lfs_block.specs.Patch.{ChangeSet}
+use Rattle.lfs_book.specs.Book.{most_changes}
 use Rattle.lfs_command.specs.Command.{Asked}
 use Rattle.lfs_command.specs.Planned.{Plans, RefusesPlan}
 use Rattle.lfs_history.specs.declared.step_fault.StepFault.{StepFault}
 use Rattle.lfs_history.specs.declared.step_fault.StepFault.TheVariants.{Refused, NothingToUndo, NothingToRedo, JournalFull}
-use Rattle.lfs_history.specs.History.{History, most_changes}
+use Rattle.lfs_history.specs.History.{History}
 use Rattle.lfs_history.specs.Moves.{Pushes, Undoes, Redoes, Forgets}
 
 -- A command is carried out, the latest command is taken back, the latest that was taken back is carried out again, all but

@@ -4,9 +4,10 @@ use Rattle.std.specs.Prelude.{reverse}
 use Rattle.std.proofs.lemmas.List.{take_more, drop_more, take_all, drop_all, length_push, length-take-le, get_or_push}
 use Rattle.lfs_block.specs.Disk.{Disk}
 use Rattle.lfs_block.specs.Patch.{ChangeSet, IsPatch, AgreesOld, AgreesNew, applied, reverted}
+use Rattle.lfs_book.specs.Book.{most_changes}
 use Rattle.lfs_command.specs.Command.{Asked}
 use Rattle.lfs_command.specs.Planned.{Plans}
-use Rattle.lfs_history.specs.History.{History, IsHistoryAt, history_at, past_of, future_of, GoesBack, GoesOn, most_changes}
+use Rattle.lfs_history.specs.History.{History, IsHistoryAt, history_at, past_of, future_of, GoesBack, GoesOn}
 use Rattle.lfs_history.specs.Moves.{Pushes, Undoes, Redoes}
 use Rattle.lfs_history.specs.Taking.{Does}
 use Rattle.lfs_history.proofs.MoveLemmas.{TakeBack, Make, Follow, latest, undo_keeps, redo_keeps, push_keeps}

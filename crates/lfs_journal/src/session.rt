@@ -9,16 +9,13 @@ use lfs_block::{
     Blocks, Image, Patch, applied_patches_change_their_blocks, applied_patches_revert,
     reverted_patches_apply_again,
 };
-use lfs_book::write_journal;
+use lfs_book::{MOST_CHANGES, write_journal};
 use lfs_edit::Command;
 use lfs_fs::{Outline, mount};
 use lfs_history::StepFault;
 use lfs_law::cuts_follow;
 use std::alloc::Global;
 use std::marker::Model;
-
-/// The most changes that a session keeps.
-const MOST_CHANGES: usize = 1_000;
 
 /// An image with its changes, up to 1,000, each of which can be taken back exactly, and made again. Its meaning is a
 /// `History`: each image that was and can be again, all of which mount. Between commands it keeps the image's outline, which
@@ -146,7 +143,7 @@ impl Session {
         applied_patches_change_their_blocks();
         applied_patches_revert();
         cuts_follow();
-        if self.done >= MOST_CHANGES {
+        if self.done >= MOST_CHANGES as usize {
             return Err(StepFault::JournalFull);
         }
         let Carried { patch, outline } = carried_out(

@@ -8,8 +8,8 @@ use Rattle.lfs_block.specs.Bytes.{IsBytes}
 use Rattle.lfs_block.specs.Change.{Change, IsRising, IsBlockChange, overlaid}
 use Rattle.lfs_block.specs.Disk.{Disk, IsDisk, block_of}
 use Rattle.lfs_block.specs.Patch.{Stands}
+use Rattle.lfs_file.proofs.ContentLemmas.{length-block}
 use Rattle.lfs_command.specs.PartWritten.{change_at, changes_at, with_change}
-use Rattle.lfs_law.proofs.BlockLemmas.{block_len}
 
 -- ---- an element put behind those in front that pass a test
 
@@ -81,7 +81,7 @@ pub change_whole : (d : Disk) (b : ℕ) (new : List ℕ) → IsDisk d → b < d.
     → FitsAt d (change_at d b new)
 change_whole d b new disk below len bytes old = record {
   stands = (below, refl);
-  whole = record { old = block_len d b disk below; new = len; old_bytes = old; new_bytes = bytes };
+  whole = record { old = length-block d b disk below; new = len; old_bytes = old; new_bytes = bytes };
 }
 
 pub changes_all : (P : Change → Type 0) (d : Disk) (blocks : List ℕ) (contents : List (List ℕ)) (N : ℕ → Type 0) (C : List ℕ → Type 0)

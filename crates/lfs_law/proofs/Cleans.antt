@@ -5,7 +5,6 @@ use Rattle.std.proofs.lemmas.List.{map-append}
 use Rattle.std.proofs.lemmas.List.Elements.{All-map}
 use Rattle.std.proofs.lemmas.List.Folds.{flat_map-map}
 use Rattle.std.proofs.lemmas.List.Concat.{flat_map-cons}
-use Rattle.std.proofs.lemmas.List.Sums.{sum_by-cons}
 use Rattle.lfs_meta.specs.Name.{Name}
 use Rattle.lfs_meta.specs.Body.{Pair}
 use Rattle.lfs_fs.specs.Path.{Path}
@@ -17,6 +16,7 @@ use Rattle.lfs_fs.specs.Uses.{pair_uses, entry_uses, directory_uses, uses}
 use Rattle.lfs_fs.specs.Named.{leads_to, names_of}
 use Rattle.lfs_fs.specs.State.{delta_of}
 use Rattle.lfs_fs.specs.Sound.{IsSound, StartsAtRoot, Rise, IsProper}
+use Rattle.lfs_fs.proofs.OutlinedLemmas.{sum_same}
 use Rattle.lfs_command.specs.DirectoryEdit.{each_part}
 use Rattle.lfs_command.specs.Clean.{cleaned, clean}
 use Rattle.lfs_law.specs.Laws.{CleansFollow}
@@ -29,12 +29,8 @@ use Rattle.lfs_law.proofs.SoundAfter.{sound_after}
 clean_entries : (d : Directory) → entries (each_part cleaned d) ≡ entries d
 clean_entries d = flat_map-map (λ (p : Part). p.entries) cleaned (parts d)
 
-sum_mapped : {X : Type 0} (f : X → ℕ) (g : X → X) → ((x : X) → f (g x) ≡ f x) → (xs : List X) → sum_by f (map g xs) ≡ sum_by f xs
-sum_mapped f g same [] = refl
-sum_mapped f g same (x ∷ xs) = omega (arith, sum_by-cons f (g x) (map g xs), sum_by-cons f x xs, same x, sum_mapped f g same xs)
-
 clean_uses : (b : ℕ) (d : Directory) → directory_uses b (each_part cleaned d) ≡ directory_uses b d
-clean_uses b d = omega (arith, sum_mapped (pair_uses b) cleaned (λ p. refl) (parts d), ap (sum_by (entry_uses b)) (clean_entries d))
+clean_uses b d = omega (arith, sum_same (pair_uses b) cleaned (λ p. refl) (parts d), ap (sum_by (entry_uses b)) (clean_entries d))
 
 clean_names : (k : Pair) (d : Directory) → names_of k (each_part cleaned d) ≡ names_of k d
 clean_names k d = ap (sum_by (λ (e : Entry). leads_to k (target e))) (clean_entries d)
@@ -59,9 +55,9 @@ clean_starts (d ∷ ds) h = h
 
 clean_effect : (ds : List Directory) → Effect none none ds (map (each_part cleaned) ds)
 clean_effect ds = record {
-  uses = λ b. omega (arith, sum_mapped (directory_uses b) (each_part cleaned) (clean_uses b) ds);
-  names = λ k. omega (arith, sum_mapped (names_of k) (each_part cleaned) (clean_names k) ds);
-  directories = λ k. omega (arith, sum_mapped (λ (d : Directory). cond {A = ℕ} (begins_at k d) 1 0) (each_part cleaned) (λ d. refl) ds);
+  uses = λ b. omega (arith, sum_same (directory_uses b) (each_part cleaned) (clean_uses b) ds);
+  names = λ k. omega (arith, sum_same (names_of k) (each_part cleaned) (clean_names k) ds);
+  directories = λ k. omega (arith, sum_same (λ (d : Directory). cond {A = ℕ} (begins_at k d) 1 0) (each_part cleaned) (λ d. refl) ds);
   starts = clean_starts ds;
   delta = ap delta_of (clean_thread ds) ∙ clean_delta (thread ds);
 }
@@ -101,7 +97,7 @@ pub clean_tree : (v : Volume) (p : Path) → tree (clean v) p ≡ tree v p
 clean_tree v p = tree_same v (clean v) (clean_edges v.directories) refl p
 
 pub clean_uses_all : (b : ℕ) (v : Volume) → uses b (clean v) ≡ uses b v
-clean_uses_all b v = sum_mapped (directory_uses b) (each_part cleaned) (clean_uses b) v.directories
+clean_uses_all b v = sum_same (directory_uses b) (each_part cleaned) (clean_uses b) v.directories
 
 pub cleans_follow : CleansFollow
 cleans_follow v w c h = record {

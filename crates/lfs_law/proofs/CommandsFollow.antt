@@ -3,8 +3,8 @@ use Rattle.std.proofs.Common.{◌≡◌, ℕ, ◌+◌, ◌<◌, ◌≤◌, nat_l
 use Rattle.std.proofs.Common.{subst, arith, length, Option, Some, None}
 use Rattle.std.specs.Prelude.{All, is_some, is_none, if◌then◌else◌}
 use Rattle.std.specs.Option.{option_map, option_and_then, unwrap_or}
-use Rattle.std.proofs.lemmas.Bool.Decides.{nat_tests}
 use Rattle.std.proofs.lemmas.List.Elements.{All-head, All-tail}
+use Rattle.std.proofs.lemmas.Bool.{or_parts, ltb-false}
 use Rattle.lfs_meta.specs.Name.{IsName}
 use Rattle.lfs_meta.specs.Attribute.{Attributes, set_attribute, remove_attribute}
 use Rattle.lfs_fs.specs.NameOrder.{NamesAreOrdered}
@@ -54,13 +54,6 @@ is_free v p h = by (entry_at v p) refl h
     by None is free = is
     by (Some e) is free = cc
 
-fits : (limit len : ℕ) → nat_lt limit len ≡ false → len ≤ limit
-fits limit len h = grind (arith, nat_tests)
-
-pub neither : (a b : Bool) → (a || b) ≡ false → (a ≡ false) × (b ≡ false)
-neither true b h = cc
-neither false b h = (refl, h)
-
 -- a command that follows its equation, and takes and frees the blocks that it says
 pub record Carries (v : Volume) (c : Command) (s : Supplies) : Type 0 where
   pub follows : Follows v c (edited v c s)
@@ -99,7 +92,7 @@ set_follows v p k value s ordered ok =
     puts_carry v (SetAttr p k value) s p (option_map (with_attributes (set_attribute k value)) (tree v p)) (λ b. 0) (λ b. 0) (λ q. refl)
     (λ b. refl) (λ b. refl)
     (attributes_set v p (set_attribute k value) ordered ok.sound (All-head (All IsName) p [] ok.names)
-    (λ a good. set_good v.limits.attribute k value a (fits v.limits.attribute (length value)
+    (λ a good. set_good v.limits.attribute k value a (ltb-false v.limits.attribute (length value)
     (test_passes (nat_lt v.limits.attribute (length value)) AttrTooLarge small.0)) good)
     walk.0 (test_passes (is_none (tree v p)) NotFound there.0))
 
@@ -124,7 +117,7 @@ made_follows v p s ordered ok =
     let at = is_placed v p ok.sound (All-head (All IsName) p [] ok.names) (test_passes (is_root p) IsRoot below.0) walk.0 in
     puts_carry v (Mkdir p) s p (Some (Dir [])) (λ b. 0) (λ b. times b (s.pair.0 ∷ s.pair.1 ∷ [])) (λ q. refl) (λ b. refl) (λ b. refl)
     (mkdir_follows v p s.pair ordered ok.sound at (is_free v p (test_passes (is_some (tree v p)) Exists new.0))
-    (fits v.limits.name (length at.home.name) (ap (nat_lt v.limits.name) (sym at.home.len)
+    (ltb-false v.limits.name (length at.home.name) (ap (nat_lt v.limits.name) (sym at.home.len)
     ∙ test_passes (nat_lt v.limits.name (last_length p)) NameTooLong short.0))
     (record { once = ok.free.once; within = ok.free.within }))
 
@@ -167,7 +160,7 @@ put_by : (v : Volume) (p : Path) (bytes : List ℕ) (body : Body) → NamesAreOr
     → Puts v (put_file v body (home_of v p) o) p (Some (File bytes (attributes_at (option_map node o))))
     (λ b. unwrap_or (option_map (entry_uses b) o) 0) (λ b. body_uses b body)
 put_by v p bytes body ordered sound at new None is file short =
-    new_file_follows v p body bytes ordered sound at is (fits v.limits.name (length at.home.name)
+    new_file_follows v p body bytes ordered sound at is (ltb-false v.limits.name (length at.home.name)
     (ap (nat_lt v.limits.name) (sym at.home.len) ∙ short)) new
 put_by v p bytes body ordered sound at new (Some e) is file short =
     subst (λ (a : Attributes). Puts v (put_file v body (home_of v p) (Some e)) p (Some (File bytes a)) (λ b. entry_uses b e)
@@ -186,7 +179,7 @@ put_follows v p bytes s ordered ok =
     puts_carry v (Put p bytes) s p (Some (File bytes (attributes_at (tree v p)))) (λ b. content_uses v p b)
     (λ b. body_uses b (new_body v s bytes)) (λ q. refl) (λ b. refl) (λ b. refl)
     (put_by v p bytes (new_body v s bytes) ordered ok.sound at
-    (new_body_free v p bytes s ok.free (fits v.limits.file (length bytes)
+    (new_body_free v p bytes s ok.free (ltb-false v.limits.file (length bytes)
     (test_passes (nat_lt v.limits.file (length bytes)) FileTooLarge small.0)))
     (entry_at v p) refl (test_passes (is_directory (tree v p)) IsADirectory file.0)
     (test_passes (is_none (tree v p) && nat_lt v.limits.name (last_length p)) NameTooLong short.0))
@@ -226,7 +219,7 @@ moved_follows v p q s ordered ok =
     let to_walk = first_passes (walk_refusal (tree v) [] q) _ off.1 in
     let new = first_passes (refuse_if (is_some (tree v q)) Exists) _ to_walk.1 in
     let short = first_passes (refuse_if (nat_lt v.limits.name (last_length q)) NameTooLong) _ new.1 in
-    let roots = neither (is_root p) (is_root q) (test_passes (is_root p || is_root q) IsRoot below.0) in
+    let roots = or_parts (is_root p) (is_root q) (test_passes (is_root p || is_root q) IsRoot below.0) in
     let from = is_placed v p ok.sound (All-head (All IsName) p (q ∷ []) ok.names) roots.0 from_walk.0 in
     let to = is_placed v q ok.sound (All-head (All IsName) q [] (All-tail (All IsName) p (q ∷ []) ok.names)) roots.1 to_walk.0 in
     let e = is_there v p (test_passes (is_none (tree v p)) NotFound there.0) in
@@ -234,7 +227,7 @@ moved_follows v p q s ordered ok =
     subst (λ (o : Option Entry). Moves v (move_entry v (home_of v p) (home_of v q) o) p q) (sym e.1)
     (mv_follows v p q e.0 ordered ok.sound from to e.1 (is_free v q (test_passes (is_some (tree v q)) Exists new.0))
     (test_passes (lies_below p q) IntoItself off.0)
-    (fits v.limits.name (length to.home.name) (ap (nat_lt v.limits.name) (sym to.home.len)
+    (ltb-false v.limits.name (length to.home.name) (ap (nat_lt v.limits.name) (sym to.home.len)
     ∙ test_passes (nat_lt v.limits.name (last_length q)) NameTooLong short.0))) in
     record {
       follows = record {

@@ -7,6 +7,8 @@ use Rattle.std.specs.Option.{option_map}
 use Rattle.std.proofs.lemmas.Bool.Decides.{nat_tests}
 use Rattle.std.proofs.lemmas.List.Elements.{All-nil, All-cons, All-head, All-tail}
 use Rattle.std.proofs.lemmas.List.Sums.{sum_by-cons, sum_by-append, length-filter}
+use Rattle.std.proofs.lemmas.Bool.{or_parts}
+use Rattle.std.proofs.Math.Bool.{or-true}
 use Rattle.lfs_meta.specs.Name.{Name, IsName}
 use Rattle.lfs_meta.specs.Attribute.{Attributes, set_attribute, remove_attribute}
 use Rattle.lfs_meta.specs.Body.{Pair}
@@ -33,7 +35,7 @@ use Rattle.lfs_command.specs.Need.{is_new_to}
 use Rattle.lfs_law.specs.CommandsSet.{CommandsSetAPart}
 use Rattle.lfs_command.specs.declared.refusal.Refusal.TheVariants.{IsRoot, NotFound, IntoItself}
 use Rattle.lfs_command.specs.Verdict.{refuse_if, walk_refusal, is_root, lies_below}
-use Rattle.lfs_law.proofs.CommandsFollow.{is_there, neither}
+use Rattle.lfs_law.proofs.CommandsFollow.{is_there}
 use Rattle.lfs_law.proofs.DirectoryEdits.{entries_of, pairs, keeps_link, keeps_unlink, keeps_change}
 use Rattle.lfs_law.proofs.EdgeEdits.{sound_is_good}
 use Rattle.lfs_law.proofs.EntriesThere.{stands_at_home}
@@ -70,10 +72,6 @@ both_by true true x y = refl
 both_by true false x y = cc
 both_by false b x y = cc
 
-touched : (t : Bool) → (t || true) ≡ true
-touched true = refl
-touched false = refl
-
 cons_count : (old : Pair → Bool) (p : Part) (ps : List Part) → count old (p ∷ ps) ≡ cond (set_old old p) 1 0 + count old ps
 cons_count old p ps = count_cases (set_old old) p ps
 
@@ -86,13 +84,13 @@ first_set old p ps set is = omega (arith, cons_count old p ps, both_by p.dirty (
 link_sets : (old : Pair → Bool) (e : Entry) (p : Part) (ps : List Part) → AreOld old (pairs (p ∷ ps))
     → 1 ≤ count old (parts (link_parts e p ps))
 unfolding link_parts
-link_sets old e p [] olds = first_set old (touch true (place e) p) [] (touched p.dirty) (All-head (λ q. old q ≡ true) p.pair [] olds)
+link_sets old e p [] olds = first_set old (touch true (place e) p) [] (or-true p.dirty) (All-head (λ q. old q ≡ true) p.pair [] olds)
 link_sets old e p (q ∷ ps) olds = go (list_any (λ f. precedes e.name f.name) p.entries)
     (link_sets old e q ps (All-tail (λ x. old x ≡ true) p.pair (pairs (q ∷ ps)) olds))
   where
     go : (b : Bool) → 1 ≤ count old (parts (link_parts e q ps))
         → 1 ≤ count old (parts (if b then record { first = touch true (place e) p; more = q ∷ ps } else behind p (link_parts e q ps)))
-    go true later = first_set old (touch true (place e) p) (q ∷ ps) (touched p.dirty)
+    go true later = first_set old (touch true (place e) p) (q ∷ ps) (or-true p.dirty)
         (All-head (λ x. old x ≡ true) p.pair (pairs (q ∷ ps)) olds)
     go false later = omega (arith, later, cons_count old p (parts (link_parts e q ps)))
 
@@ -132,7 +130,7 @@ each_sets : (old : Pair → Bool) (n : Name) (f : List Entry → List Entry) (ps
 each_sets old n f [] olds there = absurd (omega (arith, there))
 each_sets old n f (p ∷ ps) olds there = elim (named_or_none n p.entries) [
   | inl is ↦ first_set old (touch (has_name n p) f p) (map (λ q. touch (has_name n q) f q) ps)
-      (ap (λ (t : Bool). p.dirty || t) is ∙ touched p.dirty)
+      (ap (λ (t : Bool). p.dirty || t) is ∙ or-true p.dirty)
       (All-head (λ x. old x ≡ true) p.pair (pairs ps) olds)
   | inr none ↦
       (let split = sum_by-append (λ (e : Entry). cond {A = ℕ} (is_named n e) 1 0) p.entries (entries_of ps) in
@@ -359,7 +357,7 @@ some_set ordered v (Mv p q) s ok =
     let there = first_passes (refuse_if (is_none (tree v p)) NotFound) _ from_walk.1 in
     let off = first_passes (refuse_if (lies_below p q) IntoItself) _ there.1 in
     let to_walk = first_passes (walk_refusal (tree v) [] q) _ off.1 in
-    let roots = neither (is_root p) (is_root q) (test_passes (is_root p || is_root q) IsRoot below.0) in
+    let roots = or_parts (is_root p) (is_root q) (test_passes (is_root p || is_root q) IsRoot below.0) in
     let from = is_placed v p ok.sound (All-head (All IsName) p (q ∷ []) ok.names) roots.0 from_walk.0 in
     let to = is_placed v q ok.sound (All-head (All IsName) q [] (All-tail (All IsName) p (q ∷ []) ok.names)) roots.1 to_walk.0 in
     let e = is_there v p (test_passes (is_none (tree v p)) NotFound there.0) in

@@ -3,7 +3,7 @@ use Rattle.std.proofs.Common.{◌≡◌, ◌⊎◌, ℕ, ◌+◌, ◌<◌, ◌�
 use Rattle.std.proofs.Common.{inl, inr, Option, Some, None}
 use Rattle.std.specs.Prelude.{All, Contains, sum_by, unwrap_or}
 use Rattle.std.specs.List.{AllZip}
-use Rattle.std.proofs.lemmas.List.Elements.{All-nil, All-cons, All-map, All-weaker, All-contains, All-contains_itself}
+use Rattle.std.proofs.lemmas.List.Elements.{All-nil, All-cons, All-map, All-weaker, All-contains, All-contains_itself, Contains-append_left}
 use Rattle.std.proofs.lemmas.List.Sums.{sum_by-cons}
 use Rattle.lfs_block.specs.Disk.{Disk, IsDisk, block_of}
 use Rattle.lfs_block.specs.Patch.{applied}
@@ -28,6 +28,8 @@ use Rattle.lfs_fs.specs.Sound.{IsSound, StartsAtRoot}
 use Rattle.lfs_fs.specs.Reading.{Reading, reading_of}
 use Rattle.lfs_fs.specs.Stored.{BodyStands, Stands, IsStored, HoldsLinks}
 use Rattle.lfs_fs.specs.Alike.{ChainStays}
+use Rattle.lfs_fs.proofs.ContainsLemmas.{contains_first}
+use Rattle.lfs_fs.proofs.CountLemmas.{element_le}
 use Rattle.lfs_command.specs.ThreadEdit.{touch_first}
 use Rattle.lfs_command.specs.Command.{Command, Mkdir, Put, Rm, Mv, SetAttr, RmAttr}
 use Rattle.lfs_command.specs.Supplies.{Supplies, new_body}
@@ -40,13 +42,12 @@ use Rattle.lfs_law.specs.WrittenLinks.{changed_blocks, set_blocks, links_blocks}
 use Rattle.lfs_law.specs.OutlineLaws.{IsThere}
 use Rattle.lfs_law.specs.PlansWritten.{NewIsThere, CommandsAreWritten}
 use Rattle.lfs_law.proofs.ChangesAt.{overlaid_none}
-use Rattle.lfs_law.proofs.KeptLinks.{contains_first, contains_left}
 use Rattle.lfs_law.proofs.KnownBodies.{OfBodies, Bodies, OfNew, edited_bodies, cut_bodies, link_has, by_parts}
 use Rattle.lfs_law.proofs.LinksAdded.{times_append, written_within, set_is}
 use Rattle.lfs_law.proofs.NamedBlocks.{supplies_once}
 use Rattle.lfs_law.proofs.OutlineRoom.{sum_over}
 use Rattle.lfs_law.proofs.OutlinesWritten.{blocks_outlined, none_named}
-use Rattle.lfs_law.proofs.WrittenLemmas.{part_uses, sum_thread, one_le, two_le, pair_used, chain_by, parts_of_links, part_there, set_apart}
+use Rattle.lfs_law.proofs.WrittenLemmas.{part_uses, sum_thread, two_le, pair_used, chain_by, parts_of_links, part_there, set_apart}
 
 -- ---- chains of the volume are there
 
@@ -107,8 +108,8 @@ known_before chains empty long d disk q v held =
   where
     used : (p : Part) → Contains (thread v.directories) p → (e : Entry) → Contains p.entries e → (n : ℕ) → 0 < entry_uses n e → 0 < uses n v
     used p there e inside n some =
-        let one : entry_uses n e ≤ sum_by (entry_uses n) p.entries = one_le (entry_uses n) p.entries e inside in
-        let all : part_uses n p ≤ sum_by (part_uses n) (thread v.directories) = one_le (part_uses n) (thread v.directories) p there in
+        let one : entry_uses n e ≤ sum_by (entry_uses n) p.entries = element_le (entry_uses n) p.entries e inside in
+        let all : part_uses n p ≤ sum_by (part_uses n) (thread v.directories) = element_le (part_uses n) (thread v.directories) p there in
         omega (arith, one, all, some, sum_thread n v.directories)
 
     in_part : (p : Part) → Contains (thread v.directories) p → OfBodies (Known (reading_of d) q v) p.entries
@@ -132,12 +133,12 @@ new_known r q v (RmAttr p k) s there = tt
 
 -- ---- chains stay
 
-body_stays : (r q : Reading) (b : Body) → ChainStays r q b → IsThere r b → IsThere q b
+pub body_stays : (r q : Reading) (b : Body) → ChainStays r q b → IsThere r b → IsThere q b
 body_stays r q (Inline bytes) stays there = tt
 body_stays r q (Directory_at pair) stays there = tt
 body_stays r q (Chain blocks bytes) stays there = let now = stays (head_of blocks) (length bytes) there.0 in (now.0, there.1 ∙ sym now.1)
 
-sum_both : {X : Type 0} (f g : X → ℕ) (xs : List X) → sum_by (λ x. f x + g x) xs ≡ sum_by f xs + sum_by g xs
+pub sum_both : {X : Type 0} (f g : X → ℕ) (xs : List X) → sum_by (λ x. f x + g x) xs ≡ sum_by f xs + sum_by g xs
 sum_both f g [] = refl
 sum_both f g (x ∷ xs) = omega (arith, sum_by-cons (λ y. f y + g y) x xs, sum_by-cons f x xs, sum_by-cons g x xs, sum_both f g xs)
 
@@ -163,9 +164,9 @@ chain_apart : (d : Disk) (is_new : Pair → Bool) (n : ℕ) (w : Volume) (l : Li
     → Contains l.part.entries e
     → entry_uses n e + times n (links_blocks d is_new (links w.directories)) ≤ uses n w
 chain_apart d is_new n w l there e inside =
-    let one : entry_uses n e ≤ sum_by (entry_uses n) l.part.entries = one_le (entry_uses n) l.part.entries e inside in
+    let one : entry_uses n e ≤ sum_by (entry_uses n) l.part.entries = element_le (entry_uses n) l.part.entries e inside in
     let all : sum_by (entry_uses n) l.part.entries ≤ sum_by (λ (p : Part). sum_by (entry_uses n) p.entries) (thread w.directories) =
-    one_le (λ (p : Part). sum_by (entry_uses n) p.entries) (thread w.directories) l.part (part_there w.directories l there) in
+    element_le (λ (p : Part). sum_by (entry_uses n) p.entries) (thread w.directories) l.part (part_there w.directories l there) in
     let pairs : sum_by (λ (x : Link). pair_uses n x.part) (links w.directories) ≡ sum_by (pair_uses n) (thread w.directories) =
     sym (sum_over (λ (x : Link). pair_uses n x.part) (pair_uses n) (λ (x : Link). x.part) (λ x. refl) (links w.directories))
     ∙ ap (sum_by (pair_uses n)) (parts_of_links w.directories) in
@@ -217,7 +218,7 @@ first_set chosen x (d ∷ ds) starts =
     } in
     let now : Directory = cut_directory chosen x touched in (
       now.first,
-      contains_left (parts now) (thread (map (cut_directory chosen x) ds)) now.first (contains_first now.first now.more),
+      Contains-append_left (parts now) (thread (map (cut_directory chosen x) ds)) now.first (contains_first now.first now.more),
       starts,
       refl,
     )

@@ -11,10 +11,11 @@ use Rattle.lfs_fs.specs.Directory.{Part, parts}
 use Rattle.lfs_fs.specs.Volume.{Volume}
 use Rattle.lfs_fs.specs.Thread.{Link, links_of, hard_to}
 use Rattle.lfs_meta.specs.Runs.{later_runs}
+use Rattle.lfs_fs.proofs.ContainsLemmas.{contains_first, contains_later}
 use Rattle.lfs_command.specs.Cut.{runs, more_parts, cut_directory, cut}
 use Rattle.lfs_command.specs.Kept.{IsKept, KeepLinks}
 use Rattle.lfs_law.proofs.Cuts.{cut_part, cut_parts, head_by, tail_by, head_pair_by}
-use Rattle.lfs_law.proofs.KeptLinks.{weaker, contains_first, contains-cons, map_kept}
+use Rattle.lfs_law.proofs.KeptLinks.{weaker, map_kept}
 
 -- the links of a list of parts
 abbrev links_in : List Part → Tail → List Link
@@ -44,8 +45,8 @@ first_link p [] tail = contains_first (record { part = p; tail = tail }) []
 first_link p (q ∷ ps) tail = contains_first (record { part = p; tail = hard_to q.pair }) (links_of q ps tail)
 
 later_links : (p : Part) (ps : List Part) (tail : Tail) (l : Link) → Contains (links_in ps tail) l → Contains (links_of p ps tail) l
-later_links p [] tail l there = contains-cons (record { part = p; tail = tail }) [] l there
-later_links p (q ∷ ps) tail l there = contains-cons (record { part = p; tail = hard_to q.pair }) (links_of q ps tail) l there
+later_links p [] tail l there = contains_later (record { part = p; tail = tail }) [] l there
+later_links p (q ∷ ps) tail l there = contains_later (record { part = p; tail = hard_to q.pair }) (links_of q ps tail) l there
 
 new_parts_set : (pairs : List Pair) (rs : List (List Entry)) → All (λ p. p.dirty ≡ true) (more_parts pairs rs)
 new_parts_set pairs [] = All-nil (λ (p : Part). p.dirty ≡ true)

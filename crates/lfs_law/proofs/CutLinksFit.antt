@@ -26,6 +26,7 @@ use Rattle.lfs_fs.specs.Thread.{Link, links}
 use Rattle.lfs_fs.specs.Uses.{times, pair_uses, uses}
 use Rattle.lfs_fs.specs.Volume.{Volume}
 use Rattle.lfs_fs.specs.Weight.{body_weight, weight, superblock_weight}
+use Rattle.lfs_fs.proofs.CountLemmas.{element_le}
 use Rattle.lfs_command.specs.Accepted.{Follows}
 use Rattle.lfs_law.specs.CutWritten.{CutLinksCanBeWritten}
 use Rattle.lfs_command.specs.Cut.{cut, is_first, new_pairs}
@@ -42,16 +43,16 @@ use Rattle.lfs_law.proofs.OutlineEntries.{weight_same, outlined_entries}
 use Rattle.lfs_law.proofs.OutlineRoom.{sum_over}
 use Rattle.lfs_law.proofs.OutlinesWritten.{outlined_link, links_outlined}
 use Rattle.lfs_law.proofs.PartsFit.{front_weight, front_count, PartFits, FitsWhenSet, cut_fits, none_large, not_root}
-use Rattle.lfs_law.proofs.WrittenLemmas.{part_uses, part_there, sum_thread, one_le}
+use Rattle.lfs_law.proofs.WrittenLemmas.{part_uses, part_there, sum_thread}
 
 -- ---- entries as they are stored
 
-body_weighs : (n a : ℕ) (b : Body) → 4 + n + (4 + length (body_bytes (stored_body b))) + a ≡ 4 + n + body_weight b + a
+pub body_weighs : (n a : ℕ) (b : Body) → 4 + n + (4 + length (body_bytes (stored_body b))) + a ≡ 4 + n + body_weight b + a
 body_weighs n a (Inline bytes) = refl
 body_weighs n a (Chain blocks bytes) = refl
 body_weighs n a (Directory_at pair) = refl
 
-entry_weighs : (e : Entry) → stored_weight (stored_entry e) ≡ weight e
+pub entry_weighs : (e : Entry) → stored_weight (stored_entry e) ≡ weight e
 entry_weighs e = body_weighs (length e.name) (attributes_weight e.attributes) e.body
 
 superblock_weighs : (bytes : List ℕ) (attributes : Attributes) → length bytes ≡ 24
@@ -75,7 +76,7 @@ stored_weighs bytes attributes p len = by (is_first p)
     )
     by false = omega (arith, others)
 
-stored_many : (bytes : List ℕ) (attributes : Attributes) (p : Part) → length (stored_entries bytes attributes p)
+pub stored_many : (bytes : List ℕ) (attributes : Attributes) (p : Part) → length (stored_entries bytes attributes p)
     ≡ front_count p + length p.entries
 stored_many bytes attributes p = by (is_first p)
   where
@@ -85,12 +86,12 @@ stored_many bytes attributes p = by (is_first p)
     by false = omega (arith, length-map p.entries stored_entry)
 
 -- a struct and a name that the kind takes
-body_taken : (b : Body) → kind_takes_body (stored_kind b) (stored_body b) ≡ true
+pub body_taken : (b : Body) → kind_takes_body (stored_kind b) (stored_body b) ≡ true
 body_taken (Inline bytes) = refl
 body_taken (Chain blocks bytes) = refl
 body_taken (Directory_at pair) = refl
 
-name_taken : NamesAreDecided → (b : Body) (n : List ℕ) → IsName n → kind_takes_name (stored_kind b) n ≡ true
+pub name_taken : NamesAreDecided → (b : Body) (n : List ℕ) → IsName n → kind_takes_name (stored_kind b) n ≡ true
 name_taken decided (Inline bytes) n is = (decided n).1 is
 name_taken decided (Chain blocks bytes) n is = (decided n).1 is
 name_taken decided (Directory_at pair) n is = (decided n).1 is
@@ -116,13 +117,13 @@ stored_whole decided bytes attributes p names = by (is_first p)
 abbrev AreNamed : List Entry → Type 0
 AreNamed es = All (λ e. IsName e.name) es
 
-parts_named : (ps : List Part) → AreNamed (entries_of ps) → All (λ p. AreNamed p.entries) ps
+pub parts_named : (ps : List Part) → AreNamed (entries_of ps) → All (λ p. AreNamed p.entries) ps
 parts_named [] all = All-nil (λ (p : Part). AreNamed p.entries)
 parts_named (p ∷ ps) all =
     All-cons (λ (q : Part). AreNamed q.entries) p ps (All-left (λ (e : Entry). IsName e.name) p.entries (entries_of ps) all)
     (parts_named ps (All-right (λ (e : Entry). IsName e.name) p.entries (entries_of ps) all))
 
-thread_named : (ds : List Directory) → All (λ d. AreNamed (entries d)) ds → All (λ p. AreNamed p.entries) (thread ds)
+pub thread_named : (ds : List Directory) → All (λ d. AreNamed (entries d)) ds → All (λ p. AreNamed p.entries) (thread ds)
 thread_named [] all = All-nil (λ (p : Part). AreNamed p.entries)
 thread_named (d ∷ ds) all =
     All-append (λ (p : Part). AreNamed p.entries) (parts d) (thread ds)
@@ -139,7 +140,7 @@ sound_named v sound =
 
 module _ (count : ℕ) (w : Volume) (sound : IsSound w) (same : w.count ≡ count) where
   used_le : (p : Part) → Contains (thread w.directories) p → (b : ℕ) → part_uses b p ≤ uses b w
-  used_le p there b = omega (arith, one_le (part_uses b) (thread w.directories) p there, sum_thread b w.directories)
+  used_le p there b = omega (arith, element_le (part_uses b) (thread w.directories) p there, sum_thread b w.directories)
 
   block_below : (p : Part) → Contains (thread w.directories) p → (b : ℕ) → 1 ≤ pair_uses b p → b < count
   block_below p there b used = omega (arith, sound.within b (omega (arith, used_le p there b, used)), same)

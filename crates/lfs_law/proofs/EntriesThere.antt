@@ -1,6 +1,6 @@
 -- What stands at a path, by where its last name belongs to.
 use Rattle.std.proofs.Common.{◌≡◌, List, [], ◌∷◌, ◌++◌, Option, Some, None, ap, sym, ◌∙◌, inl, inr}
-use Rattle.std.specs.Option.{option_and_then, option_map}
+use Rattle.std.specs.Option.{option_and_then}
 use Rattle.std.proofs.lemmas.Option.{none-some, some_pair_parts}
 use Rattle.lfs_meta.specs.Name.{Name}
 use Rattle.lfs_meta.specs.Body.{Pair}
@@ -12,12 +12,8 @@ use Rattle.lfs_fs.specs.Volume.{Volume}
 use Rattle.lfs_command.specs.Home.{home_of}
 use Rattle.lfs_law.specs.PairWalk.{name_in, pair_at}
 use Rattle.lfs_law.proofs.HomeSteps.{split_behind}
-use Rattle.lfs_law.proofs.PairWalks.{walks_go_by_pairs}
+use Rattle.lfs_law.proofs.PairWalks.{walks_go_by_pairs, with_name}
 use Rattle.lfs_law.proofs.Walks.{last_name}
-
--- a pair with a name
-abbrev with_name : Name → Option Pair → Option (Pair × Name)
-with_name n o = option_map (λ (k : Pair). (k, n)) o
 
 in_home : (ds : List Directory) (k : Pair) (n m : Name) (o : Option Pair) → with_name m o ≡ Some (k, n)
     → option_and_then (λ j. entry_in ds j m) o ≡ entry_in ds k n

@@ -10,8 +10,9 @@ use Rattle.lfs_meta.specs.Name.{Name}
 use Rattle.lfs_fs.specs.NameOrder.{precedes, NamesAreOrdered}
 use Rattle.lfs_fs.specs.Entry.{Entry, is_named}
 use Rattle.lfs_fs.specs.Sound.{Rise}
+use Rattle.lfs_fs.proofs.OrderedEndLemmas.{none_counted}
 use Rattle.lfs_command.specs.EntryEdit.{place, without, changed}
-use Rattle.lfs_law.proofs.OneElement.{count_none, All-where}
+use Rattle.lfs_law.proofs.OneElement.{All-where}
 
 -- ---- names
 
@@ -120,7 +121,7 @@ once_named n (f ∷ es) e ordered rise found =
       arith,
       sum_by-cons (λ (x : Entry). if is_named n x then 1 else 0) f es,
       none_later n f es ordered,
-      count_none (is_named n) es,
+      none_counted (is_named n) es,
       once_named n es e ordered rise.1,
       rise.0,
     )

@@ -7,6 +7,7 @@ use Rattle.std.proofs.lemmas.Option.{none-some, same_Some}
 use Rattle.std.proofs.lemmas.List.Elements.{All-head, All-tail}
 use Rattle.std.proofs.lemmas.List.Concat.{flat_map-cons}
 use Rattle.std.proofs.lemmas.List.Sums.{sum_by-cons, sum_by-append, sum_by-le-sum_by, length-filter}
+use Rattle.std.proofs.lemmas.Bool.{or_parts}
 use Rattle.lfs_meta.specs.Name.{Name, IsName}
 use Rattle.lfs_meta.specs.Attribute.{Attributes, set_attribute, remove_attribute}
 use Rattle.lfs_meta.specs.Body.{Pair}
@@ -39,7 +40,6 @@ use Rattle.lfs_law.proofs.Marks.{marks, marks_link, marks_unlink, marks_change, 
 use Rattle.lfs_law.proofs.EdgeEdits.{sound_is_good}
 use Rattle.lfs_law.proofs.Homes.{first_passes, test_passes}
 use Rattle.lfs_law.proofs.Placed.{IsPlaced, is_placed, led_directory}
-use Rattle.lfs_law.proofs.CommandsFollow.{neither}
 use Rattle.lfs_law.proofs.MkdirFollows.{IsNewPair, none_begins}
 
 -- ---- homes
@@ -261,7 +261,7 @@ few_parts_change ordered v (Rm p) s ok clean = omega (
 few_parts_change ordered v (Mv p q) s ok clean =
     let below = first_passes (refuse_if (is_root p || is_root q) IsRoot) _ ok.unrefused in
     let walk = first_passes (walk_refusal (tree v) [] p) _ below.1 in
-    let roots = neither (is_root p) (is_root q) (test_passes (is_root p || is_root q) IsRoot below.0) in
+    let roots = or_parts (is_root p) (is_root q) (test_passes (is_root p || is_root q) IsRoot below.0) in
     let at = is_placed v p ok.sound (All-head (All IsName) p (q ∷ []) ok.names) roots.0 walk.0 in
     omega (
       arith,

@@ -72,7 +72,7 @@ taken_unused v n b there = (taken_free v n b (times_there b (take n (free_blocks
 
 -- ---- they rise, and are blocks of the volume
 
-range_rises : (a n : ℕ) → AllPairs ◌<◌ (range_with_len a n)
+pub range_rises : (a n : ℕ) → AllPairs ◌<◌ (range_with_len a n)
 range_rises a n i j d less within =
     let long : length (range_with_len a n) ≡ n = length-range_with_len a n in
     let before : get_or (range_with_len a n) i d ≡ a + i = get_or-range_with_len a n i d (omega (arith, less, within, long)) in

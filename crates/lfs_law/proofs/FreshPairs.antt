@@ -4,7 +4,7 @@ use Rattle.std.proofs.Common.{Some}
 use Rattle.std.specs.Prelude.{All, Contains, find, if◌then◌else◌}
 use Rattle.std.specs.Option.{option_map}
 use Rattle.std.proofs.lemmas.Bool.{cases_eq}
-use Rattle.std.proofs.lemmas.List.Elements.{All-nil, All-cons, All-contains, All-head}
+use Rattle.std.proofs.lemmas.List.Elements.{All-nil, All-cons, All-contains, All-head, Contains-append_right}
 use Rattle.lfs_meta.specs.Body.{Pair}
 use Rattle.lfs_meta.specs.Name.{Name, IsName}
 use Rattle.lfs_meta.specs.Runs.{later_runs}
@@ -16,6 +16,8 @@ use Rattle.lfs_fs.specs.Thread.{Link}
 use Rattle.lfs_fs.specs.Tree.{tree}
 use Rattle.lfs_fs.specs.Uses.{times, pair_uses}
 use Rattle.lfs_fs.specs.Volume.{Volume}
+use Rattle.lfs_fs.proofs.ContainsLemmas.{contains_first}
+use Rattle.lfs_fs.proofs.CountLemmas.{element_le}
 use Rattle.lfs_command.specs.declared.refusal.Refusal.TheVariants.{IsRoot}
 use Rattle.lfs_command.specs.Accepted.{IsAccepted}
 use Rattle.lfs_command.specs.Command.{Command, Mkdir, Put, Rm, Mv, SetAttr, RmAttr}
@@ -36,7 +38,6 @@ use Rattle.lfs_law.proofs.Decided.{same_pair_decides}
 use Rattle.lfs_law.proofs.DirectoryEdits.{keeps_link}
 use Rattle.lfs_law.proofs.Homes.{first_passes, test_passes}
 use Rattle.lfs_law.proofs.InDirectory.{find_here}
-use Rattle.lfs_law.proofs.KeptLinks.{contains_first, contains_right}
 use Rattle.lfs_law.proofs.LeastBlocks.{new_is_supplied}
 use Rattle.lfs_law.proofs.LinksAdded.{first_used}
 use Rattle.lfs_law.proofs.NamedBlocks.{sum_zero, not_new, blocks_are_written_once}
@@ -45,7 +46,7 @@ use Rattle.lfs_law.proofs.PairTotals.{total, made_total, edited_total}
 use Rattle.lfs_law.proofs.PartsFit.{all_flat}
 use Rattle.lfs_law.proofs.Placed.{IsPlaced, is_placed}
 use Rattle.lfs_law.proofs.TablesTell.{told_so}
-use Rattle.lfs_law.proofs.WrittenLemmas.{part_uses, part_there, sum_thread, one_le, two_le}
+use Rattle.lfs_law.proofs.WrittenLemmas.{part_uses, part_there, sum_thread, two_le}
 
 -- no share, where the pair is new
 abbrev Fresh : Volume → Part → Type 0
@@ -64,7 +65,7 @@ none_new v c s none p there new =
     sum_zero (λ (x : Part). new_one v x.pair) (thread v.directories) (λ x inside.
     ap (λ (t : Bool). cond {A = ℕ} t 1 0) (not_new v x inside)) in
     let le : new_one v p.pair ≤ total (new_one v) (edited v c s).directories =
-    one_le (λ (x : Part). new_one v x.pair) (thread (edited v c s).directories) p there in
+    element_le (λ (x : Part). new_one v x.pair) (thread (edited v c s).directories) p there in
     let one : new_one v p.pair ≡ 1 = ap (λ (t : Bool). cond {A = ℕ} t 1 0) new in
     omega (arith, before, le, one, none, edited_total (new_one v) v c s)
 
@@ -77,8 +78,8 @@ added_there k new (e ∷ ds) d found = by (begins_at k e) found (added_there k n
     by : (t : Bool) → (if t then Some e else find (begins_at k) ds) ≡ Some d
         → (find (begins_at k) ds ≡ Some d → Contains (thread (add_after k new ds)) new.first)
         → Contains (thread (if t then touch_last e ∷ new ∷ ds else e ∷ add_after k new ds)) new.first
-    by true is later = contains_right (parts (touch_last e)) (thread (new ∷ ds)) new.first (contains_first new.first _)
-    by false is later = contains_right (parts e) (thread (add_after k new ds)) new.first (later is)
+    by true is later = Contains-append_right (parts (touch_last e)) (thread (new ∷ ds)) new.first (contains_first new.first _)
+    by false is later = Contains-append_right (parts e) (thread (add_after k new ds)) new.first (later is)
 
 made_there : (v : Volume) (p : Path) (pair : Pair) → IsPlaced v p → Contains (thread (make_directory v pair (home_of v p)).directories)
     (empty_directory pair).first

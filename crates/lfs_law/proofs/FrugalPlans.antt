@@ -1,6 +1,6 @@
 -- How many blocks a written outline changes.
 use Rattle.std.proofs.Common.{◌≡◌, ℕ, ◌+◌, ◌≤◌, ◌==◌, nat_lt, Bool, true, false, cond, List, [], ◌∷◌, ◌++◌, length, take, refl, ap, subst}
-use Rattle.std.proofs.Common.{arith, inl, inr, Option, Some, None}
+use Rattle.std.proofs.Common.{arith, inl, inr, None}
 use Rattle.std.specs.Prelude.{Contains, if◌then◌else◌}
 use Rattle.std.specs.List.{list_any}
 use Rattle.std.proofs.lemmas.Bool.Decides.{nat_tests}
@@ -17,25 +17,25 @@ use Rattle.lfs_fs.specs.Thread.{links}
 use Rattle.lfs_fs.specs.Volume.{Volume}
 use Rattle.lfs_fs.specs.Free.{free_blocks}
 use Rattle.lfs_fs.specs.Uses.{times}
-use Rattle.lfs_command.specs.declared.refusal.Refusal.{Refusal}
+use Rattle.lfs_fs.proofs.ContainsLemmas.{contains_first, contains_later, contains_mapped}
 use Rattle.lfs_command.specs.declared.refusal.Refusal.TheVariants.{EntryTooLarge, NoSpace}
 use Rattle.lfs_command.specs.Command.{Command}
 use Rattle.lfs_command.specs.Supplies.{Supplies, nothing}
 use Rattle.lfs_command.specs.Edited.{edited}
 use Rattle.lfs_command.specs.Cut.{cut}
 use Rattle.lfs_command.specs.Need.{dirty_parts, changed_parts, is_new_to, need}
-use Rattle.lfs_command.specs.Verdict.{first_refusal, refuse_if, checks, is_too_large, room_checks, verdict}
+use Rattle.lfs_command.specs.Verdict.{refuse_if, checks, is_too_large, room_checks, verdict}
 use Rattle.lfs_command.specs.Accepted.{AreChosen, IsAccepted}
 use Rattle.lfs_command.specs.Planned.{HasOneOf, TakesLeast}
 use Rattle.lfs_law.specs.WrittenLinks.{AreWritten, changed_blocks}
 use Rattle.lfs_law.specs.PlansHold.{content_blocks, rewritten_blocks, PlansAreFrugal}
 use Rattle.lfs_law.proofs.BlockLemmas.{other_is_one}
 use Rattle.lfs_law.proofs.Homes.{first_passes, test_passes}
-use Rattle.lfs_law.proofs.KeptLinks.{contains_first, contains-cons}
 use Rattle.lfs_law.proofs.LinksAdded.{times_cons, times_append}
 use Rattle.lfs_law.proofs.NamedBlocks.{blocks_are_taken}
 use Rattle.lfs_law.proofs.OutlinesWritten.{blocks_outlined}
-use Rattle.lfs_law.proofs.WrittenLemmas.{contains-map, times_there}
+use Rattle.lfs_law.proofs.WrittenLemmas.{times_there}
+use Rattle.lfs_law.proofs.PartsFit.{checks_pass}
 
 -- ---- lists with the same numbers
 
@@ -50,7 +50,7 @@ times_contains n (x ∷ xs) some = by (x == n) refl (λ later. times_contains n 
     by true is later = let same : x ≡ n = grind (arith, nat_tests) in subst (Contains (x ∷ xs)) same (contains_first x xs)
     by false is later =
         let none : cond {A = ℕ} (x == n) 1 0 ≡ 0 = ap (λ (t : Bool). cond {A = ℕ} t 1 0) is in
-        contains-cons x xs n (later (omega (arith, some, none, times_cons n x xs)))
+        contains_later x xs n (later (omega (arith, some, none, times_cons n x xs)))
 
 -- the first such number taken out
 abbrev removed : ℕ → List ℕ → List ℕ
@@ -91,15 +91,10 @@ same_length (x ∷ xs) ys same =
 
 -- ---- there is room
 
-later_passes : (rs more : List (Option Refusal)) → first_refusal (rs ++ more) ≡ None → first_refusal more ≡ None
-later_passes [] more h = h
-later_passes (None ∷ rs) more h = later_passes rs more h
-later_passes (Some r ∷ rs) more h = cc
-
 pub enough_free : (v : Volume) (c : Command) → verdict v c ≡ None → need v c ≤ length (free_blocks v)
 enough_free v c h =
     let small = first_passes (refuse_if (list_any (is_too_large (edited v c nothing)) (dirty_parts (edited v c nothing))) EntryTooLarge) _
-    (later_passes (checks v c) (room_checks v c) h) in
+    (checks_pass (checks v c) (room_checks v c) h) in
     let free = first_passes (refuse_if (nat_lt (length (free_blocks v)) (need v c)) (NoSpace (need v c) (length (free_blocks v))))
     _ small.1 in
     not_less (length (free_blocks v)) (need v c) (test_passes (nat_lt (length (free_blocks v)) (need v c))
@@ -154,7 +149,7 @@ plans_are_frugal d v held c s chosen base p ok pairs least contents writes =
             arith,
             named (other_number d q.pair),
             times_append (other_number d q.pair) taken old,
-            times_there (other_number d q.pair) old (contains-map (λ (x : Part). other_number d x.pair) (changed_parts v w) q there),
+            times_there (other_number d q.pair) old (contains_mapped (λ (x : Part). other_number d x.pair) (changed_parts v w) q there),
           ))))
           (changed_parts v w) (All-contains_itself (changed_parts v w));
       len = omega (arith, len, length-append taken old, many, all);

@@ -1,5 +1,5 @@
 -- What the tags of a block leave has contents of bytes, so that the words of a superblock's struct determine it.
-use Rattle.std.proofs.Common.{◌≡◌, ℕ, zero, suc, ◌+◌, ◌-◌, ◌*◌, ◌<◌, ◌≤◌, ◌==◌, ◌&&◌, ◌||◌, ◌/◌, ◌^◌, Bool, true, false, List}
+use Rattle.std.proofs.Common.{◌≡◌, ℕ, suc, ◌+◌, ◌-◌, ◌*◌, ◌<◌, ◌≤◌, ◌==◌, ◌&&◌, ◌||◌, ◌/◌, ◌^◌, Bool, true, false, List}
 use Rattle.std.proofs.Common.{[], ◌∷◌, ◌++◌, length, take, drop, refl, ap, sym, ◌∙◌, subst, arith, Option, Some, None, inl, inr}
 use Rattle.std.proofs.Common.{if◌then◌else◌}
 use Rattle.std.specs.Prelude.{bit_xor, All, IfSome, flat_map, option_and_then, option_map, slice_index_or}
@@ -15,12 +15,14 @@ use Rattle.std.proofs.lemmas.Option.{option_and_then_some}
 use Rattle.lfs_block.specs.Bytes.{IsBytes}
 use Rattle.lfs_block.specs.Checksum.{crc}
 use Rattle.lfs_block.specs.Disk.{Disk, IsDisk, block_of}
+use Rattle.lfs_block.proofs.PutLemmas.{IsBytes-drop, IsBytes-take}
 use Rattle.lfs_tag.specs.Tag.{kind_of, id_of}
 use Rattle.lfs_tag.specs.Commit.{Item, Commit, tags_bytes, last_word, covered_bytes, commit_bytes, next_word}
 use Rattle.lfs_tag.specs.Laws.{BlocksHaveALog}
 use Rattle.lfs_tag.specs.Log.{IsLog, commits_bytes, log_tags}
 use Rattle.lfs_tag.specs.LogSeen.{LogSeen, log_seen}
 use Rattle.lfs_tag.specs.Reading.{log_of}
+use Rattle.lfs_tag.proofs.Codec.{IsBytes-front, IsBytes-back}
 use Rattle.lfs_meta.specs.declared.kind.Kind.{Kind}
 use Rattle.lfs_meta.specs.declared.live_block.LiveBlock.{LiveBlock}
 use Rattle.lfs_meta.specs.declared.live_block.LiveBlock.TheVariants.{First, Second, Neither}
@@ -34,18 +36,10 @@ use Rattle.lfs_meta.specs.Name.{Name}
 use Rattle.lfs_meta.specs.Part.{RawPart, StoredPart, empty_part}
 use Rattle.lfs_meta.specs.Replay.{acted, step_by, step, replay_from, replay, at_entry, up_to, named_by, embodied_by, attributed_by}
 use Rattle.lfs_meta.specs.Whole.{kind_takes_body, kind_takes_name, whole_by, whole, all_whole, whole_part}
-use Rattle.lfs_law.proofs.BlockLemmas.{block_len, block_bytes, take_bytes, drop_bytes}
+use Rattle.lfs_meta.proofs.HeldPartLemmas.{block_bytes, same_tags}
+use Rattle.lfs_file.proofs.ContentLemmas.{length-block}
 
 -- ---- bytes
-
-front_bytes : (xs ys : List ℕ) → IsBytes (xs ++ ys) → IsBytes xs
-front_bytes [] ys all i = omega arith
-front_bytes (x ∷ xs) ys all zero = all 0
-front_bytes (x ∷ xs) ys all (suc i) = front_bytes xs ys (λ j. all (suc j)) i
-
-back_bytes : (xs ys : List ℕ) → IsBytes (xs ++ ys) → IsBytes ys
-back_bytes [] ys all i = all i
-back_bytes (x ∷ xs) ys all i = back_bytes xs ys (λ j. all (suc j)) i
 
 -- ---- tags
 
@@ -57,15 +51,15 @@ tags_have : (prev : ℕ) (ts : List Item) → IsBytes (tags_bytes prev ts) → A
 unfolding tags_bytes
 tags_have prev [] all = tt
 tags_have prev (t ∷ ts) all =
-    let rest = back_bytes (to_be_bytes w32 (bit_xor t.word prev)) (t.content ++ tags_bytes t.word ts) all in
-    (front_bytes t.content (tags_bytes t.word ts) rest, tags_have t.word ts (back_bytes t.content (tags_bytes t.word ts) rest))
+    let rest = IsBytes-back (to_be_bytes w32 (bit_xor t.word prev)) (t.content ++ tags_bytes t.word ts) all in
+    (IsBytes-front t.content (tags_bytes t.word ts) rest, tags_have t.word ts (IsBytes-back t.content (tags_bytes t.word ts) rest))
 
 commit_has : (lead : List ℕ) (prev : ℕ) (c : Commit) → IsBytes (commit_bytes lead prev c) → AllByRecursion HasBytes c.tags
 commit_has lead prev c all =
     tags_have prev c.tags
-    (front_bytes (tags_bytes prev c.tags) (to_be_bytes w32 (bit_xor c.closing (last_word prev c.tags)))
-    (front_bytes (covered_bytes prev c) (to_le_bytes w32 (crc 0xffffffff (lead ++ covered_bytes prev c)))
-    (front_bytes (covered_bytes prev c ++ to_le_bytes w32 (crc 0xffffffff (lead ++ covered_bytes prev c))) c.padding all)))
+    (IsBytes-front (tags_bytes prev c.tags) (to_be_bytes w32 (bit_xor c.closing (last_word prev c.tags)))
+    (IsBytes-front (covered_bytes prev c) (to_le_bytes w32 (crc 0xffffffff (lead ++ covered_bytes prev c)))
+    (IsBytes-front (covered_bytes prev c ++ to_le_bytes w32 (crc 0xffffffff (lead ++ covered_bytes prev c))) c.padding all)))
 
 both_have : (ts us : List Item) → AllByRecursion HasBytes ts → AllByRecursion HasBytes us → AllByRecursion HasBytes (ts ++ us)
 both_have [] us here there = there
@@ -76,25 +70,22 @@ unfolding commits_bytes
 commits_have lead prev [] all = tt
 commits_have lead prev (c ∷ cs) all =
     let later : List ℕ = commits_bytes [] (next_word c) cs in
-    both_have c.tags (log_tags cs) (commit_has lead prev c (front_bytes (commit_bytes lead prev c) later all))
-    (commits_have [] (next_word c) cs (back_bytes (commit_bytes lead prev c) later all))
+    both_have c.tags (log_tags cs) (commit_has lead prev c (IsBytes-front (commit_bytes lead prev c) later all))
+    (commits_have [] (next_word c) cs (IsBytes-back (commit_bytes lead prev c) later all))
 
 log_has : (block : List ℕ) (cs : List Commit) (rest : List ℕ) → IsBytes block → IsLog block cs rest → AllByRecursion HasBytes (log_tags cs)
 log_has block cs rest all log =
     let parts : IsBytes (log.revision ++ commits_bytes log.revision 0xffffffff cs ++ rest) = subst IsBytes log.parts all in
     let commits : List ℕ = commits_bytes log.revision 0xffffffff cs in
-    commits_have log.revision 0xffffffff cs (back_bytes log.revision commits (front_bytes (log.revision ++ commits) rest parts))
+    commits_have log.revision 0xffffffff cs (IsBytes-back log.revision commits (IsBytes-front (log.revision ++ commits) rest parts))
 
 block_has : BlocksHaveALog → (d : Disk) (n : ℕ) (log : LogSeen) (tags : List Item) → IsDisk d → n < d.count → log ≡ log_seen (block_of d n)
     → log.tags ≡ tags → AllByRecursion HasBytes tags
 block_has logs d n log tags disk below is same =
     let block : List ℕ = block_of d n in
-    let there = logs block (omega (arith, block_len d n disk below, disk.geometry.size_fits.0)) (block_bytes d n disk) in
+    let there = logs block (omega (arith, length-block d n disk below, disk.geometry.size_fits.0)) (block_bytes d n disk) in
     let these : log_tags (log_of block).commits ≡ tags = sym (ap (λ (l : LogSeen). l.tags) is) ∙ same in
     subst (AllByRecursion HasBytes) these (log_has block (log_of block).commits (log_of block).rest (block_bytes d n disk) there)
-
-same_tags : (log : LogSeen) (tags : List Item) → ◌≡◌ {A = Option (List Item)} (Some log.tags) (Some tags) → log.tags ≡ tags
-same_tags log tags is = cc
 
 live_has : BlocksHaveALog → (d : Disk) (pair : Pair) (live : LiveBlock) (tags : List Item) → IsDisk d → pair.0 < d.count → pair.1 < d.count
     → IsLive live (block_of d pair.0) (block_of d pair.1) → option_map (λ log. log.tags) (live_log live) ≡ Some tags
@@ -270,9 +261,9 @@ spelled [] [] len all spell = refl
 spelled [] (b ∷ bytes) len all spell = let no : ⊥ = omega (arith, len) in absurd no
 spelled (w ∷ ws) bytes len all spell =
     let four : 4 ≤ length bytes = omega (arith, len) in
-    let front : to_le_bytes w32 w ≡ take 4 bytes = le_bytes_4 (take 4 bytes) w (length-take-le 4 bytes four) (take_bytes 4 bytes all)
+    let front : to_le_bytes w32 w ≡ take 4 bytes = le_bytes_4 (take 4 bytes) w (length-take-le 4 bytes four) (IsBytes-take 4 bytes all)
     (sym spell.0) in
     let rest : drop 4 bytes ≡ flat_map (to_le_bytes w32) ws = spelled ws (drop 4 bytes) (omega (arith, length-drop 4 bytes, len))
-    (drop_bytes 4 bytes all) spell.1 in
+    (IsBytes-drop 4 bytes all) spell.1 in
     sym (take-append-drop 4 bytes) ∙ ap (λ (xs : List ℕ). xs ++ drop 4 bytes) (sym front)
     ∙ ap (λ (xs : List ℕ). to_le_bytes w32 w ++ xs) rest

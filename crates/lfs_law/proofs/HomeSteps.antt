@@ -21,7 +21,7 @@ pub split_behind : (front : Path) (n : Name) → split_last (front ++ n ∷ []) 
 split_behind [] n = refl
 split_behind (m ∷ front) n = ap (behind_name m) (split_behind front n)
 
-no_root : (front : Path) (n : Name) → is_root (front ++ n ∷ []) ≡ false
+pub no_root : (front : Path) (n : Name) → is_root (front ++ n ∷ []) ≡ false
 no_root [] n = refl
 no_root (m ∷ front) n = refl
 

@@ -1,8 +1,9 @@
 -- What each edit of directories writes: parts that it sets, and nothing else.
-use Rattle.std.proofs.Common.{◌≡◌, ◌⊎◌, ℕ, Bool, true, false, ◌||◌, List, [], ◌∷◌, ◌++◌, refl, ap, sym, ◌∙◌, subst, arith, map, zero, suc}
+use Rattle.std.proofs.Common.{◌≡◌, ◌⊎◌, ℕ, Bool, true, false, ◌||◌, List, [], ◌∷◌, ◌++◌, refl, ap, sym, ◌∙◌, subst, arith, map}
 use Rattle.std.specs.Prelude.{All, Contains, if◌then◌else◌}
 use Rattle.std.specs.List.{list_any}
 use Rattle.std.proofs.lemmas.List.Elements.{All-head, All-tail, All-cons, All-nil, All-append, All-weaker, All-contains}
+use Rattle.std.proofs.lemmas.List.Elements.{Contains-append_left, Contains-append_right}
 use Rattle.std.proofs.lemmas.List.Elements.{All-contains_itself}
 use mathlib.Core.Logic.{inl, inr}
 use Rattle.lfs_meta.specs.declared.tail.Tail.{Tail}
@@ -13,6 +14,7 @@ use Rattle.lfs_fs.specs.Entry.{Entry, is_named}
 use Rattle.lfs_fs.specs.Directory.{Part, Directory, parts, begins_at}
 use Rattle.lfs_fs.specs.State.{delta_of}
 use Rattle.lfs_fs.specs.Thread.{Link, links_of, links, tail_to, hard_to, soft_to}
+use Rattle.lfs_fs.proofs.ContainsLemmas.{contains_later}
 use Rattle.lfs_command.specs.EntryEdit.{place, without, changed}
 use Rattle.lfs_command.specs.DirectoryEdit.{touch, has_name, unlink_in, change_in, behind, link_parts, link_in, touch_last_of, touch_last}
 use Rattle.lfs_command.specs.DirectoryEdit.{absorb_in, absorb}
@@ -20,30 +22,6 @@ use Rattle.lfs_command.specs.ThreadEdit.{in_directory, link, unlink, change, add
 use Rattle.lfs_command.specs.Kept.{IsKept, KeepLinks}
 
 -- ---- lists of links
-
-pub contains-cons : {X : Type 0} (y : X) (xs : List X) (x : X) → Contains xs x → Contains (y ∷ xs) x
-contains-cons y xs x (k, within, is) = (suc k, omega arith, is)
-
-pub contains_first : {X : Type 0} (x : X) (xs : List X) → Contains (x ∷ xs) x
-contains_first x xs = (0, omega arith, refl)
-
-pub contains_right : {X : Type 0} (xs ys : List X) (x : X) → Contains ys x → Contains (xs ++ ys) x
-contains_right [] ys x h = h
-contains_right (y ∷ xs) ys x h = contains-cons y (xs ++ ys) x (contains_right xs ys x h)
-
-pub contains_cases : {X : Type 0} (y : X) (ys : List X) (x : X) → Contains (y ∷ ys) x → (x ≡ y) ⊎ Contains ys x
-contains_cases y ys x (zero, within, is) = inl (sym is)
-contains_cases y ys x (suc k, within, is) = inr (k, omega arith, is)
-
-pub contains_left : {X : Type 0} (xs ys : List X) (x : X) → Contains xs x → Contains (xs ++ ys) x
-contains_left [] ys x h = let no : ⊥ = none_there h in absurd no
-  where
-    none_there : Contains [] x → ⊥
-    none_there there = omega arith
-contains_left (y ∷ xs) ys x h = elim (contains_cases y xs x h) [
-  | inl same ↦ subst (Contains (y ∷ xs ++ ys)) (sym same) (contains_first y (xs ++ ys))
-  | inr later ↦ contains-cons y (xs ++ ys) x (contains_left xs ys x later)
-]
 
 -- what is kept of few links is kept of more
 pub weaker : (old more : List Link) → ((l : Link) → Contains old l → Contains more l) → (ls : List Link) → All (IsKept old) ls
@@ -67,8 +45,8 @@ joined_kept : (here now there later : List Link) → All (IsKept here) now → A
     → All (IsKept (here ++ there)) (now ++ later)
 joined_kept here now there later h k =
     All-append (IsKept (here ++ there)) now later
-    (weaker here (here ++ there) (contains_left here there) now h)
-    (weaker there (here ++ there) (contains_right here there) later k)
+    (weaker here (here ++ there) (Contains-append_left here there) now h)
+    (weaker there (here ++ there) (Contains-append_right here there) later k)
 
 -- ---- one directory
 
@@ -96,7 +74,7 @@ each_kept f h p [] tail = All-cons (IsKept (links_of p [] tail)) (record { part 
 each_kept f h p (q ∷ ps) tail =
     All-cons (IsKept (links_of p (q ∷ ps) tail)) (record { part = f p; tail = hard_to (f q).pair }) (links_of (f q) (map f ps) tail)
     (one_kept f h p (hard_to q.pair) (hard_to (f q).pair) (links_of q ps tail) (ap hard_to (h.pair q)))
-    (weaker (links_of q ps tail) (links_of p (q ∷ ps) tail) (contains-cons (record {
+    (weaker (links_of q ps tail) (links_of p (q ∷ ps) tail) (contains_later (record {
       part = p;
       tail =
           hard_to q.pair;
@@ -212,7 +190,7 @@ behind_kept : (p q : Part) (ps : List Part) (tail : Tail) (d : Directory) → d.
 behind_kept p q ps tail d same kept =
     All-cons (IsKept (links_of p (q ∷ ps) tail)) (record { part = p; tail = hard_to d.first.pair }) (links_of d.first d.more tail)
     (inr (0, omega arith, ap (λ (a : Pair). record { part = p; tail = hard_to a }) (sym same)))
-    (weaker (links_of q ps tail) (links_of p (q ∷ ps) tail) (contains-cons (record { part = p; tail = hard_to q.pair })
+    (weaker (links_of q ps tail) (links_of p (q ∷ ps) tail) (contains_later (record { part = p; tail = hard_to q.pair })
     (links_of q ps tail)) (links_of d.first d.more tail) kept)
 
 link_here : (e : Entry) (p q : Part) (ps : List Part) (tail : Tail) → All (IsKept (links_of p (q ∷ ps) tail))
@@ -220,7 +198,7 @@ link_here : (e : Entry) (p q : Part) (ps : List Part) (tail : Tail) → All (IsK
 link_here e p q ps tail =
     All-cons (IsKept (links_of p (q ∷ ps) tail)) (record { part = touch true (place e) p; tail = hard_to q.pair }) (links_of q ps tail)
     (inl (set_dirty (place e) p))
-    (weaker (links_of q ps tail) (links_of p (q ∷ ps) tail) (contains-cons (record { part = p; tail = hard_to q.pair })
+    (weaker (links_of q ps tail) (links_of p (q ∷ ps) tail) (contains_later (record { part = p; tail = hard_to q.pair })
     (links_of q ps tail)) (links_of q ps tail) (itself (links_of q ps tail)))
 
 link_by : (e : Entry) (p q : Part) (ps : List Part) (tail : Tail) (t : Bool)
@@ -261,7 +239,7 @@ touch_last_kept p (q ∷ ps) tail now =
     let d : Directory = touch_last_of q ps in
     All-cons (IsKept (links_of p (q ∷ ps) tail)) (record { part = p; tail = hard_to d.first.pair }) (links_of d.first d.more now)
     (inr (0, omega arith, ap (λ (a : Pair). record { part = p; tail = hard_to a }) (sym (touch_last_pair q ps))))
-    (weaker (links_of q ps tail) (links_of p (q ∷ ps) tail) (contains-cons (record {
+    (weaker (links_of q ps tail) (links_of p (q ∷ ps) tail) (contains_later (record {
       part = p;
       tail =
           hard_to q.pair;
@@ -281,7 +259,7 @@ absorb_kept delta p (q ∷ ps) tail now =
     let d : Directory = absorb_in delta q ps in
     All-cons (IsKept (links_of p (q ∷ ps) tail)) (record { part = p; tail = hard_to d.first.pair }) (links_of d.first d.more now)
     (inr (0, omega arith, ap (λ (a : Pair). record { part = p; tail = hard_to a }) (sym (absorb_pair delta q ps))))
-    (weaker (links_of q ps tail) (links_of p (q ∷ ps) tail) (contains-cons (record {
+    (weaker (links_of q ps tail) (links_of p (q ∷ ps) tail) (contains_later (record {
       part = p;
       tail =
           hard_to q.pair;
@@ -343,7 +321,7 @@ taken_here d gone ds =
     joined_kept (links_of d.first d.more (tail_to (gone ∷ ds))) (links_of (absorb d gone).first (absorb d gone).more (tail_to ds))
     (links (gone ∷ ds)) (links ds)
     (absorb_kept (delta_of (parts gone)) d.first d.more (tail_to (gone ∷ ds)) (tail_to ds))
-    (weaker (links ds) (links (gone ∷ ds)) (contains_right (links_of gone.first gone.more (tail_to ds)) (links ds)) (links ds)
+    (weaker (links ds) (links (gone ∷ ds)) (Contains-append_right (links_of gone.first gone.more (tail_to ds)) (links ds)) (links ds)
     (itself (links ds)))
 
 taken_tail_by : (k : Pair) (d e : Directory) (ds : List Directory) (t : Bool)
@@ -388,7 +366,7 @@ first_kept p (q ∷ ps) tail =
       tail = hard_to q.pair;
     }) (links_of q ps tail)
     (inl refl)
-    (weaker (links_of q ps tail) (links_of p (q ∷ ps) tail) (contains-cons (record { part = p; tail = hard_to q.pair })
+    (weaker (links_of q ps tail) (links_of p (q ∷ ps) tail) (contains_later (record { part = p; tail = hard_to q.pair })
     (links_of q ps tail)) (links_of q ps tail) (itself (links_of q ps tail)))
 
 pub touch_first_kept : (ds : List Directory) → KeepLinks ds (touch_first ds)

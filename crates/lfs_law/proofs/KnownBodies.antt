@@ -14,6 +14,7 @@ use Rattle.lfs_fs.specs.Directory.{Part, Directory, parts, entries, begins_at, t
 use Rattle.lfs_fs.specs.Volume.{Volume}
 use Rattle.lfs_fs.specs.Tree.{entry_in, entry_at, top}
 use Rattle.lfs_fs.specs.Thread.{Link, links}
+use Rattle.lfs_fs.proofs.EntryAtLemmas.{step_some}
 use Rattle.lfs_command.specs.DirectoryEdit.{link_in, unlink_in, change_in, touch_last, absorb}
 use Rattle.lfs_command.specs.ThreadEdit.{link, unlink, change, add_after, take_out, drop_directory, touch_first}
 use Rattle.lfs_command.specs.Command.{Command, Mkdir, Put, Rm, Mv, SetAttr, RmAttr}
@@ -27,7 +28,7 @@ use Rattle.lfs_law.proofs.DirectoryEdits.{entries_of, entries_link, entries_unli
 use Rattle.lfs_law.proofs.EntryEdits.{All-place}
 use Rattle.lfs_law.proofs.OneElement.{All-where, found_has}
 use Rattle.lfs_law.proofs.OnePath.{entry_found}
-use Rattle.lfs_law.proofs.Walks.{last_name, walk-snoc, step_some}
+use Rattle.lfs_law.proofs.Walks.{last_name, walk-snoc}
 use Rattle.lfs_law.proofs.WrittenLemmas.{part_there}
 
 -- what holds of the body of each entry

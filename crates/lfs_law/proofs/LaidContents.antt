@@ -14,26 +14,26 @@ use Rattle.lfs_fs.specs.AsStored.{head_of}
 use Rattle.lfs_fs.specs.Entry.{Inline, Chain}
 use Rattle.lfs_fs.specs.Uses.{times}
 use Rattle.lfs_fs.specs.Reading.{reading_of}
+use Rattle.lfs_fs.proofs.ContainsLemmas.{contains_first, contains_later}
 use Rattle.lfs_command.specs.Command.{Mkdir, Put, Rm, Mv, SetAttr, RmAttr}
 use Rattle.lfs_command.specs.Supplies.{most_inline, supply_uses}
 use Rattle.lfs_law.specs.WrittenLinks.{changed_blocks, block_after}
 use Rattle.lfs_law.specs.OutlineLaws.{IsThere}
 use Rattle.lfs_law.specs.PlansHold.{content_blocks}
 use Rattle.lfs_law.specs.PlansWritten.{LaysContents, LaidAreThere}
-use Rattle.lfs_law.proofs.KeptLinks.{contains_first, contains-cons}
 use Rattle.lfs_law.proofs.NamedBlocks.{supplies_once}
 use Rattle.lfs_law.proofs.OutlineEntries.{cons_same}
 use Rattle.lfs_law.proofs.WrittenLemmas.{times_there}
 
 -- the last block of a chain is its head
-head_is : (blocks : List ℕ) → 0 < length blocks → slice_get blocks (length blocks - 1) ≡ Some (head_of blocks)
+pub head_is : (blocks : List ℕ) → 0 < length blocks → slice_get blocks (length blocks - 1) ≡ Some (head_of blocks)
 head_is blocks some = slice_get-get_or blocks (length blocks - 1) 0 (omega (arith, some))
     ∙ ap Some (sym (unwrap_or-slice_get blocks (length blocks - 1) 0))
 
 map_on : (f g : ℕ → List ℕ) (xs : List ℕ) → ((x : ℕ) → Contains xs x → f x ≡ g x) → map f xs ≡ map g xs
 map_on f g [] same = refl
 map_on f g (x ∷ xs) same = cons_same (f x) (g x) (map f xs) (map g xs) (same x (contains_first x xs))
-    (map_on f g xs (λ y there. same y (contains-cons x xs y there)))
+    (map_on f g xs (λ y there. same y (contains_later x xs y there)))
 
 -- in an image of the same size whose blocks are those after the changes
 laid_there : LaidIsFound → LaidIsContent → (d e : Disk) (bytes blocks : List ℕ) (base : List Change) → IsDisk e → e.size ≡ d.size

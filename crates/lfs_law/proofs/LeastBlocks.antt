@@ -1,29 +1,24 @@
 -- The least free blocks are free, and a new pair is that of the supplies.
-use Rattle.std.proofs.Common.{◌≡◌, ◌⊎◌, ℕ, zero, suc, ◌+◌, ◌<◌, ◌≤◌, Bool, true, false, cond, List, [], ◌∷◌, take, refl, ap, sym, ◌∙◌}
-use Rattle.std.proofs.Common.{subst, arith, inl, inr}
-use Rattle.std.specs.Prelude.{All, Contains, ◌&&◌, not, if◌then◌else◌}
-use Rattle.std.specs.List.{filter}
-use Rattle.std.proofs.lemmas.List.Elements.{All-contains}
+use Rattle.std.proofs.Common.{◌≡◌, ◌⊎◌, ℕ, zero, suc, ◌+◌, ◌<◌, ◌≤◌, Bool, true, false, cond, take, refl, ap, sym, ◌∙◌}
+use Rattle.std.proofs.Common.{arith, inl, inr}
+use Rattle.std.specs.Prelude.{Contains, if◌then◌else◌}
 use Rattle.lfs_meta.specs.Body.{Pair}
 use Rattle.lfs_fs.specs.Pair.{same_pair}
 use Rattle.lfs_fs.specs.Directory.{Part, thread}
 use Rattle.lfs_fs.specs.Volume.{Volume}
 use Rattle.lfs_fs.specs.Free.{free_blocks}
 use Rattle.lfs_fs.specs.Uses.{times, uses}
+use Rattle.lfs_fs.proofs.CountLemmas.{element_le}
 use Rattle.lfs_command.specs.Command.{Command, Mkdir, Put, Rm, Mv, SetAttr, RmAttr}
 use Rattle.lfs_command.specs.Supplies.{Supplies, supply_uses}
 use Rattle.lfs_command.specs.Edited.{edited}
 use Rattle.lfs_command.specs.Cut.{new_pair_uses}
 use Rattle.lfs_command.specs.Need.{need, is_new_to}
-use Rattle.lfs_command.specs.Accepted.{IsAccepted}
 use Rattle.lfs_law.specs.PlansHold.{LeastAreFree}
 use Rattle.lfs_law.proofs.Decided.{same_pair_decides}
 use Rattle.lfs_law.proofs.FreeBlocks.{taken_once, taken_free}
-use Rattle.lfs_law.proofs.KeptLinks.{contains_first, contains-cons}
-use Rattle.lfs_law.proofs.LinksAdded.{first_used}
-use Rattle.lfs_law.proofs.NamedBlocks.{sum_zero, not_new, new_is}
+use Rattle.lfs_law.proofs.NamedBlocks.{sum_zero, not_new}
 use Rattle.lfs_law.proofs.PairTotals.{total, made_total, edited_total}
-use Rattle.lfs_law.proofs.WrittenLemmas.{one_le}
 
 -- ---- the least free blocks
 
@@ -79,7 +74,7 @@ pub new_is_supplied : (v : Volume) (c : Command) (s : Supplies) (p : Part) → C
     → is_new_to v p.pair ≡ true → same_pair p.pair s.pair ≡ true
 new_is_supplied v c s p there new =
     let le : new_elsewhere v s p.pair ≤ total (new_elsewhere v s) (edited v c s).directories =
-    one_le (λ (x : Part). new_elsewhere v s x.pair) (thread (edited v c s).directories) p there in
+    element_le (λ (x : Part). new_elsewhere v s x.pair) (thread (edited v c s).directories) p there in
     let none : new_elsewhere v s p.pair ≡ 0 = omega (
       arith,
       le,

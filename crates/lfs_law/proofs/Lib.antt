@@ -74,3 +74,4 @@ pub mod CutLinksFit
 pub mod FreshPairs
 pub mod HeldBytes
 pub mod MadeBytes
+pub mod CarriedFollow

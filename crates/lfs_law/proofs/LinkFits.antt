@@ -7,12 +7,7 @@ use Rattle.lfs_meta.specs.Body.{Pair}
 use Rattle.lfs_meta.specs.Fits.{NumbersFit, TailFits}
 use Rattle.lfs_fs.specs.Directory.{Part, Directory, parts, thread}
 use Rattle.lfs_fs.specs.Thread.{Link, links_of, links, tail_to, hard_to}
-
-all_split : {X : Type 0} (P : X → Type 0) (xs ys : List X) → All P (xs ++ ys) → All P xs × All P ys
-all_split P [] ys all = (All-nil P, all)
-all_split P (x ∷ xs) ys all =
-    let rest = all_split P xs ys (All-tail P x (xs ++ ys) all) in
-    (All-cons P x xs (All-head P x (xs ++ ys) all) rest.0, rest.1)
+use Rattle.lfs_fs.proofs.ApartLemmas.{All-both}
 
 -- numbers of blocks
 abbrev pub BlocksFit : ℕ → Pair → Type 0
@@ -43,7 +38,7 @@ pub tails_fit : (count : ℕ) → count ≤ 65536 → (ds : List Directory) → 
     → All (λ l. TailFits l.tail) (links ds)
 tails_fit count few [] below = All-nil (λ (l : Link). TailFits l.tail)
 tails_fit count few (d ∷ ds) below =
-    let split = all_split (λ (x : Part). BlocksFit count x.pair) (parts d) (thread ds) below in
+    let split = All-both (λ (x : Part). BlocksFit count x.pair) (parts d) (thread ds) below in
     All-append (λ (l : Link). TailFits l.tail) (links_of d.first d.more (tail_to ds)) (links ds)
     (tails_along count few d.first d.more (tail_to ds) (All-tail (λ (x : Part). BlocksFit count x.pair) d.first d.more split.0)
     (tail_to_fits count few ds split.1))

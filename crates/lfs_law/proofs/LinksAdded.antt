@@ -15,12 +15,12 @@ use Rattle.lfs_meta.specs.Writing.{other_number, part_in}
 use Rattle.lfs_fs.specs.Directory.{Part}
 use Rattle.lfs_fs.specs.Thread.{Link}
 use Rattle.lfs_fs.specs.Uses.{times, pair_uses}
+use Rattle.lfs_fs.proofs.ContainsLemmas.{contains_none, contains_cases}
+use Rattle.lfs_fs.proofs.CountLemmas.{element_le}
 use Rattle.lfs_law.specs.WrittenLinks.{changed_blocks, block_after, part_after, written_blocks, set_blocks, links_blocks, set_uses}
 use Rattle.lfs_law.specs.WrittenLinks.{link_part, FillsFirst, MakesLink}
 use Rattle.lfs_law.specs.OutlineLaws.{LinksAreAdded, LinksAreFree, LinksAreLeft, NoLinksAreWritten}
 use Rattle.lfs_law.proofs.BlockLemmas.{other_is_one}
-use Rattle.lfs_law.proofs.KeptLinks.{contains_cases}
-use Rattle.lfs_law.proofs.WrittenLemmas.{one_le}
 
 -- ---- lists
 
@@ -31,10 +31,10 @@ pub times_append : (n : ℕ) (xs ys : List ℕ) → times n (xs ++ ys) ≡ times
 times_append n xs ys = sum_by-append (λ (y : ℕ). cond {A = ℕ} (y == n) 1 0) xs ys
 
 pub contains_one : {X : Type 0} (y x : X) → Contains (y ∷ []) x → x ≡ y
-contains_one y x h = elim (contains_cases y [] x h) [ inl same ↦ same | inr later ↦ (let no : ⊥ = none_there later in absurd no) ]
+contains_one y x h = elim (contains_cases y [] x h) [ inl same ↦ same | inr later ↦ (let no : ⊥ = contains_none later in absurd no) ]
   where
-    none_there : Contains [] x → ⊥
-    none_there there = omega arith
+    contains_none : Contains [] x → ⊥
+    contains_none there = omega arith
 
 -- ---- the blocks of a pair
 
@@ -111,7 +111,7 @@ apart_from : (d : Disk) (is_new : Pair → Bool) (ls : List Link) (l m : Link) (
     → set_uses n (ls ++ l ∷ []) ≤ 1
     → times n (written_blocks d is_new l.part.pair) ≡ 0
 apart_from d is_new ls l m n set there set_before used once =
-    let before : one_use n m ≤ set_uses n ls = one_le (one_use n) ls m there in
+    let before : one_use n m ≤ set_uses n ls = element_le (one_use n) ls m there in
     omega (arith, before, used, once, set_use n m set_before, set_use n l set, uses_behind n ls l, written_within d is_new l.part.pair n)
 
 pub links_are_added : LinksAreAdded
@@ -196,14 +196,11 @@ links_are_free d bytes attributes is_new base ls l old set once written = record
     unnamed : (n : ℕ) → 1 ≤ pair_uses n l.part → times n (changed_blocks old) ≡ 0
     unnamed n used = omega (arith, used, once n, written.named n, uses_behind n ls l, set_use n l set, written_uses d is_new n ls)
 
-none_there : {X : Type 0} (x : X) → Contains [] x → ⊥
-none_there x there = omega arith
-
 pub no_links_are_written : NoLinksAreWritten
 no_links_are_written d bytes attributes is_new base rising made = record {
   rising = rising;
   made = made;
   named = λ n. omega arith;
   kept = λ n some. refl;
-  makes = λ l there set. absurd (none_there l there);
+  makes = λ l there set. absurd (contains_none l there);
 }

@@ -11,12 +11,13 @@ use Rattle.lfs_fs.specs.Entry.{Entry, is_named}
 use Rattle.lfs_fs.specs.Directory.{Part, Directory, parts, entries, begins_at, thread}
 use Rattle.lfs_fs.specs.State.{delta_of}
 use Rattle.lfs_fs.specs.Sound.{Rise}
+use Rattle.lfs_fs.proofs.OrderedEndLemmas.{none_counted}
 use Rattle.lfs_command.specs.EntryEdit.{place, without, changed}
 use Rattle.lfs_command.specs.DirectoryEdit.{touch, has_name, unlink_in, change_in, behind, link_parts, link_in, touch_last_of, touch_last}
 use Rattle.lfs_command.specs.DirectoryEdit.{absorb_in, absorb}
 use Rattle.lfs_command.specs.ThreadEdit.{in_directory, link, unlink, change, add_after, take_out, drop_directory, touch_first}
 use Rattle.lfs_law.proofs.Effect.{AreGood}
-use Rattle.lfs_law.proofs.OneElement.{count_none, count_cases, found_one, found_has, sum_where}
+use Rattle.lfs_law.proofs.OneElement.{count_cases, found_one, found_has, sum_where}
 use Rattle.lfs_law.proofs.EntryEdits.{once_named}
 use Rattle.lfs_law.proofs.DirectoryEdits.{entries_of}
 
@@ -95,7 +96,7 @@ pub named_once : (n : Name) (es : List Entry) → NamesAreOrdered → Rise es �
 named_once n es ordered rise = go (find (is_named n) es) refl
   where
     go : (o : Option Entry) → find (is_named n) es ≡ o → count_by (is_named n) es ≤ 1
-    go None is = omega (arith, count_none (is_named n) es is)
+    go None is = omega (arith, none_counted (is_named n) es is)
     go (Some e) is = omega (arith, once_named n es e ordered rise is)
 
 pub marks_unlink_in : (n : Name) (d : Directory) → NamesAreOrdered → Rise (entries d) → marks (parts (unlink_in n d)) ≤ marks (parts d) + 1

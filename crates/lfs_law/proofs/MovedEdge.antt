@@ -10,8 +10,9 @@ use Rattle.lfs_fs.specs.Entry.{Entry, target}
 use Rattle.lfs_fs.specs.Volume.{Volume}
 use Rattle.lfs_fs.specs.Tree.{entry_in, top, entry_at, Node, node, tree, Reached}
 use Rattle.lfs_fs.specs.Sound.{IsSound}
+use Rattle.lfs_fs.proofs.EntryAtLemmas.{by_last_name, walk-append}
 use Rattle.lfs_command.specs.PathMap.{below, moved}
-use Rattle.lfs_law.proofs.Walks.{by_last_name, walk-append, walk-snoc, walk-none, step_alike, step_same, snoc_same}
+use Rattle.lfs_law.proofs.Walks.{walk-snoc, walk-none, step_alike, step_same, snoc_same}
 use Rattle.lfs_law.proofs.OnePath.{one_path}
 use Rattle.lfs_law.proofs.PathMapLemmas.{longer, below_front, below_none, below_self, below_longer, below_cases, moved_to, moved_away}
 use Rattle.lfs_law.proofs.PathMapLemmas.{moved_other}

@@ -21,6 +21,8 @@ use Rattle.lfs_fs.specs.Volume.{Volume}
 use Rattle.lfs_fs.specs.Tree.{tree}
 use Rattle.lfs_fs.specs.Thread.{Link, links}
 use Rattle.lfs_fs.specs.Uses.{times, body_uses, uses}
+use Rattle.lfs_fs.proofs.ContainsLemmas.{contains_first, contains_later}
+use Rattle.lfs_fs.proofs.CountLemmas.{element_le}
 use Rattle.lfs_command.specs.declared.refusal.Refusal.TheVariants.{IsRoot}
 use Rattle.lfs_command.specs.DirectoryEdit.{link_in, touch_last}
 use Rattle.lfs_command.specs.ThreadEdit.{link, add_after}
@@ -38,14 +40,13 @@ use Rattle.lfs_law.proofs.Cuts.{cut_part, pair_times, pairs_for, head_by, tail_b
 use Rattle.lfs_law.proofs.DirectoryEdits.{keeps_link}
 use Rattle.lfs_law.proofs.Homes.{first_passes, test_passes}
 use Rattle.lfs_law.proofs.InDirectory.{find_here}
-use Rattle.lfs_law.proofs.KeptLinks.{contains_first, contains-cons}
 use Rattle.lfs_law.proofs.LinksAdded.{times_cons, times_append, first_used, one_use, set_is}
 use Rattle.lfs_law.proofs.OneElement.{found_one}
 use Rattle.lfs_law.proofs.OutlineRoom.{sum_over}
 use Rattle.lfs_law.proofs.OutlinesWritten.{set_uses_outlined}
 use Rattle.lfs_law.proofs.PairTotals.{parts_total, total, total_cons, link_total, last_total, made_total, edited_total}
 use Rattle.lfs_law.proofs.Placed.{IsPlaced, is_placed}
-use Rattle.lfs_law.proofs.WrittenLemmas.{part_uses, sum_thread, one_le, parts_of_links}
+use Rattle.lfs_law.proofs.WrittenLemmas.{part_uses, sum_thread, parts_of_links}
 
 -- ---- sums
 
@@ -55,7 +56,7 @@ sum_zero f (x ∷ xs) none = omega (
   arith,
   sum_by-cons f x xs,
   none x (contains_first x xs),
-  sum_zero f xs (λ y there. none y (contains-cons x xs y there)),
+  sum_zero f xs (λ y there. none y (contains_later x xs y there)),
 )
 
 pub times_flat : {X : Type 0} (n : ℕ) (f : X → List ℕ) (xs : List X) → times n (flat_map f xs) ≡ sum_by (λ x. times n (f x)) xs
@@ -80,7 +81,7 @@ pairs_within n v =
 pub not_new : (v : Volume) (p : Part) → Contains (thread v.directories) p → is_new_to v p.pair ≡ false
 not_new v p there =
     let le : part_uses p.pair.0 p ≤ sum_by (part_uses p.pair.0) (thread v.directories) =
-    one_le (part_uses p.pair.0) (thread v.directories) p there in
+    element_le (part_uses p.pair.0) (thread v.directories) p there in
     let some : 1 ≤ uses p.pair.0 v = omega (arith, le, first_used p.pair, sum_thread p.pair.0 v.directories) in
     grind (arith, nat_tests)
 
@@ -211,7 +212,7 @@ more_written d is_new n (pair ∷ pairs) (run ∷ rs) many new =
       arith,
       times_append n (written_blocks d is_new pair) (flat_map (set_blocks d is_new) (more_parts pairs rs)),
       new_written d is_new n pair (new pair (contains_first pair pairs)),
-      more_written d is_new n pairs rs (omega (arith, many)) (λ q there. new q (contains-cons pair pairs q there)),
+      more_written d is_new n pairs rs (omega (arith, many)) (λ q there. new q (contains_later pair pairs q there)),
       sum_by-cons (pair_times n) pair pairs,
     )
 
@@ -242,8 +243,8 @@ parts_written d is_new n chosen w (p ∷ ps) enough new =
       times_append n (flat_map (set_blocks d is_new) (cut_part chosen w p))
           (flat_map (set_blocks d is_new) (flat_map (cut_part chosen w) ps)),
       part_by d is_new n chosen w p p.dirty refl (enough p (contains_first p ps)) (new p (contains_first p ps)),
-      parts_written d is_new n chosen w ps (λ x there. enough x (contains-cons p ps x there))
-          (λ x there. new x (contains-cons p ps x there)),
+      parts_written d is_new n chosen w ps (λ x there. enough x (contains_later p ps x there))
+          (λ x there. new x (contains_later p ps x there)),
       sum_by-cons (λ (x : Part). times n (set_blocks d is_new x)) p ps,
       sum_by-cons (λ (x : Part). sum_by (pair_times n) (new_pairs chosen x)) p ps,
     )
@@ -281,9 +282,9 @@ pub chosen_is_new : (v : Volume) (c : Command) (s : Supplies) (chosen : Part →
     → Contains (thread (edited v c s).directories) p
     → (q : Pair) → Contains (new_pairs chosen p) q → is_new_to v q ≡ true
 chosen_is_new v c s chosen pairs p there q inside =
-    let one : pair_times q.0 q ≤ sum_by (pair_times q.0) (new_pairs chosen p) = one_le (pair_times q.0) (new_pairs chosen p) q inside in
+    let one : pair_times q.0 q ≤ sum_by (pair_times q.0) (new_pairs chosen p) = element_le (pair_times q.0) (new_pairs chosen p) q inside in
     let all : sum_by (pair_times q.0) (new_pairs chosen p) ≤ new_pair_uses chosen (edited v c s) q.0 =
-    one_le (λ (x : Part). sum_by (pair_times q.0) (new_pairs chosen x)) (thread (edited v c s).directories) p there in
+    element_le (λ (x : Part). sum_by (pair_times q.0) (new_pairs chosen x)) (thread (edited v c s).directories) p there in
     new_is v q (omega (arith, one, all, pairs.once q.0, first_used q))
 
 links_written : (d : Disk) (is_new : Pair → Bool) (ds : List Directory)

@@ -82,7 +82,7 @@ set_first : (f : Part → ℕ) (p : Part) (ps : List Part) (t : Bool) → sum_by
 set_first f p ps true = sum_by-cons f p (filter (λ q. q.dirty) ps)
 set_first f p ps false = omega arith
 
-sum_set : (f : Part → ℕ) (ps : List Part) → sum_by f (filter (λ p. p.dirty) ps) ≡ sum_by (λ p. if p.dirty then f p else 0) ps
+pub sum_set : (f : Part → ℕ) (ps : List Part) → sum_by f (filter (λ p. p.dirty) ps) ≡ sum_by (λ p. if p.dirty then f p else 0) ps
 sum_set f [] = refl
 sum_set f (p ∷ ps) = omega (arith, set_first f p ps p.dirty, sum_set f ps, sum_by-cons (λ (q : Part). if q.dirty then f q else 0) p ps)
 

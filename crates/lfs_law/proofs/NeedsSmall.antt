@@ -3,9 +3,9 @@ use Rattle.std.proofs.Common.{◌≡◌, ℕ, ◌+◌, ◌*◌, ◌-◌, ◌≤�
 use Rattle.std.proofs.Common.{ap, sym, ◌∙◌, subst, arith, map, Option, Some, None}
 use Rattle.std.specs.Prelude.{All, if◌then◌else◌, sum_by, nat_le, nat_lt, is_none}
 use Rattle.std.specs.List.{filter, list_any}
-use Rattle.std.proofs.lemmas.Bool.Decides.{nat_tests}
 use Rattle.std.proofs.lemmas.List.Elements.{All-append, All-nil, All-cons, All-head, All-tail}
 use Rattle.std.proofs.lemmas.List.Sums.{sum_by-cons}
+use Rattle.std.proofs.lemmas.Bool.{ltb-false}
 use Rattle.lfs_meta.specs.Name.{Name}
 use Rattle.lfs_meta.specs.Attribute.{Attributes, set_attribute, remove_attribute}
 use Rattle.lfs_meta.specs.Body.{Pair}
@@ -44,7 +44,7 @@ use Rattle.lfs_law.proofs.RunCounts.{length_by}
 
 -- ---- runs
 
-runs_few : (space taken len : ℕ) (es : List Entry) → length (runs_after weight space taken len es) ≤ length es + 1
+pub runs_few : (space taken len : ℕ) (es : List Entry) → length (runs_after weight space taken len es) ≤ length es + 1
 unfolding runs_after
 runs_few space taken len [] = omega arith
 runs_few space taken len (e ∷ es) =
@@ -58,7 +58,7 @@ runs_few space taken len (e ∷ es) =
     by true x y = omega (arith, x)
     by false x y = omega (arith, y)
 
-blocks_few : (v : Volume) (p : Part) → part_blocks v p ≤ 2 * length p.entries
+pub blocks_few : (v : Volume) (p : Part) → part_blocks v p ≤ 2 * length p.entries
 blocks_few v p = by (is_first p) (runs_few (room v) (superblock_weight v.attributes) 1 p.entries) (runs_few (room v) 0 0 p.entries)
   where
     by : (t : Bool) → length (runs_after weight (room v) (superblock_weight v.attributes) 1 p.entries) ≤ length p.entries + 1
@@ -96,7 +96,7 @@ dirty_few v (p ∷ ps) few = by p.dirty refl (dirty_few v ps (All-tail (IsFew 65
 
 -- ---- contents
 
-least_few : (size len n steps : ℕ) → least_from size len n steps ≤ n + steps
+pub least_few : (size len n steps : ℕ) → least_from size len n steps ≤ n + steps
 unfolding least_from
 least_few size len n zero = omega arith
 least_few size len n (suc steps) = by (nat_le len (file_room size n)) (least_few size len (n + 1) steps)
@@ -106,7 +106,7 @@ least_few size len n (suc steps) = by (nat_le len (file_room size n)) (least_few
     by true h = omega arith
     by false h = omega (arith, h)
 
-least_within : (size len : ℕ) → least_blocks size len ≤ len
+pub least_within : (size len : ℕ) → least_blocks size len ≤ len
 unfolding least_blocks
 least_within size len = omega (arith, least_few size len 0 len)
 
@@ -367,9 +367,6 @@ stored_few : (v : Volume) (bytes : List ℕ) (t : Bool) → length bytes ≤ 214
 stored_few v bytes true h = omega arith
 stored_few v bytes false h = omega (arith, h, least_within v.size (length bytes))
 
-within : (limit len : ℕ) → nat_lt limit len ≡ false → len ≤ limit
-within limit len h = grind (arith, nat_tests)
-
 data_few : (v : Volume) (c : Command) → IsLimits v.limits → first_refusal (checks v c) ≡ None → data_blocks v c ≤ 2147483647
 data_few v (Mkdir p) limits passes = omega arith
 data_few v (Put p bytes) limits passes =
@@ -382,7 +379,7 @@ data_few v (Put p bytes) limits passes =
     (omega (
       arith,
       limits.file.1,
-      within v.limits.file (length bytes) (test_passes
+      ltb-false v.limits.file (length bytes) (test_passes
           (nat_lt v.limits.file (length bytes)) FileTooLarge small.0),
     ))
 data_few v (Rm p) limits passes = omega arith

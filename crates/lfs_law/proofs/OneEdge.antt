@@ -12,8 +12,9 @@ use Rattle.lfs_fs.specs.Entry.{Directory_at, Entry, target}
 use Rattle.lfs_fs.specs.Volume.{Volume}
 use Rattle.lfs_fs.specs.Tree.{entry_in, top, entry_at, node, tree, Reached}
 use Rattle.lfs_fs.specs.Sound.{IsSound}
+use Rattle.lfs_fs.proofs.EntryAtLemmas.{by_last_name}
 use Rattle.lfs_command.specs.PathMap.{below, put_at}
-use Rattle.lfs_law.proofs.Walks.{by_last_name, walk-snoc, step_alike, step_same, snoc_same}
+use Rattle.lfs_law.proofs.Walks.{walk-snoc, step_alike, step_same, snoc_same}
 use Rattle.lfs_law.proofs.OnePath.{one_path}
 use Rattle.lfs_law.proofs.PathMapLemmas.{same_path_or_not, longer, no_names, below_front, below_self, below_longer, put_at_there}
 use Rattle.lfs_law.proofs.PathMapLemmas.{put_at_other, put_at_mapped}

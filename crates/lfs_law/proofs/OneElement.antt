@@ -14,10 +14,6 @@ where_passes t f = map (λ y. if t y then f y else y)
 abbrev pub others : {X : Type 0} → (X → Bool) → List X → List X
 others t = filter (λ y. not (t y))
 
-pub count_none : {X : Type 0} (t : X → Bool) (xs : List X) → find t xs ≡ None → count_by t xs ≡ 0
-count_none t [] h = refl
-count_none t (y ∷ ys) h = grind (arith, sum_by-cons (λ x. if t x then 1 else 0) y ys, count_none t ys)
-
 pub none_counted : {X : Type 0} (t : X → Bool) (xs : List X) → count_by t xs ≡ 0 → find t xs ≡ None
 none_counted t [] h = refl
 none_counted t (y ∷ ys) h = grind (arith, sum_by-cons (λ x. if t x then 1 else 0) y ys, none_counted t ys)

@@ -17,6 +17,7 @@ use Rattle.lfs_fs.specs.Tree.{entry_in, entry_at, top}
 use Rattle.lfs_fs.specs.Uses.{times, pair_uses, directory_uses, uses}
 use Rattle.lfs_fs.specs.Named.{leads_to, names_of, named}
 use Rattle.lfs_fs.specs.Sound.{IsSound}
+use Rattle.lfs_fs.proofs.CountLemmas.{leads_once}
 use Rattle.lfs_law.proofs.Walks.{LeadOnce, one_walk}
 use Rattle.lfs_law.proofs.Decided.{same_pair_decides, same_pair_or_not, same_name_or_not}
 use Rattle.lfs_law.proofs.Found.{found_passes, found_le, two_found_le}
@@ -62,9 +63,6 @@ found_key ds k d h = (same_pair_decides k (key d)).0 (found_passes (begins_at k)
 
 pub found_name : (es : List Entry) (n : Name) (e : Entry) → find (is_named n) es ≡ Some e → n ≡ e.name
 found_name es n e h = (bytes_eq-Decides n e.name).0 (found_passes (is_named n) es e h)
-
-leads_once : (k : Pair) (o : Option Pair) → o ≡ Some k → leads_to k o ≡ 1
-leads_once k o is = ap (leads_to k) is ∙ ap (λ (b : Bool). if b then 1 else 0) ((same_pair_decides k k).1 refl)
 
 -- an entry of a directory names what it leads to
 found_names : (i : Pair) (d : Directory) (n : Name) (e : Entry) → find (is_named n) (entries d) ≡ Some e → target e ≡ Some i

@@ -1,30 +1,21 @@
 -- Outlines of entries: what stays of them, and edits of a list of them.
-use Rattle.std.proofs.Common.{◌≡◌, ℕ, ◌+◌, Bool, true, false, List, [], ◌∷◌, length, refl, ap, arith, map, Some}
-use Rattle.std.specs.Prelude.{not, ◌||◌, if◌then◌else◌, sum_by, find}
+use Rattle.std.proofs.Common.{◌≡◌, ℕ, ◌+◌, Bool, true, false, List, [], ◌∷◌, length, refl, ap, map}
+use Rattle.std.specs.Prelude.{not, ◌||◌, if◌then◌else◌}
 use Rattle.std.specs.List.{list_any}
-use Rattle.std.specs.Option.{option_map}
-use Rattle.std.proofs.lemmas.List.Sums.{sum_by-cons}
 use Rattle.lfs_meta.specs.Name.{Name}
 use Rattle.lfs_meta.specs.Weighing.{attributes_weight}
 use Rattle.lfs_fs.specs.NameOrder.{precedes}
-use Rattle.lfs_fs.specs.Entry.{Body, Inline, Chain, Directory_at, Entry, body_target, target, is_named}
+use Rattle.lfs_fs.specs.Entry.{Body, Inline, Chain, Directory_at, Entry, is_named}
 use Rattle.lfs_fs.specs.Weight.{body_weight, weight}
-use Rattle.lfs_fs.specs.Uses.{body_uses, entry_uses}
+use Rattle.lfs_fs.specs.Uses.{entry_uses}
 use Rattle.lfs_fs.specs.Outlined.{outlined_body, outlined_entry}
+use Rattle.lfs_fs.proofs.OutlinedLemmas.{body_uses_same}
 use Rattle.lfs_command.specs.EntryEdit.{place, without, changed}
 
 pub cons_same : {X : Type 0} (x y : X) (xs ys : List X) → x ≡ y → xs ≡ ys → x ∷ xs ≡ y ∷ ys
 cons_same x y xs ys h k = cc
 
 -- ---- what stays of an entry
-
-body_target_same : (b : Body) → body_target (outlined_body b) ≡ body_target b
-body_target_same (Inline bytes) = refl
-body_target_same (Chain blocks bytes) = refl
-body_target_same (Directory_at pair) = refl
-
-pub target_same : (e : Entry) → target (outlined_entry e) ≡ target e
-target_same e = body_target_same e.body
 
 body_weight_same : (b : Body) → body_weight (outlined_body b) ≡ body_weight b
 body_weight_same (Inline bytes) = refl
@@ -34,11 +25,6 @@ body_weight_same (Directory_at pair) = refl
 pub weight_same : (e : Entry) → weight (outlined_entry e) ≡ weight e
 weight_same e = ap (λ (n : ℕ). 4 + length e.name + n + attributes_weight e.attributes) (body_weight_same e.body)
 
-body_uses_same : (b : ℕ) (body : Body) → body_uses b (outlined_body body) ≡ body_uses b body
-body_uses_same b (Inline bytes) = refl
-body_uses_same b (Chain blocks bytes) = refl
-body_uses_same b (Directory_at pair) = refl
-
 pub uses_same : (b : ℕ) (e : Entry) → entry_uses b (outlined_entry e) ≡ entry_uses b e
 uses_same b e = body_uses_same b e.body
 
@@ -46,17 +32,6 @@ uses_same b e = body_uses_same b e.body
 
 abbrev pub outlined_entries : List Entry → List Entry
 outlined_entries = map outlined_entry
-
-pub find_outlined : (n : Name) (es : List Entry) → find (is_named n) (outlined_entries es)
-    ≡ option_map outlined_entry (find (is_named n) es)
-find_outlined n [] = refl
-find_outlined n (e ∷ es) = by (is_named n e) (find_outlined n es)
-  where
-    by : (t : Bool) → find (is_named n) (outlined_entries es) ≡ option_map outlined_entry (find (is_named n) es)
-        → (if t then Some (outlined_entry e) else find (is_named n) (outlined_entries es))
-        ≡ option_map outlined_entry (if t then Some e else find (is_named n) es)
-    by true rest = refl
-    by false rest = rest
 
 pub any_named_outlined : (n : Name) (es : List Entry) → list_any (is_named n) (outlined_entries es) ≡ list_any (is_named n) es
 any_named_outlined n [] = refl
@@ -106,14 +81,3 @@ changed_outlined n f g same (e ∷ es) =
     (changed n g (outlined_entries es))
     (outlined_entries (changed n f es))
     (changed_by f g same e (is_named n e)) (changed_outlined n f g same es)
-
-pub sum_uses_outlined : (b : ℕ) (es : List Entry) → sum_by (entry_uses b) (outlined_entries es) ≡ sum_by (entry_uses b) es
-sum_uses_outlined b [] = refl
-sum_uses_outlined b (e ∷ es) =
-    omega (
-      arith,
-      sum_by-cons (entry_uses b) (outlined_entry e) (outlined_entries es),
-      sum_by-cons (entry_uses b) e es,
-      uses_same b e,
-      sum_uses_outlined b es,
-    )

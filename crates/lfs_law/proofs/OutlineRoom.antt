@@ -1,7 +1,7 @@
 -- An outline takes the room that its volume does.
-use Rattle.std.proofs.Common.{◌≡◌, ℕ, ◌-◌, ◌*◌, ◌==◌, nat_lt, Bool, true, false, List, [], ◌∷◌, length, refl, ap, ◌∙◌, subst, arith, map}
+use Rattle.std.proofs.Common.{◌≡◌, ℕ, ◌-◌, ◌*◌, nat_lt, Bool, true, false, List, [], ◌∷◌, length, refl, ap, ◌∙◌, subst, arith, map}
 use Rattle.std.specs.Prelude.{◌&&◌, ◌||◌, if◌then◌else◌, sum_by, All}
-use Rattle.std.specs.List.{filter, list_any, range_with_len}
+use Rattle.std.specs.List.{filter, list_any}
 use Rattle.std.proofs.lemmas.List.{length-map, length-replicate}
 use Rattle.std.proofs.lemmas.List.Elements.{All-head, All-tail, All-cons, All-nil}
 use Rattle.std.proofs.lemmas.List.Sums.{sum_by-cons}
@@ -9,19 +9,18 @@ use Rattle.lfs_meta.specs.Body.{Pair}
 use Rattle.lfs_meta.specs.Runs.{later_runs}
 use Rattle.lfs_fs.specs.Entry.{Body, Inline, Chain, Directory_at, Entry}
 use Rattle.lfs_fs.specs.Weight.{weight, superblock_weight}
-use Rattle.lfs_fs.specs.Directory.{Part, Directory, parts, entries, thread}
+use Rattle.lfs_fs.specs.Directory.{Part, Directory, entries, thread}
 use Rattle.lfs_fs.specs.Volume.{Volume}
-use Rattle.lfs_fs.specs.Uses.{times, entry_uses, pair_uses, directory_uses, uses}
-use Rattle.lfs_fs.specs.Free.{free_blocks}
+use Rattle.lfs_fs.specs.Uses.{times}
 use Rattle.lfs_fs.specs.Outlined.{blank, outlined_body, outlined_entry, outlined_part, outlined_directory, outlined}
+use Rattle.lfs_fs.proofs.OutlinedLemmas.{outlined_uses, outlined_free}
 use Rattle.lfs_command.specs.Cut.{room, is_first, runs, new_pairs, HasEnough}
 use Rattle.lfs_law.specs.CutOutline.{for_parts}
 use Rattle.lfs_command.specs.Need.{dirty_parts, part_blocks}
 use Rattle.lfs_command.specs.Verdict.{is_too_large}
 use Rattle.lfs_law.specs.JudgedAlike.{OutlinesTakeSameRoom, PairsAreChosenAlike}
-use Rattle.lfs_law.proofs.CutsFollow.{filter_same}
-use Rattle.lfs_law.proofs.OutlineEntries.{cons_same, outlined_entries, weight_same, sum_uses_outlined}
-use Rattle.lfs_law.proofs.OutlineDirectories.{outlined_parts, entries_outlined, thread_outlined}
+use Rattle.lfs_law.proofs.OutlineEntries.{cons_same, outlined_entries, weight_same}
+use Rattle.lfs_law.proofs.OutlineDirectories.{outlined_parts, thread_outlined}
 use Rattle.lfs_law.proofs.OutlineCuts.{runs_outlined, later_outlined}
 
 -- ---- mapped lists
@@ -52,19 +51,6 @@ dirty_outlined v = ap (filter (λ (p : Part). p.dirty)) (thread_outlined v.direc
 
 -- ---- blocks
 
-pub directory_uses_outlined : (b : ℕ) (d : Directory) → directory_uses b (outlined_directory d) ≡ directory_uses b d
-directory_uses_outlined b d =
-    let contents : sum_by (entry_uses b) (entries (outlined_directory d)) ≡ sum_by (entry_uses b) (entries d) =
-    ap (sum_by (entry_uses b)) (entries_outlined d) ∙ sum_uses_outlined b (entries d) in
-    omega (arith, contents, sum_over (pair_uses b) (pair_uses b) outlined_part (λ p. refl) (parts d))
-
-pub uses_outlined : (b : ℕ) (v : Volume) → uses b (outlined v) ≡ uses b v
-uses_outlined b v = sum_over (directory_uses b) (directory_uses b) outlined_directory (directory_uses_outlined b) v.directories
-
-pub free_outlined : (v : Volume) → free_blocks (outlined v) ≡ free_blocks v
-free_outlined v = filter_same (λ b. uses b (outlined v) == 0) (λ b. uses b v == 0) (λ b. ap (λ (n : ℕ). n == 0) (uses_outlined b v))
-    (range_with_len 0 v.count)
-
 -- ---- room
 
 large_outlined : (v : Volume) (p : Part) → is_too_large (outlined v) (outlined_part p) ≡ is_too_large v p
@@ -78,8 +64,8 @@ blocks_outlined v p = ap (λ (n : ℕ). 2 * (n - 1)) (ap length (runs_outlined v
 
 pub outlines_take_same_room : OutlinesTakeSameRoom
 outlines_take_same_room v = record {
-  used = λ b. uses_outlined b v;
-  free = free_outlined v;
+  used = λ b. outlined_uses b v;
+  free = outlined_free v;
   large = ap (list_any (is_too_large (outlined v))) (dirty_outlined v)
       ∙ any_over (is_too_large v) (is_too_large (outlined v)) outlined_part (large_outlined v) (dirty_parts v);
   blocks = ap (sum_by (part_blocks (outlined v))) (dirty_outlined v) ∙ sum_over (part_blocks v) (part_blocks (outlined v)) outlined_part

@@ -1,17 +1,16 @@
 -- The outline of the volume that a command leaves is what it makes of the outline.
-use Rattle.std.proofs.Common.{◌≡◌, List, [], ◌∷◌, refl, ap, sym, ◌∙◌, Option, Some, None}
-use Rattle.std.specs.Prelude.{find}
+use Rattle.std.proofs.Common.{◌≡◌, List, refl, ap, sym, ◌∙◌, Option, Some, None}
 use Rattle.std.specs.Option.{option_map, option_and_then}
 use Rattle.lfs_meta.specs.Name.{Name}
 use Rattle.lfs_meta.specs.Attribute.{Attributes, set_attribute, remove_attribute}
 use Rattle.lfs_meta.specs.Body.{Pair}
 use Rattle.lfs_fs.specs.Path.{Path}
-use Rattle.lfs_fs.specs.Graph.{walk}
-use Rattle.lfs_fs.specs.Entry.{Body, Directory_at, Entry, target, is_named}
-use Rattle.lfs_fs.specs.Directory.{Directory, entries, begins_at}
+use Rattle.lfs_fs.specs.Entry.{Body, Directory_at, Entry, target}
+use Rattle.lfs_fs.specs.Directory.{Directory}
 use Rattle.lfs_fs.specs.Volume.{Volume}
-use Rattle.lfs_fs.specs.Tree.{entry_in, entry_at, top}
-use Rattle.lfs_fs.specs.Outlined.{outlined_body, outlined_entry, outlined_directory, outlined_directories, outlined}
+use Rattle.lfs_fs.specs.Tree.{entry_in, entry_at}
+use Rattle.lfs_fs.specs.Outlined.{outlined_body, outlined_entry, outlined_directories, outlined}
+use Rattle.lfs_fs.proofs.OutlinedLemmas.{outlined_target, outlined_at}
 use Rattle.lfs_command.specs.ThreadEdit.{link, unlink, change, add_after}
 use Rattle.lfs_command.specs.Command.{Mkdir, Put, Rm, Mv, SetAttr, RmAttr}
 use Rattle.lfs_command.specs.Supplies.{new_body}
@@ -19,53 +18,18 @@ use Rattle.lfs_command.specs.Home.{split_last, home_of}
 use Rattle.lfs_command.specs.Edited.{with_directories, with_body, with_entry_attributes, renamed, new_entry, empty_directory}
 use Rattle.lfs_command.specs.Edited.{set_attributes, make_directory, put_file, drop_target, remove_entry, move_entry}
 use Rattle.lfs_law.specs.EditedOutline.{OutlinesFollow}
-use Rattle.lfs_law.proofs.OutlineEntries.{target_same, find_outlined}
-use Rattle.lfs_law.proofs.OutlineDirectories.{entries_outlined, link_outlined, unlink_outlined, change_outlined, add_outlined}
-use Rattle.lfs_law.proofs.OutlineDirectories.{drop_outlined, touch_first_outlined, find_directory_outlined}
+use Rattle.lfs_law.proofs.OutlineDirectories.{link_outlined, unlink_outlined, change_outlined, add_outlined}
+use Rattle.lfs_law.proofs.OutlineDirectories.{drop_outlined, touch_first_outlined}
 
 -- ---- the tree
-
--- the entry under a name in a directory that may be there
-in_found : (n : Name) (o : Option Directory) → option_and_then (λ d. find (is_named n) (entries d)) (option_map outlined_directory o)
-    ≡ option_map outlined_entry
-    (option_and_then (λ d. find (is_named n) (entries d)) o)
-in_found n None = refl
-in_found n (Some d) = ap (find (is_named n)) (entries_outlined d) ∙ find_outlined n (entries d)
-
-pub entry_in_outlined : (ds : List Directory) (k : Pair) (n : Name) → entry_in (outlined_directories ds) k n
-    ≡ option_map outlined_entry (entry_in ds k n)
-entry_in_outlined ds k n = ap (option_and_then (λ (d : Directory). find (is_named n) (entries d))) (find_directory_outlined k ds)
-    ∙ in_found n (find (begins_at k) ds)
 
 -- the entry under a name in the directory that an entry leads to
 abbrev under : List Directory → Name → Option Entry → Option Entry
 under ds n o = option_and_then (λ e. option_and_then (λ k. entry_in ds k n) (target e)) o
 
-under_target : (ds : List Directory) (n : Name) (o : Option Pair) → option_and_then (λ k. entry_in (outlined_directories ds) k n) o
-    ≡ option_map outlined_entry
-    (option_and_then (λ k. entry_in ds k n) o)
-under_target ds n None = refl
-under_target ds n (Some k) = entry_in_outlined ds k n
-
-under_outlined : (ds : List Directory) (n : Name) (o : Option Entry) → under (outlined_directories ds) n (option_map outlined_entry o)
-    ≡ option_map outlined_entry (under ds n o)
-under_outlined ds n None = refl
-under_outlined ds n (Some e) =
-    ap (option_and_then (λ (k : Pair). entry_in (outlined_directories ds) k n)) (target_same e) ∙ under_target ds n (target e)
-
-walk_outlined : (ds : List Directory) (o : Option Entry) (path : Path)
-    → walk target (entry_in (outlined_directories ds)) (option_map outlined_entry o) path
-    ≡ option_map outlined_entry (walk target (entry_in ds) o path)
-walk_outlined ds o [] = refl
-walk_outlined ds o (n ∷ ns) = ap (λ (x : Option Entry). walk target (entry_in (outlined_directories ds)) x ns) (under_outlined ds n o)
-    ∙ walk_outlined ds (under ds n o) ns
-
-pub entry_at_outlined : (v : Volume) (path : Path) → entry_at (outlined v) path ≡ option_map outlined_entry (entry_at v path)
-entry_at_outlined v path = walk_outlined v.directories (Some (top v)) path
-
 pub target_outlined : (o : Option Entry) → option_and_then target (option_map outlined_entry o) ≡ option_and_then target o
 target_outlined None = refl
-target_outlined (Some e) = target_same e
+target_outlined (Some e) = outlined_target e
 
 -- ---- where a path belongs to
 
@@ -75,14 +39,14 @@ home_in n o = option_and_then (λ e. option_map (λ (k : Pair). (k, n)) (target 
 
 home_by : (n : Name) (o : Option Entry) → home_in n (option_map outlined_entry o) ≡ home_in n o
 home_by n None = refl
-home_by n (Some e) = ap (λ (o : Option Pair). option_map {U = Pair × Name} (λ (k : Pair). (k, n)) o) (target_same e)
+home_by n (Some e) = ap (λ (o : Option Pair). option_map {U = Pair × Name} (λ (k : Pair). (k, n)) o) (outlined_target e)
 
 abbrev pub home_split : Volume → Option (Path × Name) → Option (Pair × Name)
 home_split v o = option_and_then (λ (s : Path × Name). home_in s.1 (entry_at v s.0)) o
 
 home_from : (v : Volume) (o : Option (Path × Name)) → home_split (outlined v) o ≡ home_split v o
 home_from v None = refl
-home_from v (Some s) = ap (home_in s.1) (entry_at_outlined v s.0) ∙ home_by s.1 (entry_at v s.0)
+home_from v (Some s) = ap (home_in s.1) (outlined_at v s.0) ∙ home_by s.1 (entry_at v s.0)
 
 pub home_outlined : (v : Volume) (path : Path) → home_of (outlined v) path ≡ home_of v path
 home_outlined v path = home_from v (split_last path)
@@ -142,7 +106,7 @@ remove_outlined v (Some h) None = refl
 remove_outlined v (Some h) (Some e) =
     with_outlined v (drop_target (target e) (unlink h.0 h.1 v.directories))
     (drop_target (target (outlined_entry e)) (unlink h.0 h.1 (outlined_directories v.directories)))
-    (ap (λ (o : Option Pair). drop_target o (unlink h.0 h.1 (outlined_directories v.directories))) (target_same e)
+    (ap (λ (o : Option Pair). drop_target o (unlink h.0 h.1 (outlined_directories v.directories))) (outlined_target e)
     ∙ ap (drop_target (target e)) (unlink_outlined h.0 h.1 v.directories) ∙ drop_target_outlined (target e) (unlink h.0 h.1 v.directories))
 
 move_outlined : (v : Volume) (from to : Option (Pair × Name)) (old : Option Entry)
@@ -164,18 +128,18 @@ outlines_follow v (Put p bytes) s =
     put_outlined v (new_body v s bytes) (home_of v p) (entry_at v p)
     ∙ ap (λ (h : Option (Pair × Name)). put_file (outlined v) (outlined_body (new_body v s bytes)) h
     (option_map outlined_entry (entry_at v p))) (sym (home_outlined v p))
-    ∙ ap (put_file (outlined v) (outlined_body (new_body v s bytes)) (home_of (outlined v) p)) (sym (entry_at_outlined v p))
+    ∙ ap (put_file (outlined v) (outlined_body (new_body v s bytes)) (home_of (outlined v) p)) (sym (outlined_at v p))
 outlines_follow v (Rm p) s =
     remove_outlined v (home_of v p) (entry_at v p)
     ∙ ap (λ (h : Option (Pair × Name)). remove_entry (outlined v) h (option_map outlined_entry (entry_at v p))) (sym (home_outlined v p))
-    ∙ ap (remove_entry (outlined v) (home_of (outlined v) p)) (sym (entry_at_outlined v p))
+    ∙ ap (remove_entry (outlined v) (home_of (outlined v) p)) (sym (outlined_at v p))
 outlines_follow v (Mv p q) s =
     move_outlined v (home_of v p) (home_of v q) (entry_at v p)
     ∙ ap (λ (h : Option (Pair × Name)). move_entry (outlined v) h (home_of v q) (option_map outlined_entry (entry_at v p)))
     (sym (home_outlined v p))
     ∙ ap (λ (h : Option (Pair × Name)). move_entry (outlined v) (home_of (outlined v) p) h (option_map outlined_entry (entry_at v p)))
     (sym (home_outlined v q))
-    ∙ ap (move_entry (outlined v) (home_of (outlined v) p) (home_of (outlined v) q)) (sym (entry_at_outlined v p))
+    ∙ ap (move_entry (outlined v) (home_of (outlined v) p) (home_of (outlined v) q)) (sym (outlined_at v p))
 outlines_follow v (SetAttr p k value) s = set_outlined v (set_attribute k value) (home_of v p)
     ∙ ap (set_attributes (outlined v) (set_attribute k value)) (sym (home_outlined v p))
 outlines_follow v (RmAttr p k) s = set_outlined v (remove_attribute k) (home_of v p)

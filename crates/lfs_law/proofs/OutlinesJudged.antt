@@ -15,6 +15,7 @@ use Rattle.lfs_fs.specs.Tree.{Node, entry_at, node, node_of, tree}
 use Rattle.lfs_fs.specs.Uses.{entry_uses, directory_uses}
 use Rattle.lfs_fs.specs.Free.{free_blocks}
 use Rattle.lfs_fs.specs.Outlined.{outlined_body, outlined_entry, outlined_directory, outlined}
+use Rattle.lfs_fs.proofs.OutlinedLemmas.{directory_uses_same, outlined_free, outlined_at}
 use Rattle.lfs_command.specs.declared.refusal.Refusal.{Refusal}
 use Rattle.lfs_command.specs.declared.refusal.Refusal.TheVariants.{NotFound, Exists, IsADirectory, NotEmpty, NameTooLong, NoAttr}
 use Rattle.lfs_command.specs.declared.refusal.Refusal.TheVariants.{IntoItself, IsRoot, EntryTooLarge, NoSpace}
@@ -29,8 +30,8 @@ use Rattle.lfs_command.specs.Verdict.{has_attribute, lies_below, checks, is_too_
 use Rattle.lfs_law.specs.JudgedAlike.{OutlinesAreJudgedAlike}
 use Rattle.lfs_law.proofs.OutlineEntries.{uses_same}
 use Rattle.lfs_law.proofs.OutlineDirectories.{entries_outlined, find_directory_outlined}
-use Rattle.lfs_law.proofs.OutlinesFollow.{entry_at_outlined, target_outlined, outlines_follow}
-use Rattle.lfs_law.proofs.OutlineRoom.{directory_uses_outlined, outlines_take_same_room, outlined_twice, free_outlined}
+use Rattle.lfs_law.proofs.OutlinesFollow.{target_outlined, outlines_follow}
+use Rattle.lfs_law.proofs.OutlineRoom.{outlines_take_same_room, outlined_twice}
 
 -- ---- what is at a path, its bytes aside
 
@@ -44,7 +45,7 @@ shown_by test same None = refl
 shown_by test same (Some e) = same e.body e.attributes
 
 shown : {R : Type 0} (test : Option Node → R) → SeesNoBytes test → (v : Volume) (p : Path) → test (tree (outlined v) p) ≡ test (tree v p)
-shown test same v p = ap (λ (o : Option Entry). test (option_map node o)) (entry_at_outlined v p) ∙ shown_by test same (entry_at v p)
+shown test same v p = ap (λ (o : Option Entry). test (option_map node o)) (outlined_at v p) ∙ shown_by test same (entry_at v p)
 
 walk_sees : (rest : Option Refusal) → SeesNoBytes (λ x. walk_refusal_at x rest)
 walk_sees rest (Inline bytes) a = refl
@@ -87,7 +88,7 @@ bare_same v (Some k) =
     (find_directory_outlined k v.directories) ∙ bare_found (find (begins_at k) v.directories)
 
 target_same_at : (v : Volume) (p : Path) → option_and_then target (entry_at (outlined v) p) ≡ option_and_then target (entry_at v p)
-target_same_at v p = ap (option_and_then target) (entry_at_outlined v p) ∙ target_outlined (entry_at v p)
+target_same_at v p = ap (option_and_then target) (outlined_at v p) ∙ target_outlined (entry_at v p)
 
 bare_at : (v : Volume) (p : Path) → is_bare (outlined v) (option_and_then target (entry_at (outlined v) p))
     ≡ is_bare v (option_and_then target (entry_at v p))
@@ -186,7 +187,7 @@ unfolding large_of
 room_same v c =
     test_same (large_of (edited (outlined v) c nothing)) (large_of (edited v c nothing)) EntryTooLarge _ _
     (large_same (edited (outlined v) c nothing) (edited v c nothing) (edited_same v c nothing))
-    (space_same (length (free_blocks (outlined v))) (length (free_blocks v)) (need (outlined v) c) (need v c) (ap length (free_outlined v))
+    (space_same (length (free_blocks (outlined v))) (length (free_blocks v)) (need (outlined v) c) (need v c) (ap length (outlined_free v))
     (need_same v c))
 
 -- ---- what is freed
@@ -197,13 +198,13 @@ content_found b None = refl
 content_found b (Some e) = uses_same b e
 
 content_same : (v : Volume) (p : Path) (b : ℕ) → content_uses (outlined v) p b ≡ content_uses v p b
-content_same v p b = ap (λ (o : Option Entry). unwrap_or (option_map (entry_uses b) o) 0) (entry_at_outlined v p)
+content_same v p b = ap (λ (o : Option Entry). unwrap_or (option_map (entry_uses b) o) 0) (outlined_at v p)
     ∙ content_found b (entry_at v p)
 
 folder_found : (b : ℕ) (o : Option Directory) → unwrap_or (option_map (directory_uses b) (option_map outlined_directory o)) 0
     ≡ unwrap_or (option_map (directory_uses b) o) 0
 folder_found b None = refl
-folder_found b (Some d) = directory_uses_outlined b d
+folder_found b (Some d) = directory_uses_same b d
 
 folder_same : (v : Volume) (k : Pair) (b : ℕ) → folder_uses (outlined v) k b ≡ folder_uses v k b
 folder_same v k b = ap (λ (o : Option Directory). unwrap_or (option_map (directory_uses b) o) 0) (find_directory_outlined k v.directories)

@@ -26,6 +26,7 @@ use Rattle.lfs_fs.specs.Thread.{Link, links_of, links, tail_to, hard_to}
 use Rattle.lfs_fs.specs.Uses.{times, pair_uses}
 use Rattle.lfs_fs.specs.Reading.{Reading, reading_of}
 use Rattle.lfs_fs.specs.Stored.{BodyStands, Stands, IsStored, HoldsLinks}
+use Rattle.lfs_fs.proofs.ContainsLemmas.{contains_first, contains_later, contains_mapped}
 use Rattle.lfs_command.specs.Need.{is_new_to}
 use Rattle.lfs_command.specs.PartWritten.{FirstIsFilled}
 use Rattle.lfs_law.specs.Written.{cleaned_link}
@@ -33,11 +34,10 @@ use Rattle.lfs_law.specs.WrittenLinks.{changed_blocks, block_after, set_blocks, 
 use Rattle.lfs_law.specs.WrittenLinks.{FillsFirst, MakesLink}
 use Rattle.lfs_law.specs.OutlineLaws.{IsThere, WritesOutline, NewPairsAreFilled, OutlinesAreWritten}
 use Rattle.lfs_law.proofs.ChangesAt.{overlaid_none}
-use Rattle.lfs_law.proofs.KeptLinks.{contains_first, contains-cons}
 use Rattle.lfs_law.proofs.LinksAdded.{times_cons, times_append, written_within, one_use, set_is}
 use Rattle.lfs_law.proofs.OutlineEntries.{outlined_entries}
 use Rattle.lfs_law.proofs.OutlineDirectories.{outlined_parts}
-use Rattle.lfs_law.proofs.WrittenLemmas.{contains-map, part_there, parts_of_links}
+use Rattle.lfs_law.proofs.WrittenLemmas.{part_there, parts_of_links}
 
 -- ---- the links of an outline
 
@@ -84,7 +84,7 @@ set_uses_outlined n w = ap (set_uses n) (links_outlined w.directories) ∙ set_u
 pub outline_there : (w : Volume) (l : Link) → Contains (links w.directories) l → Contains (links (outlined w).directories) (outlined_link l)
 outline_there w l there =
     subst (λ (ls : List Link). Contains ls (outlined_link l)) (sym (links_outlined w.directories))
-    (contains-map outlined_link (links w.directories) l there)
+    (contains_mapped outlined_link (links w.directories) l there)
 
 -- ---- what isn't written
 
@@ -111,24 +111,24 @@ unwritten d is_new n (l ∷ ls) unused =
       arith,
       times_append n (set_blocks d is_new l.part) (links_blocks d is_new ls),
       set_by d is_new n l.part l.part.dirty refl (unused l (contains_first l ls)),
-      unwritten d is_new n ls (λ m there. unused m (contains-cons l ls m there)),
+      unwritten d is_new n ls (λ m there. unused m (contains_later l ls m there)),
     )
 
 -- ---- what is
 
-file_or_directory : (b : Body) → stored_kind b ≢ Super
+pub file_or_directory : (b : Body) → stored_kind b ≢ Super
 file_or_directory (Inline bytes) = λ h. cc
 file_or_directory (Chain blocks bytes) = λ h. cc
 file_or_directory (Directory_at pair) = λ h. cc
 
-body_stands : (r : Reading) (b : Body) → IsThere r b → BodyStands r (stored_body (outlined_body b)) b
+pub body_stands : (r : Reading) (b : Body) → IsThere r b → BodyStands r (stored_body (outlined_body b)) b
 body_stands r (Inline bytes) there = refl
 body_stands r (Chain blocks bytes) there =
     subst (λ (n : ℕ). (r.chain (head_of blocks) n ≡ Some blocks) × (bytes ≡ r.content n blocks))
     (sym (length-replicate (length bytes) 0)) there
 body_stands r (Directory_at pair) there = refl
 
-entries_stand : (r : Reading) (es : List Entry) → ((e : Entry) → Contains es e → IsThere r e.body)
+pub entries_stand : (r : Reading) (es : List Entry) → ((e : Entry) → Contains es e → IsThere r e.body)
     → AllZip (Stands r) (map stored_entry (outlined_entries es)) es
 entries_stand r [] there = tt
 entries_stand r (e ∷ es) there = (
@@ -138,7 +138,7 @@ entries_stand r (e ∷ es) there = (
     attributes = refl;
     body = body_stands r e.body (there e (contains_first e es));
   },
-  entries_stand r es (λ f inside. there f (contains-cons e es f inside)),
+  entries_stand r es (λ f inside. there f (contains_later e es f inside)),
 )
 
 -- what the pair of a link holds in the patched image

@@ -51,7 +51,7 @@ last_at v path n =
     ∙ step_by_target target (entry_in v.directories) n (entry_at v path)
     ∙ ap (option_and_then (λ (k : Pair). entry_in v.directories k n)) (leads_to v path)
 
-abbrev with_name : Name → Option Pair → Option (Pair × Name)
+abbrev pub with_name : Name → Option Pair → Option (Pair × Name)
 with_name n o = option_map (λ (k : Pair). (k, n)) o
 
 home_leads : (n : Name) (o : Option Entry) → home_in n o ≡ with_name n (option_and_then target o)

@@ -4,6 +4,7 @@ use Rattle.std.proofs.Common.{arith, inl, inr, Option, Some, None}
 use Rattle.std.specs.Prelude.{All, Contains, ◌&&◌, ◌||◌, if◌then◌else◌, sum_by, flat_map}
 use Rattle.std.specs.List.{filter, list_any}
 use Rattle.std.proofs.lemmas.List.Elements.{All-nil, All-cons, All-head, All-tail, All-append}
+use Rattle.std.proofs.lemmas.Bool.{or_parts}
 use Rattle.lfs_meta.specs.Attribute.{Attributes}
 use Rattle.lfs_meta.specs.Body.{Pair}
 use Rattle.lfs_meta.specs.RunLaws.{RunFits}
@@ -15,6 +16,8 @@ use Rattle.lfs_fs.specs.Sound.{IsSound, StartsAtRoot}
 use Rattle.lfs_fs.specs.Uses.{times, pair_uses, uses}
 use Rattle.lfs_fs.specs.Volume.{Volume}
 use Rattle.lfs_fs.specs.Weight.{weight, superblock_weight}
+use Rattle.lfs_fs.proofs.ContainsLemmas.{contains_first, contains_cases, contains_later}
+use Rattle.lfs_fs.proofs.CountLemmas.{element_le}
 use Rattle.lfs_command.specs.declared.refusal.Refusal.{Refusal}
 use Rattle.lfs_command.specs.declared.refusal.Refusal.TheVariants.{EntryTooLarge}
 use Rattle.lfs_command.specs.Accepted.{IsAccepted}
@@ -27,11 +30,10 @@ use Rattle.lfs_command.specs.Verdict.{is_too_large, checks, room_checks, refuse_
 use Rattle.lfs_law.proofs.Cuts.{cut_part, cut_thread, head_by, tail_by}
 use Rattle.lfs_law.proofs.Decided.{same_pair_decides}
 use Rattle.lfs_law.proofs.Homes.{first_passes, test_passes}
-use Rattle.lfs_law.proofs.KeptLinks.{contains_first, contains-cons, contains_cases}
 use Rattle.lfs_law.proofs.LargeParts.{large_is_the_same}
 use Rattle.lfs_law.proofs.LinksAdded.{first_used}
-use Rattle.lfs_law.proofs.RunsFit.{FirstFits, runs_fit, or_false, light_all}
-use Rattle.lfs_law.proofs.WrittenLemmas.{part_uses, sum_thread, one_le}
+use Rattle.lfs_law.proofs.RunsFit.{FirstFits, runs_fit, light_all}
+use Rattle.lfs_law.proofs.WrittenLemmas.{part_uses, sum_thread}
 
 -- ---- a part that is cut
 
@@ -56,7 +58,7 @@ fits_by : (v : Volume) (es : List Entry) (t : Bool) → ((t && nat_lt (room v) (
     → FirstFits weight (room v) (if t then superblock_weight v.attributes else 0) (if t then 1 else 0)
     (if t then runs_after weight (room v) (superblock_weight v.attributes) 1 es else runs_after weight (room v) 0 0 es)
 fits_by v es true light =
-    let both = or_false (nat_lt (room v) (superblock_weight v.attributes)) (list_any (λ e. nat_lt (room v) (weight e)) es) light in
+    let both = or_parts (nat_lt (room v) (superblock_weight v.attributes)) (list_any (λ e. nat_lt (room v) (weight e)) es) light in
     let head = light_all (λ (w : ℕ). w) (room v) (superblock_weight v.attributes ∷ []) (ap (λ (t : Bool). t || false) both.0) in
     runs_fit weight (room v) (superblock_weight v.attributes) 1 es (All-head (λ (w : ℕ). w ≤ room v)
     (superblock_weight v.attributes) [] head) (omega arith) (light_all weight (room v) es both.1)
@@ -79,7 +81,7 @@ more_fit v (pair ∷ pairs) (run ∷ rs) other fit =
       weight' = omega (arith, this.weight, ap (λ (t : Bool). cond {A = ℕ} t (superblock_weight v.attributes) 0) unset);
       count = omega (arith, this.number, ap (λ (t : Bool). cond {A = ℕ} t 1 0) unset);
     })
-    (more_fit v pairs rs (λ q there. other q (contains-cons pair pairs q there)) (All-tail (RunFits weight (room v)) run rs fit))
+    (more_fit v pairs rs (λ q there. other q (contains_later pair pairs q there)) (All-tail (RunFits weight (room v)) run rs fit))
 
 true-false : true ≡ false → ⊥
 true-false h = cc
@@ -99,7 +101,7 @@ pub all_flat : {X Y : Type 0} (P : Y → Type 0) (f : X → List Y) (xs : List X
     → All P (flat_map f xs)
 all_flat P f [] each = All-nil P
 all_flat P f (x ∷ xs) each = All-append P (f x) (flat_map f xs) (each x (contains_first x xs))
-    (all_flat P f xs (λ y there. each y (contains-cons x xs y there)))
+    (all_flat P f xs (λ y there. each y (contains_later x xs y there)))
 
 none_of : (f : Part → Bool) (ps : List Part) → list_any f (filter (λ p. p.dirty) ps) ≡ false → (p : Part) → Contains ps p → p.dirty ≡ true
     → f p ≡ false
@@ -112,7 +114,7 @@ none_of f (q ∷ ps) none p there set = by q.dirty refl none (λ none' later. no
     by : (t : Bool) → q.dirty ≡ t → list_any f (if t then q ∷ filter (λ x. x.dirty) ps else filter (λ x. x.dirty) ps) ≡ false
         → (list_any f (filter (λ x. x.dirty) ps) ≡ false → Contains ps p → f p ≡ false) → f p ≡ false
     by true is none' rest =
-        let both = or_false (f q) (list_any f (filter (λ x. x.dirty) ps)) none' in
+        let both = or_parts (f q) (list_any f (filter (λ x. x.dirty) ps)) none' in
         elim (contains_cases q ps p there) [ inl same ↦ ap f same ∙ both.0 | inr later ↦ rest both.1 later ]
     by false is none' rest = elim (contains_cases q ps p there) [
       | inl same ↦ absurd (true-false (sym set ∙ ap (λ (x : Part). x.dirty) same ∙ is))
@@ -129,7 +131,7 @@ cut_fits chosen w light other =
 
 -- ---- an accepted command
 
-checks_pass : (xs ys : List (Option Refusal)) → first_refusal (xs ++ ys) ≡ None → first_refusal ys ≡ None
+pub checks_pass : (xs ys : List (Option Refusal)) → first_refusal (xs ++ ys) ≡ None → first_refusal ys ≡ None
 checks_pass [] ys h = h
 checks_pass (None ∷ xs) ys h = checks_pass xs ys h
 checks_pass (Some r ∷ xs) ys h = cc
@@ -149,7 +151,7 @@ root_used v sound = by v.directories refl sound.starts
         let there : Contains (thread v.directories) d.first = subst (λ (es : List Directory). Contains (thread es) d.first) (sym is)
         (contains_first d.first (d.more ++ thread ds)) in
         let pair : pair_uses 0 d.first ≡ 1 = ap (λ (q : Pair). times 0 (q.0 ∷ q.1 ∷ [])) begins in
-        omega (arith, pair, one_le (part_uses 0) (thread v.directories) d.first there, sum_thread 0 v.directories)
+        omega (arith, pair, element_le (part_uses 0) (thread v.directories) d.first there, sum_thread 0 v.directories)
 
 -- a pair that the volume doesn't use isn't the root's
 pub not_root : (v : Volume) → IsSound v → (q : Pair) → uses q.0 v ≡ 0 → same_pair q root ≡ false

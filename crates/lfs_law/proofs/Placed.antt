@@ -1,5 +1,5 @@
 -- Where a name of a sound volume stands.
-use Rattle.std.proofs.Common.{◌≡◌, ◌≤◌, false, [], refl, ap, sym, ◌∙◌, arith, inl, inr, Option, Some, None}
+use Rattle.std.proofs.Common.{◌≡◌, ◌≤◌, false, [], ap, sym, ◌∙◌, arith, inl, inr, Some, None}
 use Rattle.std.specs.Prelude.{All, sum_by, count_by}
 use Rattle.std.proofs.lemmas.Option.{same_Some}
 use Rattle.lfs_meta.specs.Name.{Name, IsName}
@@ -12,17 +12,15 @@ use Rattle.lfs_fs.specs.Volume.{Volume}
 use Rattle.lfs_fs.specs.Tree.{entry_in, top, entry_at, tree}
 use Rattle.lfs_fs.specs.Named.{leads_to, names_of, named}
 use Rattle.lfs_fs.specs.Sound.{IsSound, IsProper}
+use Rattle.lfs_fs.proofs.CountLemmas.{leads_once}
+use Rattle.lfs_fs.proofs.EntryAtLemmas.{step_some}
 use Rattle.lfs_command.specs.Verdict.{walk_refusal, is_root}
-use Rattle.lfs_law.proofs.Decided.{same_pair_decides}
 use Rattle.lfs_law.proofs.Found.{found_le}
 use Rattle.lfs_law.proofs.Homes.{HasHome, has_home}
 use Rattle.lfs_law.proofs.OneEdge.{entry_under}
 use Rattle.lfs_law.proofs.OneElement.{found_has}
 use Rattle.lfs_law.proofs.OnePath.{one_directory, entry_found}
-use Rattle.lfs_law.proofs.Walks.{last_name, walk-snoc, step_some}
-
-leads_one : (k : Pair) (o : Option Pair) → o ≡ Some k → leads_to k o ≡ 1
-leads_one k o is = rw is (rw ((same_pair_decides k k).1 refl) refl)
+use Rattle.lfs_law.proofs.Walks.{last_name, walk-snoc}
 
 -- a directory that an edge leads to is named
 named_by_edge : (v : Volume) (j : Pair) (n : Name) (e : Entry) (k : Pair) → entry_in v.directories j n ≡ Some e → target e ≡ Some k
@@ -33,14 +31,14 @@ named_by_edge v j n e k edge leads =
     found_le (names_of k) (begins_at j) v.directories found.0 found.1 in
     let entry : leads_to k (target e) ≤ names_of k found.0 = found_le (λ (x : Entry). leads_to k (target x)) (is_named n)
     (entries found.0) e found.2 in
-    let one : leads_to k (target e) ≡ 1 = leads_one k (target e) leads in
+    let one : leads_to k (target e) ≡ 1 = leads_once k (target e) leads in
     omega (arith, directory, entry, one)
 
 led_named : (v : Volume) (p : Path) (e : Entry) (k : Pair) → entry_at v p ≡ Some e → target e ≡ Some k → 1 ≤ named k v
 led_named v p e k here leads = elim (last_name p) [
   | inl is ↦
       let top_leads : Some root ≡ Some k = ap target (same_Some (top v) e (ap (entry_at v) (sym is) ∙ here)) ∙ leads in
-      let one : leads_to k (Some root) ≡ 1 = leads_one k (Some root) top_leads in
+      let one : leads_to k (Some root) ≡ 1 = leads_once k (Some root) top_leads in
       omega (arith, one)
   | inr (q, n, is) ↦
       let step = step_some target (entry_in v.directories) n (entry_at v q) e

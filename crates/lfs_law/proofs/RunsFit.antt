@@ -1,10 +1,11 @@
 -- The runs of entries fit a pair, the first one beside what stands before it.
 use Rattle.std.proofs.Common.{◌≡◌, ℕ, ◌+◌, ◌<◌, ◌≤◌, nat_lt, Bool, true, false, List, [], ◌∷◌, length, refl, arith}
-use Rattle.std.specs.Prelude.{All, ◌||◌, if◌then◌else◌, sum_by}
+use Rattle.std.specs.Prelude.{All, if◌then◌else◌, sum_by}
 use Rattle.std.specs.List.{list_any}
 use Rattle.std.proofs.lemmas.Bool.Decides.{nat_tests}
 use Rattle.std.proofs.lemmas.List.Elements.{All-nil, All-cons, All-head, All-tail}
 use Rattle.std.proofs.lemmas.List.Sums.{sum_by-cons}
+use Rattle.std.proofs.lemmas.Bool.{or_parts}
 use Rattle.lfs_meta.specs.RunLaws.{RunFits}
 use Rattle.lfs_meta.specs.Runs.{onto, runs_after, run_takes, first_run, later_runs}
 
@@ -43,7 +44,7 @@ all_fit weigh space e (run ∷ rs) fits =
       number = omega (arith, fits.count);
     }) fits.later
 
-takes_says : (space taken number w : ℕ) → run_takes space taken number w ≡ true → (taken + w ≤ space) × (number < 1000)
+pub takes_says : (space taken number w : ℕ) → run_takes space taken number w ≡ true → (taken + w ≤ space) × (number < 1000)
 takes_says space taken number w h = (grind (arith, nat_tests), grind (arith, nat_tests))
 
 pub runs_fit : {E : Type 0} (weigh : E → ℕ) (space taken number : ℕ) (es : List E) → taken ≤ space → number ≤ 1000
@@ -80,15 +81,11 @@ runs_fit {E} weigh space taken number (e ∷ es) light few all =
 
 -- ---- entries that aren't too large
 
-pub or_false : (a b : Bool) → (a || b) ≡ false → (a ≡ false) × (b ≡ false)
-or_false true b h = cc
-or_false false b h = (refl, h)
-
 pub light_all : {E : Type 0} (weigh : E → ℕ) (space : ℕ) (es : List E) → list_any (λ e. nat_lt space (weigh e)) es ≡ false
     → All (λ e. weigh e ≤ space) es
 light_all weigh space [] none = All-nil (λ e. weigh e ≤ space)
 light_all weigh space (e ∷ es) none =
-    let both = or_false (nat_lt space (weigh e)) (list_any (λ x. nat_lt space (weigh x)) es) none in
+    let both = or_parts (nat_lt space (weigh e)) (list_any (λ x. nat_lt space (weigh x)) es) none in
     All-cons (λ x. weigh x ≤ space) e es (not_less space (weigh e) both.0) (light_all weigh space es both.1)
   where
     not_less : (m n : ℕ) → nat_lt m n ≡ false → n ≤ m

@@ -1,20 +1,12 @@
 -- Walks along the names of a path, and what holds of paths by their last name.
-use Rattle.std.proofs.Common.{◌≡◌, ◌⊎◌, List, [], ◌∷◌, ◌++◌, Option, Some, None, refl, ap, sym, ◌∙◌, subst, append-nil, append_assoc, inl}
+use Rattle.std.proofs.Common.{◌≡◌, ◌⊎◌, List, [], ◌∷◌, ◌++◌, Option, Some, None, refl, ap, sym, ◌∙◌, inl}
 use Rattle.std.proofs.Common.{inr}
-use Rattle.std.proofs.lemmas.Option.{none-some, same_Some}
+use Rattle.std.proofs.lemmas.Option.{same_Some}
 use Rattle.std.specs.Option.{option_and_then}
 use Rattle.lfs_fs.specs.Graph.{step, walk}
+use Rattle.lfs_fs.proofs.EntryAtLemmas.{by_last_name, walk-append, step_some}
 
 -- ---- paths by their last name
-
-onwards : {N : Type 0} (P : List N → Type 0) → ((p : List N) (n : N) → P p → P (p ++ n ∷ [])) → (front rest : List N) → P front
-    → P (front ++ rest)
-onwards P more front [] h = subst P (sym (append-nil front)) h
-onwards P more front (n ∷ rest) h = subst P (append_assoc front (n ∷ []) rest) (onwards P more (front ++ n ∷ []) rest (more front n h))
-
--- what holds of the root's path, and of each path with one name more where it holds of that path, holds of all
-pub by_last_name : {N : Type 0} (P : List N → Type 0) → P [] → ((p : List N) (n : N) → P p → P (p ++ n ∷ [])) → (p : List N) → P p
-by_last_name P none more p = onwards P more [] p none
 
 -- a path is the root's, or has a last name
 pub last_name : {N : Type 0} (p : List N) → (p ≡ []) ⊎ ((q : List N) × (n : N) × (p ≡ q ++ n ∷ []))
@@ -22,11 +14,6 @@ last_name {N} p = by_last_name (λ (p : List N). (p ≡ []) ⊎ ((q : List N) ×
     (λ p n h. inr (p, n, refl)) p
 
 -- ---- walks
-
-pub walk-append : {K N E : Type 0} (target : E → Option K) (edge : K → N → Option E) (here : Option E) (p q : List N)
-    → walk target edge here (p ++ q) ≡ walk target edge (walk target edge here p) q
-walk-append target edge here [] q = refl
-walk-append target edge here (n ∷ p) q = walk-append target edge (step target edge n here) p q
 
 pub walk-snoc : {K N E : Type 0} (target : E → Option K) (edge : K → N → Option E) (here : Option E) (p : List N) (n : N)
     → walk target edge here (p ++ n ∷ []) ≡ step target edge n (walk target edge here p)
@@ -50,18 +37,6 @@ walk_same target edge other same None (n ∷ p) = walk_same target edge other sa
 walk_same target edge other same (Some e) (n ∷ p) =
     ap (λ o. walk target other o p) (led_same edge other n (λ k. same k n) (target e))
     ∙ walk_same target edge other same (step target edge n (Some e)) p
-
-led_some : {K N E : Type 0} (edge : K → N → Option E) (n : N) (f : E) (o : Option K) → option_and_then (λ k. edge k n) o ≡ Some f
-    → (k : K) × (o ≡ Some k) × (edge k n ≡ Some f)
-led_some edge n f None h = absurd (none-some f h)
-led_some edge n f (Some k) h = (k, refl, h)
-
--- where a step comes from
-pub step_some : {K N E : Type 0} (target : E → Option K) (edge : K → N → Option E) (n : N) (here : Option E) (f : E)
-    → step target edge n here ≡ Some f
-    → (e : E) × (k : K) × (here ≡ Some e) × (target e ≡ Some k) × (edge k n ≡ Some f)
-step_some target edge n None f h = absurd (none-some f h)
-step_some target edge n (Some e) f h = let led = led_some edge n f (target e) h in (e, led.0, refl, led.1, led.2)
 
 -- a step goes by what the entry leads to
 pub step_by_target : {K N E : Type 0} (target : E → Option K) (edge : K → N → Option E) (n : N) (here : Option E)

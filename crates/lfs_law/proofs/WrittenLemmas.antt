@@ -1,12 +1,12 @@
 -- An image of which the parts are written that a command sets holds the edited volume.
 use Rattle.std.proofs.Common.{◌≡◌, ℕ, ◌+◌, ◌<◌, ◌≤◌, Bool, true, false, cond, ◌==◌, List, [], ◌∷◌, ◌++◌, refl, ap, sym, ◌∙◌, subst, arith}
-use Rattle.std.proofs.Common.{inl, inr, map, get_or}
-use Rattle.std.specs.Prelude.{All, Contains, sum_by, flat_map}
+use Rattle.std.proofs.Common.{inl, inr, map}
+use Rattle.std.specs.Prelude.{All, Contains, sum_by}
 use Rattle.std.proofs.lemmas.Bool.Decides.{nat_tests}
 use Rattle.std.proofs.lemmas.List.{map-append}
 use Rattle.std.proofs.lemmas.List.Elements.{All-map, All-contains, All-contains_itself, All-weaker}
 use Rattle.std.proofs.lemmas.List.Concat.{flat_map-cons}
-use Rattle.std.proofs.lemmas.List.Sums.{sum_by-cons, sum_by-append, get_or-le-sum_by}
+use Rattle.std.proofs.lemmas.List.Sums.{sum_by-cons, sum_by-append}
 use Rattle.lfs_block.specs.Disk.{Disk, IsDisk, block_of}
 use Rattle.lfs_file.specs.Laws.{AgreeOn, FoundStay, ContentStays}
 use Rattle.lfs_meta.specs.Attribute.{Attributes}
@@ -23,12 +23,14 @@ use Rattle.lfs_fs.specs.Reading.{reading_of}
 use Rattle.lfs_fs.specs.Header.{IsHeader}
 use Rattle.lfs_fs.specs.Stored.{IsStored, HoldsLinks}
 use Rattle.lfs_fs.specs.Alike.{ChainStays, PartStays, StoredLinksStay, SuperblockIsOfTheRoot}
+use Rattle.lfs_fs.proofs.ContainsLemmas.{contains_cases, contains_mapped}
+use Rattle.lfs_fs.proofs.CountLemmas.{element_le}
+use Rattle.lfs_fs.proofs.MarkingLemmas.{parts_split}
 use Rattle.lfs_command.specs.DirectoryEdit.{each_part}
 use Rattle.lfs_command.specs.Clean.{cleaned}
 use Rattle.lfs_command.specs.Kept.{IsKept}
 use Rattle.lfs_law.specs.Written.{cleaned_link, Writes, IsEditOf, WrittenAreHeld, HeldAreClean}
 use Rattle.lfs_law.proofs.Decided.{same_pair_or_not}
-use Rattle.lfs_law.proofs.KeptLinks.{contains_first, contains-cons, contains_cases}
 
 -- ---- links and parts
 
@@ -44,38 +46,14 @@ parts_of_links (d ∷ ds) =
     ∙ ap (λ (qs : List Part). parts d ++ qs) (parts_of_links ds)
     ∙ sym (flat_map-cons parts d ds)
 
--- an element of a list is one of the mapped list
-pub contains-map : {X Y : Type 0} (f : X → Y) (xs : List X) (x : X) → Contains xs x → Contains (map f xs) (f x)
-contains-map f [] x there = let no : ⊥ = none_there there in absurd no
-  where
-    none_there : {X : Type 0} {x : X} → Contains [] x → ⊥
-    none_there h = omega arith
-contains-map f (y ∷ xs) x there = elim (contains_cases y xs x there) [
-  | inl same ↦ subst (Contains (f y ∷ map f xs)) (ap f (sym same)) (contains_first (f y) (map f xs))
-  | inr later ↦ contains-cons (f y) (map f xs) (f x) (contains-map f xs x later)
-]
-
 pub part_there : (ds : List Directory) (l : Link) → Contains (links ds) l → Contains (thread ds) l.part
 part_there ds l there = subst (λ (ps : List Part). Contains ps l.part) (parts_of_links ds)
-    (contains-map (λ (x : Link). x.part) (links ds) l there)
+    (contains_mapped (λ (x : Link). x.part) (links ds) l there)
 
 -- ---- uses, by parts
 
 abbrev pub part_uses : ℕ → Part → ℕ
 part_uses b p = pair_uses b p + sum_by (entry_uses b) p.entries
-
-sum_parts : (b : ℕ) (ps : List Part) → sum_by (part_uses b) ps ≡ sum_by (pair_uses b) ps
-    + sum_by (entry_uses b) (flat_map (λ p. p.entries) ps)
-sum_parts b [] = refl
-sum_parts b (p ∷ ps) =
-    omega (
-      arith,
-      sum_by-cons (part_uses b) p ps,
-      sum_by-cons (pair_uses b) p ps,
-      sum_parts b ps,
-      ap (sum_by (entry_uses b)) (flat_map-cons (λ (q : Part). q.entries) p ps),
-      sum_by-append (entry_uses b) p.entries (flat_map (λ (q : Part). q.entries) ps),
-    )
 
 pub sum_thread : (b : ℕ) (ds : List Directory) → sum_by (part_uses b) (thread ds) ≡ sum_by (directory_uses b) ds
 sum_thread b [] = refl
@@ -84,15 +62,10 @@ sum_thread b (d ∷ ds) =
       arith,
       ap (sum_by (part_uses b)) (flat_map-cons parts d ds),
       sum_by-append (part_uses b) (parts d) (thread ds),
-      sum_parts b (parts d),
+      parts_split b (parts d),
       sum_thread b ds,
       sum_by-cons (directory_uses b) d ds,
     )
-
-pub one_le : {X : Type 0} (f : X → ℕ) (xs : List X) (x : X) → Contains xs x → f x ≤ sum_by f xs
-one_le f xs x (k, within, is) =
-    let le : f (get_or xs k x) ≤ sum_by f xs = get_or-le-sum_by f xs k x within in
-    subst (λ y. f y ≤ sum_by f xs) is le
 
 pub two_le : {X : Type 0} (f : X → ℕ) (xs : List X) (x y : X) → Contains xs x → Contains xs y → (x ≡ y → ⊥) → f x + f y ≤ sum_by f xs
 two_le f [] x y h k apart = let no : ⊥ = none_there h in absurd no
@@ -102,10 +75,10 @@ two_le f [] x y h k apart = let no : ⊥ = none_there h in absurd no
 two_le f (z ∷ zs) x y h k apart = elim (contains_cases z zs x h) [
   | inl x_first ↦ elim (contains_cases z zs y k) [
     | inl y_first ↦ absurd (apart (x_first ∙ sym y_first))
-    | inr y_later ↦ (let le = one_le f zs y y_later in let same : f x ≡ f z = ap f x_first in omega (arith, le, same, sum_by-cons f z zs))
+    | inr y_later ↦ (let le = element_le f zs y y_later in let same : f x ≡ f z = ap f x_first in omega (arith, le, same, sum_by-cons f z zs))
   ]
   | inr x_later ↦ elim (contains_cases z zs y k) [
-    | inl y_first ↦ (let le = one_le f zs x x_later in let same : f y ≡ f z = ap f y_first in omega (arith, le, same, sum_by-cons f z zs))
+    | inl y_first ↦ (let le = element_le f zs x x_later in let same : f y ≡ f z = ap f y_first in omega (arith, le, same, sum_by-cons f z zs))
     | inr y_later ↦ (let le = two_le f zs x y x_later y_later apart in omega (arith, le, sum_by-cons f z zs))
   ]
 ]
@@ -123,7 +96,7 @@ block_stays : (d e : Disk) (v w : Volume) (held : HoldsLinks (reading_of d) v) �
     → Contains (thread v.directories) p → Contains (thread w.directories) p
     → p.dirty ≡ false → (b : ℕ) → 0 < part_uses b p → block_of e b ≡ block_of d b
 block_stays d e v w held edit writes p was there unset b used =
-    let before : part_uses b p ≤ sum_by (part_uses b) (thread v.directories) = one_le (part_uses b) (thread v.directories) p was in
+    let before : part_uses b p ≤ sum_by (part_uses b) (thread v.directories) = element_le (part_uses b) (thread v.directories) p was in
     writes.stays b (omega (arith, before, used, sum_thread b v.directories))
     (λ q set_there set.
     let both : part_uses b q + part_uses b p ≤ sum_by (part_uses b) (thread w.directories) =
@@ -142,7 +115,7 @@ pair_used p = (omega (arith, first p.pair), omega (arith, second p.pair))
 -- the blocks of a chain
 pub times_there : (b : ℕ) (bs : List ℕ) → Contains bs b → 1 ≤ times b bs
 times_there b bs there =
-    let le = one_le (λ (x : ℕ). cond {A = ℕ} (x == b) 1 0) bs b there in
+    let le = element_le (λ (x : ℕ). cond {A = ℕ} (x == b) 1 0) bs b there in
     let one : cond {A = ℕ} (b == b) 1 0 ≡ 1 = grind (arith, nat_tests) in
     omega (arith, le, one)
 
@@ -160,7 +133,7 @@ chain_by found content d e disk (Chain blocks bytes) size count stays = λ head 
     (found d e head len blocks disk agree is, sym (content d e len blocks agree))
 
 entry_used : (b : ℕ) (p : Part) (x : Entry) → Contains p.entries x → 0 < entry_uses b x → 0 < part_uses b p
-entry_used b p x there used = let le = one_le (entry_uses b) p.entries x there in omega (arith, le, used)
+entry_used b p x there used = let le = element_le (entry_uses b) p.entries x there in omega (arith, le, used)
 
 part_stays : PartsDependOnTheirBlocks → FoundStay → ContentStays → (d e : Disk) (v w : Volume) (held : HoldsLinks (reading_of d) v)
     → IsEditOf v w → Writes d e v w held

@@ -10,6 +10,7 @@ use Rattle.lfs_meta.specs.Fits.{TailFits}
 use Rattle.lfs_meta.specs.Spelling.{IsWhole}
 use Rattle.lfs_meta.specs.Weighing.{weights}
 use Rattle.lfs_meta.specs.Writing.{stored_part}
+use Rattle.lfs_meta.specs.Runs.{most_entries}
 use Rattle.lfs_fs.specs.Directory.{Part}
 use Rattle.lfs_fs.specs.State.{little_endian}
 use Rattle.lfs_fs.specs.Thread.{Link}
@@ -39,7 +40,7 @@ pub record FitsPair (d : Disk) (part : Found) : Type 0 where
   pub first : part.0.0 < d.count
   pub second : part.0.1 < d.count
   pub whole : AllByRecursion IsWhole part.1.entries
-  pub few : length part.1.entries ≤ 1000
+  pub few : length part.1.entries ≤ most_entries
   pub room : weights part.1.entries + 40 ≤ d.size
   pub tail : TailFits part.1.tail
 

@@ -1,11 +1,11 @@
--- The struct of the superblock that is written, and the limits that `format` writes into it (SPEC.md, "0x0ff superblock"; the
--- limits are own).
+-- The struct of the superblock that is written (SPEC.md, "0x0ff superblock").
 use Rattle.std.specs.Prelude.{ℕ, List, [], ◌∷◌, flat_map}
 use Rattle.std.specs.Int.{w32, to_le_bytes}
 use Rattle.lfs_meta.specs.Entry.{StoredEntry}
 use Rattle.lfs_fs.specs.declared.limits.Limits.{Limits}
 use Rattle.lfs_fs.specs.Superblock.{superblock_entry}
 use Rattle.lfs_fs.specs.Volume.{Volume}
+use Rattle.lfs_fs.specs.Limits.{new_limits}
 
 -- version 2.0, block size and count, and the largest name, file and attribute
 abbrev pub superblock_words : ℕ → ℕ → Limits → List ℕ
@@ -18,10 +18,6 @@ superblock_bytes size count limits = flat_map (to_le_bytes w32) (superblock_word
 -- a volume's
 unfoldable pub volume_bytes : Volume → List ℕ
 volume_bytes v = superblock_bytes v.size v.count v.limits
-
--- the limits of a new image
-abbrev pub new_limits : Limits
-new_limits = record { name = 255; file = 2147483647; attribute = 1022 }
 
 -- its entry, without attributes
 abbrev pub new_superblock : ℕ → ℕ → StoredEntry

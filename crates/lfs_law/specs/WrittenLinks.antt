@@ -13,6 +13,7 @@ use Rattle.lfs_meta.specs.Fits.{TailFits}
 use Rattle.lfs_meta.specs.Spelling.{IsWhole}
 use Rattle.lfs_meta.specs.Weighing.{weights}
 use Rattle.lfs_meta.specs.Writing.{other_number, part_in, stored_part}
+use Rattle.lfs_meta.specs.Runs.{most_entries}
 use Rattle.lfs_fs.specs.AsStored.{stored_entry}
 use Rattle.lfs_fs.specs.Directory.{Part}
 use Rattle.lfs_fs.specs.State.{little_endian}
@@ -74,7 +75,7 @@ pub record CanBeWritten (d : Disk) (bytes : List ℕ) (attributes : Attributes) 
   pub first : l.part.pair.0 < d.count
   pub second : l.part.pair.1 < d.count
   pub whole : AllByRecursion IsWhole (stored_entries bytes attributes l.part)
-  pub few : length (stored_entries bytes attributes l.part) ≤ 1000
+  pub few : length (stored_entries bytes attributes l.part) ≤ most_entries
   pub room : weights (stored_entries bytes attributes l.part) + 40 ≤ d.size
   pub tail : TailFits l.tail
 

@@ -1,10 +1,12 @@
 -- A text that goes out piece by piece.
-use Rattle.std.proofs.Common.{◌≡◌, ℕ, ◌+◌, ◌≤◌, List, [], ◌++◌, Option, None, Some, length, take, refl, sym, ap, subst, ◌∙◌, append-nil, append_assoc, length-append, arith}
+use Rattle.std.proofs.Common.{◌≡◌, ℕ, ◌+◌, ◌≤◌, List, [], ◌++◌, Option, length, take, refl, sym, ap, subst, ◌∙◌, append-nil, append_assoc}
+use Rattle.std.proofs.Common.{length-append, arith}
 use Rattle.std.proofs.Math.Seq.{take-append_seam, take-append-add}
 use Rattle.std.proofs.lemmas.List.{take-append-le}
 use Rattle.std.specs.Io.KnownBytes.{Appends}
 use Rattle.lfs_sink.specs.Send.{SendsBeginning}
 use Rattle.lfs_listing.specs.Buffer.{SendsFront}
+use Rattle.lfs_sink.proofs.SendLemmas.{appends_then, appends_none}
 
 -- of a whole text something has gone out, something waits, and the rest is to come
 pub record IsUnderWay (old new : Option (List ℕ)) (waits rest whole : List ℕ) : Type 0 where
@@ -12,18 +14,8 @@ pub record IsUnderWay (old new : Option (List ℕ)) (waits rest whole : List ℕ
   pub sent : Appends old new gone
   pub all : gone ++ (waits ++ rest) ≡ whole
 
-pub sends_nothing : (old : Option (List ℕ)) → Appends old old []
-sends_nothing None = tt
-sends_nothing (Some xs) = sym (append-nil xs)
-
-sends_then : (a b c : Option (List ℕ)) (first second : List ℕ) → Appends a b first → Appends b c second → Appends a c (first ++ second)
-sends_then None b c first second p q = tt
-sends_then (Some xs) None c first second p q = absurd p
-sends_then (Some xs) (Some ys) None first second p q = absurd q
-sends_then (Some xs) (Some ys) (Some zs) first second p q = q ∙ ap (λ l. l ++ second) p ∙ append_assoc xs first second
-
 pub under_way : (old : Option (List ℕ)) (whole : List ℕ) → IsUnderWay old old [] whole whole
-under_way old whole = record { gone = []; sent = sends_nothing old; all = refl }
+under_way old whole = record { gone = []; sent = appends_none old; all = refl }
 
 -- more waits
 pub more_waits : (old new : Option (List ℕ)) (waits more rest longer whole : List ℕ) → IsUnderWay old new waits (more ++ rest) whole
@@ -39,7 +31,7 @@ pub front_goes : (old mid new : Option (List ℕ)) (waited waits rest whole : Li
     → SendsFront mid new waited waits → IsUnderWay old new waits rest whole
 front_goes old mid new waited waits rest whole h (front, sent, is) = record {
   gone = h.gone ++ front;
-  sent = sends_then old mid new h.gone front h.sent sent;
+  sent = appends_then old mid new h.gone front h.sent sent;
   all = append_assoc h.gone front (waits ++ rest) ∙ ap (λ l. h.gone ++ l) (sym (append_assoc front waits rest))
       ∙ ap (λ l. h.gone ++ (l ++ rest)) (sym is) ∙ h.all;
 }
@@ -49,7 +41,7 @@ pub all_goes : (old mid new : Option (List ℕ)) (waits whole : List ℕ) → Is
     → Appends old new whole
 all_goes old mid new waits whole h sent =
     let all : h.gone ++ waits ≡ whole = ap (λ l. h.gone ++ l) (sym (append-nil waits)) ∙ h.all in
-    subst (Appends old new) all (sends_then old mid new h.gone waits h.sent sent)
+    subst (Appends old new) all (appends_then old mid new h.gone waits h.sent sent)
 
 -- a beginning of what waits goes out, and no more
 pub beginning_goes : (old mid new : Option (List ℕ)) (waits rest whole : List ℕ) → IsUnderWay old mid waits rest whole
@@ -61,7 +53,7 @@ beginning_goes old mid new waits rest whole h (n, within, sent) =
     ∙ sym (take-append-add h.gone (waits ++ rest) n) ∙ ap (take (length h.gone + n)) h.all in (
       length h.gone + n,
       omega (arith, length-append h.gone (waits ++ rest), length-append waits rest, ap length h.all),
-      subst (Appends old new) cut (sends_then old mid new h.gone (take n waits) h.sent sent),
+      subst (Appends old new) cut (appends_then old mid new h.gone (take n waits) h.sent sent),
     )
 
 -- nothing more goes out

@@ -6,6 +6,7 @@ use Rattle.lfs_block.specs.Disk.{Disk, IsDisk, block_of}
 use Rattle.lfs_tag.specs.Commit.{Item}
 use Rattle.lfs_tag.specs.Laws.{LogTagsAreFew}
 use Rattle.lfs_tag.specs.LogSeen.{LogSeen, log_seen}
+use Rattle.lfs_tag.proofs.Steps.{map_some}
 use Rattle.lfs_meta.specs.declared.live_block.LiveBlock.{LiveBlock}
 use Rattle.lfs_meta.specs.declared.live_block.LiveBlock.TheVariants.{First, Second, Neither}
 use Rattle.lfs_meta.specs.Laws.{IsLive}
@@ -18,7 +19,7 @@ use Rattle.lfs_meta.specs.Whole.{whole, all_whole, whole_part}
 use Rattle.lfs_meta.specs.HeldLaws.{HeldPartsHaveFewEntries}
 use Rattle.lfs_meta.proofs.HeldPartLemmas.{block_bytes, same_tags}
 use Rattle.lfs_meta.proofs.LiveLemmas.{live-read}
-use Rattle.lfs_meta.proofs.WholeLemmas.{and_then-split, map-split}
+use Rattle.lfs_meta.proofs.WholeLemmas.{and_then-split}
 use Rattle.lfs_meta.proofs.ReplayCounts.{replay-few}
 
 -- ---- blocks
@@ -50,14 +51,14 @@ all_whole-length [] ws all = let none : [] ≡ ws = cc in sym (ap length none)
 all_whole-length (e ∷ es) ws all =
     let (w, first, rest) = and_then-split (λ (v : StoredEntry). option_map (λ (vs : List StoredEntry). v ∷ vs) (all_whole es))
     (whole e) ws all in
-    let (vs, more, is) = map-split (λ (vs : List StoredEntry). w ∷ vs) (all_whole es) ws rest in
+    let (vs, more, is) = map_some (λ (vs : List StoredEntry). w ∷ vs) (all_whole es) ws rest in
     omega (arith, all_whole-length es vs more, ap length is)
 
 -- ---- parts
 
 part-length : (p : RawPart) (s : StoredPart) → whole_part p ≡ Some s → length s.entries ≡ length p.entries
 part-length p s is =
-    let (ws, all, same) = map-split (λ (es : List StoredEntry). let q : StoredPart =
+    let (ws, all, same) = map_some (λ (es : List StoredEntry). let q : StoredPart =
     record { entries = es; tail = p.tail; delta = p.delta } in q) (all_whole p.entries) s is in
     sym (ap (λ (q : StoredPart). length q.entries) same) ∙ all_whole-length p.entries ws all
 

@@ -1,6 +1,6 @@
 -- The entries of a part that a pair holds are whole, and their attributes rise.
-use Rattle.std.proofs.Common.{◌≡◌, ℕ, ◌+◌, ◌*◌, ◌<◌, ◌≤◌, Bool, true, false, ◌&&◌, List, [], ◌∷◌, length, take, drop, refl, ap, sym, ◌∙◌}
-use Rattle.std.proofs.Common.{subst, arith, Option, Some, None, zero, suc, if◌then◌else◌}
+use Rattle.std.proofs.Common.{◌≡◌, ℕ, ◌+◌, ◌*◌, ◌<◌, ◌≤◌, true, List, [], ◌∷◌, length, drop, refl, ap, sym, ◌∙◌}
+use Rattle.std.proofs.Common.{subst, arith, Option, Some, None}
 use Rattle.std.specs.Prelude.{All, option_and_then, option_map}
 use Rattle.std.specs.List.{AllByRecursion}
 use Rattle.std.proofs.Math.Nat.{mul-le-mul_right}
@@ -9,6 +9,7 @@ use Rattle.std.proofs.lemmas.List.Elements.{All-nil, All-cons, All-head, All-tai
 use Rattle.std.proofs.lemmas.Option.{option_and_then_some}
 use Rattle.lfs_block.specs.Bytes.{IsBytes}
 use Rattle.lfs_block.specs.Disk.{Disk, IsDisk, block_of}
+use Rattle.lfs_block.proofs.PutLemmas.{IsBytes-drop, IsBytes-take}
 use Rattle.lfs_tag.specs.Commit.{Item, IsItem}
 use Rattle.lfs_tag.specs.Laws.{BlocksHaveALog, LogTagsAreItems}
 use Rattle.lfs_tag.specs.Log.{log_tags}
@@ -30,6 +31,7 @@ use Rattle.lfs_meta.specs.Whole.{kind_takes_body, kind_takes_name, whole_by, who
 use Rattle.lfs_meta.specs.HeldLaws.{IsHeldEntry, HeldPartsAreWhole}
 use Rattle.lfs_meta.proofs.LiveLemmas.{live-read}
 use Rattle.lfs_meta.proofs.ReplayFitsLemmas.{replay-fits}
+use Rattle.lfs_meta.proofs.WholeLemmas.{when_both}
 
 -- ---- blocks
 
@@ -40,19 +42,8 @@ block_len d n disk below =
     let len : length (block_of d n) ≡ d.size = length-take-le d.size (drop (n * d.size) d.bytes) left in
     omega (arith, len, disk.geometry.size_fits.0)
 
-take_bytes : (n : ℕ) (xs : List ℕ) → IsBytes xs → IsBytes (take n xs)
-take_bytes zero xs all i = omega arith
-take_bytes (suc n) [] all i = omega arith
-take_bytes (suc n) (x ∷ xs) all zero = all 0
-take_bytes (suc n) (x ∷ xs) all (suc i) = take_bytes n xs (λ k. all (suc k)) i
-
-drop_bytes : (n : ℕ) (xs : List ℕ) → IsBytes xs → IsBytes (drop n xs)
-drop_bytes zero xs all i = all i
-drop_bytes (suc n) [] all i = omega arith
-drop_bytes (suc n) (x ∷ xs) all i = drop_bytes n xs (λ k. all (suc k)) i
-
 pub block_bytes : (d : Disk) (n : ℕ) → IsDisk d → IsBytes (block_of d n)
-block_bytes d n disk = take_bytes d.size (drop (n * d.size) d.bytes) (drop_bytes (n * d.size) d.bytes disk.bytes)
+block_bytes d n disk = IsBytes-take d.size (drop (n * d.size) d.bytes) (IsBytes-drop (n * d.size) d.bytes disk.bytes)
 
 -- the tags that a block's log has
 block_items : BlocksHaveALog → LogTagsAreItems → (d : Disk) (n : ℕ) (log : LogSeen) (tags : List Item) → IsDisk d → n < d.count
@@ -83,11 +74,6 @@ items_of logs items d pair tags disk first second is =
     (live-read (block_of d pair.0) (block_of d pair.1)) is
 
 -- ---- entries
-
-when_both : (p q : Bool) (x w : StoredEntry) → (if p && q then Some x else None) ≡ Some w → (x ≡ w) × (p ≡ true) × (q ≡ true)
-when_both true true x w e = (cc, refl, refl)
-when_both true false x w e = cc
-when_both false q x w e = cc
 
 held_by : (n : Option (Kind × Name)) (b : Option StoredBody) (attributes : Attributes) (w : StoredEntry) → RiseFrom 0 attributes
     → whole_by n b attributes ≡ Some w → IsHeldEntry w

@@ -22,27 +22,12 @@ use Rattle.lfs_meta.specs.Replay.{acted, step_by, step, replay_from, replay, Has
 use Rattle.lfs_meta.specs.Whole.{kind_takes_body, kind_takes_name, IsIncompleteBy, IsIncomplete, IsMisnamedBy, IsMisnamed, whole_by, whole}
 use Rattle.lfs_meta.specs.Whole.{all_whole, whole_part}
 use Rattle.lfs_meta.specs.HeldLaws.{PairsWithoutAPartHaveACause}
+use Rattle.lfs_meta.proofs.ReplayLemmas.{bad-cons}
 
-any_later : {X : Type 0} (P : X → Type 0) (x : X) (xs : List X) → Any P xs → Any P (x ∷ xs)
+pub any_later : {X : Type 0} (P : X → Type 0) (x : X) (xs : List X) → Any P xs → Any P (x ∷ xs)
 any_later P x xs (k, y, within, is, holds) = (suc k, y, omega arith, is, holds)
 
 -- ---- tags
-
--- a bad tag behind one that is done is bad behind both
-bad_later : (p q : RawPart) (t : Item) (ts : List Item) → step p t ≡ Some q → HasBadFrom q ts → HasBadFrom p (t ∷ ts)
-unfolding replay_from
-bad_later p q t ts done (front, u, after, is, last, replayed, a, known, bad) = (
-  t ∷ front,
-  u,
-  after,
-  ap (λ (us : List Item). t ∷ us) is,
-  last,
-  ap (option_and_then (λ (r : RawPart). replay_from r front)) done
-      ∙ replayed,
-  a,
-  known,
-  bad,
-)
 
 -- an unknown tag, or a bad one
 abbrev IsRefused : RawPart → List Item → Type 0
@@ -60,7 +45,7 @@ by_bad false p a t ts known good none later =
     ∙ ap (λ (b : Bool). if b then None else Some (acted a t p)) good in
     elim (later (acted a t p) none) [
       | inl unknown ↦ inl (any_later (λ (u : Item). action_of (kind_of u.word) ≡ None) t ts unknown)
-      | inr bad ↦ inr (bad_later p (acted a t p) t ts done bad)
+      | inr bad ↦ inr (bad-cons p (acted a t p) t ts done bad)
     ]
 
 by_action : (o : Option Action) (p : RawPart) (t : Item) (ts : List Item) → action_of (kind_of t.word) ≡ o

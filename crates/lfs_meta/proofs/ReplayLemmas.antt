@@ -35,7 +35,7 @@ replay-first all p e items = record {
   bad = λ h. subst (λ q. HasBadFrom q all) e h;
 }
 
-bad-cons : (p q : RawPart) (t : Item) (ts : List Item) → step p t ≡ Some q → HasBadFrom q ts → HasBadFrom p (t ∷ ts)
+pub bad-cons : (p q : RawPart) (t : Item) (ts : List Item) → step p t ≡ Some q → HasBadFrom q ts → HasBadFrom p (t ∷ ts)
 bad-cons p q t ts e (front, u, after, is, r, replayed, a, known, bad) =
     (t ∷ front, u, after, ap (λ xs. t ∷ xs) is, r, replay_from-cons p q t front e ∙ replayed, a, known, bad)
 

@@ -6,6 +6,7 @@ use Rattle.std.specs.List.{AllByRecursion}
 use Rattle.std.proofs.lemmas.List.{take_more}
 use Rattle.lfs_block.specs.declared.mount_fault.MountFault.{MountFault}
 use Rattle.lfs_block.specs.declared.mount_fault.MountFault.TheVariants as fault
+use Rattle.lfs_tag.proofs.Steps.{map_some}
 use Rattle.lfs_meta.specs.Entry.{RawEntry, StoredEntry}
 use Rattle.lfs_meta.specs.Cause.{EntryCause, EntriesCause}
 use Rattle.lfs_meta.specs.Whole.{kind_takes_body, kind_takes_name, whole_by, whole, all_whole, whole_part}
@@ -27,10 +28,6 @@ pub and_then-split : {A B : Type 0} (f : A → Option B) (o : Option A) (y : B) 
 and_then-split f None y e = cc
 and_then-split f (Some x) y e = (x, refl, e)
 
-pub map-split : {A B : Type 0} (f : A → B) (o : Option A) (y : B) → option_map f o ≡ Some y → (x : A) × (o ≡ Some x) × (f x ≡ y)
-map-split f None y e = cc
-map-split f (Some x) y e = (x, refl, cc)
-
 pub all_whole-push : (es : List RawEntry) (ws : List StoredEntry) (e : RawEntry) (w : StoredEntry) → all_whole es ≡ Some ws
     → whole e ≡ Some w
     → all_whole (es ++ (e ∷ [])) ≡ Some (ws ++ (w ∷ []))
@@ -39,7 +36,7 @@ all_whole-push [] ws e w all here = let none : [] ≡ ws = cc in all_whole-cons 
 all_whole-push (d ∷ es) ws e w all here =
     let (v, first, rest) = and_then-split (λ (v : StoredEntry). option_map (λ (vs : List StoredEntry). v ∷ vs) (all_whole es))
     (whole d) ws all in
-    let (vs, more, is) = map-split (λ (vs : List StoredEntry). v ∷ vs) (all_whole es) ws rest in
+    let (vs, more, is) = map_some (λ (vs : List StoredEntry). v ∷ vs) (all_whole es) ws rest in
     all_whole-cons d (es ++ (e ∷ [])) v (vs ++ (w ∷ [])) first (all_whole-push es vs e w more here)
     ∙ ap (λ (us : List StoredEntry). Some (us ++ (w ∷ []))) is
 
@@ -59,7 +56,7 @@ entries-refused _ es i e within is cause = cause
 whole-raw : (e : StoredEntry) → IsWhole e → whole (raw_of e) ≡ Some e
 whole-raw e h = rw (h.body, h.name) refl
 
-when_both : (p q : Bool) (x w : StoredEntry) → (if p && q then Some x else None) ≡ Some w → (x ≡ w) × (p ≡ true) × (q ≡ true)
+pub when_both : (p q : Bool) (x w : StoredEntry) → (if p && q then Some x else None) ≡ Some w → (x ≡ w) × (p ≡ true) × (q ≡ true)
 when_both true true x w e = (cc, refl, refl)
 when_both true false x w e = cc
 when_both false q x w e = cc
@@ -80,7 +77,7 @@ all_whole-are [] ws all = let none : [] ≡ ws = cc in subst (AllByRecursion IsW
 all_whole-are (d ∷ es) ws all =
     let (v, first, rest) = and_then-split (λ (v : StoredEntry). option_map (λ (vs : List StoredEntry). v ∷ vs) (all_whole es))
     (whole d) ws all in
-    let (vs, more, is) = map-split (λ (vs : List StoredEntry). v ∷ vs) (all_whole es) ws rest in
+    let (vs, more, is) = map_some (λ (vs : List StoredEntry). v ∷ vs) (all_whole es) ws rest in
     subst (AllByRecursion IsWhole) is (whole-is d.name d.body d.attributes v first, all_whole-are es vs more)
 
 all_whole-raw : (es : List StoredEntry) → AllByRecursion IsWhole es → all_whole (map raw_of es) ≡ Some es

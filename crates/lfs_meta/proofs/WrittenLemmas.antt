@@ -5,7 +5,7 @@ use Rattle.std.proofs.Common.{inl, inr}
 use Rattle.std.specs.Prelude.{replicate, slice_set}
 use Rattle.std.specs.List.{AllByRecursion, list_all}
 use Rattle.std.proofs.lemmas.Nat.{from_le_bytes-to_le_bytes_4}
-use Rattle.std.proofs.lemmas.Bool.{cases_Bool}
+use Rattle.std.proofs.lemmas.Bool.{cases_Bool, and_parts}
 use Rattle.std.proofs.lemmas.Bool.Decides.{nat_tests}
 use Rattle.std.proofs.Math.Seq.{get_or-append_seam, set-append_seam}
 use Rattle.lfs_tag.specs.Tag.{kind_of, chunk_of, id_of, len_of}
@@ -224,14 +224,10 @@ entries-replay done tail delta id (e ∷ es) more is fits few =
 
 -- ---- the tail
 
-both : (p q : Bool) → (p && q) ≡ true → (p ≡ true) × (q ≡ true)
-both true q e = (refl, e)
-both false q e = cc
-
 all_same : (x : ℕ) (xs : List ℕ) → list_all (λ b. b == x) xs ≡ true → xs ≡ replicate (length xs) x
 all_same x [] e = refl
 all_same x (y ∷ ys) e =
-    let parts : ((y == x) ≡ true) × (list_all (λ b. b == x) ys ≡ true) = both (y == x) (list_all (λ b. b == x) ys) e in
+    let parts : ((y == x) ≡ true) × (list_all (λ b. b == x) ys ≡ true) = and_parts (y == x) (list_all (λ b. b == x) ys) e in
     let test : (y == x) ≡ true = parts.0 in
     let here : y ≡ x = grind (arith, nat_tests) in
     ap (λ (z : ℕ). z ∷ ys) here ∙ ap (λ (zs : List ℕ). x ∷ zs) (all_same x ys parts.1)

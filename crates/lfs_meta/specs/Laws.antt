@@ -3,6 +3,7 @@ use Rattle.std.specs.Prelude.{◌≡◌, ◌↔◌, ℕ, ◌+◌, ◌%◌, ◌<�
 use Rattle.std.specs.List.{AllByRecursion}
 use Rattle.lfs_block.specs.Disk.{Disk, block_of}
 use Rattle.lfs_block.specs.declared.mount_fault.MountFault.{MountFault}
+use Rattle.lfs_block.specs.Geometry.{block_size_step}
 use Rattle.lfs_meta.specs.Body.{Pair}
 use Rattle.lfs_meta.specs.Name.{Name, IsName, is_name}
 use Rattle.lfs_meta.specs.LiveBlock.{live_block, tags_of, part_of, stored_part_of}
@@ -51,7 +52,7 @@ WrittenPartsAreWhole = (p : StoredPart) → AllByRecursion IsWhole p.entries →
 
 -- what is written for entries whose weights leave 40 bytes of a block fits it
 abbrev pub WeightsFit : Type 0
-WeightsFit = (p : StoredPart) (size : ℕ) → size % 16 ≡ 0 → length p.delta ≡ 12 → weights p.entries + 40 ≤ size
+WeightsFit = (p : StoredPart) (size : ℕ) → size % block_size_step ≡ 0 → length p.delta ≡ 12 → weights p.entries + 40 ≤ size
     → committed_end 4 (part_tags p) ≤ size
 
 -- the live block of two has a commit, and its log is what is read of it; where neither is live, neither has one

@@ -11,8 +11,11 @@ use std::alloc::Global;
 /// The most entries of one pair.
 const MOST_ENTRIES: usize = 1_000;
 
-/// Whether a run that weighs `taken` and has `len` entries takes one more of weight `next`.
-fn run_takes(room: u32, taken: u32, len: usize, next: u32) -> bool
+/// Whether a run that weighs `taken` and has `len` entries takes one more of weight `next`: it weighs no more than the room, and has at
+/// most 1,000 entries. Takes no memory.
+///
+/// Source: own.
+pub fn run_takes(room: u32, taken: u32, len: usize, next: u32) -> bool
     requires { taken + next < 2 ^ 32 }
     ensures { result ≡ run_takes room taken len next }
 {

@@ -8,6 +8,7 @@ ghost use Rattle.lfs_meta.specs.BodyHeld.{body_held};
 ghost use Rattle.lfs_meta.specs.Fits.{EntryFits};
 ghost use Rattle.lfs_meta.specs.Spelling.{attribute_item, body_bytes, body_kind, delta_tags, entries_tags, entry_tags, name_kind, part_tags, tag_item, tail_tags, words};
 ghost use Rattle.lfs_meta.specs.Writing.{stored_part};
+ghost use Rattle.lfs_meta.specs.Runs.{most_entries};
 
 use crate::attribute::Attribute;
 use crate::body::Body;
@@ -113,7 +114,7 @@ fn push_entry<'a>(edits: &mut Vec<Edit<'a>>, id: u16, entry: &'a Entry) -> Resul
 
 /// Adds entries.
 fn push_entries<'a>(edits: &mut Vec<Edit<'a>>, entries: &'a [Entry]) -> Result<(), AllocError>
-    requires { length entries.now ≤ 1000 }
+    requires { length entries.now ≤ most_entries }
     ensures pushed { OnOk result (items edits.new.items ≡ items edits.old.items ++ entries_tags 0 entries.now) }
     ensures fits { OnOk result (All EntryFits entries.now) }
 {
@@ -160,7 +161,7 @@ pub(crate) fn part_edits<'a>(
     tail: Tail,
     delta: &'a [u8; 12],
 ) -> Result<Vec<Edit<'a>>, AllocError>
-    requires { length entries.now ≤ 1000 }
+    requires { length entries.now ≤ most_entries }
     ensures tags { IfOk result (λ edits. items edits.items ≡ part_tags (stored_part entries.now tail delta.now)) }
     ensures fits { OnOk result (All EntryFits entries.now) }
 {

@@ -30,7 +30,7 @@ mod writing;
 pub use attribute::{Attribute, remove_attribute, set_attribute};
 pub use attribute_copies::copied_attributes;
 pub use body::Body;
-pub use cutting::cut;
+pub use cutting::{cut, run_takes};
 pub use entry::Entry;
 pub use held_laws::{
     held_parts_are_whole, held_parts_have_few_entries, pairs_without_a_part_have_a_cause,

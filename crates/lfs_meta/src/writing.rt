@@ -4,7 +4,7 @@ ghost use Rattle.std.specs.Prelude.{◌≡◌, ◌≢◌, ◌+◌, ◌%◌, ◌<
 ghost use Rattle.std.specs.List.{AllByRecursion};
 ghost use Rattle.lfs_block.specs.Bytes.{IsBytes};
 ghost use Rattle.lfs_block.specs.Disk.{put};
-ghost use Rattle.lfs_block.specs.Geometry.{IsBlockSize};
+ghost use Rattle.lfs_block.specs.Geometry.{IsBlockSize, block_size_step};
 ghost use Rattle.lfs_tag.specs.Commit.{IsCommit};
 ghost use Rattle.lfs_tag.specs.Log.{IsErased};
 ghost use Rattle.lfs_tag.specs.Writing.{items, commit_of, committed_end};
@@ -13,6 +13,7 @@ ghost use Rattle.lfs_meta.specs.LiveBlock.{committed, revision, stored_part_of, 
 ghost use Rattle.lfs_meta.specs.Spelling.{IsWhole, part_tags};
 ghost use Rattle.lfs_meta.specs.Weighing.{weights};
 ghost use Rattle.lfs_meta.specs.Writing.{IsFirstBlock, IsRewritten, IsWritten, live_revision, log_written, other_number, stored_part};
+ghost use Rattle.lfs_meta.specs.Runs.{most_entries};
 
 use crate::edits::part_edits;
 use crate::entry::Entry;
@@ -61,8 +62,8 @@ fn written(
     tail: Tail,
     delta: &[u8; 12],
 ) -> Result<Vec<u8>, AllocError>
-    requires size { size % 16 ≡ 0 }
-    requires few { length entries.now ≤ 1000 }
+    requires size { size % block_size_step ≡ 0 }
+    requires few { length entries.now ≤ most_entries }
     requires room { weights entries.now + 40 ≤ size }
     ensures written { IfOk result (λ block. IsWritten size number (part_tags (stored_part entries.now tail delta.now)) block.items) }
     ensures fits { IfOk result (λ block. All EntryFits entries.now) }
@@ -97,7 +98,7 @@ fn other_block<B: Blocks>(blocks: &B, pair: (u32, u32)) -> (u32, u32)
 pub fn first_block(alloc: Global, size: u32, entries: &[Entry], tail: Tail) -> Option<Vec<u8>>
     requires size { IsBlockSize size }
     requires whole { AllByRecursion IsWhole entries.now }
-    requires few { length entries.now ≤ 1000 }
+    requires few { length entries.now ≤ most_entries }
     requires room { weights entries.now + 40 ≤ size }
     requires tail { TailFits tail }
     ensures { IfSome result (λ block. IsFirstBlock size (stored_part entries.now tail (replicate 12 0)) block.items) }
@@ -128,7 +129,7 @@ pub fn rewrite<B: Blocks>(
     requires first { pair.0 < (B.disk blocks.now).count }
     requires second { pair.1 < (B.disk blocks.now).count }
     requires whole { AllByRecursion IsWhole entries.now }
-    requires few { length entries.now ≤ 1000 }
+    requires few { length entries.now ≤ most_entries }
     requires room { weights entries.now + 40 ≤ (B.disk blocks.now).size }
     requires tail { TailFits tail }
     ensures new { IfOk result (λ new. IsRewritten (B.disk blocks.now) pair (stored_part entries.now tail delta) new.0 new.1.items) }

@@ -1,62 +1,33 @@
 -- An image with the chains of a volume, and its outline written, holds the volume.
-use Rattle.std.proofs.Common.{◌≡◌, ◌≢◌, false, ℕ, ◌+◌, ◌<◌, ◌≤◌, ◌^◌, List, [], ◌∷◌, length, refl, ap, sym, ◌∙◌, subst, arith, inl, inr, map, Some}
+use Rattle.std.proofs.Common.{◌≡◌, false, ℕ, ◌+◌, ◌<◌, ◌≤◌, ◌^◌, List, [], ◌∷◌, length, refl, ap, sym, ◌∙◌, subst, arith, inl, inr, map}
 use Rattle.std.specs.Prelude.{Contains, replicate, sum_by}
-use Rattle.std.specs.List.{AllZip}
-use Rattle.std.proofs.lemmas.List.{length-replicate}
 use Rattle.std.proofs.lemmas.List.Elements.{All-contains, All-contains_itself, All-weaker}
 use Rattle.std.proofs.lemmas.List.Sums.{sum_by-cons}
 use Rattle.std.proofs.lemmas.Nat.{from_le_bytes-to_le_bytes_4}
 use Rattle.lfs_block.specs.Disk.{Disk, block_of}
 use Rattle.lfs_file.specs.Laws.{ContentStays, FoundStay}
-use Rattle.lfs_meta.specs.declared.kind.Kind.TheVariants.{Super}
-use Rattle.lfs_fs.specs.AsStored.{head_of, stored_body, stored_entry, stored_kind}
+use Rattle.lfs_fs.specs.AsStored.{head_of, stored_entry}
 use Rattle.lfs_fs.specs.declared.limits.Limits.{Limits}
 use Rattle.lfs_fs.specs.Directory.{Directory, Part, thread}
 use Rattle.lfs_fs.specs.Entry.{Body, Inline, Chain, Directory_at, Entry}
-use Rattle.lfs_fs.specs.Outlined.{outlined, outlined_body}
-use Rattle.lfs_fs.specs.Reading.{Reading, reading_of}
-use Rattle.lfs_fs.specs.Stored.{BodyStands, HeldByLinksAreHeld, HoldsLinks, IsStored, SaysVolume, Stands}
+use Rattle.lfs_fs.specs.Outlined.{outlined}
+use Rattle.lfs_fs.specs.Reading.{reading_of}
+use Rattle.lfs_fs.specs.Stored.{HeldByLinksAreHeld, HoldsLinks, IsStored, SaysVolume}
 use Rattle.lfs_fs.specs.Superblock.{IsLimits, header_of, word_at}
 use Rattle.lfs_fs.specs.Thread.{Link, links}
 use Rattle.lfs_fs.specs.Uses.{body_uses, entry_uses, pair_uses, times}
 use Rattle.lfs_fs.specs.Volume.{Volume}
+use Rattle.lfs_fs.proofs.ContainsLemmas.{contains_cases}
+use Rattle.lfs_fs.proofs.CountLemmas.{element_le}
 use Rattle.lfs_law.specs.OutlineLaws.{IsThere}
 use Rattle.lfs_law.specs.SuperblockBytes.{volume_bytes}
 use Rattle.lfs_law.specs.WrittenLinks.{link_part}
-use Rattle.lfs_law.proofs.KeptLinks.{contains_cases, contains_first, contains-cons}
 use Rattle.lfs_law.proofs.OutlineEntries.{outlined_entries}
-use Rattle.lfs_law.proofs.OutlinesWritten.{links_outlined, outline_there, outlined_link}
-use Rattle.lfs_law.proofs.WrittenLemmas.{chain_by, one_le, part_there, part_uses, parts_of_links, sum_thread}
+use Rattle.lfs_law.proofs.OutlinesWritten.{links_outlined, outline_there, outlined_link, entries_stand}
+use Rattle.lfs_law.proofs.WrittenLemmas.{chain_by, part_there, part_uses, parts_of_links, sum_thread}
 use Rattle.lfs_new.specs.Filled.{FillsPair, first_blocks}
 use Rattle.lfs_new.specs.NewImages.{NewImagesHold, TakesVolume}
 use Rattle.lfs_new.proofs.PairsFilled.{firsts_within, name_of}
-
--- ---- what stands in a pair
-
-file_or_directory : (b : Body) → stored_kind b ≢ Super
-file_or_directory (Inline bytes) = λ h. cc
-file_or_directory (Chain blocks bytes) = λ h. cc
-file_or_directory (Directory_at pair) = λ h. cc
-
-body_stands : (r : Reading) (b : Body) → IsThere r b → BodyStands r (stored_body (outlined_body b)) b
-body_stands r (Inline bytes) there = refl
-body_stands r (Chain blocks bytes) there =
-    subst (λ (n : ℕ). (r.chain (head_of blocks) n ≡ Some blocks) × (bytes ≡ r.content n blocks))
-    (sym (length-replicate (length bytes) 0)) there
-body_stands r (Directory_at pair) there = refl
-
-entries_stand : (r : Reading) (es : List Entry) → ((e : Entry) → Contains es e → IsThere r e.body)
-    → AllZip (Stands r) (map stored_entry (outlined_entries es)) es
-entries_stand r [] there = tt
-entries_stand r (e ∷ es) there = (
-  record {
-    kind = file_or_directory (outlined_body e.body);
-    name = refl;
-    attributes = refl;
-    body = body_stands r e.body (there e (contains_first e es));
-  },
-  entries_stand r es (λ f inside. there f (contains-cons e es f inside)),
-)
 
 -- ---- what the superblock says
 
@@ -98,7 +69,7 @@ pairs_and_chain : (n : ℕ) (ps : List Part) (p : Part) (x : Entry) → Contains
 pairs_and_chain n [] p x there inside = let no : ⊥ = omega (arith, there.1) in absurd no
 pairs_and_chain n (q ∷ ps) p x there inside = elim (contains_cases q ps p there) [
   | inl same ↦
-      (let le : entry_uses n x ≤ sum_by (entry_uses n) p.entries = one_le (entry_uses n) p.entries x inside in
+      (let le : entry_uses n x ≤ sum_by (entry_uses n) p.entries = element_le (entry_uses n) p.entries x inside in
       let here : sum_by (entry_uses n) p.entries ≡ sum_by (entry_uses n) q.entries =
       ap (λ (r : Part). sum_by (entry_uses n) r.entries) same in
       omega (arith, le, here, pairs_only n ps, sum_by-cons (pair_uses n) q ps, sum_by-cons (part_uses n) q ps))

@@ -4,7 +4,7 @@ use Rattle.std.proofs.Common.{drop, length}
 use Rattle.std.specs.Prelude.{Contains, replicate}
 use Rattle.std.proofs.lemmas.Bool.Decides.{nat_tests}
 use Rattle.std.proofs.lemmas.List.{drop_all, map-append}
-use Rattle.std.proofs.lemmas.List.Elements.{Contains-append_cases}
+use Rattle.std.proofs.lemmas.List.Elements.{Contains-append_cases, Contains-append_left, Contains-append_right}
 use Rattle.std.proofs.lemmas.List.Sums.{sum_by-append, sum_by-cons}
 use Rattle.lfs_block.specs.Disk.{Disk, IsDisk, block_of, put}
 use Rattle.lfs_block.specs.PatchLaws.{BlockPut, BlockPutOther, IsDiskAs}
@@ -16,11 +16,11 @@ use Rattle.lfs_meta.specs.Writing.{IsFirstBlock, part_in, stored_part}
 use Rattle.lfs_fs.specs.Directory.{Directory, Part}
 use Rattle.lfs_fs.specs.Thread.{Link, links, links_of}
 use Rattle.lfs_fs.specs.Uses.{times, pair_uses}
+use Rattle.lfs_fs.proofs.ContainsLemmas.{contains_first}
+use Rattle.lfs_fs.proofs.CountLemmas.{element_le}
 use Rattle.lfs_law.specs.PairWritten.{link_to}
 use Rattle.lfs_law.specs.WrittenLinks.{link_part, stored_entries}
-use Rattle.lfs_law.proofs.KeptLinks.{contains_first, contains_left, contains_right}
 use Rattle.lfs_law.proofs.LinksAdded.{contains_one, first_used, second_used, times_append, times_cons, times_pair}
-use Rattle.lfs_law.proofs.WrittenLemmas.{one_le}
 use Rattle.lfs_new.specs.DiskBut.{IsDiskBut}
 use Rattle.lfs_new.specs.Filled.{CanFillPair, CanFillPairs, FillPairs, FillsPair, first_blocks, links_name}
 
@@ -76,13 +76,13 @@ firsts_within n (l ∷ ls) =
 no_later_first : (n : ℕ) (ls ms : List Link) (l : Link) → links_name n (ls ++ ms) ≤ 1 → Contains ls l → 1 ≤ name_of n l
     → times n (first_blocks ms) ≡ 0
 no_later_first n ls ms l once there used =
-    let here : name_of n l ≤ links_name n ls = one_le (name_of n) ls l there in
+    let here : name_of n l ≤ links_name n ls = element_le (name_of n) ls l there in
     omega (arith, here, used, names_both n ls ms, firsts_within n ms, once)
 
 no_earlier_first : (n : ℕ) (ls ms : List Link) (l : Link) → links_name n (ls ++ ms) ≤ 1 → Contains ms l → 1 ≤ name_of n l
     → times n (first_blocks ls) ≡ 0
 no_earlier_first n ls ms l once there used =
-    let here : name_of n l ≤ links_name n ms = one_le (name_of n) ms l there in
+    let here : name_of n l ≤ links_name n ms = element_le (name_of n) ms l there in
     omega (arith, here, used, names_both n ls ms, firsts_within n ls, once)
 
 module _ (bytes : List ℕ) (attributes : Attributes) where
@@ -94,7 +94,7 @@ module _ (bytes : List ℕ) (attributes : Attributes) where
   can_front : (d : Disk) (ls ms : List Link) → CanFillPairs d bytes attributes (ls ++ ms) → CanFillPairs d bytes attributes ls
   can_front d ls ms can = record {
     once = λ n. omega (arith, can.once n, names_both n ls ms);
-    each = λ l there. can.each l (contains_left ls ms l there);
+    each = λ l there. can.each l (Contains-append_left ls ms l there);
   }
 
   pub can_first : (d : Disk) (all front behind : List Link) → all ≡ front ++ behind → CanFillPairs d bytes attributes all
@@ -124,7 +124,7 @@ module _ (bytes : List ℕ) (attributes : Attributes) where
     once = λ n. omega (arith, can.once n, names_both n ls ms);
     each = λ l there. still_can d m l but.disk
         (but.others l.part.pair.1 (no_earlier_first l.part.pair.1 ls ms l (can.once l.part.pair.1) there (second_used l.part.pair)))
-        (can.each l (contains_right ls ms l there));
+        (can.each l (Contains-append_right ls ms l there));
   }
 
   pub can_later : (d m : Disk) (all front behind : List Link) → all ≡ front ++ behind → CanFillPairs d bytes attributes all

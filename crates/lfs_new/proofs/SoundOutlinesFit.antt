@@ -2,46 +2,34 @@
 use Rattle.std.proofs.Common.{◌≡◌, ℕ, ◌+◌, ◌≤◌, Bool, true, false, List, [], ◌∷◌, length, map, refl, ap, arith}
 use Rattle.std.specs.Prelude.{All, Contains, if◌then◌else◌, sum_by}
 use Rattle.std.specs.List.{AllByRecursion}
-use Rattle.std.proofs.lemmas.List.{length-map}
-use Rattle.std.proofs.lemmas.List.Elements.{All-append, All-cons, All-contains, All-head, All-nil, All-tail, All-weaker}
+use Rattle.std.proofs.lemmas.List.Elements.{All-contains, All-head, All-tail, All-weaker}
 use Rattle.std.proofs.lemmas.List.Sums.{sum_by-cons}
 use Rattle.lfs_meta.specs.Attribute.{Attributes}
 use Rattle.lfs_meta.specs.Fits.{TailFits}
 use Rattle.lfs_meta.specs.Laws.{NamesAreDecided}
 use Rattle.lfs_meta.specs.Name.{IsName}
-use Rattle.lfs_meta.specs.Spelling.{IsWhole, body_bytes}
-use Rattle.lfs_meta.specs.Weighing.{attributes_weight, weights, weight as stored_weight}
-use Rattle.lfs_meta.specs.Whole.{kind_takes_body, kind_takes_name}
-use Rattle.lfs_fs.specs.AsStored.{stored_body, stored_entry, stored_kind}
-use Rattle.lfs_fs.specs.Directory.{Directory, Part, entries, parts, thread}
-use Rattle.lfs_fs.specs.Entry.{Body, Inline, Chain, Directory_at, Entry}
+use Rattle.lfs_meta.specs.Spelling.{IsWhole}
+use Rattle.lfs_meta.specs.Weighing.{weights, weight as stored_weight}
+use Rattle.lfs_fs.specs.AsStored.{stored_entry}
+use Rattle.lfs_fs.specs.Directory.{Part, entries, thread}
+use Rattle.lfs_fs.specs.Entry.{Entry}
 use Rattle.lfs_fs.specs.Sound.{IsProper, IsSound}
 use Rattle.lfs_fs.specs.Superblock.{superblock_entry}
 use Rattle.lfs_fs.specs.Thread.{Link, links}
 use Rattle.lfs_fs.specs.Uses.{pair_uses}
 use Rattle.lfs_fs.specs.Volume.{Volume}
-use Rattle.lfs_fs.specs.Weight.{body_weight, superblock_weight, weight}
+use Rattle.lfs_fs.specs.Weight.{superblock_weight, weight}
 use Rattle.lfs_command.specs.Cut.{is_first}
 use Rattle.lfs_law.specs.SuperblockBytes.{volume_bytes}
 use Rattle.lfs_law.specs.WrittenLinks.{stored_entries}
-use Rattle.lfs_law.proofs.Cuts.{All-left, All-right}
-use Rattle.lfs_law.proofs.CutLinksFit.{pair_apart, pair_below, tails_below}
-use Rattle.lfs_law.proofs.DirectoryEdits.{entries_of}
+use Rattle.lfs_law.proofs.CutLinksFit.{pair_apart, pair_below, tails_below, entry_weighs, stored_many, body_taken, name_taken, thread_named}
 use Rattle.lfs_law.proofs.OutlineRoom.{sum_over}
 use Rattle.lfs_law.proofs.WrittenLemmas.{part_there, parts_of_links, sum_thread}
 use Rattle.lfs_new.specs.Filled.{CanFillPair}
-use Rattle.lfs_new.specs.NewPairs.{FitsNewPair, SoundOutlinesCanBeTaken, front_count, front_weight}
+use Rattle.lfs_new.specs.NewPairs.{FitsNewPair, SoundOutlinesCanBeTaken, front_weight}
 use Rattle.lfs_new.proofs.NewImagesHeld.{names_of_parts, pairs_only}
 
 -- ---- entries as they are stored
-
-body_weighs : (n a : ℕ) (b : Body) → 4 + n + (4 + length (body_bytes (stored_body b))) + a ≡ 4 + n + body_weight b + a
-body_weighs n a (Inline bytes) = refl
-body_weighs n a (Chain blocks bytes) = refl
-body_weighs n a (Directory_at pair) = refl
-
-entry_weighs : (e : Entry) → stored_weight (stored_entry e) ≡ weight e
-entry_weighs e = body_weighs (length e.name) (attributes_weight e.attributes) e.body
 
 stored_weighs : (bytes : List ℕ) (o : Volume) (p : Part) → length bytes ≡ 24
     → weights (stored_entries bytes o.attributes p) ≡ front_weight o p + sum_by weight p.entries
@@ -63,26 +51,6 @@ stored_weighs bytes o p len = by (is_first p)
     )
     by false = omega (arith, others)
 
-stored_many : (bytes : List ℕ) (attributes : Attributes) (p : Part) → length (stored_entries bytes attributes p)
-    ≡ front_count p + length p.entries
-stored_many bytes attributes p = by (is_first p)
-  where
-    by : (t : Bool) → length (if t then superblock_entry bytes attributes ∷ map stored_entry p.entries else map stored_entry p.entries)
-        ≡ (if t then 1 else 0) + length p.entries
-    by true = omega (arith, length-map p.entries stored_entry)
-    by false = omega (arith, length-map p.entries stored_entry)
-
--- a struct and a name that the kind takes
-body_taken : (b : Body) → kind_takes_body (stored_kind b) (stored_body b) ≡ true
-body_taken (Inline bytes) = refl
-body_taken (Chain blocks bytes) = refl
-body_taken (Directory_at pair) = refl
-
-name_taken : NamesAreDecided → (b : Body) (n : List ℕ) → IsName n → kind_takes_name (stored_kind b) n ≡ true
-name_taken decided (Inline bytes) n is = (decided n).1 is
-name_taken decided (Chain blocks bytes) n is = (decided n).1 is
-name_taken decided (Directory_at pair) n is = (decided n).1 is
-
 abbrev AreNamed : List Entry → Type 0
 AreNamed es = All (λ e. IsName e.name) es
 
@@ -103,19 +71,6 @@ stored_whole decided bytes attributes p names = by (is_first p)
     by false = each_whole decided p.entries names
 
 -- ---- names, by parts
-
-parts_named : (ps : List Part) → AreNamed (entries_of ps) → All (λ p. AreNamed p.entries) ps
-parts_named [] all = All-nil (λ (p : Part). AreNamed p.entries)
-parts_named (p ∷ ps) all =
-    All-cons (λ (q : Part). AreNamed q.entries) p ps (All-left (λ (e : Entry). IsName e.name) p.entries (entries_of ps) all)
-    (parts_named ps (All-right (λ (e : Entry). IsName e.name) p.entries (entries_of ps) all))
-
-thread_named : (ds : List Directory) → All (λ d. AreNamed (entries d)) ds → All (λ p. AreNamed p.entries) (thread ds)
-thread_named [] all = All-nil (λ (p : Part). AreNamed p.entries)
-thread_named (d ∷ ds) all =
-    All-append (λ (p : Part). AreNamed p.entries) (parts d) (thread ds)
-    (parts_named (parts d) (All-head (λ (x : Directory). AreNamed (entries x)) d ds all))
-    (thread_named ds (All-tail (λ (x : Directory). AreNamed (entries x)) d ds all))
 
 sound_named : (v : Volume) → IsSound v → All (λ p. AreNamed p.entries) (thread v.directories)
 sound_named v sound =

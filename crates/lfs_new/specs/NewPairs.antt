@@ -1,6 +1,7 @@
 -- Which outlines can be written into an image (own).
 use Rattle.std.specs.Prelude.{ℕ, ◌≡◌, ◌≤◌, ◌+◌, All, if◌then◌else◌, length, replicate, sum_by}
 use Rattle.lfs_block.specs.Disk.{Disk, IsDisk, block_of}
+use Rattle.lfs_meta.specs.Runs.{most_entries}
 use Rattle.lfs_fs.specs.Directory.{Part, thread}
 use Rattle.lfs_fs.specs.Sound.{IsSound}
 use Rattle.lfs_fs.specs.Volume.{Volume}
@@ -18,7 +19,7 @@ front_count p = if is_first p then 1 else 0
 
 -- A part fits the first block of its pair, the second one is erased, and the part has no share of the global state.
 pub record FitsNewPair (d : Disk) (o : Volume) (p : Part) : Type 0 where
-  pub few : front_count p + length p.entries ≤ 1000
+  pub few : front_count p + length p.entries ≤ most_entries
   pub light : front_weight o p + sum_by weight p.entries ≤ room o
   pub none : p.delta ≡ 0
   pub erased : block_of d p.pair.1 ≡ replicate d.size 0xff

@@ -7,7 +7,7 @@ use Rattle.lfs_command.specs.declared.refusal.Refusal.{Refusal}
 use Rattle.lfs_command.specs.declared.refusal.Refusal.TheVariants.{Memory}
 use Rattle.lfs_command.specs.Command.{SetAttr}
 use Rattle.lfs_command.specs.Verdict.{verdict}
-use Rattle.lfs_ends.specs.Leading.{CarriesOut}
+use Rattle.lfs_command.specs.Planned.{CarriesOut}
 use Rattle.lfs_build.specs.declared.new_volume.NewVolume.{NewVolume}
 use Rattle.lfs_build.specs.NewVolumes.{RefusesRootAttribute, SetsRootAttribute}
 use Rattle.lfs_pack.specs.Packed.{setting}

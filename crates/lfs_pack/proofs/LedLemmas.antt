@@ -11,29 +11,19 @@ use Rattle.lfs_fs.specs.Path.{Path}
 use Rattle.lfs_fs.specs.Row.{path_precedes, PathsAreOrdered}
 use Rattle.lfs_fs.specs.Tree.{Node, File, Dir, tree}
 use Rattle.lfs_fs.specs.Volume.{Volume}
-use Rattle.lfs_command.specs.Accepted.{Follows}
 use Rattle.lfs_command.specs.Command.{Command, Mkdir, Put, SetAttr}
-use Rattle.lfs_command.specs.Cut.{cut}
-use Rattle.lfs_command.specs.Edited.{edited}
 use Rattle.lfs_command.specs.Equation.{with_attributes, attributes_at}
 use Rattle.lfs_command.specs.PathMap.{same_path, put_at}
-use Rattle.lfs_law.specs.Laws.{CutsFollow, CleansFollow}
+use Rattle.lfs_command.specs.Planned.{CarriesOut}
 use Rattle.lfs_law.proofs.PathMapLemmas.{same_path_decides, same_path_or_not, put_at_there, put_at_other}
+use Rattle.lfs_law.proofs.CarriedFollow.{CarriedFollow}
 use Rattle.lfs_pack.specs.Packed.{Packed, packed_node, packed_at, making, setting, row_commands, commands}
 use Rattle.lfs_pack.specs.Packed.{Rise, KindsRise}
-use Rattle.lfs_ends.specs.Leading.{CarriesOut, Lead}
+use Rattle.lfs_ends.specs.Leading.{Lead}
+use Rattle.lfs_build.proofs.OpenedLemmas.{if_true}
 use Rattle.lfs_pack.specs.Laws.{LedToTheirMap}
 
 -- ---- one command
-
--- an accepted command follows
-abbrev pub CarriedFollow : Type 0
-CarriedFollow = (c : Command) (v w : Volume) → CarriesOut c v w → Follows v c w
-
-pub carried_follow : CutsFollow → CleansFollow → CarriedFollow
-carried_follow cuts cleans c v w does =
-    subst (Follows v c) (sym does.is)
-    (cleans v (cut does.chosen (edited v c does.supplies)) c (cuts v c does.supplies does.chosen does.accepted does.pairs))
 
 -- ---- maps
 
@@ -180,10 +170,6 @@ if_not : {X : Type 0} (b : Bool) (x y : X) → (b ≡ true → ⊥) → (if b th
 if_not true x y h = absurd (h refl)
 if_not false x y h = refl
 
-if_so : {X : Type 0} (b : Bool) (x y : X) → b ≡ true → (if b then x else y) ≡ x
-if_so true x y h = refl
-if_so false x y h = absurd (cc)
-
 -- none of the rows has the path
 abbrev Lack : Path → List Packed → Type 0
 Lack q rs = All (λ (s : Packed). s.path ≡ q → ⊥) rs
@@ -200,7 +186,7 @@ over_first : (r : Packed) (rs : List Packed) (old : Path → Option Node) (q : P
 over_first r rs old q lack = elim (same_path_or_not r.path q) [
   | inl same ↦ subst (λ (x : Path). over rs (with_row r old) x ≡ over (r ∷ rs) old x) same
       (over_none rs (with_row r old) r.path lack ∙ put_at_there r.path (Some (packed_node r.bytes r.attributes)) old
-      ∙ sym (if_so (same_path r.path r.path) (Some (packed_node r.bytes r.attributes)) (over rs old r.path) ((same_path_decides r.path r.path).1 refl)))
+      ∙ sym (if_true (same_path r.path r.path) (Some (packed_node r.bytes r.attributes)) (over rs old r.path) ((same_path_decides r.path r.path).1 refl)))
   | inr other ↦ over_same rs old (with_row r old) q (put_at_other r.path (Some (packed_node r.bytes r.attributes)) old q other)
       ∙ sym (if_not (same_path r.path q) (Some (packed_node r.bytes r.attributes)) (over rs old q)
       (λ h. other ((same_path_decides r.path q).0 h)))
@@ -302,9 +288,9 @@ over_new (r ∷ rs) old q none =
 over_formatted : (size count : ℕ) (r : Packed) (rs : List Packed) (q : Path) → r.path ≡ []
     → over (r ∷ rs) (tree (formatted_volume size count)) q ≡ packed_at (r ∷ rs) q
 over_formatted size count r rs [] root =
-    if_so (same_path r.path []) (Some (packed_node r.bytes r.attributes)) (over rs (tree (formatted_volume size count)) [])
+    if_true (same_path r.path []) (Some (packed_node r.bytes r.attributes)) (over rs (tree (formatted_volume size count)) [])
     ((same_path_decides r.path []).1 root)
-    ∙ sym (if_so (same_path r.path []) (Some (packed_node r.bytes r.attributes)) (packed_at rs []) ((same_path_decides r.path []).1 root))
+    ∙ sym (if_true (same_path r.path []) (Some (packed_node r.bytes r.attributes)) (packed_at rs []) ((same_path_decides r.path []).1 root))
 over_formatted size count r rs (n ∷ q) root = over_new (r ∷ rs) (tree (formatted_volume size count)) (n ∷ q) (new_tree size count n q)
 
 root_stands : (size count : ℕ) (p : Path) (bytes : Option (List ℕ)) → p ≡ [] → bytes ≡ None

@@ -11,6 +11,7 @@ use Rattle.lfs_fs.specs.Volume.{Volume}
 use Rattle.lfs_command.specs.declared.refusal.Refusal.{Refusal}
 use Rattle.lfs_command.specs.declared.refusal.Refusal.TheVariants.{Memory}
 use Rattle.lfs_command.specs.Command.{Command}
+use Rattle.lfs_law.proofs.CarriedFollow.{CarriedFollow}
 use Rattle.lfs_edit.specs.Formatted.{disk_with}
 use Rattle.lfs_ends.specs.Leading.{Lead}
 use Rattle.lfs_build.specs.declared.new_volume.NewVolume.{NewVolume}
@@ -21,7 +22,6 @@ use Rattle.lfs_pack.specs.Packed.{AreRowsOf, IsRowOf, Packed, attribute_of, comm
 use Rattle.lfs_pack.specs.Packing.{IsNotPacked, IsPacked, RefusesPack}
 use Rattle.lfs_pack.specs.RowsAdded.{AddsRows, AreStopped, IsBareAt, PacksVolume, RefusesAll, RefusesRows, SetsAll}
 use Rattle.lfs_pack.proofs.BareIsAt.{bare_is_at}
-use Rattle.lfs_pack.proofs.LedLemmas.{CarriedFollow}
 use Rattle.lfs_pack.proofs.LedOn.{led_on, stopped_first, stopped_then}
 use Rattle.lfs_pack.proofs.RowsSpelled.{same_rows}
 

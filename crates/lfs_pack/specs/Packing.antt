@@ -8,12 +8,12 @@ use Rattle.lfs_fs.specs.Tree.{tree}
 use Rattle.lfs_fs.specs.Sound.{IsSound}
 use Rattle.lfs_fs.specs.Reading.{reading_of}
 use Rattle.lfs_fs.specs.Holds.{Holds}
+use Rattle.lfs_fs.specs.Limits.{new_limits}
 use Rattle.lfs_command.specs.declared.refusal.Refusal.{Refusal}
 use Rattle.lfs_command.specs.declared.refusal.Refusal.TheVariants.{Memory}
 use Rattle.lfs_command.specs.Command.{Command}
 use Rattle.lfs_command.specs.Verdict.{verdict}
 use Rattle.lfs_edit.specs.Formatted.{disk_with}
-use Rattle.lfs_law.specs.SuperblockBytes.{new_limits}
 use Rattle.lfs_pack.specs.Packed.{Packed, commands, packed_at}
 use Rattle.lfs_ends.specs.Leading.{Lead}
 

@@ -5,6 +5,7 @@ use Rattle.std.proofs.lemmas.List.{append-nil, append_assoc, map-append}
 use Rattle.std.specs.List.{AllZip}
 use Rattle.lfs_meta.specs.Name.{IsName}
 use Rattle.lfs_fs.specs.Path.{Path, path_text}
+use Rattle.lfs_fs.specs.Limits.{most_file}
 use Rattle.lfs_fs.specs.Ordered.{PathsRise}
 use Rattle.lfs_fs.specs.Row.{path_precedes}
 use Rattle.lfs_command.specs.declared.refusal.Refusal.TheVariants.{Memory as No_memory}
@@ -16,7 +17,7 @@ use Rattle.lfs_folder.specs.HostNames.{IsHostName}
 use Rattle.lfs_host.specs.HostTree.{HostTree}
 use Rattle.lfs_pack.specs.declared.pack_row.PackRow.{PackRow}
 use Rattle.lfs_pack.specs.Packed.{ArePackable, BeginAtRoot, IsRowOf, KindsRise, Packed, Rise}
-use Rattle.lfs_serve.specs.HostFolder.{PacksFolder, ReadsNoFolder, RowText, folder_text, most_contents, pack_text, packed_of}
+use Rattle.lfs_serve.specs.HostFolder.{PacksFolder, ReadsNoFolder, RowText, folder_text, pack_text, packed_of}
 
 -- ---- rows of paths can be packed
 
@@ -90,7 +91,7 @@ rows_of (row ∷ rows) (f ∷ folder) (r ∷ shown) same spelled fits = (
 
 -- the rows of a folder are packed
 pub packs : (tree : Option HostTree) (dir : List ℕ) (folder : List FolderRow) (rows : List PackRow)
-    → IsFolder most_contents tree dir folder → map pack_text rows ≡ map folder_text folder → PacksFolder tree dir rows
+    → IsFolder most_file tree dir folder → map pack_text rows ≡ map folder_text folder → PacksFolder tree dir rows
 packs tree dir folder rows is same = record {
   shown = is.shown;
   ordered = is.ordered;

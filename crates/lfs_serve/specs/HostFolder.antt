@@ -9,15 +9,12 @@ use Rattle.lfs_folder.specs.declared.folder_row.FolderRow.{FolderRow}
 use Rattle.lfs_folder.specs.declared.folder_fault.FolderFault.{FolderFault}
 use Rattle.lfs_folder.specs.declared.folder_fault.FolderFault.TheVariants.{Memory, HostEntry, HostName, CannotRead}
 use Rattle.lfs_folder.specs.FolderRows.{AreAllBelow, AreFolderRows, PathRow, Refuses}
+use Rattle.lfs_fs.specs.Limits.{most_file}
 use Rattle.lfs_host.specs.HostTree.{HostTree}
 use Rattle.lfs_pack.specs.declared.pack_row.PackRow.{PackRow}
 use Rattle.lfs_pack.specs.Packed.{AreRowsOf, Packed, attribute_of, row_bytes}
 use Rattle.lfs_request.specs.declared.task.Task.{Task}
 use Rattle.lfs_request.specs.declared.task.Task.TheVariants.{Pack}
-
--- the most bytes that a file in an image has
-abbrev pub most_contents : ℕ
-most_contents = 2147483647
 
 -- ---- what is read
 
@@ -42,7 +39,7 @@ packed_of r = record { path = r.path; bytes = r.bytes; attributes = [] }
 pub record PacksFolder (tree : Option HostTree) (dir : List ℕ) (rows : List PackRow) : Type 0 where
   pub shown : List PathRow
   pub ordered : AreFolderRows shown
-  pub all : IfSome tree (λ t. AreAllBelow most_contents t dir shown)
+  pub all : IfSome tree (λ t. AreAllBelow most_file t dir shown)
   pub packed : AreRowsOf rows (map packed_of shown)
 
 -- the rows that a task packs are those of its folder

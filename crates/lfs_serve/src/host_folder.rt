@@ -2,8 +2,9 @@
 
 ghost use Rattle.std.specs.Prelude.{◌≡◌, IfErr, IfOk, map};
 ghost use Rattle.lfs_folder.specs.FolderRows.{IsFolder};
+ghost use Rattle.lfs_fs.specs.Limits.{most_file};
 ghost use Rattle.lfs_host.specs.Scene.{KeepsAll};
-ghost use Rattle.lfs_serve.specs.HostFolder.{ReadsNoFolder, fault_of_folder, folder_text, most_contents, pack_text};
+ghost use Rattle.lfs_serve.specs.HostFolder.{ReadsNoFolder, fault_of_folder, folder_text, pack_text};
 
 use lfs_edit::Refusal;
 use lfs_folder::{FolderFault, FolderRow, folder_rows};
@@ -14,7 +15,7 @@ use std::alloc::{AllocError, Global};
 
 /// What is below a folder, the folder itself first.
 pub fn folder_of<H: Host>(alloc: Global, host: &mut H, dir: &str) -> Result<Vec<FolderRow>, Fault>
-    ensures read { IfOk result (λ folder. IsFolder most_contents (H.known host.old).tree dir.now folder.items) }
+    ensures read { IfOk result (λ folder. IsFolder most_file (H.known host.old).tree dir.now folder.items) }
     ensures refused { IfErr result (ReadsNoFolder (H.known host.old).tree dir.now) }
     ensures kept { KeepsAll (H.known host.old) (H.known host.new) }
 {

@@ -11,15 +11,12 @@ use crate::extracting::extracted;
 use crate::host_folder::{folder_of, pack_rows};
 use crate::stated::stated_for;
 use crate::stop::Stop;
-use lfs_block::ImageFault;
+use lfs_block::{BLOCK_SIZE_STEP, ImageFault};
 use lfs_exchange::{Handed, Output, aimed, hand_over, kind_of, stored, tell_of_image};
 use lfs_host::Host;
 use lfs_request::{Request, Task, byte_of, bytes_of};
 use lfs_step::{Fault, Outcome, Step, run};
 use std::alloc::Global;
-
-/// What a block size is a multiple of, in bytes.
-const GRAIN: u32 = 16;
 
 /// Does what is asked for, and answers the status that the program ends with. A fault is told on standard error, with
 /// what is known of it beside. Takes memory.
@@ -47,9 +44,9 @@ fn tell_of<H: Host>(host: &mut H, request: &Request<'_>, stop: &Stop) -> u8
             stated.count, stated.size
         ));
     }
-    if size % GRAIN != 0 && matches!(stop.fault, Fault::Image(ImageFault::BadGeometry)) {
+    if size % BLOCK_SIZE_STEP != 0 && matches!(stop.fault, Fault::Image(ImageFault::BadGeometry)) {
         host.complain(format_args!(
-            "lfsed: --block {size}: a block is a multiple of {GRAIN} bytes\n"
+            "lfsed: --block {size}: a block is a multiple of {BLOCK_SIZE_STEP} bytes\n"
         ));
     }
     status

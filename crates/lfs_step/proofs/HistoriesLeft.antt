@@ -1,7 +1,7 @@
 -- What a step leaves denotes the history to which it leads.
-use Rattle.std.proofs.Common.{◌≡◌, ◌≢◌, ℕ, List, [], Option, None, refl, sym, subst, arith}
+use Rattle.std.proofs.Common.{◌≡◌, ℕ, List, [], Option, None, refl, sym, subst, arith}
 use Rattle.lfs_block.specs.Disk.{Disk, IsDisk}
-use Rattle.lfs_book.specs.Book.{Book, book_of, journal_bytes}
+use Rattle.lfs_book.specs.Book.{book_of, journal_bytes}
 use Rattle.lfs_edit.specs.Formatted.{disk_with}
 use Rattle.lfs_history.specs.History.{History, IsHistory, IsMounted, fresh_history}
 use Rattle.lfs_history.specs.OpeningLaws.{JournalsDenoteOneHistory, SavedHistoriesOpen}
@@ -13,16 +13,12 @@ use Rattle.lfs_change.specs.Change.{Denotes, DenotesOn, journal_read}
 use Rattle.lfs_change.specs.Laws.{ChangedBytesAreDenoted}
 use Rattle.lfs_change.proofs.BytesLemmas.{image_of_disk}
 use Rattle.lfs_change.proofs.ChangeLemmas.{opened_denotes}
-use Rattle.lfs_change.proofs.LawLemmas.{one_denoted}
+use Rattle.lfs_change.proofs.LawLemmas.{one_denoted, some_bytes}
 use Rattle.lfs_step.specs.Deed.{Deed, Make, Pack, Ask, Change}
 use Rattle.lfs_step.specs.Histories.{KeepsHistories, StepsLeaveHistories}
 use Rattle.lfs_step.specs.Outcome.{Answers, AnswersBy, Given}
 
 -- ---- a new image
-
-some_bytes : (j : Book) → journal_bytes j ≢ []
-unfolding journal_bytes
-some_bytes j none = cc
 
 pub fresh_is : (d : Disk) → IsDisk d → IsMounted d → IsHistory (fresh_history d)
 fresh_is d disk mounts = record {

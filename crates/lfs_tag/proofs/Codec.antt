@@ -1,26 +1,18 @@
 -- What is read is spelled so, and what is spelled so is read.
 use Rattle.std.proofs.Common.{◌≡◌, ℕ, ◌+◌, ◌^◌, ◌<◌, ◌≤◌, Bool, true, false, cond, ltb, leb, ◌&&◌, List, [], ◌∷◌, ◌++◌, length, take, drop}
-use Rattle.std.proofs.Common.{Some, None, refl, sym, ap, subst, ◌∙◌, inl, inr, append_assoc, arith, bit_xor}
+use Rattle.std.proofs.Common.{Some, None, refl, sym, ap, subst, ◌∙◌, append_assoc, arith, bit_xor}
 use Rattle.std.specs.Int.{w32, from_be_bytes, to_be_bytes}
 use Rattle.std.specs.Int.Bits.{xor_assoc, xor_self, xor_zero_r}
-use Rattle.std.proofs.lemmas.Bool.{cases_lt, ltb-false, ltb-true, leb-true, le-ltb, lt-ltb, le-leb}
-use Rattle.std.proofs.lemmas.List.{take_at, drop_at, take-append-drop, length-append, length-take, get_or-drop, get_or-take, get_or_past}
+use Rattle.std.proofs.lemmas.Bool.{ltb-false, ltb-true, leb-true, le-ltb, lt-ltb, le-leb, and_parts}
+use Rattle.std.proofs.lemmas.List.{take_at, drop_at, take-append-drop, length-append, length-take}
 use Rattle.std.proofs.lemmas.Nat.{be_bytes_4, from_be_bytes-to_be_bytes_4, xor_lt}
+use Rattle.std.proofs.lemmas.Option.{cond_some}
 use Rattle.lfs_block.specs.Bytes.{IsBytes}
+use Rattle.lfs_block.proofs.PutLemmas.{IsBytes-drop, IsBytes-take}
 use Rattle.lfs_tag.specs.Tag.{data_len}
 use Rattle.lfs_tag.specs.Commit.{Item}
 use Rattle.lfs_tag.specs.Reading.{TagFront, tag_behind, tag_at}
-use Rattle.lfs_tag.proofs.Steps.{guard_some, guard_none}
-
-pub IsBytes-drop : (n : ℕ) (bytes : List ℕ) → IsBytes bytes → IsBytes (drop n bytes)
-IsBytes-drop n bytes h i = rw get_or-drop (h (n + i))
-
-pub IsBytes-take : (n : ℕ) (bytes : List ℕ) → IsBytes bytes → IsBytes (take n bytes)
-IsBytes-take n bytes h i =
-    elim (cases_lt i n) [
-      | inl lt ↦ rw (get_or-take n bytes i 0 lt) (h i)
-      | inr le ↦ rw (get_or_past (take n bytes) i 0 (omega (arith, length-take n bytes))) (omega arith)
-    ]
+use Rattle.lfs_tag.proofs.Steps.{guard_none}
 
 pub IsBytes-front : (a b : List ℕ) → IsBytes (a ++ b) → IsBytes a
 IsBytes-front a b h = subst IsBytes (take_at a b (length a) refl) (IsBytes-take (length a) (a ++ b) h)
@@ -31,11 +23,6 @@ IsBytes-back a b h = subst IsBytes (drop_at a b (length a) refl) (IsBytes-drop (
 -- the same word XORed twice
 pub xor_twice : (a b : ℕ) → bit_xor (bit_xor a b) b ≡ a
 xor_twice a b = xor_assoc a b b ∙ ap (bit_xor a) (xor_self b) ∙ xor_zero_r a
-
-pub and_true : (a b : Bool) → (a && b) ≡ true → (a ≡ true) × (b ≡ true)
-and_true true true e = (refl, refl)
-and_true true false e = absurd cc
-and_true false b e = absurd cc
 
 -- ---- tags
 
@@ -58,8 +45,8 @@ tag_takes prev bytes f h e =
     let a = guard_none (ltb (length bytes) 4) (tag_behind (take 4 bytes) word behind) f e in
     let long : 4 ≤ length bytes = ltb-false _ _ a.0 in
     let found : TagFront = record { stored = take 4 bytes; item = record { word = word; content = take n behind }; rest = drop n behind } in
-    let b = guard_some (ltb word (2 ^ 31) && leb n (length behind)) found f a.1 in
-    let t = and_true (ltb word (2 ^ 31)) (leb n (length behind)) b.0 in
+    let b = cond_some (ltb word (2 ^ 31) && leb n (length behind)) found f a.1 in
+    let t = and_parts (ltb word (2 ^ 31)) (leb n (length behind)) b.0 in
     let fits : n ≤ length behind = leb-true _ _ t.1 in
     let back : to_be_bytes w32 number ≡ take 4 bytes = be_bytes_4 (take 4 bytes) number (omega (arith, length-take 4 bytes))
     (IsBytes-take 4 bytes h) refl in

@@ -3,16 +3,18 @@ use Rattle.std.proofs.Common.{◌≡◌, ◌≢◌, ℕ, zero, suc, ◌^◌, ◌
 use Rattle.std.proofs.Common.{length, take, drop, Option, Some, None, option_map, refl, sym, ap, subst, ◌∙◌, append_assoc, arith, bit_xor}
 use Rattle.std.proofs.Common.{eq-eqb}
 use Rattle.std.specs.Int.{w32, to_be_bytes, from_le_bytes, to_le_bytes}
-use Rattle.std.proofs.lemmas.Bool.{eqb-true, ltb-true, leb-true, lt-ltb, le-leb}
+use Rattle.std.proofs.lemmas.Bool.{eqb-true, ltb-true, leb-true, lt-ltb, le-leb, and_parts}
 use Rattle.std.proofs.lemmas.List.{take-append-drop, length-take, length-drop}
 use Rattle.std.proofs.lemmas.Nat.{le_bytes_4, from_le_bytes-to_le_bytes_4}
+use Rattle.std.proofs.lemmas.Option.{cond_some}
 use Rattle.lfs_block.specs.Checksum.{crc}
 use Rattle.lfs_block.specs.Bytes.{IsBytes}
+use Rattle.lfs_block.proofs.PutLemmas.{IsBytes-take}
 use Rattle.lfs_tag.specs.Tag.{main_kind, len_of, data_len}
 use Rattle.lfs_tag.specs.Commit.{Item, Commit, IsItem, IsCommit, tags_bytes, last_word, covered_bytes, commit_bytes}
 use Rattle.lfs_tag.specs.Reading.{TagFront, tag_at, CommitFront, with_tag, closed, commit_step, commit_within, commit_at}
-use Rattle.lfs_tag.proofs.Steps.{guard_some, map_some, commit_at-closed, commit_at-more}
-use Rattle.lfs_tag.proofs.Codec.{IsBytes-take, IsBytes-front, IsBytes-back, and_true, TagTakes, tag_takes, tag_again}
+use Rattle.lfs_tag.proofs.Steps.{map_some, commit_at-closed, commit_at-more}
+use Rattle.lfs_tag.proofs.Codec.{IsBytes-front, IsBytes-back, TagTakes, tag_takes, tag_again}
 use Rattle.lfs_tag.proofs.Sums.{crc-append, crc-below}
 
 -- a commit as it is stored where `sum` is the checksum of its lead
@@ -69,11 +71,11 @@ unfolding closed
 closed_takes sum prev bytes f r t kind e =
     let content : List ℕ = f.item.content in
     let found : CommitFront = record { commit = record { tags = []; closing = f.item.word; padding = drop 4 content }; rest = f.rest } in
-    let g = guard_some ((ltb (len_of f.item.word) 0x3ff && leb 4 (length content))
+    let g = cond_some ((ltb (len_of f.item.word) 0x3ff && leb 4 (length content))
     && eqb (from_le_bytes w32 (take 4 content)) (crc sum f.stored)) found r e in
-    let a = and_true (ltb (len_of f.item.word) 0x3ff && leb 4 (length content))
+    let a = and_parts (ltb (len_of f.item.word) 0x3ff && leb 4 (length content))
     (eqb (from_le_bytes w32 (take 4 content)) (crc sum f.stored)) g.0 in
-    let b = and_true (ltb (len_of f.item.word) 0x3ff) (leb 4 (length content)) a.0 in
+    let b = and_parts (ltb (len_of f.item.word) 0x3ff) (leb 4 (length content)) a.0 in
     let live : len_of f.item.word < 0x3ff = ltb-true _ _ b.0 in
     let long : 4 ≤ length content = leb-true _ _ b.1 in
     let value : from_le_bytes w32 (take 4 content) ≡ crc sum f.stored = eqb-true _ _ a.1 in

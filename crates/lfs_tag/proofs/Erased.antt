@@ -5,23 +5,24 @@ use Rattle.std.proofs.Common.{arith, bit_xor, bit_and}
 use Rattle.std.specs.Int.{w32, from_be_bytes, to_be_bytes, to_le_bytes}
 use Rattle.std.specs.Int.Bits.{xor_add_and}
 use Rattle.std.specs.List.{AllByRecursion}
-use Rattle.std.proofs.lemmas.Bool.{cases_lt, ltb-false, ltb-true, eq-eqb}
+use Rattle.std.proofs.lemmas.Bool.{cases_lt, ltb-false, ltb-true, eq-eqb, and_parts}
 use Rattle.std.proofs.lemmas.List.{take_at, take-append-drop, append-nil, length-append, length-take, get_or_past}
 use Rattle.std.proofs.lemmas.List.Concat.{flat_map-cons}
 use Rattle.std.proofs.lemmas.List.Elements.{All-take, All-drop}
 use Rattle.std.proofs.Math.Seq.{drop-append-add}
 use Rattle.std.proofs.lemmas.Nat.{xor_comm}
 use Rattle.std.proofs.lemmas.Grind.{and_numeral}
+use Rattle.std.proofs.lemmas.Option.{cond_some}
 use Rattle.lfs_block.specs.Checksum.{crc}
 use Rattle.lfs_block.specs.Bytes.{IsBytes}
 use Rattle.lfs_block.specs.Disk.{put_at}
+use Rattle.lfs_block.proofs.PutLemmas.{IsBytes-take}
 use Rattle.lfs_tag.specs.Tag.{main_kind, data_len}
 use Rattle.lfs_tag.specs.Commit.{Item, Commit, IsItem, IsCommit, tags_bytes, last_word, covered_bytes, commit_bytes, next_word}
 use Rattle.lfs_tag.specs.Log.{IsErased, commits_bytes, final_word, next_lead, IsLog, log_tags}
 use Rattle.lfs_tag.specs.Reading.{TagFront, tag_behind, tag_at, with_tag, commit_at}
 use Rattle.lfs_tag.specs.Writing.{lead_at}
-use Rattle.lfs_tag.proofs.Steps.{guard_some, guard_none, commit_at-none, commit_at-more}
-use Rattle.lfs_tag.proofs.Codec.{and_true, IsBytes-take}
+use Rattle.lfs_tag.proofs.Steps.{guard_none, commit_at-none, commit_at-more}
 use Rattle.lfs_tag.proofs.Logs.{no_commit, final_word-below}
 
 pub ones : (a : ℕ) → a < 2 ^ 32 → bit_xor 0xffffffff a ≡ 0xffffffff - a
@@ -58,8 +59,8 @@ erased_tag prev bytes f h e =
       item = record { word = word; content = take (data_len word) behind };
       rest = drop (data_len word) behind;
     } in
-    let b = guard_some (ltb word (2 ^ 31) && leb (data_len word) (length behind)) found f a.1 in
-    let t = and_true (ltb word (2 ^ 31)) (leb (data_len word) (length behind)) b.0 in
+    let b = cond_some (ltb word (2 ^ 31) && leb (data_len word) (length behind)) found f a.1 in
+    let t = and_parts (ltb word (2 ^ 31)) (leb (data_len word) (length behind)) b.0 in
     let all : ErasedTag prev found = record {
       valid = ltb-true _ _ t.0;
       word = ap (λ (n : ℕ). bit_xor n prev) (erased_word (take 4 bytes) (All-take (λ b. b ≡ 255) 4 bytes h)

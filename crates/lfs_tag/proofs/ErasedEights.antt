@@ -1,13 +1,14 @@
 -- Bytes are tested for erasure eight by eight.
-use Rattle.std.proofs.Common.{◌≡◌, ℕ, zero, suc, ◌+◌, ◌*◌, ◌/◌, ◌<◌, ◌==◌, ◌&&◌, Bool, true, nat_eq, List, [], ◌∷◌, ◌++◌, length, take}
-use Rattle.std.proofs.Common.{drop, slice_index_or, refl, sym, ap, ap₂, ◌∙◌, inl, inr, arith}
+use Rattle.std.proofs.Common.{◌≡◌, ℕ, zero, suc, ◌*◌, ◌/◌, ◌<◌, ◌==◌, ◌&&◌, Bool, true, nat_eq, List, [], ◌∷◌, length, take}
+use Rattle.std.proofs.Common.{drop, slice_index_or, refl, sym, ap, ◌∙◌, inl, inr, arith}
 use Rattle.std.specs.Int.{w64, from_le_bytes}
 use Rattle.std.specs.List.{list_all}
 use Rattle.std.specs.Simd.{first_chunks}
 use Rattle.std.proofs.lemmas.Bool.{false_from_ne_true}
 use Rattle.std.proofs.lemmas.Bool.Decides.{eqb_tells, Decides-by_and, Decides-eqb}
-use Rattle.std.proofs.lemmas.List.{take-append-drop, drop-take, take-take}
+use Rattle.std.proofs.lemmas.List.{take-append-drop}
 use Rattle.std.proofs.lemmas.List.Folds.{list_all-append}
+use Rattle.lfs_block.proofs.ChecksumLemmas.{take-more}
 use Rattle.lfs_tag.specs.Log.{IsErased}
 use Rattle.lfs_tag.specs.LogSeen.{is_erased}
 
@@ -66,11 +67,6 @@ erased-eight (_ ∷ _ ∷ _ ∷ _ ∷ _ ∷ _ ∷ _ ∷ []) len fits = absurd cc
 erased-eight (a ∷ b ∷ c ∷ d ∷ e ∷ f ∷ g ∷ h ∷ []) len fits = eight-ones a b c d e f g h (fits 0) (fits 1) (fits 2) (fits 3) (fits 4)
     (fits 5) (fits 6) (fits 7)
 erased-eight (_ ∷ _ ∷ _ ∷ _ ∷ _ ∷ _ ∷ _ ∷ _ ∷ _ ∷ bytes) len fits = absurd (omega arith)
-
-take-more : (m n : ℕ) (bytes : List ℕ) → take m bytes ++ take n (drop m bytes) ≡ take (m + n) bytes
-take-more m n bytes =
-    ap₂ ◌++◌ (sym (take-take m (m + n) bytes (omega arith))) (sym (drop-take m n bytes))
-    ∙ take-append-drop m (take (m + n) bytes)
 
 -- chunks of eight bytes are erased where their bytes are
 erased-chunks : (n : ℕ) (bytes : List ℕ) → list_all is_erased (first_chunks 8 n bytes) ≡ is_erased (take (n * 8) bytes)

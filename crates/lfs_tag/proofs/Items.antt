@@ -3,13 +3,13 @@ use Rattle.std.proofs.Common.{◌≡◌, ◌≢◌, ℕ, zero, suc, ◌^◌, ◌
 use Rattle.std.proofs.Common.{drop, Option, Some, None, refl, subst, arith, bit_xor, eq-eqb}
 use Rattle.std.specs.Int.{w32, from_be_bytes}
 use Rattle.std.specs.List.{AllByRecursion}
-use Rattle.std.proofs.lemmas.Bool.{ltb-true, leb-true}
+use Rattle.std.proofs.lemmas.Bool.{ltb-true, leb-true, and_parts}
 use Rattle.std.proofs.lemmas.List.{length-take}
+use Rattle.std.proofs.lemmas.Option.{cond_some}
 use Rattle.lfs_tag.specs.Tag.{main_kind, data_len}
 use Rattle.lfs_tag.specs.Commit.{Item, IsItem, word_after}
 use Rattle.lfs_tag.specs.Reading.{TagFront, tag_behind, tag_at, tags_step, tags_within, tags_at}
-use Rattle.lfs_tag.proofs.Steps.{guard_some, guard_none}
-use Rattle.lfs_tag.proofs.Codec.{and_true}
+use Rattle.lfs_tag.proofs.Steps.{guard_none}
 
 record IsValid (f : TagFront) : Type 0 where
   valid : f.item.word < 2 ^ 31
@@ -26,8 +26,8 @@ tag_at-valid prev bytes f e =
       item = record { word = word; content = take (data_len word) behind };
       rest = drop (data_len word) behind;
     } in
-    let b = guard_some (ltb word (2 ^ 31) && leb (data_len word) (length behind)) found f a.1 in
-    let t = and_true (ltb word (2 ^ 31)) (leb (data_len word) (length behind)) b.0 in
+    let b = cond_some (ltb word (2 ^ 31) && leb (data_len word) (length behind)) found f a.1 in
+    let t = and_parts (ltb word (2 ^ 31)) (leb (data_len word) (length behind)) b.0 in
     let fits : data_len word ≤ length behind = leb-true _ _ t.1 in
     let all : IsValid found = record { valid = ltb-true _ _ t.0; len = omega (arith, length-take (data_len word) behind) } in
     subst IsValid b.1 all

@@ -7,11 +7,12 @@ use Rattle.std.proofs.lemmas.List.{take_at, drop_at, take-append-drop, length-ta
 use Rattle.std.proofs.lemmas.List.Concat.{flat_map-cons}
 use Rattle.lfs_block.specs.Checksum.{crc}
 use Rattle.lfs_block.specs.Bytes.{IsBytes}
+use Rattle.lfs_block.proofs.PutLemmas.{IsBytes-drop, IsBytes-take}
 use Rattle.lfs_tag.specs.Commit.{Item, Commit, IsItem, IsCommit, commit_bytes, word_after, next_word}
 use Rattle.lfs_tag.specs.Log.{commits_bytes, final_word, next_lead, IsLog, log_tags}
 use Rattle.lfs_tag.specs.Reading.{TagFront, tag_at, CommitFront, commit_at, Front, with_commit, log_from, log_of, tags_at}
 use Rattle.lfs_tag.proofs.Steps.{commit_at-shorter, log_from-none, log_from-more, tags_at-none, tags_at-closed, tags_at-more}
-use Rattle.lfs_tag.proofs.Codec.{IsBytes-drop, IsBytes-take, IsBytes-front, IsBytes-back, tag_again}
+use Rattle.lfs_tag.proofs.Codec.{IsBytes-front, IsBytes-back, tag_again}
 use Rattle.lfs_tag.proofs.Commits.{sealed, commit_bytes-sealed, led_by, CommitTakes, commit_takes, commit_again, closing_item, closing_len}
 use Rattle.lfs_tag.proofs.Commits.{sealed-last, sealed-first}
 use Rattle.lfs_tag.proofs.Sums.{crc-below}

@@ -4,16 +4,12 @@ use Rattle.std.proofs.Common.{length, take, drop, Option, Some, None, option_map
 use Rattle.std.specs.Int.{w32, from_be_bytes}
 use Rattle.std.proofs.lemmas.Bool.{ltb-false}
 use Rattle.std.proofs.lemmas.List.{take-append-drop, length-take, length-append}
+use Rattle.std.proofs.lemmas.Option.{cond_some}
 use Rattle.lfs_block.specs.Checksum.{crc}
 use Rattle.lfs_tag.specs.Tag.{main_kind, data_len}
 use Rattle.lfs_tag.specs.Commit.{Item, word_after, next_word}
 use Rattle.lfs_tag.specs.Reading.{TagFront, tag_behind, tag_at, CommitFront, with_tag, closed, commit_step, commit_within, commit_at, Front}
 use Rattle.lfs_tag.specs.Reading.{with_commit, log_step, log_within, log_from, tags_step, tags_within, tags_at}
-
--- a choice between something and nothing that gave something
-pub guard_some : {A : Type 0} (b : Bool) (x y : A) → cond b (Some x) None ≡ Some y → (b ≡ true) × (x ≡ y)
-guard_some true x y e = (refl, cc)
-guard_some false x y e = absurd cc
 
 pub guard_none : {A : Type 0} (b : Bool) (o : Option A) (y : A) → cond b None o ≡ Some y → (b ≡ false) × (o ≡ Some y)
 guard_none true o y e = absurd cc
@@ -40,7 +36,7 @@ tag_cut prev bytes f e =
     let found : TagFront = record { stored = take 4 bytes; item = record { word = word; content = take n behind }; rest = drop n behind } in
     let a = guard_none (ltb (length bytes) 4) (tag_behind (take 4 bytes) word behind) f e in
     let long : 4 ≤ length bytes = ltb-false _ _ a.0 in
-    let b = guard_some (ltb word (2 ^ 31) && leb n (length behind)) found f a.1 in
+    let b = cond_some (ltb word (2 ^ 31) && leb n (length behind)) found f a.1 in
     let cut : take 4 bytes ++ (take n behind ++ drop n behind) ≡ bytes =
     ap (λ (x : List ℕ). take 4 bytes ++ x) (take-append-drop n behind) ∙ take-append-drop 4 bytes in
     let four : length (take 4 bytes) ≡ 4 = omega (arith, length-take 4 bytes) in
@@ -102,7 +98,7 @@ commit_at-more sum prev bytes f e k =
 closed-rest : (sum : ℕ) (f : TagFront) (r : CommitFront) → closed sum f ≡ Some r → r.rest ≡ f.rest
 unfolding closed
 closed-rest sum f r e =
-    ap (λ (x : CommitFront). x.rest) (sym (guard_some _ (record {
+    ap (λ (x : CommitFront). x.rest) (sym (cond_some _ (record {
       commit =
           record { tags = []; closing = f.item.word; padding = drop 4 f.item.content };
       rest = f.rest;

@@ -1,15 +1,15 @@
 //! What stands at the front of bytes: a tag, a commit.
 
 ghost use Rattle.std.specs.Prelude.{◌≡◌, ◌≤◌, length, take, option_map};
-ghost use Rattle.std.specs.Int.{w32, from_be_bytes, from_le_bytes};
+ghost use Rattle.std.specs.Int.{w32, from_be_bytes};
 ghost use Rattle.lfs_tag.specs.Tag.{word_of};
 ghost use Rattle.lfs_tag.specs.Commit.{word_after};
 ghost use Rattle.lfs_tag.specs.Reading.{tag_at, closed, commit_at};
 ghost use Rattle.lfs_tag.specs.Found.{tag_found, commit_found, commit_seen};
 
 use crate::tag::{CHECKSUM, DELETED, Tag};
-use byteorder::{BigEndian, ByteOrder, LittleEndian};
-use lfs_block::crc32;
+use byteorder::{BigEndian, ByteOrder};
+use lfs_block::{crc32, little_word};
 
 /// The start value of each commit's checksum.
 pub const CHECKSUM_START: u32 = 0xffff_ffff;
@@ -40,14 +40,6 @@ fn big_word(bytes: &[u8]) -> u32
     ensures { result ≡ from_be_bytes w32 bytes.now }
 {
     BigEndian::read_u32(bytes)
-}
-
-/// The first four bytes, the lowest first.
-fn little_word(bytes: &[u8]) -> u32
-    requires { 4 ≤ length bytes.now }
-    ensures { result ≡ from_le_bytes w32 bytes.now }
-{
-    LittleEndian::read_u32(bytes)
 }
 
 /// The tag at the front of `bytes`, behind the word `prev`.

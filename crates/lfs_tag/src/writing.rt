@@ -13,12 +13,12 @@ use crate::edit::Edit;
 use crate::reading::CHECKSUM_START;
 use crate::tag::{NO_ID, Tag};
 use byteorder::{BigEndian, ByteOrder, LittleEndian};
-use lfs_block::crc32;
+use lfs_block::{BLOCK_SIZE_STEP, crc32};
 
 /// The number of bytes of a block's revision, where its first commit begins.
 const REVISION_LEN: usize = 4;
 /// A written commit ends at a multiple of this many bytes of its block.
-const COMMIT_STEP: usize = 16;
+const COMMIT_STEP: usize = BLOCK_SIZE_STEP as usize;
 /// The type of the checksum's tag that closes a written commit.
 const CLOSING_KIND: u16 = 0x500;
 

@@ -7,13 +7,13 @@ use Rattle.lfs_block.specs.Bytes.{IsBytes}
 use Rattle.lfs_block.specs.Change.{Change}
 use Rattle.lfs_block.specs.Disk.{Disk, IsDisk}
 use Rattle.lfs_block.specs.Geometry.{IsBlockSize}
+use Rattle.lfs_meta.proofs.HeldPartLemmas.{block_bytes}
 use Rattle.lfs_file.specs.Capacity.{least_blocks}
 use Rattle.lfs_file.specs.Laws.{LaidAreAsMany, LaidAreBytes, LaidAreWhole}
 use Rattle.lfs_file.specs.Laying.{laid}
 use Rattle.lfs_write.specs.Laid.{AreLaid}
 use Rattle.lfs_command.specs.PartWritten.{change_at, changes_at}
 use Rattle.lfs_law.specs.WrittenLinks.{CanBeMade, block_after}
-use Rattle.lfs_law.proofs.BlockLemmas.{block_bytes}
 use Rattle.lfs_law.proofs.ChangesAt.{change_whole, changes_all, changes_numbers, changes_rising, rising_head, rising_tail}
 
 here_by : (d : Disk) (b : ℕ) (new : List ℕ) (cs : List Change) → block_after d (change_at d b new ∷ cs) b ≡ new

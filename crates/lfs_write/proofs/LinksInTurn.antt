@@ -3,8 +3,7 @@ use Rattle.std.proofs.Common.{◌≡◌, ℕ, ◌+◌, ◌<◌, ◌≤◌, Bool,
 use Rattle.std.proofs.Common.{get_or}
 use Rattle.std.specs.Prelude.{Contains}
 use Rattle.std.proofs.lemmas.Grind.{flat_map-append}
-use Rattle.std.proofs.lemmas.List.{drop_more}
-use Rattle.std.proofs.lemmas.List.Elements.{Contains-append_cases}
+use Rattle.std.proofs.lemmas.List.Elements.{Contains-append_cases, Contains-append_left, Contains-append_right}
 use Rattle.std.proofs.lemmas.List.Sums.{sum_by-append}
 use Rattle.lfs_block.specs.Change.{Change}
 use Rattle.lfs_block.specs.Disk.{Disk, block_of}
@@ -14,16 +13,18 @@ use Rattle.lfs_meta.specs.Body.{Pair}
 use Rattle.lfs_fs.specs.Directory.{Part, Directory}
 use Rattle.lfs_fs.specs.Thread.{Link, links_of, links, hard_to, soft_to}
 use Rattle.lfs_fs.specs.Uses.{times, pair_uses}
+use Rattle.lfs_fs.proofs.ContainsLemmas.{contains_first}
+use Rattle.lfs_fs.proofs.ItemLemmas.{drop_at}
+use Rattle.lfs_fs.proofs.CountLemmas.{element_le}
 use Rattle.lfs_law.specs.PairWritten.{link_to, CanBeAdded}
 use Rattle.lfs_law.specs.WrittenLinks.{changed_blocks, block_after, links_blocks, set_blocks, set_uses, link_part, MakesLink, CanBeWritten}
 use Rattle.lfs_law.specs.WrittenLinks.{IsFreeFor, AddsLink, AreWritten}
 use Rattle.lfs_law.proofs.ChangesAt.{overlaid_none}
-use Rattle.lfs_law.proofs.KeptLinks.{contains_first, contains_left, contains_right}
 use Rattle.lfs_law.proofs.LeastBlocks.{none_or_some}
-use Rattle.lfs_law.proofs.LinksAdded.{times_append, first_used, second_used, one_use, set_use, pair_stays, first_stays, written_uses, links_are_added}
+use Rattle.lfs_law.proofs.LinksAdded.{times_append, first_used, second_used, one_use, set_use, pair_stays, first_stays, written_uses}
+use Rattle.lfs_law.proofs.LinksAdded.{links_are_added}
 use Rattle.lfs_law.proofs.LinksAdded.{links_are_free, no_links_are_written}
 use Rattle.lfs_law.proofs.OutlinesWritten.{none_named}
-use Rattle.lfs_law.proofs.WrittenLemmas.{one_le}
 
 module _ (d : Disk) (bytes : List ℕ) (attributes : Attributes) (is_new : Pair → Bool) where
   uses_both : (n : ℕ) (ls ms : List Link) → set_uses n (ls ++ ms) ≡ set_uses n ls + set_uses n ms
@@ -44,8 +45,8 @@ module _ (d : Disk) (bytes : List ℕ) (attributes : Attributes) (is_new : Pair 
     rising = can.rising;
     made = can.made;
     once = λ n. omega (arith, can.once n, uses_both n ls ms);
-    may = λ l there set. can.may l (contains_left ls ms l there) set;
-    fresh = λ l there set new. can.fresh l (contains_left ls ms l there) set new;
+    may = λ l there set. can.may l (Contains-append_left ls ms l there) set;
+    fresh = λ l there set new. can.fresh l (Contains-append_left ls ms l there) set new;
   }
 
   pub can_behind : (old mid : List Change) (ls ms : List Link) → CanBeAdded d bytes attributes is_new old (ls ++ ms)
@@ -55,8 +56,8 @@ module _ (d : Disk) (bytes : List ℕ) (attributes : Attributes) (is_new : Pair 
     rising = written.rising;
     made = written.made;
     once = λ n. omega (arith, can.once n, uses_both n ls ms, written.named n, written_uses d is_new n ls);
-    may = λ l there set. can.may l (contains_right ls ms l there) set;
-    fresh = λ l there set new. can.fresh l (contains_right ls ms l there) set new;
+    may = λ l there set. can.may l (Contains-append_right ls ms l there) set;
+    fresh = λ l there set new. can.fresh l (Contains-append_right ls ms l there) set new;
   }
 
   -- ---- what is written
@@ -66,7 +67,7 @@ module _ (d : Disk) (bytes : List ℕ) (attributes : Attributes) (is_new : Pair 
       → AreWritten d bytes attributes is_new old ls mid → AreWritten d bytes attributes is_new mid ms new
       → (l : Link) → Contains ls l → l.part.dirty ≡ true → (n : ℕ) → 1 ≤ pair_uses n l.part → block_after d new n ≡ block_after d mid n
   block_stays old mid new ls ms can first second l there set n used =
-      let before : one_use n l ≤ set_uses n ls = one_le (one_use n) ls l there in
+      let before : one_use n l ≤ set_uses n ls = element_le (one_use n) ls l there in
       let none : times n (links_blocks d is_new ms) ≡ 0 = omega (
         arith,
         before,
@@ -160,17 +161,13 @@ module _ (d : Disk) (bytes : List ℕ) (attributes : Attributes) (is_new : Pair 
 
 -- ---- the links of a directory, and of directories
 
--- what is left of a list begins with its next element
-drop_next : {X : Type 0} (xs : List X) (i : ℕ) (x : X) → i < length xs → x ≡ get_or xs i x → drop i xs ≡ x ∷ drop (i + 1) xs
-drop_next xs i x below is = drop_more xs i x below ∙ ap (λ z. z ∷ drop (i + 1) xs) (sym is)
-
 -- of a part behind which there is another one
 pub part_next : (p : Part) (seen more : List Part) (i : ℕ) (q : Part) (tail to_next : Tail) → seen ≡ more → i < length seen
     → q ≡ get_or seen i q → to_next ≡ hard_to q.pair
     → links_of p (drop i more) tail ≡ (link_to p to_next ∷ []) ++ links_of q (drop (i + 1) more) tail
 part_next p seen more i q tail to_next same below is hard =
     subst (λ (ps : List Part). links_of p (drop i ps) tail ≡ (link_to p to_next ∷ []) ++ links_of q (drop (i + 1) ps) tail) same
-    (ap (λ (ps : List Part). links_of p ps tail) (drop_next seen i q below is)
+    (ap (λ (ps : List Part). links_of p ps tail) (drop_at seen i q below is)
     ∙ ap (λ (t : Tail). link_to p t ∷ links_of q (drop (i + 1) seen) tail) (sym hard))
 
 -- of a directory behind which there is another one
@@ -178,5 +175,5 @@ pub directory_next : (e : Directory) (more : List Directory) (i : ℕ) (f : Dire
     → f ≡ get_or more i f → to_next ≡ soft_to f.first.pair
     → links (e ∷ drop i more) ≡ links_of e.first e.more to_next ++ links (f ∷ drop (i + 1) more)
 directory_next e more i f to_next below is soft =
-    ap (λ (ds : List Directory). links (e ∷ ds)) (drop_next more i f below is)
+    ap (λ (ds : List Directory). links (e ∷ ds)) (drop_at more i f below is)
     ∙ ap (λ (t : Tail). links_of e.first e.more t ++ links (f ∷ drop (i + 1) more)) (sym soft)

@@ -17,12 +17,13 @@ use Rattle.lfs_meta.specs.LiveBlock.{revision, stored_part_of}
 use Rattle.lfs_meta.specs.Part.{StoredPart}
 use Rattle.lfs_meta.specs.Spelling.{part_tags}
 use Rattle.lfs_meta.specs.Writing.{IsFirstBlock, log_written, other_number, part_in, stored_part}
+use Rattle.lfs_meta.proofs.HeldPartLemmas.{block_bytes}
 use Rattle.lfs_fs.specs.Thread.{Link}
 use Rattle.lfs_fs.specs.Uses.{times}
 use Rattle.lfs_law.specs.PairWritten.{AddsChange, IsLinkStored}
 use Rattle.lfs_command.specs.PartWritten.{Found, change_at, with_change}
 use Rattle.lfs_law.specs.WrittenLinks.{changed_blocks, block_after, link_part, CanBeMade, FillsFirst, IsFreeFor, AddsPart, AddsLink}
-use Rattle.lfs_law.proofs.BlockLemmas.{block_bytes, other_is_one}
+use Rattle.lfs_law.proofs.BlockLemmas.{other_is_one}
 use Rattle.lfs_law.proofs.ChangesAt.{change_whole, overlaid_none, with_all, with_rising}
 use Rattle.lfs_law.proofs.LinksAdded.{times_cons}
 use Rattle.lfs_law.proofs.OutlinesWritten.{none_named}

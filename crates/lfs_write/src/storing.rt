@@ -10,12 +10,9 @@ ghost use Rattle.lfs_law.specs.SuperblockBytes.{volume_bytes};
 ghost use Rattle.lfs_law.specs.WrittenLinks.{stored_entries};
 
 use crate::superblock::superblock;
-use lfs_fs::{Outline, OutlineBody, OutlineEntry, OutlinePart};
+use lfs_fs::{Outline, OutlineBody, OutlineEntry, OutlinePart, ROOT};
 use lfs_meta::{Body, Entry, Kind, copied_attributes};
 use std::alloc::{AllocError, Global};
-
-/// The pair at which the thread begins.
-const ROOT: (u32, u32) = (0, 1);
 
 /// Whether a body is a file's or a directory's.
 fn stored_kind(body: &OutlineBody) -> Kind

@@ -6,18 +6,12 @@ ghost use Rattle.lfs_fs.specs.Superblock.{superblock_entry};
 ghost use Rattle.lfs_law.specs.SuperblockBytes.{new_superblock, superblock_bytes};
 
 use byteorder::{ByteOrder, LittleEndian};
-use lfs_fs::Limits;
+use lfs_fs::{Limits, NEW_LIMITS};
 use lfs_meta::{Attribute, Body, Entry, Kind};
 use std::alloc::{AllocError, Global};
 
 /// Version 2.0 of the format.
 const VERSION: u32 = 0x0002_0000;
-/// The largest name of a new image, in bytes.
-const LARGEST_NAME: u32 = 255;
-/// The largest file of a new image, in bytes.
-const LARGEST_FILE: u32 = 2_147_483_647;
-/// The largest attribute of a new image, in bytes.
-const LARGEST_ATTRIBUTE: u32 = 1_022;
 
 /// The superblock's struct.
 fn superblock_bytes(size: u32, count: u32, limits: Limits) -> [u8; 24]
@@ -62,11 +56,6 @@ pub(crate) fn superblock(
 pub fn new_superblock(alloc: Global, size: u32, count: u32) -> Result<Entry, AllocError>
     ensures { IfOk result (λ entry. entry ≡ new_superblock size count) }
 {
-    let limits = Limits {
-        name: LARGEST_NAME,
-        file: LARGEST_FILE,
-        attribute: LARGEST_ATTRIBUTE,
-    };
     let attributes = Vec::new(alloc);
-    superblock(alloc, size, count, limits, attributes)
+    superblock(alloc, size, count, NEW_LIMITS, attributes)
 }

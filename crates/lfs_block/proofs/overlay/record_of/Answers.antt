@@ -1,8 +1,8 @@
-use Rattle.std.proofs.Common.{rules, of_calls, ◌≡◌, ◌<◌, ◌≤◌, ℕ, List, [], length, nat_lt, slice_index_or, option_map, Some, sym, ap, subst}
+use Rattle.std.proofs.Common.{rules, of_calls, ◌≡◌, ◌<◌, ◌≤◌, List, [], length, nat_lt, slice_index_or, option_map, Some, sym, ap}
 use Rattle.std.proofs.Common.{◌∙◌}
 use Rattle.std.proofs.lemmas.Fn.{always_returns_same}
-use Rattle.lfs_block.specs.Change.{Change, IsRising, change_of}
-use Rattle.lfs_block.proofs.ChangeLemmas.{IsPoint, found-at, missing-at, missing-past, point-of, rising-parted}
+use Rattle.lfs_block.specs.Change.{Change, IsRising}
+use Rattle.lfs_block.proofs.ChangeLemmas.{found-at, missing-at, missing-past, point-of, rising-parted}
 use Rattle.lfs_block.proofs.overlay.record_of.Goals as goal
 
 none : Change

@@ -1,5 +1,5 @@
 -- One slice more goes out, or a beginning of it.
-use Rattle.std.proofs.Common.{◌≡◌, ◌∙◌, ◌++◌, ◌∷◌, List, ℕ, sym, ap}
+use Rattle.std.proofs.Common.{◌∙◌, ◌++◌, List, ℕ, sym, ap}
 use Rattle.std.specs.List.{concat}
 use Rattle.lfs_file.specs.Content.{content}
 use Rattle.lfs_contents.proofs.SentLemmas.{slice_cut, slice_sent}

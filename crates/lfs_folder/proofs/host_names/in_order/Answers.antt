@@ -3,8 +3,9 @@ use Rattle.std.specs.List.{All, list_all}
 use Rattle.std.proofs.lemmas.Str.{IsUtf8-string_bytes}
 use Rattle.std.proofs.lemmas.List.Elements.{All-map, All-weaker}
 use Rattle.std.proofs.lemmas.List.Sorted.{All-permutation, IsPermutation-map}
+use Rattle.lfs_fs.proofs.ContainsLemmas.{contains_mapped}
 use Rattle.lfs_folder.specs.HostNames.{IsHostName, is_host_name}
-use Rattle.lfs_folder.proofs.HostNameLemmas.{is_host_name-decides, no_host_name, all_pass, some_fails, contains_map, items_rise, items_twice}
+use Rattle.lfs_folder.proofs.HostNameLemmas.{is_host_name-decides, no_host_name, all_pass, some_fails, items_rise, items_twice}
 use Rattle.lfs_folder.proofs.host_names.in_order.Goals as goal
 
 pub returns-then-not-are_host_names-clause-refused : goal.returns-then-not-are_host_names-clause-refused
@@ -15,7 +16,7 @@ returns-then-not-are_host_names-clause-refused c =
     ∙ c.if-not-are_host_names.true in
     let one = some_fails (λ n. is_host_name (string_bytes n)) names none in (
       string_bytes one.0,
-      contains_map (λ n. string_bytes n) names one.0 one.1,
+      contains_mapped (λ n. string_bytes n) names one.0 one.1,
       no_host_name (string_bytes one.0) (IsUtf8-string_bytes one.0) one.2,
     )
 

@@ -1,4 +1,5 @@
-use Rattle.lfs_pack.proofs.LedLemmas.{carried_follow, led_to_their_map}
+use Rattle.lfs_law.proofs.CarriedFollow.{carried_follow}
+use Rattle.lfs_pack.proofs.LedLemmas.{led_to_their_map}
 use Rattle.lfs_pack.proofs.laws.rows_are_led_to_their_map.Goals as goal
 
 pub returns : goal.returns

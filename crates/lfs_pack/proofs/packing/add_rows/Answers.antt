@@ -1,7 +1,8 @@
 -- One row more is added behind those before it.
 use Rattle.std.proofs.Common.{◌+◌, drop, arith}
 use Rattle.std.proofs.lemmas.Result.{err_from_is_err_and}
-use Rattle.lfs_pack.proofs.ItemsInTurn.{drop_all, drop_one}
+use Rattle.lfs_fs.proofs.ItemLemmas.{drop_at}
+use Rattle.lfs_pack.proofs.ItemsInTurn.{drop_all}
 use Rattle.lfs_pack.proofs.RowsInTurn.{at_end, one_more, one_refused}
 use Rattle.lfs_pack.proofs.packing.add_rows.Goals as goal
 
@@ -11,7 +12,7 @@ returns-in_err-add_row-clause-refused c =
     let i = c.each.row-index in
     let p = err_from_is_err_and c.from_residual.result c.from_residual.ensures.1 in
     rw (p.1, p.2) (one_refused rows (drop i rows) (drop (i + 1) rows) c.row-item.result c.args.volume.now c.each.volume
-    c.in_err-add_row.field-0.0 c.each.invariant (drop_one rows i c.row-item.result c.each-test.true c.row-item.is)
+    c.in_err-add_row.field-0.0 c.each.invariant (drop_at rows i c.row-item.result c.each-test.true c.row-item.is)
     c.in_err-add_row.ensures.refused)
 
 pub each-preserved : goal.each-preserved
@@ -19,7 +20,7 @@ each-preserved c =
     let rows = c.args.rows.now in
     let i = c.each.row-index in
     one_more c.packing_laws.ensures.texts rows (drop i rows) (drop (i + 1) rows) c.row-item.result c.args.volume.now c.each.volume
-    c.add_row.new.volume c.each.invariant (drop_one rows i c.row-item.result c.each-test.true c.row-item.is) c.in_ok-add_row.ensures.added
+    c.add_row.new.volume c.each.invariant (drop_at rows i c.row-item.result c.each-test.true c.row-item.is) c.in_ok-add_row.ensures.added
 
 pub returns-clause-added : goal.returns-clause-added
 returns-clause-added c =

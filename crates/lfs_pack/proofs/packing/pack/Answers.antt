@@ -1,7 +1,7 @@
 -- The image holds what the rows say.
 use Rattle.std.proofs.Common.{ℕ, List, sym, subst}
+use Rattle.lfs_law.proofs.CarriedFollow.{carried_follow}
 use Rattle.lfs_pack.specs.Packing.{IsPacked}
-use Rattle.lfs_pack.proofs.LedLemmas.{carried_follow}
 use Rattle.lfs_pack.proofs.PackedLemmas.{packed}
 use Rattle.lfs_pack.proofs.packing.pack.Goals as goal
 

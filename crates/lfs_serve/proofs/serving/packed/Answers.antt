@@ -6,7 +6,7 @@ use Rattle.lfs_folder.specs.declared.folder_row.FolderRow.{FolderRow}
 use Rattle.lfs_folder.specs.FolderRows.{IsFolder}
 use Rattle.lfs_host.specs.Scene.{Scene}
 use Rattle.lfs_step.specs.declared.step.Step.TheVariants.{Pack}
-use Rattle.lfs_serve.specs.HostFolder.{most_contents}
+use Rattle.lfs_fs.specs.Limits.{most_file}
 use Rattle.lfs_serve.specs.Program.{stopped_by}
 use Rattle.lfs_serve.proofs.HostFolderLemmas.{packs, wants_memory}
 use Rattle.lfs_serve.proofs.StepLemmas.{step_from, stopped_at}
@@ -42,7 +42,7 @@ returns g c =
     let rows = c.in_ok-rows.rows.items in
     let folder = c.deref.result.now in
     let folder_is : folder ≡ c.in_ok-folder.folder.items = search rules in
-    let read = subst (λ (rs : List FolderRow). IsFolder most_contents old.tree dir rs) (sym folder_is) c.in_ok-folder.ensures.read in
+    let read = subst (λ (rs : List FolderRow). IsFolder most_file old.tree dir rs) (sym folder_is) c.in_ok-folder.ensures.read in
     let packed = packs old.tree dir folder rows read c.in_ok-rows.ensures in
     let rows_is : c.as_slice-rows.result.now ≡ rows = search rules in
     let step = Pack c.args.count c.as_slice-rows.result in

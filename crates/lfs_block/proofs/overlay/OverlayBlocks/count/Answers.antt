@@ -1,4 +1,4 @@
-use Rattle.std.proofs.Common.{◌≡◌, sym, ap, ◌∙◌}
+use Rattle.std.proofs.Common.{sym, ap, ◌∙◌}
 use Rattle.lfs_block.specs.Disk.{Disk}
 use Rattle.lfs_block.proofs.OverlayLemmas.{laid-is_disk}
 use Rattle.lfs_block.proofs.overlay.OverlayBlocks.count.Goals as goal

@@ -1,4 +1,4 @@
-use Rattle.std.proofs.Common.{◌≡◌, sym, ap, subst, ◌∙◌}
+use Rattle.std.proofs.Common.{sym, ap, subst, ◌∙◌}
 use Rattle.lfs_block.specs.Disk.{Disk, IsDisk}
 use Rattle.lfs_block.proofs.OverlayLemmas.{laid-is_disk}
 use Rattle.lfs_block.proofs.overlay.OverlayBlocks.size.Goals as goal

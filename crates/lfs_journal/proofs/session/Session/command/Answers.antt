@@ -4,10 +4,11 @@ use Rattle.std.proofs.lemmas.Result.{err_from_is_err_and}
 use Rattle.std.proofs.lemmas.List.{length-take-le}
 use Rattle.lfs_block.specs.Disk.{Disk}
 use Rattle.lfs_block.specs.Patch.{ChangeSet}
+use Rattle.lfs_book.specs.Book.{most_changes}
 use Rattle.lfs_fs.specs.Mounted.{IsOutlineOf}
 use Rattle.lfs_command.specs.AskedFor.{asked_for}
 use Rattle.lfs_command.specs.Planned.{RefusesPlan}
-use Rattle.lfs_history.specs.History.{History, history_at, most_changes}
+use Rattle.lfs_history.specs.History.{History, history_at}
 use Rattle.lfs_history.specs.Taking.{Does}
 use Rattle.lfs_journal.proofs.PlaceLemmas.{IsPut, put_makes, done_at}
 use Rattle.lfs_journal.proofs.session.Session.command.Goals as goal

@@ -1,5 +1,0 @@
-use Rattle.lfs_fs.proofs.NameOrderLemmas.{names_are_ordered}
-use Rattle.lfs_fs.proofs.name_order.names_are_ordered.Goals as goal
-
-pub returns : goal.returns
-returns c = names_are_ordered
