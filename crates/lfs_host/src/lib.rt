@@ -9,8 +9,10 @@ mod host_kind;
 mod known;
 mod list_fault;
 mod lock;
+mod made_entry;
 mod memory_files;
 mod memory_host;
+mod memory_tree;
 mod new_folder;
 mod read_fault;
 
@@ -22,6 +24,7 @@ pub use host_kind::HostKind;
 pub use known::Known;
 pub use list_fault::ListFault;
 pub use lock::Lock;
+pub use made_entry::MadeEntry;
 pub use memory_files::MemoryFiles;
 pub use memory_host::MemoryHost;
 pub use new_folder::NewFolder;
