@@ -3,7 +3,6 @@ use Rattle.std.proofs.Common.{◌≡◌, ◌≢◌, ◌==◌, ℕ, Bool, true, f
 use Rattle.std.specs.Prelude.{◌||◌, if◌then◌else◌, is_some, MatchOption, cond}
 use Rattle.std.specs.BTreeMap.{is_at}
 use Rattle.std.specs.BTreeSet.{BTreeSet, IsOrdered, UpdatesBy, contains_text}
-use Rattle.std.specs.Cmp.{IsEquivalence}
 use Rattle.std.specs.Cmp.Lexicographic.{slice_cmp}
 use Rattle.std.specs.List.{All, AllByRecursion, Contains, IsDistinct, cons_option, list_any, position_or_len}
 use Rattle.std.specs.Option.{option_map}
@@ -12,6 +11,7 @@ use Rattle.std.specs.Str.{bytes_eq}
 use Rattle.std.specs.String.{string_cmp}
 use Rattle.std.proofs.Math.Seq.{take-length}
 use Rattle.std.proofs.lemmas.Bool.Decides.{nat_tests}
+use Rattle.std.proofs.lemmas.Cmp.{nat_list_eq_equiv}
 use Rattle.std.proofs.lemmas.List.{append_cancel_left, get_or_default, map-append}
 use Rattle.std.proofs.lemmas.List.Elements.{filter_map-append}
 use Rattle.std.proofs.lemmas.List.Folds.{list_any-append}
@@ -122,19 +122,6 @@ found_more folder file q files =
     ∙ list_any-append (bytes_eq q) (names_through folder files) (cons_option (name_through folder file) [])
     ∙ ap (λ (b : Bool). list_any (bytes_eq q) (names_through folder files) || b) (any_cons q (name_through folder file))
 
-bytes_equal : IsEquivalence bytes_eq
-bytes_equal = record {
-  refl = λ x. (bytes_eq-Decides x x).1 refl;
-  symm = λ x y. same_test (bytes_eq x y) (bytes_eq y x) (λ is. (bytes_eq-Decides y x).1 (sym ((bytes_eq-Decides x y).0 is)))
-      (λ is. (bytes_eq-Decides x y).1 (sym ((bytes_eq-Decides y x).0 is)));
-  congr = λ x y z is. ap (λ (w : List ℕ). bytes_eq w z) ((bytes_eq-Decides x y).0 is);
-}
-  where
-    same_test : (a b : Bool) → (a ≡ true → b ≡ true) → (b ≡ true → a ≡ true) → a ≡ b
-    same_test true b h k = sym (h refl)
-    same_test false true h k = k refl
-    same_test false false h k = refl
-
 key_more : {K : Type 0} (text : K → List ℕ) (folder q : List ℕ) (files : List K) (file : K)
     → list_any (bytes_eq q) (names_through folder (map text (files ++ file ∷ [])))
     ≡ (list_any (bytes_eq q) (names_through folder (map text files)) || is_found q (name_through folder (text file)))
@@ -167,7 +154,7 @@ pub some_more : {K Y : Type 0} (text : K → List ℕ) (folder q name : List ℕ
     → contains_text new q ≡ list_any (bytes_eq q) (names_through folder (map text (files ++ file ∷ [])))
 some_more text folder q name files file old new key through is updates has =
     let n : List ℕ = string_bytes key in
-    let found : is_found q (name_through folder (text file)) ≡ bytes_eq n q = ap (is_found q) (sym through) ∙ ap (bytes_eq q) (sym is) ∙ bytes_equal.symm q n in
+    let found : is_found q (name_through folder (text file)) ≡ bytes_eq n q = ap (is_found q) (sym through) ∙ ap (bytes_eq q) (sym is) ∙ nat_list_eq_equiv.symm q n in
     btree_set_updates_text n old new true updates q
     ∙ put_or (bytes_eq n q) (contains_text old q)
     ∙ ap (λ (b : Bool). b || bytes_eq n q) has
@@ -204,7 +191,7 @@ gathered there names listed is ordered has =
     let every : (P : List ℕ → Type 0) (ns : List (List ℕ)) → ((n : List ℕ) → Contains ns n → P n) → All P ns =
     λ P ns h. λ i d within. h (get_or ns i d) (i, within, get_or_default ns i (get_or ns i d) d within) in
     rw is (record {
-      right = every (Contains there) texts (λ n in_texts. Contains-from_any equal n there (sym (same n) ∙ list_any-from_Contains bytes_equal n texts in_texts));
-      whole = every (Contains texts) there (λ n in_there. Contains-from_any equal n texts (same n ∙ list_any-from_Contains bytes_equal n there in_there));
+      right = every (Contains there) texts (λ n in_texts. Contains-from_any equal n there (sym (same n) ∙ list_any-from_Contains nat_list_eq_equiv n texts in_texts));
+      whole = every (Contains texts) there (λ n in_there. Contains-from_any equal n texts (same n ∙ list_any-from_Contains nat_list_eq_equiv n there in_there));
       once = distinct_texts names.keys (IsDistinct-from_sorted string_cmp names.keys ordered);
     })
