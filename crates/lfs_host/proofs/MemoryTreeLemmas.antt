@@ -1,9 +1,10 @@
 -- What there is under names among files in memory.
-use Rattle.std.proofs.Common.{◌≡◌, ◌≢◌, ◌==◌, ℕ, Bool, true, false, List, [], ◌∷◌, ◌++◌, Option, Some, None, String, length, refl, ap, sym, ◌∙◌, arith, take, map, string_bytes, get_or, Bor}
+use Rattle.std.proofs.Common.{◌≡◌, ◌≢◌, ◌==◌, ◌+◌, ℕ, Bool, true, false, List, [], ◌∷◌, ◌++◌, Option, Some, None, String, length, refl, ap, sym, ◌∙◌, arith, take, map, string_bytes, get_or, Bor, ◌⊎◌, inl, inr, append_assoc, suc}
 use Rattle.std.specs.Prelude.{◌||◌, if◌then◌else◌, is_some, MatchOption, cond}
-use Rattle.std.specs.BTreeMap.{is_at}
+use Rattle.std.specs.BTreeMap.{BTreeMap, get_by_text, is_at, keys}
 use Rattle.std.specs.BTreeSet.{BTreeSet, IsOrdered, UpdatesBy, contains_text}
 use Rattle.std.specs.Cmp.Lexicographic.{slice_cmp}
+use Rattle.std.specs.Global.{Vec}
 use Rattle.std.specs.List.{All, AllByRecursion, Contains, IsDistinct, cons_option, list_any, position_or_len}
 use Rattle.std.specs.Option.{option_map}
 use Rattle.std.specs.Ordering.{eq_by_cmp, nat_cmp}
@@ -15,14 +16,16 @@ use Rattle.std.proofs.lemmas.Cmp.{nat_list_eq_equiv}
 use Rattle.std.proofs.lemmas.List.{append_cancel_left, get_or_default, map-append}
 use Rattle.std.proofs.lemmas.List.Elements.{filter_map-append}
 use Rattle.std.proofs.lemmas.List.Folds.{list_any-append}
+use Rattle.std.proofs.lemmas.Map.Made.{is_some-lookup}
 use Rattle.std.proofs.lemmas.Map.Keys.{IsDistinct-from_sorted}
 use Rattle.std.proofs.lemmas.Map.Text.{btree_set_updates_text, is_eq-slice_cmp}
 use Rattle.std.proofs.lemmas.Map.Views.{Contains-from_any, list_any-from_Contains}
 use Rattle.std.proofs.lemmas.Slice.Eq.{bytes_eq-Decides}
 use Rattle.lfs_host.specs.declared.host_kind.HostKind.{HostKind}
 use Rattle.lfs_host.specs.declared.host_kind.HostKind.TheVariants.{Folder, Missing}
-use Rattle.lfs_host.specs.HostTree.{AreNamesIn, kind_of}
-use Rattle.lfs_host.specs.MemoryTree.{below, first_name, name_through, names_through, node_of}
+use Rattle.lfs_host.specs.HostTree.{AreNamesIn, FolderOf, NothingThere, kind_of}
+use Rattle.lfs_host.specs.MemoryFiles.{files_of}
+use Rattle.lfs_host.specs.MemoryTree.{HasNoGap, below, first_name, name_through, names_of, names_through, node_of, tree_of}
 
 -- ---- what is below a folder
 
@@ -195,3 +198,130 @@ gathered there names listed is ordered has =
       whole = every (Contains texts) there (λ n in_there. Contains-from_any equal n texts (same n ∙ list_any-from_Contains nat_list_eq_equiv n there in_there));
       once = distinct_texts names.keys (IsDistinct-from_sorted string_cmp names.keys ordered);
     })
+
+-- ---- what is named is there
+
+-- some text leads through a folder to a name
+abbrev LeadsThrough : List ℕ → List (List ℕ) → List ℕ → Type 0
+LeadsThrough folder texts n = (text : List ℕ) × (list_any (bytes_eq text) texts ≡ true) × (name_through folder text ≡ Some n)
+
+or_later : (a b : Bool) → b ≡ true → (a || b) ≡ true
+or_later true b h = refl
+or_later false b h = h
+
+or_either : (a b : Bool) → (a || b) ≡ true → (a ≡ true) ⊎ (b ≡ true)
+or_either true b h = inl refl
+or_either false b h = inr h
+
+leads_later : (folder n t : List ℕ) (texts : List (List ℕ)) → LeadsThrough folder texts n → LeadsThrough folder (t ∷ texts) n
+leads_later folder n t texts (text, there, through) = (text, or_later (bytes_eq text t) (list_any (bytes_eq text) texts) there, through)
+
+leads_first : (folder n t : List ℕ) (texts : List (List ℕ)) → name_through folder t ≡ Some n → LeadsThrough folder (t ∷ texts) n
+leads_first folder n t texts through = (t, ap (λ (b : Bool). b || list_any (bytes_eq t) texts) (nat_list_eq_equiv.refl t), through)
+
+found_by : (folder n t : List ℕ) (texts : List (List ℕ)) (through : Option (List ℕ)) → name_through folder t ≡ through
+    → list_any (bytes_eq n) (cons_option through (names_through folder texts)) ≡ true
+    → (list_any (bytes_eq n) (names_through folder texts) ≡ true → LeadsThrough folder texts n) → LeadsThrough folder (t ∷ texts) n
+found_by folder n t texts None is h rest = leads_later folder n t texts (rest h)
+found_by folder n t texts (Some m) is h rest = elim (or_either (bytes_eq n m) (list_any (bytes_eq n) (names_through folder texts)) h) [
+  | inl same ↦ leads_first folder n t texts (is ∙ ap Some (sym ((bytes_eq-Decides n m).0 same)))
+  | inr late ↦ leads_later folder n t texts (rest late)
+]
+
+found_text : (folder n : List ℕ) (texts : List (List ℕ)) → list_any (bytes_eq n) (names_through folder texts) ≡ true → LeadsThrough folder texts n
+found_text folder n [] h = cc
+found_text folder n (t ∷ texts) h = found_by folder n t texts (name_through folder t) refl h (found_text folder n texts)
+
+-- a text that leads on makes a folder
+leads_on : (name : List ℕ) (texts : List (List ℕ)) (text m : List ℕ) → list_any (bytes_eq text) texts ≡ true → name_through name text ≡ Some m
+    → node_of None (names_through name texts) ≢ NothingThere
+leads_on name [] text m there through = cc
+leads_on name (t ∷ texts) text m there through = elim (or_either (bytes_eq text t) (list_any (bytes_eq text) texts) there) [
+  | inl same ↦ on_first name texts (name_through name t) (ap (name_through name) (sym ((bytes_eq-Decides text t).0 same)) ∙ through)
+  | inr late ↦ on_later name texts (name_through name t) (leads_on name texts text m late through)
+]
+  where
+    on_first : (name : List ℕ) (texts : List (List ℕ)) (found : Option (List ℕ)) → found ≡ Some m
+        → node_of None (cons_option found (names_through name texts)) ≢ NothingThere
+    on_first name texts None is = cc
+    on_first name texts (Some n) is = λ none. cc
+
+    on_later : (name : List ℕ) (texts : List (List ℕ)) (found : Option (List ℕ)) → node_of None (names_through name texts) ≢ NothingThere
+        → node_of None (cons_option found (names_through name texts)) ≢ NothingThere
+    on_later name texts None some = some
+    on_later name texts (Some n) some = λ none. cc
+
+through_by : (folder text n : List ℕ) (found : Option (List ℕ)) → below folder text ≡ found → option_map first_name found ≡ Some n
+    → (rest : List ℕ) × (text ≡ folder ++ 47 ∷ rest) × (first_name rest ≡ n)
+through_by folder text n None is h = cc
+through_by folder text n (Some rest) is h = (rest, below_is folder text rest is, some_same h)
+  where
+    some_same : {a b : List ℕ} → Some a ≡ Some b → a ≡ b
+    some_same e = cc
+
+take_more : (n b : ℕ) (rest : List ℕ) → take (1 + n) (b ∷ rest) ≡ b ∷ take n rest
+take_more n b rest = let e : 1 + n ≡ suc n = omega arith in ap (λ (m : ℕ). take m (b ∷ rest)) e
+
+cut_by : (slash : Bool) (b : ℕ) (rest : List ℕ) → (b == 47) ≡ slash → (rest ≡ first_name rest) ⊎ ((more : List ℕ) × (rest ≡ first_name rest ++ 47 ∷ more))
+    → (b ∷ rest ≡ first_name (b ∷ rest)) ⊎ ((more : List ℕ) × (b ∷ rest ≡ first_name (b ∷ rest) ++ 47 ∷ more))
+cut_by true b rest is h =
+    let none : first_name (b ∷ rest) ≡ [] = rw is refl in
+    let slash : b ≡ 47 = grind (arith, nat_tests) in
+    inr (rest, ap (λ (x : ℕ). x ∷ rest) slash ∙ ap (λ (xs : List ℕ). xs ++ 47 ∷ rest) (sym none))
+cut_by false b rest is h =
+    let more : first_name (b ∷ rest) ≡ b ∷ first_name rest = rw is (take_more (position_or_len (λ x. x == 47) rest) b rest) in
+    elim h [
+      | inl whole ↦ inl (ap (λ (xs : List ℕ). b ∷ xs) whole ∙ sym more)
+      | inr behind ↦ inr (behind.0, ap (λ (xs : List ℕ). b ∷ xs) behind.1 ∙ ap (λ (xs : List ℕ). xs ++ 47 ∷ behind.0) (sym more))
+    ]
+
+cut_at_slash : (rest : List ℕ) → (rest ≡ first_name rest) ⊎ ((more : List ℕ) × (rest ≡ first_name rest ++ 47 ∷ more))
+cut_at_slash [] = inl refl
+cut_at_slash (b ∷ rest) = cut_by (b == 47) b rest refl (cut_at_slash rest)
+
+file_there : (file : Option (List ℕ)) (names : List (List ℕ)) → is_some file ≡ true → node_of file names ≢ NothingThere
+file_there None names some = cc
+file_there (Some bytes) names some = λ none. cc
+
+folder_there : (file : Option (List ℕ)) (names : List (List ℕ)) → node_of None names ≢ NothingThere → node_of file names ≢ NothingThere
+folder_there None names some = some
+folder_there (Some bytes) names some = λ none. cc
+
+is_some_mapped : {X Y : Type 0} (f : X → Y) (o : Option X) → is_some (option_map f o) ≡ is_some o
+is_some_mapped f None = refl
+is_some_mapped f (Some x) = refl
+
+-- there is a file of each name that a map has
+file_of_name : {Y : Type 0} (files : BTreeMap (String Y) (Vec ℕ)) (name : List ℕ) → list_any (bytes_eq name) (names_of files) ≡ true
+    → is_some (files_of files name) ≡ true
+file_of_name files name has =
+    is_some_mapped (λ bytes. bytes.items) (get_by_text files name)
+    ∙ is_some-lookup (is_at (λ k. slice_cmp nat_cmp name (string_bytes k))) files.entries
+    ∙ set_texts name (keys files) ∙ has
+
+names_there : (file : Option (List ℕ)) (names others : List (List ℕ)) → node_of file names ≡ FolderOf others → names ≡ others
+names_there (Some bytes) names others h = cc
+names_there None [] others h = cc
+names_there None (n ∷ names) others h = cc
+
+pub no_gap : {Y : Type 0} (files : BTreeMap (String Y) (Vec ℕ)) → HasNoGap (tree_of files)
+no_gap files folder n names folder_is there =
+    let texts : List (List ℕ) = names_of files in
+    let name : List ℕ = folder ++ 47 ∷ n in
+    let same : names_through folder texts ≡ names = names_there (files_of files folder) (names_through folder texts) names folder_is in
+    let named : list_any (bytes_eq n) (names_through folder texts) ≡ true =
+    ap (list_any (bytes_eq n)) same ∙ list_any-from_Contains nat_list_eq_equiv n names there in
+    let leads = found_text folder n texts named in
+    let text : List ℕ = leads.0 in
+    let cut = through_by folder text n (below folder text) refl leads.2 in
+    let rest : List ℕ = cut.0 in
+    elim (cut_at_slash rest) [
+      | inl whole ↦ let is : text ≡ name = cut.1 ∙ ap (λ (xs : List ℕ). folder ++ 47 ∷ xs) (whole ∙ cut.2) in
+          file_there (files_of files name) (names_through name texts)
+          (file_of_name files name (ap (λ (t : List ℕ). list_any (bytes_eq t) texts) (sym is) ∙ leads.1))
+      | inr behind ↦ let more : List ℕ = behind.0 in
+          let rest_is : rest ≡ n ++ 47 ∷ more = behind.1 ∙ ap (λ (xs : List ℕ). xs ++ 47 ∷ more) cut.2 in
+          let is : text ≡ name ++ 47 ∷ more = cut.1 ∙ ap (λ (xs : List ℕ). folder ++ 47 ∷ xs) rest_is ∙ sym (append_assoc folder (47 ∷ n) (47 ∷ more)) in
+          let on : name_through name text ≡ Some (first_name more) = ap (name_through name) is ∙ ap (option_map first_name) (below_of name more) in
+          folder_there (files_of files name) (names_through name texts) (leads_on name texts text (first_name more) leads.1 on)
+    ]

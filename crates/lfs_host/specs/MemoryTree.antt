@@ -1,5 +1,5 @@
 -- What there is under each name among files in memory: in a file's name a slash stands behind that of each folder (own).
-use Rattle.std.specs.Prelude.{◌==◌, ℕ, List, [], ◌∷◌, Option, Some, None, String, if◌then◌else◌, map, string_bytes}
+use Rattle.std.specs.Prelude.{◌≡◌, ◌≢◌, ◌==◌, ℕ, List, [], ◌∷◌, ◌++◌, Option, Some, None, String, if◌then◌else◌, map, string_bytes, Contains}
 use Rattle.std.specs.BTreeMap.{BTreeMap, keys}
 use Rattle.std.specs.Global.{Vec}
 use Rattle.std.specs.List.{before_first, filter_map}
@@ -39,3 +39,7 @@ names_of files = map (λ k. string_bytes k) (keys files)
 -- what there is under each name: the file of the name, or a folder that some file is below
 abbrev pub tree_of : {Y : Type 0} → BTreeMap (String Y) (Vec ℕ) → HostTree
 tree_of files name = node_of (files_of files name) (names_through name (names_of files))
+
+-- what is named in a folder is there
+abbrev pub HasNoGap : HostTree → Type 0
+HasNoGap tree = (folder n : List ℕ) (names : List (List ℕ)) → tree folder ≡ FolderOf names → Contains names n → tree (folder ++ 47 ∷ n) ≢ NothingThere

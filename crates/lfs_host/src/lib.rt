@@ -27,5 +27,6 @@ pub use lock::Lock;
 pub use made_entry::MadeEntry;
 pub use memory_files::MemoryFiles;
 pub use memory_host::MemoryHost;
+pub use memory_tree::memory_folders_have_no_gap;
 pub use new_folder::NewFolder;
 pub use read_fault::ReadFault;

@@ -5,7 +5,7 @@ ghost use Rattle.std.specs.BTreeMap.{keys};
 ghost use Rattle.std.specs.List.{list_any};
 ghost use Rattle.std.specs.Option.{option_map};
 ghost use Rattle.lfs_host.specs.HostTree.{AreNamesIn, kind_of};
-ghost use Rattle.lfs_host.specs.MemoryTree.{below, name_through, names_of, names_through, tree_of};
+ghost use Rattle.lfs_host.specs.MemoryTree.{HasNoGap, below, name_through, names_of, names_through, tree_of};
 
 use crate::host_kind::HostKind;
 use crate::memory_files::MemoryFiles;
@@ -68,3 +68,10 @@ pub(crate) fn names_in(
     }
     names.into_iter().collect(alloc)
 }
+
+/// A law: what is named in a folder of files in memory is there. Takes no memory.
+///
+/// Source: own.
+pub fn memory_folders_have_no_gap(_files: &MemoryFiles)
+    ensures { HasNoGap (tree_of _files.now) }
+{}
