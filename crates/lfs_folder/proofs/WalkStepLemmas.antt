@@ -354,11 +354,11 @@ missing_there (FileOf bytes) h = cc
 missing_there (FolderOf names) h = cc
 missing_there OtherThere h = cc
 
-blames_gap : (known : Option HostTree) (dir name : List ℕ) (p : Path) (new : Scene) → name ≡ host_name dir p → IsKind known name Missing
+blames_gap : (known : Option HostTree) (dir name : List ℕ) (p : Path) (new : Scene) → name ≡ host_name dir p → p ≢ [] → IsKind known name Missing
     → IfSome known (λ tree. IsBelow tree dir p) → IsBlamed known dir new CannotRead
-blames_gap None dir name p new is kind below = tt
-blames_gap (Some tree) dir name p new is kind below =
-    inr (inl (p, below, missing_there (tree (host_name dir p)) (kind ∙ ap (λ (x : List ℕ). kind_of (tree x)) is)))
+blames_gap None dir name p new is other kind below = tt
+blames_gap (Some tree) dir name p new is other kind below =
+    inr (inl (p, below, other, missing_there (tree (host_name dir p)) (kind ∙ ap (λ (x : List ℕ). kind_of (tree x)) is)))
 
 -- what waits isn't there
 pub walk_missing : (most : ℕ) (known : Option HostTree) (dir name : List ℕ) (rows : List FolderRow) (waiting : List (List ℕ)) (new : Scene)
@@ -367,7 +367,8 @@ walk_missing most known dir name rows waiting new walk kind =
     let next = next_path dir name waiting walk.queue walk.names in
     let p : Path = next.path in
     let here = at_next most known dir walk.shown walk.queue p next.rest next.queue_is walk.walk in
-    blames_gap known dir name p new next.name_is kind (known_below most known dir walk.shown p next.rest here)
+    blames_gap known dir name p new next.name_is (not_root walk.shown here.rest p next.rest here.root here.rise) kind
+    (known_below most known dir walk.shown p next.rest here)
 
 spelled_many : (rows : List FolderRow) (shown : List PathRow) → AreSpelled rows shown → length rows ≡ length shown
 spelled_many [] [] h = refl

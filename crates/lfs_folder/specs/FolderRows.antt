@@ -94,7 +94,7 @@ Refuses known dir fault = IfSome known (λ tree. RefusesTree tree dir fault)
 
 -- something has a name below a folder, and nothing is under it
 abbrev pub HasGap : HostTree → List ℕ → Type 0
-HasGap tree dir = (path : Path) × IsBelow tree dir path × (tree (host_name dir path) ≡ NothingThere)
+HasGap tree dir = (path : Path) × IsBelow tree dir path × (path ≢ []) × (tree (host_name dir path) ≡ NothingThere)
 
 -- more rows than the largest image has, where each takes 9 bytes at least in each block of a pair
 abbrev pub most_rows : ℕ
