@@ -1,8 +1,12 @@
 -- What is put before what waits, as a folder's names, or nothing.
-use Rattle.std.proofs.Common.{◌≡◌, ℕ, true, List, [], ◌∷◌, ◌++◌, Option, Some, None, refl, ap, subst, arith, inr, map}
+use Rattle.std.proofs.Common.{◌≡◌, ◌+◌, ℕ, true, false, List, [], ◌∷◌, ◌++◌, Option, Some, None, refl, ap, subst, arith, inr, map, get_or}
 use Rattle.std.specs.Prelude.{IfSome}
-use Rattle.std.specs.List.{All, Contains}
+use Rattle.std.specs.List.{All, Contains, IsDistinct}
 use Rattle.std.specs.List.Sorted.{IsPermutation}
+use Rattle.std.specs.Str.{bytes_eq}
+use Rattle.std.proofs.lemmas.Cmp.{nat_list_eq_equiv}
+use Rattle.std.proofs.lemmas.Map.Keys.{IsDistinct-IsPermutation, apart_from_distinct}
+use Rattle.std.proofs.lemmas.Slice.Eq.{bytes_eq-Decides}
 use Rattle.std.proofs.lemmas.List.Sorted.{All-permutation, Contains-permutation}
 use Rattle.std.proofs.lemmas.List.Elements.{All-nil, All-weaker, All-map, All-push, Contains-append_right}
 use Rattle.lfs_meta.specs.Name.{Name}
@@ -16,8 +20,9 @@ use Rattle.lfs_fs.proofs.OrderedLemmas.{every}
 use Rattle.lfs_folder.specs.declared.folder_fault.FolderFault.{FolderFault}
 use Rattle.lfs_folder.specs.declared.folder_fault.FolderFault.TheVariants.{Memory, HostEntry, HostName, CannotRead}
 use Rattle.lfs_host.specs.HostTree.{HostTree, FolderOf, Lists, ReadsEntry}
-use Rattle.lfs_folder.specs.HostNames.{IsHostName, NamesRise, CannotOrder}
-use Rattle.lfs_folder.specs.FolderWalk.{RefusesFolder}
+use Rattle.lfs_host.specs.Scene.{Scene}
+use Rattle.lfs_folder.specs.HostNames.{IsHostName, IsTwiceIn, NamesRise, CannotOrder}
+use Rattle.lfs_folder.specs.FolderWalk.{IsHostBlamed, RefusesFolder}
 use Rattle.lfs_folder.specs.PathBelow.{host_name}
 use Rattle.lfs_folder.specs.FolderRows.{PathRow, folder_row, IsInside, IsBelow, Shows}
 use Rattle.lfs_folder.proofs.PathBelowLemmas.{below_in}
@@ -35,6 +40,7 @@ lists_sorted (Some tree) folder listed sorted (names, is, same) moved = (
     right = All-permutation (λ (n : Name). Contains names n) listed sorted moved same.right;
     whole = All-weaker (λ (n : Name). Contains listed n) (λ (n : Name). Contains sorted n)
         (λ n there. Contains-permutation listed sorted n moved there) names same.whole;
+    once = IsDistinct-IsPermutation bytes_eq nat_list_eq_equiv.symm listed sorted moved same.once;
   },
 )
 
@@ -47,6 +53,24 @@ order_refused (Some tree) folder listed HostName (names, is, same) (n, (i, withi
 order_refused (Some tree) folder listed HostEntry h why = absurd why
 order_refused (Some tree) folder listed Memory h why = tt
 order_refused (Some tree) folder listed CannotRead h why = tt
+
+-- names each once, of which none is there twice
+none_twice : (listed : List Name) → IsDistinct bytes_eq listed → IsTwiceIn listed → ⊥
+none_twice listed once (sorted, k, moved, within, same) =
+    let apart : bytes_eq (get_or sorted k []) (get_or sorted (k + 1) []) ≡ false = apart_from_distinct bytes_eq sorted k (k + 1) []
+    (IsDistinct-IsPermutation bytes_eq nat_list_eq_equiv.symm listed sorted moved once) (omega arith) within in
+    let equal : bytes_eq (get_or sorted k []) (get_or sorted (k + 1) []) ≡ true =
+    (bytes_eq-Decides (get_or sorted k []) (get_or sorted (k + 1) [])).1 same in
+    cc
+
+-- a known host's folder isn't blamed for its names
+pub order_blamed : (known : Option HostTree) (folder : List ℕ) (listed : List Name) (new : Scene) (fault : FolderFault) → Lists known folder listed
+    → CannotOrder listed fault → IsHostBlamed known new fault
+order_blamed None folder listed new CannotRead h why = tt
+order_blamed (Some tree) folder listed new CannotRead (names, is, same) why = absurd (none_twice listed same.once why)
+order_blamed known folder listed new HostName h why = tt
+order_blamed known folder listed new HostEntry h why = tt
+order_blamed known folder listed new Memory h why = tt
 
 -- ---- what is put before what waits
 

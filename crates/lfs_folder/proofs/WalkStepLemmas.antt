@@ -1,11 +1,10 @@
 -- Steps of a walk over what is below a host's folder, its start and its end.
-use Rattle.std.proofs.Common.{◌≡◌, ◌≢◌, ℕ, true, List, [], ◌∷◌, ◌++◌, Option, Some, None, refl, ap, sym, ◌∙◌, subst, arith, inl, inr, map}
-use Rattle.std.proofs.Common.{append_assoc, length, get_or}
+use Rattle.std.proofs.Common.{◌≡◌, ◌≢◌, ◌+◌, ◌<◌, ◌≤◌, ℕ, true, List, [], ◌∷◌, ◌++◌, Option, Some, None, refl, ap, sym, ◌∙◌, subst, arith, inl, inr, map, append_assoc, length, length-append, get_or, suc}
 use Rattle.std.specs.Prelude.{IfSome}
 use Rattle.std.specs.List.{All, Contains}
-use Rattle.std.proofs.lemmas.List.{map-append, append-nil}
-use Rattle.std.proofs.lemmas.List.Elements.{All-nil, All-cons, All-head, All-tail, All-append, All-push, All-weaker}
-use Rattle.std.proofs.lemmas.List.Elements.{Contains-append_left, Contains-append_right}
+use Rattle.std.proofs.lemmas.List.{map-append, append-nil, length-map}
+use Rattle.std.proofs.lemmas.List.Elements.{All-nil, All-cons, All-head, All-tail, All-append, All-map, All-push, All-weaker}
+use Rattle.std.proofs.lemmas.List.Elements.{Contains-append_left, Contains-append_right, Contains-append_cases}
 use Rattle.lfs_meta.specs.Name.{Name}
 use Rattle.lfs_fs.specs.Path.{Path, path_text}
 use Rattle.lfs_fs.specs.Row.{path_precedes}
@@ -16,13 +15,13 @@ use Rattle.lfs_fs.proofs.OrderedLemmas.{met_stays}
 use Rattle.lfs_folder.specs.declared.folder_row.FolderRow.{FolderRow}
 use Rattle.lfs_folder.specs.declared.folder_fault.FolderFault.{FolderFault}
 use Rattle.lfs_folder.specs.declared.folder_fault.FolderFault.TheVariants.{Memory, HostEntry, HostName, CannotRead}
-use Rattle.lfs_host.specs.declared.host_kind.HostKind.TheVariants.{Other}
+use Rattle.lfs_host.specs.declared.host_kind.HostKind.TheVariants.{Missing, Other}
 use Rattle.lfs_host.specs.HostTree.{HostNode, NothingThere, FileOf, FolderOf, OtherThere, HostTree, kind_of, IsKind, Lists, ReadsEntry}
+use Rattle.lfs_host.specs.Scene.{Scene}
 use Rattle.lfs_folder.specs.HostNames.{IsHostName}
 use Rattle.lfs_folder.specs.PathBelow.{name_in, host_name, text_below}
-use Rattle.lfs_folder.specs.FolderRows.{PathRow, folder_row, paths_of, IsRow, AreSpelled, IsInside, IsBelow, IsRight, AreAllBelow}
-use Rattle.lfs_folder.specs.FolderRows.{IsFolder, RefusesTree, Refuses}
-use Rattle.lfs_folder.specs.FolderWalk.{IsMet, IsTreeWalk, IsWalk, IsFolderWalk, ShowsMore, Enters, RefusesFolder}
+use Rattle.lfs_folder.specs.FolderRows.{PathRow, folder_row, paths_of, IsRow, AreSpelled, IsInside, IsBelow, IsRight, AreAllBelow, IsFolder, RefusesTree, Refuses, BlamesHost, IsUnreadable, most_rows}
+use Rattle.lfs_folder.specs.FolderWalk.{IsMet, IsTreeWalk, IsWalk, IsFolderWalk, ShowsMore, Enters, IsHostBlamed, RefusesFolder}
 use Rattle.lfs_folder.proofs.PathBelowLemmas.{text_is, name_of_root, name_below, below_in, all_met}
 use Rattle.lfs_folder.proofs.WalkLemmas.{children, IsTreePut, IsPut, file_put, folder_put}
 
@@ -334,3 +333,67 @@ pub start_refused : (known : Option HostTree) (dir : List ℕ) (fault : FolderFa
 start_refused known dir fault why =
     both_known known (λ (tree : HostTree). IsBelow tree dir []) (RefusesFolder dir fault) (λ (tree : HostTree). RefusesTree tree dir fault)
     (λ tree below h. refuses_folder tree dir dir [] fault (sym (name_of_root dir)) below h) (nothing_above known dir) why
+
+-- ---- why it can't be read
+
+missing_there : (node : HostNode) → Missing ≡ kind_of node → node ≡ NothingThere
+missing_there NothingThere h = refl
+missing_there (FileOf bytes) h = cc
+missing_there (FolderOf names) h = cc
+missing_there OtherThere h = cc
+
+blames_gap : (known : Option HostTree) (dir name : List ℕ) (p : Path) (new : Scene) → name ≡ host_name dir p → p ≢ [] → IsKind known name Missing
+    → IfSome known (λ tree. IsBelow tree dir p) → BlamesHost known dir new CannotRead
+blames_gap None dir name p new is other kind below = tt
+blames_gap (Some tree) dir name p new is other kind below =
+    inr (inl (p, below, other, missing_there (tree (host_name dir p)) (kind ∙ ap (λ (x : List ℕ). kind_of (tree x)) is)))
+
+-- what waits isn't there
+pub walk_missing : (most : ℕ) (known : Option HostTree) (dir name : List ℕ) (rows : List FolderRow) (waiting : List (List ℕ)) (new : Scene)
+    → IsFolderWalk most known dir rows (name ∷ waiting) → IsKind known name Missing → BlamesHost known dir new CannotRead
+walk_missing most known dir name rows waiting new walk kind =
+    let next = next_path dir name waiting walk.queue walk.names in
+    let p : Path = next.path in
+    let here = at_next most known dir walk.shown walk.queue p next.rest next.queue_is walk.walk in
+    blames_gap known dir name p new next.name_is (not_root walk.shown here.rest p next.rest here.root here.rise) kind
+    (known_below most known dir walk.shown p next.rest here)
+
+spelled_many : (rows : List FolderRow) (shown : List PathRow) → AreSpelled rows shown → length rows ≡ length shown
+spelled_many [] [] h = refl
+spelled_many [] (s ∷ shown) h = absurd h
+spelled_many (x ∷ rows) [] h = absurd h
+spelled_many (x ∷ rows) (s ∷ shown) h = ap suc (spelled_many rows shown h.1)
+
+-- all that was met is below
+met_below : (most : ℕ) (tree : HostTree) (dir : List ℕ) (shown : List PathRow) (queue : List Path) → IsTreeWalk most dir shown queue tree
+    → All (IsBelow tree dir) (paths_of shown ++ queue)
+met_below most tree dir shown queue walk =
+    let B : PathRow → Type 0 = λ (r : PathRow). IsBelow tree dir r.path in
+    All-append (IsBelow tree dir) (paths_of shown) queue
+    (All-map (IsBelow tree dir) (λ (r : PathRow). r.path) shown (All-weaker (IsRight most tree dir) B (λ r is. is.0) shown walk.right)) walk.waits
+
+-- as many rows as there may be are shown, and something waits
+pub walk_too_long : (most : ℕ) (known : Option HostTree) (dir name : List ℕ) (rows : List FolderRow) (waiting : List (List ℕ)) (new : Scene)
+    → IsFolderWalk most known dir rows (name ∷ waiting) → most_rows ≤ length rows → BlamesHost known dir new CannotRead
+walk_too_long most known dir name rows waiting new walk long =
+    let next = next_path dir name waiting walk.queue walk.names in
+    let p : Path = next.path in
+    let shown : List PathRow = walk.shown in
+    let here = at_next most known dir shown walk.queue p next.rest next.queue_is walk.walk in
+    let T : HostTree → Type 0 = λ (tree : HostTree). IsTreeWalk most dir shown (p ∷ next.rest) tree in
+    let met : List Path = paths_of shown ++ p ∷ next.rest in
+    let count : length met ≡ length (paths_of shown) + length (p ∷ next.rest) = length-append (paths_of shown) (p ∷ next.rest) in
+    let rows_are : length rows ≡ length shown = spelled_many rows shown walk.spelled in
+    let paths_are : length (paths_of shown) ≡ length shown = length-map shown (λ (r : PathRow). r.path) in
+    let more : most_rows < length met = omega arith in
+    both_known known T T (λ (tree : HostTree). IsUnreadable tree dir new)
+    (λ tree h k. inr (inr (met, here.rise, met_below most tree dir shown (p ∷ next.rest) h, more))) here.all here.all
+
+-- a folder that isn't entered
+pub walk_blamed : (known seen : Option HostTree) (dir : List ℕ) (new : Scene) (fault : FolderFault) → seen ≡ known
+    → IsHostBlamed seen new fault → BlamesHost known dir new fault
+walk_blamed None seen dir new CannotRead same why = tt
+walk_blamed (Some tree) seen dir new CannotRead same why = inl (subst (λ (k : Option HostTree). IsHostBlamed k new CannotRead) same why)
+walk_blamed known seen dir new Memory same why = tt
+walk_blamed known seen dir new HostName same why = tt
+walk_blamed known seen dir new HostEntry same why = tt

@@ -1,5 +1,5 @@
 -- The rows of a host's folder: what stands at each path below it (own).
-use Rattle.std.specs.Prelude.{◌≡◌, ◌≢◌, ◌⊎◌, ℕ, ◌+◌, List, [], ◌∷◌, ◌++◌, Option, Some, None, ⊤, take, map, All, Contains, IfSome, option_map}
+use Rattle.std.specs.Prelude.{◌≡◌, ◌≢◌, ◌⊎◌, ℕ, ◌+◌, ◌<◌, List, [], ◌∷◌, ◌++◌, Option, Some, None, ⊤, length, take, map, All, Contains, IfSome, option_map}
 use Rattle.lfs_meta.specs.Name.{Name}
 use Rattle.lfs_fs.specs.Path.{Path, path_text}
 use Rattle.lfs_fs.specs.Ordered.{PathsRise}
@@ -7,6 +7,7 @@ use Rattle.lfs_folder.specs.declared.folder_row.FolderRow.{FolderRow}
 use Rattle.lfs_folder.specs.declared.folder_fault.FolderFault.{FolderFault}
 use Rattle.lfs_folder.specs.declared.folder_fault.FolderFault.TheVariants.{Memory, HostEntry, HostName, CannotRead}
 use Rattle.lfs_host.specs.HostTree.{HostNode, NothingThere, FileOf, FolderOf, OtherThere, HostTree}
+use Rattle.lfs_host.specs.Scene.{HasRefused, Scene}
 use Rattle.lfs_folder.specs.HostNames.{IsHostName}
 use Rattle.lfs_folder.specs.PathBelow.{name_in, host_name}
 
@@ -88,3 +89,26 @@ RefusesTree tree dir CannotRead = ⊤
 -- the same, where the host is known
 abbrev pub Refuses : Option HostTree → List ℕ → FolderFault → Type 0
 Refuses known dir fault = IfSome known (λ tree. RefusesTree tree dir fault)
+
+-- ---- what can't be read
+
+-- something has a name below a folder, and nothing is under it
+abbrev pub HasGap : HostTree → List ℕ → Type 0
+HasGap tree dir = (path : Path) × IsBelow tree dir path × (path ≢ []) × (tree (host_name dir path) ≡ NothingThere)
+
+-- more rows than the largest image has, where each takes 9 bytes at least in each block of a pair
+abbrev pub most_rows : ℕ
+most_rows = 4194304
+
+-- more paths than so many rows are below a folder, the folder itself among them
+abbrev pub HasTooMany : HostTree → List ℕ → Type 0
+HasTooMany tree dir = (paths : List Path) × PathsRise paths × All (IsBelow tree dir) paths × (most_rows < length paths)
+
+-- why not all can be read: the host has refused something, or it names what isn't there, or more than an image can hold
+abbrev pub IsUnreadable : HostTree → List ℕ → Scene → Type 0
+IsUnreadable tree dir new = HasRefused new ⊎ HasGap tree dir ⊎ HasTooMany tree dir
+
+-- `CannotRead` comes only there, where the host is known
+abbrev pub BlamesHost : Option HostTree → List ℕ → Scene → FolderFault → Type 0
+BlamesHost known dir new CannotRead = IfSome known (λ tree. IsUnreadable tree dir new)
+BlamesHost known dir new _ = ⊤

@@ -17,8 +17,8 @@ pub enum FolderFault {
     /// A name below the folder isn't UTF-8, or can't be one in an image: it is empty, holds a zero byte or a slash, or is
     /// `.` or `..`.
     HostName,
-    /// Something can't be read: the host refuses, the folder is none, a name stands twice in one folder, or there are more
-    /// files and folders than an image can hold.
+    /// Something can't be read: the host refuses, the folder is none, a name stands twice in one folder, nothing is under a
+    /// name that a folder has, or there are more files and folders than an image can hold.
     CannotRead,
 }
 

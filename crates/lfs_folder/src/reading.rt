@@ -2,7 +2,7 @@
 
 ghost use Rattle.std.specs.Prelude.{◌≡◌, IfErr, IfOk};
 ghost use Rattle.lfs_host.specs.Scene.{KeepsAll};
-ghost use Rattle.lfs_folder.specs.FolderRows.{IsFolder, Refuses};
+ghost use Rattle.lfs_folder.specs.FolderRows.{BlamesHost, IsFolder, Refuses};
 
 use crate::folder_fault::FolderFault;
 use crate::folder_row::FolderRow;
@@ -12,7 +12,8 @@ use std::alloc::Global;
 
 /// What is below a host's folder, in the order of paths: the folder itself first, as `/`, and each folder before what is in
 /// it. Links aren't followed, and each file is read once. `HostEntry` where something below is neither a regular file nor a
-/// folder, `HostName` where a name below can't be one in an image, `CannotRead` where something can't be read.
+/// folder, `HostName` where a name below can't be one in an image, `CannotRead` where something can't be read: the host
+/// refuses, a name stands twice in one folder, nothing is under a name that a folder has, or more is there than an image can hold.
 ///
 /// Source: own.
 pub fn folder_rows<H: Folders>(
@@ -22,6 +23,7 @@ pub fn folder_rows<H: Folders>(
 ) -> Result<Vec<FolderRow>, FolderFault>
     ensures rows { IfOk result (λ rows. IsFolder MOST_BYTES (H.known host.old).tree dir.now rows.items) }
     ensures refused { IfErr result (λ fault. Refuses (H.known host.old).tree dir.now fault) }
+    ensures blamed { IfErr result (λ fault. BlamesHost (H.known host.old).tree dir.now (H.known host.new) fault) }
     ensures kept { KeepsAll (H.known host.old) (H.known host.new) }
 {
     let mut walk = FolderWalk::start(alloc, host, dir)?;

@@ -2,8 +2,8 @@
 
 ghost use Rattle.std.specs.Prelude.{◌≡◌, ◌+◌, ◌<◌, ◌++◌, ◌∷◌, IfErr, IfOk, IfSome, OnOk, length, map, option_map, reverse, string_bytes};
 ghost use Rattle.lfs_host.specs.Scene.{KeepsAll};
-ghost use Rattle.lfs_folder.specs.FolderRows.{Refuses};
-ghost use Rattle.lfs_folder.specs.FolderWalk.{Enters, IsFolderWalk, RefusesFolder, ShowsMore};
+ghost use Rattle.lfs_folder.specs.FolderRows.{BlamesHost, Refuses};
+ghost use Rattle.lfs_folder.specs.FolderWalk.{Enters, IsFolderWalk, IsHostBlamed, RefusesFolder, ShowsMore};
 ghost use Rattle.lfs_folder.specs.PathBelow.{name_in, text_below};
 
 use crate::folder_fault::FolderFault;
@@ -39,6 +39,7 @@ impl FolderWalk {
         ensures walking { IfOk result (λ walk. IsFolderWalk MOST_BYTES (H.known host.old).tree dir.now walk.rows.items
             (map (λ s. string_bytes s) (reverse walk.waiting.items))) }
         ensures refused { IfErr result (λ fault. Refuses (H.known host.old).tree dir.now fault) }
+        ensures blamed { IfErr result (λ fault. BlamesHost (H.known host.old).tree dir.now (H.known host.new) fault) }
         ensures kept { KeepsAll (H.known host.old) (H.known host.new) }
     {
         let mut walk = FolderWalk {
@@ -63,6 +64,7 @@ impl FolderWalk {
             (map (λ s. string_bytes s) (reverse self.new.waiting.items))) }
         ensures more { OnOk result ((length self.old.rows.items < MOST_ROWS) × (length self.new.rows.items ≡ length self.old.rows.items + 1)) }
         ensures refused { IfErr result (λ fault. Refuses (H.known host.old).tree dir.now fault) }
+        ensures blamed { IfErr result (λ fault. BlamesHost (H.known host.old).tree dir.now (H.known host.new) fault) }
         ensures kept { KeepsAll (H.known host.old) (H.known host.new) }
     {
         if self.rows.len() >= MOST_ROWS {
@@ -90,6 +92,7 @@ impl FolderWalk {
         ensures entered { OnOk result (Enters (H.known host.old).tree len folder.now self.old.rows.items self.new.rows.items
             (map (λ s. string_bytes s) (reverse self.old.waiting.items)) (map (λ s. string_bytes s) (reverse self.new.waiting.items))) }
         ensures refused { IfErr result (λ fault. IfSome (H.known host.old).tree (RefusesFolder folder.now fault)) }
+        ensures blamed { IfErr result (λ fault. IsHostBlamed (H.known host.old).tree (H.known host.new) fault) }
         ensures kept { KeepsAll (H.known host.old) (H.known host.new) }
     {
         let listed = host.list(alloc, folder)?;

@@ -1,2 +1,3 @@
 pub mod FileLemmas
 pub mod BlameLemmas
+pub mod MemoryTreeLemmas

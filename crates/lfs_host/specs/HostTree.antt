@@ -1,6 +1,7 @@
 -- What a host has under each name, where that is known (own).
 use Rattle.std.specs.Prelude.{◌≡◌, ℕ, ◌+◌, List, Option, Some, None, ⊤, take, All, Contains}
-use Rattle.std.specs.Str.{IsUtf8}
+use Rattle.std.specs.List.{IsDistinct}
+use Rattle.std.specs.Str.{IsUtf8, bytes_eq}
 use Rattle.lfs_host.specs.declared.host_kind.HostKind.{HostKind}
 use Rattle.lfs_host.specs.declared.host_kind.HostKind.TheVariants.{Missing, File, Folder, Other}
 use Rattle.lfs_host.specs.declared.list_fault.ListFault.{ListFault}
@@ -28,10 +29,11 @@ abbrev pub IsKind : Option HostTree → List ℕ → HostKind → Type 0
 IsKind None name kind = ⊤
 IsKind (Some tree) name kind = kind ≡ kind_of (tree name)
 
--- these are the names in a folder, in any order
+-- these are the names in a folder, each once, in any order
 pub record AreNamesIn (there listed : List (List ℕ)) : Type 0 where
   pub right : All (λ n. Contains there n) listed
   pub whole : All (λ n. Contains listed n) there
+  pub once : IsDistinct bytes_eq listed
 
 -- what is listed of a folder
 abbrev pub Lists : Option HostTree → List ℕ → List (List ℕ) → Type 0

@@ -4,3 +4,5 @@ pub mod NewFolder
 pub mod Scene
 pub mod Failing
 pub mod MemoryFiles
+pub mod MemoryTree
+pub mod MadeEntry

@@ -20,7 +20,7 @@ pub trait Folders: Known {
         ensures noted { Notes (reading_refused result) (Self.known self.old) (Self.known self.new) }
         ensures kept { KeepsAll (Self.known self.old) (Self.known self.new) };
 
-    /// The names in a folder, in any order.
+    /// The names in a folder, each once, in any order.
     fn list(&mut self, alloc: Global, name: &str) -> Result<Vec<String>, ListFault>
         ensures listed { IfOk result (λ names. Lists (Self.known self.old).tree name.now (map (λ n. string_bytes n) names.items)) }
         ensures refused { IfErr result (λ fault. CannotList (Self.known self.old).tree name.now fault) }

@@ -58,34 +58,3 @@ pub(crate) fn move_file(
     take(files, from);
     Ok(())
 }
-
-/// The name in a folder that a file's name leads through, where the file is below the folder.
-fn name_in<'a>(folder: &str, file: &'a str) -> Option<&'a str> {
-    let below = file.strip_prefix(folder)?.strip_prefix('/')?;
-    match below.split_once('/') {
-        Some((name, _)) => Some(name),
-        None => Some(below),
-    }
-}
-
-/// Whether a file is below a folder.
-pub(crate) fn has_below(files: &MemoryFiles, folder: &str) -> bool {
-    files
-        .keys()
-        .any(|file| name_in(folder, file.as_str()).is_some())
-}
-
-/// The names in a folder, each once.
-pub(crate) fn names_in(
-    alloc: Global,
-    files: &MemoryFiles,
-    folder: &str,
-) -> Result<Vec<String>, AllocError> {
-    let mut names: BTreeMap<String, ()> = BTreeMap::new(alloc);
-    for file in files.keys() {
-        if let Some(name) = name_in(folder, file.as_str()) {
-            names.insert(String::from_str(alloc, name)?, ())?;
-        }
-    }
-    names.into_keys().collect(alloc)
-}

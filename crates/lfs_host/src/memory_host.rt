@@ -1,6 +1,6 @@
 //! A host in memory.
 
-ghost use Rattle.std.specs.Prelude.{◌≡◌, ◌∷◌, ℕ, List, [], None, OnErr, OnOk, false, is_err, ◌||◌};
+ghost use Rattle.std.specs.Prelude.{◌≡◌, ◌∷◌, ◌++◌, ℕ, List, [], None, IfOk, MatchResult, OnErr, OnOk, false, true, is_err, is_ok, ◌||◌};
 ghost use Rattle.std.specs.Option.{option_map};
 ghost use Rattle.lfs_host.specs.declared.failing.Failing.TheVariants.{Never};
 ghost use Rattle.lfs_host.specs.Files.{BeginsWith, HasWritten, StaysBut};
@@ -14,17 +14,19 @@ use crate::host_kind::HostKind;
 use crate::known::Known;
 use crate::list_fault::ListFault;
 use crate::lock::Lock;
-use crate::memory_files::{MemoryFiles, has_below, move_file, names_in, put, take};
+use crate::made_entry::MadeEntry;
+use crate::memory_files::{MemoryFiles, move_file, put, take};
+use crate::memory_tree::{kind_of, names_in};
 use crate::new_folder::NewFolder;
 use crate::read_fault::ReadFault;
 use std::alloc::{AllocError, Global};
 use std::collections::BTreeMap;
 use std::fmt::{Display, Write};
 
-/// A host whose files, standard input and standard output are in memory, and known: no file is a link, and no other run
-/// keeps one. A slash in a file's name stands behind a folder's, which is there as long as something is below it; what its
-/// calls on folders answer isn't said, and what is made in new folders isn't kept. Its calls that write, rename or make a file,
-/// or make a folder, can be made to fail.
+/// A host in memory, of which all is known: its files, standard input, standard output, and what is under each name. No file is a
+/// link, and no other run locks one. A slash in a file's name stands behind a folder's, which is there as long as a file is below it.
+/// What is made in new folders is a list of its own, apart from the files. Its calls that write, rename or begin a file, or make a
+/// folder, can be made to fail.
 ///
 /// Source: own.
 #[derive(Drop)]
@@ -38,6 +40,10 @@ pub struct MemoryHost {
     pub printed: Vec<u8>,
     /// What went to standard error.
     pub complained: String,
+    /// What was made in new folders, in order.
+    pub made: Vec<MadeEntry>,
+    /// The bytes that were written to the file that is being made there.
+    pub filled: Vec<u8>,
     /// Which call fails.
     pub failing: Failing,
     /// Whether a call was refused.
@@ -52,6 +58,7 @@ impl MemoryHost {
         ensures files { (name : List ℕ) → files_of result.files name ≡ None }
         ensures typed { result.typed.now ≡ typed.now }
         ensures printed { result.printed.items ≡ [] }
+        ensures made { result.made.items ≡ [] }
         ensures failing { result.failing ≡ Never }
         ensures refused { result.has_refused ≡ false }
     {
@@ -61,6 +68,8 @@ impl MemoryHost {
             typed,
             printed: Vec::new(alloc),
             complained: String::new(alloc),
+            made: Vec::new(alloc),
+            filled: Vec::new(alloc),
             failing: Failing::Never,
             has_refused: false,
         }
@@ -108,15 +117,17 @@ fn beginning(bytes: &[u8], most: u64) -> &[u8]
 }
 
 impl Known for MemoryHost {
-    ghost use Rattle.std.specs.Prelude.{Some};
+    ghost use Rattle.std.specs.Prelude.{Some, map};
+    ghost use Rattle.lfs_host.specs.MadeEntry.{made_as};
+    ghost use Rattle.lfs_host.specs.MemoryTree.{tree_of};
 
     ghost known = { λ host. record {
       files = Some (files_of host.files);
       typed = Some host.typed.now;
       printed = Some host.printed.items;
-      tree = None;
-      made = None;
-      filled = None;
+      tree = Some (tree_of host.files);
+      made = Some (map made_as host.made.items);
+      filled = Some host.filled.items;
       has_refused = Some host.has_refused;
     } };
 }
@@ -128,6 +139,7 @@ impl MemoryHost {
         ensures files { self.new.files ≡ self.old.files }
         ensures typed { self.new.typed ≡ self.old.typed }
         ensures printed { self.new.printed ≡ self.old.printed }
+        ensures made { self.new.made ≡ self.old.made }
     {
         if self.failing.fails() {
             self.has_refused = true;
@@ -139,21 +151,19 @@ impl MemoryHost {
 
 impl Folders for MemoryHost {
     fn kind(&mut self, name: &str) -> Result<HostKind, ReadFault> {
-        if self.files.contains_key(name) {
-            Ok(HostKind::File)
-        } else if has_below(&self.files, name) {
-            Ok(HostKind::Folder)
-        } else {
-            Ok(HostKind::Missing)
-        }
+        Ok(kind_of(&self.files, name))
     }
 
     fn list(&mut self, alloc: Global, name: &str) -> Result<Vec<String>, ListFault> {
-        if !has_below(&self.files, name) {
-            self.has_refused = true;
-            return Err(ListFault::CannotRead);
+        match kind_of(&self.files, name) {
+            HostKind::Folder => {
+                names_in(alloc, &self.files, name).map_err(|_| ListFault::Memory)
+            }
+            _ => {
+                self.has_refused = true;
+                Err(ListFault::CannotRead)
+            }
         }
-        names_in(alloc, &self.files, name).map_err(|_| ListFault::Memory)
     }
 
     fn read_entry(&mut self, alloc: Global, name: &str, most: u64) -> Result<Vec<u8>, ReadFault> {
@@ -161,21 +171,53 @@ impl Folders for MemoryHost {
     }
 }
 
+impl MemoryHost {
+    /// Puts what was made behind the rest, or refuses the call where memory is refused.
+    fn keep(&mut self, made: Result<MadeEntry, AllocError>) -> Result<(), HostFault>
+        ensures made { MatchResult result (λ _. IfOk made (λ entry. self.new.made.items ≡ self.old.made.items ++ entry ∷ []))
+            (λ _. self.new.made.items ≡ self.old.made.items) }
+        ensures done { OnOk result (is_ok made ≡ true) }
+        ensures noted { self.new.has_refused ≡ is_err result || self.old.has_refused }
+        ensures files { self.new.files ≡ self.old.files }
+        ensures typed { self.new.typed ≡ self.old.typed }
+        ensures printed { self.new.printed ≡ self.old.printed }
+    {
+        let Ok(entry) = made else {
+            self.has_refused = true;
+            return Err(HostFault);
+        };
+        if self.made.push(entry).is_err() {
+            self.has_refused = true;
+            return Err(HostFault);
+        }
+        Ok(())
+    }
+}
+
 impl NewFolder for MemoryHost {
-    fn make_folder(&mut self, _name: &str) -> Result<(), HostFault> {
-        self.must_work()
+    fn make_folder(&mut self, name: &str) -> Result<(), HostFault> {
+        self.must_work()?;
+        let made = MadeEntry::folder(self.alloc, name);
+        self.keep(made)
     }
 
     fn begin_file(&mut self, _name: &str) -> Result<(), HostFault> {
-        self.must_work()
+        self.must_work()?;
+        self.filled.clear();
+        Ok(())
     }
 
     fn fill(&mut self, bytes: &[u8]) -> Option<usize> {
+        if self.filled.extend_from_slice(bytes).is_err() {
+            self.has_refused = true;
+            return None;
+        }
         Some(bytes.len())
     }
 
-    fn end_file(&mut self, _name: &str) -> Result<(), HostFault> {
-        Ok(())
+    fn end_file(&mut self, name: &str) -> Result<(), HostFault> {
+        let made = MadeEntry::file(self.alloc, name, &self.filled);
+        self.keep(made)
     }
 }
 

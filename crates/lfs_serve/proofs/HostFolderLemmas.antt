@@ -15,6 +15,7 @@ use Rattle.lfs_folder.specs.declared.folder_row.FolderRow.{FolderRow}
 use Rattle.lfs_folder.specs.FolderRows.{AreFolderRows, AreSpelled, IsFolder, IsRow, PathRow, paths_of}
 use Rattle.lfs_folder.specs.HostNames.{IsHostName}
 use Rattle.lfs_host.specs.HostTree.{HostTree}
+use Rattle.lfs_host.specs.Scene.{Scene}
 use Rattle.lfs_pack.specs.declared.pack_row.PackRow.{PackRow}
 use Rattle.lfs_pack.specs.Packed.{ArePackable, BeginAtRoot, IsRowOf, KindsRise, Packed, Rise}
 use Rattle.lfs_serve.specs.HostFolder.{PacksFolder, ReadsNoFolder, RowText, folder_text, pack_text, packed_of}
@@ -125,6 +126,6 @@ all_packed folder left rows none so_far =
     sym (append-nil (map pack_text rows)) ∙ ap (λ fs. map pack_text rows ++ map folder_text fs) (sym none) ∙ so_far
 
 -- want of memory says nothing of the host
-pub wants_memory : (tree : Option HostTree) (dir : List ℕ) → ReadsNoFolder tree dir (Refused No_memory)
-wants_memory None dir = (Memory, refl, tt)
-wants_memory (Some tree) dir = (Memory, refl, tt)
+pub wants_memory : (tree : Option HostTree) (dir : List ℕ) (new : Scene) → ReadsNoFolder tree dir new (Refused No_memory)
+wants_memory None dir new = (Memory, refl, tt, tt)
+wants_memory (Some tree) dir new = (Memory, refl, tt, tt)

@@ -60,15 +60,15 @@ abbrev pub BecomesStep : Task → Option HostTree → Step → Type 0
 BecomesStep task tree step = (rows : List PackRow) × PacksRows task tree rows × AsksFor task rows step
 
 -- why it becomes none: its folder isn't read, or it names none
-abbrev pub BecomesNoStep : Task → Option HostTree → Fault → Type 0
-BecomesNoStep (Pack count dir) tree why = ReadsNoFolder tree dir.now why
-BecomesNoStep task tree why = NamesNoStep task why
+abbrev pub BecomesNoStep : Task → Option HostTree → Scene → Fault → Type 0
+BecomesNoStep (Pack count dir) tree new why = ReadsNoFolder tree dir.now new why
+BecomesNoStep task tree new why = NamesNoStep task why
 
 -- how a task ends for which something is read first: as the step that it becomes, or with a fault since it becomes none
 abbrev pub EndsReading : Task → ℕ → List ℕ → Scene → Scene → Option Fault → Type 0
 EndsReading task size name old new fault =
     ((step : Step) × BecomesStep task old.tree step × EndsStep step size name old new fault)
-    ⊎ (KeepsScene old new × ((why : Fault) × (fault ≡ Some why) × BecomesNoStep task old.tree why))
+    ⊎ (KeepsScene old new × ((why : Fault) × (fault ≡ Some why) × BecomesNoStep task old.tree new why))
 
 -- how a task on an image's file ends: as the step that its words say, as a folder that is made, or by what is read first
 abbrev pub EndsTask : Task → ℕ → List ℕ → Scene → Scene → Option Fault → Type 0

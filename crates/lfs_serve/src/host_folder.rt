@@ -16,7 +16,7 @@ use std::alloc::{AllocError, Global};
 /// What is below a folder, the folder itself first.
 pub fn folder_of<H: Host>(alloc: Global, host: &mut H, dir: &str) -> Result<Vec<FolderRow>, Fault>
     ensures read { IfOk result (λ folder. IsFolder most_file (H.known host.old).tree dir.now folder.items) }
-    ensures refused { IfErr result (ReadsNoFolder (H.known host.old).tree dir.now) }
+    ensures refused { IfErr result (ReadsNoFolder (H.known host.old).tree dir.now (H.known host.new)) }
     ensures kept { KeepsAll (H.known host.old) (H.known host.new) }
 {
     match folder_rows(alloc, host, dir) {

@@ -1,1 +1,2 @@
 pub mod AskingLemmas
+pub mod MemoryRowLemmas

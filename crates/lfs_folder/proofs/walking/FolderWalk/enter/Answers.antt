@@ -2,7 +2,7 @@ use Rattle.std.proofs.Common.{◌++◌, List, ℕ, ap, sym, ◌∙◌, map, reve
 use Rattle.std.proofs.lemmas.Result.{err_from_is_err_and}
 use Rattle.std.proofs.lemmas.Simd.{map-map}
 use Rattle.lfs_folder.specs.PathBelow.{name_in}
-use Rattle.lfs_folder.proofs.WalkLemmas.{lists_sorted, order_refused}
+use Rattle.lfs_folder.proofs.WalkLemmas.{lists_sorted, order_blamed, order_refused}
 use Rattle.lfs_folder.proofs.walking.FolderWalk.enter.Goals as goal
 
 pub returns-in_err-names-clause-refused : goal.returns-in_err-names-clause-refused
@@ -28,3 +28,9 @@ returns-clause-entered g c =
           (sym (map-map (name_in folder) (λ n. string_bytes n) c.in_ok-names.names.items))
           ∙ ap (λ w. map (name_in folder) names ++ map (λ s. string_bytes s) (reverse w.items)) c.show.ensures.waiting;
     }
+
+pub returns-in_err-names-clause-blamed : goal.returns-in_err-names-clause-blamed
+returns-in_err-names-clause-blamed g c =
+    let p = err_from_is_err_and c.from_residual-in_err-names.result c.from_residual-in_err-names.ensures.1 in
+    rw (p.1, p.2) (order_blamed (g.H.Known.known c.args.host.now).tree c.args.folder.now (map (λ n. string_bytes n) c.in_ok-listed.listed.items)
+    (g.H.Known.known c.list.new.self) c.in_err-names.field-0.0 c.in_ok-listed.ensures.listed c.in_err-names.ensures.refused)

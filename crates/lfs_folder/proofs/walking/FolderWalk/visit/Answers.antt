@@ -1,11 +1,11 @@
-use Rattle.std.proofs.Common.{Option, subst, map, reverse, string_bytes, length}
+use Rattle.std.proofs.Common.{◌≤◌, arith, Option, subst, map, reverse, string_bytes, length}
 use Rattle.std.specs.Prelude.{IfSome}
 use Rattle.std.proofs.lemmas.Result.{on_ok_weaker, IfErr-weaker}
 use Rattle.lfs_folder.specs.declared.walking.TheConstants.{MOST_BYTES}
 use Rattle.lfs_host.specs.HostTree.{HostTree, IsKind, ReadsEntry}
-use Rattle.lfs_folder.specs.FolderRows.{Refuses}
-use Rattle.lfs_folder.specs.FolderWalk.{Enters, RefusesFolder}
-use Rattle.lfs_folder.proofs.WalkStepLemmas.{step_file, step_folder, walk_other, walk_refused}
+use Rattle.lfs_folder.specs.FolderRows.{BlamesHost, Refuses, most_rows}
+use Rattle.lfs_folder.specs.FolderWalk.{Enters, IsHostBlamed, RefusesFolder}
+use Rattle.lfs_folder.proofs.WalkStepLemmas.{step_file, step_folder, walk_blamed, walk_missing, walk_other, walk_refused, walk_too_long}
 use Rattle.lfs_folder.proofs.walking.FolderWalk.visit.Goals as goal
 
 pub returns-in-Folder-clause-walking : goal.returns-in-Folder-clause-walking
@@ -49,3 +49,25 @@ returns-in-Other-clause-refused g c =
     let waiting = map (λ s. string_bytes s) (reverse c.args.self.now.waiting.items) in
     walk_other MOST_BYTES known c.args.dir.now c.args.name.now c.args.self.now.rows.items waiting c.requires
     (subst (IsKind known c.args.name.now) c.in-Other.is c.in_ok-kind.ensures.kind)
+
+pub returns-then-len-ge-MOST_ROWS-clause-blamed : goal.returns-then-len-ge-MOST_ROWS-clause-blamed
+returns-then-len-ge-MOST_ROWS-clause-blamed g c =
+    let host = g.H.Known.known c.args.host.now in
+    let waiting = map (λ s. string_bytes s) (reverse c.args.self.now.waiting.items) in
+    let long : most_rows ≤ length c.args.self.now.rows.items = omega (arith, c.len.ensures) in
+    walk_too_long MOST_BYTES host.tree c.args.dir.now c.args.name.now c.args.self.now.rows.items waiting host c.requires long
+
+pub returns-in-Missing-clause-blamed : goal.returns-in-Missing-clause-blamed
+returns-in-Missing-clause-blamed g c =
+    let known = (g.H.Known.known c.args.host.now).tree in
+    let waiting = map (λ s. string_bytes s) (reverse c.args.self.now.waiting.items) in
+    walk_missing MOST_BYTES known c.args.dir.now c.args.name.now c.args.self.now.rows.items waiting (g.H.Known.known c.kind.new.self) c.requires
+    (subst (IsKind known c.args.name.now) c.in-Missing.is c.in_ok-kind.ensures.kind)
+
+pub returns-in-Folder-clause-blamed : goal.returns-in-Folder-clause-blamed
+returns-in-Folder-clause-blamed g c =
+    let known = (g.H.Known.known c.args.host.now).tree in
+    let seen = (g.H.Known.known c.kind.new.self).tree in
+    let new = g.H.Known.known c.enter.new.host in
+    IfErr-weaker c.enter.result (λ fault. IsHostBlamed seen new fault) (λ fault. BlamesHost known c.args.dir.now new fault)
+    (λ fault why. walk_blamed known seen c.args.dir.now new fault c.kind.ensures.kept.1 why) c.enter.ensures.blamed

@@ -1,0 +1,63 @@
+-- What is below a folder of a host in memory.
+use Rattle.std.proofs.Common.{◌≡◌, ◌≢◌, ◌⊎◌, ℕ, true, List, [], ◌∷◌, ◌++◌, Option, Some, None, refl, ap, sym, ◌∙◌, subst, inl, inr, append_assoc, map}
+use Rattle.std.specs.Prelude.{flat_map, IfErr, Result, Ok, Err}
+use Rattle.std.specs.List.{Contains}
+use Rattle.std.proofs.lemmas.List.{append-nil}
+use Rattle.lfs_fs.specs.Path.{Path}
+use Rattle.lfs_folder.specs.PathBelow.{host_name, name_in}
+use Rattle.lfs_folder.specs.FolderRows.{IsBelow, BlamesHost, RefusesTree}
+use Rattle.lfs_folder.specs.declared.folder_fault.FolderFault.{FolderFault}
+use Rattle.lfs_folder.specs.declared.folder_fault.FolderFault.TheVariants.{Memory, HostEntry, HostName, CannotRead}
+use Rattle.lfs_host.specs.HostTree.{HostNode, FolderOf, HostTree, NothingThere, OtherThere}
+use Rattle.lfs_host.specs.MadeEntry.{made_as}
+use Rattle.lfs_host.specs.MemoryFiles.{files_of}
+use Rattle.lfs_host.specs.Scene.{HasRefused, Scene}
+use Rattle.lfs_host.specs.declared.memory_host.MemoryHost.{MemoryHost}
+use Rattle.lfs_host.specs.MemoryTree.{HasNoGap, node_of, tree_of}
+use Rattle.lfs_serve_tests.specs.MemoryRows.{RefusesInMemory}
+
+-- what is known of a host in memory
+abbrev pub scene_of : MemoryHost → Scene
+scene_of host = record {
+  files = Some (files_of host.files);
+  typed = Some host.typed.now;
+  printed = Some host.printed.items;
+  tree = Some (tree_of host.files);
+  made = Some (map made_as host.made.items);
+  filled = Some host.filled.items;
+  has_refused = Some host.has_refused;
+}
+
+-- a file or a folder isn't something else
+pub node_is_known : (file : Option (List ℕ)) (names : List (List ℕ)) → node_of file names ≢ OtherThere
+node_is_known (Some bytes) names = λ other. cc
+node_is_known None [] = λ other. cc
+node_is_known None (n ∷ names) = λ other. cc
+
+-- what is below is there
+pub below_is_there : (tree : HostTree) → HasNoGap tree → (name : List ℕ) (path : Path) → path ≢ [] → IsBelow tree name path
+    → tree (host_name name path) ≢ NothingThere
+below_is_there tree whole name [] other below = absurd (other refl)
+below_is_there tree whole name (n ∷ []) other (names, folder, there, end) =
+    subst (λ (x : List ℕ). tree (name ++ x) ≢ NothingThere) (sym (append-nil (47 ∷ n))) (whole name n names folder there)
+below_is_there tree whole name (n ∷ (m ∷ path)) other (names, folder, there, rest) =
+    subst (λ (x : List ℕ). tree x ≢ NothingThere) (append_assoc name (47 ∷ n) (flat_map (λ n. 47 ∷ n) (m ∷ path)))
+    (below_is_there tree whole (name_in name n) (m ∷ path) (λ none. cc) rest)
+
+-- why a folder of a host in memory isn't read
+refuses_by : (tree : HostTree) (dir : List ℕ) (scene : Scene) (new : MemoryHost) (fault : FolderFault) → HasNoGap tree
+    → ((name : List ℕ) → tree name ≢ OtherThere) → (HasRefused scene → new.has_refused ≡ true) → RefusesTree tree dir fault
+    → BlamesHost (Some tree) dir scene fault → RefusesInMemory tree dir new fault
+refuses_by tree dir scene new HostEntry whole known noted (path, below, other, there) blamed = absurd (known (host_name dir path) there)
+refuses_by tree dir scene new CannotRead whole known noted why (inl refused) = inl (noted refused)
+refuses_by tree dir scene new CannotRead whole known noted why (inr (inl (path, below, other, gap))) =
+    absurd (below_is_there tree whole dir path other below gap)
+refuses_by tree dir scene new CannotRead whole known noted why (inr (inr many)) = inr many
+refuses_by tree dir scene new HostName whole known noted why blamed = tt
+refuses_by tree dir scene new Memory whole known noted why blamed = tt
+
+pub refuses_in_memory : {T : Type 0} (tree : HostTree) (dir : List ℕ) (scene : Scene) (new : MemoryHost) (rows : Result T FolderFault) → HasNoGap tree
+    → ((name : List ℕ) → tree name ≢ OtherThere) → (HasRefused scene → new.has_refused ≡ true) → IfErr rows (λ fault. RefusesTree tree dir fault)
+    → IfErr rows (λ fault. BlamesHost (Some tree) dir scene fault) → IfErr rows (λ fault. RefusesInMemory tree dir new fault)
+refuses_in_memory tree dir scene new (Ok rows) whole known noted why blamed = tt
+refuses_in_memory tree dir scene new (Err fault) whole known noted why blamed = refuses_by tree dir scene new fault whole known noted why blamed
