@@ -1,1 +1,8 @@
+pub mod CommandLemmas
+pub mod FaultlessCommands
+pub mod FaultlessRows
+pub mod GrammarLemmas
+pub mod Lists
+pub mod OptionLemmas
 pub mod WordLemmas
+mod WordExamples

@@ -1,8 +1,9 @@
--- What the words of a command line ask for, as far as clap's clauses say (own).
-use Rattle.std.specs.Prelude.{ℕ, ◌≡◌, List, Some, codes}
-use Rattle.clap.specs.Words.{first_value, rows_of, subcommand_rows_of}
-use Rattle.clap.specs.declared.parser.matches.ArgMatches.{ArgMatches}
-use Rattle.clap.specs.declared.parser.matches.Found.{Found}
+-- What the words of a command line ask for (own).
+use Rattle.std.specs.Prelude.{ℕ, Bool, ◌≡◌, List, [], ◌∷◌, Option, Some, codes}
+use Rattle.std.specs.List.{list_any}
+use Rattle.std.specs.Str.{bytes_eq}
+use Rattle.std.specs.Str.Parse.{digits_value, without_leading_plus}
+use Rattle.clap.specs.Words.{Row, Text, first_of, one_of}
 use Rattle.lfs_request.specs.declared.request.Request.{Request}
 use Rattle.lfs_words.specs.declared.wish.Wish.{Wish}
 use Rattle.lfs_words.specs.declared.wish.Wish.TheVariants as wish
@@ -12,53 +13,63 @@ use Rattle.lfs_request.specs.declared.task.Task.TheVariants.{Pack, Extract, SetA
 use Rattle.lfs_step.specs.declared.step.Step.{Step}
 use Rattle.lfs_step.specs.declared.step.Step.TheVariants.{Format, Check, Ls, Cat, Mkdir, Put, Rm, Mv, Undo, Redo, Forget}
 
--- the words name this command, with these options
-abbrev pub NamesCommand : ArgMatches → List ℕ → Found → Type 0
-NamesCommand m name options = subcommand_rows_of m ≡ Some (name, rows_of options)
-
 -- an option's text
-abbrev pub HasText : Found → List ℕ → List ℕ → Type 0
-HasText options id text = first_value options id ≡ Some text
+abbrev pub HasText : List Row → Text → Text → Type 0
+HasText rows id text = first_of id rows ≡ Some text
+
+-- an option's number, in decimal digits
+abbrev pub HasNumber : List Row → Text → ℕ → Type 0
+HasNumber rows id number =
+    (digits : Text) × (one_of id rows ≡ Some digits) × (number ≡ digits_value 10 (without_leading_plus digits))
 
 -- the step that a command and its options say
-abbrev pub IsStep : Step → List ℕ → Found → Type 0
-IsStep (Format count) name options = name ≡ codes "format"
-IsStep Check name options = name ≡ codes "check"
-IsStep Ls name options = name ≡ codes "ls"
-IsStep Undo name options = name ≡ codes "undo"
-IsStep Redo name options = name ≡ codes "redo"
-IsStep Forget name options = name ≡ codes "forget"
-IsStep (Cat path) name options = (name ≡ codes "cat") × HasText options (codes "path") path.now
-IsStep (Mkdir path) name options = (name ≡ codes "mkdir") × HasText options (codes "path") path.now
-IsStep (Put path) name options = (name ≡ codes "put") × HasText options (codes "path") path.now
-IsStep (Rm path) name options = (name ≡ codes "rm") × HasText options (codes "path") path.now
-IsStep (Mv from to) name options =
-    (name ≡ codes "mv") × HasText options (codes "from") from.now × HasText options (codes "to") to.now
-IsStep _ name options = ⊥
+abbrev pub IsStep : Step → Text → List Row → Type 0
+IsStep (Format count) name rows = (name ≡ codes "format") × HasNumber rows (codes "count") count
+IsStep Check name rows = name ≡ codes "check"
+IsStep Ls name rows = name ≡ codes "ls"
+IsStep Undo name rows = name ≡ codes "undo"
+IsStep Redo name rows = name ≡ codes "redo"
+IsStep Forget name rows = name ≡ codes "forget"
+IsStep (Cat path) name rows = (name ≡ codes "cat") × HasText rows (codes "path") path.now
+IsStep (Mkdir path) name rows = (name ≡ codes "mkdir") × HasText rows (codes "path") path.now
+IsStep (Put path) name rows = (name ≡ codes "put") × HasText rows (codes "path") path.now
+IsStep (Rm path) name rows = (name ≡ codes "rm") × HasText rows (codes "path") path.now
+IsStep (Mv from to) name rows =
+    (name ≡ codes "mv") × HasText rows (codes "from") from.now × HasText rows (codes "to") to.now
+IsStep _ name rows = ⊥
 
 -- the task that a command and its options ask for
-abbrev pub IsTask : Task → List ℕ → Found → Type 0
-IsTask (task.Step step) name options = IsStep step name options
-IsTask (Pack count dir) name options = (name ≡ codes "pack") × HasText options (codes "dir") dir.now
-IsTask (Extract dir) name options = (name ≡ codes "extract") × HasText options (codes "dir") dir.now
-IsTask (SetAttr path kind value) name options =
+abbrev pub IsTask : Task → Text → List Row → Type 0
+IsTask (task.Step step) name rows = IsStep step name rows
+IsTask (Pack count dir) name rows =
+    (name ≡ codes "pack") × HasNumber rows (codes "count") count × HasText rows (codes "dir") dir.now
+IsTask (Extract dir) name rows = (name ≡ codes "extract") × HasText rows (codes "dir") dir.now
+IsTask (SetAttr path kind value) name rows =
     (name ≡ codes "setattr")
-    × HasText options (codes "path") path.now
-    × HasText options (codes "kind") kind.now
-    × HasText options (codes "hex") value.now
-IsTask (RmAttr path kind) name options =
-    (name ≡ codes "rmattr") × HasText options (codes "path") path.now × HasText options (codes "kind") kind.now
+    × HasText rows (codes "path") path.now
+    × HasText rows (codes "kind") kind.now
+    × HasText rows (codes "hex") value.now
+IsTask (RmAttr path kind) name rows =
+    (name ≡ codes "rmattr") × HasText rows (codes "path") path.now × HasText rows (codes "kind") kind.now
 
--- the request that the matches ask for
-abbrev pub IsRequest : Request → ArgMatches → Type 0
-IsRequest request m =
-    (name : List ℕ)
-    × (options : Found)
-    × NamesCommand m name options
-    × IsTask request.task name options
-    × HasText options (codes "image") request.image.now
+-- the request that a command and its options ask for
+abbrev pub IsRequest : Request → Text → List Row → Type 0
+IsRequest request name rows =
+    IsTask request.task name rows
+    × HasNumber rows (codes "block") request.size
+    × HasText rows (codes "image") request.image.now
 
--- what the matches ask for
-abbrev pub IsWish : Wish → ArgMatches → Type 0
-IsWish (wish.Explanation number) m = (options : Found) × NamesCommand m (codes "explain") options
-IsWish (wish.Request request) m = IsRequest request m
+-- what a command and its options ask for
+abbrev pub IsWish : Wish → Text → List Row → Type 0
+IsWish (wish.Explanation number) name rows = (name ≡ codes "explain") × HasNumber rows (codes "number") number
+IsWish (wish.Request request) name rows = IsRequest request name rows
+
+-- a command whose step isn't said in full, or that asks for none
+abbrev pub is_other : Text → Bool
+is_other name =
+    list_any (λ other. bytes_eq other name)
+    (codes "pack" ∷ codes "extract" ∷ codes "setattr" ∷ codes "rmattr" ∷ codes "explain" ∷ [])
+
+-- what is asked for, by the command that is named with its options
+abbrev pub AsksFor : Option (Text × List Row) → Wish → Type 0
+AsksFor named wish = (name : Text) × (rows : List Row) × (named ≡ Some (name, rows)) × IsWish wish name rows

@@ -1,5 +1,10 @@
 //! What a command line may say.
 
+ghost use Rattle.std.specs.Prelude.{◌≡◌, IfOk, false, fold, map};
+ghost use Rattle.clap.specs.Words.{app_of, rule_of, with_subcommand};
+ghost use Rattle.clap.specs.declared.builder.command.Command.TheViews.{out-Command as fields_of};
+ghost use Rattle.lfs_words.specs.Grammar.{command, grammar, rule_at, shape_at, word as word_rule};
+
 use clap::{Arg, Command, value_parser};
 use std::alloc::{AllocError, Global};
 
@@ -171,7 +176,10 @@ const KIND: &str = "Kind of the attribute, in two hexadecimal digits";
 const VALUE: &str = "Value of the attribute, in two hexadecimal digits for each byte; may be empty";
 
 /// An argument as clap takes it.
-fn clap_argument<'a>(alloc: Global, argument: Argument) -> Arg<'a> {
+fn clap_argument<'a>(alloc: Global, argument: Argument) -> Arg<'a>
+    ensures rule { rule_of result ≡ rule_at argument }
+    ensures local { result.global ≡ false }
+{
     match argument {
         Argument::Block => Arg::new(alloc, "block")
             .short('b')
@@ -189,24 +197,22 @@ fn clap_argument<'a>(alloc: Global, argument: Argument) -> Arg<'a> {
         Argument::Image => word(alloc, "image", "IMAGE", "File of the image"),
         Argument::Dir => word(alloc, "dir", "DIR", DIR),
         Argument::NewDir => word(alloc, "dir", "DIR", NEW_DIR),
-        Argument::Path => any_word(alloc, "path", "PATH", PATH),
-        Argument::From => any_word(alloc, "from", "FROM", FROM),
-        Argument::To => any_word(alloc, "to", "TO", TO),
-        Argument::Kind => any_word(alloc, "kind", "KIND", KIND),
-        Argument::Value => any_word(alloc, "hex", "HEX", VALUE),
+        Argument::Path => word(alloc, "path", "PATH", PATH),
+        Argument::From => word(alloc, "from", "FROM", FROM),
+        Argument::To => word(alloc, "to", "TO", TO),
+        Argument::Kind => word(alloc, "kind", "KIND", KIND),
+        Argument::Value => word(alloc, "hex", "HEX", VALUE),
         Argument::Number => {
             word(alloc, "number", "NUMBER", "Number of the fault").value_parser(value_parser!(u32))
         }
     }
 }
 
-/// A word that must be there, and may begin with a hyphen.
-fn any_word<'a>(alloc: Global, id: &'a str, name: &'a str, help: &'a str) -> Arg<'a> {
-    word(alloc, id, name, help).allow_hyphen_values(true)
-}
-
 /// A word that must be there.
-fn word<'a>(alloc: Global, id: &'a str, name: &'a str, help: &'a str) -> Arg<'a> {
+fn word<'a>(alloc: Global, id: &'a str, name: &'a str, help: &'a str) -> Arg<'a>
+    ensures rule { rule_of result ≡ word_rule id.entry.now }
+    ensures local { result.global ≡ false }
+{
     Arg::new(alloc, id)
         .value_name(name)
         .required(true)
@@ -214,7 +220,10 @@ fn word<'a>(alloc: Global, id: &'a str, name: &'a str, help: &'a str) -> Arg<'a>
 }
 
 /// A command as clap takes it.
-fn clap_command<'a>(alloc: Global, row: &CommandRow) -> Result<Command<'a>, AllocError> {
+fn clap_command<'a>(alloc: Global, row: &CommandRow) -> Result<Command<'a>, AllocError>
+    ensures app { IfOk result (λ made. app_of made ≡ command row.now.name.now (map rule_at row.now.arguments.now)) }
+    ensures local { IfOk result (λ made. (fields_of made).has_globals ≡ false) }
+{
     let mut command = Command::new(alloc, row.name).about(row.about);
     for argument in row.arguments {
         command = command.arg(clap_argument(alloc, *argument))?;
@@ -222,18 +231,31 @@ fn clap_command<'a>(alloc: Global, row: &CommandRow) -> Result<Command<'a>, Allo
     Ok(command)
 }
 
+/// The program with a command for each row.
+fn with_commands<'a>(
+    alloc: Global,
+    mut program: Command<'a>,
+    rows: &[CommandRow],
+) -> Result<Command<'a>, AllocError>
+    ensures { IfOk result (λ made. app_of made ≡ fold with_subcommand (app_of program.entry) (map shape_at rows.now)) }
+{
+    for row in rows {
+        program = program.subcommand(clap_command(alloc, row)?)?;
+    }
+    Ok(program)
+}
+
 /// The program's command line: its commands, each with what it takes.
 ///
 /// Source: own.
-pub fn command_line<'a>(alloc: Global) -> Result<Command<'a>, AllocError> {
-    let mut program = Command::new(alloc, "lfsed")
+pub fn command_line<'a>(alloc: Global) -> Result<Command<'a>, AllocError>
+    ensures grammar { IfOk result (λ made. app_of made ≡ grammar) }
+{
+    let program = Command::new(alloc, "lfsed")
         .bin_name("lfsed")?
         .version(VERSION)
         .about("Edit littlefs images of disk version 2.0")
         .after_help(STATUSES)
         .subcommand_required(true);
-    for row in &COMMANDS {
-        program = program.subcommand(clap_command(alloc, row)?)?;
-    }
-    Ok(program)
+    with_commands(alloc, program, &COMMANDS)
 }

@@ -1,15 +1,17 @@
--- How the words of a command line end, as far as clap's clauses say what they ask for (own).
-use Rattle.std.specs.Prelude.{ℕ, ◌≡◌, ◌⊎◌, List, Result, Ok, Err, Some, true}
-use Rattle.clap.specs.Words.{HasMatchesOf, app_of, takes}
-use Rattle.clap.specs.declared.builder.command.Command.{Command}
-use Rattle.clap.specs.declared.parser.matches.ArgMatches.{ArgMatches}
+-- How the words of a command line end (own).
+use Rattle.std.specs.Prelude.{ℕ, ◌≡◌, ◌⊎◌, List, Option, Result, Ok, Err, Some}
+use Rattle.clap.specs.Words.{IsAmong, Row, Text, fault_of, subcommand_of}
+use Rattle.clap.specs.declared.error.kind.ErrorKind.{ErrorKind}
+use Rattle.clap.specs.declared.error.kind.ErrorKind.TheVariants.{DisplayHelp, DisplayVersion}
 use Rattle.lfs_command.specs.declared.refusal.Refusal.TheVariants.{Memory}
 use Rattle.lfs_change.specs.declared.fault.Fault.{Fault}
 use Rattle.lfs_change.specs.declared.fault.Fault.TheVariants.{Refused}
 use Rattle.lfs_change.specs.Fault.{status_of}
 use Rattle.lfs_request.specs.declared.request.Request.{Request}
-use Rattle.lfs_words.specs.declared.wish.Wish.TheVariants.{Explanation}
-use Rattle.lfs_words.specs.Words.{IsRequest, IsWish}
+use Rattle.lfs_words.specs.declared.wish.Wish.TheVariants as wish
+use Rattle.lfs_words.specs.Grammar.{grammar}
+use Rattle.lfs_words.specs.Hyphens.{IsRead}
+use Rattle.lfs_words.specs.Words.{AsksFor}
 use Rattle.lfs_host.specs.Scene.{KeepsScene, Scene}
 use Rattle.lfs_serve.specs.Program.{EndsRequest}
 
@@ -17,32 +19,40 @@ use Rattle.lfs_serve.specs.Program.{EndsRequest}
 abbrev pub usage : ℕ
 usage = 2
 
--- a command line has taken the words, with these matches
-abbrev pub IsMatched : List (List ℕ) → ArgMatches → Type 0
-IsMatched words m = (command : Command) × HasMatchesOf (app_of command) words m
-
--- a command line takes the words not
-abbrev pub IsRefused : List (List ℕ) → Type 0
-IsRefused words = (command : Command) × ¬ (takes (app_of command) words ≡ true)
-
--- the words ask for no step: they are refused, or ask what a fault means
-abbrev pub AsksNoStep : List (List ℕ) → Type 0
-AsksNoStep words =
-    IsRefused words ⊎ ((m : ArgMatches) × (number : ℕ) × IsMatched words m × IsWish (Explanation number) m)
-
 -- the status that a command line ends with
 abbrev pub ended_with : Result ℕ Fault → ℕ
 ended_with (Ok status) = status
 ended_with (Err fault) = status_of (Some fault)
 
--- how a command line ends: as the request that its words ask for; with no step asked for, and no file changed; or with nothing
--- changed, for want of memory or since no request is read off its matches
-abbrev pub EndsWords : List (List ℕ) → Scene → Scene → ℕ → Type 0
+-- the words are neither taken as they are nor with `--` before the first stray one
+abbrev pub IsRefused : List Text → Type 0
+IsRefused words = (read : List Text) → IsRead words read → ⊥
+
+-- an error is no error: the words call for help, or for the version
+abbrev pub CallsForHelp : ErrorKind → Type 0
+CallsForHelp kind = (kind ≡ DisplayHelp) ⊎ (kind ≡ DisplayVersion)
+
+-- want of memory ends the run, with nothing changed
+abbrev pub EndsForMemory : Scene → Scene → ℕ → Type 0
+EndsForMemory old new status = KeepsScene old new × (status ≡ status_of (Some (Refused Memory)))
+
+-- how a command that is named with its options ends: as the request that it asks for, or by saying what the fault of the
+-- number means that it asks for, with no file changed
+abbrev pub EndsNamed : Option (Text × List Row) → Scene → Scene → ℕ → Type 0
+EndsNamed named old new status =
+    ((request : Request) × AsksFor named (wish.Request request) × EndsRequest request old new status)
+    ⊎ ((number : ℕ) × AsksFor named (wish.Explanation number) × (new.files ≡ old.files))
+
+-- how refused words end: with no file changed, and with the status of a refused command line, unless they call for help
+abbrev pub EndsRefused : List Text → Scene → Scene → ℕ → Type 0
+EndsRefused words old new status =
+    IsRefused words
+    × (new.files ≡ old.files)
+    × ((status ≡ usage) ⊎ ((kind : ErrorKind) × IsAmong kind (fault_of grammar words) × CallsForHelp kind))
+
+-- how a command line ends: as its words are read; refused; or for want of memory
+abbrev pub EndsWords : List Text → Scene → Scene → ℕ → Type 0
 EndsWords words old new status =
-    ((m : ArgMatches)
-    × (request : Request)
-    × IsMatched words m
-    × IsRequest request m
-    × EndsRequest request old new status)
-    ⊎ (AsksNoStep words × (new.files ≡ old.files))
-    ⊎ (KeepsScene old new × ((status ≡ status_of (Some (Refused Memory))) ⊎ (status ≡ usage)))
+    ((read : List Text) × IsRead words read × EndsNamed (subcommand_of grammar read) old new status)
+    ⊎ EndsRefused words old new status
+    ⊎ EndsForMemory old new status

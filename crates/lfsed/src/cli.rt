@@ -1,17 +1,20 @@
 //! The program, over a host.
 
-ghost use Rattle.std.specs.Prelude.{◌≡◌, IfOk, map};
-ghost use Rattle.lfsed.specs.Words.{EndsWords, ended_with};
+ghost use Rattle.std.specs.Prelude.{◌≡◌, ◌≢◌, ◌⊎◌, Ok, map};
+ghost use Rattle.clap.specs.Words.{HasKind, fault_of, kind_of, subcommand_rows_of};
+ghost use Rattle.lfs_words.specs.Grammar.{IsTaken, NamesCommand, grammar};
+ghost use Rattle.lfs_words.specs.Hyphens.{IsRead};
+ghost use Rattle.lfsed.specs.Words.{CallsForHelp, EndsNamed, EndsWords, ended_with, usage};
 
 use crate::explanations::explained;
-use clap::Error;
 use clap::error::ErrorKind;
+use clap::{ArgMatches, Error};
 use lfs_edit::Refusal;
 use lfs_exchange::{MORE, print, tell_of_image};
 use lfs_host::Host;
 use lfs_serve::served;
 use lfs_step::Fault;
-use lfs_words::{Wish, command_line, wished};
+use lfs_words::{Wish, dashed, matched, names_files_plainly, wished};
 use std::alloc::Global;
 use std::convert::AsStr;
 
@@ -38,16 +41,45 @@ pub fn cli<H: Host, W: AsStr>(alloc: Global, host: &mut H, words: &[W]) -> u8
 fn done<H: Host, W: AsStr>(alloc: Global, host: &mut H, words: &[W]) -> Result<u8, Fault>
     ensures ended { EndsWords (map W.text words.now) (H.known host.old) (H.known host.new) (ended_with result) }
 {
-    match command_line(alloc)?.try_get_matches_from(words) {
-        Ok(matches) => match wished(&matches) {
-            Some(Wish::Explanation { number }) => explain(alloc, host, number),
-            Some(Wish::Request(request)) => Ok(served(alloc, host, &request)),
-            None => Ok(USAGE),
-        },
+    match matched(alloc, words) {
+        Ok(matches) => carried(alloc, host, &matches),
         Err(error) if error.kind() == ErrorKind::OutOfMemory => {
             Err(Fault::Refused(Refusal::Memory))
         }
-        Err(error) => refused(alloc, host, error),
+        Err(error) => done_dashed(alloc, host, words, error),
+    }
+}
+
+/// Reads words that the grammar refuses with an error once more, with `--` before the first that begins with a hyphen and
+/// is no option, and does what they ask for then.
+fn done_dashed<H: Host, W: AsStr>(
+    alloc: Global,
+    host: &mut H,
+    words: &[W],
+    error: Error,
+) -> Result<u8, Fault>
+    requires { HasKind (fault_of grammar (map W.text words.now)) error × (kind_of error ≢ ErrorKind.OutOfMemory) }
+    ensures ended { EndsWords (map W.text words.now) (H.known host.old) (H.known host.new) (ended_with result) }
+{
+    let dashed = dashed(alloc, words)?;
+    match matched(alloc, dashed.as_slice()) {
+        Ok(matches) if names_files_plainly(&matches) => carried(alloc, host, &matches),
+        Err(again) if again.kind() == ErrorKind::OutOfMemory => {
+            Err(Fault::Refused(Refusal::Memory))
+        }
+        _ => refused(alloc, host, error),
+    }
+}
+
+/// Does what the command that was matched asks for.
+fn carried<H: Host>(alloc: Global, host: &mut H, matches: &ArgMatches<'_>) -> Result<u8, Fault>
+    requires { NamesCommand (subcommand_rows_of matches.now) }
+    ensures ended { EndsNamed (subcommand_rows_of matches.now) (H.known host.old) (H.known host.new) (ended_with result) }
+{
+    match wished(matches) {
+        Some(Wish::Explanation { number }) => explain(alloc, host, number),
+        Some(Wish::Request(request)) => Ok(served(alloc, host, &request)),
+        None => unreachable!(),
     }
 }
 
@@ -70,6 +102,7 @@ fn explain<H: Host>(alloc: Global, host: &mut H, number: u32) -> Result<u8, Faul
 /// Tells what is wrong with the words, or the help that they ask for.
 fn refused<H: Host>(alloc: Global, host: &mut H, error: Error) -> Result<u8, Fault>
     ensures kept { (H.known host.new).files ≡ (H.known host.old).files }
+    ensures status { (result ≡ Ok usage) ⊎ CallsForHelp (kind_of error) }
 {
     if error.use_stderr() {
         host.complain(error);

@@ -1,0 +1,102 @@
+-- What a command of the grammar takes is said, where it is named with all that it takes.
+use Rattle.std.proofs.Common.{rules, ◌≡◌, ◌⊎◌, ◌∙◌, List, [], ◌∷◌, Option, Some, Bool, true, false}
+use Rattle.std.proofs.Common.{sym, ap, subst, refl, find, inl, inr, arith}
+use Rattle.std.proofs.Common.{codes}
+use Rattle.std.specs.Prelude.{not, ◌&&◌}
+use Rattle.std.specs.List.{list_any}
+use Rattle.std.specs.Option.{option_map_or}
+use Rattle.std.specs.Str.{bytes_eq}
+use Rattle.std.proofs.lemmas.Slice.Eq.{bytes_eq-Decides}
+use Rattle.clap.specs.Words.{Row, Rule, Shape, Text}
+use Rattle.clap.proofs.SimpleLemmas.{is_false}
+use Rattle.clap.proofs.WalkLemmas.{both}
+use Rattle.lfs_words.proofs.FaultlessRows.{none_of}
+use Rattle.lfs_words.proofs.Lists.{Each, In, contained, each, each_in}
+use Rattle.lfs_words.specs.Grammar.{IsNumber, IsSaid, NamesCommand, block, commands, count, number, word}
+
+-- ---- the command of a name
+
+abbrev pub rules_at : Text → List Rule
+rules_at name = option_map_or (λ (c : Shape). c.rules) (find (λ c. bytes_eq c.name name) commands) []
+
+abbrev distinct_names : List Shape → Bool
+distinct_names [] = true
+distinct_names (c ∷ rest) = not (list_any (λ d. bytes_eq d.name c.name) rest) && distinct_names rest
+
+same_word : (a : Text) → bytes_eq a a ≡ true
+same_word a = (bytes_eq-Decides a a).1 refl
+
+none_other : (c : Shape) (rest : List Shape) (d : Shape) → distinct_names (c ∷ rest) ≡ true → In d rest → bytes_eq c.name d.name ≡ false
+none_other c rest d one here = go (bytes_eq c.name d.name) refl
+  where
+    go : (b : Bool) → bytes_eq c.name d.name ≡ b → bytes_eq c.name d.name ≡ false
+    go false is = is
+    go true is =
+        let same : c.name ≡ d.name = (bytes_eq-Decides c.name d.name).0 is in
+        let other : bytes_eq d.name c.name ≡ false =
+        none_of (λ (x : Shape). bytes_eq x.name c.name) rest d (is_false _ (both _ _ one).0) here in
+        let yes : bytes_eq d.name c.name ≡ true = (bytes_eq-Decides d.name c.name).1 (sym same) in
+        cc
+
+found_again : (all : List Shape) (d : Shape) → distinct_names all ≡ true → In d all → find (λ c. bytes_eq c.name d.name) all ≡ Some d
+found_again [] d one here = absurd here
+found_again (c ∷ rest) d one (inl is) =
+    let yes : bytes_eq c.name d.name ≡ true = (bytes_eq-Decides c.name d.name).1 (ap (λ (x : Shape). x.name) (sym is)) in
+    rw yes (ap (λ (x : Shape). Some x) (sym is))
+found_again (c ∷ rest) d one (inr later) = rw (none_other c rest d one later) (found_again rest d (both _ _ one).1 later)
+
+pub all_distinct : distinct_names commands ≡ true
+all_distinct = refl
+
+called : (name : Text) (rows : List Row) (names : NamesCommand (Some (name, rows))) → names.command.name ≡ name
+called name rows names = ap (λ (o : Option (Text × List Row)). option_map_or (λ p. p.0) o []) (sym names.is)
+
+-- what the command takes is said
+command_said : (name : Text) (rows : List Row) (names : NamesCommand (Some (name, rows)))
+    → Each (λ rule. IsSaid rule rows) names.command.rules
+command_said name rows names =
+    let has : names.rows ≡ rows = ap (λ (o : Option (Text × List Row)). option_map_or (λ p. p.1) o []) (sym names.is) in
+    subst (λ (r : List Row). Each (λ rule. IsSaid rule r) names.command.rules) has
+    (each (λ rule. IsSaid rule names.rows) names.command.rules names.said)
+
+-- what the command of this name takes is said
+pub said_of : (name word : Text) (rows : List Row) → name ≡ word → NamesCommand (Some (name, rows))
+    → Each (λ rule. IsSaid rule rows) (rules_at word)
+said_of name word rows same names =
+    let command = names.command in
+    let found : find (λ c. bytes_eq c.name command.name) commands ≡ Some command =
+    found_again commands command all_distinct (contained commands command names.here) in
+    let rules : rules_at word ≡ command.rules =
+    ap rules_at (sym (called name rows names ∙ same)) ∙ ap (λ (o : Option Shape). option_map_or (λ (c : Shape). c.rules) o []) found in
+    subst (λ (rules : List Rule). Each (λ rule. IsSaid rule rows) rules) (sym rules) (command_said name rows names)
+
+pub count_is : IsNumber count
+count_is = (2, 65536, refl, omega arith)
+
+pub block_is : IsNumber block
+block_is = (256, 65536, refl, omega arith)
+
+pub number_is : IsNumber number
+number_is = (0, 4294967295, refl, omega arith)
+
+-- each command but the one that explains takes the block size and an image
+abbrev TakesImage : Shape → Type 0
+TakesImage c = ((rest : List Rule) × (c.rules ≡ block ∷ word (codes "image") ∷ rest)) ⊎ (c.name ≡ codes "explain")
+
+takes_image : Each TakesImage commands
+takes_image = search rules
+
+image_of : (rows : List Row) (rules rest : List Rule) → rules ≡ block ∷ word (codes "image") ∷ rest → Each (λ rule. IsSaid rule rows) rules
+    → IsSaid block rows × IsSaid (word (codes "image")) rows
+image_of rows rules rest is said =
+    let all : Each (λ rule. IsSaid rule rows) (block ∷ word (codes "image") ∷ rest) =
+    subst (λ (r : List Rule). Each (λ rule. IsSaid rule rows) r) is said in
+    (all.0, all.1.0)
+
+pub image_said : (name : Text) (rows : List Row) → (name ≡ codes "explain" → ⊥) → NamesCommand (Some (name, rows))
+    → IsSaid block rows × IsSaid (word (codes "image")) rows
+image_said name rows other names =
+    elim (each_in TakesImage commands names.command takes_image (contained commands names.command names.here)) [
+      | inl takes ↦ image_of rows names.command.rules takes.0 takes.1 (command_said name rows names)
+      | inr is ↦ absurd (other (sym (called name rows names) ∙ is))
+    ]

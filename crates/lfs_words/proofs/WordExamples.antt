@@ -1,0 +1,73 @@
+-- What the grammar makes of some command lines.
+use Rattle.std.proofs.Common.{◌≡◌, ◌∷◌, List, [], Option, Some, codes, refl}
+use Rattle.std.specs.Prelude.{option_map}
+use Rattle.clap.specs.Words.{Text, fault_of, first_of, one_of, subcommand_of}
+use Rattle.clap.specs.declared.error.kind.ErrorKind.TheVariants.{DisplayHelp, MissingRequiredArgument, MissingSubcommand, UnknownArgument}
+use Rattle.clap.specs.declared.error.kind.ErrorKind.TheVariants.{ValueValidation}
+use Rattle.clap.proofs.OnLiterals.{clap_on_literals}
+use Rattle.lfs_words.specs.Grammar.{IsTaken, grammar}
+use Rattle.lfs_words.specs.Hyphens.{dashed}
+
+abbrev text_at : Text → List Text → Option (Option Text)
+text_at id words = option_map (λ named. first_of id named.1) (subcommand_of grammar words)
+
+abbrev number_at : Text → List Text → Option (Option Text)
+number_at id words = option_map (λ named. one_of id named.1) (subcommand_of grammar words)
+
+-- lfsed mv a.img /x /y
+abbrev moving : List Text
+moving = codes "lfsed" ∷ codes "mv" ∷ codes "a.img" ∷ codes "/x" ∷ codes "/y" ∷ []
+
+moving_is_taken : IsTaken moving
+unfolding clap_on_literals
+moving_is_taken = refl
+
+moving_says : (text_at (codes "image") moving ≡ Some (Some (codes "a.img")))
+    × (text_at (codes "from") moving ≡ Some (Some (codes "/x")))
+    × (text_at (codes "to") moving ≡ Some (Some (codes "/y")))
+    × (number_at (codes "block") moving ≡ Some (Some (codes "4096")))
+unfolding clap_on_literals
+moving_says = (refl, refl, refl, refl)
+
+-- lfsed format -b 512 a.img --count=8
+abbrev formatting : List Text
+formatting = codes "lfsed" ∷ codes "format" ∷ codes "-b" ∷ codes "512" ∷ codes "a.img" ∷ codes "--count=8" ∷ []
+
+formatting_is_taken : IsTaken formatting
+unfolding clap_on_literals
+formatting_is_taken = refl
+
+formatting_says : (number_at (codes "block") formatting ≡ Some (Some (codes "512")))
+    × (number_at (codes "count") formatting ≡ Some (Some (codes "8")))
+unfolding clap_on_literals
+formatting_says = (refl, refl)
+
+-- what is refused: no command, an option that is left out, a number out of its range, a word too many
+no_command : fault_of grammar (codes "lfsed" ∷ []) ≡ MissingSubcommand ∷ []
+unfolding clap_on_literals
+no_command = refl
+
+no_count : fault_of grammar (codes "lfsed" ∷ codes "format" ∷ codes "a.img" ∷ []) ≡ MissingRequiredArgument ∷ []
+unfolding clap_on_literals
+no_count = refl
+
+one_block : fault_of grammar (codes "lfsed" ∷ codes "format" ∷ codes "--count" ∷ codes "1" ∷ codes "a.img" ∷ []) ≡ ValueValidation ∷ []
+unfolding clap_on_literals
+one_block = refl
+
+two_images : fault_of grammar (codes "lfsed" ∷ codes "check" ∷ codes "a.img" ∷ codes "b.img" ∷ []) ≡ UnknownArgument ∷ []
+unfolding clap_on_literals
+two_images = refl
+
+help : fault_of grammar (codes "lfsed" ∷ codes "mv" ∷ codes "--help" ∷ []) ≡ DisplayHelp ∷ []
+unfolding clap_on_literals
+help = refl
+
+-- lfsed rmattr a.img / -7
+stray : fault_of grammar (codes "lfsed" ∷ codes "rmattr" ∷ codes "a.img" ∷ codes "/" ∷ codes "-7" ∷ []) ≡ UnknownArgument ∷ []
+unfolding clap_on_literals
+stray = refl
+
+stray_is_read : text_at (codes "kind") (dashed (codes "lfsed" ∷ codes "rmattr" ∷ codes "a.img" ∷ codes "/" ∷ codes "-7" ∷ [])) ≡ Some (Some (codes "-7"))
+unfolding clap_on_literals
+stray_is_read = refl

@@ -1,0 +1,43 @@
+-- Words that begin with a hyphen and are no options (own).
+use Rattle.std.specs.Prelude.{◌≡◌, ◌⊎◌, ◌&&◌, ◌||◌, Bool, true, Option, Some, None, List, [], ◌∷◌, codes, if◌then◌else◌, nat_eq, not}
+use Rattle.std.specs.List.{starts_with}
+use Rattle.std.specs.Str.{bytes_eq}
+use Rattle.clap.specs.Words.{Row, Text, first_of, subcommand_of}
+use Rattle.lfs_words.specs.Grammar.{IsTaken, grammar}
+
+-- a word begins with these bytes
+abbrev pub begins_with : Text → Text → Bool
+begins_with word start = starts_with nat_eq word start
+
+-- an option, or a call for help
+abbrev pub names_option : Text → Bool
+names_option word =
+    begins_with word (codes "-b") || begins_with word (codes "--block") || begins_with word (codes "--count")
+    || bytes_eq word (codes "-h") || bytes_eq word (codes "--help")
+
+-- a word that begins with a hyphen and is no option
+abbrev pub is_stray : Text → Bool
+is_stray word = begins_with word (codes "-") && not (names_option word)
+
+-- the words with `--` before the first stray one
+abbrev pub dashed : List Text → List Text
+dashed [] = []
+dashed (word ∷ rest) = if is_stray word then codes "--" ∷ word ∷ rest else word ∷ dashed rest
+
+-- a name that begins with no hyphen, where there is one
+abbrev pub is_plain_name : Option Text → Bool
+is_plain_name None = true
+is_plain_name (Some name) = not (begins_with name (codes "-"))
+
+-- no file or folder of the host is named by a word that begins with a hyphen
+abbrev pub names_files_plainly : Option (Text × List Row) → Bool
+names_files_plainly None = true
+names_files_plainly (Some named) =
+    is_plain_name (first_of (codes "image") named.1) && is_plain_name (first_of (codes "dir") named.1)
+
+-- how words are read: as they are, where the grammar takes them; else with `--` before the first stray one, where it takes
+-- these and no file of the host is named by a word that begins with a hyphen
+abbrev pub IsRead : List Text → List Text → Type 0
+IsRead words read =
+    (IsTaken words × (read ≡ words))
+    ⊎ (¬ IsTaken words × (read ≡ dashed words) × IsTaken read × (names_files_plainly (subcommand_of grammar read) ≡ true))

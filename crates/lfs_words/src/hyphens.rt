@@ -1,0 +1,69 @@
+//! Words that begin with a hyphen and are no options.
+
+ghost use Rattle.std.specs.Prelude.{◌≡◌, IfOk, map};
+ghost use Rattle.clap.specs.Words.{first_of, found_of, rows_of, subcommand_rows_of};
+ghost use Rattle.lfs_words.specs.Hyphens.{dashed, is_plain_name, is_stray, names_files_plainly, names_option};
+
+use clap::ArgMatches;
+use std::alloc::{AllocError, Global};
+use std::convert::AsStr;
+
+/// Whether a word is an option, or asks for help.
+fn names_option(word: &str) -> bool
+    ensures { result ≡ names_option word.now }
+{
+    word.starts_with("-b")
+        || word.starts_with("--block")
+        || word.starts_with("--count")
+        || word == "-h"
+        || word == "--help"
+}
+
+/// Whether a word begins with a hyphen, and is no option.
+fn is_stray(word: &str) -> bool
+    ensures { result ≡ is_stray word.now }
+{
+    word.starts_with("-") && !names_option(word)
+}
+
+/// The words with `--` before the first of them that begins with a hyphen and is no option: that word and those behind
+/// it are no options then.
+///
+/// Source: own.
+pub fn dashed<'a, W: AsStr>(alloc: Global, words: &'a [W]) -> Result<Vec<&'a str>, AllocError>
+    ensures { IfOk result (λ read. map (λ word. word.now) read.items ≡ dashed (map W.text words.now)) }
+{
+    let mut read = Vec::new(alloc);
+    let mut is_dashed = false;
+    for word in words {
+        let text = word.as_str();
+        if !is_dashed && is_stray(text) {
+            is_dashed = true;
+            read.push("--")?;
+        }
+        read.push(text)?;
+    }
+    Ok(read)
+}
+
+/// Whether an option's text begins with no hyphen, where it has one.
+fn is_plain(options: &ArgMatches<'_>, id: &str) -> bool
+    ensures { result ≡ is_plain_name (first_of id.now (rows_of (found_of options.now))) }
+{
+    match options.get_str(id) {
+        Some(name) => !name.starts_with("-"),
+        None => true,
+    }
+}
+
+/// Whether no file or folder of the host is named by a word that begins with a hyphen. Takes no memory.
+///
+/// Source: own.
+pub fn names_files_plainly(matches: &ArgMatches<'_>) -> bool
+    ensures { result ≡ names_files_plainly (subcommand_rows_of matches.now) }
+{
+    match matches.subcommand() {
+        Some((_, options)) => is_plain(options, "image") && is_plain(options, "dir"),
+        None => true,
+    }
+}

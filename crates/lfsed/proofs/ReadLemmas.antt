@@ -1,0 +1,30 @@
+-- How words end that are read as they are, and with `--` before the first stray one.
+use Rattle.std.proofs.Common.{◌≡◌, ◌∙◌, ℕ, List, Option, inl, inr, refl, sym, ap, subst, true}
+use Rattle.clap.specs.Words.{HasKind, IsAmong, Kinds, Row, Text, fault_of, kind_of, subcommand_rows_of}
+use Rattle.clap.specs.declared.error.Error.{Error}
+use Rattle.clap.specs.declared.error.kind.ErrorKind.TheVariants.{OutOfMemory}
+use Rattle.clap.specs.declared.parser.matches.ArgMatches.{ArgMatches}
+use Rattle.lfs_host.specs.Scene.{Scene}
+use Rattle.lfs_words.specs.Grammar.{IsMatched, IsTaken, grammar}
+use Rattle.lfs_words.specs.Hyphens.{dashed, names_files_plainly}
+use Rattle.lfsed.specs.Words.{EndsNamed, EndsWords}
+
+-- words that are refused with an error other than want of memory aren't taken
+pub not_taken : (words : List Text) (e : Error) → HasKind (fault_of grammar words) e → (kind_of e ≡ OutOfMemory → ⊥) → IsTaken words → ⊥
+not_taken words e (inl memory) other taken = other memory
+not_taken words e (inr among) other taken = subst (λ (kinds : Kinds). IsAmong (kind_of e) kinds) taken among
+
+pub ends_as_read : (words : List Text) (m : ArgMatches) (old new : Scene) (status : ℕ) → IsMatched words m
+    → EndsNamed (subcommand_rows_of m) old new status → EndsWords words old new status
+ends_as_read words m old new status matched ends =
+    inl (words, inl (matched.taken, refl), subst (λ (named : Option (Text × List Row)). EndsNamed named old new status) matched.named ends)
+
+pub ends_as_dashed : (words read : List Text) (m : ArgMatches) (old new : Scene) (status : ℕ) → (IsTaken words → ⊥) → read ≡ dashed words
+    → IsMatched read m → names_files_plainly (subcommand_rows_of m) ≡ true → EndsNamed (subcommand_rows_of m) old new status
+    → EndsWords words old new status
+ends_as_dashed words read m old new status refused is matched plain ends =
+    inl (
+      read,
+      inr (refused, is, matched.taken, ap names_files_plainly (sym matched.named) ∙ plain),
+      subst (λ (named : Option (Text × List Row)). EndsNamed named old new status) matched.named ends,
+    )
