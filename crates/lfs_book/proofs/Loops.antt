@@ -6,7 +6,7 @@ use Rattle.lfs_block.specs.Change.{Change}
 use Rattle.lfs_block.specs.Patch.{ChangeSet}
 use Rattle.lfs_book.specs.declared.journal_fault.JournalFault.{JournalFault}
 use Rattle.lfs_book.specs.declared.journal_fault.JournalFault.TheVariants.{JournalFormat, Memory}
-use Rattle.lfs_book.specs.Faults.{Refuses}
+use Rattle.lfs_book.specs.Faults.{RefusesReading}
 use Rattle.lfs_book.specs.Reading.{◌>>=◌, change_at, changes_at, patch_at, patches_at}
 
 -- what was read before, and what is still read
@@ -35,8 +35,8 @@ changes_go_on size count front many i least bytes c behind total lt h so_far =
 
 pub changes_refuse : (fault : JournalFault) (size count : ℕ) (front : List Change) (many i least : ℕ) (bytes : List ℕ)
     (total : Option (List Change × List ℕ))
-    → i < many → Refuses fault (change_at size count least bytes)
-    → with_front front (changes_at size count (many - i) least bytes) ≡ total → Refuses fault total
+    → i < many → RefusesReading fault (change_at size count least bytes)
+    → with_front front (changes_at size count (many - i) least bytes) ≡ total → RefusesReading fault total
 unfolding changes_at
 changes_refuse JournalFormat size count front many i least bytes total lt h so_far =
     let k : many - i ≡ suc (many - (i + 1)) = omega arith in
@@ -70,8 +70,8 @@ patches_go_on size count front many i bytes p behind total lt h so_far =
 
 pub patches_refuse : (fault : JournalFault) (size count : ℕ) (front : List ChangeSet) (many i : ℕ) (bytes : List ℕ)
     (total : Option (List ChangeSet × List ℕ))
-    → i < many → Refuses fault (patch_at size count bytes)
-    → with_front front (patches_at size count (many - i) bytes) ≡ total → Refuses fault total
+    → i < many → RefusesReading fault (patch_at size count bytes)
+    → with_front front (patches_at size count (many - i) bytes) ≡ total → RefusesReading fault total
 unfolding patches_at
 patches_refuse JournalFormat size count front many i bytes total lt h so_far =
     let k : many - i ≡ suc (many - (i + 1)) = omega arith in

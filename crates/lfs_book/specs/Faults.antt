@@ -15,11 +15,11 @@ IsNoJournal JournalFormat bytes = (j : Book) → IsBook j → journal_bytes j �
 IsNoJournal Memory bytes = Unit {0}
 
 -- there is nothing to read, unless memory was refused
-abbrev pub Refuses : {Y : Type 0} → JournalFault → Option Y → Type 0
-Refuses JournalFormat read = read ≡ None
-Refuses Memory read = Unit {0}
+abbrev pub RefusesReading : {Y : Type 0} → JournalFault → Option Y → Type 0
+RefusesReading JournalFormat read = read ≡ None
+RefusesReading Memory read = Unit {0}
 
 -- a reader's answer, seen by `view`, is what there is to read, unless memory was refused
 abbrev pub Gives : {X Y : Type 0} → (X → Y) → Result X JournalFault → Option Y → Type 0
 Gives view (Ok x) read = read ≡ Some (view x)
-Gives view (Err fault) read = Refuses fault read
+Gives view (Err fault) read = RefusesReading fault read

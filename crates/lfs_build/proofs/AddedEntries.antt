@@ -20,7 +20,7 @@ use Rattle.lfs_command.specs.Cut.{room}
 use Rattle.lfs_draft.specs.LeastSupplies.{least_supplies, made_blocks}
 use Rattle.lfs_law.specs.OutlineLaws.{IsThere}
 use Rattle.lfs_law.proofs.KnownBodies.{OfNew}
-use Rattle.lfs_new.specs.NewPairs.{front_count, front_weight}
+use Rattle.lfs_new.specs.OutlinesTaken.{front_count, front_weight}
 use Rattle.lfs_ends.specs.Ending.{FitBlock, last_part, takes_entry}
 use Rattle.lfs_ends.specs.OneMore.{IsWithMoreOrRefused, IsWithMore, blocks_for_more}
 use Rattle.lfs_ends.proofs.VolumesWithMore.{free_range}

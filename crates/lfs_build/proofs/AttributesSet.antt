@@ -20,7 +20,7 @@ use Rattle.lfs_command.specs.Verdict.{verdict}
 use Rattle.lfs_command.specs.Planned.{CarriesOut}
 use Rattle.lfs_ends.specs.EndEdits.{EndsWithName}
 use Rattle.lfs_ends.specs.WayLaws.{DirectoriesTakeMore}
-use Rattle.lfs_new.specs.NewPairs.{front_count, front_weight}
+use Rattle.lfs_new.specs.OutlinesTaken.{front_count, front_weight}
 use Rattle.lfs_build.specs.declared.new_volume.NewVolume.{NewVolume}
 use Rattle.lfs_build.specs.Adding.{AddsAttribute, AttributesAreAdded}
 use Rattle.lfs_build.specs.AtHome.{IsWithoutLast}

@@ -5,7 +5,7 @@ use Rattle.lfs_fs.specs.Directory.{Directory, Part}
 use Rattle.lfs_fs.specs.Pair.{root}
 use Rattle.lfs_fs.specs.Volume.{Volume}
 use Rattle.lfs_fs.specs.Weight.{superblock_weight, weight}
-use Rattle.lfs_new.specs.NewPairs.{front_count, front_weight}
+use Rattle.lfs_new.specs.OutlinesTaken.{front_count, front_weight}
 use Rattle.lfs_build.specs.declared.open_directory.OpenDirectory.{OpenDirectory}
 use Rattle.lfs_build.specs.Opened.{IsWeighed, directory_of, opened}
 use Rattle.lfs_build.specs.Rooted.{bare_directory}

@@ -18,7 +18,7 @@ use Rattle.lfs_fs.specs.Volume.{Volume}
 use Rattle.lfs_fs.specs.Weight.{superblock_weight}
 use Rattle.lfs_fs.specs.Limits.{new_limits}
 use Rattle.lfs_law.proofs.LinksAdded.{contains_one}
-use Rattle.lfs_new.specs.NewPairs.{FitsNewPair}
+use Rattle.lfs_new.specs.OutlinesTaken.{FitsNewPair}
 use Rattle.lfs_build.specs.Built.{AreErasedFrom, AreThere}
 use Rattle.lfs_build.specs.Rooted.{IsBareBuilt, bare_directory}
 

@@ -13,7 +13,7 @@ use Rattle.lfs_fs.specs.Pair.{root, same_pair}
 use Rattle.lfs_fs.specs.Path.{Path}
 use Rattle.lfs_fs.specs.Volume.{Volume}
 use Rattle.lfs_fs.specs.Weight.{superblock_weight, weight}
-use Rattle.lfs_new.specs.NewPairs.{front_count, front_weight}
+use Rattle.lfs_new.specs.OutlinesTaken.{front_count, front_weight}
 use Rattle.lfs_build.specs.declared.new_volume.NewVolume.{NewVolume}
 use Rattle.lfs_build.specs.declared.open_directory.OpenDirectory.{OpenDirectory}
 use Rattle.lfs_build.specs.Closing.{OpensClosed}

@@ -7,7 +7,7 @@ use Rattle.lfs_fs.specs.SoundOutlines.{OutlinesAreSound}
 use Rattle.lfs_fs.specs.Superblock.{IsLimits}
 use Rattle.lfs_fs.specs.Limits.{new_limits}
 use Rattle.lfs_new.specs.NewImages.{NewImagesHold}
-use Rattle.lfs_new.specs.NewPairs.{FitsNewPair, SoundOutlinesCanBeTaken}
+use Rattle.lfs_new.specs.OutlinesTaken.{FitsNewPair, SoundOutlinesCanBeTaken}
 use Rattle.lfs_build.specs.Finished.{BuiltCanBeFinished}
 
 -- the limits of a new image are in their ranges

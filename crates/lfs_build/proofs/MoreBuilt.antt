@@ -20,7 +20,7 @@ use Rattle.lfs_draft.specs.LeastSupplies.{made_blocks}
 use Rattle.lfs_law.specs.OutlineLaws.{IsThere}
 use Rattle.lfs_law.proofs.Cuts.{All-left, All-right}
 use Rattle.lfs_law.proofs.KnownBodies.{OfNew}
-use Rattle.lfs_new.specs.NewPairs.{FitsNewPair}
+use Rattle.lfs_new.specs.OutlinesTaken.{FitsNewPair}
 use Rattle.lfs_ends.specs.EndCuts.{made}
 use Rattle.lfs_ends.specs.Ending.{FitBlock, with_more, last_part, new_part_pairs, takes_entry}
 use Rattle.lfs_ends.specs.OneMore.{AreFreeFrom, IsWithMore, blocks_for_more, part_pair}

@@ -14,7 +14,7 @@ use Rattle.lfs_fs.specs.Volume.{Volume}
 use Rattle.lfs_fs.specs.Weight.{superblock_weight, weight}
 use Rattle.lfs_command.specs.Cut.{room}
 use Rattle.lfs_law.proofs.RunsFit.{takes_says}
-use Rattle.lfs_new.specs.NewPairs.{FitsNewPair, front_count, front_weight}
+use Rattle.lfs_new.specs.OutlinesTaken.{FitsNewPair, front_count, front_weight}
 use Rattle.lfs_ends.specs.EndCuts.{made}
 use Rattle.lfs_ends.specs.Ending.{FitBlock, ending_with, with_more, last_of, last_part, lone_part, takes_entry, with_entries}
 use Rattle.lfs_ends.specs.Ending.{with_last_of, with_part}

@@ -6,7 +6,7 @@ use Rattle.lfs_fs.specs.Outlined.{outlined}
 use Rattle.lfs_fs.specs.Path.{Path}
 use Rattle.lfs_fs.specs.SoundOutlines.{OutlinesAreSound}
 use Rattle.lfs_fs.specs.Volume.{Volume}
-use Rattle.lfs_new.specs.NewPairs.{FitsNewPair}
+use Rattle.lfs_new.specs.OutlinesTaken.{FitsNewPair}
 use Rattle.lfs_ends.specs.AtTheEnd.{IsOpenAt}
 use Rattle.lfs_ends.specs.EndEdits.{StandsAt}
 use Rattle.lfs_ends.specs.Ending.{last_part}

@@ -9,7 +9,7 @@ use Rattle.lfs_fs.specs.Volume.{Volume}
 use Rattle.lfs_fs.specs.Weight.{weight}
 use Rattle.lfs_command.specs.DirectoryEdit.{behind}
 use Rattle.lfs_ends.specs.Ending.{ending_with, with_more, last_of, last_part, lone_part, takes_entry, with_entries, with_last_of, with_part}
-use Rattle.lfs_new.specs.NewPairs.{front_count, front_weight}
+use Rattle.lfs_new.specs.OutlinesTaken.{front_count, front_weight}
 use Rattle.lfs_ends.proofs.WayLemmas.{last_behind}
 use Rattle.lfs_build.specs.declared.open_directory.OpenDirectory.{OpenDirectory}
 use Rattle.lfs_build.specs.Opened.{IsCounted, directory_of, opened}

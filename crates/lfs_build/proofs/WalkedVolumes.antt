@@ -9,7 +9,7 @@ use Rattle.lfs_fs.specs.Path.{Path}
 use Rattle.lfs_fs.specs.Volume.{Volume}
 use Rattle.lfs_ends.specs.Way.{OnWay}
 use Rattle.lfs_ends.specs.WayLaws.{WaysAreCut, WaysEnter}
-use Rattle.lfs_new.specs.NewPairs.{FitsNewPair}
+use Rattle.lfs_new.specs.OutlinesTaken.{FitsNewPair}
 use Rattle.lfs_build.specs.Built.{IsBuilt}
 use Rattle.lfs_build.specs.Walking.{BuiltAreClosed, BuiltAreEntered}
 use Rattle.lfs_build.proofs.PartedLists.{parted_alike}

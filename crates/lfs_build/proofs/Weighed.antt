@@ -13,7 +13,7 @@ use Rattle.lfs_fs.specs.Volume.{Volume}
 use Rattle.lfs_fs.specs.Weight.{superblock_weight, weight}
 use Rattle.lfs_command.specs.Cut.{is_first}
 use Rattle.lfs_ends.specs.Ending.{lone_part}
-use Rattle.lfs_new.specs.NewPairs.{front_count, front_weight}
+use Rattle.lfs_new.specs.OutlinesTaken.{front_count, front_weight}
 use Rattle.lfs_build.specs.declared.open_directory.OpenDirectory.{OpenDirectory}
 use Rattle.lfs_build.specs.Opened.{IsCounted, IsWeighed}
 use Rattle.lfs_build.proofs.OpenedLemmas.{other_part}

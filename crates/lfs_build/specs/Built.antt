@@ -15,7 +15,7 @@ use Rattle.lfs_command.specs.Clean.{IsClean}
 use Rattle.lfs_law.specs.OutlineLaws.{IsThere}
 use Rattle.lfs_ends.specs.OneMore.{AreFreeFrom}
 use Rattle.lfs_ends.specs.Way.{OnWay}
-use Rattle.lfs_new.specs.NewPairs.{FitsNewPair}
+use Rattle.lfs_new.specs.OutlinesTaken.{FitsNewPair}
 
 -- each block of an image from one on is erased
 abbrev pub AreErasedFrom : ℕ → Disk → Type 0

@@ -107,7 +107,7 @@ abbrev pub RefusesRootAttribute : ℕ → List ℕ → NewVolume → Refusal →
 RefusesRootAttribute k value t r = (r ≡ Memory) ⊎ ((v : Volume) → IsBare t v → verdict v (SetAttr [] k value) ≡ Some r)
 
 -- an image holds the volume
-pub record IsFinished (v : Volume) (d : Disk) : Type 0 where
+pub record IsNewImageOf (v : Volume) (d : Disk) : Type 0 where
   pub holds : Holds (reading_of d) v
   pub sound : IsSound v
   pub size : v.size ≡ d.size

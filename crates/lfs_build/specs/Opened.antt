@@ -7,7 +7,7 @@ use Rattle.lfs_fs.specs.Entry.{Entry, is_named}
 use Rattle.lfs_fs.specs.NameOrder.{precedes}
 use Rattle.lfs_fs.specs.Volume.{Volume}
 use Rattle.lfs_fs.specs.Weight.{weight}
-use Rattle.lfs_new.specs.NewPairs.{front_count, front_weight}
+use Rattle.lfs_new.specs.OutlinesTaken.{front_count, front_weight}
 use Rattle.lfs_build.specs.declared.open_directory.OpenDirectory.{OpenDirectory}
 
 -- the directory of some parts and a last one

@@ -115,7 +115,7 @@ impl NewVolume {
             return Err(Refusal::NameTooLong);
         }
         let first = self.next;
-        let entry = new_entry(alloc, name, OutlineBody::Leads(first, first + 1))?;
+        let entry = new_entry(alloc, name, OutlineBody::Directory(first, first + 1))?;
         let need = self.needed(weight(&entry), 2)?;
         self.push(alloc, entry, 2, need)?;
         self.keep(alloc, (first, first + 1))?;

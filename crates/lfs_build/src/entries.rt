@@ -55,10 +55,10 @@ pub(crate) fn file_body(
     ensures body { IfOk result (λ body. outline_body_held body ≡ file_body size next bytes.now) }
 {
     if bytes.len() <= most_inline(size) as usize {
-        return Ok(OutlineBody::Held(Vec::from_slice(alloc, bytes)?));
+        return Ok(OutlineBody::Inline(Vec::from_slice(alloc, bytes)?));
     }
     let blocks = blocks_from(alloc, next, file_blocks(size, bytes))?;
-    Ok(OutlineBody::Linked {
+    Ok(OutlineBody::Chain {
         blocks,
         size: bytes.len() as u32,
     })

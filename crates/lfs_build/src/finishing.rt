@@ -12,7 +12,7 @@ impl NewVolume {
     ghost use Rattle.lfs_fs.specs.Outlined.{outlined};
     ghost use Rattle.lfs_fs.specs.Path.{Path};
     ghost use Rattle.lfs_fs.specs.Volume.{Volume};
-    ghost use Rattle.lfs_build.specs.NewVolumes.{IsAt, IsFinished};
+    ghost use Rattle.lfs_build.specs.NewVolumes.{IsAt, IsNewImageOf};
 
     /// The image, with its outline.
     fn into_outline(mut self) -> Result<(Image, Outline), AllocError>
@@ -47,7 +47,7 @@ impl NewVolume {
     /// Source: own.
     pub fn finish(self, alloc: Global) -> Result<Image, AllocError>
         requires { (q : Path) × (v : Volume) × IsAt self q v }
-        ensures { IfOk result (λ image. (q : Path) (v : Volume) → IsAt self q v → IsFinished v image) }
+        ensures { IfOk result (λ image. (q : Path) (v : Volume) → IsAt self q v → IsNewImageOf v image) }
     {
         built_can_be_finished();
         let (mut image, outline) = self.into_outline()?;

@@ -15,7 +15,7 @@ use Rattle.lfs_change.specs.declared.outcome.Outcome.{Outcome}
 use Rattle.lfs_change.specs.Bytes.{image_of}
 use Rattle.lfs_change.specs.Change.{DenotesOn, Denotes, IsChanged, ChangesBytes, AnswersChange, journal_read}
 use Rattle.lfs_change.specs.Laws.{ChangedBytesAreDenoted, ChangedBytesAreEquations, UndoneBytesStandAgain, RunsOfBytesAreRuns}
-use Rattle.lfs_change.specs.Laws.{Files, Taken, IsRunOf}
+use Rattle.lfs_change.specs.Laws.{BothFiles, Taken, IsRunOf}
 use Rattle.lfs_change.proofs.BytesLemmas.{image_of_disk}
 use Rattle.lfs_change.proofs.ChangeLemmas.{denoted_present, denoted_history, opened_denotes}
 
@@ -101,11 +101,11 @@ takes_from one Forget d journal old o denotes is =
     is.takes ∙ ap fresh_history (denoted_present d [] is.old is.denotes ∙ sym (denoted_present d journal old denotes))
 
 -- the bytes that a step leaves
-left_files : Outcome → Files
+left_files : Outcome → BothFiles
 left_files o = record { image = o.image.items; journal = o.journal.items }
 
 run_more : JournalsDenoteOneHistory → ChangedBytesAreDenoted → (size : ℕ) (f : Option Fault) (step : Move) (ts : List Taken)
-    (first last : Files) (old : History) (o : Outcome) → Denotes size first.image first.journal old
+    (first last : BothFiles) (old : History) (o : Outcome) → Denotes size first.image first.journal old
     → AnswersChange f step size first.image first.journal o
     → ((mid : History) → Denotes size o.image.items o.journal.items mid → IsRunOf size ts last mid)
     → IsRunOf size (record { step = step; fault = f } ∷ ts) last old
@@ -123,7 +123,7 @@ run_more one denoted size (Some fault) step ts first last old o denotes answers 
 pub runs_are_runs : JournalsDenoteOneHistory → ChangedBytesAreDenoted → RunsOfBytesAreRuns
 runs_are_runs one denoted size [] first last old denotes same = record {
   new = old;
-  denotes = subst (λ (files : Files). Denotes size files.image files.journal old) (sym same) denotes;
+  denotes = subst (λ (files : BothFiles). Denotes size files.image files.journal old) (sym same) denotes;
   run = refl;
 }
 runs_are_runs one denoted size (t ∷ ts) first last old denotes (o, answers, runs) =

@@ -55,7 +55,7 @@ JournalsOfBytesGrowByTheNeed = (asked : Asked) (size : ℕ) (image journal : Lis
     → ChangesBytes (Do asked) size image journal outcome → GrowsByTheNeed asked size image journal outcome
 
 -- the bytes of an image and of its journal
-pub record Files : Type 0 where
+pub record BothFiles : Type 0 where
   pub image : List ℕ
   pub journal : List ℕ
 
@@ -65,11 +65,11 @@ pub record Taken : Type 0 where
   pub fault : Option Fault
 
 -- steps on bytes, each handed the bytes that the one before left
-abbrev pub RunsOn : ℕ → List Taken → Files → Files → Type 0
-RunsOn size [] old new = new ≡ old
-RunsOn size (t ∷ ts) old new =
+abbrev pub RunsInTurn : ℕ → List Taken → BothFiles → BothFiles → Type 0
+RunsInTurn size [] old new = new ≡ old
+RunsInTurn size (t ∷ ts) old new =
     (outcome : Outcome) × AnswersChange t.fault t.step size old.image old.journal outcome
-    × RunsOn size ts (record { image = outcome.image.items; journal = outcome.journal.items }) new
+    × RunsInTurn size ts (record { image = outcome.image.items; journal = outcome.journal.items }) new
 
 -- a step before others, unless it was refused
 abbrev pub accepted_before : Option Fault → Move → List Move → List Move
@@ -82,12 +82,12 @@ accepted [] = []
 accepted (t ∷ ts) = accepted_before t.fault t.step (accepted ts)
 
 -- a list of runs leads from what the first bytes denote, by the steps that were not refused, to what the last denote
-pub record IsRunOf (size : ℕ) (ts : List Taken) (files : Files) (old : History) : Type 0 where
+pub record IsRunOf (size : ℕ) (ts : List Taken) (files : BothFiles) (old : History) : Type 0 where
   pub new : History
   pub denotes : Denotes size files.image files.journal new
   pub run : Run (accepted ts) (map (λ _. None) (accepted ts)) old new
 
 -- a list of runs, each handed the bytes of the one before, is a run of the steps that were not refused
 abbrev pub RunsOfBytesAreRuns : Type 0
-RunsOfBytesAreRuns = (size : ℕ) (ts : List Taken) (first last : Files) (old : History) → Denotes size first.image first.journal old
-    → RunsOn size ts first last → IsRunOf size ts last old
+RunsOfBytesAreRuns = (size : ℕ) (ts : List Taken) (first last : BothFiles) (old : History) → Denotes size first.image first.journal old
+    → RunsInTurn size ts first last → IsRunOf size ts last old

@@ -33,7 +33,7 @@ fn file(alloc: Global, letter: u8, len: u16) -> Result<OutlineEntry, AllocError>
 {
     Ok(OutlineEntry {
         name: name(alloc, letter, len)?,
-        body: OutlineBody::Held(Vec::new(alloc)),
+        body: OutlineBody::Inline(Vec::new(alloc)),
         attributes: Vec::new(alloc),
     })
 }
@@ -44,7 +44,7 @@ fn folder(alloc: Global, letter: u8, len: u16) -> Result<OutlineEntry, AllocErro
 {
     Ok(OutlineEntry {
         name: name(alloc, letter, len)?,
-        body: OutlineBody::Leads(2, 3),
+        body: OutlineBody::Directory(2, 3),
         attributes: Vec::new(alloc),
     })
 }

@@ -9,9 +9,9 @@ use std::test::Fail;
 #[test]
 fn tags_names_and_contents_weigh(rt: HostRuntime) -> Result<(), Fail> {
     let alloc = rt.alloc();
-    let held = OutlineBody::Held(Vec::from_slice(alloc, b"hello")?);
+    let held = OutlineBody::Inline(Vec::from_slice(alloc, b"hello")?);
     assert_eq!(rt; weight(&new_entry(alloc, b"abc", held)?), 16);
-    let leads = OutlineBody::Leads(2, 3);
+    let leads = OutlineBody::Directory(2, 3);
     assert_eq!(rt; weight(&new_entry(alloc, b"d", leads)?), 17);
     Ok(())
 }

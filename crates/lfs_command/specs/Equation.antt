@@ -4,7 +4,7 @@ use Rattle.std.specs.Option.{option_map}
 use Rattle.lfs_meta.specs.Attribute.{Attributes, set_attribute, remove_attribute}
 use Rattle.lfs_fs.specs.Path.{Path}
 use Rattle.lfs_fs.specs.Tree.{Node, File, Dir}
-use Rattle.lfs_command.specs.PathMap.{put_at, moved}
+use Rattle.lfs_command.specs.PathMap.{put_at_path, moved}
 use Rattle.lfs_command.specs.Command.{Command, Mkdir, Put, Rm, Mv, SetAttr, RmAttr}
 
 -- what a node's attributes are
@@ -24,9 +24,9 @@ attributes_at (Some x) = attributes_of x
 
 -- the tree after a command: a file put keeps its attributes, and a move takes all that is below along
 abbrev pub equation : Command → (Path → Option Node) → Path → Option Node
-equation (Mkdir p) tree = put_at p (Some (Dir [])) tree
-equation (Put p bytes) tree = put_at p (Some (File bytes (attributes_at (tree p)))) tree
-equation (Rm p) tree = put_at p None tree
+equation (Mkdir p) tree = put_at_path p (Some (Dir [])) tree
+equation (Put p bytes) tree = put_at_path p (Some (File bytes (attributes_at (tree p)))) tree
+equation (Rm p) tree = put_at_path p None tree
 equation (Mv p q) tree = moved p q tree
-equation (SetAttr p k value) tree = put_at p (option_map (with_attributes (set_attribute k value)) (tree p)) tree
-equation (RmAttr p k) tree = put_at p (option_map (with_attributes (remove_attribute k)) (tree p)) tree
+equation (SetAttr p k value) tree = put_at_path p (option_map (with_attributes (set_attribute k value)) (tree p)) tree
+equation (RmAttr p k) tree = put_at_path p (option_map (with_attributes (remove_attribute k)) (tree p)) tree

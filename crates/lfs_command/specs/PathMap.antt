@@ -16,8 +16,8 @@ below (n ∷ ns) [] = None
 below (n ∷ ns) (m ∷ path) = if bytes_eq n m then below ns path else None
 
 -- the map with x at a path
-abbrev pub put_at : {X : Type 0} → Path → Option X → (Path → Option X) → Path → Option X
-put_at at x tree path = if same_path at path then x else tree path
+abbrev pub put_at_path : {X : Type 0} → Path → Option X → (Path → Option X) → Path → Option X
+put_at_path at x tree path = if same_path at path then x else tree path
 
 -- the value at a path, by what is left of it below where things go to (`away`) and below where they come from
 abbrev pub moved_by : {X : Type 0} → Path → (Path → Option X) → Path → Option Path → Option Path → Option X

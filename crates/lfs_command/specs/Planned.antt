@@ -73,7 +73,7 @@ pub record Plans (d : Disk) (asked : Asked) (p : ChangeSet) : Type 0 where
   pub free : free_blocks next ≡ free_after volume command carried.supplies carried.chosen
 
 -- A command that is asked for is refused on the sound volume that an image holds.
-pub record IsRefused (d : Disk) (asked : Asked) (r : Refusal) : Type 0 where
+pub record RefusesCommand (d : Disk) (asked : Asked) (r : Refusal) : Type 0 where
   pub volume : Volume
   pub holds : Holds (reading_of d) volume
   pub sound : IsSound volume
@@ -85,4 +85,4 @@ pub record IsRefused (d : Disk) (asked : Asked) (r : Refusal) : Type 0 where
 abbrev pub RefusesPlan : Disk → Asked → Refusal → Type 0
 RefusesPlan d asked BadPath = SpellsNone asked
 RefusesPlan d asked Memory = Unit {0}
-RefusesPlan d asked r = IsRefused d asked r
+RefusesPlan d asked r = RefusesCommand d asked r

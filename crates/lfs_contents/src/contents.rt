@@ -58,9 +58,9 @@ fn send_body<B: Blocks, S: Sink>(disk: &B, body: &OutlineBody, out: &mut S) -> R
     ensures kept { S.kept out.new ≡ S.kept out.old }
 {
     match body {
-        OutlineBody::Held(bytes) => Ok(send(out, bytes)),
-        OutlineBody::Linked { blocks, size } => Ok(send_blocks(disk, blocks, *size, out)),
-        OutlineBody::Leads(..) => Err(Refusal::IsADirectory),
+        OutlineBody::Inline(bytes) => Ok(send(out, bytes)),
+        OutlineBody::Chain { blocks, size } => Ok(send_blocks(disk, blocks, *size, out)),
+        OutlineBody::Directory(..) => Err(Refusal::IsADirectory),
     }
 }
 

@@ -22,15 +22,13 @@ use Rattle.lfs_command.specs.Cut.{room, runs, new_pairs, HasEnough, new_pair_use
 use Rattle.lfs_command.specs.Need.{dirty_parts, part_blocks}
 use Rattle.lfs_law.specs.PartsCut.{runs_by}
 use Rattle.lfs_cut.specs.Overflow.{is_overfull, overflow_of, overflows_of}
-use Rattle.lfs_cut.specs.Chosen.{PairRow, chosen_for, pair_blocks, row_blocks, overflow_for, AreRows, HasPairsOnce}
+use Rattle.lfs_cut.specs.Chosen.{PairRow, chosen_for, pair_blocks, row_blocks, overflow_for, ArePairRows, HasPairsOnce}
 use Rattle.lfs_law.proofs.Decided.{same_pair_decides}
 use Rattle.lfs_law.proofs.OutlineRoom.{sum_over}
 use Rattle.lfs_law.proofs.NamedBlocks.{sum_zero, times_flat}
 use Rattle.lfs_law.proofs.CommandsWritten.{sum_both}
 use Rattle.lfs_law.proofs.Needs.{sum_set}
 use Rattle.lfs_cut.proofs.SumLemmas.{sum_same, sum_flat, sum_counted, sum_one}
-
--- ---- one test for pairs
 
 -- ---- all rows for a pair
 
@@ -292,7 +290,7 @@ pub record AreRowsOf (v : Volume) (bytes superblock : ℕ) (blocks : List ℕ) (
   pub superblock_is : superblock ≡ superblock_weight v.attributes
   pub once : HasPairsOnce v
   pub order : IsPermutation (overflows_of bytes superblock (thread v.directories)) gs
-  pub rows_are : AreRows gs blocks rows
+  pub rows_are : ArePairRows gs blocks rows
 
 pub in_order : (v : Volume) (bytes superblock : ℕ) (ds : List Directory) (found ordered gs : List Overflow) → ds ≡ v.directories
     → found ≡ overflows_of bytes superblock (thread ds)

@@ -28,7 +28,7 @@ abbrev pub overflow_for : PairRow → Overflow
 overflow_for r = record { pair = r.0; len = length r.1 }
 
 -- rows for these parts, each with as many pairs as it needs, which are the blocks two by two in order
-pub record AreRows (gs : List Overflow) (blocks : List ℕ) (rows : List PairRow) : Type 0 where
+pub record ArePairRows (gs : List Overflow) (blocks : List ℕ) (rows : List PairRow) : Type 0 where
   pub for_each : map overflow_for rows ≡ gs
   pub in_order : flat_map row_blocks rows ≡ blocks
 

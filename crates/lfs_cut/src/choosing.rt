@@ -4,7 +4,7 @@ ghost use Rattle.std.specs.Prelude.{◌≡◌, ℕ, ◌*◌, ◌≤◌, All, nat
 ghost use Rattle.std.specs.List.{filter};
 ghost use Rattle.lfs_fs.specs.Directory.{thread};
 ghost use Rattle.lfs_fs.specs.Uses.{times};
-ghost use Rattle.lfs_cut.specs.Chosen.{AreRows, HasPairsOnce, chosen_for};
+ghost use Rattle.lfs_cut.specs.Chosen.{ArePairRows, HasPairsOnce, chosen_for};
 ghost use Rattle.lfs_command.specs.Cut.{HasEnough, new_pair_uses, runs};
 ghost use Rattle.lfs_command.specs.Need.{dirty_parts, part_blocks};
 
@@ -24,7 +24,7 @@ fn rows_of(
 ) -> Result<ArrayVec<NewPairs, 2, Global>, AllocError>
     requires few { length overflows.now ≤ 2 }
     requires enough { sum_by (λ g. 2 * g.len) overflows.now ≡ length blocks.now }
-    ensures { IfOk result (λ rows. AreRows overflows.now blocks.now rows.items) }
+    ensures { IfOk result (λ rows. ArePairRows overflows.now blocks.now rows.items) }
 {
     let mut rows = ArrayVec::new_in(alloc);
     let mut left = blocks;

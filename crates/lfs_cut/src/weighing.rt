@@ -21,8 +21,8 @@ fn body_weight(body: &OutlineBody) -> u32
     ensures small { result ≤ 1026 }
 {
     match body {
-        OutlineBody::Held(bytes) => WORD_LEN + bytes.len() as u32,
-        OutlineBody::Linked { .. } | OutlineBody::Leads(..) => WORD_LEN + WORDS_LEN,
+        OutlineBody::Inline(bytes) => WORD_LEN + bytes.len() as u32,
+        OutlineBody::Chain { .. } | OutlineBody::Directory(..) => WORD_LEN + WORDS_LEN,
     }
 }
 

@@ -13,12 +13,12 @@ fn copied_body(alloc: Global, body: &OutlineBody) -> Result<OutlineBody, AllocEr
     ensures { IfOk result (λ copy. outline_body_held copy ≡ outline_body_held body.now) }
 {
     Ok(match body {
-        OutlineBody::Held(bytes) => OutlineBody::Held(Vec::from_slice(alloc, bytes)?),
-        OutlineBody::Linked { blocks, size } => OutlineBody::Linked {
+        OutlineBody::Inline(bytes) => OutlineBody::Inline(Vec::from_slice(alloc, bytes)?),
+        OutlineBody::Chain { blocks, size } => OutlineBody::Chain {
             blocks: Vec::from_slice(alloc, blocks)?,
             size: *size,
         },
-        OutlineBody::Leads(first, second) => OutlineBody::Leads(*first, *second),
+        OutlineBody::Directory(first, second) => OutlineBody::Directory(*first, *second),
     })
 }
 

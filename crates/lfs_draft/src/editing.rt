@@ -66,10 +66,10 @@ fn new_body(
     ensures body { IfOk result (λ body. (v : Volume) → v.size ≡ size → outline_body_held body ≡ outlined_body (new_body v supplies bytes.now)) }
 {
     if bytes.len() <= most_inline(size) as usize {
-        return Ok(OutlineBody::Held(Vec::from_slice(alloc, bytes)?));
+        return Ok(OutlineBody::Inline(Vec::from_slice(alloc, bytes)?));
     }
     prove!(supplies.blocks.last().copied().unwrap_or(0) <= u32::MAX);
-    Ok(OutlineBody::Linked {
+    Ok(OutlineBody::Chain {
         blocks: supplies.blocks,
         size: bytes.len() as u32,
     })

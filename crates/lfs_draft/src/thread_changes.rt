@@ -62,7 +62,7 @@ pub(crate) fn make_directory(
     ensures { OnOk result (directories.new.items
         ≡ add_after home.entry.pair (empty_directory pair) (link home.entry.pair (new_entry home.entry.name.now (Directory_at pair)) directories.old.items)) }
 {
-    let entry = new_entry(alloc, home.name, OutlineBody::Leads(pair.0, pair.1))?;
+    let entry = new_entry(alloc, home.name, OutlineBody::Directory(pair.0, pair.1))?;
     link(directories, home.pair, entry)?;
     add_after(directories, home.pair, empty_directory(alloc, pair))?;
     Ok(())

@@ -16,7 +16,7 @@ use Rattle.lfs_command.specs.declared.refusal.Refusal.TheVariants.{IntoItself, I
 use Rattle.lfs_command.specs.Command.{Asked, Command, Mkdir, Put, Rm, Mv, SetAttr, RmAttr}
 use Rattle.lfs_command.specs.Edited.{edited}
 use Rattle.lfs_command.specs.Need.{dirty_parts, need}
-use Rattle.lfs_command.specs.Planned.{IsRefused, RefusesPlan}
+use Rattle.lfs_command.specs.Planned.{RefusesCommand, RefusesPlan}
 use Rattle.lfs_command.specs.Supplies.{nothing}
 use Rattle.lfs_command.specs.Verdict.{checks, first_refusal, has_attribute, is_bare, is_directory, is_root, is_too_large, last_length}
 use Rattle.lfs_command.specs.Verdict.{lies_below, refuse_if, room_checks, walk_refusal, walk_refusal_at}
@@ -133,7 +133,7 @@ of_room v c = (
   (of_test (nat_lt (length (free_blocks v)) (need v c)) (NoSpace (need v c) (length (free_blocks v))) tt, tt),
 )
 
-refuses_by : (d : Disk) (asked : Asked) (r : Refusal) → IsOfVerdict r → IsRefused d asked r → RefusesPlan d asked r
+refuses_by : (d : Disk) (asked : Asked) (r : Refusal) → IsOfVerdict r → RefusesCommand d asked r → RefusesPlan d asked r
 unfolding IsOfVerdict
 refuses_by d asked BadPath of refused = absurd of
 refuses_by d asked Memory of refused = absurd of
@@ -152,7 +152,7 @@ refuses_by d asked EntryTooLarge of refused = refused
 refuses_by d asked (NoSpace needed free) of refused = refused
 
 -- so a command that is refused isn't planned
-pub refuses : (d : Disk) (asked : Asked) (r : Refusal) → IsRefused d asked r → RefusesPlan d asked r
+pub refuses : (d : Disk) (asked : Asked) (r : Refusal) → RefusesCommand d asked r → RefusesPlan d asked r
 refuses d asked r refused =
     let v = refused.volume in
     let c = refused.command in

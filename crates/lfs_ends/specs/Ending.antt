@@ -8,7 +8,7 @@ use Rattle.lfs_fs.specs.Volume.{Volume}
 use Rattle.lfs_fs.specs.Weight.{weight}
 use Rattle.lfs_command.specs.Cut.{room}
 use Rattle.lfs_command.specs.DirectoryEdit.{behind}
-use Rattle.lfs_new.specs.NewPairs.{front_count, front_weight}
+use Rattle.lfs_new.specs.OutlinesTaken.{front_count, front_weight}
 
 -- ---- the last part
 

@@ -3,7 +3,7 @@ pub mod EndEdits
 pub mod EndCuts
 pub mod Way
 pub mod WayLaws
-pub mod Leading
+pub mod Lead
 pub mod OneMore
 pub mod AtTheEnd
 pub mod EndLaws

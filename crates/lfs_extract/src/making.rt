@@ -29,7 +29,7 @@ fn send_contents<B: Blocks, S: Sink>(disk: &B, body: &RowBody<'_>, out: &mut S) 
     match body {
         RowBody::Inline(bytes) => send(out, bytes),
         RowBody::Chain { blocks, size } => send_blocks(disk, blocks, *size, out),
-        RowBody::Dir(..) => true,
+        RowBody::Directory(..) => true,
     }
 }
 
@@ -80,7 +80,7 @@ pub(crate) fn make_row<B: Blocks, F: NewFolder>(
     ensures kept { KeepsFiles (F.known folder.old) (F.known folder.new) }
 {
     match &row.body {
-        RowBody::Dir(..) => folder.make_folder(name),
+        RowBody::Directory(..) => folder.make_folder(name),
         body => make_file(disk, body, name, folder),
     }
 }

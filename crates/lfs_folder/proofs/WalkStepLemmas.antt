@@ -20,7 +20,7 @@ use Rattle.lfs_host.specs.HostTree.{HostNode, NothingThere, FileOf, FolderOf, Ot
 use Rattle.lfs_host.specs.Scene.{Scene}
 use Rattle.lfs_folder.specs.HostNames.{IsHostName}
 use Rattle.lfs_folder.specs.PathBelow.{name_in, host_name, text_below}
-use Rattle.lfs_folder.specs.FolderRows.{PathRow, folder_row, paths_of, IsRow, AreSpelled, IsInside, IsBelow, IsRight, AreAllBelow, IsFolder, RefusesTree, Refuses, BlamesHost, IsUnreadable, most_rows}
+use Rattle.lfs_folder.specs.FolderRows.{PathRow, folder_row, paths_of, IsRow, AreSpelled, IsInside, IsBelow, IsRight, AreAllBelow, IsFolder, RefusesTree, RefusesFolderRows, BlamesHost, IsUnreadable, most_rows}
 use Rattle.lfs_folder.specs.FolderWalk.{IsMet, IsTreeWalk, IsWalk, IsFolderWalk, ShowsMore, Enters, IsHostBlamed, RefusesFolder}
 use Rattle.lfs_folder.proofs.PathBelowLemmas.{text_is, name_of_root, name_below, below_in, all_met}
 use Rattle.lfs_folder.proofs.WalkLemmas.{children, IsTreePut, IsPut, file_put, folder_put}
@@ -297,13 +297,13 @@ not_root shown rest p queue root rise is =
     cc
 
 refuses_other : (most : ℕ) (known : Option HostTree) (dir name : List ℕ) (p : Path) → name ≡ host_name dir p → p ≢ [] → IsKind known name Other
-    → IfSome known (λ tree. IsBelow tree dir p) → Refuses known dir HostEntry
+    → IfSome known (λ tree. IsBelow tree dir p) → RefusesFolderRows known dir HostEntry
 refuses_other most None dir name p is other kind below = tt
 refuses_other most (Some tree) dir name p is other kind below =
     (p, below, other, other_there (tree (host_name dir p)) (kind ∙ ap (λ (x : List ℕ). kind_of (tree x)) is))
 
 pub walk_other : (most : ℕ) (known : Option HostTree) (dir name : List ℕ) (rows : List FolderRow) (waiting : List (List ℕ))
-    → IsFolderWalk most known dir rows (name ∷ waiting) → IsKind known name Other → Refuses known dir HostEntry
+    → IsFolderWalk most known dir rows (name ∷ waiting) → IsKind known name Other → RefusesFolderRows known dir HostEntry
 walk_other most known dir name rows waiting walk kind =
     let next = next_path dir name waiting walk.queue walk.names in
     let p : Path = next.path in
@@ -320,7 +320,7 @@ refuses_folder tree dir name p Memory is below why = tt
 refuses_folder tree dir name p CannotRead is below why = tt
 
 pub walk_refused : (most : ℕ) (known : Option HostTree) (dir name : List ℕ) (rows : List FolderRow) (waiting : List (List ℕ)) (fault : FolderFault)
-    → IsFolderWalk most known dir rows (name ∷ waiting) → IfSome known (RefusesFolder name fault) → Refuses known dir fault
+    → IsFolderWalk most known dir rows (name ∷ waiting) → IfSome known (RefusesFolder name fault) → RefusesFolderRows known dir fault
 walk_refused most known dir name rows waiting fault walk why =
     let next = next_path dir name waiting walk.queue walk.names in
     let p : Path = next.path in
@@ -329,7 +329,7 @@ walk_refused most known dir name rows waiting fault walk why =
     (λ tree below h. refuses_folder tree dir name p fault next.name_is below h)
     (known_below most known dir walk.shown p next.rest here) why
 
-pub start_refused : (known : Option HostTree) (dir : List ℕ) (fault : FolderFault) → IfSome known (RefusesFolder dir fault) → Refuses known dir fault
+pub start_refused : (known : Option HostTree) (dir : List ℕ) (fault : FolderFault) → IfSome known (RefusesFolder dir fault) → RefusesFolderRows known dir fault
 start_refused known dir fault why =
     both_known known (λ (tree : HostTree). IsBelow tree dir []) (RefusesFolder dir fault) (λ (tree : HostTree). RefusesTree tree dir fault)
     (λ tree below h. refuses_folder tree dir dir [] fault (sym (name_of_root dir)) below h) (nothing_above known dir) why

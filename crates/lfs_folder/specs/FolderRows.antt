@@ -87,8 +87,8 @@ RefusesTree tree dir Memory = ⊤
 RefusesTree tree dir CannotRead = ⊤
 
 -- the same, where the host is known
-abbrev pub Refuses : Option HostTree → List ℕ → FolderFault → Type 0
-Refuses known dir fault = IfSome known (λ tree. RefusesTree tree dir fault)
+abbrev pub RefusesFolderRows : Option HostTree → List ℕ → FolderFault → Type 0
+RefusesFolderRows known dir fault = IfSome known (λ tree. RefusesTree tree dir fault)
 
 -- ---- what can't be read
 

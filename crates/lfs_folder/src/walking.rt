@@ -2,7 +2,7 @@
 
 ghost use Rattle.std.specs.Prelude.{◌≡◌, ◌+◌, ◌<◌, ◌++◌, ◌∷◌, IfErr, IfOk, IfSome, OnOk, length, map, option_map, reverse, string_bytes};
 ghost use Rattle.lfs_host.specs.Scene.{KeepsAll};
-ghost use Rattle.lfs_folder.specs.FolderRows.{BlamesHost, Refuses};
+ghost use Rattle.lfs_folder.specs.FolderRows.{BlamesHost, RefusesFolderRows};
 ghost use Rattle.lfs_folder.specs.FolderWalk.{Enters, IsFolderWalk, IsHostBlamed, RefusesFolder, ShowsMore};
 ghost use Rattle.lfs_folder.specs.PathBelow.{name_in, text_below};
 
@@ -38,7 +38,7 @@ impl FolderWalk {
     ) -> Result<FolderWalk, FolderFault>
         ensures walking { IfOk result (λ walk. IsFolderWalk MOST_BYTES (H.known host.old).tree dir.now walk.rows.items
             (map (λ s. string_bytes s) (reverse walk.waiting.items))) }
-        ensures refused { IfErr result (λ fault. Refuses (H.known host.old).tree dir.now fault) }
+        ensures refused { IfErr result (λ fault. RefusesFolderRows (H.known host.old).tree dir.now fault) }
         ensures blamed { IfErr result (λ fault. BlamesHost (H.known host.old).tree dir.now (H.known host.new) fault) }
         ensures kept { KeepsAll (H.known host.old) (H.known host.new) }
     {
@@ -63,7 +63,7 @@ impl FolderWalk {
         ensures walking { OnOk result (IsFolderWalk MOST_BYTES (H.known host.old).tree dir.now self.new.rows.items
             (map (λ s. string_bytes s) (reverse self.new.waiting.items))) }
         ensures more { OnOk result ((length self.old.rows.items < MOST_ROWS) × (length self.new.rows.items ≡ length self.old.rows.items + 1)) }
-        ensures refused { IfErr result (λ fault. Refuses (H.known host.old).tree dir.now fault) }
+        ensures refused { IfErr result (λ fault. RefusesFolderRows (H.known host.old).tree dir.now fault) }
         ensures blamed { IfErr result (λ fault. BlamesHost (H.known host.old).tree dir.now (H.known host.new) fault) }
         ensures kept { KeepsAll (H.known host.old) (H.known host.new) }
     {

@@ -4,14 +4,14 @@ use Rattle.std.specs.Prelude.{All, if◌then◌else◌}
 use Rattle.std.specs.List.{AllZip}
 use Rattle.std.proofs.lemmas.List.Elements.{All-cons, All-nil, All-head, All-tail}
 use Rattle.lfs_meta.specs.Attribute.{Attributes}
-use Rattle.lfs_meta.specs.Body.{StoredBody, Inline as Stored_inline, Ctz, Leads}
+use Rattle.lfs_meta.specs.Body.{StoredBody, Inline as Stored_inline, Chain as Stored_chain, Directory_at as Stored_directory}
 use Rattle.lfs_meta.specs.Entry.{StoredEntry}
 use Rattle.lfs_fs.specs.Pair.{root, same_pair}
 use Rattle.lfs_fs.specs.Entry.{Body, Inline, Chain, Directory_at, Entry}
 use Rattle.lfs_fs.specs.Thread.{Link, links}
 use Rattle.lfs_fs.specs.Reading.{Reading}
 use Rattle.lfs_fs.specs.Superblock.{superblock_entry}
-use Rattle.lfs_fs.specs.Stored.{BodyStands, Stands, IsStored, HoldsLinks}
+use Rattle.lfs_fs.specs.Stored.{BodyStands, StandsFor, IsStored, HoldsLinks}
 use Rattle.lfs_fs.specs.Alike.{ReadAlike, SameAt, ChainStays, PairsAreOfParts, SameReadingsHoldTheSame, StoredLinksStay}
 use Rattle.lfs_fs.specs.Alike.{SuperblockIsOfTheRoot}
 use Rattle.lfs_fs.proofs.ChainedLemmas.{pair_of, pairs_of_parts}
@@ -21,12 +21,12 @@ use Rattle.lfs_fs.proofs.BothSidesLemmas.{others_alone, held_by_links, held_fits
 
 body_alike : (r q : Reading) (s : StoredBody) (b : Body) → BodyStands r s b → ReadAlike r q s → BodyStands q s b
 body_alike r q (Stored_inline stored) (Inline bytes) h alike = h
-body_alike r q (Ctz head size) (Chain blocks bytes) h alike = (alike.0 ∙ h.0, h.1 ∙ sym (alike.1 blocks h.0))
-body_alike r q (Leads first second) (Directory_at pair) h alike = h
+body_alike r q (Stored_chain head size) (Chain blocks bytes) h alike = (alike.0 ∙ h.0, h.1 ∙ sym (alike.1 blocks h.0))
+body_alike r q (Stored_directory first second) (Directory_at pair) h alike = h
 body_alike r q _ _ h alike = absurd h
 
-each_alike : (r q : Reading) (es : List StoredEntry) (fs : List Entry) → AllZip (Stands r) es fs → All (λ e. ReadAlike r q e.body) es
-    → AllZip (Stands q) es fs
+each_alike : (r q : Reading) (es : List StoredEntry) (fs : List Entry) → AllZip (StandsFor r) es fs → All (λ e. ReadAlike r q e.body) es
+    → AllZip (StandsFor q) es fs
 each_alike r q [] [] h alike = tt
 each_alike r q [] (f ∷ fs) h alike = absurd h
 each_alike r q (s ∷ es) [] h alike = absurd h
@@ -62,14 +62,14 @@ one_found r q size blocks found is same = let equal : blocks ≡ found = cc in
 
 alike_by_chain : (r q : Reading) (s : StoredBody) (b : Body) → BodyStands r s b → ChainStays r q b → ReadAlike r q s
 alike_by_chain r q (Stored_inline stored) b h stays = tt
-alike_by_chain r q (Ctz head size) (Inline bytes) h stays = absurd h
-alike_by_chain r q (Ctz head size) (Chain blocks bytes) h stays =
+alike_by_chain r q (Stored_chain head size) (Inline bytes) h stays = absurd h
+alike_by_chain r q (Stored_chain head size) (Chain blocks bytes) h stays =
     let found = stays head size h.0 in
     (found.0 ∙ sym h.0, λ others is. one_found r q size blocks others (sym h.0 ∙ is) found.1)
-alike_by_chain r q (Ctz head size) (Directory_at pair) h stays = absurd h
-alike_by_chain r q (Leads first second) b h stays = tt
+alike_by_chain r q (Stored_chain head size) (Directory_at pair) h stays = absurd h
+alike_by_chain r q (Stored_directory first second) b h stays = tt
 
-all_alike : (r q : Reading) (es : List StoredEntry) (fs : List Entry) → AllZip (Stands r) es fs → All (λ f. ChainStays r q f.body) fs
+all_alike : (r q : Reading) (es : List StoredEntry) (fs : List Entry) → AllZip (StandsFor r) es fs → All (λ f. ChainStays r q f.body) fs
     → All (λ e. ReadAlike r q e.body) es
 all_alike r q [] [] h stay = All-nil (λ (x : StoredEntry). ReadAlike r q x.body)
 all_alike r q [] (f ∷ fs) h stay = absurd h

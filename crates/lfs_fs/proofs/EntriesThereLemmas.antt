@@ -12,7 +12,7 @@ use Rattle.lfs_file.specs.Laws.{ChainsDiffer}
 use Rattle.lfs_meta.specs.declared.kind.Kind.{Kind}
 use Rattle.lfs_meta.specs.declared.kind.Kind.TheVariants.{File, Dir, Super}
 use Rattle.lfs_meta.specs.Attribute.{Attributes}
-use Rattle.lfs_meta.specs.Body.{Pair, StoredBody, Inline as Stored_inline, Ctz, Leads}
+use Rattle.lfs_meta.specs.Body.{Pair, StoredBody, Inline as Stored_inline, Chain as Stored_chain, Directory_at as Stored_directory}
 use Rattle.lfs_meta.specs.Entry.{StoredEntry}
 use Rattle.lfs_meta.specs.HeldLaws.{IsHeldEntry, HeldPartsAreWhole}
 use Rattle.lfs_meta.specs.Laws.{NamesAreDecided}
@@ -87,7 +87,7 @@ held_entry d e c s =
     all_got IsHeldEntry s.part.entries s.index e (c.held d s.pair s.part c.disk below.0 below.1 s.read) s.member
 
 chain_there : (d : Disk) (e : StoredEntry) (head size : ℕ) (o : Option (List ℕ)) → IsClear d → StoredOn (reading_of d) e
-    → e.body ≡ Ctz head size → (reading_of d).chain head size ≡ o → IsSome o
+    → e.body ≡ Stored_chain head size → (reading_of d).chain head size ≡ o → IsSome o
 chain_there d e head size None c s is found = absurd (c.none fault.BadSkipList tt
     (record { entry = e; stored = s; head = head; size = size; is_chain = is; none = found }))
 chain_there d e head size (Some blocks) c s is found = refl
@@ -132,8 +132,8 @@ chained_at_most r head size (Some blocks) lengths is = let same = lengths head s
 
 body_at_most : (r : Reading) (body : StoredBody) → Lengths r → body_length (resolved_body r body) ≤ stored_length body
 body_at_most r (Stored_inline bytes) lengths = omega arith
-body_at_most r (Ctz head size) lengths = chained_at_most r head size (r.chain head size) lengths refl
-body_at_most r (Leads first second) lengths = omega arith
+body_at_most r (Stored_chain head size) lengths = chained_at_most r head size (r.chain head size) lengths refl
+body_at_most r (Stored_directory first second) lengths = omega arith
 
 name_fits : (d : Disk) (e : StoredEntry) → IsClear d → (f : HasFound d) → StoredOn (reading_of d) e → e.kind ≢ Super
     → length e.name ≤ (limits_of f).name

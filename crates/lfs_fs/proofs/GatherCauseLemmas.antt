@@ -10,7 +10,7 @@ use Rattle.lfs_block.specs.Disk.{Disk}
 use Rattle.lfs_block.specs.declared.mount_fault.MountFault.{MountFault}
 use Rattle.lfs_block.specs.declared.mount_fault.MountFault.TheVariants as fault
 use Rattle.lfs_meta.specs.Attribute.{Attributes}
-use Rattle.lfs_meta.specs.Body.{Pair, StoredBody, Inline as Stored_inline, Ctz, Leads}
+use Rattle.lfs_meta.specs.Body.{Pair, StoredBody, Inline as Stored_inline, Chain as Stored_chain, Directory_at as Stored_directory}
 use Rattle.lfs_meta.specs.Entry.{StoredEntry}
 use Rattle.lfs_meta.specs.Part.{StoredPart}
 use Rattle.lfs_fs.specs.declared.limits.Limits.{Limits}
@@ -33,7 +33,7 @@ use Rattle.lfs_fs.specs.Cause.{HasCause}
 use Rattle.lfs_fs.specs.Outlined.{outlined_entry, outlined_directory, outlined_directories}
 use Rattle.lfs_fs.specs.Gathering.{PairPart, delta_from, StateCause, NamesFall, HasNoChain, LeadsPast, EntryFault, PartsCause}
 use Rattle.lfs_fs.specs.ThreadRead.{pairs_of, IsPartRead, IsThreadRead}
-use Rattle.lfs_fs.specs.Judged.{IsJudged, SaysBytes, JudgedCause, with_entries, BeginsWithNone}
+use Rattle.lfs_fs.specs.Judged.{SaysLimits, SaysBytes, JudgedCause, with_entries, BeginsWithNone}
 use Rattle.lfs_fs.proofs.CountLemmas.{element_le}
 use Rattle.lfs_fs.proofs.ThreadReadLemmas.{no_header}
 use Rattle.lfs_fs.proofs.OutlinedLemmas.{outlined_entries}
@@ -193,17 +193,17 @@ found_entry r start p e others rest P h (suc k, q, within, at, (i, x, inside, is
       elsewhere = inl (not_again r start p e others rest q.0 h pairs);
     }
 
-no_chain_of : (r : Reading) (body : StoredBody) → HasNoChain r body → (head : ℕ) × (size : ℕ) × (body ≡ Ctz head size)
+no_chain_of : (r : Reading) (body : StoredBody) → HasNoChain r body → (head : ℕ) × (size : ℕ) × (body ≡ Stored_chain head size)
     × (r.chain head size ≡ None)
 no_chain_of r (Stored_inline bytes) none = absurd none
-no_chain_of r (Ctz head size) none = (head, size, refl, none)
-no_chain_of r (Leads first second) none = absurd none
+no_chain_of r (Stored_chain head size) none = (head, size, refl, none)
+no_chain_of r (Stored_directory first second) none = absurd none
 
-leads_of : (r : Reading) (body : StoredBody) → LeadsPast r body → (pair : Pair) × (body ≡ Leads pair.0 pair.1)
+leads_of : (r : Reading) (body : StoredBody) → LeadsPast r body → (pair : Pair) × (body ≡ Stored_directory pair.0 pair.1)
     × ((r.count ≤ pair.0) ⊎ (r.count ≤ pair.1))
 leads_of r (Stored_inline bytes) past = absurd past
-leads_of r (Ctz head size) past = absurd past
-leads_of r (Leads first second) past = ((first, second), refl, past)
+leads_of r (Stored_chain head size) past = absurd past
+leads_of r (Stored_directory first second) past = ((first, second), refl, past)
 
 -- ---- names
 
@@ -270,7 +270,7 @@ misordered r pairs any =
 -- ---- parts
 
 pub parts_refuse : (d : Disk) (f : MountFault) (limits : Limits) (start : List Bool) (p : PairPart) (e : StoredEntry)
-    (others : List StoredEntry) (rest : List PairPart) → RootRead (reading_of d) start p e others rest → IsJudged d.size d.count limits e
+    (others : List StoredEntry) (rest : List PairPart) → RootRead (reading_of d) start p e others rest → SaysLimits d.size d.count limits e
     → PartsCause f (reading_of d) limits start (with_entries p others ∷ rest) → HasCause d f
 parts_refuse d fault.BadSkipList limits start p e others rest h judged cause =
     let r = reading_of d in

@@ -31,7 +31,7 @@ use Rattle.lfs_fs.specs.Holds.{Holds, IsResolved}
 use Rattle.lfs_fs.specs.Outlined.{outlined_directories}
 use Rattle.lfs_fs.specs.Gathering.{PairPart, delta_from, link_from, stored_uses, parts_use, IsProperPart, KeepsParts}
 use Rattle.lfs_fs.specs.ThreadRead.{pairs_of, IsPartRead, IsThreadRead}
-use Rattle.lfs_fs.specs.Judged.{IsJudged, with_entries, TakesFirst}
+use Rattle.lfs_fs.specs.Judged.{SaysLimits, with_entries, TakesFirst}
 use Rattle.lfs_fs.specs.Gathered.{IsSoundUnwalked, IsGathered}
 use Rattle.lfs_fs.proofs.SuperblockLemmas.{super_by}
 use Rattle.lfs_fs.proofs.CountLemmas.{part_uses, uses_at, link_pair}
@@ -162,7 +162,7 @@ later_one first ps pair (suc k, within, at) other = (k, omega arith, at)
 pub record Found (r : Reading) (limits : Limits) (start used : List Bool) (p : PairPart) (e : StoredEntry) (others : List StoredEntry)
     (rest : List PairPart) (ds : List Directory) : Type 0 where
   pub read : RootRead r start p e others rest
-  pub judged : IsJudged r.size r.count limits e
+  pub judged : SaysLimits r.size r.count limits e
   pub state : delta_from (with_entries p (e ∷ others) ∷ rest) ≡ 0
   pub kept : KeepsParts r limits start used (with_entries p others ∷ rest) ds
 
@@ -236,7 +236,7 @@ outline_with d h ds = record { size = d.size; count = d.count; limits = h.limits
 -- what is answered
 pub gathered : (d : Disk) (parts bare : List PairPart) (start : List Bool) (e : StoredEntry) (limits : Limits) (kept : List Directory)
     (g : Gathered) → IsThreadRead (reading_of d) parts start → delta_from parts ≡ 0 → TakesFirst parts bare e
-    → IsJudged d.size d.count limits e
+    → SaysLimits d.size d.count limits e
     → KeepsParts (reading_of d) limits start g.used.items bare kept → g.outline
     ≡ record { size = d.size; count = d.count; limits = limits; attributes = e.attributes; directories = kept } → IsGathered d g
 gathered d parts bare start e limits directories g read state taken judged kept outline =

@@ -96,13 +96,13 @@ in_link r p (Some t) s i e is at other =
     (contains_flat (resolved r) s.entries i e (stood_for r e) at (is_resolved_as r e e.kind other))
 
 -- an entry of a directory
-pub record Stands (ds : List Directory) (e : Entry) : Type 0 where
+pub record IsEntryAmong (ds : List Directory) (e : Entry) : Type 0 where
   pub directory : Directory
   pub there : Contains ds directory
   pub member : Contains (entries directory) e
 
 pub stands : (r : Reading) (ps : List Pair) (e : StoredEntry) (s : StoredOn r e) → IsThread r ps → e.kind ≢ Super
-    → Stands (directories_at r ps) (stood_for r e)
+    → IsEntryAmong (directories_at r ps) (stood_for r e)
 stands r ps e s thread other =
     let there = there_in_thread s.front ps s.pair (front_of_thread r ps s.front thread s.is_front) s.there in
     let h = home (map (link_at r) ps) (link_at r s.pair) (contains_mapped (link_at r) ps s.pair there) in

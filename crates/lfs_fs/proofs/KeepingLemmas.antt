@@ -11,7 +11,7 @@ use Rattle.lfs_file.specs.Content.{content}
 use Rattle.lfs_meta.specs.declared.kind.Kind.{Kind}
 use Rattle.lfs_meta.specs.declared.kind.Kind.TheVariants.{File, Dir, Super}
 use Rattle.lfs_meta.specs.Attribute.{Attributes}
-use Rattle.lfs_meta.specs.Body.{StoredBody, Inline as Stored_inline, Ctz, Leads}
+use Rattle.lfs_meta.specs.Body.{StoredBody, Inline as Stored_inline, Chain as Stored_chain, Directory_at as Stored_directory}
 use Rattle.lfs_meta.specs.Entry.{StoredEntry}
 use Rattle.lfs_meta.specs.Fits.{RiseFrom}
 use Rattle.lfs_meta.specs.Name.{Name, IsName}
@@ -44,11 +44,11 @@ long_name l e other long = let same = whole_name e.kind e.name other in inl (ome
 whole_size : (kind : Kind) (body : StoredBody) → kind ≢ Super → kind_takes_body kind body ≡ true
     → stored_size kind body ≡ stored_length body
 whole_size File (Stored_inline bytes) other takes' = refl
-whole_size File (Ctz head size) other takes' = refl
-whole_size File (Leads first second) other takes' = refl
+whole_size File (Stored_chain head size) other takes' = refl
+whole_size File (Stored_directory first second) other takes' = refl
 whole_size Dir (Stored_inline bytes) other takes' = cc
-whole_size Dir (Ctz head size) other takes' = cc
-whole_size Dir (Leads first second) other takes' = refl
+whole_size Dir (Stored_chain head size) other takes' = cc
+whole_size Dir (Stored_directory first second) other takes' = refl
 whole_size Super body other takes' = absurd (other refl)
 
 pub long_file : (l : Limits) (e : StoredEntry) → e.kind ≢ Super → IsWhole e → l.file < stored_length e.body → IsOversized l e
@@ -71,9 +71,9 @@ attributes_decide false l e a is name size rise long = inr (inr (subst (Any (λ 
 -- a chain that is found is kept with its size
 pub chain_kept : (d : Disk) (old new : List Bool) (head size : ℕ) (blocks : List ℕ) → chain_of d head size ≡ Some blocks
     → length (content d size blocks) ≡ size → AddsBlocks old new blocks
-    → KeepsBody (reading_of d) old new (Ctz head size) (Chain blocks (blank size))
+    → KeepsBody (reading_of d) old new (Stored_chain head size) (Chain blocks (blank size))
 chain_kept d old new head size blocks found len adds =
-    let body : resolved_body (reading_of d) (Ctz head size) ≡ Chain blocks (content d size blocks) =
+    let body : resolved_body (reading_of d) (Stored_chain head size) ≡ Chain blocks (content d size blocks) =
     ap (chained (reading_of d) size) found in
     record {
       is = ap (λ n. Chain blocks (blank n)) (sym len) ∙ ap outlined_body (sym body);
@@ -94,7 +94,7 @@ some_chain : (found : Option (List ℕ)) → (found ≡ None → ⊥) → IsSome
 some_chain None there = absurd (there refl)
 some_chain (Some blocks) there = refl
 
-chain_there : (r : Reading) (body : StoredBody) → (HasNoChain r body → ⊥) → (head size : ℕ) → body ≡ Ctz head size
+chain_there : (r : Reading) (body : StoredBody) → (HasNoChain r body → ⊥) → (head size : ℕ) → body ≡ Stored_chain head size
     → IsSome (r.chain head size)
 chain_there r body there head size is = some_chain (r.chain head size) (λ none. there (subst (HasNoChain r) (sym is) none))
 

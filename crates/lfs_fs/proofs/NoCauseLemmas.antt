@@ -14,7 +14,7 @@ use Rattle.lfs_file.specs.Laws.{FoundAreChains, ContentHasLength}
 use Rattle.lfs_meta.specs.declared.kind.Kind.{Kind}
 use Rattle.lfs_meta.specs.declared.kind.Kind.TheVariants.{File, Dir, Super}
 use Rattle.lfs_meta.specs.Attribute.{Attributes}
-use Rattle.lfs_meta.specs.Body.{Pair, StoredBody, Inline as Stored_inline, Ctz, Leads}
+use Rattle.lfs_meta.specs.Body.{Pair, StoredBody, Inline as Stored_inline, Chain as Stored_chain, Directory_at as Stored_directory}
 use Rattle.lfs_meta.specs.Cause.{PairCause}
 use Rattle.lfs_meta.specs.Entry.{StoredEntry}
 use Rattle.lfs_meta.specs.LiveBlock.{stored_part_of}
@@ -95,9 +95,9 @@ elsewhere r v h e pair index kind (inl other) (First at zero' is) = other at
 elsewhere r v h e pair index kind (inr after) (First at zero' is) = omega arith
 elsewhere r v h e pair index kind place (Later resolved) = resolved.0 kind
 
-chainless : (r : Reading) (v : Volume) (h : Holds r v) (e : StoredEntry) (pair : Pair) (index head size : ℕ) → e.body ≡ Ctz head size
+chainless : (r : Reading) (v : Volume) (h : Holds r v) (e : StoredEntry) (pair : Pair) (index head size : ℕ) → e.body ≡ Stored_chain head size
     → r.chain head size ≡ None → Standing r v h e pair index → ⊥
-chainless r v h e pair index head size body none (First at zero' is) = let inline : Stored_inline h.bytes ≡ Ctz head size =
+chainless r v h e pair index head size body none (First at zero' is) = let inline : Stored_inline h.bytes ≡ Stored_chain head size =
     sym (ap (λ (x : StoredEntry). x.body) is) ∙ body in cc
 chainless r v h e pair index head size body none (Later resolved) = is_none (r.chain head size) (resolved.1 head size body) none
 
@@ -114,8 +114,8 @@ unordered_within true p n h = h
 unordered_within false p n h = (h.1, h.0)
 
 ranged : (r : Reading) (v : Volume) (h : Holds r v) → IsSound (here r v h) → (e : StoredEntry) (s : StoredOn r e) (pair : Pair)
-    → e.body ≡ Leads pair.0 pair.1 → (r.count ≤ pair.0) ⊎ (r.count ≤ pair.1) → Standing r v h e s.pair s.index → ⊥
-ranged r v h sound e s pair body past (First at zero' is) = let inline : Stored_inline h.bytes ≡ Leads pair.0 pair.1 =
+    → e.body ≡ Stored_directory pair.0 pair.1 → (r.count ≤ pair.0) ⊎ (r.count ≤ pair.1) → Standing r v h e s.pair s.index → ⊥
+ranged r v h sound e s pair body past (First at zero' is) = let inline : Stored_inline h.bytes ≡ Stored_directory pair.0 pair.1 =
     sym (ap (λ (x : StoredEntry). x.body) is) ∙ body in cc
 ranged r v h sound e s pair body past (Later resolved) =
     let there = stands r h.pairs e s h.is_thread resolved.0 in
@@ -229,10 +229,10 @@ chained_size r head size None lengths is some = cc
 chained_size r head size (Some blocks) lengths is some = let same = lengths head size blocks is in omega arith
 
 size_at_most : (r : Reading) (kind : Kind) (body : StoredBody) → Lengths r
-    → ((head size : ℕ) → body ≡ Ctz head size → IsSome (r.chain head size)) → stored_size kind body ≤ body_length (resolved_body r body)
+    → ((head size : ℕ) → body ≡ Stored_chain head size → IsSome (r.chain head size)) → stored_size kind body ≤ body_length (resolved_body r body)
 size_at_most r File (Stored_inline bytes) lengths some = omega arith
-size_at_most r File (Ctz head size) lengths some = chained_size r head size (r.chain head size) lengths refl (some head size refl)
-size_at_most r File (Leads first second) lengths some = omega arith
+size_at_most r File (Stored_chain head size) lengths some = chained_size r head size (r.chain head size) lengths refl (some head size refl)
+size_at_most r File (Stored_directory first second) lengths some = omega arith
 size_at_most r Dir body lengths some = omega arith
 size_at_most r Super body lengths some = omega arith
 

@@ -24,7 +24,7 @@ use Rattle.lfs_fs.specs.Sound.{StartsAtRoot}
 use Rattle.lfs_fs.specs.EntryFault.{NamesNoDirectory, LosesDirectory}
 use Rattle.lfs_fs.specs.Ordered.{PathsRise}
 use Rattle.lfs_fs.specs.DirectoryTable.{StandsAt, IsTableOf}
-use Rattle.lfs_fs.specs.Ordered.{IsWalkable, IsListed, WalkCause, begun_at, times_opened, row_paths, Stands, IsOpened, IsWalkTo, NotOpened}
+use Rattle.lfs_fs.specs.Ordered.{IsWalkable, IsListed, WalkCause, begun_at, times_opened, row_paths, HasRow, IsOpened, IsWalkTo, NotOpened}
 use Rattle.lfs_fs.proofs.EntryAtLemmas.{by_last_name, found, stands_below}
 use Rattle.lfs_fs.proofs.PairLemmas.{same_pair-refl}
 use Rattle.lfs_fs.proofs.FlaggedLemmas.{flagged_none, flagged_le, flagged_all, flagged_some, flagged_room}
@@ -48,8 +48,8 @@ walk_start v walkable =
     record {
       walkable = walkable;
       flags = length-replicate (length v.directories) false;
-      right = All-nil (Stands v);
-      waits = All-cons (Stands v) (root_row v) [] refl (All-nil (Stands v));
+      right = All-nil (HasRow v);
+      waits = All-cons (HasRow v) (root_row v) [] refl (All-nil (HasRow v));
       rise = (All-nil (λ (q : Path). path_precedes [] q ≡ true), tt);
       distinct = (λ i d within. absurd (omega arith), tt);
       begun = (0, omega arith, refl);
@@ -135,7 +135,7 @@ walk_end v rows opened all walk =
         right = walk.right;
         whole = λ p e there.
             let row = contains-unmap (λ (r : Row). r.path) rows p (record { path = p; entry = e }) (listed p e there) in
-            let right : Stands v row.0 = All-contains (Stands v) rows row.0 walk.right row.1 in
+            let right : HasRow v row.0 = All-contains (HasRow v) rows row.0 walk.right row.1 in
             let here : entry_at v p ≡ Some row.0.entry = subst (λ (q : Path). entry_at v q ≡ Some row.0.entry) row.2 right in
             let same : e ≡ row.0.entry = same_Some e row.0.entry (sym there ∙ here) in
             let whole' : row.0 ≡ record { path = p; entry = e } = ap (λ (q : Path). record { path = q; entry = row.0.entry }) row.2
@@ -218,7 +218,7 @@ none_begins k (d ∷ ds) all =
 pub walk_missing : (v : Volume) (rows : List Row) (x : Row) (rest : List Row) (opened : List Bool) (k : Pair) → target x.entry ≡ Some k
     → All (λ d. begins_at k d ≡ false) v.directories → IsWalkTo v rows (x ∷ rest) opened → NamesNoDirectory v
 walk_missing v rows x rest opened k leads absent walk =
-    let here : Stands v x = All-head (Stands v) x rest walk.waits in
+    let here : HasRow v x = All-head (HasRow v) x rest walk.waits in
     let none : count_by (begins_at k) v.directories ≡ 0 = none_begins k v.directories absent in
     elim (last_name x.path) [
       | inl top' ↦

@@ -23,7 +23,7 @@ use Rattle.lfs_fs.specs.Sound.{Rise}
 use Rattle.lfs_fs.specs.Row.{path_precedes}
 use Rattle.lfs_fs.specs.Row.{Row}
 use Rattle.lfs_fs.specs.Ordered.{apart, AreApart, PathsRise}
-use Rattle.lfs_fs.specs.Ordered.{begun_at, times_opened, row_paths, Stands, IsOpened, IsWalkTo}
+use Rattle.lfs_fs.specs.Ordered.{begun_at, times_opened, row_paths, HasRow, IsOpened, IsWalkTo}
 use Rattle.lfs_fs.proofs.ApartLemmas.{apart_below, apart_names, below_precedes, ApartFrom, apart-append, rise_apart, rise-insert}
 use Rattle.lfs_fs.proofs.EntryAtLemmas.{found, named_finds, entry_below, nothing_below}
 use Rattle.lfs_fs.proofs.PairLemmas.{same_pair-is}
@@ -35,7 +35,7 @@ use Rattle.lfs_fs.proofs.ContainsLemmas.{contains_later, contains_mapped}
 -- ---- a step, whatever is put before what waits
 
 record IsPutIn (v : Volume) (x : Row) (more : List Row) (opened : List Bool) : Type 0 where
-  waits : All (Stands v) more
+  waits : All (HasRow v) more
   distinct : AreApart (row_paths more)
   after : All (λ (q : Path). path_precedes x.path q ≡ true) (row_paths more)
   before : (q : Path) → apart x.path q ≡ true → All (λ (c : Path). apart c q ≡ true) (row_paths more)
@@ -72,8 +72,8 @@ opened_more v opened again met wider p more stays is = record {
 
 -- an entry is listed, and others are put before what waits
 record IsStep (v : Volume) (rows : List Row) (x : Row) (more rest : List Row) (again : List Bool) : Type 0 where
-  right : All (Stands v) (rows ++ x ∷ [])
-  waits : All (Stands v) (more ++ rest)
+  right : All (HasRow v) (rows ++ x ∷ [])
+  waits : All (HasRow v) (more ++ rest)
   rise : PathsRise (row_paths (rows ++ x ∷ []) ++ row_paths (more ++ rest))
   distinct : AreApart (row_paths (more ++ rest))
   top : Contains (row_paths (rows ++ x ∷ []) ++ row_paths (more ++ rest)) []
@@ -90,7 +90,7 @@ step_paths v rows x more rest opened again grows put walk =
     let met_is = met_after rows x more rest in
     let queue : row_paths (more ++ rest) ≡ cs ++ qs = map-append (λ (y : Row). y.path) more rest in
     let paths : row_paths (rows ++ x ∷ []) ≡ ps ++ x.path ∷ [] = map-append (λ (r : Row). r.path) rows (x ∷ []) in
-    let here : Stands v x = All-head (Stands v) x rest walk.waits in
+    let here : HasRow v x = All-head (HasRow v) x rest walk.waits in
     let between : ApartFrom cs qs = λ i d within j e inside. put.before (get_or qs j e) (walk.distinct.0 j e inside) i d within in
     let apart_all : AreApart (cs ++ qs) = apart-append cs qs put.distinct walk.distinct.1 between in
     let stays : (q : Path) → Contains (ps ++ x.path ∷ qs) q → Contains met q = λ q there. met_stays ps x.path cs qs q there in
@@ -104,8 +104,8 @@ step_paths v rows x more rest opened again grows put walk =
     let done : All (IsOpened v again met) (row_paths (rows ++ x ∷ [])) =
     subst (All (IsOpened v again met)) (sym paths) (All-push (IsOpened v again met) ps x.path old new) in
     record {
-      right = All-push (Stands v) rows x walk.right here;
-      waits = All-append (Stands v) more rest put.waits (All-tail (Stands v) x rest walk.waits);
+      right = All-push (HasRow v) rows x walk.right here;
+      waits = All-append (HasRow v) more rest put.waits (All-tail (HasRow v) x rest walk.waits);
       rise = subst PathsRise (sym met_is) (rise-insert ps x.path cs qs walk.rise (rise_apart (cs ++ qs) apart_all) put.after);
       distinct = subst AreApart (sym queue) apart_all;
       top = subst (λ (ms : List Path). Contains ms []) (sym met_is) (stays [] walk.begun);
@@ -114,9 +114,9 @@ step_paths v rows x more rest opened again grows put walk =
 
 -- ---- a file is listed
 
-nothing_put : (v : Volume) (x : Row) (opened : List Bool) → Stands v x → target x.entry ≡ None → IsPutIn v x [] opened
+nothing_put : (v : Volume) (x : Row) (opened : List Bool) → HasRow v x → target x.entry ≡ None → IsPutIn v x [] opened
 nothing_put v x opened here leads = record {
-  waits = All-nil (Stands v);
+  waits = All-nil (HasRow v);
   distinct = tt;
   after = All-nil (λ (q : Path). path_precedes x.path q ≡ true);
   before = λ q before. All-nil (λ (c : Path). apart c q ≡ true);
@@ -128,7 +128,7 @@ nothing_put v x opened here leads = record {
 pub step_file : (v : Volume) (rows : List Row) (x : Row) (rest : List Row) (opened : List Bool) → target x.entry ≡ None
     → IsWalkTo v rows (x ∷ rest) opened → IsWalkTo v (rows ++ x ∷ []) rest opened
 step_file v rows x rest opened none walk =
-    let here : Stands v x = All-head (Stands v) x rest walk.waits in
+    let here : HasRow v x = All-head (HasRow v) x rest walk.waits in
     let step = step_paths v rows x [] rest opened opened (λ k. omega arith) (nothing_put v x opened here none) walk in
     record {
       walkable = walk.walkable;
@@ -169,11 +169,11 @@ children_apart p (e ∷ es) rise = (
   children_apart p es rise.1,
 )
 
-children_put : (v : Volume) (x : Row) (opened : List Bool) (k : Pair) (d : Directory) → Stands v x → target x.entry ≡ Some k
+children_put : (v : Volume) (x : Row) (opened : List Bool) (k : Pair) (d : Directory) → HasRow v x → target x.entry ≡ Some k
     → find (begins_at k) v.directories ≡ Some d → Rise (entries d) → 1 ≤ times_opened v k opened
     → IsPutIn v x (map (row_below x.path) (entries d)) opened
 children_put v x opened k d there leads begins rise many = record {
-  waits = All-map (Stands v) (row_below x.path) (entries d) (λ i c within.
+  waits = All-map (HasRow v) (row_below x.path) (entries d) (λ i c within.
       let f : Entry = get_or (entries d) i c in
       entry_below v x.path f.name x.entry k d there leads begins ∙ named_finds (entries d) f rise (Contains-get_or (entries d) i c within));
   distinct = children_apart x.path (entries d) rise;
@@ -237,7 +237,7 @@ pub step_directory : (v : Volume) (rows : List Row) (x : Row) (rest : List Row) 
     → IsWalkTo v rows (x ∷ rest) opened
     → IsWalkTo v (rows ++ x ∷ []) (map (row_below x.path) (entries d) ++ rest) (set opened i true)
 step_directory v rows x rest opened k i d to at is new walk =
-    let here : Stands v x = All-head (Stands v) x rest walk.waits in
+    let here : HasRow v x = All-head (HasRow v) x rest walk.waits in
     let again = set opened i true in
     let begins : find (begins_at k) v.directories ≡ Some d = once_finds (begins_at k) v.directories i d (walk.walkable.once k) at is in
     let rise : Rise (entries d) = All-contains (λ (c : Directory). Rise (entries c)) v.directories d walk.walkable.order

@@ -14,7 +14,7 @@ use Rattle.lfs_file.specs.Content.{content}
 use Rattle.lfs_file.specs.Laws.{ChainsDiffer, ChainsFit, ContentHasLength, FoundAreChains}
 use Rattle.lfs_meta.specs.declared.tail.Tail.{Tail}
 use Rattle.lfs_meta.specs.Attribute.{Attributes}
-use Rattle.lfs_meta.specs.Body.{StoredBody, Inline as Stored_inline, Ctz, Leads}
+use Rattle.lfs_meta.specs.Body.{StoredBody, Inline as Stored_inline, Chain as Stored_chain, Directory_at as Stored_directory}
 use Rattle.lfs_meta.specs.Entry.{StoredEntry}
 use Rattle.lfs_fs.specs.Path.{Path}
 use Rattle.lfs_fs.specs.Entry.{Body, Inline, Chain, Directory_at, Entry}
@@ -23,7 +23,7 @@ use Rattle.lfs_fs.specs.Volume.{Volume}
 use Rattle.lfs_fs.specs.Tree.{File, entry_at, node, node_of, top}
 use Rattle.lfs_fs.specs.Thread.{Link, links_of, links, tail_to, hard_to}
 use Rattle.lfs_fs.specs.Reading.{Reading, reading_of}
-use Rattle.lfs_fs.specs.Stored.{BodyStands, Stands, IsStored, HoldsLinks}
+use Rattle.lfs_fs.specs.Stored.{BodyStands, StandsFor, IsStored, HoldsLinks}
 use Rattle.lfs_fs.specs.Row.{Row}
 use Rattle.lfs_fs.specs.RowShown.{shown_body, shown_node, HasBlocks, RowsShowTheTree}
 use Rattle.lfs_fs.specs.Outlined.{outlined_body, outlined_entry}
@@ -86,12 +86,12 @@ along_thread P (x ∷ ds) d e each (suc i, within, is) inside =
     (i, omega arith, is) inside
 
 -- what is stored of an entry
-stored_of : (r : Reading) (ss : List StoredEntry) (xs : List Entry) (e : Entry) → AllZip (Stands r) ss xs → Contains xs e
-    → (s : StoredEntry) × Stands r s e
+stored_of : (r : Reading) (ss : List StoredEntry) (xs : List Entry) (e : Entry) → AllZip (StandsFor r) ss xs → Contains xs e
+    → (s : StoredEntry) × StandsFor r s e
 stored_of r [] [] e stand there = absurd (none_there there)
 stored_of r [] (x ∷ xs) e stand there = absurd stand
 stored_of r (s ∷ ss) [] e stand there = absurd stand
-stored_of r (s ∷ ss) (x ∷ xs) e stand (zero, within, is) = (s, subst (Stands r s) is stand.0)
+stored_of r (s ∷ ss) (x ∷ xs) e stand (zero, within, is) = (s, subst (StandsFor r s) is stand.0)
 stored_of r (s ∷ ss) (x ∷ xs) e stand (suc i, within, is) = stored_of r ss xs e stand.1 (i, omega arith, is)
 
 -- ---- what a body is on the disk
@@ -107,8 +107,8 @@ there_as_stored : FoundAreChains → ContentHasLength → ChainsDiffer → Chain
 there_as_stored chain long differ fit d disk s (Inline bytes) stands = tt
 there_as_stored chain long differ fit d disk s (Directory_at pair) stands = tt
 there_as_stored chain long differ fit d disk (Stored_inline stored) (Chain blocks bytes) stands = absurd stands
-there_as_stored chain long differ fit d disk (Leads first second) (Chain blocks bytes) stands = absurd stands
-there_as_stored chain long differ fit d disk (Ctz head size) (Chain blocks bytes) stands =
+there_as_stored chain long differ fit d disk (Stored_directory first second) (Chain blocks bytes) stands = absurd stands
+there_as_stored chain long differ fit d disk (Stored_chain head size) (Chain blocks bytes) stands =
     let is = chain d head size blocks disk stands.0 in
     let same : length bytes ≡ size = ap length stands.1 ∙ long d head size blocks disk is in
     (ap (λ (n : ℕ). content d n blocks) same ∙ sym stands.1, (differ d head size blocks disk stands.0).0, fit d head size blocks is)

@@ -9,7 +9,7 @@ use Rattle.std.proofs.lemmas.List.Sums.{sum_by-cons}
 use mathlib.Core.Logic.{inl, inr}
 use Rattle.lfs_block.specs.Disk.{Disk}
 use Rattle.lfs_block.specs.declared.mount_fault.MountFault.TheVariants as fault
-use Rattle.lfs_meta.specs.Body.{Pair, StoredBody, Inline as Stored_inline, Ctz, Leads}
+use Rattle.lfs_meta.specs.Body.{Pair, StoredBody, Inline as Stored_inline, Chain as Stored_chain, Directory_at as Stored_directory}
 use Rattle.lfs_fs.specs.NameOrder.{precedes}
 use Rattle.lfs_fs.specs.Pair.{root, same_pair}
 use Rattle.lfs_fs.specs.Entry.{Entry, target}
@@ -131,8 +131,8 @@ chain_past d b head size (Some blocks) c past is = no_time b blocks (All-weaker 
 
 body_past : (d : Disk) (b : ℕ) (body : StoredBody) → IsClear d → d.count ≤ b → body_uses b (resolved_body (reading_of d) body) ≡ 0
 body_past d b (Stored_inline bytes) c past = refl
-body_past d b (Ctz head size) c past = chain_past d b head size ((reading_of d).chain head size) c past refl
-body_past d b (Leads first second) c past = refl
+body_past d b (Stored_chain head size) c past = chain_past d b head size ((reading_of d).chain head size) c past refl
+body_past d b (Stored_directory first second) c past = refl
 
 pairs_alone : (r : Reading) (b : ℕ) (ps : List Pair) → All (λ (l : Link). All (λ x. entry_uses b x ≡ 0) l.part.entries) (map (link_at r) ps)
     → sum_by (λ (l : Link). part_uses b l.part) (map (link_at r) ps) ≡ pairs_name b ps

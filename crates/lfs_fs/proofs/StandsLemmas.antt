@@ -5,7 +5,7 @@ use Rattle.std.specs.List.{AllZip}
 use Rattle.std.proofs.lemmas.List.Elements.{All-cons, All-nil, All-head, All-tail}
 use Rattle.lfs_meta.specs.declared.tail.Tail.{Tail}
 use Rattle.lfs_meta.specs.Attribute.{Attributes}
-use Rattle.lfs_meta.specs.Body.{Pair, StoredBody, Inline as Stored_inline, Ctz, Leads}
+use Rattle.lfs_meta.specs.Body.{Pair, StoredBody, Inline as Stored_inline, Chain as Stored_chain, Directory_at as Stored_directory}
 use Rattle.lfs_meta.specs.Entry.{StoredEntry}
 use Rattle.lfs_meta.specs.Part.{StoredPart}
 use Rattle.lfs_meta.specs.Name.{Name}
@@ -17,7 +17,7 @@ use Rattle.lfs_fs.specs.Front.{next_pair, tail_of}
 use Rattle.lfs_fs.specs.Superblock.{superblock_entry}
 use Rattle.lfs_fs.specs.Held.{chained, resolved_body, resolved, link_of, link_at}
 use Rattle.lfs_fs.specs.Holds.{IsResolved}
-use Rattle.lfs_fs.specs.Stored.{BodyStands, Stands, stored_before, IsStored}
+use Rattle.lfs_fs.specs.Stored.{BodyStands, StandsFor, stored_before, IsStored}
 use Rattle.lfs_fs.proofs.ResolvedLemmas.{stood_for, resolved_is, Resolves, all_resolved}
 
 -- ---- a stored entry stands for what it resolves to, and for nothing else
@@ -26,62 +26,62 @@ body_resolved : (r : Reading) (s : StoredBody) (b : Body) → BodyStands r s b �
 body_resolved r (Stored_inline stored) (Inline bytes) h = ap Inline h
 body_resolved r (Stored_inline stored) (Chain blocks bytes) h = absurd h
 body_resolved r (Stored_inline stored) (Directory_at pair) h = absurd h
-body_resolved r (Ctz head size) (Inline bytes) h = absurd h
-body_resolved r (Ctz head size) (Chain blocks bytes) h = ap (Chain blocks) h.1 ∙ ap (chained r size) (sym h.0)
-body_resolved r (Ctz head size) (Directory_at pair) h = absurd h
-body_resolved r (Leads first second) (Inline bytes) h = absurd h
-body_resolved r (Leads first second) (Chain blocks bytes) h = absurd h
-body_resolved r (Leads first second) (Directory_at pair) h = ap Directory_at h
+body_resolved r (Stored_chain head size) (Inline bytes) h = absurd h
+body_resolved r (Stored_chain head size) (Chain blocks bytes) h = ap (Chain blocks) h.1 ∙ ap (chained r size) (sym h.0)
+body_resolved r (Stored_chain head size) (Directory_at pair) h = absurd h
+body_resolved r (Stored_directory first second) (Inline bytes) h = absurd h
+body_resolved r (Stored_directory first second) (Chain blocks bytes) h = absurd h
+body_resolved r (Stored_directory first second) (Directory_at pair) h = ap Directory_at h
 
-stood_for_is : (r : Reading) (s : StoredEntry) (e : Entry) → Stands r s e → e ≡ stood_for r s
+stood_for_is : (r : Reading) (s : StoredEntry) (e : Entry) → StandsFor r s e → e ≡ stood_for r s
 stood_for_is r s e h =
     ap (λ (n : Name). record { name = n; body = e.body; attributes = e.attributes }) h.name
     ∙ ap (λ (b : Body). record { name = s.name; body = b; attributes = e.attributes }) (body_resolved r s.body e.body h.body)
     ∙ ap (λ (a : Attributes). record { name = s.name; body = resolved_body r s.body; attributes = a }) h.attributes
 
-resolves : (r : Reading) (s : StoredEntry) (e : Entry) → Stands r s e → Resolves r s e
+resolves : (r : Reading) (s : StoredEntry) (e : Entry) → StandsFor r s e → Resolves r s e
 resolves r s e h = resolved_is r s h.kind ∙ ap (λ (x : Entry). x ∷ []) (sym (stood_for_is r s e h))
 
-chain_there : (r : Reading) (s : StoredBody) (b : Body) (head size : ℕ) → BodyStands r s b → s ≡ Ctz head size → IsSome (r.chain head size)
+chain_there : (r : Reading) (s : StoredBody) (b : Body) (head size : ℕ) → BodyStands r s b → s ≡ Stored_chain head size → IsSome (r.chain head size)
 chain_there r s (Inline bytes) head size h is = absurd (subst (λ (x : StoredBody). BodyStands r x (Inline bytes)) is h)
 chain_there r s (Chain blocks bytes) head size h is =
     let found = subst (λ (x : StoredBody). BodyStands r x (Chain blocks bytes)) is h in
     rw found.0 refl
 chain_there r s (Directory_at pair) head size h is = absurd (subst (λ (x : StoredBody). BodyStands r x (Directory_at pair)) is h)
 
-is_resolved : (r : Reading) (s : StoredEntry) (e : Entry) → Stands r s e → IsResolved r s
+is_resolved : (r : Reading) (s : StoredEntry) (e : Entry) → StandsFor r s e → IsResolved r s
 is_resolved r s e h = (h.kind, λ head size is. chain_there r s.body e.body head size h.body is)
 
 chain_stands : (r : Reading) (head size : ℕ) (found : Option (List ℕ)) → r.chain head size ≡ found → IsSome found
-    → BodyStands r (Ctz head size) (chained r size found)
+    → BodyStands r (Stored_chain head size) (chained r size found)
 chain_stands r head size None is some = cc
 chain_stands r head size (Some blocks) is some = (is, refl)
 
-body_stands : (r : Reading) (s : StoredBody) → ((head size : ℕ) → s ≡ Ctz head size → IsSome (r.chain head size))
+body_stands : (r : Reading) (s : StoredBody) → ((head size : ℕ) → s ≡ Stored_chain head size → IsSome (r.chain head size))
     → BodyStands r s (resolved_body r s)
 body_stands r (Stored_inline bytes) there = refl
-body_stands r (Ctz head size) there = chain_stands r head size (r.chain head size) refl (there head size refl)
-body_stands r (Leads first second) there = refl
+body_stands r (Stored_chain head size) there = chain_stands r head size (r.chain head size) refl (there head size refl)
+body_stands r (Stored_directory first second) there = refl
 
-stands_for : (r : Reading) (s : StoredEntry) → IsResolved r s → Stands r s (stood_for r s)
+stands_for : (r : Reading) (s : StoredEntry) → IsResolved r s → StandsFor r s (stood_for r s)
 stands_for r s h = record { kind = h.0; name = refl; attributes = refl; body = body_stands r s.body h.1 }
 
 -- ---- one by one
 
-pub each_stands : (r : Reading) (es : List StoredEntry) → All (IsResolved r) es → AllZip (Stands r) es (flat_map (resolved r) es)
+pub each_stands : (r : Reading) (es : List StoredEntry) → All (IsResolved r) es → AllZip (StandsFor r) es (flat_map (resolved r) es)
 each_stands r [] h = tt
 each_stands r (s ∷ es) h =
     let here : IsResolved r s = All-head (IsResolved r) s es h in
     let one : resolved r s ≡ stood_for r s ∷ [] = resolved_is r s here.0 in
     rw one (stands_for r s here, each_stands r es (All-tail (IsResolved r) s es h))
 
-all_resolve : (r : Reading) (es : List StoredEntry) (fs : List Entry) → AllZip (Stands r) es fs → AllZip (Resolves r) es fs
+all_resolve : (r : Reading) (es : List StoredEntry) (fs : List Entry) → AllZip (StandsFor r) es fs → AllZip (Resolves r) es fs
 all_resolve r [] [] h = tt
 all_resolve r [] (f ∷ fs) h = absurd h
 all_resolve r (s ∷ es) [] h = absurd h
 all_resolve r (s ∷ es) (f ∷ fs) h = (resolves r s f h.0, all_resolve r es fs h.1)
 
-pub all_are_resolved : (r : Reading) (es : List StoredEntry) (fs : List Entry) → AllZip (Stands r) es fs → All (IsResolved r) es
+pub all_are_resolved : (r : Reading) (es : List StoredEntry) (fs : List Entry) → AllZip (StandsFor r) es fs → All (IsResolved r) es
 all_are_resolved r [] [] h = All-nil (IsResolved r)
 all_are_resolved r [] (f ∷ fs) h = absurd h
 all_are_resolved r (s ∷ es) [] h = absurd h

@@ -2,7 +2,7 @@
 use Rattle.std.proofs.Common.{◌≡◌, ℕ, ◌+◌, List, [], ◌∷◌, length, map, refl, ap, sym, ◌∙◌, arith}
 use Rattle.std.specs.Prelude.{Option, Some, None, flat_map}
 use Rattle.std.specs.List.{AllZip}
-use Rattle.lfs_meta.specs.Body.{StoredBody, Inline, Ctz, Leads}
+use Rattle.lfs_meta.specs.Body.{StoredBody, Inline, Chain as Stored_chain, Directory_at as Stored_directory}
 use Rattle.lfs_meta.specs.Entry.{StoredEntry}
 use Rattle.lfs_meta.specs.Spelling.{body_bytes}
 use Rattle.lfs_meta.specs.Weighing.{weight as stored_weight}
@@ -20,8 +20,8 @@ chain_weight r size (Some blocks) = refl
 
 bodies_weigh_as_stored : (r : Reading) (b : StoredBody) → 4 + length (body_bytes b) ≡ body_weight (resolved_body r b)
 bodies_weigh_as_stored r (Inline bytes) = refl
-bodies_weigh_as_stored r (Ctz head size) = omega (arith, chain_weight r size (r.chain head size))
-bodies_weigh_as_stored r (Leads first second) = omega arith
+bodies_weigh_as_stored r (Stored_chain head size) = omega (arith, chain_weight r size (r.chain head size))
+bodies_weigh_as_stored r (Stored_directory first second) = omega arith
 
 pub entries_weigh_as_stored : EntriesWeighAsStored
 entries_weigh_as_stored r s e is =

@@ -1,7 +1,7 @@
 -- Readings that agree where a volume is stored (own).
 use Rattle.std.specs.Prelude.{ℕ, ◌≡◌, ◌≢◌, List, Some, All, map}
 use Rattle.lfs_meta.specs.Attribute.{Attributes}
-use Rattle.lfs_meta.specs.Body.{Pair, StoredBody, Ctz}
+use Rattle.lfs_meta.specs.Body.{Pair, StoredBody, Chain as Stored_chain}
 use Rattle.lfs_meta.specs.Part.{StoredPart}
 use Rattle.lfs_fs.specs.Pair.{root}
 use Rattle.lfs_fs.specs.Entry.{Body, Chain}
@@ -14,7 +14,7 @@ use Rattle.lfs_fs.specs.Stored.{IsStored}
 
 -- a skip list has the same chain, and its blocks the same content
 abbrev pub ReadAlike : Reading → Reading → StoredBody → Type 0
-ReadAlike r q (Ctz head size) = (q.chain head size ≡ r.chain head size)
+ReadAlike r q (Stored_chain head size) = (q.chain head size ≡ r.chain head size)
     × ((blocks : List ℕ) → r.chain head size ≡ Some blocks → q.content size blocks ≡ r.content size blocks)
 ReadAlike r q stored = Unit {0}
 

@@ -2,7 +2,7 @@
 use Rattle.std.specs.Prelude.{ℕ, ◌-◌, List, length, slice_get, unwrap_or}
 use Rattle.lfs_meta.specs.declared.kind.Kind.{Kind}
 use Rattle.lfs_meta.specs.declared.kind.Kind.TheVariants.{File, Dir}
-use Rattle.lfs_meta.specs.Body.{StoredBody, Inline as Stored_inline, Ctz, Leads}
+use Rattle.lfs_meta.specs.Body.{StoredBody, Inline as Stored_inline, Chain as Stored_chain, Directory_at as Stored_directory}
 use Rattle.lfs_meta.specs.Entry.{StoredEntry}
 use Rattle.lfs_fs.specs.Entry.{Body, Inline, Chain, Directory_at, Entry}
 
@@ -19,8 +19,8 @@ stored_kind (Directory_at pair) = Dir
 -- a chain is stored as its head and its length
 abbrev pub stored_body : Body → StoredBody
 stored_body (Inline bytes) = Stored_inline bytes
-stored_body (Chain blocks bytes) = Ctz (head_of blocks) (length bytes)
-stored_body (Directory_at pair) = Leads pair.0 pair.1
+stored_body (Chain blocks bytes) = Stored_chain (head_of blocks) (length bytes)
+stored_body (Directory_at pair) = Stored_directory pair.0 pair.1
 
 -- an entry
 abbrev pub stored_entry : Entry → StoredEntry

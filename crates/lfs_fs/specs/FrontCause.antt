@@ -6,7 +6,7 @@ use Rattle.lfs_block.specs.declared.mount_fault.MountFault.{MountFault}
 use Rattle.lfs_meta.specs.declared.kind.Kind.{Kind}
 use Rattle.lfs_meta.specs.declared.kind.Kind.TheVariants.{File, Dir, Super}
 use Rattle.lfs_meta.specs.Attribute.{Attributes}
-use Rattle.lfs_meta.specs.Body.{Pair, StoredBody, Inline, Ctz, Leads}
+use Rattle.lfs_meta.specs.Body.{Pair, StoredBody, Inline, Chain as Stored_chain, Directory_at as Stored_directory}
 use Rattle.lfs_meta.specs.Entry.{StoredEntry}
 use Rattle.lfs_meta.specs.Part.{StoredPart}
 use Rattle.lfs_meta.specs.Cause.{PairCause}
@@ -53,7 +53,7 @@ pub record NoChain (r : Reading) : Type 0 where
   pub stored : StoredOn r entry
   pub head : ℕ
   pub size : ℕ
-  pub is_chain : entry.body ≡ Ctz head size
+  pub is_chain : entry.body ≡ Stored_chain head size
   pub none : r.chain head size ≡ None
 
 -- a directory's entry names a block past the disk's
@@ -61,7 +61,7 @@ pub record EntryRange (r : Reading) : Type 0 where
   pub entry : StoredEntry
   pub stored : StoredOn r entry
   pub pair : Pair
-  pub leads : entry.body ≡ Leads pair.0 pair.1
+  pub leads : entry.body ≡ Stored_directory pair.0 pair.1
   pub past : (r.count ≤ pair.0) ⊎ (r.count ≤ pair.1)
 
 -- two names of a directory don't rise; limits and attributes don't matter
@@ -89,8 +89,8 @@ pub record SuperblockElsewhere (r : Reading) : Type 0 where
 -- a file's size; others have none
 abbrev pub stored_size : Kind → StoredBody → ℕ
 stored_size File (Inline bytes) = length bytes
-stored_size File (Ctz head size) = size
-stored_size File (Leads first second) = 0
+stored_size File (Stored_chain head size) = size
+stored_size File (Stored_directory first second) = 0
 stored_size Dir body = 0
 stored_size Super body = 0
 

@@ -7,7 +7,7 @@ use Rattle.lfs_block.specs.declared.mount_fault.MountFault.TheVariants.{BadSkipL
 use Rattle.lfs_block.specs.declared.mount_fault.MountFault.TheVariants.{UnfinishedMove, SuperblockElsewhere, BadSize, UnknownState, Memory}
 use Rattle.lfs_meta.specs.declared.kind.Kind.TheVariants.{Super}
 use Rattle.lfs_meta.specs.Name.{Name}
-use Rattle.lfs_meta.specs.Body.{Pair, StoredBody, Inline as Stored_inline, Ctz, Leads}
+use Rattle.lfs_meta.specs.Body.{Pair, StoredBody, Inline as Stored_inline, Chain as Stored_chain, Directory_at as Stored_directory}
 use Rattle.lfs_meta.specs.Entry.{StoredEntry}
 use Rattle.lfs_meta.specs.Part.{StoredPart}
 use Rattle.lfs_fs.specs.declared.limits.Limits.{Limits}
@@ -69,19 +69,19 @@ pub record EndsAtOrAfter (es : List Entry) (name : Name) : Type 0 where
 
 -- a file's head and size have no chain
 abbrev pub HasNoChain : Reading → StoredBody → Type 0
-HasNoChain r (Ctz head size) = r.chain head size ≡ None
+HasNoChain r (Stored_chain head size) = r.chain head size ≡ None
 HasNoChain r body = ⊥
 
 -- a directory's first pair is past the disk's blocks
 abbrev pub LeadsPast : Reading → StoredBody → Type 0
-LeadsPast r (Leads first second) = (r.count ≤ first) ⊎ (r.count ≤ second)
+LeadsPast r (Stored_directory first second) = (r.count ≤ first) ⊎ (r.count ≤ second)
 LeadsPast r body = ⊥
 
 -- the size that a stored body says; a directory has none
 abbrev pub stored_length : StoredBody → ℕ
 stored_length (Stored_inline bytes) = length bytes
-stored_length (Ctz head size) = size
-stored_length (Leads first second) = 0
+stored_length (Stored_chain head size) = size
+stored_length (Stored_directory first second) = 0
 
 -- a stored body is kept as this, and its blocks are marked
 pub record KeepsBody (r : Reading) (old new : List Bool) (stored : StoredBody) (kept : Body) : Type 0 where

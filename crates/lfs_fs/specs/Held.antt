@@ -3,7 +3,7 @@ use Rattle.std.specs.Prelude.{ℕ, false, List, [], ◌∷◌, Option, Some, Non
 use Rattle.lfs_meta.specs.declared.kind.Kind.{Kind}
 use Rattle.lfs_meta.specs.declared.kind.Kind.TheVariants.{File, Dir, Super}
 use Rattle.lfs_meta.specs.declared.tail.Tail.TheVariants.{End}
-use Rattle.lfs_meta.specs.Body.{Pair, StoredBody, Inline as Stored_inline, Ctz, Leads}
+use Rattle.lfs_meta.specs.Body.{Pair, StoredBody, Inline as Stored_inline, Chain as Stored_chain, Directory_at as Stored_directory}
 use Rattle.lfs_meta.specs.Entry.{StoredEntry}
 use Rattle.lfs_meta.specs.Part.{StoredPart}
 use Rattle.lfs_fs.specs.Entry.{Body, Inline, Chain, Directory_at, Entry}
@@ -22,8 +22,8 @@ chained r size (Some blocks) = Chain blocks (r.content size blocks)
 -- what a stored body stands for
 abbrev pub resolved_body : Reading → StoredBody → Body
 resolved_body r (Stored_inline bytes) = Inline bytes
-resolved_body r (Ctz head size) = chained r size (r.chain head size)
-resolved_body r (Leads first second) = Directory_at (first, second)
+resolved_body r (Stored_chain head size) = chained r size (r.chain head size)
+resolved_body r (Stored_directory first second) = Directory_at (first, second)
 
 -- the same entry with what its body stands for, unless it is a superblock
 abbrev pub resolved_as : Reading → StoredEntry → Kind → List Entry

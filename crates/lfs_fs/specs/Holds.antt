@@ -2,7 +2,7 @@
 use Rattle.std.specs.Prelude.{ℕ, ◌≡◌, ◌≢◌, List, Some, All, IsSome, Contains}
 use Rattle.lfs_meta.specs.declared.kind.Kind.TheVariants.{Super}
 use Rattle.lfs_meta.specs.Attribute.{Attributes}
-use Rattle.lfs_meta.specs.Body.{Pair, Ctz}
+use Rattle.lfs_meta.specs.Body.{Pair, Chain as Stored_chain}
 use Rattle.lfs_meta.specs.Entry.{StoredEntry}
 use Rattle.lfs_meta.specs.Part.{StoredPart}
 use Rattle.lfs_fs.specs.Pair.{root}
@@ -14,7 +14,7 @@ use Rattle.lfs_fs.specs.Held.{volume_at}
 
 -- an entry of a file or a directory, whose chain exists
 abbrev pub IsResolved : Reading → StoredEntry → Type 0
-IsResolved r e = (e.kind ≢ Super) × ((head size : ℕ) → e.body ≡ Ctz head size → IsSome (r.chain head size))
+IsResolved r e = (e.kind ≢ Super) × ((head size : ℕ) → e.body ≡ Stored_chain head size → IsSome (r.chain head size))
 
 -- with the version and the geometry that are edited, and limits within their ranges
 pub record Holds (r : Reading) (v : Volume) : Type 0 where

@@ -11,7 +11,7 @@ use Rattle.lfs_fs.specs.Sound.{AreAttributes}
 use Rattle.lfs_fs.specs.Superblock.{IsSuperblock, header_of}
 
 -- an entry is the superblock of an image of `count` blocks of `size` bytes, and says these limits
-pub record IsJudged (size count : ℕ) (limits : Limits) (e : StoredEntry) : Type 0 where
+pub record SaysLimits (size count : ℕ) (limits : Limits) (e : StoredEntry) : Type 0 where
   pub bytes : List ℕ
   pub is : IsSuperblock e bytes
   pub header : IsHeader size count bytes

@@ -93,8 +93,8 @@ abbrev pub row_paths : List Row → List Path
 row_paths rows = map (λ r. r.path) rows
 
 -- what stands at the row's path
-abbrev pub Stands : Volume → Row → Type 0
-Stands v r = entry_at v r.path ≡ Some r.entry
+abbrev pub HasRow : Volume → Row → Type 0
+HasRow v r = entry_at v r.path ≡ Some r.entry
 
 -- what is listed at a path was opened if it leads to a directory, and what stands below was met
 pub record IsOpened (v : Volume) (opened : List Bool) (met : List Path) (p : Path) : Type 0 where
@@ -105,8 +105,8 @@ pub record IsOpened (v : Volume) (opened : List Bool) (met : List Path) (p : Pat
 pub record IsWalkTo (v : Volume) (rows queue : List Row) (opened : List Bool) : Type 0 where
   pub walkable : IsWalkable v
   pub flags : length opened ≡ length v.directories
-  pub right : All (Stands v) rows
-  pub waits : All (Stands v) queue
+  pub right : All (HasRow v) rows
+  pub waits : All (HasRow v) queue
   pub rise : PathsRise (row_paths rows ++ row_paths queue)
   pub distinct : AreApart (row_paths queue)
   pub begun : Contains (row_paths rows ++ row_paths queue) []

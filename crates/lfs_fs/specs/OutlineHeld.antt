@@ -5,6 +5,6 @@ use Rattle.lfs_fs.specs.declared.outline_body.OutlineBody.{OutlineBody}
 use Rattle.lfs_fs.specs.declared.outline_body.OutlineBody.TheVariants as case
 
 abbrev pub outline_body_held : OutlineBody → Body
-outline_body_held (case.Held bytes) = Inline bytes.items
-outline_body_held (case.Linked blocks size) = Chain blocks.items (blank size)
-outline_body_held (case.Leads first second) = Directory_at (first, second)
+outline_body_held (case.Inline bytes) = Inline bytes.items
+outline_body_held (case.Chain blocks size) = Chain blocks.items (blank size)
+outline_body_held (case.Directory first second) = Directory_at (first, second)

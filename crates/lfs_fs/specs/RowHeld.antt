@@ -7,4 +7,4 @@ use Rattle.lfs_fs.specs.declared.row_body.RowBody.TheVariants as case
 abbrev pub row_body_held : RowBody → Body
 row_body_held (case.Inline bytes) = Inline bytes.now
 row_body_held (case.Chain blocks size) = Chain blocks.now (blank size)
-row_body_held (case.Dir first second) = Directory_at (first, second)
+row_body_held (case.Directory first second) = Directory_at (first, second)

@@ -3,7 +3,7 @@ use Rattle.std.specs.Prelude.{ℕ, ◌≡◌, ◌≢◌, false, List, [], ◌∷
 use Rattle.std.specs.List.{AllZip}
 use Rattle.lfs_meta.specs.declared.kind.Kind.TheVariants.{Super}
 use Rattle.lfs_meta.specs.Attribute.{Attributes}
-use Rattle.lfs_meta.specs.Body.{Pair, StoredBody, Inline as Stored_inline, Ctz, Leads}
+use Rattle.lfs_meta.specs.Body.{Pair, StoredBody, Inline as Stored_inline, Chain as Stored_chain, Directory_at as Stored_directory}
 use Rattle.lfs_meta.specs.Entry.{StoredEntry}
 use Rattle.lfs_meta.specs.Part.{StoredPart}
 use Rattle.lfs_fs.specs.Pair.{root, same_pair}
@@ -20,12 +20,12 @@ use Rattle.lfs_fs.specs.Holds.{Holds}
 -- a stored body stands for a file's bytes in its entry, for a chain that is there with its content, or for a directory
 abbrev pub BodyStands : Reading → StoredBody → Body → Type 0
 BodyStands r (Stored_inline stored) (Inline bytes) = bytes ≡ stored
-BodyStands r (Ctz head size) (Chain blocks bytes) = (r.chain head size ≡ Some blocks) × (bytes ≡ r.content size blocks)
-BodyStands r (Leads first second) (Directory_at pair) = pair ≡ (first, second)
+BodyStands r (Stored_chain head size) (Chain blocks bytes) = (r.chain head size ≡ Some blocks) × (bytes ≡ r.content size blocks)
+BodyStands r (Stored_directory first second) (Directory_at pair) = pair ≡ (first, second)
 BodyStands r stored body = ⊥
 
 -- a stored entry, which is no superblock, stands for an entry
-pub record Stands (r : Reading) (s : StoredEntry) (e : Entry) : Type 0 where
+pub record StandsFor (r : Reading) (s : StoredEntry) (e : Entry) : Type 0 where
   pub kind : s.kind ≢ Super
   pub name : e.name ≡ s.name
   pub attributes : e.attributes ≡ s.attributes
@@ -41,7 +41,7 @@ pub record IsStored (r : Reading) (bytes : List ℕ) (attributes : Attributes) (
   pub read : r.part l.part.pair ≡ Some stored
   pub others : List StoredEntry
   pub entries : stored.entries ≡ stored_before bytes attributes l.part.pair others
-  pub stands : AllZip (Stands r) others l.part.entries
+  pub stands : AllZip (StandsFor r) others l.part.entries
   pub tail : stored.tail ≡ l.tail
   pub delta : little_endian stored.delta ≡ l.part.delta
   pub clean : l.part.dirty ≡ false

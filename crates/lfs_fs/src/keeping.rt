@@ -28,8 +28,8 @@ fn length_of(body: &Body) -> usize
 {
     match body {
         Body::Inline(bytes) => bytes.len(),
-        Body::Ctz { head: _, size } => *size as usize,
-        Body::Leads(..) => 0,
+        Body::Chain { head: _, size } => *size as usize,
+        Body::Directory(..) => 0,
     }
 }
 
@@ -66,17 +66,17 @@ fn kept_body<B: Blocks>(
     contents_have_their_length();
     let count = blocks.count();
     match body {
-        Body::Inline(bytes) => Ok(OutlineBody::Held(bytes)),
-        Body::Ctz { head, size } => {
+        Body::Inline(bytes) => Ok(OutlineBody::Inline(bytes)),
+        Body::Chain { head, size } => {
             let blocks = chain(alloc, blocks, head, size)?;
             mark_all(used, &blocks)?;
-            Ok(OutlineBody::Linked { blocks, size })
+            Ok(OutlineBody::Chain { blocks, size })
         }
-        Body::Leads(first, second) => {
+        Body::Directory(first, second) => {
             if first >= count || second >= count {
                 return Err(MountFault::BlockRange);
             }
-            Ok(OutlineBody::Leads(first, second))
+            Ok(OutlineBody::Directory(first, second))
         }
     }
 }

@@ -33,7 +33,7 @@ fn mark_each(used: &mut [bool], blocks: &[u32])
 fn mark_body(used: &mut [bool], body: &OutlineBody)
     ensures { MarksMore used.old used.new (λ b. body_uses b (outline_body_held body.now)) }
 {
-    if let OutlineBody::Linked { blocks, .. } = body {
+    if let OutlineBody::Chain { blocks, .. } = body {
         mark_each(used, blocks);
     }
 }

@@ -6,9 +6,9 @@
 #[derive(Drop)]
 pub enum OutlineBody {
     /// The bytes of a file that stand in its entry.
-    Held(Vec<u8>),
+    Inline(Vec<u8>),
     /// The blocks of a file from its first on, and its size in bytes.
-    Linked { blocks: Vec<u32>, size: u32 },
+    Chain { blocks: Vec<u32>, size: u32 },
     /// The first pair of a directory.
-    Leads(u32, u32),
+    Directory(u32, u32),
 }

@@ -48,12 +48,12 @@ impl OutlineEntry {
         ensures { row_body_held result ≡ self.now.body }
     {
         match &self.body {
-            OutlineBody::Held(bytes) => RowBody::Inline(bytes),
-            OutlineBody::Linked { blocks, size } => RowBody::Chain {
+            OutlineBody::Inline(bytes) => RowBody::Inline(bytes),
+            OutlineBody::Chain { blocks, size } => RowBody::Chain {
                 blocks,
                 size: *size,
             },
-            OutlineBody::Leads(first, second) => RowBody::Dir(*first, *second),
+            OutlineBody::Directory(first, second) => RowBody::Directory(*first, *second),
         }
     }
 
@@ -83,7 +83,7 @@ impl OutlineEntry {
         ensures { result ≡ target self.now }
     {
         match &self.body {
-            OutlineBody::Leads(first, second) => Some(unordered(*first, *second)),
+            OutlineBody::Directory(first, second) => Some(unordered(*first, *second)),
             _ => None,
         }
     }

@@ -41,7 +41,7 @@ impl<'a> Row<'a> {
         ensures { result ≡ leads self.now.entry }
     {
         match &self.body {
-            RowBody::Dir(..) => true,
+            RowBody::Directory(..) => true,
             _ => false,
         }
     }

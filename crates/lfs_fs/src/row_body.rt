@@ -8,5 +8,5 @@ pub enum RowBody<'a> {
     /// The blocks of a file from its first on, and its size in bytes.
     Chain { blocks: &'a [u32], size: u32 },
     /// The first pair of a directory.
-    Dir(u32, u32),
+    Directory(u32, u32),
 }

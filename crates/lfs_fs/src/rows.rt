@@ -41,7 +41,7 @@ fn root_row(outline: &Outline) -> Row<'_>
     Row {
         depth: 0,
         name: &[],
-        body: RowBody::Dir(first, second),
+        body: RowBody::Directory(first, second),
         attributes: &outline.attributes,
     }
 }

@@ -3,7 +3,7 @@
 ghost use Rattle.std.specs.Prelude.{◌≡◌, ◌≤◌, ◌<◌, ◌+◌, ◌*◌, ℕ, List, [], All, IfOk, IfErr, IfSome, IfNone, IsTrue, MatchBool, ◌↔◌, length};
 ghost use Rattle.std.specs.List.{Any};
 ghost use Rattle.lfs_fs.specs.Header.{IsHeader, HeaderCause};
-ghost use Rattle.lfs_fs.specs.Judged.{IsJudged, JudgedCause, TakesFirst, BeginsWithNone};
+ghost use Rattle.lfs_fs.specs.Judged.{SaysLimits, JudgedCause, TakesFirst, BeginsWithNone};
 ghost use Rattle.lfs_fs.specs.Superblock.{IsLimits, IsSuperblock, header_of, word_at};
 
 use crate::limits::{Limits, MOST_FILE, MOST_HELD};
@@ -92,7 +92,7 @@ pub(crate) fn are_within(attributes: &[Attribute], limit: u32) -> bool
 /// The limits that an entry says, where it is a superblock of an image of `count` blocks of `size` bytes: `NoSuperblock`
 /// where it isn't one, else what `limits_of` refuses, else `BadSize` where an attribute is over the limit.
 pub(crate) fn judged(entry: &Entry, size: u32, count: u32) -> Result<Limits, MountFault>
-    ensures judged { IfOk result (λ limits. IsJudged size count limits entry.now) }
+    ensures judged { IfOk result (λ limits. SaysLimits size count limits entry.now) }
     ensures refused { IfErr result (λ fault. JudgedCause fault size count entry.now) }
 {
     let bytes = struct_of(entry).ok_or(MountFault::NoSuperblock)?;

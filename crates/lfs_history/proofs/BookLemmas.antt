@@ -7,7 +7,7 @@ use Rattle.lfs_block.specs.Change.{Change, flip}
 use Rattle.lfs_block.specs.Disk.{Disk, put}
 use Rattle.lfs_block.specs.Patch.{ChangeSet, Stands, applied, reverted, put_all}
 use Rattle.lfs_book.specs.Book.{IsBook, IsBookOf, IsPatchOf}
-use Rattle.lfs_history.specs.History.{History, IsHistory, IsHistoryAt, GoesBack, GoesOn}
+use Rattle.lfs_history.specs.History.{History, IsHistory, IsHistoryAt, GoesBack, GoesForward}
 use Rattle.lfs_history.specs.Opening.{journal_of}
 
 -- ---- lists
@@ -59,7 +59,7 @@ back_patches (p ∷ ps) d (patch, agrees, more) = (
       (back_patches ps (reverted p d) more),
 )
 
-pub on_patches : (ps : List ChangeSet) (d : Disk) → GoesOn ps d → AllByRecursion (IsPatchOf d.size d.count) ps
+pub on_patches : (ps : List ChangeSet) (d : Disk) → GoesForward ps d → AllByRecursion (IsPatchOf d.size d.count) ps
 on_patches [] d on = tt
 on_patches (p ∷ ps) d (patch, agrees, more) = (
   (patch, agrees.size, below d p.changes agrees.stand),

@@ -14,7 +14,7 @@ use Rattle.lfs_command.specs.Cut.{cut}
 use Rattle.lfs_command.specs.Clean.{clean}
 use Rattle.lfs_command.specs.Planned.{Plans}
 use Rattle.lfs_law.proofs.CarriedFollow.{carried_follow}
-use Rattle.lfs_history.specs.History.{History, IsHistory, IsMounted, past_of, future_of, GoesBack, GoesOn}
+use Rattle.lfs_history.specs.History.{History, IsHistory, IsMounted, past_of, future_of, GoesBack, GoesForward}
 use Rattle.lfs_history.specs.Moves.{Pushes, Undoes, Redoes, Forgets}
 
 -- ---- what is owed by the layers below
@@ -75,8 +75,8 @@ undo_keeps law old new h u =
       future = u.future ∙ ap (λ (x : List Disk). old.present ∷ x) h.future ∙ ap (λ (d : Disk). d ∷ future_of old.undone d) (sym again)
           ∙ ap (λ (us : List ChangeSet). future_of us new.present) (sym u.undone);
       back = subst (GoesBack (reverse new.done)) is back.2;
-      on = subst (λ (us : List ChangeSet). GoesOn us new.present) (sym u.undone)
-          (back.0, subst (AgreesOld p) is (law.agrees p old.present h.disk back.0 back.1), subst (GoesOn old.undone) (sym again) h.on);
+      on = subst (λ (us : List ChangeSet). GoesForward us new.present) (sym u.undone)
+          (back.0, subst (AgreesOld p) is (law.agrees p old.present h.disk back.0 back.1), subst (GoesForward old.undone) (sym again) h.on);
       disk = subst IsDisk is (law.disk p old.present h.disk back.0 back.1).disk;
       mounts = mounts.0;
       past_mounts = mounts.1;
@@ -109,7 +109,7 @@ is_behind law p h e is patch stands to =
 pub redo_keeps : Make → (old new : History) → IsHistory old → Redoes old new → IsHistory new
 redo_keeps law old new h u =
     let p = u.change in
-    let on : GoesOn (p ∷ new.undone) old.present = subst (λ (us : List ChangeSet). GoesOn us old.present) u.undone h.on in
+    let on : GoesForward (p ∷ new.undone) old.present = subst (λ (us : List ChangeSet). GoesForward us old.present) u.undone h.on in
     let future : old.future ≡ future_of (p ∷ new.undone) old.present = h.future
     ∙ ap (λ (us : List ChangeSet). future_of us old.present) u.undone in
     let both : applied p old.present ∷ future_of new.undone (applied p old.present) ≡ new.present ∷ new.future = sym future ∙ u.future in
@@ -121,7 +121,7 @@ redo_keeps law old new h u =
       past = u.past ∙ behind.past ∙ ap (λ (ps : List ChangeSet). past_of ps new.present) (sym turned);
       future = sym (rest_same _ _ _ _ both) ∙ ap (future_of new.undone) is;
       back = subst (λ (ps : List ChangeSet). GoesBack ps new.present) (sym turned) behind.back;
-      on = subst (GoesOn new.undone) is on.2;
+      on = subst (GoesForward new.undone) is on.2;
       disk = behind.disk;
       mounts = mounts.0;
       past_mounts = subst (AllByRecursion IsMounted) (sym u.past) (h.mounts, h.past_mounts);
@@ -147,7 +147,7 @@ push_keeps law follow asked p old new h room plans u =
       past = u.past ∙ behind.past ∙ ap (λ (ps : List ChangeSet). past_of ps new.present) (sym turned);
       future = u.future ∙ ap (λ (us : List ChangeSet). future_of us new.present) (sym u.undone);
       back = subst (λ (ps : List ChangeSet). GoesBack ps new.present) (sym turned) behind.back;
-      on = subst (λ (us : List ChangeSet). GoesOn us new.present) (sym u.undone) tt;
+      on = subst (λ (us : List ChangeSet). GoesForward us new.present) (sym u.undone) tt;
       disk = behind.disk;
       mounts = subst IsMounted (sym u.present) (planned_mounts follow old.present asked p plans);
       past_mounts = subst (AllByRecursion IsMounted) (sym u.past) (h.mounts, h.past_mounts);
@@ -164,7 +164,7 @@ fresh_is d disk mounts h past present future done undone =
       past = past ∙ ap (λ (ps : List ChangeSet). past_of (reverse ps) h.present) (sym done);
       future = future ∙ ap (λ (us : List ChangeSet). future_of us h.present) (sym undone);
       back = subst (λ (ps : List ChangeSet). GoesBack (reverse ps) h.present) (sym done) tt;
-      on = subst (λ (us : List ChangeSet). GoesOn us h.present) (sym undone) tt;
+      on = subst (λ (us : List ChangeSet). GoesForward us h.present) (sym undone) tt;
       disk = subst IsDisk (sym present) disk;
       mounts = subst IsMounted (sym present) mounts;
       past_mounts = subst (AllByRecursion IsMounted) (sym past) tt;

@@ -13,7 +13,7 @@ use Rattle.lfs_book.specs.Book.{Book, journal_bytes}
 use Rattle.lfs_book.specs.Laws.{BooksAreReadOnce}
 use Rattle.lfs_history.specs.declared.open_fault.OpenFault.{OpenFault}
 use Rattle.lfs_history.specs.declared.open_fault.OpenFault.TheVariants.{Mount, JournalFormat, JournalMismatch, JournalImage}
-use Rattle.lfs_history.specs.History.{History, IsHistory, IsMounted, GoesBack, GoesOn, history, past_of, future_of}
+use Rattle.lfs_history.specs.History.{History, IsHistory, IsMounted, GoesBack, GoesForward, history, past_of, future_of}
 use Rattle.lfs_history.specs.Opening.{HasHistory, Opens, RefusesOpening, journal_of, others, HasSomeCause}
 use Rattle.lfs_history.proofs.MoveLemmas.{TakeBack, Make}
 use Rattle.lfs_history.proofs.BookLemmas.{history_is_book}
@@ -57,7 +57,7 @@ back_disks law (p ∷ ps) d disk (patch, agrees, more) =
     let before = (law.disk p d disk patch agrees).disk in
     (before, back_disks law ps (reverted p d) before more)
 
-on_disks : Make → (ps : List ChangeSet) (d : Disk) → IsDisk d → GoesOn ps d → AllByRecursion IsDisk (future_of ps d)
+on_disks : Make → (ps : List ChangeSet) (d : Disk) → IsDisk d → GoesForward ps d → AllByRecursion IsDisk (future_of ps d)
 on_disks law [] d disk on = tt
 on_disks law (p ∷ ps) d disk (patch, agrees, more) =
     let after = (law.disk p d disk patch agrees).disk in

@@ -25,9 +25,9 @@ GoesBack [] d = Unit {0}
 GoesBack (p ∷ ps) d = IsPatch p × AgreesNew p d × GoesBack ps (reverted p d)
 
 -- each change can be made in the image that comes before it
-abbrev pub GoesOn : List ChangeSet → Disk → Type 0
-GoesOn [] d = Unit {0}
-GoesOn (p ∷ ps) d = IsPatch p × AgreesOld p d × GoesOn ps (applied p d)
+abbrev pub GoesForward : List ChangeSet → Disk → Type 0
+GoesForward [] d = Unit {0}
+GoesForward (p ∷ ps) d = IsPatch p × AgreesOld p d × GoesForward ps (applied p d)
 
 -- The meaning of a `Session`: its Model's Value. The images are nearest first on both sides. The changes are in the order in
 -- which they were made (`done`) and in which they are made again (`undone`).
@@ -61,7 +61,7 @@ pub record IsHistory (h : History) : Type 0 where
   pub past : h.past ≡ past_of (reverse h.done) h.present
   pub future : h.future ≡ future_of h.undone h.present
   pub back : GoesBack (reverse h.done) h.present
-  pub on : GoesOn h.undone h.present
+  pub on : GoesForward h.undone h.present
   pub disk : IsDisk h.present
   pub mounts : IsMounted h.present
   pub past_mounts : AllByRecursion IsMounted h.past

@@ -6,7 +6,7 @@ use Rattle.lfs_fs.specs.Cause.{HasCause, IsOfFormat}
 use Rattle.lfs_book.specs.Book.{Book, IsBook, journal_bytes}
 use Rattle.lfs_history.specs.declared.open_fault.OpenFault.{OpenFault}
 use Rattle.lfs_history.specs.declared.open_fault.OpenFault.TheVariants.{Mount, JournalFormat, JournalMismatch, JournalImage}
-use Rattle.lfs_history.specs.History.{History, IsHistory, IsMounted, GoesBack, GoesOn, history, past_of, future_of}
+use Rattle.lfs_history.specs.History.{History, IsHistory, IsMounted, GoesBack, GoesForward, history, past_of, future_of}
 
 -- the journal of a history
 abbrev pub journal_of : History → Book
@@ -18,7 +18,7 @@ pub record HasHistory (d : Disk) (j : Book) : Type 0 where
   pub size : j.size ≡ d.size
   pub count : j.count ≡ d.count
   pub back : GoesBack (reverse j.done) d
-  pub on : GoesOn j.undone d
+  pub on : GoesForward j.undone d
 
 -- the other images of that history
 abbrev pub others : Disk → Book → List Disk

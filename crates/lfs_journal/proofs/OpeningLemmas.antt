@@ -13,7 +13,7 @@ use Rattle.lfs_fs.specs.Mounted.{IsOutlineOf}
 use Rattle.lfs_book.specs.Book.{Book, IsBook, IsBookOf, IsPatchOf, book_of, journal_bytes}
 use Rattle.lfs_history.specs.declared.open_fault.OpenFault.{OpenFault}
 use Rattle.lfs_history.specs.declared.open_fault.OpenFault.TheVariants.{Mount, JournalFormat, JournalMismatch, JournalImage}
-use Rattle.lfs_history.specs.History.{IsMounted, GoesBack, GoesOn, past_of, future_of}
+use Rattle.lfs_history.specs.History.{IsMounted, GoesBack, GoesForward, past_of, future_of}
 use Rattle.lfs_history.specs.Opening.{Spells, HasHistory, RefusesOpening, others}
 use Rattle.lfs_journal.specs.Opened.{RefusesMount, RefusesMounts, OpensParts}
 use Rattle.lfs_history.proofs.MoveLemmas.{latest}
@@ -99,7 +99,7 @@ pub record IsAgreed (d : Disk) (bytes : List ℕ) (ps : List ChangeSet) (done : 
 
 pub agreed : (d : Disk) (bytes : List ℕ) (j : Book) (ps : List ChangeSet) (done : ℕ) → IsBook j → journal_bytes j ≡ bytes
     → book_of j.size j.count ps done ≡ j → done ≤ length ps → j.size ≡ d.size → j.count ≡ d.count
-    → GoesBack (reverse (take done ps)) d → GoesOn (drop done ps) d → IsAgreed d bytes ps done
+    → GoesBack (reverse (take done ps)) d → GoesForward (drop done ps) d → IsAgreed d bytes ps done
 agreed d bytes j ps done book read parts within size count back on =
     let is : book_of d.size d.count ps done ≡ j = ap (λ (n : ℕ). book_of n d.count ps done) (sym size)
     ∙ ap (λ (n : ℕ). book_of j.size n ps done) (sym count) ∙ parts in

@@ -7,7 +7,7 @@ use Rattle.lfs_block.specs.Patch.{ChangeSet, IsPatch, AgreesOld, AgreesNew, appl
 use Rattle.lfs_book.specs.Book.{most_changes}
 use Rattle.lfs_command.specs.Command.{Asked}
 use Rattle.lfs_command.specs.Planned.{Plans}
-use Rattle.lfs_history.specs.History.{History, IsHistoryAt, history_at, past_of, future_of, GoesBack, GoesOn}
+use Rattle.lfs_history.specs.History.{History, IsHistoryAt, history_at, past_of, future_of, GoesBack, GoesForward}
 use Rattle.lfs_history.specs.Moves.{Pushes, Undoes, Redoes}
 use Rattle.lfs_history.specs.Taking.{Does}
 use Rattle.lfs_history.proofs.MoveLemmas.{TakeBack, Make, Follow, latest, undo_keeps, redo_keeps, push_keeps}
@@ -41,7 +41,7 @@ made_agrees d changes i j p at h =
 pub next_agrees : (d : Disk) (changes : List ChangeSet) (i j : ℕ) (p : ChangeSet) → IsAt changes i j p → IsHistoryAt d changes i
     → IsPatch p × AgreesOld p d
 next_agrees d changes i j p at h =
-    let on : GoesOn (p ∷ drop j changes) d = subst (λ (us : List ChangeSet). GoesOn us d) at.left h.history.on in
+    let on : GoesForward (p ∷ drop j changes) d = subst (λ (us : List ChangeSet). GoesForward us d) at.left h.history.on in
     (on.0, on.1)
 
 -- a change leads between the images on its two sides

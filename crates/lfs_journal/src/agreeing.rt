@@ -4,7 +4,7 @@ ghost use Rattle.std.specs.Prelude.{◌≡◌, ◌↔◌, IsTrue, reverse};
 ghost use Rattle.std.specs.List.{AllByRecursion};
 ghost use Rattle.lfs_block.specs.Disk.{IsDisk};
 ghost use Rattle.lfs_block.specs.Patch.{IsPatch};
-ghost use Rattle.lfs_history.specs.History.{GoesBack, GoesOn};
+ghost use Rattle.lfs_history.specs.History.{GoesBack, GoesForward};
 
 use lfs_block::{
     Image, Patch, applied_patches_change_their_blocks, applied_patches_revert,
@@ -37,7 +37,7 @@ pub(crate) fn goes_back(image: &mut Image, patches: &[Patch]) -> bool
 pub(crate) fn goes_on(image: &mut Image, patches: &[Patch]) -> bool
     requires disk { IsDisk image.old }
     requires patches { AllByRecursion IsPatch patches.now }
-    ensures agrees { IsTrue result ↔ GoesOn patches.now image.old }
+    ensures agrees { IsTrue result ↔ GoesForward patches.now image.old }
     ensures image { image.new ≡ image.old }
 {
     applied_patches_revert();

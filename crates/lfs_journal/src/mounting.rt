@@ -3,7 +3,7 @@
 ghost use Rattle.std.specs.Prelude.{◌≡◌, IfOk, IfErr, reverse};
 ghost use Rattle.std.specs.List.{AllByRecursion};
 ghost use Rattle.lfs_block.specs.Disk.{IsDisk};
-ghost use Rattle.lfs_history.specs.History.{GoesBack, GoesOn, IsMounted, past_of, future_of};
+ghost use Rattle.lfs_history.specs.History.{GoesBack, GoesForward, IsMounted, past_of, future_of};
 ghost use Rattle.lfs_journal.specs.Opened.{RefusesMount, RefusesMounts};
 
 use lfs_block::{
@@ -57,7 +57,7 @@ pub(crate) fn mounts_on(
     patches: &[Patch],
 ) -> Result<(), OpenFault>
     requires disk { IsDisk image.old }
-    requires agrees { GoesOn patches.now image.old }
+    requires agrees { GoesForward patches.now image.old }
     ensures mounted { IfOk result (λ _. AllByRecursion IsMounted (future_of patches.now image.old)) }
     ensures refused { IfErr result (λ fault. RefusesMounts fault (future_of patches.now image.old)) }
     ensures image { image.new ≡ image.old }

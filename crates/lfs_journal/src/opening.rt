@@ -4,7 +4,7 @@ ghost use Rattle.std.specs.Prelude.{◌≡◌, ◌≤◌, ◌↔◌, IsTrue, IfO
 ghost use Rattle.std.specs.List.{AllByRecursion};
 ghost use Rattle.lfs_block.specs.Disk.{IsDisk};
 ghost use Rattle.lfs_block.specs.Patch.{IsPatch};
-ghost use Rattle.lfs_history.specs.History.{GoesBack, GoesOn};
+ghost use Rattle.lfs_history.specs.History.{GoesBack, GoesForward};
 ghost use Rattle.lfs_history.specs.Opening.{RefusesOpening};
 ghost use Rattle.lfs_journal.specs.Opened.{OpensParts};
 
@@ -30,7 +30,7 @@ fn agree(image: &mut Image, patches: &[Patch], done: usize) -> bool
     requires disk { IsDisk image.old }
     requires within { done ≤ length patches.now }
     requires patches { AllByRecursion IsPatch patches.now }
-    ensures agrees { IsTrue result ↔ (GoesBack (reverse (take done patches.now)) image.old × GoesOn (drop done patches.now) image.old) }
+    ensures agrees { IsTrue result ↔ (GoesBack (reverse (take done patches.now)) image.old × GoesForward (drop done patches.now) image.old) }
     ensures image { image.new ≡ image.old }
 {
     let (made, undone) = patches.split_at(done);

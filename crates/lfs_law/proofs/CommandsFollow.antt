@@ -16,7 +16,7 @@ use Rattle.lfs_fs.specs.Uses.{times, body_uses, entry_uses, uses}
 use Rattle.lfs_fs.specs.Sound.{IsSound}
 use Rattle.lfs_command.specs.declared.refusal.Refusal.TheVariants.{NotFound, Exists, IsADirectory, NotEmpty, NameTooLong, FileTooLarge}
 use Rattle.lfs_command.specs.declared.refusal.Refusal.TheVariants.{AttrTooLarge, IntoItself, IsRoot}
-use Rattle.lfs_command.specs.PathMap.{put_at}
+use Rattle.lfs_command.specs.PathMap.{put_at_path}
 use Rattle.lfs_command.specs.Command.{Command, Mkdir, Put, Rm, Mv, SetAttr, RmAttr}
 use Rattle.lfs_command.specs.Equation.{equation, attributes_of, attributes_at, with_attributes}
 use Rattle.lfs_command.specs.Supplies.{Supplies, AreFree, supply_uses, most_inline, new_body}
@@ -60,7 +60,7 @@ pub record Carries (v : Volume) (c : Command) (s : Supplies) : Type 0 where
   pub uses : (b : ℕ) → uses b (edited v c s) + freed_uses v c b ≡ uses b v + supply_uses v c s b
 
 puts_carry : (v : Volume) (c : Command) (s : Supplies) (p : Path) (x : Option Node) (gone came : ℕ → ℕ)
-    → ((q : Path) → equation c (tree v) q ≡ put_at p x (tree v) q)
+    → ((q : Path) → equation c (tree v) q ≡ put_at_path p x (tree v) q)
     → ((b : ℕ) → freed_uses v c b ≡ gone b) → ((b : ℕ) → supply_uses v c s b ≡ came b) → Puts v (edited v c s) p x gone came → Carries v c s
 puts_carry v c s p x gone came same freed taken puts = record {
   follows = record {

@@ -13,7 +13,7 @@ use Rattle.lfs_file.specs.Laws.{FoundAreChains, EmptyIsFound, FoundStay, Content
 use Rattle.lfs_file.specs.SkipList.{IsChain, chain_of}
 use Rattle.lfs_meta.specs.Name.{Name}
 use Rattle.lfs_meta.specs.Attribute.{Attributes, set_attribute, remove_attribute}
-use Rattle.lfs_meta.specs.Body.{Pair, StoredBody, Inline as Stored_inline, Ctz, Leads}
+use Rattle.lfs_meta.specs.Body.{Pair, StoredBody, Inline as Stored_inline, Chain as Stored_chain, Directory_at as Stored_directory}
 use Rattle.lfs_meta.specs.Entry.{StoredEntry}
 use Rattle.lfs_meta.specs.RunLaws.{RunsJoin}
 use Rattle.lfs_fs.specs.AsStored.{head_of}
@@ -26,7 +26,7 @@ use Rattle.lfs_fs.specs.Thread.{Link, links}
 use Rattle.lfs_fs.specs.Uses.{times, body_uses, entry_uses, pair_uses, uses}
 use Rattle.lfs_fs.specs.Sound.{IsSound, StartsAtRoot}
 use Rattle.lfs_fs.specs.Reading.{Reading, reading_of}
-use Rattle.lfs_fs.specs.Stored.{BodyStands, Stands, IsStored, HoldsLinks}
+use Rattle.lfs_fs.specs.Stored.{BodyStands, StandsFor, IsStored, HoldsLinks}
 use Rattle.lfs_fs.specs.Alike.{ChainStays}
 use Rattle.lfs_fs.proofs.ContainsLemmas.{contains_first}
 use Rattle.lfs_fs.proofs.CountLemmas.{element_le}
@@ -71,13 +71,13 @@ body_there : FoundAreChains → EmptyIsFound → ContentHasLength → (d : Disk)
     → BodyStands (reading_of d) s b → IsThere (reading_of d) b
 body_there chains empty long d disk s (Inline bytes) stands = tt
 body_there chains empty long d disk s (Directory_at pair) stands = tt
-body_there chains empty long d disk (Ctz head size) (Chain blocks bytes) stands =
+body_there chains empty long d disk (Stored_chain head size) (Chain blocks bytes) stands =
     chain_there chains empty long d disk head size blocks bytes stands.0 stands.1
 body_there chains empty long d disk (Stored_inline stored) (Chain blocks bytes) stands = absurd stands
-body_there chains empty long d disk (Leads first second) (Chain blocks bytes) stands = absurd stands
+body_there chains empty long d disk (Stored_directory first second) (Chain blocks bytes) stands = absurd stands
 
 entries_there : FoundAreChains → EmptyIsFound → ContentHasLength → (d : Disk) → IsDisk d → (ss : List StoredEntry) (es : List Entry)
-    → AllZip (Stands (reading_of d)) ss es
+    → AllZip (StandsFor (reading_of d)) ss es
     → OfBodies (IsThere (reading_of d)) es
 entries_there chains empty long d disk ss [] all = All-nil (λ (e : Entry). IsThere (reading_of d) e.body)
 entries_there chains empty long d disk [] (e ∷ es) all = absurd all

@@ -10,7 +10,7 @@ use Rattle.lfs_fs.specs.Volume.{Volume}
 use Rattle.lfs_fs.specs.Tree.{Node, entry_at, tree}
 use Rattle.lfs_fs.specs.Uses.{uses}
 use Rattle.lfs_fs.specs.Sound.{IsSound}
-use Rattle.lfs_command.specs.PathMap.{put_at}
+use Rattle.lfs_command.specs.PathMap.{put_at_path}
 use Rattle.lfs_command.specs.Edited.{with_directories}
 use Rattle.lfs_law.proofs.Effect.{Counts, Effect, AreGood}
 use Rattle.lfs_law.proofs.SoundAfter.{sound_after}
@@ -31,7 +31,7 @@ pub record Puts (v w : Volume) (p : Path) (x : Option Node) (gone came : ℕ →
   pub sound : IsSound w
   pub frame : SameFrame v w
   pub uses : (b : ℕ) → uses b w + gone b ≡ uses b v + came b
-  pub at : (q : Path) → tree w q ≡ put_at p x (tree v) q
+  pub at : (q : Path) → tree w q ≡ put_at_path p x (tree v) q
 
 -- What comes was free or goes, and the edge names the directories that come; one that it doesn't name any more goes.
 pub record IsBalanced (v : Volume) (old x : Option Entry) (gone came : Counts) : Type 0 where

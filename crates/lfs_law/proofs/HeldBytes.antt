@@ -28,7 +28,7 @@ use Rattle.lfs_meta.specs.declared.live_block.LiveBlock.{LiveBlock}
 use Rattle.lfs_meta.specs.declared.live_block.LiveBlock.TheVariants.{First, Second, Neither}
 use Rattle.lfs_meta.specs.Action.{action_of}
 use Rattle.lfs_meta.specs.Attribute.{Attributes}
-use Rattle.lfs_meta.specs.Body.{Pair, StoredBody, Inline, Ctz, Leads, struct_word, body_named}
+use Rattle.lfs_meta.specs.Body.{Pair, StoredBody, Inline, Chain as Stored_chain, Directory_at as Stored_directory, struct_word, body_named}
 use Rattle.lfs_meta.specs.Entry.{RawEntry, StoredEntry, blank}
 use Rattle.lfs_meta.specs.Laws.{IsLive, LiveBlocksAreRead}
 use Rattle.lfs_meta.specs.LiveBlock.{live_block, live_log, tags_of, stored_part_of}
@@ -38,8 +38,6 @@ use Rattle.lfs_meta.specs.Replay.{acted, step_by, step, replay_from, replay, at_
 use Rattle.lfs_meta.specs.Whole.{kind_takes_body, kind_takes_name, whole_by, whole, all_whole, whole_part}
 use Rattle.lfs_meta.proofs.HeldPartLemmas.{block_bytes, same_tags}
 use Rattle.lfs_file.proofs.ContentLemmas.{length-block}
-
--- ---- bytes
 
 -- ---- tags
 
@@ -115,8 +113,8 @@ either_has t x y here there = pick t ContentHas here there
 named_has : (kind : ℕ) (bytes : List ℕ) → IsBytes bytes → ContentHas (body_named kind bytes)
 unfolding body_named
 named_has kind bytes all =
-    let ctz : StoredBody = Ctz (struct_word bytes 0) (struct_word bytes 4) in
-    let leads : StoredBody = Leads (struct_word bytes 0) (struct_word bytes 4) in
+    let ctz : StoredBody = Stored_chain (struct_word bytes 0) (struct_word bytes 4) in
+    let leads : StoredBody = Stored_directory (struct_word bytes 0) (struct_word bytes 4) in
     either_has (kind == 0x201) (Inline bytes) (if kind == 0x202 then ctz else leads) all (either_has (kind == 0x202) ctz leads tt tt)
 
 blank_has : RawHas blank

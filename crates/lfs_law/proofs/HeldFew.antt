@@ -10,7 +10,7 @@ use Rattle.lfs_meta.specs.HeldLaws.{HeldPartsHaveFewEntries}
 use Rattle.lfs_fs.specs.Pair.{root, same_pair}
 use Rattle.lfs_fs.specs.Directory.{Part}
 use Rattle.lfs_fs.specs.Reading.{reading_of}
-use Rattle.lfs_fs.specs.Stored.{IsStored, HoldsLinks, HeldAreHeldByLinks, Stands}
+use Rattle.lfs_fs.specs.Stored.{IsStored, HoldsLinks, HeldAreHeldByLinks, StandsFor}
 use Rattle.lfs_fs.specs.Superblock.{superblock_entry}
 use Rattle.lfs_fs.specs.Thread.{Link, links}
 use Rattle.lfs_law.specs.NeedsSmall.{HeldHaveFewEntries}
@@ -27,7 +27,7 @@ stored_few : HeldPartsHaveFewEntries → (d : Disk) (bytes : List ℕ) (attribut
     → length l.part.entries ≤ 65536
 stored_few few d bytes attributes l disk s =
     let all : length s.stored.entries ≤ 65536 = few d l.part.pair s.stored disk s.read in
-    let same : length l.part.entries ≡ length s.others = AllZip-long (Stands (reading_of d)) s.others l.part.entries s.stands in
+    let same : length l.part.entries ≡ length s.others = AllZip-long (StandsFor (reading_of d)) s.others l.part.entries s.stands in
     omega (arith, all, ap length s.entries, others_fewer bytes attributes s.others (same_pair l.part.pair root), same)
 
 pub held_have_few_entries : HeldAreHeldByLinks → HeldPartsHaveFewEntries → HeldHaveFewEntries

@@ -18,7 +18,7 @@ use Rattle.lfs_fs.specs.Tree.{Dir, entry_at, entry_in, node, tree}
 use Rattle.lfs_fs.specs.Uses.{times, directory_uses, uses}
 use Rattle.lfs_fs.specs.Named.{leads_to}
 use Rattle.lfs_fs.specs.Sound.{IsSound, IsProper}
-use Rattle.lfs_command.specs.PathMap.{put_at}
+use Rattle.lfs_command.specs.PathMap.{put_at_path}
 use Rattle.lfs_command.specs.ThreadEdit.{link, add_after}
 use Rattle.lfs_command.specs.Home.{home_of}
 use Rattle.lfs_command.specs.Edited.{with_directories, new_entry, empty_directory, make_directory}
@@ -121,7 +121,7 @@ mkdir_follows v p pair ordered sound at fresh fits new =
       uses = λ b. omega (arith, first.uses b, second.uses b, empty_uses b pair);
       at = λ q.
           tree_after one alike q
-          ∙ ap (λ (x : Path). put_at x (Some (node e)) (tree v) q) (sym at.home.whole);
+          ∙ ap (λ (x : Path). put_at_path x (Some (node e)) (tree v) q) (sym at.home.whole);
     } in
     subst (λ (h : Option (Pair × Name)). Puts v (make_directory v pair h) p (Some (Dir [])) (λ b. 0) (λ b. times b (pair.0 ∷ pair.1 ∷ [])))
     (sym at.home.home) follows

@@ -13,7 +13,7 @@ use Rattle.lfs_fs.specs.Volume.{Volume}
 use Rattle.lfs_fs.specs.Tree.{entry_in, top, entry_at, node, tree, Reached}
 use Rattle.lfs_fs.specs.Sound.{IsSound}
 use Rattle.lfs_fs.proofs.EntryAtLemmas.{by_last_name}
-use Rattle.lfs_command.specs.PathMap.{below, put_at}
+use Rattle.lfs_command.specs.PathMap.{below, put_at_path}
 use Rattle.lfs_law.proofs.Walks.{walk-snoc, step_alike, step_same, snoc_same}
 use Rattle.lfs_law.proofs.OnePath.{one_path}
 use Rattle.lfs_law.proofs.PathMapLemmas.{same_path_or_not, longer, no_names, below_front, below_self, below_longer, put_at_there}
@@ -80,20 +80,20 @@ entry_replaced {v} {w} {front} {k} {n} {x} c =
 
 -- what the volume after has at each path, where the same entries stand right below the edge
 pub entries_after : {v w : Volume} {front : Path} {k : Pair} {n : Name} {x : Option Entry} → OneEdge v w front k n x
-    → Alike v w (entry_at v (front ++ n ∷ [])) x → (p : Path) → entry_at w p ≡ put_at (front ++ n ∷ []) x (entry_at v) p
-entries_after {v} {w} {front} {k} {n} {x} c alike = by_last_name (λ (p : Path). entry_at w p ≡ put_at (front ++ n ∷ []) x (entry_at v) p)
+    → Alike v w (entry_at v (front ++ n ∷ [])) x → (p : Path) → entry_at w p ≡ put_at_path (front ++ n ∷ []) x (entry_at v) p
+entries_after {v} {w} {front} {k} {n} {x} c alike = by_last_name (λ (p : Path). entry_at w p ≡ put_at_path (front ++ n ∷ []) x (entry_at v) p)
     (top_same v w c.attributes ∙ sym (put_at_other (front ++ n ∷ []) x (entry_at v) [] (no_names front n [])))
     more
   where
-    more : (p : Path) (m : Name) → entry_at w p ≡ put_at (front ++ n ∷ []) x (entry_at v) p
-        → entry_at w (p ++ m ∷ []) ≡ put_at (front ++ n ∷ []) x (entry_at v) (p ++ m ∷ [])
+    more : (p : Path) (m : Name) → entry_at w p ≡ put_at_path (front ++ n ∷ []) x (entry_at v) p
+        → entry_at w (p ++ m ∷ []) ≡ put_at_path (front ++ n ∷ []) x (entry_at v) (p ++ m ∷ [])
     more p m before = elim (same_path_or_not (front ++ n ∷ []) (p ++ m ∷ [])) [
       | inl is ↦ ap (entry_at w) (sym is) ∙ entry_replaced c ∙ sym (put_at_there (front ++ n ∷ []) x (entry_at v))
-          ∙ ap (put_at (front ++ n ∷ []) x (entry_at v)) is
+          ∙ ap (put_at_path (front ++ n ∷ []) x (entry_at v)) is
       | inr different ↦ (elim (same_path_or_not (front ++ n ∷ []) p) [
         | inl is ↦
             walk-snoc target (entry_in w.directories) (Some (top w)) p m
-            ∙ ap (step target (entry_in w.directories) m) (before ∙ ap (put_at (front ++ n ∷ []) x (entry_at v)) (sym is)
+            ∙ ap (step target (entry_in w.directories) m) (before ∙ ap (put_at_path (front ++ n ∷ []) x (entry_at v)) (sym is)
             ∙ put_at_there (front ++ n ∷ []) x (entry_at v))
             ∙ alike m
             ∙ ap (λ (q : Path). step target (entry_in v.directories) m (entry_at v q)) is
@@ -106,7 +106,7 @@ entries_after {v} {w} {front} {k} {n} {x} c alike = by_last_name (λ (p : Path).
     ]
 
 pub tree_after : {v w : Volume} {front : Path} {k : Pair} {n : Name} {x : Option Entry} → OneEdge v w front k n x
-    → Alike v w (entry_at v (front ++ n ∷ [])) x → (p : Path) → tree w p ≡ put_at (front ++ n ∷ []) (option_map node x) (tree v) p
+    → Alike v w (entry_at v (front ++ n ∷ [])) x → (p : Path) → tree w p ≡ put_at_path (front ++ n ∷ []) (option_map node x) (tree v) p
 tree_after {v} {w} {front} {k} {n} {x} c alike p =
     ap (option_map node) (entries_after c alike p) ∙ put_at_mapped node (front ++ n ∷ []) x (entry_at v) p
 

@@ -49,8 +49,6 @@ dirty_over (p ∷ ps) = by p.dirty (dirty_over ps)
 pub dirty_outlined : (v : Volume) → dirty_parts (outlined v) ≡ outlined_parts (dirty_parts v)
 dirty_outlined v = ap (filter (λ (p : Part). p.dirty)) (thread_outlined v.directories) ∙ dirty_over (thread v.directories)
 
--- ---- blocks
-
 -- ---- room
 
 large_outlined : (v : Volume) (p : Part) → is_too_large (outlined v) (outlined_part p) ≡ is_too_large v p

@@ -25,7 +25,7 @@ use Rattle.lfs_fs.specs.Volume.{Volume}
 use Rattle.lfs_fs.specs.Thread.{Link, links_of, links, tail_to, hard_to}
 use Rattle.lfs_fs.specs.Uses.{times, pair_uses}
 use Rattle.lfs_fs.specs.Reading.{Reading, reading_of}
-use Rattle.lfs_fs.specs.Stored.{BodyStands, Stands, IsStored, HoldsLinks}
+use Rattle.lfs_fs.specs.Stored.{BodyStands, StandsFor, IsStored, HoldsLinks}
 use Rattle.lfs_fs.proofs.ContainsLemmas.{contains_first, contains_later, contains_mapped}
 use Rattle.lfs_command.specs.Need.{is_new_to}
 use Rattle.lfs_command.specs.PartWritten.{FirstIsFilled}
@@ -129,7 +129,7 @@ body_stands r (Chain blocks bytes) there =
 body_stands r (Directory_at pair) there = refl
 
 pub entries_stand : (r : Reading) (es : List Entry) → ((e : Entry) → Contains es e → IsThere r e.body)
-    → AllZip (Stands r) (map stored_entry (outlined_entries es)) es
+    → AllZip (StandsFor r) (map stored_entry (outlined_entries es)) es
 entries_stand r [] there = tt
 entries_stand r (e ∷ es) there = (
   record {

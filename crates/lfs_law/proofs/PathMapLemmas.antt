@@ -9,7 +9,7 @@ use Rattle.std.proofs.lemmas.Option.{none-some, same_Some}
 use Rattle.std.proofs.lemmas.Slice.Eq.{bytes_eq-Decides}
 use Rattle.lfs_meta.specs.Name.{Name}
 use Rattle.lfs_fs.specs.Path.{Path}
-use Rattle.lfs_command.specs.PathMap.{same_path, below, put_at, moved_by, moved}
+use Rattle.lfs_command.specs.PathMap.{same_path, below, put_at_path, moved_by, moved}
 use Rattle.lfs_law.proofs.Decided.{decided}
 
 -- ---- paths
@@ -89,7 +89,7 @@ below_longer (m ∷ p) n = ap (λ (b : Bool). if b then below (p ++ n ∷ []) p 
 
 -- ---- changed maps
 
-pub put_at_there : {X : Type 0} (at : Path) (x : Option X) (tree : Path → Option X) → put_at at x tree at ≡ x
+pub put_at_there : {X : Type 0} (at : Path) (x : Option X) (tree : Path → Option X) → put_at_path at x tree at ≡ x
 put_at_there at x tree = ap (λ (b : Bool). if b then x else tree at) ((same_path_decides at at).1 refl)
 
 put_by : {X : Type 0} (b : Bool) (x y : Option X) → (b ≡ true → ⊥) → (if b then x else y) ≡ y
@@ -97,7 +97,7 @@ put_by true x y h = absurd (h refl)
 put_by false x y h = refl
 
 pub put_at_other : {X : Type 0} (at : Path) (x : Option X) (tree : Path → Option X) (path : Path) → (at ≡ path → ⊥)
-    → put_at at x tree path ≡ tree path
+    → put_at_path at x tree path ≡ tree path
 put_at_other at x tree path different = put_by (same_path at path) x (tree path) (λ h. different ((same_path_decides at path).0 h))
 
 mapped_by : {X Y : Type 0} (f : X → Y) (b : Bool) (x y : Option X) → option_map f (if b then x else y)
@@ -107,7 +107,7 @@ mapped_by f false x y = refl
 
 -- a map through which the values go
 pub put_at_mapped : {X Y : Type 0} (f : X → Y) (at : Path) (x : Option X) (tree : Path → Option X) (path : Path)
-    → option_map f (put_at at x tree path) ≡ put_at at (option_map f x) (λ p. option_map f (tree p)) path
+    → option_map f (put_at_path at x tree path) ≡ put_at_path at (option_map f x) (λ p. option_map f (tree p)) path
 put_at_mapped f at x tree path = mapped_by f (same_path at path) x (tree path)
 
 -- at the new path and below it

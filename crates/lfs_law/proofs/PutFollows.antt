@@ -12,7 +12,7 @@ use Rattle.lfs_fs.specs.Tree.{Node, File, entry_at, entry_in, node, node_of, tre
 use Rattle.lfs_fs.specs.Uses.{body_uses, entry_uses, uses}
 use Rattle.lfs_fs.specs.Named.{leads_to}
 use Rattle.lfs_fs.specs.Sound.{IsSound, IsProper}
-use Rattle.lfs_command.specs.PathMap.{put_at}
+use Rattle.lfs_command.specs.PathMap.{put_at_path}
 use Rattle.lfs_command.specs.ThreadEdit.{link, change}
 use Rattle.lfs_command.specs.Home.{home_of}
 use Rattle.lfs_command.specs.Edited.{with_directories, with_body, new_entry, put_file}
@@ -74,8 +74,8 @@ new_file_follows v p body bytes ordered sound at fresh fits new =
       uses = effect.uses;
       at = λ q.
           tree_after one alike q
-          ∙ ap (λ (x : Path). put_at x (Some (node e)) (tree v) q) (sym at.home.whole)
-          ∙ ap (λ (x : Node). put_at p (Some x) (tree v) q) (new.shows []);
+          ∙ ap (λ (x : Path). put_at_path x (Some (node e)) (tree v) q) (sym at.home.whole)
+          ∙ ap (λ (x : Node). put_at_path p (Some x) (tree v) q) (new.shows []);
     } in
     subst (λ (h : Option (Pair × Name)). Puts v (put_file v body h None) p (Some (File bytes [])) (λ b. 0) (λ b. body_uses b body))
     (sym at.home.home) follows
@@ -131,8 +131,8 @@ old_file_follows v p body bytes e ordered sound at here file new =
       uses = effect.uses;
       at = λ q.
           tree_after one alike q
-          ∙ ap (λ (x : Path). put_at x (Some (node (f e))) (tree v) q) (sym at.home.whole)
-          ∙ ap (λ (x : Node). put_at p (Some x) (tree v) q) (new.shows e.attributes);
+          ∙ ap (λ (x : Path). put_at_path x (Some (node (f e))) (tree v) q) (sym at.home.whole)
+          ∙ ap (λ (x : Node). put_at_path p (Some x) (tree v) q) (new.shows e.attributes);
     } in
     subst (λ (h : Option (Pair × Name)). Puts v (put_file v body h (Some e)) p (Some (File bytes e.attributes)) (λ b. entry_uses b e)
     (λ b. body_uses b body)) (sym at.home.home) follows

@@ -19,7 +19,7 @@ use Rattle.lfs_fs.specs.Tree.{entry_at, entry_in, top, tree}
 use Rattle.lfs_fs.specs.Uses.{entry_uses, directory_uses}
 use Rattle.lfs_fs.specs.Named.{leads_to}
 use Rattle.lfs_fs.specs.Sound.{IsSound, StartsAtRoot}
-use Rattle.lfs_command.specs.PathMap.{put_at}
+use Rattle.lfs_command.specs.PathMap.{put_at_path}
 use Rattle.lfs_command.specs.EntryEdit.{without}
 use Rattle.lfs_command.specs.DirectoryEdit.{unlink_in}
 use Rattle.lfs_command.specs.ThreadEdit.{unlink, drop_directory}
@@ -82,7 +82,7 @@ file_gone v p e ordered sound at here file =
           });
       frame = record { size = refl; count = refl; limits = refl };
       uses = λ b. omega (arith, effect.uses b, ap (λ (o : Option Pair). target_uses_of v o b) file);
-      at = λ q. tree_after one alike q ∙ ap (λ (x : Path). put_at x None (tree v) q) (sym at.home.whole);
+      at = λ q. tree_after one alike q ∙ ap (λ (x : Path). put_at_path x None (tree v) q) (sym at.home.whole);
     }
 
 -- ---- an empty directory
@@ -195,7 +195,7 @@ directory_gone v p e j ordered sound at here leads bare =
         ap (λ (o : Option Pair). target_uses_of v o b) leads,
         ap (λ (o : Option Directory). unwrap_or (option_map (directory_uses b) o) 0) was.1,
       );
-      at = λ q. tree_after one alike q ∙ ap (λ (x : Path). put_at x None (tree v) q) (sym at.home.whole);
+      at = λ q. tree_after one alike q ∙ ap (λ (x : Path). put_at_path x None (tree v) q) (sym at.home.whole);
     }
 
 -- ---- the command

@@ -10,7 +10,7 @@ use Rattle.lfs_fs.specs.Pair.{root}
 use Rattle.lfs_fs.specs.Entry.{Entry, target}
 use Rattle.lfs_fs.specs.Volume.{Volume}
 use Rattle.lfs_fs.specs.Tree.{entry_in, top, entry_at, Dir, node, tree, Reached}
-use Rattle.lfs_command.specs.PathMap.{put_at}
+use Rattle.lfs_command.specs.PathMap.{put_at_path}
 use Rattle.lfs_law.proofs.Walks.{walk_same}
 use Rattle.lfs_law.proofs.OneEdge.{top_same}
 
@@ -24,7 +24,7 @@ entries_below_root v w same n p =
     ap (λ (o : Option Entry). walk target (entry_in w.directories) o p) (same root n)
     ∙ walk_same target (entry_in v.directories) (entry_in w.directories) same (entry_in v.directories root n) p
 
-pub tree_with_root : (v w : Volume) → SameEdges v w → (p : Path) → tree w p ≡ put_at [] (Some (Dir w.attributes)) (tree v) p
+pub tree_with_root : (v w : Volume) → SameEdges v w → (p : Path) → tree w p ≡ put_at_path [] (Some (Dir w.attributes)) (tree v) p
 tree_with_root v w same [] = refl
 tree_with_root v w same (n ∷ p) = ap (option_map node) (entries_below_root v w same n p)
 

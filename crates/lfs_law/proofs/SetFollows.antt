@@ -10,7 +10,7 @@ use Rattle.lfs_fs.specs.Entry.{Body, Inline, Chain, Directory_at, Entry, target}
 use Rattle.lfs_fs.specs.Volume.{Volume}
 use Rattle.lfs_fs.specs.Tree.{Node, entry_at, entry_in, node, node_of, tree}
 use Rattle.lfs_fs.specs.Sound.{IsSound, IsProper, AreAttributes}
-use Rattle.lfs_command.specs.PathMap.{put_at}
+use Rattle.lfs_command.specs.PathMap.{put_at_path}
 use Rattle.lfs_command.specs.Equation.{with_attributes}
 use Rattle.lfs_command.specs.ThreadEdit.{change}
 use Rattle.lfs_command.specs.Edited.{with_directories, with_entry_attributes, set_attributes}
@@ -106,8 +106,8 @@ entry_set_follows v f p e ordered sound keeps at here =
       uses = λ b. omega (arith, effect.uses b);
       at = λ q.
           tree_after one alike q
-          ∙ ap (λ (x : Path). put_at x (Some (node (with_entry_attributes f e))) (tree v) q) (sym at.home.whole)
-          ∙ ap (λ (x : Option Node). put_at p x (tree v) q) (ap Some (shows_set f e.body e.attributes)
+          ∙ ap (λ (x : Path). put_at_path x (Some (node (with_entry_attributes f e))) (tree v) q) (sym at.home.whole)
+          ∙ ap (λ (x : Option Node). put_at_path p x (tree v) q) (ap Some (shows_set f e.body e.attributes)
           ∙ ap (λ (x : Option Entry). option_map (with_attributes f) (option_map node x)) (sym here));
     } in
     subst (λ (h : Option (Pair × Name)). Puts v (set_attributes v f h) p (option_map (with_attributes f) (tree v p)) (λ b. 0) (λ b. 0))

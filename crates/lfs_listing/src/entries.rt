@@ -29,7 +29,7 @@ fn append_size(text: &mut Vec<u8>, row: &Row<'_>) -> Result<(), AllocError>
     ensures { OnOk result (text.new.items ≡ text.old.items ++ in_ten_places (size_word row.now.entry)) }
 {
     match row.body {
-        RowBody::Dir(..) => append_column(text, b"-"),
+        RowBody::Directory(..) => append_column(text, b"-"),
         RowBody::Inline(bytes) => append_count(text, bytes.len()),
         RowBody::Chain { size, .. } => append_count(text, size as usize),
     }

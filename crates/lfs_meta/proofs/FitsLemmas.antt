@@ -3,7 +3,7 @@ use Rattle.std.proofs.Common.{◌≡◌, ℕ, ◌+◌, ◌-◌, ◌*◌, ◌<◌
 use Rattle.std.specs.List.{AllByRecursion}
 use Rattle.std.proofs.lemmas.List.Sums.{sum_by-cons}
 use Rattle.lfs_meta.specs.Attribute.{Attributes}
-use Rattle.lfs_meta.specs.Body.{StoredBody, Inline, Ctz, Leads}
+use Rattle.lfs_meta.specs.Body.{StoredBody, Inline, Chain, Directory_at}
 use Rattle.lfs_meta.specs.Fits.{AttributeFits, RiseFrom, BodyFits}
 use Rattle.lfs_meta.specs.Spelling.{body_bytes, words}
 use Rattle.lfs_meta.specs.Weighing.{attributes_weight}
@@ -23,8 +23,8 @@ words-len first second = omega arith
 
 pub body_bytes-small : (b : StoredBody) → BodyFits b → length (body_bytes b) < 1023
 body_bytes-small (Inline bytes) fits = fits
-body_bytes-small (Ctz head size) fits = omega arith
-body_bytes-small (Leads first second) fits = omega arith
+body_bytes-small (Chain head size) fits = omega arith
+body_bytes-small (Directory_at first second) fits = omega arith
 
 pub RiseFrom-each : (least : ℕ) (xs : Attributes) → RiseFrom least xs → AllByRecursion AttributeFits xs
 RiseFrom-each least [] rise = tt

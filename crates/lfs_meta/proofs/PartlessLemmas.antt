@@ -30,14 +30,14 @@ any_later P x xs (k, y, within, is, holds) = (suc k, y, omega arith, is, holds)
 -- ---- tags
 
 -- an unknown tag, or a bad one
-abbrev IsRefused : RawPart → List Item → Type 0
-IsRefused p ts = HasUnknown ts ⊎ HasBadFrom p ts
+abbrev HasWrongTag : RawPart → List Item → Type 0
+HasWrongTag p ts = HasUnknown ts ⊎ HasBadFrom p ts
 
 -- the first tag is bad, or a later one is refused
 by_bad : (b : Bool) (p : RawPart) (a : Action) (t : Item) (ts : List Item) → action_of (kind_of t.word) ≡ Some a
     → is_bad a t (length p.entries) ≡ b
     → option_and_then (λ q. replay_from q ts) (if b then None else Some (acted a t p)) ≡ None
-    → ((q : RawPart) → replay_from q ts ≡ None → IsRefused q ts) → IsRefused p (t ∷ ts)
+    → ((q : RawPart) → replay_from q ts ≡ None → HasWrongTag q ts) → HasWrongTag p (t ∷ ts)
 unfolding replay_from
 by_bad true p a t ts known bad none later = inr ([], t, ts, refl, p, refl, a, known, bad)
 by_bad false p a t ts known good none later =
@@ -50,11 +50,11 @@ by_bad false p a t ts known good none later =
 
 by_action : (o : Option Action) (p : RawPart) (t : Item) (ts : List Item) → action_of (kind_of t.word) ≡ o
     → option_and_then (λ q. replay_from q ts) (step_by o p t) ≡ None
-    → ((q : RawPart) → replay_from q ts ≡ None → IsRefused q ts) → IsRefused p (t ∷ ts)
+    → ((q : RawPart) → replay_from q ts ≡ None → HasWrongTag q ts) → HasWrongTag p (t ∷ ts)
 by_action None p t ts unknown none later = inl (0, t, omega arith, refl, unknown)
 by_action (Some a) p t ts known none later = by_bad (is_bad a t (length p.entries)) p a t ts known refl none later
 
-refused : (p : RawPart) (ts : List Item) → replay_from p ts ≡ None → IsRefused p ts
+refused : (p : RawPart) (ts : List Item) → replay_from p ts ≡ None → HasWrongTag p ts
 unfolding replay_from
 refused p [] none = cc
 refused p (t ∷ ts) none = by_action (action_of (kind_of t.word)) p t ts refl none (λ q. refused q ts)

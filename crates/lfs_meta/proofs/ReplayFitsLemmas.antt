@@ -13,7 +13,7 @@ use Rattle.lfs_meta.specs.declared.action.Action.{Action}
 use Rattle.lfs_meta.specs.declared.action.Action.TheVariants.{Create, Delete, SetName, SetBody, SetAttribute, SetTail, SetDelta}
 use Rattle.lfs_meta.specs.Action.{action_of, is_bad, is_deleted}
 use Rattle.lfs_meta.specs.Attribute.{Attributes, put_by, set_attribute, remove_attribute}
-use Rattle.lfs_meta.specs.Body.{StoredBody, Inline, Ctz, Leads, struct_word, body_named}
+use Rattle.lfs_meta.specs.Body.{StoredBody, Inline, Chain, Directory_at, struct_word, body_named}
 use Rattle.lfs_meta.specs.Entry.{RawEntry, blank}
 use Rattle.lfs_meta.specs.Fits.{AttributeFits, RiseFrom, ContentsFit, RawEntryFits, RawPartFits}
 use Rattle.lfs_meta.specs.Part.{RawPart, empty_part}
@@ -65,8 +65,8 @@ either_fits false x y fits other = other
 body_named-fits : (kind : ℕ) (bytes : List ℕ) → length bytes < 1023 → ContentsFit (body_named kind bytes)
 unfolding body_named
 body_named-fits kind bytes h =
-    let ctz : StoredBody = Ctz (struct_word bytes 0) (struct_word bytes 4) in
-    let leads : StoredBody = Leads (struct_word bytes 0) (struct_word bytes 4) in
+    let ctz : StoredBody = Chain (struct_word bytes 0) (struct_word bytes 4) in
+    let leads : StoredBody = Directory_at (struct_word bytes 0) (struct_word bytes 4) in
     either_fits (kind == 0x201) (Inline bytes) (if kind == 0x202 then ctz else leads) h (either_fits (kind == 0x202) ctz leads tt tt)
 
 blank-fits : RawEntryFits blank

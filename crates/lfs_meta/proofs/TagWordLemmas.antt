@@ -6,7 +6,7 @@ use Rattle.lfs_meta.specs.declared.action.Action.TheVariants.{SetName, SetBody, 
 use Rattle.lfs_meta.specs.declared.kind.Kind.{Kind}
 use Rattle.lfs_meta.specs.declared.kind.Kind.TheVariants.{File, Dir, Super}
 use Rattle.lfs_meta.specs.Action.{action_of}
-use Rattle.lfs_meta.specs.Body.{StoredBody, Inline, Ctz, Leads}
+use Rattle.lfs_meta.specs.Body.{StoredBody, Inline, Chain, Directory_at}
 use Rattle.lfs_meta.specs.Replay.{kind_named}
 use Rattle.lfs_meta.specs.Spelling.{name_kind, body_kind}
 
@@ -41,14 +41,14 @@ name_kind-action Super = refl
 
 pub body_kind-small : (b : StoredBody) → body_kind b < 2048
 body_kind-small (Inline bytes) = omega arith
-body_kind-small (Ctz head size) = omega arith
-body_kind-small (Leads first second) = omega arith
+body_kind-small (Chain head size) = omega arith
+body_kind-small (Directory_at first second) = omega arith
 
 pub body_kind-action : (b : StoredBody) → action_of (body_kind b) ≡ Some SetBody
 unfolding action_of
 body_kind-action (Inline bytes) = refl
-body_kind-action (Ctz head size) = refl
-body_kind-action (Leads first second) = refl
+body_kind-action (Chain head size) = refl
+body_kind-action (Directory_at first second) = refl
 
 pub attribute-action : (k : ℕ) → k < 256 → action_of (0x300 + k) ≡ Some SetAttribute
 unfolding action_of

@@ -16,7 +16,7 @@ use Rattle.lfs_meta.specs.declared.tail.Tail.{Tail}
 use Rattle.lfs_meta.specs.declared.tail.Tail.TheVariants.{End, Soft, Hard}
 use Rattle.lfs_meta.specs.Action.{action_of, is_bad, is_null}
 use Rattle.lfs_meta.specs.Attribute.{Attributes, put_by, set_attribute, remove_attribute}
-use Rattle.lfs_meta.specs.Body.{StoredBody, Inline, Ctz, Leads, body_named, struct_word}
+use Rattle.lfs_meta.specs.Body.{StoredBody, Inline, Chain, Directory_at, body_named, struct_word}
 use Rattle.lfs_meta.specs.Entry.{RawEntry, StoredEntry, blank}
 use Rattle.lfs_meta.specs.Fits.{AttributeFits, RiseFrom, BodyFits, EntryFits, NumbersFit, TailFits}
 use Rattle.lfs_meta.specs.Part.{RawPart, StoredPart, empty_part}
@@ -97,13 +97,13 @@ second_word a b h = from_le_bytes-to_le_bytes_4 b h
 body_named-bytes : (b : StoredBody) → BodyFits b → body_named (body_kind b) (body_bytes b) ≡ b
 unfolding body_named
 body_named-bytes (Inline bytes) fits = refl
-body_named-bytes (Ctz head size) fits = rw (first_word head size fits.0, second_word head size fits.1) refl
-body_named-bytes (Leads first second) fits = rw (first_word first second fits.0, second_word first second fits.1) refl
+body_named-bytes (Chain head size) fits = rw (first_word head size fits.0, second_word head size fits.1) refl
+body_named-bytes (Directory_at first second) fits = rw (first_word first second fits.0, second_word first second fits.1) refl
 
 body-good : (b : StoredBody) → (not (body_kind b == 0x201) && not (length (body_bytes b) == 8)) ≡ false
 body-good (Inline bytes) = refl
-body-good (Ctz head size) = refl
-body-good (Leads first second) = refl
+body-good (Chain head size) = refl
+body-good (Directory_at first second) = refl
 
 body-step : (done : List RawEntry) (tail : Tail) (delta : List ℕ) (e : StoredEntry) → EntryFits e → length done < 1023
     → step (part_with (done ++ (entry_with e None [] ∷ [])) tail delta) (body_item (length done) e)

@@ -10,8 +10,8 @@ Pair = ℕ × ℕ
 -- or the first pair of a directory ("0x200 directory struct")
 pub data StoredBody : Type 0 where
   Inline : (bytes : List ℕ) → StoredBody
-  Ctz : (head size : ℕ) → StoredBody
-  Leads : (first second : ℕ) → StoredBody
+  Chain : (head size : ℕ) → StoredBody
+  Directory_at : (first second : ℕ) → StoredBody
 
 -- a word of a struct
 abbrev pub struct_word : List ℕ → ℕ → ℕ
@@ -21,5 +21,5 @@ struct_word bytes at = from_le_bytes w32 (slice_range bytes at (at + 4))
 unfoldable pub body_named : ℕ → List ℕ → StoredBody
 body_named kind bytes =
     if kind == 0x201 then Inline bytes
-    else if kind == 0x202 then Ctz (struct_word bytes 0) (struct_word bytes 4)
-    else Leads (struct_word bytes 0) (struct_word bytes 4)
+    else if kind == 0x202 then Chain (struct_word bytes 0) (struct_word bytes 4)
+    else Directory_at (struct_word bytes 0) (struct_word bytes 4)

@@ -4,7 +4,7 @@ use Rattle.std.specs.Prelude.{◌≡◌, ℕ, ◌+◌, ◌<◌, ◌≤◌, ◌^�
 use Rattle.lfs_meta.specs.declared.tail.Tail.{Tail}
 use Rattle.lfs_meta.specs.declared.tail.Tail.TheVariants.{End, Soft, Hard}
 use Rattle.lfs_meta.specs.Attribute.{Attributes}
-use Rattle.lfs_meta.specs.Body.{StoredBody, Inline, Ctz, Leads}
+use Rattle.lfs_meta.specs.Body.{StoredBody, Inline, Chain, Directory_at}
 use Rattle.lfs_meta.specs.Entry.{RawEntry, StoredEntry}
 use Rattle.lfs_meta.specs.Part.{RawPart}
 
@@ -26,8 +26,8 @@ ContentsFit _ = Unit {0}
 -- the same, and numbers that have their width
 abbrev pub BodyFits : StoredBody → Type 0
 BodyFits (Inline bytes) = length bytes < 1023
-BodyFits (Ctz head size) = (head < 2 ^ 32) × (size < 2 ^ 32)
-BodyFits (Leads first second) = (first < 2 ^ 32) × (second < 2 ^ 32)
+BodyFits (Chain head size) = (head < 2 ^ 32) × (size < 2 ^ 32)
+BodyFits (Directory_at first second) = (first < 2 ^ 32) × (second < 2 ^ 32)
 
 pub record EntryFits (e : StoredEntry) : Type 0 where
   pub name : length e.name < 1023

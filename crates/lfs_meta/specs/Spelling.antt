@@ -7,7 +7,7 @@ use Rattle.lfs_meta.specs.declared.kind.Kind.{Kind}
 use Rattle.lfs_meta.specs.declared.kind.Kind.TheVariants.{File, Dir, Super}
 use Rattle.lfs_meta.specs.declared.tail.Tail.{Tail}
 use Rattle.lfs_meta.specs.declared.tail.Tail.TheVariants.{End, Soft, Hard}
-use Rattle.lfs_meta.specs.Body.{StoredBody, Inline, Ctz, Leads}
+use Rattle.lfs_meta.specs.Body.{StoredBody, Inline, Chain, Directory_at}
 use Rattle.lfs_meta.specs.Entry.{RawEntry, StoredEntry}
 use Rattle.lfs_meta.specs.Part.{RawPart, StoredPart}
 use Rattle.lfs_meta.specs.Whole.{kind_takes_body, kind_takes_name}
@@ -33,8 +33,8 @@ name_kind Super = 0x0ff
 -- the type of a struct's tag
 abbrev pub body_kind : StoredBody → ℕ
 body_kind (Inline bytes) = 0x201
-body_kind (Ctz head size) = 0x202
-body_kind (Leads first second) = 0x200
+body_kind (Chain head size) = 0x202
+body_kind (Directory_at first second) = 0x200
 
 -- two words, low bytes first
 abbrev pub words : ℕ → ℕ → List ℕ
@@ -43,8 +43,8 @@ words first second = to_le_bytes w32 first ++ to_le_bytes w32 second
 -- the data of a struct's tag
 abbrev pub body_bytes : StoredBody → List ℕ
 body_bytes (Inline bytes) = bytes
-body_bytes (Ctz head size) = words head size
-body_bytes (Leads first second) = words first second
+body_bytes (Chain head size) = words head size
+body_bytes (Directory_at first second) = words first second
 
 -- a tag of this type and id, with its data
 abbrev pub tag_item : ℕ → ℕ → List ℕ → Item

@@ -3,7 +3,7 @@ use Rattle.std.specs.Prelude.{◌≡◌, ◌&&◌, Bool, true, false, List, [], 
 use Rattle.lfs_meta.specs.declared.kind.Kind.{Kind}
 use Rattle.lfs_meta.specs.declared.kind.Kind.TheVariants.{File, Dir, Super}
 use Rattle.lfs_meta.specs.Attribute.{Attributes}
-use Rattle.lfs_meta.specs.Body.{StoredBody, Inline, Ctz, Leads}
+use Rattle.lfs_meta.specs.Body.{StoredBody, Inline, Chain, Directory_at}
 use Rattle.lfs_meta.specs.Entry.{RawEntry, StoredEntry}
 use Rattle.lfs_meta.specs.Name.{Name, is_name}
 use Rattle.lfs_meta.specs.Part.{RawPart, StoredPart}
@@ -11,14 +11,14 @@ use Rattle.lfs_meta.specs.Part.{RawPart, StoredPart}
 -- the structs that a kind takes
 abbrev pub kind_takes_body : Kind → StoredBody → Bool
 kind_takes_body File (Inline bytes) = true
-kind_takes_body File (Ctz head size) = true
-kind_takes_body File (Leads first second) = false
+kind_takes_body File (Chain head size) = true
+kind_takes_body File (Directory_at first second) = false
 kind_takes_body Dir (Inline bytes) = false
-kind_takes_body Dir (Ctz head size) = false
-kind_takes_body Dir (Leads first second) = true
+kind_takes_body Dir (Chain head size) = false
+kind_takes_body Dir (Directory_at first second) = true
 kind_takes_body Super (Inline bytes) = true
-kind_takes_body Super (Ctz head size) = false
-kind_takes_body Super (Leads first second) = false
+kind_takes_body Super (Chain head size) = false
+kind_takes_body Super (Directory_at first second) = false
 
 -- the names that a kind takes: a superblock's is judged elsewhere
 abbrev pub kind_takes_name : Kind → Name → Bool

@@ -8,7 +8,7 @@ pub enum Body {
     /// The contents, of at most 1,022 bytes.
     Inline(Vec<u8>),
     /// A skip list: its last block, and the contents' length in bytes.
-    Ctz { head: u32, size: u32 },
+    Chain { head: u32, size: u32 },
     /// The first pair of a directory.
-    Leads(u32, u32),
+    Directory(u32, u32),
 }

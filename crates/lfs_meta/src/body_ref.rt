@@ -14,9 +14,9 @@ pub(crate) enum BodyRef<'a> {
     /// The contents.
     Inline(&'a [u8]),
     /// A skip list: its last block, and the contents' length in bytes.
-    Ctz { head: u32, size: u32 },
+    Chain { head: u32, size: u32 },
     /// The first pair of a directory.
-    Leads(u32, u32),
+    Directory(u32, u32),
 }
 
 /// The word at a place of a struct, low byte first.
@@ -35,10 +35,10 @@ pub(crate) fn body_named<'a>(kind: u16, bytes: &'a [u8]) -> BodyRef<'a>
 {
     match kind {
         0x201 => BodyRef::Inline(bytes),
-        0x202 => BodyRef::Ctz {
+        0x202 => BodyRef::Chain {
             head: struct_word(bytes, 0),
             size: struct_word(bytes, 4),
         },
-        _ => BodyRef::Leads(struct_word(bytes, 0), struct_word(bytes, 4)),
+        _ => BodyRef::Directory(struct_word(bytes, 0), struct_word(bytes, 4)),
     }
 }

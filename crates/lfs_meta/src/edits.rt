@@ -69,8 +69,8 @@ fn body_kind(body: &Body) -> u16
 {
     match body {
         Body::Inline(_) => 0x201,
-        Body::Ctz { .. } => 0x202,
-        Body::Leads(..) => 0x200,
+        Body::Chain { .. } => 0x202,
+        Body::Directory(..) => 0x200,
     }
 }
 
@@ -80,8 +80,8 @@ fn body_data(body: &Body) -> EditData<'_>
 {
     match body {
         Body::Inline(bytes) => EditData::Bytes(bytes),
-        Body::Ctz { head, size } => words(*head, *size),
-        Body::Leads(first, second) => words(*first, *second),
+        Body::Chain { head, size } => words(*head, *size),
+        Body::Directory(first, second) => words(*first, *second),
     }
 }
 

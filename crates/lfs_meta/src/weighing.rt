@@ -52,7 +52,7 @@ fn body_len(body: &Body) -> usize
 {
     match body {
         Body::Inline(bytes) => bytes.len(),
-        Body::Ctz { .. } | Body::Leads(..) => WORDS_LEN as usize,
+        Body::Chain { .. } | Body::Directory(..) => WORDS_LEN as usize,
     }
 }
 

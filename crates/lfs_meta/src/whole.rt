@@ -25,9 +25,9 @@ fn kind_takes_body(kind: Kind, body: BodyRef<'_>) -> bool
     ensures { result ≡ kind_takes_body kind (body_seen body.entry) }
 {
     match (kind, body) {
-        (Kind::File, BodyRef::Leads(..)) => false,
+        (Kind::File, BodyRef::Directory(..)) => false,
         (Kind::File, _) => true,
-        (Kind::Dir, BodyRef::Leads(..)) => true,
+        (Kind::Dir, BodyRef::Directory(..)) => true,
         (Kind::Super, BodyRef::Inline(_)) => true,
         _ => false,
     }
@@ -51,8 +51,8 @@ fn body_of(alloc: Global, body: BodyRef<'_>) -> Result<Body, AllocError>
 {
     Ok(match body {
         BodyRef::Inline(bytes) => Body::Inline(Vec::from_slice(alloc, bytes)?),
-        BodyRef::Ctz { head, size } => Body::Ctz { head, size },
-        BodyRef::Leads(first, second) => Body::Leads(first, second),
+        BodyRef::Chain { head, size } => Body::Chain { head, size },
+        BodyRef::Directory(first, second) => Body::Directory(first, second),
     })
 }
 

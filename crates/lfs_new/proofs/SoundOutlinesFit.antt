@@ -26,7 +26,7 @@ use Rattle.lfs_law.proofs.CutLinksFit.{pair_apart, pair_below, tails_below, entr
 use Rattle.lfs_law.proofs.OutlineRoom.{sum_over}
 use Rattle.lfs_law.proofs.WrittenLemmas.{part_there, parts_of_links, sum_thread}
 use Rattle.lfs_new.specs.Filled.{CanFillPair}
-use Rattle.lfs_new.specs.NewPairs.{FitsNewPair, SoundOutlinesCanBeTaken, front_weight}
+use Rattle.lfs_new.specs.OutlinesTaken.{FitsNewPair, SoundOutlinesCanBeTaken, front_weight}
 use Rattle.lfs_new.proofs.NewImagesHeld.{names_of_parts, pairs_only}
 
 -- ---- entries as they are stored

@@ -1,4 +1,4 @@
 pub mod DiskBut
 pub mod Filled
 pub mod NewImages
-pub mod NewPairs
+pub mod OutlinesTaken

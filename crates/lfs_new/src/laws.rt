@@ -1,7 +1,7 @@
 //! Laws of new images: each function does nothing but call laws, and its contract is the law.
 
 ghost use Rattle.lfs_new.specs.NewImages.{NewImagesHold};
-ghost use Rattle.lfs_new.specs.NewPairs.{SoundOutlinesCanBeTaken};
+ghost use Rattle.lfs_new.specs.OutlinesTaken.{SoundOutlinesCanBeTaken};
 
 use lfs_file::chains_stay_on_their_blocks;
 use lfs_fs::both_sides_hold;

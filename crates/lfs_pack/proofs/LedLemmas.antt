@@ -13,33 +13,31 @@ use Rattle.lfs_fs.specs.Tree.{Node, File, Dir, tree}
 use Rattle.lfs_fs.specs.Volume.{Volume}
 use Rattle.lfs_command.specs.Command.{Command, Mkdir, Put, SetAttr}
 use Rattle.lfs_command.specs.Equation.{with_attributes, attributes_at}
-use Rattle.lfs_command.specs.PathMap.{same_path, put_at}
+use Rattle.lfs_command.specs.PathMap.{same_path, put_at_path}
 use Rattle.lfs_command.specs.Planned.{CarriesOut}
 use Rattle.lfs_law.proofs.PathMapLemmas.{same_path_decides, same_path_or_not, put_at_there, put_at_other}
 use Rattle.lfs_law.proofs.CarriedFollow.{CarriedFollow}
 use Rattle.lfs_pack.specs.Packed.{Packed, packed_node, packed_at, making, setting, row_commands, commands}
-use Rattle.lfs_pack.specs.Packed.{Rise, KindsRise}
-use Rattle.lfs_ends.specs.Leading.{Lead}
+use Rattle.lfs_pack.specs.Packed.{PackedRise, KindsRise}
+use Rattle.lfs_ends.specs.Lead.{Lead}
 use Rattle.lfs_build.proofs.OpenedLemmas.{if_true}
 use Rattle.lfs_pack.specs.Laws.{LedToTheirMap}
-
--- ---- one command
 
 -- ---- maps
 
 -- a value put at a path over another one
-put_again : (p : Path) (x y : Option Node) (old new : Path → Option Node) → ((q : Path) → new q ≡ put_at p y old q) → (q : Path)
-    → put_at p x new q ≡ put_at p x old q
+put_again : (p : Path) (x y : Option Node) (old new : Path → Option Node) → ((q : Path) → new q ≡ put_at_path p y old q) → (q : Path)
+    → put_at_path p x new q ≡ put_at_path p x old q
 put_again p x y old new is q = elim (same_path_or_not p q) [
-  | inl same ↦ subst (λ (r : Path). put_at p x new r ≡ put_at p x old r) same (put_at_there p x new ∙ sym (put_at_there p x old))
+  | inl same ↦ subst (λ (r : Path). put_at_path p x new r ≡ put_at_path p x old r) same (put_at_there p x new ∙ sym (put_at_there p x old))
   | inr other ↦ put_at_other p x new q other ∙ is q ∙ put_at_other p y old q other ∙ sym (put_at_other p x old q other)
 ]
 
 -- the same value at the same path of maps that agree
 put_like : (p : Path) (x y : Option Node) (old new : Path → Option Node) → x ≡ y → ((q : Path) → new q ≡ old q) → (q : Path)
-    → put_at p x new q ≡ put_at p y old q
+    → put_at_path p x new q ≡ put_at_path p y old q
 put_like p x y old new same is q = elim (same_path_or_not p q) [
-  | inl here ↦ subst (λ (r : Path). put_at p x new r ≡ put_at p y old r) here
+  | inl here ↦ subst (λ (r : Path). put_at_path p x new r ≡ put_at_path p y old r) here
       (put_at_there p x new ∙ same ∙ sym (put_at_there p y old))
   | inr other ↦ put_at_other p x new q other ∙ is q ∙ sym (put_at_other p y old q other)
 ]
@@ -87,9 +85,9 @@ all_before done a (b ∷ more) before less =
 
 -- an attribute is set of what is at a path
 set_one : CarriedFollow → (p : Path) (bytes : Option (List ℕ)) (done : Attributes) (a : ℕ × List ℕ) (v u : Volume)
-    (old : Path → Option Node) → Before done a → ((q : Path) → tree v q ≡ put_at p (Some (packed_node bytes done)) old q)
+    (old : Path → Option Node) → Before done a → ((q : Path) → tree v q ≡ put_at_path p (Some (packed_node bytes done)) old q)
     → CarriesOut (SetAttr p a.0 a.1) v u
-    → (q : Path) → tree u q ≡ put_at p (Some (packed_node bytes (done ++ a ∷ []))) old q
+    → (q : Path) → tree u q ≡ put_at_path p (Some (packed_node bytes (done ++ a ∷ []))) old q
 set_one follow p bytes done a v u old before is does q =
     let here : tree v p ≡ Some (packed_node bytes done) = is p ∙ put_at_there p (Some (packed_node bytes done)) old in
     let set : option_map (with_attributes (set_attribute a.0 a.1)) (tree v p) ≡ Some (packed_node bytes (done ++ a ∷ [])) =
@@ -101,16 +99,16 @@ set_one follow p bytes done a v u old before is does q =
     ∙ put_again p (Some (packed_node bytes (done ++ a ∷ []))) (Some (packed_node bytes done)) old (tree v) is q
 
 set_all : CarriedFollow → (p : Path) (bytes : Option (List ℕ)) (done more : Attributes) (v w : Volume) (old : Path → Option Node)
-    → All (Before done) more → KindsRise more → ((q : Path) → tree v q ≡ put_at p (Some (packed_node bytes done)) old q)
-    → Lead (setting p more) v w → (q : Path) → tree w q ≡ put_at p (Some (packed_node bytes (done ++ more))) old q
+    → All (Before done) more → KindsRise more → ((q : Path) → tree v q ≡ put_at_path p (Some (packed_node bytes done)) old q)
+    → Lead (setting p more) v w → (q : Path) → tree w q ≡ put_at_path p (Some (packed_node bytes (done ++ more))) old q
 set_all follow p bytes done [] v w old before rise is led q =
     ap (λ (x : Volume). tree x q) led ∙ is q
-    ∙ ap (λ (l : Attributes). put_at p (Some (packed_node bytes l)) old q) (sym (append-nil done))
+    ∙ ap (λ (l : Attributes). put_at_path p (Some (packed_node bytes l)) old q) (sym (append-nil done))
 set_all follow p bytes done (a ∷ more) v w old before rise is (u, does, led) q =
     set_all follow p bytes (done ++ a ∷ []) more u w old
     (all_before done a more (All-tail (Before done) a more before) rise.0) rise.1
     (set_one follow p bytes done a v u old (All-head (Before done) a more before) is does) led q
-    ∙ ap (λ (l : Attributes). put_at p (Some (packed_node bytes l)) old q) (append_assoc done (a ∷ []) more)
+    ∙ ap (λ (l : Attributes). put_at_path p (Some (packed_node bytes l)) old q) (append_assoc done (a ∷ []) more)
 
 -- ---- one row
 
@@ -123,9 +121,9 @@ CanStand old (n ∷ p) bytes = old (n ∷ p) ≡ None
 record IsMade (p : Path) (bytes : Option (List ℕ)) (old : Path → Option Node) (cs : List Command) (w : Volume) : Type 0 where
   volume : Volume
   led : Lead cs volume w
-  at : (q : Path) → tree volume q ≡ put_at p (Some (packed_node bytes [])) old q
+  at : (q : Path) → tree volume q ≡ put_at_path p (Some (packed_node bytes [])) old q
 
-root_by : (old : Path → Option Node) (q : Path) → old [] ≡ Some (Dir []) → old q ≡ put_at [] (Some (Dir [])) old q
+root_by : (old : Path → Option Node) (q : Path) → old [] ≡ Some (Dir []) → old q ≡ put_at_path [] (Some (Dir [])) old q
 root_by old [] is = is
 root_by old (n ∷ q) is = refl
 
@@ -152,7 +150,7 @@ all_before_none (a ∷ more) = All-cons (Before []) a more (All-nil (λ (b : ℕ
 
 -- the map with what a row has
 abbrev with_row : Packed → (Path → Option Node) → Path → Option Node
-with_row r old = put_at r.path (Some (packed_node r.bytes r.attributes)) old
+with_row r old = put_at_path r.path (Some (packed_node r.bytes r.attributes)) old
 
 -- ---- all rows
 
@@ -245,7 +243,7 @@ row_led follow r v w old can kinds is led =
     let made = make_one follow r.path r.bytes (setting r.path r.attributes) v w old can is led in
     set_all follow r.path r.bytes [] r.attributes made.volume w old (all_before_none r.attributes) kinds made.at made.led
 
-rows_led : CarriedFollow → PathsAreOrdered → (rs : List Packed) (v w : Volume) (old : Path → Option Node) → AllCanStand old rs → Rise rs
+rows_led : CarriedFollow → PathsAreOrdered → (rs : List Packed) (v w : Volume) (old : Path → Option Node) → AllCanStand old rs → PackedRise rs
     → All (λ (r : Packed). KindsRise r.attributes) rs → ((q : Path) → tree v q ≡ old q) → Lead (commands rs) v w
     → (q : Path) → tree w q ≡ over rs old q
 rows_led follow order [] v w old can rise kinds is led q = ap (λ (x : Volume). tree x q) led ∙ is q

@@ -13,11 +13,11 @@ use Rattle.lfs_command.specs.declared.refusal.Refusal.TheVariants.{Memory}
 use Rattle.lfs_command.specs.Command.{Command}
 use Rattle.lfs_law.proofs.CarriedFollow.{CarriedFollow}
 use Rattle.lfs_edit.specs.Formatted.{disk_with}
-use Rattle.lfs_ends.specs.Leading.{Lead}
+use Rattle.lfs_ends.specs.Lead.{Lead}
 use Rattle.lfs_build.specs.declared.new_volume.NewVolume.{NewVolume}
 use Rattle.lfs_pack.specs.declared.pack_row.PackRow.{PackRow}
 use Rattle.lfs_pack.specs.Laws.{LedToTheirMap}
-use Rattle.lfs_build.specs.NewVolumes.{IsAt, IsBare, IsFinished}
+use Rattle.lfs_build.specs.NewVolumes.{IsAt, IsBare, IsNewImageOf}
 use Rattle.lfs_pack.specs.Packed.{AreRowsOf, IsRowOf, Packed, attribute_of, commands, making, setting}
 use Rattle.lfs_pack.specs.Packing.{IsNotPacked, IsPacked, RefusesPack}
 use Rattle.lfs_pack.specs.RowsAdded.{AddsRows, AreStopped, IsBareAt, PacksVolume, RefusesAll, RefusesRows, SetsAll}
@@ -148,7 +148,7 @@ same_disk size count d is_size is_count =
     sym (ap (λ (n : ℕ). disk_with n d.count d.bytes) is_size ∙ ap (λ (n : ℕ). disk_with size n d.bytes) is_count)
 
 pub packed : CarriedFollow → LedToTheirMap → (size count : ℕ) (rows : List PackRow) (t : NewVolume) (d : Disk)
-    → PacksVolume size count rows t → IsDisk d → ((q : Path) (v : Volume) → IsAt t q v → IsFinished v d)
+    → PacksVolume size count rows t → IsDisk d → ((q : Path) (v : Volume) → IsAt t q v → IsNewImageOf v d)
     → (what : List Packed) → AreRowsOf rows what → IsPacked size count what d.bytes
 packed follow map_of size count rows t d packs disk finished what are =
     let to = packs.led what are in

@@ -6,11 +6,11 @@ use Rattle.lfs_fs.specs.Path.{Path, TextsSpellOnePath}
 use Rattle.lfs_fs.specs.Row.{path_precedes}
 use Rattle.lfs_fs.specs.Volume.{Volume}
 use Rattle.lfs_command.specs.declared.refusal.Refusal.{Refusal}
-use Rattle.lfs_ends.specs.Leading.{Lead}
+use Rattle.lfs_ends.specs.Lead.{Lead}
 use Rattle.lfs_build.specs.declared.new_volume.NewVolume.{NewVolume}
 use Rattle.lfs_pack.specs.declared.pack_row.PackRow.{PackRow}
 use Rattle.lfs_build.specs.NewVolumes.{IsAt}
-use Rattle.lfs_pack.specs.Packed.{IsRowOf, Packed, Rise, commands, row_commands}
+use Rattle.lfs_pack.specs.Packed.{IsRowOf, Packed, PackedRise, commands, row_commands}
 use Rattle.lfs_pack.specs.RowsAdded.{AddsRow, AddsRows, AreStopped, RefusesAdding, RefusesRows}
 use Rattle.lfs_pack.proofs.LedOn.{led_on, stopped_first, stopped_then}
 use Rattle.lfs_pack.proofs.RowsSpelled.{same_row}
@@ -45,7 +45,7 @@ refused_then texts row more t u r one (inl memory) = inl memory
 refused_then texts row more t u r one (inr refuses) = inr (λ q v packed at each behind rise. stop packed q v at each rise)
   -- the first row is added, and a later one refused
   where
-    stop : (packed : List Packed) (q : Path) (v : Volume) → IsAt t q v → AllZip IsRowOf (row ∷ more) packed → Rise packed
+    stop : (packed : List Packed) (q : Path) (v : Volume) → IsAt t q v → AllZip IsRowOf (row ∷ more) packed → PackedRise packed
         → AreStopped (commands packed) v r
     stop [] q v at each rise = absurd each
     stop (p ∷ ps) q v at each rise =

@@ -5,7 +5,7 @@ use Rattle.lfs_fs.specs.Path.{Path}
 use Rattle.lfs_fs.specs.Volume.{Volume}
 use Rattle.lfs_fs.specs.Tree.{tree}
 use Rattle.lfs_pack.specs.Packed.{Packed, ArePackable, commands, packed_at}
-use Rattle.lfs_ends.specs.Leading.{Lead}
+use Rattle.lfs_ends.specs.Lead.{Lead}
 
 -- the commands of rows that can be packed lead from a new volume to one whose tree is the map of the rows
 abbrev pub LedToTheirMap : Type 0

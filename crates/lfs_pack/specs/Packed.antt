@@ -53,9 +53,9 @@ commands rows = flat_map row_commands rows
 -- ---- rows that can be packed
 
 -- each path comes before all later ones
-abbrev pub Rise : List Packed → Type 0
-Rise [] = Unit {0}
-Rise (r ∷ rs) = All (λ s. path_precedes r.path s.path ≡ true) rs × Rise rs
+abbrev pub PackedRise : List Packed → Type 0
+PackedRise [] = Unit {0}
+PackedRise (r ∷ rs) = All (λ s. path_precedes r.path s.path ≡ true) rs × PackedRise rs
 
 -- each kind is less than all later ones
 abbrev pub KindsRise : Attributes → Type 0
@@ -70,7 +70,7 @@ BeginAtRoot (r ∷ rs) = (r.path ≡ []) × (r.bytes ≡ None)
 -- rows as `pack` takes them
 pub record ArePackable (rows : List Packed) : Type 0 where
   pub root : BeginAtRoot rows
-  pub rise : Rise rows
+  pub rise : PackedRise rows
   pub names : All (λ r. All IsName r.path) rows
   pub kinds : All (λ r. KindsRise r.attributes) rows
 

@@ -15,7 +15,7 @@ use Rattle.lfs_command.specs.Command.{Command}
 use Rattle.lfs_command.specs.Verdict.{verdict}
 use Rattle.lfs_edit.specs.Formatted.{disk_with}
 use Rattle.lfs_pack.specs.Packed.{Packed, commands, packed_at}
-use Rattle.lfs_ends.specs.Leading.{Lead}
+use Rattle.lfs_ends.specs.Lead.{Lead}
 
 -- The bytes are an image with the limits of a new one, whose tree is the map of the rows. The volume is the one that the commands of
 -- the rows lead to from a new one.

@@ -10,11 +10,11 @@ use Rattle.lfs_command.specs.declared.refusal.Refusal.{Refusal}
 use Rattle.lfs_command.specs.declared.refusal.Refusal.TheVariants.{Memory}
 use Rattle.lfs_command.specs.Command.{Command}
 use Rattle.lfs_command.specs.Verdict.{verdict}
-use Rattle.lfs_ends.specs.Leading.{Lead}
+use Rattle.lfs_ends.specs.Lead.{Lead}
 use Rattle.lfs_build.specs.declared.new_volume.NewVolume.{NewVolume}
 use Rattle.lfs_build.specs.NewVolumes.{HasEntry, IsAt, IsBare}
 use Rattle.lfs_pack.specs.declared.pack_row.PackRow.{PackRow}
-use Rattle.lfs_pack.specs.Packed.{AreRowsOf, IsRowOf, Packed, Rise, commands, making, row_commands, setting}
+use Rattle.lfs_pack.specs.Packed.{AreRowsOf, IsRowOf, Packed, PackedRise, commands, making, row_commands, setting}
 
 -- One of the commands is refused, on the volume that those before it lead to.
 pub record AreStopped (cs : List Command) (v : Volume) (r : Refusal) : Type 0 where
@@ -71,7 +71,7 @@ AddsRows rows t u = (q : Path) (v : Volume) → IsAt t q v
 -- or not, where they rise behind the last one, or memory is refused
 abbrev pub RefusesRows : List PackRow → NewVolume → Refusal → Type 0
 RefusesRows rows t r = (r ≡ Memory) ⊎ ((q : Path) (v : Volume) (packed : List Packed)
-    → IsAt t q v → AllZip IsRowOf rows packed → All (λ p. path_precedes q p.path ≡ true) packed → Rise packed
+    → IsAt t q v → AllZip IsRowOf rows packed → All (λ p. path_precedes q p.path ≡ true) packed → PackedRise packed
     → AreStopped (commands packed) v r)
 
 -- All rows are added to a new volume, of which the first is the root's.

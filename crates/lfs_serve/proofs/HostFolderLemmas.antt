@@ -17,7 +17,7 @@ use Rattle.lfs_folder.specs.HostNames.{IsHostName}
 use Rattle.lfs_host.specs.HostTree.{HostTree}
 use Rattle.lfs_host.specs.Scene.{Scene}
 use Rattle.lfs_pack.specs.declared.pack_row.PackRow.{PackRow}
-use Rattle.lfs_pack.specs.Packed.{ArePackable, BeginAtRoot, IsRowOf, KindsRise, Packed, Rise}
+use Rattle.lfs_pack.specs.Packed.{ArePackable, BeginAtRoot, IsRowOf, KindsRise, Packed, PackedRise}
 use Rattle.lfs_serve.specs.HostFolder.{PacksFolder, ReadsNoFolder, RowText, folder_text, pack_text, packed_of}
 
 -- ---- rows of paths can be packed
@@ -40,7 +40,7 @@ all_behind p (r ∷ rows) behind =
     (All-head (λ q. path_precedes p q ≡ true) r.path (paths_of rows) behind)
     (all_behind p rows (All-tail (λ q. path_precedes p q ≡ true) r.path (paths_of rows) behind))
 
-all_rise : (rows : List PathRow) → PathsRise (paths_of rows) → Rise (map packed_of rows)
+all_rise : (rows : List PathRow) → PathsRise (paths_of rows) → PackedRise (map packed_of rows)
 all_rise [] rise = tt
 all_rise (r ∷ rows) rise = (all_behind r.path rows rise.0, all_rise rows rise.1)
 

@@ -344,13 +344,13 @@ good_step _ tree s (rows, folder, asks) = absurd asks
 
 -- where a request leads, or that it is torn
 data Ends (size : ℕ) (name : List ℕ) (t : Task) (scene : Scene) (fault : Option Fault) (old new : Files) (h : History) : Type 0 where
-  Leads : (next : History) → TaskGoesBy fault size t scene h next → FilesDenote size name new next → Ends size name t scene fault old new h
+  Stored_directory : (next : History) → TaskGoesBy fault size t scene h next → FilesDenote size name new next → Ends size name t scene fault old new h
   Tears : status_of fault ≡ 4 → new name ≡ old name → Ends size name t scene fault old new h
 
 -- what wasn't done leaves the history, or tears
 stopped : (size : ℕ) (name : List ℕ) (t : Task) (scene : Scene) (fault : Fault) (old new : Files) (h : History)
     → FilesDenote size name new h ⊎ ((status_of (Some fault) ≡ 4) × (new name ≡ old name)) → Ends size name t scene (Some fault) old new h
-stopped size name t scene fault old new h (inl denotes) = Leads h refl denotes
+stopped size name t scene fault old new h (inl denotes) = Stored_directory h refl denotes
 stopped size name t scene fault old new h (inr (status, image)) = Tears status image
 
 -- a folder that is made leaves the history
@@ -364,7 +364,7 @@ step_ends : Laws → (fault : Option Fault) (s : Step) (size : ℕ) (name : List
     → EndsStep s size name scene behind fault → Ends size name (task.Step s) scene fault old new h
 step_ends laws None s size name scene behind old new h good before later denotes ends =
     let leads = step_leads laws s size name scene behind old new h good before later denotes ends in
-    Leads leads.next leads.goes leads.denotes
+    Stored_directory leads.next leads.goes leads.denotes
 step_ends laws (Some fault) s size name scene behind old new h good before later denotes ends =
     stopped size name (task.Step s) scene fault old new h (stop_leaves s size name scene behind fault old new h before later denotes ends)
 
@@ -375,12 +375,12 @@ reading_ends : Laws → (fault : Option Fault) (t : Task) (size : ℕ) (name : L
     → Ends size name t scene fault old new h
 reading_ends laws None t size name scene behind old new h turn before later denotes (inl (s, becomes, ends)) =
     let leads = step_leads laws s size name scene behind old new h (good_step t scene.tree s becomes) before later denotes ends in
-    Leads leads.next (turn leads.next (s, becomes, leads.goes)) leads.denotes
+    Stored_directory leads.next (turn leads.next (s, becomes, leads.goes)) leads.denotes
 reading_ends laws None t size name scene behind old new h turn before later denotes (inr (keeps, (why, is, no_step))) = absurd cc
 reading_ends laws (Some fault) t size name scene behind old new h turn before later denotes (inl (s, becomes, ends)) =
     stopped size name t scene fault old new h (stop_leaves s size name scene behind fault old new h before later denotes ends)
 reading_ends laws (Some fault) t size name scene behind old new h turn before later denotes (inr (keeps, no_step)) =
-    Leads h refl (same_files size name old new h (sym later ∙ keeps.0 ∙ before) denotes)
+    Stored_directory h refl (same_files size name old new h (sym later ∙ keeps.0 ∙ before) denotes)
 
 -- any task
 task_ends : Laws → (fault : Option Fault) (t : Task) (size : ℕ) (name : List ℕ) (scene behind : Scene) (old new : Files) (h : History)
@@ -389,7 +389,7 @@ task_ends : Laws → (fault : Option Fault) (t : Task) (size : ℕ) (name : List
 task_ends laws fault (task.Step s) size name scene behind old new h good before later denotes ends =
     step_ends laws fault s size name scene behind old new h good before later denotes ends
 task_ends laws fault (task.Extract dir) size name scene behind old new h good before later denotes ends =
-    Leads h (extracted fault size dir scene h) (same_files size name old new h (sym later ∙ ends.0.0 ∙ before) denotes)
+    Stored_directory h (extracted fault size dir scene h) (same_files size name old new h (sym later ∙ ends.0.0 ∙ before) denotes)
 task_ends laws fault (task.Pack count dir) size name scene behind old new h good before later denotes ends =
     reading_ends laws fault (task.Pack count dir) size name scene behind old new h (λ next goes. goes) before later denotes ends
 task_ends laws fault (task.SetAttr path kind value) size name scene behind old new h good before later denotes ends =
@@ -406,7 +406,7 @@ GoesOrTears size name s old new h =
 
 by_end : (size : ℕ) (name : List ℕ) (s : Served) (fault : Option Fault) (old new : Files) (h : History) → s.status ≡ status_of fault
     → Ends size name s.request.task s.old fault old new h → GoesOrTears size name s old new h
-by_end size name s fault old new h status (Leads next goes denotes) = inr (next, (fault, status, goes), denotes)
+by_end size name s fault old new h status (Stored_directory next goes denotes) = inr (next, (fault, status, goes), denotes)
 by_end size name s fault old new h status (Tears four image) = inl (record { status = status ∙ four; image = image })
 
 request_ends : Laws → (size : ℕ) (name : List ℕ) (s : Served) (old new : Files) (h : History) → FilesDenote size name old h

@@ -8,7 +8,7 @@ use Rattle.lfs_change.specs.declared.fault.Fault.TheVariants as fault
 use Rattle.lfs_folder.specs.declared.folder_row.FolderRow.{FolderRow}
 use Rattle.lfs_folder.specs.declared.folder_fault.FolderFault.{FolderFault}
 use Rattle.lfs_folder.specs.declared.folder_fault.FolderFault.TheVariants.{Memory, HostEntry, HostName, CannotRead}
-use Rattle.lfs_folder.specs.FolderRows.{AreAllBelow, AreFolderRows, BlamesHost, PathRow, Refuses}
+use Rattle.lfs_folder.specs.FolderRows.{AreAllBelow, AreFolderRows, BlamesHost, PathRow, RefusesFolderRows}
 use Rattle.lfs_fs.specs.Limits.{most_file}
 use Rattle.lfs_host.specs.HostTree.{HostTree}
 use Rattle.lfs_host.specs.Scene.{Scene}
@@ -29,7 +29,7 @@ fault_of_folder CannotRead = fault.CannotRead
 -- why a folder isn't read, of what was known of the host before and what is known of it then
 abbrev pub ReadsNoFolder : Option HostTree → List ℕ → Scene → Fault → Type 0
 ReadsNoFolder tree dir new why =
-    (cause : FolderFault) × (why ≡ fault_of_folder cause) × Refuses tree dir cause × BlamesHost tree dir new cause
+    (cause : FolderFault) × (why ≡ fault_of_folder cause) × RefusesFolderRows tree dir cause × BlamesHost tree dir new cause
 
 -- ---- what is packed
 

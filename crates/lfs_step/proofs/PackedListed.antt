@@ -18,10 +18,10 @@ use Rattle.lfs_fs.specs.Path.{Path, path_text}
 use Rattle.lfs_fs.specs.Row.{AreRows, PathsAreOrdered, Row, RowsAreUnique, RowsRise, path_precedes}
 use Rattle.lfs_fs.specs.Tree.{Node, File, Dir, entry_at, node, node_of, tree}
 use Rattle.lfs_fs.specs.Volume.{Volume}
-use Rattle.lfs_fs.proofs.InVolumeLemmas.{contains_map}
+use Rattle.lfs_fs.proofs.ContainsLemmas.{contains_mapped}
 use Rattle.lfs_fs.proofs.OutlinedLemmas.{outlined_at}
 use Rattle.lfs_listing.specs.Listing.{attribute_line, in_ten_places, listing, row_lines, shown_byte}
-use Rattle.lfs_pack.specs.Packed.{Packed, Rise, packed_at, packed_node}
+use Rattle.lfs_pack.specs.Packed.{Packed, PackedRise, packed_at, packed_node}
 use Rattle.lfs_step.specs.PackedListed.{PackedImagesListTheirRows, listed_body, listed_row}
 
 -- ---- lines say no more of an entry than a tree shows
@@ -104,7 +104,7 @@ not_same : (p q : Path) → PathsAreOrdered → path_precedes p q ≡ true → s
 not_same p q order before = differ_by p q (same_path p q) order before refl
 
 -- each row's own is at its path
-own : PathsAreOrdered → (rows : List Packed) → Rise rows → All (λ r. packed_at rows r.path ≡ Some (packed_node r.bytes r.attributes)) rows
+own : PathsAreOrdered → (rows : List Packed) → PackedRise rows → All (λ r. packed_at rows r.path ≡ Some (packed_node r.bytes r.attributes)) rows
 own order [] rise = All-nil (λ (r : Packed). packed_at [] r.path ≡ Some (packed_node r.bytes r.attributes))
 own order (r ∷ rows) rise =
     All-cons (λ (s : Packed). packed_at (r ∷ rows) s.path ≡ Some (packed_node s.bytes s.attributes)) r rows
@@ -142,13 +142,13 @@ is_there at whole rows r says is =
     let e = entry_there (at r.path) (whole r.path) (packed_node r.bytes r.attributes) (says r.path).0 ((says r.path).1 ∙ is) in
     record { entry = e.0; there = e.1; shows = e.2 }
 
-rows_rise : (at : Path → Option Entry) (rows : List Packed) → Rise rows → RowsRise (map (row_at at) rows)
+rows_rise : (at : Path → Option Entry) (rows : List Packed) → PackedRise rows → RowsRise (map (row_at at) rows)
 rows_rise at [] rise = tt
 rows_rise at (r ∷ rows) rise =
     (All-map (λ (s : Row). path_precedes r.path s.path ≡ true) (row_at at) rows rise.0, rows_rise at rows rise.1)
 
 -- the rows of the outline are those of what is packed
-are_rows : PathsAreOrdered → (at whole : Path → Option Entry) (rows : List Packed) → Rise rows → Says at whole rows
+are_rows : PathsAreOrdered → (at whole : Path → Option Entry) (rows : List Packed) → PackedRise rows → Says at whole rows
     → AreRows at (map (row_at at) rows)
 are_rows order at whole rows rise says = record {
   rise = rows_rise at rows rise;
@@ -162,7 +162,7 @@ are_rows order at whole rows rise says = record {
       let row : row_at at r.0 ≡ record { path = p; entry = e } =
       ap (λ (q : Path). record { path = q; entry = unwrap_or (at q) (listed_row r.0).entry }) r.2
       ∙ ap (λ (o : Option Entry). record { path = p; entry = unwrap_or o (listed_row r.0).entry }) is in
-      subst (Contains (map (row_at at) rows)) row (contains_map (row_at at) rows r.0 r.1);
+      subst (Contains (map (row_at at) rows)) row (contains_mapped (row_at at) rows r.0 r.1);
 }
   where
     shown_by : (o : Option Entry) (e : Entry) → option_map outlined_entry o ≡ Some e → (n : Node) × (option_map node o ≡ Some n)
@@ -184,7 +184,7 @@ same_listing f g (r ∷ rows) same =
     (same_listing f g rows (All-tail (λ (s : Packed). row_lines (f s) ≡ row_lines (g s)) r rows same))
 
 -- they are listed as what is packed
-lists : PathsAreOrdered → (at whole : Path → Option Entry) (rows : List Packed) → Rise rows → Says at whole rows
+lists : PathsAreOrdered → (at whole : Path → Option Entry) (rows : List Packed) → PackedRise rows → Says at whole rows
     → listing (map (row_at at) rows) ≡ listing (map listed_row rows)
 lists order at whole rows rise says = same_listing (row_at at) listed_row rows (λ i d within.
     let r = get_or rows i d in

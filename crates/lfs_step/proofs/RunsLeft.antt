@@ -6,7 +6,7 @@ use Rattle.lfs_change.specs.declared.fault.Fault.{Fault}
 use Rattle.lfs_change.specs.declared.outcome.Outcome.{Outcome}
 use Rattle.lfs_change.specs.Bytes.{image_of}
 use Rattle.lfs_change.specs.Change.{Denotes}
-use Rattle.lfs_change.specs.Laws.{Files, RunsOfBytesAreRuns, Taken}
+use Rattle.lfs_change.specs.Laws.{BothFiles, RunsOfBytesAreRuns, Taken}
 use Rattle.lfs_step.specs.Deed.{Deed, Make, Pack, Ask, Change}
 use Rattle.lfs_step.specs.Histories.{Leaves, StepsLeaveHistories}
 use Rattle.lfs_step.specs.Outcome.{AnswersBy, Given, given}
@@ -36,7 +36,7 @@ one_goes leaves runs None (Ask query) g outcome old good denotes answers = recor
   leaves = leaves (Ask query) g outcome answers old denotes;
 }
 one_goes leaves runs None (Change step) g outcome old good denotes answers =
-    let first : Files = record { image = g.image; journal = g.journal } in
+    let first : BothFiles = record { image = g.image; journal = g.journal } in
     let taken : Taken = record { step = step; fault = None } in
     let run = runs g.size (taken ∷ []) first (left_files outcome) old denotes (outcome, answers, refl) in
     let (mid, takes, same) = run.run in
@@ -52,7 +52,7 @@ one_goes leaves runs (Some fault) deed g outcome old good denotes answers = reco
 pub runs_go_on : StepsLeaveHistories → RunsOfBytesAreRuns → RunsGoOn
 runs_go_on leaves runs size [] first last old good denotes same = record {
   new = old;
-  denotes = subst (λ (f : Files). Denotes size f.image f.journal old) (sym same) denotes;
+  denotes = subst (λ (f : BothFiles). Denotes size f.image f.journal old) (sym same) denotes;
   goes = refl;
 }
 runs_go_on leaves runs size (r ∷ rs) first last old good denotes (answers, later) =

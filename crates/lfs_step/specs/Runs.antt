@@ -7,7 +7,7 @@ use Rattle.lfs_history.specs.Taking.{Takes}
 use Rattle.lfs_change.specs.declared.fault.Fault.{Fault}
 use Rattle.lfs_change.specs.declared.outcome.Outcome.{Outcome}
 use Rattle.lfs_change.specs.Change.{Denotes}
-use Rattle.lfs_change.specs.Laws.{Files}
+use Rattle.lfs_change.specs.Laws.{BothFiles}
 use Rattle.lfs_pack.specs.Packed.{AreRowsOf, Packed}
 use Rattle.lfs_pack.specs.Packing.{IsPacked}
 use Rattle.lfs_step.specs.Deed.{Deed, Make, Pack, Ask, Change}
@@ -19,11 +19,11 @@ pub record Ran : Type 0 where
   pub outcome : Outcome
 
 -- the image and the journal of an outcome
-abbrev pub left_files : Outcome → Files
+abbrev pub left_files : Outcome → BothFiles
 left_files outcome = record { image = outcome.image.items; journal = outcome.journal.items }
 
 -- each run is handed the image and the journal that the one before left
-abbrev pub AreRuns : ℕ → List Ran → Files → Files → Type 0
+abbrev pub AreRuns : ℕ → List Ran → BothFiles → BothFiles → Type 0
 AreRuns size [] old new = new ≡ old
 AreRuns size (r ∷ rs) old new =
     Answers r.deed (given size old.image old.journal) r.outcome × AreRuns size rs (left_files r.outcome) new
@@ -49,7 +49,7 @@ GoesBy None deed g old new = GoesOn g.size deed old new
 GoesBy (Some fault) deed g old new = (new ≡ old) × Refuses deed g fault
 
 -- one after another; what each leaves denotes the history to which it leads
-abbrev pub GoOn : ℕ → List Ran → Files → History → History → Type 0
+abbrev pub GoOn : ℕ → List Ran → BothFiles → History → History → Type 0
 GoOn size [] files old new = new ≡ old
 GoOn size (r ∷ rs) files old new =
     (mid : History)
@@ -58,12 +58,12 @@ GoOn size (r ∷ rs) files old new =
     × GoOn size rs (left_files r.outcome) mid new
 
 -- the last image and the last journal denote the history to which the runs lead
-pub record LeadTo (size : ℕ) (rs : List Ran) (first last : Files) (old : History) : Type 0 where
+pub record LeadTo (size : ℕ) (rs : List Ran) (first last : BothFiles) (old : History) : Type 0 where
   pub new : History
   pub denotes : Denotes size last.image last.journal new
   pub goes : GoOn size rs first old new
 
 -- the law: a list of runs leads from the history that the first image and journal denote to the one that the last denote
 abbrev pub RunsGoOn : Type 0
-RunsGoOn = (size : ℕ) (rs : List Ran) (first last : Files) (old : History) → AllByRecursion (λ r. HasGoodRows r.deed) rs
+RunsGoOn = (size : ℕ) (rs : List Ran) (first last : BothFiles) (old : History) → AllByRecursion (λ r. HasGoodRows r.deed) rs
     → Denotes size first.image first.journal old → AreRuns size rs first last → LeadTo size rs first last old

@@ -19,8 +19,8 @@ fn stored_kind(body: &OutlineBody) -> Kind
     ensures { result ≡ stored_kind (outline_body_held body.now) }
 {
     match body {
-        OutlineBody::Held(_) | OutlineBody::Linked { .. } => Kind::File,
-        OutlineBody::Leads(..) => Kind::Dir,
+        OutlineBody::Inline(_) | OutlineBody::Chain { .. } => Kind::File,
+        OutlineBody::Directory(..) => Kind::Dir,
     }
 }
 
@@ -36,12 +36,12 @@ fn stored_body(alloc: Global, body: &OutlineBody) -> Result<Body, AllocError>
     ensures { IfOk result (λ stored. body_held stored ≡ stored_body (outline_body_held body.now)) }
 {
     match body {
-        OutlineBody::Held(bytes) => Ok(Body::Inline(Vec::from_slice(alloc, bytes)?)),
-        OutlineBody::Linked { blocks, size } => Ok(Body::Ctz {
+        OutlineBody::Inline(bytes) => Ok(Body::Inline(Vec::from_slice(alloc, bytes)?)),
+        OutlineBody::Chain { blocks, size } => Ok(Body::Chain {
             head: head_of(blocks),
             size: *size,
         }),
-        OutlineBody::Leads(first, second) => Ok(Body::Leads(*first, *second)),
+        OutlineBody::Directory(first, second) => Ok(Body::Directory(*first, *second)),
     }
 }
 

@@ -6,7 +6,7 @@ use Rattle.std.proofs.lemmas.Result.{err_from_is_err_and}
 use Rattle.lfs_fs.specs.Reading.{reading_of}
 use Rattle.lfs_fs.specs.Gathering.{PairPart, delta_from, StateCause, PartsCause, KeepsParts}
 use Rattle.lfs_fs.specs.ThreadRead.{IsThreadRead}
-use Rattle.lfs_fs.specs.Judged.{IsJudged, JudgedCause}
+use Rattle.lfs_fs.specs.Judged.{SaysLimits, JudgedCause}
 use Rattle.lfs_fs.proofs.GatheredLemmas.{gathered, root_read, whole_without}
 use Rattle.lfs_fs.proofs.GatherCauseLemmas.{state_refuses, none_refuses, superblock_refuses, parts_refuse}
 use Rattle.lfs_fs.proofs.gathering.gather.Goals as goal
@@ -50,9 +50,9 @@ returns-in_err-directories-clause-refused g c =
     let limits = c.in_ok-limits.limits in
     let read = root_read (reading_of d) _ taken.first c.in-Some.superblock taken.others taken.rest
     (subst (λ (ps : List PairPart). IsThreadRead (reading_of d) ps c.read_thread.new.used) taken.was c.in_ok-parts.ensures.read) in
-    let by_size = subst (λ (n : ℕ). IsJudged n c.count-count.result limits c.in-Some.superblock)
+    let by_size = subst (λ (n : ℕ). SaysLimits n c.count-count.result limits c.in-Some.superblock)
     c.size-size.ensures.value c.in_ok-limits.ensures.judged in
-    let judged = subst (λ (n : ℕ). IsJudged d.size n limits c.in-Some.superblock) c.count-count.ensures by_size in
+    let judged = subst (λ (n : ℕ). SaysLimits d.size n limits c.in-Some.superblock) c.count-count.ensures by_size in
     let cause = subst (λ (ps : List PairPart). PartsCause f (reading_of d) limits c.read_thread.new.used ps)
     taken.is c.in_err-directories.ensures.refused in
     rw (p.1, p.2) (parts_refuse d f limits c.read_thread.new.used taken.first c.in-Some.superblock taken.others taken.rest read judged
@@ -62,9 +62,9 @@ pub returns-clause-gathered : goal.returns-clause-gathered
 returns-clause-gathered g c =
     let d = g.B.Blocks.disk c.args.blocks.now in
     let limits = c.in_ok-limits.limits in
-    let by_size = subst (λ (n : ℕ). IsJudged n c.count-count.result limits c.in-Some.superblock)
+    let by_size = subst (λ (n : ℕ). SaysLimits n c.count-count.result limits c.in-Some.superblock)
     c.size-size.ensures.value c.in_ok-limits.ensures.judged in
-    let judged = subst (λ (n : ℕ). IsJudged d.size n limits c.in-Some.superblock) c.count-count.ensures by_size in
+    let judged = subst (λ (n : ℕ). SaysLimits d.size n limits c.in-Some.superblock) c.count-count.ensures by_size in
     let state : delta_from c.in_ok-parts.parts.items ≡ 0 = ap delta_from (sym c.deref.ensures.value) ∙ c.in_ok-settled.ensures.settled in
     let len : length c.directories_of.new.used ≡ c.in_ok-used.used.len =
     omega (arith, c.in_ok-directories.ensures.kept.len, c.read_thread.auto.used, c.as_mut_slice-table.ensures.len) in

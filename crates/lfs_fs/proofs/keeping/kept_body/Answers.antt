@@ -9,13 +9,13 @@ use Rattle.lfs_fs.specs.Gathering.{KeepsBody}
 use Rattle.lfs_fs.proofs.KeepingLemmas.{chain_kept}
 use Rattle.lfs_fs.proofs.keeping.kept_body.Goals as goal
 
-pub returns-in_ok-mark_all-in-Ctz-clause-kept : goal.returns-in_ok-mark_all-in-Ctz-clause-kept
-returns-in_ok-mark_all-in-Ctz-clause-kept g c =
+pub returns-in_ok-mark_all-in-Chain-clause-kept : goal.returns-in_ok-mark_all-in-Chain-clause-kept
+returns-in_ok-mark_all-in-Chain-clause-kept g c =
     let d = g.B.Blocks.disk c.args.blocks.now in
-    let blocks = c.in_ok-blocks-in-Ctz.blocks.items in
-    let adds = subst (AddsBlocks c.args.used.now c.mark_all.new.used) c.deref.ensures.value c.in_ok-mark_all-in-Ctz.ensures.marked in
-    subst (λ (b : Body). KeepsBody (reading_of d) c.args.used.now c.mark_all.new.used (body_held b) (Chain blocks (blank c.in-Ctz.size)))
-    (sym c.in-Ctz.is)
-    (chain_kept d c.args.used.now c.mark_all.new.used c.in-Ctz.head c.in-Ctz.size blocks c.in_ok-blocks-in-Ctz.ensures.computed
-    (c.contents_have_their_length.ensures d c.in-Ctz.head c.in-Ctz.size blocks c.requires.disk c.in_ok-blocks-in-Ctz.ensures.found)
+    let blocks = c.in_ok-blocks-in-Chain.blocks.items in
+    let adds = subst (AddsBlocks c.args.used.now c.mark_all.new.used) c.deref.ensures.value c.in_ok-mark_all-in-Chain.ensures.marked in
+    subst (λ (b : Body). KeepsBody (reading_of d) c.args.used.now c.mark_all.new.used (body_held b) (Chain blocks (blank c.in-Chain.size)))
+    (sym c.in-Chain.is)
+    (chain_kept d c.args.used.now c.mark_all.new.used c.in-Chain.head c.in-Chain.size blocks c.in_ok-blocks-in-Chain.ensures.computed
+    (c.contents_have_their_length.ensures d c.in-Chain.head c.in-Chain.size blocks c.requires.disk c.in_ok-blocks-in-Chain.ensures.found)
     adds)

@@ -1,7 +1,7 @@
 -- The changes that were read agree with the image, and lead to images that mount.
 use Rattle.std.proofs.Common.{◌≡◌, take, drop, reverse, rules, ◌∙◌}
 use Rattle.std.proofs.lemmas.Result.{err_from_is_err_and}
-use Rattle.lfs_history.specs.History.{GoesBack, GoesOn, past_of, future_of}
+use Rattle.lfs_history.specs.History.{GoesBack, GoesForward, past_of, future_of}
 use Rattle.lfs_journal.specs.Opened.{RefusesMounts}
 use Rattle.lfs_journal.proofs.OpeningLemmas.{IsAgreed, book_patches, agreed, past_refused, future_refused, parts_opened}
 use Rattle.lfs_journal.proofs.opening.read_history.Goals as goal
@@ -18,7 +18,7 @@ returns-in_err-mounts_back-clause-refused c =
     let ps = c.into_parts-patches.result.0.items in
     let done = c.into_parts-patches.result.1 in
     let bytes = c.args.journal.now in
-    let both : GoesBack (reverse (take done ps)) d × GoesOn (drop done ps) d = search rules in
+    let both : GoesBack (reverse (take done ps)) d × GoesForward (drop done ps) d = search rules in
     let size : j.size ≡ d.size = search rules in
     let count : j.count ≡ d.count = search rules in
     let is : IsAgreed d bytes ps done = agreed d bytes j ps done c.in_ok-journal.ensures.book c.in_ok-journal.ensures.read
@@ -36,7 +36,7 @@ returns-in_err-mounts_on-clause-refused c =
     let ps = c.into_parts-patches.result.0.items in
     let done = c.into_parts-patches.result.1 in
     let bytes = c.args.journal.now in
-    let both : GoesBack (reverse (take done ps)) d × GoesOn (drop done ps) d = search rules in
+    let both : GoesBack (reverse (take done ps)) d × GoesForward (drop done ps) d = search rules in
     let size : j.size ≡ d.size = search rules in
     let count : j.count ≡ d.count = search rules in
     let is : IsAgreed d bytes ps done = agreed d bytes j ps done c.in_ok-journal.ensures.book c.in_ok-journal.ensures.read
@@ -54,7 +54,7 @@ returns-clause-opened c =
     let ps = c.into_parts-patches.result.0.items in
     let done = c.into_parts-patches.result.1 in
     let bytes = c.args.journal.now in
-    let both : GoesBack (reverse (take done ps)) d × GoesOn (drop done ps) d = search rules in
+    let both : GoesBack (reverse (take done ps)) d × GoesForward (drop done ps) d = search rules in
     let size : j.size ≡ d.size = search rules in
     let count : j.count ≡ d.count = search rules in
     let is : IsAgreed d bytes ps done = agreed d bytes j ps done c.in_ok-journal.ensures.book c.in_ok-journal.ensures.read

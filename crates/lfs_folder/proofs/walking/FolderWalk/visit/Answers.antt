@@ -3,7 +3,7 @@ use Rattle.std.specs.Prelude.{IfSome}
 use Rattle.std.proofs.lemmas.Result.{on_ok_weaker, IfErr-weaker}
 use Rattle.lfs_folder.specs.declared.walking.TheConstants.{MOST_BYTES}
 use Rattle.lfs_host.specs.HostTree.{HostTree, IsKind, ReadsEntry}
-use Rattle.lfs_folder.specs.FolderRows.{BlamesHost, Refuses, most_rows}
+use Rattle.lfs_folder.specs.FolderRows.{BlamesHost, RefusesFolderRows, most_rows}
 use Rattle.lfs_folder.specs.FolderWalk.{Enters, IsHostBlamed, RefusesFolder}
 use Rattle.lfs_folder.proofs.WalkStepLemmas.{step_file, step_folder, walk_blamed, walk_missing, walk_other, walk_refused, walk_too_long}
 use Rattle.lfs_folder.proofs.walking.FolderWalk.visit.Goals as goal
@@ -28,7 +28,7 @@ returns-in-Folder-clause-refused g c =
     let dir = c.args.dir.now in
     let name = c.args.name.now in
     IfErr-weaker c.enter.result (λ fault. IfSome (g.H.Known.known c.kind.new.self).tree (RefusesFolder name fault))
-    (λ fault. Refuses known dir fault)
+    (λ fault. RefusesFolderRows known dir fault)
     (λ fault why. walk_refused MOST_BYTES known dir name c.args.self.now.rows.items waiting fault c.requires
     (subst (λ (k : Option HostTree). IfSome k (RefusesFolder name fault)) c.kind.ensures.kept.1 why)) c.enter.ensures.refused
 
