@@ -80,17 +80,20 @@ SHORT_FIRST = bytes.fromhex(
     "612000000120000c02616220000002701ff40d23b033ebffffffffffffffffff"
 )
 
-# How block 1 begins after `setattr / 74 0102` on a new image of 8 blocks of 512 bytes.
-WITH_ATTRIBUTE = bytes.fromhex(
+# How block 0 begins after `setattr / 74 0102` on a new image of 8 blocks of 512 bytes: with a second commit.
+WITH_ATTRIBUTE = NEW + bytes.fromhex("674ffc120102674ffc049e272fa5ffff")
+
+# How it begins after `rmattr / 74` on that image: with a third one.
+WITHOUT_ATTRIBUTE = WITH_ATTRIBUTE + bytes.fromhex("674ffff9674ffff7ce8a9a3effffffff")
+
+# How block 1 begins after `setattr / 74 0102` on such an image in whose block 0 something stands behind the log.
+REWRITTEN = bytes.fromhex(
     "02000000f00ffff76c6974746c6566732fe00010000002000002000008000000ff000000ffffff7ffe0300001750001a"
     "0102674ffc08fed4859e"
 )
 
-# How block 0 begins after `rmattr / 74` on that image.
-WITHOUT_ATTRIBUTE = bytes.fromhex(
-    "03000000f00ffff76c6974746c6566732fe00010000002000002000008000000ff000000ffffff7ffe030000701ffc08"
-    "704cd982"
-)
+# What stands behind the log of a block to which no commit is appended, since its rest isn't erased.
+BEHIND = b"\xff\0"
 
 # What is said of blocks of 260 bytes.
 OFF_GRAIN = "lfsed: 2 BadGeometry\nlfsed: --block 260: a block is a multiple of 16 bytes\n"
@@ -424,14 +427,16 @@ def files(folder):
         folder.play(rows)
     folder.be(NEW, 4_096)
     folder.play(FULL)
-    folder.check("head and size", bytes([7, 0, 0, 0, 0xE0, 0x0B, 0, 0]) in folder.old()[512:])
+    folder.check("head and size", bytes([7, 0, 0, 0, 0xE0, 0x0B, 0, 0]) in folder.old()[:512])
     folder.holds("pointers", 3_072, bytes([5, 0, 0, 0, 4, 0, 0, 0, 2, 0, 0, 0]))
     folder.holds("pointers", 3_584, bytes([6, 0, 0, 0]))
     folder.be(NEW, 4_096)
     folder.play(NAMES)
-    for at, part in (512, bytes([4, 0, 0, 0])), (560, b"ab"), (570, b"a"), (579, b"b"):
-        folder.holds("names in order", at, part)
-    folder.be(SHORT_NAMES, 4_096)
+    for at, part in (0, NEW), (72, b"ab"), (104, b"a"), (136, b"b"):
+        folder.holds("names as they came", at, part)
+    names = [entry.name for entry in Reader(folder.old(), 512).entries(ROOT)]
+    folder.check("names in order", names == [b"ab", b"a", b"b"], names)
+    folder.be(SHORT_NAMES + BEHIND, 4_096)
     folder.play(LIMITED)
     folder.holds("names are limited", 544, bytes([3, 0, 0, 0]))
     folder.image.unlink()
@@ -444,12 +449,14 @@ def changes(folder):
     folder.be(NEW, 4_096)
     folder.play(REFUSED)
     folder.play(SET)
-    folder.holds("block 0", 0, NEW)
-    folder.holds("block 1", 512, WITH_ATTRIBUTE)
+    folder.check("set", folder.old() == WITH_ATTRIBUTE.ljust(4_096, b"\xff"))
     folder.play(REMOVE)
-    folder.holds("block 0", 0, WITHOUT_ATTRIBUTE)
-    folder.holds("block 1", 512, WITH_ATTRIBUTE)
+    folder.check("removed", folder.old() == WITHOUT_ATTRIBUTE.ljust(4_096, b"\xff"))
     folder.play(REMOVED)
+    folder.be(NEW + BEHIND, 4_096)
+    folder.play(SET)
+    folder.holds("block 0", 0, NEW + BEHIND)
+    folder.holds("block 1", 512, REWRITTEN)
     for rows in MOVED, NOT_MOVED, BAD_DIGITS:
         folder.be(NEW, 4_096)
         folder.play(rows)

@@ -4,53 +4,12 @@ where everything stands then: directories and their parts, entries, contents, an
 import struct
 import sys
 
+from support.blocks import Blocks
 from support.folder import contents, run_scenes
-from support.littlefs import Reader
-from support.logs import DIRECTORY, HARD, SOFT, attribute, directory, file, image, log, moved, superblock, tail
+from support.littlefs import ROOT
+from support.logs import HARD, SOFT, appended, attribute, created, directory, file, log, moved, superblock, tail
 
-ROOT = (0, 1)
 BAD_PATH, TOO_LARGE = "lfsed: 35 BadPath\n", "lfsed: 42 EntryTooLarge\n"
-
-
-class Blocks:
-    """An image of blocks of one size in a folder."""
-
-    def __init__(self, folder, size):
-        self.folder, self.size = folder, size
-
-    def new(self, count):
-        """A new image of so many blocks."""
-        if self.folder.image.exists():
-            self.folder.image.unlink()
-        self.folder.play([(f"format --block {self.size} --count {count} a.img", 0, 0, "", "")])
-
-    def be(self, count, blocks):
-        """An image of so many blocks that begin so."""
-        self.folder.be(image(self.size, count, blocks), 0)
-
-    def do(self, line, length=0, complaint=""):
-        """Carries out a command, by its name and the words behind the image, or is refused."""
-        name, words = line.split(" ", 1)
-        self.folder.play([(f"{name} -b {self.size} a.img {words}", length, 1 if complaint else 0, complaint, "")])
-
-    def read(self):
-        """What the image holds."""
-        return Reader(self.folder.old(), self.size)
-
-    def stand(self, what, thread, directories, free):
-        """Compares the pairs of the thread, those of the directories in the order of paths, and how many blocks are free."""
-        reader = self.read()
-        pairs = [pair for _, pair in reader.rows() if pair]
-        found = (reader.thread(), pairs, reader.free())
-        self.folder.check(f"where {what} stands", found == (thread, directories, free), found)
-        said = f"block {self.size}, count {len(reader.image) // self.size}, free {free}, directories {len(directories)}, "
-        printed = self.folder.run(f"check -b {self.size} a.img")[2].decode()
-        self.folder.check(f"what is said of {what}", printed.startswith(said), printed)
-
-    def lists(self, *paths):
-        """Compares the paths in their order."""
-        found = [path.decode() for path, _ in self.read().rows()]
-        self.folder.check("paths", found == list(paths), found)
 
 
 def directories_take_blocks_and_give_them_back(folder):
@@ -313,8 +272,8 @@ def commits_end_at_multiples_of_sixteen(folder):
     for length in range(1, 17):
         blocks.new(8)
         blocks.do(f"put /{length * 'a'}")
-        wanted = log(2, superblock(512, 8) + file(1, length * b"a"), 16).ljust(512, b"\xff")
-        folder.holds(f"a name of {length} bytes", 512, wanted)
+        wanted = appended(log(1, superblock(512, 8), 16).ljust(512, b"\xff"), created(1) + file(1, length * b"a"))
+        folder.holds(f"a name of {length} bytes", 0, wanted + 512 * b"\xff")
 
 
 def pointers_have_more_than_one_byte(folder):

@@ -3,38 +3,58 @@ import struct
 import zlib
 
 ROOT = (0, 1)
+DELETED, NULL = 0x3FF, 0xFFFF_FFFF
 DIRECTORY, CONTENTS, IN_BLOCKS = 0x200, 0x201, 0x202
 
 
-def items(block):
-    """The tags of the commits of a log whose checksums are right, in order, each its kind, entry and value; None where no
-    commit is."""
-    at = begin = 4
-    word, crc, done, pending = 0xFFFF_FFFF, zlib.crc32(block[:4]), None, []
-    while at + 4 <= len(block):
-        word ^= int.from_bytes(block[at:at + 4], "big")
-        kind, number, length = word >> 20 & 0x7FF, word >> 10 & 0x3FF, word & 0x3FF
-        length = 0 if length == 0x3FF else length
-        value = block[at + 4:at + 4 + length]
-        if word >> 31 or len(value) < length:
-            break
-        at += 4 + length
-        if kind >> 8 != 5:
-            pending.append((kind, number, value))
-            continue
-        crc = zlib.crc32(block[begin:at - length], crc) ^ 0xFFFF_FFFF
-        if crc != int.from_bytes(value[:4], "little"):
-            break
-        done, pending, begin, crc = (done or []) + pending, [], at, 0
-        word ^= (kind & 1) << 31
-    return done
+class Log:
+    """The log of a block: the tags of each commit whose checksum is right, in order, each its kind, entry and value, where None
+    is the value of one that is marked deleted; where the last commit ends, and the word that the next tag is stored behind."""
+
+    def __init__(self, block):
+        self.block, self.commits, self.end, self.word = block, [], 4, NULL
+        while self.reads_one():
+            pass
+
+    def reads_one(self):
+        """Reads one more commit, where there is one."""
+        at, word, tags = self.end, self.word, []
+        while at + 4 <= len(self.block):
+            word ^= int.from_bytes(self.block[at:at + 4], "big")
+            kind, number, length = word >> 20 & 0x7FF, word >> 10 & 0x3FF, word & 0x3FF
+            value = None if length == DELETED else self.block[at + 4:at + 4 + length]
+            at += 4
+            if word >> 31 or value is not None and len(value) < length:
+                return False
+            if kind >> 8 == 5:
+                return self.ends_one(tags, kind, at, word, value)
+            at += len(value or b"")
+            tags.append((kind, number, value))
+        return False
+
+    def ends_one(self, tags, kind, at, word, value):
+        """Takes a commit, whose closing word ends at a place, where its checksum is right."""
+        checksum = zlib.crc32(self.block[self.end if self.commits else 0:at]) ^ 0xFFFF_FFFF
+        if value is None or value[:4] != struct.pack("<I", checksum):
+            return False
+        self.commits.append(tags)
+        self.end, self.word = at + len(value), word ^ (kind & 1) << 31
+        return True
+
+    def revision(self):
+        """The block's revision."""
+        return int.from_bytes(self.block[:4], "little")
+
+    def is_erased(self):
+        """Whether all behind the log is erased."""
+        return not self.block[self.end:].strip(b"\xff")
 
 
 class Entry:
-    """What stands under a name: the structure's kind and value, and the attributes by kind."""
+    """What stands under a name: the kind of the name, the structure's kind and value, and the attributes by kind."""
 
     def __init__(self):
-        self.name, self.kind, self.value, self.attributes = b"", 0, b"", {}
+        self.named, self.name, self.kind, self.value, self.attributes = 0, b"", 0, b"", {}
 
     def pair(self):
         """The pair of a directory."""
@@ -42,12 +62,13 @@ class Entry:
 
 
 class Part:
-    """A pair's entries, the pair behind it, and whether that is of the same directory."""
+    """A pair's entries, the pair behind it, whether that is of the same directory, and its share in the global state."""
 
     def __init__(self, pair, log):
-        self.pair, self.tail, self.is_hard, self.entries = pair, None, False, []
-        for kind, number, value in log:
-            self.take(kind, number, value)
+        self.pair, self.tail, self.is_hard, self.delta, self.entries = pair, None, False, bytes(12), []
+        for commit in log.commits:
+            for kind, number, value in commit:
+                self.take(kind, number, value)
 
     def take(self, kind, number, value):
         """Takes one tag of the log."""
@@ -56,13 +77,18 @@ class Part:
         elif kind == 0x401 or kind >> 8 == 0 and number == len(self.entries):
             self.entries.insert(number, Entry())
         if kind >> 8 == 0:
-            self.entries[number].name = value
+            self.entries[number].named, self.entries[number].name = kind, value
         elif kind >> 8 == 2:
             self.entries[number].kind, self.entries[number].value = kind, value
-        elif kind >> 8 == 3 and number != 0x3FF:
+        elif kind >> 8 == 3 and value is None:
+            self.entries[number].attributes.pop(kind & 0xFF, None)
+        elif kind >> 8 == 3:
             self.entries[number].attributes[kind & 0xFF] = value
         elif kind >> 8 == 6:
-            self.tail, self.is_hard = struct.unpack("<2I", value), bool(kind & 1)
+            pair = struct.unpack("<2I", value)
+            self.tail, self.is_hard = None if pair == (NULL, NULL) else pair, bool(kind & 1)
+        elif kind == 0x7FF:
+            self.delta = value
 
 
 class Reader:
@@ -78,12 +104,15 @@ class Reader:
         """The bytes of a block."""
         return self.image[number * self.size:(number + 1) * self.size]
 
+    def live(self, pair):
+        """The numbers of a pair's live block, the one of later revision of those that have a commit, and of the other one."""
+        first, second = (Log(self.block(number)) for number in pair)
+        is_later = 0 < (second.revision() - first.revision()) % 2**32 < 2**31
+        return pair[::-1] if second.commits and (is_later or not first.commits) else pair
+
     def part(self, pair):
-        """What a pair holds: the log of the later revision of those that have a commit."""
-        logs = [(self.block(number), items(self.block(number))) for number in pair]
-        (old, log), (new, other) = [(int.from_bytes(block[:4], "little"), log) for block, log in logs]
-        is_later = other is not None and (log is None or 0 < (new - old) % 2**32 < 2**31)
-        return Part(pair, other if is_later else log)
+        """What a pair holds."""
+        return Part(pair, Log(self.block(self.live(pair)[0])))
 
     def thread(self):
         """The pairs of the thread."""
@@ -124,18 +153,47 @@ class Reader:
             blocks.append(int.from_bytes(self.block(blocks[-1])[:4], "little"))
         return blocks
 
+    def contents(self, entry):
+        """The bytes of a file."""
+        if entry.kind != IN_BLOCKS:
+            return entry.value
+        blocks = reversed(self.blocks_of(entry))
+        held = b"".join(self.block(block)[4 * pointers(number):] for number, block in enumerate(blocks))
+        return held[:struct.unpack("<2I", entry.value)[1]]
+
+    def tree(self):
+        """What stands at each path: the bytes of a file or None, and the attributes by kind."""
+        tree, waiting = {}, [(b"/", ROOT, self.parts[0].entries[0])]
+        while waiting:
+            path, pair, entry = waiting.pop()
+            tree[path] = None if pair else self.contents(entry), entry.attributes
+            for below in self.entries(pair) if pair else []:
+                name = path.rstrip(b"/") + b"/" + below.name
+                waiting.append((name, below.pair() if below.kind == DIRECTORY else None, below))
+        return tree
+
+    def used_by_files(self):
+        """The blocks of all files."""
+        return [number for part in self.parts for entry in part.entries for number in self.blocks_of(entry)]
+
+    def used(self):
+        """The blocks of the thread, and those of all files."""
+        return [number for pair in self.thread() for number in pair] + self.used_by_files()
+
     def free(self):
         """How many blocks neither the thread nor a file takes."""
-        of_files = [number for part in self.parts for entry in part.entries for number in self.blocks_of(entry)]
-        taken = {number for pair in self.thread() for number in pair}.union(of_files)
-        return len(self.image) // self.size - len(taken)
+        return len(self.image) // self.size - len({*self.used()})
+
+
+def pointers(number):
+    """With how many pointers a file's block begins: as many as its number has factors 2, and one more; the first one with none."""
+    return (number & -number).bit_length()
 
 
 def blocks_for(size, length):
-    """How many blocks contents take: block n begins with as many pointers as n has factors 2, and one more."""
+    """How many blocks contents take."""
     count = 0
     while length > 0:
-        pointers = (count & -count).bit_length() if count else 0
-        length -= size - 4 * pointers
+        length -= size - 4 * pointers(count)
         count += 1
     return count

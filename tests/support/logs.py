@@ -2,8 +2,9 @@
 import struct
 import zlib
 
+from support.littlefs import DELETED, Log
+
 NO_ENTRY = 0x3FF
-DELETED = 0x3FF
 FILE, DIRECTORY, SUPERBLOCK = 0x001, 0x002, 0x0FF
 SOFT, HARD = 0x600, 0x601
 
@@ -13,6 +14,13 @@ class Draft:
 
     def __init__(self, revision):
         self.bytes, self.begin, self.before = struct.pack("<I", revision), 0, 0xFFFF_FFFF
+
+    @classmethod
+    def behind(cls, block):
+        """The log of a block, to which something is added."""
+        draft, log = cls(0), Log(block)
+        draft.bytes, draft.begin, draft.before = block[:log.end], log.end, log.word
+        return draft
 
     def tag(self, kind, number, length, value=b""):
         """Adds a tag and its bytes."""
@@ -34,12 +42,22 @@ class Draft:
         self.begin, self.before = len(self.bytes), self.before ^ (kind & 1) << 31
         return self
 
+    def close_at(self, step):
+        """Closes a commit by padding so that it ends at a multiple of a step."""
+        return self.close(padding=-(len(self.bytes) + 8) % step)
+
 
 def log(revision, items, step=1):
     """A log of one commit: items of kind, entry and value, and their checksum. A value of None is a deleted one. The commit
     is padded so that it ends at a multiple of a step."""
-    draft = Draft(revision).add(items)
-    return draft.close(padding=-(len(draft.bytes) + 8) % step).bytes
+    return Draft(revision).add(items).close_at(step).bytes
+
+
+def appended(block, items):
+    """A block with one more commit of items behind its log, which ends at a multiple of 16; longer than the block where there is
+    no room for it."""
+    draft = Draft.behind(block).add(items).close_at(16)
+    return draft.bytes + block[len(draft.bytes):]
 
 
 def superblock(size, count, name=255, file=2_147_483_647, attribute=1_022):

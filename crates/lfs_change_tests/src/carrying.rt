@@ -30,7 +30,7 @@ fn a_plan_writes_the_root_and_the_least_free_block(rt: HostRuntime) -> Result<()
     let mounted = mount(rt.alloc(), &image)?;
     for command in &PUT {
         let patch = plan(rt.alloc(), &image, &mounted, command)?;
-        writes(&rt, &patch, &[1, 2]);
+        writes(&rt, &patch, &[0, 2]);
     }
     Ok(())
 }

@@ -16,6 +16,7 @@ pub mod Accepted
 pub mod Kept
 pub mod Freed
 pub mod AskedFor
+pub mod PairChanged
 pub mod Planned
 pub mod PartWritten
 pub mod NamedCommand

@@ -22,6 +22,7 @@ use Rattle.lfs_command.specs.Verdict.{verdict}
 use Rattle.lfs_command.specs.Clean.{clean}
 use Rattle.lfs_command.specs.Accepted.{IsAccepted, AreChosen}
 use Rattle.lfs_command.specs.Freed.{free_after}
+use Rattle.lfs_command.specs.PairChanged.{ChangesPairs, forced_by}
 use Rattle.lfs_command.specs.PartWritten.{numbers_of, FirstIsFilled}
 
 -- one of the numbers is a block of the part's pair
@@ -57,7 +58,8 @@ pub record CarriesOut (c : Command) (v w : Volume) : Type 0 where
 -- A patch of an image carries out a command that is asked for: the command leads from the volume that the image holds to the one
 -- that the patched image holds, and the patch stands in the image. It names the blocks that the command takes; what is free then are
 -- the blocks that were, without them, and those of what was removed or replaced. What is new stands in the first blocks of new pairs,
--- the second ones of which are erased.
+-- the second ones of which are erased; a pair that was there is changed by a commit appended to its live block, where there is room for
+-- it, and else by its other block rewritten.
 pub record Plans (d : Disk) (asked : Asked) (p : ChangeSet) : Type 0 where
   pub volume : Volume
   pub holds : Holds (reading_of d) volume
@@ -69,6 +71,7 @@ pub record Plans (d : Disk) (asked : Asked) (p : ChangeSet) : Type 0 where
   pub stands : AgreesOld p d
   pub after : Holds (reading_of (applied p d)) next
   pub filled : FillsNewPairs volume (cut carried.chosen (edited volume command carried.supplies)) (applied p d)
+  pub changed : ChangesPairs (forced_by command) volume (cut carried.chosen (edited volume command carried.supplies)) d (applied p d)
   pub frugal : IsFrugal volume command carried.supplies (numbers_of p)
   pub free : free_blocks next ≡ free_after volume command carried.supplies carried.chosen
 

@@ -4,6 +4,7 @@
 
 mod command;
 mod contents_blocks;
+mod forcing;
 mod made_blocks;
 mod named_command;
 mod naming;
@@ -12,6 +13,7 @@ mod refusal;
 
 pub use command::Command;
 pub use contents_blocks::most_inline;
+pub use forcing::forced_by;
 pub use made_blocks::{data_blocks, directory_blocks};
 pub use named_command::NamedCommand;
 pub use naming::by_names;

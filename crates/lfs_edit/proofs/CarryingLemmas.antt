@@ -37,11 +37,12 @@ use Rattle.lfs_command.specs.Need.{data_blocks, is_new_to, need}
 use Rattle.lfs_law.specs.OutlineCarried.{IsCarried}
 use Rattle.lfs_law.specs.OutlineLaws.{WritesOutline}
 use Rattle.lfs_command.specs.Planned.{CarriesOut, IsFrugal, Plans, TakesLeast}
+use Rattle.lfs_command.specs.PairChanged.{forced_by}
 use Rattle.lfs_law.specs.PlansHold.{is_unmarked}
 use Rattle.lfs_law.specs.PlansWritten.{WritesCommand}
 use Rattle.lfs_command.specs.Supplies.{AreFree, Supplies, supply_uses}
 use Rattle.lfs_law.specs.SuperblockBytes.{volume_bytes}
-use Rattle.lfs_law.specs.WrittenLinks.{AreWritten, changed_blocks}
+use Rattle.lfs_law.specs.WrittenLinks.{AreWritten, ChangesLinks, changed_blocks}
 use Rattle.lfs_law.proofs.Decided.{same_pair_decides}
 use Rattle.lfs_law.proofs.FreeBlocks.{taken_unused}
 use Rattle.lfs_law.proofs.FrugalPlans.{enough_free}
@@ -231,6 +232,11 @@ finish laws d c used blocks o w p disk ready cuts says writes = record { plans =
         (subst (λ (bs : List ℕ). AreWritten d bs w.attributes (is_unmarked used) writes.base (links w.directories) p.changes) bytes
         writes.written))
 
+    changed : ChangesLinks d (is_new_to v) (forced_by c) (links (outlined after).directories) p.changes
+    changed =
+        laws.tell_changed v used ready.marks d (forced_by c) (links (outlined after).directories) p.changes
+        (subst (λ (x : Volume). ChangesLinks d (is_unmarked used) (forced_by c) (links x.directories) p.changes) (sym same) writes.changed)
+
     command : WritesCommand d v held c s chosen (is_new_to v) writes.base p
     command = record {
       disk = disk;
@@ -274,6 +280,7 @@ finish laws d c used blocks o w p disk ready cuts says writes = record { plans =
       stands = writes.stands;
       after = holds;
       filled = laws.filled d v after held writes.base p volume;
+      changed = laws.changed d v after held writes.base p (forced_by c) volume changed;
       frugal = frugal;
       free = laws.freed v c s chosen accepted pairs;
     }

@@ -14,8 +14,8 @@ use Rattle.lfs_meta.specs.declared.tail.Tail.TheVariants.{End}
 use Rattle.lfs_meta.specs.Entry.{StoredEntry}
 use Rattle.lfs_meta.specs.Part.{StoredPart}
 use Rattle.lfs_meta.specs.LiveBlock.{stored_part_of}
-use Rattle.lfs_meta.specs.Spelling.{part_tags}
-use Rattle.lfs_meta.specs.Writing.{log_written, part_in, stored_part}
+use Rattle.lfs_commit.specs.Spelling.{part_tags}
+use Rattle.lfs_commit.specs.Writing.{log_written, part_in, stored_part}
 use Rattle.lfs_file.proofs.LaidByteLemmas.{IsBytes-fill}
 use Rattle.lfs_fs.specs.Header.{IsHeader}
 use Rattle.lfs_fs.specs.LoneSuperblock.{LoneSuperblockMounts, IsLoneSuperblock}

@@ -7,14 +7,14 @@ use Rattle.lfs_block.specs.Change.{Change, IsBlockChange}
 use Rattle.lfs_block.specs.Disk.{Disk, IsDisk}
 use Rattle.lfs_block.specs.Patch.{Stands}
 use Rattle.lfs_meta.specs.Body.{Pair}
-use Rattle.lfs_meta.specs.Writing.{other_number}
 use Rattle.lfs_fs.specs.Directory.{Part}
 use Rattle.lfs_fs.specs.Free.{free_blocks}
 use Rattle.lfs_fs.specs.Outlined.{outlined}
 use Rattle.lfs_fs.specs.Reading.{reading_of}
 use Rattle.lfs_fs.specs.Sound.{AreAttributes}
 use Rattle.lfs_fs.specs.Stored.{HoldsLinks}
-use Rattle.lfs_fs.specs.Thread.{links}
+use Rattle.lfs_commit.specs.Difference.{Forced}
+use Rattle.lfs_fs.specs.Thread.{Link, links}
 use Rattle.lfs_fs.specs.Uses.{times}
 use Rattle.lfs_fs.specs.Volume.{Volume}
 use Rattle.lfs_command.specs.Accepted.{Follows}
@@ -27,12 +27,13 @@ use Rattle.lfs_law.specs.CutOutline.{for_parts}
 use Rattle.lfs_law.specs.CutWritten.{CutLinksCanBeAdded, HeldBytesAreMade}
 use Rattle.lfs_command.specs.Edited.{edited}
 use Rattle.lfs_write.specs.Laid.{AreLaidFor}
+use Rattle.lfs_command.specs.PairChanged.{forced_by}
 use Rattle.lfs_command.specs.Need.{changed_parts, data_blocks, is_new_to, need}
 use Rattle.lfs_law.specs.PairWritten.{CanBeAdded}
 use Rattle.lfs_law.specs.PlansHold.{is_unmarked, rewritten_blocks}
 use Rattle.lfs_command.specs.Supplies.{Supplies}
 use Rattle.lfs_law.specs.SuperblockBytes.{volume_bytes}
-use Rattle.lfs_law.specs.WrittenLinks.{AreWritten, CanBeMade, changed_blocks}
+use Rattle.lfs_law.specs.WrittenLinks.{AreWritten, CanBeMade, ChangesLinks, changed_blocks, number_in}
 use Rattle.lfs_edit.proofs.CarryingLemmas.{IsTaken, same_bytes, taken_of, within_need}
 use Rattle.lfs_law.proofs.FreeBlocks.{taken_below, taken_rise}
 use Rattle.lfs_law.proofs.FrugalPlans.{changed_named, enough_free, one_is}
@@ -139,20 +140,29 @@ can_be_added laws can d disk c used blocks w ready known base laid =
     (can d v known.held c (supplies_of v c) chosen used base disk known.all.accepted known.all.pairs ready.ready.marks laid.rising laid.made
     laid.contents))
 
+-- the pairs are changed by the table that is at hand, and by what the command forces
+pub changed_by : (d : Disk) (ls : List Link) (cs : List Change) {seen used : List Bool} {told forced : Forced} → seen ≡ used → told ≡ forced
+    → ChangesLinks d (is_unmarked seen) told ls cs → ChangesLinks d (is_unmarked used) forced ls cs
+changed_by d ls cs {seen} {used} {told} {forced} same is changed =
+    subst (λ (f : Forced). ChangesLinks d (is_unmarked used) f ls cs) is
+    (subst (λ (flags : List Bool). ChangesLinks d (is_unmarked flags) told ls cs) same changed)
+
 -- what is written then is a patch of the image
 pub writes_over : (laws : CarryingLaws) → CommandsSetAPart → (d : Disk) (c : Command) (used : List Bool) (blocks : List ℕ) (w : Volume)
     (ready : IsCutReady d c used blocks w)
     → IsAtHand d c ready.ready.volume w (for_parts ready.cuts.chosen) → (base cs : List Change)
     → AreLaidFor d ready.ready.volume c (supplies_of ready.ready.volume c) base
     → AreWritten d (volume_bytes w) w.attributes (is_unmarked used) base (links w.directories) cs
+    → ChangesLinks d (is_unmarked used) (forced_by c) (links w.directories) cs
     → WritesOver d ready.ready.volume c used w (record { size = d.size; changes = cs })
-writes_over laws some d c used blocks w ready known base cs laid written = record {
+writes_over laws some d c used blocks w ready known base cs laid written changed = record {
   patch = record { some = something; rising = written.rising; whole = each_whole d cs written.made };
   stands = record { size = refl; stand = each_stands d cs written.made };
   base = base;
   contents = laid.contents;
   lays = laid.lays;
   written = written;
+  changed = changed;
 }
   where
     v : Volume
@@ -173,23 +183,23 @@ writes_over laws some d c used blocks w ready known base cs laid written = recor
         (subst (λ (x : Volume). AreWritten d (volume_bytes w) x.attributes (is_unmarked used) base (links x.directories) cs)
         (sym known.all.same) written)
 
-    named : (n : ℕ) → times n (changed_blocks cs) ≡ times n (take (need v c) (free_blocks v) ++ rewritten_blocks d v (edited v c s))
+    named : (n : ℕ) → times n (changed_blocks cs) ≡ times n (take (need v c) (free_blocks v) ++ rewritten_blocks cs v (edited v c s))
     named = changed_named d v c s chosen (volume_bytes w) after.attributes base cs known.all.accepted known.all.pairs known.all.taken
         laid.contents old
 
     by : (ps : List Part) → changed_parts v (edited v c s) ≡ ps → 1 ≤ length ps → cs ≡ [] → ⊥
     by [] is many none = absurd (omega (arith, many))
     by (p ∷ ps) is many none =
-        let n : ℕ = other_number d p.pair in
-        let there : rewritten_blocks d v (edited v c s) ≡ n ∷ map (λ (q : Part). other_number d q.pair) ps =
-        ap (map (λ (q : Part). other_number d q.pair)) is in
+        let n : ℕ = number_in cs p.pair in
+        let there : rewritten_blocks cs v (edited v c s) ≡ n ∷ map (λ (q : Part). number_in cs q.pair) ps =
+        ap (map (λ (q : Part). number_in cs q.pair)) is in
         absurd (omega (
           arith,
           named n,
           none_changed cs none n,
-          times_append n (take (need v c) (free_blocks v)) (rewritten_blocks d v (edited v c s)),
+          times_append n (take (need v c) (free_blocks v)) (rewritten_blocks cs v (edited v c s)),
           ap (times n) there,
-          times_first n (map (λ (q : Part). other_number d q.pair) ps),
+          times_first n (map (λ (q : Part). number_in cs q.pair) ps),
         ))
 
     something : cs ≢ []

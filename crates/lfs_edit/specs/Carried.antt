@@ -24,11 +24,12 @@ use Rattle.lfs_command.specs.Cut.{cut, HasEnough, new_pair_uses}
 use Rattle.lfs_command.specs.Need.{need}
 use Rattle.lfs_command.specs.Verdict.{checks, first_refusal, verdict}
 use Rattle.lfs_draft.specs.LeastSupplies.{least_supplies, made_blocks}
+use Rattle.lfs_command.specs.PairChanged.{forced_by}
 use Rattle.lfs_command.specs.Planned.{Plans, RefusesPlan}
 use Rattle.lfs_law.specs.PlansHold.{content_blocks, is_unmarked}
 use Rattle.lfs_law.specs.PlansWritten.{LaysNew}
 use Rattle.lfs_law.specs.SuperblockBytes.{volume_bytes}
-use Rattle.lfs_law.specs.WrittenLinks.{AreWritten, changed_blocks}
+use Rattle.lfs_law.specs.WrittenLinks.{AreWritten, ChangesLinks, changed_blocks}
 
 -- an outline of the volume that an image holds, on which no check refuses a command, those on room aside
 pub record IsJudged (d : Disk) (c : Command) (o : Volume) : Type 0 where
@@ -90,6 +91,7 @@ pub record WritesOver (d : Disk) (v : Volume) (c : Command) (used : List Bool) (
   pub contents : changed_blocks base ≡ content_blocks v c (supplies_of v c)
   pub lays : LaysNew d v c (supplies_of v c) base
   pub written : AreWritten d (volume_bytes o) o.attributes (is_unmarked used) base (links o.directories) p.changes
+  pub changed : ChangesLinks d (is_unmarked used) (forced_by c) (links o.directories) p.changes
 
 -- a command is refused on the volume that an image holds, however it is spelled
 abbrev pub IsRefusedBy : Disk → Command → Refusal → Type 0

@@ -4,8 +4,8 @@ use Rattle.lfs_law.specs.EditedOutline.{OutlinesFollow}
 use Rattle.lfs_law.specs.JudgedAlike.{OutlinesAreJudgedAlike}
 use Rattle.lfs_law.specs.Laws.{CleansFollow, CommandsFollow, CutsFollow, FewPartsChange, FreeAfterHeld}
 use Rattle.lfs_law.specs.OutlineCarried.{LargeIsTheSame, OutlinesAreCarried}
-use Rattle.lfs_law.specs.OutlineLaws.{NewPairsAreFilled}
-use Rattle.lfs_law.specs.PlansHold.{LeastAreFree, PlansAreFrugal, PlansHold, TablesTellNew}
+use Rattle.lfs_law.specs.OutlineLaws.{NewPairsAreFilled, PairsAreChanged}
+use Rattle.lfs_law.specs.PlansHold.{LeastAreFree, PlansAreFrugal, PlansHold, TablesTellChanged, TablesTellNew}
 use Rattle.lfs_law.specs.Written.{HeldAreClean}
 use Rattle.lfs_law.specs.PlansWritten.{CommandsAreWritten, LaidAreThere}
 
@@ -19,10 +19,12 @@ pub record CarryingLaws : Type 0 where
   pub large : LargeIsTheSame
   pub least : LeastAreFree
   pub tell : TablesTellNew
+  pub tell_changed : TablesTellChanged
   pub laid : LaidAreThere
   pub written : CommandsAreWritten
   pub hold : PlansHold
   pub filled : NewPairsAreFilled
+  pub changed : PairsAreChanged
   pub frugal : PlansAreFrugal
   pub freed : FreeAfterHeld
   pub follow : CutsFollow

@@ -3,8 +3,8 @@ use Rattle.std.specs.Prelude.{◌≡◌, ℕ, ◌-◌, ◌*◌, List, [], ◌∷
 use Rattle.std.specs.List.{range_with_len}
 use Rattle.lfs_block.specs.Disk.{Disk, IsDisk}
 use Rattle.lfs_meta.specs.declared.tail.Tail.TheVariants.{End}
-use Rattle.lfs_meta.specs.Spelling.{part_tags}
-use Rattle.lfs_meta.specs.Writing.{log_written, stored_part}
+use Rattle.lfs_commit.specs.Spelling.{part_tags}
+use Rattle.lfs_commit.specs.Writing.{log_written, stored_part}
 use Rattle.lfs_fs.specs.Formatted.{formatted_volume}
 use Rattle.lfs_fs.specs.Mounted.{MountedValue, IsMountOf}
 use Rattle.lfs_fs.specs.Tree.{top}

@@ -24,7 +24,7 @@ ghost use Rattle.lfs_command.specs.Verdict.{first_refusal};
 
 use crate::carrying_laws::carrying_laws;
 use lfs_block::{Blocks, Image, Patch};
-use lfs_command::{NamedCommand, Refusal, data_blocks, directory_blocks};
+use lfs_command::{NamedCommand, Refusal, data_blocks, directory_blocks, forced_by};
 use lfs_cut::{choose, clean, cut, needed};
 use lfs_draft::{edit, leading_pair, least_supplies};
 use lfs_fs::{Outline, UsedBlocks, names_are_ordered, outlines_are_sound};
@@ -112,7 +112,8 @@ fn written(
     let size = image.size();
     let count = data_blocks(size, command) as usize;
     let base = laid_for(alloc, image, command, &blocks[..count])?;
-    let changes = write_links(alloc, image, outline, used.flags(), base)?;
+    let forced = forced_by(command);
+    let changes = write_links(alloc, image, outline, used.flags(), forced, base)?;
     Ok(Patch::of(size, changes))
 }
 

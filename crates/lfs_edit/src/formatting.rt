@@ -6,8 +6,9 @@ ghost use Rattle.lfs_block.specs.Geometry.{IsGeometry};
 ghost use Rattle.lfs_edit.specs.Formatted.{IsFormatted};
 
 use lfs_command::Refusal;
+use lfs_commit::first_block;
 use lfs_fs::lone_superblocks_mount;
-use lfs_meta::{Tail, first_block};
+use lfs_meta::Tail;
 use lfs_write::new_superblock;
 use std::alloc::{AllocError, Global};
 

@@ -1,4 +1,3 @@
-pub mod HostPathLemmas
 pub mod MakingLemmas
 pub mod NameLemmas
 pub mod TreeLemmas

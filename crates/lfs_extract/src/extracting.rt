@@ -12,7 +12,7 @@ ghost use Rattle.lfs_extract.specs.TreeMade.{AreOfTree};
 ghost use Rattle.lfs_extract.specs.declared.extract_fault.ExtractFault.TheVariants.{CannotWrite, HostName};
 
 use crate::extract_fault::ExtractFault;
-use crate::host_path::{follow, host_name};
+use crate::host_path::{follow_row, host_name};
 use crate::making::make_row;
 use crate::name_texts::have_host_texts;
 use lfs_block::Blocks;
@@ -40,7 +40,7 @@ fn make_rows<B: Blocks, F: NewFolder>(
 {
     let mut path = Vec::new(alloc);
     for row in rows {
-        follow(&mut path, &row)?;
+        follow_row(&mut path, &row)?;
         let name = host_name(alloc, dir, &path)?;
         make_row(disk, &row, name.as_str(), folder)?;
     }

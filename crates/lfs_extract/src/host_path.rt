@@ -5,7 +5,7 @@ ghost use Rattle.std.specs.Str.{IsUtf8};
 ghost use Rattle.lfs_fs.specs.Listed.{path_after};
 ghost use Rattle.lfs_folder.specs.PathBelow.{host_name};
 
-use lfs_fs::Row;
+use lfs_fs::{Row, follow};
 use std::alloc::{AllocError, Global};
 
 /// A name as a text. The caller owes that it is UTF-8.
@@ -20,17 +20,13 @@ fn text_of(name: &[u8]) -> &str
 }
 
 /// Turns the path of a row into that of the next one, whose name is UTF-8.
-pub(crate) fn follow<'a>(path: &mut Vec<&'a str>, next: &Row<'a>) -> Result<(), AllocError>
+pub(crate) fn follow_row<'a>(path: &mut Vec<&'a str>, next: &Row<'a>) -> Result<(), AllocError>
     requires { IsUtf8 next.now.entry.name }
     ensures { OnOk result (map (λ n. n.now) path.new.items
         ≡ path_after (map (λ n. n.now) path.old.items) next.now.depth next.now.entry.name) }
 {
-    if next.depth == 0 {
-        path.clear();
-        return Ok(());
-    }
-    path.truncate(next.depth - 1);
-    Ok(path.push(text_of(next.name))?)
+    follow(path, next.depth, text_of(next.name))?;
+    Ok(())
 }
 
 /// The host's name of a path below a folder.

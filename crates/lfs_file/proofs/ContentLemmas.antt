@@ -2,11 +2,11 @@
 use Rattle.std.proofs.Common.{◌≡◌, ℕ, zero, suc, ◌+◌, ◌-◌, ◌*◌, ◌<◌, ◌≤◌, List, [], length, map, take, drop, All, refl, sym, ap, ◌∙◌, arith}
 use Rattle.std.proofs.Common.{add-one, zero-add, slice_index}
 use Rattle.std.specs.List.{range_with_len, sum_by, concat}
-use Rattle.std.proofs.Math.Nat.{mul-le-mul_right}
 use Rattle.std.proofs.lemmas.List.{length-take-le, length-drop}
 use Rattle.std.proofs.lemmas.List.Concat.{concat_is, length-flat_map}
 use Rattle.std.proofs.lemmas.List.FromFn.{fill_by_all, length-map-range_with_len, get_or-map-range_with_len, sum_by-map-range_with_len_more}
 use Rattle.lfs_block.specs.Disk.{Disk, IsDisk, block_of}
+use Rattle.lfs_block.proofs.BlockLens.{length-block}
 use Rattle.lfs_file.specs.Capacity.{pointers, capacity, room}
 use Rattle.lfs_file.specs.Content.{data_part, content}
 use Rattle.lfs_file.specs.Laws.{AgreeOn}
@@ -23,13 +23,6 @@ unfolding content
 content-stays d e len blocks agree =
     ap (λ parts. take len (concat parts))
     (same_parts (data_part d blocks) (data_part e blocks) (length blocks) (λ n within. ap (drop (4 * pointers n)) (agree.same n 0 within)))
-
--- a block of the disk has the block size
-pub length-block : (d : Disk) (b : ℕ) → IsDisk d → b < d.count → length (block_of d b) ≡ d.size
-length-block d b is lt =
-    let rows : (b + 1) * d.size ≤ d.count * d.size = mul-le-mul_right d.size (omega arith) in
-    let room_left : d.size ≤ length (drop (b * d.size) d.bytes) = omega (arith, length-drop (b * d.size) d.bytes, is.len, rows) in
-    length-take-le d.size (drop (b * d.size) d.bytes) room_left
 
 part_len : (d : Disk) (blocks : List ℕ) (n : ℕ) → IsDisk d → slice_index blocks n < d.count
     → length (data_part d blocks n) ≡ capacity d.size n

@@ -1,12 +1,13 @@
 //! A host's folder as rows.
 
 ghost use Rattle.std.specs.Prelude.{◌≡◌, IfErr, IfOk};
+ghost use Rattle.lfs_fs.specs.Limits.{most_file};
 ghost use Rattle.lfs_host.specs.Scene.{KeepsAll};
 ghost use Rattle.lfs_folder.specs.FolderRows.{BlamesHost, IsFolder, RefusesFolderRows};
 
 use crate::folder_fault::FolderFault;
 use crate::folder_row::FolderRow;
-use crate::walking::{FolderWalk, MOST_BYTES};
+use crate::walking::FolderWalk;
 use lfs_host::Folders;
 use std::alloc::Global;
 
@@ -21,7 +22,7 @@ pub fn folder_rows<H: Folders>(
     host: &mut H,
     dir: &str,
 ) -> Result<Vec<FolderRow>, FolderFault>
-    ensures rows { IfOk result (λ rows. IsFolder MOST_BYTES (H.known host.old).tree dir.now rows.items) }
+    ensures rows { IfOk result (λ rows. IsFolder most_file (H.known host.old).tree dir.now rows.items) }
     ensures refused { IfErr result (λ fault. RefusesFolderRows (H.known host.old).tree dir.now fault) }
     ensures blamed { IfErr result (λ fault. BlamesHost (H.known host.old).tree dir.now (H.known host.new) fault) }
     ensures kept { KeepsAll (H.known host.old) (H.known host.new) }

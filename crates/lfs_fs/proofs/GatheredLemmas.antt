@@ -11,7 +11,7 @@ use Rattle.lfs_meta.specs.declared.kind.Kind.TheVariants.{Super}
 use Rattle.lfs_meta.specs.Body.{Pair}
 use Rattle.lfs_meta.specs.Entry.{StoredEntry}
 use Rattle.lfs_meta.specs.Part.{StoredPart}
-use Rattle.lfs_meta.specs.Spelling.{IsWhole}
+use Rattle.lfs_meta.specs.Whole.{IsWhole}
 use Rattle.lfs_fs.specs.declared.limits.Limits.{Limits}
 use Rattle.lfs_fs.specs.declared.gathering.Gathered.{Gathered}
 use Rattle.lfs_fs.specs.Pair.{root}

@@ -16,7 +16,7 @@ use Rattle.lfs_meta.specs.Entry.{StoredEntry}
 use Rattle.lfs_meta.specs.Fits.{RiseFrom}
 use Rattle.lfs_meta.specs.Name.{Name, IsName}
 use Rattle.lfs_meta.specs.Laws.{NamesAreDecided}
-use Rattle.lfs_meta.specs.Spelling.{IsWhole}
+use Rattle.lfs_meta.specs.Whole.{IsWhole}
 use Rattle.lfs_meta.specs.Whole.{kind_takes_body, kind_takes_name}
 use Rattle.lfs_fs.specs.declared.limits.Limits.{Limits}
 use Rattle.lfs_fs.specs.Entry.{Entry, Body, Chain, body_length}

@@ -7,6 +7,7 @@ pub mod EntryAtLemmas
 pub mod PairLemmas
 pub mod FlaggedLemmas
 pub mod ListedLemmas
+pub mod RowPaths
 pub mod OrderedLemmas
 pub mod OrderedEndLemmas
 pub mod DirectoryTableLemmas

@@ -9,7 +9,7 @@ use Rattle.std.proofs.lemmas.List.{flat_map_more}
 use Rattle.std.proofs.lemmas.List.Sums.{sum_by-cons}
 use Rattle.lfs_block.specs.declared.mount_fault.MountFault.{MountFault}
 use Rattle.lfs_block.specs.declared.mount_fault.MountFault.TheVariants as fault
-use Rattle.lfs_meta.specs.Spelling.{IsWhole}
+use Rattle.lfs_meta.specs.Whole.{IsWhole}
 use Rattle.lfs_meta.proofs.PartlessLemmas.{any_later}
 use Rattle.lfs_fs.specs.declared.limits.Limits.{Limits}
 use Rattle.lfs_fs.specs.Used.{marked}

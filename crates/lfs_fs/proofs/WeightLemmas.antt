@@ -4,7 +4,7 @@ use Rattle.std.specs.Prelude.{Option, Some, None, flat_map}
 use Rattle.std.specs.List.{AllZip}
 use Rattle.lfs_meta.specs.Body.{StoredBody, Inline, Chain as Stored_chain, Directory_at as Stored_directory}
 use Rattle.lfs_meta.specs.Entry.{StoredEntry}
-use Rattle.lfs_meta.specs.Spelling.{body_bytes}
+use Rattle.lfs_meta.specs.Body.{body_bytes}
 use Rattle.lfs_meta.specs.Weighing.{weight as stored_weight}
 use Rattle.lfs_meta.proofs.RunLemmas.{runs_match}
 use Rattle.lfs_fs.specs.Entry.{Entry}

@@ -1,6 +1,5 @@
 -- Rows less their paths, which are found again from depths and names (own).
 use Rattle.std.specs.Prelude.{ℕ, zero, suc, List, [], ◌∷◌, ◌++◌, take}
-use Rattle.lfs_meta.specs.Name.{Name}
 use Rattle.lfs_fs.specs.Path.{Path}
 use Rattle.lfs_fs.specs.Entry.{Entry}
 use Rattle.lfs_fs.specs.Row.{Row}
@@ -10,8 +9,8 @@ pub record Listed : Type 0 where
   pub depth : ℕ
   pub entry : Entry
 
--- the path of so many names with this last one, after a path that begins with the others
-abbrev pub path_after : Path → ℕ → Name → Path
+-- the path of so many names with this last one, after a path that begins with the others; a name may be kept in any form
+abbrev pub path_after : {A : Type 0} → List A → ℕ → A → List A
 path_after q zero n = []
 path_after q (suc k) n = take k q ++ n ∷ []
 

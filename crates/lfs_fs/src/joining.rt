@@ -3,7 +3,7 @@
 ghost use Rattle.std.specs.Prelude.{◌≡◌, ◌++◌, All, IfOk, IfErr, OnOk, length};
 ghost use Rattle.std.specs.List.{AllByRecursion};
 ghost use Rattle.lfs_block.specs.Disk.{IsDisk};
-ghost use Rattle.lfs_meta.specs.Spelling.{IsWhole};
+ghost use Rattle.lfs_meta.specs.Whole.{IsWhole};
 ghost use Rattle.lfs_fs.specs.Gathering.{EntriesCause, KeepsEntries, KeepsPart, KeepsParts, PartsCause, as_directory, part_entries};
 ghost use Rattle.lfs_fs.specs.Reading.{reading_of};
 ghost use Rattle.lfs_fs.specs.Sound.{Rise};

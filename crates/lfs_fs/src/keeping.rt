@@ -5,7 +5,7 @@ ghost use Rattle.lfs_block.specs.Disk.{IsDisk};
 ghost use Rattle.lfs_meta.specs.declared.kind.Kind.TheVariants.{Super};
 ghost use Rattle.lfs_meta.specs.BodyHeld.{body_held};
 ghost use Rattle.lfs_meta.specs.Fits.{BodyFits};
-ghost use Rattle.lfs_meta.specs.Spelling.{IsWhole};
+ghost use Rattle.lfs_meta.specs.Whole.{IsWhole};
 ghost use Rattle.lfs_fs.specs.AsStored.{stored_body};
 ghost use Rattle.lfs_fs.specs.FrontCause.{IsOversized};
 ghost use Rattle.lfs_fs.specs.Gathering.{BodyCause, EntryCause, KeepsBody, KeepsEntry, IsWithin, stored_length};

@@ -1,5 +1,5 @@
 -- Files by their names, and standard input, where they are known (own).
-use Rattle.std.specs.Prelude.{ℕ, ◌≡◌, ◌+◌, List, [], ◌∷◌, Option, Some, None, take, ⊤}
+use Rattle.std.specs.Prelude.{ℕ, ◌≡◌, ◌+◌, List, [], ◌∷◌, Option, Some, None, IsSome, take, ⊤}
 use Rattle.lfs_host.specs.declared.lock.Lock.{Lock}
 use Rattle.lfs_host.specs.declared.lock.Lock.TheVariants.{NoFile}
 
@@ -17,10 +17,15 @@ abbrev pub IsMissing : Option Files → List ℕ → Type 0
 IsMissing None name = ⊤
 IsMissing (Some files) name = files name ≡ None
 
--- that there is no file of a name is said only where it is so
+-- there is a file of a name, where the files are known
+abbrev pub IsThere : Option Files → List ℕ → Type 0
+IsThere None name = ⊤
+IsThere (Some files) name = IsSome (files name)
+
+-- whether there is a file of a name is said only where it is so
 abbrev pub IsLocked : Option Files → List ℕ → Lock → Type 0
 IsLocked files name NoFile = IsMissing files name
-IsLocked files name _ = ⊤
+IsLocked files name _ = IsThere files name
 
 -- these are the first bytes of known ones, `most` of them and one more at most
 abbrev pub BeginsWith : ℕ → List ℕ → List ℕ → Type 0

@@ -8,7 +8,7 @@ use Rattle.lfs_block.specs.Bytes.{IsBytes}
 use Rattle.lfs_block.specs.Change.{Change, IsRising, IsBlockChange, overlaid}
 use Rattle.lfs_block.specs.Disk.{Disk, IsDisk, block_of}
 use Rattle.lfs_block.specs.Patch.{Stands}
-use Rattle.lfs_file.proofs.ContentLemmas.{length-block}
+use Rattle.lfs_block.proofs.BlockLens.{length-block}
 use Rattle.lfs_command.specs.PartWritten.{change_at, changes_at, with_change}
 
 -- ---- an element put behind those in front that pass a test

@@ -5,6 +5,7 @@ use Rattle.std.specs.Prelude.{All, Contains, sum_by, unwrap_or}
 use Rattle.std.specs.List.{AllZip}
 use Rattle.std.proofs.lemmas.List.Elements.{All-nil, All-cons, All-map, All-weaker, All-contains, All-contains_itself, Contains-append_left}
 use Rattle.std.proofs.lemmas.List.Sums.{sum_by-cons}
+use Rattle.lfs_block.specs.Change.{Change}
 use Rattle.lfs_block.specs.Disk.{Disk, IsDisk, block_of}
 use Rattle.lfs_block.specs.Patch.{applied}
 use Rattle.lfs_block.specs.PatchLaws.{AppliedBlocks, AppliedIsDisk}
@@ -142,28 +143,28 @@ pub sum_both : {X : Type 0} (f g : X → ℕ) (xs : List X) → sum_by (λ x. f 
 sum_both f g [] = refl
 sum_both f g (x ∷ xs) = omega (arith, sum_by-cons (λ y. f y + g y) x xs, sum_by-cons f x xs, sum_by-cons g x xs, sum_both f g xs)
 
-part_within : (d : Disk) (is_new : Pair → Bool) (n : ℕ) (p : Part) (t : Bool) → p.dirty ≡ t
-    → times n (set_blocks d is_new p) ≤ pair_uses n p
-part_within d is_new n p true is = omega (arith, ap (times n) (set_is d is_new p true is), written_within d is_new p.pair n)
-part_within d is_new n p false is = omega (arith, ap (times n) (set_is d is_new p false is))
+part_within : (cs : List Change) (is_new : Pair → Bool) (n : ℕ) (p : Part) (t : Bool) → p.dirty ≡ t
+    → times n (set_blocks cs is_new p) ≤ pair_uses n p
+part_within cs is_new n p true is = omega (arith, ap (times n) (set_is cs is_new p true is), written_within cs is_new p.pair n)
+part_within cs is_new n p false is = omega (arith, ap (times n) (set_is cs is_new p false is))
 
-blocks_within : (d : Disk) (is_new : Pair → Bool) (n : ℕ) (ls : List Link)
-    → times n (links_blocks d is_new ls) ≤ sum_by (λ l. pair_uses n l.part) ls
-blocks_within d is_new n [] = omega arith
-blocks_within d is_new n (l ∷ ls) =
+blocks_within : (cs : List Change) (is_new : Pair → Bool) (n : ℕ) (ls : List Link)
+    → times n (links_blocks cs is_new ls) ≤ sum_by (λ l. pair_uses n l.part) ls
+blocks_within cs is_new n [] = omega arith
+blocks_within cs is_new n (l ∷ ls) =
     omega (
       arith,
-      times_append n (set_blocks d is_new l.part) (links_blocks d is_new ls),
-      part_within d is_new n l.part l.part.dirty refl,
-      blocks_within d is_new n ls,
+      times_append n (set_blocks cs is_new l.part) (links_blocks cs is_new ls),
+      part_within cs is_new n l.part l.part.dirty refl,
+      blocks_within cs is_new n ls,
       sum_by-cons (λ (x : Link). pair_uses n x.part) l ls,
     )
 
 -- a block of a chain isn't one of those of links that are written
-chain_apart : (d : Disk) (is_new : Pair → Bool) (n : ℕ) (w : Volume) (l : Link) → Contains (links w.directories) l → (e : Entry)
+chain_apart : (cs : List Change) (is_new : Pair → Bool) (n : ℕ) (w : Volume) (l : Link) → Contains (links w.directories) l → (e : Entry)
     → Contains l.part.entries e
-    → entry_uses n e + times n (links_blocks d is_new (links w.directories)) ≤ uses n w
-chain_apart d is_new n w l there e inside =
+    → entry_uses n e + times n (links_blocks cs is_new (links w.directories)) ≤ uses n w
+chain_apart cs is_new n w l there e inside =
     let one : entry_uses n e ≤ sum_by (entry_uses n) l.part.entries = element_le (entry_uses n) l.part.entries e inside in
     let all : sum_by (entry_uses n) l.part.entries ≤ sum_by (λ (p : Part). sum_by (entry_uses n) p.entries) (thread w.directories) =
     element_le (λ (p : Part). sum_by (entry_uses n) p.entries) (thread w.directories) l.part (part_there w.directories l there) in
@@ -175,7 +176,7 @@ chain_apart d is_new n w l there e inside =
       one,
       all,
       pairs,
-      blocks_within d is_new n (links w.directories),
+      blocks_within cs is_new n (links w.directories),
       sum_both (pair_uses n) (λ (p : Part). sum_by (entry_uses n) p.entries) (thread w.directories),
       sum_thread n w.directories,
     )
@@ -290,8 +291,8 @@ commands_are_written laws applied_disk applied_blocks join cuts d v held c s cho
           arith,
           writes.written.named n,
           unused n used,
-          ap (times n) (blocks_outlined d is_new (cut chosen (edited v c s))),
-          chain_apart d is_new n (cut chosen (edited v c s)) l there e inside,
+          ap (times n) (blocks_outlined p.changes is_new (cut chosen (edited v c s))),
+          chain_apart p.changes is_new n (cut chosen (edited v c s)) l there e inside,
           after.sound.once n,
           some,
         ) in

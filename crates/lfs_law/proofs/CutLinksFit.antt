@@ -12,7 +12,8 @@ use Rattle.lfs_meta.specs.Body.{Pair}
 use Rattle.lfs_meta.specs.Fits.{TailFits}
 use Rattle.lfs_meta.specs.Laws.{NamesAreDecided}
 use Rattle.lfs_meta.specs.Name.{IsName}
-use Rattle.lfs_meta.specs.Spelling.{IsWhole, body_bytes}
+use Rattle.lfs_meta.specs.Body.{body_bytes}
+use Rattle.lfs_meta.specs.Whole.{IsWhole}
 use Rattle.lfs_meta.specs.Weighing.{attributes_weight, weights, weight as stored_weight}
 use Rattle.lfs_meta.specs.Whole.{kind_takes_body, kind_takes_name}
 use Rattle.lfs_fs.specs.AsStored.{stored_kind, stored_body, stored_entry}

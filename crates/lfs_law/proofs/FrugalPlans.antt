@@ -8,7 +8,6 @@ use Rattle.std.proofs.lemmas.List.{length-append, length-map, length-take-le}
 use Rattle.std.proofs.lemmas.List.Elements.{All-weaker, All-contains_itself}
 use Rattle.lfs_block.specs.Change.{Change}
 use Rattle.lfs_block.specs.Disk.{Disk}
-use Rattle.lfs_meta.specs.Writing.{other_number}
 use Rattle.lfs_meta.specs.Attribute.{Attributes}
 use Rattle.lfs_meta.specs.Body.{Pair}
 use Rattle.lfs_fs.specs.Directory.{Part}
@@ -27,9 +26,9 @@ use Rattle.lfs_command.specs.Need.{dirty_parts, changed_parts, is_new_to, need}
 use Rattle.lfs_command.specs.Verdict.{refuse_if, checks, is_too_large, room_checks, verdict}
 use Rattle.lfs_command.specs.Accepted.{AreChosen, IsAccepted}
 use Rattle.lfs_command.specs.Planned.{HasOneOf, TakesLeast}
-use Rattle.lfs_law.specs.WrittenLinks.{AreWritten, changed_blocks}
+use Rattle.lfs_law.specs.WrittenLinks.{AreWritten, changed_blocks, number_in}
 use Rattle.lfs_law.specs.PlansHold.{content_blocks, rewritten_blocks, PlansAreFrugal}
-use Rattle.lfs_law.proofs.BlockLemmas.{other_is_one}
+use Rattle.lfs_law.proofs.BlockLemmas.{number_is_one}
 use Rattle.lfs_law.proofs.Homes.{first_passes, test_passes}
 use Rattle.lfs_law.proofs.LinksAdded.{times_cons, times_append}
 use Rattle.lfs_law.proofs.NamedBlocks.{blocks_are_taken}
@@ -105,8 +104,8 @@ enough_free v c h =
 
 -- ---- the blocks that are changed
 
-one_of : (d : Disk) (p : Part) (numbers : List ℕ) → Contains numbers (other_number d p.pair) → HasOneOf numbers p
-one_of d p numbers inside = elim (other_is_one d p.pair) [
+one_of : (cs : List Change) (p : Part) (numbers : List ℕ) → Contains numbers (number_in cs p.pair) → HasOneOf numbers p
+one_of cs p numbers inside = elim (number_is_one cs p.pair) [
   | inl one ↦ (0, p.pair.0, omega arith, refl, subst (Contains numbers) one inside)
   | inr one ↦ (1, p.pair.1, omega arith, refl, subst (Contains numbers) one inside)
 ]
@@ -116,16 +115,16 @@ pub changed_named : (d : Disk) (v : Volume) (c : Command) (s : Supplies) (chosen
     (attributes : Attributes) (base cs : List Change)
     → IsAccepted v c s → AreChosen v c s chosen → TakesLeast v c s chosen → changed_blocks base ≡ content_blocks v c s
     → AreWritten d bytes attributes (is_new_to v) base (links (outlined (cut chosen (edited v c s))).directories) cs
-    → (n : ℕ) → times n (changed_blocks cs) ≡ times n (take (need v c) (free_blocks v) ++ rewritten_blocks d v (edited v c s))
+    → (n : ℕ) → times n (changed_blocks cs) ≡ times n (take (need v c) (free_blocks v) ++ rewritten_blocks cs v (edited v c s))
 changed_named d v c s chosen bytes attributes base cs ok pairs least contents written n =
     omega (
       arith,
       written.named n,
       ap (times n) contents,
-      ap (times n) (blocks_outlined d (is_new_to v) (cut chosen (edited v c s))),
-      blocks_are_taken d v c s chosen ok pairs n,
+      ap (times n) (blocks_outlined cs (is_new_to v) (cut chosen (edited v c s))),
+      blocks_are_taken cs v c s chosen ok pairs n,
       least n,
-      times_append n (take (need v c) (free_blocks v)) (rewritten_blocks d v (edited v c s)),
+      times_append n (take (need v c) (free_blocks v)) (rewritten_blocks cs v (edited v c s)),
     )
 
 pub plans_are_frugal : PlansAreFrugal
@@ -133,23 +132,23 @@ plans_are_frugal d v held c s chosen base p ok pairs least contents writes =
     let w : Volume = edited v c s in
     let numbers : List ℕ = changed_blocks p.changes in
     let taken : List ℕ = take (need v c) (free_blocks v) in
-    let old : List ℕ = rewritten_blocks d v w in
+    let old : List ℕ = rewritten_blocks p.changes v w in
     let named = changed_named d v c s chosen held.bytes (cut chosen w).attributes base p.changes ok pairs least contents writes.written in
     let len : length numbers ≡ length (taken ++ old) = same_length numbers (taken ++ old) named in
-    let many : length old ≡ length (changed_parts v w) = length-map (changed_parts v w) (λ (q : Part). other_number d q.pair) in
+    let many : length old ≡ length (changed_parts v w) = length-map (changed_parts v w) (λ (q : Part). number_in p.changes q.pair) in
     let all : length taken ≡ need v c = length-take-le (need v c) (free_blocks v) (enough_free v c ok.unrefused) in
     record {
       free = All-weaker (Contains taken) (Contains numbers) (λ n there. times_contains n numbers
           (omega (arith, named n, times_append n taken old, times_there n taken there)))
           taken (All-contains_itself taken);
       changed = All-weaker (Contains (changed_parts v w)) (HasOneOf numbers)
-          (λ q there. one_of d q numbers
-          (times_contains (other_number d q.pair) numbers
+          (λ q there. one_of p.changes q numbers
+          (times_contains (number_in p.changes q.pair) numbers
           (omega (
             arith,
-            named (other_number d q.pair),
-            times_append (other_number d q.pair) taken old,
-            times_there (other_number d q.pair) old (contains_mapped (λ (x : Part). other_number d x.pair) (changed_parts v w) q there),
+            named (number_in p.changes q.pair),
+            times_append (number_in p.changes q.pair) taken old,
+            times_there (number_in p.changes q.pair) old (contains_mapped (λ (x : Part). number_in p.changes x.pair) (changed_parts v w) q there),
           ))))
           (changed_parts v w) (All-contains_itself (changed_parts v w));
       len = omega (arith, len, length-append taken old, many, all);

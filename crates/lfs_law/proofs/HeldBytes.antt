@@ -37,7 +37,7 @@ use Rattle.lfs_meta.specs.Part.{RawPart, StoredPart, empty_part}
 use Rattle.lfs_meta.specs.Replay.{acted, step_by, step, replay_from, replay, at_entry, up_to, named_by, embodied_by, attributed_by}
 use Rattle.lfs_meta.specs.Whole.{kind_takes_body, kind_takes_name, whole_by, whole, all_whole, whole_part}
 use Rattle.lfs_meta.proofs.HeldPartLemmas.{block_bytes, same_tags}
-use Rattle.lfs_file.proofs.ContentLemmas.{length-block}
+use Rattle.lfs_block.proofs.BlockLens.{length-block}
 
 -- ---- tags
 

@@ -11,16 +11,18 @@ use Rattle.lfs_block.specs.Disk.{Disk}
 use Rattle.lfs_meta.specs.Body.{Pair}
 use Rattle.lfs_meta.specs.LiveBlock.{revision}
 use Rattle.lfs_meta.specs.Part.{StoredPart}
-use Rattle.lfs_meta.specs.Writing.{other_number, part_in}
+use Rattle.lfs_commit.specs.Writing.{part_in}
 use Rattle.lfs_fs.specs.Directory.{Part}
 use Rattle.lfs_fs.specs.Thread.{Link}
 use Rattle.lfs_fs.specs.Uses.{times, pair_uses}
-use Rattle.lfs_fs.proofs.ContainsLemmas.{contains_none, contains_cases}
+use Rattle.lfs_fs.proofs.ContainsLemmas.{contains_none, contains_cases, contains_first, contains_later}
 use Rattle.lfs_fs.proofs.CountLemmas.{element_le}
-use Rattle.lfs_law.specs.WrittenLinks.{changed_blocks, block_after, part_after, written_blocks, set_blocks, links_blocks, set_uses}
-use Rattle.lfs_law.specs.WrittenLinks.{link_part, FillsFirst, MakesLink}
+use Rattle.lfs_commit.specs.Difference.{Forced}
+use Rattle.lfs_command.specs.PairChanged.{beside, pair_number}
+use Rattle.lfs_law.specs.WrittenLinks.{changed_blocks, block_after, part_after, number_in, written_blocks, set_blocks, links_blocks, set_uses}
+use Rattle.lfs_law.specs.WrittenLinks.{link_part, FillsFirst, IsPairWritten, MakesLink}
 use Rattle.lfs_law.specs.OutlineLaws.{LinksAreAdded, LinksAreFree, LinksAreLeft, NoLinksAreWritten}
-use Rattle.lfs_law.proofs.BlockLemmas.{other_is_one}
+use Rattle.lfs_law.proofs.BlockLemmas.{number_is_one, pair_number_is_one, beside_is_one}
 
 -- ---- lists
 
@@ -42,9 +44,9 @@ pub times_pair : (n : ℕ) (pair : Pair) → times n (pair.0 ∷ pair.1 ∷ []) 
 times_pair n pair = omega (arith, times_cons n pair.0 (pair.1 ∷ []), times_cons n pair.1 [])
 
 -- what is written of a pair is of its blocks
-pub written_within : (d : Disk) (is_new : Pair → Bool) (pair : Pair) (n : ℕ)
-    → times n (written_blocks d is_new pair) ≤ times n (pair.0 ∷ pair.1 ∷ [])
-written_within d is_new pair n = by (is_new pair)
+pub written_within : (cs : List Change) (is_new : Pair → Bool) (pair : Pair) (n : ℕ)
+    → times n (written_blocks cs is_new pair) ≤ times n (pair.0 ∷ pair.1 ∷ [])
+written_within cs is_new pair n = by (is_new pair)
   where
     other : (m : ℕ) → (m ≡ pair.0) ⊎ (m ≡ pair.1) → times n (m ∷ []) ≤ times n (pair.0 ∷ pair.1 ∷ [])
     other m is = elim is [
@@ -54,9 +56,9 @@ written_within d is_new pair n = by (is_new pair)
           omega (arith, same, times_cons n m [], times_pair n pair))
     ]
 
-    by : (t : Bool) → times n (if t then pair.0 ∷ pair.1 ∷ [] else other_number d pair ∷ []) ≤ times n (pair.0 ∷ pair.1 ∷ [])
+    by : (t : Bool) → times n (if t then pair.0 ∷ pair.1 ∷ [] else number_in cs pair ∷ []) ≤ times n (pair.0 ∷ pair.1 ∷ [])
     by true = omega arith
-    by false = other (other_number d pair) (other_is_one d pair)
+    by false = other (number_in cs pair) (number_is_one cs pair)
 
 pub first_used : (pair : Pair) → 1 ≤ times pair.0 (pair.0 ∷ pair.1 ∷ [])
 first_used pair = let one : cond {A = ℕ} (pair.0 == pair.0) 1 0 ≡ 1 = grind (arith, nat_tests) in omega (arith, one, times_pair pair.0 pair)
@@ -77,21 +79,21 @@ set_use n l set = ap (λ (t : Bool). if t then pair_uses n l.part else 0) set
 uses_behind : (n : ℕ) (ls : List Link) (l : Link) → set_uses n (ls ++ l ∷ []) ≡ set_uses n ls + one_use n l
 uses_behind n ls l = omega (arith, sum_by-append (one_use n) ls (l ∷ []), sum_by-cons (one_use n) l [])
 
-blocks_behind : (d : Disk) (is_new : Pair → Bool) (n : ℕ) (ls : List Link) (l : Link)
-    → times n (links_blocks d is_new (ls ++ l ∷ [])) ≡ times n (links_blocks d is_new ls) + times n (set_blocks d is_new l.part)
-blocks_behind d is_new n ls l =
-    let split : links_blocks d is_new (ls ++ l ∷ []) ≡ links_blocks d is_new ls ++ (set_blocks d is_new l.part ++ []) =
-    flat_map-append (λ (x : Link). set_blocks d is_new x.part) ls (l ∷ []) in
+blocks_behind : (cs : List Change) (is_new : Pair → Bool) (n : ℕ) (ls : List Link) (l : Link)
+    → times n (links_blocks cs is_new (ls ++ l ∷ [])) ≡ times n (links_blocks cs is_new ls) + times n (set_blocks cs is_new l.part)
+blocks_behind cs is_new n ls l =
+    let split : links_blocks cs is_new (ls ++ l ∷ []) ≡ links_blocks cs is_new ls ++ (set_blocks cs is_new l.part ++ []) =
+    flat_map-append (λ (x : Link). set_blocks cs is_new x.part) ls (l ∷ []) in
     omega (
       arith,
       ap (times n) split,
-      times_append n (links_blocks d is_new ls) (set_blocks d is_new l.part ++ []),
-      times_append n (set_blocks d is_new l.part) [],
+      times_append n (links_blocks cs is_new ls) (set_blocks cs is_new l.part ++ []),
+      times_append n (set_blocks cs is_new l.part) [],
     )
 
-pub set_is : (d : Disk) (is_new : Pair → Bool) (p : Part) (t : Bool) → p.dirty ≡ t
-    → set_blocks d is_new p ≡ (if t then written_blocks d is_new p.pair else [])
-set_is d is_new p t is = ap (λ (x : Bool). if x then written_blocks d is_new p.pair else []) is
+pub set_is : (cs : List Change) (is_new : Pair → Bool) (p : Part) (t : Bool) → p.dirty ≡ t
+    → set_blocks cs is_new p ≡ (if t then written_blocks cs is_new p.pair else [])
+set_is cs is_new p t is = ap (λ (x : Bool). if x then written_blocks cs is_new p.pair else []) is
 
 -- ---- one more link
 
@@ -105,14 +107,59 @@ pub first_stays : (d : Disk) (pair : Pair) (old new : List Change) → block_aft
     → block_after d new pair.1 ≡ block_after d old pair.1 → FillsFirst d old pair → FillsFirst d new pair
 first_stays d pair old new first second filled = record { revised = ap revision first ∙ filled.revised; erased = second ∙ filled.erased }
 
+-- where changes name the first blocks of the pairs of links as often, they name the same blocks of them
+same_number : (old new : List Change) (pair : Pair) → times pair.0 (changed_blocks new) ≡ times pair.0 (changed_blocks old)
+    → number_in new pair ≡ number_in old pair
+same_number old new pair same = ap (λ (n : ℕ). if n == 0 then pair.1 else pair.0) same
+
+same_set : (is_new : Pair → Bool) (old new : List Change) (p : Part)
+    → (p.dirty ≡ true → times p.pair.0 (changed_blocks new) ≡ times p.pair.0 (changed_blocks old))
+    → set_blocks new is_new p ≡ set_blocks old is_new p
+same_set is_new old new p same = by p.dirty same
+  where
+    by : (t : Bool) → (t ≡ true → times p.pair.0 (changed_blocks new) ≡ times p.pair.0 (changed_blocks old))
+        → (if t then written_blocks new is_new p.pair else []) ≡ (if t then written_blocks old is_new p.pair else [])
+    by true still = ap (λ (n : ℕ). if is_new p.pair then p.pair.0 ∷ p.pair.1 ∷ [] else n ∷ []) (same_number old new p.pair (still refl))
+    by false still = refl
+
+pub blocks_same : (is_new : Pair → Bool) (ls : List Link) (old new : List Change)
+    → ((m : Link) → Contains ls m → m.part.dirty ≡ true
+    → times m.part.pair.0 (changed_blocks new) ≡ times m.part.pair.0 (changed_blocks old))
+    → links_blocks new is_new ls ≡ links_blocks old is_new ls
+blocks_same is_new [] old new same = refl
+blocks_same is_new (l ∷ ls) old new same =
+    ap (λ (bs : List ℕ). bs ++ links_blocks new is_new ls) (same_set is_new old new l.part (same l (contains_first l ls)))
+    ∙ ap (λ (bs : List ℕ). set_blocks old is_new l.part ++ bs)
+    (blocks_same is_new ls old new (λ m there. same m (contains_later l ls m there)))
+
+-- where both blocks of a pair stay, so does what was written of it
+one_stays : (d : Disk) (pair : Pair) (old new : List Change) → block_after d new pair.0 ≡ block_after d old pair.0
+    → block_after d new pair.1 ≡ block_after d old pair.1 → (n : ℕ) → (n ≡ pair.0) ⊎ (n ≡ pair.1) → block_after d new n ≡ block_after d old n
+one_stays d pair old new first second n is = elim is [
+  | inl one ↦ ap (block_after d new) one ∙ first ∙ sym (ap (block_after d old) one)
+  | inr one ↦ ap (block_after d new) one ∙ second ∙ sym (ap (block_after d old) one)
+]
+
+pub written_stays : (d : Disk) (is_cut : Bool) (forced : Forced) (pair : Pair) (old new : List Change)
+    → block_after d new pair.0 ≡ block_after d old pair.0
+    → block_after d new pair.1 ≡ block_after d old pair.1 → IsPairWritten d is_cut forced pair old → IsPairWritten d is_cut forced pair new
+written_stays d is_cut forced pair old new first second written =
+    let n : ℕ = pair_number d is_cut forced pair written.part in
+    record {
+      part = written.part;
+      holds = pair_stays d pair old new written.part first second written.holds;
+      here = one_stays d pair old new first second n (pair_number_is_one d is_cut forced pair written.part) ∙ written.here;
+      there = one_stays d pair old new first second (beside pair n) (beside_is_one pair n) ∙ written.there;
+    }
+
 -- what the last link writes is of no block of an earlier one
-apart_from : (d : Disk) (is_new : Pair → Bool) (ls : List Link) (l m : Link) (n : ℕ) → l.part.dirty ≡ true → Contains ls m
+apart_from : (cs : List Change) (is_new : Pair → Bool) (ls : List Link) (l m : Link) (n : ℕ) → l.part.dirty ≡ true → Contains ls m
     → m.part.dirty ≡ true → 1 ≤ pair_uses n m.part
     → set_uses n (ls ++ l ∷ []) ≤ 1
-    → times n (written_blocks d is_new l.part.pair) ≡ 0
-apart_from d is_new ls l m n set there set_before used once =
+    → times n (written_blocks cs is_new l.part.pair) ≡ 0
+apart_from cs is_new ls l m n set there set_before used once =
     let before : one_use n m ≤ set_uses n ls = element_le (one_use n) ls m there in
-    omega (arith, before, used, once, set_use n m set_before, set_use n l set, uses_behind n ls l, written_within d is_new l.part.pair n)
+    omega (arith, before, used, once, set_use n m set_before, set_use n l set, uses_behind n ls l, written_within cs is_new l.part.pair n)
 
 pub links_are_added : LinksAreAdded
 links_are_added d bytes attributes is_new base ls l old new set once written adds = record {
@@ -122,12 +169,13 @@ links_are_added d bytes attributes is_new base ls l old new set once written add
     arith,
     written.named n,
     adds.adds.named n,
-    blocks_behind d is_new n ls l,
-    ap (times n) (set_is d is_new l.part true set),
+    blocks_behind new is_new n ls l,
+    ap (times n) (blocks_same is_new ls old new (λ m before set_before. named_still m before set_before)),
+    ap (times n) (set_is new is_new l.part true set),
   );
   kept = λ n some.
-      let none : times n (written_blocks d is_new l.part.pair) ≡ 0 = omega
-      (arith, some, once n, uses_behind n ls l, set_use n l set, written_within d is_new l.part.pair n) in
+      let none : times n (written_blocks new is_new l.part.pair) ≡ 0 = omega
+      (arith, some, once n, uses_behind n ls l, set_use n l set, written_within new is_new l.part.pair n) in
       adds.adds.others n none ∙ written.kept n some;
   makes = λ m there set_there. elim (Contains-append_cases ls (l ∷ []) m there) [
     | inl before ↦ makes_before m before set_there
@@ -138,8 +186,16 @@ links_are_added d bytes attributes is_new base ls l old new set once written add
   where
     block_stays : (m : Link) (n : ℕ) → Contains ls m → m.part.dirty ≡ true → 1 ≤ pair_uses n m.part
         → block_after d new n ≡ block_after d old n
-    block_stays m n before set_before used = adds.adds.others n (apart_from d is_new ls l m n set before set_before used
+    block_stays m n before set_before used = adds.adds.others n (apart_from new is_new ls l m n set before set_before used
         (omega (arith, once n)))
+
+    named_still : (m : Link) → Contains ls m → m.part.dirty ≡ true
+        → times m.part.pair.0 (changed_blocks new) ≡ times m.part.pair.0 (changed_blocks old)
+    named_still m before set_before =
+        let n : ℕ = m.part.pair.0 in
+        let none : times n (written_blocks new is_new l.part.pair) ≡ 0 =
+        apart_from new is_new ls l m n set before set_before (first_used m.part.pair) (omega (arith, once n)) in
+        omega (arith, adds.adds.named n, none)
 
     makes_before : (m : Link) → Contains ls m → m.part.dirty ≡ true → MakesLink d bytes attributes is_new new m
     makes_before m before set_before =
@@ -161,7 +217,7 @@ pub links_are_left : LinksAreLeft
 links_are_left d bytes attributes is_new base ls l cs unset written = record {
   rising = written.rising;
   made = written.made;
-  named = λ n. omega (arith, written.named n, blocks_behind d is_new n ls l, ap (times n) (set_is d is_new l.part false unset));
+  named = λ n. omega (arith, written.named n, blocks_behind cs is_new n ls l, ap (times n) (set_is cs is_new l.part false unset));
   kept = written.kept;
   makes = λ m there set. elim (Contains-append_cases ls (l ∷ []) m there) [
     | inl before ↦ written.makes m before set
@@ -170,20 +226,20 @@ links_are_left d bytes attributes is_new base ls l cs unset written = record {
 }
 
 -- what is written of links is within the uses of their pairs
-pub written_uses : (d : Disk) (is_new : Pair → Bool) (n : ℕ) (ls : List Link) → times n (links_blocks d is_new ls) ≤ set_uses n ls
-written_uses d is_new n [] = omega arith
-written_uses d is_new n (l ∷ ls) =
+pub written_uses : (cs : List Change) (is_new : Pair → Bool) (n : ℕ) (ls : List Link) → times n (links_blocks cs is_new ls) ≤ set_uses n ls
+written_uses cs is_new n [] = omega arith
+written_uses cs is_new n (l ∷ ls) =
     omega (
       arith,
-      times_append n (set_blocks d is_new l.part) (links_blocks d is_new ls),
+      times_append n (set_blocks cs is_new l.part) (links_blocks cs is_new ls),
       one_by l.part.dirty refl,
-      written_uses d is_new n ls,
+      written_uses cs is_new n ls,
       sum_by-cons (one_use n) l ls,
     )
   where
-    one_by : (t : Bool) → l.part.dirty ≡ t → times n (set_blocks d is_new l.part) ≤ one_use n l
-    one_by true is = omega (arith, ap (times n) (set_is d is_new l.part true is), set_use n l is, written_within d is_new l.part.pair n)
-    one_by false is = omega (arith, ap (times n) (set_is d is_new l.part false is))
+    one_by : (t : Bool) → l.part.dirty ≡ t → times n (set_blocks cs is_new l.part) ≤ one_use n l
+    one_by true is = omega (arith, ap (times n) (set_is cs is_new l.part true is), set_use n l is, written_within cs is_new l.part.pair n)
+    one_by false is = omega (arith, ap (times n) (set_is cs is_new l.part false is))
 
 pub links_are_free : LinksAreFree
 links_are_free d bytes attributes is_new base ls l old set once written = record {
@@ -194,7 +250,7 @@ links_are_free d bytes attributes is_new base ls l old set once written = record
 }
   where
     unnamed : (n : ℕ) → 1 ≤ pair_uses n l.part → times n (changed_blocks old) ≡ 0
-    unnamed n used = omega (arith, used, once n, written.named n, uses_behind n ls l, set_use n l set, written_uses d is_new n ls)
+    unnamed n used = omega (arith, used, once n, written.named n, uses_behind n ls l, set_use n l set, written_uses old is_new n ls)
 
 pub no_links_are_written : NoLinksAreWritten
 no_links_are_written d bytes attributes is_new base rising made = record {

@@ -9,11 +9,10 @@ use Rattle.std.proofs.lemmas.List.Elements.{All-contains, All-head}
 use Rattle.std.proofs.lemmas.List.Folds.{flat_map-map}
 use Rattle.std.proofs.lemmas.List.Sums.{sum_by-cons, sum_by-append, sum_by-le-sum_by}
 use Rattle.std.proofs.lemmas.Grind.{flat_map-append}
-use Rattle.lfs_block.specs.Disk.{Disk}
+use Rattle.lfs_block.specs.Change.{Change}
 use Rattle.lfs_meta.specs.Name.{Name, IsName}
 use Rattle.lfs_meta.specs.Body.{Pair}
 use Rattle.lfs_meta.specs.Runs.{later_runs}
-use Rattle.lfs_meta.specs.Writing.{other_number}
 use Rattle.lfs_fs.specs.Path.{Path}
 use Rattle.lfs_fs.specs.Entry.{Inline, Chain, Directory_at, Entry}
 use Rattle.lfs_fs.specs.Directory.{Part, Directory, parts, begins_at, thread}
@@ -33,7 +32,7 @@ use Rattle.lfs_command.specs.Edited.{new_entry, empty_directory, make_directory,
 use Rattle.lfs_command.specs.Cut.{runs, more_parts, cut, new_pairs, HasEnough, new_pair_uses}
 use Rattle.lfs_command.specs.Verdict.{refuse_if, walk_refusal, is_root}
 use Rattle.lfs_command.specs.Accepted.{IsAccepted, AreChosen}
-use Rattle.lfs_law.specs.WrittenLinks.{written_blocks, set_blocks, links_blocks, set_uses}
+use Rattle.lfs_law.specs.WrittenLinks.{number_in, written_blocks, set_blocks, links_blocks, set_uses}
 use Rattle.lfs_command.specs.Need.{is_new_to}
 use Rattle.lfs_law.specs.PlansHold.{content_blocks, BlocksAreWrittenOnce, BlocksAreTaken}
 use Rattle.lfs_law.proofs.Cuts.{cut_part, pair_times, pairs_for, head_by, tail_by, all_uses, cut_thread}
@@ -197,83 +196,83 @@ supplies_taken v (RmAttr p k) s n ok = omega (arith, none_set v (RmAttr p k) s n
 
 -- ---- parts that are cut
 
-new_written : (d : Disk) (is_new : Pair → Bool) (n : ℕ) (pair : Pair) → is_new pair ≡ true
-    → times n (written_blocks d is_new pair) ≡ pair_times n pair
-new_written d is_new n pair new = ap (λ (t : Bool). times n (if t then pair.0 ∷ pair.1 ∷ [] else other_number d pair ∷ [])) new
+new_written : (cs : List Change) (is_new : Pair → Bool) (n : ℕ) (pair : Pair) → is_new pair ≡ true
+    → times n (written_blocks cs is_new pair) ≡ pair_times n pair
+new_written cs is_new n pair new = ap (λ (t : Bool). times n (if t then pair.0 ∷ pair.1 ∷ [] else number_in cs pair ∷ [])) new
 
-more_written : (d : Disk) (is_new : Pair → Bool) (n : ℕ) (pairs : List Pair) (rs : List (List Entry)) → length pairs ≡ length rs
+more_written : (cs : List Change) (is_new : Pair → Bool) (n : ℕ) (pairs : List Pair) (rs : List (List Entry)) → length pairs ≡ length rs
     → ((q : Pair) → Contains pairs q → is_new q ≡ true)
-    → times n (flat_map (set_blocks d is_new) (more_parts pairs rs)) ≡ sum_by (pair_times n) pairs
-more_written d is_new n [] [] many new = refl
-more_written d is_new n [] (run ∷ rs) many new = let no : ⊥ = omega (arith, many) in absurd no
-more_written d is_new n (pair ∷ pairs) [] many new = let no : ⊥ = omega (arith, many) in absurd no
-more_written d is_new n (pair ∷ pairs) (run ∷ rs) many new =
+    → times n (flat_map (set_blocks cs is_new) (more_parts pairs rs)) ≡ sum_by (pair_times n) pairs
+more_written cs is_new n [] [] many new = refl
+more_written cs is_new n [] (run ∷ rs) many new = let no : ⊥ = omega (arith, many) in absurd no
+more_written cs is_new n (pair ∷ pairs) [] many new = let no : ⊥ = omega (arith, many) in absurd no
+more_written cs is_new n (pair ∷ pairs) (run ∷ rs) many new =
     omega (
       arith,
-      times_append n (written_blocks d is_new pair) (flat_map (set_blocks d is_new) (more_parts pairs rs)),
-      new_written d is_new n pair (new pair (contains_first pair pairs)),
-      more_written d is_new n pairs rs (omega (arith, many)) (λ q there. new q (contains_later pair pairs q there)),
+      times_append n (written_blocks cs is_new pair) (flat_map (set_blocks cs is_new) (more_parts pairs rs)),
+      new_written cs is_new n pair (new pair (contains_first pair pairs)),
+      more_written cs is_new n pairs rs (omega (arith, many)) (λ q there. new q (contains_later pair pairs q there)),
       sum_by-cons (pair_times n) pair pairs,
     )
 
-part_by : (d : Disk) (is_new : Pair → Bool) (n : ℕ) (chosen : Part → List Pair) (w : Volume) (p : Part) (t : Bool) → p.dirty ≡ t
+part_by : (cs : List Change) (is_new : Pair → Bool) (n : ℕ) (chosen : Part → List Pair) (w : Volume) (p : Part) (t : Bool) → p.dirty ≡ t
     → (t ≡ true → length (chosen p) ≡ length (later_runs (runs w p)))
     → ((q : Pair) → Contains (if t then chosen p else []) q → is_new q ≡ true)
-    → times n (flat_map (set_blocks d is_new) (head_by w p t ∷ tail_by chosen w p t))
-    ≡ times n (set_blocks d is_new p) + sum_by (pair_times n) (if t then chosen p else [])
-part_by d is_new n chosen w p true is enough new =
+    → times n (flat_map (set_blocks cs is_new) (head_by w p t ∷ tail_by chosen w p t))
+    ≡ times n (set_blocks cs is_new p) + sum_by (pair_times n) (if t then chosen p else [])
+part_by cs is_new n chosen w p true is enough new =
     omega (
       arith,
-      times_append n (written_blocks d is_new p.pair) (flat_map (set_blocks d is_new) (more_parts (chosen p) (later_runs (runs w p)))),
-      more_written d is_new n (chosen p) (later_runs (runs w p)) (enough refl) new,
-      ap (times n) (set_is d is_new p true is),
+      times_append n (written_blocks cs is_new p.pair) (flat_map (set_blocks cs is_new) (more_parts (chosen p) (later_runs (runs w p)))),
+      more_written cs is_new n (chosen p) (later_runs (runs w p)) (enough refl) new,
+      ap (times n) (set_is cs is_new p true is),
     )
-part_by d is_new n chosen w p false is enough new = omega (arith, times_append n (set_blocks d is_new p) [])
+part_by cs is_new n chosen w p false is enough new = omega (arith, times_append n (set_blocks cs is_new p) [])
 
-parts_written : (d : Disk) (is_new : Pair → Bool) (n : ℕ) (chosen : Part → List Pair) (w : Volume) (ps : List Part)
+parts_written : (cs : List Change) (is_new : Pair → Bool) (n : ℕ) (chosen : Part → List Pair) (w : Volume) (ps : List Part)
     → ((p : Part) → Contains ps p → HasEnough chosen w p)
     → ((p : Part) → Contains ps p → (q : Pair) → Contains (new_pairs chosen p) q → is_new q ≡ true)
-    → times n (flat_map (set_blocks d is_new) (flat_map (cut_part chosen w) ps))
-    ≡ sum_by (λ p. times n (set_blocks d is_new p)) ps + pairs_for chosen n ps
-parts_written d is_new n chosen w [] enough new = refl
-parts_written d is_new n chosen w (p ∷ ps) enough new =
+    → times n (flat_map (set_blocks cs is_new) (flat_map (cut_part chosen w) ps))
+    ≡ sum_by (λ p. times n (set_blocks cs is_new p)) ps + pairs_for chosen n ps
+parts_written cs is_new n chosen w [] enough new = refl
+parts_written cs is_new n chosen w (p ∷ ps) enough new =
     omega (
       arith,
-      ap (times n) (flat_map-append (set_blocks d is_new) (cut_part chosen w p) (flat_map (cut_part chosen w) ps)),
-      times_append n (flat_map (set_blocks d is_new) (cut_part chosen w p))
-          (flat_map (set_blocks d is_new) (flat_map (cut_part chosen w) ps)),
-      part_by d is_new n chosen w p p.dirty refl (enough p (contains_first p ps)) (new p (contains_first p ps)),
-      parts_written d is_new n chosen w ps (λ x there. enough x (contains_later p ps x there))
+      ap (times n) (flat_map-append (set_blocks cs is_new) (cut_part chosen w p) (flat_map (cut_part chosen w) ps)),
+      times_append n (flat_map (set_blocks cs is_new) (cut_part chosen w p))
+          (flat_map (set_blocks cs is_new) (flat_map (cut_part chosen w) ps)),
+      part_by cs is_new n chosen w p p.dirty refl (enough p (contains_first p ps)) (new p (contains_first p ps)),
+      parts_written cs is_new n chosen w ps (λ x there. enough x (contains_later p ps x there))
           (λ x there. new x (contains_later p ps x there)),
-      sum_by-cons (λ (x : Part). times n (set_blocks d is_new x)) p ps,
+      sum_by-cons (λ (x : Part). times n (set_blocks cs is_new x)) p ps,
       sum_by-cons (λ (x : Part). sum_by (pair_times n) (new_pairs chosen x)) p ps,
     )
 
 -- ---- parts that are rewritten
 
-abbrev others_of : Disk → List Part → List ℕ
-others_of d ps = map (λ p. other_number d p.pair) ps
+abbrev others_of : List Change → List Part → List ℕ
+others_of cs ps = map (λ p. number_in cs p.pair) ps
 
 abbrev rewritten : Volume → List Part → List Part
 rewritten v ps = filter (λ p. p.dirty && not (is_new_to v p.pair)) ps
 
-set_by : (d : Disk) (n : ℕ) (p : Part) (ps : List Part) (t u : Bool)
-    → times n (if t then (if u then p.pair.0 ∷ p.pair.1 ∷ [] else other_number d p.pair ∷ []) else []) + times n (others_of d ps)
-    ≡ (if t then (if u then pair_times n p.pair else 0) else 0) + times n (others_of d (if t && not u then p ∷ ps else ps))
-set_by d n p ps true true = refl
-set_by d n p ps true false = omega (arith, times_cons n (other_number d p.pair) (others_of d ps), times_cons n (other_number d p.pair) [])
-set_by d n p ps false u = refl
+set_by : (cs : List Change) (n : ℕ) (p : Part) (ps : List Part) (t u : Bool)
+    → times n (if t then (if u then p.pair.0 ∷ p.pair.1 ∷ [] else number_in cs p.pair ∷ []) else []) + times n (others_of cs ps)
+    ≡ (if t then (if u then pair_times n p.pair else 0) else 0) + times n (others_of cs (if t && not u then p ∷ ps else ps))
+set_by cs n p ps true true = refl
+set_by cs n p ps true false = omega (arith, times_cons n (number_in cs p.pair) (others_of cs ps), times_cons n (number_in cs p.pair) [])
+set_by cs n p ps false u = refl
 
-set_written : (d : Disk) (v : Volume) (n : ℕ) (ps : List Part) → sum_by (λ p. times n (set_blocks d (is_new_to v) p)) ps
-    ≡ set_total (new_times v n) ps + times n (others_of d (rewritten v ps))
-set_written d v n [] = refl
-set_written d v n (p ∷ ps) =
+set_written : (cs : List Change) (v : Volume) (n : ℕ) (ps : List Part) → sum_by (λ p. times n (set_blocks cs (is_new_to v) p)) ps
+    ≡ set_total (new_times v n) ps + times n (others_of cs (rewritten v ps))
+set_written cs v n [] = refl
+set_written cs v n (p ∷ ps) =
     omega (
       arith,
-      sum_by-cons (λ (x : Part). times n (set_blocks d (is_new_to v) x)) p ps,
+      sum_by-cons (λ (x : Part). times n (set_blocks cs (is_new_to v) x)) p ps,
       sum_by-cons (λ (x : Part). if x.dirty then new_times v n x.pair else 0) p ps,
-      set_by d n p (rewritten v ps) p.dirty (is_new_to v p.pair),
-      set_written d v n ps,
+      set_by cs n p (rewritten v ps) p.dirty (is_new_to v p.pair),
+      set_written cs v n ps,
     )
 
 -- ---- the blocks that are written
@@ -287,24 +286,24 @@ chosen_is_new v c s chosen pairs p there q inside =
     element_le (λ (x : Part). sum_by (pair_times q.0) (new_pairs chosen x)) (thread (edited v c s).directories) p there in
     new_is v q (omega (arith, one, all, pairs.once q.0, first_used q))
 
-links_written : (d : Disk) (is_new : Pair → Bool) (ds : List Directory)
-    → links_blocks d is_new (links ds) ≡ flat_map (set_blocks d is_new) (thread ds)
-links_written d is_new ds = sym (flat_map-map (set_blocks d is_new) (λ (l : Link). l.part) (links ds))
-    ∙ ap (flat_map (set_blocks d is_new)) (parts_of_links ds)
+links_written : (cs : List Change) (is_new : Pair → Bool) (ds : List Directory)
+    → links_blocks cs is_new (links ds) ≡ flat_map (set_blocks cs is_new) (thread ds)
+links_written cs is_new ds = sym (flat_map-map (set_blocks cs is_new) (λ (l : Link). l.part) (links ds))
+    ∙ ap (flat_map (set_blocks cs is_new)) (parts_of_links ds)
 
 pub blocks_are_taken : BlocksAreTaken
-blocks_are_taken d v c s chosen ok pairs n =
+blocks_are_taken cs v c s chosen ok pairs n =
     let w : Volume = edited v c s in
-    let is : links_blocks d (is_new_to v) (links (cut chosen w).directories)
-    ≡ flat_map (set_blocks d (is_new_to v)) (flat_map (cut_part chosen w) (thread w.directories)) =
-    links_written d (is_new_to v) (cut chosen w).directories ∙ ap (flat_map (set_blocks d (is_new_to v)))
+    let is : links_blocks cs (is_new_to v) (links (cut chosen w).directories)
+    ≡ flat_map (set_blocks cs (is_new_to v)) (flat_map (cut_part chosen w) (thread w.directories)) =
+    links_written cs (is_new_to v) (cut chosen w).directories ∙ ap (flat_map (set_blocks cs (is_new_to v)))
     (cut_thread chosen w w.directories) in
     omega (
       arith,
       ap (times n) is,
-      parts_written d (is_new_to v) n chosen w (thread w.directories) (λ p there.
+      parts_written cs (is_new_to v) n chosen w (thread w.directories) (λ p there.
           All-contains (HasEnough chosen w) (thread w.directories) p pairs.enough there) (chosen_is_new v c s chosen pairs),
-      set_written d v n (thread w.directories),
+      set_written cs v n (thread w.directories),
       supplies_taken v c s n ok,
     )
 

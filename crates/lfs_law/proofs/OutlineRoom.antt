@@ -9,7 +9,7 @@ use Rattle.lfs_meta.specs.Body.{Pair}
 use Rattle.lfs_meta.specs.Runs.{later_runs}
 use Rattle.lfs_fs.specs.Entry.{Body, Inline, Chain, Directory_at, Entry}
 use Rattle.lfs_fs.specs.Weight.{weight, superblock_weight}
-use Rattle.lfs_fs.specs.Directory.{Part, Directory, entries, thread}
+use Rattle.lfs_fs.specs.Directory.{Part, Directory, thread}
 use Rattle.lfs_fs.specs.Volume.{Volume}
 use Rattle.lfs_fs.specs.Uses.{times}
 use Rattle.lfs_fs.specs.Outlined.{blank, outlined_body, outlined_entry, outlined_part, outlined_directory, outlined}

@@ -16,7 +16,7 @@ use Rattle.lfs_meta.specs.declared.kind.Kind.TheVariants.{Super}
 use Rattle.lfs_meta.specs.declared.tail.Tail.{Tail}
 use Rattle.lfs_meta.specs.Body.{Pair}
 use Rattle.lfs_meta.specs.LiveBlock.{revision, stored_part_of}
-use Rattle.lfs_meta.specs.Writing.{part_in}
+use Rattle.lfs_commit.specs.Writing.{part_in}
 use Rattle.lfs_fs.specs.AsStored.{head_of, stored_kind, stored_body, stored_entry}
 use Rattle.lfs_fs.specs.Entry.{Body, Inline, Chain, Directory_at, Entry}
 use Rattle.lfs_fs.specs.Directory.{Part, Directory, thread}
@@ -28,11 +28,12 @@ use Rattle.lfs_fs.specs.Reading.{Reading, reading_of}
 use Rattle.lfs_fs.specs.Stored.{BodyStands, StandsFor, IsStored, HoldsLinks}
 use Rattle.lfs_fs.proofs.ContainsLemmas.{contains_first, contains_later, contains_mapped}
 use Rattle.lfs_command.specs.Need.{is_new_to}
+use Rattle.lfs_command.specs.PairChanged.{beside, is_cut_by, pair_number}
 use Rattle.lfs_command.specs.PartWritten.{FirstIsFilled}
 use Rattle.lfs_law.specs.Written.{cleaned_link}
 use Rattle.lfs_law.specs.WrittenLinks.{changed_blocks, block_after, set_blocks, links_blocks, set_uses, link_part}
-use Rattle.lfs_law.specs.WrittenLinks.{FillsFirst, MakesLink}
-use Rattle.lfs_law.specs.OutlineLaws.{IsThere, WritesOutline, NewPairsAreFilled, OutlinesAreWritten}
+use Rattle.lfs_law.specs.WrittenLinks.{FillsFirst, IsPairWritten, MakesLink}
+use Rattle.lfs_law.specs.OutlineLaws.{IsThere, WritesOutline, NewPairsAreFilled, OutlinesAreWritten, PairsAreChanged}
 use Rattle.lfs_law.proofs.ChangesAt.{overlaid_none}
 use Rattle.lfs_law.proofs.LinksAdded.{times_cons, times_append, written_within, one_use, set_is}
 use Rattle.lfs_law.proofs.OutlineEntries.{outlined_entries}
@@ -63,10 +64,10 @@ links_outlined (d ∷ ds) =
     ∙ sym (map-append outlined_link (links_of d.first d.more (tail_to ds)) (links ds))
 
 -- they are written to the same blocks
-pub blocks_outlined : (d : Disk) (is_new : Pair → Bool) (w : Volume) → links_blocks d is_new (links (outlined w).directories)
-    ≡ links_blocks d is_new (links w.directories)
-blocks_outlined d is_new w =
-    ap (links_blocks d is_new) (links_outlined w.directories) ∙ flat_map-map (λ (l : Link). set_blocks d is_new l.part) outlined_link
+pub blocks_outlined : (cs : List Change) (is_new : Pair → Bool) (w : Volume) → links_blocks cs is_new (links (outlined w).directories)
+    ≡ links_blocks cs is_new (links w.directories)
+blocks_outlined cs is_new w =
+    ap (links_blocks cs is_new) (links_outlined w.directories) ∙ flat_map-map (λ (l : Link). set_blocks cs is_new l.part) outlined_link
     (links w.directories)
 
 set_uses_mapped : (n : ℕ) (ls : List Link) → set_uses n (map outlined_link ls) ≡ set_uses n ls
@@ -98,20 +99,20 @@ none_named n (c ∷ cs) none = (
     differ : c.number ≡ n → cond {A = ℕ} (c.number == n) 1 0 ≡ 0 → ⊥
     differ same zero_is = let one : cond {A = ℕ} (c.number == n) 1 0 ≡ 1 = grind (arith, nat_tests) in omega (arith, one, zero_is)
 
-set_by : (d : Disk) (is_new : Pair → Bool) (n : ℕ) (p : Part) (t : Bool) → p.dirty ≡ t → (p.dirty ≡ true → pair_uses n p ≡ 0)
-    → times n (set_blocks d is_new p) ≡ 0
-set_by d is_new n p true is unused = omega (arith, ap (times n) (set_is d is_new p true is), unused is, written_within d is_new p.pair n)
-set_by d is_new n p false is unused = ap (times n) (set_is d is_new p false is)
+set_by : (cs : List Change) (is_new : Pair → Bool) (n : ℕ) (p : Part) (t : Bool) → p.dirty ≡ t → (p.dirty ≡ true → pair_uses n p ≡ 0)
+    → times n (set_blocks cs is_new p) ≡ 0
+set_by cs is_new n p true is unused = omega (arith, ap (times n) (set_is cs is_new p true is), unused is, written_within cs is_new p.pair n)
+set_by cs is_new n p false is unused = ap (times n) (set_is cs is_new p false is)
 
-unwritten : (d : Disk) (is_new : Pair → Bool) (n : ℕ) (ls : List Link)
-    → ((l : Link) → Contains ls l → l.part.dirty ≡ true → pair_uses n l.part ≡ 0) → times n (links_blocks d is_new ls) ≡ 0
-unwritten d is_new n [] unused = refl
-unwritten d is_new n (l ∷ ls) unused =
+unwritten : (cs : List Change) (is_new : Pair → Bool) (n : ℕ) (ls : List Link)
+    → ((l : Link) → Contains ls l → l.part.dirty ≡ true → pair_uses n l.part ≡ 0) → times n (links_blocks cs is_new ls) ≡ 0
+unwritten cs is_new n [] unused = refl
+unwritten cs is_new n (l ∷ ls) unused =
     omega (
       arith,
-      times_append n (set_blocks d is_new l.part) (links_blocks d is_new ls),
-      set_by d is_new n l.part l.part.dirty refl (unused l (contains_first l ls)),
-      unwritten d is_new n ls (λ m there. unused m (contains_later l ls m there)),
+      times_append n (set_blocks cs is_new l.part) (links_blocks cs is_new ls),
+      set_by cs is_new n l.part l.part.dirty refl (unused l (contains_first l ls)),
+      unwritten cs is_new n ls (λ m there. unused m (contains_later l ls m there)),
     )
 
 -- ---- what is
@@ -177,14 +178,14 @@ outlines_are_written disk blocks d v w held is_new base p writes =
       size = after.size;
       count = after.count;
       stays = λ n used none.
-          let apart : times n (links_blocks d is_new (links w.directories)) ≡ 0 =
-          unwritten d is_new n (links w.directories) (λ l there set. none l.part (part_there w.directories l there) set) in
+          let apart : times n (links_blocks p.changes is_new (links w.directories)) ≡ 0 =
+          unwritten p.changes is_new n (links w.directories) (λ l there set. none l.part (part_there w.directories l there) set) in
           let unnamed : times n (changed_blocks p.changes) ≡ 0 = omega (
             arith,
             writes.written.named n,
             writes.unused n used,
             apart,
-            ap (times n) (blocks_outlined d is_new w),
+            ap (times n) (blocks_outlined p.changes is_new w),
           ) in
           blocks p d n writes.disk writes.patch writes.stands ∙ overlaid_none p.changes n (block_of d n) (none_named n p.changes unnamed);
       written = link_stored blocks d v w held is_new base p writes;
@@ -213,3 +214,15 @@ new_pairs_are_filled disk blocks d v w held base p writes q there = All-contains
           erased = blocks p d l.part.pair.1 writes.disk writes.patch writes.stands ∙ first.erased
               ∙ ap (λ (n : ℕ). replicate n 0xff) (sym (disk p d writes.disk writes.patch writes.stands).size);
         }
+
+pub pairs_are_changed : AppliedBlocks → PairsAreChanged
+pairs_are_changed blocks d v w held base p forced writes changed l there set old =
+    let is_cut : Bool = is_cut_by (is_new_to v) l.tail in
+    let written : IsPairWritten d is_cut forced l.part.pair p.changes = changed (outlined_link l) (outline_there w l there) set old in
+    let n : ℕ = pair_number d is_cut forced l.part.pair written.part in
+    record {
+      part = written.part;
+      holds = read_after blocks d v w held (is_new_to v) base p writes l.part.pair ∙ written.holds;
+      here = blocks p d n writes.disk writes.patch writes.stands ∙ written.here;
+      there = blocks p d (beside l.part.pair n) writes.disk writes.patch writes.stands ∙ written.there;
+    }

@@ -6,6 +6,7 @@ use Rattle.lfs_block.specs.Disk.{Disk, IsDisk}
 use Rattle.lfs_block.specs.Patch.{ChangeSet, IsPatch, AgreesOld, applied}
 use Rattle.lfs_meta.specs.Attribute.{Attributes}
 use Rattle.lfs_meta.specs.Body.{Pair}
+use Rattle.lfs_commit.specs.Difference.{Forced}
 use Rattle.lfs_fs.specs.AsStored.{head_of}
 use Rattle.lfs_fs.specs.Entry.{Body, Inline, Chain, Directory_at, Entry}
 use Rattle.lfs_fs.specs.Outlined.{outlined}
@@ -16,9 +17,10 @@ use Rattle.lfs_fs.specs.Uses.{times, uses}
 use Rattle.lfs_fs.specs.Reading.{Reading, reading_of}
 use Rattle.lfs_fs.specs.Stored.{HoldsLinks}
 use Rattle.lfs_command.specs.Need.{is_new_to}
+use Rattle.lfs_command.specs.PairChanged.{ChangesPairs}
 use Rattle.lfs_command.specs.Planned.{FillsNewPairs}
 use Rattle.lfs_law.specs.Written.{Writes}
-use Rattle.lfs_law.specs.WrittenLinks.{changed_blocks, set_uses, CanBeMade, IsFreeFor, AddsLink, AreWritten}
+use Rattle.lfs_law.specs.WrittenLinks.{ChangesLinks, changed_blocks, set_uses, CanBeMade, IsFreeFor, AddsLink, AreWritten}
 
 -- the law: a link that is set is written behind others, where no two of them, nor the base, use one block
 abbrev pub LinksAreAdded : Type 0
@@ -76,3 +78,9 @@ OutlinesAreWritten = (d : Disk) (v w : Volume) (held : HoldsLinks (reading_of d)
 abbrev pub NewPairsAreFilled : Type 0
 NewPairsAreFilled = (d : Disk) (v w : Volume) (held : HoldsLinks (reading_of d) v) (base : List Change) (p : ChangeSet)
     → WritesOutline d v w held (is_new_to v) base p → FillsNewPairs v w (applied p d)
+
+-- the law: then pairs that were there are changed as their links are written
+abbrev pub PairsAreChanged : Type 0
+PairsAreChanged = (d : Disk) (v w : Volume) (held : HoldsLinks (reading_of d) v) (base : List Change) (p : ChangeSet) (forced : Forced)
+    → WritesOutline d v w held (is_new_to v) base p
+    → ChangesLinks d (is_new_to v) forced (links (outlined w).directories) p.changes → ChangesPairs forced v w d (applied p d)

@@ -1,20 +1,23 @@
 -- What is owed and made where pairs of an image are written one after another (own).
-use Rattle.std.specs.Prelude.{ℕ, ◌≡◌, ◌≢◌, ◌<◌, ◌≤◌, ◌+◌, Bool, true, List, [], ◌∷◌, length, Contains}
+use Rattle.std.specs.Prelude.{ℕ, ◌≡◌, ◌≢◌, ◌<◌, ◌≤◌, ◌+◌, Bool, true, List, [], ◌∷◌, length, Contains, Some}
 use Rattle.std.specs.List.{AllByRecursion}
 use Rattle.lfs_block.specs.Change.{Change, IsRising}
-use Rattle.lfs_block.specs.Disk.{Disk}
+use Rattle.lfs_block.specs.Disk.{Disk, put}
 use Rattle.lfs_meta.specs.declared.tail.Tail.{Tail}
 use Rattle.lfs_meta.specs.Attribute.{Attributes}
 use Rattle.lfs_meta.specs.Body.{Pair}
 use Rattle.lfs_meta.specs.Fits.{TailFits}
-use Rattle.lfs_meta.specs.Spelling.{IsWhole}
+use Rattle.lfs_meta.specs.Whole.{IsWhole}
 use Rattle.lfs_meta.specs.Weighing.{weights}
-use Rattle.lfs_meta.specs.Writing.{stored_part}
+use Rattle.lfs_commit.specs.Difference.{Forced}
+use Rattle.lfs_commit.specs.Writing.{stored_part}
+use Rattle.lfs_meta.specs.LiveBlock.{stored_part_of}
 use Rattle.lfs_meta.specs.Runs.{most_entries}
 use Rattle.lfs_fs.specs.Directory.{Part}
 use Rattle.lfs_fs.specs.State.{little_endian}
 use Rattle.lfs_fs.specs.Thread.{Link}
 use Rattle.lfs_fs.specs.Uses.{times}
+use Rattle.lfs_command.specs.PairChanged.{pair_block, pair_number}
 use Rattle.lfs_command.specs.PartWritten.{Found}
 use Rattle.lfs_law.specs.WrittenLinks.{changed_blocks, block_after, set_uses, stored_entries, CanBeMade, CanBeWritten}
 
@@ -43,6 +46,13 @@ pub record FitsPair (d : Disk) (part : Found) : Type 0 where
   pub few : length part.1.entries ≤ most_entries
   pub room : weights part.1.entries + 40 ≤ d.size
   pub tail : TailFits part.1.tail
+
+-- the block that carries a pair to a part, with its number: in the image with it the pair holds the part
+pub record IsPairsBlock (d : Disk) (is_cut : Bool) (forced : Forced) (part : Found) (n : ℕ) (block : List ℕ) : Type 0 where
+  pub number : n ≡ pair_number d is_cut forced part.0 part.1
+  pub bytes : block ≡ pair_block d is_cut forced part.0 part.1
+  pub len : length block ≡ d.size
+  pub reads_back : stored_part_of (put n block d) part.0 ≡ Some part.1
 
 -- a link as its part is stored, in its pair
 pub record IsLinkStored (bytes : List ℕ) (attributes : Attributes) (l : Link) (part : Found) : Type 0 where

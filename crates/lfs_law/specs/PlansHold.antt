@@ -6,7 +6,7 @@ use Rattle.lfs_block.specs.Disk.{Disk}
 use Rattle.lfs_block.specs.Patch.{ChangeSet, applied}
 use Rattle.lfs_meta.specs.Attribute.{Attributes}
 use Rattle.lfs_meta.specs.Body.{Pair}
-use Rattle.lfs_meta.specs.Writing.{other_number}
+use Rattle.lfs_commit.specs.Difference.{Forced}
 use Rattle.lfs_fs.specs.Directory.{Part}
 use Rattle.lfs_fs.specs.Outlined.{outlined}
 use Rattle.lfs_fs.specs.Volume.{Volume}
@@ -25,7 +25,7 @@ use Rattle.lfs_command.specs.Clean.{clean}
 use Rattle.lfs_command.specs.Accepted.{IsAccepted, AreChosen}
 use Rattle.lfs_command.specs.Need.{is_new_to, changed_parts}
 use Rattle.lfs_command.specs.Planned.{IsFrugal, TakesLeast}
-use Rattle.lfs_law.specs.WrittenLinks.{changed_blocks, links_blocks, set_uses, AreWritten}
+use Rattle.lfs_law.specs.WrittenLinks.{changed_blocks, links_blocks, number_in, set_uses, AreWritten, ChangesLinks}
 use Rattle.lfs_law.specs.OutlineLaws.{WritesOutline}
 
 -- the law: where a patch writes the outline of what an accepted command leaves, cut, the patched image holds it
@@ -56,9 +56,15 @@ TablesTellNew = (v : Volume) (used : List Bool) → Marks used (λ b. uses b v)
     → (d : Disk) (bytes : List ℕ) (attributes : Attributes) (base : List Change) (ls : List Link) (cs : List Change)
     → AreWritten d bytes attributes (is_unmarked used) base ls cs → AreWritten d bytes attributes (is_new_to v) base ls cs
 
--- the blocks that aren't live of the parts that are set in w whose pairs v has, one of each pair
-abbrev pub rewritten_blocks : Disk → Volume → Volume → List ℕ
-rewritten_blocks d v w = map (λ p. other_number d p.pair) (changed_parts v w)
+-- the law: and so it is of pairs that are changed
+abbrev pub TablesTellChanged : Type 0
+TablesTellChanged = (v : Volume) (used : List Bool) → Marks used (λ b. uses b v)
+    → (d : Disk) (forced : Forced) (ls : List Link) (cs : List Change)
+    → ChangesLinks d (is_unmarked used) forced ls cs → ChangesLinks d (is_new_to v) forced ls cs
+
+-- the blocks that changes name of the parts that are set in w whose pairs v has, one of each pair
+abbrev pub rewritten_blocks : List Change → Volume → Volume → List ℕ
+rewritten_blocks cs v w = map (λ p. number_in cs p.pair) (changed_parts v w)
 
 -- the law: no block is written twice
 abbrev pub BlocksAreWrittenOnce : Type 0
@@ -67,10 +73,10 @@ BlocksAreWrittenOnce = (v : Volume) (c : Command) (s : Supplies) (chosen : Part 
 
 -- the law: what is written are the blocks that the command takes, and one of each pair of the volume whose part it sets
 abbrev pub BlocksAreTaken : Type 0
-BlocksAreTaken = (d : Disk) (v : Volume) (c : Command) (s : Supplies) (chosen : Part → List Pair) → IsAccepted v c s
+BlocksAreTaken = (cs : List Change) (v : Volume) (c : Command) (s : Supplies) (chosen : Part → List Pair) → IsAccepted v c s
     → AreChosen v c s chosen
-    → (n : ℕ) → times n (content_blocks v c s) + times n (links_blocks d (is_new_to v) (links (cut chosen (edited v c s)).directories))
-    ≡ supply_uses v c s n + new_pair_uses chosen (edited v c s) n + times n (rewritten_blocks d v (edited v c s))
+    → (n : ℕ) → times n (content_blocks v c s) + times n (links_blocks cs (is_new_to v) (links (cut chosen (edited v c s)).directories))
+    ≡ supply_uses v c s n + new_pair_uses chosen (edited v c s) n + times n (rewritten_blocks cs v (edited v c s))
 
 -- the law: then they are free, each taken once
 abbrev pub LeastAreFree : Type 0

@@ -1,5 +1,5 @@
 -- Links of an outline as they are written: changes of an image, one after another (own).
-use Rattle.std.specs.Prelude.{ℕ, ◌≡◌, ◌≢◌, ◌<◌, ◌≤◌, ◌+◌, Bool, true, List, [], ◌∷◌, Option, Some, if◌then◌else◌, length, map, flat_map}
+use Rattle.std.specs.Prelude.{ℕ, ◌≡◌, ◌≢◌, ◌<◌, ◌≤◌, ◌+◌, ◌==◌, Bool, true, false, List, [], ◌∷◌, Option, Some, if◌then◌else◌, length, map, flat_map}
 use Rattle.std.specs.Prelude.{sum_by, Contains}
 use Rattle.std.specs.List.{AllByRecursion}
 use Rattle.lfs_block.specs.Disk.{Disk, block_of}
@@ -10,9 +10,10 @@ use Rattle.lfs_meta.specs.Body.{Pair}
 use Rattle.lfs_meta.specs.Entry.{StoredEntry}
 use Rattle.lfs_meta.specs.Part.{StoredPart}
 use Rattle.lfs_meta.specs.Fits.{TailFits}
-use Rattle.lfs_meta.specs.Spelling.{IsWhole}
+use Rattle.lfs_meta.specs.Whole.{IsWhole}
 use Rattle.lfs_meta.specs.Weighing.{weights}
-use Rattle.lfs_meta.specs.Writing.{other_number, part_in, stored_part}
+use Rattle.lfs_commit.specs.Difference.{Forced}
+use Rattle.lfs_commit.specs.Writing.{part_in, stored_part}
 use Rattle.lfs_meta.specs.Runs.{most_entries}
 use Rattle.lfs_fs.specs.AsStored.{stored_entry}
 use Rattle.lfs_fs.specs.Directory.{Part}
@@ -20,6 +21,7 @@ use Rattle.lfs_fs.specs.State.{little_endian}
 use Rattle.lfs_fs.specs.Thread.{Link}
 use Rattle.lfs_fs.specs.Uses.{pair_uses, times}
 use Rattle.lfs_fs.specs.Stored.{stored_before}
+use Rattle.lfs_command.specs.PairChanged.{beside, is_cut_by, pair_block, pair_number}
 use Rattle.lfs_command.specs.PartWritten.{FirstIsFilled}
 
 -- the stored entries of a part, the superblock's in front in the root's first one
@@ -51,21 +53,40 @@ pub record CanBeMade (d : Disk) (c : Change) : Type 0 where
 
 -- ---- which blocks are written
 
--- both of a new pair; of another one the block that isn't live
-abbrev pub written_blocks : Disk → (Pair → Bool) → Pair → List ℕ
-written_blocks d is_new pair = if is_new pair then pair.0 ∷ pair.1 ∷ [] else other_number d pair ∷ []
+-- the block of a pair that changes name: the first one, or else the second
+abbrev pub number_in : List Change → Pair → ℕ
+number_in cs pair = if times pair.0 (changed_blocks cs) == 0 then pair.1 else pair.0
+
+-- both of a new pair; of another one the block that is changed
+abbrev pub written_blocks : List Change → (Pair → Bool) → Pair → List ℕ
+written_blocks cs is_new pair = if is_new pair then pair.0 ∷ pair.1 ∷ [] else number_in cs pair ∷ []
 
 -- those of a part's pair, where the part is set
-abbrev pub set_blocks : Disk → (Pair → Bool) → Part → List ℕ
-set_blocks d is_new p = if p.dirty then written_blocks d is_new p.pair else []
+abbrev pub set_blocks : List Change → (Pair → Bool) → Part → List ℕ
+set_blocks cs is_new p = if p.dirty then written_blocks cs is_new p.pair else []
 
 -- those of all links
-abbrev pub links_blocks : Disk → (Pair → Bool) → List Link → List ℕ
-links_blocks d is_new ls = flat_map (λ l. set_blocks d is_new l.part) ls
+abbrev pub links_blocks : List Change → (Pair → Bool) → List Link → List ℕ
+links_blocks cs is_new ls = flat_map (λ l. set_blocks cs is_new l.part) ls
 
 -- how often the pairs of links that are set use a block
 abbrev pub set_uses : ℕ → List Link → ℕ
 set_uses n ls = sum_by (λ (l : Link). if l.part.dirty then pair_uses n l.part else 0) ls
+
+-- ---- one pair
+
+-- Changes make a pair hold a part by the block that carries it there, and leave its other block.
+pub record IsPairWritten (d : Disk) (is_cut : Bool) (forced : Forced) (pair : Pair) (cs : List Change) : Type 0 where
+  pub part : StoredPart
+  pub holds : part_after d cs pair ≡ Some part
+  pub here : block_after d cs (pair_number d is_cut forced pair part) ≡ pair_block d is_cut forced pair part
+  pub there : block_after d cs (beside pair (pair_number d is_cut forced pair part))
+      ≡ block_of d (beside pair (pair_number d is_cut forced pair part))
+
+-- the pairs of the links that are set, new ones aside, are written so
+abbrev pub ChangesLinks : Disk → (Pair → Bool) → Forced → List Link → List Change → Type 0
+ChangesLinks d is_new forced ls cs = (l : Link) → Contains ls l → l.part.dirty ≡ true → is_new l.part.pair ≡ false
+    → IsPairWritten d (is_cut_by is_new l.tail) forced l.part.pair cs
 
 -- ---- one link
 
@@ -103,7 +124,7 @@ pub record AddsLink (d : Disk) (bytes : List ℕ) (attributes : Attributes) (is_
     (old new : List Change) : Type 0 where
   pub delta : List ℕ
   pub delta_is : little_endian delta ≡ l.part.delta
-  pub adds : AddsPart d l.part.pair (written_blocks d is_new l.part.pair) (link_part bytes attributes l delta) old new
+  pub adds : AddsPart d l.part.pair (written_blocks new is_new l.part.pair) (link_part bytes attributes l delta) old new
   pub filled : is_new l.part.pair ≡ true → FillsFirst d new l.part.pair
 
 -- ---- all links
@@ -122,6 +143,6 @@ pub record AreWritten (d : Disk) (bytes : List ℕ) (attributes : Attributes) (i
     (base : List Change) (ls : List Link) (cs : List Change) : Type 0 where
   pub rising : IsRising cs
   pub made : AllByRecursion (CanBeMade d) cs
-  pub named : (n : ℕ) → times n (changed_blocks cs) ≡ times n (changed_blocks base) + times n (links_blocks d is_new ls)
+  pub named : (n : ℕ) → times n (changed_blocks cs) ≡ times n (changed_blocks base) + times n (links_blocks cs is_new ls)
   pub kept : (n : ℕ) → 0 < times n (changed_blocks base) → block_after d cs n ≡ block_after d base n
   pub makes : (l : Link) → Contains ls l → l.part.dirty ≡ true → MakesLink d bytes attributes is_new cs l

@@ -1,8 +1,8 @@
 //! Laws of what is written of an outline: each function does nothing but call laws, and its contract is the law.
 
 ghost use Rattle.lfs_law.specs.CutWritten.{CutLinksCanBeAdded, CutLinksCanBeWritten, HeldBytesAreMade, NewPairsAreFresh};
-ghost use Rattle.lfs_law.specs.OutlineLaws.{LinksAreAdded, LinksAreFree, LinksAreLeft, NewPairsAreFilled, NoLinksAreWritten, OutlinesAreWritten};
-ghost use Rattle.lfs_law.specs.PlansHold.{BlocksAreTaken, BlocksAreWrittenOnce, LeastAreFree, PlansAreFrugal, PlansHold, TablesTellNew};
+ghost use Rattle.lfs_law.specs.OutlineLaws.{LinksAreAdded, LinksAreFree, LinksAreLeft, NewPairsAreFilled, NoLinksAreWritten, OutlinesAreWritten, PairsAreChanged};
+ghost use Rattle.lfs_law.specs.PlansHold.{BlocksAreTaken, BlocksAreWrittenOnce, LeastAreFree, PlansAreFrugal, PlansHold, TablesTellChanged, TablesTellNew};
 ghost use Rattle.lfs_law.specs.PlansWritten.{CommandsAreWritten, LaidAreThere};
 
 use crate::laws::{commands_are_frugal, commands_follow, cuts_follow, written_volumes_are_held};
@@ -28,13 +28,14 @@ pub fn links_are_written_in_turn()
 {}
 
 /// A law: where a patch writes the links of an outline, the chains of its volume are there, and nothing else that the old volume
-/// used is written, the patch writes the volume (`written`), and what is new stands in the first blocks of new pairs (`filled`). Takes no
-/// memory.
+/// used is written, the patch writes the volume (`written`), what is new stands in the first blocks of new pairs (`filled`), and pairs
+/// that were there are changed as their links are written (`changed`). Takes no memory.
 ///
 /// Source: own.
 pub fn outlines_are_written()
     ensures written { OutlinesAreWritten }
     ensures filled { NewPairsAreFilled }
+    ensures changed { PairsAreChanged }
 {
     applied_patches_change_their_blocks();
 }
@@ -68,11 +69,13 @@ pub fn least_blocks_are_free()
     ensures { LeastAreFree }
 {}
 
-/// A law: a table of the blocks that a volume uses tells its pairs from new ones. Takes no memory.
+/// A law: a table of the blocks that a volume uses tells its pairs from new ones, where links are written (`new`) and where pairs are
+/// changed (`changed`). Takes no memory.
 ///
 /// Source: own.
 pub fn tables_tell_new_pairs()
-    ensures { TablesTellNew }
+    ensures new { TablesTellNew }
+    ensures changed { TablesTellChanged }
 {}
 
 /// A law: a file's contents that are laid in blocks are there when the links are written. Takes no memory.

@@ -6,7 +6,7 @@ ghost use Rattle.lfs_listing.specs.Listing.{row_lines};
 
 use crate::attributes::append_attributes;
 use crate::entries::append_entry;
-use crate::paths::follow;
+use crate::paths::follow_row;
 use lfs_fs::Row;
 use std::alloc::AllocError;
 
@@ -20,7 +20,7 @@ pub(crate) fn append_row<'a>(
     ensures path { OnOk result (map (λ n. n.now) path.new.items
         ≡ path_after (map (λ n. n.now) path.old.items) row.now.depth row.now.entry.name) }
 {
-    follow(path, row)?;
+    follow_row(path, row)?;
     append_entry(text, path, row)?;
     append_attributes(text, row.attributes)
 }

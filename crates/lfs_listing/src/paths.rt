@@ -6,20 +6,16 @@ ghost use Rattle.lfs_fs.specs.Path.{path_text};
 ghost use Rattle.lfs_listing.specs.Listing.{shown_byte};
 
 use crate::escaping::append_all_shown;
-use lfs_fs::Row;
+use lfs_fs::{Row, follow};
 use std::alloc::AllocError;
 
 /// Turns the path of a row into that of the next one.
-pub(crate) fn follow<'a>(path: &mut Vec<&'a [u8]>, next: &Row<'a>) -> Result<(), AllocError>
+pub(crate) fn follow_row<'a>(path: &mut Vec<&'a [u8]>, next: &Row<'a>) -> Result<(), AllocError>
     ensures { OnOk result (map (λ n. n.now) path.new.items
         ≡ path_after (map (λ n. n.now) path.old.items) next.now.depth next.now.entry.name) }
 {
-    if next.depth == 0 {
-        path.clear();
-        return Ok(());
-    }
-    path.truncate(next.depth - 1);
-    Ok(path.push(next.name)?)
+    follow(path, next.depth, next.name)?;
+    Ok(())
 }
 
 /// Adds a slash and a name.

@@ -5,7 +5,7 @@ use Rattle.std.proofs.lemmas.List.Sums.{sum_by-cons}
 use Rattle.lfs_meta.specs.Attribute.{Attributes}
 use Rattle.lfs_meta.specs.Body.{StoredBody, Inline, Chain, Directory_at}
 use Rattle.lfs_meta.specs.Fits.{AttributeFits, RiseFrom, BodyFits}
-use Rattle.lfs_meta.specs.Spelling.{body_bytes, words}
+use Rattle.lfs_meta.specs.Body.{body_bytes, words}
 use Rattle.lfs_meta.specs.Weighing.{attributes_weight}
 
 rising_weight : (least room : ℕ) (xs : Attributes) → RiseFrom least xs → least + room ≡ 256 → attributes_weight xs ≤ room * 1026

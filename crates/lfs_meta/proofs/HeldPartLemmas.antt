@@ -3,12 +3,11 @@ use Rattle.std.proofs.Common.{◌≡◌, ℕ, ◌+◌, ◌*◌, ◌<◌, ◌≤�
 use Rattle.std.proofs.Common.{subst, arith, Option, Some, None}
 use Rattle.std.specs.Prelude.{All, option_and_then, option_map}
 use Rattle.std.specs.List.{AllByRecursion}
-use Rattle.std.proofs.Math.Nat.{mul-le-mul_right}
-use Rattle.std.proofs.lemmas.List.{length-take-le, length-drop}
 use Rattle.std.proofs.lemmas.List.Elements.{All-nil, All-cons, All-head, All-tail}
 use Rattle.std.proofs.lemmas.Option.{option_and_then_some}
 use Rattle.lfs_block.specs.Bytes.{IsBytes}
 use Rattle.lfs_block.specs.Disk.{Disk, IsDisk, block_of}
+use Rattle.lfs_block.proofs.BlockLens.{length-block}
 use Rattle.lfs_block.proofs.PutLemmas.{IsBytes-drop, IsBytes-take}
 use Rattle.lfs_tag.specs.Commit.{Item, IsItem}
 use Rattle.lfs_tag.specs.Laws.{BlocksHaveALog, LogTagsAreItems}
@@ -36,11 +35,7 @@ use Rattle.lfs_meta.proofs.WholeLemmas.{when_both}
 -- ---- blocks
 
 block_len : (d : Disk) (n : ℕ) → IsDisk d → n < d.count → 4 ≤ length (block_of d n)
-block_len d n disk below =
-    let rows : (n + 1) * d.size ≤ d.count * d.size = mul-le-mul_right d.size (omega arith) in
-    let left : d.size ≤ length (drop (n * d.size) d.bytes) = omega (arith, length-drop (n * d.size) d.bytes, disk.len, rows) in
-    let len : length (block_of d n) ≡ d.size = length-take-le d.size (drop (n * d.size) d.bytes) left in
-    omega (arith, len, disk.geometry.size_fits.0)
+block_len d n disk below = omega (arith, length-block d n disk below, disk.geometry.size_fits.0)
 
 pub block_bytes : (d : Disk) (n : ℕ) → IsDisk d → IsBytes (block_of d n)
 block_bytes d n disk = IsBytes-take d.size (drop (n * d.size) d.bytes) (IsBytes-drop (n * d.size) d.bytes disk.bytes)

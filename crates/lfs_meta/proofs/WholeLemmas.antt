@@ -15,7 +15,7 @@ use Rattle.lfs_meta.specs.Attribute.{Attributes}
 use Rattle.lfs_meta.specs.Body.{StoredBody}
 use Rattle.lfs_meta.specs.Name.{Name}
 use Rattle.lfs_meta.specs.Part.{StoredPart}
-use Rattle.lfs_meta.specs.Spelling.{IsWhole, raw_of, raw_part}
+use Rattle.lfs_meta.specs.Whole.{IsWhole, raw_of, raw_part}
 
 all_whole-cons : (e : RawEntry) (es : List RawEntry) (w : StoredEntry) (ws : List StoredEntry) → whole e ≡ Some w → all_whole es ≡ Some ws
     → all_whole (e ∷ es) ≡ Some (w ∷ ws)

@@ -1,6 +1,6 @@
 -- Structs: where an entry's contents stand (SPEC.md, "Metadata types").
-use Rattle.std.specs.Prelude.{ℕ, ◌+◌, ◌==◌, List, slice_range, if◌then◌else◌}
-use Rattle.std.specs.Int.{w32, from_le_bytes}
+use Rattle.std.specs.Prelude.{ℕ, ◌+◌, ◌==◌, ◌++◌, List, slice_range, if◌then◌else◌}
+use Rattle.std.specs.Int.{w32, from_le_bytes, to_le_bytes}
 
 -- two block numbers
 abbrev pub Pair : Type 0
@@ -23,3 +23,13 @@ body_named kind bytes =
     if kind == 0x201 then Inline bytes
     else if kind == 0x202 then Chain (struct_word bytes 0) (struct_word bytes 4)
     else Directory_at (struct_word bytes 0) (struct_word bytes 4)
+
+-- two words, low bytes first
+abbrev pub words : ℕ → ℕ → List ℕ
+words first second = to_le_bytes w32 first ++ to_le_bytes w32 second
+
+-- the data of a struct's tag
+abbrev pub body_bytes : StoredBody → List ℕ
+body_bytes (Inline bytes) = bytes
+body_bytes (Chain head size) = words head size
+body_bytes (Directory_at first second) = words first second

@@ -1,9 +1,8 @@
 -- Laws of pairs and names.
-use Rattle.std.specs.Prelude.{◌≡◌, ◌↔◌, ℕ, ◌+◌, ◌%◌, ◌<◌, ◌≤◌, true, List, length, Some, None}
+use Rattle.std.specs.Prelude.{◌≡◌, ◌↔◌, ℕ, ◌<◌, true, List, Some, None}
 use Rattle.std.specs.List.{AllByRecursion}
 use Rattle.lfs_block.specs.Disk.{Disk, block_of}
 use Rattle.lfs_block.specs.declared.mount_fault.MountFault.{MountFault}
-use Rattle.lfs_block.specs.Geometry.{block_size_step}
 use Rattle.lfs_meta.specs.Body.{Pair}
 use Rattle.lfs_meta.specs.Name.{Name, IsName, is_name}
 use Rattle.lfs_meta.specs.LiveBlock.{live_block, tags_of, part_of, stored_part_of}
@@ -12,13 +11,9 @@ use Rattle.lfs_meta.specs.declared.live_block.LiveBlock.TheVariants.{First, Seco
 use Rattle.lfs_meta.specs.Cause.{PairCause}
 use Rattle.lfs_tag.specs.Commit.{Item, IsItem}
 use Rattle.lfs_tag.specs.LogSeen.{log_seen}
-use Rattle.lfs_tag.specs.Writing.{committed_end}
-use Rattle.lfs_meta.specs.Weighing.{weights}
-use Rattle.lfs_meta.specs.Fits.{EntryFits, RawPartFits, TailFits}
-use Rattle.lfs_meta.specs.Part.{RawPart, StoredPart}
+use Rattle.lfs_meta.specs.Fits.{RawPartFits}
+use Rattle.lfs_meta.specs.Part.{RawPart}
 use Rattle.lfs_meta.specs.Replay.{replay}
-use Rattle.lfs_meta.specs.Spelling.{IsWhole, raw_part, part_tags}
-use Rattle.lfs_meta.specs.Whole.{whole_part}
 
 -- the test of a name says whether it is one
 abbrev pub NamesAreDecided : Type 0
@@ -40,20 +35,6 @@ UnreadPairsHoldNoPart = (fault : MountFault) (d : Disk) (pair : Pair) → PairCa
 -- what tags leave keeps to the lengths of tags, and its attributes rise
 abbrev pub ReplayedPartsFit : Type 0
 ReplayedPartsFit = (tags : List Item) (p : RawPart) → AllByRecursion IsItem tags → replay tags ≡ Some p → RawPartFits p
-
--- the tags that a part is written as leave that part
-abbrev pub WrittenPartsReplay : Type 0
-WrittenPartsReplay = (p : StoredPart) → AllByRecursion EntryFits p.entries → length p.entries ≤ 1022 → TailFits p.tail → length p.delta ≡ 12
-    → replay (part_tags p) ≡ Some (raw_part p)
-
--- what whole entries are written as is whole
-abbrev pub WrittenPartsAreWhole : Type 0
-WrittenPartsAreWhole = (p : StoredPart) → AllByRecursion IsWhole p.entries → whole_part (raw_part p) ≡ Some p
-
--- what is written for entries whose weights leave 40 bytes of a block fits it
-abbrev pub WeightsFit : Type 0
-WeightsFit = (p : StoredPart) (size : ℕ) → size % block_size_step ≡ 0 → length p.delta ≡ 12 → weights p.entries + 40 ≤ size
-    → committed_end 4 (part_tags p) ≤ size
 
 -- the live block of two has a commit, and its log is what is read of it; where neither is live, neither has one
 abbrev pub IsLive : LiveBlock → List ℕ → List ℕ → Type 0

@@ -13,9 +13,7 @@ pub mod Laws
 pub mod Cause
 pub mod Fits
 pub mod BodyHeld
-pub mod Spelling
 pub mod Weighing
 pub mod Runs
 pub mod RunLaws
-pub mod Writing
 pub mod HeldLaws

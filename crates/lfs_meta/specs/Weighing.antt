@@ -2,7 +2,7 @@
 use Rattle.std.specs.Prelude.{ℕ, ◌+◌, List, length, sum_by}
 use Rattle.lfs_meta.specs.Attribute.{Attributes}
 use Rattle.lfs_meta.specs.Entry.{StoredEntry}
-use Rattle.lfs_meta.specs.Spelling.{body_bytes}
+use Rattle.lfs_meta.specs.Body.{body_bytes}
 
 -- attributes' tags, of four bytes each, and their values
 abbrev pub attributes_weight : Attributes → ℕ

@@ -1,5 +1,5 @@
 -- Entries that are whole: named, with a struct that their kind takes (own: SPEC.md leaves open what others mean).
-use Rattle.std.specs.Prelude.{◌≡◌, ◌&&◌, Bool, true, false, List, [], ◌∷◌, Option, Some, None, option_map, option_and_then, if◌then◌else◌}
+use Rattle.std.specs.Prelude.{◌≡◌, ◌&&◌, Bool, true, false, List, [], ◌∷◌, map, Option, Some, None, option_map, option_and_then, if◌then◌else◌}
 use Rattle.lfs_meta.specs.declared.kind.Kind.{Kind}
 use Rattle.lfs_meta.specs.declared.kind.Kind.TheVariants.{File, Dir, Super}
 use Rattle.lfs_meta.specs.Attribute.{Attributes}
@@ -25,6 +25,11 @@ abbrev pub kind_takes_name : Kind → Name → Bool
 kind_takes_name File name = is_name name
 kind_takes_name Dir name = is_name name
 kind_takes_name Super name = true
+
+-- a struct and a name that the entry's kind takes
+pub record IsWhole (e : StoredEntry) : Type 0 where
+  pub body : kind_takes_body e.kind e.body ≡ true
+  pub name : kind_takes_name e.kind e.name ≡ true
 
 -- no name, no struct, or a struct that the kind doesn't take
 abbrev pub IsIncompleteBy : Option (Kind × Name) → Option StoredBody → Type 0
@@ -63,3 +68,10 @@ all_whole (e ∷ es) = option_and_then (λ w. option_map (λ ws. w ∷ ws) (all_
 -- the part, where all its entries are whole
 abbrev pub whole_part : RawPart → Option StoredPart
 whole_part p = option_map (λ es. record { entries = es; tail = p.tail; delta = p.delta }) (all_whole p.entries)
+
+-- how tags leave a whole entry, and a part of them
+abbrev pub raw_of : StoredEntry → RawEntry
+raw_of e = record { name = Some (e.kind, e.name); body = Some e.body; attributes = e.attributes }
+
+abbrev pub raw_part : StoredPart → RawPart
+raw_part p = record { entries = map raw_of p.entries; tail = p.tail; delta = p.delta }

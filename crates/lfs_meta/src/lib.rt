@@ -1,4 +1,4 @@
-//! Metadata pairs: the tags of a log replayed to entries, a tail and a delta, and the live block of a pair.
+//! Metadata pairs, read: the tags of a log replayed to entries, a tail and a delta, and the live block of a pair.
 #![tactic(auto)]
 
 mod action;
@@ -9,7 +9,6 @@ mod attributes;
 mod body;
 mod body_ref;
 mod cutting;
-mod edits;
 mod entry;
 mod entry_draft;
 mod held_laws;
@@ -25,7 +24,6 @@ mod runs;
 mod tail;
 mod weighing;
 mod whole;
-mod writing;
 
 pub use attribute::{Attribute, remove_attribute, set_attribute};
 pub use attribute_copies::copied_attributes;
@@ -38,9 +36,9 @@ pub use held_laws::{
 pub use kind::Kind;
 pub use laws::{
     live_blocks_are_read, names_are_decided, parts_depend_on_their_blocks, replayed_parts_fit,
-    unread_pairs_hold_no_part, weights_fit, written_parts_replay,
+    unread_pairs_hold_no_part,
 };
-pub use live_block::LiveBlock;
+pub use live_block::{LiveBlock, revision};
 pub use name::is_name;
 pub use part::Part;
 pub use read::read_pair;
@@ -50,4 +48,3 @@ pub use runs::{
 };
 pub use tail::Tail;
 pub use weighing::{attributes_weight, weight};
-pub use writing::{first_block, rewrite};

@@ -9,7 +9,7 @@ use lfs_tag::Log;
 /// A block's revision. The caller owes four bytes or more. Takes no memory.
 ///
 /// Source: SPEC.md, "Metadata pairs".
-pub(crate) fn revision(block: &[u8]) -> u32
+pub fn revision(block: &[u8]) -> u32
     requires { 4 ≤ length block.now }
     ensures { result ≡ revision block.now }
 {
@@ -48,27 +48,35 @@ fn committed(block: &[u8]) -> Option<Log<'_>>
     if log.commits > 0 { Some(log) } else { None }
 }
 
-/// The live block of a pair. The second block is tried first where its revision is the later one, else the first one.
-pub(crate) fn live_block<'a>(first: &'a [u8], second: &'a [u8]) -> LiveBlock<'a>
-    requires first { 4 ≤ length first.now }
-    requires second { 4 ≤ length second.now }
-    ensures { result ≡ live_block first.now second.now }
-{
-    if is_later(revision(second), revision(first)) {
-        match committed(second) {
-            Some(log) => LiveBlock::Second(log),
-            None => match committed(first) {
-                Some(log) => LiveBlock::First(log),
-                None => LiveBlock::Neither,
-            },
-        }
-    } else {
-        match committed(first) {
-            Some(log) => LiveBlock::First(log),
-            None => match committed(second) {
+impl<'a> LiveBlock<'a> {
+    ghost use Rattle.std.specs.Prelude.{◌≡◌, ◌≤◌, length};
+    ghost use Rattle.lfs_meta.specs.LiveBlock.{live_block};
+
+    /// The live block of two. The second one is tried first where its revision is the later one, else the first one. The caller owes
+    /// blocks of four bytes or more. Takes no memory.
+    ///
+    /// Source: SPEC.md, "Metadata pairs"; the first block where neither is later: own.
+    pub fn of(first: &'a [u8], second: &'a [u8]) -> LiveBlock<'a>
+        requires first { 4 ≤ length first.now }
+        requires second { 4 ≤ length second.now }
+        ensures { result ≡ live_block first.now second.now }
+    {
+        if is_later(revision(second), revision(first)) {
+            match committed(second) {
                 Some(log) => LiveBlock::Second(log),
-                None => LiveBlock::Neither,
-            },
+                None => match committed(first) {
+                    Some(log) => LiveBlock::First(log),
+                    None => LiveBlock::Neither,
+                },
+            }
+        } else {
+            match committed(first) {
+                Some(log) => LiveBlock::First(log),
+                None => match committed(second) {
+                    Some(log) => LiveBlock::Second(log),
+                    None => LiveBlock::Neither,
+                },
+            }
         }
     }
 }
@@ -82,7 +90,7 @@ pub(crate) fn live<'a>(first: &'a [u8], second: &'a [u8]) -> Option<Log<'a>>
     requires second { 4 ≤ length second.now }
     ensures { result ≡ live_log (live_block first.now second.now) }
 {
-    match live_block(first, second) {
+    match LiveBlock::of(first, second) {
         LiveBlock::First(log) | LiveBlock::Second(log) => Some(log),
         LiveBlock::Neither => None,
     }

@@ -1,9 +1,9 @@
 //! A pair of an image, read.
 
-ghost use Rattle.std.specs.Prelude.{◌≡◌, ◌<◌, Some, IfOk, IfErr};
+ghost use Rattle.std.specs.Prelude.{◌≡◌, ◌<◌, Some, All, IfOk, IfErr};
 ghost use Rattle.std.specs.List.{AllByRecursion};
-ghost use Rattle.lfs_meta.specs.Fits.{RawPartFits};
-ghost use Rattle.lfs_meta.specs.Spelling.{IsWhole};
+ghost use Rattle.lfs_meta.specs.Fits.{EntryFits, RawPartFits};
+ghost use Rattle.lfs_meta.specs.Whole.{IsWhole};
 ghost use Rattle.lfs_meta.specs.LiveBlock.{part_of, stored_part_of};
 ghost use Rattle.lfs_meta.specs.Cause.{DraftCause, ReadCause};
 
@@ -35,10 +35,10 @@ pub(crate) fn read_draft<'a, B: Blocks>(
     replayed(alloc, log.tags())
 }
 
-/// The part that a pair of an image holds, all of whose entries are whole. It is refused with what `read_draft` says, with
-/// `IncompleteEntry` where an entry has no name, no struct or one that its kind doesn't take, and with `BadName` where an
-/// entry's kind doesn't take its name. Where several of these hold, one of them is named. The caller owes two numbers
-/// below the block count.
+/// The part that a pair of an image holds, all of whose entries are whole and fit their tags. It is refused with what
+/// `read_draft` says, with `IncompleteEntry` where an entry has no name, no struct or one that its kind doesn't take, and
+/// with `BadName` where an entry's kind doesn't take its name. Where several of these hold, one of them is named. The caller
+/// owes two numbers below the block count.
 ///
 /// Source: SPEC.md, "Metadata pairs".
 pub fn read_pair<B: Blocks>(alloc: Global, blocks: &B, pair: (u32, u32)) -> Result<Part, MountFault>
@@ -47,6 +47,7 @@ pub fn read_pair<B: Blocks>(alloc: Global, blocks: &B, pair: (u32, u32)) -> Resu
     ensures pair { IfOk result (λ part. part.0 ≡ pair) }
     ensures found { IfOk result (λ part. stored_part_of (B.disk blocks.now) pair ≡ Some part.1) }
     ensures whole { IfOk result (λ part. AllByRecursion IsWhole part.1.entries) }
+    ensures fit { IfOk result (λ part. All EntryFits part.1.entries) }
     ensures refused { IfErr result (λ fault. ReadCause fault (B.disk blocks.now) pair) }
 {
     let draft = read_draft(alloc, blocks, pair)?;

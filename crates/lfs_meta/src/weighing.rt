@@ -3,7 +3,7 @@
 ghost use Rattle.std.specs.Prelude.{◌≡◌, ◌+◌, ◌<◌, ◌≤◌, ◌^◌, length};
 ghost use Rattle.lfs_meta.specs.BodyHeld.{body_held};
 ghost use Rattle.lfs_meta.specs.Fits.{RiseFrom};
-ghost use Rattle.lfs_meta.specs.Spelling.{body_bytes};
+ghost use Rattle.lfs_meta.specs.Body.{body_bytes};
 ghost use Rattle.lfs_meta.specs.Weighing.{attributes_weight, weight};
 
 use crate::attribute::Attribute;

@@ -2,11 +2,11 @@
 
 ghost use Rattle.std.specs.Prelude.{◌≡◌, ◌<◌, [], ◌∷◌, ◌++◌, length, Some, IfOk, IfErr, OnOk, All};
 ghost use Rattle.std.specs.List.{AllByRecursion};
-ghost use Rattle.lfs_meta.specs.Spelling.{IsWhole};
+ghost use Rattle.lfs_meta.specs.Whole.{IsWhole};
 ghost use Rattle.lfs_meta.specs.BodySeen.{body_seen};
 ghost use Rattle.lfs_meta.specs.BodyHeld.{body_held};
 ghost use Rattle.lfs_meta.specs.Cause.{EntryCause, EntriesCause};
-ghost use Rattle.lfs_meta.specs.Fits.{AttributeFits, BodyFits, ContentsFit, RawEntryFits, RiseFrom};
+ghost use Rattle.lfs_meta.specs.Fits.{AttributeFits, BodyFits, ContentsFit, EntryFits, RawEntryFits, RiseFrom};
 ghost use Rattle.lfs_meta.specs.Whole.{all_whole, kind_takes_body, kind_takes_name, whole};
 
 use crate::attribute::Attribute;
@@ -93,12 +93,13 @@ fn entry_of(
     requires name { length name.now < 1023 }
     requires contents { ContentsFit (body_seen body) }
     requires rise { RiseFrom 0 attributes.now }
-    ensures { IfOk result (λ entry. entry ≡ record {
+    ensures entry { IfOk result (λ entry. entry ≡ record {
       kind = kind;
       name = name.now;
       body = body_seen body.entry;
       attributes = attributes.now;
     }) }
+    ensures fits { IfOk result EntryFits }
 {
     let name = Vec::from_slice(alloc, name)?;
     let body = body_of(alloc, body)?;
@@ -116,6 +117,7 @@ fn entry_of(
 fn whole(alloc: Global, draft: &EntryDraft<'_>) -> Result<Entry, MountFault>
     requires { RawEntryFits draft.now }
     ensures found { IfOk result (λ entry. whole draft.now ≡ Some entry) }
+    ensures fits { IfOk result EntryFits }
     ensures refused { IfErr result (λ fault. EntryCause fault draft.now) }
 {
     let Some((kind, name)) = draft.name else {
@@ -146,6 +148,7 @@ pub(crate) fn all_whole(alloc: Global, drafts: &[EntryDraft<'_>]) -> Result<Vec<
     requires { All RawEntryFits drafts.now }
     ensures found { IfOk result (λ entries. all_whole drafts.now ≡ Some entries.items) }
     ensures whole { IfOk result (λ entries. AllByRecursion IsWhole entries.items) }
+    ensures fit { IfOk result (λ entries. All EntryFits entries.items) }
     ensures refused { IfErr result (λ fault. EntriesCause fault drafts.now) }
 {
     let mut entries = Vec::with_capacity(alloc, drafts.len()).map_err(|_| MountFault::Memory)?;

@@ -1,24 +1,20 @@
 -- Pairs of an image filled, those of some links behind those of others.
 use Rattle.std.proofs.Common.{◌≡◌, ◌≢◌, ℕ, ◌+◌, ◌<◌, ◌≤◌, ◌==◌, cond, List, [], ◌∷◌, ◌++◌, ap, sym, ◌∙◌, subst, arith, inl, inr, refl}
-use Rattle.std.proofs.Common.{drop, length}
 use Rattle.std.specs.Prelude.{Contains, replicate}
 use Rattle.std.proofs.lemmas.Bool.Decides.{nat_tests}
-use Rattle.std.proofs.lemmas.List.{drop_all, map-append}
+use Rattle.std.proofs.lemmas.List.{map-append}
 use Rattle.std.proofs.lemmas.List.Elements.{Contains-append_cases, Contains-append_left, Contains-append_right}
 use Rattle.std.proofs.lemmas.List.Sums.{sum_by-append, sum_by-cons}
 use Rattle.lfs_block.specs.Disk.{Disk, IsDisk, block_of, put}
 use Rattle.lfs_block.specs.PatchLaws.{BlockPut, BlockPutOther, IsDiskAs}
-use Rattle.lfs_meta.specs.declared.tail.Tail.{Tail}
 use Rattle.lfs_meta.specs.Attribute.{Attributes}
 use Rattle.lfs_meta.specs.Entry.{StoredEntry}
 use Rattle.lfs_meta.specs.Weighing.{weights}
-use Rattle.lfs_meta.specs.Writing.{IsFirstBlock, part_in, stored_part}
-use Rattle.lfs_fs.specs.Directory.{Directory, Part}
-use Rattle.lfs_fs.specs.Thread.{Link, links, links_of}
+use Rattle.lfs_commit.specs.Writing.{IsFirstBlock, part_in, stored_part}
+use Rattle.lfs_fs.specs.Thread.{Link}
 use Rattle.lfs_fs.specs.Uses.{times, pair_uses}
 use Rattle.lfs_fs.proofs.ContainsLemmas.{contains_first}
 use Rattle.lfs_fs.proofs.CountLemmas.{element_le}
-use Rattle.lfs_law.specs.PairWritten.{link_to}
 use Rattle.lfs_law.specs.WrittenLinks.{link_part, stored_entries}
 use Rattle.lfs_law.proofs.LinksAdded.{contains_one, first_used, second_used, times_append, times_cons, times_pair}
 use Rattle.lfs_new.specs.DiskBut.{IsDiskBut}
@@ -201,20 +197,6 @@ module _ (bytes : List ℕ) (attributes : Attributes) where
       (subst (λ (xs : List StoredEntry). IsFirstBlock size (stored_part xs l.tail (replicate 12 0)) block) entries first))
       (subst (IsDiskAs d) put_is same))
 
-  -- ---- the ends of lists
-
-  -- no directory
-  pub none_filled : (d : Disk) (seen ds : List Directory) → seen ≡ ds → length seen ≡ 0 → IsDisk d
-      → FillPairs d d bytes attributes (links ds)
-  none_filled d seen ds same none disk = subst (λ (es : List Directory). FillPairs d d bytes attributes (links es)) same (by seen none)
-    where
-      by : (es : List Directory) → length es ≡ 0 → FillPairs d d bytes attributes (links es)
-      by [] none' = record { but = but_itself d [] disk; each = λ l there. let no : ⊥ = omega (arith, there.1) in absurd no }
-      by (e ∷ es) none' = let no : ⊥ = omega (arith, none') in absurd no
-
-  -- the last part of a directory
-  pub last_can : (d : Disk) (p : Part) (seen more : List Part) (i : ℕ) (tail : Tail) → seen ≡ more → length seen ≤ i
-      → CanFillPairs d bytes attributes (links_of p (drop i more) tail) → CanFillPair d bytes attributes (link_to p tail)
-  last_can d p seen more i tail same past can =
-      one_can d (link_to p tail)
-      (subst (λ (ps : List Part). CanFillPairs d bytes attributes (links_of p ps tail)) (ap (drop i) (sym same) ∙ drop_all i seen past) can)
+  -- no links
+  pub none_filled : (d : Disk) → IsDisk d → FillPairs d d bytes attributes []
+  none_filled d disk = record { but = but_itself d [] disk; each = λ l there. let no : ⊥ = omega (arith, there.1) in absurd no }

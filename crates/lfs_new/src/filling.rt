@@ -9,8 +9,9 @@ ghost use Rattle.lfs_new.specs.Filled.{CanFillPair, FillPairs, first_blocks};
 
 use crate::putting::put_block;
 use lfs_block::{Blocks, Image, put_blocks_stand};
+use lfs_commit::first_block;
 use lfs_fs::{Outline, OutlinePart};
-use lfs_meta::{Tail, first_block};
+use lfs_meta::Tail;
 use lfs_write::stored_entries;
 use std::alloc::{AllocError, Global};
 

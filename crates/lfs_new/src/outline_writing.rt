@@ -1,43 +1,15 @@
 //! An outline written into an image.
 
 ghost use Rattle.std.specs.Prelude.{OnOk};
-ghost use Rattle.lfs_fs.specs.Sound.{AreAttributes};
-ghost use Rattle.lfs_fs.specs.Thread.{links, links_of};
-ghost use Rattle.lfs_law.specs.SuperblockBytes.{volume_bytes};
+ghost use Rattle.lfs_fs.specs.Thread.{links};
 ghost use Rattle.lfs_new.specs.DiskBut.{IsDiskBut};
-ghost use Rattle.lfs_new.specs.Filled.{CanFillPairs, CanTakeOutline, FillPairs, TakesOutline, first_blocks};
+ghost use Rattle.lfs_new.specs.Filled.{CanTakeOutline, TakesOutline, first_blocks};
 
 use crate::filling::fill_pair;
 use lfs_block::{Blocks, Image};
-use lfs_fs::{Outline, OutlineDirectory};
-use lfs_meta::Tail;
-use lfs_write::{hard_to, soft_to};
+use lfs_fs::Outline;
+use lfs_write::outline_links;
 use std::alloc::{AllocError, Global};
-
-/// Fills the pairs of a directory, the last of which has a tail: a part goes on with a hard tail to the next one. The caller owes what
-/// `fill_pair` asks, of all of them. Where memory is refused, only first blocks of these pairs are other ones.
-fn write_directory(
-    alloc: Global,
-    image: &mut Image,
-    outline: &Outline,
-    directory: &OutlineDirectory,
-    tail: Tail,
-) -> Result<(), AllocError>
-    requires rise { AreAttributes outline.now.limits.attribute outline.now.attributes }
-    requires can { CanFillPairs image.old (volume_bytes outline.now) outline.now.attributes (links_of directory.now.first directory.now.more tail) }
-    ensures filled { OnOk result (FillPairs image.old image.new (volume_bytes outline.now) outline.now.attributes
-        (links_of directory.now.first directory.now.more tail)) }
-    ensures others { IsDiskBut (first_blocks (links_of directory.now.first directory.now.more tail)) image.old image.new }
-{
-    let mut part = &directory.first;
-    'each: for next in &directory.more {
-        let to_next = hard_to(next);
-        fill_pair(alloc, image, outline, part, to_next)?;
-        part = next;
-    }
-    fill_pair(alloc, image, outline, part, tail)?;
-    Ok(())
-}
 
 /// Writes each part of an outline into the first block of its pair, whatever its mark, beside the second one, which stays erased: a part
 /// goes on with a hard tail to the next one of its directory, the last of a directory with a soft one to the next directory, and the last
@@ -51,15 +23,9 @@ pub fn write_outline(alloc: Global, image: &mut Image, outline: &Outline) -> Res
     ensures others { IsDiskBut (first_blocks (links outline.now.directories)) image.old image.new }
 {
     let _size = image.size();
-    let Some((first, more)) = outline.directories.split_first() else {
-        return Ok(());
-    };
-    let mut directory = first;
-    'each: for next in more {
-        let to_next = soft_to(&next.first);
-        write_directory(alloc, image, outline, directory, to_next)?;
-        directory = next;
+    let all = outline_links(alloc, outline)?;
+    for link in &all {
+        fill_pair(alloc, image, outline, link.part, link.tail)?;
     }
-    write_directory(alloc, image, outline, directory, Tail::End)?;
     Ok(())
 }

@@ -5,6 +5,7 @@ use lfs_block::{
     changes_change_their_blocks, flipped_patches_are_patches, images_are_their_blocks,
     put_blocks_stand, reverted_patches_apply_again,
 };
+use lfs_commit::{parts_become_others, weights_fit, written_parts_replay};
 use lfs_file::{
     blocks_of_chains_differ, chains_stay_on_their_blocks, contents_have_their_length,
     files_have_one_chain, laid_blocks_are_chains, laid_blocks_are_whole, least_blocks_are_least,
@@ -20,7 +21,7 @@ use lfs_meta::{
     held_parts_are_whole, held_parts_have_few_entries, lists_have_a_run, live_blocks_are_read,
     names_are_decided, pairs_without_a_part_have_a_cause, parts_depend_on_their_blocks,
     replayed_parts_fit, runs_are_greedy, runs_are_the_only_ones, runs_behind_first,
-    runs_follow_weights, runs_join, unread_pairs_hold_no_part, weights_fit, written_parts_replay,
+    runs_follow_weights, runs_join, unread_pairs_hold_no_part,
 };
 use lfs_tag::laws::{
     blocks_have_a_log, erased_block, erased_holds_no_commit, erased_is_decided, first_commit,
@@ -72,6 +73,7 @@ fn laws_of_pairs(_rt: HostRuntime) {
     live_blocks_are_read();
     names_are_decided();
     pairs_without_a_part_have_a_cause();
+    parts_become_others();
     parts_depend_on_their_blocks();
     replayed_parts_fit();
     unread_pairs_hold_no_part();

@@ -6,7 +6,8 @@ ghost use Rattle.lfs_meta.specs.Weighing.{weights};
 use crate::images::pair_of;
 use crate::samples::block_of;
 use lfs_block::{Blocks, Image, MountFault};
-use lfs_meta::{Entry, Tail, first_block, read_pair, rewrite, weight};
+use lfs_commit::{first_block, rewrite};
+use lfs_meta::{Entry, Tail, read_pair, weight};
 use std::alloc::{AllocError, Global};
 use std::process::Abort;
 use std::test::Fail;
@@ -36,7 +37,7 @@ const LAST_BUT_ONE: &[u8] =
 const DELTA: [u8; 12] = [0, 0, 0xf0, 0x4f, 2, 0, 0, 0, 3, 0, 0, 0];
 
 /// The bytes that at most 1,000 entries take of a block.
-fn weights(entries: &[Entry]) -> u32
+pub(crate) fn weights(entries: &[Entry]) -> u32
     requires { length entries.now ≤ 1000 }
     ensures { result ≡ weights entries.now }
 {

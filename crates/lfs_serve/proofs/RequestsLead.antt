@@ -258,21 +258,29 @@ done_leads laws step.Ls size name scene old new h b outcome good denotes handed 
 done_leads laws (step.Cat path) size name scene old new h b outcome good denotes handed answers leaves =
     asks (Ask (query.Cat path)) (step.Cat path) size name scene.typed old new h b refl refl denotes handed.input leaves
 done_leads laws (step.Mkdir path) size name scene old new h b outcome good denotes handed answers leaves =
-    changes laws (Do (asked.Mkdir path.now)) (step.Mkdir path) size name scene.typed old new h b outcome refl denotes handed.image handed.journal handed.input answers leaves
+    changes laws (Do (asked.Mkdir path.now)) (step.Mkdir path) size name scene.typed old new h b outcome refl denotes handed.image
+    handed.journal handed.input answers leaves
 done_leads laws (step.Put path) size name scene old new h b outcome good denotes handed answers leaves =
-    changes laws (Do (asked.Put path.now b.input)) (step.Put path) size name scene.typed old new h b outcome refl denotes handed.image handed.journal handed.input answers leaves
+    changes laws (Do (asked.Put path.now b.input)) (step.Put path) size name scene.typed old new h b outcome refl denotes handed.image
+    handed.journal handed.input answers leaves
 done_leads laws (step.Rm path) size name scene old new h b outcome good denotes handed answers leaves =
-    changes laws (Do (asked.Rm path.now)) (step.Rm path) size name scene.typed old new h b outcome refl denotes handed.image handed.journal handed.input answers leaves
+    changes laws (Do (asked.Rm path.now)) (step.Rm path) size name scene.typed old new h b outcome refl denotes handed.image
+    handed.journal handed.input answers leaves
 done_leads laws (step.Mv from to) size name scene old new h b outcome good denotes handed answers leaves =
-    changes laws (Do (asked.Mv from.now to.now)) (step.Mv from to) size name scene.typed old new h b outcome refl denotes handed.image handed.journal handed.input answers leaves
+    changes laws (Do (asked.Mv from.now to.now)) (step.Mv from to) size name scene.typed old new h b outcome refl denotes handed.image
+    handed.journal handed.input answers leaves
 done_leads laws (step.SetAttr path kind value) size name scene old new h b outcome good denotes handed answers leaves =
-    changes laws (Do (asked.SetAttr path.now kind value.now)) (step.SetAttr path kind value) size name scene.typed old new h b outcome refl denotes handed.image handed.journal handed.input answers leaves
+    changes laws (Do (asked.SetAttr path.now kind value.now)) (step.SetAttr path kind value) size name scene.typed old new h b outcome refl denotes handed.image
+    handed.journal handed.input answers leaves
 done_leads laws (step.RmAttr path kind) size name scene old new h b outcome good denotes handed answers leaves =
-    changes laws (Do (asked.RmAttr path.now kind)) (step.RmAttr path kind) size name scene.typed old new h b outcome refl denotes handed.image handed.journal handed.input answers leaves
+    changes laws (Do (asked.RmAttr path.now kind)) (step.RmAttr path kind) size name scene.typed old new h b outcome refl denotes handed.image
+    handed.journal handed.input answers leaves
 done_leads laws step.Undo size name scene old new h b outcome good denotes handed answers leaves =
-    changes laws Undo step.Undo size name scene.typed old new h b outcome refl denotes handed.image handed.journal handed.input answers leaves
+    changes laws Undo step.Undo size name scene.typed old new h b outcome refl denotes handed.image
+    handed.journal handed.input answers leaves
 done_leads laws step.Redo size name scene old new h b outcome good denotes handed answers leaves =
-    changes laws Redo step.Redo size name scene.typed old new h b outcome refl denotes handed.image handed.journal handed.input answers leaves
+    changes laws Redo step.Redo size name scene.typed old new h b outcome refl denotes handed.image
+    handed.journal handed.input answers leaves
 done_leads laws step.Forget size name scene old new h b outcome good denotes handed answers leaves =
     forgets laws size name scene.typed old new h b outcome denotes handed.image handed.journal handed.input answers leaves
 

@@ -1,17 +1,20 @@
 -- Bytes written one behind another, and the loop that writes edits: what is left to write decides the whole.
-use Rattle.std.proofs.Common.{◌≡◌, ℕ, ◌+◌, ◌-◌, ◌≤◌, List, [], ◌∷◌, ◌++◌, length, take, drop, cond, eqb, refl, sym, ap, ◌∙◌, append_assoc}
-use Rattle.std.proofs.Common.{arith, bit_xor}
+use Rattle.std.proofs.Common.{◌≡◌, ℕ, ◌+◌, ◌-◌, ◌*◌, ◌/◌, ◌<◌, ◌≤◌, List, [], ◌∷◌, ◌++◌, length, take, drop, cond, eqb, refl, sym, ap, ◌∙◌}
+use Rattle.std.proofs.Common.{append_assoc, arith, bit_xor, get_or, inl, inr, nat_le}
+use Rattle.std.proofs.lemmas.Bool.{le-leb, lt-leb}
+use Rattle.std.proofs.lemmas.Bool.Decides.{leb_tells}
 use Rattle.std.specs.Int.{w32, to_be_bytes, to_le_bytes}
 use Rattle.std.proofs.lemmas.List.{take_at, drop_at, append-nil, length-append, length-take, length-drop, take-append-drop, take-append-le}
-use Rattle.std.proofs.lemmas.List.{take-take, length-replicate}
-use Rattle.std.proofs.lemmas.List.Sums.{sum_by-cons}
+use Rattle.std.proofs.lemmas.List.{take-take, length-replicate, map-append, take_more}
+use Rattle.std.proofs.lemmas.List.Sums.{sum_by-cons, sum_by_push}
 use Rattle.std.proofs.lemmas.Slice.{drop-append-drop}
 use Rattle.lfs_block.specs.Checksum.{crc}
 use Rattle.lfs_block.specs.Disk.{put_at}
 use Rattle.std.specs.List.{AllByRecursion}
 use Rattle.lfs_tag.specs.declared.edit.Edit.{Edit}
 use Rattle.lfs_tag.specs.Commit.{Item, Commit, IsItem, IsCommit, tags_bytes, last_word, covered_bytes, commit_bytes, next_word}
-use Rattle.lfs_tag.specs.Writing.{items, tags_len, committed_end, commit_of, lead_at}
+use Rattle.lfs_tag.specs.EditData.{data_bytes}
+use Rattle.lfs_tag.specs.Writing.{item_of, items, tags_len, committed_end, commit_of, lead_at}
 
 pub put_at-len : (at : ℕ) (a s : List ℕ) → at + length a ≤ length s → length (put_at at a s) ≡ length s
 put_at-len at a s h =
@@ -56,6 +59,22 @@ length-tags_bytes prev (t ∷ ts) =
       length-tags_bytes t.word ts,
       sum_by-cons (λ (u : Item). 4 + length u.content) t ts,
     )
+
+-- the bytes of one more tag with its data
+pub tags_len-more : (edits : List Edit) (i : ℕ) (edit : Edit) → i < length edits → edit ≡ get_or edits i edit
+    → tags_len (items (take (i + 1) edits)) ≡ tags_len (items (take i edits)) + (4 + length (data_bytes edit.content))
+tags_len-more edits i edit within is =
+    ap (λ (es : List Edit). tags_len (items es)) (take_more edits i edit within)
+    ∙ ap tags_len (map-append item_of (take i edits) (get_or edits i edit ∷ []))
+    ∙ sum_by_push (λ (t : Item). 4 + length t.content) (items (take i edits)) (item_of (get_or edits i edit))
+    ∙ ap (λ (e : Edit). tags_len (items (take i edits)) + (4 + length (data_bytes e.content))) (sym is)
+
+-- a commit ends within a block where the last multiple of 16 leaves room for the checksum behind its tags
+pub fits-told : (at tags size : ℕ) → nat_le 8 (size / 16 * 16 - at - tags) ≡ nat_le ((at + tags + 8 + 15) / 16 * 16) size
+fits-told at tags size = elim (leb_tells 8 (size / 16 * 16 - at - tags)) [
+  | inl fits ↦ fits.0 ∙ sym (le-leb ((at + tags + 8 + 15) / 16 * 16) size (omega (arith, fits.1)))
+  | inr past ↦ past.0 ∙ sym (lt-leb ((at + tags + 8 + 15) / 16 * 16) size (omega (arith, past.1)))
+]
 
 -- at `place` of `now`, behind the word `last`, the tags `left` are still to be written
 pub record EditsLoop (at prev : ℕ) (all : List Item) (old : List ℕ) (place last : ℕ) (left : List Item) (now : List ℕ) : Type 0 where
@@ -113,7 +132,7 @@ at-put_at at a s h =
     ∙ drop_at (take at s) (a ++ rest) at (omega (arith, h, length-take at s)))
     ∙ take_at a rest (length a) refl
 
-before-put_at : (at n : ℕ) (a s : List ℕ) → n ≤ at → at ≤ length s → take n (put_at at a s) ≡ take n s
+pub before-put_at : (at n : ℕ) (a s : List ℕ) → n ≤ at → at ≤ length s → take n (put_at at a s) ≡ take n s
 before-put_at at n a s le h =
     let rest : List ℕ = drop (at + length a) s in
     ap (take n) (append_assoc (take at s) a rest)

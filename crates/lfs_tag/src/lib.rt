@@ -15,4 +15,4 @@ pub use edit_data::EditData;
 pub use log::Log;
 pub use tag::{CHECKSUM, DELETED, FIRST_WORD, NO_ID, Tag};
 pub use tags::Tags;
-pub use writing::write_commit;
+pub use writing::{commit_fits, write_commit};

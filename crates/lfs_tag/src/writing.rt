@@ -1,6 +1,6 @@
 //! Commits as they are written.
 
-ghost use Rattle.std.specs.Prelude.{◌≡◌, ◌≤◌, ◌+◌, ◌++◌, ◌-◌, length, take, drop, replicate, bit_xor};
+ghost use Rattle.std.specs.Prelude.{◌≡◌, ◌≤◌, ◌+◌, ◌++◌, ◌-◌, length, nat_le, take, drop, replicate, bit_xor};
 ghost use Rattle.lfs_block.specs.Checksum.{crc};
 ghost use Rattle.std.specs.Int.{w32, to_be_bytes, to_le_bytes};
 ghost use Rattle.lfs_block.specs.Disk.{put_at};
@@ -21,6 +21,10 @@ const REVISION_LEN: usize = 4;
 const COMMIT_STEP: usize = BLOCK_SIZE_STEP as usize;
 /// The type of the checksum's tag that closes a written commit.
 const CLOSING_KIND: u16 = 0x500;
+/// The number of bytes of a tag's word.
+const WORD_LEN: usize = 4;
+/// The number of bytes of the checksum's tag and of the checksum.
+const CLOSING_LEN: usize = 8;
 
 /// Writes `bytes` at the place `at`.
 fn put(block: &mut [u8], at: usize, bytes: &[u8])
@@ -124,4 +128,25 @@ pub fn write_commit(block: &mut [u8], at: usize, prev: u32, edits: &[Edit]) -> (
     put_little_word(block, place + 4, checksum);
     put_padding(block, place + 8, end - (place + 8));
     (end, closing.word())
+}
+
+/// What tags with their data leave of so many bytes: nothing where they take more.
+fn room_behind(room: usize, edits: &[Edit]) -> usize
+    ensures { result ≡ room - tags_len (items edits.now) }
+{
+    let mut left = room;
+    for edit in edits {
+        left = left.saturating_sub(WORD_LEN + edit.content.as_bytes().len());
+    }
+    left
+}
+
+/// Whether a commit of `edits` at the place `at`, with its padding, ends within a block of `size` bytes. Takes no memory.
+///
+/// Source: own.
+pub fn commit_fits(at: usize, edits: &[Edit], size: usize) -> bool
+    ensures { result ≡ nat_le (committed_end at (items edits.now)) size }
+{
+    let room = (size / COMMIT_STEP * COMMIT_STEP).saturating_sub(at);
+    room_behind(room, edits) >= CLOSING_LEN
 }

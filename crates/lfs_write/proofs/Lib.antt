@@ -1,4 +1,5 @@
 pub mod LaidLemmas
 pub mod PairWrites
 pub mod LinksInTurn
+pub mod LinksOfOutlines
 pub mod AttributesRise

@@ -1,5 +1,5 @@
 -- Changes put among others that make a pair hold a part.
-use Rattle.std.proofs.Common.{◌≡◌, ◌≢◌, ℕ, ◌+◌, ◌<◌, ◌==◌, nat_lt, Bool, true, false, cond, List, [], ◌∷◌, refl, ap, sym, ◌∙◌, subst, arith}
+use Rattle.std.proofs.Common.{◌≡◌, ◌≢◌, ◌⊎◌, ℕ, ◌+◌, ◌<◌, ◌==◌, nat_lt, Bool, true, false, cond, List, [], ◌∷◌, refl, ap, sym, ◌∙◌, subst, arith}
 use Rattle.std.proofs.Common.{inl, inr, length, Some, true≢false}
 use Rattle.std.specs.Prelude.{if◌then◌else◌, replicate}
 use Rattle.std.specs.List.{AllByRecursion}
@@ -15,26 +15,26 @@ use Rattle.lfs_meta.specs.Body.{Pair}
 use Rattle.lfs_meta.specs.Entry.{StoredEntry}
 use Rattle.lfs_meta.specs.LiveBlock.{revision, stored_part_of}
 use Rattle.lfs_meta.specs.Part.{StoredPart}
-use Rattle.lfs_meta.specs.Spelling.{part_tags}
-use Rattle.lfs_meta.specs.Writing.{IsFirstBlock, log_written, other_number, part_in, stored_part}
+use Rattle.lfs_commit.specs.Spelling.{part_tags}
+use Rattle.lfs_commit.specs.Writing.{IsFirstBlock, log_written, part_in, stored_part}
 use Rattle.lfs_meta.proofs.HeldPartLemmas.{block_bytes}
 use Rattle.lfs_fs.specs.Thread.{Link}
 use Rattle.lfs_fs.specs.Uses.{times}
-use Rattle.lfs_law.specs.PairWritten.{AddsChange, IsLinkStored}
+use Rattle.lfs_law.specs.PairWritten.{AddsChange, IsLinkStored, IsPairsBlock}
+use Rattle.lfs_commit.specs.Difference.{Forced}
+use Rattle.lfs_command.specs.PairChanged.{beside, pair_number}
 use Rattle.lfs_command.specs.PartWritten.{Found, change_at, with_change}
-use Rattle.lfs_law.specs.WrittenLinks.{changed_blocks, block_after, link_part, CanBeMade, FillsFirst, IsFreeFor, AddsPart, AddsLink}
-use Rattle.lfs_law.proofs.BlockLemmas.{other_is_one}
+use Rattle.lfs_law.specs.WrittenLinks.{changed_blocks, block_after, number_in, part_after, link_part, CanBeMade, IsPairWritten, FillsFirst, IsFreeFor, AddsPart, AddsLink}
+use Rattle.lfs_law.proofs.BlockLemmas.{beside_is_one, pair_number_is_one}
 use Rattle.lfs_law.proofs.ChangesAt.{change_whole, overlaid_none, with_all, with_rising}
 use Rattle.lfs_law.proofs.LinksAdded.{times_cons}
 use Rattle.lfs_law.proofs.OutlinesWritten.{none_named}
 
--- the part that is read back, by the view of what was written
-pub back_is : (d : Disk) (n : ℕ) (new : List ℕ) (seen part : Found) (es : List StoredEntry) → seen ≡ part → es ≡ seen.1.entries
-    → stored_part_of (put n new d) seen.0 ≡ Some (stored_part es seen.1.tail seen.1.delta)
-    → stored_part_of (put n new d) part.0 ≡ Some part.1
-back_is d n new seen part es same is read =
-    subst (λ (x : Found). stored_part_of (put n new d) x.0 ≡ Some x.1) same
-    (read ∙ ap (λ (xs : List StoredEntry). Some (stored_part xs seen.1.tail seen.1.delta)) is)
+-- what holds of a part by its view
+pub by_view : (P : Pair → StoredPart → Type 0) (seen part : Found) (es : List StoredEntry) → seen ≡ part → es ≡ seen.1.entries
+    → P seen.0 (stored_part es seen.1.tail seen.1.delta) → P part.0 part.1
+by_view P seen part es same is holds =
+    subst (λ (x : Found). P x.0 x.1) same (subst (λ (xs : List StoredEntry). P seen.0 (stored_part xs seen.1.tail seen.1.delta)) is holds)
 
 -- ---- one change more
 
@@ -116,30 +116,77 @@ block_same put_law other d disk n m new old cs below len none adds = elim (cases
       ∙ sym (other d n m new disk below apart len)
 ]
 
-pub pair_rewritten : BlockPut → BlockPutOther → (d : Disk) → IsDisk d
-    → (pair : Pair) (n : ℕ) (new : List ℕ) (part : StoredPart) (old cs : List Change)
-    → n ≡ other_number d pair → n < d.count → length new ≡ d.size → stored_part_of (put n new d) pair ≡ Some part → IsFreeFor d pair old
-    → AddsChange d (change_at d n new) old cs → AddsPart d pair (other_number d pair ∷ []) part old cs
-pair_rewritten put_law other d disk pair n new part old cs is below len back free adds = record {
-  rising = adds.rising;
-  made = adds.made;
-  named = λ m. adds.named m ∙ ap (λ (k : ℕ). times m (changed_blocks old) + times m (k ∷ [])) is;
-  others = λ m none. adds.others m (λ same. not_one m (other_number d pair) none (same ∙ is));
-  back = ap (λ (b : List ℕ). part_in b (block_after d cs pair.1)) (block_same put_law other d disk n pair.0 new old cs below len free.first
-      adds)
-      ∙ ap (part_in (block_of (put n new d) pair.0)) (block_same put_law other d disk n pair.1 new old cs below len free.second adds)
-      ∙ back;
-}
-
--- the block of a pair that isn't live has no change yet
-pub other_free : (d : Disk) (pair : Pair) (n : ℕ) (old : List Change) → n ≡ other_number d pair → IsFreeFor d pair old
+-- the block of a pair that has no change yet
+pub one_free : (d : Disk) (pair : Pair) (n : ℕ) (old : List Change) → (n ≡ pair.0) ⊎ (n ≡ pair.1) → IsFreeFor d pair old
     → times n (changed_blocks old) ≡ 0
-other_free d pair n old is free =
-    subst (λ (k : ℕ). times k (changed_blocks old) ≡ 0) (sym is)
-    (elim (other_is_one d pair) [
-      | inl one ↦ subst (λ (k : ℕ). times k (changed_blocks old) ≡ 0) (sym one) free.first
-      | inr one ↦ subst (λ (k : ℕ). times k (changed_blocks old) ≡ 0) (sym one) free.second
-    ])
+one_free d pair n old is free = elim is [
+  | inl one ↦ subst (λ (k : ℕ). times k (changed_blocks old) ≡ 0) (sym one) free.first
+  | inr one ↦ subst (λ (k : ℕ). times k (changed_blocks old) ≡ 0) (sym one) free.second
+]
+
+pub block_is_one : (d : Disk) (is_cut : Bool) (forced : Forced) (part : Found) (n : ℕ) (block : List ℕ)
+    → IsPairsBlock d is_cut forced part n block → (n ≡ part.0.0) ⊎ (n ≡ part.0.1)
+block_is_one d is_cut forced part n block is =
+    subst (λ (m : ℕ). (m ≡ part.0.0) ⊎ (m ≡ part.0.1)) (sym is.number) (pair_number_is_one d is_cut forced part.0 part.1)
+
+-- it is the one of its pair that changes then name
+number_named : (d : Disk) (pair : Pair) (n : ℕ) (new : List ℕ) (old cs : List Change) → pair.0 ≢ pair.1 → (n ≡ pair.0) ⊎ (n ≡ pair.1)
+    → IsFreeFor d pair old
+    → AddsChange d (change_at d n new) old cs → number_in cs pair ≡ n
+number_named d pair n new old cs apart is free adds = elim is [
+  | inl one ↦
+      (let here : cond {A = ℕ} (n == pair.0) 1 0 ≡ 1 = grind (arith, nat_tests) in
+      let some : times pair.0 (changed_blocks cs) ≡ 1 = omega (arith, adds.named pair.0, free.first, times_cons pair.0 n [], here) in
+      let named : (times pair.0 (changed_blocks cs) == 0) ≡ false = grind (arith, nat_tests) in
+      ap (λ (t : Bool). if t then pair.1 else pair.0) named ∙ sym one)
+  | inr one ↦
+      (let none : times pair.0 (n ∷ []) ≡ 0 = is_other pair.0 n (λ same. apart (same ∙ one)) in
+      let never : times pair.0 (changed_blocks cs) ≡ 0 = omega (arith, adds.named pair.0, free.first, none) in
+      let unnamed : (times pair.0 (changed_blocks cs) == 0) ≡ true = ap (λ (k : ℕ). k == 0) never in
+      ap (λ (t : Bool). if t then pair.1 else pair.0) unnamed ∙ sym one)
+]
+
+pub pair_changed : BlockPut → BlockPutOther → (d : Disk) → IsDisk d
+    → (pair : Pair) (n : ℕ) (new : List ℕ) (part : StoredPart) (old cs : List Change)
+    → pair.0 ≢ pair.1 → (n ≡ pair.0) ⊎ (n ≡ pair.1) → n < d.count → length new ≡ d.size
+    → stored_part_of (put n new d) pair ≡ Some part → IsFreeFor d pair old
+    → AddsChange d (change_at d n new) old cs → AddsPart d pair (number_in cs pair ∷ []) part old cs
+pair_changed put_law other d disk pair n new part old cs apart is below len back free adds =
+    let named : number_in cs pair ≡ n = number_named d pair n new old cs apart is free adds in
+    record {
+      rising = adds.rising;
+      made = adds.made;
+      named = λ m. adds.named m ∙ ap (λ (k : ℕ). times m (changed_blocks old) + times m (k ∷ [])) (sym named);
+      others = λ m none. adds.others m (λ same. not_one m (number_in cs pair) none (same ∙ sym named));
+      back = ap (λ (b : List ℕ). part_in b (block_after d cs pair.1))
+          (block_same put_law other d disk n pair.0 new old cs below len free.first adds)
+          ∙ ap (part_in (block_of (put n new d) pair.0)) (block_same put_law other d disk n pair.1 new old cs below len free.second adds)
+          ∙ back;
+    }
+
+-- the other block of a pair is another one
+beside_other : (pair : Pair) (n : ℕ) → pair.0 ≢ pair.1 → (n ≡ pair.0) ⊎ (n ≡ pair.1) → beside pair n ≢ n
+beside_other pair n apart is = by (pair.0 == n) refl
+  where
+    by : (t : Bool) → (pair.0 == n) ≡ t → (if t then pair.1 else pair.0) ≢ n
+    by true same equal = let first : pair.0 ≡ n = grind (arith, nat_tests) in apart (first ∙ sym equal)
+    by false differ equal = let no : ⊥ = grind (arith, nat_tests) in no
+
+pub pair_written : (d : Disk) (is_cut : Bool) (forced : Forced) (part : Found) (n : ℕ) (new : List ℕ) (old cs : List Change)
+    → part.0.0 ≢ part.0.1 → IsPairsBlock d is_cut forced part n new → IsFreeFor d part.0 old → AddsChange d (change_at d n new) old cs
+    → part_after d cs part.0 ≡ Some part.1
+    → IsPairWritten d is_cut forced part.0 cs
+pair_written d is_cut forced part n new old cs apart block free adds back =
+    let pair : Pair = part.0 in
+    let is = pair_number_is_one d is_cut forced pair part.1 in
+    let m : ℕ = beside pair (pair_number d is_cut forced pair part.1) in
+    record {
+      part = part.1;
+      holds = back;
+      here = ap (block_after d cs) (sym block.number) ∙ adds.here ∙ block.bytes;
+      there = adds.others m (λ same. beside_other pair (pair_number d is_cut forced pair part.1) apart is (same ∙ block.number))
+          ∙ overlaid_none old m (block_of d m) (none_named m old (one_free d pair m old (beside_is_one pair _) free));
+    }
 
 -- ---- a new pair
 
@@ -188,7 +235,7 @@ pub link_filled : (d : Disk) (bytes : List ℕ) (attributes : Attributes) (is_ne
 link_filled d bytes attributes is_new l part old cs new none stored adds filled = record {
   delta = replicate 12 0;
   delta_is = sym none;
-  adds = subst (λ (t : Bool). AddsPart d l.part.pair (if t then l.part.pair.0 ∷ l.part.pair.1 ∷ [] else other_number d l.part.pair ∷ [])
+  adds = subst (λ (t : Bool). AddsPart d l.part.pair (if t then l.part.pair.0 ∷ l.part.pair.1 ∷ [] else number_in cs l.part.pair ∷ [])
       (link_part bytes attributes l (replicate 12 0)) old cs) (sym new)
       (subst (λ (s : StoredPart). AddsPart d l.part.pair (l.part.pair.0 ∷ l.part.pair.1 ∷ [])
       (stored_part s.entries s.tail (replicate 12 0)) old cs) stored.part_is
@@ -197,16 +244,16 @@ link_filled d bytes attributes is_new l part old cs new none stored adds filled 
   filled = λ fresh. subst (FillsFirst d cs) stored.pair filled;
 }
 
-pub link_rewritten : (d : Disk) (bytes : List ℕ) (attributes : Attributes) (is_new : Pair → Bool) (l : Link) (part : Found)
+pub link_changed : (d : Disk) (bytes : List ℕ) (attributes : Attributes) (is_new : Pair → Bool) (l : Link) (part : Found)
     (old cs : List Change) → is_new l.part.pair ≡ false
-    → IsLinkStored bytes attributes l part → AddsPart d part.0 (other_number d part.0 ∷ []) part.1 old cs
+    → IsLinkStored bytes attributes l part → AddsPart d part.0 (number_in cs part.0 ∷ []) part.1 old cs
     → AddsLink d bytes attributes is_new l old cs
-link_rewritten d bytes attributes is_new l part old cs unset stored adds = record {
+link_changed d bytes attributes is_new l part old cs unset stored adds = record {
   delta = stored.delta;
   delta_is = stored.delta_is;
-  adds = subst (λ (t : Bool). AddsPart d l.part.pair (if t then l.part.pair.0 ∷ l.part.pair.1 ∷ [] else other_number d l.part.pair ∷ [])
+  adds = subst (λ (t : Bool). AddsPart d l.part.pair (if t then l.part.pair.0 ∷ l.part.pair.1 ∷ [] else number_in cs l.part.pair ∷ [])
       (link_part bytes attributes l stored.delta) old cs) (sym unset)
-      (subst (λ (s : StoredPart). AddsPart d l.part.pair (other_number d l.part.pair ∷ []) s old cs) stored.part_is
-      (subst (λ (k : Pair). AddsPart d k (other_number d k ∷ []) part.1 old cs) stored.pair adds));
+      (subst (λ (s : StoredPart). AddsPart d l.part.pair (number_in cs l.part.pair ∷ []) s old cs) stored.part_is
+      (subst (λ (k : Pair). AddsPart d k (number_in cs k ∷ []) part.1 old cs) stored.pair adds));
   filled = λ new. absurd (true≢false (sym new ∙ unset));
 }

@@ -3,11 +3,15 @@
 
 mod laying;
 mod link_writing;
+mod linking;
+mod outline_link;
 mod storing;
 mod superblock;
 mod writing;
 
 pub use laying::{laid, laid_for};
-pub use link_writing::{hard_to, soft_to, write_links};
+pub use link_writing::write_links;
+pub use linking::outline_links;
+pub use outline_link::OutlineLink;
 pub use storing::stored_entries;
 pub use superblock::new_superblock;

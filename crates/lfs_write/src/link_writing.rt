@@ -1,23 +1,28 @@
 //! The links of an outline that are set, written as changes of an image.
 
-ghost use Rattle.std.specs.Prelude.{◌≡◌, ◌<◌, [], ◌∷◌, true, replicate, length, IfOk, OnOk};
+ghost use Rattle.std.specs.Prelude.{◌≡◌, ◌<◌, [], ◌∷◌, false, true, replicate, length, IfOk, OnOk};
 ghost use Rattle.std.specs.List.{AllByRecursion};
 ghost use Rattle.lfs_block.specs.Change.{IsRising};
-ghost use Rattle.lfs_meta.specs.Writing.{other_number, stored_part};
+ghost use Rattle.lfs_commit.specs.Appending.{IsChanged};
+ghost use Rattle.lfs_commit.specs.DifferenceSeen.{forced_seen};
+ghost use Rattle.lfs_commit.specs.Writing.{IsRewritten, stored_part};
 ghost use Rattle.lfs_fs.specs.Sound.{AreAttributes};
-ghost use Rattle.lfs_fs.specs.Thread.{hard_to, links, links_of, soft_to};
+ghost use Rattle.lfs_fs.specs.Thread.{links};
 ghost use Rattle.lfs_fs.specs.Uses.{times};
-ghost use Rattle.lfs_law.specs.PairWritten.{AddsChange, CanBeAdded, FitsPair, IsLinkStored, link_to};
+ghost use Rattle.lfs_law.specs.PairWritten.{AddsChange, CanBeAdded, FitsPair, IsLinkStored, IsPairsBlock, link_to};
+ghost use Rattle.lfs_command.specs.PairChanged.{is_cut_by};
 ghost use Rattle.lfs_command.specs.PartWritten.{change_at};
 ghost use Rattle.lfs_law.specs.PlansHold.{is_unmarked};
 ghost use Rattle.lfs_law.specs.SuperblockBytes.{volume_bytes};
-ghost use Rattle.lfs_law.specs.WrittenLinks.{AddsLink, AddsPart, AreWritten, CanBeMade, CanBeWritten, FillsFirst, IsFreeFor, changed_blocks};
+ghost use Rattle.lfs_law.specs.WrittenLinks.{AddsLink, AddsPart, AreWritten, CanBeMade, CanBeWritten, ChangesLinks, FillsFirst, IsFreeFor, IsPairWritten, changed_blocks, number_in};
 
+use crate::linking::outline_links;
 use crate::storing::stored_entries;
 use crate::writing::{add, change_of};
 use lfs_block::{Blocks, Image, Record, put_blocks_stand};
-use lfs_fs::{Outline, OutlineDirectory, OutlinePart};
-use lfs_meta::{Part, Tail, first_block, rewrite};
+use lfs_commit::{Forced, change_pair, first_block, rewrite};
+use lfs_fs::{Outline, OutlinePart};
+use lfs_meta::{Part, Tail};
 use std::alloc::{AllocError, Global};
 
 /// Puts the change of a block of an image among others, which rise by number. The caller owes that there is such a block, as many
@@ -42,21 +47,12 @@ fn add_change(
     Ok(())
 }
 
-/// Puts the change that makes a pair hold a part among others: of its block that isn't live. The caller owes what `FitsPair` says, and
-/// that no other change is of the pair's blocks.
-fn rewrite_pair(
-    alloc: Global,
-    image: &Image,
-    part: &Part,
-    changes: &mut Vec<Record>,
-) -> Result<(), AllocError>
-    requires fits { FitsPair image.now part.now }
-    requires free { IsFreeFor image.now part.now.0 changes.old.items }
-    ensures { OnOk result (AddsPart image.now part.now.0 (other_number image.now part.now.0 ∷ []) part.now.1 changes.old.items changes.new.items) }
+/// The block of a pair that isn't live, rewritten with a part, and its number. The caller owes what `FitsPair` says.
+fn rewritten(alloc: Global, image: &Image, part: &Part) -> Result<(u32, Vec<u8>), AllocError>
+    requires { FitsPair image.now part.now }
+    ensures { IfOk result (λ new. IsRewritten image.now part.now.0 part.now.1 new.0 new.1.items) }
 {
-    put_blocks_stand();
-    let _size = image.size();
-    let Ok((number, new)) = rewrite(
+    let Ok(new) = rewrite(
         alloc,
         image,
         part.pair,
@@ -66,6 +62,72 @@ fn rewrite_pair(
     ) else {
         return Err(AllocError);
     };
+    Ok(new)
+}
+
+/// The block of a pair that a commit is appended to, or else that is rewritten, so that the pair holds a part, and its number. The caller
+/// owes what `FitsPair` says.
+fn changed(
+    alloc: Global,
+    image: &Image,
+    part: &Part,
+    forced: Forced<'_>,
+) -> Result<(u32, Vec<u8>), AllocError>
+    requires { FitsPair image.now part.now }
+    ensures { IfOk result (λ new. IsChanged image.now part.now.0 (forced_seen forced.entry) part.now.1 new.0 new.1.items) }
+{
+    let Ok(new) = change_pair(
+        alloc,
+        image,
+        part.pair,
+        &part.entries,
+        part.tail,
+        part.delta,
+        forced,
+    ) else {
+        return Err(AllocError);
+    };
+    Ok(new)
+}
+
+/// The block that carries a pair to a part, and its number: where the part was cut, the one that isn't live, rewritten; else the live one
+/// with a commit appended, where there is room for it, or the other one rewritten. The caller owes what `FitsPair` says.
+fn pair_block(
+    alloc: Global,
+    image: &Image,
+    part: &Part,
+    is_cut: bool,
+    forced: Forced<'_>,
+) -> Result<(u32, Vec<u8>), AllocError>
+    requires { FitsPair image.now part.now }
+    ensures { IfOk result (λ new. IsPairsBlock image.now is_cut (forced_seen forced.entry) part.now new.0 new.1.items) }
+{
+    if is_cut {
+        rewritten(alloc, image, part)
+    } else {
+        changed(alloc, image, part, forced)
+    }
+}
+
+/// Puts the change that makes a pair hold a part among others: of one of its blocks. The caller owes what `FitsPair` says, and that no
+/// other change is of the pair's blocks.
+fn change_part(
+    alloc: Global,
+    image: &Image,
+    part: &Part,
+    is_cut: bool,
+    forced: Forced<'_>,
+    changes: &mut Vec<Record>,
+) -> Result<(), AllocError>
+    requires fits { FitsPair image.now part.now }
+    requires free { IsFreeFor image.now part.now.0 changes.old.items }
+    ensures adds { OnOk result (AddsPart image.now part.now.0 (number_in changes.new.items part.now.0 ∷ []) part.now.1
+        changes.old.items changes.new.items) }
+    ensures changed { OnOk result (IsPairWritten image.now is_cut (forced_seen forced.entry) part.now.0 changes.new.items) }
+{
+    put_blocks_stand();
+    let _size = image.size();
+    let (number, new) = pair_block(alloc, image, part, is_cut, forced)?;
     add_change(alloc, image, number, new, changes)?;
     Ok(())
 }
@@ -120,6 +182,16 @@ fn is_unmarked(used: &[bool], pair: (u32, u32)) -> bool
     !used.get(pair.0 as usize).copied().unwrap_or(false)
 }
 
+/// Whether a part was cut: its directory goes on behind it in a pair whose first block a table doesn't mark.
+fn is_cut(used: &[bool], tail: Tail) -> bool
+    ensures { result ≡ is_cut_by (is_unmarked used.now) tail }
+{
+    match tail {
+        Tail::Hard(first, second) => is_unmarked(used, (first, second)),
+        Tail::End | Tail::Soft(..) => false,
+    }
+}
+
 /// Puts the changes that make a part's pair hold it among others: of one block of a pair that the table marks, of both blocks of
 /// another one. The caller owes attributes of the root that rise strictly by kind, a link that can be written, that a new pair has no
 /// share of the global state, and that no other change is of the pair's blocks.
@@ -128,6 +200,7 @@ fn write_part(
     image: &Image,
     outline: &Outline,
     used: &[bool],
+    forced: Forced<'_>,
     part: &OutlinePart,
     tail: Tail,
     changes: &mut Vec<Record>,
@@ -136,14 +209,17 @@ fn write_part(
     requires may { CanBeWritten image.now (volume_bytes outline.now) outline.now.attributes (link_to part.now tail) }
     requires fresh { is_unmarked used.now part.now.pair ≡ true → part.now.delta ≡ 0 }
     requires free { IsFreeFor image.now part.now.pair changes.old.items }
-    ensures { OnOk result (AddsLink image.now (volume_bytes outline.now) outline.now.attributes (is_unmarked used.now) (link_to part.now tail)
+    ensures adds { OnOk result (AddsLink image.now (volume_bytes outline.now) outline.now.attributes (is_unmarked used.now) (link_to part.now tail)
         changes.old.items changes.new.items) }
+    ensures changed { OnOk result (is_unmarked used.now part.now.pair ≡ false
+        → IsPairWritten image.now (is_cut_by (is_unmarked used.now) tail) (forced_seen forced.entry) part.now.pair changes.new.items) }
 {
     let stored = stored_link(alloc, outline, part, tail)?;
     if is_unmarked(used, part.pair) {
         fill_pair(alloc, image, &stored, changes)?;
     } else {
-        rewrite_pair(alloc, image, &stored, changes)?;
+        let is_cut = is_cut(used, tail);
+        change_part(alloc, image, &stored, is_cut, forced, changes)?;
     }
     Ok(())
 }
@@ -155,6 +231,7 @@ fn write_link(
     image: &Image,
     outline: &Outline,
     used: &[bool],
+    forced: Forced<'_>,
     part: &OutlinePart,
     tail: Tail,
     changes: &mut Vec<Record>,
@@ -162,63 +239,21 @@ fn write_link(
     requires rise { AreAttributes outline.now.limits.attribute outline.now.attributes }
     requires can { CanBeAdded image.now (volume_bytes outline.now) outline.now.attributes (is_unmarked used.now)
         changes.old.items (link_to part.now tail ∷ []) }
-    ensures { OnOk result (AreWritten image.now (volume_bytes outline.now) outline.now.attributes (is_unmarked used.now)
+    ensures written { OnOk result (AreWritten image.now (volume_bytes outline.now) outline.now.attributes (is_unmarked used.now)
         changes.old.items (link_to part.now tail ∷ []) changes.new.items) }
+    ensures changed { OnOk result (ChangesLinks image.now (is_unmarked used.now) (forced_seen forced.entry)
+        (link_to part.now tail ∷ []) changes.new.items) }
 {
     if part.dirty {
-        write_part(alloc, image, outline, used, part, tail, changes)?;
+        write_part(alloc, image, outline, used, forced, part, tail, changes)?;
     }
-    Ok(())
-}
-
-/// The tail to another part of the same directory. Takes no memory.
-///
-/// Source: own.
-pub fn hard_to(part: &OutlinePart) -> Tail
-    ensures { result ≡ hard_to part.now.pair }
-{
-    Tail::Hard(part.pair.0, part.pair.1)
-}
-
-/// The tail to the first part of another directory. Takes no memory.
-///
-/// Source: own.
-pub fn soft_to(part: &OutlinePart) -> Tail
-    ensures { result ≡ soft_to part.now.pair }
-{
-    Tail::Soft(part.pair.0, part.pair.1)
-}
-
-/// Writes the links of a directory, the last of which has a tail: a part goes on with a hard tail to the next one. The caller owes what
-/// `write_link` asks, of all of them.
-fn write_directory(
-    alloc: Global,
-    image: &Image,
-    outline: &Outline,
-    used: &[bool],
-    directory: &OutlineDirectory,
-    tail: Tail,
-    changes: &mut Vec<Record>,
-) -> Result<(), AllocError>
-    requires rise { AreAttributes outline.now.limits.attribute outline.now.attributes }
-    requires can { CanBeAdded image.now (volume_bytes outline.now) outline.now.attributes (is_unmarked used.now)
-        changes.old.items (links_of directory.now.first directory.now.more tail) }
-    ensures { OnOk result (AreWritten image.now (volume_bytes outline.now) outline.now.attributes (is_unmarked used.now)
-        changes.old.items (links_of directory.now.first directory.now.more tail) changes.new.items) }
-{
-    let mut part = &directory.first;
-    'each: for next in &directory.more {
-        let to_next = hard_to(next);
-        write_link(alloc, image, outline, used, part, to_next, changes)?;
-        part = next;
-    }
-    write_link(alloc, image, outline, used, part, tail, changes)?;
     Ok(())
 }
 
 /// The changes that write the links of an outline whose parts are set, beside those in `base`: a part goes on with a hard tail to the
 /// next one of its directory, the last of a directory with a soft one to the next directory, and the last of all with none. A pair whose
-/// first block the table marks takes one change, another one two. The caller owes attributes of the root that rise strictly by kind, and
+/// first block the table marks takes one change: of its live block, to which a commit is appended, where there is room for it, and else of
+/// the other one, which is rewritten; a part that was cut is rewritten. Another pair takes two. The caller owes attributes of the root that rise strictly by kind, and
 /// what `CanBeAdded` says of the links.
 ///
 /// Source: own.
@@ -227,39 +262,29 @@ pub fn write_links(
     image: &Image,
     outline: &Outline,
     used: &[bool],
+    forced: Forced<'_>,
     base: Vec<Record>,
 ) -> Result<Vec<Record>, AllocError>
     requires rise { AreAttributes outline.now.limits.attribute outline.now.attributes }
     requires can { CanBeAdded image.now (volume_bytes outline.now) outline.now.attributes (is_unmarked used.now) base.items (links outline.now.directories) }
-    ensures { IfOk result (λ changes. AreWritten image.now (volume_bytes outline.now) outline.now.attributes (is_unmarked used.now)
+    ensures written { IfOk result (λ changes. AreWritten image.now (volume_bytes outline.now) outline.now.attributes (is_unmarked used.now)
         base.items (links outline.now.directories) changes.items) }
+    ensures changed { IfOk result (λ changes. ChangesLinks image.now (is_unmarked used.now) (forced_seen forced.entry)
+        (links outline.now.directories) changes.items) }
 {
-    let Some((first, more)) = outline.directories.split_first() else {
-        return Ok(base);
-    };
+    let all = outline_links(alloc, outline)?;
     let mut changes = base;
-    let mut directory = first;
-    'each: for next in more {
-        let to_next = soft_to(&next.first);
-        write_directory(
+    for link in &all {
+        write_link(
             alloc,
             image,
             outline,
             used,
-            directory,
-            to_next,
+            forced,
+            link.part,
+            link.tail,
             &mut changes,
         )?;
-        directory = next;
     }
-    write_directory(
-        alloc,
-        image,
-        outline,
-        used,
-        directory,
-        Tail::End,
-        &mut changes,
-    )?;
     Ok(changes)
 }

@@ -11,7 +11,7 @@ use Rattle.lfs_command.specs.NamedCommand.{named_command}
 use Rattle.lfs_law.specs.PairWritten.{CanBeAdded}
 use Rattle.lfs_law.specs.PlansHold.{is_unmarked}
 use Rattle.lfs_edit.proofs.CarryingLemmas.{finish}
-use Rattle.lfs_edit.proofs.WritingLemmas.{at_hand, can_be_added, contents_are, contents_below, contents_many, contents_rise, writes_over}
+use Rattle.lfs_edit.proofs.WritingLemmas.{at_hand, can_be_added, contents_are, contents_below, contents_many, contents_rise, changed_by, writes_over}
 use Rattle.lfs_edit.proofs.carrying.written.Goals as goal
 
 pub slice_bounds-laid_for-end : goal.slice_bounds-laid_for-end
@@ -97,9 +97,11 @@ of-requires c =
     let laid = c.in_ok-base.ensures v (supplies_of v command) known.held.size (sym contents) in
     let written = subst (λ (flags : List Bool). AreWritten d (volume_bytes w) w.attributes (is_unmarked flags) c.in_ok-base.base.items
     (links w.directories) c.in_ok-changes.changes.items)
-    c.flags.ensures c.in_ok-changes.ensures in
+    c.flags.ensures c.in_ok-changes.ensures.written in
+    let changed = changed_by d (links w.directories) c.in_ok-changes.changes.items c.flags.ensures c.forced_by-forced.ensures
+    c.in_ok-changes.ensures.changed in
     let writes = writes_over laws c.commands_set_a_part.ensures d command used blocks w cut' known c.in_ok-base.base.items
-    c.in_ok-changes.changes.items laid written in
+    c.in_ok-changes.changes.items laid written changed in
     subst (λ (n : ℕ). IsPatch (record { size = n; changes = c.in_ok-changes.changes.items })) (sym c.size-size.ensures.value) writes.patch
 
 pub returns : goal.returns
@@ -118,9 +120,11 @@ returns c =
     let laid = c.in_ok-base.ensures v (supplies_of v command) known.held.size (sym contents) in
     let written = subst (λ (flags : List Bool). AreWritten d (volume_bytes w) w.attributes (is_unmarked flags) c.in_ok-base.base.items
     (links w.directories) c.in_ok-changes.changes.items)
-    c.flags.ensures c.in_ok-changes.ensures in
+    c.flags.ensures c.in_ok-changes.ensures.written in
+    let changed = changed_by d (links w.directories) c.in_ok-changes.changes.items c.flags.ensures c.forced_by-forced.ensures
+    c.in_ok-changes.ensures.changed in
     let writes = writes_over laws c.commands_set_a_part.ensures d command used blocks w cut' known c.in_ok-base.base.items
-    c.in_ok-changes.changes.items laid written in
+    c.in_ok-changes.changes.items laid written changed in
     let p : ChangeSet = record { size = d.size; changes = c.in_ok-changes.changes.items } in
     let same : c.of.result ≡ p = c.of.ensures ∙ ap (λ (n : ℕ). record {
       size = n;

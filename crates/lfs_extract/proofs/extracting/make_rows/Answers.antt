@@ -27,8 +27,8 @@ loop-row-init g c =
       kept = search rules;
     }
 
-pub follow-requires : goal.follow-requires
-follow-requires g c = (has_text _ _ _ _ _ _ c.next.new.self c.in-Some.row _ c.loop-row.invariant.left c.in-Some.ensures.steps).text
+pub follow_row-requires : goal.follow_row-requires
+follow_row-requires g c = (has_text _ _ _ _ _ _ c.next.new.self c.in-Some.row _ c.loop-row.invariant.left c.in-Some.ensures.steps).text
 
 pub make_row-requires : goal.make_row-requires
 make_row-requires g c = record {
@@ -44,15 +44,15 @@ loop-row-preserved g c =
     let dir : List ℕ = c.args.dir.now in
     let q : Path = map (λ (n : Bor Name). n.now) c.loop-row.path.items in
     let x : Listed = c.in-Some.row in
-    let at = named_at dir c.as_str.result.now (string_bytes c.in_ok-name.name) c.deref.result.now c.follow.new.path.items
-    (path_after q x.depth x.entry.name) c.as_str.ensures.value c.in_ok-name.ensures c.deref.ensures.value c.in_ok-follow.ensures in
+    let at = named_at dir c.as_str.result.now (string_bytes c.in_ok-name.name) c.deref.result.now c.follow_row.new.path.items
+    (path_after q x.depth x.entry.name) c.as_str.ensures.value c.in_ok-name.ensures c.deref.ensures.value c.in_ok-follow_row.ensures in
     let made : Makes mid new (made_as (host_name dir (path_after q x.depth x.entry.name)) (shown_node d x.entry) ∷ []) =
     subst (λ (n : List ℕ). Makes mid new (made_as n (shown_node d x.entry) ∷ [])) at c.in_ok-make_row.ensures.made in
     let left = one_more old mid d dir q c.loop-row.row-iterator c.next.new.self x (rows_listed c.args.rows) c.loop-row.invariant.left
     c.in-Some.ensures.steps new made in
     record {
-      left = left_behind old new d dir (map (λ (n : Bor Name). n.now) c.follow.new.path.items) (path_after q x.depth x.entry.name)
-          c.next.new.self (rows_listed c.args.rows) c.in_ok-follow.ensures left;
+      left = left_behind old new d dir (map (λ (n : Bor Name). n.now) c.follow_row.new.path.items) (path_after q x.depth x.entry.name)
+          c.next.new.self (rows_listed c.args.rows) c.in_ok-follow_row.ensures left;
       kept = (
         c.in_ok-make_row.ensures.kept.0 ∙ c.loop-row.invariant.kept.0,
         c.in_ok-make_row.ensures.kept.1 ∙ c.loop-row.invariant.kept.1,

@@ -3,7 +3,7 @@ use Rattle.lfs_block.specs.Disk.{block_of}
 use Rattle.lfs_file.specs.Capacity.{pointers}
 use Rattle.lfs_file.specs.Pointer.{pointer}
 use Rattle.lfs_file.proofs.CapacityLemmas.{pointers_few}
-use Rattle.lfs_file.proofs.ContentLemmas.{length-block}
+use Rattle.lfs_block.proofs.BlockLens.{length-block}
 use Rattle.lfs_file.proofs.PointerLemmas.{power_within, shifted_one}
 use Rattle.lfs_file.proofs.SkipListLemmas.{later_at, points-from, points-false}
 use Rattle.lfs_file.proofs.skip_list.points_back.Goals as goal

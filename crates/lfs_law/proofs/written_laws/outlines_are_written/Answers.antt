@@ -1,4 +1,4 @@
-use Rattle.lfs_law.proofs.OutlinesWritten.{outlines_are_written, new_pairs_are_filled}
+use Rattle.lfs_law.proofs.OutlinesWritten.{outlines_are_written, new_pairs_are_filled, pairs_are_changed}
 use Rattle.lfs_law.proofs.written_laws.outlines_are_written.Goals as goal
 
 pub returns-clause-written : goal.returns-clause-written
@@ -7,3 +7,6 @@ returns-clause-written c = outlines_are_written c.applied_patches_change_their_b
 pub returns-clause-filled : goal.returns-clause-filled
 returns-clause-filled c = new_pairs_are_filled c.applied_patches_change_their_blocks.ensures.disk
     c.applied_patches_change_their_blocks.ensures.blocks
+
+pub returns-clause-changed : goal.returns-clause-changed
+returns-clause-changed c = pairs_are_changed c.applied_patches_change_their_blocks.ensures.blocks

@@ -1,6 +1,11 @@
 use Rattle.std.proofs.Common.{◌≡◌, take, Some}
+use Rattle.std.specs.Prelude.{All}
+use Rattle.lfs_meta.specs.Fits.{EntryFits}
 use Rattle.lfs_meta.specs.Whole.{all_whole}
 use Rattle.lfs_meta.proofs.whole.all_whole.Given as goal
 
 abbrev pub invariant-loop-draft : goal.invariant-loop-draft
-invariant-loop-draft l = all_whole (take l.draft-index l.drafts) ≡ Some l.entries.items
+invariant-loop-draft l = record {
+  found : all_whole (take l.draft-index l.drafts) ≡ Some l.entries.items;
+  fit : All EntryFits l.entries.items;
+}

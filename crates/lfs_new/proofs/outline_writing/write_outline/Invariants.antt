@@ -1,18 +1,18 @@
--- The links from the directory on can fill their pairs, and whatever fills these fills all.
-use Rattle.std.proofs.Common.{◌∷◌, drop}
-use Rattle.lfs_block.specs.Disk.{Disk}
+-- The links that are left can fill their pairs, and whatever fills these fills all.
+use Rattle.std.proofs.Common.{drop}
+use Rattle.lfs_block.specs.Disk.{Disk, IsDisk}
 use Rattle.lfs_fs.specs.Thread.{links}
 use Rattle.lfs_law.specs.SuperblockBytes.{volume_bytes}
 use Rattle.lfs_new.specs.DiskBut.{IsDiskBut}
 use Rattle.lfs_new.specs.Filled.{CanFillPairs, TakesOutline, FillPairs, first_blocks}
 use Rattle.lfs_new.proofs.outline_writing.write_outline.Given as goal
 
-abbrev pub invariant-each : goal.invariant-each
-invariant-each l = record {
-  can : CanFillPairs l.image (volume_bytes l.outline) l.outline.attributes (links (l.directory ∷ drop l.next-index l.more));
-  whole : (e : Disk)
-      → FillPairs l.image e (volume_bytes l.outline) l.outline.attributes (links (l.directory ∷ drop l.next-index l.more))
+abbrev pub invariant-loop-link : goal.invariant-loop-link
+invariant-loop-link l = record {
+  disk : IsDisk l.image;
+  can : CanFillPairs l.image (volume_bytes l.outline) l.outline.attributes (drop l.link-index l.link-items);
+  whole : (e : Disk) → FillPairs l.image e (volume_bytes l.outline) l.outline.attributes (drop l.link-index l.link-items)
       → TakesOutline l.initial.image e l.outline;
-  but : (e : Disk) → IsDiskBut (first_blocks (links (l.directory ∷ drop l.next-index l.more))) l.image e
+  but : (e : Disk) → IsDiskBut (first_blocks (drop l.link-index l.link-items)) l.image e
       → IsDiskBut (first_blocks (links l.outline.directories)) l.initial.image e;
 }

@@ -34,4 +34,5 @@ returns-clause-made g c =
       made = made;
       names = c.extract_rows.ensures.names;
     } in
-    subst (EndsMaking d dir old.tree old.made new) (sym c.told.ensures) (rows_end d dir old.tree old.made new why makes (fault_blamed c.extract_rows.result new c.extract_rows.ensures.blamed))
+    subst (EndsMaking d dir old.tree old.made new) (sym c.told.ensures) (rows_end d dir old.tree old.made new why makes
+    (fault_blamed c.extract_rows.result new c.extract_rows.ensures.blamed))

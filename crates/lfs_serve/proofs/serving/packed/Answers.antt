@@ -28,7 +28,11 @@ returns-in_err-rows g c =
     record {
       ended = inr (
         (kept.0.0, kept.0.2),
-        (Refused No_memory, stopped_at c.from_residual-in_err-rows.result (Refused No_memory) p.0 p.1 p.2, wants_memory (g.H.Known.known c.args.host.now).tree c.args.dir.now (g.H.Known.known c.folder_of.new.host)),
+        (
+          Refused No_memory,
+          stopped_at c.from_residual-in_err-rows.result (Refused No_memory) p.0 p.1 p.2,
+          wants_memory (g.H.Known.known c.args.host.now).tree c.args.dir.now (g.H.Known.known c.folder_of.new.host),
+        ),
       );
     }
 

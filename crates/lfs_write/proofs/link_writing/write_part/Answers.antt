@@ -4,12 +4,12 @@ use Rattle.lfs_fs.specs.Directory.{Part}
 use Rattle.lfs_law.specs.PairWritten.{link_to}
 use Rattle.lfs_law.specs.PlansHold.{is_unmarked}
 use Rattle.lfs_law.specs.SuperblockBytes.{volume_bytes}
-use Rattle.lfs_write.proofs.PairWrites.{link_filled, link_rewritten}
+use Rattle.lfs_write.proofs.PairWrites.{link_filled, link_changed}
 use Rattle.lfs_write.proofs.link_writing.write_part.Goals as goal
-use Rattle.lfs_write.proofs.link_writing.write_part.Goals.{then-is_unmarked+in_ok-fill_pair, else-is_unmarked+in_ok-rewrite_pair}
+use Rattle.lfs_write.proofs.link_writing.write_part.Goals.{then-is_unmarked+in_ok-fill_pair, else-is_unmarked+in_ok-change_part}
 
-pub returns : goal.returns
-returns c =
+pub returns-clause-adds : goal.returns-clause-adds
+returns-clause-adds c =
     let d = c.args.image.now in
     let bytes = volume_bytes c.args.outline.now in
     let attributes = c.args.outline.now.attributes in
@@ -24,7 +24,7 @@ returns c =
           (let new : is_new c.args.part.now.pair ≡ true = sym told ∙ w.if-is_unmarked.true in
           rw w.changes-is (link_filled d bytes attributes is_new l stored old w.fill_pair.new.changes.items new
           (c.requires.fresh new) c.in_ok-stored.ensures w.in_ok-fill_pair.ensures.adds w.in_ok-fill_pair.ensures.filled))
-      | else-is_unmarked+in_ok-rewrite_pair w ↦
-          rw w.changes-is (link_rewritten d bytes attributes is_new l stored old w.rewrite_pair.new.changes.items (sym told
-          ∙ w.if-is_unmarked.false) c.in_ok-stored.ensures w.in_ok-rewrite_pair.ensures)
+      | else-is_unmarked+in_ok-change_part w ↦
+          rw w.changes-is (link_changed d bytes attributes is_new l stored old w.change_part.new.changes.items (sym told
+          ∙ w.if-is_unmarked.false) c.in_ok-stored.ensures w.in_ok-change_part.ensures.adds)
     ]

@@ -53,7 +53,9 @@ returns-in-Some-get-clause-refused c =
     ∙ ap (λ (n : Bor Name). n.now ∷ drop (k + 1) (lent names)) (sym found.1) in
     inr (subst (λ (r : Refusal). RefusesWay (lent c.args.path.now) t r) (sym c.missing.ensures)
     (at_path t (lent c.args.path.now) (lent names ++ name ∷ []) _
-    (path_is c.args.path.now names c.in-Some.name.now c.in-Some.ensures.cases.0) (refuses_front laws t u (lent names) name c.in_ok-close_down.ensures.down (c.in_ok-close_down.ensures.len ∙ depth) next.now
+    (path_is c.args.path.now names c.in-Some.name.now c.in-Some.ensures.cases.0)
+    (refuses_front laws t u (lent names) name c.in_ok-close_down.ensures.down
+    (c.in_ok-close_down.ensures.len ∙ depth) next.now
     (drop (k + 1) (lent names)) at)))
 
 pub returns-then-not-ends_before-clause-refused : goal.returns-then-not-ends_before-clause-refused

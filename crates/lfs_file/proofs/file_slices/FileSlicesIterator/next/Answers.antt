@@ -3,7 +3,7 @@ use Rattle.std.proofs.lemmas.List.Elements.{All-tail, All-same}
 use Rattle.lfs_block.specs.Disk.{block_of}
 use Rattle.lfs_file.specs.Capacity.{pointers}
 use Rattle.lfs_file.proofs.CapacityLemmas.{pointers_few}
-use Rattle.lfs_file.proofs.ContentLemmas.{length-block}
+use Rattle.lfs_block.proofs.BlockLens.{length-block}
 use Rattle.lfs_file.proofs.SliceLemmas.{slices-none, slices-step}
 use Rattle.lfs_file.proofs.file_slices.FileSlicesIterator.next.Goals as goal
 

@@ -1,0 +1,284 @@
+#!/usr/bin/env python3
+"""Takes 10,000 random steps by a program, `random_steps.py PROGRAM [STEPS [SEED]]`, over new images and images of another writer
+whose logs have many commits, and compares after each: how it ends and what stands at each path, with a plain model; which blocks
+have changed, with the rule by which pairs change; and the image byte for byte where changes are taken back or made again. Ends with
+0 where nothing differs. It is run by hand."""
+import pathlib
+import random
+import re
+import subprocess
+import sys
+import tempfile
+
+sys.path.insert(0, str(pathlib.Path(__file__).resolve().parent.parent))
+
+from support.changing import carried, whole
+from support.littlefs import Reader, blocks_for
+from support.logs import log
+from support.scattering import Scattered, key
+
+STEPS_OF_AN_IMAGE = 250
+GEOMETRIES = (256, 16), (256, 40), (256, 200), (512, 24), (512, 64), (1_024, 16), (4_096, 12), (4_096, 40), (16_384, 10)
+NO_SPACE, TOO_LARGE = 43, 42
+# How often a step of a kind is taken.
+KINDS = {"mkdir": 12, "put": 32, "rm": 14, "mv": 12, "setattr": 18, "rmattr": 6, "undo": 8, "redo": 5}
+# How many blocks a command takes at most beside those of contents and of a directory: two parts, each cut into three.
+MOST_OF_PARTS = 8
+
+
+def fronts(path):
+    """The paths in front of a path."""
+    names = path.split("/")
+    return ["/".join(names[:at]) or "/" for at in range(1, len(names))] if path != "/" else []
+
+
+def last(path):
+    """The last name of a path."""
+    return path.rsplit("/", 1)[1]
+
+
+def most_inline(size):
+    """The most bytes of a file that stand in its entry."""
+    return min(size // 8, 1_022)
+
+
+class Model:
+    """What stands at each path: the bytes of a file or None, and the attributes by kind."""
+
+    def __init__(self, tree, size):
+        self.tree, self.size = tree, size
+
+    def walk(self, path):
+        """Why a path isn't reached."""
+        for front in fronts(path):
+            if front not in self.tree:
+                return 30
+            if self.tree[front][0] is not None:
+                return 32
+        return 0
+
+    def below(self, path):
+        """The paths below a path."""
+        return [other for other in self.tree if other.startswith(path.rstrip("/") + "/") and other != path]
+
+    def moves(self, path, to):
+        """Why something isn't moved."""
+        if "/" in (path, to):
+            return 41
+        there = self.walk(path) or (30 if path not in self.tree else 0)
+        return there or (40 if to.startswith(path + "/") else 0) or self.walk(to) or (31 if to in self.tree else 0)
+
+    def refuses(self, kind, path, *more):
+        """The number of the refusal of a command, the checks on room aside; 0 where there is none."""
+        if kind == "mv":
+            return self.moves(path, *more)
+        if path == "/" and kind in ("mkdir", "put", "rm"):
+            return 41
+        there = self.tree.get(path)
+        if self.walk(path) or kind in ("rm", "setattr", "rmattr") and not there:
+            return self.walk(path) or 30
+        if kind == "rmattr":
+            return 0 if more[0] in there[1] else 39
+        if kind == "rm":
+            return 34 if self.below(path) else 0
+        return 31 if kind == "mkdir" and there else 33 if kind == "put" and there and there[0] is None else 0
+
+    def after(self, kind, path, *more):
+        """The tree behind a command that isn't refused."""
+        tree = dict(self.tree)
+        held, values = tree.get(path, (None, {}))
+        if kind == "rm":
+            del tree[path]
+        elif kind == "mv":
+            for moved in [path, *self.below(path)]:
+                tree[more[0] + moved[len(path):]] = tree.pop(moved)
+        elif kind == "setattr":
+            tree[path] = held, {**values, more[0]: more[1]}
+        elif kind == "rmattr":
+            tree[path] = held, {each: value for each, value in values.items() if each != more[0]}
+        else:
+            tree[path] = more[0] if kind == "put" else None, values
+        return tree
+
+    def weighs(self, path):
+        """What the entry of a path takes of a block; that of the root is the superblock."""
+        held, values = self.tree[path]
+        inline = held is not None and len(held) <= most_inline(self.size)
+        entry = 40 if path == "/" else 4 + len(last(path)) + (4 + len(held) if inline else 12)
+        return entry + sum(4 + len(value) for value in values.values())
+
+
+class Run:
+    """Steps on one image by a program, in a folder."""
+
+    def __init__(self, program, folder, chance, size):
+        self.program, self.folder, self.chance, self.size = program, folder, chance, size
+        self.image = folder / "a.img"
+        self.counts = {"done": 0, "refused": 0, "appended": 0, "rewritten": 0}
+        self.past, self.future = [], []
+
+    def begin(self, count, is_scattered):
+        """Makes the image."""
+        for name in "a.img", "a.img.lfsj":
+            (self.folder / name).unlink(missing_ok=True)
+        if is_scattered:
+            self.image.write_bytes(Scattered(self.chance, self.size, count).image)
+        else:
+            self.ends("format", count=count)
+        self.now = self.read()
+        return self.is_said()
+
+    def ends(self, name, *words, held=b"", count=None):
+        """Runs the program; answers the number of its refusal or 0, and all that it complained of and printed."""
+        options = ["-b", str(self.size), *(["--count", str(count)] if count else [])]
+        command = [self.program, name, *options, "a.img", *words]
+        ended = subprocess.run(command, cwd=self.folder, input=held, capture_output=True, timeout=60)
+        told = re.match(rb"lfsed: (\d+) ", ended.stderr)
+        return int(told[1]) if told else ended.returncode, ended.stderr.decode(), ended.stdout.decode()
+
+    def read(self):
+        """The image as it is read, and its tree."""
+        reader = Reader(self.image.read_bytes(), self.size)
+        return reader, {path.decode(): found for path, found in reader.tree().items()}
+
+    def is_said(self):
+        """Whether the program says of the image what the reader finds."""
+        reader, tree = self.now
+        files = sum(held is not None for held, _ in tree.values())
+        said = f"block {self.size}, count {len(reader.image) // self.size}, free {reader.free()}, "
+        said += f"directories {len(tree) - files}, files {files}\n"
+        ended = self.ends("check")
+        return "" if ended == (0, "", said) else f"check: {ended}, not {said}"
+
+    def path(self, tree, is_new):
+        """A path, mostly one that is there or one that isn't."""
+        directories = [path for path, (held, _) in tree.items() if held is None]
+        if self.chance.random() < (0.1 if is_new else 0.9):
+            return self.chance.choice([*tree])
+        parent = self.chance.choice(directories if self.chance.random() < 0.95 else [*tree, "/none"]).rstrip("/")
+        name = self.chance.choice("abcdefg") * self.chance.choice([1, 1, 2, 30, self.size // 4 % 200])
+        return f"{parent}/{'littlefs' if self.chance.random() < 0.02 else name}"
+
+    def command(self):
+        """A step: its kind, and what it takes."""
+        tree, chance = self.now[1], self.chance
+        kind = chance.choices([*KINDS], [*KINDS.values()])[0]
+        path = self.path(tree, kind == "mkdir" or kind == "put" and chance.random() < 0.5)
+        if kind == "put":
+            lengths = [0, 0, 3, self.size // 8, self.size // 8 + 1, self.size, 2 * self.size + 7]
+            held = tree.get(path, (None,))[0]
+            return kind, path, held if held and chance.random() < 0.3 else chance.randbytes(chance.choice(lengths))
+        if kind == "mv":
+            return kind, path, self.path(tree, True)
+        if kind in ("setattr", "rmattr"):
+            number = chance.choice([*tree.get(path, (None, {}))[1], *b"qrst"])
+            value = chance.randbytes(chance.choice([0, 1, 4, min(self.size // 5, 1_022)]))
+            return (kind, path, number, value) if kind == "setattr" else (kind, path, number)
+        return (kind,) if kind in ("undo", "redo") else (kind, path)
+
+    def step(self):
+        """Takes one step; answers what differs."""
+        kind, *what = self.command()
+        if kind in ("undo", "redo"):
+            wrong = self.moves_in_history(kind)
+            return wrong and f"{kind}: {wrong}"
+        words = [f"{word:02x}" if isinstance(word, int) else word for word in what]
+        held = words.pop() if kind == "put" else b""
+        ended = self.ends(kind, *[word.hex() if isinstance(word, bytes) else word for word in words], held=held)
+        wrong = self.carries_out(kind, what, ended)
+        return wrong and f"{kind} {' '.join(map(repr, what))[:300]}: {wrong}"
+
+    def moves_in_history(self, kind):
+        """Takes a change back, or makes it again."""
+        source, target, number = (self.past, self.future, 53) if kind == "undo" else (self.future, self.past, 54)
+        wanted = 0 if source else number
+        ended = self.ends(kind)
+        if ended[0] != wanted:
+            return f"it ended with {ended}"
+        if not wanted:
+            target.append(self.now)
+            self.now = source.pop()
+        self.counts["refused" if wanted else "done"] += 1
+        return "" if self.image.read_bytes() == self.now[0].image else "another image"
+
+    def room(self, model, kind, what):
+        """The number of the refusal of a command for want of room, or 0, as far as weights tell."""
+        path = what[1] if kind == "mv" else what[0]
+        is_heavy = kind not in ("rm", "rmattr") and model.weighs(path) > self.size - 40
+        return TOO_LARGE if is_heavy else 0
+
+    def has_no_space(self, kind, what, complaint):
+        """Whether a command is rightly refused for want of free blocks, as far as the count of these tells."""
+        free = self.now[0].free()
+        need = int(re.search(r"need (\d+) ", complaint)[1])
+        inline = kind != "put" or len(what[1]) <= most_inline(self.size)
+        taken = 2 * (kind == "mkdir") + (0 if inline else blocks_for(self.size, len(what[1])))
+        return complaint == f"lfsed: 43 NoSpace need {need} free {free}\n" and free < need <= taken + MOST_OF_PARTS
+
+    def carries_out(self, kind, what, ended):
+        """Compares how a command ended, and what it left."""
+        reader, tree = self.now
+        wanted = Model(tree, self.size).refuses(kind, *what)
+        after = Model(tree if wanted else Model(tree, self.size).after(kind, *what), self.size)
+        wanted = wanted or self.room(after, kind, what)
+        self.counts["refused" if ended[0] else "done"] += 1
+        if ended[0]:
+            is_right = ended[0] == wanted or ended[0] == NO_SPACE and not wanted and self.has_no_space(kind, what, ended[1])
+            is_kept = self.image.read_bytes() == reader.image
+            return "" if is_right and is_kept else f"it ended with {ended}, not with {wanted}, image kept: {is_kept}"
+        if wanted:
+            return f"it was done, and not refused with {wanted}"
+        self.past, self.future = [*self.past, self.now], []
+        self.now = self.read()
+        if self.now[1] != after.tree:
+            return f"the tree is {self.now[1]}"
+        name = None if what[0] == "/" else last(what[0]).encode()
+        forced = [(name, what[1] if kind == "setattr" else None)] if kind in ("put", "setattr") else []
+        return self.has_changed(reader, forced) or self.is_said()
+
+    def has_changed(self, old, forced):
+        """Compares which blocks have changed, and to what: those of pairs as the rule says, and of others only free ones."""
+        new, known = self.now[0], old.thread()
+        wanted = {number: old.block(number) for number in range(len(old.image) // self.size)}
+        for number in new.used_by_files():
+            wanted[number] = new.block(number) if number not in old.used() else wanted[number]
+        for part in new.parts:
+            first, second = part.pair
+            if part.pair not in known:
+                wanted[first], wanted[second] = log(1, whole(part), 16).ljust(self.size, b"\xff"), self.size * b"\xff"
+            elif any(old.block(number) != new.block(number) for number in part.pair):
+                number, wanted[number] = carried(old, part, forced, part.is_hard and part.tail not in known)
+                self.counts["appended" if number == old.live(part.pair)[0] else "rewritten"] += 1
+        if len(new.used()) != len({*new.used()}):
+            return f"blocks are used twice: {sorted(new.used())}"
+        directories = [pair for _, pair in new.rows() if pair]
+        reached = [part.pair for pair in directories for part in new.parts_of(pair)]
+        names = [[entry.name for entry in new.entries(pair)] for pair in directories]
+        if sorted(reached) != sorted(new.thread()) or names != [sorted(each, key=key) for each in names]:
+            return f"the thread is {new.thread()}, {reached} are reached, and names are {names}"
+        wrong = [number for number in wanted if wanted[number] != new.block(number)]
+        return f"other blocks: {wrong}" if wrong else "" if new.image != old.image else "no block has changed"
+
+
+def main(program, steps=10_000, seed=1):
+    chance, total, wrong = random.Random(seed), {}, 0
+    with tempfile.TemporaryDirectory() as folder:
+        for number in range(-(-steps // STEPS_OF_AN_IMAGE)):
+            size, count = GEOMETRIES[number % len(GEOMETRIES)]
+            run = Run(pathlib.Path(program).resolve(), pathlib.Path(folder), chance, size)
+            found = run.begin(count, chance.random() < 0.7)
+            for at in range(min(STEPS_OF_AN_IMAGE, steps - number * STEPS_OF_AN_IMAGE)):
+                found = found or run.step()
+                if found:
+                    wrong += 1
+                    print(f"seed {seed}, image {number} of {count} blocks of {size} bytes, step {at}: {found}")
+                    break
+            total = {what: total.get(what, 0) + many for what, many in run.counts.items()}
+    taken = total["done"] + total["refused"]
+    print(f"{taken} steps: {total['done']} done, {total['refused']} refused; pairs: {total['appended']} appended to, "
+          f"{total['rewritten']} rewritten; {wrong} images differ")
+    return 1 if wrong or taken < steps else 0
+
+
+if __name__ == "__main__":
+    sys.exit(main(sys.argv[1], *map(int, sys.argv[2:])))
