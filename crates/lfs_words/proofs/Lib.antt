@@ -1,8 +1,1 @@
-pub mod CommandLemmas
-pub mod FaultlessCommands
-pub mod FaultlessRows
-pub mod GrammarLemmas
-pub mod Lists
 pub mod OptionLemmas
-pub mod WordLemmas
-mod WordExamples

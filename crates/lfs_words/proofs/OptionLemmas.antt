@@ -14,7 +14,7 @@ use Rattle.clap.specs.declared.builder.value_parser.ValueParser.TheVariants.{Sig
 use Rattle.clap.proofs.CallerReads.{signed_reads}
 use Rattle.clap.proofs.ValueTestLemmas.{accepts-Accepts}
 use Rattle.clap.proofs.WalkLemmas.{first_value-rows, one_text-rows}
-use Rattle.lfs_words.specs.Grammar.{IsNumber, IsSaid}
+use Rattle.lfs_grammar.specs.Grammar.{IsNumber, IsSaid}
 use Rattle.lfs_words.specs.Words.{HasNumber, HasText}
 
 none_is : {X : Type 0} (r : Option X) → IsNone r → r ≡ None

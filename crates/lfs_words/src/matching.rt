@@ -2,7 +2,7 @@
 
 ghost use Rattle.std.specs.Prelude.{◌≡◌, IfSome, IsNone, Some, codes, true};
 ghost use Rattle.clap.specs.Words.{found_of, rows_of, subcommand_rows_of};
-ghost use Rattle.lfs_words.specs.Grammar.{NamesCommand};
+ghost use Rattle.lfs_grammar.specs.Grammar.{NamesCommand};
 ghost use Rattle.lfs_words.specs.Words.{AsksFor, IsStep, IsTask, is_other};
 
 use crate::options::{bytes, number, text};

@@ -2,7 +2,7 @@
 
 ghost use Rattle.std.specs.Prelude.{◌≡◌, IfSome, IsNone};
 ghost use Rattle.clap.specs.Words.{Rule, found_of, rows_of};
-ghost use Rattle.lfs_words.specs.Grammar.{IsNumber, IsSaid};
+ghost use Rattle.lfs_grammar.specs.Grammar.{IsNumber, IsSaid};
 ghost use Rattle.lfs_words.specs.Words.{HasNumber, HasText};
 
 use clap::ArgMatches;

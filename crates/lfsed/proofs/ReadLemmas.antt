@@ -5,8 +5,8 @@ use Rattle.clap.specs.declared.error.Error.{Error}
 use Rattle.clap.specs.declared.error.kind.ErrorKind.TheVariants.{OutOfMemory}
 use Rattle.clap.specs.declared.parser.matches.ArgMatches.{ArgMatches}
 use Rattle.lfs_host.specs.Scene.{Scene}
-use Rattle.lfs_words.specs.Grammar.{IsMatched, IsTaken, grammar}
-use Rattle.lfs_words.specs.Hyphens.{dashed, names_files_plainly}
+use Rattle.lfs_grammar.specs.Grammar.{IsMatched, IsTaken, grammar}
+use Rattle.lfs_grammar.specs.Hyphens.{dashed, names_files_plainly}
 use Rattle.lfsed.specs.Words.{EndsNamed, EndsWords}
 
 -- words that are refused with an error other than want of memory aren't taken

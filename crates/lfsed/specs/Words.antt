@@ -9,8 +9,8 @@ use Rattle.lfs_change.specs.declared.fault.Fault.TheVariants.{Refused}
 use Rattle.lfs_change.specs.Fault.{status_of}
 use Rattle.lfs_request.specs.declared.request.Request.{Request}
 use Rattle.lfs_words.specs.declared.wish.Wish.TheVariants as wish
-use Rattle.lfs_words.specs.Grammar.{grammar}
-use Rattle.lfs_words.specs.Hyphens.{IsRead}
+use Rattle.lfs_grammar.specs.Grammar.{grammar}
+use Rattle.lfs_grammar.specs.Hyphens.{IsRead}
 use Rattle.lfs_words.specs.Words.{AsksFor}
 use Rattle.lfs_host.specs.Scene.{KeepsScene, Scene}
 use Rattle.lfs_serve.specs.Program.{EndsRequest}

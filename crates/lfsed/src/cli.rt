@@ -2,8 +2,8 @@
 
 ghost use Rattle.std.specs.Prelude.{◌≡◌, ◌≢◌, ◌⊎◌, Ok, map};
 ghost use Rattle.clap.specs.Words.{HasKind, fault_of, kind_of, subcommand_rows_of};
-ghost use Rattle.lfs_words.specs.Grammar.{IsTaken, NamesCommand, grammar};
-ghost use Rattle.lfs_words.specs.Hyphens.{IsRead};
+ghost use Rattle.lfs_grammar.specs.Grammar.{IsTaken, NamesCommand, grammar};
+ghost use Rattle.lfs_grammar.specs.Hyphens.{IsRead};
 ghost use Rattle.lfsed.specs.Words.{CallsForHelp, EndsNamed, EndsWords, ended_with, usage};
 
 use crate::explanations::explained;
@@ -11,10 +11,11 @@ use clap::error::ErrorKind;
 use clap::{ArgMatches, Error};
 use lfs_edit::Refusal;
 use lfs_exchange::{MORE, print, tell_of_image};
+use lfs_grammar::{dashed, matched, names_files_plainly};
 use lfs_host::Host;
 use lfs_serve::served;
 use lfs_step::Fault;
-use lfs_words::{Wish, dashed, matched, names_files_plainly, wished};
+use lfs_words::{Wish, wished};
 use std::alloc::Global;
 use std::convert::AsStr;
 

@@ -1,7 +1,7 @@
 use Rattle.std.proofs.Common.{codes, refl}
 use Rattle.clap.specs.Words.{found_of, rows_of}
-use Rattle.lfs_words.specs.Grammar.{count, word}
-use Rattle.lfs_words.proofs.CommandLemmas.{count_is, said_of}
+use Rattle.lfs_grammar.specs.Grammar.{count, word}
+use Rattle.lfs_grammar.proofs.CommandLemmas.{count_is, said_of}
 use Rattle.lfs_words.proofs.matching.task_of.Goals as goal
 
 pub returns-in_err-number-in-pack-clause-none : goal.returns-in_err-number-in-pack-clause-none

@@ -2,9 +2,9 @@ use Rattle.std.proofs.Common.{rules, ◌≡◌, Some, codes, refl, subst}
 use Rattle.std.specs.Prelude.{option_map}
 use Rattle.clap.specs.Matches.{subcommand_name_of}
 use Rattle.clap.specs.Words.{found_of, rows_of, subcommand_rows_of}
-use Rattle.lfs_words.specs.Grammar.{NamesCommand, block, number, word}
-use Rattle.lfs_words.proofs.CommandLemmas.{block_is, image_said, number_is, said_of}
-use Rattle.lfs_words.proofs.WordLemmas.{names_command}
+use Rattle.lfs_grammar.specs.Grammar.{NamesCommand, block, number, word}
+use Rattle.lfs_grammar.proofs.CommandLemmas.{block_is, image_said, number_is, said_of}
+use Rattle.lfs_grammar.proofs.WordLemmas.{names_command}
 use Rattle.lfs_words.proofs.matching.wished.Goals as goal
 
 pub returns-in_err-number-clause-none : goal.returns-in_err-number-clause-none

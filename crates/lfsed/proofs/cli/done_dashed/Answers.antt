@@ -1,6 +1,6 @@
 use Rattle.std.proofs.Common.{◌≡◌, List, map, rules}
 use Rattle.clap.specs.Words.{Text}
-use Rattle.lfs_words.specs.Hyphens.{dashed}
+use Rattle.lfs_grammar.specs.Hyphens.{dashed}
 use Rattle.lfsed.specs.Words.{ended_with}
 use Rattle.lfsed.proofs.ReadLemmas.{ends_as_dashed, not_taken}
 use Rattle.lfsed.proofs.cli.done_dashed.Goals as goal

@@ -2,7 +2,7 @@
 
 ghost use Rattle.std.specs.Prelude.{◌≡◌, IfOk, map};
 ghost use Rattle.clap.specs.Words.{first_of, found_of, rows_of, subcommand_rows_of};
-ghost use Rattle.lfs_words.specs.Hyphens.{dashed, is_plain_name, is_stray, names_files_plainly, names_option};
+ghost use Rattle.lfs_grammar.specs.Hyphens.{dashed, is_plain_name, is_stray, names_files_plainly, names_option};
 
 use clap::ArgMatches;
 use std::alloc::{AllocError, Global};

@@ -1,6 +1,6 @@
 use Rattle.std.proofs.Common.{◌≡◌, ◌++◌, cond, drop, map}
-use Rattle.lfs_words.specs.Hyphens.{dashed}
-use Rattle.lfs_words.proofs.hyphens.dashed.Given as goal
+use Rattle.lfs_grammar.specs.Hyphens.{dashed}
+use Rattle.lfs_grammar.proofs.hyphens.dashed.Given as goal
 
 abbrev pub invariant-loop-word : goal.invariant-loop-word
 invariant-loop-word g l =

@@ -5,8 +5,8 @@ use Rattle.clap.specs.Words.{Text, fault_of, first_of, one_of, subcommand_of}
 use Rattle.clap.specs.declared.error.kind.ErrorKind.TheVariants.{DisplayHelp, MissingRequiredArgument, MissingSubcommand, UnknownArgument}
 use Rattle.clap.specs.declared.error.kind.ErrorKind.TheVariants.{ValueValidation}
 use Rattle.clap.proofs.OnLiterals.{clap_on_literals}
-use Rattle.lfs_words.specs.Grammar.{IsTaken, grammar}
-use Rattle.lfs_words.specs.Hyphens.{dashed}
+use Rattle.lfs_grammar.specs.Grammar.{IsTaken, grammar}
+use Rattle.lfs_grammar.specs.Hyphens.{dashed}
 
 abbrev text_at : Text → List Text → Option (Option Text)
 text_at id words = option_map (λ named. first_of id named.1) (subcommand_of grammar words)

@@ -7,9 +7,9 @@ use Rattle.clap.specs.Words.{App, Row, Rule, Shape, Text, fault_of, first_of, ne
 use Rattle.clap.specs.Words.{subcommand_rows_of, with_rule, with_subcommand}
 use Rattle.clap.specs.declared.parser.matches.ArgMatches.{ArgMatches}
 use Rattle.clap.specs.declared.builder.value_parser.ValueParser.TheVariants.{Signed}
-use Rattle.lfs_words.specs.declared.grammar.Argument.{Argument}
-use Rattle.lfs_words.specs.declared.grammar.Argument.TheVariants as argument
-use Rattle.lfs_words.specs.declared.grammar.CommandRow.{CommandRow}
+use Rattle.lfs_grammar.specs.declared.grammar.Argument.{Argument}
+use Rattle.lfs_grammar.specs.declared.grammar.Argument.TheVariants as argument
+use Rattle.lfs_grammar.specs.declared.grammar.CommandRow.{CommandRow}
 
 -- a word that must be there
 abbrev pub word : Text → Rule

@@ -2,7 +2,7 @@
 
 ghost use Rattle.std.specs.Prelude.{IfErr, IfOk, map};
 ghost use Rattle.clap.specs.Words.{HasKind, fault_of};
-ghost use Rattle.lfs_words.specs.Grammar.{IsMatched, grammar};
+ghost use Rattle.lfs_grammar.specs.Grammar.{IsMatched, grammar};
 
 use crate::grammar::command_line;
 use clap::{ArgMatches, Error};

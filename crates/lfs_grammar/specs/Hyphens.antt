@@ -3,7 +3,7 @@ use Rattle.std.specs.Prelude.{◌≡◌, ◌⊎◌, ◌&&◌, ◌||◌, Bool, tr
 use Rattle.std.specs.List.{starts_with}
 use Rattle.std.specs.Str.{bytes_eq}
 use Rattle.clap.specs.Words.{Row, Text, first_of, subcommand_of}
-use Rattle.lfs_words.specs.Grammar.{IsTaken, grammar}
+use Rattle.lfs_grammar.specs.Grammar.{IsTaken, grammar}
 
 -- a word begins with these bytes
 abbrev pub begins_with : Text → Text → Bool

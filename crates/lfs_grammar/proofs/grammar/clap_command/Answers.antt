@@ -1,9 +1,9 @@
 use Rattle.std.proofs.Common.{rules, ◌∙◌, sym, ap₂}
 use Rattle.clap.specs.Words.{new_app, with_rule}
-use Rattle.lfs_words.specs.Grammar.{rule_at}
-use Rattle.lfs_words.specs.declared.grammar.Argument.TheVariants.{Block}
-use Rattle.lfs_words.proofs.GrammarLemmas.{fold_row}
-use Rattle.lfs_words.proofs.grammar.clap_command.Goals as goal
+use Rattle.lfs_grammar.specs.Grammar.{rule_at}
+use Rattle.lfs_grammar.specs.declared.grammar.Argument.TheVariants.{Block}
+use Rattle.lfs_grammar.proofs.GrammarLemmas.{fold_row}
+use Rattle.lfs_grammar.proofs.grammar.clap_command.Goals as goal
 
 pub loop-argument-preserved : goal.loop-argument-preserved
 loop-argument-preserved c =

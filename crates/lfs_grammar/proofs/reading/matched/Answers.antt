@@ -1,7 +1,7 @@
 use Rattle.std.proofs.Common.{map}
 use Rattle.clap.specs.Words.{app_of}
-use Rattle.lfs_words.proofs.FaultlessCommands.{matched_err, matched_ok}
-use Rattle.lfs_words.proofs.reading.matched.Goals as goal
+use Rattle.lfs_grammar.proofs.FaultlessCommands.{matched_err, matched_ok}
+use Rattle.lfs_grammar.proofs.reading.matched.Goals as goal
 
 pub returns-clause-taken : goal.returns-clause-taken
 returns-clause-taken g c =

@@ -38,8 +38,8 @@ use Rattle.clap.specs.declared.builder.value_parser.Reading.{Reading}
 use Rattle.std.proofs.lemmas.Slice.Eq.{bytes_eq-Decides}
 use Rattle.clap.specs.Values.{read_as}
 use Rattle.clap.specs.Walk.{nothing_held, row_text, rows_after, walk, walk_from}
-use Rattle.lfs_words.specs.Grammar.{IsSaid}
-use Rattle.lfs_words.proofs.Lists.{Each, In, each_in}
+use Rattle.lfs_grammar.specs.Grammar.{IsSaid}
+use Rattle.lfs_grammar.proofs.Lists.{Each, In, each_in}
 use Rattle.clap.proofs.FaultLemmas.{request_fault}
 use Rattle.clap.proofs.SimpleLemmas.{is_false}
 use Rattle.clap.proofs.WalkLemmas.{both}

@@ -1,8 +1,8 @@
 use Rattle.std.proofs.Common.{◌≡◌, false, map, take}
 use Rattle.clap.specs.Words.{app_of}
 use Rattle.clap.specs.declared.builder.command.Command.TheViews.{out-Command as fields_of}
-use Rattle.lfs_words.specs.Grammar.{command, rule_at}
-use Rattle.lfs_words.proofs.grammar.clap_command.Given as goal
+use Rattle.lfs_grammar.specs.Grammar.{command, rule_at}
+use Rattle.lfs_grammar.proofs.grammar.clap_command.Given as goal
 
 abbrev pub invariant-loop-argument : goal.invariant-loop-argument
 invariant-loop-argument l = record {

@@ -10,9 +10,9 @@ use Rattle.std.proofs.lemmas.Slice.Eq.{bytes_eq-Decides}
 use Rattle.clap.specs.Words.{Row, Rule, Shape, Text}
 use Rattle.clap.proofs.SimpleLemmas.{is_false}
 use Rattle.clap.proofs.WalkLemmas.{both}
-use Rattle.lfs_words.proofs.FaultlessRows.{none_of}
-use Rattle.lfs_words.proofs.Lists.{Each, In, contained, each, each_in}
-use Rattle.lfs_words.specs.Grammar.{IsNumber, IsSaid, NamesCommand, block, commands, count, number, word}
+use Rattle.lfs_grammar.proofs.FaultlessRows.{none_of}
+use Rattle.lfs_grammar.proofs.Lists.{Each, In, contained, each, each_in}
+use Rattle.lfs_grammar.specs.Grammar.{IsNumber, IsSaid, NamesCommand, block, commands, count, number, word}
 
 -- ---- the command of a name
 

@@ -1,8 +1,8 @@
 use Rattle.std.proofs.Common.{◌∙◌, sym, ap, ap₂}
 use Rattle.clap.specs.Words.{App, app_of, with_subcommand}
-use Rattle.lfs_words.specs.Grammar.{shape_at}
-use Rattle.lfs_words.proofs.GrammarLemmas.{fold_row}
-use Rattle.lfs_words.proofs.grammar.with_commands.Goals as goal
+use Rattle.lfs_grammar.specs.Grammar.{shape_at}
+use Rattle.lfs_grammar.proofs.GrammarLemmas.{fold_row}
+use Rattle.lfs_grammar.proofs.grammar.with_commands.Goals as goal
 
 pub loop-row-preserved : goal.loop-row-preserved
 loop-row-preserved c =

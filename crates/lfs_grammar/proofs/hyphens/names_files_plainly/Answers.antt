@@ -2,9 +2,9 @@ use Rattle.std.proofs.Common.{rules, ◌≡◌, ◌∙◌, Bool, Some, true, fal
 use Rattle.std.specs.Prelude.{◌&&◌, option_map}
 use Rattle.clap.specs.Matches.{subcommand_name_of}
 use Rattle.clap.specs.Words.{found_of, rows_of, subcommand_rows_of}
-use Rattle.lfs_words.specs.Hyphens.{names_files_plainly}
-use Rattle.lfs_words.proofs.WordLemmas.{names_command}
-use Rattle.lfs_words.proofs.hyphens.names_files_plainly.Goals as goal
+use Rattle.lfs_grammar.specs.Hyphens.{names_files_plainly}
+use Rattle.lfs_grammar.proofs.WordLemmas.{names_command}
+use Rattle.lfs_grammar.proofs.hyphens.names_files_plainly.Goals as goal
 
 second : (a b r : Bool) → true ≡ a → r ≡ b → r ≡ (a && b)
 second true b r e is = is

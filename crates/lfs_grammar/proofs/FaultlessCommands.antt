@@ -25,9 +25,9 @@ use Rattle.clap.specs.Walk.{finished, first_of, one_of, settled, reading_by, ref
 use Rattle.clap.specs.Walk.{subcommand_met, subcommand_or_other, to_positional, trailing}
 use Rattle.clap.specs.Walk.{value, waits, walk, walk_from, walked, walked_from, word_met}
 use Rattle.clap.specs.declared.error.kind.ErrorKind.TheVariants.{DisplayHelp, InvalidSubcommand}
-use Rattle.lfs_words.proofs.FaultlessRows.{Wants, distinct, first_none, found_in, found_passes, level_said, then_none}
-use Rattle.lfs_words.specs.Grammar.{IsSaid, IsMatched, IsTaken, NamesCommand, commands, grammar}
-use Rattle.lfs_words.proofs.Lists.{Each, In, contains, each_in, every}
+use Rattle.lfs_grammar.proofs.FaultlessRows.{Wants, distinct, first_none, found_in, found_passes, level_said, then_none}
+use Rattle.lfs_grammar.specs.Grammar.{IsSaid, IsMatched, IsTaken, NamesCommand, commands, grammar}
+use Rattle.lfs_grammar.proofs.Lists.{Each, In, contains, each_in, every}
 
 -- ---- no step leads to the help
 

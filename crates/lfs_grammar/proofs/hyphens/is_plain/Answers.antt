@@ -2,8 +2,8 @@ use Rattle.std.proofs.Common.{rules, ◌≡◌, ◌∙◌, Some, None, ap, codes
 use Rattle.std.specs.Prelude.{not}
 use Rattle.clap.specs.Words.{first_of, found_of, rows_of}
 use Rattle.clap.proofs.WalkLemmas.{first_value-rows}
-use Rattle.lfs_words.specs.Hyphens.{begins_with, is_plain_name}
-use Rattle.lfs_words.proofs.hyphens.is_plain.Goals as goal
+use Rattle.lfs_grammar.specs.Hyphens.{begins_with, is_plain_name}
+use Rattle.lfs_grammar.proofs.hyphens.is_plain.Goals as goal
 
 pub returns-in-Some : goal.returns-in-Some
 returns-in-Some c =

@@ -1,0 +1,10 @@
+//! The grammar of the program's command line, and how words are read by it.
+#![tactic(auto)]
+
+mod grammar;
+mod hyphens;
+mod reading;
+
+pub use grammar::command_line;
+pub use hyphens::{dashed, names_files_plainly};
+pub use reading::matched;
