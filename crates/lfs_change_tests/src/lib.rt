@@ -16,8 +16,6 @@ mod histories;
 mod images;
 #[cfg(test)]
 mod judging;
-#[cfg(test)]
-mod laws;
 mod new_images;
 #[cfg(test)]
 mod opening;

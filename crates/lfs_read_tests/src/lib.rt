@@ -1,5 +1,5 @@
-//! Tests of what is read of images and written into them: vectors from outside, each public call once, and the laws. Which images
-//! mount, and what is made of odd ones, is tested by `tests/images.py`, over the program.
+//! Tests of what is read of images and written into them: vectors from outside, and each public call once. Which images mount, and
+//! what is made of odd ones, is tested by `tests/images.py`, over the program.
 #![tactic(auto)]
 
 #[cfg(test)]
@@ -20,8 +20,6 @@ mod files;
 mod images;
 #[cfg(test)]
 mod journals;
-#[cfg(test)]
-mod laws;
 #[cfg(test)]
 mod logs;
 #[cfg(test)]
