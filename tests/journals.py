@@ -1,10 +1,12 @@
 #!/usr/bin/env python3
-"""Undo and redo over runs of the program: images and journals byte for byte, and journals that are refused."""
+"""Undo and redo over runs of the program: images and journals byte for byte, in both versions of a journal, and journals that are
+refused."""
 import pathlib
 import sys
 import tempfile
 
 from support.folder import run_scenes
+from support.journal import in_first_version, journal as journal_of, read, word
 from support.refusing import Refusing
 
 NO_FORMAT = "lfsed: 50 JournalFormat\n"
@@ -14,11 +16,9 @@ NO_UNDO = "lfsed: 53 NothingToUndo\n"
 NO_REDO = "lfsed: 54 NothingToRedo\n"
 FULL = "lfsed: 55 JournalFull\n"
 # Without changes, for 8 blocks of 512 bytes.
-FRESH = bytes.fromhex("6c66736a 01000000 00020000 08000000 00000000 00000000")
-
-
-def word(number):
-    return number.to_bytes(4, "little")
+FRESH = bytes.fromhex("6c66736a 02000000 00020000 08000000 00000000 00000000")
+# The same in the first version.
+FIRST_FRESH = bytes.fromhex("6c66736a 01000000 00020000 08000000 00000000 00000000")
 
 
 def changed(data, at, part):
@@ -66,9 +66,9 @@ class Journal:
 
     def two_commands(self):
         """A directory, and a file of 5 bytes in it."""
-        self.does("mkdir /a", 3_112)
+        self.does("mkdir /a", 3_120)
         self.middle, self.early = self.folder.old(), self.now()
-        self.does("put /a/x", 4_144, 5)
+        self.does("put /a/x", 4_160, 5)
         self.later = self.folder.old()
 
 
@@ -95,16 +95,16 @@ def nothing_is_there_without_a_journal(folder):
     journal.refuses("redo", 1, NO_REDO)
     journal.be(b"")
     journal.refuses("undo", 1, NO_UNDO)
-    journal.does("mkdir /a", 3_112)
+    journal.does("mkdir /a", 3_120)
     journal.does("undo")
     journal.is_image("undo", journal.first)
 
 
 def a_command_drops_what_was_undone(folder):
     journal = Journal(folder)
-    journal.does("mkdir /a", 3_112)
+    journal.does("mkdir /a", 3_120)
     journal.does("undo")
-    journal.does("mkdir /b", 3_112)
+    journal.does("mkdir /b", 3_120)
     journal.refuses("redo", 1, NO_REDO)
     journal.does("undo")
     journal.is_image("undo", journal.first)
@@ -118,36 +118,129 @@ def what_was_forgotten_is_gone(folder):
     journal.refuses("undo", 1, NO_UNDO)
 
 
-def other_journals_are_refused(folder):
-    journal = Journal(folder)
-    journal.two_commands()
-    whole = journal.now()
-    rows = [
-        ("a new byte of the later change", changed(whole, 4_143, b"\0"), NO_MATCH),
-        ("a new byte of the older change", changed(whole, 1_055, b"\0"), NO_MATCH),
+def wrong_journals(whole, fresh, first):
+    """Journals that are refused, made of one with two changes and of one with none; `first` is where the first block's number is."""
+    second, start = first + 1_028, whole[first:first + 4]
+    return [
+        ("a new byte of the later change", changed(whole, len(whole) - 1, b"\0"), NO_MATCH),
+        ("a new byte of the older change", changed(whole, second - 1, b"\0"), NO_MATCH),
         ("nine blocks", changed(whole, 12, word(9)), NO_MATCH),
         ("a byte more", whole + b"\0", NO_FORMAT),
         ("another letter", b"L" + whole[1:], NO_FORMAT),
         ("version 7", changed(whole, 4, word(7)), NO_FORMAT),
         ("no block in a change", changed(whole, 24, word(0)), NO_FORMAT),
-        ("a number twice", changed(whole, 1_056, whole[28:32]), NO_FORMAT),
-        ("block 8", changed(whole, 28, word(8)), NO_FORMAT),
+        ("a number twice", changed(whole, second, start), NO_FORMAT),
+        ("block 8", changed(whole, first, word(8)), NO_FORMAT),
         ("1,001 changes", changed(whole, 16, word(600) + word(401)), NO_FORMAT),
-        ("1,000 changes", changed(FRESH, 16, word(1_000) + word(0)), NO_FORMAT),
+        ("1,000 changes", changed(fresh, 16, word(1_000) + word(0)), NO_FORMAT),
         ("more changes than a word", changed(whole, 16, word(2**32 - 1) + word(3)), NO_FORMAT),
         ("one change more than there are", changed(whole, 16, word(3)), NO_FORMAT),
         ("one change less than there are", changed(whole, 16, word(1)), NO_FORMAT),
-        ("numbers that fall", changed(changed(whole, 28, word(3)), 1_056, word(0)), NO_FORMAT),
+        ("numbers that fall", changed(changed(whole, first, word(3)), second, word(0)), NO_FORMAT),
         ("greater blocks", changed(whole, 8, word(528)), NO_FORMAT),
-        ("blocks of 255 bytes", changed(FRESH, 8, word(255)), NO_FORMAT),
-        ("one block", changed(FRESH, 12, word(1)), NO_FORMAT),
-        ("blocks of another size", changed(FRESH, 8, word(256)), NO_MATCH),
+        ("blocks of 255 bytes", changed(fresh, 8, word(255)), NO_FORMAT),
+        ("one block", changed(fresh, 12, word(1)), NO_FORMAT),
+        ("blocks of another size", changed(fresh, 8, word(256)), NO_MATCH),
     ]
+
+
+def other_journals_are_refused(folder):
+    journal = Journal(folder)
+    journal.two_commands()
+    whole = journal.now()
+    older = in_first_version(whole)
+    rows = [*wrong_journals(whole, FRESH, 36), *wrong_journals(older, FIRST_FRESH, 28)]
     for what, data, complaint in rows:
-        folder.check(f"{what}: is another", data != whole)
+        what = f"{what}, version {data[4]}"
+        folder.check(f"{what}: is another", data not in (whole, older))
         journal.be(data)
         for step in "undo", "redo", "mkdir /b":
             journal.refuses(step, 3, complaint, what)
+
+
+def counts_that_are_refused(folder):
+    """Changes of a journal whose counts break its form, or don't join."""
+    journal = Journal(folder)
+    journal.two_commands()
+    size, count, (made, filled), none = read(journal.now())
+    number, old, new = made[2][0]
+    erased = b"\xff" * 512
+    rows = [
+        ("a count that falls", [made, (9, 8, filled[2])], NO_FORMAT),
+        ("a count of 1", [(1, 8, made[2]), filled], NO_FORMAT),
+        ("a count of no image", [made, (8, 65_537, filled[2])], NO_FORMAT),
+        ("too many bytes", [made, (8, 131_073, filled[2])], NO_FORMAT),
+        ("the number at the count after", [made, (8, 8, [(8, erased, new)])], NO_FORMAT),
+        ("an added block that wasn't erased", [(7, 8, [(7, bytes(512), erased)]), filled], NO_FORMAT),
+        ("counts that don't join", [(7, 7, made[2]), filled], NO_MATCH),
+        ("counts that join too late", [made, (7, 8, filled[2])], NO_MATCH),
+        ("a later count than the image's", [made, (8, 9, filled[2])], NO_MATCH),
+    ]
+    for what, done, complaint in rows:
+        journal.be(journal_of(size, count, done, none))
+        for step in "undo", "redo", "mkdir /b":
+            journal.refuses(step, 3, complaint, what)
+    whole = journal_of(size, count, [made, filled], none)
+    journal.be(changed(whole, 4, word(1)))
+    journal.refuses("undo", 3, NO_FORMAT, "version 1 with counts")
+    journal.be(journal_of(size, count, [(2, 8, made[2]), filled], none))
+    journal.refuses("undo", 3, NO_IMAGE, "an image of two blocks that doesn't mount")
+
+
+def first_version_is_read(folder):
+    """A journal of the first version is read, and the next step that is done writes the second."""
+    journal = Journal(folder)
+    journal.two_commands()
+    whole = journal.now()
+    older = in_first_version(whole)
+    folder.check("its length", len(older) == 4_144, len(older))
+    for step in "redo", "rm /none":
+        journal.be(older)
+        ended = journal.ended(step)
+        folder.check(f"{step}: the journal stays", ended[0] == 1 and journal.now() == older, ended)
+    journal.does("undo", changed(whole, 16, word(1) + word(1)))
+    journal.is_image("undo", journal.middle)
+    journal.be(in_first_version(journal.now()))
+    journal.does("redo", whole)
+    journal.is_image("redo", journal.later)
+    journal.be(older)
+    journal.does("rm /a/x")
+    journal.does("undo", changed(journal.now(), 16, word(2) + word(1)))
+    folder.check("its changes are kept", read(journal.now())[2] == read(whole)[2])
+    journal.be(FIRST_FRESH)
+    journal.refuses("undo", 1, NO_UNDO)
+    journal.does("rm /a/x", len(FRESH) + 12 + 1_028)
+
+
+def added_blocks_are_taken_back(folder):
+    """A change that lengthens the image, handed in: it is taken back and made again, where the added blocks are as it says."""
+    journal = Journal(folder)
+    short = journal.first
+    journal.does("format --count 12", journal_of(512, 12, [], []))
+    long = folder.old()
+    blocks = [(number, short[at:at + 512], long[at:at + 512]) for number, at in enumerate((0, 512)) if short[at:at + 512] != long[at:at + 512]]
+    folder.check("block 0 says the count", [number for number, *_ in blocks] == [0])
+    grown = journal_of(512, 12, [(8, 12, blocks)], [])
+    journal.be(grown)
+    journal.does("undo", journal_of(512, 8, [], [(8, 12, blocks)]))
+    journal.is_image("undo", short)
+    journal.does("redo", grown)
+    journal.is_image("redo", long)
+    journal.does("setattr / 74 01")
+    journal.does("undo")
+    journal.does("undo")
+    journal.is_image("undo twice", short)
+    folder.be(changed(long, 10 * 512 + 7, b"\0"), 0)
+    journal.be(grown)
+    journal.refuses("undo", 3, NO_MATCH, "a byte of an added block")
+    folder.be(long, 0)
+    journal.be(journal_of(512, 12, [(12, 12, blocks)], []))
+    journal.refuses("undo", 3, NO_IMAGE, "a change that keeps the count")
+    folder.be(changed(long, 10 * 512 + 7, b"\0"), 0)
+    named = blocks + [(10, b"\xff" * 512, long[10 * 512:10 * 512 + 7] + b"\0" + b"\xff" * 504)]
+    journal.be(journal_of(512, 12, [(8, 12, named)], []))
+    journal.does("undo", journal_of(512, 8, [], [(8, 12, named)]))
+    journal.is_image("undo of a named block", short)
 
 
 def journals_cut_at_every_length(folder):
@@ -155,11 +248,13 @@ def journals_cut_at_every_length(folder):
     for value in "01", "02":
         journal.does(f"setattr / 74 {value}")
     whole = journal.now()
-    folder.check("the journal's length", len(whole) == 24 + 2 * 1_032, len(whole))
-    for length in range(1, len(whole)):
-        journal.be(whole[:length])
-        ended = journal.ended("undo")
-        folder.check(f"the first {length} bytes", ended == (3, NO_FORMAT, b"") and journal.now() == whole[:length], ended)
+    folder.check("the journal's length", len(whole) == 24 + 2 * 1_040, len(whole))
+    for spelled in whole, in_first_version(whole):
+        for length in range(1, len(spelled)):
+            journal.be(spelled[:length])
+            ended = journal.ended("undo")
+            is_kept = journal.now() == spelled[:length]
+            folder.check(f"the first {length} bytes of version {spelled[4]}", ended == (3, NO_FORMAT, b"") and is_kept, ended)
     journal.be(whole)
     for _ in range(2):
         journal.does("undo")
@@ -168,7 +263,7 @@ def journals_cut_at_every_length(folder):
 
 def block_zero(old, new):
     """A change of block 0."""
-    return word(1) + word(0) + old + new
+    return 8, 8, [(0, old, new)]
 
 
 def images_of_a_history_mount(folder):
@@ -180,8 +275,9 @@ def images_of_a_history_mount(folder):
         ("a change that leads there", [block_zero(bytes(512), b"\xff" * 512), last], NO_IMAGE),
     ]
     for what, changes, complaint in rows:
-        journal.be(changed(FRESH, 16, word(len(changes))) + b"".join(changes))
-        journal.refuses("undo", 3, complaint, what)
+        for version in 2, 1:
+            journal.be(journal_of(512, 8, changes, [], version))
+            journal.refuses("undo", 3, complaint, f"{what}, version {version}")
     journal.does("forget", FRESH)
     journal.is_image("forget", journal.first)
 
@@ -223,6 +319,9 @@ if __name__ == "__main__":
         a_command_drops_what_was_undone,
         what_was_forgotten_is_gone,
         other_journals_are_refused,
+        counts_that_are_refused,
+        first_version_is_read,
+        added_blocks_are_taken_back,
         journals_cut_at_every_length,
         images_of_a_history_mount,
         a_thousand_changes_are_kept,

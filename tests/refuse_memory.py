@@ -7,16 +7,13 @@ import subprocess
 import sys
 import tempfile
 
+from support.journal import journal
 from support.refusing import Refusing
 
 HOME = pathlib.Path(__file__).resolve().parent.parent
 PROGRAM = HOME / "crates/lfsed/out/lfsed"
 # No file, and no journal.
 NOTHING = None, None
-
-
-def word(number):
-    return number.to_bytes(4, "little")
 
 
 class Runs:
@@ -137,9 +134,8 @@ def history_rows(runs):
     runs.row(["undo", "a.img"], runs.row(["forget", "a.img"], filled))
     erased, zeroed, first = b"\xff" * 512, bytes(512), new[0][:512]
     for changes in [(erased, first)], [(erased, zeroed), (erased, first)], [(zeroed, erased), (erased, first)]:
-        journal = new[1][:16] + word(len(changes)) + word(0)
-        journal += b"".join(word(1) + word(0) + old + now for old, now in changes)
-        runs.row(["undo", "a.img"], (new[0], journal))
+        done = [(8, 8, [(0, old, now)]) for old, now in changes]
+        runs.row(["undo", "a.img"], (new[0], journal(512, 8, done, [])))
 
 
 subprocess.run([HOME / "bin/lfsed", "--help"], stdout=subprocess.DEVNULL, check=True)
