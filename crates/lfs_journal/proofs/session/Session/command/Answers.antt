@@ -37,7 +37,7 @@ returns-in_err-replace_from-clause-refused c =
     rw (p.1, p.2) (
       subst (λ (h : History). length h.done < most_changes) c.self.view_is made,
       tt,
-      ap (λ (changes : List ChangeSet). history_at s.image changes s.done) c.in_err-replace_from.ensures.unchanged ∙ c.self.view_is,
+      ap (λ (changes : List ChangeSet). history_at s.image.disk changes s.done) c.in_err-replace_from.ensures.unchanged ∙ c.self.view_is,
     )
 
 pub returns-in_err-replace_from-clause-unchanged : goal.returns-in_err-replace_from-clause-unchanged
@@ -45,7 +45,7 @@ returns-in_err-replace_from-clause-unchanged c =
     let s = c.self.inside in
     let p = err_from_is_err_and c.from_residual-in_err-replace_from.result c.from_residual-in_err-replace_from.ensures.1 in
     rw (p.1)
-    (ap (λ (changes : List ChangeSet). history_at s.image changes s.done) c.in_err-replace_from.ensures.unchanged ∙ c.self.view_is)
+    (ap (λ (changes : List ChangeSet). history_at s.image.disk changes s.done) c.in_err-replace_from.ensures.unchanged ∙ c.self.view_is)
 
 pub invariant_of-self-2 : goal.invariant_of-self-2
 invariant_of-self-2 c =
@@ -59,10 +59,10 @@ invariant_of-self-2 c =
     record {
       at = (done_at (record { disk = made.disk; agrees = back.agrees; back = back.back })
           (record { cut = follow.cut; clean = follow.clean }) (asked_for c.args.command.now)
-          s.image c.apply.new.image s.patches.items c.replace_from.new.patches.items s.done change.patch c.index.result.now
+          s.image.disk c.apply.new.image.disk s.patches.items c.replace_from.new.patches.items s.done change.patch c.index.result.now
           put c.index.ensures c.self.invariant.at (omega arith) c.in_ok-patch.ensures.planned c.apply.ensures.applied).keeps;
       known = subst (λ (e : Disk). IsOutlineOf e change.outline)
-          (sym (put_makes s.image c.apply.new.image s.patches.items c.replace_from.new.patches.items s.done change.patch c.index.result.now
+          (sym (put_makes s.image.disk c.apply.new.image.disk s.patches.items c.replace_from.new.patches.items s.done change.patch c.index.result.now
           put c.index.ensures c.apply.ensures.applied))
           c.in_ok-patch.ensures.outline;
     }
@@ -78,7 +78,7 @@ returns-clause-done c =
     record { all = c.in_ok-replace_from.ensures.done; within = c.self.invariant.at.within } in
     let to = done_at (record { disk = made.disk; agrees = back.agrees; back = back.back })
     (record { cut = follow.cut; clean = follow.clean }) (asked_for c.args.command.now)
-    s.image c.apply.new.image s.patches.items c.replace_from.new.patches.items s.done change.patch c.index.result.now
+    s.image.disk c.apply.new.image.disk s.patches.items c.replace_from.new.patches.items s.done change.patch c.index.result.now
     put c.index.ensures c.self.invariant.at (omega arith) c.in_ok-patch.ensures.planned c.apply.ensures.applied in
-    subst (λ (old : History). Does (asked_for c.args.command.now) old (history_at c.apply.new.image c.replace_from.new.patches.items
+    subst (λ (old : History). Does (asked_for c.args.command.now) old (history_at c.apply.new.image.disk c.replace_from.new.patches.items
     (s.done + 1))) c.self.view_is to.moves

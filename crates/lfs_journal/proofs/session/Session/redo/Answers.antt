@@ -13,7 +13,7 @@ invariant_of-self c =
     let back = c.applied_patches_revert.ensures in
     let at = is_at s.patches.items s.done (s.done + 1) c.index.result.now refl (omega arith) c.index.ensures in
     record {
-      at = (redone_at (record { disk = made.disk; agrees = back.agrees; back = back.back }) s.image c.apply.new.image s.patches.items s.done
+      at = (redone_at (record { disk = made.disk; agrees = back.agrees; back = back.back }) s.image.disk c.apply.new.image.disk s.patches.items s.done
           (s.done + 1) c.index.result.now
           at c.self.invariant.at c.apply.ensures.applied).keeps;
       known = tt;
@@ -26,7 +26,7 @@ returns-clause-done c =
     let made = c.applied_patches_change_their_blocks.ensures in
     let back = c.applied_patches_revert.ensures in
     let at = is_at s.patches.items s.done (s.done + 1) c.index.result.now refl (omega arith) c.index.ensures in
-    let to = redone_at (record { disk = made.disk; agrees = back.agrees; back = back.back }) s.image c.apply.new.image s.patches.items
+    let to = redone_at (record { disk = made.disk; agrees = back.agrees; back = back.back }) s.image.disk c.apply.new.image.disk s.patches.items
     s.done (s.done + 1) c.index.result.now
     at c.self.invariant.at c.apply.ensures.applied in
-    subst (λ (old : History). Redoes old (history_at c.apply.new.image s.patches.items (s.done + 1))) c.self.view_is to.moves
+    subst (λ (old : History). Redoes old (history_at c.apply.new.image.disk s.patches.items (s.done + 1))) c.self.view_is to.moves

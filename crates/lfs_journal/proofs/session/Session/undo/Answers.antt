@@ -10,7 +10,7 @@ revert-requires c =
     let s = c.self.inside in
     let within = c.self.invariant.at.within in
     let at = is_at s.patches.items (s.done - 1) s.done c.index.result.now (omega arith) (omega arith) c.index.ensures in
-    (made_agrees s.image s.patches.items (s.done - 1) s.done c.index.result.now at c.self.invariant.at).1
+    (made_agrees s.image.disk s.patches.items (s.done - 1) s.done c.index.result.now at c.self.invariant.at).1
 
 pub invariant_of-self : goal.invariant_of-self
 invariant_of-self c =
@@ -19,7 +19,7 @@ invariant_of-self c =
     let law = c.reverted_patches_apply_again.ensures in
     let at = is_at s.patches.items (s.done - 1) s.done c.index.result.now (omega arith) (omega arith) c.index.ensures in
     record {
-      at = (undone_at (record { disk = law.disk; agrees = law.agrees; again = law.again }) s.image c.revert.new.image s.patches.items
+      at = (undone_at (record { disk = law.disk; agrees = law.agrees; again = law.again }) s.image.disk c.revert.new.image.disk s.patches.items
           (s.done - 1) s.done c.index.result.now
           at c.self.invariant.at c.revert.ensures.reverted).keeps;
       known = tt;
@@ -31,7 +31,7 @@ returns-clause-done c =
     let within = c.self.invariant.at.within in
     let law = c.reverted_patches_apply_again.ensures in
     let at = is_at s.patches.items (s.done - 1) s.done c.index.result.now (omega arith) (omega arith) c.index.ensures in
-    let to = undone_at (record { disk = law.disk; agrees = law.agrees; again = law.again }) s.image c.revert.new.image s.patches.items
+    let to = undone_at (record { disk = law.disk; agrees = law.agrees; again = law.again }) s.image.disk c.revert.new.image.disk s.patches.items
     (s.done - 1) s.done c.index.result.now
     at c.self.invariant.at c.revert.ensures.reverted in
-    subst (λ (old : History). Undoes old (history_at c.revert.new.image s.patches.items (s.done - 1))) c.self.view_is to.moves
+    subst (λ (old : History). Undoes old (history_at c.revert.new.image.disk s.patches.items (s.done - 1))) c.self.view_is to.moves
