@@ -3,6 +3,7 @@ use Rattle.std.proofs.Common.{◌+◌, ◌<◌, List, length, take, ap, sym, ◌
 use Rattle.std.proofs.lemmas.Result.{err_from_is_err_and}
 use Rattle.std.proofs.lemmas.List.{length-take-le}
 use Rattle.lfs_block.specs.Disk.{Disk}
+use Rattle.lfs_block.specs.Geometry.{IsGeometry}
 use Rattle.lfs_block.specs.Patch.{ChangeSet}
 use Rattle.lfs_book.specs.Book.{most_changes}
 use Rattle.lfs_fs.specs.Mounted.{IsOutlineOf}
@@ -10,7 +11,8 @@ use Rattle.lfs_command.specs.AskedFor.{asked_for}
 use Rattle.lfs_command.specs.Planned.{RefusesPlan}
 use Rattle.lfs_history.specs.History.{History, history_at}
 use Rattle.lfs_history.specs.Taking.{Does}
-use Rattle.lfs_journal.proofs.PlaceLemmas.{IsPut, put_makes, done_at}
+use Rattle.lfs_journal.proofs.PlaceLemmas.{IsPut, put_is, put_makes, done_at}
+use Rattle.lfs_journal.proofs.RoomLemmas.{room_grows, room_put}
 use Rattle.lfs_journal.proofs.session.Session.command.Goals as goal
 
 pub returns-in_err-patch-clause-refused : goal.returns-in_err-patch-clause-refused
@@ -26,6 +28,13 @@ returns-in_err-patch-clause-refused c =
           c.in_err-patch.ensures.refused,
       c.self.view_is,
     )
+
+pub reserve-requires : goal.reserve-requires
+reserve-requires c =
+    let s = c.self.inside in
+    let change = c.in_ok-patch.field-0 in
+    let plans = c.in_ok-patch.ensures.planned in
+    rw c.after.ensures (subst (λ (n : ℕ). IsGeometry n change.patch.after) plans.stands.size plans.patch.after)
 
 pub returns-in_err-replace_from-clause-refused : goal.returns-in_err-replace_from-clause-refused
 returns-in_err-replace_from-clause-refused c =

@@ -3,6 +3,7 @@ use Rattle.std.proofs.Common.{◌-◌, subst, arith}
 use Rattle.lfs_history.specs.History.{History, history_at}
 use Rattle.lfs_history.specs.Moves.{Undoes}
 use Rattle.lfs_journal.proofs.PlaceLemmas.{is_at, made_agrees, undone_at}
+use Rattle.lfs_journal.proofs.RoomLemmas.{room_same}
 use Rattle.lfs_journal.proofs.session.Session.undo.Goals as goal
 
 pub revert-requires : goal.revert-requires
@@ -23,6 +24,7 @@ invariant_of-self c =
           (s.done - 1) s.done c.index.result.now
           at c.self.invariant.at c.revert.ensures.reverted).keeps;
       known = tt;
+      room = room_same s.image.room c.revert.new.image.room s.patches.items c.revert.ensures.room c.self.invariant.room;
     }
 
 pub returns-clause-done : goal.returns-clause-done
