@@ -7,7 +7,7 @@ ghost use Rattle.lfs_block.specs.Patch.{put_all};
 ghost use Rattle.lfs_block.specs.PatchLaws.{IsDiskAs};
 ghost use Rattle.lfs_law.specs.WrittenLinks.{CanBeMade};
 
-use lfs_block::{Blocks, Image, Patch, Record, kept_patches_make_their_changes};
+use lfs_block::{Blocks, Image, Patch, Record, kept_counts_change_their_blocks};
 
 /// Makes changes of an image, where there are some. The caller owes that they rise by number, and can be made. Takes no memory.
 pub(crate) fn make_changes(image: &mut Image, changes: Vec<Record>)
@@ -16,7 +16,7 @@ pub(crate) fn make_changes(image: &mut Image, changes: Vec<Record>)
     ensures made { image.new.disk ≡ put_all changes.items image.old.disk }
     ensures disk { IsDiskAs image.old.disk image.new.disk }
 {
-    kept_patches_make_their_changes();
+    kept_counts_change_their_blocks();
     let size = image.size();
     let count = image.count();
     if changes.is_empty() {

@@ -36,7 +36,7 @@ returns-clause-made c =
     let d = c.args.image.now.disk in
     let cs = c.args.changes.items in
     c.apply.ensures.applied ∙ ap (λ (p : ChangeSet). applied p d) (same c)
-    ∙ (c.kept_patches_make_their_changes.ensures.changes (kept_patch d.size d.count cs) d c.size-size.ensures.disk (growth c).patch
+    ∙ (c.kept_counts_change_their_blocks.ensures.changes (kept_patch d.size d.count cs) d c.size-size.ensures.disk (growth c).patch
     (kept_agrees d cs c.requires.can) refl).1
 
 pub returns-clause-disk : goal.returns-clause-disk
