@@ -1,8 +1,13 @@
 -- Room for the image after each change of a list.
 use Rattle.std.proofs.Common.{◌≡◌, ℕ, zero, suc, ◌+◌, ◌<◌, ◌≤◌, List, [], ◌∷◌, ◌++◌, length, take, drop, get_or, sym, subst, arith}
+use Rattle.std.specs.Prelude.{Option}
 use Rattle.std.specs.List.{AllByRecursion}
+use Rattle.lfs_block.specs.Disk.{Disk}
+use Rattle.lfs_block.specs.Medium.{Medium}
 use Rattle.lfs_block.specs.Patch.{ChangeSet}
-use Rattle.lfs_journal.specs.Known.{HasRoom}
+use Rattle.lfs_fs.specs.Volume.{Volume}
+use Rattle.lfs_history.specs.History.{IsHistoryAt}
+use Rattle.lfs_journal.specs.Known.{HasRoom, IsKnown, IsSession}
 
 -- ---- lists
 
@@ -46,3 +51,12 @@ room_put old new olds news i p le room fits is =
 -- the same room
 pub room_same : (old new : ℕ) (ps : List ChangeSet) → new ≡ old → HasRoom old ps → HasRoom new ps
 room_same old new ps same room = subst (λ (n : ℕ). HasRoom n ps) (sym same) room
+
+-- a session whose image got more room, and of which something else is known
+pub session_grows : (old new : Medium) (before after : Option Volume) (changes : List ChangeSet) (done : ℕ) → new.disk ≡ old.disk
+    → old.room ≤ new.room → IsSession old before changes done → IsKnown old.disk after → IsSession new after changes done
+session_grows old new before after changes done same more is known = record {
+  at = subst (λ (d : Disk). IsHistoryAt d changes done) (sym same) is.at;
+  known = subst (λ (d : Disk). IsKnown d after) (sym same) known;
+  room = room_grows old.room new.room changes more is.room;
+}
