@@ -109,14 +109,14 @@ again_in version j is of =
     let len : length ps ≡ many = length-append j.done j.undone in
     let head : Head = head_of version j in
     let few : many ≤ 1000 = omega (arith, len, is.few) in
-    let as = is_spelled version j is of in
+    let spelt = is_spelled version j is of in
     let text : List ℕ = flat_map (patch_bytes_in version) ps in
     let first : head_at (head_bytes head ++ text) ≡ Some (head, text) =
-    head_again head text (record { version = as.version_is; geometry = is.geometry; few = few }) in
+    head_again head text (record { version = spelt.version_is; geometry = is.geometry; few = few }) in
     let second : patches_at head many text ≡ Some (ps, []) =
     ap (patches_at head many) (sym (append-nil text))
     ∙ ap (λ (k : ℕ). patches_at head k (text ++ [])) (sym len)
-    ∙ patches_again head ps [] as.each in
+    ∙ patches_again head ps [] spelt.each in
     let done : take (length j.done) ps ≡ j.done = take_at j.done j.undone (length j.done) refl in
     let undone : drop (length j.done) ps ≡ j.undone = drop_at j.done j.undone (length j.done) refl in
     let back : Some (book_of j.size j.count ps (length j.done)) ≡ Some j =

@@ -50,13 +50,16 @@ patch_len p is =
 
 -- a change, by what stands for its counts
 respelled_by : (none : Bool) (many counts blocks : List ℕ) → length counts ≡ 8
-    → length (many ++ counts ++ blocks) ≡ length (many ++ cond none [] counts ++ blocks) + cond none 8 0
+    → length (many ++ (counts ++ blocks)) ≡ length (many ++ (cond none [] counts ++ blocks)) + cond none 8 0
 respelled_by true many counts blocks len =
     let a = length-append many (counts ++ blocks) in
     let b = length-append counts blocks in
     let c = length-append many blocks in
-    omega arith
-respelled_by false many counts blocks len = omega arith
+    let longer : length (many ++ (counts ++ blocks)) ≡ length (many ++ blocks) + 8 = omega arith in
+    longer
+respelled_by false many counts blocks len =
+    let same : length (many ++ (counts ++ blocks)) ≡ length (many ++ (counts ++ blocks)) + 0 = omega arith in
+    same
 
 respelled_one : (version : ℕ) (p : ChangeSet) → length (patch_bytes p) ≡ length (patch_bytes_in version p) + cond (eqb version 1) 8 0
 respelled_one version p =
@@ -74,7 +77,10 @@ none_more false = refl
 
 pub respelled : (version : ℕ) (ps : List ChangeSet)
     → length (flat_map patch_bytes ps) ≡ length (flat_map (patch_bytes_in version) ps) + respelling version (length ps)
-respelled version [] = sym (none_more (eqb version 1))
+respelled version [] =
+    let none = none_more (eqb version 1) in
+    let same : 0 ≡ 0 + cond (eqb version 1) (8 * 0) 0 = omega (arith, none) in
+    same
 respelled version (p ∷ ps) =
     let a = ap length (flat_map-cons patch_bytes p ps) in
     let b = ap length (flat_map-cons (patch_bytes_in version) p ps) in

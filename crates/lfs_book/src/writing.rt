@@ -34,6 +34,14 @@ fn put_records(out: &mut Vec<u8>, records: &[Record]) -> Result<(), AllocError>
     Ok(())
 }
 
+/// Adds the numbers of blocks before a change and after it.
+fn put_counts(out: &mut Vec<u8>, patch: &Patch) -> Result<(), AllocError>
+    ensures { OnOk result (out.new.items ≡ out.old.items ++ to_le_bytes w32 patch.now.before ++ to_le_bytes w32 patch.now.after) }
+{
+    put_word(out, patch.before())?;
+    put_word(out, patch.after())
+}
+
 /// Adds a change: the number of its blocks, the counts before and after it, then each of the blocks.
 fn put_patch(out: &mut Vec<u8>, patch: &Patch) -> Result<(), AllocError>
     requires { length patch.now.changes < 2 ^ 32 }
@@ -41,8 +49,7 @@ fn put_patch(out: &mut Vec<u8>, patch: &Patch) -> Result<(), AllocError>
 {
     let records = patch.records();
     put_word(out, records.len() as u32)?;
-    put_word(out, patch.before())?;
-    put_word(out, patch.after())?;
+    put_counts(out, patch)?;
     put_records(out, records)
 }
 
