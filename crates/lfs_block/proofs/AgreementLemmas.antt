@@ -87,7 +87,7 @@ refuted : {P : Type 0} → (P → ⊥) → IsTrue false ↔ P
 refuted other = (λ truth. absurd (false≢true truth), λ is. absurd (other is))
 
 denied : {P : Type 0} (part : Bool) → part ≡ false → IsTrue part ↔ P → P → ⊥
-denied part no iff is = false≢true (sym no ∙ iff.1 is)
+denied part failed iff is = false≢true (sym failed ∙ iff.1 is)
 
 pub agrees_old-decided : (p : ChangeSet) (d : Disk) (finds : Bool) → IsGrowth p → HasGeometry p p.before d
     → IsTrue finds ↔ AllByRecursion (FindsOld d) p.changes → IsTrue finds ↔ AgreesOld p d
@@ -98,7 +98,7 @@ agrees_old-decided p d finds grows geometry iff = (
 
 pub agrees_old-refuted : (p : ChangeSet) (d : Disk) (geometry : Bool) → geometry ≡ false → IsTrue geometry ↔ HasGeometry p p.before d
     → IsTrue false ↔ AgreesOld p d
-agrees_old-refuted p d geometry no iff = refuted (λ agrees. denied geometry no iff (agrees.size, agrees.count))
+agrees_old-refuted p d geometry failed iff = refuted (λ agrees. denied geometry failed iff (agrees.size, agrees.count))
 
 pub agrees_new-decided : (p : ChangeSet) (d : Disk) (leaves : Bool) → IsGrowth p → HasGeometry p p.after d
     → AllByRecursion (FindsNew d) p.changes → IsTrue leaves ↔ LeavesErased p d → IsTrue leaves ↔ AgreesNew p d
@@ -109,9 +109,8 @@ agrees_new-decided p d leaves grows geometry each iff = (
 
 pub agrees_new-unfound : (p : ChangeSet) (d : Disk) (finds : Bool) → finds ≡ false
     → IsTrue finds ↔ AllByRecursion (FindsNew d) p.changes → IsTrue false ↔ AgreesNew p d
-agrees_new-unfound p d finds no iff = refuted (λ agrees. denied finds no iff (agrees_new-each p d agrees))
+agrees_new-unfound p d finds failed iff = refuted (λ agrees. denied finds failed iff (agrees_new-each p d agrees))
 
 pub agrees_new-refuted : (p : ChangeSet) (d : Disk) (geometry : Bool) → geometry ≡ false → IsTrue geometry ↔ HasGeometry p p.after d
     → IsTrue false ↔ AgreesNew p d
-agrees_new-refuted p d geometry no iff = refuted (λ agrees. denied geometry no iff (agrees.size, agrees.count))
-
+agrees_new-refuted p d geometry failed iff = refuted (λ agrees. denied geometry failed iff (agrees.size, agrees.count))

@@ -27,7 +27,7 @@ resized-len d count =
       arith,
       length-append (take most d.bytes) (replicate gap 0xff),
       length-take most d.bytes,
-      length-replicate gap 0xff,
+      length-replicate {A = ℕ} gap 0xff,
     )
 
 pub resized-is_disk : ResizedIsDisk

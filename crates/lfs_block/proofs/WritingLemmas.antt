@@ -106,8 +106,8 @@ grown-all p i d now grows disk size done so_far = (
 
 -- the image that is cut is one
 pub cut-geometry : (p q : ChangeSet) (d now : Disk) → q ≡ p → IsGrowth q → p.size ≡ d.size → IsDiskAs d now → IsGeometry now.size q.before
-cut-geometry p q d now seen grows size as =
-    subst (λ (k : ℕ). IsGeometry k q.before) (ap (λ (r : ChangeSet). r.size) seen ∙ size ∙ sym as.size) grows.patch.before
+cut-geometry p q d now seen grows size kept =
+    subst (λ (k : ℕ). IsGeometry k q.before) (ap (λ (r : ChangeSet). r.size) seen ∙ size ∙ sym kept.size) grows.patch.before
 
 -- all is written, and the image is cut
 pub cut-all : (p q : ChangeSet) (i : ℕ) (d now next : Disk) → q ≡ p → IsGrowth p → IsDisk d → AgreesNew p d
