@@ -83,8 +83,8 @@ agrees_new-leaves p d agrees n past within none =
 abbrev HasGeometry : ChangeSet → ℕ → Disk → Type 0
 HasGeometry p count d = (p.size ≡ d.size) × (count ≡ d.count)
 
-refuted : {P : Type 0} → (P → ⊥) → IsTrue false ↔ P
-refuted other = (λ truth. absurd (false≢true truth), λ is. absurd (other is))
+refuted : {P : Type 0} (result : Bool) → result ≡ false → (P → ⊥) → IsTrue result ↔ P
+refuted result failed other = (λ truth. absurd (false≢true (sym failed ∙ truth)), λ is. absurd (other is))
 
 denied : {P : Type 0} (part : Bool) → part ≡ false → IsTrue part ↔ P → P → ⊥
 denied part failed iff is = false≢true (sym failed ∙ iff.1 is)
@@ -96,9 +96,10 @@ agrees_old-decided p d finds grows geometry iff = (
   λ agrees. iff.1 (agrees_old-each p d agrees),
 )
 
-pub agrees_old-refuted : (p : ChangeSet) (d : Disk) (geometry : Bool) → geometry ≡ false → IsTrue geometry ↔ HasGeometry p p.before d
-    → IsTrue false ↔ AgreesOld p d
-agrees_old-refuted p d geometry failed iff = refuted (λ agrees. denied geometry failed iff (agrees.size, agrees.count))
+pub agrees_old-refuted : (p : ChangeSet) (d : Disk) (geometry result : Bool) → geometry ≡ false
+    → IsTrue geometry ↔ HasGeometry p p.before d → result ≡ false → IsTrue result ↔ AgreesOld p d
+agrees_old-refuted p d geometry result failed iff is =
+    refuted result is (λ agrees. denied geometry failed iff (agrees.size, agrees.count))
 
 pub agrees_new-decided : (p : ChangeSet) (d : Disk) (leaves : Bool) → IsGrowth p → HasGeometry p p.after d
     → AllByRecursion (FindsNew d) p.changes → IsTrue leaves ↔ LeavesErased p d → IsTrue leaves ↔ AgreesNew p d
@@ -107,10 +108,11 @@ agrees_new-decided p d leaves grows geometry each iff = (
   λ agrees. iff.1 (agrees_new-leaves p d agrees),
 )
 
-pub agrees_new-unfound : (p : ChangeSet) (d : Disk) (finds : Bool) → finds ≡ false
-    → IsTrue finds ↔ AllByRecursion (FindsNew d) p.changes → IsTrue false ↔ AgreesNew p d
-agrees_new-unfound p d finds failed iff = refuted (λ agrees. denied finds failed iff (agrees_new-each p d agrees))
+pub agrees_new-unfound : (p : ChangeSet) (d : Disk) (finds result : Bool) → finds ≡ false
+    → IsTrue finds ↔ AllByRecursion (FindsNew d) p.changes → result ≡ false → IsTrue result ↔ AgreesNew p d
+agrees_new-unfound p d finds result failed iff is = refuted result is (λ agrees. denied finds failed iff (agrees_new-each p d agrees))
 
-pub agrees_new-refuted : (p : ChangeSet) (d : Disk) (geometry : Bool) → geometry ≡ false → IsTrue geometry ↔ HasGeometry p p.after d
-    → IsTrue false ↔ AgreesNew p d
-agrees_new-refuted p d geometry failed iff = refuted (λ agrees. denied geometry failed iff (agrees.size, agrees.count))
+pub agrees_new-refuted : (p : ChangeSet) (d : Disk) (geometry result : Bool) → geometry ≡ false
+    → IsTrue geometry ↔ HasGeometry p p.after d → result ≡ false → IsTrue result ↔ AgreesNew p d
+agrees_new-refuted p d geometry result failed iff is =
+    refuted result is (λ agrees. denied geometry failed iff (agrees.size, agrees.count))
