@@ -1,9 +1,9 @@
 -- What a look at the blocks of an image finds, and whether the image is what a patch was made of or what it makes.
-use Rattle.std.proofs.Common.{◌≡◌, ◌↔◌, ℕ, ◌<◌, ◌≤◌, Bool, true, false, IsTrue, List, map, None, ap, refl, sym, subst, ◌∙◌, arith, inl, inr}
+use Rattle.std.proofs.Common.{◌≡◌, ◌↔◌, ℕ, ◌<◌, ◌≤◌, Bool, false, IsTrue, None, ap, sym, subst, ◌∙◌, arith, inl, inr}
 use Rattle.std.specs.List.{AllByRecursion}
 use Rattle.std.proofs.lemmas.Bool.{cases_lt, false≢true}
 use Rattle.lfs_block.specs.Change.{Change, change_of, flip}
-use Rattle.lfs_block.specs.Disk.{Disk, block_at, block_of, erased_block}
+use Rattle.lfs_block.specs.Disk.{Disk, block_at, erased_block}
 use Rattle.lfs_block.specs.Patch.{ChangeSet, IsChangeIn, IsGrowth, AgreesAt, AgreesOld, AgreesNew, FindsOld, FindsNew, LeavesErased}
 use Rattle.lfs_block.proofs.PatchLemmas.{each-both, each-flipped, each-one, each-unflipped, none-flipped, none-unflipped}
 use Rattle.lfs_block.proofs.ResizeLemmas.{block_at-behind, block_at-within}
@@ -95,11 +95,6 @@ agrees_old-decided p d finds grows geometry iff = (
   λ truth. agrees_old-by p d grows geometry.0 geometry.1 (iff.0 truth),
   λ agrees. iff.1 (agrees_old-each p d agrees),
 )
-
-pub agrees_old-refuted : (p : ChangeSet) (d : Disk) (geometry result : Bool) → geometry ≡ false
-    → IsTrue geometry ↔ HasGeometry p p.before d → result ≡ false → IsTrue result ↔ AgreesOld p d
-agrees_old-refuted p d geometry result failed iff is =
-    refuted result is (λ agrees. denied geometry failed iff (agrees.size, agrees.count))
 
 pub agrees_new-decided : (p : ChangeSet) (d : Disk) (leaves : Bool) → IsGrowth p → HasGeometry p p.after d
     → AllByRecursion (FindsNew d) p.changes → IsTrue leaves ↔ LeavesErased p d → IsTrue leaves ↔ AgreesNew p d

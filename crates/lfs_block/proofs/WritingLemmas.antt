@@ -9,7 +9,7 @@ use Rattle.lfs_block.specs.Disk.{Disk, IsDisk, put, resized}
 use Rattle.lfs_block.specs.Geometry.{IsGeometry}
 use Rattle.lfs_block.specs.Patch.{ChangeSet, IsGrowth, AgreesNew, applied, put_all, reverted}
 use Rattle.lfs_block.specs.PatchLaws.{IsDiskAs, IsDiskOf, FitsDisk}
-use Rattle.lfs_block.proofs.PatchLemmas.{cut-made, grown-fits, grown-is_disk, grown-made, reverted-is_disk, uncut-fits}
+use Rattle.lfs_block.proofs.PatchLemmas.{cut-made, grown-fits, grown-is_disk, grown-made, reverted-is_disk}
 use Rattle.lfs_block.proofs.PutLemmas.{put-is_disk}
 
 -- the first i of changes that fit are made: what is left of them makes the whole change

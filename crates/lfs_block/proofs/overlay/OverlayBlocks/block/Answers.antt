@@ -1,6 +1,6 @@
 use Rattle.std.proofs.Common.{◌≡◌, ℕ, ◌<◌, ◌≤◌, None, Some, option_map, sym, ap, subst, ◌∙◌}
-use Rattle.lfs_block.specs.Change.{Change, change_of}
-use Rattle.lfs_block.specs.Disk.{Disk, block_of, erased_block}
+use Rattle.lfs_block.specs.Change.{change_of}
+use Rattle.lfs_block.specs.Disk.{Disk, block_of}
 use Rattle.lfs_block.specs.Overlay.{count_of}
 use Rattle.lfs_block.proofs.OverlayLemmas.{laid-is_disk, laid-none, laid-some}
 use Rattle.lfs_block.proofs.ResizeLemmas.{block_at-behind, block_at-within}
