@@ -27,8 +27,7 @@ each_in : (size before after : ℕ) (cs : List Change) → AllByRecursion (IsBlo
     → AllByRecursion (IsErasedBefore size before) cs → AllByRecursion (IsChangeIn size before after) cs
 each_in size before after [] whole below erased = tt
 each_in size before after (c ∷ cs) whole below erased =
-    let first : c.number < after = below.0 in
-    (
+    let first : c.number < after = below.0 in (
       record { whole = whole.0; within = omega (arith, first); old = erased.0; new = λ le. absurd (omega (arith, first, le)) },
       each_in size before after cs whole.1 below.1 erased.1,
     )

@@ -35,8 +35,8 @@ change_at size before after least bytes = do
     old ← block_at size n.1
     new ← block_at size old.1
     if nat_le before n.0 && not (is_erased old.0)
-      then None
-      else Some (record { number = n.0; old = old.0; new = new.0 }, new.1))
+        then None
+        else Some (record { number = n.0; old = old.0; new = new.0 }, new.1))
 
 -- so many changes of one block each, whose numbers rise
 unfoldable pub changes_at : ℕ → ℕ → ℕ → ℕ → ℕ → List ℕ → Option (List Change × List ℕ)
