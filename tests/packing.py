@@ -13,7 +13,7 @@ from support.littlefs import IN_BLOCKS, ROOT, DIRECTORY, Reader
 from support.refusing import Refusing
 
 # The journal of 8 blocks of 512 bytes without changes.
-FRESH = bytes.fromhex("6c66736a 01000000 00020000 08000000 00000000 00000000")
+FRESH = bytes.fromhex("6c66736a 02000000 00020000 08000000 00000000 00000000")
 
 
 def source(folder):

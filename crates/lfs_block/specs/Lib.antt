@@ -5,7 +5,7 @@ pub mod Disk
 pub mod Faults
 pub mod Geometry
 pub mod ImageFault
+pub mod Medium
 pub mod Overlay
-pub mod OverlayLaws
 pub mod Patch
 pub mod PatchLaws

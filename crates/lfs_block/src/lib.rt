@@ -5,6 +5,7 @@
 mod blocks;
 mod checksum;
 mod checksum_tables;
+mod erased;
 mod geometry;
 mod image;
 mod image_fault;
@@ -25,9 +26,10 @@ pub use mount_fault::MountFault;
 pub use overlay::Overlay;
 pub use patch::Patch;
 pub use patch_laws::{
-    agreeing_patches_fit, applied_patches_change_their_blocks, applied_patches_revert,
-    changes_change_their_blocks, flipped_patches_are_patches, images_are_their_blocks,
-    put_blocks_stand, reverted_patches_apply_again,
+    applied_patches_change_their_blocks, applied_patches_revert, changes_change_their_blocks,
+    flipped_patches_are_patches, grown_images_keep_their_count, images_are_their_blocks,
+    kept_counts_change_their_blocks, put_blocks_stand, resized_images_keep_their_blocks,
+    reverted_patches_apply_again,
 };
 pub use record::Record;
 pub use word::little_word;

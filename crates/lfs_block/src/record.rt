@@ -1,5 +1,9 @@
 //! The change of one block.
 
+ghost use Rattle.std.specs.Prelude.{◌≡◌};
+ghost use Rattle.std.specs.Option.{option_map};
+ghost use Rattle.lfs_block.specs.Change.{IsRising, change_of};
+
 use crate::side::Side;
 use std::marker::Model;
 
@@ -36,5 +40,19 @@ impl Record {
             Side::Old => &self.old,
             Side::New => &self.new,
         }
+    }
+}
+
+/// The change of block `n` among changes whose numbers rise, where there is one. Takes no memory.
+pub(crate) fn record_of(records: &[Record], n: u32) -> Option<&Record>
+    requires { IsRising records.now }
+    ensures { option_map (λ r. r.now) result ≡ change_of n records.now }
+{
+    let at = records.partition_point(|record| record.number < n);
+    let record = records.get(at)?;
+    if record.number == n {
+        Some(record)
+    } else {
+        None
     }
 }

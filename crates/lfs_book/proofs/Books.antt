@@ -1,5 +1,5 @@
 -- A book that is read is spelled so, and one that is spelled so is read.
-use Rattle.std.proofs.Common.{◌≡◌, ℕ, ◌+◌, ◌≤◌, cond, eqb, List, [], ◌++◌, length, take}
+use Rattle.std.proofs.Common.{◌≡◌, inl, inr, ℕ, ◌+◌, ◌≤◌, cond, eqb, List, [], ◌++◌, length, take}
 use Rattle.std.proofs.Common.{drop, Some, None, Result, Ok, Err, refl, sym, ap, subst, ◌∙◌, arith}
 use Rattle.std.specs.Prelude.{codes, IfOk, IfErr}
 use Rattle.std.specs.Int.{w32, to_le_bytes}
@@ -10,131 +10,158 @@ use Rattle.std.proofs.lemmas.Option.{cond_some, same_Some}
 use Rattle.lfs_block.specs.Bytes.{IsBytes}
 use Rattle.lfs_block.specs.Geometry.{IsGeometry}
 use Rattle.lfs_block.specs.Patch.{ChangeSet}
-use Rattle.lfs_book.specs.Book.{Book, book_of, patch_bytes, journal_bytes, IsPatchOf, IsBook}
+use Rattle.lfs_book.specs.Book.{Book, book_of, patch_bytes, patch_bytes_in, bytes_in, journal_bytes, IsPatchOf, KeepsAt, IsVersionOf, IsBook, Spells}
 use Rattle.lfs_book.specs.Reading.{◌>>=◌, patches_at, Head, head_at, read_book}
 use Rattle.lfs_book.specs.declared.journal_fault.JournalFault.{JournalFault}
 use Rattle.lfs_book.specs.declared.journal_fault.JournalFault.TheVariants.{JournalFormat, Memory}
 use Rattle.lfs_book.specs.Faults.{Gives, IsNoJournal}
 use Rattle.lfs_book.specs.Laws.{BooksAreReadOnce}
 use Rattle.lfs_book.proofs.Fields.{bind_some, bind_is, Takes-then}
-use Rattle.lfs_book.proofs.Heads.{head_bytes, head_with, head_takes, head_again}
-use Rattle.lfs_book.proofs.Patches.{patches_take, patches_again}
+use Rattle.lfs_book.proofs.Heads.{IsVersion, head_bytes, head_with, head_takes, head_again}
+use Rattle.lfs_book.proofs.Patches.{IsPatchIn, patches_take, patches_again, each_of, each_kept, each_as}
 
 -- ---- the whole
 
--- a book as it is spelled, by the numbers of its changes and the list of them
-abbrev pub spelled : ℕ → ℕ → ℕ → ℕ → List ChangeSet → List ℕ
-spelled size count done undone ps = head_bytes (head_with size count done undone) ++ flat_map patch_bytes ps
+-- a book as it is spelled, by what stands before its changes and the list of them
+abbrev pub spelled : Head → List ChangeSet → List ℕ
+spelled h ps = head_bytes h ++ flat_map (patch_bytes_in h.version) ps
 
-pub journal_bytes-spelled : (j : Book) → journal_bytes j ≡ spelled j.size j.count (length j.done) (length j.undone) (j.done ++ j.undone)
-unfolding journal_bytes
-journal_bytes-spelled j = refl
+-- what stands before the changes of a book
+abbrev pub head_of : ℕ → Book → Head
+head_of version j = head_with version j.size j.count (length j.done) (length j.undone)
 
-pub record TakesBook (bytes : List ℕ) (j : Book) : Type 0 where
-  pub spelled : journal_bytes j ≡ bytes
-  pub is : IsBook j
+pub bytes_in-spelled : (version : ℕ) (j : Book) → bytes_in version j ≡ spelled (head_of version j) (j.done ++ j.undone)
+unfolding bytes_in
+bytes_in-spelled version j = refl
 
 -- one list of changes, of which so many are done
-pub book_of-spelled : (size count done undone : ℕ) (ps : List ChangeSet) → length ps ≡ done + undone
-    → journal_bytes (book_of size count ps done) ≡ spelled size count done undone ps
-book_of-spelled size count done undone ps len =
+pub book_of-spelled : (version size count done undone : ℕ) (ps : List ChangeSet) → length ps ≡ done + undone
+    → bytes_in version (book_of size count ps done) ≡ spelled (head_with version size count done undone) ps
+book_of-spelled version size count done undone ps len =
     let first : length (take done ps) ≡ done = omega (arith, length-take done ps, len) in
     let second : length (drop done ps) ≡ undone = omega (arith, length-drop done ps, len) in
-    journal_bytes-spelled (book_of size count ps done)
-    ∙ ap (λ (k : ℕ). spelled size count k (length (drop done ps)) (take done ps ++ drop done ps)) first
-    ∙ ap (λ (k : ℕ). spelled size count done k (take done ps ++ drop done ps)) second
-    ∙ ap (spelled size count done undone) (take-append-drop done ps)
+    bytes_in-spelled version (book_of size count ps done)
+    ∙ ap (λ (k : ℕ). spelled (head_with version size count k (length (drop done ps))) (take done ps ++ drop done ps)) first
+    ∙ ap (λ (k : ℕ). spelled (head_with version size count done k) (take done ps ++ drop done ps)) second
+    ∙ ap (spelled (head_with version size count done undone)) (take-append-drop done ps)
 
-pub book_of-is : (size count done undone : ℕ) (ps : List ChangeSet) → IsGeometry size count → AllByRecursion (IsPatchOf size count) ps
+pub book_of-is : (size count done undone : ℕ) (ps : List ChangeSet) → IsGeometry size count → AllByRecursion (IsPatchOf size) ps
     → length ps ≡ done + undone → done + undone ≤ 1000
     → IsBook (book_of size count ps done)
 book_of-is size count done undone ps geometry each len few = record {
   geometry = geometry;
-  each = subst (AllByRecursion (IsPatchOf size count)) (sym (take-append-drop done ps)) each;
+  each = subst (AllByRecursion (IsPatchOf size)) (sym (take-append-drop done ps)) each;
   few = omega (arith, ap length (take-append-drop done ps), len, few);
 }
 
-pub book_takes : (bytes : List ℕ) (j : Book) → IsBytes bytes → read_book bytes ≡ Some j → TakesBook bytes j
+-- the version that was read is one of the book
+version_of : (h : Head) (ps : List ChangeSet) → IsVersion h.version → AllByRecursion (IsPatchIn h) ps
+    → IsVersionOf h.version (book_of h.size h.count ps h.done)
+version_of h ps (inl first) each =
+    inr (first, subst (AllByRecursion (KeepsAt h.count)) (sym (take-append-drop h.done ps)) (each_kept h ps first each))
+version_of h ps (inr second) each = inl second
+
+pub book_takes : (bytes : List ℕ) (j : Book) → IsBytes bytes → read_book bytes ≡ Some j → Spells bytes j
 unfolding read_book
 book_takes bytes j h e =
-    let a = bind_some (head_at bytes) (λ head. patches_at head.0.size head.0.count (head.0.done + head.0.undone) head.1 >>= λ patches.
+    let a = bind_some (head_at bytes) (λ head. patches_at head.0 (head.0.done + head.0.undone) head.1 >>= λ patches.
     cond (eqb (length patches.1) 0) (Some (book_of head.0.size head.0.count patches.0 head.0.done)) None) j e in
     let head : Head = a.0.0 in
-    let b = bind_some (patches_at head.size head.count (head.done + head.undone) a.0.1)
+    let b = bind_some (patches_at head (head.done + head.undone) a.0.1)
     (λ patches. cond (eqb (length patches.1) 0) (Some (book_of head.size head.count patches.0 head.done)) None) j a.2 in
     let ps : List ChangeSet = b.0.0 in
     let g = cond_some (eqb (length b.0.1) 0) (book_of head.size head.count ps head.done) j b.2 in
     let first = head_takes bytes a.0 h a.1 in
-    let second = patches_take head.size head.count (head.done + head.undone) a.0.1 b.0 first.takes.rest_bytes b.1 in
+    let second = patches_take head (head.done + head.undone) a.0.1 b.0 first.takes.rest_bytes first.is.geometry b.1 in
     let nothing : b.0.1 ≡ [] = nil_from_length b.0.1 (eqb-true _ _ g.0) in
-    let both : bytes ≡ spelled head.size head.count head.done head.undone ps ++ b.0.1 =
-    (Takes-then bytes (head_bytes head) a.0.1 (flat_map patch_bytes ps) b.0.1 first.takes second.takes).parts in
-    let whole : bytes ≡ spelled head.size head.count head.done head.undone ps =
-    both ∙ ap (λ (x : List ℕ). spelled head.size head.count head.done head.undone ps ++ x) nothing
-    ∙ append-nil (spelled head.size head.count head.done head.undone ps) in
-    let all : TakesBook bytes (book_of head.size head.count ps head.done) = record {
-      spelled = book_of-spelled head.size head.count head.done head.undone ps second.len ∙ sym whole;
-      is = book_of-is head.size head.count head.done head.undone ps first.is.geometry second.each second.len first.is.few;
+    let both : bytes ≡ spelled head ps ++ b.0.1 =
+    (Takes-then bytes (head_bytes head) a.0.1 (flat_map (patch_bytes_in head.version) ps) b.0.1 first.takes second.takes).parts in
+    let whole : bytes ≡ spelled head ps = both ∙ ap (λ (x : List ℕ). spelled head ps ++ x) nothing ∙ append-nil (spelled head ps) in
+    let all : Spells bytes (book_of head.size head.count ps head.done) = record {
+      book = book_of-is head.size head.count head.done head.undone ps first.is.geometry (each_of head ps second.each) second.len
+          first.is.few;
+      version = head.version;
+      version_is = version_of head ps first.is.version second.each;
+      bytes_are = book_of-spelled head.version head.size head.count head.done head.undone ps second.len ∙ sym whole;
     } in
-    subst (TakesBook bytes) g.1 all
+    subst (Spells bytes) g.1 all
 
-pub book_again : (j : Book) → IsBook j → read_book (journal_bytes j) ≡ Some j
+-- a version that is spelled, with the changes that it spells
+record IsSpelled (version : ℕ) (j : Book) : Type 0 where
+  pub version_is : IsVersion version
+  pub each : AllByRecursion (IsPatchIn (head_of version j)) (j.done ++ j.undone)
+
+is_spelled : (version : ℕ) (j : Book) → IsBook j → IsVersionOf version j → IsSpelled version j
+is_spelled version j is (inl second) = record {
+  version_is = inr second;
+  each = each_as (head_of version j) (j.done ++ j.undone) is.each (λ first. absurd (omega (arith, first, second)));
+}
+is_spelled version j is (inr (first, kept)) = record {
+  version_is = inl first;
+  each = each_as (head_of version j) (j.done ++ j.undone) is.each (λ _. kept);
+}
+
+again_in : (version : ℕ) (j : Book) → IsBook j → IsVersionOf version j → read_book (bytes_in version j) ≡ Some j
 unfolding read_book
-book_again j is =
+again_in version j is of =
     let ps : List ChangeSet = j.done ++ j.undone in
     let many : ℕ = length j.done + length j.undone in
     let len : length ps ≡ many = length-append j.done j.undone in
-    let head : Head = head_with j.size j.count (length j.done) (length j.undone) in
+    let head : Head = head_of version j in
     let few : many ≤ 1000 = omega (arith, len, is.few) in
-    let first : head_at (head_bytes head ++ flat_map patch_bytes ps) ≡ Some (head, flat_map patch_bytes ps) =
-    head_again head (flat_map patch_bytes ps) (record { geometry = is.geometry; few = few }) in
-    let second : patches_at j.size j.count many (flat_map patch_bytes ps) ≡ Some (ps, []) =
-    ap (patches_at j.size j.count many) (sym (append-nil (flat_map patch_bytes ps)))
-    ∙ ap (λ (k : ℕ). patches_at j.size j.count k (flat_map patch_bytes ps ++ [])) (sym len)
-    ∙ patches_again j.size j.count ps [] is.geometry.count_fits.1 is.each in
+    let spelt = is_spelled version j is of in
+    let text : List ℕ = flat_map (patch_bytes_in version) ps in
+    let first : head_at (head_bytes head ++ text) ≡ Some (head, text) =
+    head_again head text (record { version = spelt.version_is; geometry = is.geometry; few = few }) in
+    let second : patches_at head many text ≡ Some (ps, []) =
+    ap (patches_at head many) (sym (append-nil text))
+    ∙ ap (λ (k : ℕ). patches_at head k (text ++ [])) (sym len)
+    ∙ patches_again head ps [] spelt.each in
     let done : take (length j.done) ps ≡ j.done = take_at j.done j.undone (length j.done) refl in
     let undone : drop (length j.done) ps ≡ j.undone = drop_at j.done j.undone (length j.done) refl in
     let back : Some (book_of j.size j.count ps (length j.done)) ≡ Some j =
     ap (λ (x : List ChangeSet). Some (record { size = j.size; count = j.count; done = x; undone = drop (length j.done) ps })) done
     ∙ ap (λ (x : List ChangeSet). Some (record { size = j.size; count = j.count; done = j.done; undone = x })) undone in
-    ap read_book (journal_bytes-spelled j)
-    ∙ bind_is (head_at (head_bytes head ++ flat_map patch_bytes ps)) (λ head. patches_at head.0.size head.0.count
-    (head.0.done + head.0.undone) head.1 >>= λ patches.
-    cond (eqb (length patches.1) 0) (Some (book_of head.0.size head.0.count patches.0 head.0.done)) None) (head, flat_map patch_bytes ps)
+    ap read_book (bytes_in-spelled version j)
+    ∙ bind_is (head_at (head_bytes head ++ text)) (λ head. patches_at head.0 (head.0.done + head.0.undone) head.1 >>= λ patches.
+    cond (eqb (length patches.1) 0) (Some (book_of head.0.size head.0.count patches.0 head.0.done)) None) (head, text)
     (Some j) first
-    (bind_is (patches_at j.size j.count many (flat_map patch_bytes ps))
+    (bind_is (patches_at head many text)
     (λ patches. cond (eqb (length patches.1) 0) (Some (book_of j.size j.count patches.0 (length j.done))) None)
     (ps, []) (Some j) second back)
 
+pub book_again : (bytes : List ℕ) (j : Book) → Spells bytes j → read_book bytes ≡ Some j
+book_again bytes j spells = ap read_book (sym spells.bytes_are) ∙ again_in spells.version j spells.book spells.version_is
+
 pub books_once : BooksAreReadOnce
-books_once i j first second same = same_Some i j (sym (book_again i first) ∙ ap read_book same ∙ book_again j second)
+books_once bytes i j first second = same_Some i j (sym (book_again bytes i first) ∙ book_again bytes j second)
 
 -- bytes, and behind them what stands before the changes
 abbrev pub headed : List ℕ → Head → List ℕ
 headed out h =
-    out ++ codes "lfsj" ++ to_le_bytes w32 1 ++ to_le_bytes w32 h.size ++ to_le_bytes w32 h.count ++ to_le_bytes w32 h.done
+    out ++ codes "lfsj" ++ to_le_bytes w32 2 ++ to_le_bytes w32 h.size ++ to_le_bytes w32 h.count ++ to_le_bytes w32 h.done
     ++ to_le_bytes w32 h.undone
 
 -- what stands before the changes, and the changes behind it
 pub book_of-written : (size count done undone : ℕ) (ps : List ChangeSet) (empty front whole : List ℕ) → length ps ≡ done + undone
     → empty ≡ []
-    → front ≡ headed empty (head_with size count done undone) → whole ≡ front ++ flat_map patch_bytes ps
+    → front ≡ headed empty (head_with 2 size count done undone) → whole ≡ front ++ flat_map patch_bytes ps
     → whole ≡ journal_bytes (book_of size count ps done)
 book_of-written size count done undone ps empty front whole len none first second =
-    let head : Head = head_with size count done undone in
+    let head : Head = head_with 2 size count done undone in
     let began : front ≡ head_bytes head = first ∙ ap (λ (x : List ℕ). headed x head) none in
-    second ∙ ap (λ (x : List ℕ). x ++ flat_map patch_bytes ps) began ∙ sym (book_of-spelled size count done undone ps len)
+    second ∙ ap (λ (x : List ℕ). x ++ flat_map patch_bytes ps) began ∙ sym (book_of-spelled 2 size count done undone ps len)
 
 -- ---- what a reader found
 
 pub is_read : (bytes : List ℕ) (r : Result Book JournalFault) → IsBytes bytes → Gives (λ j. j) r (read_book bytes)
-    → IfOk r (λ j. journal_bytes j ≡ bytes)
-is_read bytes (Ok j) h given = (book_takes bytes j h given).spelled
+    → IfOk r (λ j. Spells bytes j)
+is_read bytes (Ok j) h given = book_takes bytes j h given
 is_read bytes (Err fault) h given = tt
 
 pub is_refused : (bytes : List ℕ) (r : Result Book JournalFault) → Gives (λ j. j) r (read_book bytes)
     → IfErr r (λ fault. IsNoJournal fault bytes)
 is_refused bytes (Ok j) given = tt
 is_refused bytes (Err JournalFormat) given =
-    λ j is same. let e : Some j ≡ None = sym (book_again j is) ∙ ap read_book same ∙ given in absurd cc
+    λ j spells. let e : Some j ≡ None = sym (book_again bytes j spells) ∙ given in absurd cc
 is_refused bytes (Err Memory) given = tt

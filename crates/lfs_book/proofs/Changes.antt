@@ -1,5 +1,5 @@
 -- Changes of one block each that are read are spelled so, and those that are spelled so are read.
-use Rattle.std.proofs.Common.{◌≡◌, ℕ, zero, suc, ◌+◌, ◌<◌, ◌≤◌, false, cond, ltb, leb, ◌||◌, List, [], ◌∷◌, ◌++◌, length}
+use Rattle.std.proofs.Common.{◌≡◌, ℕ, zero, suc, ◌+◌, ◌<◌, ◌≤◌, false, cond, ltb, leb, ◌&&◌, ◌||◌, not, List, [], ◌∷◌, ◌++◌, length}
 use Rattle.std.proofs.Common.{Option, Some, None, refl, sym, ap, subst, ◌∙◌, append_assoc, arith}
 use Rattle.std.specs.Int.{w32, to_le_bytes}
 use Rattle.std.specs.List.{flat_map, AllByRecursion}
@@ -8,162 +8,179 @@ use Rattle.std.proofs.lemmas.List.Concat.{flat_map-cons}
 use Rattle.std.proofs.lemmas.Option.{same_Some}
 use Rattle.lfs_block.specs.Bytes.{IsBytes}
 use Rattle.lfs_block.specs.Change.{Change, IsRising, IsBlockChange}
-use Rattle.lfs_block.proofs.PatchLemmas.{each-one}
+use Rattle.lfs_block.specs.Disk.{erased_block}
 use Rattle.lfs_book.specs.Book.{change_bytes}
-use Rattle.lfs_book.specs.Reading.{◌>>=◌, word_at, block_at, change_at, changes_at}
+use Rattle.lfs_book.specs.Reading.{◌>>=◌, word_at, block_at, is_erased, change_at, changes_at}
+use Rattle.lfs_book.proofs.Erased.{erased_before, passes_erased}
 use Rattle.lfs_book.proofs.Fields.{bind_some, guard_none, Takes, Takes-then, word_takes, word_again, block_takes, block_again}
+
+pub each_one : (P Q : Change → Type 0) → ((c : Change) → P c → Q c) → (cs : List Change) → AllByRecursion P cs → AllByRecursion Q cs
+each_one P Q turn [] each = tt
+each_one P Q turn (c ∷ cs) each = (turn c each.0, each_one P Q turn cs each.1)
 
 -- ---- one block
 
--- a change of one block, whose number is from `least` to below `count`
-pub record IsChange (size count least : ℕ) (c : Change) : Type 0 where
+-- where the image has no such block before, it is erased before
+abbrev pub IsErasedBefore : ℕ → ℕ → Change → Type 0
+IsErasedBefore size before c = before ≤ c.number → c.old ≡ erased_block size
+
+-- a change of one block, whose number is from `least` to below the count after
+pub record IsChange (size before after least : ℕ) (c : Change) : Type 0 where
   pub from : least ≤ c.number
-  pub below : c.number < count
+  pub below : c.number < after
   pub whole : IsBlockChange size c
+  pub erased : IsErasedBefore size before c
 
-pub record TakesChange (size count least : ℕ) (bytes : List ℕ) (x : Change × List ℕ) : Type 0 where
+pub record TakesChange (size before after least : ℕ) (bytes : List ℕ) (x : Change × List ℕ) : Type 0 where
   pub takes : Takes bytes (change_bytes x.0) x.1
-  pub is : IsChange size count least x.0
+  pub is : IsChange size before after least x.0
 
-abbrev blocks_at : ℕ → ℕ → List ℕ → Option (Change × List ℕ)
-blocks_at size number bytes = block_at size bytes >>= λ old. block_at size old.1 >>= λ new. Some
-    (record { number = number; old = old.0; new = new.0 }, new.1)
+-- what is read of the old and the new bytes
+abbrev tested : ℕ → ℕ → List ℕ → List ℕ × List ℕ → Option (Change × List ℕ)
+tested before number old new =
+    cond (leb before number && not (is_erased old)) None (Some (record { number = number; old = old; new = new.0 }, new.1))
 
-pub change_takes : (size count least : ℕ) (bytes : List ℕ) (x : Change × List ℕ) → IsBytes bytes → change_at size count least bytes ≡ Some x
-    → TakesChange size count least bytes x
+abbrev blocks_at : ℕ → ℕ → ℕ → List ℕ → Option (Change × List ℕ)
+blocks_at size before number bytes = block_at size bytes >>= λ old. block_at size old.1 >>= λ new. tested before number old.0 new
+
+pub change_takes : (size before after least : ℕ) (bytes : List ℕ) (x : Change × List ℕ) → IsBytes bytes
+    → change_at size before after least bytes ≡ Some x → TakesChange size before after least bytes x
 unfolding change_at
-change_takes size count least bytes x h e =
-    let n = bind_some (word_at bytes) (λ n. cond (ltb n.0 least || leb count n.0) None (blocks_at size n.0 n.1)) x e in
+change_takes size before after least bytes x h e =
+    let n = bind_some (word_at bytes) (λ n. cond (ltb n.0 least || leb after n.0) None (blocks_at size before n.0 n.1)) x e in
     let t = word_takes bytes n.0.0 n.0.1 h n.1 in
-    let g = guard_none (ltb n.0.0 least || leb count n.0.0) (blocks_at size n.0.0 n.0.1) x n.2 in
-    let tests = or_parts (ltb n.0.0 least) (leb count n.0.0) g.0 in
-    let o = bind_some (block_at size n.0.1) (λ old. block_at size old.1 >>= λ new. Some (
-      record {
-        number = n.0.0;
-        old = old.0;
-        new =
-            new.0;
-      },
-      new.1,
-    )) x g.1 in
+    let g = guard_none (ltb n.0.0 least || leb after n.0.0) (blocks_at size before n.0.0 n.0.1) x n.2 in
+    let tests = or_parts (ltb n.0.0 least) (leb after n.0.0) g.0 in
+    let o = bind_some (block_at size n.0.1) (λ old. block_at size old.1 >>= λ new. tested before n.0.0 old.0 new) x g.1 in
     let old = block_takes size n.0.1 o.0.0 o.0.1 t.0.rest_bytes o.1 in
-    let w = bind_some (block_at size o.0.1) (λ new. Some (record { number = n.0.0; old = o.0.0; new = new.0 }, new.1)) x o.2 in
+    let w = bind_some (block_at size o.0.1) (λ new. tested before n.0.0 o.0.0 new) x o.2 in
     let new = block_takes size o.0.1 w.0.0 w.0.1 old.takes.rest_bytes w.1 in
     let both = Takes-then n.0.1 o.0.0 o.0.1 w.0.0 w.0.1 old.takes new.takes in
     let made : Change × List ℕ = (record { number = n.0.0; old = o.0.0; new = w.0.0 }, w.0.1) in
-    let all : TakesChange size count least bytes made = record {
+    let k = guard_none (leb before n.0.0 && not (is_erased o.0.0)) (Some made) x w.2 in
+    let all : TakesChange size before after least bytes made = record {
       takes = Takes-then bytes (to_le_bytes w32 n.0.0) n.0.1 (o.0.0 ++ w.0.0) w.0.1 t.0 both;
       is = record {
         from = ltb-false _ _ tests.0;
         below = leb-false _ _ tests.1;
         whole = record { old = old.len; new = new.len; old_bytes = old.block_bytes; new_bytes = new.block_bytes };
+        erased = erased_before before n.0.0 size o.0.0 old.len k.0;
       };
     } in
-    subst (TakesChange size count least bytes) (same_Some made x w.2) all
+    subst (TakesChange size before after least bytes) (same_Some made x k.1) all
 
-pub change_again : (size count least : ℕ) (c : Change) (rest : List ℕ) → count ≤ 65536 → IsChange size count least c
-    → change_at size count least (change_bytes c ++ rest) ≡ Some (c, rest)
+pub change_again : (size before after least : ℕ) (c : Change) (rest : List ℕ) → after ≤ 65536 → IsChange size before after least c
+    → change_at size before after least (change_bytes c ++ rest) ≡ Some (c, rest)
 unfolding change_at
-change_again size count least c rest limit is =
+change_again size before after least c rest limit is =
     let from : least ≤ c.number = is.from in
-    let below : c.number < count = is.below in
+    let below : c.number < after = is.below in
     let regrouped : change_bytes c ++ rest ≡ to_le_bytes w32 c.number ++ (c.old ++ (c.new ++ rest)) =
     append_assoc (to_le_bytes w32 c.number) (c.old ++ c.new) rest ∙ ap (λ (x : List ℕ). to_le_bytes w32 c.number ++ x)
     (append_assoc c.old c.new rest) in
     let low : ltb c.number least ≡ false = le-ltb _ _ from in
-    let high : leb count c.number ≡ false = lt-leb _ _ below in
-    ap (change_at size count least) regrouped
+    let high : leb after c.number ≡ false = lt-leb _ _ below in
+    ap (change_at size before after least) regrouped
     ∙ rw (
       word_again c.number (c.old ++ (c.new ++ rest)) (omega arith),
       low,
       high,
       block_again size c.old (c.new ++ rest) is.whole.old,
       block_again size c.new rest is.whole.new,
+      passes_erased before c.number size c.old is.erased,
     ) refl
 
 -- ---- several blocks
 
--- changes of one block each, whose numbers rise from `least` or more to below `count`
-pub record AreChanges (size count least : ℕ) (cs : List Change) : Type 0 where
+-- changes of one block each, whose numbers rise from `least` or more to below the count after
+pub record AreChanges (size before after least : ℕ) (cs : List Change) : Type 0 where
   pub from : AllByRecursion (λ e. least ≤ e.number) cs
   pub rising : IsRising cs
   pub whole : AllByRecursion (IsBlockChange size) cs
-  pub below : AllByRecursion (λ c. c.number < count) cs
+  pub below : AllByRecursion (λ c. c.number < after) cs
+  pub erased : AllByRecursion (IsErasedBefore size before) cs
 
-first_change : (size count least : ℕ) (c : Change) (cs : List Change) → AreChanges size count least (c ∷ cs) → IsChange size count least c
-first_change size count least c cs are = record { from = are.from.0; below = are.below.0; whole = are.whole.0 }
+first_change : (size before after least : ℕ) (c : Change) (cs : List Change) → AreChanges size before after least (c ∷ cs)
+    → IsChange size before after least c
+first_change size before after least c cs are =
+    record { from = are.from.0; below = are.below.0; whole = are.whole.0; erased = are.erased.0 }
 
-later_changes : (size count least : ℕ) (c : Change) (cs : List Change) → AreChanges size count least (c ∷ cs)
-    → AreChanges size count (c.number + 1) cs
-later_changes size count least c cs are = record {
-  from = each-one (λ e. c.number < e.number) (λ e. c.number + 1 ≤ e.number) (λ e lt. omega (arith, lt)) cs are.rising.0;
+later_changes : (size before after least : ℕ) (c : Change) (cs : List Change) → AreChanges size before after least (c ∷ cs)
+    → AreChanges size before after (c.number + 1) cs
+later_changes size before after least c cs are = record {
+  from = each_one (λ e. c.number < e.number) (λ e. c.number + 1 ≤ e.number) (λ e lt. omega (arith, lt)) cs are.rising.0;
   rising = are.rising.1;
   whole = are.whole.1;
   below = are.below.1;
+  erased = are.erased.1;
 }
 
-one_change_more : (size count least : ℕ) (c : Change) (cs : List Change) → IsChange size count least c
-    → AreChanges size count (c.number + 1) cs → AreChanges size count least (c ∷ cs)
-one_change_more size count least c cs is are =
+one_change_more : (size before after least : ℕ) (c : Change) (cs : List Change) → IsChange size before after least c
+    → AreChanges size before after (c.number + 1) cs → AreChanges size before after least (c ∷ cs)
+one_change_more size before after least c cs is are =
     let from : least ≤ c.number = is.from in
     record {
-      from = (from, each-one (λ e. c.number + 1 ≤ e.number) (λ e. least ≤ e.number) (λ e le. omega (arith, le, from)) cs are.from);
-      rising = (each-one (λ e. c.number + 1 ≤ e.number) (λ e. c.number < e.number) (λ e le. omega (arith, le)) cs are.from, are.rising);
+      from = (from, each_one (λ e. c.number + 1 ≤ e.number) (λ e. least ≤ e.number) (λ e le. omega (arith, le, from)) cs are.from);
+      rising = (each_one (λ e. c.number + 1 ≤ e.number) (λ e. c.number < e.number) (λ e le. omega (arith, le)) cs are.from, are.rising);
       whole = (is.whole, are.whole);
       below = (is.below, are.below);
+      erased = (is.erased, are.erased);
     }
 
 -- there are no more of them than numbers
-pub changes_few : (size count least : ℕ) (cs : List Change) → least ≤ count → AreChanges size count least cs → least + length cs ≤ count
-changes_few size count least [] le are = omega arith
-changes_few size count least (c ∷ cs) le are =
-    let first = first_change size count least c cs are in
+pub changes_few : (size before after least : ℕ) (cs : List Change) → least ≤ after → AreChanges size before after least cs
+    → least + length cs ≤ after
+changes_few size before after least [] le are = omega arith
+changes_few size before after least (c ∷ cs) le are =
+    let first = first_change size before after least c cs are in
     let from : least ≤ c.number = first.from in
-    let below : c.number < count = first.below in
-    let more : c.number + 1 + length cs ≤ count = changes_few size count (c.number + 1) cs (omega arith)
-    (later_changes size count least c cs are) in
+    let below : c.number < after = first.below in
+    let more : c.number + 1 + length cs ≤ after = changes_few size before after (c.number + 1) cs (omega arith)
+    (later_changes size before after least c cs are) in
     omega arith
 
-pub record TakesChanges (size count least n : ℕ) (bytes : List ℕ) (x : List Change × List ℕ) : Type 0 where
+pub record TakesChanges (size before after least n : ℕ) (bytes : List ℕ) (x : List Change × List ℕ) : Type 0 where
   pub takes : Takes bytes (flat_map change_bytes x.0) x.1
   pub len : length x.0 ≡ n
-  pub are : AreChanges size count least x.0
+  pub are : AreChanges size before after least x.0
 
-pub changes_take : (size count n least : ℕ) (bytes : List ℕ) (x : List Change × List ℕ) → IsBytes bytes
-    → changes_at size count n least bytes ≡ Some x
-    → TakesChanges size count least n bytes x
+pub changes_take : (size before after n least : ℕ) (bytes : List ℕ) (x : List Change × List ℕ) → IsBytes bytes
+    → changes_at size before after n least bytes ≡ Some x
+    → TakesChanges size before after least n bytes x
 unfolding changes_at
-changes_take size count zero least bytes x h e =
+changes_take size before after zero least bytes x h e =
     let made : List Change × List ℕ = ([], bytes) in
-    let all : TakesChanges size count least zero bytes made = record {
+    let all : TakesChanges size before after least zero bytes made = record {
       takes = record { parts = refl; rest_bytes = h };
       len = refl;
-      are = record { from = tt; rising = tt; whole = tt; below = tt };
+      are = record { from = tt; rising = tt; whole = tt; below = tt; erased = tt };
     } in
-    subst (TakesChanges size count least zero bytes) (same_Some made x e) all
-changes_take size count (suc n) least bytes x h e =
-    let a = bind_some (change_at size count least bytes) (λ first. changes_at size count n (first.0.number + 1) first.1 >>= λ others. Some
-    (first.0 ∷ others.0, others.1)) x e in
-    let b = bind_some (changes_at size count n (a.0.0.number + 1) a.0.1) (λ others. Some (a.0.0 ∷ others.0, others.1)) x a.2 in
-    let first = change_takes size count least bytes a.0 h a.1 in
-    let others = changes_take size count n (a.0.0.number + 1) a.0.1 b.0 first.takes.rest_bytes b.1 in
+    subst (TakesChanges size before after least zero bytes) (same_Some made x e) all
+changes_take size before after (suc n) least bytes x h e =
+    let a = bind_some (change_at size before after least bytes) (λ first. changes_at size before after n (first.0.number + 1) first.1
+    >>= λ others. Some (first.0 ∷ others.0, others.1)) x e in
+    let b = bind_some (changes_at size before after n (a.0.0.number + 1) a.0.1) (λ others. Some (a.0.0 ∷ others.0, others.1)) x a.2 in
+    let first = change_takes size before after least bytes a.0 h a.1 in
+    let others = changes_take size before after n (a.0.0.number + 1) a.0.1 b.0 first.takes.rest_bytes b.1 in
     let made : List Change × List ℕ = (a.0.0 ∷ b.0.0, b.0.1) in
     let both : Takes bytes (change_bytes a.0.0 ++ flat_map change_bytes b.0.0) b.0.1 =
     Takes-then bytes (change_bytes a.0.0) a.0.1 (flat_map change_bytes b.0.0) b.0.1 first.takes others.takes in
-    let all : TakesChanges size count least (suc n) bytes made = record {
+    let all : TakesChanges size before after least (suc n) bytes made = record {
       takes = subst (λ (text : List ℕ). Takes bytes text b.0.1) (sym (flat_map-cons change_bytes a.0.0 b.0.0)) both;
       len = ap suc others.len;
-      are = one_change_more size count least a.0.0 b.0.0 first.is others.are;
+      are = one_change_more size before after least a.0.0 b.0.0 first.is others.are;
     } in
-    subst (TakesChanges size count least (suc n) bytes) (same_Some made x b.2) all
+    subst (TakesChanges size before after least (suc n) bytes) (same_Some made x b.2) all
 
-pub changes_again : (size count least : ℕ) (cs : List Change) (rest : List ℕ) → count ≤ 65536 → AreChanges size count least cs
-    → changes_at size count (length cs) least (flat_map change_bytes cs ++ rest) ≡ Some (cs, rest)
+pub changes_again : (size before after least : ℕ) (cs : List Change) (rest : List ℕ) → after ≤ 65536
+    → AreChanges size before after least cs
+    → changes_at size before after (length cs) least (flat_map change_bytes cs ++ rest) ≡ Some (cs, rest)
 unfolding changes_at
-changes_again size count least [] rest limit are = refl
-changes_again size count least (c ∷ cs) rest limit are =
+changes_again size before after least [] rest limit are = refl
+changes_again size before after least (c ∷ cs) rest limit are =
     let regrouped : flat_map change_bytes (c ∷ cs) ++ rest ≡ change_bytes c ++ (flat_map change_bytes cs ++ rest) =
     ap (λ (x : List ℕ). x ++ rest) (flat_map-cons change_bytes c cs) ∙ append_assoc (change_bytes c) (flat_map change_bytes cs) rest in
-    let one = change_again size count least c (flat_map change_bytes cs ++ rest) limit (first_change size count least c cs are) in
-    let more = changes_again size count (c.number + 1) cs rest limit (later_changes size count least c cs are) in
-    ap (changes_at size count (suc (length cs)) least) regrouped ∙ rw (one, more) refl
+    let one = change_again size before after least c (flat_map change_bytes cs ++ rest) limit
+    (first_change size before after least c cs are) in
+    let more = changes_again size before after (c.number + 1) cs rest limit (later_changes size before after least c cs are) in
+    ap (changes_at size before after (suc (length cs)) least) regrouped ∙ rw (one, more) refl

@@ -1,4 +1,7 @@
 pub mod Fields
+pub mod Erased
+pub mod Geometries
+pub mod Counts
 pub mod Changes
 pub mod Patches
 pub mod Heads

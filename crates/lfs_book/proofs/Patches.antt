@@ -1,5 +1,5 @@
 -- Changes that are read are spelled so, and those that are spelled so are read.
-use Rattle.std.proofs.Common.{◌≡◌, ◌≢◌, ℕ, zero, suc, ◌^◌, ◌<◌, ◌≤◌, false, cond, eqb, List, [], ◌∷◌, ◌++◌, length, All, Some, None, refl}
+use Rattle.std.proofs.Common.{◌≡◌, ◌≢◌, ℕ, zero, suc, ◌^◌, ◌<◌, ◌≤◌, false, cond, eqb, max, List, [], ◌∷◌, ◌++◌, length, All, Some, None, refl}
 use Rattle.std.proofs.Common.{sym, ap, subst, ◌∙◌, append_assoc, arith}
 use Rattle.std.specs.Int.{w32, to_le_bytes}
 use Rattle.std.specs.List.{flat_map, AllByRecursion}
@@ -9,131 +9,208 @@ use Rattle.std.proofs.lemmas.List.Concat.{flat_map-cons}
 use Rattle.std.proofs.lemmas.Option.{same_Some}
 use Rattle.lfs_block.specs.Bytes.{IsBytes}
 use Rattle.lfs_block.specs.Change.{Change, IsBlockChange}
-use Rattle.lfs_block.specs.Patch.{ChangeSet}
-use Rattle.lfs_book.specs.Book.{change_bytes, patch_bytes, IsPatchOf}
-use Rattle.lfs_book.specs.Reading.{◌>>=◌, word_at, changes_at, patch_at, patches_at}
+use Rattle.lfs_block.specs.Geometry.{IsGeometry}
+use Rattle.lfs_block.specs.Patch.{ChangeSet, IsChangeIn, IsGrowth}
+use Rattle.lfs_book.specs.Book.{change_bytes, patch_bytes_in, IsPatchOf, KeepsAt}
+use Rattle.lfs_book.specs.Reading.{◌>>=◌, word_at, changes_at, Head, counts_at, patch_at, patches_at}
 use Rattle.lfs_book.proofs.Fields.{bind_some, guard_none, Takes, Takes-then, word_takes, word_again}
-use Rattle.lfs_book.proofs.Changes.{AreChanges, changes_take, changes_again, changes_few}
+use Rattle.lfs_book.proofs.Changes.{AreChanges, IsErasedBefore, each_one, changes_take, changes_again, changes_few}
+use Rattle.lfs_book.proofs.Counts.{AreCounts, counts_text, counts_take, counts_again}
 
--- ---- one change
-
-pub record TakesPatch (size count : ℕ) (bytes : List ℕ) (x : ChangeSet × List ℕ) : Type 0 where
-  pub takes : Takes bytes (patch_bytes x.0) x.1
-  pub is : IsPatchOf size count x.0
-
--- as many changes as a number that isn't 0 are some
-some_changes : (cs : List Change) (n : ℕ) → length cs ≡ n → eqb n 0 ≡ false → cs ≢ []
-some_changes cs n len test none = eqb-false n 0 test (sym len ∙ ap length none)
-
-pub patch_of_changes : (size count n : ℕ) (cs : List Change) → length cs ≡ n → eqb n 0 ≡ false → AreChanges size count 0 cs
-    → IsPatchOf size count (record { size = size; changes = cs })
-patch_of_changes size count n cs len test are =
-    (record { some = some_changes cs n len test; rising = are.rising; whole = are.whole }, refl, are.below)
-
-pub patch_takes : (size count : ℕ) (bytes : List ℕ) (x : ChangeSet × List ℕ) → IsBytes bytes → patch_at size count bytes ≡ Some x
-    → TakesPatch size count bytes x
-unfolding patch_at
-patch_takes size count bytes x h e =
-    let n = bind_some (word_at bytes) (λ n. cond (eqb n.0 0) None (changes_at size count n.0 0 n.1 >>= λ changes. Some
-    (record { size = size; changes = changes.0 }, changes.1))) x e in
-    let t = word_takes bytes n.0.0 n.0.1 h n.1 in
-    let g = guard_none (eqb n.0.0 0) (changes_at size count n.0.0 0 n.0.1 >>= λ changes. Some (
-      record { size = size; changes = changes.0 },
-      changes.1,
-    )) x n.2 in
-    let c = bind_some (changes_at size count n.0.0 0 n.0.1) (λ changes. Some (record { size = size; changes = changes.0 }, changes.1)) x
-    g.1 in
-    let changes = changes_take size count n.0.0 0 n.0.1 c.0 t.0.rest_bytes c.1 in
-    let made : ChangeSet × List ℕ = (record { size = size; changes = c.0.0 }, c.0.1) in
-    let both : Takes bytes (to_le_bytes w32 n.0.0 ++ flat_map change_bytes c.0.0) c.0.1 =
-    Takes-then bytes (to_le_bytes w32 n.0.0) n.0.1 (flat_map change_bytes c.0.0) c.0.1 t.0 changes.takes in
-    let all : TakesPatch size count bytes made = record {
-      takes = subst (λ (k : ℕ). Takes bytes (to_le_bytes w32 k ++ flat_map change_bytes c.0.0) c.0.1) (sym changes.len) both;
-      is = patch_of_changes size count n.0.0 c.0.0 changes.len g.0 changes.are;
-    } in
-    subst (TakesPatch size count bytes) (same_Some made x c.2) all
+-- ---- the changes of a patch
 
 each_from_zero : (cs : List Change) → AllByRecursion (λ e. 0 ≤ e.number) cs
 each_from_zero [] = tt
 each_from_zero (c ∷ cs) = (omega arith, each_from_zero cs)
 
-pub changes_of : (size count : ℕ) (p : ChangeSet) → IsPatchOf size count p → AreChanges size count 0 p.changes
-changes_of size count p is = record {
-  from = each_from_zero p.changes;
-  rising = is.0.rising;
-  whole = subst (λ (k : ℕ). AllByRecursion (IsBlockChange k) p.changes) is.1 is.0.whole;
-  below = is.2;
+each_in : (size before after : ℕ) (cs : List Change) → AllByRecursion (IsBlockChange size) cs → AllByRecursion (λ c. c.number < after) cs
+    → AllByRecursion (IsErasedBefore size before) cs → AllByRecursion (IsChangeIn size before after) cs
+each_in size before after [] whole below erased = tt
+each_in size before after (c ∷ cs) whole below erased =
+    let first : c.number < after = below.0 in (
+      record { whole = whole.0; within = omega (arith, first); old = erased.0; new = λ le. absurd (omega (arith, first, le)) },
+      each_in size before after cs whole.1 below.1 erased.1,
+    )
+
+each_below : (size before after : ℕ) → before ≤ after → (c : Change) → IsChangeIn size before after c → c.number < after
+each_below size before after rise c is = let within : c.number < max before after = is.within in omega (arith, within, rise)
+
+-- as many changes as a number that isn't 0 are some
+some_changes : (cs : List Change) (n : ℕ) → length cs ≡ n → eqb n 0 ≡ false → cs ≢ []
+some_changes cs n len test none = eqb-false n 0 test (sym len ∙ ap length none)
+
+pub patch_of_changes : (h : Head) (counts : ℕ × ℕ) (n : ℕ) (cs : List Change) → AreCounts h counts → length cs ≡ n → eqb n 0 ≡ false
+    → AreChanges h.size counts.0 counts.1 0 cs
+    → IsGrowth (record { size = h.size; before = counts.0; after = counts.1; changes = cs })
+patch_of_changes h counts n cs within len test are = record {
+  patch = record {
+    some = some_changes cs n len test;
+    rising = are.rising;
+    before = within.before;
+    after = within.after;
+    each = each_in h.size counts.0 counts.1 cs are.whole are.below are.erased;
+  };
+  rise = within.rise;
 }
 
-pub patch_few : (size count : ℕ) (p : ChangeSet) → count ≤ 65536 → IsPatchOf size count p → length p.changes < 2 ^ 32
-patch_few size count p limit is = omega (arith, changes_few size count 0 p.changes (omega arith) (changes_of size count p is))
+pub changes_of : (size : ℕ) (p : ChangeSet) → IsPatchOf size p → AreChanges size p.before p.after 0 p.changes
+changes_of size p is =
+    let patch = is.0.patch in
+    let each : AllByRecursion (IsChangeIn size p.before p.after) p.changes =
+    subst (λ (k : ℕ). AllByRecursion (IsChangeIn k p.before p.after) p.changes) is.1 patch.each in
+    record {
+      from = each_from_zero p.changes;
+      rising = patch.rising;
+      whole = each_one (IsChangeIn size p.before p.after) (IsBlockChange size) (λ c in_patch. in_patch.whole) p.changes each;
+      below = each_one (IsChangeIn size p.before p.after) (λ c. c.number < p.after) (each_below size p.before p.after is.0.rise) p.changes
+          each;
+      erased = each_one (IsChangeIn size p.before p.after) (IsErasedBefore size p.before) (λ c in_patch. in_patch.old) p.changes each;
+    }
 
-each_few : (size count : ℕ) (ps : List ChangeSet) → count ≤ 65536 → AllByRecursion (IsPatchOf size count) ps
-    → AllByRecursion (λ p. length p.changes < 2 ^ 32) ps
-each_few size count [] limit each = tt
-each_few size count (p ∷ ps) limit each = (patch_few size count p limit each.0, each_few size count ps limit each.1)
+-- a change has no more blocks than there are then
+pub patch_within : (size : ℕ) (p : ChangeSet) → IsPatchOf size p → length p.changes ≤ p.after
+patch_within size p is =
+    omega (arith, changes_few size p.before p.after 0 p.changes (omega arith) (changes_of size p is))
+
+pub patch_few : (size : ℕ) (p : ChangeSet) → IsPatchOf size p → length p.changes < 2 ^ 32
+patch_few size p is =
+    let limit : p.after ≤ 65536 = is.0.patch.after.count_fits.1 in
+    omega (arith, patch_within size p is, limit)
+
+each_few : (size : ℕ) (ps : List ChangeSet) → AllByRecursion (IsPatchOf size) ps → AllByRecursion (λ p. length p.changes < 2 ^ 32) ps
+each_few size [] each = tt
+each_few size (p ∷ ps) each = (patch_few size p each.0, each_few size ps each.1)
 
 -- the numbers of blocks of several changes have four bytes
-pub patches_few : (size count : ℕ) (ps : List ChangeSet) → count ≤ 65536 → AllByRecursion (IsPatchOf size count) ps
-    → All (λ p. length p.changes < 2 ^ 32) ps
-patches_few size count ps limit each = All-from_recursion (λ p. length p.changes < 2 ^ 32) ps (each_few size count ps limit each)
+pub patches_few : (size : ℕ) (ps : List ChangeSet) → AllByRecursion (IsPatchOf size) ps → All (λ p. length p.changes < 2 ^ 32) ps
+patches_few size ps each = All-from_recursion (λ p. length p.changes < 2 ^ 32) ps (each_few size ps each)
+
+-- ---- one change
+
+-- a change as version 2 spells it, or one that keeps the count
+pub record IsPatchIn (h : Head) (p : ChangeSet) : Type 0 where
+  pub of : IsPatchOf h.size p
+  pub kept : h.version ≡ 1 → KeepsAt h.count p
+
+pub record TakesPatch (h : Head) (bytes : List ℕ) (x : ChangeSet × List ℕ) : Type 0 where
+  pub takes : Takes bytes (patch_bytes_in h.version x.0) x.1
+  pub is : IsPatchIn h x.0
+
+pub patch_takes : (h : Head) (bytes : List ℕ) (x : ChangeSet × List ℕ) → IsBytes bytes → IsGeometry h.size h.count
+    → patch_at h bytes ≡ Some x → TakesPatch h bytes x
+unfolding patch_at
+patch_takes h bytes x are geometry e =
+    let n = bind_some (word_at bytes) (λ n. cond (eqb n.0 0) None (counts_at h n.1 >>= λ counts.
+    changes_at h.size counts.0.0 counts.0.1 n.0 0 counts.1 >>= λ changes.
+    Some (record { size = h.size; before = counts.0.0; after = counts.0.1; changes = changes.0 }, changes.1))) x e in
+    let t = word_takes bytes n.0.0 n.0.1 are n.1 in
+    let g = guard_none (eqb n.0.0 0) (counts_at h n.0.1 >>= λ counts. changes_at h.size counts.0.0 counts.0.1 n.0.0 0 counts.1 >>= λ changes.
+    Some (record { size = h.size; before = counts.0.0; after = counts.0.1; changes = changes.0 }, changes.1)) x n.2 in
+    let k = bind_some (counts_at h n.0.1) (λ counts. changes_at h.size counts.0.0 counts.0.1 n.0.0 0 counts.1 >>= λ changes.
+    Some (record { size = h.size; before = counts.0.0; after = counts.0.1; changes = changes.0 }, changes.1)) x g.1 in
+    let counts = counts_take h n.0.1 k.0 t.0.rest_bytes geometry k.1 in
+    let c = bind_some (changes_at h.size k.0.0.0 k.0.0.1 n.0.0 0 k.0.1) (λ changes.
+    Some (record { size = h.size; before = k.0.0.0; after = k.0.0.1; changes = changes.0 }, changes.1)) x k.2 in
+    let changes = changes_take h.size k.0.0.0 k.0.0.1 n.0.0 0 k.0.1 c.0 counts.takes.rest_bytes c.1 in
+    let made : ChangeSet × List ℕ = (record { size = h.size; before = k.0.0.0; after = k.0.0.1; changes = c.0.0 }, c.0.1) in
+    let text : List ℕ = counts_text h.version k.0.0 in
+    let blocks : List ℕ = flat_map change_bytes c.0.0 in
+    let later : Takes n.0.1 (text ++ blocks) c.0.1 = Takes-then n.0.1 text k.0.1 blocks c.0.1 counts.takes changes.takes in
+    let both : Takes bytes (to_le_bytes w32 n.0.0 ++ (text ++ blocks)) c.0.1 =
+    Takes-then bytes (to_le_bytes w32 n.0.0) n.0.1 (text ++ blocks) c.0.1 t.0 later in
+    let all : TakesPatch h bytes made = record {
+      takes = subst (λ (many : ℕ). Takes bytes (to_le_bytes w32 many ++ (text ++ blocks)) c.0.1) (sym changes.len) both;
+      is = record {
+        of = (patch_of_changes h k.0.0 n.0.0 c.0.0 counts.are changes.len g.0 changes.are, refl);
+        kept = counts.are.kept;
+      };
+    } in
+    subst (TakesPatch h bytes) (same_Some made x c.2) all
 
 none_from_length : (cs : List Change) → length cs ≡ 0 → cs ≡ []
 none_from_length [] e = refl
 none_from_length (c ∷ cs) e = absurd (omega (arith, e))
 
-pub patch_again : (size count : ℕ) (p : ChangeSet) (rest : List ℕ) → count ≤ 65536 → IsPatchOf size count p
-    → patch_at size count (patch_bytes p ++ rest) ≡ Some (p, rest)
+counts_of : (h : Head) (p : ChangeSet) → IsPatchIn h p → AreCounts h (p.before, p.after)
+counts_of h p is = record {
+  before = subst (λ (k : ℕ). IsGeometry k p.before) is.of.1 is.of.0.patch.before;
+  after = subst (λ (k : ℕ). IsGeometry k p.after) is.of.1 is.of.0.patch.after;
+  rise = is.of.0.rise;
+  kept = is.kept;
+}
+
+pub patch_again : (h : Head) (p : ChangeSet) (rest : List ℕ) → IsPatchIn h p
+    → patch_at h (patch_bytes_in h.version p ++ rest) ≡ Some (p, rest)
 unfolding patch_at
-patch_again size count p rest limit is =
-    let regrouped : patch_bytes p ++ rest ≡ to_le_bytes w32 (length p.changes) ++ (flat_map change_bytes p.changes ++ rest) =
-    append_assoc (to_le_bytes w32 (length p.changes)) (flat_map change_bytes p.changes) rest in
-    let test : eqb (length p.changes) 0 ≡ false = ne_eqb (length p.changes) 0 (λ e. is.0.some (none_from_length p.changes e)) in
-    let word = word_again (length p.changes) (flat_map change_bytes p.changes ++ rest) (patch_few size count p limit is) in
-    let changes = changes_again size count 0 p.changes rest limit (changes_of size count p is) in
-    ap (patch_at size count) regrouped ∙ rw (word, test, changes) (ap (λ (k : ℕ). Some (record { size = k; changes = p.changes }, rest))
-    (sym is.1))
+patch_again h p rest is =
+    let many : List ℕ = to_le_bytes w32 (length p.changes) in
+    let text : List ℕ = counts_text h.version (p.before, p.after) in
+    let blocks : List ℕ = flat_map change_bytes p.changes in
+    let regrouped : patch_bytes_in h.version p ++ rest ≡ many ++ (text ++ (blocks ++ rest)) =
+    append_assoc many (text ++ blocks) rest ∙ ap (λ (x : List ℕ). many ++ x) (append_assoc text blocks rest) in
+    let test : eqb (length p.changes) 0 ≡ false =
+    ne_eqb (length p.changes) 0 (λ e. is.of.0.patch.some (none_from_length p.changes e)) in
+    let word = word_again (length p.changes) (text ++ (blocks ++ rest)) (patch_few h.size p is.of) in
+    let counts = counts_again h (p.before, p.after) (blocks ++ rest) (counts_of h p is) in
+    let changes = changes_again h.size p.before p.after 0 p.changes rest is.of.0.patch.after.count_fits.1 (changes_of h.size p is.of) in
+    ap (patch_at h) regrouped
+    ∙ rw (word, test, counts, changes) (ap (λ (k : ℕ). Some
+    (record { size = k; before = p.before; after = p.after; changes = p.changes }, rest)) (sym is.of.1))
 
 -- ---- several changes
 
-pub record TakesPatches (size count n : ℕ) (bytes : List ℕ) (x : List ChangeSet × List ℕ) : Type 0 where
-  pub takes : Takes bytes (flat_map patch_bytes x.0) x.1
+pub record TakesPatches (h : Head) (n : ℕ) (bytes : List ℕ) (x : List ChangeSet × List ℕ) : Type 0 where
+  pub takes : Takes bytes (flat_map (patch_bytes_in h.version) x.0) x.1
   pub len : length x.0 ≡ n
-  pub each : AllByRecursion (IsPatchOf size count) x.0
+  pub each : AllByRecursion (IsPatchIn h) x.0
 
-pub patches_take : (size count n : ℕ) (bytes : List ℕ) (x : List ChangeSet × List ℕ) → IsBytes bytes
-    → patches_at size count n bytes ≡ Some x
-    → TakesPatches size count n bytes x
+pub patches_take : (h : Head) (n : ℕ) (bytes : List ℕ) (x : List ChangeSet × List ℕ) → IsBytes bytes → IsGeometry h.size h.count
+    → patches_at h n bytes ≡ Some x → TakesPatches h n bytes x
 unfolding patches_at
-patches_take size count zero bytes x h e =
+patches_take h zero bytes x are geometry e =
     let made : List ChangeSet × List ℕ = ([], bytes) in
-    let all : TakesPatches size count zero bytes made = record { takes = record { parts = refl; rest_bytes = h }; len = refl; each = tt } in
-    subst (TakesPatches size count zero bytes) (same_Some made x e) all
-patches_take size count (suc n) bytes x h e =
-    let a = bind_some (patch_at size count bytes) (λ first. patches_at size count n first.1 >>= λ others. Some (
-      first.0 ∷ others.0,
-      others.1,
-    )) x e in
-    let b = bind_some (patches_at size count n a.0.1) (λ others. Some (a.0.0 ∷ others.0, others.1)) x a.2 in
-    let first = patch_takes size count bytes a.0 h a.1 in
-    let others = patches_take size count n a.0.1 b.0 first.takes.rest_bytes b.1 in
+    let all : TakesPatches h zero bytes made = record { takes = record { parts = refl; rest_bytes = are }; len = refl; each = tt } in
+    subst (TakesPatches h zero bytes) (same_Some made x e) all
+patches_take h (suc n) bytes x are geometry e =
+    let a = bind_some (patch_at h bytes) (λ first. patches_at h n first.1 >>= λ others. Some (first.0 ∷ others.0, others.1)) x e in
+    let b = bind_some (patches_at h n a.0.1) (λ others. Some (a.0.0 ∷ others.0, others.1)) x a.2 in
+    let first = patch_takes h bytes a.0 are geometry a.1 in
+    let others = patches_take h n a.0.1 b.0 first.takes.rest_bytes geometry b.1 in
     let made : List ChangeSet × List ℕ = (a.0.0 ∷ b.0.0, b.0.1) in
-    let both : Takes bytes (patch_bytes a.0.0 ++ flat_map patch_bytes b.0.0) b.0.1 =
-    Takes-then bytes (patch_bytes a.0.0) a.0.1 (flat_map patch_bytes b.0.0) b.0.1 first.takes others.takes in
-    let all : TakesPatches size count (suc n) bytes made = record {
-      takes = subst (λ (text : List ℕ). Takes bytes text b.0.1) (sym (flat_map-cons patch_bytes a.0.0 b.0.0)) both;
+    let spell : ChangeSet → List ℕ = patch_bytes_in h.version in
+    let both : Takes bytes (spell a.0.0 ++ flat_map spell b.0.0) b.0.1 =
+    Takes-then bytes (spell a.0.0) a.0.1 (flat_map spell b.0.0) b.0.1 first.takes others.takes in
+    let all : TakesPatches h (suc n) bytes made = record {
+      takes = subst (λ (text : List ℕ). Takes bytes text b.0.1) (sym (flat_map-cons spell a.0.0 b.0.0)) both;
       len = ap suc others.len;
       each = (first.is, others.each);
     } in
-    subst (TakesPatches size count (suc n) bytes) (same_Some made x b.2) all
+    subst (TakesPatches h (suc n) bytes) (same_Some made x b.2) all
 
-pub patches_again : (size count : ℕ) (ps : List ChangeSet) (rest : List ℕ) → count ≤ 65536 → AllByRecursion (IsPatchOf size count) ps
-    → patches_at size count (length ps) (flat_map patch_bytes ps ++ rest) ≡ Some (ps, rest)
+pub patches_again : (h : Head) (ps : List ChangeSet) (rest : List ℕ) → AllByRecursion (IsPatchIn h) ps
+    → patches_at h (length ps) (flat_map (patch_bytes_in h.version) ps ++ rest) ≡ Some (ps, rest)
 unfolding patches_at
-patches_again size count [] rest limit each = refl
-patches_again size count (p ∷ ps) rest limit each =
-    let regrouped : flat_map patch_bytes (p ∷ ps) ++ rest ≡ patch_bytes p ++ (flat_map patch_bytes ps ++ rest) =
-    ap (λ (x : List ℕ). x ++ rest) (flat_map-cons patch_bytes p ps) ∙ append_assoc (patch_bytes p) (flat_map patch_bytes ps) rest in
-    let one = patch_again size count p (flat_map patch_bytes ps ++ rest) limit each.0 in
-    let more = patches_again size count ps rest limit each.1 in
-    ap (patches_at size count (suc (length ps))) regrouped ∙ rw (one, more) refl
+patches_again h [] rest each = refl
+patches_again h (p ∷ ps) rest each =
+    let spell : ChangeSet → List ℕ = patch_bytes_in h.version in
+    let regrouped : flat_map spell (p ∷ ps) ++ rest ≡ spell p ++ (flat_map spell ps ++ rest) =
+    ap (λ (x : List ℕ). x ++ rest) (flat_map-cons spell p ps) ∙ append_assoc (spell p) (flat_map spell ps) rest in
+    let one = patch_again h p (flat_map spell ps ++ rest) each.0 in
+    let more = patches_again h ps rest each.1 in
+    ap (patches_at h (suc (length ps))) regrouped ∙ rw (one, more) refl
+
+-- ---- as a book has them
+
+pub each_of : (h : Head) (ps : List ChangeSet) → AllByRecursion (IsPatchIn h) ps → AllByRecursion (IsPatchOf h.size) ps
+each_of h [] each = tt
+each_of h (p ∷ ps) each = (each.0.of, each_of h ps each.1)
+
+pub each_kept : (h : Head) (ps : List ChangeSet) → h.version ≡ 1 → AllByRecursion (IsPatchIn h) ps → AllByRecursion (KeepsAt h.count) ps
+each_kept h [] first each = tt
+each_kept h (p ∷ ps) first each = (each.0.kept first, each_kept h ps first each.1)
+
+pub each_as : (h : Head) (ps : List ChangeSet) → AllByRecursion (IsPatchOf h.size) ps
+    → (h.version ≡ 1 → AllByRecursion (KeepsAt h.count) ps) → AllByRecursion (IsPatchIn h) ps
+each_as h [] each kept = tt
+each_as h (p ∷ ps) each kept =
+    (record { of = each.0; kept = λ first. (kept first).0 }, each_as h ps each.1 (λ first. (kept first).1))

@@ -1,11 +1,11 @@
 -- Laws of journals (own).
-use Rattle.std.specs.Prelude.{◌≡◌, ◌≤◌, length}
-use Rattle.lfs_book.specs.Book.{Book, IsBook, journal_bytes, most_journal}
+use Rattle.std.specs.Prelude.{◌≡◌, ℕ, ◌≤◌, List, length}
+use Rattle.lfs_book.specs.Book.{Book, Spells, most_journal}
 
--- two books of one spelling are one
+-- two books that the same bytes spell are one
 abbrev pub BooksAreReadOnce : Type 0
-BooksAreReadOnce = (i j : Book) → IsBook i → IsBook j → journal_bytes i ≡ journal_bytes j → i ≡ j
+BooksAreReadOnce = (bytes : List ℕ) (i j : Book) → Spells bytes i → Spells bytes j → i ≡ j
 
--- no journal has more bytes
+-- no bytes that spell a journal are more
 abbrev pub JournalsAreShort : Type 0
-JournalsAreShort = (j : Book) → IsBook j → length (journal_bytes j) ≤ most_journal
+JournalsAreShort = (bytes : List ℕ) (j : Book) → Spells bytes j → length bytes ≤ most_journal

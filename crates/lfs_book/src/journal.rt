@@ -10,7 +10,7 @@ use std::marker::Model;
 /// The greatest length of a journal, in bytes: 1,000 changes of all blocks of a largest image.
 ///
 /// Source: own.
-pub const MAX_JOURNAL_LENGTH: u64 = 134_479_876_024;
+pub const MAX_JOURNAL_LENGTH: u64 = 134_479_884_024;
 
 /// The journal of an image: its changes, up to 1,000, those that are done and those that were taken back. Its meaning is
 /// a `Book`.
@@ -36,7 +36,7 @@ impl Model for Journal {
 
 impl Journal {
     ghost use Rattle.std.specs.Prelude.{◌≡◌, ◌++◌, length, IfOk, IfErr, IfSome};
-    ghost use Rattle.lfs_book.specs.Book.{IsBook, IsBookOf, book_of, journal_bytes};
+    ghost use Rattle.lfs_book.specs.Book.{IsBook, IsBookOf, Spells, book_of, journal_bytes};
     ghost use Rattle.lfs_book.specs.Faults.{Gives, IsNoJournal};
     ghost use Rattle.lfs_book.specs.Reading.{read_book};
 
@@ -73,17 +73,16 @@ impl Journal {
         })
     }
 
-    /// The journal that the bytes spell, all of them. `JournalFormat` where they spell none, and `Memory` says only that
-    /// a growth was refused.
+    /// The journal that the bytes spell, all of them, in version 1 or 2. `JournalFormat` where they spell none, and `Memory`
+    /// says only that a growth was refused.
     pub fn read(alloc: Global, bytes: &[u8]) -> Result<Journal, JournalFault>
-        ensures read { IfOk result (λ journal. journal_bytes journal ≡ bytes.now) }
-        ensures book { IfOk result (λ journal. IsBook journal) }
+        ensures spelled { IfOk result (λ journal. Spells bytes.now journal) }
         ensures refused { IfErr result (λ fault. IsNoJournal fault bytes.now) }
     {
         Journal::read_whole(alloc, bytes)
     }
 
-    /// The journal's bytes. `None` where memory is refused.
+    /// The journal's bytes, in version 2. `None` where memory is refused.
     pub fn write(&self, alloc: Global) -> Option<Vec<u8>>
         ensures { IfSome result (λ bytes. bytes.items ≡ journal_bytes self.now) }
     {
@@ -98,7 +97,7 @@ impl Journal {
         self.size
     }
 
-    /// The number of blocks of the image. Takes no memory.
+    /// The number of blocks of the image between the changes that are done and those that are undone. Takes no memory.
     pub fn count(&self) -> u32
         ensures { result ≡ self.now.count }
     {

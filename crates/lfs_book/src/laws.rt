@@ -2,13 +2,13 @@
 
 ghost use Rattle.lfs_book.specs.Laws.{BooksAreReadOnce, JournalsAreShort};
 
-/// Law: two journals of one spelling are one.
+/// Law: two journals that the same bytes spell are one.
 pub fn books_are_read_once()
     ensures { BooksAreReadOnce }
 {}
 
-/// Law: no journal is longer than 1,000 changes of all blocks of a largest image make it, so that one that is read so far is read
-/// whole.
+/// Law: no bytes that spell a journal are more than 1,000 changes of all blocks of a largest image, so that a journal that is read
+/// so far is read whole.
 pub fn journals_are_short()
     ensures { JournalsAreShort }
 {}

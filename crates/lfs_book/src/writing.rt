@@ -34,13 +34,22 @@ fn put_records(out: &mut Vec<u8>, records: &[Record]) -> Result<(), AllocError>
     Ok(())
 }
 
-/// Adds a change.
+/// Adds the numbers of blocks before a change and after it.
+fn put_counts(out: &mut Vec<u8>, patch: &Patch) -> Result<(), AllocError>
+    ensures { OnOk result (out.new.items ≡ out.old.items ++ to_le_bytes w32 patch.now.before ++ to_le_bytes w32 patch.now.after) }
+{
+    put_word(out, patch.before())?;
+    put_word(out, patch.after())
+}
+
+/// Adds a change: the number of its blocks, the counts before and after it, then each of the blocks.
 fn put_patch(out: &mut Vec<u8>, patch: &Patch) -> Result<(), AllocError>
     requires { length patch.now.changes < 2 ^ 32 }
     ensures { OnOk result (out.new.items ≡ out.old.items ++ patch_bytes patch.now) }
 {
     let records = patch.records();
     put_word(out, records.len() as u32)?;
+    put_counts(out, patch)?;
     put_records(out, records)
 }
 
@@ -64,7 +73,7 @@ fn put_head(
     done: u32,
     undone: u32,
 ) -> Result<(), AllocError>
-    ensures { OnOk result (out.new.items ≡ out.old.items ++ codes "lfsj" ++ to_le_bytes w32 1 ++ to_le_bytes w32 size
+    ensures { OnOk result (out.new.items ≡ out.old.items ++ codes "lfsj" ++ to_le_bytes w32 2 ++ to_le_bytes w32 size
         ++ to_le_bytes w32 count ++ to_le_bytes w32 done ++ to_le_bytes w32 undone) }
 {
     out.extend_from_slice(b"lfsj")?;
@@ -94,9 +103,9 @@ fn bytes_of(
     Ok(out)
 }
 
-/// The bytes of the journal of an image of `count` blocks of `size` bytes: of its changes, the first `done` are done, and
-/// the others undone, in the order in which they are made again. The caller owes that they are a journal. `None` where
-/// memory is refused.
+/// The bytes of the journal of an image of `count` blocks of `size` bytes, in version 2: of its changes, the first `done` are
+/// done, and the others undone, in the order in which they are made again. The caller owes that they are a journal. `None`
+/// where memory is refused.
 ///
 /// Source: own.
 pub fn write_journal(

@@ -38,7 +38,7 @@ IsAddedTo c new es e before n f next above d closed home v =
 module _ (t : NewVolume) (c : Command) (before : ℕ) (new : List Pair) (es : List Entry) (e : Entry) (laid : Disk → Type 0)
     (above : List Directory) (d : Directory) (closed : List Directory) (home : Path) (v : Volume)
     (test : takes_entry (outlined v) (last_part d) es e ≡ takes (weight e) t)
-    (added : IsAdded c before new es e laid t.image t.next above d closed home v) where
+    (added : IsAdded c before new es e laid t.image.disk t.next above d closed home v) where
   blocks : blocks_behind v d es e before ≡ blocks_for (weight e) before t
   blocks = ap (λ (b : Bool). blocks_with b before) test
 
@@ -46,15 +46,15 @@ module _ (t : NewVolume) (c : Command) (before : ℕ) (new : List Pair) (es : Li
   no_room r none = elim none [
     | inl (heavy, is) ↦ added.heavy heavy ∙ ap (λ (x : Refusal). Some x) (sym is)
     | inr (light, many, is) ↦
-        added.full light (subst (λ (n : ℕ). t.image.count < t.next + n) (sym blocks) many)
-        ∙ ap (λ (n : ℕ). Some (NoSpace n (t.image.count - t.next))) blocks ∙ ap (λ (x : Refusal). Some x) (sym is)
+        added.full light (subst (λ (n : ℕ). t.image.disk.count < t.next + n) (sym blocks) many)
+        ∙ ap (λ (n : ℕ). Some (NoSpace n (t.image.disk.count - t.next))) blocks ∙ ap (λ (x : Refusal). Some x) (sym is)
   ]
 
-  pub has_room : weight e ≤ t.image.size - 40 → t.next + blocks_for (weight e) before t ≤ t.image.count → (f : Disk) → laid f
+  pub has_room : weight e ≤ t.image.disk.size - 40 → t.next + blocks_for (weight e) before t ≤ t.image.disk.count → (f : Disk) → laid f
       → IsAddedTo c new es e before (blocks_for (weight e) before t) f t.next above d closed home v
   has_room light fits f is =
       subst (λ (n : ℕ). IsAddedTo c new es e before n f t.next above d closed home v) blocks
-      (added.added light (subst (λ (n : ℕ). t.next + n ≤ t.image.count) (sym blocks) fits) f is)
+      (added.added light (subst (λ (n : ℕ). t.next + n ≤ t.image.disk.count) (sym blocks) fits) f is)
 
 -- ---- the volume that is left
 
@@ -68,7 +68,7 @@ built_as d e n m above ds x y closed cs names w disk next same deepest gone buil
     (subst (λ (z : List Directory). IsBuilt d n above x z names w) (sym gone) built))))
 
 pub taking_after : (u : NewVolume) (home : Path) (v w : Volume)
-    → IsBuilt u.image u.next (map opened u.above.items) (opened u.deepest) (reverse u.closed.items) home w
+    → IsBuilt u.image.disk u.next (map opened u.above.items) (opened u.deepest) (reverse u.closed.items) home w
     → w.attributes ≡ v.attributes → v.attributes ≡ u.attributes.items → RiseFrom 0 u.attributes.items → All (IsWeighed (outlined v)) u.above.items
     → IsWeighed (outlined v) u.deepest → TakesMore u home w
 taking_after u home v w built same attributes rise above deepest = record {

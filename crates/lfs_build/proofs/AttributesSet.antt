@@ -5,6 +5,7 @@ use Rattle.std.specs.Global.{Vec}
 use Rattle.std.specs.Prelude.{reverse, sum_by}
 use Rattle.std.proofs.lemmas.List.{length-append}
 use Rattle.std.proofs.lemmas.List.Sums.{sum_by-append}
+use Rattle.lfs_block.specs.Medium.{Medium}
 use Rattle.lfs_meta.specs.Attribute.{set_attribute}
 use Rattle.lfs_meta.specs.Name.{Name, IsName}
 use Rattle.lfs_fs.specs.Directory.{Directory, Part}
@@ -106,9 +107,9 @@ still_leads k value e ds cs same leads = elim leads [
 
 module _ (k : ℕ) (value : List ℕ) (t : NewVolume) (adds : AttributesAreAdded) where
   added_at : (p : Path) (v : Volume) → (has : HasEntry t p v) → (es : List Entry) (e : Entry) → EndsWithName has.n (opened t.deepest) es e
-      → AddsAttribute has.n k value es e t.image t.next (map opened t.above.items) (opened t.deepest) (reverse t.closed.items) has.home v
+      → AddsAttribute has.n k value es e t.image.disk t.next (map opened t.above.items) (opened t.deepest) (reverse t.closed.items) has.home v
   added_at p v has es e ends =
-      adds has.n k value es e t.image t.next (map opened t.above.items) (opened t.deepest) (reverse t.closed.items) has.home v
+      adds has.n k value es e t.image.disk t.next (map opened t.above.items) (opened t.deepest) (reverse t.closed.items) has.home v
       has.taking.built (subst (λ (q : Path). All IsName q) has.is has.names) ends
 
   pub too_long : 1022 < length value → RefusesAttribute k value t AttrTooLarge
@@ -126,12 +127,12 @@ module _ (k : ℕ) (value : List ℕ) (t : NewVolume) (adds : AttributesAreAdded
         let es = m.deepest.last.entries in
         let new = with_entry_attributes (set_attribute k value) e in
         subst (λ (q : Path). verdict v (SetAttr q k value) ≡ Some r) (sym has.is)
-        (not_put t m (SetAttr (has.home ++ has.n ∷ []) k value) 0 [] es new (λ f. f ≡ t.image) has.home v (ready e t m without) has.taking
+        (not_put t m (SetAttr (has.home ++ has.n ∷ []) k value) 0 [] es new (λ f. f ≡ t.image.disk) has.home v (ready e t m without) has.taking
         (counted e t m without _ (deepest_counted t has.home v has.taking))
         ((added_at p v has es e (ends e t m without has.n has.es has.e has.ends)).added short) r
         (subst (λ (j : ℕ). HasNoRoom j 0 m r) same none)))
 
-    pub is_set : DirectoriesTakeMore → i ≤ m.image.size - 40 → m.next + blocks_for i 0 m ≤ m.image.count → (u : NewVolume)
+    pub is_set : DirectoriesTakeMore → i ≤ m.image.disk.size - 40 → m.next + blocks_for i 0 m ≤ m.image.disk.count → (u : NewVolume)
         → IsPushed x 0 m u → SetsAttribute k value t u
     is_set takes_more light fits u pushed p v has =
         let es = m.deepest.last.entries in
@@ -139,11 +140,12 @@ module _ (k : ℕ) (value : List ℕ) (t : NewVolume) (adds : AttributesAreAdded
         let closed : reverse u.closed.items ≡ reverse t.closed.items =
         ap (λ (ds : Vec Directory). reverse ds.items) (pushed.closed ∙ without.closed) in
         let done : IsCarried (SetAttr (has.home ++ has.n ∷ []) k value) new has.home v u =
-        is_put t m (SetAttr (has.home ++ has.n ∷ []) k value) 0 [] es new (λ f. f ≡ t.image) has.home v (ready e t m without) has.taking
+        is_put t m (SetAttr (has.home ++ has.n ∷ []) k value) 0 [] es new (λ f. f ≡ t.image.disk) has.home v (ready e t m without) has.taking
         (counted e t m without _ (deepest_counted t has.home v has.taking))
-        ((added_at p v has es e (ends e t m without has.n has.es has.e has.ends)).added short) takes_more m u u (same_volume m) refl without.image
-        (subst (λ (y : Entry). IsPushed y 0 m u) is pushed) (none_made u) (subst (λ (j : ℕ). j ≤ m.image.size - 40) same light)
-        (subst (λ (j : ℕ). m.next + blocks_for j 0 m ≤ m.image.count) same fits) in
+        ((added_at p v has es e (ends e t m without has.n has.es has.e has.ends)).added short) takes_more m u u (same_volume m) refl
+        (ap (λ (i : Medium). i.disk) without.image)
+        (subst (λ (y : Entry). IsPushed y 0 m u) is pushed) (none_made u) (subst (λ (j : ℕ). j ≤ m.image.disk.size - 40) same light)
+        (subst (λ (j : ℕ). m.next + blocks_for j 0 m ≤ m.image.disk.count) same fits) in
         let name = (ends e t m without has.n has.es has.e has.ends).name in (
           done.w,
           subst (λ (q : Path). CarriesOut (SetAttr q k value) v done.w) (sym has.is) done.carried,

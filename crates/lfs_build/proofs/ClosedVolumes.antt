@@ -2,6 +2,7 @@
 use Rattle.std.proofs.Common.{◌≡◌, List, [], ◌∷◌, ◌++◌, length, refl, ap, sym, ◌∙◌, subst, All, map, append_assoc}
 use Rattle.std.specs.Prelude.{reverse}
 use Rattle.std.proofs.lemmas.List.{length-map, map-append}
+use Rattle.lfs_block.specs.Medium.{Medium}
 use Rattle.lfs_meta.specs.Fits.{RiseFrom}
 use Rattle.lfs_fs.specs.Directory.{Directory}
 use Rattle.lfs_fs.specs.Outlined.{outlined}
@@ -31,9 +32,9 @@ pub closed_taking : BuiltAreClosed → (t u : NewVolume) (front more : Path) (v 
     → length u.above.items ≡ length front → TakesMore u front v
 closed_taking close t u front more v down taking len = record {
   built =
-      built_as t.image u.image t.next u.next (map opened u.above.items) (map opened u.above.items) (opened u.deepest) (opened u.deepest)
-      (map opened down.gone ++ reverse t.closed.items) (reverse u.closed.items) front v down.image down.next refl refl down.closed
-      (close t.image t.next (map opened t.above.items) (opened t.deepest) (reverse t.closed.items) front more v
+      built_as t.image.disk u.image.disk t.next u.next (map opened u.above.items) (map opened u.above.items) (opened u.deepest) (opened u.deepest)
+      (map opened down.gone ++ reverse t.closed.items) (reverse u.closed.items) front v (ap (λ (i : Medium). i.disk) down.image) down.next refl refl down.closed
+      (close t.image.disk t.next (map opened t.above.items) (opened t.deepest) (reverse t.closed.items) front more v
       (map opened u.above.items) (opened u.deepest) (map opened down.gone) taking.built (way_before t u down)
       (length-map u.above.items opened ∙ len));
   attributes = taking.attributes ∙ ap (λ (a : _). a.items) (sym down.attributes);

@@ -58,9 +58,9 @@ leads_first next n e ds more begin is are = record {
 
 module _ (n : Name) (t : NewVolume) (adds : DirectoriesAreAdded) where
   added_at : (home : Path) (v : Volume) → IsHome t home n v
-      → AddsDirectory n t.image t.next (map opened t.above.items) (opened t.deepest) (reverse t.closed.items) home v
+      → AddsDirectory n t.image.disk t.next (map opened t.above.items) (opened t.deepest) (reverse t.closed.items) home v
   added_at home v is =
-      adds n t.image t.next (map opened t.above.items) (opened t.deepest) (reverse t.closed.items) home v is.taking.built is.names is.last
+      adds n t.image.disk t.next (map opened t.above.items) (opened t.deepest) (reverse t.closed.items) home v is.taking.built is.names is.last
 
   pub too_long : 255 < length n → RefusesName (λ p. Mkdir p) n t NameTooLong
   too_long long = inr (λ home v is. (added_at home v is).long long)
@@ -69,21 +69,21 @@ module _ (n : Name) (t : NewVolume) (adds : DirectoriesAreAdded) where
       → (r : Refusal) → HasNoRoom k 2 t r → RefusesName (λ p. Mkdir p) n t r
   no_place short e is k weighs r none = inr (λ home v at.
       let new = new_entry n (Directory_at (t.next, t.next + 1)) in
-      not_put t t (Mkdir (home ++ n ∷ [])) 2 ((t.next, t.next + 1) ∷ []) (last_part (opened t.deepest)).entries new (λ f. f ≡ t.image) home v
+      not_put t t (Mkdir (home ++ n ∷ [])) 2 ((t.next, t.next + 1) ∷ []) (last_part (opened t.deepest)).entries new (λ f. f ≡ t.image.disk) home v
       (same_end t) at.taking (deepest_counted t home v at.taking) ((added_at home v at).added short) r
       (subst (λ (m : ℕ). HasNoRoom m 2 t r) (weighs ∙ ap weight is) none))
 
   pub is_made : DirectoriesTakeMore → length n ≤ 255 → (e : Entry) → e ≡ new_entry n (Directory_at (t.next, t.next + 1)) → (k : ℕ) → k ≡ weight e
-      → k ≤ t.image.size - 40 → t.next + blocks_for k 2 t ≤ t.image.count → (u y : NewVolume) → IsPushed e 2 t u
+      → k ≤ t.image.disk.size - 40 → t.next + blocks_for k 2 t ≤ t.image.disk.count → (u y : NewVolume) → IsPushed e 2 t u
       → IsWithClosed (bare_directory (t.next, t.next + 1)) u y → PutsName (λ p. Mkdir p) n t y
   is_made takes_more short e is k weighs light fits u y pushed closed home v at =
       let new = new_entry n (Directory_at (t.next, t.next + 1)) in
       let same : k ≡ weight new = weighs ∙ ap weight is in
       let done : IsCarried (Mkdir (home ++ n ∷ [])) new home v y =
-      is_put t t (Mkdir (home ++ n ∷ [])) 2 ((t.next, t.next + 1) ∷ []) (last_part (opened t.deepest)).entries new (λ f. f ≡ t.image) home v
+      is_put t t (Mkdir (home ++ n ∷ [])) 2 ((t.next, t.next + 1) ∷ []) (last_part (opened t.deepest)).entries new (λ f. f ≡ t.image.disk) home v
       (same_end t) at.taking (deepest_counted t home v at.taking) ((added_at home v at).added short) takes_more t u y (same_volume t) refl refl
-      (subst (λ (x : Entry). IsPushed x 2 t u) is pushed) (with_made t.next u y closed) (subst (λ (m : ℕ). m ≤ t.image.size - 40) same light)
-      (subst (λ (m : ℕ). t.next + blocks_for m 2 t ≤ t.image.count) same fits) in (
+      (subst (λ (x : Entry). IsPushed x 2 t u) is pushed) (with_made t.next u y closed) (subst (λ (m : ℕ). m ≤ t.image.disk.size - 40) same light)
+      (subst (λ (m : ℕ). t.next + blocks_for m 2 t ≤ t.image.disk.count) same fits) in (
         done.w,
         done.carried,
         record {

@@ -4,6 +4,7 @@ use Rattle.std.specs.Prelude.{if◌then◌else◌, is_some, reverse, sum_by}
 use Rattle.std.specs.Option.{option_and_then}
 use Rattle.std.proofs.lemmas.List.{length-reverse, map-append}
 use Rattle.std.proofs.lemmas.List.Elements.{All-append, All-cons, All-nil}
+use Rattle.lfs_block.specs.Medium.{Medium}
 use Rattle.lfs_meta.specs.Body.{Pair}
 use Rattle.lfs_meta.specs.Fits.{RiseFrom}
 use Rattle.lfs_fs.specs.Directory.{Directory, Part, entries}
@@ -101,11 +102,12 @@ entered enter t u opens p v has leads =
       names = has.home ++ has.n ∷ [];
       taking = record {
         built =
-            built_as t.image u.image t.next u.next (map opened t.above.items ++ opened t.deepest ∷ []) (map opened u.above.items)
-            (bare_directory leads.pair) (opened u.deepest) leads.more (reverse u.closed.items) (has.home ++ has.n ∷ []) v opens.image opens.next
+            built_as t.image.disk u.image.disk t.next u.next (map opened t.above.items ++ opened t.deepest ∷ []) (map opened u.above.items)
+            (bare_directory leads.pair) (opened u.deepest) leads.more (reverse u.closed.items) (has.home ++ has.n ∷ []) v
+            (ap (λ (i : Medium). i.disk) opens.image) opens.next
             above deepest same.1
-            (enter t.image t.next (map opened t.above.items) (opened t.deepest) (bare_directory leads.pair) leads.more has.home v has.n
-            (built_as t.image t.image t.next t.next (map opened t.above.items) (map opened t.above.items) (opened t.deepest)
+            (enter t.image.disk t.next (map opened t.above.items) (opened t.deepest) (bare_directory leads.pair) leads.more has.home v has.n
+            (built_as t.image.disk t.image.disk t.next t.next (map opened t.above.items) (map opened t.above.items) (opened t.deepest)
             (opened t.deepest) (reverse t.closed.items) (bare_directory leads.pair ∷ leads.more) has.home v refl refl refl refl (sym leads.are)
             has.taking.built)
             (record { es = has.es; e = has.e; ends = has.ends; leads = leads.leads }));

@@ -4,6 +4,7 @@ use Rattle.std.specs.Global.{Vec}
 use Rattle.std.specs.Prelude.{reverse}
 use Rattle.std.proofs.lemmas.List.Elements.{All-head}
 use Rattle.lfs_block.specs.Disk.{Disk}
+use Rattle.lfs_block.specs.Medium.{Medium}
 use Rattle.lfs_meta.specs.Body.{Pair}
 use Rattle.lfs_meta.specs.Fits.{RiseFrom}
 use Rattle.lfs_meta.specs.Runs.{run_takes}
@@ -85,26 +86,26 @@ deepest_counted t home v taking =
 
 module _ (t m : NewVolume) (c : Command) (before : ℕ) (new : List Pair) (es : List Entry) (e : Entry) (laid : Disk → Type 0) (home : Path)
     (v : Volume) (ready : EndsSo es t m) (taking : TakesMore t home v) (counted : IsCounted (outlined v) m.deepest)
-    (added : IsAdded c before new es e laid t.image t.next (map opened t.above.items) (opened t.deepest) (reverse t.closed.items) home v) where
+    (added : IsAdded c before new es e laid t.image.disk t.next (map opened t.above.items) (opened t.deepest) (reverse t.closed.items) home v) where
   entries_so : es ≡ m.deepest.last.entries
   entries_so = ap (λ (p : Part). p.entries) (sym ready.last)
 
-  size_so : v.size ≡ m.image.size
-  size_so = taking.built.size ∙ ap (λ (d : Disk). d.size) (sym ready.image)
+  size_so : v.size ≡ m.image.disk.size
+  size_so = taking.built.size ∙ ap (λ (i : Medium). i.disk.size) (sym ready.image)
 
   test : takes_entry (outlined v) (last_part (opened t.deepest)) es e ≡ takes (weight e) m
   test =
       ap (λ (p : Part). takes_entry (outlined v) p es e) (last_opened t.deepest.full.items t.deepest.last)
       ∙ ap (λ (p : Part). takes_entry (outlined v) p es e) (sym ready.last)
       ∙ ap (λ (p : Part). takes_entry (outlined v) p es e) (sym (last_opened m.deepest.full.items m.deepest.last))
-      ∙ takes_counted (outlined v) m.image.size (weight e) m.deepest size_so counted es entries_so e refl
+      ∙ takes_counted (outlined v) m.image.disk.size (weight e) m.deepest size_so counted es entries_so e refl
 
-  added_so : IsAdded c before new es e laid m.image m.next (map opened t.above.items) (opened t.deepest) (reverse t.closed.items) home v
+  added_so : IsAdded c before new es e laid m.image.disk m.next (map opened t.above.items) (opened t.deepest) (reverse t.closed.items) home v
   added_so =
-      subst (λ (d : Disk). IsAdded c before new es e laid d m.next (map opened t.above.items) (opened t.deepest) (reverse t.closed.items) home v)
+      subst (λ (i : Medium). IsAdded c before new es e laid i.disk m.next (map opened t.above.items) (opened t.deepest) (reverse t.closed.items) home v)
       (sym ready.image)
       (subst (λ (n : ℕ).
-      IsAdded c before new es e laid t.image n (map opened t.above.items) (opened t.deepest) (reverse t.closed.items) home v)
+      IsAdded c before new es e laid t.image.disk n (map opened t.above.items) (opened t.deepest) (reverse t.closed.items) home v)
       (sym ready.next) added)
 
   -- there is no room
@@ -121,7 +122,7 @@ module _ (t m : NewVolume) (c : Command) (before : ℕ) (new : List Pair) (es : 
       ∙ ap (λ (p : Part). directory_of t.deepest.full.items p) ready.last
 
   -- and after
-  more_so : (l u : NewVolume) → IsWithImage m l → l.image.size ≡ m.image.size → IsPushed e before l u
+  more_so : (l u : NewVolume) → IsWithImage m l → l.image.disk.size ≡ m.image.disk.size → IsPushed e before l u
       → opened u.deepest ≡ with_more (outlined v) es e (pair_behind m.next before) (opened t.deepest)
   more_so l u others size pushed =
       pushed.deepest (outlined v) (size_so ∙ sym size) (subst (λ (x : OpenDirectory). IsCounted (outlined v) x) (sym others.deepest) counted)
@@ -131,21 +132,21 @@ module _ (t m : NewVolume) (c : Command) (before : ℕ) (new : List Pair) (es : 
       ∙ ap (with_more (outlined v) es e (pair_behind m.next before)) opened_so
       ∙ more_same (outlined v) es e (pair_behind m.next before) t.deepest.full.items t.deepest.last es
 
-  blocks_so : (l : NewVolume) → IsWithImage m l → l.image.size ≡ m.image.size
+  blocks_so : (l : NewVolume) → IsWithImage m l → l.image.disk.size ≡ m.image.disk.size
       → l.next + blocks_for (weight e) before l ≡ m.next + blocks_for (weight e) before m
   blocks_so l others size =
       ap (λ (n : ℕ). n + blocks_for (weight e) before l) others.next
       ∙ ap (λ (s : ℕ). m.next + blocks_with (run_takes (s - 40) l.deepest.weight l.deepest.count (weight e)) before) size
-      ∙ ap (λ (x : OpenDirectory). m.next + blocks_with (run_takes (m.image.size - 40) x.weight x.count (weight e)) before) others.deepest
+      ∙ ap (λ (x : OpenDirectory). m.next + blocks_with (run_takes (m.image.disk.size - 40) x.weight x.count (weight e)) before) others.deepest
 
-  pub is_put : DirectoriesTakeMore → (l u y : NewVolume) → IsWithImage m l → l.image.size ≡ m.image.size → laid l.image → IsPushed e before l u
-      → IsWithMade new u y → weight e ≤ m.image.size - 40 → m.next + blocks_for (weight e) before m ≤ m.image.count
+  pub is_put : DirectoriesTakeMore → (l u y : NewVolume) → IsWithImage m l → l.image.disk.size ≡ m.image.disk.size → laid l.image.disk → IsPushed e before l u
+      → IsWithMade new u y → weight e ≤ m.image.disk.size - 40 → m.next + blocks_for (weight e) before m ≤ m.image.disk.count
       → IsCarried c e home v y
   is_put takes_more l u y others size is pushed with light fits =
-      let room : IsAddedTo c new es e before (blocks_for (weight e) before m) l.image m.next (map opened t.above.items) (opened t.deepest)
+      let room : IsAddedTo c new es e before (blocks_for (weight e) before m) l.image.disk m.next (map opened t.above.items) (opened t.deepest)
       (reverse t.closed.items) home v =
       has_room m c before new es e laid (map opened t.above.items) (opened t.deepest) (reverse t.closed.items) home v test added_so light fits
-      l.image is in
+      l.image.disk is in
       let ends = takes_more (outlined v) es e (pair_behind m.next before) (opened t.deepest) in
       let above : y.above ≡ t.above = with.above ∙ pushed.above ∙ others.above ∙ ready.above in
       let deepest : opened y.deepest ≡ with_more (outlined v) es e (pair_behind m.next before) (opened t.deepest) =
@@ -160,9 +161,9 @@ module _ (t m : NewVolume) (c : Command) (before : ℕ) (new : List Pair) (es : 
         carried = room.1;
         taking =
             taking_after y home v room.0
-            (built_as l.image y.image (m.next + blocks_for (weight e) before m) y.next (map opened t.above.items) (map opened y.above.items)
+            (built_as l.image.disk y.image.disk (m.next + blocks_for (weight e) before m) y.next (map opened t.above.items) (map opened y.above.items)
             (with_more (outlined v) es e (pair_behind m.next before) (opened t.deepest)) (opened y.deepest) (made new ++ reverse t.closed.items)
-            (reverse y.closed.items) home room.0 (with.image ∙ pushed.image) (with.next ∙ pushed.next ∙ blocks_so l others size)
+            (reverse y.closed.items) home room.0 (ap (λ (i : Medium). i.disk) (with.image ∙ pushed.image)) (with.next ∙ pushed.next ∙ blocks_so l others size)
             (ap (λ (xs : Vec OpenDirectory). map opened xs.items) above) deepest closed room.3)
             room.2 (taking.attributes ∙ ap (λ (a : Vec (ℕ × List ℕ)). a.items) attributes)
             (subst (λ (a : Vec (ℕ × List ℕ)). RiseFrom 0 a.items) attributes taking.rise)

@@ -35,9 +35,9 @@ file_target n size next bytes =
 
 module _ (n : Name) (bytes : List ℕ) (t : NewVolume) (adds : FilesAreAdded) where
   added_at : (home : Path) (v : Volume) → IsHome t home n v
-      → AddsFile n bytes t.image t.next (map opened t.above.items) (opened t.deepest) (reverse t.closed.items) home v
+      → AddsFile n bytes t.image.disk t.next (map opened t.above.items) (opened t.deepest) (reverse t.closed.items) home v
   added_at home v is =
-      adds n bytes t.image t.next (map opened t.above.items) (opened t.deepest) (reverse t.closed.items) home v is.taking.built is.names
+      adds n bytes t.image.disk t.next (map opened t.above.items) (opened t.deepest) (reverse t.closed.items) home v is.taking.built is.names
       is.last
 
   pub too_long : 255 < length n → RefusesName (λ p. Put p bytes) n t NameTooLong
@@ -47,32 +47,32 @@ module _ (n : Name) (bytes : List ℕ) (t : NewVolume) (adds : FilesAreAdded) wh
   too_large short large = inr (λ home v is. (added_at home v is).large short large)
 
   module _ (short : length n ≤ 255) (small : length bytes ≤ 2147483647) (e : Entry)
-      (is : e ≡ new_entry n (file_body t.image.size t.next bytes)) (k : ℕ) (weighs : k ≡ weight e) (before : ℕ)
-      (counts : before ≡ file_blocks t.image.size bytes) where
-    same : k ≡ weight (new_entry n (file_body t.image.size t.next bytes))
+      (is : e ≡ new_entry n (file_body t.image.disk.size t.next bytes)) (k : ℕ) (weighs : k ≡ weight e) (before : ℕ)
+      (counts : before ≡ file_blocks t.image.disk.size bytes) where
+    same : k ≡ weight (new_entry n (file_body t.image.disk.size t.next bytes))
     same = weighs ∙ ap weight is
 
     pub no_place : (r : Refusal) → HasNoRoom k before t r → RefusesName (λ p. Put p bytes) n t r
     no_place r none = inr (λ home v at.
-        not_put t t (Put (home ++ n ∷ []) bytes) (file_blocks t.image.size bytes) [] (last_part (opened t.deepest)).entries
-        (new_entry n (file_body t.image.size t.next bytes)) (LaysFile t.image t.next bytes) home v (same_end t) at.taking
+        not_put t t (Put (home ++ n ∷ []) bytes) (file_blocks t.image.disk.size bytes) [] (last_part (opened t.deepest)).entries
+        (new_entry n (file_body t.image.disk.size t.next bytes)) (LaysFile t.image.disk t.next bytes) home v (same_end t) at.taking
         (deepest_counted t home v at.taking) ((added_at home v at).added short small) r
-        (subst (λ (m : ℕ). HasNoRoom m (file_blocks t.image.size bytes) t r) same
+        (subst (λ (m : ℕ). HasNoRoom m (file_blocks t.image.disk.size bytes) t r) same
         (subst (λ (m : ℕ). HasNoRoom k m t r) counts none)))
 
-    pub file_put : DirectoriesTakeMore → k ≤ t.image.size - 40 → t.next + blocks_for k before t ≤ t.image.count → (l u : NewVolume)
-        → LaysFile t.image t.next bytes l.image → IsWithImage t l → IsPushed e before l u → PutsName (λ p. Put p bytes) n t u
+    pub file_put : DirectoriesTakeMore → k ≤ t.image.disk.size - 40 → t.next + blocks_for k before t ≤ t.image.disk.count → (l u : NewVolume)
+        → LaysFile t.image.disk t.next bytes l.image.disk → IsWithImage t l → IsPushed e before l u → PutsName (λ p. Put p bytes) n t u
     file_put takes_more light fits l u laid others pushed home v at =
-        let new = new_entry n (file_body t.image.size t.next bytes) in
-        let blocks = file_blocks t.image.size bytes in
+        let new = new_entry n (file_body t.image.disk.size t.next bytes) in
+        let blocks = file_blocks t.image.disk.size bytes in
         let done : IsCarried (Put (home ++ n ∷ []) bytes) new home v u =
-        is_put t t (Put (home ++ n ∷ []) bytes) blocks [] (last_part (opened t.deepest)).entries new (LaysFile t.image t.next bytes) home v
+        is_put t t (Put (home ++ n ∷ []) bytes) blocks [] (last_part (opened t.deepest)).entries new (LaysFile t.image.disk t.next bytes) home v
         (same_end t) at.taking (deepest_counted t home v at.taking) ((added_at home v at).added short small) takes_more l u u others
         laid.but.disk.size laid
         (subst (λ (x : Entry). IsPushed x blocks l u) is (subst (λ (m : ℕ). IsPushed e m l u) counts pushed)) (none_made u)
-        (subst (λ (m : ℕ). m ≤ t.image.size - 40) same light)
-        (subst (λ (m : ℕ). t.next + blocks_for m blocks t ≤ t.image.count) same
-        (subst (λ (m : ℕ). t.next + blocks_for k m t ≤ t.image.count) counts fits)) in (
+        (subst (λ (m : ℕ). m ≤ t.image.disk.size - 40) same light)
+        (subst (λ (m : ℕ). t.next + blocks_for m blocks t ≤ t.image.disk.count) same
+        (subst (λ (m : ℕ). t.next + blocks_for k m t ≤ t.image.disk.count) counts fits)) in (
           done.w,
           done.carried,
           record {
@@ -84,6 +84,6 @@ module _ (n : Name) (bytes : List ℕ) (t : NewVolume) (adds : FilesAreAdded) wh
             es = done.fs;
             e = new;
             ends = done.ends;
-            leads = inl (file_target n t.image.size t.next bytes);
+            leads = inl (file_target n t.image.disk.size t.next bytes);
           },
         )

@@ -28,7 +28,7 @@ volume_is : (o : Volume) (size count : ℕ) (limits : Limits) (attributes : Attr
 volume_is o size count limits attributes ds s c l a d = rw (s, c, l, a, d) refl
 
 pub outline_is : BuiltAreClosed → (t u : NewVolume) (q : Path) (v : Volume) → IsAt t q v → ClosesDown t u → length u.above.items ≡ 0
-    → (size count : ℕ) (ds : List Directory) → size ≡ u.image.size → count ≡ u.image.count
+    → (size count : ℕ) (ds : List Directory) → size ≡ u.image.disk.size → count ≡ u.image.disk.count
     → ds ≡ reverse (u.closed.items ++ opened u.deepest ∷ [])
     → record { size = size; count = count; limits = new_limits; attributes = u.attributes.items; directories = ds } ≡ outlined v
 outline_is close t u q v at down none size count ds size_is count_is ds_is =

@@ -95,7 +95,7 @@ module _ (laws : SeekingLaws) (t u : NewVolume) (front : Path) (name : Name) (do
       ap (λ (p : Path). p ++ name ∷ []) all.front_is ∙ append_assoc (take k front) all.left (name ∷ [])
       ∙ ap (λ (p : Path). take k front ++ p) is in
       let taking : TakesMore t (take k front ++ all.more) v = subst (λ (p : Path). TakesMore t p v) all.names_are at.taking in (
-        laws.next t.image t.next (map opened t.above.items) (opened t.deepest) (reverse t.closed.items) (take k front) all.more v
+        laws.next t.image.disk t.next (map opened t.above.items) (opened t.deepest) (reverse t.closed.items) (take k front) all.more v
             (map opened u.above.items) (opened u.deepest) (map opened down.gone) q n rest taking.built (way_before t u down)
             (length-map u.above.items opened ∙ len ∙ sym all.len)
             (subst (λ (p : Path). IsLastIn q p (opened t.deepest)) all.names_are at.last)

@@ -31,7 +31,7 @@ use Rattle.lfs_build.specs.Rooted.{IsBareBuilt, bare_directory}
 
 -- The volume, with its deepest directory at the path of names.
 pub record TakesMore (t : NewVolume) (names : Path) (v : Volume) : Type 0 where
-  pub built : IsBuilt t.image t.next (map opened t.above.items) (opened t.deepest) (reverse t.closed.items) names v
+  pub built : IsBuilt t.image.disk t.next (map opened t.above.items) (opened t.deepest) (reverse t.closed.items) names v
   pub attributes : v.attributes ≡ t.attributes.items
   pub rise : RiseFrom 0 t.attributes.items
   pub weighed : All (IsWeighed (outlined v)) (t.above.items ++ t.deepest ∷ [])
@@ -70,7 +70,7 @@ pub record HasEntry (t : NewVolume) (p : Path) (v : Volume) : Type 0 where
 
 -- the volume of the root alone, without entries
 pub record IsBare (t : NewVolume) (v : Volume) : Type 0 where
-  pub built : IsBareBuilt t.image v
+  pub built : IsBareBuilt t.image.disk v
   pub next : t.next ≡ 2
   pub above : t.above.items ≡ []
   pub deepest : opened t.deepest ≡ bare_directory root

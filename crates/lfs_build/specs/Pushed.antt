@@ -14,7 +14,7 @@ use Rattle.lfs_build.specs.Opened.{IsCounted, IsWeighed, opened}
 
 -- the last part of the deepest directory takes an entry of a weight
 abbrev pub takes : ℕ → NewVolume → Bool
-takes w t = run_takes (t.image.size - 40) t.deepest.weight t.deepest.count w
+takes w t = run_takes (t.image.disk.size - 40) t.deepest.weight t.deepest.count w
 
 -- how many blocks it needs, with those that come with it
 abbrev pub blocks_for : ℕ → ℕ → NewVolume → ℕ
@@ -23,9 +23,9 @@ blocks_for w before t = blocks_with (takes w t) before
 -- It is too heavy for a block, or there are too few blocks.
 abbrev pub HasNoRoom : ℕ → ℕ → NewVolume → Refusal → Type 0
 HasNoRoom w before t r =
-    ((t.image.size - 40 < w) × (r ≡ EntryTooLarge))
-    ⊎ ((w ≤ t.image.size - 40) × (t.image.count < t.next + blocks_for w before t)
-    × (r ≡ NoSpace (blocks_for w before t) (t.image.count - t.next)))
+    ((t.image.disk.size - 40 < w) × (r ≡ EntryTooLarge))
+    ⊎ ((w ≤ t.image.disk.size - 40) × (t.image.disk.count < t.next + blocks_for w before t)
+    × (r ≡ NoSpace (blocks_for w before t) (t.image.disk.count - t.next)))
 
 -- The entry stands at the end of the deepest directory, in its last part or alone in a new one, and all else is as it was.
 pub record IsPushed (e : Entry) (before : ℕ) (t u : NewVolume) : Type 0 where
@@ -34,9 +34,9 @@ pub record IsPushed (e : Entry) (before : ℕ) (t u : NewVolume) : Type 0 where
   pub above : u.above ≡ t.above
   pub closed : u.closed ≡ t.closed
   pub next : u.next ≡ t.next + blocks_for (weight e) before t
-  pub deepest : (o : Volume) → o.size ≡ t.image.size → IsCounted o t.deepest
+  pub deepest : (o : Volume) → o.size ≡ t.image.disk.size → IsCounted o t.deepest
       → opened u.deepest ≡ with_more o t.deepest.last.entries e (pair_behind t.next before) (opened t.deepest)
-  pub weighed : (o : Volume) → o.size ≡ t.image.size → 2 ≤ t.next → IsCounted o t.deepest → IsWeighed o u.deepest
+  pub weighed : (o : Volume) → o.size ≡ t.image.disk.size → 2 ≤ t.next → IsCounted o t.deepest → IsWeighed o u.deepest
 
 -- All but the image is as it was.
 pub record IsWithImage (t u : NewVolume) : Type 0 where

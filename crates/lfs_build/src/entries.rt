@@ -78,9 +78,9 @@ impl NewVolume {
         before: u32,
         need: u32,
     ) -> Result<(), AllocError>
-        requires light { weight entry ≤ self.old.image.size - 40 }
+        requires light { weight entry ≤ self.old.image.disk.size - 40 }
         requires need { need ≡ blocks_for (weight entry) before self.old }
-        requires fits { self.old.next + need ≤ self.old.image.count }
+        requires fits { self.old.next + need ≤ self.old.image.disk.count }
         ensures { OnOk result (IsPushed entry before self.old self.new) }
     {
         let _size = self.image.size();

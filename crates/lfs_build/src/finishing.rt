@@ -47,7 +47,7 @@ impl NewVolume {
     /// Source: own.
     pub fn finish(self, alloc: Global) -> Result<Image, AllocError>
         requires { (q : Path) × (v : Volume) × IsAt self q v }
-        ensures { IfOk result (λ image. (q : Path) (v : Volume) → IsAt self q v → IsNewImageOf v image) }
+        ensures { IfOk result (λ image. (q : Path) (v : Volume) → IsAt self q v → IsNewImageOf v image.disk) }
     {
         built_can_be_finished();
         let (mut image, outline) = self.into_outline()?;

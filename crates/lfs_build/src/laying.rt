@@ -15,8 +15,8 @@ impl NewVolume {
     /// so many blocks are there, and fewer than 2^32 bytes.
     pub(crate) fn lay(&mut self, alloc: Global, bytes: &[u8]) -> Result<(), AllocError>
         requires len { length bytes.now < 2 ^ 32 }
-        requires fits { self.old.next + file_blocks self.old.image.size bytes.now ≤ self.old.image.count }
-        ensures laid { OnOk result (LaysFile self.old.image self.old.next bytes.now self.new.image) }
+        requires fits { self.old.next + file_blocks self.old.image.disk.size bytes.now ≤ self.old.image.disk.count }
+        ensures laid { OnOk result (LaysFile self.old.image.disk self.old.next bytes.now self.new.image.disk) }
         ensures others { OnOk result (IsWithImage self.old self.new) }
     {
         let size = self.image.size();

@@ -25,5 +25,5 @@ pub struct NewVolume {
     pub(crate) closed: Vec<OutlineDirectory>,
     // the first block that is free, as are all behind it
     pub(crate) next: u32,
-    pub(crate) ghost within: { next ≤ image.count },
+    pub(crate) ghost within: { next ≤ image.disk.count },
 }

@@ -14,7 +14,7 @@ impl NewVolume {
 
     /// The bytes of a block that entries may take. Takes no memory.
     pub(crate) fn room(&self) -> u32
-        ensures bytes { result ≡ self.now.image.size - 40 }
+        ensures bytes { result ≡ self.now.image.disk.size - 40 }
         ensures small { result ≤ 65496 }
     {
         self.image.size() - KEPT
@@ -26,8 +26,8 @@ impl NewVolume {
         requires weight { weight ≤ 264708 }
         requires before { before < 4294967000 }
         ensures need { IfOk result (λ need. need ≡ blocks_for weight before self.now) }
-        ensures light { OnOk result (weight ≤ self.now.image.size - 40) }
-        ensures fits { IfOk result (λ need. self.now.next + need ≤ self.now.image.count) }
+        ensures light { OnOk result (weight ≤ self.now.image.disk.size - 40) }
+        ensures fits { IfOk result (λ need. self.now.next + need ≤ self.now.image.disk.count) }
         ensures refused { IfErr result (λ r. HasNoRoom weight before self.now r) }
     {
         if weight > self.room() {

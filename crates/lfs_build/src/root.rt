@@ -19,7 +19,7 @@ const SUPERBLOCK_LEN: u32 = 40;
 /// An image whose blocks are erased.
 fn erased_image(alloc: Global, size: u32, count: u32) -> Result<Image, AllocError>
     requires { IsGeometry size count }
-    ensures { IfOk result (λ image. IsErased size count image) }
+    ensures { IfOk result (λ image. IsErased size count image.disk) }
 {
     let bytes = vec![in alloc; 0xff; size as usize * count as usize]?;
     let Ok(image) = Image::new(bytes, size) else {

@@ -4,9 +4,9 @@ use Rattle.lfs_block.specs.Disk.{Disk, IsDisk}
 use Rattle.lfs_fs.specs.Reading.{reading_of}
 use Rattle.lfs_fs.specs.Holds.{Holds}
 use Rattle.lfs_fs.specs.Mounts.{Mounts}
-use Rattle.lfs_book.specs.Book.{Book, journal_bytes}
+use Rattle.lfs_book.specs.Book.{Book, bytes_in, journal_bytes}
 use Rattle.lfs_history.specs.History.{History, IsHistory, fresh_history}
-use Rattle.lfs_history.specs.Laws.{IsCarriedOut, CommandsPushEquations, RunsKeepHistories, StepsKeepGeometry, UndoIsExact}
+use Rattle.lfs_history.specs.Laws.{IsCarriedOut, CommandsPushEquations, RunsKeepHistories, StepsKeepSize, UndoIsExact}
 use Rattle.lfs_history.specs.Opening.{journal_of}
 use Rattle.lfs_history.specs.OpeningLaws.{JournalsDenoteOneHistory, SavedHistoriesOpen}
 use Rattle.lfs_history.specs.Taking.{Move, Do, Undo, Redo, Forget, Takes, Run}
@@ -23,7 +23,7 @@ use Rattle.lfs_change.proofs.ChangeLemmas.{denoted_present, denoted_history, ope
 
 -- a journal has bytes
 pub some_bytes : (j : Book) → journal_bytes j ≢ []
-unfolding journal_bytes
+unfolding bytes_in
 some_bytes j none = cc
 
 -- the new present image is an image of blocks of the same size
@@ -31,14 +31,14 @@ pub record IsLeft (size : ℕ) (h : History) : Type 0 where
   pub history : IsHistory h
   pub size_is : h.present.size ≡ size
 
-step_left : RunsKeepHistories → StepsKeepGeometry → (step : Move) (size : ℕ) (image journal : List ℕ) (o : Outcome)
+step_left : RunsKeepHistories → StepsKeepSize → (step : Move) (size : ℕ) (image journal : List ℕ) (o : Outcome)
     → (changes : ChangesBytes step size image journal o) → IsLeft size changes.1.new
-step_left keep geometry step size image journal o (disk, is) =
+step_left keep keep_size step size image journal o (disk, is) =
     let old = denoted_history (image_of size image) (journal_read step journal) is.old is.denotes in
     let present = denoted_present (image_of size image) (journal_read step journal) is.old is.denotes in
     record {
       history = keep (step ∷ []) (None ∷ []) is.old is.new (is.new, is.takes, refl) old;
-      size_is = (geometry step None is.old is.new old is.takes).0 ∙ ap (λ (d : Disk). d.size) present;
+      size_is = keep_size step None is.old is.new old is.takes ∙ ap (λ (d : Disk). d.size) present;
     }
 
 -- bytes of an image are it
@@ -46,10 +46,10 @@ left_image : (size : ℕ) (h : History) (bytes : List ℕ) → IsLeft size h →
 left_image size h bytes is same =
     sym (image_of_disk h.present is.history.disk) ∙ ap (λ (n : ℕ). image_of n h.present.bytes) is.size_is ∙ ap (image_of size) (sym same)
 
-pub bytes_are_denoted : RunsKeepHistories → StepsKeepGeometry → SavedHistoriesOpen → ChangedBytesAreDenoted
-bytes_are_denoted keep geometry opens step size image journal o changes =
+pub bytes_are_denoted : RunsKeepHistories → StepsKeepSize → SavedHistoriesOpen → ChangedBytesAreDenoted
+bytes_are_denoted keep keep_size opens step size image journal o changes =
     let h = changes.1.new in
-    let is = step_left keep geometry step size image journal o changes in
+    let is = step_left keep keep_size step size image journal o changes in
     let present = left_image size h o.image.items is changes.1.image_is in
     let here : DenotesOn h.present (journal_bytes (journal_of h)) h =
     opened_denotes h.present (journal_bytes (journal_of h)) h (some_bytes (journal_of h)) (opens h is.history) in (

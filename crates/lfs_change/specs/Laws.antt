@@ -1,11 +1,13 @@
 -- Laws of bytes on which steps are taken (own).
-use Rattle.std.specs.Prelude.{◌≡◌, ◌≤◌, ◌+◌, ◌*◌, ℕ, List, [], ◌∷◌, length, map, Option, Some, None}
+use Rattle.std.specs.Prelude.{◌≡◌, ◌≤◌, ◌+◌, ◌*◌, ℕ, List, [], ◌∷◌, length, take, drop, map, Option, Some, None}
+use Rattle.std.specs.Int.{w32, from_le_bytes}
 use Rattle.lfs_fs.specs.Path.{Path}
 use Rattle.lfs_fs.specs.Volume.{Volume}
 use Rattle.lfs_fs.specs.Tree.{Node}
 use Rattle.lfs_fs.specs.Reading.{reading_of}
 use Rattle.lfs_fs.specs.Holds.{Holds}
 use Rattle.lfs_fs.specs.Mounts.{Mounts}
+use Rattle.lfs_book.specs.Book.{respelling}
 use Rattle.lfs_command.specs.Command.{Asked, Command, Spells}
 use Rattle.lfs_command.specs.Need.{need}
 use Rattle.lfs_history.specs.History.{History}
@@ -40,14 +42,24 @@ abbrev pub journal_length : List ℕ → ℕ
 journal_length [] = 24
 journal_length (byte ∷ bytes) = length (byte ∷ bytes)
 
--- On the volume that the image holds the command needs some blocks, and the new journal is longer than the old one by no more than a
--- number and, for each of these blocks and two more, the block's number, its bytes before and its bytes after.
+-- the version of a journal, the second number of it
+abbrev pub version_of : List ℕ → ℕ
+version_of journal = from_le_bytes w32 (take 4 (drop 4 journal))
+
+-- how many of its changes are done, the fifth
+abbrev pub done_of : List ℕ → ℕ
+done_of journal = from_le_bytes w32 (take 4 (drop 16 journal))
+
+-- On the volume that the image holds the command needs some blocks, and the new journal is longer than the old one by no more than
+-- three numbers and, for each of these blocks and two more, the block's number, its bytes before and its bytes after; than one of
+-- version 1 also by two numbers for each change that is kept.
 pub record GrowsByTheNeed (asked : Asked) (size : ℕ) (image journal : List ℕ) (outcome : Outcome) : Type 0 where
   pub volume : Volume
   pub holds : Holds (reading_of (image_of size image)) volume
   pub command : Command
   pub spells : Spells asked command
-  pub grows : length outcome.journal.items ≤ journal_length journal + 4 + (need volume command + 2) * (2 * size + 4)
+  pub grows : length outcome.journal.items ≤ journal_length journal + respelling (version_of journal) (done_of journal) + 12
+      + (need volume command + 2) * (2 * size + 4)
 
 -- the journal of bytes that a command changed grows by no more than the need
 abbrev pub JournalsOfBytesGrowByTheNeed : Type 0

@@ -15,8 +15,9 @@ use lfs_history::{Move, OpenFault};
 use lfs_journal::{Refused, Session};
 use std::alloc::Global;
 
-/// Takes a step on the history of bytes that are an image, with blocks of `size` bytes, and of its journal. With a fault
-/// the image and the journal are those that were handed in. Takes memory.
+/// Takes a step on the history of bytes that are an image, with blocks of `size` bytes, and of its journal, which is spelled in
+/// version 2 then, whichever version it was read in. With a fault the image and the journal are those that were handed in.
+/// Takes memory.
 ///
 /// Source: own.
 pub fn changed(
@@ -38,7 +39,7 @@ pub fn changed(
 
 /// Takes a step on the history of an image.
 fn changed_image(alloc: Global, change: &Move<'_>, image: Image, journal: Vec<u8>) -> Outcome
-    ensures answers { AnswersImage result.fault (step_of change.now) image journal.items result }
+    ensures answers { AnswersImage result.fault (step_of change.now) image.disk journal.items result }
     ensures failed { blames_output result.fault ≡ false }
     ensures status { result.status ≡ status_of result.fault }
 {
@@ -65,9 +66,9 @@ fn read_journal<'a>(change: &Move<'_>, journal: &'a [u8]) -> &'a [u8]
 
 /// The session of an image and the bytes of its journal; without any, nothing was done to the image.
 fn opened(alloc: Global, image: Image, journal: &[u8]) -> Result<Session, Refused>
-    ensures opened { IfOk result (λ session. DenotesOn image journal.now session) }
-    ensures refused { IfErr result (λ refused. RefusesDenoting refused.fault image journal.now) }
-    ensures handed_back { IfErr result (λ refused. refused.image ≡ image) }
+    ensures opened { IfOk result (λ session. DenotesOn image.disk journal.now session) }
+    ensures refused { IfErr result (λ refused. RefusesDenoting refused.fault image.disk journal.now) }
+    ensures handed_back { IfErr result (λ refused. refused.image.disk ≡ image.disk) }
 {
     if !journal.is_empty() {
         return Session::open(alloc, image, journal);

@@ -4,7 +4,7 @@ ghost use Rattle.lfs_change.specs.Laws.{ChangedBytesAreDenoted, ChangedBytesAreE
 
 use lfs_history::{
     commands_push_equations, journals_grow_by_the_need, runs_keep_histories, saved_histories_open,
-    steps_keep_geometry, undo_is_exact,
+    steps_keep_size, undo_is_exact,
 };
 
 /// A law: the image and the journal that a step leaves denote the history that it leaves. Takes no memory.
@@ -15,7 +15,7 @@ pub fn changed_bytes_are_denoted()
 {
     runs_keep_histories();
     saved_histories_open();
-    steps_keep_geometry();
+    steps_keep_size();
 }
 
 /// A law: bytes that a command changed are an image that mounts to the command's equation of the tree of the image before,
@@ -51,9 +51,9 @@ pub fn runs_of_bytes_are_runs()
     saved_histories_open();
 }
 
-/// A law: the journal that a command leaves is longer than the one before it by no more than a number and, for each block that the
-/// command needs on the image's volume and two more, the block's number, its bytes before and its bytes after. A journal without bytes
-/// counts as one without changes. Takes no memory.
+/// A law: the journal that a command leaves is longer than the one before it by no more than three numbers and, for each block that
+/// the command needs on the image's volume and two more, the block's number, its bytes before and its bytes after; than one of version
+/// 1 also by two numbers for each change that is kept. A journal without bytes counts as one without changes. Takes no memory.
 ///
 /// Source: own.
 pub fn journals_of_bytes_grow_by_the_need()

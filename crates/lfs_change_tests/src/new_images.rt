@@ -14,7 +14,7 @@ use std::alloc::Global;
 /// Source: own.
 pub fn new_image_of(alloc: Global, size: u32, count: u32) -> Option<Image>
     requires { IsGeometry size count }
-    ensures image { IfSome result (λ image. (image.size ≡ size) × IsFormatted size count image.bytes) }
+    ensures image { IfSome result (λ image. (image.disk.size ≡ size) × IsFormatted size count image.disk.bytes) }
 {
     let bytes = format(alloc, size, count).ok()?;
     Image::new(bytes, size).ok()

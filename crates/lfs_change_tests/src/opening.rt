@@ -1,9 +1,10 @@
 //! Sessions that are opened with journals.
 
 use crate::images::{carries_out, copy_of, has_image, new_image, new_session};
-use lfs_block::Image;
+use crate::new_images::new_image_of;
+use lfs_block::{Blocks, Image, geometry_ok};
 use lfs_edit::Command;
-use lfs_journal::Session;
+use lfs_journal::{OpenFault, Session};
 use std::alloc::Global;
 use std::process::Abort;
 use std::test::Fail;
@@ -49,5 +50,92 @@ fn saved_sessions_open_as_they_were(rt: HostRuntime) -> Result<(), Fail> {
     opened.undo()?;
     opened.undo()?;
     has_image(&rt, &opened, &first);
+    Ok(())
+}
+
+// a new image of 9 blocks of 512 bytes
+fn larger_image(alloc: Global) -> Result<Image, Fail> {
+    if !geometry_ok(512, 9) {
+        return Err(Fail::new("no image has such blocks"));
+    }
+    Ok(new_image_of(alloc, 512, 9).ok_or("no memory")?)
+}
+
+// adds words of four bytes, the lowest first
+fn add_words(bytes: &mut Vec<u8>, words: &[u32]) -> Result<(), Fail> {
+    for word in words {
+        bytes.extend_from_slice(&word.to_le_bytes())?;
+    }
+    Ok(())
+}
+
+// how many blocks of a small image are others in a large one, and of each its number, its bytes there and its bytes here
+fn differences(alloc: Global, small: &Image, large: &Image) -> Result<(u32, Vec<u8>), Fail> {
+    let mut many: u32 = 0;
+    let mut bytes = Vec::new(alloc);
+    for n in 0..small.count() {
+        if n < large.count() && small.block(n) != large.block(n) {
+            many = many.wrapping_add(1);
+            add_words(&mut bytes, &[n])?;
+            bytes.extend_from_slice(small.block(n))?;
+            bytes.extend_from_slice(large.block(n))?;
+        }
+    }
+    Ok((many, bytes))
+}
+
+// the journal of a change that makes a small image a large one, with the number of blocks that are there now, and whether the change
+// is done or undone
+fn lengthening(
+    alloc: Global,
+    small: &Image,
+    large: &Image,
+    now: [u32; 3],
+) -> Result<Vec<u8>, Fail> {
+    let [count, done, undone] = now;
+    let (many, blocks) = differences(alloc, small, large)?;
+    let mut bytes = Vec::new(alloc);
+    add_words(&mut bytes, &[0x6a73_666c, 2, 512, count, done, undone])?;
+    add_words(&mut bytes, &[many, small.count(), large.count()])?;
+    bytes.extend_from_slice(&blocks)?;
+    Ok(bytes)
+}
+
+#[test]
+fn changes_that_lengthen_an_image_are_taken_back(rt: HostRuntime) -> Result<(), Fail> {
+    let small = new_image(rt.alloc())?;
+    let large = larger_image(rt.alloc())?;
+    let journal = lengthening(rt.alloc(), &small, &large, [9, 1, 0])?;
+    let mut session = open(rt.alloc(), &large, &journal)?;
+    session.undo()?;
+    has_image(&rt, &session, &small);
+    session.redo()?;
+    has_image(&rt, &session, &large);
+    assert!(rt; saved(rt.alloc(), &session)? == journal);
+    Ok(())
+}
+
+#[test]
+fn changes_that_lengthen_an_image_are_made_again(rt: HostRuntime) -> Result<(), Fail> {
+    let small = new_image(rt.alloc())?;
+    let large = larger_image(rt.alloc())?;
+    let journal = lengthening(rt.alloc(), &small, &large, [8, 0, 1])?;
+    let mut session = open(rt.alloc(), &small, &journal)?;
+    session.redo()?;
+    has_image(&rt, &session, &large);
+    session.undo()?;
+    has_image(&rt, &session, &small);
+    assert!(rt; saved(rt.alloc(), &session)? == journal);
+    Ok(())
+}
+
+#[test]
+fn counts_that_do_not_join_are_no_history(rt: HostRuntime) -> Result<(), Fail> {
+    let small = new_image(rt.alloc())?;
+    let large = larger_image(rt.alloc())?;
+    let journal = lengthening(rt.alloc(), &small, &large, [8, 1, 0])?;
+    let refused = Session::open(rt.alloc(), small, &journal).err();
+    let fault = refused.map(|refused| refused.fault);
+    assert_eq!(rt; fault, Some(OpenFault::JournalMismatch));
     Ok(())
 }

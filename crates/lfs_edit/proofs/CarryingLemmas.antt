@@ -242,10 +242,11 @@ finish laws d c used blocks o w p disk ready cuts says writes = record { plans =
       disk = disk;
       patch = writes.patch;
       stands = writes.stands;
+      keeps = writes.keeps;
       contents = writes.contents;
       written = written;
-      there = laws.laid d v held c s chosen (is_new_to v) writes.base p disk writes.patch writes.stands accepted.free writes.contents
-          writes.lays written;
+      there = laws.laid d v held c s chosen (is_new_to v) writes.base p disk writes.patch writes.stands writes.keeps accepted.free
+          writes.contents writes.lays written;
     }
 
     volume : WritesOutline d v after held (is_new_to v) writes.base p
@@ -278,6 +279,7 @@ finish laws d c used blocks o w p disk ready cuts says writes = record { plans =
       carried = carried;
       patch = writes.patch;
       stands = writes.stands;
+      keeps = writes.keeps;
       after = holds;
       filled = laws.filled d v after held writes.base p volume;
       changed = laws.changed d v after held writes.base p (forced_by c) volume changed;

@@ -3,9 +3,8 @@ use Rattle.std.proofs.Common.{◌≡◌, ◌≢◌, ◌<◌, ◌≤◌, ◌++◌
 use Rattle.std.specs.Prelude.{All, AllPairs}
 use Rattle.std.specs.List.{AllByRecursion}
 use Rattle.std.proofs.lemmas.List.{length-take-le, take-take}
-use Rattle.lfs_block.specs.Change.{Change, IsBlockChange}
+use Rattle.lfs_block.specs.Change.{Change}
 use Rattle.lfs_block.specs.Disk.{Disk, IsDisk}
-use Rattle.lfs_block.specs.Patch.{Stands}
 use Rattle.lfs_meta.specs.Body.{Pair}
 use Rattle.lfs_fs.specs.Directory.{Part}
 use Rattle.lfs_fs.specs.Free.{free_blocks}
@@ -37,6 +36,7 @@ use Rattle.lfs_law.specs.WrittenLinks.{AreWritten, CanBeMade, ChangesLinks, chan
 use Rattle.lfs_edit.proofs.CarryingLemmas.{IsTaken, same_bytes, taken_of, within_need}
 use Rattle.lfs_law.proofs.FreeBlocks.{taken_below, taken_rise}
 use Rattle.lfs_law.proofs.FrugalPlans.{changed_named, enough_free, one_is}
+use Rattle.lfs_law.proofs.KeptPatches.{kept_agrees, kept_growth, kept_patch}
 use Rattle.lfs_law.proofs.LinksAdded.{times_append, times_cons}
 
 -- ---- the blocks of the contents
@@ -71,14 +71,6 @@ contents_many d c used blocks w cut' count is =
     ∙ sym is
 
 -- ---- a patch of what is written
-
-each_whole : (d : Disk) (cs : List Change) → AllByRecursion (CanBeMade d) cs → AllByRecursion (IsBlockChange d.size) cs
-each_whole d [] made = tt
-each_whole d (c ∷ cs) made = (made.0.whole, each_whole d cs made.1)
-
-each_stands : (d : Disk) (cs : List Change) → AllByRecursion (CanBeMade d) cs → AllByRecursion (Stands d) cs
-each_stands d [] made = tt
-each_stands d (c ∷ cs) made = (made.0.stands, each_stands d cs made.1)
 
 none_changed : (cs : List Change) → cs ≡ [] → (n : ℕ) → times n (changed_blocks cs) ≡ 0
 none_changed cs none n = ap (λ (xs : List Change). times n (changed_blocks xs)) none
@@ -148,16 +140,17 @@ changed_by d ls cs {seen} {used} {told} {forced} same is changed =
     (subst (λ (flags : List Bool). ChangesLinks d (is_unmarked flags) told ls cs) same changed)
 
 -- what is written then is a patch of the image
-pub writes_over : (laws : CarryingLaws) → CommandsSetAPart → (d : Disk) (c : Command) (used : List Bool) (blocks : List ℕ) (w : Volume)
-    (ready : IsCutReady d c used blocks w)
+pub writes_over : (laws : CarryingLaws) → CommandsSetAPart → (d : Disk) → IsDisk d
+    → (c : Command) (used : List Bool) (blocks : List ℕ) (w : Volume) (ready : IsCutReady d c used blocks w)
     → IsAtHand d c ready.ready.volume w (for_parts ready.cuts.chosen) → (base cs : List Change)
     → AreLaidFor d ready.ready.volume c (supplies_of ready.ready.volume c) base
     → AreWritten d (volume_bytes w) w.attributes (is_unmarked used) base (links w.directories) cs
     → ChangesLinks d (is_unmarked used) (forced_by c) (links w.directories) cs
-    → WritesOver d ready.ready.volume c used w (record { size = d.size; changes = cs })
-writes_over laws some d c used blocks w ready known base cs laid written changed = record {
-  patch = record { some = something; rising = written.rising; whole = each_whole d cs written.made };
-  stands = record { size = refl; stand = each_stands d cs written.made };
+    → WritesOver d ready.ready.volume c used w (kept_patch d.size d.count cs)
+writes_over laws some d disk c used blocks w ready known base cs laid written changed = record {
+  patch = (kept_growth d cs disk something written.rising written.made).patch;
+  stands = kept_agrees d cs written.made;
+  keeps = refl;
   base = base;
   contents = laid.contents;
   lays = laid.lays;

@@ -92,7 +92,8 @@ fn cut_over(
     Ok(())
 }
 
-/// The patch that writes an outline that is cut: a file's new contents in the first of the blocks, and its links that are set.
+/// The patch that writes an outline that is cut: a file's new contents in the first of the blocks, and its links that are set. It keeps
+/// the image's count.
 fn written(
     alloc: Global,
     image: &Image,
@@ -101,20 +102,21 @@ fn written(
     used: &UsedBlocks,
     blocks: &[u32],
 ) -> Result<Patch, AllocError>
-    requires cut { IsCutReady image.now (named_command command.now) used.now blocks.now outline.now }
+    requires cut { IsCutReady image.now.disk (named_command command.now) used.now blocks.now outline.now }
     requires len { contents_len command.now < 2 ^ 32 }
-    ensures { IfOk result (λ patch. IsFinished image.now (named_command command.now) patch (clean outline.now)) }
+    ensures { IfOk result (λ patch. IsFinished image.now.disk (named_command command.now) patch (clean outline.now)) }
 {
     carrying_laws();
     cut_links_can_be_written();
     held_superblocks_are_made();
     commands_set_a_part();
     let size = image.size();
-    let count = data_blocks(size, command) as usize;
-    let base = laid_for(alloc, image, command, &blocks[..count])?;
+    let count = image.count();
+    let data = data_blocks(size, command) as usize;
+    let base = laid_for(alloc, image, command, &blocks[..data])?;
     let forced = forced_by(command);
     let changes = write_links(alloc, image, outline, used.flags(), forced, base)?;
-    Ok(Patch::of(size, changes))
+    Ok(Patch::of(size, count, count, changes))
 }
 
 /// Cuts an outline that is ready, writes it, and takes the marks of the command off. Where memory is wanting, the outline is of no use.
@@ -127,9 +129,9 @@ fn carry_ready(
     blocks: &[u32],
     leading: Option<(u32, u32)>,
 ) -> Result<Patch, AllocError>
-    requires ready { IsReady image.now (named_command command.now) used.now blocks.now outline.old }
+    requires ready { IsReady image.now.disk (named_command command.now) used.now blocks.now outline.old }
     requires len { contents_len command.now < 2 ^ 32 }
-    ensures { IfOk result (λ patch. IsFinished image.now (named_command command.now) patch outline.new) }
+    ensures { IfOk result (λ patch. IsFinished image.now.disk (named_command command.now) patch outline.new) }
 {
     carrying_laws();
     let size = image.size();
@@ -151,9 +153,9 @@ pub(crate) fn carry_judged(
     outline: &mut Outline,
     command: &NamedCommand<'_>,
 ) -> Result<Patch, Refusal>
-    requires judged { IsJudged image.now (named_command command.now) outline.old }
-    ensures finished { IfOk result (λ patch. IsFinished image.now (named_command command.now) patch outline.new) }
-    ensures refused { IfErr result (λ r. (r ≡ Memory) ⊎ IsRefusedBy image.now (named_command command.now) r) }
+    requires judged { IsJudged image.now.disk (named_command command.now) outline.old }
+    ensures finished { IfOk result (λ patch. IsFinished image.now.disk (named_command command.now) patch outline.new) }
+    ensures refused { IfErr result (λ r. (r ≡ Memory) ⊎ IsRefusedBy image.now.disk (named_command command.now) r) }
 {
     carrying_laws();
     outlines_are_sound();

@@ -25,9 +25,9 @@ fn carry_or_restore(
     outline: &mut Outline,
     command: &NamedCommand<'_>,
 ) -> Result<Patch, Refusal>
-    requires judged { IsJudged image.now (named_command command.now) outline.old }
-    ensures finished { IfOk result (λ patch. IsFinished image.now (named_command command.now) patch outline.new) }
-    ensures refused { IfErr result (λ r. IsRefusedBy image.now (named_command command.now) r) }
+    requires judged { IsJudged image.now.disk (named_command command.now) outline.old }
+    ensures finished { IfOk result (λ patch. IsFinished image.now.disk (named_command command.now) patch outline.new) }
+    ensures refused { IfErr result (λ r. IsRefusedBy image.now.disk (named_command command.now) r) }
     ensures unchanged { IfErr result (λ r. (r ≡ Memory) ⊎ (outline.new ≡ outline.old)) }
 {
     match carry_judged(alloc, image, outline, command) {
@@ -67,10 +67,10 @@ pub fn carry_out(
     outline: &mut Outline,
     command: &Command<'_>,
 ) -> Result<Patch, Refusal>
-    requires outline { IsOutlineOf image.now outline.old }
-    ensures planned { IfOk result (λ patch. Plans image.now (asked_for command.now) patch) }
-    ensures outline { IfOk result (λ patch. IsOutlineOf (applied patch image.now) outline.new) }
-    ensures refused { IfErr result (λ r. RefusesPlan image.now (asked_for command.now) r) }
+    requires outline { IsOutlineOf image.now.disk outline.old }
+    ensures planned { IfOk result (λ patch. Plans image.now.disk (asked_for command.now) patch) }
+    ensures outline { IfOk result (λ patch. IsOutlineOf (applied patch image.now.disk) outline.new) }
+    ensures refused { IfErr result (λ r. RefusesPlan image.now.disk (asked_for command.now) r) }
     ensures unchanged { IfErr result (λ r. (r ≡ Memory) ⊎ (outline.new ≡ outline.old)) }
 {
     outlines_are_judged_alike();

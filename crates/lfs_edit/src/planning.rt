@@ -23,9 +23,9 @@ pub fn plan(
     mounted: &Mounted,
     command: &Command<'_>,
 ) -> Result<Patch, Refusal>
-    requires mounted { IsMountOf image.now mounted.now }
-    ensures planned { IfOk result (λ patch. Plans image.now (asked_for command.now) patch) }
-    ensures refused { IfErr result (λ refusal. RefusesPlan image.now (asked_for command.now) refusal) }
+    requires mounted { IsMountOf image.now.disk mounted.now }
+    ensures planned { IfOk result (λ patch. Plans image.now.disk (asked_for command.now) patch) }
+    ensures refused { IfErr result (λ refusal. RefusesPlan image.now.disk (asked_for command.now) refusal) }
 {
     outlines_are_judged_alike();
     let command = by_names(alloc, command)?;

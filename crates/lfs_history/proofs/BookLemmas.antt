@@ -1,11 +1,11 @@
 -- The changes of a history are a journal.
-use Rattle.std.proofs.Common.{◌≡◌, ℕ, ◌<◌, List, [], ◌∷◌, ◌++◌, map, refl, sym, subst}
+use Rattle.std.proofs.Common.{◌≡◌, ℕ, max, List, [], ◌∷◌, ◌++◌, refl, sym, subst}
 use Rattle.std.specs.Prelude.{reverse}
 use Rattle.std.specs.List.{AllByRecursion}
 use Rattle.std.proofs.lemmas.List.{reverse-append, reverse-reverse}
-use Rattle.lfs_block.specs.Change.{Change, flip}
-use Rattle.lfs_block.specs.Disk.{Disk, put}
-use Rattle.lfs_block.specs.Patch.{ChangeSet, Stands, applied, reverted, put_all}
+use Rattle.lfs_block.specs.Change.{Change}
+use Rattle.lfs_block.specs.Disk.{Disk, put, resized}
+use Rattle.lfs_block.specs.Patch.{ChangeSet, applied, flipped, reverted, put_all}
 use Rattle.lfs_book.specs.Book.{IsBook, IsBookOf, IsPatchOf}
 use Rattle.lfs_history.specs.History.{History, IsHistory, IsHistoryAt, GoesBack, GoesForward}
 use Rattle.lfs_history.specs.Opening.{journal_of}
@@ -25,52 +25,38 @@ each_reversed P (p ∷ ps) (first, each) =
 each_turned : (P : ChangeSet → Type 0) (ps : List ChangeSet) → AllByRecursion P (reverse ps) → AllByRecursion P ps
 each_turned P ps each = subst (AllByRecursion P) (reverse-reverse ps) (each_reversed P (reverse ps) each)
 
--- ---- changes keep the size and the count
+-- ---- changes keep the size
 
-pub size_kept : (cs : List Change) (d : Disk) → (put_all cs d).size ≡ d.size
+size_kept : (cs : List Change) (d : Disk) → (put_all cs d).size ≡ d.size
 size_kept [] d = refl
 size_kept (c ∷ cs) d = size_kept cs (put c.number c.new d)
 
-pub count_kept : (cs : List Change) (d : Disk) → (put_all cs d).count ≡ d.count
-count_kept [] d = refl
-count_kept (c ∷ cs) d = count_kept cs (put c.number c.new d)
+pub applied_size : (p : ChangeSet) (d : Disk) → (applied p d).size ≡ d.size
+applied_size p d = size_kept p.changes (resized (max p.before p.after) d)
 
--- ---- a change that agrees with an image is one of it
+pub reverted_size : (p : ChangeSet) (d : Disk) → (reverted p d).size ≡ d.size
+reverted_size p d = applied_size (flipped p) d
 
-below : (d : Disk) (cs : List Change) → AllByRecursion (Stands d) cs → AllByRecursion (λ c. c.number < d.count) cs
-below d [] stand = tt
-below d (c ∷ cs) (stands, more) = (stands.0, below d cs more)
+-- ---- a change that agrees with an image is one of blocks of its size
 
-below_flipped : (d : Disk) (cs : List Change) → AllByRecursion (Stands d) (map flip cs) → AllByRecursion (λ c. c.number < d.count) cs
-below_flipped d [] stand = tt
-below_flipped d (c ∷ cs) (stands, more) = (stands.0, below_flipped d cs more)
+same_size : (n m : ℕ) (ps : List ChangeSet) → n ≡ m → AllByRecursion (IsPatchOf n) ps → AllByRecursion (IsPatchOf m) ps
+same_size n m ps is each = subst (λ (k : ℕ). AllByRecursion (IsPatchOf k) ps) is each
 
-same_disk : (d e : Disk) (ps : List ChangeSet) → e.size ≡ d.size → e.count ≡ d.count
-    → AllByRecursion (IsPatchOf e.size e.count) ps → AllByRecursion (IsPatchOf d.size d.count) ps
-same_disk d e ps size_is count_is each =
-    subst (λ (n : ℕ). AllByRecursion (IsPatchOf d.size n) ps) count_is
-    (subst (λ (n : ℕ). AllByRecursion (IsPatchOf n e.count) ps) size_is each)
-
-pub back_patches : (ps : List ChangeSet) (d : Disk) → GoesBack ps d → AllByRecursion (IsPatchOf d.size d.count) ps
+pub back_patches : (ps : List ChangeSet) (d : Disk) → GoesBack ps d → AllByRecursion (IsPatchOf d.size) ps
 back_patches [] d back = tt
-back_patches (p ∷ ps) d (patch, agrees, more) = (
-  (patch, agrees.size, below_flipped d p.changes agrees.stand),
-  same_disk d (reverted p d) ps (size_kept (map flip p.changes) d) (count_kept (map flip p.changes) d)
-      (back_patches ps (reverted p d) more),
-)
+back_patches (p ∷ ps) d (growth, agrees, more) =
+    ((growth, agrees.size), same_size (reverted p d).size d.size ps (reverted_size p d) (back_patches ps (reverted p d) more))
 
-pub on_patches : (ps : List ChangeSet) (d : Disk) → GoesForward ps d → AllByRecursion (IsPatchOf d.size d.count) ps
+pub on_patches : (ps : List ChangeSet) (d : Disk) → GoesForward ps d → AllByRecursion (IsPatchOf d.size) ps
 on_patches [] d on = tt
-on_patches (p ∷ ps) d (patch, agrees, more) = (
-  (patch, agrees.size, below d p.changes agrees.stand),
-  same_disk d (applied p d) ps (size_kept p.changes d) (count_kept p.changes d) (on_patches ps (applied p d) more),
-)
+on_patches (p ∷ ps) d (growth, agrees, more) =
+    ((growth, agrees.size), same_size (applied p d).size d.size ps (applied_size p d) (on_patches ps (applied p d) more))
 
 -- ---- a history is a journal
 
 pub history_is_book : (h : History) → IsHistory h → IsBook (journal_of h)
 history_is_book h is =
-    let P = IsPatchOf h.present.size h.present.count in
+    let P = IsPatchOf h.present.size in
     record {
       geometry = is.disk.geometry;
       each = each_append P h.done h.undone (each_turned P h.done (back_patches (reverse h.done) h.present is.back))

@@ -9,8 +9,8 @@ use Rattle.lfs_block.specs.Disk.{Disk}
 use Rattle.lfs_block.specs.Patch.{ChangeSet}
 use Rattle.lfs_fs.specs.Stored.{HeldAreHeldByLinks}
 use Rattle.lfs_fs.specs.Reading.{reading_of}
-use Rattle.lfs_book.specs.Book.{patch_bytes, journal_bytes}
-use Rattle.lfs_book.proofs.Lengths.{journal_len, patch_len}
+use Rattle.lfs_book.specs.Book.{patch_bytes, bytes_in, journal_bytes, respelling}
+use Rattle.lfs_book.proofs.Lengths.{bytes_len, patch_len, respelled}
 use Rattle.lfs_command.specs.Command.{Asked}
 use Rattle.lfs_command.specs.Need.{need}
 use Rattle.lfs_command.specs.Planned.{Plans}
@@ -31,22 +31,23 @@ changes_few few clean links d asked p plans =
     omega arith
 
 pub patch_few : FewPartsChange → HeldAreClean → HeldAreHeldByLinks → (d : Disk) (asked : Asked) (p : ChangeSet) (plans : Plans d asked p)
-    → length (patch_bytes p) ≤ 4 + (need plans.volume plans.command + 2) * (2 * d.size + 4)
+    → length (patch_bytes p) ≤ 12 + (need plans.volume plans.command + 2) * (2 * d.size + 4)
 patch_few few clean links d asked p plans =
     let size = plans.stands.size in
-    let len = patch_len p plans.patch.whole in
+    let len = patch_len p plans.patch in
     let many = changes_few few clean links d asked p plans in
     let bytes : 2 * p.size + 4 ≤ 2 * d.size + 4 = omega arith in
     let times = mul-le (length p.changes) (2 * p.size + 4) (need plans.volume plans.command + 2) (2 * d.size + 4) many bytes in
     omega arith
 
-pub journal_grows : FewPartsChange → HeldAreClean → HeldAreHeldByLinks → (asked : Asked) (old new : History) (does : Does asked old new)
-    → length (journal_bytes (journal_of new)) ≤ length (journal_bytes (journal_of old)) + 4
+pub journal_grows : FewPartsChange → HeldAreClean → HeldAreHeldByLinks → (asked : Asked) (old new : History) (version : ℕ) (does : Does asked old new)
+    → length (journal_bytes (journal_of new)) ≤ length (bytes_in version (journal_of old)) + respelling version (length old.done) + 12
     + (need does.plans.volume does.plans.command + 2) * (2 * old.present.size + 4)
-journal_grows few clean links asked old new does =
+journal_grows few clean links asked old new version does =
     let p = does.change in
-    let before = journal_len (journal_of old) in
-    let after = journal_len (journal_of new) in
+    let before = bytes_len version (journal_of old) in
+    let after = bytes_len 2 (journal_of new) in
+    let kept = respelled version old.done in
     let done = ap length (ap (flat_map patch_bytes) does.pushes.done ∙ flat_map-append patch_bytes old.done (p ∷ [])) in
     let both = length-append (flat_map patch_bytes old.done) (flat_map patch_bytes (p ∷ [])) in
     let one = ap length (append-nil (patch_bytes p)) in

@@ -5,4 +5,4 @@ pub mod ImageLemmas
 pub mod BookLemmas
 pub mod SavedLemmas
 pub mod GrowthLemmas
-pub mod GeometryLemmas
+pub mod SizeLemmas

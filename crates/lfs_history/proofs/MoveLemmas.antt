@@ -4,7 +4,7 @@ use Rattle.std.specs.Prelude.{reverse}
 use Rattle.std.specs.List.{AllByRecursion}
 use Rattle.std.proofs.lemmas.List.{reverse-append}
 use Rattle.lfs_block.specs.Disk.{Disk, IsDisk}
-use Rattle.lfs_block.specs.Patch.{ChangeSet, IsPatch, AgreesOld, AgreesNew, applied, reverted}
+use Rattle.lfs_block.specs.Patch.{ChangeSet, IsGrowth, AgreesOld, AgreesNew, applied, reverted}
 use Rattle.lfs_block.specs.PatchLaws.{AppliedIsDisk, AppliedAgrees, AppliedRevertsBack, RevertedIsDisk, RevertedAgrees}
 use Rattle.lfs_block.specs.PatchLaws.{RevertedAppliesAgain}
 use Rattle.lfs_book.specs.Book.{most_changes}
@@ -68,7 +68,7 @@ undo_keeps law old new h u =
     ∙ ap (λ (ps : List ChangeSet). past_of ps old.present) turned in
     let both : reverted p old.present ∷ past_of (reverse new.done) (reverted p old.present) ≡ new.present ∷ new.past = sym past ∙ u.past in
     let is : reverted p old.present ≡ new.present = first_same _ _ _ _ both in
-    let again : applied p new.present ≡ old.present = ap (applied p) (sym is) ∙ law.again p old.present h.disk back.0 back.1 in
+    let again : applied p new.present ≡ old.present = ap (applied p) (sym is) ∙ law.again p old.present h.disk back.0.patch back.1 in
     let mounts : AllByRecursion IsMounted (new.present ∷ new.past) = subst (AllByRecursion IsMounted) u.past h.past_mounts in
     record {
       past = sym (rest_same _ _ _ _ both) ∙ ap (past_of (reverse new.done)) is;
@@ -76,8 +76,8 @@ undo_keeps law old new h u =
           ∙ ap (λ (us : List ChangeSet). future_of us new.present) (sym u.undone);
       back = subst (GoesBack (reverse new.done)) is back.2;
       on = subst (λ (us : List ChangeSet). GoesForward us new.present) (sym u.undone)
-          (back.0, subst (AgreesOld p) is (law.agrees p old.present h.disk back.0 back.1), subst (GoesForward old.undone) (sym again) h.on);
-      disk = subst IsDisk is (law.disk p old.present h.disk back.0 back.1).disk;
+          (back.0, subst (AgreesOld p) is (law.agrees p old.present h.disk back.0.patch back.1), subst (GoesForward old.undone) (sym again) h.on);
+      disk = subst IsDisk is (law.disk p old.present h.disk back.0.patch back.1).disk;
       mounts = mounts.0;
       past_mounts = mounts.1;
       future_mounts = subst (AllByRecursion IsMounted) (sym u.future) (h.mounts, h.future_mounts);
@@ -92,18 +92,18 @@ pub record IsBehind (p : ChangeSet) (ds : List Disk) (ps : List ChangeSet) (d e 
   pub back : GoesBack (p ∷ reverse ps) e
   pub disk : IsDisk e
 
-is_behind : Make → (p : ChangeSet) (h : History) (e : Disk) → IsHistory h → IsPatch p → AgreesOld p h.present → e ≡ applied p h.present
+is_behind : Make → (p : ChangeSet) (h : History) (e : Disk) → IsHistory h → IsGrowth p → AgreesOld p h.present → e ≡ applied p h.present
     → IsBehind p h.past h.done h.present e
-is_behind law p h e is patch stands to =
-    let back : reverted p e ≡ h.present = ap (reverted p) to ∙ law.back p h.present is.disk patch stands in
+is_behind law p h e is growth stands to =
+    let back : reverted p e ≡ h.present = ap (reverted p) to ∙ law.back p h.present is.disk growth.patch stands in
     record {
       past = ap (λ (x : List Disk). h.present ∷ x) is.past ∙ ap (λ (d : Disk). d ∷ past_of (reverse h.done) d) (sym back);
       back = (
-        patch,
-        subst (AgreesNew p) (sym to) (law.agrees p h.present is.disk patch stands),
+        growth,
+        subst (AgreesNew p) (sym to) (law.agrees p h.present is.disk growth.patch stands),
         subst (GoesBack (reverse h.done)) (sym back) is.back,
       );
-      disk = subst IsDisk (sym to) (law.disk p h.present is.disk patch stands).disk;
+      disk = subst IsDisk (sym to) (law.disk p h.present is.disk growth.patch stands).disk;
     }
 
 pub redo_keeps : Make → (old new : History) → IsHistory old → Redoes old new → IsHistory new
@@ -129,6 +129,10 @@ redo_keeps law old new h u =
       few = subst (λ (n : ℕ). n ≤ most_changes) (sym (as_many new.done old.done new.undone old.undone p u.done u.undone)) h.few;
     }
 
+-- a planned patch keeps the count
+pub planned_growth : (d : Disk) (asked : Asked) (p : ChangeSet) → Plans d asked p → IsGrowth p
+planned_growth d asked p plans = let same = plans.keeps in record { patch = plans.patch; rise = omega (arith, same) }
+
 -- the image that a planned patch makes mounts
 pub planned_mounts : Follow → (d : Disk) (asked : Asked) (p : ChangeSet) → Plans d asked p → IsMounted (applied p d)
 planned_mounts law d asked p plans =
@@ -138,7 +142,7 @@ planned_mounts law d asked p plans =
 pub push_keeps : Make → Follow → (asked : Asked) (p : ChangeSet) (old new : History) → IsHistory old → length old.done < most_changes
     → Plans old.present asked p → Pushes p old new → IsHistory new
 push_keeps law follow asked p old new h room plans u =
-    let behind = is_behind law p old new.present h plans.patch plans.stands u.present in
+    let behind = is_behind law p old new.present h (planned_growth old.present asked p plans) plans.stands u.present in
     let turned : reverse new.done ≡ p ∷ reverse old.done = latest old.done new.done p u.done in
     let len : length (new.done ++ new.undone) ≡ length old.done + 1 =
     ap (λ (us : List ChangeSet). length (new.done ++ us)) u.undone ∙ ap length (append-nil new.done) ∙ ap length u.done

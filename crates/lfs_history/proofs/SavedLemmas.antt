@@ -1,5 +1,5 @@
 -- What is saved of a history opens as it was.
-use Rattle.std.proofs.Common.{◌≡◌, ℕ, zero, suc, List, [], ◌∷◌, ◌++◌, refl, ap, sym, ◌∙◌, subst, arith}
+use Rattle.std.proofs.Common.{◌≡◌, inl, ℕ, zero, suc, List, [], ◌∷◌, ◌++◌, refl, ap, sym, ◌∙◌, subst, arith}
 use Rattle.std.specs.Prelude.{reverse, Contains}
 use Rattle.std.specs.List.{AllByRecursion}
 use Rattle.lfs_block.specs.Disk.{Disk, IsDisk}
@@ -9,7 +9,7 @@ use Rattle.lfs_block.specs.declared.mount_fault.MountFault.TheVariants.{Memory}
 use Rattle.lfs_fs.specs.Cause.{HasCause, IsOfFormat}
 use Rattle.lfs_fs.specs.Mounts.{MountedHaveNoCause}
 use Rattle.lfs_fs.specs.Tree.{tree}
-use Rattle.lfs_book.specs.Book.{Book, journal_bytes}
+use Rattle.lfs_book.specs.Book.{Book, Spells, journal_bytes}
 use Rattle.lfs_book.specs.Laws.{BooksAreReadOnce}
 use Rattle.lfs_history.specs.declared.open_fault.OpenFault.{OpenFault}
 use Rattle.lfs_history.specs.declared.open_fault.OpenFault.TheVariants.{Mount, JournalFormat, JournalMismatch, JournalImage}
@@ -34,10 +34,14 @@ history_is h is =
 history_agrees : (h : History) → IsHistory h → HasHistory h.present (journal_of h)
 history_agrees h is = record { size = refl; count = refl; back = is.back; on = is.on }
 
+-- in version 2
+history_spelled : (h : History) → IsHistory h → Spells (journal_bytes (journal_of h)) (journal_of h)
+history_spelled h is = record { book = history_is_book h is; version = 2; version_is = inl refl; bytes_are = refl }
+
 pub saved_opens : (h : History) → IsHistory h → Opens h.present (journal_bytes (journal_of h)) h
 saved_opens h is = record {
   book = journal_of h;
-  spelled = record { book = history_is_book h is; bytes_are = refl };
+  spelled = history_spelled h is;
   agrees = history_agrees h is;
   is = history_is h is;
   history_is = is;
@@ -45,22 +49,21 @@ saved_opens h is = record {
 
 pub one_history : BooksAreReadOnce → (d : Disk) (bytes : List ℕ) (h k : History) → Opens d bytes h → Opens d bytes k → h ≡ k
 one_history once d bytes h k first second =
-    let same : first.book ≡ second.book = once first.book second.book first.spelled.book second.spelled.book
-    (first.spelled.bytes_are ∙ sym second.spelled.bytes_are) in
+    let same : first.book ≡ second.book = once bytes first.book second.book first.spelled second.spelled in
     first.is ∙ ap (λ (j : Book). history d j.done j.undone) same ∙ sym second.is
 
 -- ---- the images of a history are images
 
 back_disks : TakeBack → (ps : List ChangeSet) (d : Disk) → IsDisk d → GoesBack ps d → AllByRecursion IsDisk (past_of ps d)
 back_disks law [] d disk back = tt
-back_disks law (p ∷ ps) d disk (patch, agrees, more) =
-    let before = (law.disk p d disk patch agrees).disk in
+back_disks law (p ∷ ps) d disk (growth, agrees, more) =
+    let before = (law.disk p d disk growth.patch agrees).disk in
     (before, back_disks law ps (reverted p d) before more)
 
 on_disks : Make → (ps : List ChangeSet) (d : Disk) → IsDisk d → GoesForward ps d → AllByRecursion IsDisk (future_of ps d)
 on_disks law [] d disk on = tt
-on_disks law (p ∷ ps) d disk (patch, agrees, more) =
-    let after = (law.disk p d disk patch agrees).disk in
+on_disks law (p ∷ ps) d disk (growth, agrees, more) =
+    let after = (law.disk p d disk growth.patch agrees).disk in
     (after, on_disks law ps (applied p d) after more)
 
 each_append : (P : Disk → Type 0) (ds es : List Disk) → AllByRecursion P ds → AllByRecursion P es → AllByRecursion P (ds ++ es)
@@ -88,12 +91,12 @@ mount_taken law d disk mounts fault cause = only_memory fault (λ format. no_cau
 pub saved_taken : BooksAreReadOnce → MountedHaveNoCause → TakeBack → Make → (h : History) (fault : OpenFault) → IsHistory h
     → RefusesOpening fault h.present (journal_bytes (journal_of h)) → fault ≡ Mount Memory
 saved_taken once law back on h (Mount fault) is cause = ap Mount (mount_taken law h.present is.disk is.mounts fault cause)
-saved_taken once law back on h JournalFormat is (mounts, none) = absurd (none (journal_of h) (history_is_book h is) refl)
+saved_taken once law back on h JournalFormat is (mounts, none) = absurd (none (journal_of h) (history_spelled h is))
 saved_taken once law back on h JournalMismatch is (mounts, j, spelled, not) =
-    let same : j ≡ journal_of h = once j (journal_of h) spelled.book (history_is_book h is) spelled.bytes_are in
+    let same : j ≡ journal_of h = once (journal_bytes (journal_of h)) j (journal_of h) spelled (history_spelled h is) in
     absurd (not (subst (HasHistory h.present) (sym same) (history_agrees h is)))
 saved_taken once law back on h JournalImage is (mounts, j, spelled, agrees, e, there, cause) =
-    let same : j ≡ journal_of h = once j (journal_of h) spelled.book (history_is_book h is) spelled.bytes_are in
+    let same : j ≡ journal_of h = once (journal_bytes (journal_of h)) j (journal_of h) spelled (history_spelled h is) in
     let past = past_of (reverse h.done) h.present in
     let future = future_of h.undone h.present in
     let among : Contains (past ++ future) e = subst (λ (b : Book). Contains (others h.present b) e) same there in

@@ -2,7 +2,7 @@
 use Rattle.std.specs.Prelude.{◌≡◌, ℕ, ◌≤◌, List, [], ◌∷◌, ◌++◌, length, reverse, take, drop}
 use Rattle.std.specs.List.{AllByRecursion}
 use Rattle.lfs_block.specs.Disk.{Disk, IsDisk}
-use Rattle.lfs_block.specs.Patch.{ChangeSet, IsPatch, AgreesOld, AgreesNew, applied, reverted}
+use Rattle.lfs_block.specs.Patch.{ChangeSet, IsGrowth, AgreesOld, AgreesNew, applied, reverted}
 use Rattle.lfs_book.specs.Book.{most_changes}
 use Rattle.lfs_fs.specs.Volume.{Volume}
 use Rattle.lfs_fs.specs.Sound.{IsSound}
@@ -22,12 +22,12 @@ future_of (p ∷ ps) d = applied p d ∷ future_of ps (applied p d)
 -- each change can be taken back from the image that it made
 abbrev pub GoesBack : List ChangeSet → Disk → Type 0
 GoesBack [] d = Unit {0}
-GoesBack (p ∷ ps) d = IsPatch p × AgreesNew p d × GoesBack ps (reverted p d)
+GoesBack (p ∷ ps) d = IsGrowth p × AgreesNew p d × GoesBack ps (reverted p d)
 
 -- each change can be made in the image that comes before it
 abbrev pub GoesForward : List ChangeSet → Disk → Type 0
 GoesForward [] d = Unit {0}
-GoesForward (p ∷ ps) d = IsPatch p × AgreesOld p d × GoesForward ps (applied p d)
+GoesForward (p ∷ ps) d = IsGrowth p × AgreesOld p d × GoesForward ps (applied p d)
 
 -- The meaning of a `Session`: its Model's Value. The images are nearest first on both sides. The changes are in the order in
 -- which they were made (`done`) and in which they are made again (`undone`).

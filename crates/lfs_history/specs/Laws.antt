@@ -70,11 +70,7 @@ UndoIsExact = (asked : Asked) (old new : History) → Run (Do asked ∷ Undo ∷
 abbrev pub RedoIsExact : Type 0
 RedoIsExact = (old new : History) → Run (Undo ∷ Redo ∷ []) (None ∷ None ∷ []) old new → new ≡ old
 
--- an image of as many blocks, of the same size
-abbrev pub IsOfGeometry : Disk → Disk → Type 0
-IsOfGeometry d e = (e.size ≡ d.size) × (e.count ≡ d.count)
-
--- a step keeps the size and the number of the blocks
-abbrev pub StepsKeepGeometry : Type 0
-StepsKeepGeometry = (step : Move) (reply : Reply) (old new : History) → IsHistory old → Takes step reply old new
-    → IsOfGeometry old.present new.present
+-- a step keeps the size of the blocks
+abbrev pub StepsKeepSize : Type 0
+StepsKeepSize = (step : Move) (reply : Reply) (old new : History) → IsHistory old → Takes step reply old new
+    → new.present.size ≡ old.present.size

@@ -1,9 +1,9 @@
 -- Which journals are an image's, and what is opened of them (own).
-use Rattle.std.specs.Prelude.{◌≡◌, ◌≢◌, ℕ, List, ◌++◌, reverse, Contains}
+use Rattle.std.specs.Prelude.{◌≡◌, ℕ, List, ◌++◌, reverse, Contains}
 use Rattle.lfs_block.specs.Disk.{Disk}
 use Rattle.lfs_block.specs.declared.mount_fault.MountFault.{MountFault}
 use Rattle.lfs_fs.specs.Cause.{HasCause, IsOfFormat}
-use Rattle.lfs_book.specs.Book.{Book, IsBook, journal_bytes}
+use Rattle.lfs_book.specs.Book.{Book, Spells}
 use Rattle.lfs_history.specs.declared.open_fault.OpenFault.{OpenFault}
 use Rattle.lfs_history.specs.declared.open_fault.OpenFault.TheVariants.{Mount, JournalFormat, JournalMismatch, JournalImage}
 use Rattle.lfs_history.specs.History.{History, IsHistory, IsMounted, GoesBack, GoesForward, history, past_of, future_of}
@@ -24,11 +24,6 @@ pub record HasHistory (d : Disk) (j : Book) : Type 0 where
 abbrev pub others : Disk → Book → List Disk
 others d j = past_of (reverse j.done) d ++ future_of j.undone d
 
--- the bytes spell the journal
-pub record Spells (bytes : List ℕ) (j : Book) : Type 0 where
-  pub book : IsBook j
-  pub bytes_are : journal_bytes j ≡ bytes
-
 -- the history that the bytes denote on the image
 pub record Opens (d : Disk) (bytes : List ℕ) (h : History) : Type 0 where
   pub book : Book
@@ -45,7 +40,7 @@ HasSomeCause d = (fault : MountFault) × IsOfFormat fault × HasCause d fault
 -- of the image, or one that does, of which another image has a cause. Want of memory says nothing.
 abbrev pub RefusesOpening : OpenFault → Disk → List ℕ → Type 0
 RefusesOpening (Mount fault) d bytes = HasCause d fault
-RefusesOpening JournalFormat d bytes = IsMounted d × ((j : Book) → IsBook j → journal_bytes j ≢ bytes)
+RefusesOpening JournalFormat d bytes = IsMounted d × ((j : Book) → Spells bytes j → ⊥)
 RefusesOpening JournalMismatch d bytes = IsMounted d × (j : Book) × Spells bytes j × (HasHistory d j → ⊥)
 RefusesOpening JournalImage d bytes = IsMounted d × (j : Book) × Spells bytes j × HasHistory d j
     × (e : Disk) × Contains (others d j) e × HasSomeCause e

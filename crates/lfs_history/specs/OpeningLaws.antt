@@ -2,7 +2,7 @@
 use Rattle.std.specs.Prelude.{◌≡◌, ℕ, ◌+◌, ◌*◌, ◌≤◌, List, length}
 use Rattle.lfs_block.specs.Disk.{Disk}
 use Rattle.lfs_block.specs.declared.mount_fault.MountFault.TheVariants.{Memory}
-use Rattle.lfs_book.specs.Book.{IsBook, journal_bytes}
+use Rattle.lfs_book.specs.Book.{IsBook, bytes_in, journal_bytes, respelling}
 use Rattle.lfs_command.specs.Command.{Asked}
 use Rattle.lfs_command.specs.Need.{need}
 use Rattle.lfs_history.specs.declared.open_fault.OpenFault.{OpenFault}
@@ -28,9 +28,9 @@ abbrev pub SavedHistoriesAreTaken : Type 0
 SavedHistoriesAreTaken = (h : History) (fault : OpenFault) → IsHistory h
     → RefusesOpening fault h.present (journal_bytes (journal_of h)) → fault ≡ Mount Memory
 
--- a command makes the journal longer by no more than a number and, for each block that it needs and two more, the block's number,
--- its bytes before and its bytes after
+-- A command makes the journal longer by no more than three numbers and, for each block that it needs and two more, the block's
+-- number, its bytes before and its bytes after; where it was spelled in version 1, also by two numbers for each change that is kept.
 abbrev pub JournalsGrowByTheNeed : Type 0
-JournalsGrowByTheNeed = (asked : Asked) (old new : History) (does : Does asked old new)
-    → length (journal_bytes (journal_of new)) ≤ length (journal_bytes (journal_of old)) + 4
+JournalsGrowByTheNeed = (asked : Asked) (old new : History) (version : ℕ) (does : Does asked old new)
+    → length (journal_bytes (journal_of new)) ≤ length (bytes_in version (journal_of old)) + respelling version (length old.done) + 12
     + (need does.plans.volume does.plans.command + 2) * (2 * old.present.size + 4)

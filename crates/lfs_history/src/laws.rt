@@ -1,7 +1,7 @@
 //! Laws of histories: each function does nothing but call laws, and its contract is the law.
 
 ghost use Rattle.lfs_history.specs.OpeningLaws.{HistoriesAreBooks, JournalsDenoteOneHistory, JournalsGrowByTheNeed, SavedHistoriesAreTaken, SavedHistoriesOpen};
-ghost use Rattle.lfs_history.specs.Laws.{CommandsAreEquations, CommandsPushEquations, RunsKeepHistories, StepsKeepGeometry, UndoIsExact, RedoIsExact, UndoAndRedoKeepImages};
+ghost use Rattle.lfs_history.specs.Laws.{CommandsAreEquations, CommandsPushEquations, RunsKeepHistories, StepsKeepSize, UndoIsExact, RedoIsExact, UndoAndRedoKeepImages};
 
 use lfs_block::{
     applied_patches_change_their_blocks, applied_patches_revert, reverted_patches_apply_again,
@@ -45,11 +45,11 @@ pub fn runs_keep_histories()
     cuts_follow();
 }
 
-/// A law: a step keeps the size and the number of the image's blocks. Takes no memory.
+/// A law: a step keeps the size of the image's blocks. Takes no memory.
 ///
 /// Source: own.
-pub fn steps_keep_geometry()
-    ensures { StepsKeepGeometry }
+pub fn steps_keep_size()
+    ensures { StepsKeepSize }
 {}
 
 /// A law: a command that is carried out and taken back leaves the image and all images before it. Takes no memory.
@@ -97,8 +97,9 @@ pub fn saved_histories_open()
     mounted_images_have_no_cause();
 }
 
-/// A law: a command makes the journal longer by a number and, for each block that it needs and two more at most, the block's
-/// number, its bytes before and its bytes after. Takes no memory.
+/// A law: a command makes the journal longer by three numbers and, for each block that it needs and two more at most, the
+/// block's number, its bytes before and its bytes after; a journal of version 1 also by two numbers for each change that is
+/// kept. Takes no memory.
 ///
 /// Source: own.
 pub fn journals_grow_by_the_need()

@@ -10,7 +10,7 @@ mod step_fault;
 pub use laws::{
     commands_are_equations, commands_push_equations, histories_are_books,
     journals_grow_by_the_need, redo_is_exact, runs_keep_histories, saved_histories_open,
-    steps_keep_geometry, undo_and_redo_keep_images, undo_is_exact,
+    steps_keep_size, undo_and_redo_keep_images, undo_is_exact,
 };
 pub use moves::Move;
 pub use open_fault::OpenFault;

@@ -2,3 +2,4 @@ pub mod PlaceLemmas
 pub mod StepLemmas
 pub mod KnownLemmas
 pub mod OpeningLemmas
+pub mod RoomLemmas

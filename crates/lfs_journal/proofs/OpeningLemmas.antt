@@ -6,15 +6,17 @@ use Rattle.std.proofs.lemmas.Bool.{false≢true}
 use Rattle.std.proofs.lemmas.List.{take-append-drop}
 use Rattle.std.proofs.lemmas.List.Elements.{Contains-append_left, Contains-append_right}
 use Rattle.lfs_block.specs.Disk.{Disk, IsDisk}
-use Rattle.lfs_block.specs.Patch.{ChangeSet, IsPatch, AgreesNew, applied, reverted}
+use Rattle.lfs_block.specs.Medium.{Medium}
+use Rattle.lfs_block.specs.Patch.{ChangeSet, IsGrowth, AgreesNew, applied, reverted}
 use Rattle.lfs_fs.specs.Volume.{Volume}
 use Rattle.lfs_fs.specs.Cause.{HasCause}
 use Rattle.lfs_fs.specs.Mounted.{IsOutlineOf}
-use Rattle.lfs_book.specs.Book.{Book, IsBook, IsBookOf, IsPatchOf, book_of, journal_bytes}
+use Rattle.lfs_book.specs.Book.{Book, IsBookOf, IsPatchOf, Spells, book_of}
 use Rattle.lfs_history.specs.declared.open_fault.OpenFault.{OpenFault}
 use Rattle.lfs_history.specs.declared.open_fault.OpenFault.TheVariants.{Mount, JournalFormat, JournalMismatch, JournalImage}
 use Rattle.lfs_history.specs.History.{IsMounted, GoesBack, GoesForward, past_of, future_of}
-use Rattle.lfs_history.specs.Opening.{Spells, HasHistory, RefusesOpening, others}
+use Rattle.lfs_history.specs.Opening.{HasHistory, RefusesOpening, others}
+use Rattle.lfs_journal.specs.Known.{HasRoom, HaveSize}
 use Rattle.lfs_journal.specs.Opened.{RefusesMount, RefusesMounts, OpensParts}
 use Rattle.lfs_history.proofs.MoveLemmas.{latest}
 
@@ -29,22 +31,32 @@ each_last P (q ∷ ps) p (first, each) = let more = each_last P ps p each in ((f
 pub last_of : (P : ChangeSet → Type 0) (qs ps : List ChangeSet) (p : ChangeSet) → qs ≡ ps ++ p ∷ [] → AllByRecursion P qs → P p
 last_of P qs ps p is each = (each_last P ps p (subst (AllByRecursion P) is each)).1
 
-patches_of : (size count : ℕ) (ps : List ChangeSet) → AllByRecursion (IsPatchOf size count) ps → AllByRecursion IsPatch ps
-patches_of size count [] each = tt
-patches_of size count (p ∷ ps) (first, each) = (first.0, patches_of size count ps each)
+patches_of : (size : ℕ) (ps : List ChangeSet) → AllByRecursion (IsPatchOf size) ps → AllByRecursion IsGrowth ps
+patches_of size [] each = tt
+patches_of size (p ∷ ps) (first, each) = (first.0, patches_of size ps each)
+
+sizes_of : (size : ℕ) (ps : List ChangeSet) → AllByRecursion (IsPatchOf size) ps → HaveSize size ps
+sizes_of size [] each = tt
+sizes_of size (p ∷ ps) (first, each) = (first.1, sizes_of size ps each)
+
+book_each : (size count : ℕ) (ps : List ChangeSet) (done : ℕ) → IsBookOf size count ps done → AllByRecursion (IsPatchOf size) ps
+book_each size count ps done is = subst (AllByRecursion (IsPatchOf size)) (take-append-drop done ps) is.book.each
 
 -- each change of a journal is a patch
-pub book_patches : (size count : ℕ) (ps : List ChangeSet) (done : ℕ) → IsBookOf size count ps done → AllByRecursion IsPatch ps
-book_patches size count ps done is =
-    patches_of size count ps (subst (AllByRecursion (IsPatchOf size count)) (take-append-drop done ps) is.book.each)
+pub book_patches : (size count : ℕ) (ps : List ChangeSet) (done : ℕ) → IsBookOf size count ps done → AllByRecursion IsGrowth ps
+book_patches size count ps done is = patches_of size ps (book_each size count ps done is)
+
+-- of blocks of its size
+pub book_sizes : (size count : ℕ) (ps : List ChangeSet) (done : ℕ) → IsBookOf size count ps done → HaveSize size ps
+book_sizes size count ps done is = sizes_of size ps (book_each size count ps done is)
 
 -- ---- agreement
 
-pub back_agrees : (qs ps : List ChangeSet) (p : ChangeSet) (d : Disk) (t : Bool) → qs ≡ ps ++ p ∷ [] → IsPatch p → AgreesNew p d
+pub back_agrees : (qs ps : List ChangeSet) (p : ChangeSet) (d : Disk) (t : Bool) → qs ≡ ps ++ p ∷ [] → IsGrowth p → AgreesNew p d
     → IsTrue t ↔ GoesBack (reverse ps) (reverted p d) → IsTrue t ↔ GoesBack (reverse qs) d
-back_agrees qs ps p d t is patch agrees both =
+back_agrees qs ps p d t is growth agrees both =
     subst (λ (xs : List ChangeSet). IsTrue t ↔ GoesBack xs d) (sym (latest ps qs p is))
-    ((λ yes. (patch, agrees, both.0 yes)), (λ back. both.1 back.2))
+    ((λ yes. (growth, agrees, both.0 yes)), (λ back. both.1 back.2))
 
 pub back_disagrees : (qs ps : List ChangeSet) (p : ChangeSet) (d : Disk) → qs ≡ ps ++ p ∷ [] → (AgreesNew p d → ⊥)
     → IsTrue false ↔ GoesBack (reverse qs) d
@@ -97,44 +109,46 @@ pub record IsAgreed (d : Disk) (bytes : List ℕ) (ps : List ChangeSet) (done : 
   pub spelled : Spells bytes (book_of d.size d.count ps done)
   pub agrees : HasHistory d (book_of d.size d.count ps done)
 
-pub agreed : (d : Disk) (bytes : List ℕ) (j : Book) (ps : List ChangeSet) (done : ℕ) → IsBook j → journal_bytes j ≡ bytes
+pub agreed : (d : Disk) (bytes : List ℕ) (j : Book) (ps : List ChangeSet) (done : ℕ) → Spells bytes j
     → book_of j.size j.count ps done ≡ j → done ≤ length ps → j.size ≡ d.size → j.count ≡ d.count
     → GoesBack (reverse (take done ps)) d → GoesForward (drop done ps) d → IsAgreed d bytes ps done
-agreed d bytes j ps done book read parts within size count back on =
+agreed d bytes j ps done spelled parts within size count back on =
     let is : book_of d.size d.count ps done ≡ j = ap (λ (n : ℕ). book_of n d.count ps done) (sym size)
     ∙ ap (λ (n : ℕ). book_of j.size n ps done) (sym count) ∙ parts in
     record {
       within = within;
-      spelled = subst (Spells bytes) (sym is) (record { book = book; bytes_are = read });
+      spelled = subst (Spells bytes) (sym is) spelled;
       agrees = record { size = refl; count = refl; back = back; on = on };
     }
 
-pub image_refused : (fault : OpenFault) (d : Disk) (bytes : List ℕ) (ps : List ChangeSet) (done : ℕ) (es : List Disk)
-    → IsMounted d → IsAgreed d bytes ps done
-    → ((e : Disk) → Contains es e → Contains (others d (book_of d.size d.count ps done)) e) → RefusesMounts fault es
+-- among more images
+pub refused_among : (fault : OpenFault) (es fs : List Disk) → ((e : Disk) → Contains es e → Contains fs e) → RefusesMounts fault es
+    → RefusesMounts fault fs
+refused_among (Mount fault) es fs among h = h
+refused_among JournalImage es fs among (e, there, cause) = (e, among e there, cause)
+refused_among JournalFormat es fs among h = absurd h
+refused_among JournalMismatch es fs among h = absurd h
+
+pub refused_left : (fault : OpenFault) (es fs : List Disk) → RefusesMounts fault es → RefusesMounts fault (es ++ fs)
+refused_left fault es fs h = refused_among fault es (es ++ fs) (λ e there. Contains-append_left es fs e there) h
+
+pub refused_right : (fault : OpenFault) (es fs : List Disk) → RefusesMounts fault fs → RefusesMounts fault (es ++ fs)
+refused_right fault es fs h = refused_among fault fs (es ++ fs) (λ e there. Contains-append_right es fs e there) h
+
+pub others_refused : (fault : OpenFault) (d : Disk) (bytes : List ℕ) (ps : List ChangeSet) (done : ℕ)
+    → IsMounted d → IsAgreed d bytes ps done → RefusesMounts fault (others d (book_of d.size d.count ps done))
     → RefusesOpening fault d bytes
-image_refused (Mount fault) d bytes ps done es mounts is among h = subst (HasCause d) (sym h) tt
-image_refused JournalImage d bytes ps done es mounts is among (e, there, cause) =
-    (mounts, book_of d.size d.count ps done, is.spelled, is.agrees, e, among e there, cause)
-image_refused JournalFormat d bytes ps done es mounts is among h = absurd h
-image_refused JournalMismatch d bytes ps done es mounts is among h = absurd h
+others_refused (Mount fault) d bytes ps done mounts is h = subst (HasCause d) (sym h) tt
+others_refused JournalImage d bytes ps done mounts is (e, there, cause) =
+    (mounts, book_of d.size d.count ps done, is.spelled, is.agrees, e, there, cause)
+others_refused JournalFormat d bytes ps done mounts is h = absurd h
+others_refused JournalMismatch d bytes ps done mounts is h = absurd h
 
-pub past_refused : (fault : OpenFault) (d : Disk) (bytes : List ℕ) (ps : List ChangeSet) (done : ℕ) → IsMounted d
-    → IsAgreed d bytes ps done → RefusesMounts fault (past_of (reverse (take done ps)) d) → RefusesOpening fault d bytes
-past_refused fault d bytes ps done mounts is h =
-    image_refused fault d bytes ps done (past_of (reverse (take done ps)) d) mounts is
-    (λ e there. Contains-append_left (past_of (reverse (take done ps)) d) (future_of (drop done ps) d) e there) h
-
-pub future_refused : (fault : OpenFault) (d : Disk) (bytes : List ℕ) (ps : List ChangeSet) (done : ℕ) → IsMounted d
-    → IsAgreed d bytes ps done → RefusesMounts fault (future_of (drop done ps) d) → RefusesOpening fault d bytes
-future_refused fault d bytes ps done mounts is h =
-    image_refused fault d bytes ps done (future_of (drop done ps) d) mounts is
-    (λ e there. Contains-append_right (past_of (reverse (take done ps)) d) (future_of (drop done ps) d) e there) h
-
-pub parts_opened : (d : Disk) (bytes : List ℕ) (outline : Volume) (ps : List ChangeSet) (done : ℕ) → IsDisk d → IsMounted d
-    → IsOutlineOf d outline → IsAgreed d bytes ps done → AllByRecursion IsMounted (past_of (reverse (take done ps)) d)
-    → AllByRecursion IsMounted (future_of (drop done ps) d) → OpensParts d bytes outline ps done
-parts_opened d bytes outline ps done disk mounts known is past future = record {
+pub parts_opened : (m : Medium) (bytes : List ℕ) (outline : Volume) (ps : List ChangeSet) (done : ℕ) → IsDisk m.disk
+    → IsMounted m.disk → IsOutlineOf m.disk outline → IsAgreed m.disk bytes ps done
+    → AllByRecursion IsMounted (past_of (reverse (take done ps)) m.disk) → AllByRecursion IsMounted (future_of (drop done ps) m.disk)
+    → HasRoom m.room ps → OpensParts m bytes outline ps done
+parts_opened m bytes outline ps done disk mounts known is past future room = record {
   spelled = is.spelled;
   agrees = is.agrees;
   session = record {
@@ -153,5 +167,6 @@ parts_opened d bytes outline ps done disk mounts known is past future = record {
       };
     };
     known = known;
+    room = room;
   };
 }

@@ -3,7 +3,7 @@ use Rattle.std.proofs.Common.{◌≡◌, ℕ, ◌+◌, ◌<◌, ◌≤◌, List,
 use Rattle.std.specs.Prelude.{reverse}
 use Rattle.std.proofs.lemmas.List.{take_more, drop_more, take_all, drop_all, length_push, length-take-le, get_or_push}
 use Rattle.lfs_block.specs.Disk.{Disk}
-use Rattle.lfs_block.specs.Patch.{ChangeSet, IsPatch, AgreesOld, AgreesNew, applied, reverted}
+use Rattle.lfs_block.specs.Patch.{ChangeSet, IsGrowth, AgreesOld, AgreesNew, applied, reverted}
 use Rattle.lfs_book.specs.Book.{most_changes}
 use Rattle.lfs_command.specs.Command.{Asked}
 use Rattle.lfs_command.specs.Planned.{Plans}
@@ -31,7 +31,7 @@ is_at changes i j p next within is = record {
 
 -- the latest change that was made agrees with the image
 pub made_agrees : (d : Disk) (changes : List ChangeSet) (i j : ℕ) (p : ChangeSet) → IsAt changes i j p → IsHistoryAt d changes j
-    → IsPatch p × AgreesNew p d
+    → IsGrowth p × AgreesNew p d
 made_agrees d changes i j p at h =
     let back : GoesBack (p ∷ reverse (take i changes)) d = subst (λ (ps : List ChangeSet). GoesBack ps d)
     (latest (take i changes) (take j changes) p at.taken) h.history.back in
@@ -39,7 +39,7 @@ made_agrees d changes i j p at h =
 
 -- the next change to be made agrees with the image
 pub next_agrees : (d : Disk) (changes : List ChangeSet) (i j : ℕ) (p : ChangeSet) → IsAt changes i j p → IsHistoryAt d changes i
-    → IsPatch p × AgreesOld p d
+    → IsGrowth p × AgreesOld p d
 next_agrees d changes i j p at h =
     let on : GoesForward (p ∷ drop j changes) d = subst (λ (us : List ChangeSet). GoesForward us d) at.left h.history.on in
     (on.0, on.1)
@@ -65,7 +65,7 @@ pub undone_at : TakeBack → (d e : Disk) (changes : List ChangeSet) (i j : ℕ)
     → e ≡ reverted p d → MovesTo Undoes (history_at d changes j) e changes i
 undone_at law d e changes i j p at h is =
     let agrees = made_agrees d changes i j p at h in
-    let undoes = undoes_at d e changes i j p at is (sym (law.again p d h.history.disk agrees.0 agrees.1) ∙ ap (applied p) (sym is)) in
+    let undoes = undoes_at d e changes i j p at is (sym (law.again p d h.history.disk agrees.0.patch agrees.1) ∙ ap (applied p) (sym is)) in
     record {
       moves = undoes;
       keeps = record {
@@ -78,7 +78,7 @@ pub redone_at : Make → (d e : Disk) (changes : List ChangeSet) (i j : ℕ) (p 
     → e ≡ applied p d → MovesTo Redoes (history_at d changes i) e changes j
 redone_at law d e changes i j p at h is =
     let agrees = next_agrees d changes i j p at h in
-    let redoes = undoes_at e d changes i j p at (sym (law.back p d h.history.disk agrees.0 agrees.1) ∙ ap (reverted p) (sym is)) is in
+    let redoes = undoes_at e d changes i j p at (sym (law.back p d h.history.disk agrees.0.patch agrees.1) ∙ ap (reverted p) (sym is)) is in
     record {
       moves = redoes;
       keeps = record {

@@ -1,13 +1,14 @@
 -- What is opened of an image and the bytes of its journal (own).
 use Rattle.std.specs.Prelude.{◌≡◌, ℕ, List, Some, Contains}
 use Rattle.lfs_block.specs.Disk.{Disk}
+use Rattle.lfs_block.specs.Medium.{Medium}
 use Rattle.lfs_block.specs.declared.mount_fault.MountFault.TheVariants.{Memory}
 use Rattle.lfs_block.specs.Patch.{ChangeSet}
 use Rattle.lfs_fs.specs.Volume.{Volume}
-use Rattle.lfs_book.specs.Book.{book_of}
+use Rattle.lfs_book.specs.Book.{Spells, book_of}
 use Rattle.lfs_history.specs.declared.open_fault.OpenFault.{OpenFault}
 use Rattle.lfs_history.specs.declared.open_fault.OpenFault.TheVariants.{Mount, JournalImage}
-use Rattle.lfs_history.specs.Opening.{HasHistory, HasSomeCause, Spells}
+use Rattle.lfs_history.specs.Opening.{HasHistory, HasSomeCause}
 use Rattle.lfs_journal.specs.Known.{IsSession}
 
 -- why an image of a history isn't mounted
@@ -23,7 +24,7 @@ RefusesMounts (Mount fault) es = fault ≡ Memory
 RefusesMounts _ es = ⊥
 
 -- what a session keeps of an image and the bytes of its journal
-pub record OpensParts (d : Disk) (bytes : List ℕ) (outline : Volume) (patches : List ChangeSet) (done : ℕ) : Type 0 where
-  pub spelled : Spells bytes (book_of d.size d.count patches done)
-  pub agrees : HasHistory d (book_of d.size d.count patches done)
-  pub session : IsSession d (Some outline) patches done
+pub record OpensParts (m : Medium) (bytes : List ℕ) (outline : Volume) (patches : List ChangeSet) (done : ℕ) : Type 0 where
+  pub spelled : Spells bytes (book_of m.disk.size m.disk.count patches done)
+  pub agrees : HasHistory m.disk (book_of m.disk.size m.disk.count patches done)
+  pub session : IsSession m (Some outline) patches done

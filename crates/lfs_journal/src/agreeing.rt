@@ -3,8 +3,9 @@
 ghost use Rattle.std.specs.Prelude.{◌≡◌, ◌↔◌, IsTrue, reverse};
 ghost use Rattle.std.specs.List.{AllByRecursion};
 ghost use Rattle.lfs_block.specs.Disk.{IsDisk};
-ghost use Rattle.lfs_block.specs.Patch.{IsPatch};
+ghost use Rattle.lfs_block.specs.Patch.{IsGrowth};
 ghost use Rattle.lfs_history.specs.History.{GoesBack, GoesForward};
+ghost use Rattle.lfs_journal.specs.Known.{HasRoom};
 
 use lfs_block::{
     Image, Patch, applied_patches_change_their_blocks, applied_patches_revert,
@@ -12,12 +13,14 @@ use lfs_block::{
 };
 
 /// Whether each change can be taken back from the image that it made, the last one first. The image goes back with them,
-/// and stands again as it was. Takes no memory.
+/// and stands again as it was. The caller owes the room for the changes. Takes no memory.
 pub(crate) fn goes_back(image: &mut Image, patches: &[Patch]) -> bool
-    requires disk { IsDisk image.old }
-    requires patches { AllByRecursion IsPatch patches.now }
-    ensures agrees { IsTrue result ↔ GoesBack (reverse patches.now) image.old }
-    ensures image { image.new ≡ image.old }
+    requires disk { IsDisk image.old.disk }
+    requires patches { AllByRecursion IsGrowth patches.now }
+    requires room { HasRoom image.old.room patches.now }
+    ensures agrees { IsTrue result ↔ GoesBack (reverse patches.now) image.old.disk }
+    ensures disk { image.new.disk ≡ image.old.disk }
+    ensures room { image.new.room ≡ image.old.room }
 {
     reverted_patches_apply_again();
     let Some((last, earlier)) = patches.split_last() else {
@@ -33,13 +36,16 @@ pub(crate) fn goes_back(image: &mut Image, patches: &[Patch]) -> bool
 }
 
 /// Whether each change can be made in the image that comes before it, the first one first. The image goes on with them, and
-/// stands again as it was. Takes no memory.
+/// stands again as it was. The caller owes the room for the changes. Takes no memory.
 pub(crate) fn goes_on(image: &mut Image, patches: &[Patch]) -> bool
-    requires disk { IsDisk image.old }
-    requires patches { AllByRecursion IsPatch patches.now }
-    ensures agrees { IsTrue result ↔ GoesForward patches.now image.old }
-    ensures image { image.new ≡ image.old }
+    requires disk { IsDisk image.old.disk }
+    requires patches { AllByRecursion IsGrowth patches.now }
+    requires room { HasRoom image.old.room patches.now }
+    ensures agrees { IsTrue result ↔ GoesForward patches.now image.old.disk }
+    ensures disk { image.new.disk ≡ image.old.disk }
+    ensures room { image.new.room ≡ image.old.room }
 {
+    applied_patches_change_their_blocks();
     applied_patches_revert();
     let Some((first, later)) = patches.split_first() else {
         return true;

@@ -28,12 +28,12 @@ pub(crate) fn carried_out(
     outline: &mut Option<Outline>,
     command: &Command<'_>,
 ) -> Result<Carried, Refusal>
-    requires mounts { IsMounted image.now }
-    requires known { IsKnown image.now outline.old }
-    ensures planned { IfOk result (λ change. Plans image.now (asked_for command.now) change.patch) }
-    ensures outline { IfOk result (λ change. IsOutlineOf (applied change.patch image.now) change.outline) }
-    ensures refused { IfErr result (λ refusal. RefusesPlan image.now (asked_for command.now) refusal) }
-    ensures known { IsKnown image.now outline.new }
+    requires mounts { IsMounted image.now.disk }
+    requires known { IsKnown image.now.disk outline.old }
+    ensures planned { IfOk result (λ change. Plans image.now.disk (asked_for command.now) change.patch) }
+    ensures outline { IfOk result (λ change. IsOutlineOf (applied change.patch image.now.disk) change.outline) }
+    ensures refused { IfErr result (λ refusal. RefusesPlan image.now.disk (asked_for command.now) refusal) }
+    ensures known { IsKnown image.now.disk outline.new }
 {
     let mut taken = match outline.take() {
         Some(taken) => taken,

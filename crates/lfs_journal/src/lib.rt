@@ -7,6 +7,7 @@ mod mounting;
 mod opening;
 mod refused;
 mod replacing;
+mod reserving;
 mod session;
 mod stepping;
 mod unmounted;

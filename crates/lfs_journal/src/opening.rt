@@ -1,16 +1,20 @@
 //! What is opened of a journal on an image.
 
-ghost use Rattle.std.specs.Prelude.{◌≡◌, ◌≤◌, ◌↔◌, IsTrue, IfOk, IfErr, length, take, drop, reverse};
+ghost use Rattle.std.specs.Prelude.{◌≡◌, ◌≤◌, ◌↔◌, ◌++◌, IsTrue, IfOk, IfErr, length, take, drop, reverse};
 ghost use Rattle.std.specs.List.{AllByRecursion};
-ghost use Rattle.lfs_block.specs.Disk.{IsDisk};
-ghost use Rattle.lfs_block.specs.Patch.{IsPatch};
-ghost use Rattle.lfs_history.specs.History.{GoesBack, GoesForward};
+ghost use Rattle.lfs_block.specs.Disk.{IsDisk, erased_block};
+ghost use Rattle.lfs_block.specs.Patch.{IsGrowth};
+ghost use Rattle.lfs_block.specs.declared.mount_fault.MountFault.TheVariants.{Memory};
+ghost use Rattle.lfs_history.specs.declared.open_fault.OpenFault.TheVariants.{Mount};
+ghost use Rattle.lfs_history.specs.History.{GoesBack, GoesForward, IsMounted, past_of, future_of};
 ghost use Rattle.lfs_history.specs.Opening.{RefusesOpening};
-ghost use Rattle.lfs_journal.specs.Opened.{OpensParts};
+ghost use Rattle.lfs_journal.specs.Known.{HasRoom};
+ghost use Rattle.lfs_journal.specs.Opened.{OpensParts, RefusesMounts};
 
 use crate::agreeing::{goes_back, goes_on};
 use crate::mounting::{mounts_back, mounts_on};
-use lfs_block::{Blocks, Image, Patch};
+use crate::reserving::reserve_for;
+use lfs_block::{Blocks, Image, MountFault, Patch};
 use lfs_book::Journal;
 use lfs_fs::{Outline, mount};
 use lfs_history::OpenFault;
@@ -25,27 +29,64 @@ pub(crate) struct Opened {
 }
 
 /// Whether changes, of which so many are done, agree with an image, backwards and onwards. The image stands again as it was.
-/// Takes no memory.
+/// The caller owes the room for the changes. Takes no memory.
 fn agree(image: &mut Image, patches: &[Patch], done: usize) -> bool
-    requires disk { IsDisk image.old }
+    requires disk { IsDisk image.old.disk }
     requires within { done ≤ length patches.now }
-    requires patches { AllByRecursion IsPatch patches.now }
-    ensures agrees { IsTrue result ↔ (GoesBack (reverse (take done patches.now)) image.old × GoesForward (drop done patches.now) image.old) }
-    ensures image { image.new ≡ image.old }
+    requires patches { AllByRecursion IsGrowth patches.now }
+    requires room { HasRoom image.old.room patches.now }
+    ensures agrees { IsTrue result ↔ (GoesBack (reverse (take done patches.now)) image.old.disk × GoesForward (drop done patches.now) image.old.disk) }
+    ensures disk { image.new.disk ≡ image.old.disk }
+    ensures room { image.new.room ≡ image.old.room }
 {
     let (made, undone) = patches.split_at(done);
     goes_back(image, made) && goes_on(image, undone)
 }
 
-/// What the bytes of a journal denote on an image, which stands again as it was.
+/// An erased block of this size.
+fn erased_block(alloc: Global, size: u32) -> Result<Vec<u8>, OpenFault>
+    ensures block { IfOk result (λ block. block.items ≡ erased_block size) }
+    ensures memory { IfErr result (λ fault. fault ≡ Mount Memory) }
+{
+    match vec![in alloc; 0xff; size as usize] {
+        Ok(block) => Ok(block),
+        Err(_) => Err(OpenFault::Mount(MountFault::Memory)),
+    }
+}
+
+/// Whether each other image of the changes, of which so many are done, mounts, those before first. The image stands again as it
+/// was. The caller owes the room for the changes.
+fn others_mount(
+    alloc: Global,
+    image: &mut Image,
+    patches: &[Patch],
+    done: usize,
+) -> Result<(), OpenFault>
+    requires disk { IsDisk image.old.disk }
+    requires within { done ≤ length patches.now }
+    requires agree { GoesBack (reverse (take done patches.now)) image.old.disk × GoesForward (drop done patches.now) image.old.disk }
+    requires room { HasRoom image.old.room patches.now }
+    ensures past { IfOk result (λ _. AllByRecursion IsMounted (past_of (reverse (take done patches.now)) image.old.disk)) }
+    ensures future { IfOk result (λ _. AllByRecursion IsMounted (future_of (drop done patches.now) image.old.disk)) }
+    ensures refused { IfErr result (λ fault. RefusesMounts fault (past_of (reverse (take done patches.now)) image.old.disk ++ future_of (drop done patches.now) image.old.disk)) }
+    ensures disk { image.new.disk ≡ image.old.disk }
+    ensures room { image.new.room ≡ image.old.room }
+{
+    let erased = erased_block(alloc, image.size())?;
+    let (made, undone) = patches.split_at(done);
+    mounts_back(alloc, image, made, &erased)?;
+    mounts_on(alloc, image, undone, &erased)
+}
+
+/// What the bytes of a journal denote on an image, which stands again as it was, with room for each image of the history.
 pub(crate) fn read_history(
     alloc: Global,
     image: &mut Image,
     journal: &[u8],
 ) -> Result<Opened, OpenFault>
-    ensures opened { IfOk result (λ o. OpensParts image.old journal.now o.outline o.patches.items o.done) }
-    ensures refused { IfErr result (λ fault. RefusesOpening fault image.old journal.now) }
-    ensures image { image.new ≡ image.old }
+    ensures opened { IfOk result (λ o. OpensParts image.new journal.now o.outline o.patches.items o.done) }
+    ensures refused { IfErr result (λ fault. RefusesOpening fault image.old.disk journal.now) }
+    ensures disk { image.new.disk ≡ image.old.disk }
 {
     let outline = mount(alloc, image)?.into_outline();
     let journal = Journal::read(alloc, journal)?;
@@ -53,12 +94,13 @@ pub(crate) fn read_history(
         return Err(OpenFault::JournalMismatch);
     }
     let (patches, done) = journal.into_parts();
+    if !reserve_for(image, &patches) {
+        return Err(OpenFault::Mount(MountFault::Memory));
+    }
     if !agree(image, &patches, done) {
         return Err(OpenFault::JournalMismatch);
     }
-    let (made, undone) = patches.split_at(done);
-    mounts_back(alloc, image, made)?;
-    mounts_on(alloc, image, undone)?;
+    others_mount(alloc, image, &patches, done)?;
     Ok(Opened {
         outline,
         patches,

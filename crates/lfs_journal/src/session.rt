@@ -10,7 +10,7 @@ use lfs_block::{
     reverted_patches_apply_again,
 };
 use lfs_book::{MOST_CHANGES, write_journal};
-use lfs_edit::Command;
+use lfs_edit::{Command, Refusal};
 use lfs_fs::{Outline, mount};
 use lfs_history::StepFault;
 use lfs_law::cuts_follow;
@@ -19,7 +19,8 @@ use std::marker::Model;
 
 /// An image with its changes, up to 1,000, each of which can be taken back exactly, and made again. Its meaning is a
 /// `History`: each image that was and can be again, all of which mount. Between commands it keeps the image's outline, which
-/// is read again only behind a change that was taken back or made again, and where memory was wanting.
+/// is read again only behind a change that was taken back or made again, and where memory was wanting. It keeps room for each
+/// of these images, so that taking changes back and making them again takes no memory.
 ///
 /// Source: own.
 #[derive(Drop)]
@@ -36,7 +37,7 @@ impl Model for Session {
 
     ghost Value = { History };
 
-    ghost view = { λ s. history_at s.image s.patches.items s.done };
+    ghost view = { λ s. history_at s.image.disk s.patches.items s.done };
 
     ghost invariant = { λ s. IsSession s.image s.outline s.patches.items s.done };
 }
@@ -55,9 +56,9 @@ impl Session {
     /// A session of an image that nothing was done to. A refusal hands the image back: the image has the cause that the
     /// fault names, and `Memory` says only that a growth was refused.
     pub fn fresh(alloc: Global, image: Image) -> Result<Session, Unmounted>
-        ensures fresh { IfOk result (λ session. session ≡ fresh_history image) }
+        ensures fresh { IfOk result (λ session. session ≡ fresh_history image.disk) }
         ensures history { IfOk result (λ session. IsHistory session) }
-        ensures cause { IfErr result (λ unmounted. HasCause image unmounted.fault) }
+        ensures cause { IfErr result (λ unmounted. HasCause image.disk unmounted.fault) }
         ensures handed_back { IfErr result (λ unmounted. unmounted.image ≡ image) }
     {
         match mount(alloc, &image) {
@@ -72,13 +73,13 @@ impl Session {
     }
 
     /// The session of an image whose journal stands in the bytes: its history is the one that they denote on the image. A
-    /// refusal hands the image back, and says the first of these that holds: the image has a cause for which it does not
-    /// mount; `JournalFormat` where no journal is spelled so; `JournalMismatch` where it denotes no history of the image;
-    /// `JournalImage` where another image of the history does not mount. Want of memory is told as the mount's.
+    /// refusal hands the image back, byte for byte, and says the first of these that holds: the image has a cause for which it
+    /// does not mount; `JournalFormat` where no journal is spelled so; `JournalMismatch` where it denotes no history of the
+    /// image; `JournalImage` where another image of the history does not mount. Want of memory is told as the mount's.
     pub fn open(alloc: Global, image: Image, journal: &[u8]) -> Result<Session, Refused>
-        ensures opened { IfOk result (λ session. Opens image journal.now session) }
-        ensures refused { IfErr result (λ refused. RefusesOpening refused.fault image journal.now) }
-        ensures handed_back { IfErr result (λ refused. refused.image ≡ image) }
+        ensures opened { IfOk result (λ session. Opens image.disk journal.now session) }
+        ensures refused { IfErr result (λ refused. RefusesOpening refused.fault image.disk journal.now) }
+        ensures handed_back { IfErr result (λ refused. refused.image.disk ≡ image.disk) }
     {
         let mut image = image;
         match read_history(alloc, &mut image, journal) {
@@ -114,7 +115,7 @@ impl Session {
 
     /// The image as it is now. Takes no memory.
     pub fn image(&self) -> &Image
-        ensures image { result.now ≡ self.now.present }
+        ensures image { result.now.disk ≡ self.now.present }
         ensures history { IsHistory self.now }
     {
         &self.image
@@ -122,7 +123,7 @@ impl Session {
 
     /// The image as it is now, without its changes. Takes no memory.
     pub fn into_image(self) -> Image
-        ensures { result ≡ self.present }
+        ensures { result.disk ≡ self.present }
     {
         let Session {
             image,
@@ -152,6 +153,9 @@ impl Session {
             &mut self.outline,
             command,
         )?;
+        if !self.image.reserve(patch.after()) {
+            return Err(StepFault::Refused(Refusal::Memory));
+        }
         replace_from(&mut self.patches, self.done, patch)?;
         self.patches[self.done].apply(&mut self.image);
         self.outline = Some(outline);

@@ -8,7 +8,7 @@ use Rattle.std.proofs.lemmas.List.Sums.{sum_by-cons}
 use Rattle.lfs_block.specs.Change.{Change}
 use Rattle.lfs_block.specs.Disk.{Disk, IsDisk, block_of}
 use Rattle.lfs_block.specs.Patch.{applied}
-use Rattle.lfs_block.specs.PatchLaws.{AppliedBlocks, AppliedIsDisk}
+use Rattle.lfs_block.specs.PatchLaws.{KeptBlocks, KeptIsDisk}
 use Rattle.lfs_file.specs.Content.{content}
 use Rattle.lfs_file.specs.Laws.{FoundAreChains, EmptyIsFound, FoundStay, ContentStays, ContentHasLength}
 use Rattle.lfs_file.specs.SkipList.{IsChain, chain_of}
@@ -262,11 +262,12 @@ pub record ChainLaws : Type 0 where
   pub found : FoundStay
   pub content : ContentStays
 
-pub commands_are_written : ChainLaws → AppliedIsDisk → AppliedBlocks → RunsJoin Entry → CutsFollow → CommandsAreWritten
-commands_are_written laws applied_disk applied_blocks join cuts d v held c s chosen is_new base p ok pairs writes = record {
+pub commands_are_written : ChainLaws → KeptIsDisk → KeptBlocks → RunsJoin Entry → CutsFollow → CommandsAreWritten
+commands_are_written laws kept_disk kept_blocks join cuts d v held c s chosen is_new base p ok pairs writes = record {
   disk = writes.disk;
   patch = writes.patch;
   stands = writes.stands;
+  keeps = writes.keeps;
   unused = unused;
   written = writes.written;
   there = there;
@@ -296,7 +297,7 @@ commands_are_written laws applied_disk applied_blocks join cuts d v held c s cho
           after.sound.once n,
           some,
         ) in
-        applied_blocks p d n writes.disk writes.patch writes.stands ∙ overlaid_none p.changes n (block_of d n)
+        kept_blocks p d n writes.disk writes.patch writes.stands writes.keeps ∙ overlaid_none p.changes n (block_of d n)
         (none_named n p.changes unnamed)
 
     known : Bodies (Known (reading_of d) (reading_of (applied p d)) v) (cut chosen (edited v c s)).directories
@@ -311,7 +312,7 @@ commands_are_written laws applied_disk applied_blocks join cuts d v held c s cho
     there l inside e holds = elim (link_has (Known (reading_of d) (reading_of (applied p d)) v)
         (cut chosen (edited v c s)).directories known l inside e holds) [
           | inl old ↦
-              let same = applied_disk p d writes.disk writes.patch writes.stands in
+              let same = kept_disk p d writes.disk writes.patch writes.stands writes.keeps in
               body_stays (reading_of d) (reading_of (applied p d)) e.body
               (chain_by laws.found laws.content d (applied p d) writes.disk e.body same.size same.count
               (λ n some. block_stays l inside e holds n some (old.1 n some))) old.0

@@ -6,7 +6,7 @@ use Rattle.std.proofs.lemmas.Option.{slice_get-get_or, unwrap_or-slice_get}
 use Rattle.lfs_block.specs.Change.{Change}
 use Rattle.lfs_block.specs.Disk.{Disk, IsDisk, block_of}
 use Rattle.lfs_block.specs.Patch.{applied}
-use Rattle.lfs_block.specs.PatchLaws.{AppliedBlocks, AppliedIsDisk}
+use Rattle.lfs_block.specs.PatchLaws.{KeptBlocks, KeptIsDisk}
 use Rattle.lfs_file.specs.Capacity.{least_blocks}
 use Rattle.lfs_file.specs.Laws.{LaidIsContent, LaidIsFound}
 use Rattle.lfs_file.specs.Laying.{IsLaid, laid}
@@ -55,20 +55,20 @@ body_by : (d e : Disk) (bytes blocks : List ℕ) (t : Bool) → (t ≡ false →
 body_by d e bytes blocks true there = tt
 body_by d e bytes blocks false there = there refl
 
-pub laid_are_there : LaidIsFound → LaidIsContent → AppliedIsDisk → AppliedBlocks → LaidAreThere
-laid_are_there found content applied_disk applied_blocks d v held (Mkdir path) s chosen is_new base p disk patch stands free named
+pub laid_are_there : LaidIsFound → LaidIsContent → KeptIsDisk → KeptBlocks → LaidAreThere
+laid_are_there found content kept_disk kept_blocks d v held (Mkdir path) s chosen is_new base p disk patch stands keeps free named
     lays written = tt
-laid_are_there found content applied_disk applied_blocks d v held (Rm path) s chosen is_new base p disk patch stands free named
+laid_are_there found content kept_disk kept_blocks d v held (Rm path) s chosen is_new base p disk patch stands keeps free named
     lays written = tt
-laid_are_there found content applied_disk applied_blocks d v held (Mv from to) s chosen is_new base p disk patch stands free named
+laid_are_there found content kept_disk kept_blocks d v held (Mv from to) s chosen is_new base p disk patch stands keeps free named
     lays written = tt
-laid_are_there found content applied_disk applied_blocks d v held (SetAttr path k value) s chosen is_new base p disk patch stands free named
+laid_are_there found content kept_disk kept_blocks d v held (SetAttr path k value) s chosen is_new base p disk patch stands keeps free named
     lays written = tt
-laid_are_there found content applied_disk applied_blocks d v held (RmAttr path k) s chosen is_new base p disk patch stands free named
+laid_are_there found content kept_disk kept_blocks d v held (RmAttr path k) s chosen is_new base p disk patch stands keeps free named
     lays written = tt
-laid_are_there found content applied_disk applied_blocks d v held (Put path bytes) s chosen is_new base p disk patch stands free named
+laid_are_there found content kept_disk kept_blocks d v held (Put path bytes) s chosen is_new base p disk patch stands keeps free named
     lays written =
-    let after = applied_disk p d disk patch stands in
+    let after = kept_disk p d disk patch stands keeps in
     body_by d (applied p d) bytes s.blocks (nat_le (length bytes) (most_inline v.size))
     (λ chain.
     let blocks_are : content_blocks v (Put path bytes) s ≡ s.blocks = ap (λ (t : Bool). if t then [] else s.blocks) chain in
@@ -83,4 +83,4 @@ laid_are_there found content applied_disk applied_blocks d v held (Put path byte
       ap (times n) blocks_are,
     ) in
     omega (arith, free.within n taken, after.count, held.count))
-    (λ n there. applied_blocks p d n disk patch stands ∙ written.kept n (some n there)))
+    (λ n there. kept_blocks p d n disk patch stands keeps ∙ written.kept n (some n there)))

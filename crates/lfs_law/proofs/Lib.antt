@@ -37,6 +37,7 @@ pub mod Needs
 pub mod FewParts
 pub mod WrittenLemmas
 pub mod ChangesAt
+pub mod KeptPatches
 pub mod BlockLemmas
 pub mod FreeBlocks
 pub mod LinkFits

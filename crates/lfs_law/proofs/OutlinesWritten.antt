@@ -11,7 +11,7 @@ use Rattle.std.proofs.lemmas.List.Sums.{sum_by-cons}
 use Rattle.lfs_block.specs.Change.{Change}
 use Rattle.lfs_block.specs.Disk.{Disk, block_of}
 use Rattle.lfs_block.specs.Patch.{ChangeSet, applied}
-use Rattle.lfs_block.specs.PatchLaws.{AppliedBlocks, AppliedIsDisk}
+use Rattle.lfs_block.specs.PatchLaws.{KeptBlocks, KeptIsDisk}
 use Rattle.lfs_meta.specs.declared.kind.Kind.TheVariants.{Super}
 use Rattle.lfs_meta.specs.declared.tail.Tail.{Tail}
 use Rattle.lfs_meta.specs.Body.{Pair}
@@ -143,15 +143,15 @@ entries_stand r (e ∷ es) there = (
 )
 
 -- what the pair of a link holds in the patched image
-read_after : AppliedBlocks → (d : Disk) (v w : Volume) (held : HoldsLinks (reading_of d) v) (is_new : Pair → Bool) (base : List Change)
+read_after : KeptBlocks → (d : Disk) (v w : Volume) (held : HoldsLinks (reading_of d) v) (is_new : Pair → Bool) (base : List Change)
     (p : ChangeSet)
     → WritesOutline d v w held is_new base p → (pair : Pair)
     → stored_part_of (applied p d) pair ≡ part_in (block_after d p.changes pair.0) (block_after d p.changes pair.1)
 read_after blocks d v w held is_new base p writes pair =
-    ap (λ (b : List ℕ). part_in b (block_of (applied p d) pair.1)) (blocks p d pair.0 writes.disk writes.patch writes.stands)
-    ∙ ap (part_in (block_after d p.changes pair.0)) (blocks p d pair.1 writes.disk writes.patch writes.stands)
+    ap (λ (b : List ℕ). part_in b (block_of (applied p d) pair.1)) (blocks p d pair.0 writes.disk writes.patch writes.stands writes.keeps)
+    ∙ ap (part_in (block_after d p.changes pair.0)) (blocks p d pair.1 writes.disk writes.patch writes.stands writes.keeps)
 
-link_stored : AppliedBlocks → (d : Disk) (v w : Volume) (held : HoldsLinks (reading_of d) v) (is_new : Pair → Bool) (base : List Change)
+link_stored : KeptBlocks → (d : Disk) (v w : Volume) (held : HoldsLinks (reading_of d) v) (is_new : Pair → Bool) (base : List Change)
     (p : ChangeSet) → WritesOutline d v w held is_new base p
     → (l : Link) → Contains (links w.directories) l → l.part.dirty ≡ true
     → IsStored (reading_of (applied p d)) held.bytes w.attributes (cleaned_link l)
@@ -169,9 +169,9 @@ link_stored blocks d v w held is_new base p writes l there set =
       clean = refl;
     }
 
-pub outlines_are_written : AppliedIsDisk → AppliedBlocks → OutlinesAreWritten
+pub outlines_are_written : KeptIsDisk → KeptBlocks → OutlinesAreWritten
 outlines_are_written disk blocks d v w held is_new base p writes =
-    let after = disk p d writes.disk writes.patch writes.stands in
+    let after = disk p d writes.disk writes.patch writes.stands writes.keeps in
     record {
       old_disk = writes.disk;
       new_disk = after.disk;
@@ -187,7 +187,7 @@ outlines_are_written disk blocks d v w held is_new base p writes =
             apart,
             ap (times n) (blocks_outlined p.changes is_new w),
           ) in
-          blocks p d n writes.disk writes.patch writes.stands ∙ overlaid_none p.changes n (block_of d n) (none_named n p.changes unnamed);
+          blocks p d n writes.disk writes.patch writes.stands writes.keeps ∙ overlaid_none p.changes n (block_of d n) (none_named n p.changes unnamed);
       written = link_stored blocks d v w held is_new base p writes;
       attributes = writes.attributes;
     }
@@ -196,7 +196,7 @@ outlines_are_written disk blocks d v w held is_new base p writes =
 of_links : (P : Part → Type 0) (ls : List Link) → ((l : Link) → Contains ls l → P l.part) → All P (map (λ (l : Link). l.part) ls)
 of_links P ls each = All-map P (λ (l : Link). l.part) ls (All-weaker (Contains ls) (λ (l : Link). P l.part) each ls (All-contains_itself ls))
 
-pub new_pairs_are_filled : AppliedIsDisk → AppliedBlocks → NewPairsAreFilled
+pub new_pairs_are_filled : KeptIsDisk → KeptBlocks → NewPairsAreFilled
 new_pairs_are_filled disk blocks d v w held base p writes q there = All-contains Filled (thread w.directories) q
     (subst (All Filled) (parts_of_links w.directories) (of_links Filled (links w.directories) of_link)) there
   where
@@ -210,12 +210,12 @@ new_pairs_are_filled disk blocks d v w held base p writes q there = All-contains
         writes.written.makes (outlined_link l) (outline_there w l inside) set in
         let first : FillsFirst d p.changes l.part.pair = made.filled new in
         record {
-          revised = ap revision (blocks p d l.part.pair.0 writes.disk writes.patch writes.stands) ∙ first.revised;
-          erased = blocks p d l.part.pair.1 writes.disk writes.patch writes.stands ∙ first.erased
-              ∙ ap (λ (n : ℕ). replicate n 0xff) (sym (disk p d writes.disk writes.patch writes.stands).size);
+          revised = ap revision (blocks p d l.part.pair.0 writes.disk writes.patch writes.stands writes.keeps) ∙ first.revised;
+          erased = blocks p d l.part.pair.1 writes.disk writes.patch writes.stands writes.keeps ∙ first.erased
+              ∙ ap (λ (n : ℕ). replicate n 0xff) (sym (disk p d writes.disk writes.patch writes.stands writes.keeps).size);
         }
 
-pub pairs_are_changed : AppliedBlocks → PairsAreChanged
+pub pairs_are_changed : KeptBlocks → PairsAreChanged
 pairs_are_changed blocks d v w held base p forced writes changed l there set old =
     let is_cut : Bool = is_cut_by (is_new_to v) l.tail in
     let written : IsPairWritten d is_cut forced l.part.pair p.changes = changed (outlined_link l) (outline_there w l there) set old in
@@ -223,6 +223,6 @@ pairs_are_changed blocks d v w held base p forced writes changed l there set old
     record {
       part = written.part;
       holds = read_after blocks d v w held (is_new_to v) base p writes l.part.pair ∙ written.holds;
-      here = blocks p d n writes.disk writes.patch writes.stands ∙ written.here;
-      there = blocks p d (beside l.part.pair n) writes.disk writes.patch writes.stands ∙ written.there;
+      here = blocks p d n writes.disk writes.patch writes.stands writes.keeps ∙ written.here;
+      there = blocks p d (beside l.part.pair n) writes.disk writes.patch writes.stands writes.keeps ∙ written.there;
     }

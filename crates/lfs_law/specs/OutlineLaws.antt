@@ -55,13 +55,14 @@ IsThere r (Inline bytes) = Unit {0}
 IsThere r (Chain blocks bytes) = (r.chain (head_of blocks) (length bytes) ≡ Some blocks) × (bytes ≡ r.content (length bytes) blocks)
 IsThere r (Directory_at pair) = Unit {0}
 
--- A patch writes the outline of the volume w over the volume v that an image holds: its links, beside other changes of blocks that v
--- doesn't use. The chains of w are there, and its root's attributes stay where the root's first part does.
+-- A patch, which keeps the count, writes the outline of the volume w over the volume v that an image holds: its links, beside other
+-- changes of blocks that v doesn't use. The chains of w are there, and its root's attributes stay where the root's first part does.
 pub record WritesOutline (d : Disk) (v w : Volume) (held : HoldsLinks (reading_of d) v)
     (is_new : Pair → Bool) (base : List Change) (p : ChangeSet) : Type 0 where
   pub disk : IsDisk d
   pub patch : IsPatch p
   pub stands : AgreesOld p d
+  pub keeps : p.after ≡ p.before
   pub unused : (n : ℕ) → 0 < uses n v → times n (changed_blocks base) ≡ 0
   pub written : AreWritten d held.bytes w.attributes is_new base (links (outlined w).directories) p.changes
   pub there : (l : Link) → Contains (links w.directories) l → (e : Entry) → Contains l.part.entries e

@@ -30,12 +30,14 @@ NewIsThere r v (Mv p q) s = Unit {0}
 NewIsThere r v (SetAttr p k value) s = Unit {0}
 NewIsThere r v (RmAttr p k) s = Unit {0}
 
--- A patch writes for a command: blocks of new contents, which are there, and the links of the outline of what the command leaves, cut.
+-- A patch, which keeps the count, writes for a command: blocks of new contents, which are there, and the links of the outline of what
+-- the command leaves, cut.
 pub record WritesCommand (d : Disk) (v : Volume) (held : HoldsLinks (reading_of d) v) (c : Command) (s : Supplies)
     (chosen : Part → List Pair) (is_new : Pair → Bool) (base : List Change) (p : ChangeSet) : Type 0 where
   pub disk : IsDisk d
   pub patch : IsPatch p
   pub stands : AgreesOld p d
+  pub keeps : p.after ≡ p.before
   pub contents : changed_blocks base ≡ content_blocks v c s
   pub written : AreWritten d held.bytes (cut chosen (edited v c s)).attributes is_new base
       (links (outlined (cut chosen (edited v c s))).directories) p.changes
@@ -67,7 +69,8 @@ LaysNew d v (RmAttr p k) s base = Unit {0}
 abbrev pub LaidAreThere : Type 0
 LaidAreThere = (d : Disk) (v : Volume) (held : HoldsLinks (reading_of d) v) (c : Command) (s : Supplies)
     (chosen : Part → List Pair) (is_new : Pair → Bool) (base : List Change) (p : ChangeSet)
-    → IsDisk d → IsPatch p → AgreesOld p d → AreFree v c s → changed_blocks base ≡ content_blocks v c s → LaysNew d v c s base
+    → IsDisk d → IsPatch p → AgreesOld p d → p.after ≡ p.before → AreFree v c s → changed_blocks base ≡ content_blocks v c s
+    → LaysNew d v c s base
     → AreWritten d held.bytes (cut chosen (edited v c s)).attributes is_new base
     (links (outlined (cut chosen (edited v c s))).directories) p.changes
     → NewIsThere (reading_of (applied p d)) v c s

@@ -6,7 +6,7 @@ ghost use Rattle.lfs_law.specs.PlansHold.{BlocksAreTaken, BlocksAreWrittenOnce, 
 ghost use Rattle.lfs_law.specs.PlansWritten.{CommandsAreWritten, LaidAreThere};
 
 use crate::laws::{commands_are_frugal, commands_follow, cuts_follow, written_volumes_are_held};
-use lfs_block::applied_patches_change_their_blocks;
+use lfs_block::kept_counts_change_their_blocks;
 use lfs_file::{
     chains_stay_on_their_blocks, contents_have_their_length, files_have_one_chain,
     laid_blocks_are_chains,
@@ -37,7 +37,7 @@ pub fn outlines_are_written()
     ensures filled { NewPairsAreFilled }
     ensures changed { PairsAreChanged }
 {
-    applied_patches_change_their_blocks();
+    kept_counts_change_their_blocks();
 }
 
 /// A law: where a patch writes the outline of what an accepted command leaves, cut, the patched image holds it. Takes no memory.
@@ -85,7 +85,7 @@ pub fn laid_contents_are_there()
     ensures { LaidAreThere }
 {
     laid_blocks_are_chains();
-    applied_patches_change_their_blocks();
+    kept_counts_change_their_blocks();
 }
 
 /// A law: where a command takes the least free blocks, as many are changed as it needs and one more for each part that it rewrites, and
@@ -105,7 +105,7 @@ pub fn commands_are_written()
 {
     cuts_follow();
     entries_are_cut_greedily();
-    applied_patches_change_their_blocks();
+    kept_counts_change_their_blocks();
     files_have_one_chain();
     contents_have_their_length();
     chains_stay_on_their_blocks();

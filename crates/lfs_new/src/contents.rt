@@ -22,12 +22,12 @@ pub fn lay_contents(
     blocks: &[u32],
 ) -> Result<(), AllocError>
     requires rising { AllPairs ◌<◌ blocks.now }
-    requires below { All (λ b. b < image.old.count) blocks.now }
-    requires many { length blocks.now ≡ least_blocks image.old.size (length bytes.now) }
+    requires below { All (λ b. b < image.old.disk.count) blocks.now }
+    requires many { length blocks.now ≡ least_blocks image.old.disk.size (length bytes.now) }
     requires few { length blocks.now < 2 ^ 32 }
-    ensures laid { OnOk result (map (block_of image.new) blocks.now ≡ laid image.old.size bytes.now blocks.now) }
+    ensures laid { OnOk result (map (block_of image.new.disk) blocks.now ≡ laid image.old.disk.size bytes.now blocks.now) }
     ensures refused { OnErr result (image.new ≡ image.old) }
-    ensures others { IsDiskBut blocks.now image.old image.new }
+    ensures others { IsDiskBut blocks.now image.old.disk image.new.disk }
 {
     changes_change_their_blocks();
     let _size = image.size();

@@ -25,9 +25,9 @@ pub(crate) fn fill_pair(
     tail: Tail,
 ) -> Result<(), AllocError>
     requires rise { AreAttributes outline.now.limits.attribute outline.now.attributes }
-    requires can { CanFillPair image.old (volume_bytes outline.now) outline.now.attributes (link_to part.now tail) }
-    ensures filled { OnOk result (FillPairs image.old image.new (volume_bytes outline.now) outline.now.attributes (link_to part.now tail ∷ [])) }
-    ensures others { IsDiskBut (first_blocks (link_to part.now tail ∷ [])) image.old image.new }
+    requires can { CanFillPair image.old.disk (volume_bytes outline.now) outline.now.attributes (link_to part.now tail) }
+    ensures filled { OnOk result (FillPairs image.old.disk image.new.disk (volume_bytes outline.now) outline.now.attributes (link_to part.now tail ∷ [])) }
+    ensures others { IsDiskBut (first_blocks (link_to part.now tail ∷ [])) image.old.disk image.new.disk }
 {
     put_blocks_stand();
     let size = image.size();

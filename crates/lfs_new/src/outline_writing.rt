@@ -18,9 +18,9 @@ use std::alloc::{AllocError, Global};
 ///
 /// Source: own.
 pub fn write_outline(alloc: Global, image: &mut Image, outline: &Outline) -> Result<(), AllocError>
-    requires { CanTakeOutline image.old outline.now }
-    ensures taken { OnOk result (TakesOutline image.old image.new outline.now) }
-    ensures others { IsDiskBut (first_blocks (links outline.now.directories)) image.old image.new }
+    requires { CanTakeOutline image.old.disk outline.now }
+    ensures taken { OnOk result (TakesOutline image.old.disk image.new.disk outline.now) }
+    ensures others { IsDiskBut (first_blocks (links outline.now.directories)) image.old.disk image.new.disk }
 {
     let _size = image.size();
     let all = outline_links(alloc, outline)?;

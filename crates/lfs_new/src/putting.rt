@@ -18,11 +18,11 @@ pub fn put_block(
     number: u32,
     new: Vec<u8>,
 ) -> Result<(), AllocError>
-    requires within { number < image.old.count }
-    requires len { length new.items ≡ image.old.size }
-    ensures put { OnOk result (image.new ≡ put number new.items image.old) }
+    requires within { number < image.old.disk.count }
+    requires len { length new.items ≡ image.old.disk.size }
+    ensures put { OnOk result (image.new.disk ≡ put number new.items image.old.disk) }
     ensures refused { OnErr result (image.new ≡ image.old) }
-    ensures disk { IsDiskAs image.old image.new }
+    ensures disk { IsDiskAs image.old.disk image.new.disk }
 {
     let _size = image.size();
     let old = Vec::from_slice(alloc, image.block(number))?;

@@ -14,11 +14,11 @@ use Rattle.lfs_build.specs.Rooted.{bare_directory}
 
 pub bare_takes_more : (t : NewVolume) (v : Volume) → IsBare t v → TakesMore t [] v
 bare_takes_more t v bare = record {
-  built = subst (λ (ds : List Directory). IsBuilt t.image t.next (map opened t.above.items) (opened t.deepest) ds [] v)
+  built = subst (λ (ds : List Directory). IsBuilt t.image.disk t.next (map opened t.above.items) (opened t.deepest) ds [] v)
       (sym (ap reverse bare.closed))
-      (subst (λ (d : Directory). IsBuilt t.image t.next (map opened t.above.items) d [] [] v) (sym bare.deepest)
-      (subst (λ (ds : List Directory). IsBuilt t.image t.next ds (bare_directory root) [] [] v) (sym (ap (map opened) bare.above))
-      (subst (λ (n : ℕ). IsBuilt t.image n [] (bare_directory root) [] [] v) (sym bare.next) bare.built)));
+      (subst (λ (d : Directory). IsBuilt t.image.disk t.next (map opened t.above.items) d [] [] v) (sym bare.deepest)
+      (subst (λ (ds : List Directory). IsBuilt t.image.disk t.next ds (bare_directory root) [] [] v) (sym (ap (map opened) bare.above))
+      (subst (λ (n : ℕ). IsBuilt t.image.disk n [] (bare_directory root) [] [] v) (sym bare.next) bare.built)));
   attributes = bare.attributes;
   rise = bare.rise;
   weighed = subst (λ (l : List OpenDirectory). All (IsWeighed (outlined v)) (l ++ t.deepest ∷ [])) (sym bare.above)

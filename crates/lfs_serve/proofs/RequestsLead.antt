@@ -91,7 +91,7 @@ image_short size image is = omega (arith, is.len, is.geometry.length_fits)
 journal_short : JournalsAreShort → (d : Disk) (journal : List ℕ) (h : History) → DenotesOn d journal h → length journal ≤ most_journal
 journal_short short d [] h denotes = omega arith
 journal_short short d (byte ∷ bytes) h denotes =
-    omega (arith, short denotes.book denotes.spelled.book, ap length denotes.spelled.bytes_are)
+    short (byte ∷ bytes) denotes.book denotes.spelled
 
 image_read : (size : ℕ) (name read : List ℕ) (files : Files) (h : History) (denotes : FilesDenote size name files h)
     → ReadsFile (Some files) name most_image read → read ≡ denotes.0

@@ -69,7 +69,7 @@ fn extract_image<H: Host>(
     image: &Image,
     dir: &str,
 ) -> Result<(), Fault>
-    ensures made { EndsMaking image.now dir.now (H.known host.old).tree (H.known host.old).made (H.known host.new) (result_err result) }
+    ensures made { EndsMaking image.now.disk dir.now (H.known host.old).tree (H.known host.old).made (H.known host.new) (result_err result) }
     ensures kept { KeepsFiles (H.known host.old) (H.known host.new) }
 {
     let mounted = mount(alloc, image)?;

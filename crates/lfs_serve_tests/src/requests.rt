@@ -16,7 +16,7 @@ pub(crate) const JOURNAL: &str = "a.img.lfsj";
 
 /// A journal without changes, for 8 blocks of 512 bytes.
 pub(crate) const FRESH: [u8; 24] = [
-    0x6c, 0x66, 0x73, 0x6a, 1, 0, 0, 0, 0, 2, 0, 0, 8, 0, 0, 0, 0, 0, 0, 0, 0, 0, 0, 0,
+    0x6c, 0x66, 0x73, 0x6a, 2, 0, 0, 0, 0, 2, 0, 0, 8, 0, 0, 0, 0, 0, 0, 0, 0, 0, 0, 0,
 ];
 
 /// A directory.

@@ -76,10 +76,10 @@ fn say_summary<S: Sink>(
     mounted: &Mounted,
     out: &mut S,
 ) -> Result<(), Fault>
-    requires mounted { IsMountOf image.now mounted.now }
+    requires mounted { IsMountOf image.now.disk mounted.now }
     requires works { S.failed out.old ≡ false }
-    ensures refused { IfErr result (λ fault. RefusesReport Check image.now fault) }
-    ensures sent { SendsReport Check image.now (result_err result) (S.sent out.old) (S.sent out.new) }
+    ensures refused { IfErr result (λ fault. RefusesReport Check image.now.disk fault) }
+    ensures sent { SendsReport Check image.now.disk (result_err result) (S.sent out.old) (S.sent out.new) }
     ensures failed { S.failed out.new ≡ blames_output (result_err result) }
     ensures kept { S.kept out.new ≡ S.kept out.old }
 {
@@ -94,10 +94,10 @@ fn say_listing<S: Sink>(
     mounted: &Mounted,
     out: &mut S,
 ) -> Result<(), Fault>
-    requires mounted { IsMountOf image.now mounted.now }
+    requires mounted { IsMountOf image.now.disk mounted.now }
     requires works { S.failed out.old ≡ false }
-    ensures refused { IfErr result (λ fault. RefusesReport Ls image.now fault) }
-    ensures sent { SendsReport Ls image.now (result_err result) (S.sent out.old) (S.sent out.new) }
+    ensures refused { IfErr result (λ fault. RefusesReport Ls image.now.disk fault) }
+    ensures sent { SendsReport Ls image.now.disk (result_err result) (S.sent out.old) (S.sent out.new) }
     ensures failed { S.failed out.new ≡ blames_output (result_err result) }
     ensures kept { S.kept out.new ≡ S.kept out.old }
 {
@@ -115,10 +115,10 @@ fn say<S: Sink>(
     mounted: &Mounted,
     out: &mut S,
 ) -> Result<(), Fault>
-    requires mounted { IsMountOf image.now mounted.now }
+    requires mounted { IsMountOf image.now.disk mounted.now }
     requires works { S.failed out.old ≡ false }
-    ensures refused { IfErr result (λ fault. RefusesReport query.now image.now fault) }
-    ensures sent { SendsReport query.now image.now (result_err result) (S.sent out.old) (S.sent out.new) }
+    ensures refused { IfErr result (λ fault. RefusesReport query.now image.now.disk fault) }
+    ensures sent { SendsReport query.now image.now.disk (result_err result) (S.sent out.old) (S.sent out.new) }
     ensures failed { S.failed out.new ≡ blames_output (result_err result) }
     ensures kept { S.kept out.new ≡ S.kept out.old }
 {
@@ -141,8 +141,8 @@ fn report<S: Sink>(
     out: &mut S,
 ) -> Result<(), Fault>
     requires { S.failed out.old ≡ false }
-    ensures refused { IfErr result (λ fault. RefusesReport query.now image.now fault) }
-    ensures sent { SendsReport query.now image.now (result_err result) (S.sent out.old) (S.sent out.new) }
+    ensures refused { IfErr result (λ fault. RefusesReport query.now image.now.disk fault) }
+    ensures sent { SendsReport query.now image.now.disk (result_err result) (S.sent out.old) (S.sent out.new) }
     ensures failed { S.failed out.new ≡ blames_output (result_err result) }
     ensures kept { S.kept out.new ≡ S.kept out.old }
 {

@@ -12,7 +12,7 @@ use std::alloc::{AllocError, Global};
 ///
 /// Source: own.
 pub fn summary(alloc: Global, image: &Image, mounted: &Mounted) -> Result<String, AllocError>
-    ensures { IfOk result (λ text. string_bytes text ≡ summary image.now mounted.now) }
+    ensures { IfOk result (λ text. string_bytes text ≡ summary image.now.disk mounted.now) }
 {
     let size = image.size();
     let count = image.count();

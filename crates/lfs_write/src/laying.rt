@@ -25,10 +25,10 @@ pub fn laid(
     blocks: &[u32],
 ) -> Result<Vec<Record>, AllocError>
     requires rising { AllPairs ◌<◌ blocks.now }
-    requires below { All (λ b. b < image.now.count) blocks.now }
-    requires many { length blocks.now ≡ least_blocks image.now.size (length bytes.now) }
+    requires below { All (λ b. b < image.now.disk.count) blocks.now }
+    requires many { length blocks.now ≡ least_blocks image.now.disk.size (length bytes.now) }
     requires few { length blocks.now < 2 ^ 32 }
-    ensures { IfOk result (λ changes. AreLaid image.now bytes.now blocks.now changes.items) }
+    ensures { IfOk result (λ changes. AreLaid image.now.disk bytes.now blocks.now changes.items) }
 {
     laid_blocks_are_whole();
     let size = image.size();
@@ -48,11 +48,11 @@ pub fn laid_for(
     blocks: &[u32],
 ) -> Result<Vec<Record>, AllocError>
     requires rising { AllPairs ◌<◌ blocks.now }
-    requires below { All (λ b. b < image.now.count) blocks.now }
-    requires many { (v : Volume) → v.size ≡ image.now.size → length blocks.now ≡ data_blocks v (named_command command.now) }
+    requires below { All (λ b. b < image.now.disk.count) blocks.now }
+    requires many { (v : Volume) → v.size ≡ image.now.disk.size → length blocks.now ≡ data_blocks v (named_command command.now) }
     requires few { length blocks.now < 2 ^ 32 }
-    ensures { IfOk result (λ changes. (v : Volume) (s : Supplies) → v.size ≡ image.now.size → s.blocks ≡ blocks.now
-        → AreLaidFor image.now v (named_command command.now) s changes.items) }
+    ensures { IfOk result (λ changes. (v : Volume) (s : Supplies) → v.size ≡ image.now.disk.size → s.blocks ≡ blocks.now
+        → AreLaidFor image.now.disk v (named_command command.now) s changes.items) }
 {
     match command {
         NamedCommand::Put { bytes, .. } if bytes.len() > most_inline(image.size()) as usize => {

@@ -34,12 +34,12 @@ fn add_change(
     new: Vec<u8>,
     changes: &mut Vec<Record>,
 ) -> Result<(), AllocError>
-    requires within { number < image.now.count }
-    requires len { length new.items ≡ image.now.size }
+    requires within { number < image.now.disk.count }
+    requires len { length new.items ≡ image.now.disk.size }
     requires rising { IsRising changes.old.items }
-    requires made { AllByRecursion (CanBeMade image.now) changes.old.items }
+    requires made { AllByRecursion (CanBeMade image.now.disk) changes.old.items }
     requires free { times number (changed_blocks changes.old.items) ≡ 0 }
-    ensures { OnOk result (AddsChange image.now (change_at image.now number new.items) changes.old.items changes.new.items) }
+    ensures { OnOk result (AddsChange image.now.disk (change_at image.now.disk number new.items) changes.old.items changes.new.items) }
 {
     let _size = image.size();
     let change = change_of(alloc, image, number, new)?;
@@ -49,8 +49,8 @@ fn add_change(
 
 /// The block of a pair that isn't live, rewritten with a part, and its number. The caller owes what `FitsPair` says.
 fn rewritten(alloc: Global, image: &Image, part: &Part) -> Result<(u32, Vec<u8>), AllocError>
-    requires { FitsPair image.now part.now }
-    ensures { IfOk result (λ new. IsRewritten image.now part.now.0 part.now.1 new.0 new.1.items) }
+    requires { FitsPair image.now.disk part.now }
+    ensures { IfOk result (λ new. IsRewritten image.now.disk part.now.0 part.now.1 new.0 new.1.items) }
 {
     let Ok(new) = rewrite(
         alloc,
@@ -73,8 +73,8 @@ fn changed(
     part: &Part,
     forced: Forced<'_>,
 ) -> Result<(u32, Vec<u8>), AllocError>
-    requires { FitsPair image.now part.now }
-    ensures { IfOk result (λ new. IsChanged image.now part.now.0 (forced_seen forced.entry) part.now.1 new.0 new.1.items) }
+    requires { FitsPair image.now.disk part.now }
+    ensures { IfOk result (λ new. IsChanged image.now.disk part.now.0 (forced_seen forced.entry) part.now.1 new.0 new.1.items) }
 {
     let Ok(new) = change_pair(
         alloc,
@@ -99,8 +99,8 @@ fn pair_block(
     is_cut: bool,
     forced: Forced<'_>,
 ) -> Result<(u32, Vec<u8>), AllocError>
-    requires { FitsPair image.now part.now }
-    ensures { IfOk result (λ new. IsPairsBlock image.now is_cut (forced_seen forced.entry) part.now new.0 new.1.items) }
+    requires { FitsPair image.now.disk part.now }
+    ensures { IfOk result (λ new. IsPairsBlock image.now.disk is_cut (forced_seen forced.entry) part.now new.0 new.1.items) }
 {
     if is_cut {
         rewritten(alloc, image, part)
@@ -119,11 +119,11 @@ fn change_part(
     forced: Forced<'_>,
     changes: &mut Vec<Record>,
 ) -> Result<(), AllocError>
-    requires fits { FitsPair image.now part.now }
-    requires free { IsFreeFor image.now part.now.0 changes.old.items }
-    ensures adds { OnOk result (AddsPart image.now part.now.0 (number_in changes.new.items part.now.0 ∷ []) part.now.1
+    requires fits { FitsPair image.now.disk part.now }
+    requires free { IsFreeFor image.now.disk part.now.0 changes.old.items }
+    ensures adds { OnOk result (AddsPart image.now.disk part.now.0 (number_in changes.new.items part.now.0 ∷ []) part.now.1
         changes.old.items changes.new.items) }
-    ensures changed { OnOk result (IsPairWritten image.now is_cut (forced_seen forced.entry) part.now.0 changes.new.items) }
+    ensures changed { OnOk result (IsPairWritten image.now.disk is_cut (forced_seen forced.entry) part.now.0 changes.new.items) }
 {
     put_blocks_stand();
     let _size = image.size();
@@ -140,11 +140,11 @@ fn fill_pair(
     part: &Part,
     changes: &mut Vec<Record>,
 ) -> Result<(), AllocError>
-    requires fits { FitsPair image.now part.now }
-    requires free { IsFreeFor image.now part.now.0 changes.old.items }
-    ensures adds { OnOk result (AddsPart image.now part.now.0 (part.now.0.0 ∷ part.now.0.1 ∷ [])
+    requires fits { FitsPair image.now.disk part.now }
+    requires free { IsFreeFor image.now.disk part.now.0 changes.old.items }
+    ensures adds { OnOk result (AddsPart image.now.disk part.now.0 (part.now.0.0 ∷ part.now.0.1 ∷ [])
         (stored_part part.now.1.entries part.now.1.tail (replicate 12 0)) changes.old.items changes.new.items) }
-    ensures filled { OnOk result (FillsFirst image.now changes.new.items part.now.0) }
+    ensures filled { OnOk result (FillsFirst image.now.disk changes.new.items part.now.0) }
 {
     let size = image.size();
     let Some(block) = first_block(alloc, size, &part.entries, part.tail) else {
@@ -206,13 +206,13 @@ fn write_part(
     changes: &mut Vec<Record>,
 ) -> Result<(), AllocError>
     requires rise { AreAttributes outline.now.limits.attribute outline.now.attributes }
-    requires may { CanBeWritten image.now (volume_bytes outline.now) outline.now.attributes (link_to part.now tail) }
+    requires may { CanBeWritten image.now.disk (volume_bytes outline.now) outline.now.attributes (link_to part.now tail) }
     requires fresh { is_unmarked used.now part.now.pair ≡ true → part.now.delta ≡ 0 }
-    requires free { IsFreeFor image.now part.now.pair changes.old.items }
-    ensures adds { OnOk result (AddsLink image.now (volume_bytes outline.now) outline.now.attributes (is_unmarked used.now) (link_to part.now tail)
+    requires free { IsFreeFor image.now.disk part.now.pair changes.old.items }
+    ensures adds { OnOk result (AddsLink image.now.disk (volume_bytes outline.now) outline.now.attributes (is_unmarked used.now) (link_to part.now tail)
         changes.old.items changes.new.items) }
     ensures changed { OnOk result (is_unmarked used.now part.now.pair ≡ false
-        → IsPairWritten image.now (is_cut_by (is_unmarked used.now) tail) (forced_seen forced.entry) part.now.pair changes.new.items) }
+        → IsPairWritten image.now.disk (is_cut_by (is_unmarked used.now) tail) (forced_seen forced.entry) part.now.pair changes.new.items) }
 {
     let stored = stored_link(alloc, outline, part, tail)?;
     if is_unmarked(used, part.pair) {
@@ -237,11 +237,11 @@ fn write_link(
     changes: &mut Vec<Record>,
 ) -> Result<(), AllocError>
     requires rise { AreAttributes outline.now.limits.attribute outline.now.attributes }
-    requires can { CanBeAdded image.now (volume_bytes outline.now) outline.now.attributes (is_unmarked used.now)
+    requires can { CanBeAdded image.now.disk (volume_bytes outline.now) outline.now.attributes (is_unmarked used.now)
         changes.old.items (link_to part.now tail ∷ []) }
-    ensures written { OnOk result (AreWritten image.now (volume_bytes outline.now) outline.now.attributes (is_unmarked used.now)
+    ensures written { OnOk result (AreWritten image.now.disk (volume_bytes outline.now) outline.now.attributes (is_unmarked used.now)
         changes.old.items (link_to part.now tail ∷ []) changes.new.items) }
-    ensures changed { OnOk result (ChangesLinks image.now (is_unmarked used.now) (forced_seen forced.entry)
+    ensures changed { OnOk result (ChangesLinks image.now.disk (is_unmarked used.now) (forced_seen forced.entry)
         (link_to part.now tail ∷ []) changes.new.items) }
 {
     if part.dirty {
@@ -266,10 +266,10 @@ pub fn write_links(
     base: Vec<Record>,
 ) -> Result<Vec<Record>, AllocError>
     requires rise { AreAttributes outline.now.limits.attribute outline.now.attributes }
-    requires can { CanBeAdded image.now (volume_bytes outline.now) outline.now.attributes (is_unmarked used.now) base.items (links outline.now.directories) }
-    ensures written { IfOk result (λ changes. AreWritten image.now (volume_bytes outline.now) outline.now.attributes (is_unmarked used.now)
+    requires can { CanBeAdded image.now.disk (volume_bytes outline.now) outline.now.attributes (is_unmarked used.now) base.items (links outline.now.directories) }
+    ensures written { IfOk result (λ changes. AreWritten image.now.disk (volume_bytes outline.now) outline.now.attributes (is_unmarked used.now)
         base.items (links outline.now.directories) changes.items) }
-    ensures changed { IfOk result (λ changes. ChangesLinks image.now (is_unmarked used.now) (forced_seen forced.entry)
+    ensures changed { IfOk result (λ changes. ChangesLinks image.now.disk (is_unmarked used.now) (forced_seen forced.entry)
         (links outline.now.directories) changes.items) }
 {
     let all = outline_links(alloc, outline)?;

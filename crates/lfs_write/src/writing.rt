@@ -15,8 +15,8 @@ pub(crate) fn change_of(
     number: u32,
     new: Vec<u8>,
 ) -> Result<Record, AllocError>
-    requires { number < image.now.count }
-    ensures change { IfOk result (λ change. change ≡ change_at image.now number new.items) }
+    requires { number < image.now.disk.count }
+    ensures change { IfOk result (λ change. change ≡ change_at image.now.disk number new.items) }
     ensures bytes { IsBytes new.items }
 {
     let old = Vec::from_slice(alloc, image.block(number))?;
@@ -30,9 +30,9 @@ pub(crate) fn changes_of(
     blocks: &[u32],
     contents: Vec<Vec<u8>>,
 ) -> Result<Vec<Record>, AllocError>
-    requires below { All (λ b. b < image.now.count) blocks.now }
+    requires below { All (λ b. b < image.now.disk.count) blocks.now }
     requires many { length contents.items ≡ length blocks.now }
-    ensures { IfOk result (λ changes. changes.items ≡ changes_at image.now blocks.now (map (λ c. c.items) contents.items)) }
+    ensures { IfOk result (λ changes. changes.items ≡ changes_at image.now.disk blocks.now (map (λ c. c.items) contents.items)) }
 {
     let mut changes = Vec::new(alloc);
     'each: for new in contents {

@@ -6,5 +6,5 @@ use Rattle.lfs_book.proofs.reading.records_at.Given as goal
 
 abbrev pub invariant-loop : goal.invariant-loop
 invariant-loop l =
-    with_front l.records.items (changes_at l.head.size l.head.count (l.many - l.counter) l.least l.rest)
-    ≡ changes_at l.head.size l.head.count l.many 0 l.bytes
+    with_front l.records.items (changes_at l.size l.counts.before l.counts.after (l.many - l.counter) l.least l.rest)
+    ≡ changes_at l.size l.counts.before l.counts.after l.many 0 l.bytes

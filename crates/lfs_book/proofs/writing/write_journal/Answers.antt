@@ -8,5 +8,5 @@ use Rattle.lfs_book.proofs.writing.write_journal.Goals as goal
 pub bytes_of-requires-clause-few : goal.bytes_of-requires-clause-few
 bytes_of-requires-clause-few c =
     let patches = c.args.patches.now in
-    patches_few c.args.size c.args.count patches c.requires.book.geometry.count_fits.1
-    (subst (AllByRecursion (IsPatchOf c.args.size c.args.count)) (take-append-drop c.args.done patches) c.requires.book.each)
+    patches_few c.args.size patches
+    (subst (AllByRecursion (IsPatchOf c.args.size)) (take-append-drop c.args.done patches) c.requires.book.each)

@@ -9,5 +9,5 @@ unreachable-requires c =
 
 pub returns : goal.returns
 returns c =
-    is_erased c.in-Ok.image (c.args.size * c.args.count) c.in-Ok.ensures.disk
+    is_erased c.in-Ok.image.disk (c.args.size * c.args.count) c.in-Ok.ensures.disk
     (c.in-Ok.ensures.bytes ∙ c.in_ok-bytes.ensures.items_if_clones_equal (λ y same. same)) c.args.size c.args.count c.in-Ok.ensures.size refl

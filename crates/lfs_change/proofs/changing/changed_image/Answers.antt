@@ -12,10 +12,10 @@ returns-in-Err-clause-answers c =
     let step = step_of c.args.change.now in
     let why = c.in-Err.field-0.fault in
     let read : c.read_journal.result.now ≡ journal_read step c.args.journal.items = search rules in
-    let refuses : RefusesDenoting why c.args.image (journal_read step c.args.journal.items) =
-    subst (λ (bytes : List ℕ). RefusesDenoting why c.args.image bytes) read c.in-Err.ensures.refused in
-    let image : o.image.items ≡ c.args.image.bytes = search rules in
+    let refuses : RefusesDenoting why c.args.image.disk (journal_read step c.args.journal.items) =
+    subst (λ (bytes : List ℕ). RefusesDenoting why c.args.image.disk bytes) read c.in-Err.ensures.refused in
+    let image : o.image.items ≡ c.args.image.disk.bytes = search rules in
     let same : o.journal.items ≡ c.args.journal.items = search rules in
     let fault : o.fault ≡ Some (fault_of_opening why) = search rules in
-    subst (λ (x : Option Fault). AnswersImage x step c.args.image c.args.journal.items o) (sym fault)
-    (opening_answers why step c.args.image c.args.journal.items o refuses image same)
+    subst (λ (x : Option Fault). AnswersImage x step c.args.image.disk c.args.journal.items o) (sym fault)
+    (opening_answers why step c.args.image.disk c.args.journal.items o refuses image same)

@@ -6,4 +6,4 @@ pub returns-then-not-is_empty-clause-opened : goal.returns-then-not-is_empty-cla
 returns-then-not-is_empty-clause-opened c =
     let journal = c.args.journal.now in
     let some = some_bytes journal c.is_empty.result c.is_empty.ensures c.if-not-is_empty.true in
-    IfOk-weaker c.open.result _ _ (λ session opens. opened_denotes c.args.image journal session some opens) c.open.ensures.opened
+    IfOk-weaker c.open.result _ _ (λ session opens. opened_denotes c.args.image.disk journal session some opens) c.open.ensures.opened

@@ -13,29 +13,29 @@ use Rattle.lfs_edit.proofs.carrying.carry_judged.Goals as goal
 
 pub used_blocks-requires : goal.used_blocks-requires
 used_blocks-requires c =
-    (editable c.outlines_are_sound.ensures c.carrying_laws.ensures c.names_are_ordered.ensures c.args.image.now
+    (editable c.outlines_are_sound.ensures c.carrying_laws.ensures c.names_are_ordered.ensures c.args.image.now.disk
     (named_command c.args.command.now) c.args.outline.now c.requires.judged).sound
 
 pub edit_least-requires-clause-editable : goal.edit_least-requires-clause-editable
 edit_least-requires-clause-editable c =
-    editable c.outlines_are_sound.ensures c.carrying_laws.ensures c.names_are_ordered.ensures c.args.image.now
+    editable c.outlines_are_sound.ensures c.carrying_laws.ensures c.names_are_ordered.ensures c.args.image.now.disk
     (named_command c.args.command.now) c.args.outline.now c.requires.judged
 
 pub edit_least-requires-clause-len : goal.edit_least-requires-clause-len
 edit_least-requires-clause-len c =
     contents_short c.args.outline.now c.args.command.now
-    (editable c.outlines_are_sound.ensures c.carrying_laws.ensures c.names_are_ordered.ensures c.args.image.now
+    (editable c.outlines_are_sound.ensures c.carrying_laws.ensures c.names_are_ordered.ensures c.args.image.now.disk
     (named_command c.args.command.now) c.args.outline.now c.requires.judged)
 
 pub data_blocks-requires-clause-len : goal.data_blocks-requires-clause-len
 data_blocks-requires-clause-len c =
     contents_short c.args.outline.now c.args.command.now
-    (editable c.outlines_are_sound.ensures c.carrying_laws.ensures c.names_are_ordered.ensures c.args.image.now
+    (editable c.outlines_are_sound.ensures c.carrying_laws.ensures c.names_are_ordered.ensures c.args.image.now.disk
     (named_command c.args.command.now) c.args.outline.now c.requires.judged)
 
 pub overflow_add-made : goal.overflow_add-made
 overflow_add-made c =
-    let d = c.args.image.now in
+    let d = c.args.image.now.disk in
     let command = named_command c.args.command.now in
     let u = unweighed c.carrying_laws.ensures d command c.args.outline.now c.edit_least.new.outline c.in_ok-used.used c.requires.judged
     c.in_ok-used.ensures.marks c.in_ok-used.ensures.free c.in_ok-edit_least.ensures in
@@ -51,7 +51,7 @@ overflow_add-made c =
 
 pub needed_blocks-requires-clause-size : goal.needed_blocks-requires-clause-size
 needed_blocks-requires-clause-size c =
-    let d = c.args.image.now in
+    let d = c.args.image.now.disk in
     let command = named_command c.args.command.now in
     let u = unweighed c.carrying_laws.ensures d command c.args.outline.now c.edit_least.new.outline c.in_ok-used.used c.requires.judged
     c.in_ok-used.ensures.marks c.in_ok-used.ensures.free c.in_ok-edit_least.ensures in
@@ -61,7 +61,7 @@ needed_blocks-requires-clause-size c =
 
 pub needed_blocks-requires-clause-small : goal.needed_blocks-requires-clause-small
 needed_blocks-requires-clause-small c =
-    let d = c.args.image.now in
+    let d = c.args.image.now.disk in
     let command = named_command c.args.command.now in
     let u = unweighed c.carrying_laws.ensures d command c.args.outline.now c.edit_least.new.outline c.in_ok-used.used c.requires.judged
     c.in_ok-used.ensures.marks c.in_ok-used.ensures.free c.in_ok-edit_least.ensures in
@@ -77,7 +77,7 @@ needed_blocks-requires-clause-small c =
 
 pub returns-in_err-blocks-clause-refused : goal.returns-in_err-blocks-clause-refused
 returns-in_err-blocks-clause-refused c =
-    let d = c.args.image.now in
+    let d = c.args.image.now.disk in
     let command = named_command c.args.command.now in
     let used = c.in_ok-used.used in
     let o = c.edit_least.new.outline in
@@ -96,7 +96,7 @@ returns-in_err-blocks-clause-refused c =
 
 pub carry_ready-requires-clause-ready : goal.carry_ready-requires-clause-ready
 carry_ready-requires-clause-ready c =
-    let d = c.args.image.now in
+    let d = c.args.image.now.disk in
     let command = named_command c.args.command.now in
     let used = c.in_ok-used.used in
     let o = c.edit_least.new.outline in
@@ -114,5 +114,5 @@ carry_ready-requires-clause-ready c =
 pub carry_ready-requires-clause-len : goal.carry_ready-requires-clause-len
 carry_ready-requires-clause-len c =
     contents_short c.args.outline.now c.args.command.now
-    (editable c.outlines_are_sound.ensures c.carrying_laws.ensures c.names_are_ordered.ensures c.args.image.now
+    (editable c.outlines_are_sound.ensures c.carrying_laws.ensures c.names_are_ordered.ensures c.args.image.now.disk
     (named_command c.args.command.now) c.args.outline.now c.requires.judged)

@@ -9,20 +9,20 @@ use Rattle.lfs_edit.proofs.carrying.carry_ready.Goals as goal
 pub split_at-requires : goal.split_at-requires
 split_at-requires c =
     let v = c.requires.ready.volume in
-    let known = known_ready c.carrying_laws.ensures c.args.image.now (named_command c.args.command.now) c.args.used.now c.args.blocks.now
+    let known = known_ready c.carrying_laws.ensures c.args.image.now.disk (named_command c.args.command.now) c.args.used.now c.args.blocks.now
     c.args.outline.now c.requires.ready in
     omega (arith, known.made, c.data_blocks-data.ensures v (known.size ∙ sym c.size-size.ensures.value), c.directory_blocks.ensures)
 
 pub cut_over-requires-clause-size : goal.cut_over-requires-clause-size
 cut_over-requires-clause-size c =
-    let known = known_ready c.carrying_laws.ensures c.args.image.now (named_command c.args.command.now) c.args.used.now c.args.blocks.now
+    let known = known_ready c.carrying_laws.ensures c.args.image.now.disk (named_command c.args.command.now) c.args.used.now c.args.blocks.now
     c.args.outline.now c.requires.ready in
     omega (arith, known.frame, c.size-size.ensures.disk.geometry.size_fits.1)
 
 pub cut_over-requires-clause-needed : goal.cut_over-requires-clause-needed
 cut_over-requires-clause-needed c =
     let v = c.requires.ready.volume in
-    let known = known_ready c.carrying_laws.ensures c.args.image.now (named_command c.args.command.now) c.args.used.now c.args.blocks.now
+    let known = known_ready c.carrying_laws.ensures c.args.image.now.disk (named_command c.args.command.now) c.args.used.now c.args.blocks.now
     c.args.outline.now c.requires.ready in
     omega (
       arith,
@@ -34,12 +34,12 @@ cut_over-requires-clause-needed c =
 
 pub cut_over-requires-clause-once : goal.cut_over-requires-clause-once
 cut_over-requires-clause-once c =
-    (known_ready c.carrying_laws.ensures c.args.image.now (named_command c.args.command.now) c.args.used.now c.args.blocks.now
+    (known_ready c.carrying_laws.ensures c.args.image.now.disk (named_command c.args.command.now) c.args.used.now c.args.blocks.now
     c.args.outline.now c.requires.ready).once
 
 pub cut_over-requires-clause-few : goal.cut_over-requires-clause-few
 cut_over-requires-clause-few c =
-    (known_ready c.carrying_laws.ensures c.args.image.now (named_command c.args.command.now) c.args.used.now c.args.blocks.now
+    (known_ready c.carrying_laws.ensures c.args.image.now.disk (named_command c.args.command.now) c.args.used.now c.args.blocks.now
     c.args.outline.now c.requires.ready).few
 
 pub written-requires-clause-cut : goal.written-requires-clause-cut
@@ -47,7 +47,7 @@ written-requires-clause-cut c =
     let command = named_command c.args.command.now in
     let v = c.requires.ready.volume in
     let blocks = c.args.blocks.now in
-    let known = known_ready c.carrying_laws.ensures c.args.image.now command c.args.used.now blocks c.args.outline.now c.requires.ready in
+    let known = known_ready c.carrying_laws.ensures c.args.image.now.disk command c.args.used.now blocks c.args.outline.now c.requires.ready in
     let made : c.data_blocks-data.result + c.directory_blocks.result ≡ made_blocks v command =
     omega (arith, c.data_blocks-data.ensures v (known.size ∙ sym c.size-size.ensures.value), c.directory_blocks.ensures) in
     record {

@@ -7,6 +7,6 @@ use Rattle.lfs_edit.proofs.carrying_out.carry_or_restore.Goals as goal
 pub returns-in_ok-outline-in-Err : goal.returns-in_ok-outline-in-Err
 returns-in_ok-outline-in-Err c = record {
   finished = tt;
-  refused = may_be_refused c.args.image.now (named_command c.args.command.now) c.in-Err.refusal c.in-Err.ensures.refused;
+  refused = may_be_refused c.args.image.now.disk (named_command c.args.command.now) c.in-Err.refusal c.in-Err.ensures.refused;
   unchanged = inr (c.in_ok-outline-in-Err.ensures.only c.args.outline.now c.requires.judged.outline);
 }

@@ -9,7 +9,7 @@ pub returns-in_err-judge-clause-refused : goal.returns-in_err-judge-clause-refus
 returns-in_err-judge-clause-refused c =
     let p = err_from_is_err_and c.from_residual-in_err-judge.result c.from_residual-in_err-judge.ensures.1 in
     rw (p.1, p.2) (
-    refused_on c.outlines_are_judged_alike.ensures.judged c.args.image.now c.args.outline.now c.requires.outline
+    refused_on c.outlines_are_judged_alike.ensures.judged c.args.image.now.disk c.args.outline.now c.requires.outline
     (asked_for c.args.command.now) (named_command c.in_ok-command.command)
     c.in_ok-command.ensures.spelled c.in_err-judge.field-0.0 c.in_err-judge.ensures.refused)
 

@@ -16,8 +16,8 @@ pub returns-in_err-judge-clause-refused : goal.returns-in_err-judge-clause-refus
 returns-in_err-judge-clause-refused c =
     let p = err_from_is_err_and c.from_residual-in_err-judge.result c.from_residual-in_err-judge.ensures.1 in
     rw (p.1, p.2) (
-    refused_on c.outlines_are_judged_alike.ensures.judged c.args.image.now c.outline.result.now
-    (subst (IsOutlineOf c.args.image.now) (sym c.outline.ensures) (outline_of_mount c.args.image.now c.args.mounted.now c.requires.mounted))
+    refused_on c.outlines_are_judged_alike.ensures.judged c.args.image.now.disk c.outline.result.now
+    (subst (IsOutlineOf c.args.image.now.disk) (sym c.outline.ensures) (outline_of_mount c.args.image.now.disk c.args.mounted.now c.requires.mounted))
     (asked_for c.args.command.now) (named_command c.in_ok-command.command) c.in_ok-command.ensures.spelled c.in_err-judge.field-0.0
     c.in_err-judge.ensures.refused)
 
@@ -25,18 +25,18 @@ pub outline_of-requires : goal.outline_of-requires
 outline_of-requires c = record {
   outline = (
     c.args.mounted.now.outline,
-    outline_of_mount c.args.image.now c.args.mounted.now c.requires.mounted,
+    outline_of_mount c.args.image.now.disk c.args.mounted.now c.requires.mounted,
   );
 }
 
 pub carry_judged-requires : goal.carry_judged-requires
 carry_judged-requires c =
-    let same = c.in_ok-outline.ensures.only c.args.mounted.now.outline (outline_of_mount c.args.image.now
+    let same = c.in_ok-outline.ensures.only c.args.mounted.now.outline (outline_of_mount c.args.image.now.disk
     c.args.mounted.now c.requires.mounted) in
     record {
-      judged = subst (IsJudged c.args.image.now (named_command c.in_ok-command.command)) (c.outline.ensures ∙ sym same) (record {
-        outline = subst (IsOutlineOf c.args.image.now) (sym c.outline.ensures)
-            (outline_of_mount c.args.image.now c.args.mounted.now c.requires.mounted);
+      judged = subst (IsJudged c.args.image.now.disk (named_command c.in_ok-command.command)) (c.outline.ensures ∙ sym same) (record {
+        outline = subst (IsOutlineOf c.args.image.now.disk) (sym c.outline.ensures)
+            (outline_of_mount c.args.image.now.disk c.args.mounted.now c.requires.mounted);
         names = c.in_ok-command.ensures.spelled.0;
         unrefused = c.in_ok-judge.ensures.unrefused;
       });
@@ -49,5 +49,5 @@ returns-clause-planned c =
 
 pub returns-clause-refused : goal.returns-clause-refused
 returns-clause-refused c =
-    IfErr-weaker c.carry_judged.result _ _ (λ r refused. may_be_refused c.args.image.now (named_command c.in_ok-command.command) r refused
+    IfErr-weaker c.carry_judged.result _ _ (λ r refused. may_be_refused c.args.image.now.disk (named_command c.in_ok-command.command) r refused
     (asked_for c.args.command.now) c.in_ok-command.ensures.spelled) c.carry_judged.ensures.refused

@@ -1,39 +1,63 @@
 -- Behind the change that is taken back stand those before it.
-use Rattle.std.proofs.Common.{◌≡◌, ◌↔◌, [], ◌∷◌, ◌++◌, IsTrue, reverse, rules, sym, ap, ◌∙◌, subst}
+use Rattle.std.proofs.Common.{◌≡◌, ◌↔◌, ◌≤◌, ℕ, [], ◌∷◌, ◌++◌, IsTrue, reverse, rules, sym, ap, ◌∙◌, subst}
+use Rattle.std.specs.List.{AllByRecursion}
 use Rattle.lfs_block.specs.Disk.{Disk}
-use Rattle.lfs_block.specs.Patch.{IsPatch, AgreesOld, AgreesNew, applied, reverted}
+use Rattle.lfs_block.specs.Patch.{ChangeSet, IsGrowth, AgreesOld, AgreesNew, applied, reverted}
 use Rattle.lfs_history.specs.History.{GoesBack}
-use Rattle.lfs_journal.proofs.OpeningLemmas.{last_of, back_agrees}
+use Rattle.lfs_journal.specs.Known.{HasRoom}
+use Rattle.lfs_journal.proofs.OpeningLemmas.{each_last, last_of, back_agrees}
+use Rattle.lfs_journal.proofs.RoomLemmas.{room_same}
 use Rattle.lfs_journal.proofs.agreeing.+goes_back.Goals as goal
 
-pub apply-requires : goal.apply-requires
-apply-requires t c =
+pub goes_back-agrees-requires : goal.goes_back-agrees-requires
+goes_back-agrees-requires t c =
     let p = c.in-Some.last.now in
-    let d = c.args.image.now in
+    let ps = c.in-Some.earlier.now in
+    let is : c.args.patches.now ≡ ps ++ p ∷ [] = search rules in
+    let growths = subst (AllByRecursion IsGrowth) is c.requires.patches in
+    let room = subst (HasRoom c.args.image.now.room) is c.requires.room in
+    (
+      c.revert.ensures.disk.disk,
+      (each_last IsGrowth ps p growths).0,
+      room_same c.args.image.now.room c.revert.new.image.room ps c.revert.ensures.room
+          (each_last (λ q. q.after ≤ c.args.image.now.room) ps p room).0,
+    )
+
+pub apply-requires-clause-agrees : goal.apply-requires-clause-agrees
+apply-requires-clause-agrees t c =
+    let p = c.in-Some.last.now in
+    let d = c.args.image.now.disk in
     let is : c.args.patches.now ≡ c.in-Some.earlier.now ++ p ∷ [] = search rules in
-    let patch = last_of IsPatch c.args.patches.now c.in-Some.earlier.now p is c.requires.patches in
+    let growth = last_of IsGrowth c.args.patches.now c.in-Some.earlier.now p is c.requires.patches in
     let agrees : AgreesNew p d = search rules in
-    let to : c.goes_back-agrees.new.image ≡ reverted p d = c.goes_back-agrees.ensures.image ∙ c.revert.ensures.reverted in
-    subst (AgreesOld p) (sym to) (c.reverted_patches_apply_again.ensures.agrees p d c.requires.disk patch agrees)
+    let to : c.goes_back-agrees.new.image.disk ≡ reverted p d = c.goes_back-agrees.ensures.disk ∙ c.revert.ensures.reverted in
+    subst (AgreesOld p) (sym to) (c.reverted_patches_apply_again.ensures.agrees p d c.requires.disk growth.patch agrees)
+
+pub apply-requires-clause-room : goal.apply-requires-clause-room
+apply-requires-clause-room t c =
+    let p = c.in-Some.last.now in
+    let is : c.args.patches.now ≡ c.in-Some.earlier.now ++ p ∷ [] = search rules in
+    let fits = last_of (λ q. q.after ≤ c.args.image.now.room) c.args.patches.now c.in-Some.earlier.now p is c.requires.room in
+    subst (λ (n : ℕ). p.after ≤ n) (sym (c.goes_back-agrees.ensures.room ∙ c.revert.ensures.room)) fits
 
 pub returns-clause-agrees : goal.returns-clause-agrees
 returns-clause-agrees t c =
     let p = c.in-Some.last.now in
     let ps = c.in-Some.earlier.now in
-    let d = c.args.image.now in
+    let d = c.args.image.now.disk in
     let is : c.args.patches.now ≡ c.in-Some.earlier.now ++ p ∷ [] = search rules in
-    let patch = last_of IsPatch c.args.patches.now c.in-Some.earlier.now p is c.requires.patches in
+    let growth = last_of IsGrowth c.args.patches.now c.in-Some.earlier.now p is c.requires.patches in
     let agrees : AgreesNew p d = search rules in
     let both : IsTrue c.goes_back-agrees.result ↔ GoesBack (reverse ps) (reverted p d) =
     subst (λ (e : Disk). IsTrue c.goes_back-agrees.result ↔ GoesBack (reverse ps) e) c.revert.ensures.reverted c.goes_back-agrees.ensures.agrees in
-    back_agrees c.args.patches.now ps p d c.goes_back-agrees.result is patch agrees both
+    back_agrees c.args.patches.now ps p d c.goes_back-agrees.result is growth agrees both
 
-pub returns-clause-image : goal.returns-clause-image
-returns-clause-image t c =
+pub returns-clause-disk : goal.returns-clause-disk
+returns-clause-disk t c =
     let p = c.in-Some.last.now in
-    let d = c.args.image.now in
+    let d = c.args.image.now.disk in
     let is : c.args.patches.now ≡ c.in-Some.earlier.now ++ p ∷ [] = search rules in
-    let patch = last_of IsPatch c.args.patches.now c.in-Some.earlier.now p is c.requires.patches in
+    let growth = last_of IsGrowth c.args.patches.now c.in-Some.earlier.now p is c.requires.patches in
     let agrees : AgreesNew p d = search rules in
-    let to : c.goes_back-agrees.new.image ≡ reverted p d = c.goes_back-agrees.ensures.image ∙ c.revert.ensures.reverted in
-    c.apply.ensures.applied ∙ ap (applied p) to ∙ c.reverted_patches_apply_again.ensures.again p d c.requires.disk patch agrees
+    let to : c.goes_back-agrees.new.image.disk ≡ reverted p d = c.goes_back-agrees.ensures.disk ∙ c.revert.ensures.reverted in
+    c.apply.ensures.applied ∙ ap (applied p) to ∙ c.reverted_patches_apply_again.ensures.again p d c.requires.disk growth.patch agrees

@@ -1,37 +1,69 @@
 -- Before the images behind later changes stands the one behind the next.
-use Rattle.std.proofs.Common.{◌≡◌, ◌∷◌, rules, sym, ap, ◌∙◌, subst}
+use Rattle.std.proofs.Common.{◌≡◌, ◌≤◌, ℕ, List, ◌∷◌, rules, sym, ap, ◌∙◌, subst}
 use Rattle.std.proofs.lemmas.Result.{IfErr-weaker}
-use Rattle.lfs_block.specs.Patch.{IsPatch, AgreesOld, AgreesNew, applied, reverted}
-use Rattle.lfs_history.specs.History.{future_of}
+use Rattle.lfs_block.specs.Disk.{Disk, erased_block}
+use Rattle.lfs_block.specs.Patch.{ChangeSet, AgreesNew, applied, reverted}
+use Rattle.lfs_history.specs.History.{GoesForward, future_of}
+use Rattle.lfs_journal.specs.Known.{HasRoom}
 use Rattle.lfs_journal.specs.Opened.{RefusesMounts}
 use Rattle.lfs_journal.proofs.OpeningLemmas.{future_later_refused}
+use Rattle.lfs_journal.proofs.RoomLemmas.{room_same}
 use Rattle.lfs_journal.proofs.mounting.+mounts_on.Goals as goal
+
+pub after-requires : goal.after-requires
+after-requires t c =
+    let p = c.in-Some.first.now in
+    let d = c.args.image.now.disk in
+    let is : c.args.patches.now ≡ p ∷ c.in-Some.later.now = search rules in
+    let on : GoesForward (p ∷ c.in-Some.later.now) d = subst (λ (xs : List ChangeSet). GoesForward xs d) is c.requires.agrees in
+    record { patch = on.0.patch; size = on.1.size; erased = c.requires.erased; disk = c.requires.disk }
+
+pub apply-requires-clause-room : goal.apply-requires-clause-room
+apply-requires-clause-room t c =
+    let is : c.args.patches.now ≡ c.in-Some.first.now ∷ c.in-Some.later.now = search rules in
+    (subst (HasRoom c.args.image.now.room) is c.requires.room).0
+
+pub mounts_on-mounted-requires : goal.mounts_on-mounted-requires
+mounts_on-mounted-requires t c =
+    let p = c.in-Some.first.now in
+    let ps = c.in-Some.later.now in
+    let d = c.args.image.now.disk in
+    let room = c.args.image.now.room in
+    let is : c.args.patches.now ≡ p ∷ ps = search rules in
+    let on : GoesForward (p ∷ ps) d = subst (λ (xs : List ChangeSet). GoesForward xs d) is c.requires.agrees in
+    let size : c.apply.new.image.disk.size ≡ d.size = c.apply.ensures.disk.size ∙ on.1.size in
+    (
+      c.apply.ensures.disk.disk,
+      subst (GoesForward ps) (sym c.apply.ensures.applied) on.2,
+      room_same room c.apply.new.image.room ps c.apply.ensures.room (subst (HasRoom room) is c.requires.room).1,
+      c.requires.erased ∙ ap erased_block (sym size),
+    )
 
 pub revert-requires : goal.revert-requires
 revert-requires t c =
     let p = c.in-Some.first.now in
-    let d = c.args.image.now in
-    let patch : IsPatch p = search rules in
-    let agrees : AgreesOld p d = search rules in
-    let is : c.mounts_on-mounted.new.image ≡ applied p d = c.mounts_on-mounted.ensures.image ∙ c.apply.ensures.applied in
-    subst (AgreesNew p) (sym is) (c.applied_patches_revert.ensures.agrees p d c.requires.disk patch agrees)
+    let d = c.args.image.now.disk in
+    let is : c.args.patches.now ≡ p ∷ c.in-Some.later.now = search rules in
+    let on : GoesForward (p ∷ c.in-Some.later.now) d = subst (λ (xs : List ChangeSet). GoesForward xs d) is c.requires.agrees in
+    let to : c.mounts_on-mounted.new.image.disk ≡ applied p d = c.mounts_on-mounted.ensures.disk ∙ c.apply.ensures.applied in
+    subst (AgreesNew p) (sym to) (c.applied_patches_revert.ensures.agrees p d c.requires.disk on.0.patch on.1)
 
-pub returns-clause-image : goal.returns-clause-image
-returns-clause-image t c =
+pub returns-clause-disk : goal.returns-clause-disk
+returns-clause-disk t c =
     let p = c.in-Some.first.now in
-    let d = c.args.image.now in
-    let patch : IsPatch p = search rules in
-    let agrees : AgreesOld p d = search rules in
-    let is : c.mounts_on-mounted.new.image ≡ applied p d = c.mounts_on-mounted.ensures.image ∙ c.apply.ensures.applied in
-    c.revert.ensures.reverted ∙ ap (reverted p) is ∙ c.applied_patches_revert.ensures.back p d c.requires.disk patch agrees
+    let d = c.args.image.now.disk in
+    let is : c.args.patches.now ≡ p ∷ c.in-Some.later.now = search rules in
+    let on : GoesForward (p ∷ c.in-Some.later.now) d = subst (λ (xs : List ChangeSet). GoesForward xs d) is c.requires.agrees in
+    let to : c.mounts_on-mounted.new.image.disk ≡ applied p d = c.mounts_on-mounted.ensures.disk ∙ c.apply.ensures.applied in
+    c.revert.ensures.reverted ∙ ap (reverted p) to ∙ c.applied_patches_revert.ensures.back p d c.requires.disk on.0.patch on.1
 
 pub returns-clause-refused : goal.returns-clause-refused
 returns-clause-refused t c =
     let p = c.in-Some.first.now in
     let ps = c.in-Some.later.now in
-    let d = c.args.image.now in
+    let d = c.args.image.now.disk in
     let is : c.args.patches.now ≡ p ∷ ps = search rules in
-    IfErr-weaker c.mounts_on-mounted.result (λ fault. RefusesMounts fault (future_of ps c.apply.new.image))
+    IfErr-weaker c.mounts_on-mounted.result (λ fault. RefusesMounts fault (future_of ps c.apply.new.image.disk))
     (λ fault. RefusesMounts fault (future_of c.args.patches.now d))
-    (λ fault h. future_later_refused fault c.args.patches.now ps p d c.apply.new.image is c.apply.ensures.applied h)
+    (λ fault h. future_later_refused fault c.args.patches.now ps p d c.apply.new.image.disk is c.apply.ensures.applied h)
     c.mounts_on-mounted.ensures.refused

@@ -11,5 +11,5 @@ returns c =
       found = c.chains_stay_on_their_blocks.ensures.found;
       content = c.chains_stay_on_their_blocks.ensures.content;
     })
-    c.applied_patches_change_their_blocks.ensures.disk c.applied_patches_change_their_blocks.ensures.blocks
+    c.kept_counts_change_their_blocks.ensures.disk c.kept_counts_change_their_blocks.ensures.blocks
     c.entries_are_cut_greedily.ensures.joined c.cuts_follow.ensures.cut

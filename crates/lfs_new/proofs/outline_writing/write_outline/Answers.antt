@@ -10,14 +10,14 @@ use Rattle.lfs_new.proofs.PairsFilled.{but_begun, but_whole, but_itself, can_fir
 use Rattle.lfs_new.proofs.outline_writing.write_outline.Goals as goal
 
 pub returns-in_err-all-clause-others : goal.returns-in_err-all-clause-others
-returns-in_err-all-clause-others c = but_itself c.args.image.now _ c.size-size.ensures.disk
+returns-in_err-all-clause-others c = but_itself c.args.image.now.disk _ c.size-size.ensures.disk
 
 pub fill_pair-requires-clause-can : goal.fill_pair-requires-clause-can
 fill_pair-requires-clause-can c =
     let bytes = volume_bytes c.args.outline.now in
     let attributes = c.args.outline.now.attributes in
-    one_can bytes attributes c.loop-link.image (link_to c.link.inside.part.now c.link.inside.tail)
-    (can_first bytes attributes c.loop-link.image (drop c.loop-link.link-index c.deref-link-items.result.now)
+    one_can bytes attributes c.loop-link.image.disk (link_to c.link.inside.part.now c.link.inside.tail)
+    (can_first bytes attributes c.loop-link.image.disk (drop c.loop-link.link-index c.deref-link-items.result.now)
     (link_to c.link.inside.part.now c.link.inside.tail ∷ [])
     (drop (c.loop-link.link-index + 1) c.deref-link-items.result.now)
     (one_left c.deref-link-items.result.now c.loop-link.link-index c.link-item.result
@@ -26,8 +26,8 @@ fill_pair-requires-clause-can c =
 
 pub returns-in_err-fill_pair-clause-others : goal.returns-in_err-fill_pair-clause-others
 returns-in_err-fill_pair-clause-others c =
-    c.loop-link.invariant.but c.fill_pair.new.image
-    (but_begun c.loop-link.image c.fill_pair.new.image (drop c.loop-link.link-index c.deref-link-items.result.now)
+    c.loop-link.invariant.but c.fill_pair.new.image.disk
+    (but_begun c.loop-link.image.disk c.fill_pair.new.image.disk (drop c.loop-link.link-index c.deref-link-items.result.now)
     (link_to c.link.inside.part.now c.link.inside.tail ∷ [])
     (drop (c.loop-link.link-index + 1) c.deref-link-items.result.now)
     (one_left c.deref-link-items.result.now c.loop-link.link-index c.link-item.result
@@ -36,8 +36,8 @@ returns-in_err-fill_pair-clause-others c =
 
 pub loop-link-preserved : goal.loop-link-preserved
 loop-link-preserved c =
-    let d = c.loop-link.image in
-    let m = c.fill_pair.new.image in
+    let d = c.loop-link.image.disk in
+    let m = c.fill_pair.new.image.disk in
     let bytes = volume_bytes c.args.outline.now in
     let attributes = c.args.outline.now.attributes in
     let all = drop c.loop-link.link-index c.deref-link-items.result.now in
@@ -58,11 +58,11 @@ pub returns-clause-taken : goal.returns-clause-taken
 returns-clause-taken c =
     let bytes = volume_bytes c.args.outline.now in
     let attributes = c.args.outline.now.attributes in
-    let d = c.loop-link.image in
+    let d = c.loop-link.image.disk in
     let none : drop c.loop-link.link-index c.deref-link-items.result.now ≡ [] =
     drop_all c.loop-link.link-index c.deref-link-items.result.now c.loop-link-test.false in
     c.loop-link.invariant.whole d
     (subst (FillPairs d d bytes attributes) (sym none) (none_filled bytes attributes d c.loop-link.invariant.disk))
 
 pub returns-clause-others : goal.returns-clause-others
-returns-clause-others c = c.loop-link.invariant.but c.loop-link.image (but_itself c.loop-link.image _ c.loop-link.invariant.disk)
+returns-clause-others c = c.loop-link.invariant.but c.loop-link.image.disk (but_itself c.loop-link.image.disk _ c.loop-link.invariant.disk)

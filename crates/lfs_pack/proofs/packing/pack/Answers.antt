@@ -10,4 +10,4 @@ returns-clause-packed c what are =
     let laws = c.packing_laws.ensures in
     subst (λ (bytes : List ℕ). IsPacked c.args.size c.args.count what bytes) (sym c.into_bytes.ensures)
     (packed (carried_follow laws.cuts laws.cleans) laws.map c.args.size c.args.count c.args.rows.now c.in_ok-volume.volume
-    c.in_ok-image.image c.in_ok-volume.ensures.packed c.size-size.ensures.disk c.in_ok-image.ensures what are)
+    c.in_ok-image.image.disk c.in_ok-volume.ensures.packed c.size-size.ensures.disk c.in_ok-image.ensures what are)

@@ -8,7 +8,7 @@ pub returns-in-Ok-extract_image-clause-made : goal.returns-in-Ok-extract_image-c
 returns-in-Ok-extract_image-clause-made g c =
     let fault : Option Fault = result_err c.extract_image.result in
     let told : None ≡ fault = search rules in
-    bytes_end c.args.size c.args.bytes.items c.in-Ok.image c.args.dir.now (g.H.Known.known c.args.host.now).tree (g.H.Known.known c.args.host.now).made
+    bytes_end c.args.size c.args.bytes.items c.in-Ok.image.disk c.args.dir.now (g.H.Known.known c.args.host.now).tree (g.H.Known.known c.args.host.now).made
     (g.H.Known.known c.extract_image.new.host) None fault c.in-Ok.ensures.disk c.in-Ok.ensures.size c.in-Ok.ensures.bytes told
     c.extract_image.ensures.made
 
@@ -16,6 +16,6 @@ pub returns-in-Err-extract_image-clause-made : goal.returns-in-Err-extract_image
 returns-in-Err-extract_image-clause-made g c =
     let fault : Option Fault = result_err c.extract_image.result in
     let told : Some c.in-Err-extract_image.fault ≡ fault = search rules in
-    bytes_end c.args.size c.args.bytes.items c.in-Ok.image c.args.dir.now (g.H.Known.known c.args.host.now).tree (g.H.Known.known c.args.host.now).made
+    bytes_end c.args.size c.args.bytes.items c.in-Ok.image.disk c.args.dir.now (g.H.Known.known c.args.host.now).tree (g.H.Known.known c.args.host.now).made
     (g.H.Known.known c.extract_image.new.host) (Some c.in-Err-extract_image.fault) fault c.in-Ok.ensures.disk c.in-Ok.ensures.size
     c.in-Ok.ensures.bytes told c.extract_image.ensures.made

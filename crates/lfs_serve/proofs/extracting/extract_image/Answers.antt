@@ -12,13 +12,13 @@ pub returns-in_err-must_be_missing-clause-made : goal.returns-in_err-must_be_mis
 returns-in_err-must_be_missing-clause-made g c =
     let p = err_from_is_err_and c.from_residual-in_err-must_be_missing.result c.from_residual-in_err-must_be_missing.ensures.1 in
     let old : Scene = g.H.Known.known c.args.host.now in
-    rw (p.1, p.2) (there_ends c.args.image.now (c.in_ok-mounted.mounted, c.in_ok-mounted.ensures.mounted) c.args.dir.now old.tree old.made
+    rw (p.1, p.2) (there_ends c.args.image.now.disk (c.in_ok-mounted.mounted, c.in_ok-mounted.ensures.mounted) c.args.dir.now old.tree old.made
     (g.H.Known.known c.must_be_missing.new.host) c.in_err-must_be_missing.field-0.0 c.in_err-must_be_missing.ensures.refused
     c.must_be_missing.ensures.kept.2)
 
 pub returns-clause-made : goal.returns-clause-made
 returns-clause-made g c =
-    let d = c.args.image.now in
+    let d = c.args.image.now.disk in
     let dir = c.args.dir.now in
     let old : Scene = g.H.Known.known c.args.host.now in
     let new : Scene = g.H.Known.known c.extract_rows.new.folder in

@@ -12,7 +12,7 @@ use Rattle.lfs_write.proofs.laying.laid_for.Goals as goal
 
 pub laid-requires-clause-many : goal.laid-requires-clause-many
 laid-requires-clause-many c =
-    let size = c.args.image.now.size in
+    let size = c.args.image.now.disk.size in
     let v : Volume = record {
       size = size;
       count = 0;

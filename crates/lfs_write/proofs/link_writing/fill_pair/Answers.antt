@@ -11,7 +11,7 @@ use Rattle.lfs_write.proofs.link_writing.fill_pair.Goals as goal
 
 pub add_change-requires-2-clause-free : goal.add_change-requires-2-clause-free
 add_change-requires-2-clause-free c =
-    let d = c.args.image.now in
+    let d = c.args.image.now.disk in
     let old = c.args.changes.now.items in
     second_free d c.part.inside.pair _ old c.add_change.new.changes.items
     (subst (λ (x : Found). x.0.0 ≢ x.0.1) (sym c.part.view_is) c.requires.fits.apart)
@@ -21,7 +21,7 @@ add_change-requires-2-clause-free c =
 -- the pair holds the part whichever of its blocks has it
 pub returns-clause-adds : goal.returns-clause-adds
 returns-clause-adds c =
-    let d = c.args.image.now in
+    let d = c.args.image.now.disk in
     let old = c.args.changes.now.items in
     let new = c.add_change-2.new.changes.items in
     let block = c.in-Some.block.items in
@@ -39,7 +39,7 @@ returns-clause-adds c =
 
 pub returns-clause-filled : goal.returns-clause-filled
 returns-clause-filled c =
-    let d = c.args.image.now in
+    let d = c.args.image.now.disk in
     let block = c.in-Some.block.items in
     let erased : c.in_ok-erased.erased.items ≡ replicate c.size-size.result 255 = search rules in
     subst (λ (x : Found). FillsFirst d c.add_change-2.new.changes.items x.0) c.part.view_is

@@ -10,7 +10,7 @@ use Rattle.lfs_write.proofs.link_writing.write_part.Goals.{then-is_unmarked+in_o
 
 pub returns-clause-adds : goal.returns-clause-adds
 returns-clause-adds c =
-    let d = c.args.image.now in
+    let d = c.args.image.now.disk in
     let bytes = volume_bytes c.args.outline.now in
     let attributes = c.args.outline.now.attributes in
     let is_new = is_unmarked c.args.used.now in

@@ -1,20 +1,21 @@
 -- What was read is a book.
 use Rattle.std.proofs.Common.{◌+◌, arith}
 use Rattle.lfs_book.specs.HeadSeen.{head_seen}
-use Rattle.lfs_book.proofs.Patches.{patches_take}
+use Rattle.lfs_book.proofs.Patches.{patches_take, each_of}
 use Rattle.lfs_book.proofs.Heads.{head_takes}
 use Rattle.lfs_book.proofs.Books.{book_of-is}
 use Rattle.lfs_book.proofs.journal.Journal.read_whole.Goals as goal
 
 pub invariant_of-result : goal.invariant_of-result
 invariant_of-result c =
-    let head = c.in_ok-head.head in
+    let head = head_seen c.in_ok-head.head in
     let patches = c.in_ok-patches.patches.items in
-    let first = head_takes c.args.bytes.now (head_seen head, c.in_ok-head.rest.now)
+    let first = head_takes c.args.bytes.now (head, c.in_ok-head.rest.now)
     (λ i. omega (arith, c.type_inv.bytes i)) c.in_ok-head.ensures.given in
-    let second = patches_take head.size head.count (head.done + head.undone) c.in_ok-head.rest.now
-    (patches, c.in_ok-patches.rest.now) first.takes.rest_bytes c.in_ok-patches.ensures in
+    let second = patches_take head (head.done + head.undone) c.in_ok-head.rest.now
+    (patches, c.in_ok-patches.rest.now) first.takes.rest_bytes first.is.geometry c.in_ok-patches.ensures in
     record {
       within = omega (arith, second.len);
-      book = book_of-is head.size head.count head.done head.undone patches first.is.geometry second.each second.len first.is.few;
+      book = book_of-is head.size head.count head.done head.undone patches first.is.geometry (each_of head patches second.each) second.len
+          first.is.few;
     }

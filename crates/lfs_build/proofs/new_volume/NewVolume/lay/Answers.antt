@@ -5,17 +5,17 @@ use Rattle.lfs_build.proofs.new_volume.NewVolume.lay.Goals as goal
 
 pub returns-then-count-eq0-clause-laid : goal.returns-then-count-eq0-clause-laid
 returns-then-count-eq0-clause-laid c =
-    let same : c.file_blocks-count.result ≡ file_blocks c.args.self.now.image.size c.args.bytes.now =
+    let same : c.file_blocks-count.result ≡ file_blocks c.args.self.now.image.disk.size c.args.bytes.now =
     c.file_blocks-count.ensures ∙ ap (λ (n : ℕ). file_blocks n c.args.bytes.now) c.size-size.ensures.value in
-    lays_none c.args.self.now.image c.args.self.now.next c.args.bytes.now c.size-size.ensures.disk
+    lays_none c.args.self.now.image.disk c.args.self.now.next c.args.bytes.now c.size-size.ensures.disk
     (omega (arith, same, c.if-count-eq0.true))
 
-count_is : (c : goal.After-deref) → c.file_blocks-count.result ≡ file_blocks c.args.self.now.image.size c.args.bytes.now
+count_is : (c : goal.After-deref) → c.file_blocks-count.result ≡ file_blocks c.args.self.now.image.disk.size c.args.bytes.now
 count_is c = c.file_blocks-count.ensures ∙ ap (λ (n : ℕ). file_blocks n c.args.bytes.now) c.size-size.ensures.value
 
-blocks : (c : goal.After-deref) → AreBlocks c.args.self.now.image.count c.file_blocks-count.result c.deref.result.now
+blocks : (c : goal.After-deref) → AreBlocks c.args.self.now.image.disk.count c.file_blocks-count.result c.deref.result.now
 blocks c =
-    are_blocks c.args.self.now.next c.file_blocks-count.result c.args.self.now.image.count c.deref.result.now
+    are_blocks c.args.self.now.next c.file_blocks-count.result c.args.self.now.image.disk.count c.deref.result.now
     (c.deref.ensures.value ∙ c.in_ok-blocks.ensures) (omega (arith, count_is c, c.requires.fits))
 
 pub lay_contents-requires-clause-rising : goal.lay_contents-requires-clause-rising
@@ -27,7 +27,7 @@ lay_contents-requires-clause-below c = (blocks c).below
 pub lay_contents-requires-clause-many : goal.lay_contents-requires-clause-many
 lay_contents-requires-clause-many c =
     (blocks c).len ∙ count_is c
-    ∙ many_blocks c.args.self.now.image.size c.args.bytes.now (λ none. c.if-count-eq0.false (count_is c ∙ none))
+    ∙ many_blocks c.args.self.now.image.disk.size c.args.bytes.now (λ none. c.if-count-eq0.false (count_is c ∙ none))
 
 pub lay_contents-requires-clause-few : goal.lay_contents-requires-clause-few
 lay_contents-requires-clause-few c =

@@ -20,5 +20,5 @@ returns-clause-made c =
     let t = c.args.self.now in
     is_made c.args.name.now t c.entries_are_added.ensures.directory c.ways_lead_to_ends.ensures.with_more c.if-name.false
     c.in_ok-entry.entry c.in_ok-entry.ensures c.weight.result c.weight.ensures.value c.in_ok-need.ensures.light
-    (subst (λ (n : ℕ). t.next + n ≤ t.image.count) c.in_ok-need.ensures.need c.in_ok-need.ensures.fits) c.push.new.self c.keep.new.self
+    (subst (λ (n : ℕ). t.next + n ≤ t.image.disk.count) c.in_ok-need.ensures.need c.in_ok-need.ensures.fits) c.push.new.self c.keep.new.self
     c.in_ok-push.ensures c.in_ok-keep.ensures

@@ -43,5 +43,5 @@ returns-clause-put c =
     c.weight.result c.weight.ensures.value c.file_blocks-blocks.result
     (c.file_blocks-blocks.ensures ∙ ap (λ (s : ℕ). file_blocks s bytes) c.size-size.ensures.value)
     c.ways_lead_to_ends.ensures.with_more c.in_ok-need.ensures.light
-    (subst (λ (m : ℕ). t.next + m ≤ t.image.count) c.in_ok-need.ensures.need c.in_ok-need.ensures.fits) c.lay.new.self c.push.new.self
+    (subst (λ (m : ℕ). t.next + m ≤ t.image.disk.count) c.in_ok-need.ensures.need c.in_ok-need.ensures.fits) c.lay.new.self c.push.new.self
     c.in_ok-lay.ensures.laid c.in_ok-lay.ensures.others c.in_ok-push.ensures

@@ -22,5 +22,5 @@ returns-clause-set c =
     is_set c.args.kind c.args.value.now c.args.self.now c.entries_are_added.ensures.attribute c.if-value.false
     c.take_last-last.result m c.take_last-last.ensures c.in_ok-entry.entry c.in_ok-entry.ensures c.weight.result c.weight.ensures.value
     c.ways_lead_to_ends.ensures.with_more c.in_ok-need.ensures.light
-    (subst (λ (n : ℕ). m.next + n ≤ m.image.count) c.in_ok-need.ensures.need c.in_ok-need.ensures.fits) c.push.new.self
+    (subst (λ (n : ℕ). m.next + n ≤ m.image.disk.count) c.in_ok-need.ensures.need c.in_ok-need.ensures.fits) c.push.new.self
     c.in_ok-push.ensures

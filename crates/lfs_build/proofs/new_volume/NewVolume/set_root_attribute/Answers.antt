@@ -13,9 +13,9 @@ returns-clause-set c v bare =
     c.in_ok-set_attribute.ensures.set ∙ ap (set_attribute c.args.kind c.args.value.now) (sym bare.attributes) in
     let weighs : c.attributes_weight-weight.result ≡ attributes_weight (set_attribute c.args.kind c.args.value.now v.attributes) =
     c.attributes_weight-weight.ensures.value ∙ ap attributes_weight (c.deref.ensures.value ∙ are) in
-    let light : superblock_weight (set_attribute c.args.kind c.args.value.now v.attributes) ≤ c.args.self.now.image.size - 40 =
+    let light : superblock_weight (set_attribute c.args.kind c.args.value.now v.attributes) ≤ c.args.self.now.image.disk.size - 40 =
     omega (arith, weighs, c.if-weight-room.false, c.room.ensures.bytes) in
-    let law = c.built_volumes_begin.ensures.attributes c.args.kind c.args.value.now c.args.self.now.image v bare.built in
+    let law = c.built_volumes_begin.ensures.attributes c.args.kind c.args.value.now c.args.self.now.image.disk v bare.built in
     let added = law.added short light in (
       added.0,
       added.1,

@@ -1,16 +1,18 @@
--- The planned patch is put at the place, and made.
-use Rattle.std.proofs.Common.{◌+◌, ◌<◌, List, length, take, ap, sym, ◌∙◌, subst, arith}
+-- Room is made, and the planned patch is put at the place, and made.
+use Rattle.std.proofs.Common.{◌≡◌, ◌+◌, ◌<◌, ◌≤◌, ℕ, List, length, take, ap, sym, ◌∙◌, subst, arith}
 use Rattle.std.proofs.lemmas.Result.{err_from_is_err_and}
 use Rattle.std.proofs.lemmas.List.{length-take-le}
 use Rattle.lfs_block.specs.Disk.{Disk}
-use Rattle.lfs_block.specs.Patch.{ChangeSet}
+use Rattle.lfs_block.specs.Geometry.{IsGeometry}
+use Rattle.lfs_block.specs.Patch.{ChangeSet, AgreesOld, applied}
 use Rattle.lfs_book.specs.Book.{most_changes}
 use Rattle.lfs_fs.specs.Mounted.{IsOutlineOf}
 use Rattle.lfs_command.specs.AskedFor.{asked_for}
 use Rattle.lfs_command.specs.Planned.{RefusesPlan}
 use Rattle.lfs_history.specs.History.{History, history_at}
 use Rattle.lfs_history.specs.Taking.{Does}
-use Rattle.lfs_journal.proofs.PlaceLemmas.{IsPut, put_makes, done_at}
+use Rattle.lfs_journal.proofs.PlaceLemmas.{IsPut, put_is, put_makes, done_at}
+use Rattle.lfs_journal.proofs.RoomLemmas.{room_put, room_same, session_grows}
 use Rattle.lfs_journal.proofs.session.Session.command.Goals as goal
 
 pub returns-in_err-patch-clause-refused : goal.returns-in_err-patch-clause-refused
@@ -27,6 +29,30 @@ returns-in_err-patch-clause-refused c =
       c.self.view_is,
     )
 
+pub reserve-requires : goal.reserve-requires
+reserve-requires c =
+    let s = c.self.inside in
+    let change = c.in_ok-patch.field-0 in
+    let plans = c.in_ok-patch.ensures.planned in
+    rw c.after.ensures.value (subst (λ (n : ℕ). IsGeometry n change.patch.after) plans.stands.size plans.patch.after)
+
+pub returns-then-not-reserve-clause-refused : goal.returns-then-not-reserve-clause-refused
+returns-then-not-reserve-clause-refused c =
+    let s = c.self.inside in
+    let within = c.self.invariant.at.within in
+    let made : length (take s.done s.patches.items) < most_changes = let len = length-take-le s.done s.patches.items within in
+    omega arith in
+    (
+      subst (λ (h : History). length h.done < most_changes) c.self.view_is made,
+      tt,
+      ap (λ (d : Disk). history_at d s.patches.items s.done) c.reserve.ensures.disk ∙ c.self.view_is,
+    )
+
+pub returns-then-not-reserve-clause-unchanged : goal.returns-then-not-reserve-clause-unchanged
+returns-then-not-reserve-clause-unchanged c =
+    let s = c.self.inside in
+    ap (λ (d : Disk). history_at d s.patches.items s.done) c.reserve.ensures.disk ∙ c.self.view_is
+
 pub returns-in_err-replace_from-clause-refused : goal.returns-in_err-replace_from-clause-refused
 returns-in_err-replace_from-clause-refused c =
     let s = c.self.inside in
@@ -37,7 +63,8 @@ returns-in_err-replace_from-clause-refused c =
     rw (p.1, p.2) (
       subst (λ (h : History). length h.done < most_changes) c.self.view_is made,
       tt,
-      ap (λ (changes : List ChangeSet). history_at s.image changes s.done) c.in_err-replace_from.ensures.unchanged ∙ c.self.view_is,
+      ap (λ (changes : List ChangeSet). history_at c.reserve.new.self.disk changes s.done) c.in_err-replace_from.ensures.unchanged
+          ∙ ap (λ (d : Disk). history_at d s.patches.items s.done) c.reserve.ensures.disk ∙ c.self.view_is,
     )
 
 pub returns-in_err-replace_from-clause-unchanged : goal.returns-in_err-replace_from-clause-unchanged
@@ -45,26 +72,61 @@ returns-in_err-replace_from-clause-unchanged c =
     let s = c.self.inside in
     let p = err_from_is_err_and c.from_residual-in_err-replace_from.result c.from_residual-in_err-replace_from.ensures.1 in
     rw (p.1)
-    (ap (λ (changes : List ChangeSet). history_at s.image changes s.done) c.in_err-replace_from.ensures.unchanged ∙ c.self.view_is)
+    (ap (λ (changes : List ChangeSet). history_at c.reserve.new.self.disk changes s.done) c.in_err-replace_from.ensures.unchanged
+    ∙ ap (λ (d : Disk). history_at d s.patches.items s.done) c.reserve.ensures.disk ∙ c.self.view_is)
+
+pub apply-requires-clause-agrees : goal.apply-requires-clause-agrees
+apply-requires-clause-agrees c =
+    let s = c.self.inside in
+    let change = c.in_ok-patch.field-0 in
+    let q = c.index.result.now in
+    let put : IsPut s.patches.items c.replace_from.new.patches.items s.done change.patch =
+    record { all = c.in_ok-replace_from.ensures.done; within = c.self.invariant.at.within } in
+    let same : q ≡ change.patch = put_is s.patches.items c.replace_from.new.patches.items s.done change.patch q put c.index.ensures in
+    subst (AgreesOld q) (sym c.reserve.ensures.disk)
+    (subst (λ (p : ChangeSet). AgreesOld p s.image.disk) (sym same) c.in_ok-patch.ensures.planned.stands)
+
+pub apply-requires-clause-room : goal.apply-requires-clause-room
+apply-requires-clause-room c =
+    let s = c.self.inside in
+    let change = c.in_ok-patch.field-0 in
+    let q = c.index.result.now in
+    let put : IsPut s.patches.items c.replace_from.new.patches.items s.done change.patch =
+    record { all = c.in_ok-replace_from.ensures.done; within = c.self.invariant.at.within } in
+    let same : q ≡ change.patch = put_is s.patches.items c.replace_from.new.patches.items s.done change.patch q put c.index.ensures in
+    let fits = subst (λ (n : ℕ). n ≤ c.reserve.new.self.room) c.after.ensures.value (c.reserve.ensures.done_is c.if-not-reserve.false) in
+    subst (λ (p : ChangeSet). p.after ≤ c.reserve.new.self.room) (sym same) fits
 
 pub invariant_of-self-2 : goal.invariant_of-self-2
 invariant_of-self-2 c =
+    let s = c.self.inside in
+    session_grows s.image c.reserve.new.self s.outline c.carried_out.new.outline s.patches.items s.done c.reserve.ensures.disk
+    c.reserve.ensures.most c.self.invariant c.carried_out.ensures.known
+
+pub invariant_of-self-4 : goal.invariant_of-self-4
+invariant_of-self-4 c =
     let s = c.self.inside in
     let made = c.applied_patches_change_their_blocks.ensures in
     let back = c.applied_patches_revert.ensures in
     let follow = c.cuts_follow.ensures in
     let change = c.in_ok-patch.field-0 in
-    let put : IsPut s.patches.items c.replace_from.new.patches.items s.done change.patch =
+    let q = c.index.result.now in
+    let news = c.replace_from.new.patches.items in
+    let put : IsPut s.patches.items news s.done change.patch =
     record { all = c.in_ok-replace_from.ensures.done; within = c.self.invariant.at.within } in
+    let to : c.apply.new.image.disk ≡ applied q s.image.disk = c.apply.ensures.applied ∙ ap (applied q) c.reserve.ensures.disk in
+    let fits = subst (λ (n : ℕ). n ≤ c.reserve.new.self.room) c.after.ensures.value (c.reserve.ensures.done_is c.if-not-reserve.false) in
     record {
       at = (done_at (record { disk = made.disk; agrees = back.agrees; back = back.back })
           (record { cut = follow.cut; clean = follow.clean }) (asked_for c.args.command.now)
-          s.image c.apply.new.image s.patches.items c.replace_from.new.patches.items s.done change.patch c.index.result.now
-          put c.index.ensures c.self.invariant.at (omega arith) c.in_ok-patch.ensures.planned c.apply.ensures.applied).keeps;
+          s.image.disk c.apply.new.image.disk s.patches.items news s.done change.patch q
+          put c.index.ensures c.self.invariant.at (omega arith) c.in_ok-patch.ensures.planned to).keeps;
       known = subst (λ (e : Disk). IsOutlineOf e change.outline)
-          (sym (put_makes s.image c.apply.new.image s.patches.items c.replace_from.new.patches.items s.done change.patch c.index.result.now
-          put c.index.ensures c.apply.ensures.applied))
+          (sym (put_makes s.image.disk c.apply.new.image.disk s.patches.items news s.done change.patch q put c.index.ensures to))
           c.in_ok-patch.ensures.outline;
+      room = room_same c.reserve.new.self.room c.apply.new.image.room news c.apply.ensures.room
+          (room_put s.image.room c.reserve.new.self.room s.patches.items news s.done change.patch c.reserve.ensures.most
+          c.self.invariant.room fits c.in_ok-replace_from.ensures.done);
     }
 
 pub returns-clause-done : goal.returns-clause-done
@@ -74,11 +136,14 @@ returns-clause-done c =
     let back = c.applied_patches_revert.ensures in
     let follow = c.cuts_follow.ensures in
     let change = c.in_ok-patch.field-0 in
-    let put : IsPut s.patches.items c.replace_from.new.patches.items s.done change.patch =
+    let q = c.index.result.now in
+    let news = c.replace_from.new.patches.items in
+    let put : IsPut s.patches.items news s.done change.patch =
     record { all = c.in_ok-replace_from.ensures.done; within = c.self.invariant.at.within } in
+    let is : c.apply.new.image.disk ≡ applied q s.image.disk = c.apply.ensures.applied ∙ ap (applied q) c.reserve.ensures.disk in
     let to = done_at (record { disk = made.disk; agrees = back.agrees; back = back.back })
     (record { cut = follow.cut; clean = follow.clean }) (asked_for c.args.command.now)
-    s.image c.apply.new.image s.patches.items c.replace_from.new.patches.items s.done change.patch c.index.result.now
-    put c.index.ensures c.self.invariant.at (omega arith) c.in_ok-patch.ensures.planned c.apply.ensures.applied in
-    subst (λ (old : History). Does (asked_for c.args.command.now) old (history_at c.apply.new.image c.replace_from.new.patches.items
-    (s.done + 1))) c.self.view_is to.moves
+    s.image.disk c.apply.new.image.disk s.patches.items news s.done change.patch q
+    put c.index.ensures c.self.invariant.at (omega arith) c.in_ok-patch.ensures.planned is in
+    subst (λ (old : History). Does (asked_for c.args.command.now) old (history_at c.apply.new.image.disk news (s.done + 1)))
+    c.self.view_is to.moves

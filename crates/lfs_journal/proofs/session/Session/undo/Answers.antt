@@ -3,6 +3,7 @@ use Rattle.std.proofs.Common.{◌-◌, subst, arith}
 use Rattle.lfs_history.specs.History.{History, history_at}
 use Rattle.lfs_history.specs.Moves.{Undoes}
 use Rattle.lfs_journal.proofs.PlaceLemmas.{is_at, made_agrees, undone_at}
+use Rattle.lfs_journal.proofs.RoomLemmas.{room_same}
 use Rattle.lfs_journal.proofs.session.Session.undo.Goals as goal
 
 pub revert-requires : goal.revert-requires
@@ -10,7 +11,7 @@ revert-requires c =
     let s = c.self.inside in
     let within = c.self.invariant.at.within in
     let at = is_at s.patches.items (s.done - 1) s.done c.index.result.now (omega arith) (omega arith) c.index.ensures in
-    (made_agrees s.image s.patches.items (s.done - 1) s.done c.index.result.now at c.self.invariant.at).1
+    (made_agrees s.image.disk s.patches.items (s.done - 1) s.done c.index.result.now at c.self.invariant.at).1
 
 pub invariant_of-self : goal.invariant_of-self
 invariant_of-self c =
@@ -19,10 +20,11 @@ invariant_of-self c =
     let law = c.reverted_patches_apply_again.ensures in
     let at = is_at s.patches.items (s.done - 1) s.done c.index.result.now (omega arith) (omega arith) c.index.ensures in
     record {
-      at = (undone_at (record { disk = law.disk; agrees = law.agrees; again = law.again }) s.image c.revert.new.image s.patches.items
+      at = (undone_at (record { disk = law.disk; agrees = law.agrees; again = law.again }) s.image.disk c.revert.new.image.disk s.patches.items
           (s.done - 1) s.done c.index.result.now
           at c.self.invariant.at c.revert.ensures.reverted).keeps;
       known = tt;
+      room = room_same s.image.room c.revert.new.image.room s.patches.items c.revert.ensures.room c.self.invariant.room;
     }
 
 pub returns-clause-done : goal.returns-clause-done
@@ -31,7 +33,7 @@ returns-clause-done c =
     let within = c.self.invariant.at.within in
     let law = c.reverted_patches_apply_again.ensures in
     let at = is_at s.patches.items (s.done - 1) s.done c.index.result.now (omega arith) (omega arith) c.index.ensures in
-    let to = undone_at (record { disk = law.disk; agrees = law.agrees; again = law.again }) s.image c.revert.new.image s.patches.items
+    let to = undone_at (record { disk = law.disk; agrees = law.agrees; again = law.again }) s.image.disk c.revert.new.image.disk s.patches.items
     (s.done - 1) s.done c.index.result.now
     at c.self.invariant.at c.revert.ensures.reverted in
-    subst (λ (old : History). Undoes old (history_at c.revert.new.image s.patches.items (s.done - 1))) c.self.view_is to.moves
+    subst (λ (old : History). Undoes old (history_at c.revert.new.image.disk s.patches.items (s.done - 1))) c.self.view_is to.moves
