@@ -1,8 +1,11 @@
+pub mod AgreementLemmas
+pub mod BlockLens
 pub mod ChangeLemmas
 pub mod ChecksumLemmas
 pub mod DiskLemmas
-pub mod BlockLens
-pub mod PatchLemmas
+pub mod ErasedLemmas
 pub mod OverlayLemmas
+pub mod PatchLemmas
 pub mod PutLemmas
+pub mod ResizeLemmas
 pub mod WritingLemmas

@@ -5,9 +5,11 @@ use Rattle.std.proofs.Math.ListN.{drop_of_length-le}
 use Rattle.std.proofs.lemmas.List.{drop_more, get_or-map, length-map}
 use Rattle.std.proofs.lemmas.List.Elements.{All-from_recursion, All-get_or}
 use Rattle.lfs_block.specs.Change.{Change, IsBlockChange, flip}
-use Rattle.lfs_block.specs.Disk.{Disk, IsDisk, put}
-use Rattle.lfs_block.specs.Patch.{ChangeSet, put_all}
-use Rattle.lfs_block.specs.PatchLaws.{IsDiskAs, FitsDisk}
+use Rattle.lfs_block.specs.Disk.{Disk, IsDisk, put, resized}
+use Rattle.lfs_block.specs.Geometry.{IsGeometry}
+use Rattle.lfs_block.specs.Patch.{ChangeSet, IsGrowth, AgreesNew, applied, put_all, reverted}
+use Rattle.lfs_block.specs.PatchLaws.{IsDiskAs, IsDiskOf, FitsDisk}
+use Rattle.lfs_block.proofs.PatchLemmas.{cut-made, grown-fits, grown-is_disk, grown-made, reverted-is_disk, uncut-fits}
 use Rattle.lfs_block.proofs.PutLemmas.{put-is_disk}
 
 -- the first i of changes that fit are made: what is left of them makes the whole change
@@ -75,3 +77,50 @@ changed-next cs i c first now next so_far at put_is =
 
 pub changed-all : (cs : List Change) (i : ℕ) (first now : Disk) → length cs ≤ i → IsChangedTo cs i first now → now ≡ put_all cs first
 changed-all cs i first now done so_far = ap (λ (es : List Change). put_all es now) (sym (drop_of_length-le cs done)) ∙ so_far.whole
+
+-- ---- a patch that lengthens: q is how its fields are seen
+
+-- the image that is lengthened is one
+pub grown-geometry : (p q : ChangeSet) (d : Disk) → q ≡ p → IsGrowth q → p.size ≡ d.size → IsGeometry d.size q.after
+grown-geometry p q d seen grows size =
+    subst (λ (k : ℕ). IsGeometry k q.after) (ap (λ (r : ChangeSet). r.size) seen ∙ size) grows.patch.after
+
+-- it is lengthened, and nothing is written yet
+pub grown-none : (p q : ChangeSet) (d now : Disk) → q ≡ p → IsGrowth q → IsDisk d → p.size ≡ d.size → now ≡ resized q.after d
+    → IsChangedTo p.changes 0 (resized p.after d) now
+grown-none p q d now seen grows disk size now_is =
+    let is : IsGrowth p = subst IsGrowth seen grows in
+    let from : now ≡ resized p.after d = now_is ∙ ap (λ (r : ChangeSet). resized r.after d) seen in
+    subst (IsChangedTo p.changes 0 (resized p.after d)) (sym from)
+    (changed-none p.changes (resized p.after d) (grown-is_disk p d disk is size) (grown-fits p d is size))
+
+-- all is written
+pub grown-all : (p : ChangeSet) (i : ℕ) (d now : Disk) → IsGrowth p → IsDisk d → p.size ≡ d.size → length p.changes ≤ i
+    → IsChangedTo p.changes i (resized p.after d) now → (now ≡ applied p d) × IsDiskOf p.size p.after now
+grown-all p i d now grows disk size done so_far = (
+  changed-all p.changes i (resized p.after d) now done so_far ∙ grown-made p d disk grows size,
+  record { disk = so_far.disk.disk; size = so_far.disk.size ∙ sym size; count = so_far.disk.count },
+)
+
+-- ---- and backwards
+
+-- the image that is cut is one
+pub cut-geometry : (p q : ChangeSet) (d now : Disk) → q ≡ p → IsGrowth q → p.size ≡ d.size → IsDiskAs d now → IsGeometry now.size q.before
+cut-geometry p q d now seen grows size as =
+    subst (λ (k : ℕ). IsGeometry k q.before) (ap (λ (r : ChangeSet). r.size) seen ∙ size ∙ sym as.size) grows.patch.before
+
+-- all is written, and the image is cut
+pub cut-all : (p q : ChangeSet) (i : ℕ) (d now next : Disk) → q ≡ p → IsGrowth p → IsDisk d → AgreesNew p d
+    → length (map flip p.changes) ≤ i → IsChangedTo (map flip p.changes) i d now → next ≡ resized q.before now
+    → (next ≡ reverted p d) × IsDiskOf p.size p.before next
+cut-all p q i d now next seen grows disk agrees done so_far next_is =
+    let is : next ≡ reverted p d =
+    next_is
+    ∙ ap (λ (r : ChangeSet). resized r.before now) seen
+    ∙ ap (resized p.before) (changed-all (map flip p.changes) i d now done so_far)
+    ∙ cut-made p d disk grows agrees in
+    let back = reverted-is_disk p d disk grows.patch agrees in (
+      is,
+      subst (IsDiskOf p.size p.before) (sym is)
+          (record { disk = back.disk; size = back.size ∙ sym agrees.size; count = back.count }),
+    )

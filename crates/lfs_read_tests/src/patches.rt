@@ -1,79 +1,153 @@
 //! Patches by example.
 
-ghost use Rattle.std.specs.Prelude.{◌≡◌, ◌<◌, IfOk};
+ghost use Rattle.std.specs.Prelude.{◌≡◌, ◌<◌, ◌≤◌, replicate, IfOk};
 ghost use Rattle.lfs_block.specs.Change.{IsBlockChange};
+ghost use Rattle.lfs_block.specs.Disk.{erased_block};
+ghost use Rattle.lfs_block.specs.Geometry.{IsGeometry};
 
-use lfs_block::{Blocks, Image, Overlay, Patch, Record, agreeing_patches_fit};
-use std::alloc::Global;
+use lfs_block::{Blocks, Image, Overlay, Patch, Record};
+use std::alloc::{AllocError, Global};
 use std::process::Abort;
 use std::test::Fail;
 
-/// The image of 1,024 bytes whose fourths are filled with these, cut into blocks of `size` bytes.
-fn image_of(alloc: Global, fills: [u8; 4], size: u32) -> Result<Image, Fail> {
+/// Blocks of 256 bytes, filled with these.
+fn bytes_of(alloc: Global, fills: &[u8]) -> Result<Vec<u8>, AllocError> {
     let mut bytes = Vec::new(alloc);
-    for (n, fill) in fills.into_iter().enumerate() {
-        bytes.resize(256 * (n + 1), fill)?;
+    for fill in fills {
+        bytes.extend_from_slice(&[*fill; 256])?;
     }
-    let image = Image::new(bytes, size).map_err(|refused| refused.0)?;
+    Ok(bytes)
+}
+
+/// The image of such blocks.
+fn image_of(alloc: Global, fills: &[u8]) -> Result<Image, Fail>
+    ensures { IfOk result (λ image. image.disk.size ≡ 256) }
+{
+    let image = Image::new(bytes_of(alloc, fills)?, 256).map_err(|refused| refused.0)?;
     Ok(image)
 }
 
-/// A block's 256 bytes, of one value before and of one after.
-fn record(alloc: Global, number: u32, old: u8, new: u8) -> Result<Record, Fail>
-    ensures { IfOk result (λ r. (r.number ≡ number) × IsBlockChange 256 r) }
+/// So many bytes that nothing was written to.
+fn erased(alloc: Global, size: u32) -> Result<Vec<u8>, AllocError>
+    ensures { IfOk result (λ bytes. bytes.items ≡ erased_block size) }
 {
-    let old = vec![in alloc; old; 256]?;
-    let new = vec![in alloc; new; 256]?;
+    vec![in alloc; 0xff; size as usize]
+}
+
+/// The change of a block's bytes, of one value before and of one after.
+fn record(alloc: Global, size: u32, number: u32, old: u8, new: u8) -> Result<Record, Fail>
+    ensures number { IfOk result (λ r. r.number ≡ number) }
+    ensures whole { IfOk result (λ r. IsBlockChange size r) }
+    ensures old { IfOk result (λ r. r.old ≡ replicate size old) }
+{
+    let old = vec![in alloc; old; size as usize]?;
+    let new = vec![in alloc; new; size as usize]?;
     Ok(Record { number, old, new })
 }
 
-/// The patch that makes 1 to 8 in one block, and 3 to 9 in another.
-fn patch_of(alloc: Global, first: u32, second: u32) -> Result<Patch, Fail>
-    requires { first < second }
+/// The patch of an image of four blocks that makes 1 to 8 in block 1, and `old` to 9 in the block `second`.
+fn patch_of(alloc: Global, size: u32, after: u32, second: u32, old: u8) -> Result<Patch, Fail>
+    requires before { IsGeometry size 4 }
+    requires after { IsGeometry size after }
+    requires rise { 4 ≤ after }
+    requires first { 1 < second }
+    requires within { second < after }
+    requires erased { 4 ≤ second → old ≡ 0xff }
 {
-    let records = [record(alloc, first, 1, 8)?, record(alloc, second, 3, 9)?];
-    Ok(Patch::of(256, Vec::from_array(alloc, records)?))
+    let records = [
+        record(alloc, size, 1, 1, 8)?,
+        record(alloc, size, second, old, 9)?,
+    ];
+    Ok(Patch::of(size, 4, after, Vec::from_array(alloc, records)?))
 }
 
-/// Asserts the first byte of the blocks that the patch changes.
-fn begin(rt: &impl Abort, blocks: &impl Blocks, first: u8, second: u8) {
-    assert_eq!(rt; (blocks.size(), blocks.count()), (256, 4));
-    if 3 < blocks.count() {
-        assert_eq!(rt; blocks.block(1).first().copied(), Some(first));
-        assert_eq!(rt; blocks.block(3).first().copied(), Some(second));
+/// The patch that writes into blocks 1 and 3.
+fn kept(alloc: Global) -> Result<Patch, Fail> {
+    patch_of(alloc, 256, 4, 3, 3)
+}
+
+/// The patch that lengthens the image to six blocks, and writes into blocks 1 and 5.
+fn grown(alloc: Global) -> Result<Patch, Fail> {
+    patch_of(alloc, 256, 6, 5, 0xff)
+}
+
+/// Asserts that so many blocks of 256 bytes begin with these.
+fn begin(rt: &impl Abort, blocks: &impl Blocks, firsts: &[u8]) {
+    assert_eq!(rt; blocks.size(), 256);
+    assert_eq!(rt; blocks.count() as usize, firsts.len());
+    for n in 0..blocks.count() {
+        assert_eq!(rt; blocks.block(n).first(), firsts.get(n as usize));
     }
 }
 
 #[test]
 fn applies_and_reverts(rt: HostRuntime) -> Result<(), Fail> {
-    let patch = patch_of(rt.alloc(), 1, 3)?;
+    let patch = kept(rt.alloc())?;
     assert_eq!(rt; patch.records().len(), 2);
-    let mut image = image_of(rt.alloc(), [0, 1, 2, 3], 256)?;
-    assert!(rt; patch.agrees_old(&image));
+    let mut image = image_of(rt.alloc(), &[0, 1, 2, 3])?;
+    assert!(rt; patch.agrees_old(&image) && patch.after() <= image.room());
     patch.apply(&mut image);
-    begin(&rt, &image, 8, 9);
+    begin(&rt, &image, &[0, 8, 2, 9]);
     assert!(rt; patch.agrees_new(&image));
     patch.revert(&mut image);
-    begin(&rt, &image, 1, 3);
+    begin(&rt, &image, &[0, 1, 2, 3]);
+    Ok(())
+}
+
+#[test]
+fn lengthens_and_cuts(rt: HostRuntime) -> Result<(), Fail> {
+    let patch = grown(rt.alloc())?;
+    assert_eq!(rt; (patch.size(), patch.before(), patch.after()), (256, 4, 6));
+    let mut image = image_of(rt.alloc(), &[0, 1, 2, 3])?;
+    assert!(rt; image.reserve(6));
+    assert!(rt; patch.agrees_old(&image) && patch.after() <= image.room());
+    assert!(rt; !patch.agrees_new(&image));
+    patch.apply(&mut image);
+    begin(&rt, &image, &[0, 8, 2, 3, 0xff, 9]);
+    assert!(rt; patch.agrees_new(&image) && !patch.agrees_old(&image));
+    patch.revert(&mut image);
+    assert!(rt; image.into_bytes() == bytes_of(rt.alloc(), &[0, 1, 2, 3])?);
+    Ok(())
+}
+
+#[test]
+fn added_blocks_are_erased_or_named(rt: HostRuntime) -> Result<(), Fail> {
+    let patch = grown(rt.alloc())?;
+    let made = image_of(rt.alloc(), &[0, 8, 2, 3, 0xff, 9])?;
+    assert!(rt; patch.agrees_new(&made));
+    let written = image_of(rt.alloc(), &[0, 8, 2, 3, 7, 9])?;
+    assert!(rt; !patch.agrees_new(&written));
+    Ok(())
+}
+
+#[test]
+fn room_is_reserved(rt: HostRuntime) -> Result<(), Fail> {
+    let mut image = image_of(rt.alloc(), &[0, 1, 2, 3])?;
+    assert!(rt; image.room() >= 4);
+    assert!(rt; image.reserve(6) && image.room() >= 6);
+    assert!(rt; image.into_bytes() == bytes_of(rt.alloc(), &[0, 1, 2, 3])?);
     Ok(())
 }
 
 #[test]
 fn overlays_show_what_patches_make(rt: HostRuntime) -> Result<(), Fail> {
-    agreeing_patches_fit();
-    let patch = patch_of(rt.alloc(), 1, 3)?;
-    let image = image_of(rt.alloc(), [0, 1, 2, 3], 256)?;
-    assert!(rt; patch.agrees_old(&image));
-    begin(&rt, &Overlay::after(&image, &patch), 8, 9);
+    let image = image_of(rt.alloc(), &[0, 1, 2, 3])?;
+    let erased = erased(rt.alloc(), image.size())?;
+    let patch = kept(rt.alloc())?;
+    assert!(rt; patch.size() == image.size() && patch.records().len() == 2);
+    begin(&rt, &Overlay::after(&image, &patch, &erased), &[0, 8, 2, 9]);
+    let patch = grown(rt.alloc())?;
+    assert!(rt; patch.size() == image.size() && patch.records().len() == 2);
+    begin(&rt, &Overlay::after(&image, &patch, &erased), &[0, 8, 2, 3, 0xff, 9]);
     Ok(())
 }
 
 #[test]
 fn overlays_show_what_was_there(rt: HostRuntime) -> Result<(), Fail> {
-    agreeing_patches_fit();
-    let patch = patch_of(rt.alloc(), 1, 3)?;
-    let image = image_of(rt.alloc(), [0, 8, 2, 9], 256)?;
-    assert!(rt; patch.agrees_new(&image));
-    begin(&rt, &Overlay::before(&image, &patch), 1, 3);
+    let image = image_of(rt.alloc(), &[0, 8, 2, 3, 0xff, 9])?;
+    let erased = erased(rt.alloc(), image.size())?;
+    let patch = grown(rt.alloc())?;
+    assert!(rt; patch.size() == image.size() && patch.records().len() == 2);
+    begin(&rt, &Overlay::before(&image, &patch, &erased), &[0, 1, 2, 3]);
     Ok(())
 }

@@ -1,14 +1,24 @@
--- Each record writes the next change.
-use Rattle.std.proofs.Common.{◌≡◌, length, ap, sym, subst, ◌∙◌, arith}
-use Rattle.lfs_block.specs.Patch.{ChangeSet, IsPatch}
-use Rattle.lfs_block.proofs.PatchLemmas.{patch-fits}
-use Rattle.lfs_block.proofs.WritingLemmas.{IsAt, at-read, changed-none, changed-next, changed-all, next-put, next-writes}
+-- The image is lengthened, and each record writes the next change.
+use Rattle.std.proofs.Common.{◌≡◌, ◌≤◌, length, ap, sym, subst, ◌∙◌, arith}
+use Rattle.lfs_block.specs.Disk.{resized}
+use Rattle.lfs_block.specs.Patch.{ChangeSet, IsGrowth}
+use Rattle.lfs_block.proofs.WritingLemmas.{IsAt, at-read, changed-next, grown-all, grown-geometry, grown-none, next-put, next-writes}
 use Rattle.lfs_block.proofs.patch.Patch.apply.Goals as goal
+
+pub resize-requires : goal.resize-requires
+resize-requires c =
+    record {
+      geometry = grown-geometry c.args.self.now _ c.args.image.now.disk c.self.view_is c.self.invariant c.requires.agrees.size;
+      room = subst (λ (p : ChangeSet). p.after ≤ c.args.image.now.room) (sym c.self.view_is) c.requires.room;
+    }
 
 pub loop-record-init : goal.loop-record-init
 loop-record-init c =
-    let is : IsPatch c.args.self.now = subst IsPatch c.self.view_is c.self.invariant in
-    changed-none c.args.self.now.changes c.args.image.now c.size.ensures.disk (patch-fits c.args.self.now c.args.image.now is c.requires)
+    record {
+      made = grown-none c.args.self.now _ c.args.image.now.disk c.resize.new.image.disk c.self.view_is c.self.invariant
+          c.size.ensures.disk c.requires.agrees.size c.resize.ensures.disk;
+      room = c.resize.ensures.room;
+    }
 
 pub write_block-requires : goal.write_block-requires
 write_block-requires c =
@@ -17,8 +27,8 @@ write_block-requires c =
     c.deref-record-items.ensures.value
     c.loop-record-test.true c.record-item.is in
     let writes =
-    next-writes c.args.self.now.changes c.loop-record.record-index _ c.record-item.result c.deref.result.now c.args.image.now
-    c.loop-record.image c.loop-record.invariant
+    next-writes c.args.self.now.changes c.loop-record.record-index _ c.record-item.result c.deref.result.now
+    (resized c.args.self.now.after c.args.image.now.disk) c.loop-record.image.disk c.loop-record.invariant.made
     at c.record.view_is c.deref.ensures.value in
     record { within = writes.0; whole = writes.1 }
 
@@ -28,18 +38,21 @@ loop-record-preserved c =
     at-read c.args.self.now _ c.deref-record-items.result.now c.loop-record.record-index c.record-item.result c.self.view_is
     c.deref-record-items.ensures.value
     c.loop-record-test.true c.record-item.is in
-    changed-next c.args.self.now.changes c.loop-record.record-index c.record-item.result c.args.image.now c.loop-record.image
-    c.write_block.new.self c.loop-record.invariant
-    at (next-put _ c.record-item.result c.deref.result.now c.loop-record.image c.write_block.new.self c.record.view_is c.deref.ensures.value
-    c.write_block.ensures)
+    record {
+      made = changed-next c.args.self.now.changes c.loop-record.record-index c.record-item.result
+          (resized c.args.self.now.after c.args.image.now.disk) c.loop-record.image.disk c.write_block.new.self.disk
+          c.loop-record.invariant.made at
+          (next-put _ c.record-item.result c.deref.result.now c.loop-record.image.disk c.write_block.new.self.disk
+          c.record.view_is c.deref.ensures.value c.write_block.ensures.disk);
+      room = c.write_block.ensures.room ∙ c.loop-record.invariant.room;
+    }
 
 pub returns : goal.returns
 returns c =
     let seen : c.deref-record-items.result.now ≡ c.args.self.now.changes =
     c.deref-record-items.ensures.value ∙ ap (λ (p : ChangeSet). p.changes) c.self.view_is in
     let end : length c.args.self.now.changes ≡ length c.deref-record-items.result.now = ap length (sym seen) in
-    record {
-      applied = changed-all c.args.self.now.changes c.loop-record.record-index c.args.image.now c.loop-record.image
-          (omega arith) c.loop-record.invariant;
-      disk = c.loop-record.invariant.disk;
-    }
+    let is : IsGrowth c.args.self.now = subst IsGrowth c.self.view_is c.self.invariant in
+    let all = grown-all c.args.self.now c.loop-record.record-index c.args.image.now.disk c.loop-record.image.disk is
+    c.size.ensures.disk c.requires.agrees.size (omega arith) c.loop-record.invariant.made in
+    record { applied = all.0; disk = all.1; room = c.loop-record.invariant.room }

@@ -3,7 +3,7 @@ use Rattle.std.proofs.Common.{◌∙◌}
 use Rattle.std.proofs.lemmas.Fn.{always_returns_same}
 use Rattle.lfs_block.specs.Change.{Change, IsRising}
 use Rattle.lfs_block.proofs.ChangeLemmas.{found-at, missing-at, missing-past, point-of, rising-parted}
-use Rattle.lfs_block.proofs.overlay.record_of.Goals as goal
+use Rattle.lfs_block.proofs.record.record_of.Goals as goal
 
 none : Change
 none = record { number = 0; old = []; new = [] }
