@@ -1,9 +1,9 @@
 -- What a look at the blocks of an image finds, and whether the image is what a patch was made of or what it makes.
-use Rattle.std.proofs.Common.{◌≡◌, ◌↔◌, ℕ, ◌<◌, ◌≤◌, Bool, true, false, IsTrue, List, map, None, ap, refl, sym, subst, ◌∙◌, arith, inl, inr}
+use Rattle.std.proofs.Common.{◌≡◌, ◌↔◌, ℕ, ◌<◌, ◌≤◌, Bool, false, IsTrue, None, ap, sym, subst, ◌∙◌, arith, inl, inr}
 use Rattle.std.specs.List.{AllByRecursion}
 use Rattle.std.proofs.lemmas.Bool.{cases_lt, false≢true}
 use Rattle.lfs_block.specs.Change.{Change, change_of, flip}
-use Rattle.lfs_block.specs.Disk.{Disk, block_at, block_of, erased_block}
+use Rattle.lfs_block.specs.Disk.{Disk, block_at, erased_block}
 use Rattle.lfs_block.specs.Patch.{ChangeSet, IsChangeIn, IsGrowth, AgreesAt, AgreesOld, AgreesNew, FindsOld, FindsNew, LeavesErased}
 use Rattle.lfs_block.proofs.PatchLemmas.{each-both, each-flipped, each-one, each-unflipped, none-flipped, none-unflipped}
 use Rattle.lfs_block.proofs.ResizeLemmas.{block_at-behind, block_at-within}
@@ -83,11 +83,11 @@ agrees_new-leaves p d agrees n past within none =
 abbrev HasGeometry : ChangeSet → ℕ → Disk → Type 0
 HasGeometry p count d = (p.size ≡ d.size) × (count ≡ d.count)
 
-refuted : {P : Type 0} → (P → ⊥) → IsTrue false ↔ P
-refuted other = (λ truth. absurd (false≢true truth), λ is. absurd (other is))
+refuted : {P : Type 0} (result : Bool) → result ≡ false → (P → ⊥) → IsTrue result ↔ P
+refuted result failed other = (λ truth. absurd (false≢true (sym failed ∙ truth)), λ is. absurd (other is))
 
 denied : {P : Type 0} (part : Bool) → part ≡ false → IsTrue part ↔ P → P → ⊥
-denied part no iff is = false≢true (sym no ∙ iff.1 is)
+denied part failed iff is = false≢true (sym failed ∙ iff.1 is)
 
 pub agrees_old-decided : (p : ChangeSet) (d : Disk) (finds : Bool) → IsGrowth p → HasGeometry p p.before d
     → IsTrue finds ↔ AllByRecursion (FindsOld d) p.changes → IsTrue finds ↔ AgreesOld p d
@@ -96,10 +96,6 @@ agrees_old-decided p d finds grows geometry iff = (
   λ agrees. iff.1 (agrees_old-each p d agrees),
 )
 
-pub agrees_old-refuted : (p : ChangeSet) (d : Disk) (geometry : Bool) → geometry ≡ false → IsTrue geometry ↔ HasGeometry p p.before d
-    → IsTrue false ↔ AgreesOld p d
-agrees_old-refuted p d geometry no iff = refuted (λ agrees. denied geometry no iff (agrees.size, agrees.count))
-
 pub agrees_new-decided : (p : ChangeSet) (d : Disk) (leaves : Bool) → IsGrowth p → HasGeometry p p.after d
     → AllByRecursion (FindsNew d) p.changes → IsTrue leaves ↔ LeavesErased p d → IsTrue leaves ↔ AgreesNew p d
 agrees_new-decided p d leaves grows geometry each iff = (
@@ -107,11 +103,11 @@ agrees_new-decided p d leaves grows geometry each iff = (
   λ agrees. iff.1 (agrees_new-leaves p d agrees),
 )
 
-pub agrees_new-unfound : (p : ChangeSet) (d : Disk) (finds : Bool) → finds ≡ false
-    → IsTrue finds ↔ AllByRecursion (FindsNew d) p.changes → IsTrue false ↔ AgreesNew p d
-agrees_new-unfound p d finds no iff = refuted (λ agrees. denied finds no iff (agrees_new-each p d agrees))
+pub agrees_new-unfound : (p : ChangeSet) (d : Disk) (finds result : Bool) → finds ≡ false
+    → IsTrue finds ↔ AllByRecursion (FindsNew d) p.changes → result ≡ false → IsTrue result ↔ AgreesNew p d
+agrees_new-unfound p d finds result failed iff is = refuted result is (λ agrees. denied finds failed iff (agrees_new-each p d agrees))
 
-pub agrees_new-refuted : (p : ChangeSet) (d : Disk) (geometry : Bool) → geometry ≡ false → IsTrue geometry ↔ HasGeometry p p.after d
-    → IsTrue false ↔ AgreesNew p d
-agrees_new-refuted p d geometry no iff = refuted (λ agrees. denied geometry no iff (agrees.size, agrees.count))
-
+pub agrees_new-refuted : (p : ChangeSet) (d : Disk) (geometry result : Bool) → geometry ≡ false
+    → IsTrue geometry ↔ HasGeometry p p.after d → result ≡ false → IsTrue result ↔ AgreesNew p d
+agrees_new-refuted p d geometry result failed iff is =
+    refuted result is (λ agrees. denied geometry failed iff (agrees.size, agrees.count))

@@ -3,7 +3,6 @@ pub mod BlockLens
 pub mod ChangeLemmas
 pub mod ChecksumLemmas
 pub mod DiskLemmas
-pub mod ErasedLemmas
 pub mod OverlayLemmas
 pub mod PatchLemmas
 pub mod PutLemmas

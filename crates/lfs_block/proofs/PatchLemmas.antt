@@ -15,7 +15,7 @@ use Rattle.lfs_block.specs.PatchLaws.{RevertedAgrees, RevertedAppliesAgain}
 use Rattle.lfs_block.proofs.ChangeLemmas.{change-here, change-past, overlaid-by}
 use Rattle.lfs_block.proofs.DiskLemmas.{equal-by_blocks}
 use Rattle.lfs_block.proofs.PutLemmas.{block_of-put, block_of-put_other, put-is_disk}
-use Rattle.lfs_block.proofs.ResizeLemmas.{block_at-behind, block_at-within, resized-block, resized-blocks, resized-is_disk, resized-stays}
+use Rattle.lfs_block.proofs.ResizeLemmas.{block_at-behind, block_at-within, resized-block, resized-is_disk, resized-stays}
 use Rattle.lfs_block.proofs.ResizeLemmas.{stays-at}
 
 -- ---- each of some changes

@@ -4,7 +4,6 @@ use Rattle.std.proofs.Common.{arith, inl, inr, append-nil, length-append}
 use Rattle.std.proofs.Math.Nat.{mul-le-mul_right}
 use Rattle.std.proofs.lemmas.Bool.{cases_lt, cond-true, cond-false, lt-ltb, le-ltb}
 use Rattle.std.proofs.lemmas.List.{drop_at, drop-drop, drop-replicate, length-replicate, length-take, take_all, take_min, take-replicate}
-use Rattle.lfs_block.specs.Bytes.{IsBytes}
 use Rattle.lfs_block.specs.Disk.{Disk, IsDisk, block_at, block_of, erased_block, resized}
 use Rattle.lfs_block.specs.PatchLaws.{ResizedIsDisk, ResizedBlocks, ResizedStays}
 use Rattle.lfs_block.proofs.PutLemmas.{IsBytes-append, IsBytes-replicate, IsBytes-take, slice-before}
@@ -27,7 +26,7 @@ resized-len d count =
       arith,
       length-append (take most d.bytes) (replicate gap 0xff),
       length-take most d.bytes,
-      length-replicate gap 0xff,
+      length-replicate {A = ℕ} gap 0xff,
     )
 
 pub resized-is_disk : ResizedIsDisk

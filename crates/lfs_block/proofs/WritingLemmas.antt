@@ -9,7 +9,7 @@ use Rattle.lfs_block.specs.Disk.{Disk, IsDisk, put, resized}
 use Rattle.lfs_block.specs.Geometry.{IsGeometry}
 use Rattle.lfs_block.specs.Patch.{ChangeSet, IsGrowth, AgreesNew, applied, put_all, reverted}
 use Rattle.lfs_block.specs.PatchLaws.{IsDiskAs, IsDiskOf, FitsDisk}
-use Rattle.lfs_block.proofs.PatchLemmas.{cut-made, grown-fits, grown-is_disk, grown-made, reverted-is_disk, uncut-fits}
+use Rattle.lfs_block.proofs.PatchLemmas.{cut-made, grown-fits, grown-is_disk, grown-made, reverted-is_disk}
 use Rattle.lfs_block.proofs.PutLemmas.{put-is_disk}
 
 -- the first i of changes that fit are made: what is left of them makes the whole change
@@ -106,8 +106,8 @@ grown-all p i d now grows disk size done so_far = (
 
 -- the image that is cut is one
 pub cut-geometry : (p q : ChangeSet) (d now : Disk) → q ≡ p → IsGrowth q → p.size ≡ d.size → IsDiskAs d now → IsGeometry now.size q.before
-cut-geometry p q d now seen grows size as =
-    subst (λ (k : ℕ). IsGeometry k q.before) (ap (λ (r : ChangeSet). r.size) seen ∙ size ∙ sym as.size) grows.patch.before
+cut-geometry p q d now seen grows size kept =
+    subst (λ (k : ℕ). IsGeometry k q.before) (ap (λ (r : ChangeSet). r.size) seen ∙ size ∙ sym kept.size) grows.patch.before
 
 -- all is written, and the image is cut
 pub cut-all : (p q : ChangeSet) (i : ℕ) (d now next : Disk) → q ≡ p → IsGrowth p → IsDisk d → AgreesNew p d

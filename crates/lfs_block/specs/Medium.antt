@@ -13,9 +13,9 @@ pub record IsMedium (m : Medium) : Type 0 where
   pub room : m.disk.count ≤ m.room
 
 -- a vector of this capacity, in bytes, holds as many blocks as there is room for
-pub record IsHeldIn (capacity : ℕ) (m : Medium) : Type 0 where
+pub record IsHeldIn (of_capacity : ℕ) (m : Medium) : Type 0 where
   pub medium : IsMedium m
-  pub capacity : m.room * m.disk.size ≤ capacity
+  pub capacity : m.room * m.disk.size ≤ of_capacity
 
 -- There is room for so many blocks, or memory was refused and nothing is changed. The image stays, its room never shrinks, and where
 -- there was room enough nothing is refused.

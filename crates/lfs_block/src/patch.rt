@@ -105,16 +105,17 @@ impl Patch {
         self.records.as_slice()
     }
 
-    /// Whether the image's blocks have the patch's size, and are so many.
-    fn has_geometry_of(&self, image: &Image, count: u32) -> bool
-        ensures { IsTrue result ↔ ((self.now.size ≡ image.now.disk.size) × (count ≡ image.now.disk.count)) }
+    /// Whether the image's blocks have the patch's size, and are as many as on one side.
+    fn has_geometry_of(&self, image: &Image, side: Side) -> bool
+        ensures { IsTrue result ↔ ((self.now.size ≡ image.now.disk.size) × (count_of side self.now ≡ image.now.disk.count)) }
     {
-        self.size == image.size() && count == image.count()
+        self.size == image.size() && self.count(side) == image.count()
     }
 
     /// Whether each block of the image that the patch names holds the bytes of one side.
     fn finds(&self, image: &Image, side: Side) -> bool
-        ensures { IsTrue result ↔ AllByRecursion (λ c. FindsAt image.now.disk c.number (side_of side c)) self.now.changes }
+        ensures growth { IsGrowth self.now }
+        ensures found { IsTrue result ↔ AllByRecursion (λ c. FindsAt image.now.disk c.number (side_of side c)) self.now.changes }
     {
         self.records
             .iter()
@@ -149,7 +150,7 @@ impl Patch {
     pub fn agrees_old(&self, image: &Image) -> bool
         ensures { IsTrue result ↔ AgreesOld self.now image.now.disk }
     {
-        self.has_geometry_of(image, self.before) && self.finds(image, Side::Old)
+        self.has_geometry_of(image, Side::Old) && self.finds(image, Side::Old)
     }
 
     /// Whether the image is what the patch makes: its blocks have the patch's size, and are as many as after, each of them
@@ -157,7 +158,7 @@ impl Patch {
     pub fn agrees_new(&self, image: &Image) -> bool
         ensures { IsTrue result ↔ AgreesNew self.now image.now.disk }
     {
-        self.has_geometry_of(image, self.after)
+        self.has_geometry_of(image, Side::New)
             && self.finds(image, Side::New)
             && self.leaves_erased(image)
     }

@@ -7,7 +7,7 @@ pub returns-clause-value : goal.returns-clause-value
 returns-clause-value g c =
     let here = c.self.inside in
     let is = laid-is_disk here.side here.patch.now here.erased.now (g.B.Blocks.disk here.base.now) c.self.invariant in
-    c.size.ensures ∙ c.self.invariant.size ∙ sym is.size ∙ ap (λ (d : Disk). d.size) c.self.view_is
+    c.size.ensures.value ∙ c.self.invariant.size ∙ sym is.size ∙ ap (λ (d : Disk). d.size) c.self.view_is
 
 pub returns-clause-disk : goal.returns-clause-disk
 returns-clause-disk g c =

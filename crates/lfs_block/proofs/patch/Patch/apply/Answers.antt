@@ -15,7 +15,7 @@ resize-requires c =
 pub loop-record-init : goal.loop-record-init
 loop-record-init c =
     record {
-      made = grown-none c.args.self.now _ c.args.image.now.disk c.resize.new.image.disk c.self.view_is c.self.invariant
+      made = grown-none c.args.self.now _ c.args.image.now.disk c.resize.new.self.disk c.self.view_is c.self.invariant
           c.size.ensures.disk c.requires.agrees.size c.resize.ensures.disk;
       room = c.resize.ensures.room;
     }

@@ -1,5 +1,5 @@
 -- Each record writes the next change backwards, and the image is cut.
-use Rattle.std.proofs.Common.{◌≡◌, ◌≤◌, length, map, ap, sym, subst, ◌∙◌, arith}
+use Rattle.std.proofs.Common.{rules, ◌≡◌, ◌≤◌, length, map, ap, sym, subst, ◌∙◌, arith}
 use Rattle.std.proofs.lemmas.List.{length-map}
 use Rattle.lfs_block.specs.Change.{flip}
 use Rattle.lfs_block.specs.Patch.{ChangeSet, IsGrowth}
@@ -64,7 +64,7 @@ returns c =
     length-map c.args.self.now.changes flip ∙ ap length (sym seen) in
     let is : IsGrowth c.args.self.now = subst IsGrowth c.self.view_is c.self.invariant in
     let all = cut-all c.args.self.now _ c.loop-record.record-index c.args.image.now.disk c.loop-record.image.disk
-    c.resize.new.image.disk c.self.view_is is c.room.ensures.medium.disk c.requires (omega arith) c.loop-record.invariant.made
+    c.resize.new.self.disk c.self.view_is is c.room.ensures.medium.disk c.requires (omega arith) c.loop-record.invariant.made
     c.resize.ensures.disk in
     record {
       reverted = all.0;
