@@ -138,7 +138,11 @@ fn overlays_show_what_patches_make(rt: HostRuntime) -> Result<(), Fail> {
     begin(&rt, &Overlay::after(&image, &patch, &erased), &[0, 8, 2, 9]);
     let patch = grown(rt.alloc())?;
     assert!(rt; patch.size() == image.size() && patch.records().len() == 2);
-    begin(&rt, &Overlay::after(&image, &patch, &erased), &[0, 8, 2, 3, 0xff, 9]);
+    begin(
+        &rt,
+        &Overlay::after(&image, &patch, &erased),
+        &[0, 8, 2, 3, 0xff, 9],
+    );
     Ok(())
 }
 
@@ -148,6 +152,10 @@ fn overlays_show_what_was_there(rt: HostRuntime) -> Result<(), Fail> {
     let erased = erased(rt.alloc(), image.size())?;
     let patch = grown(rt.alloc())?;
     assert!(rt; patch.size() == image.size() && patch.records().len() == 2);
-    begin(&rt, &Overlay::before(&image, &patch, &erased), &[0, 1, 2, 3]);
+    begin(
+        &rt,
+        &Overlay::before(&image, &patch, &erased),
+        &[0, 1, 2, 3],
+    );
     Ok(())
 }
