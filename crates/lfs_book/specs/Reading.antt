@@ -19,8 +19,8 @@ unfoldable pub word_at : List ℕ → Option (ℕ × List ℕ)
 word_at bytes = if nat_lt (length bytes) 4 then None else Some (from_le_bytes w32 (take 4 bytes), drop 4 bytes)
 
 -- a block's bytes, and the bytes behind them
-unfoldable pub block_at : ℕ → List ℕ → Option (List ℕ × List ℕ)
-block_at size bytes = if nat_lt (length bytes) size then None else Some (take size bytes, drop size bytes)
+unfoldable pub bytes_at : ℕ → List ℕ → Option (List ℕ × List ℕ)
+bytes_at size bytes = if nat_lt (length bytes) size then None else Some (take size bytes, drop size bytes)
 
 -- whether each byte is 0xff
 abbrev pub is_erased : List ℕ → Bool
@@ -32,8 +32,8 @@ unfoldable pub change_at : ℕ → ℕ → ℕ → ℕ → List ℕ → Option (
 change_at size before after least bytes = do
   n ← word_at bytes
   if nat_lt n.0 least || nat_le after n.0 then None else (do
-    old ← block_at size n.1
-    new ← block_at size old.1
+    old ← bytes_at size n.1
+    new ← bytes_at size old.1
     if nat_le before n.0 && not (is_erased old.0)
         then None
         else Some (record { number = n.0; old = old.0; new = new.0 }, new.1))
