@@ -88,6 +88,12 @@ past_mounted qs ps p d e is to first more =
     subst (AllByRecursion IsMounted) (sym (past_first qs ps p d is))
     (first, subst (λ (x : Disk). AllByRecursion IsMounted (past_of (reverse ps) x)) to more)
 
+pub future_mounted : (qs ps : List ChangeSet) (p : ChangeSet) (d e : Disk) → qs ≡ p ∷ ps → e ≡ applied p d → IsMounted (applied p d)
+    → AllByRecursion IsMounted (future_of ps e) → AllByRecursion IsMounted (future_of qs d)
+future_mounted qs ps p d e is to first more =
+    subst (λ (xs : List ChangeSet). AllByRecursion IsMounted (future_of xs d)) (sym is)
+    (first, subst (λ (x : Disk). AllByRecursion IsMounted (future_of ps x)) to more)
+
 pub past_later_refused : (fault : OpenFault) (qs ps : List ChangeSet) (p : ChangeSet) (d e : Disk) → qs ≡ ps ++ p ∷ [] → e ≡ reverted p d
     → RefusesMounts fault (past_of (reverse ps) e) → RefusesMounts fault (past_of (reverse qs) d)
 past_later_refused fault qs ps p d e is to h =
