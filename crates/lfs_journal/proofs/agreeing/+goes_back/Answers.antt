@@ -17,14 +17,10 @@ goes_back-agrees-requires t c =
     let growths = subst (AllByRecursion IsGrowth) is c.requires.patches in
     let room = subst (HasRoom c.args.image.now.room) is c.requires.room in
     let len = ap length is ∙ length-append ps (p ∷ []) in
-    let fewer : length ps < length c.args.patches.now = omega (arith, len) in
-    (
-      fewer,
-      c.revert.ensures.disk.disk,
-      (each_last IsGrowth ps p growths).0,
-      room_same c.args.image.now.room c.revert.new.image.room ps c.revert.ensures.room
-          (each_last (λ q. q.after ≤ c.args.image.now.room) ps p room).0,
-    )
+    let fewer : length ps < t = omega (arith, len, c.decreases) in
+    let more = room_same c.args.image.now.room c.revert.new.image.room ps c.revert.ensures.room
+    (each_last (λ q. q.after ≤ c.args.image.now.room) ps p room).0 in
+    (fewer, (c.revert.ensures.disk.disk, ((each_last IsGrowth ps p growths).0, more)))
 
 pub apply-requires-clause-agrees : goal.apply-requires-clause-agrees
 apply-requires-clause-agrees t c =

@@ -15,14 +15,10 @@ pub goes_on-agrees-requires : goal.goes_on-agrees-requires
 goes_on-agrees-requires t c =
     let is : c.args.patches.now ≡ c.in-Some.first.now ∷ c.in-Some.later.now = search rules in
     let len = ap length is in
-    let fewer : length c.in-Some.later.now < length c.args.patches.now = omega (arith, len) in
-    (
-      fewer,
-      c.apply.ensures.disk.disk,
-      (subst (AllByRecursion IsGrowth) is c.requires.patches).1,
-      room_same c.args.image.now.room c.apply.new.image.room c.in-Some.later.now c.apply.ensures.room
-          (subst (HasRoom c.args.image.now.room) is c.requires.room).1,
-    )
+    let fewer : length c.in-Some.later.now < t = omega (arith, len, c.decreases) in
+    let more = room_same c.args.image.now.room c.apply.new.image.room c.in-Some.later.now c.apply.ensures.room
+    (subst (HasRoom c.args.image.now.room) is c.requires.room).1 in
+    (fewer, (c.apply.ensures.disk.disk, ((subst (AllByRecursion IsGrowth) is c.requires.patches).1, more)))
 
 pub revert-requires : goal.revert-requires
 revert-requires t c =

@@ -31,15 +31,11 @@ mounts_back-mounted-requires t c =
     let back : GoesBack (p ∷ reverse ps) d = subst (λ (xs : List ChangeSet). GoesBack xs d) (latest ps c.args.patches.now p is) c.requires.agrees in
     let size : c.revert.new.image.disk.size ≡ d.size = c.revert.ensures.disk.size ∙ back.1.size in
     let len = ap length is ∙ length-append ps (p ∷ []) in
-    let fewer : length ps < length c.args.patches.now = omega (arith, len) in
-    (
-      fewer,
-      c.revert.ensures.disk.disk,
-      subst (GoesBack (reverse ps)) (sym c.revert.ensures.reverted) back.2,
-      room_same room c.revert.new.image.room ps c.revert.ensures.room
-          (each_last (λ q. q.after ≤ room) ps p (subst (HasRoom room) is c.requires.room)).0,
-      c.requires.erased ∙ ap erased_block (sym size),
-    )
+    let fewer : length ps < t = omega (arith, len, c.decreases) in
+    let later = subst (GoesBack (reverse ps)) (sym c.revert.ensures.reverted) back.2 in
+    let more = room_same room c.revert.new.image.room ps c.revert.ensures.room
+    (each_last (λ q. q.after ≤ room) ps p (subst (HasRoom room) is c.requires.room)).0 in
+    (fewer, (c.revert.ensures.disk.disk, (later, (more, c.requires.erased ∙ ap erased_block (sym size)))))
 
 pub apply-requires-clause-agrees : goal.apply-requires-clause-agrees
 apply-requires-clause-agrees t c =

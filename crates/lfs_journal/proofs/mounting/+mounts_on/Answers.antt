@@ -34,14 +34,10 @@ mounts_on-mounted-requires t c =
     let on : GoesForward (p ∷ ps) d = subst (λ (xs : List ChangeSet). GoesForward xs d) is c.requires.agrees in
     let size : c.apply.new.image.disk.size ≡ d.size = c.apply.ensures.disk.size ∙ on.1.size in
     let len = ap length is in
-    let fewer : length ps < length c.args.patches.now = omega (arith, len) in
-    (
-      fewer,
-      c.apply.ensures.disk.disk,
-      subst (GoesForward ps) (sym c.apply.ensures.applied) on.2,
-      room_same room c.apply.new.image.room ps c.apply.ensures.room (subst (HasRoom room) is c.requires.room).1,
-      c.requires.erased ∙ ap erased_block (sym size),
-    )
+    let fewer : length ps < t = omega (arith, len, c.decreases) in
+    let later = subst (GoesForward ps) (sym c.apply.ensures.applied) on.2 in
+    let more = room_same room c.apply.new.image.room ps c.apply.ensures.room (subst (HasRoom room) is c.requires.room).1 in
+    (fewer, (c.apply.ensures.disk.disk, (later, (more, c.requires.erased ∙ ap erased_block (sym size)))))
 
 pub revert-requires : goal.revert-requires
 revert-requires t c =
@@ -78,7 +74,7 @@ returns-clause-mounted t c =
     let ps = c.in-Some.later.now in
     let d = c.args.image.now.disk in
     let is : c.args.patches.now ≡ p ∷ ps = search rules in
-    let first : IsMounted (applied p d) = subst IsMounted c.after-2.ensures c.in_ok-mounts.ensures.mounted in
+    let first : IsMounted (applied p d) = subst IsMounted c.after.ensures c.in_ok-mounts.ensures.mounted in
     IfOk-weaker c.mounts_on-mounted.result (λ _. AllByRecursion IsMounted (future_of ps c.apply.new.image.disk))
     (λ _. AllByRecursion IsMounted (future_of c.args.patches.now d))
     (λ _ more. future_mounted c.args.patches.now ps p d c.apply.new.image.disk is c.apply.ensures.applied first more)
