@@ -88,6 +88,12 @@ past_mounted qs ps p d e is to first more =
     subst (AllByRecursion IsMounted) (sym (past_first qs ps p d is))
     (first, subst (λ (x : Disk). AllByRecursion IsMounted (past_of (reverse ps) x)) to more)
 
+pub future_mounted : (qs ps : List ChangeSet) (p : ChangeSet) (d e : Disk) → qs ≡ p ∷ ps → e ≡ applied p d → IsMounted (applied p d)
+    → AllByRecursion IsMounted (future_of ps e) → AllByRecursion IsMounted (future_of qs d)
+future_mounted qs ps p d e is to first more =
+    subst (λ (xs : List ChangeSet). AllByRecursion IsMounted (future_of xs d)) (sym is)
+    (first, subst (λ (x : Disk). AllByRecursion IsMounted (future_of ps x)) to more)
+
 pub past_later_refused : (fault : OpenFault) (qs ps : List ChangeSet) (p : ChangeSet) (d e : Disk) → qs ≡ ps ++ p ∷ [] → e ≡ reverted p d
     → RefusesMounts fault (past_of (reverse ps) e) → RefusesMounts fault (past_of (reverse qs) d)
 past_later_refused fault qs ps p d e is to h =
@@ -144,29 +150,36 @@ others_refused JournalImage d bytes ps done mounts is (e, there, cause) =
 others_refused JournalFormat d bytes ps done mounts is h = absurd h
 others_refused JournalMismatch d bytes ps done mounts is h = absurd h
 
-pub parts_opened : (m : Medium) (bytes : List ℕ) (outline : Volume) (ps : List ChangeSet) (done : ℕ) → IsDisk m.disk
-    → IsMounted m.disk → IsOutlineOf m.disk outline → IsAgreed m.disk bytes ps done
-    → AllByRecursion IsMounted (past_of (reverse (take done ps)) m.disk) → AllByRecursion IsMounted (future_of (drop done ps) m.disk)
-    → HasRoom m.room ps → OpensParts m bytes outline ps done
-parts_opened m bytes outline ps done disk mounts known is past future room = record {
-  spelled = is.spelled;
-  agrees = is.agrees;
+-- what was found of an image and of the changes that were read
+pub record IsFound (d : Disk) (bytes : List ℕ) (outline : Volume) (ps : List ChangeSet) (done : ℕ) : Type 0 where
+  pub disk : IsDisk d
+  pub mounts : IsMounted d
+  pub known : IsOutlineOf d outline
+  pub agreed : IsAgreed d bytes ps done
+  pub past : AllByRecursion IsMounted (past_of (reverse (take done ps)) d)
+  pub future : AllByRecursion IsMounted (future_of (drop done ps) d)
+
+pub parts_opened : (m : Medium) (bytes : List ℕ) (outline : Volume) (ps : List ChangeSet) (done : ℕ)
+    → IsFound m.disk bytes outline ps done → HasRoom m.room ps → OpensParts m bytes outline ps done
+parts_opened m bytes outline ps done is room = record {
+  spelled = is.agreed.spelled;
+  agrees = is.agreed.agrees;
   session = record {
     at = record {
-      within = is.within;
+      within = is.agreed.within;
       history = record {
         past = refl;
         future = refl;
-        back = is.agrees.back;
-        on = is.agrees.on;
-        disk = disk;
-        mounts = mounts;
-        past_mounts = past;
-        future_mounts = future;
-        few = is.spelled.book.few;
+        back = is.agreed.agrees.back;
+        on = is.agreed.agrees.on;
+        disk = is.disk;
+        mounts = is.mounts;
+        past_mounts = is.past;
+        future_mounts = is.future;
+        few = is.agreed.spelled.book.few;
       };
     };
-    known = known;
+    known = is.known;
     room = room;
   };
 }

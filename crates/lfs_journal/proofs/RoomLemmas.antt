@@ -1,7 +1,8 @@
 -- Room for the image after each change of a list.
-use Rattle.std.proofs.Common.{◌≡◌, ℕ, zero, suc, ◌+◌, ◌<◌, ◌≤◌, List, [], ◌∷◌, ◌++◌, length, take, drop, get_or, sym, subst, arith}
+use Rattle.std.proofs.Common.{◌≡◌, ℕ, zero, suc, ◌+◌, ◌<◌, ◌≤◌, List, [], ◌∷◌, ◌++◌, length, take, drop, get_or, sym, ap, ◌∙◌, subst, arith}
 use Rattle.std.specs.Prelude.{Option}
 use Rattle.std.specs.List.{AllByRecursion}
+use Rattle.std.proofs.lemmas.List.{take_more}
 use Rattle.lfs_block.specs.Disk.{Disk}
 use Rattle.lfs_block.specs.Medium.{Medium}
 use Rattle.lfs_block.specs.Patch.{ChangeSet}
@@ -40,6 +41,13 @@ room_grows less more [] le room = tt
 room_grows less more (p ∷ ps) le room =
     let first : p.after ≤ less = room.0 in
     (omega (arith, first, le), room_grows less more ps le room.1)
+
+-- a change more, and room that serves it too
+pub room_more : (old new : ℕ) (ps : List ChangeSet) (i : ℕ) (p : ChangeSet) → old ≤ new → p.after ≤ new → HasRoom old (take i ps)
+    → i < length ps → p ≡ get_or ps i p → HasRoom new (take (i + 1) ps)
+room_more old new ps i p le fits room within is =
+    subst (HasRoom new) (sym (take_more ps i p within ∙ ap (λ (q : ChangeSet). take i ps ++ q ∷ []) (sym is)))
+    (each_push (λ q. q.after ≤ new) (take i ps) p (room_grows old new (take i ps) le room) fits)
 
 -- a change is put behind those that were made
 pub room_put : (old new : ℕ) (olds news : List ChangeSet) (i : ℕ) (p : ChangeSet) → old ≤ new → HasRoom old olds → p.after ≤ new

@@ -1,5 +1,5 @@
 -- Behind the change that is taken back stand those before it.
-use Rattle.std.proofs.Common.{◌≡◌, ◌↔◌, ◌≤◌, ℕ, [], ◌∷◌, ◌++◌, IsTrue, reverse, rules, sym, ap, ◌∙◌, subst}
+use Rattle.std.proofs.Common.{◌≡◌, ◌↔◌, ◌<◌, ◌≤◌, ℕ, [], ◌∷◌, ◌++◌, length, IsTrue, reverse, rules, sym, ap, ◌∙◌, subst, arith, length-append}
 use Rattle.std.specs.List.{AllByRecursion}
 use Rattle.lfs_block.specs.Disk.{Disk}
 use Rattle.lfs_block.specs.Patch.{ChangeSet, IsGrowth, AgreesOld, AgreesNew, applied, reverted}
@@ -16,12 +16,11 @@ goes_back-agrees-requires t c =
     let is : c.args.patches.now ≡ ps ++ p ∷ [] = search rules in
     let growths = subst (AllByRecursion IsGrowth) is c.requires.patches in
     let room = subst (HasRoom c.args.image.now.room) is c.requires.room in
-    (
-      c.revert.ensures.disk.disk,
-      (each_last IsGrowth ps p growths).0,
-      room_same c.args.image.now.room c.revert.new.image.room ps c.revert.ensures.room
-          (each_last (λ q. q.after ≤ c.args.image.now.room) ps p room).0,
-    )
+    let len = ap length is ∙ length-append ps (p ∷ []) in
+    let fewer : length ps < t = omega (arith, len, c.decreases) in
+    let more = room_same c.args.image.now.room c.revert.new.image.room ps c.revert.ensures.room
+    (each_last (λ q. q.after ≤ c.args.image.now.room) ps p room).0 in
+    (fewer, (c.revert.ensures.disk.disk, ((each_last IsGrowth ps p growths).0, more)))
 
 pub apply-requires-clause-agrees : goal.apply-requires-clause-agrees
 apply-requires-clause-agrees t c =

@@ -1,5 +1,5 @@
 -- Before the changes that are still to be made stands the next.
-use Rattle.std.proofs.Common.{◌≡◌, ◌≤◌, ℕ, ◌∷◌, rules, sym, ap, ◌∙◌, subst}
+use Rattle.std.proofs.Common.{◌≡◌, ◌<◌, ◌∷◌, length, rules, sym, ap, ◌∙◌, subst, arith}
 use Rattle.std.specs.List.{AllByRecursion}
 use Rattle.lfs_block.specs.Patch.{ChangeSet, IsGrowth, AgreesOld, AgreesNew, applied, reverted}
 use Rattle.lfs_journal.specs.Known.{HasRoom}
@@ -14,12 +14,11 @@ apply-requires-clause-room t c =
 pub goes_on-agrees-requires : goal.goes_on-agrees-requires
 goes_on-agrees-requires t c =
     let is : c.args.patches.now ≡ c.in-Some.first.now ∷ c.in-Some.later.now = search rules in
-    (
-      c.apply.ensures.disk.disk,
-      (subst (AllByRecursion IsGrowth) is c.requires.patches).1,
-      room_same c.args.image.now.room c.apply.new.image.room c.in-Some.later.now c.apply.ensures.room
-          (subst (HasRoom c.args.image.now.room) is c.requires.room).1,
-    )
+    let len = ap length is in
+    let fewer : length c.in-Some.later.now < t = omega (arith, len, c.decreases) in
+    let more = room_same c.args.image.now.room c.apply.new.image.room c.in-Some.later.now c.apply.ensures.room
+    (subst (HasRoom c.args.image.now.room) is c.requires.room).1 in
+    (fewer, (c.apply.ensures.disk.disk, ((subst (AllByRecursion IsGrowth) is c.requires.patches).1, more)))
 
 pub revert-requires : goal.revert-requires
 revert-requires t c =

@@ -1,5 +1,5 @@
 -- Behind the image before a change stand those before it.
-use Rattle.std.proofs.Common.{◌≡◌, ◌≤◌, ℕ, List, [], ◌∷◌, ◌++◌, reverse, rules, sym, ap, ◌∙◌, subst}
+use Rattle.std.proofs.Common.{◌≡◌, ◌<◌, ◌≤◌, ℕ, List, [], ◌∷◌, ◌++◌, length, reverse, rules, sym, ap, ◌∙◌, subst, arith, length-append}
 use Rattle.std.specs.List.{AllByRecursion}
 use Rattle.std.proofs.lemmas.Result.{IfOk-weaker, IfErr-weaker}
 use Rattle.lfs_block.specs.Disk.{Disk, erased_block}
@@ -30,13 +30,12 @@ mounts_back-mounted-requires t c =
     let is : c.args.patches.now ≡ ps ++ p ∷ [] = search rules in
     let back : GoesBack (p ∷ reverse ps) d = subst (λ (xs : List ChangeSet). GoesBack xs d) (latest ps c.args.patches.now p is) c.requires.agrees in
     let size : c.revert.new.image.disk.size ≡ d.size = c.revert.ensures.disk.size ∙ back.1.size in
-    (
-      c.revert.ensures.disk.disk,
-      subst (GoesBack (reverse ps)) (sym c.revert.ensures.reverted) back.2,
-      room_same room c.revert.new.image.room ps c.revert.ensures.room
-          (each_last (λ q. q.after ≤ room) ps p (subst (HasRoom room) is c.requires.room)).0,
-      c.requires.erased ∙ ap erased_block (sym size),
-    )
+    let len = ap length is ∙ length-append ps (p ∷ []) in
+    let fewer : length ps < t = omega (arith, len, c.decreases) in
+    let later = subst (GoesBack (reverse ps)) (sym c.revert.ensures.reverted) back.2 in
+    let more = room_same room c.revert.new.image.room ps c.revert.ensures.room
+    (each_last (λ q. q.after ≤ room) ps p (subst (HasRoom room) is c.requires.room)).0 in
+    (fewer, (c.revert.ensures.disk.disk, (later, (more, c.requires.erased ∙ ap erased_block (sym size)))))
 
 pub apply-requires-clause-agrees : goal.apply-requires-clause-agrees
 apply-requires-clause-agrees t c =

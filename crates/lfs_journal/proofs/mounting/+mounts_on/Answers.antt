@@ -1,12 +1,13 @@
 -- Before the images behind later changes stands the one behind the next.
-use Rattle.std.proofs.Common.{◌≡◌, ◌≤◌, ℕ, List, ◌∷◌, rules, sym, ap, ◌∙◌, subst}
-use Rattle.std.proofs.lemmas.Result.{IfErr-weaker}
+use Rattle.std.proofs.Common.{◌≡◌, ◌<◌, List, ◌∷◌, length, rules, sym, ap, ◌∙◌, subst, arith}
+use Rattle.std.specs.List.{AllByRecursion}
+use Rattle.std.proofs.lemmas.Result.{IfOk-weaker, IfErr-weaker}
 use Rattle.lfs_block.specs.Disk.{Disk, erased_block}
 use Rattle.lfs_block.specs.Patch.{ChangeSet, AgreesNew, applied, reverted}
-use Rattle.lfs_history.specs.History.{GoesForward, future_of}
+use Rattle.lfs_history.specs.History.{GoesForward, IsMounted, future_of}
 use Rattle.lfs_journal.specs.Known.{HasRoom}
 use Rattle.lfs_journal.specs.Opened.{RefusesMounts}
-use Rattle.lfs_journal.proofs.OpeningLemmas.{future_later_refused}
+use Rattle.lfs_journal.proofs.OpeningLemmas.{future_mounted, future_later_refused}
 use Rattle.lfs_journal.proofs.RoomLemmas.{room_same}
 use Rattle.lfs_journal.proofs.mounting.+mounts_on.Goals as goal
 
@@ -32,12 +33,11 @@ mounts_on-mounted-requires t c =
     let is : c.args.patches.now ≡ p ∷ ps = search rules in
     let on : GoesForward (p ∷ ps) d = subst (λ (xs : List ChangeSet). GoesForward xs d) is c.requires.agrees in
     let size : c.apply.new.image.disk.size ≡ d.size = c.apply.ensures.disk.size ∙ on.1.size in
-    (
-      c.apply.ensures.disk.disk,
-      subst (GoesForward ps) (sym c.apply.ensures.applied) on.2,
-      room_same room c.apply.new.image.room ps c.apply.ensures.room (subst (HasRoom room) is c.requires.room).1,
-      c.requires.erased ∙ ap erased_block (sym size),
-    )
+    let len = ap length is in
+    let fewer : length ps < t = omega (arith, len, c.decreases) in
+    let later = subst (GoesForward ps) (sym c.apply.ensures.applied) on.2 in
+    let more = room_same room c.apply.new.image.room ps c.apply.ensures.room (subst (HasRoom room) is c.requires.room).1 in
+    (fewer, (c.apply.ensures.disk.disk, (later, (more, c.requires.erased ∙ ap erased_block (sym size)))))
 
 pub revert-requires : goal.revert-requires
 revert-requires t c =
@@ -67,3 +67,15 @@ returns-clause-refused t c =
     (λ fault. RefusesMounts fault (future_of c.args.patches.now d))
     (λ fault h. future_later_refused fault c.args.patches.now ps p d c.apply.new.image.disk is c.apply.ensures.applied h)
     c.mounts_on-mounted.ensures.refused
+
+pub returns-clause-mounted : goal.returns-clause-mounted
+returns-clause-mounted t c =
+    let p = c.in-Some.first.now in
+    let ps = c.in-Some.later.now in
+    let d = c.args.image.now.disk in
+    let is : c.args.patches.now ≡ p ∷ ps = search rules in
+    let first : IsMounted (applied p d) = subst IsMounted c.after.ensures c.in_ok-mounts.ensures.mounted in
+    IfOk-weaker c.mounts_on-mounted.result (λ _. AllByRecursion IsMounted (future_of ps c.apply.new.image.disk))
+    (λ _. AllByRecursion IsMounted (future_of c.args.patches.now d))
+    (λ _ more. future_mounted c.args.patches.now ps p d c.apply.new.image.disk is c.apply.ensures.applied first more)
+    c.mounts_on-mounted.ensures.mounted

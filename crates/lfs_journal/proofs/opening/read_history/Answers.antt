@@ -5,9 +5,10 @@ use Rattle.std.proofs.lemmas.Result.{err_from_is_err_and}
 use Rattle.lfs_block.specs.Disk.{Disk}
 use Rattle.lfs_fs.specs.Mounted.{IsOutlineOf}
 use Rattle.lfs_history.specs.History.{GoesBack, GoesForward, IsMounted, past_of, future_of}
-use Rattle.lfs_journal.specs.Known.{HaveSize}
+use Rattle.lfs_journal.specs.Known.{HasRoom, HaveSize}
 use Rattle.lfs_journal.specs.Opened.{RefusesMounts}
-use Rattle.lfs_journal.proofs.OpeningLemmas.{IsAgreed, book_patches, book_sizes, agreed, others_refused, parts_opened}
+use Rattle.lfs_journal.proofs.OpeningLemmas.{IsAgreed, IsFound, book_patches, book_sizes, agreed, others_refused, parts_opened}
+use Rattle.lfs_journal.proofs.RoomLemmas.{room_same}
 use Rattle.lfs_journal.proofs.opening.read_history.Goals as goal
 
 pub reserve_for-requires-clause-patches : goal.reserve_for-requires-clause-patches
@@ -59,4 +60,17 @@ returns-clause-opened c =
     let is : IsAgreed d bytes ps done = agreed d bytes j ps done c.in_ok-journal.ensures.spelled
     c.into_parts-patches.ensures.parts c.into_parts-patches.ensures.book.within size count both.0 both.1 in
     let m = c.in_ok-mount.ensures.mounted in
-    ?
+    let outline = c.into_outline-outline.result in
+    let image = c.others_mount.new.image in
+    let found : IsFound d bytes outline ps done = record {
+      disk = c.size-2.ensures.disk;
+      mounts = (m.volume, m.holds, m.sound);
+      known = record { volume = m.volume; holds = m.holds; sound = m.sound; outline = c.into_outline-outline.ensures ∙ m.outline };
+      agreed = is;
+      past = search rules;
+      future = search rules;
+    } in
+    let same : image.disk ≡ d = c.others_mount.ensures.disk ∙ c.agree.ensures.disk ∙ c.reserve_for.ensures.disk in
+    let room : HasRoom c.reserve_for.new.image.room ps = search rules in
+    parts_opened image bytes outline ps done (subst (λ (e : Disk). IsFound e bytes outline ps done) (sym same) found)
+    (room_same c.reserve_for.new.image.room image.room ps (c.others_mount.ensures.room ∙ c.agree.ensures.room) room)

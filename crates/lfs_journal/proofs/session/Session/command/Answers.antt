@@ -11,6 +11,7 @@ use Rattle.lfs_command.specs.AskedFor.{asked_for}
 use Rattle.lfs_command.specs.Planned.{RefusesPlan}
 use Rattle.lfs_history.specs.History.{History, history_at}
 use Rattle.lfs_history.specs.Taking.{Does}
+use Rattle.lfs_journal.specs.Known.{IsSession}
 use Rattle.lfs_journal.proofs.PlaceLemmas.{IsPut, put_is, put_makes, done_at}
 use Rattle.lfs_journal.proofs.RoomLemmas.{room_put, room_same, session_grows}
 use Rattle.lfs_journal.proofs.session.Session.command.Goals as goal
@@ -97,14 +98,22 @@ apply-requires-clause-room c =
     let fits = subst (λ (n : ℕ). n ≤ c.reserve.new.self.room) c.after.ensures.value (c.reserve.ensures.done_is c.if-not-reserve.false) in
     subst (λ (p : ChangeSet). p.after ≤ c.reserve.new.self.room) (sym same) fits
 
-pub invariant_of-self-2 : goal.invariant_of-self-2
-invariant_of-self-2 c =
+pub invariant_of-self-then-not-reserve : goal.invariant_of-self-then-not-reserve
+invariant_of-self-then-not-reserve c =
     let s = c.self.inside in
     session_grows s.image c.reserve.new.self s.outline c.carried_out.new.outline s.patches.items s.done c.reserve.ensures.disk
     c.reserve.ensures.most c.self.invariant c.carried_out.ensures.known
 
-pub invariant_of-self-4 : goal.invariant_of-self-4
-invariant_of-self-4 c =
+pub invariant_of-self-in_err-replace_from : goal.invariant_of-self-in_err-replace_from
+invariant_of-self-in_err-replace_from c =
+    let s = c.self.inside in
+    subst (λ (changes : List ChangeSet). IsSession c.reserve.new.self c.carried_out.new.outline changes s.done)
+    (sym c.in_err-replace_from.ensures.unchanged)
+    (session_grows s.image c.reserve.new.self s.outline c.carried_out.new.outline s.patches.items s.done c.reserve.ensures.disk
+    c.reserve.ensures.most c.self.invariant c.carried_out.ensures.known)
+
+pub invariant_of-self-2 : goal.invariant_of-self-2
+invariant_of-self-2 c =
     let s = c.self.inside in
     let made = c.applied_patches_change_their_blocks.ensures in
     let back = c.applied_patches_revert.ensures in
