@@ -23,5 +23,6 @@ pub(crate) fn make_changes(image: &mut Image, changes: Vec<Record>)
         return;
     }
     prove!(count <= image.room());
-    Patch::of(size, count, count, changes).apply(image);
+    let patch = Patch::of(size, count, count, changes);
+    patch.apply(image);
 }
