@@ -10,8 +10,6 @@ use Rattle.lfs_block.specs.PatchLaws.{RevertedAppliesAgain}
 use Rattle.lfs_book.specs.Book.{most_changes}
 use Rattle.lfs_command.specs.Command.{Asked}
 use Rattle.lfs_law.specs.Laws.{CutsFollow, CleansFollow}
-use Rattle.lfs_command.specs.Cut.{cut}
-use Rattle.lfs_command.specs.Clean.{clean}
 use Rattle.lfs_command.specs.Planned.{Plans}
 use Rattle.lfs_law.proofs.CarriedFollow.{carried_follow}
 use Rattle.lfs_history.specs.History.{History, IsHistory, IsMounted, past_of, future_of, GoesBack, GoesForward}

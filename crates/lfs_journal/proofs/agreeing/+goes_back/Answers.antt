@@ -2,7 +2,7 @@
 use Rattle.std.proofs.Common.{◌≡◌, ◌↔◌, ◌<◌, ◌≤◌, ℕ, [], ◌∷◌, ◌++◌, length, IsTrue, reverse, rules, sym, ap, ◌∙◌, subst, arith, length-append}
 use Rattle.std.specs.List.{AllByRecursion}
 use Rattle.lfs_block.specs.Disk.{Disk}
-use Rattle.lfs_block.specs.Patch.{ChangeSet, IsGrowth, AgreesOld, AgreesNew, applied, reverted}
+use Rattle.lfs_block.specs.Patch.{IsGrowth, AgreesOld, AgreesNew, applied, reverted}
 use Rattle.lfs_history.specs.History.{GoesBack}
 use Rattle.lfs_journal.specs.Known.{HasRoom}
 use Rattle.lfs_journal.proofs.OpeningLemmas.{each_last, last_of, back_agrees}

@@ -1,7 +1,7 @@
 -- Before the changes that are still to be made stands the next.
 use Rattle.std.proofs.Common.{◌≡◌, ◌<◌, ◌∷◌, length, rules, sym, ap, ◌∙◌, subst, arith}
 use Rattle.std.specs.List.{AllByRecursion}
-use Rattle.lfs_block.specs.Patch.{ChangeSet, IsGrowth, AgreesOld, AgreesNew, applied, reverted}
+use Rattle.lfs_block.specs.Patch.{IsGrowth, AgreesOld, AgreesNew, applied, reverted}
 use Rattle.lfs_journal.specs.Known.{HasRoom}
 use Rattle.lfs_journal.proofs.RoomLemmas.{room_same}
 use Rattle.lfs_journal.proofs.agreeing.+goes_on.Goals as goal

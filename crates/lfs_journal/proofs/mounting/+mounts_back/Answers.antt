@@ -2,7 +2,7 @@
 use Rattle.std.proofs.Common.{◌≡◌, ◌<◌, ◌≤◌, ℕ, List, [], ◌∷◌, ◌++◌, length, reverse, rules, sym, ap, ◌∙◌, subst, arith, length-append}
 use Rattle.std.specs.List.{AllByRecursion}
 use Rattle.std.proofs.lemmas.Result.{IfOk-weaker, IfErr-weaker}
-use Rattle.lfs_block.specs.Disk.{Disk, erased_block}
+use Rattle.lfs_block.specs.Disk.{erased_block}
 use Rattle.lfs_block.specs.Patch.{ChangeSet, AgreesOld, applied, reverted}
 use Rattle.lfs_history.specs.History.{GoesBack, IsMounted, past_of}
 use Rattle.lfs_journal.specs.Known.{HasRoom}

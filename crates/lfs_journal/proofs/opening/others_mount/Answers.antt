@@ -1,5 +1,5 @@
 -- An image among some is one among more.
-use Rattle.std.proofs.Common.{◌≡◌, ◌++◌, List, take, drop, reverse, rules}
+use Rattle.std.proofs.Common.{◌++◌, List, take, drop, reverse, rules}
 use Rattle.std.specs.Prelude.{IfErr}
 use Rattle.std.proofs.lemmas.Result.{err_from_is_err_and, IfErr-weaker}
 use Rattle.lfs_block.specs.Disk.{Disk}

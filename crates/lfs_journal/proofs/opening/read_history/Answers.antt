@@ -1,10 +1,8 @@
 -- The changes that were read agree with the image, and lead to images that mount.
-use Rattle.std.proofs.Common.{◌≡◌, ◌++◌, take, drop, reverse, rules, sym, ◌∙◌, subst, ap, refl}
-use Rattle.std.specs.List.{AllByRecursion}
+use Rattle.std.proofs.Common.{◌≡◌, ◌++◌, take, drop, reverse, rules, sym, ◌∙◌, subst}
 use Rattle.std.proofs.lemmas.Result.{err_from_is_err_and}
 use Rattle.lfs_block.specs.Disk.{Disk}
-use Rattle.lfs_fs.specs.Mounted.{IsOutlineOf}
-use Rattle.lfs_history.specs.History.{GoesBack, GoesForward, IsMounted, past_of, future_of}
+use Rattle.lfs_history.specs.History.{GoesBack, GoesForward, past_of, future_of}
 use Rattle.lfs_journal.specs.Known.{HasRoom, HaveSize}
 use Rattle.lfs_journal.specs.Opened.{RefusesMounts}
 use Rattle.lfs_journal.proofs.OpeningLemmas.{IsAgreed, IsFound, book_patches, book_sizes, agreed, others_refused, parts_opened}

@@ -1,5 +1,5 @@
 -- The greatest count is one of an image, and each change fits it.
-use Rattle.std.proofs.Common.{◌≡◌, ◌≤◌, ℕ, take, get_or, sym, ◌∙◌, subst, arith}
+use Rattle.std.proofs.Common.{◌≡◌, ℕ, sym, ◌∙◌, subst, arith}
 use Rattle.std.proofs.lemmas.List.{take_all}
 use Rattle.lfs_block.specs.Geometry.{IsGeometry}
 use Rattle.lfs_block.specs.Patch.{ChangeSet, IsGrowth}
@@ -26,7 +26,7 @@ loop-patch-preserved c =
     (each_at (λ q. q.size ≡ size) ps i p c.requires.size within) in
     let after = c.after-after.ensures.value in
     elim c.if-after-greatest.branch [
-      then-after-greatest w ↦
+      | then-after-greatest w ↦
           let is : c.if-after-greatest.greatest ≡ p.after = w.greatest-is ∙ after in
           let less = w.if-after-greatest.true in
           record {

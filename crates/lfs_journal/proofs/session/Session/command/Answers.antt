@@ -42,8 +42,7 @@ returns-then-not-reserve-clause-refused c =
     let s = c.self.inside in
     let within = c.self.invariant.at.within in
     let made : length (take s.done s.patches.items) < most_changes = let len = length-take-le s.done s.patches.items within in
-    omega arith in
-    (
+    omega arith in (
       subst (λ (h : History). length h.done < most_changes) c.self.view_is made,
       tt,
       ap (λ (d : Disk). history_at d s.patches.items s.done) c.reserve.ensures.disk ∙ c.self.view_is,
