@@ -3,6 +3,7 @@ pub mod BlockLens
 pub mod ChangeLemmas
 pub mod ChecksumLemmas
 pub mod DiskLemmas
+pub mod GeometryTests
 pub mod OverlayLemmas
 pub mod PatchLemmas
 pub mod PutLemmas

@@ -5,6 +5,7 @@ pub mod Disk
 pub mod Faults
 pub mod Geometry
 pub mod ImageFault
+pub mod Lengthened
 pub mod Medium
 pub mod Overlay
 pub mod Patch

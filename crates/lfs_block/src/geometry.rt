@@ -1,7 +1,7 @@
 //! The block sizes and counts that are edited.
 
-ghost use Rattle.std.specs.Prelude.{◌↔◌, IsTrue};
-ghost use Rattle.lfs_block.specs.Geometry.{IsGeometry};
+ghost use Rattle.std.specs.Prelude.{◌≡◌, ◌↔◌, IsTrue};
+ghost use Rattle.lfs_block.specs.Geometry.{IsGeometry, is_geometry};
 
 /// The least block size, in bytes.
 pub const MIN_BLOCK_SIZE: u32 = 256;
@@ -23,7 +23,8 @@ pub const MAX_IMAGE_LENGTH: u64 = 67_108_864;
 ///
 /// Source: own.
 pub fn geometry_ok(size: u32, count: u32) -> bool
-    ensures { IsTrue result ↔ IsGeometry size count }
+    ensures geometry { IsTrue result ↔ IsGeometry size count }
+    ensures test { result ≡ is_geometry size count }
 {
     (MIN_BLOCK_SIZE..=MAX_BLOCK_SIZE).contains(&size)
         && size % BLOCK_SIZE_STEP == 0

@@ -10,7 +10,7 @@ use Rattle.lfs_block.specs.Bytes.{IsBytes}
 use Rattle.lfs_block.specs.Change.{Change, IsRising, IsBlockChange}
 use Rattle.lfs_block.specs.Disk.{erased_block}
 use Rattle.lfs_book.specs.Book.{change_bytes}
-use Rattle.lfs_book.specs.Reading.{◌>>=◌, word_at, bytes_at, is_erased, change_at, changes_at}
+use Rattle.lfs_book.specs.Reading.{◌>>=◌, word_at, block_at, is_erased, change_at, changes_at}
 use Rattle.lfs_book.proofs.Erased.{erased_before, passes_erased}
 use Rattle.lfs_book.proofs.Fields.{bind_some, guard_none, Takes, Takes-then, word_takes, word_again, block_takes, block_again}
 
@@ -41,7 +41,7 @@ tested before number old new =
     cond (leb before number && not (is_erased old)) None (Some (record { number = number; old = old; new = new.0 }, new.1))
 
 abbrev blocks_at : ℕ → ℕ → ℕ → List ℕ → Option (Change × List ℕ)
-blocks_at size before number bytes = bytes_at size bytes >>= λ old. bytes_at size old.1 >>= λ new. tested before number old.0 new
+blocks_at size before number bytes = block_at size bytes >>= λ old. block_at size old.1 >>= λ new. tested before number old.0 new
 
 pub change_takes : (size before after least : ℕ) (bytes : List ℕ) (x : Change × List ℕ) → IsBytes bytes
     → change_at size before after least bytes ≡ Some x → TakesChange size before after least bytes x
@@ -51,9 +51,9 @@ change_takes size before after least bytes x h e =
     let t = word_takes bytes n.0.0 n.0.1 h n.1 in
     let g = guard_none (ltb n.0.0 least || leb after n.0.0) (blocks_at size before n.0.0 n.0.1) x n.2 in
     let tests = or_parts (ltb n.0.0 least) (leb after n.0.0) g.0 in
-    let o = bind_some (bytes_at size n.0.1) (λ old. bytes_at size old.1 >>= λ new. tested before n.0.0 old.0 new) x g.1 in
+    let o = bind_some (block_at size n.0.1) (λ old. block_at size old.1 >>= λ new. tested before n.0.0 old.0 new) x g.1 in
     let old = block_takes size n.0.1 o.0.0 o.0.1 t.0.rest_bytes o.1 in
-    let w = bind_some (bytes_at size o.0.1) (λ new. tested before n.0.0 o.0.0 new) x o.2 in
+    let w = bind_some (block_at size o.0.1) (λ new. tested before n.0.0 o.0.0 new) x o.2 in
     let new = block_takes size o.0.1 w.0.0 w.0.1 old.takes.rest_bytes w.1 in
     let both = Takes-then n.0.1 o.0.0 o.0.1 w.0.0 w.0.1 old.takes new.takes in
     let made : Change × List ℕ = (record { number = n.0.0; old = o.0.0; new = w.0.0 }, w.0.1) in

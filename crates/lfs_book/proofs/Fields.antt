@@ -8,7 +8,7 @@ use Rattle.std.proofs.lemmas.Nat.{le_bytes_4, from_le_bytes-to_le_bytes_4}
 use Rattle.std.proofs.lemmas.Option.{same_Some}
 use Rattle.lfs_block.specs.Bytes.{IsBytes}
 use Rattle.lfs_block.proofs.PutLemmas.{IsBytes-drop, IsBytes-take}
-use Rattle.lfs_book.specs.Reading.{◌>>=◌, word_at, bytes_at}
+use Rattle.lfs_book.specs.Reading.{◌>>=◌, word_at, block_at}
 
 -- the value of a step that read something
 pub bind_some : {A B : Type 0} (o : Option A) (f : A → Option B) (y : B) → (o >>= f) ≡ Some y → (x : A) × (o ≡ Some x) × (f x ≡ Some y)
@@ -69,9 +69,9 @@ pub record TakesBlock (size : ℕ) (bytes block rest : List ℕ) : Type 0 where
   pub len : length block ≡ size
   pub block_bytes : IsBytes block
 
-pub block_takes : (size : ℕ) (bytes block rest : List ℕ) → IsBytes bytes → bytes_at size bytes ≡ Some (block, rest)
+pub block_takes : (size : ℕ) (bytes block rest : List ℕ) → IsBytes bytes → block_at size bytes ≡ Some (block, rest)
     → TakesBlock size bytes block rest
-unfolding bytes_at
+unfolding block_at
 block_takes size bytes block rest h e =
     let g = guard_none (ltb (length bytes) size) (Some (take size bytes, drop size bytes)) (block, rest) e in
     let long : size ≤ length bytes = ltb-false _ _ g.0 in
@@ -84,8 +84,8 @@ block_takes size bytes block rest h e =
     } in
     subst (λ (p : List ℕ × List ℕ). TakesBlock size bytes p.0 p.1) same all
 
-pub block_again : (size : ℕ) (block rest : List ℕ) → length block ≡ size → bytes_at size (block ++ rest) ≡ Some (block, rest)
-unfolding bytes_at
+pub block_again : (size : ℕ) (block rest : List ℕ) → length block ≡ size → block_at size (block ++ rest) ≡ Some (block, rest)
+unfolding block_at
 block_again size block rest len =
     let long : ltb (length (block ++ rest)) size ≡ false = le-ltb _ _ (omega (arith, length-append block rest)) in
     rw (long, take_at block rest size len, drop_at block rest size len) refl

@@ -5,10 +5,10 @@ use Rattle.std.specs.Int.{w32, to_le_bytes}
 use Rattle.std.proofs.lemmas.Bool.{eqb-true, leb-true, le-leb, and_parts}
 use Rattle.std.proofs.lemmas.Option.{cond_some}
 use Rattle.lfs_block.specs.Bytes.{IsBytes}
-use Rattle.lfs_block.specs.Geometry.{IsGeometry}
-use Rattle.lfs_book.specs.Reading.{◌>>=◌, word_at, Head, is_geometry, is_version, is_head, checked_head, head_at}
+use Rattle.lfs_block.specs.Geometry.{IsGeometry, is_geometry}
+use Rattle.lfs_block.proofs.GeometryTests.{true_and, geometry_true, geometry_is}
+use Rattle.lfs_book.specs.Reading.{◌>>=◌, word_at, Head, is_version, is_head, checked_head, head_at}
 use Rattle.lfs_book.proofs.Fields.{bind_some, bind_is, Takes, Takes-then, word_takes, word_again}
-use Rattle.lfs_book.proofs.Geometries.{true_and, geometry_true, geometry_is}
 
 -- ---- the version
 

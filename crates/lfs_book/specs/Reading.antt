@@ -1,11 +1,11 @@
 -- Reading a journal's bytes, as functions that compute. Laws join them to what is spelled so (own).
-use Rattle.std.specs.Prelude.{ℕ, zero, suc, ◌+◌, ◌*◌, ◌%◌, ◌==◌, ◌&&◌, ◌||◌, not, Bool, nat_lt, nat_le, List, [], ◌∷◌, length, take, drop}
+use Rattle.std.specs.Prelude.{ℕ, zero, suc, ◌+◌, ◌==◌, ◌&&◌, ◌||◌, not, Bool, nat_lt, nat_le, List, [], ◌∷◌, length, take, drop}
 use Rattle.std.specs.Prelude.{Option, Some, None, if◌then◌else◌}
 use Rattle.std.specs.Int.{w32, from_le_bytes}
 use Rattle.std.specs.List.{list_all}
 use Rattle.lfs_block.specs.Change.{Change}
 use Rattle.lfs_block.specs.Patch.{ChangeSet}
-use Rattle.lfs_block.specs.Geometry.{block_size_step}
+use Rattle.lfs_block.specs.Geometry.{is_geometry}
 use Rattle.lfs_book.specs.Book.{Book, book_of, most_changes}
 
 -- what is read of what was read, if there is any
@@ -19,8 +19,8 @@ unfoldable pub word_at : List ℕ → Option (ℕ × List ℕ)
 word_at bytes = if nat_lt (length bytes) 4 then None else Some (from_le_bytes w32 (take 4 bytes), drop 4 bytes)
 
 -- a block's bytes, and the bytes behind them
-unfoldable pub bytes_at : ℕ → List ℕ → Option (List ℕ × List ℕ)
-bytes_at size bytes = if nat_lt (length bytes) size then None else Some (take size bytes, drop size bytes)
+unfoldable pub block_at : ℕ → List ℕ → Option (List ℕ × List ℕ)
+block_at size bytes = if nat_lt (length bytes) size then None else Some (take size bytes, drop size bytes)
 
 -- whether each byte is 0xff
 abbrev pub is_erased : List ℕ → Bool
@@ -32,8 +32,8 @@ unfoldable pub change_at : ℕ → ℕ → ℕ → ℕ → List ℕ → Option (
 change_at size before after least bytes = do
   n ← word_at bytes
   if nat_lt n.0 least || nat_le after n.0 then None else (do
-    old ← bytes_at size n.1
-    new ← bytes_at size old.1
+    old ← block_at size n.1
+    new ← block_at size old.1
     if nat_le before n.0 && not (is_erased old.0)
         then None
         else Some (record { number = n.0; old = old.0; new = new.0 }, new.1))
@@ -53,11 +53,6 @@ pub record Head : Type 0 where
   pub count : ℕ
   pub done : ℕ
   pub undone : ℕ
-
--- whether blocks of this size and number are an image
-abbrev pub is_geometry : ℕ → ℕ → Bool
-is_geometry size count =
-    nat_le 256 size && nat_le size 65536 && (size % block_size_step == 0) && nat_le 2 count && nat_le count 65536 && nat_le (count * size) 67108864
 
 -- whether blocks of this size are an image in both numbers, of which the second isn't less
 abbrev pub is_growth : ℕ → ℕ → ℕ → Bool

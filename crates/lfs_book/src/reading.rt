@@ -4,7 +4,7 @@
 ghost use Rattle.std.specs.Prelude.{◌≡◌, ◌<◌, ◌≤◌, ◌+◌, length, IfOk};
 ghost use Rattle.lfs_block.specs.Geometry.{IsGeometry};
 ghost use Rattle.lfs_book.specs.Faults.{Gives};
-ghost use Rattle.lfs_book.specs.Reading.{word_at, bytes_at, is_erased, change_at, changes_at, counts_at, patch_at, patches_at, is_geometry, is_growth, is_version, is_head, head_at};
+ghost use Rattle.lfs_book.specs.Reading.{word_at, block_at, is_erased, change_at, changes_at, counts_at, patch_at, patches_at, is_growth, is_version, is_head, head_at};
 ghost use Rattle.lfs_book.specs.HeadSeen.{head_seen, counts_seen};
 ghost use Rattle.lfs_book.specs.Book.{most_changes};
 
@@ -60,9 +60,9 @@ fn word_at(bytes: &[u8]) -> Result<(u32, &[u8]), JournalFault>
 }
 
 /// The bytes of a block.
-#[tactic(auto, unfolding(crate::specs::Reading::bytes_at))]
-fn bytes_at(size: u32, bytes: &[u8]) -> Result<(&[u8], &[u8]), JournalFault>
-    ensures { Gives (λ x. (x.0.now, x.1.now)) result (bytes_at size bytes.now) }
+#[tactic(auto, unfolding(crate::specs::Reading::block_at))]
+fn block_at(size: u32, bytes: &[u8]) -> Result<(&[u8], &[u8]), JournalFault>
+    ensures { Gives (λ x. (x.0.now, x.1.now)) result (block_at size bytes.now) }
 {
     let size = size as usize;
     if bytes.len() < size {
@@ -95,8 +95,8 @@ fn record_at(
     if number < least || number >= counts.after {
         return Err(JournalFault::JournalFormat);
     }
-    let (old, rest) = bytes_at(size, rest)?;
-    let (new, rest) = bytes_at(size, rest)?;
+    let (old, rest) = block_at(size, rest)?;
+    let (new, rest) = block_at(size, rest)?;
     if counts.before <= number && !is_erased(old) {
         return Err(JournalFault::JournalFormat);
     }
@@ -127,18 +127,11 @@ fn records_at(
     Ok((records, rest))
 }
 
-/// Whether blocks of this size and number are an image.
-fn is_geometry(size: u32, count: u32) -> bool
-    ensures { result ≡ is_geometry size count }
-{
-    geometry_ok(size, count)
-}
-
 /// Whether blocks of this size are an image in both numbers, of which the second isn't less.
 fn is_growth(size: u32, before: u32, after: u32) -> bool
     ensures { result ≡ is_growth size before after }
 {
-    is_geometry(size, before) && is_geometry(size, after) && before <= after
+    geometry_ok(size, before) && geometry_ok(size, after) && before <= after
 }
 
 /// The counts of blocks before a change and after it. Version 1 doesn't have them: there they are those of the image.
@@ -210,7 +203,7 @@ fn is_version(version: u32) -> bool
 fn is_head(head: Head) -> bool
     ensures { result ≡ is_head (head_seen head) }
 {
-    is_geometry(head.size, head.count)
+    geometry_ok(head.size, head.count)
         && u64::from(head.done) + u64::from(head.undone) <= u64::from(MOST_CHANGES)
 }
 

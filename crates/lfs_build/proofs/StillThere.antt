@@ -56,7 +56,7 @@ bodies_kept found content d f next before v disk sound free leaves there =
     in_part p at =
         All-weaker (Contains p.entries) (λ (x : Entry). IsThere (reading_of f) x.body)
         (λ x inside. body_stays (reading_of d) (reading_of f) x.body
-        (chain_by found content d f disk x.body leaves.disk.size leaves.disk.count
+        (chain_by found content d f disk x.body leaves.disk.size (omega (arith, leaves.disk.count))
         (λ b used. leaves.ahead b (chain_before v next sound free p at x inside b used)))
         (was p at x inside))
         p.entries (All-contains_itself p.entries)

@@ -1,9 +1,9 @@
-//! How many blocks commands take for what they make.
+//! How many blocks commands take for what they make, and how many they leave.
 
 ghost use Rattle.std.specs.Prelude.{◌<◌, ◌≤◌, ◌^◌};
 ghost use Rattle.lfs_command.specs.NamedCommand.{contents_len};
 
-use lfs_command::{NamedCommand, data_blocks, directory_blocks, most_inline};
+use lfs_command::{NamedCommand, count_after, data_blocks, directory_blocks, most_inline};
 use std::alloc::Global;
 
 // more bytes than stand in any entry
@@ -41,4 +41,10 @@ fn directories_take_a_pair(rt: HostRuntime) {
     let path = Vec::new(rt.alloc());
     assert_eq!(rt; directory_blocks(&NamedCommand::Mkdir { path }), 2);
     assert_eq!(rt; directory_blocks(&put(rt.alloc(), 513)), 0);
+}
+
+#[test]
+fn one_command_lengthens(rt: HostRuntime) {
+    assert_eq!(rt; count_after(&NamedCommand::Grow { count: 16 }, 8), 16);
+    assert_eq!(rt; count_after(&put(rt.alloc(), 513), 8), 8);
 }

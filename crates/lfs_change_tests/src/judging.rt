@@ -20,7 +20,7 @@ const MADE: [Command<'static>; 2] = [
 // a command, what it is refused for, and the pair of the part that has the entry at its path
 type Judged = (Command<'static>, Option<Refusal>, Option<(u32, u32)>);
 
-const ROWS: [Judged; 3] = [
+const ROWS: [Judged; 6] = [
     (
         Command::Rm { path: b"/a" },
         Some(Refusal::NotEmpty),
@@ -28,6 +28,13 @@ const ROWS: [Judged; 3] = [
     ),
     (Command::Rm { path: b"/a/x" }, None, Some((2, 3))),
     (Command::Mkdir { path: b"/a/y" }, None, None),
+    (Command::Grow { count: 8 }, Some(Refusal::BadCount), None),
+    (
+        Command::Grow { count: 65_537 },
+        Some(Refusal::BadCount),
+        None,
+    ),
+    (Command::Grow { count: 9 }, None, None),
 ];
 
 // asserts how commands are judged on an outline

@@ -10,11 +10,11 @@ use Rattle.lfs_fs.specs.Entry.{Inline, Directory_at, Entry}
 use Rattle.lfs_fs.specs.Weight.{weight, superblock_weight}
 use Rattle.lfs_fs.specs.Directory.{Part, Directory}
 use Rattle.lfs_fs.specs.Volume.{Volume}
-use Rattle.lfs_command.specs.declared.refusal.Refusal.TheVariants.{Exists, NotEmpty, IntoItself, IsRoot, EntryTooLarge, NoSpace}
+use Rattle.lfs_command.specs.declared.refusal.Refusal.TheVariants.{Exists, NotEmpty, IntoItself, IsRoot, EntryTooLarge, NoSpace, BadCount}
 use Rattle.lfs_command.specs.EntryEdit.{place}
 use Rattle.lfs_command.specs.DirectoryEdit.{link_parts, touch_last_of, absorb_in}
 use Rattle.lfs_command.specs.ThreadEdit.{add_after, take_out}
-use Rattle.lfs_command.specs.Command.{Command, Mkdir, Put, Rm, Mv, SetAttr}
+use Rattle.lfs_command.specs.Command.{Command, Mkdir, Put, Rm, Mv, SetAttr, Grow}
 use Rattle.lfs_command.specs.Supplies.{nothing}
 use Rattle.lfs_command.specs.Edited.{edited}
 use Rattle.lfs_command.specs.Cut.{room, runs}
@@ -175,3 +175,23 @@ two_parts = volume 256 8 (record {
 both_parts_are_cut : need two_parts (Mkdir (letters_a 81 ∷ [])) ≡ 6
 unfolding place link_parts touch_last_of add_after runs_after onto
 both_parts_are_cut = refl
+
+-- ---- an image that is lengthened
+
+it_has_as_many : verdict fresh_root (Grow 4) ≡ Some BadCount
+it_has_as_many = refl
+
+no_image_is_so_long : verdict (volume 65536 1024 (directory (0, 1) [] ∷ [])) (Grow 1025) ≡ Some BadCount
+no_image_is_so_long = refl
+
+it_is_lengthened : verdict fresh_root (Grow 5) ≡ None
+unfolding runs_after onto
+it_is_lengthened = refl
+
+added_blocks_are_free : verdict heavy_root (Grow 4) ≡ None
+unfolding runs_after onto
+added_blocks_are_free = refl
+
+too_few_are_added : verdict heavy_root (Grow 3) ≡ Some (NoSpace 2 1)
+unfolding runs_after onto
+too_few_are_added = refl

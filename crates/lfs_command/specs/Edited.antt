@@ -1,5 +1,5 @@
 -- What a command does to a volume, before parts that overflow are cut (own).
-use Rattle.std.specs.Prelude.{List, [], true, Option, Some, None}
+use Rattle.std.specs.Prelude.{ℕ, List, [], true, Option, Some, None}
 use Rattle.lfs_meta.specs.Name.{Name}
 use Rattle.lfs_meta.specs.Attribute.{Attributes, set_attribute, remove_attribute}
 use Rattle.lfs_meta.specs.Body.{Pair}
@@ -8,7 +8,7 @@ use Rattle.lfs_fs.specs.Directory.{Directory}
 use Rattle.lfs_fs.specs.Volume.{Volume}
 use Rattle.lfs_fs.specs.Tree.{entry_at}
 use Rattle.lfs_command.specs.ThreadEdit.{link, unlink, change, add_after, drop_directory, touch_first}
-use Rattle.lfs_command.specs.Command.{Command, Mkdir, Put, Rm, Mv, SetAttr, RmAttr}
+use Rattle.lfs_command.specs.Command.{Command, Mkdir, Put, Rm, Mv, SetAttr, RmAttr, Grow}
 use Rattle.lfs_command.specs.Supplies.{Supplies, new_body}
 use Rattle.lfs_command.specs.Home.{home_of}
 
@@ -77,6 +77,16 @@ move_entry v (Some h) None e = v
 move_entry v (Some h) (Some g) None = v
 move_entry v (Some h) (Some g) (Some e) = with_directories v (link g.0 (renamed g.1 e) (unlink h.0 h.1 v.directories))
 
+-- the superblock written anew, with another number of blocks
+abbrev pub set_count : ℕ → Volume → Volume
+set_count n v = record {
+  size = v.size;
+  count = n;
+  limits = v.limits;
+  attributes = v.attributes;
+  directories = touch_first v.directories;
+}
+
 -- the volume after a command
 abbrev pub edited : Volume → Command → Supplies → Volume
 edited v (Mkdir p) s = make_directory v s.pair (home_of v p)
@@ -85,3 +95,4 @@ edited v (Rm p) s = remove_entry v (home_of v p) (entry_at v p)
 edited v (Mv p q) s = move_entry v (home_of v p) (home_of v q) (entry_at v p)
 edited v (SetAttr p k value) s = set_attributes v (set_attribute k value) (home_of v p)
 edited v (RmAttr p k) s = set_attributes v (remove_attribute k) (home_of v p)
+edited v (Grow n) s = set_count n v

@@ -5,7 +5,7 @@ use Rattle.lfs_meta.specs.Attribute.{Attributes, set_attribute, remove_attribute
 use Rattle.lfs_fs.specs.Path.{Path}
 use Rattle.lfs_fs.specs.Tree.{Node, File, Dir}
 use Rattle.lfs_command.specs.PathMap.{put_at_path, moved}
-use Rattle.lfs_command.specs.Command.{Command, Mkdir, Put, Rm, Mv, SetAttr, RmAttr}
+use Rattle.lfs_command.specs.Command.{Command, Mkdir, Put, Rm, Mv, SetAttr, RmAttr, Grow}
 
 -- what a node's attributes are
 abbrev pub attributes_of : Node → Attributes
@@ -30,3 +30,4 @@ equation (Rm p) tree = put_at_path p None tree
 equation (Mv p q) tree = moved p q tree
 equation (SetAttr p k value) tree = put_at_path p (option_map (with_attributes (set_attribute k value)) (tree p)) tree
 equation (RmAttr p k) tree = put_at_path p (option_map (with_attributes (remove_attribute k)) (tree p)) tree
+equation (Grow n) tree = tree

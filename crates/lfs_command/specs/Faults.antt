@@ -3,7 +3,7 @@ use Rattle.std.specs.Prelude.{ℕ}
 use Rattle.lfs_command.specs.declared.refusal.Refusal.{Refusal}
 use Rattle.lfs_command.specs.declared.refusal.Refusal.TheVariants.{NotFound, Exists, NotADirectory, IsADirectory, NotEmpty, BadPath}
 use Rattle.lfs_command.specs.declared.refusal.Refusal.TheVariants.{NameTooLong, FileTooLarge, AttrTooLarge, NoAttr, IntoItself, IsRoot}
-use Rattle.lfs_command.specs.declared.refusal.Refusal.TheVariants.{EntryTooLarge, NoSpace, Memory}
+use Rattle.lfs_command.specs.declared.refusal.Refusal.TheVariants.{EntryTooLarge, NoSpace, Memory, BadCount}
 
 abbrev pub refusal_number : Refusal → ℕ
 refusal_number NotFound = 30
@@ -21,3 +21,4 @@ refusal_number IsRoot = 41
 refusal_number EntryTooLarge = 42
 refusal_number (NoSpace needed free) = 43
 refusal_number Memory = 44
+refusal_number BadCount = 46

@@ -1,6 +1,7 @@
 pub mod Faults
 pub mod PathMap
 pub mod Command
+pub mod Growth
 pub mod Equation
 pub mod EntryEdit
 pub mod DirectoryEdit

@@ -1,6 +1,6 @@
 -- What a command whose texts are taken apart into names asks for (own).
 use Rattle.std.specs.Prelude.{ℕ, length, map}
-use Rattle.lfs_command.specs.Command.{Command, Mkdir, Put, Rm, Mv, SetAttr, RmAttr}
+use Rattle.lfs_command.specs.Command.{Command, Mkdir, Put, Rm, Mv, SetAttr, RmAttr, Grow}
 use Rattle.lfs_command.specs.declared.named_command.NamedCommand.{NamedCommand}
 use Rattle.lfs_command.specs.declared.named_command.NamedCommand.TheVariants as case
 
@@ -11,6 +11,7 @@ named_command (case.Rm path) = Rm (map (λ n. n.now) path.items)
 named_command (case.Mv from to) = Mv (map (λ n. n.now) from.items) (map (λ n. n.now) to.items)
 named_command (case.SetAttr path kind value) = SetAttr (map (λ n. n.now) path.items) kind value.now
 named_command (case.RmAttr path kind) = RmAttr (map (λ n. n.now) path.items) kind
+named_command (case.Grow count) = Grow count
 
 -- the length of the contents that are put
 abbrev pub contents_len : NamedCommand → ℕ

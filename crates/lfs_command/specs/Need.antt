@@ -6,7 +6,7 @@ use Rattle.lfs_meta.specs.Body.{Pair}
 use Rattle.lfs_fs.specs.Directory.{Part, thread}
 use Rattle.lfs_fs.specs.Uses.{uses}
 use Rattle.lfs_fs.specs.Volume.{Volume}
-use Rattle.lfs_command.specs.Command.{Command, Mkdir, Put, Rm, Mv, SetAttr, RmAttr}
+use Rattle.lfs_command.specs.Command.{Command, Mkdir, Put, Rm, Mv, SetAttr, RmAttr, Grow}
 use Rattle.lfs_command.specs.Supplies.{nothing, most_inline}
 use Rattle.lfs_command.specs.Edited.{edited}
 use Rattle.lfs_command.specs.Cut.{runs}
@@ -31,6 +31,7 @@ data_blocks v (Rm p) = 0
 data_blocks v (Mv p q) = 0
 data_blocks v (SetAttr p k value) = 0
 data_blocks v (RmAttr p k) = 0
+data_blocks v (Grow n) = 0
 
 -- the blocks of a new directory
 abbrev pub directory_blocks : Command → ℕ
@@ -40,6 +41,7 @@ directory_blocks (Rm p) = 0
 directory_blocks (Mv p q) = 0
 directory_blocks (SetAttr p k value) = 0
 directory_blocks (RmAttr p k) = 0
+directory_blocks (Grow n) = 0
 
 -- the blocks of the new parts of a part: two for each run behind the first
 abbrev pub part_blocks : Volume → Part → ℕ

@@ -1,8 +1,8 @@
 -- What is planned for a command that is asked for, and why none is (own).
 use Rattle.std.specs.Prelude.{ℕ, ◌≡◌, ◌+◌, List, [], ◌∷◌, true, Some, All, Contains, length, take}
 use Rattle.std.specs.List.{Any}
-use Rattle.lfs_block.specs.Disk.{Disk, block_of}
-use Rattle.lfs_block.specs.Patch.{ChangeSet, IsPatch, AgreesOld, applied}
+use Rattle.lfs_block.specs.Disk.{Disk, block_of, resized}
+use Rattle.lfs_block.specs.Patch.{ChangeSet, IsGrowth, AgreesOld, applied}
 use Rattle.lfs_meta.specs.Body.{Pair}
 use Rattle.lfs_fs.specs.Directory.{Part, thread}
 use Rattle.lfs_fs.specs.Volume.{Volume}
@@ -14,6 +14,7 @@ use Rattle.lfs_fs.specs.Holds.{Holds}
 use Rattle.lfs_command.specs.declared.refusal.Refusal.{Refusal}
 use Rattle.lfs_command.specs.declared.refusal.Refusal.TheVariants.{BadPath, Memory}
 use Rattle.lfs_command.specs.Command.{Command, Asked, Spells, SpellsNone}
+use Rattle.lfs_command.specs.Growth.{count_after, grown}
 use Rattle.lfs_command.specs.Supplies.{Supplies, supply_uses}
 use Rattle.lfs_command.specs.Edited.{edited}
 use Rattle.lfs_command.specs.Cut.{cut, new_pair_uses}
@@ -29,16 +30,16 @@ use Rattle.lfs_command.specs.PartWritten.{numbers_of, FirstIsFilled}
 abbrev pub HasOneOf : List ℕ → Part → Type 0
 HasOneOf numbers p = Any (Contains numbers) (p.pair.0 ∷ p.pair.1 ∷ [])
 
--- the blocks that are written: the least free ones, as many as the command needs, and one of each part's pair that it
--- changes
+-- the blocks that are written: the least free ones, of which those are that the command adds, as many as it needs, and one of each
+-- part's pair that it changes
 pub record IsFrugal (v : Volume) (c : Command) (s : Supplies) (numbers : List ℕ) : Type 0 where
-  pub free : All (Contains numbers) (take (need v c) (free_blocks v))
+  pub free : All (Contains numbers) (take (need v c) (free_blocks (grown c v)))
   pub changed : All (HasOneOf numbers) (changed_parts v (edited v c s))
   pub len : length numbers ≡ need v c + length (changed_parts v (edited v c s))
 
 -- the blocks that a command takes are the least free ones
 abbrev pub TakesLeast : Volume → Command → Supplies → (Part → List Pair) → Type 0
-TakesLeast v c s chosen = (n : ℕ) → supply_uses v c s n + new_pair_uses chosen (edited v c s) n ≡ times n (take (need v c) (free_blocks v))
+TakesLeast v c s chosen = (n : ℕ) → supply_uses v c s n + new_pair_uses chosen (edited v c s) n ≡ times n (take (need v c) (free_blocks (grown c v)))
 
 -- in an image each part that is set in w whose pair v hasn't stands in the first block of its pair, beside an erased one
 abbrev pub FillsNewPairs : Volume → Volume → Disk → Type 0
@@ -56,7 +57,7 @@ pub record CarriesOut (c : Command) (v w : Volume) : Type 0 where
   pub is : w ≡ clean (cut chosen (edited v c supplies))
 
 -- A patch of an image carries out a command that is asked for: the command leads from the volume that the image holds to the one
--- that the patched image holds, and the patch stands in the image, whose count it keeps. It names the blocks that the command takes;
+-- that the patched image holds, and the patch stands in the image, whose count becomes the command's. It names the blocks that the command takes;
 -- what is free then are the blocks that were, without them, and those of what was removed or replaced. What is new stands in the first
 -- blocks of new pairs, the second ones of which are erased; a pair that was there is changed by a commit appended to its live block,
 -- where there is room for it, and else by its other block rewritten.
@@ -67,12 +68,12 @@ pub record Plans (d : Disk) (asked : Asked) (p : ChangeSet) : Type 0 where
   pub spells : Spells asked command
   pub next : Volume
   pub carried : CarriesOut command volume next
-  pub patch : IsPatch p
+  pub patch : IsGrowth p
   pub stands : AgreesOld p d
-  pub keeps : p.after ≡ p.before
+  pub count : p.after ≡ count_after command p.before
   pub after : Holds (reading_of (applied p d)) next
   pub filled : FillsNewPairs volume (cut carried.chosen (edited volume command carried.supplies)) (applied p d)
-  pub changed : ChangesPairs (forced_by command) volume (cut carried.chosen (edited volume command carried.supplies)) d (applied p d)
+  pub changed : ChangesPairs (forced_by command) volume (cut carried.chosen (edited volume command carried.supplies)) (resized p.after d) (applied p d)
   pub frugal : IsFrugal volume command carried.supplies (numbers_of p)
   pub free : free_blocks next ≡ free_after volume command carried.supplies carried.chosen
 

@@ -5,7 +5,8 @@ use Rattle.lfs_fs.specs.Entry.{Body, Inline, Chain}
 use Rattle.lfs_fs.specs.Volume.{Volume}
 use Rattle.lfs_fs.specs.Uses.{times, body_uses, uses}
 use Rattle.lfs_fs.specs.Limits.{most_held}
-use Rattle.lfs_command.specs.Command.{Command, Mkdir, Put, Rm, Mv, SetAttr, RmAttr}
+use Rattle.lfs_command.specs.Growth.{count_after}
+use Rattle.lfs_command.specs.Command.{Command, Mkdir, Put, Rm, Mv, SetAttr, RmAttr, Grow}
 
 -- blocks for its contents, and a pair for its directory
 pub record Supplies : Type 0 where
@@ -32,8 +33,9 @@ supply_uses v (Rm p) s b = 0
 supply_uses v (Mv p q) s b = 0
 supply_uses v (SetAttr p k value) s b = 0
 supply_uses v (RmAttr p k) s b = 0
+supply_uses v (Grow n) s b = 0
 
--- the supplies are blocks of the volume that nothing uses, each taken once
+-- the supplies are blocks of the volume, as the command leaves it, that nothing uses, each taken once
 pub record AreFree (v : Volume) (c : Command) (s : Supplies) : Type 0 where
   pub once : (b : ℕ) → uses b v + supply_uses v c s b ≤ 1
-  pub within : (b : ℕ) → 0 < supply_uses v c s b → b < v.count
+  pub within : (b : ℕ) → 0 < supply_uses v c s b → b < count_after c v.count

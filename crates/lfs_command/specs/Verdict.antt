@@ -3,6 +3,7 @@ use Rattle.std.specs.Prelude.{ℕ, ◌==◌, Bool, true, false, not, ◌&&◌, �
 use Rattle.std.specs.Prelude.{length, find, is_some, is_none}
 use Rattle.std.specs.List.{list_any}
 use Rattle.std.specs.Option.{option_and_then, option_map, unwrap_or}
+use Rattle.lfs_block.specs.Geometry.{is_geometry}
 use Rattle.lfs_meta.specs.Name.{Name}
 use Rattle.lfs_meta.specs.Body.{Pair}
 use Rattle.lfs_fs.specs.Path.{Path}
@@ -15,9 +16,10 @@ use Rattle.lfs_fs.specs.Free.{free_blocks}
 use Rattle.lfs_command.specs.declared.refusal.Refusal.{Refusal}
 use Rattle.lfs_command.specs.declared.refusal.Refusal.TheVariants.{NotFound, Exists, NotADirectory, IsADirectory, NotEmpty, NameTooLong}
 use Rattle.lfs_command.specs.declared.refusal.Refusal.TheVariants.{FileTooLarge, AttrTooLarge, NoAttr, IntoItself, IsRoot, EntryTooLarge}
-use Rattle.lfs_command.specs.declared.refusal.Refusal.TheVariants.{NoSpace}
+use Rattle.lfs_command.specs.declared.refusal.Refusal.TheVariants.{NoSpace, BadCount}
 use Rattle.lfs_command.specs.PathMap.{below}
-use Rattle.lfs_command.specs.Command.{Command, Mkdir, Put, Rm, Mv, SetAttr, RmAttr}
+use Rattle.lfs_command.specs.Command.{Command, Mkdir, Put, Rm, Mv, SetAttr, RmAttr, Grow}
+use Rattle.lfs_command.specs.Growth.{grown}
 use Rattle.lfs_command.specs.Equation.{attributes_of}
 use Rattle.lfs_command.specs.Supplies.{nothing}
 use Rattle.lfs_command.specs.Home.{split_last}
@@ -115,6 +117,7 @@ checks v (RmAttr p k) =
     ∷ refuse_if (is_none (tree v p)) NotFound
     ∷ refuse_if (not (has_attribute k (tree v p))) NoAttr
     ∷ []
+checks v (Grow n) = refuse_if (not (nat_lt v.count n && is_geometry v.size n)) BadCount ∷ []
 
 -- an entry of the part weighs more than a block has room for
 abbrev pub is_too_large : Volume → Part → Bool
@@ -124,7 +127,7 @@ is_too_large v p = (is_first p && nat_lt (room v) (superblock_weight v.attribute
 abbrev pub room_checks : Volume → Command → List (Option Refusal)
 room_checks v c =
     refuse_if (list_any (is_too_large (edited v c nothing)) (dirty_parts (edited v c nothing))) EntryTooLarge
-    ∷ refuse_if (nat_lt (length (free_blocks v)) (need v c)) (NoSpace (need v c) (length (free_blocks v)))
+    ∷ refuse_if (nat_lt (length (free_blocks (grown c v))) (need v c)) (NoSpace (need v c) (length (free_blocks (grown c v))))
     ∷ []
 
 -- the first check that refuses; none is acceptance

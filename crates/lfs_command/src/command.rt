@@ -45,4 +45,9 @@ pub enum Command<'a> {
         /// The attribute's kind.
         kind: u8,
     },
+    /// Lengthens the image by erased blocks.
+    Grow {
+        /// How many blocks the image then has.
+        count: u32,
+    },
 }

@@ -5,6 +5,7 @@
 mod command;
 mod contents_blocks;
 mod forcing;
+mod growth;
 mod made_blocks;
 mod named_command;
 mod naming;
@@ -14,6 +15,7 @@ mod refusal;
 pub use command::Command;
 pub use contents_blocks::most_inline;
 pub use forcing::forced_by;
+pub use growth::count_after;
 pub use made_blocks::{data_blocks, directory_blocks};
 pub use named_command::NamedCommand;
 pub use naming::by_names;

@@ -45,4 +45,9 @@ pub enum NamedCommand<'a> {
         /// The attribute's kind.
         kind: u8,
     },
+    /// Lengthens the image.
+    Grow {
+        /// How many blocks it then has.
+        count: u32,
+    },
 }

@@ -46,5 +46,6 @@ pub fn by_names<'a>(alloc: Global, command: &Command<'a>) -> Result<NamedCommand
             let path = names_of(alloc, path)?;
             Ok(NamedCommand::RmAttr { path, kind })
         }
+        Command::Grow { count } => Ok(NamedCommand::Grow { count }),
     }
 }

@@ -44,13 +44,15 @@ pub enum Refusal {
     },
     /// A growth of memory was refused.
     Memory,
+    /// The image has as many blocks, or an image of its block size can't have so many.
+    BadCount,
 }
 
 impl Refusal {
     ghost use Rattle.std.specs.Prelude.{◌≡◌};
     ghost use Rattle.lfs_command.specs.Faults.{refusal_number};
 
-    /// The refusal's number, from 30 to 44.
+    /// The refusal's number, from 30 to 44, or 46.
     pub fn number(self) -> u8
         ensures { result ≡ refusal_number self }
     {
@@ -70,6 +72,7 @@ impl Refusal {
             Refusal::EntryTooLarge => 42,
             Refusal::NoSpace { .. } => 43,
             Refusal::Memory => 44,
+            Refusal::BadCount => 46,
         }
     }
 
@@ -91,6 +94,7 @@ impl Refusal {
             Refusal::EntryTooLarge => "EntryTooLarge",
             Refusal::NoSpace { .. } => "NoSpace",
             Refusal::Memory => "Memory",
+            Refusal::BadCount => "BadCount",
         }
     }
 }

@@ -1,16 +1,16 @@
 -- The part that has the entry which a command is about (own).
-use Rattle.std.specs.Prelude.{List, Option, find}
+use Rattle.std.specs.Prelude.{List, [], Option, find}
 use Rattle.std.specs.Option.{option_and_then, option_map}
 use Rattle.lfs_meta.specs.Name.{Name}
 use Rattle.lfs_meta.specs.Body.{Pair}
 use Rattle.lfs_fs.specs.Directory.{Directory, begins_at, parts}
 use Rattle.lfs_fs.specs.Path.{Path}
 use Rattle.lfs_fs.specs.Volume.{Volume}
-use Rattle.lfs_command.specs.Command.{Command, Mkdir, Mv, Put, Rm, RmAttr, SetAttr}
+use Rattle.lfs_command.specs.Command.{Command, Grow, Mkdir, Mv, Put, Rm, RmAttr, SetAttr}
 use Rattle.lfs_command.specs.DirectoryEdit.{has_name}
 use Rattle.lfs_command.specs.Home.{home_of}
 
--- the path of a command; of a move the one from which
+-- the path of a command; of a move the one from which; where there is none, the root's
 abbrev pub path_of : Command → Path
 path_of (Mkdir p) = p
 path_of (Put p bytes) = p
@@ -18,6 +18,7 @@ path_of (Rm p) = p
 path_of (Mv p q) = p
 path_of (SetAttr p k value) = p
 path_of (RmAttr p k) = p
+path_of (Grow n) = []
 
 -- the pair of the first part of a directory that has an entry of a name
 abbrev pub pair_in : Name → Directory → Option Pair

@@ -7,7 +7,7 @@ ghost use Rattle.lfs_fs.specs.OutlineHeld.{outline_body_held};
 ghost use Rattle.lfs_fs.specs.Outlined.{outlined_body};
 ghost use Rattle.lfs_fs.specs.Tree.{entry_at, entry_in};
 ghost use Rattle.lfs_fs.specs.Volume.{Volume};
-ghost use Rattle.lfs_command.specs.Command.{Mkdir, Mv, Put, Rm, RmAttr, SetAttr};
+ghost use Rattle.lfs_command.specs.Command.{Grow, Mkdir, Mv, Put, Rm, RmAttr, SetAttr};
 ghost use Rattle.lfs_draft.specs.Editable.{IsEditable};
 ghost use Rattle.lfs_law.specs.EditedOutline.{edited_outline};
 ghost use Rattle.lfs_command.specs.Home.{home_of};
@@ -163,6 +163,14 @@ fn rm_attr(alloc: Global, outline: &mut Outline, path: &[&[u8]], kind: u8) -> Re
     Ok(())
 }
 
+/// Gives the image so many blocks. Takes no memory.
+fn grow(outline: &mut Outline, count: u32)
+    ensures { outline.new ≡ edited_outline outline.old (Grow count) nothing }
+{
+    outline.count = count;
+    touch_first(&mut outline.directories);
+}
+
 /// What a command makes of an outline with these supplies. The caller owes a sound outline on which no check refuses the command.
 /// Where memory is wanting, the outline is of no use.
 ///
@@ -188,5 +196,9 @@ pub fn edit(
             set_attr(alloc, outline, path, *kind, value)
         }
         NamedCommand::RmAttr { path, kind } => rm_attr(alloc, outline, path, *kind),
+        NamedCommand::Grow { count } => {
+            grow(outline, *count);
+            Ok(())
+        }
     }
 }

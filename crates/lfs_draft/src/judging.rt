@@ -4,12 +4,13 @@ ghost use Rattle.std.specs.Prelude.{◌≡◌, ◌==◌, ℕ, None, Some, map, I
 ghost use Rattle.std.specs.List.{list_any};
 ghost use Rattle.std.specs.Option.{option_map};
 ghost use Rattle.lfs_fs.specs.Tree.{node};
-ghost use Rattle.lfs_command.specs.Command.{Mkdir, Mv, Put, Rm, RmAttr, SetAttr};
+ghost use Rattle.lfs_command.specs.Command.{Grow, Mkdir, Mv, Put, Rm, RmAttr, SetAttr};
 ghost use Rattle.lfs_command.specs.NamedCommand.{named_command};
 ghost use Rattle.lfs_command.specs.Verdict.{checks, first_refusal, is_directory, lies_below};
 
 use crate::bare::is_bare;
 use crate::standing::{attributes_at, entry_at, entry_there, last_length};
+use lfs_block::geometry_ok;
 use lfs_command::{NamedCommand, Refusal};
 use lfs_fs::{Outline, OutlineEntry};
 use lfs_meta::Attribute;
@@ -128,6 +129,19 @@ fn judge_mv(outline: &Outline, from: &[&[u8]], to: &[&[u8]]) -> Result<(), Refus
     Ok(())
 }
 
+/// Whether the image may be lengthened to so many blocks: `BadCount` where it has as many, or an image of its block size can't have
+/// them.
+fn judge_grow(outline: &Outline, count: u32) -> Result<(), Refusal>
+    ensures unrefused { OnOk result (first_refusal (checks outline.now (Grow count)) ≡ None) }
+    ensures refused { IfErr result (λ r. first_refusal (checks outline.now (Grow count)) ≡ Some r) }
+{
+    if outline.count < count && geometry_ok(outline.size, count) {
+        Ok(())
+    } else {
+        Err(Refusal::BadCount)
+    }
+}
+
 /// Whether a command is refused on an outline, by the first of its checks that refuses; the room that it takes isn't looked at.
 /// Takes no memory.
 ///
@@ -143,6 +157,7 @@ pub fn judge(outline: &Outline, command: &NamedCommand<'_>) -> Result<(), Refusa
         NamedCommand::Mv { from, to } => judge_mv(outline, from, to)?,
         NamedCommand::SetAttr { path, value, .. } => judge_set_attr(outline, path, value)?,
         NamedCommand::RmAttr { path, kind } => judge_rm_attr(outline, path, *kind)?,
+        NamedCommand::Grow { count } => judge_grow(outline, *count)?,
     }
     Ok(())
 }

@@ -38,7 +38,7 @@ fn pair_in(directory: &OutlineDirectory, name: &[u8]) -> Option<(u32, u32)>
     Some(part.pair)
 }
 
-/// The path of a command; of a move the one from which.
+/// The path of a command; of a move the one from which; where there is none, the root's.
 fn path_of<'b, 'a>(command: &'b NamedCommand<'a>) -> &'b [&'a [u8]]
     ensures { map (λ n. n.now) result.now ≡ path_of (named_command command.now) }
 {
@@ -49,6 +49,7 @@ fn path_of<'b, 'a>(command: &'b NamedCommand<'a>) -> &'b [&'a [u8]]
         | NamedCommand::SetAttr { path, .. }
         | NamedCommand::RmAttr { path, .. } => path,
         NamedCommand::Mv { from, .. } => from,
+        NamedCommand::Grow { .. } => &[],
     }
 }
 

@@ -1,30 +1,24 @@
 -- A patch that writes what a command leaves of an outline carries the command out.
-use Rattle.std.proofs.Common.{◌≡◌, ◌+◌, ◌<◌, ◌≤◌, ℕ, Bool, true, false, List, [], ◌∷◌, length, map, take, drop, refl, ap, sym, ◌∙◌, subst}
+use Rattle.std.proofs.Common.{◌≡◌, ◌+◌, ◌<◌, ◌≤◌, ℕ, Bool, List, [], ◌∷◌, length, map, take, drop, refl, ap, sym, ◌∙◌, subst}
 use Rattle.std.proofs.Common.{arith}
-use Rattle.std.specs.Prelude.{All, Contains, sum_by}
-use Rattle.std.proofs.lemmas.Bool.Decides.{nat_tests}
-use Rattle.std.proofs.lemmas.List.{length-take-le, take-take, take_all}
-use Rattle.std.proofs.lemmas.List.Elements.{All-contains_itself, All-weaker}
+use Rattle.std.proofs.lemmas.List.{length-take-le, take-take}
 use Rattle.std.proofs.lemmas.List.Sums.{sum_by-take-drop}
-use Rattle.lfs_block.specs.Disk.{Disk, IsDisk}
-use Rattle.lfs_block.specs.Patch.{ChangeSet, applied}
+use Rattle.lfs_block.specs.Disk.{Disk, resized}
+use Rattle.lfs_block.specs.Patch.{AgreesOld, ChangeSet, IsGrowth, applied}
+use Rattle.lfs_block.specs.PatchLaws.{IsDiskOf, kept}
 use Rattle.lfs_meta.specs.Body.{Pair}
-use Rattle.lfs_fs.specs.Directory.{Directory, Part, thread}
+use Rattle.lfs_fs.specs.Directory.{Directory, Part}
 use Rattle.lfs_fs.specs.Free.{free_blocks}
 use Rattle.lfs_fs.specs.Mounted.{IsOutlineOf}
 use Rattle.lfs_fs.specs.Outlined.{outlined, outlined_directory, outlined_part}
-use Rattle.lfs_fs.specs.Pair.{same_pair}
 use Rattle.lfs_fs.specs.Reading.{reading_of}
 use Rattle.lfs_fs.specs.Holds.{Holds}
-use Rattle.lfs_fs.specs.Sound.{IsSound}
-use Rattle.lfs_fs.specs.Stored.{HoldsLinks}
+use Rattle.lfs_fs.specs.Stored.{SaysVolume}
 use Rattle.lfs_fs.specs.Thread.{links}
 use Rattle.lfs_fs.specs.Uses.{times, uses}
 use Rattle.lfs_fs.specs.Volume.{Volume}
-use Rattle.lfs_fs.proofs.ContainsLemmas.{contains_first}
-use Rattle.lfs_fs.proofs.CountLemmas.{element_le}
 use Rattle.lfs_command.specs.Accepted.{AreChosen, Follows, IsAccepted}
-use Rattle.lfs_draft.specs.LeastSupplies.{least_pair, made_blocks}
+use Rattle.lfs_draft.specs.LeastSupplies.{made_blocks}
 use Rattle.lfs_edit.specs.Carried.{IsCutOver, IsFinished, IsReady, WritesOver, supplies_of}
 use Rattle.lfs_edit.specs.CarryingLaws.{CarryingLaws}
 use Rattle.lfs_command.specs.Clean.{clean, cleaned}
@@ -33,22 +27,20 @@ use Rattle.lfs_command.specs.Cut.{cut, new_pair_uses}
 use Rattle.lfs_law.specs.CutOutline.{for_parts}
 use Rattle.lfs_command.specs.DirectoryEdit.{each_part}
 use Rattle.lfs_command.specs.Edited.{edited}
+use Rattle.lfs_command.specs.Growth.{count_after, grown}
 use Rattle.lfs_command.specs.Need.{data_blocks, is_new_to, need}
+use Rattle.lfs_law.specs.Lengthened.{HoldsParts}
 use Rattle.lfs_law.specs.OutlineCarried.{IsCarried}
 use Rattle.lfs_law.specs.OutlineLaws.{WritesOutline}
-use Rattle.lfs_command.specs.Planned.{CarriesOut, IsFrugal, Plans, TakesLeast}
-use Rattle.lfs_command.specs.PairChanged.{forced_by}
+use Rattle.lfs_command.specs.Planned.{CarriesOut, FillsNewPairs, IsFrugal, Plans, TakesLeast}
+use Rattle.lfs_command.specs.PairChanged.{ChangesPairs, forced_by}
 use Rattle.lfs_law.specs.PlansHold.{is_unmarked}
 use Rattle.lfs_law.specs.PlansWritten.{WritesCommand}
 use Rattle.lfs_command.specs.Supplies.{AreFree, Supplies, supply_uses}
 use Rattle.lfs_law.specs.SuperblockBytes.{volume_bytes}
 use Rattle.lfs_law.specs.WrittenLinks.{AreWritten, ChangesLinks, changed_blocks}
-use Rattle.lfs_law.proofs.Decided.{same_pair_decides}
-use Rattle.lfs_law.proofs.FreeBlocks.{taken_unused}
 use Rattle.lfs_law.proofs.FrugalPlans.{enough_free}
-use Rattle.lfs_law.proofs.LinksAdded.{first_used}
 use Rattle.lfs_edit.proofs.Supplied.{supplies_taken}
-use Rattle.lfs_law.proofs.WrittenLemmas.{part_uses, sum_thread}
 
 -- ---- marks are taken off an outline as off its volume
 
@@ -71,44 +63,6 @@ outlined_clean w =
     ap (λ (ds : List Directory). record { size = w.size; count = w.count; limits = w.limits; attributes = w.attributes; directories = ds })
     (directories_cleaned w.directories)
 
--- ---- the pair of the supplies
-
--- the blocks of a part of a sound volume differ
-blocks_differ : (v : Volume) → IsSound v → (p : Part) → Contains (thread v.directories) p → p.pair.0 ≡ p.pair.1 → ⊥
-blocks_differ v sound p there same =
-    let le : part_uses p.pair.0 p ≤ sum_by (part_uses p.pair.0) (thread v.directories) =
-    element_le (part_uses p.pair.0) (thread v.directories) p there in
-    let twice : 2 ≤ times p.pair.0 (p.pair.0 ∷ p.pair.1 ∷ []) = grind (arith, nat_tests) in
-    omega (arith, le, twice, sum_thread p.pair.0 v.directories, sound.once p.pair.0)
-
--- no part of a sound volume is in the first two of blocks that it doesn't use
-differs_by : (v : Volume) → IsSound v → (p : Part) → Contains (thread v.directories) p → (free : List ℕ)
-    → ((b : ℕ) → Contains free b → uses b v ≡ 0) → p.pair ≡ least_pair free → ⊥
-differs_by v sound p there [] none is = blocks_differ v sound p there (ap (λ (q : Pair). q.0) is ∙ sym (ap (λ (q : Pair). q.1) is))
-differs_by v sound p there (a ∷ []) none is = blocks_differ v sound p there (ap (λ (q : Pair). q.0) is ∙ sym (ap (λ (q : Pair). q.1) is))
-differs_by v sound p there (a ∷ b ∷ more) none is =
-    let le : part_uses p.pair.0 p ≤ sum_by (part_uses p.pair.0) (thread v.directories) =
-    element_le (part_uses p.pair.0) (thread v.directories) p there in
-    let first : uses p.pair.0 v ≡ 0 = ap (λ (q : Pair). uses q.0 v) is ∙ none a (contains_first a (b ∷ more)) in
-    omega (arith, le, first, first_used p.pair, sum_thread p.pair.0 v.directories)
-
-pair_differs : (v : Volume) → IsSound v → (p : Part) → Contains (thread v.directories) p
-    → same_pair p.pair (least_pair (free_blocks v)) ≡ false
-pair_differs v sound p there = by (same_pair p.pair (least_pair (free_blocks v))) refl
-  where
-    none : (b : ℕ) → Contains (free_blocks v) b → uses b v ≡ 0
-    none b free = taken_unused v (length (free_blocks v)) b (subst (λ (xs : List ℕ). Contains xs b)
-        (sym (take_all (length (free_blocks v)) (free_blocks v) (omega arith))) free)
-
-    by : (t : Bool) → same_pair p.pair (least_pair (free_blocks v)) ≡ t → t ≡ false
-    by true is = absurd (differs_by v sound p there (free_blocks v) none ((same_pair_decides p.pair (least_pair (free_blocks v))).0 is))
-    by false is = refl
-
-pub pairs_differ : (v : Volume) → IsSound v → All (λ p. same_pair p.pair (least_pair (free_blocks v)) ≡ false) (thread v.directories)
-pairs_differ v sound =
-    All-weaker (λ (p : Part). Contains (thread v.directories) p) (λ (p : Part). same_pair p.pair (least_pair (free_blocks v)) ≡ false)
-    (pair_differs v sound) (thread v.directories) (All-contains_itself (thread v.directories))
-
 -- ---- the blocks that a command takes
 
 parted : (free : List ℕ) (made n all : ℕ) → made ≤ all → times n (take made free) + times n (drop made (take all free))
@@ -122,10 +76,10 @@ within_need v c = omega arith
 
 -- ---- the whole
 
--- a volume's size, count and limits make its superblock's bytes
-pub same_bytes : (v w : Volume) → w.size ≡ v.size → w.count ≡ v.count → w.limits ≡ v.limits → volume_bytes w ≡ volume_bytes v
+-- the superblock's bytes are those of the outline
+pub same_bytes : (w : Volume) → volume_bytes (outlined w) ≡ volume_bytes w
 unfolding volume_bytes
-same_bytes v w size count limits = rw (size, count, limits) refl
+same_bytes w = refl
 
 -- A command that is ready takes the least free blocks, and is accepted; the outline is that of what it leaves, cut.
 pub record IsTaken (v : Volume) (c : Command) (chosen : Part → List Pair) (w : Volume) : Type 0 where
@@ -156,21 +110,21 @@ taken_of laws d c used blocks o w ready cuts = record {
     carried : IsCarried v c s cuts.chosen o
     carried = subst (IsCarried v c s cuts.chosen) (sym ready.outline) (laws.carried v c s cuts.chosen)
 
-    enough : need v c ≤ length (free_blocks v)
+    enough : need v c ≤ length (free_blocks (grown c v))
     enough = enough_free v c ready.unrefused
 
     taken : TakesLeast v c s chosen
     taken n =
-        let made : supply_uses v c s n ≡ times n (take (made_blocks v c) (free_blocks v)) =
-        supplies_taken v c (free_blocks v) n (omega (arith, within_need v c, enough)) in
-        let new : new_pair_uses chosen (edited v c s) n ≡ times n (drop (made_blocks v c) (take (need v c) (free_blocks v))) =
+        let made : supply_uses v c s n ≡ times n (take (made_blocks v c) (free_blocks (grown c v))) =
+        supplies_taken v c (free_blocks (grown c v)) n (omega (arith, within_need v c, enough)) in
+        let new : new_pair_uses chosen (edited v c s) n ≡ times n (drop (made_blocks v c) (take (need v c) (free_blocks (grown c v)))) =
         sym (carried.pairs n) ∙ cuts.are.uses n ∙ ap (λ (xs : List ℕ). times n (drop (made_blocks v c) xs)) ready.least in
-        omega (arith, made, new, parted (free_blocks v) (made_blocks v c) n (need v c) (within_need v c))
+        omega (arith, made, new, parted (free_blocks (grown c v)) (made_blocks v c) n (need v c) (within_need v c))
 
     free
         : AreFree v c s
         × ((b : ℕ) → uses b v + supply_uses v c s b + new_pair_uses chosen (edited v c s) b ≤ 1)
-        × ((b : ℕ) → 0 < new_pair_uses chosen (edited v c s) b → b < v.count)
+        × ((b : ℕ) → 0 < new_pair_uses chosen (edited v c s) b → b < count_after c v.count)
     free = laws.least v c s chosen ready.sound taken
 
     accepted : IsAccepted v c s
@@ -179,14 +133,26 @@ taken_of laws d c used blocks o w ready cuts = record {
     pairs : AreChosen v c s chosen
     pairs = record { enough = carried.enough cuts.are.enough; once = free.1; within = free.2 }
 
-pub finish : (laws : CarryingLaws) (d : Disk) (c : Command) (used : List Bool) (blocks : List ℕ) (o w : Volume) (p : ChangeSet) → IsDisk d
+-- What is known of an image and the patch that is written over it: the image is lengthened for a command, and holds the volume's parts.
+pub record IsLong (d : Disk) (v : Volume) (c : Command) (p : ChangeSet) : Type 0 where
+  pub growth : IsGrowth p
+  pub stands : AgreesOld p d
+  pub count : p.after ≡ count_after c p.before
+  pub is : IsDiskOf v.size (count_after c v.count) (resized p.after d)
+  pub parts : HoldsParts (reading_of (resized p.after d)) (grown c v) (volume_bytes v)
+  pub same : applied (kept p) (resized p.after d) ≡ applied p d
+
+pub finish : (laws : CarryingLaws) (d : Disk) (c : Command) (used : List Bool) (blocks : List ℕ) (o w : Volume) (p : ChangeSet)
     → (ready : IsReady d c used blocks o) → IsCutOver o (drop (made_blocks ready.volume c) blocks) w
-    → ((held : HoldsLinks (reading_of d) ready.volume) → held.bytes ≡ volume_bytes ready.volume)
-    → WritesOver d ready.volume c used w p → IsFinished d c p (clean w)
-finish laws d c used blocks o w p disk ready cuts says writes = record { plans = plans; outline = outline }
+    → IsLong d ready.volume c p → SaysVolume w (volume_bytes w)
+    → WritesOver (resized p.after d) ready.volume c used w (kept p) → IsFinished d c p (clean w)
+finish laws d c used blocks o w p ready cuts long says writes = record { plans = plans; outline = outline }
   where
     v : Volume
     v = ready.volume
+
+    e : Disk
+    e = resized p.after d
 
     s : Supplies
     s = supplies_of v c
@@ -209,59 +175,64 @@ finish laws d c used blocks o w p disk ready cuts says writes = record { plans =
     after : Volume
     after = cut chosen (edited v c s)
 
+    new : List ℕ
+    new = volume_bytes after
+
     same : outlined after ≡ w
     same = all.same
-
-    held : HoldsLinks (reading_of d) v
-    held = laws.by_links (reading_of d) v ready.holds
 
     follows : Follows v c after
     follows = laws.follow v c s chosen accepted pairs
 
-    bytes : volume_bytes w ≡ held.bytes
-    bytes =
-        ap volume_bytes (sym same)
-        ∙ same_bytes v (outlined after) follows.size follows.count follows.limits
-        ∙ sym (says held)
+    bytes : volume_bytes w ≡ new
+    bytes = ap volume_bytes (sym same) ∙ same_bytes after
 
-    written : AreWritten d held.bytes after.attributes (is_new_to v) writes.base (links (outlined after).directories) p.changes
+    said : SaysVolume after new
+    said =
+        let on : SaysVolume (outlined after) (volume_bytes (outlined after)) = subst (λ (x : Volume). SaysVolume x (volume_bytes x)) (sym same) says in
+        let here : SaysVolume (outlined after) new = subst (SaysVolume (outlined after)) (same_bytes after) on in
+        record { len = here.len; header = here.header; limits = here.limits }
+
+    written : AreWritten e new after.attributes (is_new_to v) writes.base (links (outlined after).directories) p.changes
     written =
-        laws.tell v used ready.marks d held.bytes after.attributes writes.base (links (outlined after).directories) p.changes
-        (subst (λ (x : Volume). AreWritten d held.bytes x.attributes (is_unmarked used) writes.base (links x.directories) p.changes)
+        laws.tell v used ready.marks e new after.attributes writes.base (links (outlined after).directories) p.changes
+        (subst (λ (x : Volume). AreWritten e new x.attributes (is_unmarked used) writes.base (links x.directories) p.changes)
         (sym same)
-        (subst (λ (bs : List ℕ). AreWritten d bs w.attributes (is_unmarked used) writes.base (links w.directories) p.changes) bytes
+        (subst (λ (bs : List ℕ). AreWritten e bs w.attributes (is_unmarked used) writes.base (links w.directories) p.changes) bytes
         writes.written))
 
-    changed : ChangesLinks d (is_new_to v) (forced_by c) (links (outlined after).directories) p.changes
+    changed : ChangesLinks e (is_new_to v) (forced_by c) (links (outlined after).directories) p.changes
     changed =
-        laws.tell_changed v used ready.marks d (forced_by c) (links (outlined after).directories) p.changes
-        (subst (λ (x : Volume). ChangesLinks d (is_unmarked used) (forced_by c) (links x.directories) p.changes) (sym same) writes.changed)
+        laws.tell_changed v used ready.marks e (forced_by c) (links (outlined after).directories) p.changes
+        (subst (λ (x : Volume). ChangesLinks e (is_unmarked used) (forced_by c) (links x.directories) p.changes) (sym same) writes.changed)
 
-    command : WritesCommand d v held c s chosen (is_new_to v) writes.base p
+    command : WritesCommand e v c s chosen new (is_new_to v) writes.base (kept p)
     command = record {
-      disk = disk;
+      disk = long.is.disk;
       patch = writes.patch;
       stands = writes.stands;
       keeps = writes.keeps;
       contents = writes.contents;
       written = written;
-      there = laws.laid d v held c s chosen (is_new_to v) writes.base p disk writes.patch writes.stands writes.keeps accepted.free
+      there = laws.laid e v c s chosen new (is_new_to v) writes.base (kept p) long.is writes.patch writes.stands writes.keeps accepted.free
           writes.contents writes.lays written;
     }
 
-    volume : WritesOutline d v after held (is_new_to v) writes.base p
-    volume = laws.written d v held c s chosen (is_new_to v) writes.base p accepted pairs command
+    volume : WritesOutline e (grown c v) after (volume_bytes v) new (is_new_to v) writes.base (kept p)
+    volume = laws.written e v c s chosen (is_new_to v) writes.base (kept p) long.parts accepted pairs command
 
     holds : Holds (reading_of (applied p d)) (clean after)
-    holds = laws.hold d v held c s chosen (is_new_to v) writes.base p accepted pairs volume
+    holds = subst (λ (x : Disk). Holds (reading_of x) (clean after)) long.same
+        (laws.hold e v c s chosen (volume_bytes v) new (is_new_to v) writes.base (kept p) long.parts said accepted pairs volume)
 
     frugal : IsFrugal v c s (changed_blocks p.changes)
-    frugal = laws.frugal d v held c s chosen writes.base p accepted pairs taken writes.contents volume
+    frugal = laws.frugal e v c s chosen (volume_bytes v) new writes.base (kept p) accepted pairs taken writes.contents volume
 
     carried : CarriesOut c v (clean after)
     carried = record {
       supplies = s;
-      blocks = length-take-le (data_blocks v c) (free_blocks v) (omega (arith, within_need v c, enough_free v c ready.unrefused));
+      blocks = length-take-le (data_blocks v c) (free_blocks (grown c v)) (omega
+          (arith, within_need v c, enough_free v c ready.unrefused));
       accepted = accepted;
       chosen = chosen;
       pairs = pairs;
@@ -277,12 +248,13 @@ finish laws d c used blocks o w p disk ready cuts says writes = record { plans =
       spells = spells;
       next = clean after;
       carried = carried;
-      patch = writes.patch;
-      stands = writes.stands;
-      keeps = writes.keeps;
+      patch = long.growth;
+      stands = long.stands;
+      count = long.count;
       after = holds;
-      filled = laws.filled d v after held writes.base p volume;
-      changed = laws.changed d v after held writes.base p (forced_by c) volume changed;
+      filled = subst (FillsNewPairs v after) long.same (laws.filled e (grown c v) after (volume_bytes v) new writes.base (kept p) volume);
+      changed = subst (ChangesPairs (forced_by c) v after e) long.same
+          (laws.changed e (grown c v) after (volume_bytes v) new writes.base (kept p) (forced_by c) volume changed);
       frugal = frugal;
       free = laws.freed v c s chosen accepted pairs;
     }

@@ -6,7 +6,7 @@ use Rattle.lfs_meta.specs.Name.{Name}
 use Rattle.lfs_fs.specs.Entry.{Body, Entry}
 use Rattle.lfs_fs.specs.Tree.{entry_at}
 use Rattle.lfs_fs.specs.Volume.{Volume}
-use Rattle.lfs_command.specs.Command.{Command, Mkdir, Put, Rm, Mv, SetAttr, RmAttr}
+use Rattle.lfs_command.specs.Command.{Command, Mkdir, Put, Rm, Mv, SetAttr, RmAttr, Grow}
 use Rattle.lfs_command.specs.Edited.{edited, make_directory, move_entry, put_file, remove_entry, set_attributes}
 use Rattle.lfs_command.specs.Home.{home_of}
 use Rattle.lfs_command.specs.Supplies.{Supplies, new_body}
@@ -42,3 +42,4 @@ edited_size v (Rm p) s = remove_size v (home_of v p) (entry_at v p)
 edited_size v (Mv p q) s = move_size v (home_of v p) (home_of v q) (entry_at v p)
 edited_size v (SetAttr p k value) s = set_size v (set_attribute k value) (home_of v p)
 edited_size v (RmAttr p k) s = set_size v (remove_attribute k) (home_of v p)
+edited_size v (Grow n) s = refl

@@ -5,6 +5,7 @@ use Rattle.std.specs.Prelude.{◌⊎◌, Contains, is_none, nat_lt, sum_by}
 use Rattle.std.proofs.lemmas.Bool.Decides.{nat_tests}
 use Rattle.std.proofs.lemmas.List.{take_all}
 use Rattle.lfs_block.specs.Disk.{Disk, IsDisk}
+use Rattle.lfs_block.specs.Geometry.{IsGeometry}
 use Rattle.lfs_fs.specs.Free.{free_blocks}
 use Rattle.lfs_fs.specs.Holds.{Holds}
 use Rattle.lfs_fs.specs.Mounted.{IsOutlineOf}
@@ -33,12 +34,14 @@ use Rattle.lfs_draft.specs.LeastSupplies.{least_pair, least_supplies, made_block
 use Rattle.lfs_cut.specs.RoomChecks.{room_checks_on}
 use Rattle.lfs_edit.specs.Carried.{IsJudged, IsReady, IsRefusedBy, IsUnweighed, supplies_of}
 use Rattle.lfs_edit.specs.CarryingLaws.{CarryingLaws}
-use Rattle.lfs_command.specs.Command.{Asked, Command, Mkdir, Mv, Put, Rm, RmAttr, SetAttr, Spells}
+use Rattle.lfs_command.specs.Command.{Asked, Command, Grow, Mkdir, Mv, Put, Rm, RmAttr, SetAttr, Spells}
 use Rattle.lfs_draft.specs.Editable.{IsEditable}
 use Rattle.lfs_command.specs.Edited.{edited}
 use Rattle.lfs_law.specs.EditedOutline.{edited_outline}
+use Rattle.lfs_command.specs.Growth.{grown}
 use Rattle.lfs_command.specs.NamedCommand.{contents_len, named_command}
 use Rattle.lfs_command.specs.Need.{data_blocks, dirty_parts, need, part_blocks}
+use Rattle.lfs_law.specs.CountsGrow.{CountsGrow}
 use Rattle.lfs_law.specs.NeedsSmall.{HeldHaveFewEntries, NeedsAreSmall}
 use Rattle.lfs_law.specs.OutlineCarried.{IsCarried, has_too_large}
 use Rattle.lfs_law.specs.JudgedAlike.{OutlinesAreJudgedAlike}
@@ -49,6 +52,7 @@ use Rattle.lfs_command.specs.Verdict.{walk_refusal}
 use Rattle.lfs_draft.proofs.EditableLemmas.{begin_once, each_named_once}
 use Rattle.lfs_edit.proofs.EditedSizes.{edited_size}
 use Rattle.lfs_law.proofs.FreeBlocks.{taken_unused}
+use Rattle.lfs_law.proofs.GrowFollows.{grown_sound}
 use Rattle.lfs_law.proofs.Homes.{first_passes, test_passes}
 use Rattle.lfs_law.proofs.PartsFit.{not_root}
 use Rattle.lfs_edit.proofs.VerdictKinds.{refuses}
@@ -78,7 +82,7 @@ may_be_refused d c r (inr refused) = refused
 -- ---- before the edit
 
 -- an image holds limits of the format
-limits_held : (d : Disk) (v : Volume) → Holds (reading_of d) v → IsLimits v.limits
+pub limits_held : (d : Disk) (v : Volume) → Holds (reading_of d) v → IsLimits v.limits
 limits_held d v holds = subst (λ (x : Volume). IsLimits x.limits) (sym holds.is) holds.limits
 
 pub editable : OutlinesAreSound → CarryingLaws → NamesAreOrdered → (d : Disk) (c : Command) (o : Volume) → IsJudged d c o → IsEditable o c
@@ -100,6 +104,18 @@ editable sound laws ordered d c o judged = record {
     outline_sound : IsSound o
     outline_sound = subst IsSound (sym is) (sound v judged.outline.sound)
 
+-- the outline with as many blocks as the command leaves
+pub long_sound : CountsGrow → OutlinesAreSound → CarryingLaws → NamesAreOrdered → (d : Disk) → IsDisk d → (c : Command) (o : Volume)
+    → IsJudged d c o → IsSound (grown c o)
+long_sound grow sound laws ordered d disk c o judged =
+    let v : Volume = judged.outline.volume in
+    let held = laws.by_links (reading_of d) v judged.outline.holds in
+    let size : o.size ≡ d.size = ap (λ (x : Volume). x.size) judged.outline.outline ∙ held.size in
+    let count : o.count ≡ d.count = ap (λ (x : Volume). x.count) judged.outline.outline ∙ held.count in
+    let fits : IsGeometry o.size o.count = subst (λ (k : ℕ). IsGeometry k o.count) (sym size)
+    (subst (IsGeometry d.size) (sym count) disk.geometry) in
+    grown_sound o c (editable sound laws ordered d c o judged).sound (grow o c fits judged.unrefused).1
+
 -- the contents that are put have less than 2^32 bytes, since no file is longer than its limit
 put_short : (o : Volume) (p : Path) (bytes : List ℕ) → IsLimits o.limits → first_refusal (checks o (Put p bytes)) ≡ None
     → length bytes < 2 ^ 32
@@ -120,6 +136,7 @@ contents_short o (case.Rm path) editable = omega arith
 contents_short o (case.Mv from to) editable = omega arith
 contents_short o (case.SetAttr path kind value) editable = omega arith
 contents_short o (case.RmAttr path kind) editable = omega arith
+contents_short o (case.Grow count) editable = omega arith
 
 -- ---- the edit
 
@@ -131,12 +148,13 @@ data_same v w (Rm p) same = refl
 data_same v w (Mv p q) same = refl
 data_same v w (SetAttr p k value) same = refl
 data_same v w (RmAttr p k) same = refl
+data_same v w (Grow n) same = refl
 
 least_same : (v o : Volume) (c : Command) (free : List ℕ) → o.size ≡ v.size → least_supplies o c free ≡ least_supplies v c free
 least_same v o c free same = ap (λ (n : ℕ). record { blocks = take n free; pair = least_pair free }) (data_same o v c same)
 
 pub unweighed : CarryingLaws → (d : Disk) (c : Command) (o new : Volume) (used : List Bool) → IsJudged d c o
-    → Marks used (λ b. uses b o) → unused used ≡ free_blocks o → new ≡ edited_outline o c (least_supplies o c (unused used))
+    → Marks used (λ b. uses b o) → unused used ≡ free_blocks (grown c o) → new ≡ edited_outline o c (least_supplies o c (unused used))
     → IsUnweighed d c used new
 unweighed laws d c o new used judged marks free edits = record {
   volume = v;
@@ -147,7 +165,7 @@ unweighed laws d c o new used judged marks free edits = record {
   marks = λ b. marks b ∙ ap (uses b) is ∙ outlined_uses b v;
   free = unused_is;
   outline = edits ∙ ap (edited_outline o c) (ap (least_supplies o c) unused_is
-      ∙ least_same v o c (free_blocks v) (ap (λ (x : Volume). x.size) is))
+      ∙ least_same v o c (free_blocks (grown c v)) (ap (λ (x : Volume). x.size) is))
       ∙ ap (λ (x : Volume). edited_outline x c (supplies_of v c)) is;
 }
   where
@@ -157,8 +175,8 @@ unweighed laws d c o new used judged marks free edits = record {
     is : o ≡ outlined v
     is = judged.outline.outline
 
-    unused_is : unused used ≡ free_blocks v
-    unused_is = free ∙ ap free_blocks is ∙ outlined_free v
+    unused_is : unused used ≡ free_blocks (grown c v)
+    unused_is = free ∙ ap (λ (x : Volume). free_blocks (grown c x)) is ∙ outlined_free (grown c v)
 
 -- ---- behind the edit
 
@@ -169,11 +187,12 @@ least_by v sound [] none = refl
 least_by v sound (a ∷ []) none = refl
 least_by v sound (a ∷ b ∷ more) none = not_root v sound (a, b) (none a (contains_first a (b ∷ more)))
 
-least_not_root : (v : Volume) → IsSound v → same_pair (least_pair (free_blocks v)) root ≡ false
-least_not_root v sound =
-    least_by v sound (free_blocks v)
-    (λ b free. taken_unused v (length (free_blocks v)) b (subst (λ (xs : List ℕ). Contains xs b)
-    (sym (take_all (length (free_blocks v)) (free_blocks v) (omega arith))) free))
+least_not_root : (v : Volume) (c : Command) → IsSound v → same_pair (least_pair (free_blocks (grown c v))) root ≡ false
+least_not_root v c sound =
+    let free : List ℕ = free_blocks (grown c v) in
+    least_by v sound free
+    (λ b there. taken_unused (grown c v) (length free) b (subst (λ (xs : List ℕ). Contains xs b)
+    (sym (take_all (length free) free (omega arith))) there))
 
 -- what is known of such an outline
 pub record IsWeighed (d : Disk) (c : Command) (used : List Bool) (o : Volume) (u : IsUnweighed d c used o) : Type 0 where
@@ -206,14 +225,14 @@ weighed laws small few d c used o disk u = record {
     carried = subst (IsCarried v c (supplies_of v c) (λ p. [])) (sym u.outline) (laws.carried v c (supplies_of v c) (λ p. []))
 
     large : has_too_large (edited v c nothing) ≡ has_too_large o
-    large = carried.large (least_not_root v u.sound)
+    large = carried.large (least_not_root v c u.sound)
 
     rows : room_checks v c ≡ room_checks_on o (made_blocks v c) (unused used)
     rows =
-        ap (λ (t : Bool). refuse_if t EntryTooLarge ∷ refuse_if (nat_lt (length (free_blocks v)) (need v c))
-        (NoSpace (need v c) (length (free_blocks v))) ∷ []) large
-        ∙ ap (λ (n : ℕ). refuse_if (has_too_large o) EntryTooLarge ∷ refuse_if (nat_lt (length (free_blocks v)) n)
-        (NoSpace n (length (free_blocks v))) ∷ []) carried.needed
+        ap (λ (t : Bool). refuse_if t EntryTooLarge ∷ refuse_if (nat_lt (length (free_blocks (grown c v))) (need v c))
+        (NoSpace (need v c) (length (free_blocks (grown c v)))) ∷ []) large
+        ∙ ap (λ (n : ℕ). refuse_if (has_too_large o) EntryTooLarge ∷ refuse_if (nat_lt (length (free_blocks (grown c v))) n)
+        (NoSpace n (length (free_blocks (grown c v)))) ∷ []) carried.needed
         ∙ ap (λ (free : List ℕ). room_checks_on o (made_blocks v c) free) (sym u.free)
 
     judged : first_refusal (room_checks_on o (made_blocks v c) (unused used)) ≡ verdict v c

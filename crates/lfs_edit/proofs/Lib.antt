@@ -9,3 +9,4 @@ pub mod FewOverflow
 pub mod ReadyLemmas
 pub mod EditedSizes
 pub mod JudgedLemmas
+pub mod PairsDiffer

@@ -16,6 +16,7 @@ use Rattle.lfs_edit.specs.CarryingLaws.{CarryingLaws}
 use Rattle.lfs_cut.specs.Chosen.{HasPairsOnce}
 use Rattle.lfs_command.specs.Command.{Command}
 use Rattle.lfs_command.specs.Edited.{edited}
+use Rattle.lfs_command.specs.Growth.{grown}
 use Rattle.lfs_command.specs.Need.{changed_parts, dirty_parts, need, part_blocks}
 use Rattle.lfs_law.specs.OutlineCarried.{IsCarried}
 use Rattle.lfs_edit.proofs.CarryingLemmas.{within_need}
@@ -58,11 +59,11 @@ known_ready laws d c used blocks o ready = record {
     is : o ≡ outlined w
     is = ready.outline ∙ sym (laws.outlines v c (supplies_of v c))
 
-    enough : need v c ≤ length (free_blocks v)
+    enough : need v c ≤ length (free_blocks (grown c v))
     enough = enough_free v c ready.unrefused
 
     long : length blocks ≡ need v c
-    long = ap length ready.least ∙ length-take-le (need v c) (free_blocks v) enough
+    long = ap length ready.least ∙ length-take-le (need v c) (free_blocks (grown c v)) enough
 
     accepted : IsAccepted v c (supplies_of v c)
     accepted = record {

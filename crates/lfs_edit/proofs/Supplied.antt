@@ -7,7 +7,8 @@ use Rattle.lfs_fs.specs.Uses.{times, body_uses}
 use Rattle.lfs_fs.specs.Entry.{Chain, Inline}
 use Rattle.lfs_fs.specs.Volume.{Volume}
 use Rattle.lfs_draft.specs.LeastSupplies.{least_pair, least_supplies, made_blocks}
-use Rattle.lfs_command.specs.Command.{Command, Mkdir, Put, Rm, Mv, SetAttr, RmAttr}
+use Rattle.lfs_command.specs.Command.{Command, Mkdir, Put, Rm, Mv, SetAttr, RmAttr, Grow}
+use Rattle.lfs_command.specs.Growth.{grown}
 use Rattle.lfs_command.specs.Supplies.{AreFree, most_inline, supply_uses}
 use Rattle.lfs_file.specs.Capacity.{least_blocks}
 use Rattle.lfs_law.proofs.FreeBlocks.{taken_free, taken_once}
@@ -35,17 +36,18 @@ supplies_taken v (Rm p) free n enough = refl
 supplies_taken v (Mv p q) free n enough = refl
 supplies_taken v (SetAttr p k value) free n enough = refl
 supplies_taken v (RmAttr p k) free n enough = refl
+supplies_taken v (Grow m) free n enough = refl
 
 -- they are free
-pub supplies_free : (v : Volume) (c : Command) → IsSound v → made_blocks v c ≤ length (free_blocks v)
-    → AreFree v c (least_supplies v c (free_blocks v))
+pub supplies_free : (v : Volume) (c : Command) → IsSound v → made_blocks v c ≤ length (free_blocks (grown c v))
+    → AreFree v c (least_supplies v c (free_blocks (grown c v)))
 supplies_free v c sound enough = record {
-  once = λ b. elim (none_or_some (times b (take (made_blocks v c) (free_blocks v)))) [
+  once = λ b. elim (none_or_some (times b (take (made_blocks v c) (free_blocks (grown c v))))) [
     | inl none ↦ omega (arith, none, taken b, sound.once b)
-    | inr some ↦ omega (arith, taken b, taken_once v (made_blocks v c) b, (taken_free v (made_blocks v c) b some).0)
+    | inr some ↦ omega (arith, taken b, taken_once (grown c v) (made_blocks v c) b, (taken_free (grown c v) (made_blocks v c) b some).0)
   ];
-  within = λ b some. (taken_free v (made_blocks v c) b (omega (arith, some, taken b))).1;
+  within = λ b some. (taken_free (grown c v) (made_blocks v c) b (omega (arith, some, taken b))).1;
 }
   where
-    taken : (b : ℕ) → supply_uses v c (least_supplies v c (free_blocks v)) b ≡ times b (take (made_blocks v c) (free_blocks v))
-    taken b = supplies_taken v c (free_blocks v) b enough
+    taken : (b : ℕ) → supply_uses v c (least_supplies v c (free_blocks (grown c v))) b ≡ times b (take (made_blocks v c) (free_blocks (grown c v)))
+    taken b = supplies_taken v c (free_blocks (grown c v)) b enough

@@ -4,6 +4,7 @@ use Rattle.std.specs.Prelude.{is_none, is_some}
 use Rattle.std.specs.List.{AllByRecursion, list_any}
 use Rattle.std.specs.Option.{option_and_then}
 use Rattle.lfs_block.specs.Disk.{Disk}
+use Rattle.lfs_block.specs.Geometry.{is_geometry}
 use Rattle.lfs_fs.specs.Entry.{target}
 use Rattle.lfs_fs.specs.Free.{free_blocks}
 use Rattle.lfs_fs.specs.Path.{Path}
@@ -12,8 +13,9 @@ use Rattle.lfs_fs.specs.Volume.{Volume}
 use Rattle.lfs_command.specs.declared.refusal.Refusal.{Refusal}
 use Rattle.lfs_command.specs.declared.refusal.Refusal.TheVariants.{NotFound, NotADirectory, BadPath, AttrTooLarge, NoAttr, EntryTooLarge}
 use Rattle.lfs_command.specs.declared.refusal.Refusal.TheVariants.{Memory, Exists, IsADirectory, NotEmpty, NameTooLong, FileTooLarge}
-use Rattle.lfs_command.specs.declared.refusal.Refusal.TheVariants.{IntoItself, IsRoot, NoSpace}
-use Rattle.lfs_command.specs.Command.{Asked, Command, Mkdir, Put, Rm, Mv, SetAttr, RmAttr}
+use Rattle.lfs_command.specs.declared.refusal.Refusal.TheVariants.{IntoItself, IsRoot, NoSpace, BadCount}
+use Rattle.lfs_command.specs.Command.{Asked, Command, Mkdir, Put, Rm, Mv, SetAttr, RmAttr, Grow}
+use Rattle.lfs_command.specs.Growth.{grown}
 use Rattle.lfs_command.specs.Edited.{edited}
 use Rattle.lfs_command.specs.Need.{dirty_parts, need}
 use Rattle.lfs_command.specs.Planned.{RefusesCommand, RefusesPlan}
@@ -125,12 +127,13 @@ of_checks v (SetAttr p k value) = (
 )
 of_checks v (RmAttr p k) =
     (of_walk (tree v) [] p, (of_test (is_none (tree v p)) NotFound tt, (of_test (not (has_attribute k (tree v p))) NoAttr tt, tt)))
+of_checks v (Grow n) = (of_test (not (nat_lt v.count n && is_geometry v.size n)) BadCount tt, tt)
 
 of_room : (v : Volume) (c : Command) → AllByRecursion MayBeOfVerdict (room_checks v c)
 unfolding IsOfVerdict
 of_room v c = (
   of_test (list_any (is_too_large (edited v c nothing)) (dirty_parts (edited v c nothing))) EntryTooLarge tt,
-  (of_test (nat_lt (length (free_blocks v)) (need v c)) (NoSpace (need v c) (length (free_blocks v))) tt, tt),
+  (of_test (nat_lt (length (free_blocks (grown c v))) (need v c)) (NoSpace (need v c) (length (free_blocks (grown c v)))) tt, tt),
 )
 
 refuses_by : (d : Disk) (asked : Asked) (r : Refusal) → IsOfVerdict r → RefusesCommand d asked r → RefusesPlan d asked r
@@ -150,6 +153,7 @@ refuses_by d asked IntoItself of refused = refused
 refuses_by d asked IsRoot of refused = refused
 refuses_by d asked EntryTooLarge of refused = refused
 refuses_by d asked (NoSpace needed free) of refused = refused
+refuses_by d asked BadCount of refused = refused
 
 -- so a command that is refused isn't planned
 pub refuses : (d : Disk) (asked : Asked) (r : Refusal) → RefusesCommand d asked r → RefusesPlan d asked r

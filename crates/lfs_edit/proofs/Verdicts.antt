@@ -18,3 +18,9 @@ passed_first (Some q ∷ rs) more h = absurd (none-some q (sym h))
 
 pub not_refused : (t : Bool) (r : Refusal) → t ≡ false → refuse_if t r ≡ None
 not_refused t r h = rw h refl
+
+-- where no check refuses, none of the first ones does
+pub front_passes : (rs more : List (Option Refusal)) → first_refusal (rs ++ more) ≡ None → first_refusal rs ≡ None
+front_passes [] more h = refl
+front_passes (None ∷ rs) more h = front_passes rs more h
+front_passes (Some q ∷ rs) more h = h

@@ -18,6 +18,7 @@ use Rattle.lfs_fs.specs.Reading.{reading_of}
 use Rattle.lfs_fs.specs.Holds.{Holds}
 use Rattle.lfs_command.specs.declared.refusal.Refusal.{Refusal}
 use Rattle.lfs_command.specs.Command.{Command, Asked, Spells, HasNames}
+use Rattle.lfs_command.specs.Growth.{grown}
 use Rattle.lfs_command.specs.Supplies.{Supplies}
 use Rattle.lfs_law.specs.EditedOutline.{edited_outline}
 use Rattle.lfs_command.specs.Cut.{cut, HasEnough, new_pair_uses}
@@ -46,8 +47,8 @@ pub record IsUnweighed (d : Disk) (c : Command) (used : List Bool) (o : Volume) 
   pub names : HasNames c
   pub unrefused : first_refusal (checks volume c) ≡ None
   pub marks : Marks used (λ b. uses b volume)
-  pub free : unused used ≡ free_blocks volume
-  pub outline : o ≡ edited_outline (outlined volume) c (least_supplies volume c (free_blocks volume))
+  pub free : unused used ≡ free_blocks (grown c volume)
+  pub outline : o ≡ edited_outline (outlined volume) c (least_supplies volume c (free_blocks (grown c volume)))
 
 -- The same where no check refuses the command, and as many of the least free blocks are at hand as it needs.
 pub record IsReady (d : Disk) (c : Command) (used : List Bool) (blocks : List ℕ) (o : Volume) : Type 0 where
@@ -57,14 +58,14 @@ pub record IsReady (d : Disk) (c : Command) (used : List Bool) (blocks : List �
   pub names : HasNames c
   pub unrefused : verdict volume c ≡ None
   pub marks : Marks used (λ b. uses b volume)
-  pub outline : o ≡ edited_outline (outlined volume) c (least_supplies volume c (free_blocks volume))
-  pub least : blocks ≡ take (need volume c) (free_blocks volume)
+  pub outline : o ≡ edited_outline (outlined volume) c (least_supplies volume c (free_blocks (grown c volume)))
+  pub least : blocks ≡ take (need volume c) (free_blocks (grown c volume))
 
 -- ---- what is made of it
 
 -- the supplies of a command that is ready
 abbrev pub supplies_of : Volume → Command → Supplies
-supplies_of v c = least_supplies v c (free_blocks v)
+supplies_of v c = least_supplies v c (free_blocks (grown c v))
 
 -- Pairs are chosen for the parts of an outline that take more than a block: as many as each needs, of these blocks.
 pub record AreChosenOf (o : Volume) (chosen : Part → List Pair) (blocks : List ℕ) : Type 0 where
@@ -83,7 +84,7 @@ pub record IsCutReady (d : Disk) (c : Command) (used : List Bool) (blocks : List
   pub ready : IsReady d c used blocks before
   pub cuts : IsCutOver before (drop (made_blocks ready.volume c) blocks) o
 
--- A patch, which keeps the count, writes an outline over the volume of an image: blocks of a file's new contents, and the links that are
+-- A patch, which keeps the count, writes an outline over the volume of an image that is lengthened already: blocks of a file's new contents, and the links that are
 -- set.
 pub record WritesOver (d : Disk) (v : Volume) (c : Command) (used : List Bool) (o : Volume) (p : ChangeSet) : Type 0 where
   pub patch : IsPatch p

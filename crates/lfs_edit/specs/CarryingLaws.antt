@@ -1,5 +1,9 @@
 -- The laws that carrying a command out stands on (own).
+use Rattle.lfs_block.specs.PatchLaws.{GrownIsKept, ResizedIsDisk}
 use Rattle.lfs_fs.specs.Stored.{HeldAreHeldByLinks}
+use Rattle.lfs_law.specs.CountsGrow.{CountsGrow}
+use Rattle.lfs_law.specs.CutWritten.{HeldBytesAreMade, MadeBytesSay}
+use Rattle.lfs_law.specs.Lengthened.{LengthenedImagesHold}
 use Rattle.lfs_law.specs.EditedOutline.{OutlinesFollow}
 use Rattle.lfs_law.specs.JudgedAlike.{OutlinesAreJudgedAlike}
 use Rattle.lfs_law.specs.Laws.{CleansFollow, CommandsFollow, CutsFollow, FewPartsChange, FreeAfterHeld}
@@ -30,3 +34,12 @@ pub record CarryingLaws : Type 0 where
   pub follow : CutsFollow
   pub clean : CleansFollow
   pub by_links : HeldAreHeldByLinks
+
+-- those that the bytes of an image that is lengthened for a command stand on
+pub record WritingLaws : Type 0 where
+  pub made : HeldBytesAreMade
+  pub say : MadeBytesSay
+  pub long : LengthenedImagesHold
+  pub grow : CountsGrow
+  pub resized : ResizedIsDisk
+  pub kept : GrownIsKept

@@ -2,10 +2,15 @@
 
 ghost use Rattle.std.specs.Prelude.{◌≡◌, ◌+◌, ◌<◌, ◌≤◌, ◌^◌, ◌⊎◌, None, Some, nat_lt, length, take, sum_by, IfOk, IfErr, OnOk};
 ghost use Rattle.std.specs.List.{filter};
+ghost use Rattle.lfs_block.specs.Disk.{erased_block};
 ghost use Rattle.lfs_block.specs.Geometry.{IsBlockSize};
 ghost use Rattle.lfs_block.specs.Patch.{applied};
 ghost use Rattle.lfs_fs.specs.Mounted.{IsOutlineOf};
+ghost use Rattle.lfs_fs.specs.Free.{free_blocks};
+ghost use Rattle.lfs_fs.specs.Sound.{IsSound};
 ghost use Rattle.lfs_fs.specs.Unused.{unused};
+ghost use Rattle.lfs_fs.specs.Used.{Marks};
+ghost use Rattle.lfs_fs.specs.Uses.{uses};
 ghost use Rattle.lfs_fs.specs.Volume.{Volume};
 ghost use Rattle.lfs_command.specs.declared.refusal.Refusal.TheVariants.{Memory};
 ghost use Rattle.lfs_command.specs.AskedFor.{asked_for};
@@ -17,23 +22,39 @@ ghost use Rattle.lfs_command.specs.Clean.{clean};
 ghost use Rattle.lfs_command.specs.Cut.{runs};
 ghost use Rattle.lfs_draft.specs.Editable.{IsEditable};
 ghost use Rattle.lfs_law.specs.EditedOutline.{edited_outline};
+ghost use Rattle.lfs_law.specs.Lengthened.{with_count};
 ghost use Rattle.lfs_command.specs.NamedCommand.{contents_len, named_command};
 ghost use Rattle.lfs_command.specs.Need.{data_blocks, dirty_parts, part_blocks};
 ghost use Rattle.lfs_command.specs.Planned.{Plans, RefusesPlan};
 ghost use Rattle.lfs_command.specs.Verdict.{first_refusal};
 
-use crate::carrying_laws::carrying_laws;
-use lfs_block::{Blocks, Image, Patch};
-use lfs_command::{NamedCommand, Refusal, data_blocks, directory_blocks, forced_by};
+use crate::carrying_laws::{carrying_laws, writing_laws};
+use lfs_block::{Blocks, Image, Lengthened, Patch};
+use lfs_command::{NamedCommand, Refusal, count_after, data_blocks, directory_blocks, forced_by};
 use lfs_cut::{choose, clean, cut, needed};
 use lfs_draft::{edit, leading_pair, least_supplies};
 use lfs_fs::{Outline, UsedBlocks, names_are_ordered, outlines_are_sound};
 use lfs_law::{
-    commands_set_a_part, cut_links_can_be_written, held_superblocks_are_made,
-    held_volumes_have_few_entries, needs_are_small,
+    commands_set_a_part, counts_grow, cut_links_can_be_written, held_volumes_have_few_entries,
+    needs_are_small,
 };
 use lfs_write::{laid_for, write_links};
 use std::alloc::{AllocError, Global};
+
+/// The blocks that an outline uses, of so many. The caller owes that it is sound with so many, and that none has two uses. Where memory is
+/// wanting, the outline is of no use.
+fn used_of(alloc: Global, outline: &mut Outline, count: u32) -> Result<UsedBlocks, AllocError>
+    requires { IsSound (with_count count outline.old) }
+    ensures marks { IfOk result (λ used. Marks used (λ b. uses b outline.old)) }
+    ensures free { IfOk result (λ used. unused used ≡ free_blocks (with_count count outline.old)) }
+    ensures same { OnOk result (outline.new ≡ outline.old) }
+{
+    let before = outline.count;
+    outline.count = count;
+    let used = outline.used_blocks(alloc)?;
+    outline.count = before;
+    Ok(used)
+}
 
 /// What a command makes of an outline with the least free blocks. The caller owes what `edit` asks, a block size that images have, and
 /// contents of fewer than 2^32 bytes. Where memory is wanting, the outline is of no use.
@@ -92,8 +113,15 @@ fn cut_over(
     Ok(())
 }
 
-/// The patch that writes an outline that is cut: a file's new contents in the first of the blocks, and its links that are set. It keeps
-/// the image's count.
+/// A block of so many bytes of which nothing was written.
+fn erased_block(alloc: Global, size: u32) -> Result<Vec<u8>, AllocError>
+    ensures { IfOk result (λ block. block.items ≡ erased_block size) }
+{
+    vec![in alloc; 0xff; size as usize]
+}
+
+/// The patch that writes an outline that is cut over the image, as the command lengthens it: a file's new contents in the first of the
+/// blocks, and its links that are set.
 fn written(
     alloc: Global,
     image: &Image,
@@ -107,16 +135,19 @@ fn written(
     ensures { IfOk result (λ patch. IsFinished image.now.disk (named_command command.now) patch (clean outline.now)) }
 {
     carrying_laws();
+    writing_laws();
     cut_links_can_be_written();
-    held_superblocks_are_made();
     commands_set_a_part();
     let size = image.size();
-    let count = image.count();
+    let before = image.count();
+    let after = count_after(command, before);
+    let erased = erased_block(alloc, size)?;
+    let long = Lengthened::of(image, after, &erased);
     let data = data_blocks(size, command) as usize;
-    let base = laid_for(alloc, image, command, &blocks[..data])?;
+    let base = laid_for(alloc, &long, command, &blocks[..data])?;
     let forced = forced_by(command);
-    let changes = write_links(alloc, image, outline, used.flags(), forced, base)?;
-    Ok(Patch::of(size, count, count, changes))
+    let changes = write_links(alloc, &long, outline, used.flags(), forced, base)?;
+    Ok(Patch::of(size, before, after, changes))
 }
 
 /// Cuts an outline that is ready, writes it, and takes the marks of the command off. Where memory is wanting, the outline is of no use.
@@ -162,8 +193,10 @@ pub(crate) fn carry_judged(
     names_are_ordered();
     needs_are_small();
     held_volumes_have_few_entries();
+    counts_grow();
     let size = image.size();
-    let used = outline.used_blocks(alloc)?;
+    let count = count_after(command, outline.count);
+    let used = used_of(alloc, outline, count)?;
     let before = leading_pair(outline, command);
     edit_least(alloc, outline, command, &used)?;
     let leading = before.or_else(|| leading_pair(outline, command));

@@ -1,13 +1,15 @@
 //! The laws that carrying a command out stands on.
 
-ghost use Rattle.lfs_edit.specs.CarryingLaws.{CarryingLaws};
+ghost use Rattle.lfs_edit.specs.CarryingLaws.{CarryingLaws, WritingLaws};
 
+use lfs_block::{grown_images_keep_their_count, resized_images_keep_their_blocks};
 use lfs_fs::both_sides_hold;
 use lfs_law::{
-    commands_are_written, commands_follow, cuts_follow, free_after, laid_contents_are_there,
-    least_blocks_are_free, need_is_exact, outlines_are_carried, outlines_are_judged_alike,
-    outlines_are_written, outlines_follow, plans_are_frugal, plans_hold, tables_tell_new_pairs,
-    written_volumes_are_held,
+    commands_are_written, commands_follow, counts_grow, cuts_follow, free_after,
+    held_superblocks_are_made, laid_contents_are_there, least_blocks_are_free,
+    lengthened_images_hold, made_superblocks_say_their_volume, need_is_exact, outlines_are_carried,
+    outlines_are_judged_alike, outlines_are_written, outlines_follow, plans_are_frugal, plans_hold,
+    tables_tell_new_pairs, written_volumes_are_held,
 };
 
 /// The laws that carrying a command out stands on. Takes no memory.
@@ -30,4 +32,16 @@ pub(crate) fn carrying_laws()
     need_is_exact();
     written_volumes_are_held();
     outlines_follow();
+}
+
+/// The laws that writing the bytes of an image that is lengthened for a command stands on. Takes no memory.
+pub(crate) fn writing_laws()
+    ensures { WritingLaws }
+{
+    held_superblocks_are_made();
+    made_superblocks_say_their_volume();
+    lengthened_images_hold();
+    counts_grow();
+    resized_images_keep_their_blocks();
+    grown_images_keep_their_count();
 }

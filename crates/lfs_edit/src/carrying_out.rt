@@ -55,8 +55,9 @@ fn carry_or_restore(
 ///   is said of a directory that is made;
 /// - to set or remove an attribute: a front of the path isn't there (`NotFound`) or is a file (`NotADirectory`); nothing is at it
 ///   (`NotFound`); the value is longer than the limit (`AttrTooLarge`), or there is no attribute of the kind (`NoAttr`);
-/// - then of each: an entry of a part that is changed weighs more than a block has room for (`EntryTooLarge`); fewer blocks are free
-///   than the command needs (`NoSpace`).
+/// - to lengthen the image: it has as many blocks, or an image of its block size can't have so many (`BadCount`);
+/// - then of each: an entry of a part that is changed weighs more than a block has room for (`EntryTooLarge`); fewer blocks are free,
+///   those that are added among them, than the command needs (`NoSpace`).
 ///
 /// `Memory` says only that a growth was refused; the outline is of no use then. Any other refusal leaves it as it was.
 ///

@@ -33,7 +33,7 @@ use Rattle.lfs_law.specs.EditedOutline.{edited_outline}
 use Rattle.lfs_fs.proofs.OutlinedLemmas.{outlined_thread, outlined_free}
 use Rattle.lfs_law.proofs.Cuts.{All-left, All-right}
 use Rattle.lfs_law.proofs.Decided.{same_pair_decides}
-use Rattle.lfs_edit.proofs.CarryingLemmas.{pairs_differ}
+use Rattle.lfs_edit.proofs.PairsDiffer.{pairs_differ}
 use Rattle.lfs_edit.proofs.Verdicts.{refused_first}
 use Rattle.lfs_ends.specs.Ending.{FitBlock, last_of, last_part}
 use Rattle.lfs_ends.specs.EndCuts.{CanTakeMore}

@@ -136,7 +136,7 @@ pub chain-stays : (d e : Disk) (head len : ℕ) (blocks : List ℕ) → AgreeOn 
 chain-stays d e head len blocks agree is = record {
   least = subst (λ (size : ℕ). IsLeast size len (length blocks)) agree.size is.least;
   last = is.last;
-  below = λ k x within. subst (λ (count : ℕ). get_or blocks k x < count) agree.count (is.below k x within);
+  below = λ k x within. omega (arith, is.below k x within, agree.count);
   apart = is.apart;
   back = λ n i later within lt. ap (λ b. pointer b i) (sym (agree.same n 0 within)) ∙ is.back n i later within lt;
 }

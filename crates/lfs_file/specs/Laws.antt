@@ -42,10 +42,10 @@ ChainsDiffer = (d : Disk) (head len : ℕ) (blocks : List ℕ) → IsDisk d → 
 abbrev pub ChainsFit : Type 0
 ChainsFit = (d : Disk) (head len : ℕ) (blocks : List ℕ) → IsChain d head len blocks → length blocks ≤ d.count
 
--- two disks of one size and count, with the same bytes in each of these blocks
+-- two disks of one block size, of which the second has no fewer blocks, with the same bytes in each of these blocks
 pub record AgreeOn (blocks : List ℕ) (d e : Disk) : Type 0 where
   pub size : d.size ≡ e.size
-  pub count : d.count ≡ e.count
+  pub count : d.count ≤ e.count
   pub same : All (λ b. block_of d b ≡ block_of e b) blocks
 
 -- a chain depends on its own blocks alone

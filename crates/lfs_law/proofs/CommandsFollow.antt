@@ -17,17 +17,20 @@ use Rattle.lfs_fs.specs.Sound.{IsSound}
 use Rattle.lfs_command.specs.declared.refusal.Refusal.TheVariants.{NotFound, Exists, IsADirectory, NotEmpty, NameTooLong, FileTooLarge}
 use Rattle.lfs_command.specs.declared.refusal.Refusal.TheVariants.{AttrTooLarge, IntoItself, IsRoot}
 use Rattle.lfs_command.specs.PathMap.{put_at_path}
-use Rattle.lfs_command.specs.Command.{Command, Mkdir, Put, Rm, Mv, SetAttr, RmAttr}
+use Rattle.lfs_command.specs.Command.{Command, Mkdir, Put, Rm, Mv, SetAttr, RmAttr, Grow}
+use Rattle.lfs_command.specs.Growth.{count_after}
 use Rattle.lfs_command.specs.Equation.{equation, attributes_of, attributes_at, with_attributes}
 use Rattle.lfs_command.specs.Supplies.{Supplies, AreFree, supply_uses, most_inline, new_body}
 use Rattle.lfs_command.specs.Home.{home_of}
 use Rattle.lfs_command.specs.Edited.{edited, put_file, remove_entry, move_entry, set_attributes}
 use Rattle.lfs_command.specs.Verdict.{refuse_if, walk_refusal, is_directory, is_root, last_length, is_bare, lies_below}
-use Rattle.lfs_command.specs.Accepted.{IsAccepted, Follows}
+use Rattle.lfs_command.specs.Accepted.{IsAccepted}
 use Rattle.lfs_command.specs.Freed.{content_uses, freed_uses}
 use Rattle.lfs_law.specs.Laws.{CommandsFollow}
 use Rattle.lfs_law.proofs.AttributeLemmas.{set_good, remove_good}
-use Rattle.lfs_law.proofs.Homes.{first_passes, test_passes}
+use Rattle.lfs_law.proofs.GrowFollows.{grow_follows}
+use Rattle.lfs_law.proofs.Homes.{first_passes, test_passes, not_false}
+use Rattle.lfs_law.proofs.Carries.{Carries}
 use Rattle.lfs_law.proofs.EdgeEdits.{Puts}
 use Rattle.lfs_law.proofs.Placed.{IsPlaced, is_placed}
 use Rattle.lfs_law.proofs.SetFollows.{KeepsGood, root_set_follows, entry_set_follows}
@@ -54,20 +57,16 @@ is_free v p h = by (entry_at v p) refl h
     by None is free = is
     by (Some e) is free = cc
 
--- a command that follows its equation, and takes and frees the blocks that it says
-pub record Carries (v : Volume) (c : Command) (s : Supplies) : Type 0 where
-  pub follows : Follows v c (edited v c s)
-  pub uses : (b : ℕ) → uses b (edited v c s) + freed_uses v c b ≡ uses b v + supply_uses v c s b
-
 puts_carry : (v : Volume) (c : Command) (s : Supplies) (p : Path) (x : Option Node) (gone came : ℕ → ℕ)
+    → count_after c v.count ≡ v.count
     → ((q : Path) → equation c (tree v) q ≡ put_at_path p x (tree v) q)
     → ((b : ℕ) → freed_uses v c b ≡ gone b) → ((b : ℕ) → supply_uses v c s b ≡ came b) → Puts v (edited v c s) p x gone came → Carries v c s
-puts_carry v c s p x gone came same freed taken puts = record {
+puts_carry v c s p x gone came stays same freed taken puts = record {
   follows = record {
     sound = puts.sound;
     at = λ q. puts.at q ∙ sym (same q);
     size = puts.frame.size;
-    count = puts.frame.count;
+    count = puts.frame.count ∙ sym stays;
     limits = puts.frame.limits;
   };
   uses = λ b. omega (arith, puts.uses b, freed b, taken b);
@@ -89,7 +88,7 @@ set_follows v p k value s ordered ok =
     let walk = first_passes (walk_refusal (tree v) [] p) _ ok.unrefused in
     let there = first_passes (refuse_if (is_none (tree v p)) NotFound) _ walk.1 in
     let small = first_passes (refuse_if (nat_lt v.limits.attribute (length value)) AttrTooLarge) _ there.1 in
-    puts_carry v (SetAttr p k value) s p (option_map (with_attributes (set_attribute k value)) (tree v p)) (λ b. 0) (λ b. 0) (λ q. refl)
+    puts_carry v (SetAttr p k value) s p (option_map (with_attributes (set_attribute k value)) (tree v p)) (λ b. 0) (λ b. 0) refl (λ q. refl)
     (λ b. refl) (λ b. refl)
     (attributes_set v p (set_attribute k value) ordered ok.sound (All-head (All IsName) p [] ok.names)
     (λ a good. set_good v.limits.attribute k value a (ltb-false v.limits.attribute (length value)
@@ -100,7 +99,7 @@ remove_follows : (v : Volume) (p : Path) (k : ℕ) (s : Supplies) → NamesAreOr
 remove_follows v p k s ordered ok =
     let walk = first_passes (walk_refusal (tree v) [] p) _ ok.unrefused in
     let there = first_passes (refuse_if (is_none (tree v p)) NotFound) _ walk.1 in
-    puts_carry v (RmAttr p k) s p (option_map (with_attributes (remove_attribute k)) (tree v p)) (λ b. 0) (λ b. 0) (λ q. refl) (λ b. refl)
+    puts_carry v (RmAttr p k) s p (option_map (with_attributes (remove_attribute k)) (tree v p)) (λ b. 0) (λ b. 0) refl (λ q. refl) (λ b. refl)
     (λ b. refl)
     (attributes_set v p (remove_attribute k) ordered ok.sound (All-head (All IsName) p [] ok.names)
     (λ a good. remove_good v.limits.attribute k a good)
@@ -115,7 +114,7 @@ made_follows v p s ordered ok =
     let new = first_passes (refuse_if (is_some (tree v p)) Exists) _ walk.1 in
     let short = first_passes (refuse_if (nat_lt v.limits.name (last_length p)) NameTooLong) _ new.1 in
     let at = is_placed v p ok.sound (All-head (All IsName) p [] ok.names) (test_passes (is_root p) IsRoot below.0) walk.0 in
-    puts_carry v (Mkdir p) s p (Some (Dir [])) (λ b. 0) (λ b. times b (s.pair.0 ∷ s.pair.1 ∷ [])) (λ q. refl) (λ b. refl) (λ b. refl)
+    puts_carry v (Mkdir p) s p (Some (Dir [])) (λ b. 0) (λ b. times b (s.pair.0 ∷ s.pair.1 ∷ [])) refl (λ q. refl) (λ b. refl) (λ b. refl)
     (mkdir_follows v p s.pair ordered ok.sound at (is_free v p (test_passes (is_some (tree v p)) Exists new.0))
     (ltb-false v.limits.name (length at.home.name) (ap (nat_lt v.limits.name) (sym at.home.len)
     ∙ test_passes (nat_lt v.limits.name (last_length p)) NameTooLong short.0))
@@ -177,7 +176,7 @@ put_follows v p bytes s ordered ok =
     let small = first_passes (refuse_if (nat_lt v.limits.file (length bytes)) FileTooLarge) _ short.1 in
     let at = is_placed v p ok.sound (All-head (All IsName) p [] ok.names) (test_passes (is_root p) IsRoot below.0) walk.0 in
     puts_carry v (Put p bytes) s p (Some (File bytes (attributes_at (tree v p)))) (λ b. content_uses v p b)
-    (λ b. body_uses b (new_body v s bytes)) (λ q. refl) (λ b. refl) (λ b. refl)
+    (λ b. body_uses b (new_body v s bytes)) refl (λ q. refl) (λ b. refl) (λ b. refl)
     (put_by v p bytes (new_body v s bytes) ordered ok.sound at
     (new_body_free v p bytes s ok.free (ltb-false v.limits.file (length bytes)
     (test_passes (nat_lt v.limits.file (length bytes)) FileTooLarge small.0)))
@@ -185,10 +184,6 @@ put_follows v p bytes s ordered ok =
     (test_passes (is_none (tree v p) && nat_lt v.limits.name (last_length p)) NameTooLong short.0))
 
 -- ---- what is removed
-
-not_false : (t : Bool) → not t ≡ false → t ≡ true
-not_false true h = refl
-not_false false h = cc
 
 removed_follows : (v : Volume) (p : Path) (s : Supplies) → NamesAreOrdered → IsAccepted v (Rm p) s → Carries v (Rm p) s
 removed_follows v p s ordered ok =
@@ -201,7 +196,7 @@ removed_follows v p s ordered ok =
     let empty : is_bare v (option_and_then target (entry_at v p)) ≡ true =
     not_false (is_bare v (option_and_then target (entry_at v p))) (test_passes
     (not (is_bare v (option_and_then target (entry_at v p)))) NotEmpty bare.0) in
-    puts_carry v (Rm p) s p None (λ b. entry_uses b e.0 + target_uses_of v (target e.0) b) (λ b. 0) (λ q. refl)
+    puts_carry v (Rm p) s p None (λ b. entry_uses b e.0 + target_uses_of v (target e.0) b) (λ b. 0) refl (λ q. refl)
     (λ b. ap (λ (o : Option Entry). unwrap_or (option_map (entry_uses b) o) 0 + target_uses_of v (option_and_then target o) b) e.1)
     (λ b. refl)
     (subst (λ (o : Option Entry). Puts v (remove_entry v (home_of v p) o) p None (λ b. entry_uses b e.0 + target_uses_of v (target e.0) b)
@@ -249,6 +244,7 @@ commands_carry ordered v (Rm p) s ok = removed_follows v p s ordered ok
 commands_carry ordered v (Mv p q) s ok = moved_follows v p q s ordered ok
 commands_carry ordered v (SetAttr p k value) s ok = set_follows v p k value s ordered ok
 commands_carry ordered v (RmAttr p k) s ok = remove_follows v p k s ordered ok
+commands_carry ordered v (Grow n) s ok = grow_follows v n s ok
 
 pub commands_follow : NamesAreOrdered → CommandsFollow
 commands_follow ordered v c s ok = (commands_carry ordered v c s ok).follows

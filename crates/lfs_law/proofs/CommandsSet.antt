@@ -25,7 +25,7 @@ use Rattle.lfs_command.specs.EntryEdit.{place, without, changed}
 use Rattle.lfs_command.specs.DirectoryEdit.{touch, has_name, unlink_in, change_in, behind, link_parts, link_in, touch_last_of, touch_last}
 use Rattle.lfs_command.specs.DirectoryEdit.{absorb_in, absorb, taking_up}
 use Rattle.lfs_command.specs.ThreadEdit.{in_directory, link, unlink, change, add_after, take_out, drop_directory, touch_first}
-use Rattle.lfs_command.specs.Command.{Command, Mkdir, Put, Rm, Mv, SetAttr, RmAttr}
+use Rattle.lfs_command.specs.Command.{Command, Mkdir, Put, Rm, Mv, SetAttr, RmAttr, Grow}
 use Rattle.lfs_command.specs.Supplies.{Supplies, new_body}
 use Rattle.lfs_command.specs.Home.{home_of}
 use Rattle.lfs_command.specs.Edited.{with_body, with_entry_attributes, renamed, new_entry, empty_directory, set_attributes, make_directory}
@@ -373,6 +373,7 @@ some_set ordered v (RmAttr p k) s ok =
     let walk = first_passes (walk_refusal (tree v) [] p) _ ok.unrefused in
     let there = first_passes (refuse_if (is_none (tree v p)) NotFound) _ walk.1 in
     attributes_set v p (remove_attribute k) ok.sound (test_passes (is_none (tree v p)) NotFound there.0) (home_of v p) refl
+some_set ordered v (Grow n) s ok = touch_first_sets (old_to v) v.directories ok.sound.starts (have_old v)
 
 pub commands_set_a_part : NamesAreOrdered → CommandsSetAPart
 commands_set_a_part ordered v c s ok =

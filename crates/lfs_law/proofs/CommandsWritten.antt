@@ -27,18 +27,21 @@ use Rattle.lfs_fs.specs.Thread.{Link, links}
 use Rattle.lfs_fs.specs.Uses.{times, body_uses, entry_uses, pair_uses, uses}
 use Rattle.lfs_fs.specs.Sound.{IsSound, StartsAtRoot}
 use Rattle.lfs_fs.specs.Reading.{Reading, reading_of}
-use Rattle.lfs_fs.specs.Stored.{BodyStands, StandsFor, IsStored, HoldsLinks}
+use Rattle.lfs_fs.specs.Stored.{BodyStands, StandsFor, IsStored}
 use Rattle.lfs_fs.specs.Alike.{ChainStays}
 use Rattle.lfs_fs.proofs.ContainsLemmas.{contains_first}
 use Rattle.lfs_fs.proofs.CountLemmas.{element_le}
 use Rattle.lfs_command.specs.ThreadEdit.{touch_first}
-use Rattle.lfs_command.specs.Command.{Command, Mkdir, Put, Rm, Mv, SetAttr, RmAttr}
+use Rattle.lfs_command.specs.Command.{Command, Mkdir, Put, Rm, Mv, SetAttr, RmAttr, Grow}
+use Rattle.lfs_command.specs.Growth.{grown}
 use Rattle.lfs_command.specs.Supplies.{Supplies, new_body}
 use Rattle.lfs_command.specs.Home.{home_of}
 use Rattle.lfs_command.specs.Edited.{set_attributes, make_directory, put_file, remove_entry, move_entry, edited}
 use Rattle.lfs_command.specs.Cut.{cut_directory, cut}
 use Rattle.lfs_command.specs.Accepted.{Follows}
 use Rattle.lfs_law.specs.Laws.{CutsFollow}
+use Rattle.lfs_law.specs.Lengthened.{HoldsParts}
+use Rattle.lfs_law.specs.SuperblockBytes.{superblock_bytes, volume_bytes}
 use Rattle.lfs_law.specs.WrittenLinks.{changed_blocks, set_blocks, links_blocks}
 use Rattle.lfs_law.specs.OutlineLaws.{IsThere}
 use Rattle.lfs_law.specs.PlansWritten.{NewIsThere, CommandsAreWritten}
@@ -86,12 +89,12 @@ entries_there chains empty long d disk (s ∷ ss) (e ∷ es) all =
     All-cons (λ (x : Entry). IsThere (reading_of d) x.body) e es (body_there chains empty long d disk s.body e.body all.0.body)
     (entries_there chains empty long d disk ss es all.1)
 
-parts_there : FoundAreChains → EmptyIsFound → ContentHasLength → (d : Disk) → IsDisk d → (v : Volume) → HoldsLinks (reading_of d) v
-    → All (λ p. OfBodies (IsThere (reading_of d)) p.entries) (thread v.directories)
-parts_there chains empty long d disk v held =
+parts_there : FoundAreChains → EmptyIsFound → ContentHasLength → (d : Disk) → IsDisk d → (v : Volume) (bytes : List ℕ)
+    → HoldsParts (reading_of d) v bytes → All (λ p. OfBodies (IsThere (reading_of d)) p.entries) (thread v.directories)
+parts_there chains empty long d disk v bytes held =
     subst (All (λ (p : Part). OfBodies (IsThere (reading_of d)) p.entries)) (parts_of_links v.directories)
     (All-map (λ (p : Part). OfBodies (IsThere (reading_of d)) p.entries) (λ (l : Link). l.part) (links v.directories)
-    (All-weaker (IsStored (reading_of d) held.bytes v.attributes) (λ (l : Link). OfBodies (IsThere (reading_of d)) l.part.entries)
+    (All-weaker (IsStored (reading_of d) bytes v.attributes) (λ (l : Link). OfBodies (IsThere (reading_of d)) l.part.entries)
     (λ l stored. entries_there chains empty long d disk stored.others l.part.entries stored.stands) (links v.directories) held.each))
 
 -- ---- what is known of bodies that a command leaves
@@ -101,8 +104,8 @@ abbrev Known : Reading → Reading → Volume → Body → Type 0
 Known r q v b = (IsThere r b × ((n : ℕ) → 0 < body_uses n b → 0 < uses n v)) ⊎ IsThere q b
 
 known_before : FoundAreChains → EmptyIsFound → ContentHasLength → (d : Disk) → IsDisk d → (q : Reading) (v : Volume)
-    → HoldsLinks (reading_of d) v → Bodies (Known (reading_of d) q v) v.directories
-known_before chains empty long d disk q v held =
+    (bytes : List ℕ) → HoldsParts (reading_of d) v bytes → Bodies (Known (reading_of d) q v) v.directories
+known_before chains empty long d disk q v bytes held =
     by_parts (Known (reading_of d) q v) v.directories
     (All-weaker (Contains (thread v.directories)) (λ (p : Part). OfBodies (Known (reading_of d) q v) p.entries) in_part
     (thread v.directories) (All-contains_itself (thread v.directories)))
@@ -119,7 +122,7 @@ known_before chains empty long d disk q v held =
         (λ e inside. inl (
           All-contains (λ (x : Entry). IsThere (reading_of d) x.body) p.entries e
               (All-contains (λ (x : Part). OfBodies (IsThere (reading_of d)) x.entries) (thread v.directories) p
-              (parts_there chains empty long d disk v held) there) inside,
+              (parts_there chains empty long d disk v bytes held) there) inside,
           used p there e inside,
         ))
         p.entries (All-contains_itself p.entries)
@@ -131,6 +134,7 @@ new_known r q v (Rm p) s there = tt
 new_known r q v (Mv p p2) s there = tt
 new_known r q v (SetAttr p k value) s there = tt
 new_known r q v (RmAttr p k) s there = tt
+new_known r q v (Grow n) s there = tt
 
 -- ---- chains stay
 
@@ -227,30 +231,65 @@ first_set chosen x (d ∷ ds) starts =
 root_used : (p : Part) → p.pair ≡ root → 0 < part_uses 0 p
 root_used p is = subst (λ (n : ℕ). 0 < part_uses n p) (ap (λ (k : Pair). k.0) is) (pair_used p).0
 
+-- a volume whose root's first part is set, with another number of blocks and other attributes of the root
+abbrev touched : Volume → ℕ → Attributes → Volume
+touched v n a = record { size = v.size; count = n; limits = v.limits; attributes = a; directories = touch_first v.directories }
+
+none_unset : (chosen : Part → List Pair) (v : Volume) (n : ℕ) (a : Attributes) → IsSound v → IsSound (cut chosen (touched v n a))
+    → (l : Link) → Contains (links (cut chosen (touched v n a)).directories) l → l.part.pair ≡ root → l.part.dirty ≡ false → ⊥
+none_unset chosen v n a sound after l there is unset =
+    let w : Volume = cut chosen (touched v n a) in
+    let q = first_set chosen (touched v n a) v.directories sound.starts in
+    let both : part_uses 0 q.0 + part_uses 0 l.part ≤ sum_by (part_uses 0) (thread w.directories) =
+    two_le (part_uses 0) (thread w.directories) q.0 l.part q.1 (part_there w.directories l there) (set_apart q.0 l.part q.3 unset) in
+    omega (arith, both, root_used q.0 q.2, root_used l.part is, sum_thread 0 w.directories, after.once 0)
+
 set_attributes_kept : (chosen : Part → List Pair) (v : Volume) (f : Attributes → Attributes) (h : Option (Pair × Name)) → IsSound v
     → IsSound (cut chosen (set_attributes v f h))
     → (l : Link) → Contains (links (cut chosen (set_attributes v f h)).directories) l → l.part.pair ≡ root → l.part.dirty ≡ false
     → (set_attributes v f h).attributes ≡ v.attributes
 set_attributes_kept chosen v f (Some h) sound after l there is unset = refl
 set_attributes_kept chosen v f None sound after l there is unset =
-    let w : Volume = cut chosen (set_attributes v f None) in
-    let q = first_set chosen (set_attributes v f None) v.directories sound.starts in
-    let both : part_uses 0 q.0 + part_uses 0 l.part ≤ sum_by (part_uses 0) (thread w.directories) =
-    two_le (part_uses 0) (thread w.directories) q.0 l.part q.1 (part_there w.directories l there) (set_apart q.0 l.part q.3 unset) in
-    let no : ⊥ = omega (arith, both, root_used q.0 q.2, root_used l.part is, sum_thread 0 w.directories, after.once 0) in
-    absurd no
+    absurd (none_unset chosen v v.count (f v.attributes) sound after l there is unset)
 
-attributes_kept : (chosen : Part → List Pair) (v : Volume) (c : Command) (s : Supplies) → IsSound v → IsSound (cut chosen (edited v c s))
+-- the superblock of a volume of the same size, count and limits
+bytes_same : (v w : Volume) → w.size ≡ v.size → w.count ≡ v.count → w.limits ≡ v.limits → volume_bytes w ≡ volume_bytes v
+unfolding volume_bytes
+bytes_same v w size count limits =
+    ap (λ (n : ℕ). superblock_bytes n w.count w.limits) size
+    ∙ ap (λ (n : ℕ). superblock_bytes v.size n w.limits) count
+    ∙ ap (superblock_bytes v.size v.count) limits
+
+-- the root's attributes and the superblock's bytes stay where the root's first part isn't set
+superblock_kept : (chosen : Part → List Pair) (v : Volume) (c : Command) (s : Supplies) → IsSound v → Follows v c (cut chosen (edited v c s))
     → (l : Link) → Contains (links (cut chosen (edited v c s)).directories) l → l.part.pair ≡ root → l.part.dirty ≡ false
-    → (edited v c s).attributes ≡ v.attributes
-attributes_kept chosen v (Mkdir p) s sound after l there is unset = make_attributes v s.pair (home_of v p)
-attributes_kept chosen v (Put p bytes) s sound after l there is unset = put_attributes v (new_body v s bytes) (home_of v p) (entry_at v p)
-attributes_kept chosen v (Rm p) s sound after l there is unset = remove_attributes v (home_of v p) (entry_at v p)
-attributes_kept chosen v (Mv p q) s sound after l there is unset = move_attributes v (home_of v p) (home_of v q) (entry_at v p)
-attributes_kept chosen v (SetAttr p k value) s sound after l there is unset =
-    set_attributes_kept chosen v (set_attribute k value) (home_of v p) sound after l there is unset
-attributes_kept chosen v (RmAttr p k) s sound after l there is unset =
-    set_attributes_kept chosen v (remove_attribute k) (home_of v p) sound after l there is unset
+    → ((edited v c s).attributes ≡ v.attributes) × (volume_bytes (cut chosen (edited v c s)) ≡ volume_bytes v)
+superblock_kept chosen v (Mkdir p) s sound after l there is unset = (
+  make_attributes v s.pair (home_of v p),
+  bytes_same v (cut chosen (edited v (Mkdir p) s)) after.size after.count after.limits,
+)
+superblock_kept chosen v (Put p bytes) s sound after l there is unset = (
+  put_attributes v (new_body v s bytes) (home_of v p) (entry_at v p),
+  bytes_same v (cut chosen (edited v (Put p bytes) s)) after.size after.count after.limits,
+)
+superblock_kept chosen v (Rm p) s sound after l there is unset = (
+  remove_attributes v (home_of v p) (entry_at v p),
+  bytes_same v (cut chosen (edited v (Rm p) s)) after.size after.count after.limits,
+)
+superblock_kept chosen v (Mv p q) s sound after l there is unset = (
+  move_attributes v (home_of v p) (home_of v q) (entry_at v p),
+  bytes_same v (cut chosen (edited v (Mv p q) s)) after.size after.count after.limits,
+)
+superblock_kept chosen v (SetAttr p k value) s sound after l there is unset = (
+  set_attributes_kept chosen v (set_attribute k value) (home_of v p) sound after.sound l there is unset,
+  bytes_same v (cut chosen (edited v (SetAttr p k value) s)) after.size after.count after.limits,
+)
+superblock_kept chosen v (RmAttr p k) s sound after l there is unset = (
+  set_attributes_kept chosen v (remove_attribute k) (home_of v p) sound after.sound l there is unset,
+  bytes_same v (cut chosen (edited v (RmAttr p k) s)) after.size after.count after.limits,
+)
+superblock_kept chosen v (Grow n) s sound after l there is unset =
+    absurd (none_unset chosen v n v.attributes sound after.sound l there is unset)
 
 -- ---- the commands
 
@@ -263,7 +302,7 @@ pub record ChainLaws : Type 0 where
   pub content : ContentStays
 
 pub commands_are_written : ChainLaws → KeptIsDisk → KeptBlocks → RunsJoin Entry → CutsFollow → CommandsAreWritten
-commands_are_written laws kept_disk kept_blocks join cuts d v held c s chosen is_new base p ok pairs writes = record {
+commands_are_written laws kept_disk kept_blocks join cuts d v c s chosen is_new base p held ok pairs writes = record {
   disk = writes.disk;
   patch = writes.patch;
   stands = writes.stands;
@@ -271,7 +310,7 @@ commands_are_written laws kept_disk kept_blocks join cuts d v held c s chosen is
   unused = unused;
   written = writes.written;
   there = there;
-  attributes = attributes_kept chosen v c s ok.sound after.sound;
+  superblock = superblock_kept chosen v c s ok.sound after;
 }
   where
     w : Volume
@@ -305,7 +344,7 @@ commands_are_written laws kept_disk kept_blocks join cuts d v held c s chosen is
         cut_bodies join (Known (reading_of d) (reading_of (applied p d)) v) chosen (edited v c s) pairs.enough
         (edited_bodies (Known (reading_of d) (reading_of (applied p d)) v) v c s (λ pair. inr tt)
         (new_known (reading_of d) (reading_of (applied p d)) v c s writes.there)
-        (known_before laws.chains laws.empty laws.long d writes.disk (reading_of (applied p d)) v held))
+        (known_before laws.chains laws.empty laws.long d writes.disk (reading_of (applied p d)) (grown c v) (volume_bytes v) held))
 
     there : (l : Link) → Contains (links (cut chosen (edited v c s)).directories) l → (e : Entry) → Contains l.part.entries e
         → IsThere (reading_of (applied p d)) e.body
@@ -314,7 +353,7 @@ commands_are_written laws kept_disk kept_blocks join cuts d v held c s chosen is
           | inl old ↦
               let same = kept_disk p d writes.disk writes.patch writes.stands writes.keeps in
               body_stays (reading_of d) (reading_of (applied p d)) e.body
-              (chain_by laws.found laws.content d (applied p d) writes.disk e.body same.size same.count
+              (chain_by laws.found laws.content d (applied p d) writes.disk e.body same.size (omega (arith, same.count))
               (λ n some. block_stays l inside e holds n some (old.1 n some))) old.0
           | inr new ↦ new
         ]

@@ -190,8 +190,8 @@ unused v q new = zero_is (uses q.0 v) new
     zero_is n h = grind (arith, nat_tests)
 
 pub cut_links_can_be_written : NamesAreDecided → CutsFollow → CutLinksCanBeWritten
-cut_links_can_be_written decided follow d v held c s chosen disk ok pairs =
-    by_outline (λ (l : Link). l.part.dirty ≡ true → CanBeWritten d held.bytes (cut chosen (edited v c s)).attributes l)
+cut_links_can_be_written decided follow d v c s chosen new disk len ok pairs =
+    by_outline (λ (l : Link). l.part.dirty ≡ true → CanBeWritten d new (cut chosen (edited v c s)).attributes l)
     (cut chosen (edited v c s)) each
   where
     w : Volume
@@ -201,10 +201,10 @@ cut_links_can_be_written decided follow d v held c s chosen disk ok pairs =
     follows = follow v c s chosen ok pairs
 
     count : w.count ≡ d.count
-    count = follows.count ∙ held.count
+    count = follows.count ∙ sym disk.count
 
     size : w.size ≡ d.size
-    size = follows.size ∙ held.size
+    size = follows.size ∙ sym disk.size
 
     other : (p : Part) → Contains (thread (edited v c s).directories) p → (q : Pair) → Contains (new_pairs chosen p) q
         → same_pair q root ≡ false
@@ -213,7 +213,7 @@ cut_links_can_be_written decided follow d v held c s chosen disk ok pairs =
     fits : All (FitsWhenSet (edited v c s)) (thread w.directories)
     fits = cut_fits chosen (edited v c s) (none_large v c s ok) other
 
-    each : (m : Link) → Contains (links w.directories) m → m.part.dirty ≡ true → CanBeWritten d held.bytes w.attributes (outlined_link m)
+    each : (m : Link) → Contains (links w.directories) m → m.part.dirty ≡ true → CanBeWritten d new w.attributes (outlined_link m)
     each m there set =
         let part = part_there w.directories m there in
         let names = outline_named m.part.entries (All-contains (λ (p : Part). AreNamed p.entries) (thread w.directories) m.part
@@ -224,21 +224,21 @@ cut_links_can_be_written decided follow d v held c s chosen disk ok pairs =
           apart = pair_apart d.count w follows.sound count m.part part;
           first = below.0;
           second = below.1;
-          whole = stored_whole decided held.bytes w.attributes (outlined_link m).part names;
+          whole = stored_whole decided new w.attributes (outlined_link m).part names;
           few = omega (
             arith,
-            stored_many held.bytes w.attributes (outlined_link m).part,
+            stored_many new w.attributes (outlined_link m).part,
             length-map m.part.entries outlined_entry,
             room.count,
           );
           room = omega (
             arith,
-            stored_weighs held.bytes w.attributes (outlined_link m).part held.superblock.len,
+            stored_weighs new w.attributes (outlined_link m).part len,
             outline_weighs m.part.entries,
             room.weight',
             size,
-            disk.geometry.size_fits.0,
+            disk.disk.geometry.size_fits.0,
           );
           tail = All-contains (λ (l : Link). TailFits l.tail) (links w.directories) m
-              (tails_below d.count w follows.sound count disk.geometry.count_fits.1) there;
+              (tails_below d.count w follows.sound count disk.disk.geometry.count_fits.1) there;
         }

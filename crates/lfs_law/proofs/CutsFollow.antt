@@ -12,6 +12,7 @@ use Rattle.lfs_fs.specs.Volume.{Volume}
 use Rattle.lfs_fs.specs.Uses.{uses}
 use Rattle.lfs_fs.specs.Sound.{IsSound}
 use Rattle.lfs_command.specs.Command.{Command}
+use Rattle.lfs_command.specs.Growth.{count_after}
 use Rattle.lfs_command.specs.Supplies.{Supplies, supply_uses}
 use Rattle.lfs_command.specs.Edited.{edited}
 use Rattle.lfs_command.specs.Cut.{cut, HasEnough, new_pair_uses}
@@ -23,7 +24,8 @@ use Rattle.lfs_law.proofs.EdgeEdits.{sound_is_good}
 use Rattle.lfs_law.proofs.SameEdges.{tree_same, reached_with_root}
 use Rattle.lfs_law.proofs.SoundAfter.{sound_after}
 use Rattle.lfs_law.proofs.Cuts.{cut_effect, cut_good, cut_edges, pairs_for}
-use Rattle.lfs_law.proofs.CommandsFollow.{Carries, commands_carry}
+use Rattle.lfs_law.proofs.Carries.{Carries}
+use Rattle.lfs_law.proofs.CommandsFollow.{commands_carry}
 
 -- ---- a volume whose parts are cut
 
@@ -83,10 +85,10 @@ filter_same f g same (x ∷ xs) = rw (same x, filter_same f g same xs) refl
 
 pub free_after_command : NamesAreOrdered → RunsJoin Entry → FreeAfter
 free_after_command ordered join v c s chosen ok pairs =
-    let count : (edited v c s).count ≡ v.count = (commands_carry ordered v c s ok).follows.count in
+    let count : (edited v c s).count ≡ count_after c v.count = (commands_carry ordered v c s ok).follows.count in
     ap (λ (n : ℕ). filter (λ b. uses b (cut chosen (edited v c s)) == 0) (range_with_len 0 n)) count
     ∙ filter_same (λ b. uses b (cut chosen (edited v c s)) == 0) (is_free_after v c s chosen)
     (λ b. same_test (uses b (cut chosen (edited v c s))) (freed_uses v c b)
     (uses b v + supply_uses v c s b + new_pair_uses chosen (edited v c s) b)
     (uses_after ordered join v c s chosen ok pairs b) (pairs.once b))
-    (range_with_len 0 v.count)
+    (range_with_len 0 (count_after c v.count))

@@ -20,7 +20,7 @@ use Rattle.lfs_fs.specs.Volume.{Volume}
 use Rattle.lfs_fs.specs.Tree.{entry_in, entry_at, tree}
 use Rattle.lfs_fs.specs.Sound.{IsSound}
 use Rattle.lfs_command.specs.ThreadEdit.{link, unlink, add_after}
-use Rattle.lfs_command.specs.Command.{Mkdir, Put, Rm, Mv, SetAttr, RmAttr}
+use Rattle.lfs_command.specs.Command.{Mkdir, Put, Rm, Mv, SetAttr, RmAttr, Grow}
 use Rattle.lfs_command.specs.Supplies.{Supplies, new_body}
 use Rattle.lfs_command.specs.Home.{split_last, home_of}
 use Rattle.lfs_command.specs.Edited.{with_body, with_entry_attributes, renamed, new_entry, empty_directory, set_attributes, make_directory}
@@ -281,4 +281,11 @@ few_parts_change ordered v (RmAttr p k) s ok clean =
       changed_are_marked v (edited v (RmAttr p k) s),
       set_few v p (remove_attribute k) ordered ok.sound clean
           (home_of v p) refl,
+    )
+few_parts_change ordered v (Grow n) s ok clean =
+    omega (
+      arith,
+      changed_are_marked v (edited v (Grow n) s),
+      marks_touch_first v.directories,
+      unmarked (thread v.directories) clean,
     )

@@ -20,7 +20,7 @@ use Rattle.lfs_fs.proofs.ContainsLemmas.{contains_first}
 use Rattle.lfs_fs.proofs.CountLemmas.{element_le}
 use Rattle.lfs_command.specs.declared.refusal.Refusal.TheVariants.{IsRoot}
 use Rattle.lfs_command.specs.Accepted.{IsAccepted}
-use Rattle.lfs_command.specs.Command.{Command, Mkdir, Put, Rm, Mv, SetAttr, RmAttr}
+use Rattle.lfs_command.specs.Command.{Command, Mkdir, Put, Rm, Mv, SetAttr, RmAttr, Grow}
 use Rattle.lfs_command.specs.Cut.{runs, more_parts, cut}
 use Rattle.lfs_law.specs.CutWritten.{cut_links, NewPairsAreFresh, CutLinksCanBeWritten, CutLinksCanBeAdded}
 use Rattle.lfs_command.specs.DirectoryEdit.{link_in, touch_last}
@@ -126,6 +126,7 @@ edited_zero f zero' follow v (Rm path) s ok p there new = absurd (none_new v (Rm
 edited_zero f zero' follow v (Mv from to) s ok p there new = absurd (none_new v (Mv from to) s refl p there new)
 edited_zero f zero' follow v (SetAttr path k value) s ok p there new = absurd (none_new v (SetAttr path k value) s refl p there new)
 edited_zero f zero' follow v (RmAttr path k) s ok p there new = absurd (none_new v (RmAttr path k) s refl p there new)
+edited_zero f zero' follow v (Grow n) s ok p there new = absurd (none_new v (Grow n) s refl p there new)
 
 edited_fresh : CommandsFollow → (v : Volume) (c : Command) (s : Supplies) → IsAccepted v c s → (p : Part)
     → Contains (thread (edited v c s).directories) p → Fresh v p
@@ -162,11 +163,11 @@ new_pairs_are_fresh follow v c s chosen ok pairs =
 -- ---- all links
 
 pub cut_links_can_be_added : CutLinksCanBeWritten → NewPairsAreFresh → CutLinksCanBeAdded
-cut_links_can_be_added may fresh d v held c s chosen used base disk ok pairs marks rising made contents = record {
+cut_links_can_be_added may fresh d v c s chosen new used base disk len ok pairs marks rising made contents = record {
   rising = rising;
   made = made;
   once = λ n. subst (λ (bs : List ℕ). times n bs + set_uses n (cut_links v c s chosen) ≤ 1) (sym contents)
       (blocks_are_written_once v c s chosen ok pairs n);
-  may = λ l there set. may d v held c s chosen disk ok pairs l there set;
-  fresh = λ l there set new. fresh v c s chosen ok pairs l there (sym (told_so v used marks l.part.pair) ∙ new);
+  may = λ l there set. may d v c s chosen new disk len ok pairs l there set;
+  fresh = λ l there set is_new. fresh v c s chosen ok pairs l there (sym (told_so v used marks l.part.pair) ∙ is_new);
 }

@@ -8,7 +8,7 @@ use Rattle.lfs_fs.specs.Entry.{Body, Directory_at, Entry, target}
 use Rattle.lfs_fs.specs.Directory.{Part}
 use Rattle.lfs_fs.specs.Volume.{Volume}
 use Rattle.lfs_fs.specs.Tree.{entry_at}
-use Rattle.lfs_command.specs.Command.{Mkdir, Put, Rm, Mv, SetAttr, RmAttr}
+use Rattle.lfs_command.specs.Command.{Mkdir, Put, Rm, Mv, SetAttr, RmAttr, Grow}
 use Rattle.lfs_command.specs.Supplies.{new_body}
 use Rattle.lfs_command.specs.ThreadEdit.{link, unlink, drop_directory}
 use Rattle.lfs_command.specs.Home.{home_of}
@@ -68,6 +68,7 @@ commands_are_frugal v (Rm p) s = remove_kept v (home_of v p) (entry_at v p)
 commands_are_frugal v (Mv p q) s = move_kept v (home_of v p) (home_of v q) (entry_at v p)
 commands_are_frugal v (SetAttr p k value) s = set_kept v (set_attribute k value) (home_of v p)
 commands_are_frugal v (RmAttr p k) s = set_kept v (remove_attribute k) (home_of v p)
+commands_are_frugal v (Grow n) s = touch_first_kept v.directories
 
 pub cuts_are_frugal : CutsAreFrugal
 cuts_are_frugal v c s chosen = keep_twice v.directories (edited v c s).directories (cut chosen (edited v c s)).directories

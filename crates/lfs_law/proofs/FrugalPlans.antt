@@ -19,6 +19,7 @@ use Rattle.lfs_fs.specs.Uses.{times}
 use Rattle.lfs_fs.proofs.ContainsLemmas.{contains_first, contains_later, contains_mapped}
 use Rattle.lfs_command.specs.declared.refusal.Refusal.TheVariants.{EntryTooLarge, NoSpace}
 use Rattle.lfs_command.specs.Command.{Command}
+use Rattle.lfs_command.specs.Growth.{grown}
 use Rattle.lfs_command.specs.Supplies.{Supplies, nothing}
 use Rattle.lfs_command.specs.Edited.{edited}
 use Rattle.lfs_command.specs.Cut.{cut}
@@ -90,14 +91,14 @@ same_length (x ∷ xs) ys same =
 
 -- ---- there is room
 
-pub enough_free : (v : Volume) (c : Command) → verdict v c ≡ None → need v c ≤ length (free_blocks v)
+pub enough_free : (v : Volume) (c : Command) → verdict v c ≡ None → need v c ≤ length (free_blocks (grown c v))
 enough_free v c h =
     let small = first_passes (refuse_if (list_any (is_too_large (edited v c nothing)) (dirty_parts (edited v c nothing))) EntryTooLarge) _
     (checks_pass (checks v c) (room_checks v c) h) in
-    let free = first_passes (refuse_if (nat_lt (length (free_blocks v)) (need v c)) (NoSpace (need v c) (length (free_blocks v))))
+    let free = first_passes (refuse_if (nat_lt (length (free_blocks (grown c v))) (need v c)) (NoSpace (need v c) (length (free_blocks (grown c v)))))
     _ small.1 in
-    not_less (length (free_blocks v)) (need v c) (test_passes (nat_lt (length (free_blocks v)) (need v c))
-    (NoSpace (need v c) (length (free_blocks v))) free.0)
+    not_less (length (free_blocks (grown c v))) (need v c) (test_passes (nat_lt (length (free_blocks (grown c v))) (need v c))
+    (NoSpace (need v c) (length (free_blocks (grown c v)))) free.0)
   where
     not_less : (n m : ℕ) → nat_lt n m ≡ false → m ≤ n
     not_less n m is = grind (arith, nat_tests)
@@ -115,7 +116,7 @@ pub changed_named : (d : Disk) (v : Volume) (c : Command) (s : Supplies) (chosen
     (attributes : Attributes) (base cs : List Change)
     → IsAccepted v c s → AreChosen v c s chosen → TakesLeast v c s chosen → changed_blocks base ≡ content_blocks v c s
     → AreWritten d bytes attributes (is_new_to v) base (links (outlined (cut chosen (edited v c s))).directories) cs
-    → (n : ℕ) → times n (changed_blocks cs) ≡ times n (take (need v c) (free_blocks v) ++ rewritten_blocks cs v (edited v c s))
+    → (n : ℕ) → times n (changed_blocks cs) ≡ times n (take (need v c) (free_blocks (grown c v)) ++ rewritten_blocks cs v (edited v c s))
 changed_named d v c s chosen bytes attributes base cs ok pairs least contents written n =
     omega (
       arith,
@@ -124,22 +125,22 @@ changed_named d v c s chosen bytes attributes base cs ok pairs least contents wr
       ap (times n) (blocks_outlined cs (is_new_to v) (cut chosen (edited v c s))),
       blocks_are_taken cs v c s chosen ok pairs n,
       least n,
-      times_append n (take (need v c) (free_blocks v)) (rewritten_blocks cs v (edited v c s)),
+      times_append n (take (need v c) (free_blocks (grown c v))) (rewritten_blocks cs v (edited v c s)),
     )
 
 pub plans_are_frugal : PlansAreFrugal
-plans_are_frugal d v held c s chosen base p ok pairs least contents writes =
+plans_are_frugal d v c s chosen old new base p ok pairs least contents writes =
     let w : Volume = edited v c s in
     let numbers : List ℕ = changed_blocks p.changes in
-    let taken : List ℕ = take (need v c) (free_blocks v) in
-    let old : List ℕ = rewritten_blocks p.changes v w in
-    let named = changed_named d v c s chosen held.bytes (cut chosen w).attributes base p.changes ok pairs least contents writes.written in
-    let len : length numbers ≡ length (taken ++ old) = same_length numbers (taken ++ old) named in
-    let many : length old ≡ length (changed_parts v w) = length-map (changed_parts v w) (λ (q : Part). number_in p.changes q.pair) in
-    let all : length taken ≡ need v c = length-take-le (need v c) (free_blocks v) (enough_free v c ok.unrefused) in
+    let taken : List ℕ = take (need v c) (free_blocks (grown c v)) in
+    let rewritten : List ℕ = rewritten_blocks p.changes v w in
+    let named = changed_named d v c s chosen new (cut chosen w).attributes base p.changes ok pairs least contents writes.written in
+    let len : length numbers ≡ length (taken ++ rewritten) = same_length numbers (taken ++ rewritten) named in
+    let many : length rewritten ≡ length (changed_parts v w) = length-map (changed_parts v w) (λ (q : Part). number_in p.changes q.pair) in
+    let all : length taken ≡ need v c = length-take-le (need v c) (free_blocks (grown c v)) (enough_free v c ok.unrefused) in
     record {
       free = All-weaker (Contains taken) (Contains numbers) (λ n there. times_contains n numbers
-          (omega (arith, named n, times_append n taken old, times_there n taken there)))
+          (omega (arith, named n, times_append n taken rewritten, times_there n taken there)))
           taken (All-contains_itself taken);
       changed = All-weaker (Contains (changed_parts v w)) (HasOneOf numbers)
           (λ q there. one_of p.changes q numbers
@@ -147,9 +148,9 @@ plans_are_frugal d v held c s chosen base p ok pairs least contents writes =
           (omega (
             arith,
             named (number_in p.changes q.pair),
-            times_append (number_in p.changes q.pair) taken old,
-            times_there (number_in p.changes q.pair) old (contains_mapped (λ (x : Part). number_in p.changes x.pair) (changed_parts v w) q there),
+            times_append (number_in p.changes q.pair) taken rewritten,
+            times_there (number_in p.changes q.pair) rewritten (contains_mapped (λ (x : Part). number_in p.changes x.pair) (changed_parts v w) q there),
           ))))
           (changed_parts v w) (All-contains_itself (changed_parts v w));
-      len = omega (arith, len, length-append taken old, many, all);
+      len = omega (arith, len, length-append taken rewritten, many, all);
     }

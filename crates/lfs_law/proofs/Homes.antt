@@ -1,5 +1,5 @@
 -- Where the last name of a path belongs to, where no check refuses.
-use Rattle.std.proofs.Common.{◌≡◌, Bool, true, false, List, [], ◌∷◌, ◌++◌, refl, ap, sym, subst, append_assoc, append-nil, length, Option}
+use Rattle.std.proofs.Common.{◌≡◌, not, Bool, true, false, List, [], ◌∷◌, ◌++◌, refl, ap, sym, subst, append_assoc, append-nil, length, Option}
 use Rattle.std.proofs.Common.{Some, None}
 use Rattle.std.specs.Prelude.{All}
 use Rattle.std.specs.Option.{option_map}
@@ -27,6 +27,10 @@ first_passes (Some r) rs h = cc
 pub test_passes : (t : Bool) (r : Refusal) → refuse_if t r ≡ None → t ≡ false
 test_passes false r h = refl
 test_passes true r h = cc
+
+pub not_false : (t : Bool) → not t ≡ false → t ≡ true
+not_false true h = refl
+not_false false h = cc
 
 -- ---- walks
 

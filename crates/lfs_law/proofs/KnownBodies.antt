@@ -17,7 +17,7 @@ use Rattle.lfs_fs.specs.Thread.{Link, links}
 use Rattle.lfs_fs.proofs.EntryAtLemmas.{step_some}
 use Rattle.lfs_command.specs.DirectoryEdit.{link_in, unlink_in, change_in, touch_last, absorb}
 use Rattle.lfs_command.specs.ThreadEdit.{link, unlink, change, add_after, take_out, drop_directory, touch_first}
-use Rattle.lfs_command.specs.Command.{Command, Mkdir, Put, Rm, Mv, SetAttr, RmAttr}
+use Rattle.lfs_command.specs.Command.{Command, Mkdir, Put, Rm, Mv, SetAttr, RmAttr, Grow}
 use Rattle.lfs_command.specs.Supplies.{Supplies, new_body}
 use Rattle.lfs_command.specs.Home.{home_of}
 use Rattle.lfs_command.specs.Edited.{with_body, with_entry_attributes, renamed, new_entry, empty_directory, set_attributes, make_directory}
@@ -169,6 +169,7 @@ OfNew P v (Rm p) s = Unit {0}
 OfNew P v (Mv p q) s = Unit {0}
 OfNew P v (SetAttr p k value) s = Unit {0}
 OfNew P v (RmAttr p k) s = Unit {0}
+OfNew P v (Grow n) s = Unit {0}
 
 pub edited_bodies : (P : Body → Type 0) (v : Volume) (c : Command) (s : Supplies) → ((pair : Pair) → P (Directory_at pair)) → OfNew P v c s
     → Bodies P v.directories
@@ -180,6 +181,7 @@ edited_bodies P v (Mv p q) s leads new all = move_bodies P v (home_of v p) (home
     (λ e at. body_at P v p e (leads root) all at) all
 edited_bodies P v (SetAttr p k value) s leads new all = set_bodies P v (set_attribute k value) (home_of v p) all
 edited_bodies P v (RmAttr p k) s leads new all = set_bodies P v (remove_attribute k) (home_of v p) all
+edited_bodies P v (Grow n) s leads new all = set_bodies P v (λ a. a) None all
 
 pub cut_bodies : RunsJoin Entry → (P : Body → Type 0) (chosen : Part → List Pair) (w : Volume)
     → All (HasEnough chosen w) (thread w.directories) → Bodies P w.directories

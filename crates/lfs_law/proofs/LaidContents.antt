@@ -15,7 +15,7 @@ use Rattle.lfs_fs.specs.Entry.{Inline, Chain}
 use Rattle.lfs_fs.specs.Uses.{times}
 use Rattle.lfs_fs.specs.Reading.{reading_of}
 use Rattle.lfs_fs.proofs.ContainsLemmas.{contains_first, contains_later}
-use Rattle.lfs_command.specs.Command.{Mkdir, Put, Rm, Mv, SetAttr, RmAttr}
+use Rattle.lfs_command.specs.Command.{Mkdir, Put, Rm, Mv, SetAttr, RmAttr, Grow}
 use Rattle.lfs_command.specs.Supplies.{most_inline, supply_uses}
 use Rattle.lfs_law.specs.WrittenLinks.{changed_blocks, block_after}
 use Rattle.lfs_law.specs.OutlineLaws.{IsThere}
@@ -56,19 +56,21 @@ body_by d e bytes blocks true there = tt
 body_by d e bytes blocks false there = there refl
 
 pub laid_are_there : LaidIsFound → LaidIsContent → KeptIsDisk → KeptBlocks → LaidAreThere
-laid_are_there found content kept_disk kept_blocks d v held (Mkdir path) s chosen is_new base p disk patch stands keeps free named
+laid_are_there found content kept_disk kept_blocks d v (Mkdir path) s chosen new is_new base p disk patch stands keeps free named
     lays written = tt
-laid_are_there found content kept_disk kept_blocks d v held (Rm path) s chosen is_new base p disk patch stands keeps free named
+laid_are_there found content kept_disk kept_blocks d v (Rm path) s chosen new is_new base p disk patch stands keeps free named
     lays written = tt
-laid_are_there found content kept_disk kept_blocks d v held (Mv from to) s chosen is_new base p disk patch stands keeps free named
+laid_are_there found content kept_disk kept_blocks d v (Mv from to) s chosen new is_new base p disk patch stands keeps free named
     lays written = tt
-laid_are_there found content kept_disk kept_blocks d v held (SetAttr path k value) s chosen is_new base p disk patch stands keeps free named
+laid_are_there found content kept_disk kept_blocks d v (SetAttr path k value) s chosen new is_new base p disk patch stands keeps free named
     lays written = tt
-laid_are_there found content kept_disk kept_blocks d v held (RmAttr path k) s chosen is_new base p disk patch stands keeps free named
+laid_are_there found content kept_disk kept_blocks d v (RmAttr path k) s chosen new is_new base p disk patch stands keeps free named
     lays written = tt
-laid_are_there found content kept_disk kept_blocks d v held (Put path bytes) s chosen is_new base p disk patch stands keeps free named
+laid_are_there found content kept_disk kept_blocks d v (Grow n) s chosen new is_new base p disk patch stands keeps free named
+    lays written = tt
+laid_are_there found content kept_disk kept_blocks d v (Put path bytes) s chosen new is_new base p disk patch stands keeps free named
     lays written =
-    let after = kept_disk p d disk patch stands keeps in
+    let after = kept_disk p d disk.disk patch stands keeps in
     body_by d (applied p d) bytes s.blocks (nat_le (length bytes) (most_inline v.size))
     (λ chain.
     let blocks_are : content_blocks v (Put path bytes) s ≡ s.blocks = ap (λ (t : Bool). if t then [] else s.blocks) chain in
@@ -82,5 +84,5 @@ laid_are_there found content kept_disk kept_blocks d v held (Put path bytes) s c
       times_there n s.blocks there,
       ap (times n) blocks_are,
     ) in
-    omega (arith, free.within n taken, after.count, held.count))
-    (λ n there. kept_blocks p d n disk patch stands keeps ∙ written.kept n (some n there)))
+    omega (arith, free.within n taken, after.count, disk.count))
+    (λ n there. kept_blocks p d n disk.disk patch stands keeps ∙ written.kept n (some n there)))

@@ -14,7 +14,7 @@ use Rattle.lfs_fs.specs.Volume.{Volume}
 use Rattle.lfs_fs.specs.Tree.{entry_at}
 use Rattle.lfs_command.specs.DirectoryEdit.{link_in, change_in, touch_last}
 use Rattle.lfs_command.specs.ThreadEdit.{link, change, add_after}
-use Rattle.lfs_command.specs.Command.{Mkdir, Put, Rm, Mv, SetAttr, RmAttr}
+use Rattle.lfs_command.specs.Command.{Mkdir, Put, Rm, Mv, SetAttr, RmAttr, Grow}
 use Rattle.lfs_command.specs.Supplies.{nothing, new_body}
 use Rattle.lfs_command.specs.Home.{home_of}
 use Rattle.lfs_command.specs.Edited.{with_directories, with_body, new_entry, empty_directory, make_directory, put_file}
@@ -147,3 +147,4 @@ large_is_the_same v (Rm p) s other = refl
 large_is_the_same v (Mv p q) s other = refl
 large_is_the_same v (SetAttr p k value) s other = refl
 large_is_the_same v (RmAttr p k) s other = refl
+large_is_the_same v (Grow n) s other = refl

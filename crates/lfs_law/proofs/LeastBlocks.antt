@@ -9,7 +9,8 @@ use Rattle.lfs_fs.specs.Volume.{Volume}
 use Rattle.lfs_fs.specs.Free.{free_blocks}
 use Rattle.lfs_fs.specs.Uses.{times, uses}
 use Rattle.lfs_fs.proofs.CountLemmas.{element_le}
-use Rattle.lfs_command.specs.Command.{Command, Mkdir, Put, Rm, Mv, SetAttr, RmAttr}
+use Rattle.lfs_command.specs.Command.{Command, Mkdir, Put, Rm, Mv, SetAttr, RmAttr, Grow}
+use Rattle.lfs_command.specs.Growth.{count_after, grown}
 use Rattle.lfs_command.specs.Supplies.{Supplies, supply_uses}
 use Rattle.lfs_command.specs.Edited.{edited}
 use Rattle.lfs_command.specs.Cut.{new_pair_uses}
@@ -34,13 +35,13 @@ least_are_free v c s chosen sound least = (
   λ b some. within b (omega (arith, some, least b)),
 )
   where
-    within : (b : ℕ) → 1 ≤ times b (take (need v c) (free_blocks v)) → b < v.count
-    within b some = (taken_free v (need v c) b some).1
+    within : (b : ℕ) → 1 ≤ times b (take (need v c) (free_blocks (grown c v))) → b < count_after c v.count
+    within b some = (taken_free (grown c v) (need v c) b some).1
 
     once : (b : ℕ) → uses b v + supply_uses v c s b + new_pair_uses chosen (edited v c s) b ≤ 1
-    once b = elim (none_or_some (times b (take (need v c) (free_blocks v)))) [
+    once b = elim (none_or_some (times b (take (need v c) (free_blocks (grown c v))))) [
       | inl none ↦ omega (arith, none, least b, sound.once b)
-      | inr some ↦ omega (arith, least b, taken_once v (need v c) b, (taken_free v (need v c) b some).0)
+      | inr some ↦ omega (arith, least b, taken_once (grown c v) (need v c) b, (taken_free (grown c v) (need v c) b some).0)
     ]
 
 -- ---- new pairs
@@ -68,6 +69,7 @@ none_made_by v (Rm p) s = refl
 none_made_by v (Mv p q) s = refl
 none_made_by v (SetAttr p k value) s = refl
 none_made_by v (RmAttr p k) s = refl
+none_made_by v (Grow n) s = refl
 
 -- a new pair is that of the supplies
 pub new_is_supplied : (v : Volume) (c : Command) (s : Supplies) (p : Part) → Contains (thread (edited v c s).directories) p

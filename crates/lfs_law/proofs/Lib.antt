@@ -29,6 +29,9 @@ pub mod PutFollows
 pub mod MkdirFollows
 pub mod RmFollows
 pub mod MvFollows
+pub mod Carries
+pub mod CountsGrow
+pub mod GrowFollows
 pub mod CommandsFollow
 pub mod CutsFollow
 pub mod Frugal
@@ -36,6 +39,7 @@ pub mod Cleans
 pub mod Needs
 pub mod FewParts
 pub mod WrittenLemmas
+pub mod LengthenedHeld
 pub mod ChangesAt
 pub mod KeptPatches
 pub mod BlockLemmas

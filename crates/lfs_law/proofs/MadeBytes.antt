@@ -1,8 +1,9 @@
 -- The superblock of an image that holds a volume is the one that is made of the volume's size, count and limits.
-use Rattle.std.proofs.Common.{◌≡◌, ℕ, ◌<◌, List, [], ◌∷◌, ◌++◌, take, drop, ap, sym, ◌∙◌, subst, arith}
+use Rattle.std.proofs.Common.{◌≡◌, ℕ, ◌<◌, List, [], ◌∷◌, ◌++◌, take, drop, refl, ap, sym, ◌∙◌, subst, arith}
 use Rattle.std.specs.Prelude.{All}
 use Rattle.std.specs.Int.{w32, from_le_bytes}
 use Rattle.std.proofs.lemmas.List.{drop-drop}
+use Rattle.std.proofs.lemmas.Nat.{from_le_bytes-to_le_bytes_4}
 use Rattle.std.proofs.lemmas.List.Elements.{All-head}
 use Rattle.lfs_block.specs.Bytes.{IsBytes}
 use Rattle.lfs_block.specs.Disk.{Disk, IsDisk}
@@ -17,10 +18,10 @@ use Rattle.lfs_fs.specs.Pair.{root}
 use Rattle.lfs_fs.specs.Reading.{Reading, reading_of}
 use Rattle.lfs_fs.specs.Sound.{StartsAtRoot}
 use Rattle.lfs_fs.specs.Stored.{IsStored, stored_before, SaysVolume}
-use Rattle.lfs_fs.specs.Superblock.{superblock_entry}
+use Rattle.lfs_fs.specs.Superblock.{IsLimits, header_of, superblock_entry, word_at}
 use Rattle.lfs_fs.specs.Thread.{Link, links_of, links, tail_to, hard_to}
 use Rattle.lfs_fs.specs.Volume.{Volume}
-use Rattle.lfs_law.specs.CutWritten.{HeldBytesAreMade}
+use Rattle.lfs_law.specs.CutWritten.{HeldBytesAreMade, MadeBytesSay}
 use Rattle.lfs_law.specs.SuperblockBytes.{superblock_words, volume_bytes}
 use Rattle.lfs_law.proofs.HeldBytes.{StoredHas, held_have, Spell, spelled}
 
@@ -90,3 +91,32 @@ held_bytes_are_made read logs d v held disk sound =
     spelled (superblock_words v.size v.count v.limits) held.bytes held.superblock.len
     (bytes_of read logs d disk held.bytes v.attributes v.directories sound.starts held.each)
     (spells v held.bytes held.superblock)
+
+-- ---- what it says
+
+abbrev limits_of : ℕ → ℕ → ℕ → Limits
+limits_of name file attribute = record { name = name; file = file; attribute = attribute }
+
+limits_said : (v : Volume) → IsLimits v.limits → v.limits ≡ (header_of (volume_bytes v) []).limits
+unfolding volume_bytes
+limits_said v fit =
+    let name : word_at (volume_bytes v) 3 ≡ v.limits.name = from_le_bytes-to_le_bytes_4 v.limits.name (omega (arith, fit.name.1)) in
+    let file : word_at (volume_bytes v) 4 ≡ v.limits.file = from_le_bytes-to_le_bytes_4 v.limits.file (omega (arith, fit.file.1)) in
+    let attribute : word_at (volume_bytes v) 5 ≡ v.limits.attribute =
+    from_le_bytes-to_le_bytes_4 v.limits.attribute (omega (arith, fit.attribute.1)) in
+    ap (λ (n : ℕ). limits_of n v.limits.file v.limits.attribute) (sym name)
+    ∙ ap (λ (n : ℕ). limits_of (word_at (volume_bytes v) 3) n v.limits.attribute) (sym file)
+    ∙ ap (limits_of (word_at (volume_bytes v) 3) (word_at (volume_bytes v) 4)) (sym attribute)
+
+pub made_bytes_say : MadeBytesSay
+unfolding volume_bytes
+made_bytes_say v size count fit = record {
+  len = refl;
+  header = record {
+    version = refl;
+    size_is = from_le_bytes-to_le_bytes_4 v.size size;
+    count_is = from_le_bytes-to_le_bytes_4 v.count count;
+    limits = subst IsLimits (limits_said v fit) fit;
+  };
+  limits = limits_said v fit;
+}

@@ -25,7 +25,7 @@ use Rattle.lfs_fs.proofs.CountLemmas.{element_le}
 use Rattle.lfs_command.specs.declared.refusal.Refusal.TheVariants.{IsRoot}
 use Rattle.lfs_command.specs.DirectoryEdit.{link_in, touch_last}
 use Rattle.lfs_command.specs.ThreadEdit.{link, add_after}
-use Rattle.lfs_command.specs.Command.{Command, Mkdir, Put, Rm, Mv, SetAttr, RmAttr}
+use Rattle.lfs_command.specs.Command.{Command, Mkdir, Put, Rm, Mv, SetAttr, RmAttr, Grow}
 use Rattle.lfs_command.specs.Supplies.{Supplies, most_inline, supply_uses}
 use Rattle.lfs_command.specs.Home.{home_of}
 use Rattle.lfs_command.specs.Edited.{new_entry, empty_directory, make_directory, edited}
@@ -193,6 +193,7 @@ supplies_taken v (Rm p) s n ok = omega (arith, none_set v (Rm p) s n refl)
 supplies_taken v (Mv p q) s n ok = omega (arith, none_set v (Mv p q) s n refl)
 supplies_taken v (SetAttr p k value) s n ok = omega (arith, none_set v (SetAttr p k value) s n refl)
 supplies_taken v (RmAttr p k) s n ok = omega (arith, none_set v (RmAttr p k) s n refl)
+supplies_taken v (Grow m) s n ok = omega (arith, none_set v (Grow m) s n refl)
 
 -- ---- parts that are cut
 
@@ -322,6 +323,7 @@ supplies_once v (Rm p) s n = refl
 supplies_once v (Mv p q) s n = refl
 supplies_once v (SetAttr p k value) s n = refl
 supplies_once v (RmAttr p k) s n = refl
+supplies_once v (Grow m) s n = refl
 
 pub blocks_are_written_once : BlocksAreWrittenOnce
 blocks_are_written_once v c s chosen ok pairs n =

@@ -22,7 +22,7 @@ use Rattle.lfs_fs.specs.Tree.{entry_at}
 use Rattle.lfs_command.specs.EntryEdit.{place, changed}
 use Rattle.lfs_command.specs.DirectoryEdit.{touch, has_name, change_in, behind, link_parts, link_in, touch_last_of, touch_last}
 use Rattle.lfs_command.specs.ThreadEdit.{in_directory, link, change, add_after}
-use Rattle.lfs_command.specs.Command.{Command, Mkdir, Put, Rm, Mv, SetAttr, RmAttr}
+use Rattle.lfs_command.specs.Command.{Command, Mkdir, Put, Rm, Mv, SetAttr, RmAttr, Grow}
 use Rattle.lfs_command.specs.Supplies.{Supplies, nothing, most_inline, new_body}
 use Rattle.lfs_command.specs.Home.{home_of}
 use Rattle.lfs_command.specs.Edited.{with_directories, with_body, new_entry, empty_directory, make_directory, put_file, edited}
@@ -334,6 +334,7 @@ edited_need follow v (Rm p) s = refl
 edited_need follow v (Mv p q) s = refl
 edited_need follow v (SetAttr p k value) s = refl
 edited_need follow v (RmAttr p k) s = refl
+edited_need follow v (Grow n) s = refl
 
 pub need_is_the_same : RunsFollowWeights Entry ℕ → NeedIsTheSame
 need_is_the_same follow v c s = ap (λ (n : ℕ). data_blocks v c + directory_blocks c + n) (edited_need follow v c s)

@@ -25,7 +25,7 @@ use Rattle.lfs_command.specs.EntryEdit.{place, without, changed}
 use Rattle.lfs_command.specs.DirectoryEdit.{touch, has_name, unlink_in, change_in, behind, link_parts, link_in, touch_last_of, touch_last}
 use Rattle.lfs_command.specs.DirectoryEdit.{absorb_in, absorb, taking_up}
 use Rattle.lfs_command.specs.ThreadEdit.{in_directory, link, unlink, change, add_after, take_out, touch_first}
-use Rattle.lfs_command.specs.Command.{Command, Mkdir, Put, Rm, Mv, SetAttr, RmAttr}
+use Rattle.lfs_command.specs.Command.{Command, Mkdir, Put, Rm, Mv, SetAttr, RmAttr, Grow}
 use Rattle.lfs_command.specs.Supplies.{nothing, most_inline, new_body}
 use Rattle.lfs_command.specs.Home.{home_of}
 use Rattle.lfs_command.specs.Edited.{with_body, with_entry_attributes, renamed, new_entry, empty_directory, set_attributes, make_directory}
@@ -39,7 +39,7 @@ use Rattle.lfs_command.specs.Verdict.{refuse_if, first_refusal, checks, walk_ref
 use Rattle.lfs_law.proofs.EntriesThere.{stands_at_home}
 use Rattle.lfs_law.proofs.FewParts.{home_once, unmarked, set_few, put_few, remove_few, move_few}
 use Rattle.lfs_law.proofs.Homes.{first_passes, test_passes}
-use Rattle.lfs_law.proofs.Marks.{marks, marks_link, marks_add_after}
+use Rattle.lfs_law.proofs.Marks.{marks, marks_link, marks_add_after, marks_touch_first}
 use Rattle.lfs_law.proofs.RunCounts.{length_by}
 
 -- ---- runs
@@ -324,6 +324,7 @@ edited_entries m v (Rm p) few = remove_entries m v (home_of v p) (entry_at v p) 
 edited_entries m v (Mv p q) few = move_entries m v (home_of v p) (home_of v q) (entry_at v p) few
 edited_entries m v (SetAttr p k value) few = set_entries m v (set_attribute k value) (home_of v p) few
 edited_entries m v (RmAttr p k) few = set_entries m v (remove_attribute k) (home_of v p) few
+edited_entries m v (Grow n) few = set_entries m v (λ a. a) None few
 
 -- a new directory's part is the third one
 make_marks : (v : Volume) (p : Path) (pair : Pair) → IsSound v → IsClean v → (h : Option (Pair × Name)) → home_of v p ≡ h
@@ -359,6 +360,7 @@ edited_marks ordered v (SetAttr p k value) sound clean = omega (
   set_few v p (set_attribute k value) ordered sound clean (home_of v p) refl,
 )
 edited_marks ordered v (RmAttr p k) sound clean = omega (arith, set_few v p (remove_attribute k) ordered sound clean (home_of v p) refl)
+edited_marks ordered v (Grow n) sound clean = omega (arith, marks_touch_first v.directories, unmarked (thread v.directories) clean)
 
 -- ---- the sum
 
@@ -386,6 +388,7 @@ data_few v (Rm p) limits passes = omega arith
 data_few v (Mv p q) limits passes = omega arith
 data_few v (SetAttr p k value) limits passes = omega arith
 data_few v (RmAttr p k) limits passes = omega arith
+data_few v (Grow n) limits passes = omega arith
 
 directory_few : (c : Command) → directory_blocks c ≤ 2
 directory_few (Mkdir p) = omega arith
@@ -394,6 +397,7 @@ directory_few (Rm p) = omega arith
 directory_few (Mv p q) = omega arith
 directory_few (SetAttr p k value) = omega arith
 directory_few (RmAttr p k) = omega arith
+directory_few (Grow n) = omega arith
 
 pub needs_are_small : NamesAreOrdered → NeedsAreSmall
 needs_are_small ordered v c sound clean limits few passes =

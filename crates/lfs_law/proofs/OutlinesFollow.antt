@@ -12,7 +12,7 @@ use Rattle.lfs_fs.specs.Tree.{entry_in, entry_at}
 use Rattle.lfs_fs.specs.Outlined.{outlined_body, outlined_entry, outlined_directories, outlined}
 use Rattle.lfs_fs.proofs.OutlinedLemmas.{outlined_target, outlined_at}
 use Rattle.lfs_command.specs.ThreadEdit.{link, unlink, change, add_after}
-use Rattle.lfs_command.specs.Command.{Mkdir, Put, Rm, Mv, SetAttr, RmAttr}
+use Rattle.lfs_command.specs.Command.{Mkdir, Put, Rm, Mv, SetAttr, RmAttr, Grow}
 use Rattle.lfs_command.specs.Supplies.{new_body}
 use Rattle.lfs_command.specs.Home.{split_last, home_of}
 use Rattle.lfs_command.specs.Edited.{with_directories, with_body, with_entry_attributes, renamed, new_entry, empty_directory}
@@ -144,3 +144,6 @@ outlines_follow v (SetAttr p k value) s = set_outlined v (set_attribute k value)
     ∙ ap (set_attributes (outlined v) (set_attribute k value)) (sym (home_outlined v p))
 outlines_follow v (RmAttr p k) s = set_outlined v (remove_attribute k) (home_of v p)
     ∙ ap (set_attributes (outlined v) (remove_attribute k)) (sym (home_outlined v p))
+outlines_follow v (Grow n) s =
+    ap (λ (ds : List Directory). record { size = v.size; count = n; limits = v.limits; attributes = v.attributes; directories = ds })
+    (sym (touch_first_outlined v.directories))

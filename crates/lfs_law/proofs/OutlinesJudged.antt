@@ -19,7 +19,8 @@ use Rattle.lfs_fs.proofs.OutlinedLemmas.{directory_uses_same, outlined_free, out
 use Rattle.lfs_command.specs.declared.refusal.Refusal.{Refusal}
 use Rattle.lfs_command.specs.declared.refusal.Refusal.TheVariants.{NotFound, Exists, IsADirectory, NotEmpty, NameTooLong, NoAttr}
 use Rattle.lfs_command.specs.declared.refusal.Refusal.TheVariants.{IntoItself, IsRoot, EntryTooLarge, NoSpace}
-use Rattle.lfs_command.specs.Command.{Command, Mkdir, Put, Rm, Mv, SetAttr, RmAttr}
+use Rattle.lfs_command.specs.Command.{Command, Mkdir, Put, Rm, Mv, SetAttr, RmAttr, Grow}
+use Rattle.lfs_command.specs.Growth.{grown}
 use Rattle.lfs_command.specs.Supplies.{Supplies, nothing}
 use Rattle.lfs_command.specs.Edited.{edited}
 use Rattle.lfs_law.specs.EditedOutline.{edited_outline}
@@ -136,6 +137,7 @@ checks_same v (RmAttr p k) =
     (test_same (is_none (tree (outlined v) p)) (is_none (tree v p)) NotFound _ _ (none_same v p)
     (test_same (not (has_attribute k (tree (outlined v) p))) (not (has_attribute k (tree v p))) NoAttr _ _
     (ap not (shown (has_attribute k) (attribute_sees k) v p)) refl))
+checks_same v (Grow n) = refl
 
 -- ---- room
 
@@ -170,6 +172,7 @@ data_same v (Rm p) = refl
 data_same v (Mv p q) = refl
 data_same v (SetAttr p k value) = refl
 data_same v (RmAttr p k) = refl
+data_same v (Grow n) = refl
 
 need_same : (v : Volume) (c : Command) → need (outlined v) c ≡ need v c
 unfolding blocks_of
@@ -187,8 +190,8 @@ unfolding large_of
 room_same v c =
     test_same (large_of (edited (outlined v) c nothing)) (large_of (edited v c nothing)) EntryTooLarge _ _
     (large_same (edited (outlined v) c nothing) (edited v c nothing) (edited_same v c nothing))
-    (space_same (length (free_blocks (outlined v))) (length (free_blocks v)) (need (outlined v) c) (need v c) (ap length (outlined_free v))
-    (need_same v c))
+    (space_same (length (free_blocks (grown c (outlined v)))) (length (free_blocks (grown c v))) (need (outlined v) c) (need v c)
+    (ap length (outlined_free (grown c v))) (need_same v c))
 
 -- ---- what is freed
 
@@ -227,6 +230,7 @@ freed_same v (Rm p) b = ap (λ (n : ℕ). n + target_uses (outlined v) p b) (con
 freed_same v (Mv p q) b = refl
 freed_same v (SetAttr p k value) b = refl
 freed_same v (RmAttr p k) b = refl
+freed_same v (Grow n) b = refl
 
 pub outlines_are_judged_alike : OutlinesAreJudgedAlike
 outlines_are_judged_alike v c = record {

@@ -25,7 +25,7 @@ use Rattle.lfs_fs.specs.Volume.{Volume}
 use Rattle.lfs_fs.specs.Thread.{Link, links_of, links, tail_to, hard_to}
 use Rattle.lfs_fs.specs.Uses.{times, pair_uses}
 use Rattle.lfs_fs.specs.Reading.{Reading, reading_of}
-use Rattle.lfs_fs.specs.Stored.{BodyStands, StandsFor, IsStored, HoldsLinks}
+use Rattle.lfs_fs.specs.Stored.{BodyStands, StandsFor, IsStored}
 use Rattle.lfs_fs.proofs.ContainsLemmas.{contains_first, contains_later, contains_mapped}
 use Rattle.lfs_command.specs.Need.{is_new_to}
 use Rattle.lfs_command.specs.PairChanged.{beside, is_cut_by, pair_number}
@@ -143,24 +143,24 @@ entries_stand r (e ∷ es) there = (
 )
 
 -- what the pair of a link holds in the patched image
-read_after : KeptBlocks → (d : Disk) (v w : Volume) (held : HoldsLinks (reading_of d) v) (is_new : Pair → Bool) (base : List Change)
+read_after : KeptBlocks → (d : Disk) (v w : Volume) (old new : List ℕ) (is_new : Pair → Bool) (base : List Change)
     (p : ChangeSet)
-    → WritesOutline d v w held is_new base p → (pair : Pair)
+    → WritesOutline d v w old new is_new base p → (pair : Pair)
     → stored_part_of (applied p d) pair ≡ part_in (block_after d p.changes pair.0) (block_after d p.changes pair.1)
-read_after blocks d v w held is_new base p writes pair =
+read_after blocks d v w old new is_new base p writes pair =
     ap (λ (b : List ℕ). part_in b (block_of (applied p d) pair.1)) (blocks p d pair.0 writes.disk writes.patch writes.stands writes.keeps)
     ∙ ap (part_in (block_after d p.changes pair.0)) (blocks p d pair.1 writes.disk writes.patch writes.stands writes.keeps)
 
-link_stored : KeptBlocks → (d : Disk) (v w : Volume) (held : HoldsLinks (reading_of d) v) (is_new : Pair → Bool) (base : List Change)
-    (p : ChangeSet) → WritesOutline d v w held is_new base p
+link_stored : KeptBlocks → (d : Disk) (v w : Volume) (old new : List ℕ) (is_new : Pair → Bool) (base : List Change)
+    (p : ChangeSet) → WritesOutline d v w old new is_new base p
     → (l : Link) → Contains (links w.directories) l → l.part.dirty ≡ true
-    → IsStored (reading_of (applied p d)) held.bytes w.attributes (cleaned_link l)
-link_stored blocks d v w held is_new base p writes l there set =
-    let made : MakesLink d held.bytes w.attributes is_new p.changes (outlined_link l) =
+    → IsStored (reading_of (applied p d)) new w.attributes (cleaned_link l)
+link_stored blocks d v w old new is_new base p writes l there set =
+    let made : MakesLink d new w.attributes is_new p.changes (outlined_link l) =
     writes.written.makes (outlined_link l) (outline_there w l there) set in
     record {
-      stored = link_part held.bytes w.attributes (outlined_link l) made.delta;
-      read = read_after blocks d v w held is_new base p writes l.part.pair ∙ made.part;
+      stored = link_part new w.attributes (outlined_link l) made.delta;
+      read = read_after blocks d v w old new is_new base p writes l.part.pair ∙ made.part;
       others = map stored_entry (outlined_entries l.part.entries);
       entries = refl;
       stands = entries_stand (reading_of (applied p d)) l.part.entries (writes.there l there);
@@ -170,7 +170,7 @@ link_stored blocks d v w held is_new base p writes l there set =
     }
 
 pub outlines_are_written : KeptIsDisk → KeptBlocks → OutlinesAreWritten
-outlines_are_written disk blocks d v w held is_new base p writes =
+outlines_are_written disk blocks d v w old new is_new base p writes =
     let after = disk p d writes.disk writes.patch writes.stands writes.keeps in
     record {
       old_disk = writes.disk;
@@ -188,8 +188,8 @@ outlines_are_written disk blocks d v w held is_new base p writes =
             ap (times n) (blocks_outlined p.changes is_new w),
           ) in
           blocks p d n writes.disk writes.patch writes.stands writes.keeps ∙ overlaid_none p.changes n (block_of d n) (none_named n p.changes unnamed);
-      written = link_stored blocks d v w held is_new base p writes;
-      attributes = writes.attributes;
+      written = link_stored blocks d v w old new is_new base p writes;
+      superblock = writes.superblock;
     }
 
 -- what holds of the parts of links holds of parts
@@ -197,7 +197,7 @@ of_links : (P : Part → Type 0) (ls : List Link) → ((l : Link) → Contains l
 of_links P ls each = All-map P (λ (l : Link). l.part) ls (All-weaker (Contains ls) (λ (l : Link). P l.part) each ls (All-contains_itself ls))
 
 pub new_pairs_are_filled : KeptIsDisk → KeptBlocks → NewPairsAreFilled
-new_pairs_are_filled disk blocks d v w held base p writes q there = All-contains Filled (thread w.directories) q
+new_pairs_are_filled disk blocks d v w old new base p writes q there = All-contains Filled (thread w.directories) q
     (subst (All Filled) (parts_of_links w.directories) (of_links Filled (links w.directories) of_link)) there
   where
     Filled : Part → Type 0
@@ -205,10 +205,10 @@ new_pairs_are_filled disk blocks d v w held base p writes q there = All-contains
         → FirstIsFilled (applied p d).size (block_of (applied p d) x.pair.0) (block_of (applied p d) x.pair.1)
 
     of_link : (l : Link) → Contains (links w.directories) l → Filled l.part
-    of_link l inside set new =
-        let made : MakesLink d held.bytes w.attributes (is_new_to v) p.changes (outlined_link l) =
+    of_link l inside set is_new =
+        let made : MakesLink d new w.attributes (is_new_to v) p.changes (outlined_link l) =
         writes.written.makes (outlined_link l) (outline_there w l inside) set in
-        let first : FillsFirst d p.changes l.part.pair = made.filled new in
+        let first : FillsFirst d p.changes l.part.pair = made.filled is_new in
         record {
           revised = ap revision (blocks p d l.part.pair.0 writes.disk writes.patch writes.stands writes.keeps) ∙ first.revised;
           erased = blocks p d l.part.pair.1 writes.disk writes.patch writes.stands writes.keeps ∙ first.erased
@@ -216,13 +216,13 @@ new_pairs_are_filled disk blocks d v w held base p writes q there = All-contains
         }
 
 pub pairs_are_changed : KeptBlocks → PairsAreChanged
-pairs_are_changed blocks d v w held base p forced writes changed l there set old =
+pairs_are_changed blocks d v w old new base p forced writes changed l there set stands =
     let is_cut : Bool = is_cut_by (is_new_to v) l.tail in
-    let written : IsPairWritten d is_cut forced l.part.pair p.changes = changed (outlined_link l) (outline_there w l there) set old in
+    let written : IsPairWritten d is_cut forced l.part.pair p.changes = changed (outlined_link l) (outline_there w l there) set stands in
     let n : ℕ = pair_number d is_cut forced l.part.pair written.part in
     record {
       part = written.part;
-      holds = read_after blocks d v w held (is_new_to v) base p writes l.part.pair ∙ written.holds;
+      holds = read_after blocks d v w old new (is_new_to v) base p writes l.part.pair ∙ written.holds;
       here = blocks p d n writes.disk writes.patch writes.stands writes.keeps ∙ written.here;
       there = blocks p d (beside l.part.pair n) writes.disk writes.patch writes.stands writes.keeps ∙ written.there;
     }

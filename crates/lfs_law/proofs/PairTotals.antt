@@ -11,7 +11,7 @@ use Rattle.lfs_fs.specs.Volume.{Volume}
 use Rattle.lfs_fs.specs.Tree.{entry_at}
 use Rattle.lfs_command.specs.DirectoryEdit.{link_in, unlink_in, change_in, touch_last, absorb}
 use Rattle.lfs_command.specs.ThreadEdit.{in_directory, link, unlink, change, add_after, take_out, drop_directory, touch_first}
-use Rattle.lfs_command.specs.Command.{Command, Mkdir, Put, Rm, Mv, SetAttr, RmAttr}
+use Rattle.lfs_command.specs.Command.{Command, Mkdir, Put, Rm, Mv, SetAttr, RmAttr, Grow}
 use Rattle.lfs_command.specs.Supplies.{Supplies, new_body}
 use Rattle.lfs_command.specs.Home.{home_of}
 use Rattle.lfs_command.specs.Edited.{with_body, with_entry_attributes, renamed, new_entry, empty_directory, set_attributes, make_directory}
@@ -166,6 +166,7 @@ made_total g (Rm p) s = 0
 made_total g (Mv p q) s = 0
 made_total g (SetAttr p k value) s = 0
 made_total g (RmAttr p k) s = 0
+made_total g (Grow n) s = 0
 
 pub edited_total : (g : Pair → ℕ) (v : Volume) (c : Command) (s : Supplies)
     → total g (edited v c s).directories ≤ total g v.directories + made_total g c s
@@ -175,3 +176,4 @@ edited_total g v (Rm p) s = omega (arith, remove_total g v (home_of v p) (entry_
 edited_total g v (Mv p q) s = omega (arith, move_total g v (home_of v p) (home_of v q) (entry_at v p))
 edited_total g v (SetAttr p k value) s = omega (arith, set_total g v (set_attribute k value) (home_of v p))
 edited_total g v (RmAttr p k) s = omega (arith, set_total g v (remove_attribute k) (home_of v p))
+edited_total g v (Grow n) s = omega (arith, touch_total g v.directories)

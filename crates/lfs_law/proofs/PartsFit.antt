@@ -21,7 +21,7 @@ use Rattle.lfs_fs.proofs.CountLemmas.{element_le}
 use Rattle.lfs_command.specs.declared.refusal.Refusal.{Refusal}
 use Rattle.lfs_command.specs.declared.refusal.Refusal.TheVariants.{EntryTooLarge}
 use Rattle.lfs_command.specs.Accepted.{IsAccepted}
-use Rattle.lfs_command.specs.Command.{Command, Mkdir, Put, Rm, Mv, SetAttr, RmAttr}
+use Rattle.lfs_command.specs.Command.{Command, Mkdir, Put, Rm, Mv, SetAttr, RmAttr, Grow}
 use Rattle.lfs_command.specs.Cut.{room, is_first, runs, more_parts, cut, new_pairs}
 use Rattle.lfs_command.specs.Edited.{edited}
 use Rattle.lfs_law.specs.OutlineCarried.{has_too_large}
@@ -177,3 +177,4 @@ none_large v (Mv p q) s ok = sym (large_is_the_same v (Mv p q) (elsewhere s) ref
 none_large v (SetAttr p k value) s ok = sym (large_is_the_same v (SetAttr p k value) (elsewhere s) refl)
     ∙ nothing_large v (SetAttr p k value) s ok
 none_large v (RmAttr p k) s ok = sym (large_is_the_same v (RmAttr p k) (elsewhere s) refl) ∙ nothing_large v (RmAttr p k) s ok
+none_large v (Grow n) s ok = sym (large_is_the_same v (Grow n) (elsewhere s) refl) ∙ nothing_large v (Grow n) s ok

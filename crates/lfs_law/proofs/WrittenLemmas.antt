@@ -20,8 +20,7 @@ use Rattle.lfs_fs.specs.Volume.{Volume}
 use Rattle.lfs_fs.specs.Thread.{Link, links_of, links, tail_to, hard_to}
 use Rattle.lfs_fs.specs.Uses.{times, body_uses, entry_uses, pair_uses, directory_uses}
 use Rattle.lfs_fs.specs.Reading.{reading_of}
-use Rattle.lfs_fs.specs.Header.{IsHeader}
-use Rattle.lfs_fs.specs.Stored.{IsStored, HoldsLinks}
+use Rattle.lfs_fs.specs.Stored.{IsStored}
 use Rattle.lfs_fs.specs.Alike.{ChainStays, PartStays, StoredLinksStay, SuperblockIsOfTheRoot}
 use Rattle.lfs_fs.proofs.ContainsLemmas.{contains_cases, contains_mapped}
 use Rattle.lfs_fs.proofs.CountLemmas.{element_le}
@@ -29,6 +28,7 @@ use Rattle.lfs_fs.proofs.MarkingLemmas.{parts_split}
 use Rattle.lfs_command.specs.DirectoryEdit.{each_part}
 use Rattle.lfs_command.specs.Clean.{cleaned}
 use Rattle.lfs_command.specs.Kept.{IsKept}
+use Rattle.lfs_law.specs.Lengthened.{HoldsParts}
 use Rattle.lfs_law.specs.Written.{cleaned_link, Writes, IsEditOf, WrittenAreHeld, HeldAreClean}
 use Rattle.lfs_law.proofs.Decided.{same_pair_or_not}
 
@@ -92,10 +92,10 @@ set_apart p q set unset same = true-false (sym set ∙ ap (λ (x : Part). x.dirt
     true-false : true ≡ false → ⊥
     true-false h = cc
 
-block_stays : (d e : Disk) (v w : Volume) (held : HoldsLinks (reading_of d) v) → IsEditOf v w → Writes d e v w held → (p : Part)
+block_stays : (d e : Disk) (v w : Volume) (old new : List ℕ) → IsEditOf v w → Writes d e v w old new → (p : Part)
     → Contains (thread v.directories) p → Contains (thread w.directories) p
     → p.dirty ≡ false → (b : ℕ) → 0 < part_uses b p → block_of e b ≡ block_of d b
-block_stays d e v w held edit writes p was there unset b used =
+block_stays d e v w old new edit writes p was there unset b used =
     let before : part_uses b p ≤ sum_by (part_uses b) (thread v.directories) = element_le (part_uses b) (thread v.directories) p was in
     writes.stays b (omega (arith, before, used, sum_thread b v.directories))
     (λ q set_there set.
@@ -119,32 +119,32 @@ times_there b bs there =
     let one : cond {A = ℕ} (b == b) 1 0 ≡ 1 = grind (arith, nat_tests) in
     omega (arith, le, one)
 
-pub chain_by : FoundStay → ContentStays → (d e : Disk) → IsDisk d → (body : Body) → e.size ≡ d.size → e.count ≡ d.count
+pub chain_by : FoundStay → ContentStays → (d e : Disk) → IsDisk d → (body : Body) → e.size ≡ d.size → d.count ≤ e.count
     → ((b : ℕ) → 0 < body_uses b body → block_of e b ≡ block_of d b) → ChainStays (reading_of d) (reading_of e) body
 chain_by found content d e disk (Inline bytes) size count stays = tt
 chain_by found content d e disk (Directory_at pair) size count stays = tt
 chain_by found content d e disk (Chain blocks bytes) size count stays = λ head len is.
     let agree : AgreeOn blocks d e = record {
       size = sym size;
-      count = sym count;
+      count = count;
       same = All-weaker (Contains blocks) (λ (b : ℕ). block_of d b ≡ block_of e b)
           (λ b there. sym (stays b (omega (arith, times_there b blocks there)))) blocks (All-contains_itself blocks);
     } in
     (found d e head len blocks disk agree is, sym (content d e len blocks agree))
 
-entry_used : (b : ℕ) (p : Part) (x : Entry) → Contains p.entries x → 0 < entry_uses b x → 0 < part_uses b p
+pub entry_used : (b : ℕ) (p : Part) (x : Entry) → Contains p.entries x → 0 < entry_uses b x → 0 < part_uses b p
 entry_used b p x there used = let le = element_le (entry_uses b) p.entries x there in omega (arith, le, used)
 
-part_stays : PartsDependOnTheirBlocks → FoundStay → ContentStays → (d e : Disk) (v w : Volume) (held : HoldsLinks (reading_of d) v)
-    → IsEditOf v w → Writes d e v w held
+part_stays : PartsDependOnTheirBlocks → FoundStay → ContentStays → (d e : Disk) (v w : Volume) (old new : List ℕ)
+    → IsEditOf v w → Writes d e v w old new
     → (p : Part) → Contains (thread v.directories) p
     → Contains (thread w.directories) p → p.dirty ≡ false → PartStays (reading_of d) (reading_of e) p
-part_stays depend found content d e v w held edit writes p was there unset =
-    let stays = block_stays d e v w held edit writes p was there unset in
+part_stays depend found content d e v w old new edit writes p was there unset =
+    let stays = block_stays d e v w old new edit writes p was there unset in
     record {
       part = sym (depend d e p.pair (sym (stays p.pair.0 (pair_used p).0), sym (stays p.pair.1 (pair_used p).1))).2;
       chains = All-weaker (Contains p.entries) (λ (x : Entry). ChainStays (reading_of d) (reading_of e) x.body)
-          (λ x inside. chain_by found content d e writes.old_disk x.body writes.size writes.count
+          (λ x inside. chain_by found content d e writes.old_disk x.body writes.size (omega (arith, writes.count))
           (λ b used. stays b (entry_used b p x inside used)))
           p.entries (All-contains_itself p.entries);
     }
@@ -163,32 +163,35 @@ clean_itself l unset = ap (λ (t : Bool). record {
 }) unset
 
 link_stored_by : PartsDependOnTheirBlocks → FoundStay → ContentStays → StoredLinksStay → SuperblockIsOfTheRoot
-    → (d e : Disk) (v w : Volume) (held : HoldsLinks (reading_of d) v) → IsEditOf v w → Writes d e v w held
+    → (d e : Disk) (v w : Volume) (old new : List ℕ) → HoldsParts (reading_of d) v old → IsEditOf v w → Writes d e v w old new
     → (l : Link) → Contains (links w.directories) l → Contains (links v.directories) l → l.part.dirty ≡ false
-    → IsStored (reading_of e) held.bytes w.attributes (cleaned_link l)
-link_stored_by depend found content stay elsewhere d e v w held edit writes l there was unset =
-    let before : IsStored (reading_of d) held.bytes v.attributes l = All-contains (IsStored (reading_of d) held.bytes v.attributes)
+    → IsStored (reading_of e) new w.attributes (cleaned_link l)
+link_stored_by depend found content stay elsewhere d e v w old new held edit writes l there was unset =
+    let before : IsStored (reading_of d) old v.attributes l = All-contains (IsStored (reading_of d) old v.attributes)
     (links v.directories) l held.each was in
-    let after : IsStored (reading_of e) held.bytes v.attributes l =
-    stay (reading_of d) (reading_of e) held.bytes v.attributes l (part_stays depend found content d e v w held edit writes l.part
+    let after : IsStored (reading_of e) old v.attributes l =
+    stay (reading_of d) (reading_of e) old v.attributes l (part_stays depend found content d e v w old new edit writes l.part
     (part_there v.directories l was)
     (part_there w.directories l there) unset) before in
-    let with_attributes : IsStored (reading_of e) held.bytes w.attributes l = elim (same_pair_or_not l.part.pair root) [
-      | inl is ↦ subst (λ (a : Attributes). IsStored (reading_of e) held.bytes a l) (sym (writes.attributes l there is unset)) after
-      | inr other ↦ elsewhere (reading_of e) held.bytes held.bytes v.attributes w.attributes l other after
+    let with_superblock : IsStored (reading_of e) new w.attributes l = elim (same_pair_or_not l.part.pair root) [
+      | inl is ↦
+          (let kept = writes.superblock l there is unset in
+          subst (λ (bytes : List ℕ). IsStored (reading_of e) bytes w.attributes l) (sym kept.1)
+          (subst (λ (a : Attributes). IsStored (reading_of e) old a l) (sym kept.0) after))
+      | inr other ↦ elsewhere (reading_of e) old new v.attributes w.attributes l other after
     ] in
-    subst (IsStored (reading_of e) held.bytes w.attributes) (clean_itself l unset) with_attributes
+    subst (IsStored (reading_of e) new w.attributes) (clean_itself l unset) with_superblock
 
 link_stored : PartsDependOnTheirBlocks → FoundStay → ContentStays → StoredLinksStay → SuperblockIsOfTheRoot
-    → (d e : Disk) (v w : Volume) (held : HoldsLinks (reading_of d) v)
-    → IsEditOf v w → Writes d e v w held
+    → (d e : Disk) (v w : Volume) (old new : List ℕ) → HoldsParts (reading_of d) v old
+    → IsEditOf v w → Writes d e v w old new
     → (l : Link) → Contains (links w.directories) l → (t : Bool) → l.part.dirty ≡ t
-    → IsStored (reading_of e) held.bytes w.attributes (cleaned_link l)
-link_stored depend found content stay elsewhere d e v w held edit writes l there true set = writes.written l there set
-link_stored depend found content stay elsewhere d e v w held edit writes l there false unset =
+    → IsStored (reading_of e) new w.attributes (cleaned_link l)
+link_stored depend found content stay elsewhere d e v w old new held edit writes l there true set = writes.written l there set
+link_stored depend found content stay elsewhere d e v w old new held edit writes l there false unset =
     elim (All-contains (IsKept (links v.directories)) (links w.directories) l edit.kept there) [
       | inl set ↦ absurd (set_apart l.part l.part set unset refl)
-      | inr was ↦ link_stored_by depend found content stay elsewhere d e v w held edit writes l there was unset
+      | inr was ↦ link_stored_by depend found content stay elsewhere d e v w old new held edit writes l there was unset
     ]
 
 clean_links_of : (p : Part) (ps : List Part) (tail : Tail) → links_of (cleaned p) (map cleaned ps) tail
@@ -210,20 +213,15 @@ clean_links (d ∷ ds) =
     ∙ sym (map-append cleaned_link (links_of d.first d.more (tail_to ds)) (links ds))
 
 pub written_are_held : PartsDependOnTheirBlocks → FoundStay → ContentStays → StoredLinksStay → SuperblockIsOfTheRoot → WrittenAreHeld
-written_are_held depend found content stay elsewhere d e v w held edit writes = record {
+written_are_held depend found content stay elsewhere d e v w old new held says edit writes = record {
   size = edit.size ∙ held.size ∙ sym writes.size;
   count = edit.count ∙ held.count ∙ sym writes.count;
-  bytes = held.bytes;
-  superblock = record {
-    len = held.superblock.len;
-    header = subst (λ (n : ℕ). IsHeader n w.count held.bytes) (sym edit.size)
-        (subst (λ (n : ℕ). IsHeader v.size n held.bytes) (sym edit.count) held.superblock.header);
-    limits = edit.limits ∙ held.superblock.limits;
-  };
-  each = subst (All (IsStored (reading_of e) held.bytes w.attributes)) (sym (clean_links w.directories))
-      (All-map (IsStored (reading_of e) held.bytes w.attributes) cleaned_link (links w.directories)
-      (All-weaker (Contains (links w.directories)) (λ (l : Link). IsStored (reading_of e) held.bytes w.attributes (cleaned_link l))
-      (λ l there. link_stored depend found content stay elsewhere d e v w held edit writes l there l.part.dirty refl)
+  bytes = new;
+  superblock = record { len = says.len; header = says.header; limits = says.limits };
+  each = subst (All (IsStored (reading_of e) new w.attributes)) (sym (clean_links w.directories))
+      (All-map (IsStored (reading_of e) new w.attributes) cleaned_link (links w.directories)
+      (All-weaker (Contains (links w.directories)) (λ (l : Link). IsStored (reading_of e) new w.attributes (cleaned_link l))
+      (λ l there. link_stored depend found content stay elsewhere d e v w old new held edit writes l there l.part.dirty refl)
       (links w.directories) (All-contains_itself (links w.directories))));
 }
 

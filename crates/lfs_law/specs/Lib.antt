@@ -1,5 +1,6 @@
 pub mod SuperblockBytes
 pub mod Laws
+pub mod Lengthened
 pub mod Written
 pub mod EditedOutline
 pub mod CutOutline
@@ -8,6 +9,7 @@ pub mod WrittenLinks
 pub mod OutlineLaws
 pub mod PlansHold
 pub mod CommandsSet
+pub mod CountsGrow
 pub mod NeedsSmall
 pub mod PairWritten
 pub mod CutWritten

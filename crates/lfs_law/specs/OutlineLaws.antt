@@ -15,7 +15,6 @@ use Rattle.lfs_fs.specs.Volume.{Volume}
 use Rattle.lfs_fs.specs.Thread.{Link, links}
 use Rattle.lfs_fs.specs.Uses.{times, uses}
 use Rattle.lfs_fs.specs.Reading.{Reading, reading_of}
-use Rattle.lfs_fs.specs.Stored.{HoldsLinks}
 use Rattle.lfs_command.specs.Need.{is_new_to}
 use Rattle.lfs_command.specs.PairChanged.{ChangesPairs}
 use Rattle.lfs_command.specs.Planned.{FillsNewPairs}
@@ -55,33 +54,35 @@ IsThere r (Inline bytes) = Unit {0}
 IsThere r (Chain blocks bytes) = (r.chain (head_of blocks) (length bytes) ≡ Some blocks) × (bytes ≡ r.content (length bytes) blocks)
 IsThere r (Directory_at pair) = Unit {0}
 
--- A patch, which keeps the count, writes the outline of the volume w over the volume v that an image holds: its links, beside other
--- changes of blocks that v doesn't use. The chains of w are there, and its root's attributes stay where the root's first part does.
-pub record WritesOutline (d : Disk) (v w : Volume) (held : HoldsLinks (reading_of d) v)
+-- A patch, which keeps the count, writes the outline of the volume w over the volume v whose parts an image holds: its links, beside
+-- other changes of blocks that v doesn't use. The chains of w are there. The superblock has the bytes `old` before and `new` then; they
+-- stay, and so do the root's attributes, where the root's first part does.
+pub record WritesOutline (d : Disk) (v w : Volume) (old new : List ℕ)
     (is_new : Pair → Bool) (base : List Change) (p : ChangeSet) : Type 0 where
   pub disk : IsDisk d
   pub patch : IsPatch p
   pub stands : AgreesOld p d
   pub keeps : p.after ≡ p.before
   pub unused : (n : ℕ) → 0 < uses n v → times n (changed_blocks base) ≡ 0
-  pub written : AreWritten d held.bytes w.attributes is_new base (links (outlined w).directories) p.changes
+  pub written : AreWritten d new w.attributes is_new base (links (outlined w).directories) p.changes
   pub there : (l : Link) → Contains (links w.directories) l → (e : Entry) → Contains l.part.entries e
       → IsThere (reading_of (applied p d)) e.body
-  pub attributes : (l : Link) → Contains (links w.directories) l → l.part.pair ≡ root → l.part.dirty ≡ false → w.attributes ≡ v.attributes
+  pub superblock : (l : Link) → Contains (links w.directories) l → l.part.pair ≡ root → l.part.dirty ≡ false
+      → (w.attributes ≡ v.attributes) × (new ≡ old)
 
 -- the law: where an outline is written so, the volume is
 abbrev pub OutlinesAreWritten : Type 0
-OutlinesAreWritten = (d : Disk) (v w : Volume) (held : HoldsLinks (reading_of d) v) (is_new : Pair → Bool) (base : List Change)
+OutlinesAreWritten = (d : Disk) (v w : Volume) (old new : List ℕ) (is_new : Pair → Bool) (base : List Change)
     (p : ChangeSet)
-    → WritesOutline d v w held is_new base p → Writes d (applied p d) v w held
+    → WritesOutline d v w old new is_new base p → Writes d (applied p d) v w old new
 
 -- the law: then new pairs are filled
 abbrev pub NewPairsAreFilled : Type 0
-NewPairsAreFilled = (d : Disk) (v w : Volume) (held : HoldsLinks (reading_of d) v) (base : List Change) (p : ChangeSet)
-    → WritesOutline d v w held (is_new_to v) base p → FillsNewPairs v w (applied p d)
+NewPairsAreFilled = (d : Disk) (v w : Volume) (old new : List ℕ) (base : List Change) (p : ChangeSet)
+    → WritesOutline d v w old new (is_new_to v) base p → FillsNewPairs v w (applied p d)
 
 -- the law: then pairs that were there are changed as their links are written
 abbrev pub PairsAreChanged : Type 0
-PairsAreChanged = (d : Disk) (v w : Volume) (held : HoldsLinks (reading_of d) v) (base : List Change) (p : ChangeSet) (forced : Forced)
-    → WritesOutline d v w held (is_new_to v) base p
+PairsAreChanged = (d : Disk) (v w : Volume) (old new : List ℕ) (base : List Change) (p : ChangeSet) (forced : Forced)
+    → WritesOutline d v w old new (is_new_to v) base p
     → ChangesLinks d (is_new_to v) forced (links (outlined w).directories) p.changes → ChangesPairs forced v w d (applied p d)

@@ -16,8 +16,9 @@ use Rattle.lfs_fs.specs.Uses.{times, uses}
 use Rattle.lfs_fs.specs.Sound.{IsSound}
 use Rattle.lfs_fs.specs.Reading.{reading_of}
 use Rattle.lfs_fs.specs.Holds.{Holds}
-use Rattle.lfs_fs.specs.Stored.{HoldsLinks}
-use Rattle.lfs_command.specs.Command.{Command, Mkdir, Put, Rm, Mv, SetAttr, RmAttr}
+use Rattle.lfs_fs.specs.Stored.{SaysVolume}
+use Rattle.lfs_command.specs.Command.{Command, Mkdir, Put, Rm, Mv, SetAttr, RmAttr, Grow}
+use Rattle.lfs_command.specs.Growth.{count_after, grown}
 use Rattle.lfs_command.specs.Supplies.{Supplies, AreFree, most_inline, supply_uses}
 use Rattle.lfs_command.specs.Edited.{edited}
 use Rattle.lfs_command.specs.Cut.{cut, new_pair_uses}
@@ -26,13 +27,16 @@ use Rattle.lfs_command.specs.Accepted.{IsAccepted, AreChosen}
 use Rattle.lfs_command.specs.Need.{is_new_to, changed_parts}
 use Rattle.lfs_command.specs.Planned.{IsFrugal, TakesLeast}
 use Rattle.lfs_law.specs.WrittenLinks.{changed_blocks, links_blocks, number_in, set_uses, AreWritten, ChangesLinks}
+use Rattle.lfs_law.specs.Lengthened.{HoldsParts}
 use Rattle.lfs_law.specs.OutlineLaws.{WritesOutline}
 
--- the law: where a patch writes the outline of what an accepted command leaves, cut, the patched image holds it
+-- the law: where a patch writes the outline of what an accepted command leaves, cut, over the image as the command lengthens it, the
+-- patched image holds it
 abbrev pub PlansHold : Type 0
-PlansHold = (d : Disk) (v : Volume) (held : HoldsLinks (reading_of d) v) (c : Command) (s : Supplies)
-    (chosen : Part → List Pair) (is_new : Pair → Bool) (base : List Change) (p : ChangeSet)
-    → IsAccepted v c s → AreChosen v c s chosen → WritesOutline d v (cut chosen (edited v c s)) held is_new base p
+PlansHold = (d : Disk) (v : Volume) (c : Command) (s : Supplies)
+    (chosen : Part → List Pair) (old new : List ℕ) (is_new : Pair → Bool) (base : List Change) (p : ChangeSet)
+    → HoldsParts (reading_of d) (grown c v) old → SaysVolume (cut chosen (edited v c s)) new
+    → IsAccepted v c s → AreChosen v c s chosen → WritesOutline d (grown c v) (cut chosen (edited v c s)) old new is_new base p
     → Holds (reading_of (applied p d)) (clean (cut chosen (edited v c s)))
 
 -- ---- which blocks are written
@@ -45,6 +49,7 @@ content_blocks v (Rm p) s = []
 content_blocks v (Mv p q) s = []
 content_blocks v (SetAttr p k value) s = []
 content_blocks v (RmAttr p k) s = []
+content_blocks v (Grow n) s = []
 
 -- a pair whose first block a table doesn't mark
 abbrev pub is_unmarked : List Bool → Pair → Bool
@@ -83,11 +88,11 @@ abbrev pub LeastAreFree : Type 0
 LeastAreFree = (v : Volume) (c : Command) (s : Supplies) (chosen : Part → List Pair) → IsSound v → TakesLeast v c s chosen
     → AreFree v c s
     × ((b : ℕ) → uses b v + supply_uses v c s b + new_pair_uses chosen (edited v c s) b ≤ 1)
-    × ((b : ℕ) → 0 < new_pair_uses chosen (edited v c s) b → b < v.count)
+    × ((b : ℕ) → 0 < new_pair_uses chosen (edited v c s) b → b < count_after c v.count)
 
 -- the law: no block is changed but the least free ones that the command takes, and one of the pair of each part that it changes
 abbrev pub PlansAreFrugal : Type 0
-PlansAreFrugal = (d : Disk) (v : Volume) (held : HoldsLinks (reading_of d) v) (c : Command) (s : Supplies)
-    (chosen : Part → List Pair) (base : List Change) (p : ChangeSet)
+PlansAreFrugal = (d : Disk) (v : Volume) (c : Command) (s : Supplies)
+    (chosen : Part → List Pair) (old new : List ℕ) (base : List Change) (p : ChangeSet)
     → IsAccepted v c s → AreChosen v c s chosen → TakesLeast v c s chosen → changed_blocks base ≡ content_blocks v c s
-    → WritesOutline d v (cut chosen (edited v c s)) held (is_new_to v) base p → IsFrugal v c s (changed_blocks p.changes)
+    → WritesOutline d (grown c v) (cut chosen (edited v c s)) old new (is_new_to v) base p → IsFrugal v c s (changed_blocks p.changes)

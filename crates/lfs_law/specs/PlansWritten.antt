@@ -3,6 +3,7 @@ use Rattle.std.specs.Prelude.{◌≡◌, ◌≢◌, ℕ, nat_le, Bool, false, Li
 use Rattle.lfs_block.specs.Change.{Change}
 use Rattle.lfs_block.specs.Disk.{Disk, IsDisk}
 use Rattle.lfs_block.specs.Patch.{ChangeSet, IsPatch, AgreesOld, applied}
+use Rattle.lfs_block.specs.PatchLaws.{IsDiskOf}
 use Rattle.lfs_file.specs.Capacity.{least_blocks}
 use Rattle.lfs_file.specs.Laying.{laid}
 use Rattle.lfs_meta.specs.Body.{Pair}
@@ -11,15 +12,17 @@ use Rattle.lfs_fs.specs.Outlined.{outlined}
 use Rattle.lfs_fs.specs.Volume.{Volume}
 use Rattle.lfs_fs.specs.Thread.{links}
 use Rattle.lfs_fs.specs.Reading.{Reading, reading_of}
-use Rattle.lfs_fs.specs.Stored.{HoldsLinks}
-use Rattle.lfs_command.specs.Command.{Command, Mkdir, Put, Rm, Mv, SetAttr, RmAttr}
+use Rattle.lfs_command.specs.Command.{Command, Mkdir, Put, Rm, Mv, SetAttr, RmAttr, Grow}
+use Rattle.lfs_command.specs.Growth.{count_after, grown}
 use Rattle.lfs_command.specs.Supplies.{Supplies, AreFree, most_inline, new_body}
 use Rattle.lfs_command.specs.Edited.{edited}
 use Rattle.lfs_command.specs.Cut.{cut}
 use Rattle.lfs_command.specs.Accepted.{IsAccepted, AreChosen}
 use Rattle.lfs_law.specs.WrittenLinks.{changed_blocks, block_after, AreWritten}
+use Rattle.lfs_law.specs.Lengthened.{HoldsParts}
 use Rattle.lfs_law.specs.OutlineLaws.{IsThere, WritesOutline}
 use Rattle.lfs_law.specs.PlansHold.{content_blocks}
+use Rattle.lfs_law.specs.SuperblockBytes.{volume_bytes}
 
 -- a file's new contents are there
 abbrev pub NewIsThere : Reading → Volume → Command → Supplies → Type 0
@@ -29,26 +32,28 @@ NewIsThere r v (Rm p) s = Unit {0}
 NewIsThere r v (Mv p q) s = Unit {0}
 NewIsThere r v (SetAttr p k value) s = Unit {0}
 NewIsThere r v (RmAttr p k) s = Unit {0}
+NewIsThere r v (Grow n) s = Unit {0}
 
 -- A patch, which keeps the count, writes for a command: blocks of new contents, which are there, and the links of the outline of what
--- the command leaves, cut.
-pub record WritesCommand (d : Disk) (v : Volume) (held : HoldsLinks (reading_of d) v) (c : Command) (s : Supplies)
-    (chosen : Part → List Pair) (is_new : Pair → Bool) (base : List Change) (p : ChangeSet) : Type 0 where
+-- the command leaves, cut, with a superblock of these bytes.
+pub record WritesCommand (d : Disk) (v : Volume) (c : Command) (s : Supplies)
+    (chosen : Part → List Pair) (new : List ℕ) (is_new : Pair → Bool) (base : List Change) (p : ChangeSet) : Type 0 where
   pub disk : IsDisk d
   pub patch : IsPatch p
   pub stands : AgreesOld p d
   pub keeps : p.after ≡ p.before
   pub contents : changed_blocks base ≡ content_blocks v c s
-  pub written : AreWritten d held.bytes (cut chosen (edited v c s)).attributes is_new base
+  pub written : AreWritten d new (cut chosen (edited v c s)).attributes is_new base
       (links (outlined (cut chosen (edited v c s))).directories) p.changes
   pub there : NewIsThere (reading_of (applied p d)) v c s
 
--- the law: for an accepted command nothing else is to be shown
+-- the law: for an accepted command nothing else is to be shown, where each superblock is the one that is made of its volume
 abbrev pub CommandsAreWritten : Type 0
-CommandsAreWritten = (d : Disk) (v : Volume) (held : HoldsLinks (reading_of d) v) (c : Command) (s : Supplies)
+CommandsAreWritten = (d : Disk) (v : Volume) (c : Command) (s : Supplies)
     (chosen : Part → List Pair) (is_new : Pair → Bool) (base : List Change) (p : ChangeSet)
-    → IsAccepted v c s → AreChosen v c s chosen → WritesCommand d v held c s chosen is_new base p
-    → WritesOutline d v (cut chosen (edited v c s)) held is_new base p
+    → HoldsParts (reading_of d) (grown c v) (volume_bytes v) → IsAccepted v c s → AreChosen v c s chosen
+    → WritesCommand d v c s chosen (volume_bytes (cut chosen (edited v c s))) is_new base p
+    → WritesOutline d (grown c v) (cut chosen (edited v c s)) (volume_bytes v) (volume_bytes (cut chosen (edited v c s))) is_new base p
 
 -- the changes of contents lay a file's bytes in blocks
 pub record LaysContents (d : Disk) (bytes blocks : List ℕ) (base : List Change) : Type 0 where
@@ -64,13 +69,14 @@ LaysNew d v (Rm p) s base = Unit {0}
 LaysNew d v (Mv p q) s base = Unit {0}
 LaysNew d v (SetAttr p k value) s base = Unit {0}
 LaysNew d v (RmAttr p k) s base = Unit {0}
+LaysNew d v (Grow n) s base = Unit {0}
 
 -- the law: contents that are laid are there when the links are written
 abbrev pub LaidAreThere : Type 0
-LaidAreThere = (d : Disk) (v : Volume) (held : HoldsLinks (reading_of d) v) (c : Command) (s : Supplies)
-    (chosen : Part → List Pair) (is_new : Pair → Bool) (base : List Change) (p : ChangeSet)
-    → IsDisk d → IsPatch p → AgreesOld p d → p.after ≡ p.before → AreFree v c s → changed_blocks base ≡ content_blocks v c s
-    → LaysNew d v c s base
-    → AreWritten d held.bytes (cut chosen (edited v c s)).attributes is_new base
+LaidAreThere = (d : Disk) (v : Volume) (c : Command) (s : Supplies)
+    (chosen : Part → List Pair) (new : List ℕ) (is_new : Pair → Bool) (base : List Change) (p : ChangeSet)
+    → IsDiskOf v.size (count_after c v.count) d → IsPatch p → AgreesOld p d → p.after ≡ p.before → AreFree v c s
+    → changed_blocks base ≡ content_blocks v c s → LaysNew d v c s base
+    → AreWritten d new (cut chosen (edited v c s)).attributes is_new base
     (links (outlined (cut chosen (edited v c s))).directories) p.changes
     → NewIsThere (reading_of (applied p d)) v c s

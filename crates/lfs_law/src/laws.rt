@@ -1,6 +1,7 @@
 //! Laws of commands: each function does nothing but call laws, and its contract is the law.
 
 ghost use Rattle.lfs_law.specs.CommandsSet.{CommandsSetAPart};
+ghost use Rattle.lfs_law.specs.CountsGrow.{CountsGrow};
 ghost use Rattle.lfs_law.specs.Laws.{CleansFollow, CommandsAreFrugal, CommandsFollow, CutsAreFrugal, CutsFollow, FewPartsChange, FreeAfter, FreeAfterHeld, NeedIsExact, NeedIsTheSame, UsesAfter};
 ghost use Rattle.lfs_law.specs.NeedsSmall.{HeldHaveFewEntries, NeedsAreSmall};
 ghost use Rattle.lfs_law.specs.Written.{HeldAreClean, WrittenAreHeld};
@@ -10,7 +11,7 @@ use lfs_fs::{both_sides_hold, entries_are_cut_greedily, names_are_ordered, store
 use lfs_meta::{held_parts_have_few_entries, parts_depend_on_their_blocks};
 
 /// A law: on a sound volume, a command that no check refuses, on supplies that are free, leaves a sound volume of the same
-/// size, count and limits, whose tree is the command's equation at every path. Takes no memory.
+/// size and limits, with as many blocks as the command says, whose tree is the command's equation at every path. Takes no memory.
 ///
 /// Source: own.
 pub fn commands_follow()
@@ -18,6 +19,14 @@ pub fn commands_follow()
 {
     names_are_ordered();
 }
+
+/// A law: a command that no check refuses, those on room aside, leaves no fewer blocks, and as many as an image may have. Takes no
+/// memory.
+///
+/// Source: own.
+pub fn counts_grow()
+    ensures { CountsGrow }
+{}
 
 /// A law: so it is when the parts that the command sets are cut, into pairs that were free (`cut`), and when its marks are
 /// taken off (`clean`). Takes no memory.

@@ -1,6 +1,7 @@
 //! Laws of what is written of an outline: each function does nothing but call laws, and its contract is the law.
 
-ghost use Rattle.lfs_law.specs.CutWritten.{CutLinksCanBeAdded, CutLinksCanBeWritten, HeldBytesAreMade, NewPairsAreFresh};
+ghost use Rattle.lfs_law.specs.CutWritten.{CutLinksCanBeAdded, CutLinksCanBeWritten, HeldBytesAreMade, MadeBytesSay, NewPairsAreFresh};
+ghost use Rattle.lfs_law.specs.Lengthened.{LengthenedImagesHold};
 ghost use Rattle.lfs_law.specs.OutlineLaws.{LinksAreAdded, LinksAreFree, LinksAreLeft, NewPairsAreFilled, NoLinksAreWritten, OutlinesAreWritten, PairsAreChanged};
 ghost use Rattle.lfs_law.specs.PlansHold.{BlocksAreTaken, BlocksAreWrittenOnce, LeastAreFree, PlansAreFrugal, PlansHold, TablesTellChanged, TablesTellNew};
 ghost use Rattle.lfs_law.specs.PlansWritten.{CommandsAreWritten, LaidAreThere};
@@ -11,8 +12,8 @@ use lfs_file::{
     chains_stay_on_their_blocks, contents_have_their_length, files_have_one_chain,
     laid_blocks_are_chains,
 };
-use lfs_fs::{both_sides_hold, entries_are_cut_greedily};
-use lfs_meta::{live_blocks_are_read, names_are_decided};
+use lfs_fs::{both_sides_hold, entries_are_cut_greedily, stored_links_stay};
+use lfs_meta::{live_blocks_are_read, names_are_decided, parts_depend_on_their_blocks};
 use lfs_tag::laws::blocks_have_a_log;
 
 /// A law: links are written one after another, none at first (`none`): one that is set by changes of its pair's blocks, where none of
@@ -125,6 +126,24 @@ pub fn cut_links_can_be_written()
     commands_follow();
     cuts_follow();
 }
+
+/// A law: an image that is lengthened holds the same parts of a sound volume, with the superblock as it was. Takes no memory.
+///
+/// Source: own.
+pub fn lengthened_images_hold()
+    ensures { LengthenedImagesHold }
+{
+    parts_depend_on_their_blocks();
+    chains_stay_on_their_blocks();
+    stored_links_stay();
+}
+
+/// A law: the struct of a superblock that is made of a volume's size, count and limits says them. Takes no memory.
+///
+/// Source: own.
+pub fn made_superblocks_say_their_volume()
+    ensures { MadeBytesSay }
+{}
 
 /// A law: the struct of the superblock of an image that holds a sound volume is the one that is made of the volume's size, count and
 /// limits. Takes no memory.

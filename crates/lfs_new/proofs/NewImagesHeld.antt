@@ -22,41 +22,13 @@ use Rattle.lfs_fs.proofs.CountLemmas.{element_le}
 use Rattle.lfs_law.specs.OutlineLaws.{IsThere}
 use Rattle.lfs_law.specs.SuperblockBytes.{volume_bytes}
 use Rattle.lfs_law.specs.WrittenLinks.{link_part}
+use Rattle.lfs_law.proofs.MadeBytes.{made_bytes_say}
 use Rattle.lfs_law.proofs.OutlineEntries.{outlined_entries}
 use Rattle.lfs_law.proofs.OutlinesWritten.{links_outlined, outline_there, outlined_link, entries_stand}
 use Rattle.lfs_law.proofs.WrittenLemmas.{chain_by, part_there, part_uses, parts_of_links, sum_thread}
 use Rattle.lfs_new.specs.Filled.{FillsPair, first_blocks}
 use Rattle.lfs_new.specs.NewImages.{NewImagesHold, TakesVolume}
 use Rattle.lfs_new.proofs.PairsFilled.{firsts_within, name_of}
-
--- ---- what the superblock says
-
-abbrev limits_of : ℕ → ℕ → ℕ → Limits
-limits_of name file attribute = record { name = name; file = file; attribute = attribute }
-
-limits_said : (v : Volume) → IsLimits v.limits → v.limits ≡ (header_of (volume_bytes v) []).limits
-unfolding volume_bytes
-limits_said v fit =
-    let name : word_at (volume_bytes v) 3 ≡ v.limits.name = from_le_bytes-to_le_bytes_4 v.limits.name (omega (arith, fit.name.1)) in
-    let file : word_at (volume_bytes v) 4 ≡ v.limits.file = from_le_bytes-to_le_bytes_4 v.limits.file (omega (arith, fit.file.1)) in
-    let attribute : word_at (volume_bytes v) 5 ≡ v.limits.attribute =
-    from_le_bytes-to_le_bytes_4 v.limits.attribute (omega (arith, fit.attribute.1)) in
-    ap (λ (n : ℕ). limits_of n v.limits.file v.limits.attribute) (sym name)
-    ∙ ap (λ (n : ℕ). limits_of (word_at (volume_bytes v) 3) n v.limits.attribute) (sym file)
-    ∙ ap (limits_of (word_at (volume_bytes v) 3) (word_at (volume_bytes v) 4)) (sym attribute)
-
-volume_said : (v : Volume) → v.size < 2 ^ 32 → v.count < 2 ^ 32 → IsLimits v.limits → SaysVolume v (volume_bytes v)
-unfolding volume_bytes
-volume_said v size count fit = record {
-  len = refl;
-  header = record {
-    version = refl;
-    size_is = from_le_bytes-to_le_bytes_4 v.size size;
-    count_is = from_le_bytes-to_le_bytes_4 v.count count;
-    limits = subst IsLimits (limits_said v fit) fit;
-  };
-  limits = limits_said v fit;
-}
 
 -- ---- chains stay, since their blocks are of no pair
 
@@ -119,7 +91,7 @@ module _ (found : FoundStay) (content : ContentStays) (d e : Disk) (v : Volume) 
   chain_there (Directory_at pair) stays there = tt
   chain_there (Chain blocks bytes) stays there =
       let same = takes.outline.but.disk in
-      let still = chain_by found content d e takes.disk (Chain blocks bytes) same.size same.count stays (head_of blocks) (length bytes)
+      let still = chain_by found content d e takes.disk (Chain blocks bytes) same.size (omega (arith, same.count)) stays (head_of blocks) (length bytes)
       there.0 in
       (still.0, there.1 ∙ sym still.1)
 
@@ -150,7 +122,7 @@ module _ (found : FoundStay) (content : ContentStays) (d e : Disk) (v : Volume) 
   says : SaysVolume v (volume_bytes v)
   says =
       let geometry = takes.disk.geometry in
-      volume_said v (omega (arith, takes.size, geometry.size_fits.1)) (omega (arith, takes.count, geometry.count_fits.1)) takes.limits
+      made_bytes_say v (omega (arith, takes.size, geometry.size_fits.1)) (omega (arith, takes.count, geometry.count_fits.1)) takes.limits
 
   pub volume_held : HoldsLinks (reading_of e) v
   volume_held =

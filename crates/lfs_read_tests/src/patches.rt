@@ -5,7 +5,7 @@ ghost use Rattle.lfs_block.specs.Change.{IsBlockChange};
 ghost use Rattle.lfs_block.specs.Disk.{erased_block};
 ghost use Rattle.lfs_block.specs.Geometry.{IsGeometry};
 
-use lfs_block::{Blocks, Image, Overlay, Patch, Record};
+use lfs_block::{Blocks, Image, Lengthened, Overlay, Patch, Record, geometry_ok};
 use std::alloc::{AllocError, Global};
 use std::process::Abort;
 use std::test::Fail;
@@ -157,5 +157,19 @@ fn overlays_show_what_was_there(rt: HostRuntime) -> Result<(), Fail> {
         &Overlay::before(&image, &patch, &erased),
         &[0, 1, 2, 3],
     );
+    Ok(())
+}
+
+#[test]
+fn lengthened_images_go_on_with_erased_blocks(rt: HostRuntime) -> Result<(), Fail> {
+    let image = image_of(rt.alloc(), &[0, 1, 2, 3])?;
+    let erased = erased(rt.alloc(), image.size())?;
+    assert!(rt; geometry_ok(256, 4) && geometry_ok(256, 6) && image.count() == 4);
+    begin(
+        &rt,
+        &Lengthened::of(&image, 6, &erased),
+        &[0, 1, 2, 3, 0xff, 0xff],
+    );
+    begin(&rt, &Lengthened::of(&image, 4, &erased), &[0, 1, 2, 3]);
     Ok(())
 }

@@ -9,7 +9,7 @@ ghost use Rattle.lfs_command.specs.Need.{data_blocks};
 ghost use Rattle.lfs_command.specs.Supplies.{Supplies};
 
 use crate::writing::changes_of;
-use lfs_block::{Blocks, Image, Record};
+use lfs_block::{Blocks, Record};
 use lfs_command::{NamedCommand, most_inline};
 use lfs_file::{laid_blocks_are_whole, lay};
 use std::alloc::{AllocError, Global};
@@ -18,17 +18,17 @@ use std::alloc::{AllocError, Global};
 /// bytes take, and fewer than 2^32.
 ///
 /// Source: own.
-pub fn laid(
+pub fn laid<B: Blocks>(
     alloc: Global,
-    image: &Image,
+    image: &B,
     bytes: &[u8],
     blocks: &[u32],
 ) -> Result<Vec<Record>, AllocError>
     requires rising { AllPairs ◌<◌ blocks.now }
-    requires below { All (λ b. b < image.now.disk.count) blocks.now }
-    requires many { length blocks.now ≡ least_blocks image.now.disk.size (length bytes.now) }
+    requires below { All (λ b. b < (B.disk image.now).count) blocks.now }
+    requires many { length blocks.now ≡ least_blocks (B.disk image.now).size (length bytes.now) }
     requires few { length blocks.now < 2 ^ 32 }
-    ensures { IfOk result (λ changes. AreLaid image.now.disk bytes.now blocks.now changes.items) }
+    ensures { IfOk result (λ changes. AreLaid (B.disk image.now) bytes.now blocks.now changes.items) }
 {
     laid_blocks_are_whole();
     let size = image.size();
@@ -41,18 +41,18 @@ pub fn laid(
 /// and as many blocks as the command's contents take.
 ///
 /// Source: own.
-pub fn laid_for(
+pub fn laid_for<B: Blocks>(
     alloc: Global,
-    image: &Image,
+    image: &B,
     command: &NamedCommand<'_>,
     blocks: &[u32],
 ) -> Result<Vec<Record>, AllocError>
     requires rising { AllPairs ◌<◌ blocks.now }
-    requires below { All (λ b. b < image.now.disk.count) blocks.now }
-    requires many { (v : Volume) → v.size ≡ image.now.disk.size → length blocks.now ≡ data_blocks v (named_command command.now) }
+    requires below { All (λ b. b < (B.disk image.now).count) blocks.now }
+    requires many { (v : Volume) → v.size ≡ (B.disk image.now).size → length blocks.now ≡ data_blocks v (named_command command.now) }
     requires few { length blocks.now < 2 ^ 32 }
-    ensures { IfOk result (λ changes. (v : Volume) (s : Supplies) → v.size ≡ image.now.disk.size → s.blocks ≡ blocks.now
-        → AreLaidFor image.now.disk v (named_command command.now) s changes.items) }
+    ensures { IfOk result (λ changes. (v : Volume) (s : Supplies) → v.size ≡ (B.disk image.now).size → s.blocks ≡ blocks.now
+        → AreLaidFor (B.disk image.now) v (named_command command.now) s changes.items) }
 {
     match command {
         NamedCommand::Put { bytes, .. } if bytes.len() > most_inline(image.size()) as usize => {

@@ -19,7 +19,7 @@ ghost use Rattle.lfs_law.specs.WrittenLinks.{AddsLink, AddsPart, AreWritten, Can
 use crate::linking::outline_links;
 use crate::storing::stored_entries;
 use crate::writing::{add, change_of};
-use lfs_block::{Blocks, Image, Record, put_blocks_stand};
+use lfs_block::{Blocks, Record, put_blocks_stand};
 use lfs_commit::{Forced, change_pair, first_block, rewrite};
 use lfs_fs::{Outline, OutlinePart};
 use lfs_meta::{Part, Tail};
@@ -27,19 +27,19 @@ use std::alloc::{AllocError, Global};
 
 /// Puts the change of a block of an image among others, which rise by number. The caller owes that there is such a block, as many
 /// bytes as it has, and that no other change is of it.
-fn add_change(
+fn add_change<B: Blocks>(
     alloc: Global,
-    image: &Image,
+    image: &B,
     number: u32,
     new: Vec<u8>,
     changes: &mut Vec<Record>,
 ) -> Result<(), AllocError>
-    requires within { number < image.now.disk.count }
-    requires len { length new.items ≡ image.now.disk.size }
+    requires within { number < (B.disk image.now).count }
+    requires len { length new.items ≡ (B.disk image.now).size }
     requires rising { IsRising changes.old.items }
-    requires made { AllByRecursion (CanBeMade image.now.disk) changes.old.items }
+    requires made { AllByRecursion (CanBeMade (B.disk image.now)) changes.old.items }
     requires free { times number (changed_blocks changes.old.items) ≡ 0 }
-    ensures { OnOk result (AddsChange image.now.disk (change_at image.now.disk number new.items) changes.old.items changes.new.items) }
+    ensures { OnOk result (AddsChange (B.disk image.now) (change_at (B.disk image.now) number new.items) changes.old.items changes.new.items) }
 {
     let _size = image.size();
     let change = change_of(alloc, image, number, new)?;
@@ -48,9 +48,9 @@ fn add_change(
 }
 
 /// The block of a pair that isn't live, rewritten with a part, and its number. The caller owes what `FitsPair` says.
-fn rewritten(alloc: Global, image: &Image, part: &Part) -> Result<(u32, Vec<u8>), AllocError>
-    requires { FitsPair image.now.disk part.now }
-    ensures { IfOk result (λ new. IsRewritten image.now.disk part.now.0 part.now.1 new.0 new.1.items) }
+fn rewritten<B: Blocks>(alloc: Global, image: &B, part: &Part) -> Result<(u32, Vec<u8>), AllocError>
+    requires { FitsPair (B.disk image.now) part.now }
+    ensures { IfOk result (λ new. IsRewritten (B.disk image.now) part.now.0 part.now.1 new.0 new.1.items) }
 {
     let Ok(new) = rewrite(
         alloc,
@@ -67,14 +67,14 @@ fn rewritten(alloc: Global, image: &Image, part: &Part) -> Result<(u32, Vec<u8>)
 
 /// The block of a pair that a commit is appended to, or else that is rewritten, so that the pair holds a part, and its number. The caller
 /// owes what `FitsPair` says.
-fn changed(
+fn changed<B: Blocks>(
     alloc: Global,
-    image: &Image,
+    image: &B,
     part: &Part,
     forced: Forced<'_>,
 ) -> Result<(u32, Vec<u8>), AllocError>
-    requires { FitsPair image.now.disk part.now }
-    ensures { IfOk result (λ new. IsChanged image.now.disk part.now.0 (forced_seen forced.entry) part.now.1 new.0 new.1.items) }
+    requires { FitsPair (B.disk image.now) part.now }
+    ensures { IfOk result (λ new. IsChanged (B.disk image.now) part.now.0 (forced_seen forced.entry) part.now.1 new.0 new.1.items) }
 {
     let Ok(new) = change_pair(
         alloc,
@@ -92,15 +92,15 @@ fn changed(
 
 /// The block that carries a pair to a part, and its number: where the part was cut, the one that isn't live, rewritten; else the live one
 /// with a commit appended, where there is room for it, or the other one rewritten. The caller owes what `FitsPair` says.
-fn pair_block(
+fn pair_block<B: Blocks>(
     alloc: Global,
-    image: &Image,
+    image: &B,
     part: &Part,
     is_cut: bool,
     forced: Forced<'_>,
 ) -> Result<(u32, Vec<u8>), AllocError>
-    requires { FitsPair image.now.disk part.now }
-    ensures { IfOk result (λ new. IsPairsBlock image.now.disk is_cut (forced_seen forced.entry) part.now new.0 new.1.items) }
+    requires { FitsPair (B.disk image.now) part.now }
+    ensures { IfOk result (λ new. IsPairsBlock (B.disk image.now) is_cut (forced_seen forced.entry) part.now new.0 new.1.items) }
 {
     if is_cut {
         rewritten(alloc, image, part)
@@ -111,19 +111,19 @@ fn pair_block(
 
 /// Puts the change that makes a pair hold a part among others: of one of its blocks. The caller owes what `FitsPair` says, and that no
 /// other change is of the pair's blocks.
-fn change_part(
+fn change_part<B: Blocks>(
     alloc: Global,
-    image: &Image,
+    image: &B,
     part: &Part,
     is_cut: bool,
     forced: Forced<'_>,
     changes: &mut Vec<Record>,
 ) -> Result<(), AllocError>
-    requires fits { FitsPair image.now.disk part.now }
-    requires free { IsFreeFor image.now.disk part.now.0 changes.old.items }
-    ensures adds { OnOk result (AddsPart image.now.disk part.now.0 (number_in changes.new.items part.now.0 ∷ []) part.now.1
+    requires fits { FitsPair (B.disk image.now) part.now }
+    requires free { IsFreeFor (B.disk image.now) part.now.0 changes.old.items }
+    ensures adds { OnOk result (AddsPart (B.disk image.now) part.now.0 (number_in changes.new.items part.now.0 ∷ []) part.now.1
         changes.old.items changes.new.items) }
-    ensures changed { OnOk result (IsPairWritten image.now.disk is_cut (forced_seen forced.entry) part.now.0 changes.new.items) }
+    ensures changed { OnOk result (IsPairWritten (B.disk image.now) is_cut (forced_seen forced.entry) part.now.0 changes.new.items) }
 {
     put_blocks_stand();
     let _size = image.size();
@@ -134,17 +134,17 @@ fn change_part(
 
 /// Puts the changes that make a new pair hold a part among others: of both its blocks, of which the first one has the part and the second
 /// one is erased. The part's delta is zero then. The caller owes what `FitsPair` says, and that no other change is of the pair's blocks.
-fn fill_pair(
+fn fill_pair<B: Blocks>(
     alloc: Global,
-    image: &Image,
+    image: &B,
     part: &Part,
     changes: &mut Vec<Record>,
 ) -> Result<(), AllocError>
-    requires fits { FitsPair image.now.disk part.now }
-    requires free { IsFreeFor image.now.disk part.now.0 changes.old.items }
-    ensures adds { OnOk result (AddsPart image.now.disk part.now.0 (part.now.0.0 ∷ part.now.0.1 ∷ [])
+    requires fits { FitsPair (B.disk image.now) part.now }
+    requires free { IsFreeFor (B.disk image.now) part.now.0 changes.old.items }
+    ensures adds { OnOk result (AddsPart (B.disk image.now) part.now.0 (part.now.0.0 ∷ part.now.0.1 ∷ [])
         (stored_part part.now.1.entries part.now.1.tail (replicate 12 0)) changes.old.items changes.new.items) }
-    ensures filled { OnOk result (FillsFirst image.now.disk changes.new.items part.now.0) }
+    ensures filled { OnOk result (FillsFirst (B.disk image.now) changes.new.items part.now.0) }
 {
     let size = image.size();
     let Some(block) = first_block(alloc, size, &part.entries, part.tail) else {
@@ -195,9 +195,9 @@ fn is_cut(used: &[bool], tail: Tail) -> bool
 /// Puts the changes that make a part's pair hold it among others: of one block of a pair that the table marks, of both blocks of
 /// another one. The caller owes attributes of the root that rise strictly by kind, a link that can be written, that a new pair has no
 /// share of the global state, and that no other change is of the pair's blocks.
-fn write_part(
+fn write_part<B: Blocks>(
     alloc: Global,
-    image: &Image,
+    image: &B,
     outline: &Outline,
     used: &[bool],
     forced: Forced<'_>,
@@ -206,13 +206,13 @@ fn write_part(
     changes: &mut Vec<Record>,
 ) -> Result<(), AllocError>
     requires rise { AreAttributes outline.now.limits.attribute outline.now.attributes }
-    requires may { CanBeWritten image.now.disk (volume_bytes outline.now) outline.now.attributes (link_to part.now tail) }
+    requires may { CanBeWritten (B.disk image.now) (volume_bytes outline.now) outline.now.attributes (link_to part.now tail) }
     requires fresh { is_unmarked used.now part.now.pair ≡ true → part.now.delta ≡ 0 }
-    requires free { IsFreeFor image.now.disk part.now.pair changes.old.items }
-    ensures adds { OnOk result (AddsLink image.now.disk (volume_bytes outline.now) outline.now.attributes (is_unmarked used.now) (link_to part.now tail)
+    requires free { IsFreeFor (B.disk image.now) part.now.pair changes.old.items }
+    ensures adds { OnOk result (AddsLink (B.disk image.now) (volume_bytes outline.now) outline.now.attributes (is_unmarked used.now) (link_to part.now tail)
         changes.old.items changes.new.items) }
     ensures changed { OnOk result (is_unmarked used.now part.now.pair ≡ false
-        → IsPairWritten image.now.disk (is_cut_by (is_unmarked used.now) tail) (forced_seen forced.entry) part.now.pair changes.new.items) }
+        → IsPairWritten (B.disk image.now) (is_cut_by (is_unmarked used.now) tail) (forced_seen forced.entry) part.now.pair changes.new.items) }
 {
     let stored = stored_link(alloc, outline, part, tail)?;
     if is_unmarked(used, part.pair) {
@@ -226,9 +226,9 @@ fn write_part(
 
 /// Writes a link, where its part is set; else it costs a look at that mark. The caller owes attributes of the root that rise strictly by
 /// kind, and what `CanBeAdded` says.
-fn write_link(
+fn write_link<B: Blocks>(
     alloc: Global,
-    image: &Image,
+    image: &B,
     outline: &Outline,
     used: &[bool],
     forced: Forced<'_>,
@@ -237,11 +237,11 @@ fn write_link(
     changes: &mut Vec<Record>,
 ) -> Result<(), AllocError>
     requires rise { AreAttributes outline.now.limits.attribute outline.now.attributes }
-    requires can { CanBeAdded image.now.disk (volume_bytes outline.now) outline.now.attributes (is_unmarked used.now)
+    requires can { CanBeAdded (B.disk image.now) (volume_bytes outline.now) outline.now.attributes (is_unmarked used.now)
         changes.old.items (link_to part.now tail ∷ []) }
-    ensures written { OnOk result (AreWritten image.now.disk (volume_bytes outline.now) outline.now.attributes (is_unmarked used.now)
+    ensures written { OnOk result (AreWritten (B.disk image.now) (volume_bytes outline.now) outline.now.attributes (is_unmarked used.now)
         changes.old.items (link_to part.now tail ∷ []) changes.new.items) }
-    ensures changed { OnOk result (ChangesLinks image.now.disk (is_unmarked used.now) (forced_seen forced.entry)
+    ensures changed { OnOk result (ChangesLinks (B.disk image.now) (is_unmarked used.now) (forced_seen forced.entry)
         (link_to part.now tail ∷ []) changes.new.items) }
 {
     if part.dirty {
@@ -257,19 +257,19 @@ fn write_link(
 /// what `CanBeAdded` says of the links.
 ///
 /// Source: own.
-pub fn write_links(
+pub fn write_links<B: Blocks>(
     alloc: Global,
-    image: &Image,
+    image: &B,
     outline: &Outline,
     used: &[bool],
     forced: Forced<'_>,
     base: Vec<Record>,
 ) -> Result<Vec<Record>, AllocError>
     requires rise { AreAttributes outline.now.limits.attribute outline.now.attributes }
-    requires can { CanBeAdded image.now.disk (volume_bytes outline.now) outline.now.attributes (is_unmarked used.now) base.items (links outline.now.directories) }
-    ensures written { IfOk result (λ changes. AreWritten image.now.disk (volume_bytes outline.now) outline.now.attributes (is_unmarked used.now)
+    requires can { CanBeAdded (B.disk image.now) (volume_bytes outline.now) outline.now.attributes (is_unmarked used.now) base.items (links outline.now.directories) }
+    ensures written { IfOk result (λ changes. AreWritten (B.disk image.now) (volume_bytes outline.now) outline.now.attributes (is_unmarked used.now)
         base.items (links outline.now.directories) changes.items) }
-    ensures changed { IfOk result (λ changes. ChangesLinks image.now.disk (is_unmarked used.now) (forced_seen forced.entry)
+    ensures changed { IfOk result (λ changes. ChangesLinks (B.disk image.now) (is_unmarked used.now) (forced_seen forced.entry)
         (links outline.now.directories) changes.items) }
 {
     let all = outline_links(alloc, outline)?;

@@ -5,18 +5,18 @@ ghost use Rattle.std.specs.List.{prefix_len};
 ghost use Rattle.lfs_block.specs.Bytes.{IsBytes};
 ghost use Rattle.lfs_command.specs.PartWritten.{change_at, changes_at, with_change};
 
-use lfs_block::{Blocks, Image, Record};
+use lfs_block::{Blocks, Record};
 use std::alloc::{AllocError, Global};
 
 /// The change of one block of an image. The caller owes that there is such a block.
-pub(crate) fn change_of(
+pub(crate) fn change_of<B: Blocks>(
     alloc: Global,
-    image: &Image,
+    image: &B,
     number: u32,
     new: Vec<u8>,
 ) -> Result<Record, AllocError>
-    requires { number < image.now.disk.count }
-    ensures change { IfOk result (λ change. change ≡ change_at image.now.disk number new.items) }
+    requires { number < (B.disk image.now).count }
+    ensures change { IfOk result (λ change. change ≡ change_at (B.disk image.now) number new.items) }
     ensures bytes { IsBytes new.items }
 {
     let old = Vec::from_slice(alloc, image.block(number))?;
@@ -24,15 +24,15 @@ pub(crate) fn change_of(
 }
 
 /// The changes of some blocks of an image. The caller owes that there are such blocks, and as many contents.
-pub(crate) fn changes_of(
+pub(crate) fn changes_of<B: Blocks>(
     alloc: Global,
-    image: &Image,
+    image: &B,
     blocks: &[u32],
     contents: Vec<Vec<u8>>,
 ) -> Result<Vec<Record>, AllocError>
-    requires below { All (λ b. b < image.now.disk.count) blocks.now }
+    requires below { All (λ b. b < (B.disk image.now).count) blocks.now }
     requires many { length contents.items ≡ length blocks.now }
-    ensures { IfOk result (λ changes. changes.items ≡ changes_at image.now.disk blocks.now (map (λ c. c.items) contents.items)) }
+    ensures { IfOk result (λ changes. changes.items ≡ changes_at (B.disk image.now) blocks.now (map (λ c. c.items) contents.items)) }
 {
     let mut changes = Vec::new(alloc);
     'each: for new in contents {

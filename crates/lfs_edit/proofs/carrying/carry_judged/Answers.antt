@@ -1,25 +1,38 @@
 -- A command that no check refuses can be edited, and what it leaves is refused for want of room, or ready.
-use Rattle.std.proofs.Common.{◌≡◌, ◌+◌, ℕ, take, ap, sym, ◌∙◌, arith, inl, inr}
+use Rattle.std.proofs.Common.{◌≡◌, ◌+◌, ℕ, take, ap, sym, subst, ◌∙◌, arith, inl, inr}
 use Rattle.std.specs.Prelude.{sum_by}
 use Rattle.std.proofs.lemmas.Result.{err_from_is_err_and}
+use Rattle.lfs_fs.specs.Free.{free_blocks}
+use Rattle.lfs_fs.specs.Sound.{IsSound}
 use Rattle.lfs_fs.specs.Unused.{unused}
-use Rattle.lfs_draft.specs.LeastSupplies.{made_blocks}
+use Rattle.lfs_fs.specs.Volume.{Volume}
+use Rattle.lfs_draft.specs.Editable.{IsEditable}
+use Rattle.lfs_draft.specs.LeastSupplies.{least_supplies, made_blocks}
 use Rattle.lfs_cut.specs.RoomChecks.{room_checks_on}
+use Rattle.lfs_command.specs.Growth.{count_after}
 use Rattle.lfs_command.specs.NamedCommand.{named_command}
+use Rattle.lfs_law.specs.EditedOutline.{edited_outline}
+use Rattle.lfs_law.specs.Lengthened.{with_count}
 use Rattle.lfs_command.specs.Need.{dirty_parts, part_blocks}
 use Rattle.lfs_command.specs.Verdict.{first_refusal}
-use Rattle.lfs_edit.proofs.JudgedLemmas.{contents_short, editable, ready, refused_by, unweighed, weighed}
+use Rattle.lfs_edit.proofs.JudgedLemmas.{contents_short, editable, long_sound, ready, refused_by, unweighed, weighed}
 use Rattle.lfs_edit.proofs.carrying.carry_judged.Goals as goal
 
-pub used_blocks-requires : goal.used_blocks-requires
-used_blocks-requires c =
-    (editable c.outlines_are_sound.ensures c.carrying_laws.ensures c.names_are_ordered.ensures c.args.image.now.disk
-    (named_command c.args.command.now) c.args.outline.now c.requires.judged).sound
+pub used_of-requires : goal.used_of-requires
+used_of-requires c =
+    let d = c.args.image.now.disk in
+    let command = named_command c.args.command.now in
+    let o = c.args.outline.now in
+    let counted = c.count_after-count.ensures ∙ ap (λ (v : Volume). count_after command v.count) c.outline.view_is in
+    subst (λ (n : ℕ). IsSound (with_count n o)) (sym counted)
+    (long_sound c.counts_grow.ensures c.outlines_are_sound.ensures c.carrying_laws.ensures c.names_are_ordered.ensures d
+    c.size-size.ensures.disk command o c.requires.judged)
 
 pub edit_least-requires-clause-editable : goal.edit_least-requires-clause-editable
 edit_least-requires-clause-editable c =
-    editable c.outlines_are_sound.ensures c.carrying_laws.ensures c.names_are_ordered.ensures c.args.image.now.disk
-    (named_command c.args.command.now) c.args.outline.now c.requires.judged
+    subst (λ (o : Volume). IsEditable o (named_command c.args.command.now)) (sym c.in_ok-used.ensures.same)
+    (editable c.outlines_are_sound.ensures c.carrying_laws.ensures c.names_are_ordered.ensures c.args.image.now.disk
+    (named_command c.args.command.now) c.args.outline.now c.requires.judged)
 
 pub edit_least-requires-clause-len : goal.edit_least-requires-clause-len
 edit_least-requires-clause-len c =
@@ -37,8 +50,13 @@ pub overflow_add-made : goal.overflow_add-made
 overflow_add-made c =
     let d = c.args.image.now.disk in
     let command = named_command c.args.command.now in
-    let u = unweighed c.carrying_laws.ensures d command c.args.outline.now c.edit_least.new.outline c.in_ok-used.used c.requires.judged
-    c.in_ok-used.ensures.marks c.in_ok-used.ensures.free c.in_ok-edit_least.ensures in
+    let before = c.args.outline.now in
+    let counted = c.count_after-count.ensures ∙ ap (λ (v : Volume). count_after command v.count) c.outline.view_is in
+    let free = c.in_ok-used.ensures.free ∙ ap (λ (n : ℕ). free_blocks (with_count n before)) counted in
+    let edits = c.in_ok-edit_least.ensures ∙ ap (λ (x : Volume). edited_outline x command (least_supplies x command
+    (unused c.in_ok-used.used))) c.in_ok-used.ensures.same in
+    let u = unweighed c.carrying_laws.ensures d command before c.edit_least.new.outline c.in_ok-used.used c.requires.judged
+    c.in_ok-used.ensures.marks free edits in
     let known = weighed c.carrying_laws.ensures c.needs_are_small.ensures c.held_volumes_have_few_entries.ensures d command
     c.in_ok-used.used c.edit_least.new.outline c.size-size.ensures.disk u in
     omega (
@@ -53,8 +71,13 @@ pub needed_blocks-requires-clause-size : goal.needed_blocks-requires-clause-size
 needed_blocks-requires-clause-size c =
     let d = c.args.image.now.disk in
     let command = named_command c.args.command.now in
-    let u = unweighed c.carrying_laws.ensures d command c.args.outline.now c.edit_least.new.outline c.in_ok-used.used c.requires.judged
-    c.in_ok-used.ensures.marks c.in_ok-used.ensures.free c.in_ok-edit_least.ensures in
+    let before = c.args.outline.now in
+    let counted = c.count_after-count.ensures ∙ ap (λ (v : Volume). count_after command v.count) c.outline.view_is in
+    let free = c.in_ok-used.ensures.free ∙ ap (λ (n : ℕ). free_blocks (with_count n before)) counted in
+    let edits = c.in_ok-edit_least.ensures ∙ ap (λ (x : Volume). edited_outline x command (least_supplies x command
+    (unused c.in_ok-used.used))) c.in_ok-used.ensures.same in
+    let u = unweighed c.carrying_laws.ensures d command before c.edit_least.new.outline c.in_ok-used.used c.requires.judged
+    c.in_ok-used.ensures.marks free edits in
     let known = weighed c.carrying_laws.ensures c.needs_are_small.ensures c.held_volumes_have_few_entries.ensures d command
     c.in_ok-used.used c.edit_least.new.outline c.size-size.ensures.disk u in
     omega (arith, known.frame, c.size-size.ensures.disk.geometry.size_fits.1)
@@ -63,8 +86,13 @@ pub needed_blocks-requires-clause-small : goal.needed_blocks-requires-clause-sma
 needed_blocks-requires-clause-small c =
     let d = c.args.image.now.disk in
     let command = named_command c.args.command.now in
-    let u = unweighed c.carrying_laws.ensures d command c.args.outline.now c.edit_least.new.outline c.in_ok-used.used c.requires.judged
-    c.in_ok-used.ensures.marks c.in_ok-used.ensures.free c.in_ok-edit_least.ensures in
+    let before = c.args.outline.now in
+    let counted = c.count_after-count.ensures ∙ ap (λ (v : Volume). count_after command v.count) c.outline.view_is in
+    let free = c.in_ok-used.ensures.free ∙ ap (λ (n : ℕ). free_blocks (with_count n before)) counted in
+    let edits = c.in_ok-edit_least.ensures ∙ ap (λ (x : Volume). edited_outline x command (least_supplies x command
+    (unused c.in_ok-used.used))) c.in_ok-used.ensures.same in
+    let u = unweighed c.carrying_laws.ensures d command before c.edit_least.new.outline c.in_ok-used.used c.requires.judged
+    c.in_ok-used.ensures.marks free edits in
     let known = weighed c.carrying_laws.ensures c.needs_are_small.ensures c.held_volumes_have_few_entries.ensures d command
     c.in_ok-used.used c.edit_least.new.outline c.size-size.ensures.disk u in
     omega (
@@ -81,8 +109,12 @@ returns-in_err-blocks-clause-refused c =
     let command = named_command c.args.command.now in
     let used = c.in_ok-used.used in
     let o = c.edit_least.new.outline in
-    let u = unweighed c.carrying_laws.ensures d command c.args.outline.now o used c.requires.judged c.in_ok-used.ensures.marks
-    c.in_ok-used.ensures.free c.in_ok-edit_least.ensures in
+    let before = c.args.outline.now in
+    let counted = c.count_after-count.ensures ∙ ap (λ (v : Volume). count_after command v.count) c.outline.view_is in
+    let free = c.in_ok-used.ensures.free ∙ ap (λ (n : ℕ). free_blocks (with_count n before)) counted in
+    let edits = c.in_ok-edit_least.ensures ∙ ap (λ (x : Volume). edited_outline x command (least_supplies x command
+    (unused c.in_ok-used.used))) c.in_ok-used.ensures.same in
+    let u = unweighed c.carrying_laws.ensures d command before o used c.requires.judged c.in_ok-used.ensures.marks free edits in
     let known = weighed c.carrying_laws.ensures c.needs_are_small.ensures c.held_volumes_have_few_entries.ensures d command used o
     c.size-size.ensures.disk u in
     let made : c.data_blocks.result + c.directory_blocks.result ≡ made_blocks u.volume command =
@@ -100,8 +132,12 @@ carry_ready-requires-clause-ready c =
     let command = named_command c.args.command.now in
     let used = c.in_ok-used.used in
     let o = c.edit_least.new.outline in
-    let u = unweighed c.carrying_laws.ensures d command c.args.outline.now o used c.requires.judged c.in_ok-used.ensures.marks
-    c.in_ok-used.ensures.free c.in_ok-edit_least.ensures in
+    let before = c.args.outline.now in
+    let counted = c.count_after-count.ensures ∙ ap (λ (v : Volume). count_after command v.count) c.outline.view_is in
+    let free = c.in_ok-used.ensures.free ∙ ap (λ (n : ℕ). free_blocks (with_count n before)) counted in
+    let edits = c.in_ok-edit_least.ensures ∙ ap (λ (x : Volume). edited_outline x command (least_supplies x command
+    (unused c.in_ok-used.used))) c.in_ok-used.ensures.same in
+    let u = unweighed c.carrying_laws.ensures d command before o used c.requires.judged c.in_ok-used.ensures.marks free edits in
     let known = weighed c.carrying_laws.ensures c.needs_are_small.ensures c.held_volumes_have_few_entries.ensures d command used o
     c.size-size.ensures.disk u in
     let made : c.data_blocks.result + c.directory_blocks.result ≡ made_blocks u.volume command =

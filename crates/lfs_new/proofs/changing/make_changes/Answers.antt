@@ -24,8 +24,9 @@ of-patch-requires c =
     let d = c.args.image.now.disk in
     let cs = c.args.changes.items in
     subst IsGrowth (sym (same_patch d c.size-size.result c.count-count.result cs c.size-size.ensures.value c.count-count.ensures))
-    (kept_growth d cs c.size-size.ensures.disk (some cs (vec_len c.args.changes) c.is_empty.result c.args.changes.ok.0 c.is_empty.ensures c.if-is_empty.false) c.requires.rising
-    c.requires.can)
+    (kept_growth d cs c.size-size.ensures.disk
+    (some cs (vec_len c.args.changes) c.is_empty.result c.args.changes.ok.0 c.is_empty.ensures c.if-is_empty.false)
+    c.requires.rising c.requires.can)
 
 pub apply-requires-clause-agrees : goal.apply-requires-clause-agrees
 apply-requires-clause-agrees c =
@@ -43,7 +44,8 @@ returns-clause-made c =
     ∙ same_patch d c.size-size.result c.count-count.result cs c.size-size.ensures.value c.count-count.ensures in
     c.apply.ensures.applied
     ∙ made c.kept_counts_change_their_blocks.ensures.changes d cs c.of-patch.result c.size-size.ensures.disk
-    (some cs (vec_len c.args.changes) c.is_empty.result c.args.changes.ok.0 c.is_empty.ensures c.if-is_empty.false) c.requires.rising c.requires.can same
+    (some cs (vec_len c.args.changes) c.is_empty.result c.args.changes.ok.0 c.is_empty.ensures c.if-is_empty.false)
+    c.requires.rising c.requires.can same
 
 pub returns-clause-disk : goal.returns-clause-disk
 returns-clause-disk c =

@@ -8,8 +8,8 @@ use Rattle.lfs_write.proofs.LaidLemmas.{are_laid}
 use Rattle.lfs_write.proofs.laying.laid.Goals as goal
 
 pub returns : goal.returns
-returns c =
-    let d = c.args.image.now.disk in
+returns g c =
+    let d = g.B.Blocks.disk c.args.image.now in
     let bytes = c.args.bytes.now in
     let laws = c.laid_blocks_are_whole.ensures in
     let is : IsBytes bytes = search rules in

@@ -11,8 +11,8 @@ use Rattle.lfs_command.specs.Supplies.{most_inline}
 use Rattle.lfs_write.proofs.laying.laid_for.Goals as goal
 
 pub laid-requires-clause-many : goal.laid-requires-clause-many
-laid-requires-clause-many c =
-    let size = c.args.image.now.disk.size in
+laid-requires-clause-many g c =
+    let size = (g.B.Blocks.disk c.args.image.now).size in
     let v : Volume = record {
       size = size;
       count = 0;

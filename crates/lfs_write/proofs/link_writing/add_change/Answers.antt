@@ -7,8 +7,8 @@ use Rattle.lfs_write.proofs.PairWrites.{change_added, change_can}
 use Rattle.lfs_write.proofs.link_writing.add_change.Goals as goal
 
 pub returns : goal.returns
-returns c =
-    let d = c.args.image.now.disk in
+returns g c =
+    let d = g.B.Blocks.disk c.args.image.now in
     let old = c.args.changes.now.items in
     let n = c.args.number in
     let new = c.args.new.items in

@@ -10,8 +10,8 @@ use Rattle.lfs_write.proofs.PairWrites.{second_free, pair_filled, first_filled}
 use Rattle.lfs_write.proofs.link_writing.fill_pair.Goals as goal
 
 pub add_change-requires-2-clause-free : goal.add_change-requires-2-clause-free
-add_change-requires-2-clause-free c =
-    let d = c.args.image.now.disk in
+add_change-requires-2-clause-free g c =
+    let d = g.B.Blocks.disk c.args.image.now in
     let old = c.args.changes.now.items in
     second_free d c.part.inside.pair _ old c.add_change.new.changes.items
     (subst (λ (x : Found). x.0.0 ≢ x.0.1) (sym c.part.view_is) c.requires.fits.apart)
@@ -20,8 +20,8 @@ add_change-requires-2-clause-free c =
 
 -- the pair holds the part whichever of its blocks has it
 pub returns-clause-adds : goal.returns-clause-adds
-returns-clause-adds c =
-    let d = c.args.image.now.disk in
+returns-clause-adds g c =
+    let d = g.B.Blocks.disk c.args.image.now in
     let old = c.args.changes.now.items in
     let new = c.add_change-2.new.changes.items in
     let block = c.in-Some.block.items in
@@ -38,8 +38,8 @@ returns-clause-adds c =
     c.in_ok-add_change-2.ensures (grind (arith, erased, before, behind)))
 
 pub returns-clause-filled : goal.returns-clause-filled
-returns-clause-filled c =
-    let d = c.args.image.now.disk in
+returns-clause-filled g c =
+    let d = g.B.Blocks.disk c.args.image.now in
     let block = c.in-Some.block.items in
     let erased : c.in_ok-erased.erased.items ≡ replicate c.size-size.result 255 = search rules in
     subst (λ (x : Found). FillsFirst d c.add_change-2.new.changes.items x.0) c.part.view_is

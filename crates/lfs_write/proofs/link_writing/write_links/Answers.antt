@@ -9,8 +9,8 @@ use Rattle.lfs_write.proofs.LinksInTurn.{can_first, can_later, changed_whole, wr
 use Rattle.lfs_write.proofs.link_writing.write_links.Goals as goal
 
 pub write_link-requires-clause-can : goal.write_link-requires-clause-can
-write_link-requires-clause-can c =
-    can_first c.args.image.now.disk (volume_bytes c.args.outline.now) c.args.outline.now.attributes (is_unmarked c.args.used.now)
+write_link-requires-clause-can g c =
+    can_first (g.B.Blocks.disk c.args.image.now) (volume_bytes c.args.outline.now) c.args.outline.now.attributes (is_unmarked c.args.used.now)
     c.loop-link.changes.items (drop c.loop-link.link-index c.deref-link-items.result.now)
     (link_to c.link.inside.part.now c.link.inside.tail ∷ [])
     (drop (c.loop-link.link-index + 1) c.deref-link-items.result.now)
@@ -19,8 +19,8 @@ write_link-requires-clause-can c =
     c.loop-link.invariant.can
 
 pub loop-link-preserved : goal.loop-link-preserved
-loop-link-preserved c =
-    let d = c.args.image.now.disk in
+loop-link-preserved g c =
+    let d = g.B.Blocks.disk c.args.image.now in
     let bytes = volume_bytes c.args.outline.now in
     let attributes = c.args.outline.now.attributes in
     let is_new = is_unmarked c.args.used.now in

@@ -10,14 +10,14 @@ use Rattle.lfs_law.specs.WrittenLinks.{AreWritten, ChangesLinks}
 use Rattle.lfs_write.proofs.link_writing.write_links.Given as goal
 
 abbrev pub invariant-loop-link : goal.invariant-loop-link
-invariant-loop-link l = record {
-  can : CanBeAdded l.image.disk (volume_bytes l.outline) l.outline.attributes (is_unmarked l.used) l.changes.items (drop l.link-index l.link-items);
+invariant-loop-link g l = record {
+  can : CanBeAdded (g.B.Blocks.disk l.image) (volume_bytes l.outline) l.outline.attributes (is_unmarked l.used) l.changes.items (drop l.link-index l.link-items);
   whole : (new : List Change)
-      → AreWritten l.image.disk (volume_bytes l.outline) l.outline.attributes (is_unmarked l.used) l.changes.items (drop l.link-index l.link-items) new
-      → AreWritten l.image.disk (volume_bytes l.outline) l.outline.attributes (is_unmarked l.used) l.fn.base.items
+      → AreWritten (g.B.Blocks.disk l.image) (volume_bytes l.outline) l.outline.attributes (is_unmarked l.used) l.changes.items (drop l.link-index l.link-items) new
+      → AreWritten (g.B.Blocks.disk l.image) (volume_bytes l.outline) l.outline.attributes (is_unmarked l.used) l.fn.base.items
       (links l.outline.directories) new;
   changed : (new : List Change)
-      → AreWritten l.image.disk (volume_bytes l.outline) l.outline.attributes (is_unmarked l.used) l.changes.items (drop l.link-index l.link-items) new
-      → ChangesLinks l.image.disk (is_unmarked l.used) (forced_seen l.fn.forced) (drop l.link-index l.link-items) new
-      → ChangesLinks l.image.disk (is_unmarked l.used) (forced_seen l.fn.forced) (links l.outline.directories) new;
+      → AreWritten (g.B.Blocks.disk l.image) (volume_bytes l.outline) l.outline.attributes (is_unmarked l.used) l.changes.items (drop l.link-index l.link-items) new
+      → ChangesLinks (g.B.Blocks.disk l.image) (is_unmarked l.used) (forced_seen l.fn.forced) (drop l.link-index l.link-items) new
+      → ChangesLinks (g.B.Blocks.disk l.image) (is_unmarked l.used) (forced_seen l.fn.forced) (links l.outline.directories) new;
 }

@@ -9,8 +9,8 @@ use Rattle.lfs_write.proofs.link_writing.write_part.Goals as goal
 use Rattle.lfs_write.proofs.link_writing.write_part.Goals.{then-is_unmarked+in_ok-fill_pair, else-is_unmarked+in_ok-change_part}
 
 pub returns-clause-adds : goal.returns-clause-adds
-returns-clause-adds c =
-    let d = c.args.image.now.disk in
+returns-clause-adds g c =
+    let d = g.B.Blocks.disk c.args.image.now in
     let bytes = volume_bytes c.args.outline.now in
     let attributes = c.args.outline.now.attributes in
     let is_new = is_unmarked c.args.used.now in
