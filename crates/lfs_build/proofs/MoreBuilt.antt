@@ -154,7 +154,7 @@ module _ (laws : BuildingLaws) (d : Disk) (next : ℕ) (above : List Directory) 
     more_built contents = record {
       disk = leaves.disk.disk;
       size = to.follows.size ∙ built.size ∙ sym leaves.disk.size;
-      count = to.follows.count ∙ built.count ∙ sym leaves.disk.count;
+      count = ap (λ (x : Volume). x.count) outline ∙ built.count ∙ sym leaves.disk.count;
       limits = to.follows.limits ∙ built.limits;
       sound = to.follows.sound;
       clean = to.clean;

@@ -1,5 +1,5 @@
 -- The contents of a built volume's files are there in an image that leaves its blocks, and those of one that a command leaves.
-use Rattle.std.proofs.Common.{ℕ, List, sym, subst, map}
+use Rattle.std.proofs.Common.{ℕ, List, sym, subst, map, arith}
 use Rattle.std.specs.Prelude.{All, Contains}
 use Rattle.std.proofs.lemmas.List.Elements.{All-contains, All-contains_itself, All-map, All-weaker}
 use Rattle.std.proofs.lemmas.List.Folds.{flat_map-map}

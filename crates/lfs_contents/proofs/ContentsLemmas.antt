@@ -21,7 +21,7 @@ use Rattle.lfs_fs.proofs.EntryAtLemmas.{walk-append, step_some}
 use Rattle.lfs_command.specs.declared.refusal.Refusal.{Refusal}
 use Rattle.lfs_command.specs.declared.refusal.Refusal.TheVariants.{NotFound, NotADirectory, BadPath, AttrTooLarge, NoAttr, EntryTooLarge}
 use Rattle.lfs_command.specs.declared.refusal.Refusal.TheVariants.{Memory, Exists, IsADirectory, NotEmpty, NameTooLong, FileTooLarge}
-use Rattle.lfs_command.specs.declared.refusal.Refusal.TheVariants.{IntoItself, IsRoot, NoSpace}
+use Rattle.lfs_command.specs.declared.refusal.Refusal.TheVariants.{IntoItself, IsRoot, NoSpace, BadCount}
 use Rattle.lfs_command.specs.Command.{SetAttr}
 use Rattle.lfs_contents.specs.Contents.{IsContents, HasNoFile, RefusesContents, reading_checks}
 use Rattle.lfs_law.specs.HomeChecks.{entry_checks, there_checks}
@@ -93,6 +93,7 @@ refused_by d text IntoItself of refused = refused
 refused_by d text IsRoot of refused = refused
 refused_by d text EntryTooLarge of refused = refused
 refused_by d text (NoSpace needed free) of refused = refused
+refused_by d text BadCount of refused = refused
 
 -- the first check that refuses
 no_file : (d : Disk) (text : List ℕ) (r : Refusal) → HasNoFile d text r → RefusesContents d text r

@@ -21,7 +21,8 @@ use Rattle.lfs_command.specs.declared.refusal.Refusal.TheVariants.{EntryTooLarge
 use Rattle.lfs_command.specs.Accepted.{AreChosen, Follows, IsAccepted}
 use Rattle.lfs_command.specs.Clean.{IsClean, clean, cleaned}
 use Rattle.lfs_command.specs.DirectoryEdit.{each_part}
-use Rattle.lfs_command.specs.Command.{Command}
+use Rattle.lfs_command.specs.Command.{Command, Mkdir, Put, Rm, Mv, SetAttr, RmAttr, Grow}
+use Rattle.lfs_command.specs.Growth.{count_after, grown}
 use Rattle.lfs_command.specs.Cut.{cut, new_pair_uses, room}
 use Rattle.lfs_command.specs.Edited.{edited, with_directories}
 use Rattle.lfs_command.specs.Need.{data_blocks, need}
@@ -31,6 +32,8 @@ use Rattle.lfs_command.specs.Verdict.{checks, first_refusal, refuse_if, room_che
 use Rattle.lfs_draft.specs.LeastSupplies.{least_pair, least_supplies, made_blocks}
 use Rattle.lfs_law.specs.CutOutline.{for_parts}
 use Rattle.lfs_law.specs.Laws.{CleansFollow, CutsFollow, UsesAfter}
+use Rattle.lfs_law.specs.EditedOutline.{edited_outline}
+use Rattle.lfs_law.specs.Lengthened.{with_count}
 use Rattle.lfs_law.specs.OutlineCarried.{IsCarried, OutlinesAreCarried, has_too_large}
 use Rattle.lfs_law.specs.PlansHold.{LeastAreFree}
 use Rattle.lfs_law.proofs.Cleans.{clean_uses_all}
@@ -113,6 +116,13 @@ pub record OneMoreLaws : Type 0 where
   pub after : UsesAfter
   pub takes_more : PartsTakeOneMore
 
+-- ---- the count is left
+
+set_count_kept : (v : Volume) (before : List Directory) (d : Directory) (es : List Entry) (new : List Pair) (after : List Directory)
+    → (set_at v before d es new after).count ≡ v.count
+set_count_kept v before d es [] after = refl
+set_count_kept v before d es (pair ∷ pairs) after = refl
+
 -- ---- no marks are left
 
 parts_clean : (ps : List Part) → All (λ p. p.dirty ≡ false) (map cleaned ps)
@@ -155,6 +165,22 @@ module _ (laws : OneMoreLaws) (v : Volume) (c : Command) (next : ℕ) (before : 
   abbrev count : ℕ
   count = blocks_for_more v c next es e d
 
+  -- such a command leaves the count
+  counted : (k : Command) → edited_outline o k s ≡ set → count_after k v.count ≡ v.count
+  counted (Mkdir p) same = refl
+  counted (Put p bytes) same = refl
+  counted (Rm p) same = refl
+  counted (Mv p q) same = refl
+  counted (SetAttr p k value) same = refl
+  counted (RmAttr p k) same = refl
+  counted (Grow n) same = ap (λ (w : Volume). w.count) same ∙ set_count_kept o before d (es ++ e ∷ []) new after
+
+  same_count : count_after c v.count ≡ v.count
+  same_count = counted c puts.edited
+
+  free_grown : free_blocks (grown c v) ≡ free_blocks v
+  free_grown = ap (λ (n : ℕ). free_blocks (with_count n v)) same_count
+
   free_is : free_blocks v ≡ range_with_len next (v.count - next)
   free_is = free_range v next puts.within puts.free
 
@@ -180,7 +206,9 @@ module _ (laws : OneMoreLaws) (v : Volume) (c : Command) (next : ℕ) (before : 
   judged =
       passed_first (checks v c) (room_checks v c) puts.unrefused
       ∙ ap (λ (t : Bool). first_refusal (refuse_if t EntryTooLarge
-      ∷ refuse_if (nat_lt (length (free_blocks v)) (need v c)) (NoSpace (need v c) (length (free_blocks v))) ∷ [])) large
+      ∷ refuse_if (nat_lt (length (free_blocks (grown c v))) (need v c)) (NoSpace (need v c) (length (free_blocks (grown c v)))) ∷ [])) large
+      ∙ ap (λ (l : List ℕ). first_refusal (refuse_if (nat_lt (room v) (weight e)) EntryTooLarge
+      ∷ refuse_if (nat_lt (length l) (need v c)) (NoSpace (need v c) (length l)) ∷ [])) free_grown
       ∙ ap (λ (n : ℕ). first_refusal (refuse_if (nat_lt (room v) (weight e)) EntryTooLarge
       ∷ refuse_if (nat_lt (length (free_blocks v)) n) (NoSpace n (length (free_blocks v))) ∷ [])) needed
 
@@ -224,11 +252,18 @@ module _ (laws : OneMoreLaws) (v : Volume) (c : Command) (next : ℕ) (before : 
       let behind : new_pair_uses (for_parts choice) (edited v c s) n ≡ sum_by (λ (q : Pair). times n (q.0 ∷ q.1 ∷ [])) pairs =
       sym (carried.pairs n) ∙ takes_more.uses n in
       let both = pair_behind (free_blocks v) next (made_blocks v c) (v.count - next) n (takes_entry o (last_part d) es e) free_is (omega (arith, within)) in
-      omega (arith, made_here, behind, both, ap (λ (k : ℕ). times n (take k (free_blocks v))) needed)
+      omega (
+        arith,
+        made_here,
+        behind,
+        both,
+        ap (λ (k : ℕ). times n (take k (free_blocks v))) needed,
+        ap (λ (l : List ℕ). times n (take (need v c) l)) free_grown,
+      )
 
   free_all : next + count ≤ v.count
       → AreFree v c s × ((b : ℕ) → uses b v + supply_uses v c s b + new_pair_uses (for_parts choice) (edited v c s) b ≤ 1)
-      × ((b : ℕ) → 0 < new_pair_uses (for_parts choice) (edited v c s) b → b < v.count)
+      × ((b : ℕ) → 0 < new_pair_uses (for_parts choice) (edited v c s) b → b < count_after c v.count)
   free_all within = laws.least v c s (for_parts choice) puts.sound (taken within)
 
   accepted : weight e ≤ room v → next + count ≤ v.count → IsAccepted v c s
@@ -270,7 +305,7 @@ module _ (laws : OneMoreLaws) (v : Volume) (c : Command) (next : ℕ) (before : 
   used le within b =
       let all = laws.after v c s (for_parts choice) (accepted le within) (chosen within) b in
       let taken_here : supply_uses v c s b + new_pair_uses (for_parts choice) (edited v c s) b
-      ≡ times b (take (need v c) (free_blocks v)) = taken within b in
+      ≡ times b (take (need v c) (free_blocks v)) = taken within b ∙ ap (λ (l : List ℕ). times b (take (need v c) l)) free_grown in
       let first : times b (take (need v c) (free_blocks v)) ≡ times b (range_with_len next count) =
       ap (λ (k : ℕ). times b (take k (free_blocks v))) needed ∙ ap (λ (l : List ℕ). times b (take count l)) free_is
       ∙ ap (times b) (take_range next (v.count - next) count (omega (arith, within))) in
@@ -286,7 +321,7 @@ module _ (laws : OneMoreLaws) (v : Volume) (c : Command) (next : ℕ) (before : 
 
   free_after : weight e ≤ room v → next + count ≤ v.count → AreFreeFrom left (next + count)
   free_after le within b lt =
-      let here : b < v.count = omega (arith, lt, (follows le within).count) in
+      let here : b < v.count = omega (arith, lt, (follows le within).count, same_count) in
       let one : uses b v + once_if (nat_le next b) (nat_le (next + count) b) ≤ 1 =
       omega (arith, used le within b, (follows le within).sound.once b) in
       ap (λ (n : ℕ). n == 0) (used le within b) ∙ free_behind b next count (uses b v) (puts.free b here) (puts.sound.once b) one

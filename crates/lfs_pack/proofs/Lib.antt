@@ -7,4 +7,5 @@ pub mod RowPlaced
 pub mod RowInParts
 pub mod RowsInTurn
 pub mod BareIsAt
+pub mod CountsKept
 pub mod PackedLemmas

@@ -22,6 +22,7 @@ use Rattle.lfs_pack.specs.Packed.{AreRowsOf, IsRowOf, Packed, attribute_of, comm
 use Rattle.lfs_pack.specs.Packing.{IsNotPacked, IsPacked, RefusesPack}
 use Rattle.lfs_pack.specs.RowsAdded.{AddsRows, AreStopped, IsBareAt, PacksVolume, RefusesAll, RefusesRows, SetsAll}
 use Rattle.lfs_pack.proofs.BareIsAt.{bare_is_at}
+use Rattle.lfs_pack.proofs.CountsKept.{kept, rows_keep}
 use Rattle.lfs_pack.proofs.LedOn.{led_on, stopped_first, stopped_then}
 use Rattle.lfs_pack.proofs.RowsSpelled.{same_rows}
 
@@ -136,13 +137,6 @@ module _ (texts : TextsSpellOnePath) (size count : ℕ) (row : PackRow) (rows : 
 
 -- ---- the image
 
-kept : CarriedFollow → (cs : List Command) (v w : Volume) → Lead cs v w → (w.size ≡ v.size) × (w.count ≡ v.count)
-kept follow [] v w is = (ap (λ (x : Volume). x.size) is, ap (λ (x : Volume). x.count) is)
-kept follow (c ∷ cs) v w (u, does, led) =
-    let one = follow c v u does in
-    let rest = kept follow cs u w led in
-    (rest.0 ∙ one.size, rest.1 ∙ one.count)
-
 same_disk : (size count : ℕ) (d : Disk) → d.size ≡ size → d.count ≡ count → disk_with size count d.bytes ≡ d
 same_disk size count d is_size is_count =
     sym (ap (λ (n : ℕ). disk_with n d.count d.bytes) is_size ∙ ap (λ (n : ℕ). disk_with size n d.bytes) is_count)
@@ -153,7 +147,7 @@ pub packed : CarriedFollow → LedToTheirMap → (size count : ℕ) (rows : List
 packed follow map_of size count rows t d packs disk finished what are =
     let to = packs.led what are in
     let done = finished to.2 to.0 to.3 in
-    let keeps = kept follow (commands what) (formatted_volume size count) to.0 to.1 in
+    let keeps = kept follow (commands what) (formatted_volume size count) to.0 (rows_keep what) to.1 in
     let same : d ≡ disk_with size count d.bytes = sym (same_disk size count d (sym done.size ∙ keeps.0) (sym done.count ∙ keeps.1)) in
     record {
       disk = subst IsDisk same disk;
