@@ -35,7 +35,7 @@ is_within first last number = nat_le first number && nat_le number last
 -- 1: a refused command; 2: usage; 3: a refused image or journal; 4: memory, or what the host refused
 abbrev pub status_of_number : ℕ → ℕ
 status_of_number number =
-    if is_within 30 43 number || is_within 53 55 number then 1
+    if is_within 30 43 number || number == 46 || is_within 53 55 number then 1
     else (if number == 64 then 2
     else (if is_within 1 21 number || is_within 50 52 number then 3
     else 4))

@@ -25,7 +25,7 @@ ChangedBytesAreDenoted = (step : Move) (size : ℕ) (image journal : List ℕ) (
     → Denotes size outcome.image.items outcome.journal.items changes.1.new
 
 -- Bytes that a command changed are an image that mounts to the command's equation of the tree of the image before, with the same
--- size, count and limits.
+-- size and limits, and with as many blocks as the command leaves.
 abbrev pub ChangedBytesAreEquations : Type 0
 ChangedBytesAreEquations = (asked : Asked) (size : ℕ) (image journal : List ℕ) (outcome : Outcome) (v : Volume) (t : Path → Option Node)
     → ChangesBytes (Do asked) size image journal outcome → Holds (reading_of (image_of size image)) v

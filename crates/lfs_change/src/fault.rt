@@ -68,7 +68,7 @@ impl Fault {
         ensures { result ≡ status_of_number (fault_number self) }
     {
         match self.number() {
-            30..=43 | 53..=55 => 1,
+            30..=43 | 46 | 53..=55 => 1,
             64 => 2,
             1..=21 | 50..=52 => 3,
             _ => 4,

@@ -19,7 +19,7 @@ pub fn changed_bytes_are_denoted()
 }
 
 /// A law: bytes that a command changed are an image that mounts to the command's equation of the tree of the image before,
-/// with the same size, count and limits. Takes no memory.
+/// with the same size and limits, and with as many blocks as the command says. Takes no memory.
 ///
 /// Source: own.
 pub fn changed_bytes_are_equations()

@@ -11,6 +11,8 @@ mod cutting;
 #[cfg(test)]
 mod formatting;
 #[cfg(test)]
+mod growing;
+#[cfg(test)]
 mod histories;
 #[cfg(test)]
 mod images;

@@ -34,7 +34,7 @@ pub patch_few : FewPartsChange → HeldAreClean → HeldAreHeldByLinks → (d : 
     → length (patch_bytes p) ≤ 12 + (need plans.volume plans.command + 2) * (2 * d.size + 4)
 patch_few few clean links d asked p plans =
     let size = plans.stands.size in
-    let len = patch_len p plans.patch in
+    let len = patch_len p plans.patch.patch in
     let many = changes_few few clean links d asked p plans in
     let bytes : 2 * p.size + 4 ≤ 2 * d.size + 4 = omega arith in
     let times = mul-le (length p.changes) (2 * p.size + 4) (need plans.volume plans.command + 2) (2 * d.size + 4) many bytes in

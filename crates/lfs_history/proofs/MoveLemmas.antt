@@ -127,10 +127,6 @@ redo_keeps law old new h u =
       few = subst (λ (n : ℕ). n ≤ most_changes) (sym (as_many new.done old.done new.undone old.undone p u.done u.undone)) h.few;
     }
 
--- a planned patch keeps the count
-pub planned_growth : (d : Disk) (asked : Asked) (p : ChangeSet) → Plans d asked p → IsGrowth p
-planned_growth d asked p plans = let same = plans.keeps in record { patch = plans.patch; rise = omega (arith, same) }
-
 -- the image that a planned patch makes mounts
 pub planned_mounts : Follow → (d : Disk) (asked : Asked) (p : ChangeSet) → Plans d asked p → IsMounted (applied p d)
 planned_mounts law d asked p plans =
@@ -140,7 +136,7 @@ planned_mounts law d asked p plans =
 pub push_keeps : Make → Follow → (asked : Asked) (p : ChangeSet) (old new : History) → IsHistory old → length old.done < most_changes
     → Plans old.present asked p → Pushes p old new → IsHistory new
 push_keeps law follow asked p old new h room plans u =
-    let behind = is_behind law p old new.present h (planned_growth old.present asked p plans) plans.stands u.present in
+    let behind = is_behind law p old new.present h plans.patch plans.stands u.present in
     let turned : reverse new.done ≡ p ∷ reverse old.done = latest old.done new.done p u.done in
     let len : length (new.done ++ new.undone) ≡ length old.done + 1 =
     ap (λ (us : List ChangeSet). length (new.done ++ us)) u.undone ∙ ap length (append-nil new.done) ∙ ap length u.done

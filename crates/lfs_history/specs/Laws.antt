@@ -16,7 +16,8 @@ use Rattle.lfs_command.specs.Planned.{Plans}
 use Rattle.lfs_history.specs.History.{History, IsHistory}
 use Rattle.lfs_history.specs.Taking.{Move, Do, Undo, Redo, Reply, Does, Takes, Run}
 
--- the patched image holds a sound volume of the same size, count and limits, whose tree is the command's equation
+-- the patched image holds a sound volume of the same size and limits, with as many blocks as the command leaves, whose tree is the
+-- command's equation
 pub record IsCarriedOut (asked : Asked) (e : Disk) (v : Volume) (t : Path → Option Node) : Type 0 where
   pub command : Command
   pub spells : Spells asked command

@@ -11,7 +11,7 @@ use lfs_fs::{both_sides_hold, images_mount_to_one_tree, mounted_images_have_no_c
 use lfs_law::{cuts_follow, need_is_exact, written_volumes_are_held};
 
 /// A law: a patch that is planned for a command leaves an image that mounts, to the tree that is the command's equation of
-/// the tree before, with the same size, count and limits. Takes no memory.
+/// the tree before, with the same size and limits, and with as many blocks as the command says. Takes no memory.
 ///
 /// Source: own.
 pub fn commands_are_equations()
@@ -22,8 +22,8 @@ pub fn commands_are_equations()
 }
 
 /// A law: a command that is carried out leaves the old present image in front of those before it, and no image to go on to.
-/// The present image mounts to the command's equation of the old one's tree, with the same size, count and limits. Takes no
-/// memory.
+/// The present image mounts to the command's equation of the old one's tree, with the same size and limits, and with as many
+/// blocks as the command says. Takes no memory.
 ///
 /// Source: own.
 pub fn commands_push_equations()

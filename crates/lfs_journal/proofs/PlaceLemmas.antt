@@ -118,7 +118,7 @@ done_at law follow asked d e old new i p q put read h room plans is =
     let pushes : Pushes p (history_at d old i) (history_at e new (i + 1)) = record {
       past = ap (λ (ps : List ChangeSet). past_of ps e) (latest (take i old) (take (i + 1) new) p made)
           ∙ ap (λ (x : Disk). x ∷ past_of (reverse (take i old)) x) (ap (reverted p) to
-          ∙ law.back p d h.history.disk plans.patch plans.stands);
+          ∙ law.back p d h.history.disk plans.patch.patch plans.stands);
       present = to;
       future = ap (λ (us : List ChangeSet). future_of us e) none;
       done = made;

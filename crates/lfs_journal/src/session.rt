@@ -134,8 +134,9 @@ impl Session {
         image
     }
 
-    /// Carries a command out, as a change that can be taken back; what was undone is dropped. Any refusal leaves all as
-    /// it was: `JournalFull` where 1,000 changes were made, then what `carry_out` refuses, or `Memory`.
+    /// Carries a command out, as a change that can be taken back; what was undone is dropped. Room for the image that it leaves
+    /// is made before anything changes. Any refusal leaves all as it was: `JournalFull` where 1,000 changes were made, then what
+    /// `carry_out` refuses, or `Memory`.
     pub fn command(&mut self, alloc: Global, command: &Command<'_>) -> Result<(), StepFault>
         ensures done { OnOk result (Does (asked_for command.now) self.old self.new) }
         ensures refused { IfErr result (λ fault. Takes (Do (asked_for command.now)) (Some fault) self.old self.new) }

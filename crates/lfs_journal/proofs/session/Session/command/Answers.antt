@@ -35,7 +35,7 @@ reserve-requires c =
     let s = c.self.inside in
     let change = c.in_ok-patch.field-0 in
     let plans = c.in_ok-patch.ensures.planned in
-    rw c.after.ensures.value (subst (λ (n : ℕ). IsGeometry n change.patch.after) plans.stands.size plans.patch.after)
+    rw c.after.ensures.value (subst (λ (n : ℕ). IsGeometry n change.patch.after) plans.stands.size plans.patch.patch.after)
 
 pub returns-then-not-reserve-clause-refused : goal.returns-then-not-reserve-clause-refused
 returns-then-not-reserve-clause-refused c =
