@@ -3,7 +3,7 @@ _lfsed() {
   local current=${COMP_WORDS[COMP_CWORD]} options= words= at at_word=0 named
   COMPREPLY=()
   if [ "$COMP_CWORD" = 1 ]; then
-    mapfile -t COMPREPLY < <(compgen -W 'format pack extract check ls cat mkdir put rm mv setattr rmattr undo redo forget explain help --help --version' -- "$current")
+    mapfile -t COMPREPLY < <(compgen -W 'format pack extract check ls cat mkdir put rm mv setattr rmattr grow undo redo forget explain help --help --version' -- "$current")
     return
   fi
   case ${COMP_WORDS[1]} in
@@ -55,6 +55,10 @@ _lfsed() {
       options='-b --block -h --help'
       words='IMAGE PATH KIND'
       ;;
+    grow)
+      options='-b --block -h --help'
+      words='IMAGE COUNT'
+      ;;
     undo)
       options='-b --block -h --help'
       words='IMAGE'
@@ -93,7 +97,7 @@ _lfsed() {
   case ${named[at_word]-} in
     IMAGE) mapfile -t COMPREPLY < <(compgen -f -- "$current") ;;
     DIR) mapfile -t COMPREPLY < <(compgen -d -- "$current") ;;
-    COMMAND) mapfile -t COMPREPLY < <(compgen -W 'format pack extract check ls cat mkdir put rm mv setattr rmattr undo redo forget explain' -- "$current") ;;
+    COMMAND) mapfile -t COMPREPLY < <(compgen -W 'format pack extract check ls cat mkdir put rm mv setattr rmattr grow undo redo forget explain' -- "$current") ;;
   esac
 }
 complete -o filenames -F _lfsed lfsed

@@ -15,7 +15,7 @@ INSTALLED = {
     "share/zsh/site-functions/_lfsed": "completions/_lfsed",
     "share/fish/vendor_completions.d/lfsed.fish": "completions/lfsed.fish",
 }
-COMMANDS = "cat check explain extract forget format ls mkdir mv pack put redo rm rmattr setattr undo"
+COMMANDS = "cat check explain extract forget format grow ls mkdir mv pack put redo rm rmattr setattr undo"
 # The words of a command line, of which the last one is completed, and what it may become.
 COMPLETED = [
     ("lfsed ", f"--help --version {COMMANDS} help"),
@@ -31,6 +31,9 @@ COMPLETED = [
     ("lfsed pack --count 8 fw.img ", "src"),
     ("lfsed pack --block=512 fw.img s", "src"),
     ("lfsed cat fw.img /", ""),
+    ("lfsed g", "grow"),
+    ("lfsed grow fw", "fw.img"),
+    ("lfsed grow fw.img ", ""),
     ("lfsed explain ", ""),
 ]
 

@@ -12,7 +12,7 @@ use Rattle.clap.proofs.SimpleLemmas.{is_false}
 use Rattle.clap.proofs.WalkLemmas.{both}
 use Rattle.lfs_grammar.proofs.FaultlessRows.{none_of}
 use Rattle.lfs_grammar.proofs.Lists.{Each, In, contained, each, each_in}
-use Rattle.lfs_grammar.specs.Grammar.{IsNumber, IsSaid, NamesCommand, block, commands, count, number, word}
+use Rattle.lfs_grammar.specs.Grammar.{IsNumber, IsSaid, NamesCommand, block, commands, count, new_count, number, word}
 
 -- ---- the command of a name
 
@@ -72,6 +72,9 @@ said_of name word rows same names =
 
 pub count_is : IsNumber count
 count_is = (2, 65536, refl, omega arith)
+
+pub new_count_is : IsNumber new_count
+new_count_is = (2, 65536, refl, omega arith)
 
 pub block_is : IsNumber block
 block_is = (256, 65536, refl, omega arith)

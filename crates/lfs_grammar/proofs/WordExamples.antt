@@ -42,6 +42,19 @@ formatting_says : (number_at (codes "block") formatting ≡ Some (Some (codes "5
 unfolding clap_on_literals
 formatting_says = (refl, refl)
 
+-- lfsed grow a.img 16
+abbrev growing : List Text
+growing = codes "lfsed" ∷ codes "grow" ∷ codes "a.img" ∷ codes "16" ∷ []
+
+growing_is_taken : IsTaken growing
+unfolding clap_on_literals
+growing_is_taken = refl
+
+growing_says : (text_at (codes "image") growing ≡ Some (Some (codes "a.img")))
+    × (number_at (codes "count") growing ≡ Some (Some (codes "16")))
+unfolding clap_on_literals
+growing_says = (refl, refl)
+
 -- what is refused: no command, an option that is left out, a number out of its range, a word too many
 no_command : fault_of grammar (codes "lfsed" ∷ []) ≡ MissingSubcommand ∷ []
 unfolding clap_on_literals
@@ -54,6 +67,10 @@ no_count = refl
 one_block : fault_of grammar (codes "lfsed" ∷ codes "format" ∷ codes "--count" ∷ codes "1" ∷ codes "a.img" ∷ []) ≡ ValueValidation ∷ []
 unfolding clap_on_literals
 one_block = refl
+
+grown_to_one_block : fault_of grammar (codes "lfsed" ∷ codes "grow" ∷ codes "a.img" ∷ codes "1" ∷ []) ≡ ValueValidation ∷ []
+unfolding clap_on_literals
+grown_to_one_block = refl
 
 two_images : fault_of grammar (codes "lfsed" ∷ codes "check" ∷ codes "a.img" ∷ codes "b.img" ∷ []) ≡ UnknownArgument ∷ []
 unfolding clap_on_literals

@@ -29,6 +29,10 @@ block = record (new_rule (codes "block")) {
 abbrev pub count : Rule
 count = record (word (codes "count")) { long = Some (codes "count"); parser = Some (Signed (pos 2) (pos 65536)) }
 
+-- the number of blocks that an image gets: a word that is a whole number from 2 to 65536
+abbrev pub new_count : Rule
+new_count = record (word (codes "count")) { parser = Some (Signed (pos 2) (pos 65536)) }
+
 -- a fault's number
 abbrev pub number : Rule
 number = record (word (codes "number")) { parser = Some (Signed (pos 0) (pos 4294967295)) }
@@ -37,6 +41,7 @@ number = record (word (codes "number")) { parser = Some (Signed (pos 0) (pos 429
 abbrev pub rule_at : Argument → Rule
 rule_at argument.Block = block
 rule_at argument.Count = count
+rule_at argument.NewCount = new_count
 rule_at argument.Image = word (codes "image")
 rule_at argument.Dir = word (codes "dir")
 rule_at argument.NewDir = word (codes "dir")
@@ -78,6 +83,7 @@ commands =
     ∷ on_image (codes "mv") (word (codes "from") ∷ word (codes "to") ∷ [])
     ∷ on_image (codes "setattr") (word (codes "path") ∷ word (codes "kind") ∷ word (codes "hex") ∷ [])
     ∷ on_image (codes "rmattr") (word (codes "path") ∷ word (codes "kind") ∷ [])
+    ∷ on_image (codes "grow") (new_count ∷ [])
     ∷ on_image (codes "undo") []
     ∷ on_image (codes "redo") []
     ∷ on_image (codes "forget") []

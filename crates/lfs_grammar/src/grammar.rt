@@ -22,6 +22,8 @@ enum Argument {
     Block,
     /// The number of blocks.
     Count,
+    /// The number of blocks that an image gets.
+    NewCount,
     /// The image's file name.
     Image,
     /// The name of a folder that is read.
@@ -50,7 +52,7 @@ struct CommandRow {
 }
 
 /// The program's commands, in the order of its help. Each but the last takes the block size and the image's file name.
-const COMMANDS: [CommandRow; 16] = [
+const COMMANDS: [CommandRow; 17] = [
     CommandRow {
         name: "format",
         about: "Write a new image, in place of a file of this name",
@@ -133,6 +135,11 @@ const COMMANDS: [CommandRow; 16] = [
         ],
     },
     CommandRow {
+        name: "grow",
+        about: "Lengthen an image by erased blocks; what it holds stays",
+        arguments: &[Argument::Block, Argument::Image, Argument::NewCount],
+    },
+    CommandRow {
         name: "undo",
         about: "Take the latest change back, byte for byte",
         arguments: &[Argument::Block, Argument::Image],
@@ -159,6 +166,10 @@ const DIR: &str = "Folder, of whose files and folders the image is made";
 
 /// What is said of a folder that is made.
 const NEW_DIR: &str = "Folder that is made; nothing may be there";
+
+/// What is said of the number of blocks that an image gets.
+const NEW_COUNT: &str =
+    "Number of blocks that it gets, more than it has; at most 65536, and 67108864 bytes in all";
 
 /// What is said of a path.
 const PATH: &str = "Path of a file or a directory in the image, from / on";
@@ -194,6 +205,10 @@ fn clap_argument<'a>(alloc: Global, argument: Argument) -> Arg<'a>
             .value_parser(value_parser!(u32).range(2..=65_536))
             .required(true)
             .help("Number of blocks, from 2 to 65536; at most 67108864 bytes in all"),
+        Argument::NewCount => {
+            let counts = value_parser!(u32).range(2..=65_536);
+            word(alloc, "count", "COUNT", NEW_COUNT).value_parser(counts)
+        }
         Argument::Image => word(alloc, "image", "IMAGE", "File of the image"),
         Argument::Dir => word(alloc, "dir", "DIR", DIR),
         Argument::NewDir => word(alloc, "dir", "DIR", NEW_DIR),

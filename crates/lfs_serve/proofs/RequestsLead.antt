@@ -275,6 +275,9 @@ done_leads laws (step.SetAttr path kind value) size name scene old new h b outco
 done_leads laws (step.RmAttr path kind) size name scene old new h b outcome good denotes handed answers leaves =
     changes laws (Do (asked.RmAttr path.now kind)) (step.RmAttr path kind) size name scene.typed old new h b outcome refl denotes handed.image
     handed.journal handed.input answers leaves
+done_leads laws (step.Grow count) size name scene old new h b outcome good denotes handed answers leaves =
+    changes laws (Do (asked.Grow count)) (step.Grow count) size name scene.typed old new h b outcome refl denotes handed.image
+    handed.journal handed.input answers leaves
 done_leads laws step.Undo size name scene old new h b outcome good denotes handed answers leaves =
     changes laws Undo step.Undo size name scene.typed old new h b outcome refl denotes handed.image
     handed.journal handed.input answers leaves

@@ -11,7 +11,8 @@ use Rattle.lfs_step.specs.declared.query.Query.{Query}
 use Rattle.lfs_step.specs.declared.query.Query.TheVariants as query
 use Rattle.lfs_step.specs.declared.step.Step.{Step}
 use Rattle.lfs_step.specs.declared.step.Step.TheVariants as step
-use Rattle.lfs_step.specs.declared.step.Step.TheVariants.{Format, Check, Ls, Cat, Mkdir, Put, Rm, Mv, SetAttr, RmAttr, Undo, Redo, Forget}
+use Rattle.lfs_step.specs.declared.step.Step.TheVariants.{Format, Check, Ls, Cat, Mkdir, Put, Rm, Mv, SetAttr, RmAttr, Grow}
+use Rattle.lfs_step.specs.declared.step.Step.TheVariants.{Undo, Redo, Forget}
 
 -- a new image of so many blocks is made, the root alone or with what rows have at their paths; something is asked of an image, or a step is taken on its history
 pub data Deed : Type 0 where
@@ -33,6 +34,7 @@ deed_of (Rm path) input = Change (Do (asked.Rm path.now))
 deed_of (Mv from to) input = Change (Do (asked.Mv from.now to.now))
 deed_of (SetAttr path kind value) input = Change (Do (asked.SetAttr path.now kind value.now))
 deed_of (RmAttr path kind) input = Change (Do (asked.RmAttr path.now kind))
+deed_of (Grow count) input = Change (Do (asked.Grow count))
 deed_of Undo input = Change change.Undo
 deed_of Redo input = Change change.Redo
 deed_of Forget input = Change change.Forget

@@ -14,7 +14,8 @@ use Rattle.lfs_change.specs.Laws.{GrowsByTheNeed}
 use Rattle.lfs_step.specs.Deed.{Deed, Change}
 use Rattle.lfs_step.specs.Outcome.{Given}
 
--- an image that a command is done on mounts to the command's equation of the tree before, with the same size, count and limits
+-- an image that a command is done on mounts to the command's equation of the tree before, with the same size and limits, and with as
+-- many blocks as the command leaves
 abbrev pub MeetsEquation : Deed → Given → Outcome → Type 0
 MeetsEquation (Change (Do asked)) g outcome =
     (v : Volume) (tree : Path → Option Node) → Holds (reading_of (image_of g.size g.image)) v → Mounts (image_of g.size g.image) tree

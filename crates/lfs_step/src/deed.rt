@@ -53,6 +53,7 @@ pub fn deed_of<'a>(step: &Step<'a>, input: &'a [u8]) -> Deed<'a>
         Step::Mv { from, to } => Command::Mv { from, to },
         Step::SetAttr { path, kind, value } => Command::SetAttr { path, kind, value },
         Step::RmAttr { path, kind } => Command::RmAttr { path, kind },
+        Step::Grow { count } => Command::Grow { count },
     };
     Deed::Change(Move::Do(command))
 }

@@ -66,6 +66,11 @@ pub enum Step<'a> {
         /// The attribute's kind.
         kind: u8,
     },
+    /// Lengthens the image by erased blocks.
+    Grow {
+        /// How many blocks the image then has.
+        count: u32,
+    },
     /// Takes the latest change back.
     Undo,
     /// Makes again the latest change that was taken back.

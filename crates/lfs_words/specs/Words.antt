@@ -11,7 +11,7 @@ use Rattle.lfs_request.specs.declared.task.Task.{Task}
 use Rattle.lfs_request.specs.declared.task.Task.TheVariants as task
 use Rattle.lfs_request.specs.declared.task.Task.TheVariants.{Pack, Extract, SetAttr, RmAttr}
 use Rattle.lfs_step.specs.declared.step.Step.{Step}
-use Rattle.lfs_step.specs.declared.step.Step.TheVariants.{Format, Check, Ls, Cat, Mkdir, Put, Rm, Mv, Undo, Redo, Forget}
+use Rattle.lfs_step.specs.declared.step.Step.TheVariants.{Format, Check, Ls, Cat, Mkdir, Put, Rm, Mv, Grow, Undo, Redo, Forget}
 
 -- an option's text
 abbrev pub HasText : List Row → Text → Text → Type 0
@@ -36,6 +36,7 @@ IsStep (Put path) name rows = (name ≡ codes "put") × HasText rows (codes "pat
 IsStep (Rm path) name rows = (name ≡ codes "rm") × HasText rows (codes "path") path.now
 IsStep (Mv from to) name rows =
     (name ≡ codes "mv") × HasText rows (codes "from") from.now × HasText rows (codes "to") to.now
+IsStep (Grow count) name rows = (name ≡ codes "grow") × HasNumber rows (codes "count") count
 IsStep _ name rows = ⊥
 
 -- the task that a command and its options ask for

@@ -38,6 +38,9 @@ fn step_of<'a>(name: &str, options: &ArgMatches<'a>) -> Option<Step<'a>>
             from: bytes(options, "from")?,
             to: bytes(options, "to")?,
         },
+        "grow" => Step::Grow {
+            count: number(options, "count")?,
+        },
         "undo" => Step::Undo,
         "redo" => Step::Redo,
         "forget" => Step::Forget,

@@ -14,7 +14,7 @@ pub struct Explanation {
 }
 
 /// The faults in the order of their numbers. docs/FAULTS.md has the same table.
-const EXPLANATIONS: [Explanation; 47] = [
+const EXPLANATIONS: [Explanation; 48] = [
     Explanation {
         number: 1,
         name: "ImageLength",
@@ -221,6 +221,12 @@ const EXPLANATIONS: [Explanation; 47] = [
         name: "Memory",
         text: "A growth of memory was refused. No image and no journal was changed; of a folder that is \
          being made the first entries may be there. Give the program more memory.",
+    },
+    Explanation {
+        number: 46,
+        name: "BadCount",
+        text: "The image has as many blocks or more, or an image of its block size can't have so many. `check` says how \
+         many it has; an image has at most 65536 blocks and 67108864 bytes.",
     },
     Explanation {
         number: 50,

@@ -1,7 +1,7 @@
 use Rattle.std.proofs.Common.{codes, refl}
 use Rattle.clap.specs.Words.{found_of, rows_of}
-use Rattle.lfs_grammar.specs.Grammar.{count, word}
-use Rattle.lfs_grammar.proofs.CommandLemmas.{count_is, said_of}
+use Rattle.lfs_grammar.specs.Grammar.{count, new_count, word}
+use Rattle.lfs_grammar.proofs.CommandLemmas.{count_is, new_count_is, said_of}
 use Rattle.lfs_words.proofs.matching.step_of.Goals as goal
 
 pub returns-in_err-number-in-format-clause-none : goal.returns-in_err-number-in-format-clause-none
@@ -38,3 +38,8 @@ pub returns-in_err-bytes-in-mv-2-clause-none : goal.returns-in_err-bytes-in-mv-2
 returns-in_err-bytes-in-mv-2-clause-none c = λ none names.
     let said = said_of c.args.name.now (codes "mv") (rows_of (found_of c.args.options.now)) c.in-mv.is names in
     absurd (c.in_err-bytes-in-mv-2.ensures.none refl (word (codes "to")) refl said.1.1.1.0)
+
+pub returns-in_err-number-in-grow-clause-none : goal.returns-in_err-number-in-grow-clause-none
+returns-in_err-number-in-grow-clause-none c = λ none names.
+    let said = said_of c.args.name.now (codes "grow") (rows_of (found_of c.args.options.now)) c.in-grow.is names in
+    absurd (c.in_err-number-in-grow.ensures.none refl new_count refl new_count_is said.1.1.0)
