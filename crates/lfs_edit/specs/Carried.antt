@@ -84,8 +84,8 @@ pub record IsCutReady (d : Disk) (c : Command) (used : List Bool) (blocks : List
   pub ready : IsReady d c used blocks before
   pub cuts : IsCutOver before (drop (made_blocks ready.volume c) blocks) o
 
--- A patch, which keeps the count, writes an outline over the volume of an image that is lengthened already: blocks of a file's new contents, and the links that are
--- set.
+-- A patch, which keeps the count, writes an outline over the volume of an image that is lengthened already: blocks of a file's new
+-- contents, and the links that are set.
 pub record WritesOver (d : Disk) (v : Volume) (c : Command) (used : List Bool) (o : Volume) (p : ChangeSet) : Type 0 where
   pub patch : IsPatch p
   pub stands : AgreesOld p d
