@@ -5,65 +5,15 @@ come from a writer of logs that is apart from the program. Each command is taken
 import sys
 import zlib
 
-from support.blocks import Blocks
+from support.blocks import Changes
 from support.folder import contents, run_scenes
 from support.littlefs import NULL, ROOT, Log
 from support.logs import (
-    HARD, SOFT, Draft, appended, attribute, chained, created, deleted, directory, file, log, moved, superblock, tail,
+    HARD, SOFT, Draft, appended, attribute, chained, created, deleted, directory, file, filled, log, moved, superblock, tail,
 )
 
 NOWHERE = NULL, NULL
 SIZES = 256, 512, 4_096
-
-
-class Changes(Blocks):
-    """An image of which it is known which blocks each command leaves."""
-
-    def block(self, number):
-        """The bytes of a block."""
-        return self.read().block(number)
-
-    def become(self, line, wanted):
-        """Compares the image, block by block."""
-        found = self.folder.old()
-        numbers = range(len(wanted) // self.size)
-        wrong = [n for n in numbers if self.sliced(found, n) != self.sliced(wanted, n)]
-        logs = [(n, Log(self.sliced(found, n)).commits[-1:], Log(self.sliced(wanted, n)).commits[-1:]) for n in wrong]
-        self.folder.check(f"blocks of {self.size}: {line}", found == wanted, logs)
-
-    def sliced(self, image, number):
-        """A block of an image's bytes."""
-        return image[number * self.size:(number + 1) * self.size]
-
-    def leaves(self, line, blocks, length=0):
-        """Carries out a command that leaves these blocks, erased behind these bytes, and all others as they were."""
-        old = self.folder.old()
-        wanted = bytearray(old)
-        for number, block in blocks.items():
-            wanted[number * self.size:(number + 1) * self.size] = block.ljust(self.size, b"\xff")
-        self.do(line, length)
-        self.become(line, wanted)
-        for step, image in ("undo", old), ("redo", wanted):
-            self.do(step)
-            self.become(f"{line}, {step}", image)
-        said = self.folder.run(f"check -b {self.size} a.img")
-        self.folder.check(f"blocks of {self.size}: {line}: it mounts", said[:2] == (0, ""), said)
-
-    def appends(self, line, commits, others=None, length=0):
-        """Carries out a command that appends these items to these blocks, which are live then, and leaves these others."""
-        longer = {number: appended(self.block(number), items) for number, items in commits.items()}
-        self.leaves(line, {**longer, **(others or {})}, length)
-        reader = self.read()
-        live = {reader.live(pair)[0] for pair in reader.thread()}
-        last = [Log(reader.block(number)).commits[-1:] for number in commits]
-        is_right = live >= {*commits} and last == [[items] for items in commits.values()]
-        self.folder.check(f"blocks of {self.size}: {line}: live blocks", is_right, (live, last))
-
-    def holds(self, tree):
-        """Compares what stands at each path, but for the root."""
-        found = self.read().tree()
-        del found[b"/"]
-        self.folder.check(f"blocks of {self.size}: the tree", found == tree, found)
 
 
 def summed(covered, shown=0):
@@ -99,14 +49,6 @@ def full_blocks_are_left(folder):
     for _ in range(14):
         blocks.do("undo")
     folder.check("all is taken back", folder.old() == fresh)
-
-
-def filled(draft, end):
-    """A log that empty commits fill up to a place."""
-    while end - len(draft.bytes) > 1_000:
-        draft.close(padding=500)
-    draft.close(padding=end - len(draft.bytes) - 8)
-    return draft.bytes
 
 
 # How many bytes are left behind a log, where a value of two bytes takes 14 with its checksum, and whether they are enough. A block

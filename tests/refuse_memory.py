@@ -8,6 +8,7 @@ import sys
 import tempfile
 
 from support.journal import journal
+from support.logs import file, image, log, superblock
 from support.refusing import Refusing
 
 HOME = pathlib.Path(__file__).resolve().parent.parent
@@ -138,6 +139,24 @@ def history_rows(runs):
         runs.row(["undo", "a.img"], (new[0], journal(512, 8, done, [])))
 
 
+def growing_rows(runs):
+    """An image that is made longer, also a full one and one whose root is cut, with what is taken back and made again."""
+    new = runs.row(["format", "--count=8", "a.img"], NOTHING)
+    runs.row(["grow", "a.img", "8"], new)
+    grown = runs.row(["grow", "a.img", "16"], new)
+    undone = runs.row(["undo", "a.img"], grown)
+    runs.row(["redo", "a.img"], undone)
+    runs.row(["mkdir", "a.img", "/a"], undone)
+    filled = runs.row(["put", "a.img", "/f"], grown, bytes(4_052))
+    runs.row(["undo", "a.img"], runs.row(["undo", "a.img"], filled))
+    runs.size = 256
+    heavy = superblock(256, 2) + [item for number in (1, 2) for item in file(number, 90 * b"ab"[number - 1:number])]
+    root = image(256, 2, {0: log(1, heavy)}), None
+    runs.row(["grow", "a.img", "3"], root)
+    runs.row(["undo", "a.img"], runs.row(["grow", "a.img", "4"], root))
+    runs.size = 512
+
+
 subprocess.run([HOME / "bin/lfsed", "--help"], stdout=subprocess.DEVNULL, check=True)
 with tempfile.TemporaryDirectory() as folder:
     tried = Runs(pathlib.Path(folder))
@@ -146,5 +165,6 @@ with tempfile.TemporaryDirectory() as folder:
     small_block_rows(tried)
     folder_rows(tried)
     history_rows(tried)
+    growing_rows(tried)
 print(f"{tried.ran - tried.wrong} passed, {tried.wrong} failed")
 sys.exit(1 if tried.wrong else 0)

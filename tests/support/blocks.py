@@ -1,6 +1,6 @@
 """Images of blocks of one size, on which commands are carried out, and what a reader apart from the program finds in them."""
-from support.littlefs import Reader
-from support.logs import image
+from support.littlefs import Log, Reader
+from support.logs import appended, image
 
 
 class Blocks:
@@ -43,3 +43,54 @@ class Blocks:
         """Compares the paths in their order."""
         found = [path.decode() for path, _ in self.read().rows()]
         self.folder.check("paths", found == list(paths), found)
+
+
+class Changes(Blocks):
+    """An image of which it is known which blocks each command leaves."""
+
+    def block(self, number):
+        """The bytes of a block."""
+        return self.read().block(number)
+
+    def become(self, line, wanted):
+        """Compares the image, block by block."""
+        found = self.folder.old()
+        numbers = range(len(wanted) // self.size)
+        wrong = [n for n in numbers if self.sliced(found, n) != self.sliced(wanted, n)]
+        logs = [(n, Log(self.sliced(found, n)).commits[-1:], Log(self.sliced(wanted, n)).commits[-1:]) for n in wrong]
+        self.folder.check(f"blocks of {self.size}: {line}", found == wanted, logs)
+
+    def sliced(self, image, number):
+        """A block of an image's bytes."""
+        return image[number * self.size:(number + 1) * self.size]
+
+    def leaves(self, line, blocks, length=0, count=0):
+        """Carries out a command that leaves these blocks, erased behind these bytes, and all others as they were. Where it leaves
+        more blocks than there were, `count` says how many; what it adds is erased."""
+        old = self.folder.old()
+        wanted = bytearray(old.ljust(count * self.size, b"\xff"))
+        for number, block in blocks.items():
+            wanted[number * self.size:(number + 1) * self.size] = block.ljust(self.size, b"\xff")
+        self.do(line, length)
+        self.become(line, wanted)
+        for step, image in ("undo", old), ("redo", wanted):
+            self.do(step)
+            self.become(f"{line}, {step}", image)
+        said = self.folder.run(f"check -b {self.size} a.img")
+        self.folder.check(f"blocks of {self.size}: {line}: it mounts", said[:2] == (0, ""), said)
+
+    def appends(self, line, commits, others=None, length=0, count=0):
+        """Carries out a command that appends these items to these blocks, which are live then, and leaves these others."""
+        longer = {number: appended(self.block(number), items) for number, items in commits.items()}
+        self.leaves(line, {**longer, **(others or {})}, length, count)
+        reader = self.read()
+        live = {reader.live(pair)[0] for pair in reader.thread()}
+        last = [Log(reader.block(number)).commits[-1:] for number in commits]
+        is_right = live >= {*commits} and last == [[items] for items in commits.values()]
+        self.folder.check(f"blocks of {self.size}: {line}: live blocks", is_right, (live, last))
+
+    def holds(self, tree):
+        """Compares what stands at each path, but for the root."""
+        found = self.read().tree()
+        del found[b"/"]
+        self.folder.check(f"blocks of {self.size}: the tree", found == tree, found)

@@ -53,6 +53,14 @@ def log(revision, items, step=1):
     return Draft(revision).add(items).close_at(step).bytes
 
 
+def filled(draft, end):
+    """A log that empty commits fill up to a place."""
+    while end - len(draft.bytes) > 1_000:
+        draft.close(padding=500)
+    draft.close(padding=end - len(draft.bytes) - 8)
+    return draft.bytes
+
+
 def appended(block, items):
     """A block with one more commit of items behind its log, which ends at a multiple of 16; longer than the block where there is
     no room for it."""

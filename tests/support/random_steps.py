@@ -1,11 +1,12 @@
 #!/usr/bin/env python3
 """Takes 10,000 random steps by a program, `random_steps.py PROGRAM [STEPS [SEED]]`, over new images and images of another writer
 whose logs have many commits, and compares after each: how it ends and what stands at each path, with a plain model; which blocks
-have changed, with the rule by which pairs change; and the image byte for byte where changes are taken back or made again. Ends with
-0 where nothing differs. It is run by hand."""
+have changed, with the rule by which pairs change; how many blocks there are, of which added ones are erased; and the image byte for
+byte where changes are taken back or made again. Ends with 0 where nothing differs. It is run by hand."""
 import pathlib
 import random
 import re
+import struct
 import subprocess
 import sys
 import tempfile
@@ -19,9 +20,11 @@ from support.scattering import Scattered, key
 
 STEPS_OF_AN_IMAGE = 250
 GEOMETRIES = (256, 16), (256, 40), (256, 200), (512, 24), (512, 64), (1_024, 16), (4_096, 12), (4_096, 40), (16_384, 10)
-NO_SPACE, TOO_LARGE = 43, 42
+NO_SPACE, TOO_LARGE, BAD_COUNT = 43, 42, 46
 # How often a step of a kind is taken.
-KINDS = {"mkdir": 12, "put": 32, "rm": 14, "mv": 12, "setattr": 18, "rmattr": 6, "undo": 8, "redo": 5}
+KINDS = {"mkdir": 12, "put": 32, "rm": 14, "mv": 12, "setattr": 18, "rmattr": 6, "grow": 5, "undo": 9, "redo": 6}
+# The limits of images.
+MOST_BLOCKS, MOST_BYTES = 65_536, 67_108_864
 # How many blocks a command takes at most beside those of contents and of a directory: two parts, each cut into three.
 MOST_OF_PARTS = 8
 
@@ -35,6 +38,19 @@ def fronts(path):
 def last(path):
     """The last name of a path."""
     return path.rsplit("/", 1)[1]
+
+
+def forced_by(kind, what):
+    """What a command writes even where it stays the same: of the entry of a name the attribute of a kind, or the struct."""
+    if kind not in ("put", "setattr"):
+        return []
+    name = None if what[0] == "/" else last(what[0]).encode()
+    return [(name, what[1] if kind == "setattr" else None)]
+
+
+def most_blocks(size):
+    """The most blocks of an image."""
+    return min(MOST_BLOCKS, MOST_BYTES // size)
 
 
 def most_inline(size):
@@ -69,7 +85,7 @@ class Model:
         return there or (40 if to.startswith(path + "/") else 0) or self.walk(to) or (31 if to in self.tree else 0)
 
     def refuses(self, kind, path, *more):
-        """The number of the refusal of a command, the checks on room aside; 0 where there is none."""
+        """The number of the refusal of a command on paths, the checks on room aside; 0 where there is none."""
         if kind == "mv":
             return self.moves(path, *more)
         if path == "/" and kind in ("mkdir", "put", "rm"):
@@ -84,7 +100,7 @@ class Model:
         return 31 if kind == "mkdir" and there else 33 if kind == "put" and there and there[0] is None else 0
 
     def after(self, kind, path, *more):
-        """The tree behind a command that isn't refused."""
+        """The tree behind a command on paths that isn't refused."""
         tree = dict(self.tree)
         held, values = tree.get(path, (None, {}))
         if kind == "rm":
@@ -159,10 +175,22 @@ class Run:
         name = self.chance.choice("abcdefg") * self.chance.choice([1, 1, 2, 30, self.size // 4 % 200])
         return f"{parent}/{'littlefs' if self.chance.random() < 0.02 else name}"
 
+    def count(self):
+        """How many blocks the image has."""
+        return len(self.now[0].image) // self.size
+
+    def new_count(self):
+        """A number of blocks, mostly a few more than there are, else one that is refused."""
+        count, most = self.count(), most_blocks(self.size)
+        refused = [2, count - 1, count] + [most + 1] * (most < MOST_BLOCKS)
+        return count + self.chance.randrange(1, 9) if self.chance.random() < 0.8 else self.chance.choice(refused)
+
     def command(self):
         """A step: its kind, and what it takes."""
         tree, chance = self.now[1], self.chance
         kind = chance.choices([*KINDS], [*KINDS.values()])[0]
+        if kind == "grow":
+            return kind, self.new_count()
         path = self.path(tree, kind == "mkdir" or kind == "put" and chance.random() < 0.5)
         if kind == "put":
             lengths = [0, 0, 3, self.size // 8, self.size // 8 + 1, self.size, 2 * self.size + 7]
@@ -182,7 +210,7 @@ class Run:
         if kind in ("undo", "redo"):
             wrong = self.moves_in_history(kind)
             return wrong and f"{kind}: {wrong}"
-        words = [f"{word:02x}" if isinstance(word, int) else word for word in what]
+        words = [str(word) if kind == "grow" else f"{word:02x}" if isinstance(word, int) else word for word in what]
         held = words.pop() if kind == "put" else b""
         ended = self.ends(kind, *[word.hex() if isinstance(word, bytes) else word for word in words], held=held)
         wrong = self.carries_out(kind, what, ended)
@@ -203,24 +231,32 @@ class Run:
 
     def room(self, model, kind, what):
         """The number of the refusal of a command for want of room, or 0, as far as weights tell."""
-        path = what[1] if kind == "mv" else what[0]
+        path = {"mv": what[-1], "grow": "/"}.get(kind, what[0])
         is_heavy = kind not in ("rm", "rmattr") and model.weighs(path) > self.size - 40
         return TOO_LARGE if is_heavy else 0
 
     def has_no_space(self, kind, what, complaint):
         """Whether a command is rightly refused for want of free blocks, as far as the count of these tells."""
-        free = self.now[0].free()
+        free = self.now[0].free() + (what[0] - self.count() if kind == "grow" else 0)
         need = int(re.search(r"need (\d+) ", complaint)[1])
         inline = kind != "put" or len(what[1]) <= most_inline(self.size)
         taken = 2 * (kind == "mkdir") + (0 if inline else blocks_for(self.size, len(what[1])))
         return complaint == f"lfsed: 43 NoSpace need {need} free {free}\n" and free < need <= taken + MOST_OF_PARTS
 
+    def meant(self, kind, what):
+        """The number of the refusal of a command, the checks on room aside, or 0; and what then stands at each path."""
+        model = Model(self.now[1], self.size)
+        if kind == "grow":
+            return 0 if self.count() < what[0] <= most_blocks(self.size) else BAD_COUNT, model
+        number = model.refuses(kind, *what)
+        return number, model if number else Model(model.after(kind, *what), self.size)
+
     def carries_out(self, kind, what, ended):
         """Compares how a command ended, and what it left."""
         reader, tree = self.now
-        wanted = Model(tree, self.size).refuses(kind, *what)
-        after = Model(tree if wanted else Model(tree, self.size).after(kind, *what), self.size)
+        wanted, after = self.meant(kind, what)
         wanted = wanted or self.room(after, kind, what)
+        count = what[0] if kind == "grow" else self.count()
         self.counts["refused" if ended[0] else "done"] += 1
         if ended[0]:
             is_right = ended[0] == wanted or ended[0] == NO_SPACE and not wanted and self.has_no_space(kind, what, ended[1])
@@ -232,14 +268,18 @@ class Run:
         self.now = self.read()
         if self.now[1] != after.tree:
             return f"the tree is {self.now[1]}"
-        name = None if what[0] == "/" else last(what[0]).encode()
-        forced = [(name, what[1] if kind == "setattr" else None)] if kind in ("put", "setattr") else []
-        return self.has_changed(reader, forced) or self.is_said()
+        return self.has_count(reader, count) or self.has_changed(reader, forced_by(kind, what)) or self.is_said()
+
+    def has_count(self, old, count):
+        """Compares the number of blocks, and the superblock's struct, which says it."""
+        held = [reader.parts[0].entries[0].value for reader in (old, self.now[0])]
+        wanted = held[0][:8] + struct.pack("<I", count) + held[0][12:]
+        return "" if self.count() == count and held[1] == wanted else f"{self.count()} blocks, not {count}; {held[1]}"
 
     def has_changed(self, old, forced):
         """Compares which blocks have changed, and to what: those of pairs as the rule says, and of others only free ones."""
         new, known = self.now[0], old.thread()
-        wanted = {number: old.block(number) for number in range(len(old.image) // self.size)}
+        wanted = {number: old.block(number).ljust(self.size, b"\xff") for number in range(self.count())}
         for number in new.used_by_files():
             wanted[number] = new.block(number) if number not in old.used() else wanted[number]
         for part in new.parts:
