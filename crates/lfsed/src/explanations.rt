@@ -213,8 +213,8 @@ const EXPLANATIONS: [Explanation; 48] = [
     Explanation {
         number: 43,
         name: "NoSpace",
-        text: "The change needs more new blocks than are free; both numbers are said. Remove something, or \
-         make an image of more blocks.",
+        text: "The change needs more new blocks than are free; both numbers are said. Remove something, \
+         lengthen the image with `grow`, or pack into an image of more blocks.",
     },
     Explanation {
         number: 44,
