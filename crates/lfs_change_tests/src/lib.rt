@@ -11,8 +11,6 @@ mod cutting;
 #[cfg(test)]
 mod formatting;
 #[cfg(test)]
-mod growing;
-#[cfg(test)]
 mod histories;
 #[cfg(test)]
 mod images;

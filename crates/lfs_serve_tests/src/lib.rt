@@ -1,11 +1,9 @@
 //! Tests of requests on a host's files, over a host in memory, and a law of them; and of folders that are read and made, and a law of
-//! those that are read. What other commands than `grow` make of files, and which journals are refused, is tested by `tests/journals.py`
+//! those that are read. What commands, undo and redo make of files, and which journals are refused, is tested by `tests/journals.py`
 //! and `tests/rows.py`, over the program.
 #![tactic(auto)]
 
 mod asking;
-#[cfg(test)]
-mod growing;
 #[cfg(test)]
 mod host_faults;
 #[cfg(test)]
