@@ -6,6 +6,6 @@ pub outline_of-requires : goal.outline_of-requires
 outline_of-requires g c = record {
   outline = (
     c.in_ok-_mounted._mounted.outline,
-    mounted_outline c.in_ok-image.image c.in_ok-_mounted._mounted c.in_ok-_mounted.ensures.mounted,
+    mounted_outline c.in_ok-image.image.disk c.in_ok-_mounted._mounted c.in_ok-_mounted.ensures.mounted,
   );
 }
