@@ -57,10 +57,10 @@ pub record CarriesOut (c : Command) (v w : Volume) : Type 0 where
   pub is : w ≡ clean (cut chosen (edited v c supplies))
 
 -- A patch of an image carries out a command that is asked for: the command leads from the volume that the image holds to the one
--- that the patched image holds, and the patch stands in the image, whose count becomes the command's. It names the blocks that the command takes;
--- what is free then are the blocks that were, without them, and those of what was removed or replaced. What is new stands in the first
--- blocks of new pairs, the second ones of which are erased; a pair that was there is changed by a commit appended to its live block,
--- where there is room for it, and else by its other block rewritten.
+-- that the patched image holds, and the patch stands in the image, whose count becomes the command's. It names the blocks that the
+-- command takes; what is free then are the blocks that were, without them, and those of what was removed or replaced. What is new
+-- stands in the first blocks of new pairs, the second ones of which are erased; a pair that was there is changed by a commit
+-- appended to its live block, where there is room for it, and else by its other block rewritten.
 pub record Plans (d : Disk) (asked : Asked) (p : ChangeSet) : Type 0 where
   pub volume : Volume
   pub holds : Holds (reading_of d) volume

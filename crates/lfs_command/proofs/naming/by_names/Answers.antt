@@ -1,8 +1,11 @@
 -- A text that spells no path is one of the command's.
-use Rattle.std.proofs.Common.{◌≡◌, ◌⊎◌, ℕ, List, [], ◌∷◌, refl, arith, inl, inr}
+use Rattle.std.proofs.Common.{◌≡◌, ◌⊎◌, ℕ, List, [], ◌∷◌, All, get_or, refl, arith, ap, inl, inr, subst, sym, ◌∙◌}
 use Rattle.std.specs.List.{Any}
 use Rattle.std.proofs.lemmas.Result.{err_from_is_err_and}
-use Rattle.lfs_fs.specs.Path.{IsNoPath}
+use Rattle.lfs_meta.specs.Name.{IsName}
+use Rattle.lfs_fs.specs.Path.{IsNoPath, Path}
+use Rattle.lfs_command.specs.AskedFor.{asked_for}
+use Rattle.lfs_command.specs.Command.{Put}
 use Rattle.lfs_command.specs.declared.refusal.Refusal.{Refusal}
 use Rattle.lfs_command.specs.declared.refusal.Refusal.TheVariants.{Memory, BadPath}
 use Rattle.lfs_command.proofs.naming.by_names.Goals as goal
@@ -17,6 +20,12 @@ second : (front text : List ℕ) (texts : List (List ℕ)) (r : Refusal) → (r 
     → (r ≡ Memory) ⊎ ((r ≡ BadPath) × Any IsNoPath (front ∷ text ∷ texts))
 second front text texts r why = elim why [ inl memory ↦ inl memory | inr bad ↦ inr (bad.0, (1, text, omega arith, refl, bad.1)) ]
 
+-- the names of the one path
+one : (p : Path) → All IsName p → All (All IsName) (p ∷ [])
+one p names k d less =
+    let none : k ≡ 0 = omega (arith, less) in
+    subst (λ (n : ℕ). All IsName (get_or (p ∷ []) n d)) (sym none) names
+
 pub returns-in_err-path-in-Mkdir-clause-refused : goal.returns-in_err-path-in-Mkdir-clause-refused
 returns-in_err-path-in-Mkdir-clause-refused c =
     let p = err_from_is_err_and c.from_residual.result c.from_residual.ensures.1 in
@@ -26,6 +35,11 @@ pub returns-in_err-path-in-Put-clause-refused : goal.returns-in_err-path-in-Put-
 returns-in_err-path-in-Put-clause-refused c =
     let p = err_from_is_err_and c.from_residual-in_err-path-in-Put.result c.from_residual-in_err-path-in-Put.ensures.1 in
     rw (p.1, p.2, c.in-Put.is) (first _ [] _ c.in_err-path-in-Put.ensures.refused)
+
+pub returns-in_ok-path-in-Put-clause-spelled : goal.returns-in_ok-path-in-Put-clause-spelled
+returns-in_ok-path-in-Put-clause-spelled c =
+    let spelled = c.in_ok-path-in-Put.ensures.spelled in
+    (one _ spelled.0, ap asked_for c.in-Put.is ∙ ap (λ (text : List ℕ). Put text c.in-Put.bytes.now) spelled.1)
 
 pub returns-in_err-path-in-Rm-clause-refused : goal.returns-in_err-path-in-Rm-clause-refused
 returns-in_err-path-in-Rm-clause-refused c =
