@@ -80,8 +80,8 @@ impl Image {
         self.room
     }
 
-    /// Makes room for `count` blocks. False where memory is refused, which changes nothing. The caller owes that an image of this
-    /// block size may have so many.
+    /// Makes room for `count` blocks, and takes no memory beyond theirs. False where memory is refused, which changes nothing. The
+    /// caller owes that an image of this block size may have so many.
     ///
     /// Source: own.
     pub fn reserve(&mut self, count: u32) -> bool
@@ -92,7 +92,7 @@ impl Image {
             return true;
         }
         let length = count as usize * self.size as usize;
-        if self.bytes.reserve(length - self.bytes.len()).is_err() {
+        if self.bytes.reserve_exact(length - self.bytes.len()).is_err() {
             return false;
         }
         self.room = count;

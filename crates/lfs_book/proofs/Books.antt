@@ -1,5 +1,5 @@
 -- A book that is read is spelled so, and one that is spelled so is read.
-use Rattle.std.proofs.Common.{◌≡◌, inl, inr, ℕ, ◌+◌, ◌≤◌, cond, eqb, List, [], ◌++◌, length, take}
+use Rattle.std.proofs.Common.{◌≡◌, inl, inr, ℕ, ◌+◌, ◌≤◌, true, cond, eqb, List, [], ◌++◌, length, take}
 use Rattle.std.proofs.Common.{drop, Some, None, Result, Ok, Err, refl, sym, ap, subst, ◌∙◌, arith}
 use Rattle.std.specs.Prelude.{codes, IfOk, IfErr}
 use Rattle.std.specs.Int.{w32, to_le_bytes}
@@ -61,21 +61,19 @@ version_of h ps (inl first) each =
     inr (first, subst (AllByRecursion (KeepsAt h.count)) (sym (take-append-drop h.done ps)) (each_kept h ps first each))
 version_of h ps (inr second) each = inl second
 
-pub book_takes : (bytes : List ℕ) (j : Book) → IsBytes bytes → read_book bytes ≡ Some j → Spells bytes j
-unfolding read_book
-book_takes bytes j h e =
-    let a = bind_some (head_at bytes) (λ head. patches_at head.0 (head.0.done + head.0.undone) head.1 >>= λ patches.
-    cond (eqb (length patches.1) 0) (Some (book_of head.0.size head.0.count patches.0 head.0.done)) None) j e in
-    let head : Head = a.0.0 in
-    let b = bind_some (patches_at head (head.done + head.undone) a.0.1)
-    (λ patches. cond (eqb (length patches.1) 0) (Some (book_of head.size head.count patches.0 head.done)) None) j a.2 in
-    let ps : List ChangeSet = b.0.0 in
-    let g = cond_some (eqb (length b.0.1) 0) (book_of head.size head.count ps head.done) j b.2 in
-    let first = head_takes bytes a.0 h a.1 in
-    let second = patches_take head (head.done + head.undone) a.0.1 b.0 first.takes.rest_bytes first.is.geometry b.1 in
-    let nothing : b.0.1 ≡ [] = nil_from_length b.0.1 (eqb-true _ _ g.0) in
-    let both : bytes ≡ spelled head ps ++ b.0.1 =
-    (Takes-then bytes (head_bytes head) a.0.1 (flat_map (patch_bytes_in head.version) ps) b.0.1 first.takes second.takes).parts in
+-- a book, each of whose parts is read
+book_read : (bytes : List ℕ) (a : Head × List ℕ) (b : List ChangeSet × List ℕ) (j : Book) → IsBytes bytes → head_at bytes ≡ Some a
+    → patches_at a.0 (a.0.done + a.0.undone) a.1 ≡ Some b
+    → cond (eqb (length b.1) 0) (Some (book_of a.0.size a.0.count b.0 a.0.done)) None ≡ Some j → Spells bytes j
+book_read bytes a b j h head_is patches_are is =
+    let head : Head = a.0 in
+    let ps : List ChangeSet = b.0 in
+    let g = cond_some (eqb (length b.1) 0) (book_of head.size head.count ps head.done) j is in
+    let first = head_takes bytes a h head_is in
+    let second = patches_take head (head.done + head.undone) a.1 b first.takes.rest_bytes first.is.geometry patches_are in
+    let nothing : b.1 ≡ [] = nil_from_length b.1 (eqb-true _ _ g.0) in
+    let both : bytes ≡ spelled head ps ++ b.1 =
+    (Takes-then bytes (head_bytes head) a.1 (flat_map (patch_bytes_in head.version) ps) b.1 first.takes second.takes).parts in
     let whole : bytes ≡ spelled head ps = both ∙ ap (λ (x : List ℕ). spelled head ps ++ x) nothing ∙ append-nil (spelled head ps) in
     let all : Spells bytes (book_of head.size head.count ps head.done) = record {
       book = book_of-is head.size head.count head.done head.undone ps first.is.geometry (each_of head ps second.each) second.len
@@ -85,6 +83,22 @@ book_takes bytes j h e =
       bytes_are = book_of-spelled head.version head.size head.count head.done head.undone ps second.len ∙ sym whole;
     } in
     subst (Spells bytes) g.1 all
+
+pub book_takes : (bytes : List ℕ) (j : Book) → IsBytes bytes → read_book bytes ≡ Some j → Spells bytes j
+unfolding read_book
+book_takes bytes j h e =
+    let a = bind_some (head_at bytes) (λ head. patches_at head.0 (head.0.done + head.0.undone) head.1 >>= λ patches.
+    cond (eqb (length patches.1) 0) (Some (book_of head.0.size head.0.count patches.0 head.0.done)) None) j e in
+    let b = bind_some (patches_at a.0.0 (a.0.0.done + a.0.0.undone) a.0.1)
+    (λ patches. cond (eqb (length patches.1) 0) (Some (book_of a.0.0.size a.0.0.count patches.0 a.0.0.done)) None) j a.2 in
+    book_read bytes a.0 b.0 j h a.1 b.1 b.2
+
+-- a book, each of whose parts is found, and nothing behind them
+pub book_found : (bytes : List ℕ) (head : Head) (first : List ℕ) (ps : List ChangeSet) (second : List ℕ) → head_at bytes ≡ Some (head, first)
+    → patches_at head (head.done + head.undone) first ≡ Some (ps, second) → eqb (length second) 0 ≡ true
+    → read_book bytes ≡ Some (book_of head.size head.count ps head.done)
+unfolding read_book
+book_found bytes head first ps second head_is patches_are nothing = rw (head_is, patches_are, nothing) refl
 
 -- a version that is spelled, with the changes that it spells
 record IsSpelled (version : ℕ) (j : Book) : Type 0 where

@@ -75,13 +75,37 @@ pub record TakesHead (bytes : List ℕ) (x : Head × List ℕ) : Type 0 where
   pub takes : Takes bytes (head_bytes x.0) x.1
   pub is : IsHead x.0
 
--- a word, and what was taken behind it
-word_then : (bytes : List ℕ) (n : ℕ × List ℕ) (text rest : List ℕ) → IsBytes bytes → word_at bytes ≡ Some n
-    → (IsBytes n.1 → Takes n.1 text rest)
-    → Takes bytes (to_le_bytes w32 n.0 ++ text) rest
-word_then bytes n text rest h e more =
-    let t = word_takes bytes n.0 n.1 h e in
-    Takes-then bytes (to_le_bytes w32 n.0) n.1 text rest t.0 (more t.0.rest_bytes)
+-- the words of a head from one on
+abbrev done_bytes : Head → List ℕ
+done_bytes h = to_le_bytes w32 h.done ++ to_le_bytes w32 h.undone
+
+abbrev count_bytes : Head → List ℕ
+count_bytes h = to_le_bytes w32 h.count ++ done_bytes h
+
+abbrev size_bytes : Head → List ℕ
+size_bytes h = to_le_bytes w32 h.size ++ count_bytes h
+
+abbrev version_bytes : Head → List ℕ
+version_bytes h = to_le_bytes w32 h.version ++ size_bytes h
+
+-- the bytes of a head and of what follows it, behind those that are read
+record Ends (letters : ℕ) (bytes text : List ℕ) (x : Head × List ℕ) : Type 0 where
+  letters_are : letters ≡ 0x6a73666c
+  is : IsHead x.0
+  takes : Takes bytes text x.1
+
+word_rest : (bytes : List ℕ) (n : ℕ × List ℕ) → IsBytes bytes → word_at bytes ≡ Some n → IsBytes n.1
+word_rest bytes n h e = (word_takes bytes n.0 n.1 h e).0.rest_bytes
+
+-- a word in front
+Ends-then : (letters : ℕ) (bytes : List ℕ) (n : ℕ × List ℕ) (k : ℕ) (text : List ℕ) (x : Head × List ℕ) → IsBytes bytes
+    → word_at bytes ≡ Some n → n.0 ≡ k → Ends letters n.1 text x → Ends letters bytes (to_le_bytes w32 k ++ text) x
+Ends-then letters bytes n k text x h e same ends = record {
+  letters_are = ends.letters_are;
+  is = ends.is;
+  takes = subst (λ (m : ℕ). Takes bytes (to_le_bytes w32 m ++ text) x.1) same
+      (Takes-then bytes (to_le_bytes w32 n.0) n.1 text x.1 (word_takes bytes n.0 n.1 h e).0 ends.takes);
+}
 
 head_true : (letters : ℕ) (h : Head) → ((eqb letters 0x6a73666c && is_version h.version) && is_head h) ≡ true
     → (letters ≡ 0x6a73666c) × IsHead h
@@ -91,29 +115,68 @@ head_true letters h e =
     let c = and_parts (is_geometry h.size h.count) (leb (h.done + h.undone) 1000) a.1 in
     (eqb-true _ _ b.0, record { version = version_true h.version b.1; geometry = geometry_true h.size h.count c.0; few = leb-true _ _ c.1 })
 
+-- the last number is read, and the tests hold
+checked_takes : (letters version size count done : ℕ) (bytes : List ℕ) (n : ℕ × List ℕ) (x : Head × List ℕ) → IsBytes bytes
+    → word_at bytes ≡ Some n → checked_head letters (head_with version size count done n.0) n.1 ≡ Some x
+    → (version ≡ x.0.version) × (size ≡ x.0.size) × (count ≡ x.0.count) × (done ≡ x.0.done)
+    × Ends letters bytes (to_le_bytes w32 x.0.undone) x
+checked_takes letters version size count done bytes n x h e checked =
+    let head : Head = head_with version size count done n.0 in
+    let t = cond_some ((eqb letters 0x6a73666c && is_version version) && is_head head) (head, n.1) x checked in
+    let is = head_true letters head t.0 in
+    let ends : Ends letters bytes (to_le_bytes w32 n.0) (head, n.1) =
+    record { letters_are = is.0; is = is.1; takes = (word_takes bytes n.0 n.1 h e).0 } in
+    subst (λ (y : Head × List ℕ). (version ≡ y.0.version) × (size ≡ y.0.size) × (count ≡ y.0.count) × (done ≡ y.0.done)
+    × Ends letters bytes (to_le_bytes w32 y.0.undone) y) {x = (head, n.1)} {y = x} t.1 (refl, refl, refl, refl, ends)
+
+done_takes : (letters version size count : ℕ) (bytes : List ℕ) (x : Head × List ℕ) → IsBytes bytes
+    → with_done letters version size count bytes ≡ Some x
+    → (version ≡ x.0.version) × (size ≡ x.0.size) × (count ≡ x.0.count) × Ends letters bytes (done_bytes x.0) x
+done_takes letters version size count bytes x h e =
+    let done = bind_some (word_at bytes) (λ n. with_undone letters version size count n.0 n.1) x e in
+    let undone = bind_some (word_at done.0.1)
+    (λ n. checked_head letters (head_with version size count done.0.0 n.0) n.1) x done.2 in
+    let more = checked_takes letters version size count done.0.0 done.0.1 undone.0 x (word_rest bytes done.0 h done.1) undone.1 undone.2 in (
+      more.0,
+      more.1,
+      more.2,
+      Ends-then letters bytes done.0 x.0.done (to_le_bytes w32 x.0.undone) x h done.1 more.3 more.4,
+    )
+
+count_takes : (letters version size : ℕ) (bytes : List ℕ) (x : Head × List ℕ) → IsBytes bytes
+    → with_count letters version size bytes ≡ Some x
+    → (version ≡ x.0.version) × (size ≡ x.0.size) × Ends letters bytes (count_bytes x.0) x
+count_takes letters version size bytes x h e =
+    let count = bind_some (word_at bytes) (λ n. with_done letters version size n.0 n.1) x e in
+    let more = done_takes letters version size count.0.0 count.0.1 x (word_rest bytes count.0 h count.1) count.2 in
+    (more.0, more.1, Ends-then letters bytes count.0 x.0.count (done_bytes x.0) x h count.1 more.2 more.3)
+
+size_takes : (letters version : ℕ) (bytes : List ℕ) (x : Head × List ℕ) → IsBytes bytes → with_size letters version bytes ≡ Some x
+    → (version ≡ x.0.version) × Ends letters bytes (size_bytes x.0) x
+size_takes letters version bytes x h e =
+    let size = bind_some (word_at bytes) (λ n. with_count letters version n.0 n.1) x e in
+    let more = count_takes letters version size.0.0 size.0.1 x (word_rest bytes size.0 h size.1) size.2 in
+    (more.0, Ends-then letters bytes size.0 x.0.size (count_bytes x.0) x h size.1 more.1 more.2)
+
+version_takes : (letters : ℕ) (bytes : List ℕ) (x : Head × List ℕ) → IsBytes bytes → with_version letters bytes ≡ Some x
+    → Ends letters bytes (version_bytes x.0) x
+version_takes letters bytes x h e =
+    let version = bind_some (word_at bytes) (λ n. with_size letters n.0 n.1) x e in
+    let more = size_takes letters version.0.0 version.0.1 x (word_rest bytes version.0 h version.1) version.2 in
+    Ends-then letters bytes version.0 x.0.version (size_bytes x.0) x h version.1 more.0 more.1
+
+letters_take : (letters : ℕ × List ℕ) (bytes : List ℕ) (x : Head × List ℕ) → IsBytes bytes → word_at bytes ≡ Some letters
+    → with_version letters.0 letters.1 ≡ Some x → TakesHead bytes x
+letters_take letters bytes x h e more =
+    let ends = version_takes letters.0 letters.1 x (word_rest bytes letters h e) more in
+    let whole = Ends-then letters.0 bytes letters 0x6a73666c (version_bytes x.0) x h e ends.letters_are ends in
+    record { takes = whole.takes; is = whole.is }
+
 pub head_takes : (bytes : List ℕ) (x : Head × List ℕ) → IsBytes bytes → head_at bytes ≡ Some x → TakesHead bytes x
 unfolding head_at
 head_takes bytes x h e =
-    let a = bind_some (word_at bytes) (λ letters. with_version letters.0 letters.1) x e in
-    let b = bind_some (word_at a.0.1) (λ version. with_size a.0.0 version.0 version.1) x a.2 in
-    let c = bind_some (word_at b.0.1) (λ size. with_count a.0.0 b.0.0 size.0 size.1) x b.2 in
-    let d = bind_some (word_at c.0.1) (λ count. with_done a.0.0 b.0.0 c.0.0 count.0 count.1) x c.2 in
-    let f = bind_some (word_at d.0.1) (λ done. with_undone a.0.0 b.0.0 c.0.0 d.0.0 done.0 done.1) x d.2 in
-    let g = bind_some (word_at f.0.1) (λ undone. checked_head a.0.0 (head_with b.0.0 c.0.0 d.0.0 f.0.0 undone.0) undone.1) x f.2 in
-    let head : Head = head_with b.0.0 c.0.0 d.0.0 f.0.0 g.0.0 in
-    let made : Head × List ℕ = (head, g.0.1) in
-    let t = cond_some ((eqb a.0.0 0x6a73666c && is_version b.0.0) && is_head head) made x g.2 in
-    let is = head_true a.0.0 head t.0 in
-    let parts : Takes bytes (to_le_bytes w32 a.0.0 ++ to_le_bytes w32 b.0.0 ++ to_le_bytes w32 c.0.0 ++ to_le_bytes w32 d.0.0
-    ++ to_le_bytes w32 f.0.0 ++ to_le_bytes w32 g.0.0) g.0.1 =
-    word_then bytes a.0 _ g.0.1 h a.1 (λ h1. word_then a.0.1 b.0 _ g.0.1 h1 b.1
-    (λ h2. word_then b.0.1 c.0 _ g.0.1 h2 c.1 (λ h3. word_then c.0.1 d.0 _ g.0.1 h3 d.1
-    (λ h4. word_then d.0.1 f.0 _ g.0.1 h4 f.1 (λ h5. (word_takes f.0.1 g.0.0 g.0.1 h5 g.1).0))))) in
-    let whole : Takes bytes (head_bytes head) g.0.1 =
-    subst (λ (k : ℕ). Takes bytes (to_le_bytes w32 k ++ to_le_bytes w32 b.0.0 ++ to_le_bytes w32 c.0.0 ++ to_le_bytes w32 d.0.0
-    ++ to_le_bytes w32 f.0.0 ++ to_le_bytes w32 g.0.0) g.0.1) is.0 parts in
-    let all : TakesHead bytes made = record { takes = whole; is = is.1 } in
-    subst (TakesHead bytes) t.1 all
+    let letters = bind_some (word_at bytes) (λ n. with_version n.0 n.1) x e in
+    letters_take letters.0 bytes x h letters.1 letters.2
 
 -- the numbers that stand before the changes have four bytes
 head_small : (h : Head) → IsHead h → (h.size < 2 ^ 32) × (h.count < 2 ^ 32) × (h.done < 2 ^ 32) × (h.undone < 2 ^ 32)

@@ -1,5 +1,5 @@
 -- Changes that are read are spelled so, and those that are spelled so are read.
-use Rattle.std.proofs.Common.{◌≡◌, ◌≢◌, ℕ, zero, suc, ◌^◌, ◌<◌, ◌≤◌, false, cond, eqb, max, List, [], ◌∷◌, ◌++◌, length, All, Some, None, refl}
+use Rattle.std.proofs.Common.{◌≡◌, ◌≢◌, ℕ, zero, suc, ◌^◌, ◌<◌, ◌≤◌, false, cond, eqb, max, List, [], ◌∷◌, ◌++◌, length, All, Option, Some, None, refl}
 use Rattle.std.proofs.Common.{sym, ap, subst, ◌∙◌, append_assoc, arith}
 use Rattle.std.specs.Int.{w32, to_le_bytes}
 use Rattle.std.specs.List.{flat_map, AllByRecursion}
@@ -96,36 +96,48 @@ pub record TakesPatch (h : Head) (bytes : List ℕ) (x : ChangeSet × List ℕ) 
   pub takes : Takes bytes (patch_bytes_in h.version x.0) x.1
   pub is : IsPatchIn h x.0
 
+-- a change, each of whose parts is read
+patch_read : (h : Head) (bytes : List ℕ) (n : ℕ × List ℕ) (k : (ℕ × ℕ) × List ℕ) (c : List Change × List ℕ) (x : ChangeSet × List ℕ)
+    → IsBytes bytes → IsGeometry h.size h.count → word_at bytes ≡ Some n → eqb n.0 0 ≡ false → counts_at h n.1 ≡ Some k
+    → changes_at h.size k.0.0 k.0.1 n.0 0 k.1 ≡ Some c
+    → (record { size = h.size; before = k.0.0; after = k.0.1; changes = c.0 }, c.1) ≡ x → TakesPatch h bytes x
+patch_read h bytes n k c x are geometry number_is some counts_are changes_are same =
+    let t = word_takes bytes n.0 n.1 are number_is in
+    let counts = counts_take h n.1 k t.0.rest_bytes geometry counts_are in
+    let changes = changes_take h.size k.0.0 k.0.1 n.0 0 k.1 c counts.takes.rest_bytes changes_are in
+    let text : List ℕ = counts_text h.version k.0 in
+    let blocks : List ℕ = flat_map change_bytes c.0 in
+    let later : Takes n.1 (text ++ blocks) c.1 = Takes-then n.1 text k.1 blocks c.1 counts.takes changes.takes in
+    let both : Takes bytes (to_le_bytes w32 n.0 ++ (text ++ blocks)) c.1 =
+    Takes-then bytes (to_le_bytes w32 n.0) n.1 (text ++ blocks) c.1 t.0 later in
+    let all : TakesPatch h bytes (record { size = h.size; before = k.0.0; after = k.0.1; changes = c.0 }, c.1) = record {
+      takes = subst (λ (many : ℕ). Takes bytes (to_le_bytes w32 many ++ (text ++ blocks)) c.1) (sym changes.len) both;
+      is = record {
+        of = (patch_of_changes h k.0 n.0 c.0 counts.are changes.len some changes.are, refl);
+        kept = counts.are.kept;
+      };
+    } in
+    subst (TakesPatch h bytes) same all
+
+-- what is read of a change behind the number of its blocks, and behind its counts
+abbrev changes_in : Head → ℕ → (ℕ × ℕ) × List ℕ → Option (ChangeSet × List ℕ)
+changes_in h many counts = changes_at h.size counts.0.0 counts.0.1 many 0 counts.1 >>= λ changes.
+    Some (record { size = h.size; before = counts.0.0; after = counts.0.1; changes = changes.0 }, changes.1)
+
+abbrev counted_in : Head → ℕ × List ℕ → Option (ChangeSet × List ℕ)
+counted_in h n = counts_at h n.1 >>= λ counts. changes_in h n.0 counts
+
 pub patch_takes : (h : Head) (bytes : List ℕ) (x : ChangeSet × List ℕ) → IsBytes bytes → IsGeometry h.size h.count
     → patch_at h bytes ≡ Some x → TakesPatch h bytes x
 unfolding patch_at
 patch_takes h bytes x are geometry e =
-    let n = bind_some (word_at bytes) (λ n. cond (eqb n.0 0) None (counts_at h n.1 >>= λ counts.
-    changes_at h.size counts.0.0 counts.0.1 n.0 0 counts.1 >>= λ changes.
-    Some (record { size = h.size; before = counts.0.0; after = counts.0.1; changes = changes.0 }, changes.1))) x e in
-    let t = word_takes bytes n.0.0 n.0.1 are n.1 in
-    let g = guard_none (eqb n.0.0 0) (counts_at h n.0.1 >>= λ counts. changes_at h.size counts.0.0 counts.0.1 n.0.0 0 counts.1 >>= λ changes.
-    Some (record { size = h.size; before = counts.0.0; after = counts.0.1; changes = changes.0 }, changes.1)) x n.2 in
-    let k = bind_some (counts_at h n.0.1) (λ counts. changes_at h.size counts.0.0 counts.0.1 n.0.0 0 counts.1 >>= λ changes.
-    Some (record { size = h.size; before = counts.0.0; after = counts.0.1; changes = changes.0 }, changes.1)) x g.1 in
-    let counts = counts_take h n.0.1 k.0 t.0.rest_bytes geometry k.1 in
+    let n = bind_some (word_at bytes) (λ n. cond (eqb n.0 0) None (counted_in h n)) x e in
+    let g = guard_none (eqb n.0.0 0) (counted_in h n.0) x n.2 in
+    let k = bind_some (counts_at h n.0.1) (changes_in h n.0.0) x g.1 in
     let c = bind_some (changes_at h.size k.0.0.0 k.0.0.1 n.0.0 0 k.0.1) (λ changes.
     Some (record { size = h.size; before = k.0.0.0; after = k.0.0.1; changes = changes.0 }, changes.1)) x k.2 in
-    let changes = changes_take h.size k.0.0.0 k.0.0.1 n.0.0 0 k.0.1 c.0 counts.takes.rest_bytes c.1 in
-    let made : ChangeSet × List ℕ = (record { size = h.size; before = k.0.0.0; after = k.0.0.1; changes = c.0.0 }, c.0.1) in
-    let text : List ℕ = counts_text h.version k.0.0 in
-    let blocks : List ℕ = flat_map change_bytes c.0.0 in
-    let later : Takes n.0.1 (text ++ blocks) c.0.1 = Takes-then n.0.1 text k.0.1 blocks c.0.1 counts.takes changes.takes in
-    let both : Takes bytes (to_le_bytes w32 n.0.0 ++ (text ++ blocks)) c.0.1 =
-    Takes-then bytes (to_le_bytes w32 n.0.0) n.0.1 (text ++ blocks) c.0.1 t.0 later in
-    let all : TakesPatch h bytes made = record {
-      takes = subst (λ (many : ℕ). Takes bytes (to_le_bytes w32 many ++ (text ++ blocks)) c.0.1) (sym changes.len) both;
-      is = record {
-        of = (patch_of_changes h k.0.0 n.0.0 c.0.0 counts.are changes.len g.0 changes.are, refl);
-        kept = counts.are.kept;
-      };
-    } in
-    subst (TakesPatch h bytes) (same_Some made x c.2) all
+    patch_read h bytes n.0 k.0 c.0 x are geometry n.1 g.0 k.1 c.1
+    (same_Some (record { size = h.size; before = k.0.0.0; after = k.0.0.1; changes = c.0.0 }, c.0.1) x c.2)
 
 none_from_length : (cs : List Change) → length cs ≡ 0 → cs ≡ []
 none_from_length [] e = refl
@@ -164,6 +176,20 @@ pub record TakesPatches (h : Head) (n : ℕ) (bytes : List ℕ) (x : List Change
   pub len : length x.0 ≡ n
   pub each : AllByRecursion (IsPatchIn h) x.0
 
+-- one more in front
+patches_more : (h : Head) (n : ℕ) (bytes : List ℕ) (a : ChangeSet × List ℕ) (b x : List ChangeSet × List ℕ) → TakesPatch h bytes a
+    → TakesPatches h n a.1 b → (a.0 ∷ b.0, b.1) ≡ x → TakesPatches h (suc n) bytes x
+patches_more h n bytes a b x first others same =
+    let spell : ChangeSet → List ℕ = patch_bytes_in h.version in
+    let both : Takes bytes (spell a.0 ++ flat_map spell b.0) b.1 =
+    Takes-then bytes (spell a.0) a.1 (flat_map spell b.0) b.1 first.takes others.takes in
+    let all : TakesPatches h (suc n) bytes (a.0 ∷ b.0, b.1) = record {
+      takes = subst (λ (text : List ℕ). Takes bytes text b.1) (sym (flat_map-cons spell a.0 b.0)) both;
+      len = ap suc others.len;
+      each = (first.is, others.each);
+    } in
+    subst (TakesPatches h (suc n) bytes) same all
+
 pub patches_take : (h : Head) (n : ℕ) (bytes : List ℕ) (x : List ChangeSet × List ℕ) → IsBytes bytes → IsGeometry h.size h.count
     → patches_at h n bytes ≡ Some x → TakesPatches h n bytes x
 unfolding patches_at
@@ -176,16 +202,7 @@ patches_take h (suc n) bytes x are geometry e =
     let b = bind_some (patches_at h n a.0.1) (λ others. Some (a.0.0 ∷ others.0, others.1)) x a.2 in
     let first = patch_takes h bytes a.0 are geometry a.1 in
     let others = patches_take h n a.0.1 b.0 first.takes.rest_bytes geometry b.1 in
-    let made : List ChangeSet × List ℕ = (a.0.0 ∷ b.0.0, b.0.1) in
-    let spell : ChangeSet → List ℕ = patch_bytes_in h.version in
-    let both : Takes bytes (spell a.0.0 ++ flat_map spell b.0.0) b.0.1 =
-    Takes-then bytes (spell a.0.0) a.0.1 (flat_map spell b.0.0) b.0.1 first.takes others.takes in
-    let all : TakesPatches h (suc n) bytes made = record {
-      takes = subst (λ (text : List ℕ). Takes bytes text b.0.1) (sym (flat_map-cons spell a.0.0 b.0.0)) both;
-      len = ap suc others.len;
-      each = (first.is, others.each);
-    } in
-    subst (TakesPatches h (suc n) bytes) (same_Some made x b.2) all
+    patches_more h n bytes a.0 b.0 x first others (same_Some (a.0.0 ∷ b.0.0, b.0.1) x b.2)
 
 pub patches_again : (h : Head) (ps : List ChangeSet) (rest : List ℕ) → AllByRecursion (IsPatchIn h) ps
     → patches_at h (length ps) (flat_map (patch_bytes_in h.version) ps ++ rest) ≡ Some (ps, rest)

@@ -1,9 +1,9 @@
 -- What was read is a book.
-use Rattle.std.proofs.Common.{◌+◌, arith}
+use Rattle.std.proofs.Common.{◌+◌, sym, ◌∙◌, arith}
 use Rattle.lfs_book.specs.HeadSeen.{head_seen}
 use Rattle.lfs_book.proofs.Patches.{patches_take, each_of}
 use Rattle.lfs_book.proofs.Heads.{head_takes}
-use Rattle.lfs_book.proofs.Books.{book_of-is}
+use Rattle.lfs_book.proofs.Books.{book_of-is, book_found}
 use Rattle.lfs_book.proofs.journal.Journal.read_whole.Goals as goal
 
 pub invariant_of-result : goal.invariant_of-result
@@ -19,3 +19,8 @@ invariant_of-result c =
       book = book_of-is head.size head.count head.done head.undone patches first.is.geometry (each_of head patches second.each) second.len
           first.is.few;
     }
+
+pub returns : goal.returns
+returns c =
+    book_found c.args.bytes.now (head_seen c.in_ok-head.head) c.in_ok-head.rest.now c.in_ok-patches.patches.items c.in_ok-patches.rest.now
+    c.in_ok-head.ensures.given c.in_ok-patches.ensures (sym c.is_empty.ensures ∙ c.if-not-is_empty.false)
