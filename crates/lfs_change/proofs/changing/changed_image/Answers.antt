@@ -1,9 +1,10 @@
-use Rattle.std.proofs.Common.{rules, ◌≡◌, List, ℕ, Option, Some, subst, sym}
+use Rattle.std.proofs.Common.{rules, ◌≡◌, List, ℕ, Option, Some, ap, subst, sym, ◌∙◌}
+use Rattle.lfs_block.specs.Disk.{Disk}
 use Rattle.lfs_history.specs.Meaning.{step_of}
 use Rattle.lfs_change.specs.declared.fault.Fault.{Fault}
-use Rattle.lfs_change.specs.Change.{AnswersImage, RefusesDenoting, journal_read}
+use Rattle.lfs_change.specs.Change.{AnswersImage, DenotesOn, RefusesDenoting, journal_read}
 use Rattle.lfs_change.specs.Fault.{fault_of_opening}
-use Rattle.lfs_change.proofs.ChangeLemmas.{opening_answers}
+use Rattle.lfs_change.proofs.ChangeLemmas.{fault_answers, opening_answers}
 use Rattle.lfs_change.proofs.changing.changed_image.Goals as goal
 
 pub returns-in-Err-clause-answers : goal.returns-in-Err-clause-answers
@@ -19,3 +20,18 @@ returns-in-Err-clause-answers c =
     let fault : o.fault ≡ Some (fault_of_opening why) = search rules in
     subst (λ (x : Option Fault). AnswersImage x step c.args.image.disk c.args.journal.items o) (sym fault)
     (opening_answers why step c.args.image.disk c.args.journal.items o refuses image same)
+
+pub returns-in-Err-saved-clause-answers : goal.returns-in-Err-saved-clause-answers
+returns-in-Err-saved-clause-answers c =
+    let o = c.new-in-Err-saved.result in
+    let step = step_of c.args.change.now in
+    let d = c.args.image.disk in
+    let journal = c.args.journal.items in
+    let read : c.read_journal.result.now ≡ journal_read step journal = c.read_journal.ensures ∙ ap (journal_read step) c.deref.ensures.value in
+    let denotes = subst (λ (bytes : List ℕ). DenotesOn d bytes c.in-Ok.session) read c.in-Ok.ensures.opened in
+    let image : o.image.items ≡ c.saved.new.session.present.bytes = ap (λ v. v.items) c.new-in-Err-saved.ensures.kept.0
+    ∙ c.into_bytes-in-Err-saved.ensures ∙ ap (λ (e : Disk). e.bytes) c.into_image-in-Err-saved.ensures in
+    let same : o.journal.items ≡ journal = ap (λ v. v.items) c.new-in-Err-saved.ensures.kept.1 in
+    subst (λ (x : Option Fault). AnswersImage x step d journal o) (sym c.new-in-Err-saved.ensures.fault)
+    (fault_answers c.in-Err-saved.fault step d journal c.in-Ok.session c.saved.new.session o denotes c.in-Err-saved.ensures.refused
+    c.in-Err-saved.ensures.unchanged image same)

@@ -1,5 +1,4 @@
-use Rattle.std.proofs.Common.{rules}
 use Rattle.lfs_change.proofs.changing.saved.Goals as goal
 
 pub returns-in-Some-clause-saved : goal.returns-in-Some-clause-saved
-returns-in-Some-clause-saved c = search rules
+returns-in-Some-clause-saved c = record { takes = c.in_ok-step.ensures; journal = c.in-Some.ensures }

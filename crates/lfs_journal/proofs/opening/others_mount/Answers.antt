@@ -26,3 +26,7 @@ returns-clause-refused c =
     let refused : IfErr c.mounts_on.result (λ fault. RefusesMounts fault future) = search rules in
     IfErr-weaker c.mounts_on.result (λ fault. RefusesMounts fault future) (λ fault. RefusesMounts fault (past ++ future))
     (λ fault h. refused_right fault past future h) refused
+
+pub returns-clause-future : goal.returns-clause-future
+returns-clause-future c =
+    rw (← c.split_at.ensures.back, ← c.mounts_back.ensures.disk) c.mounts_on.ensures.mounted

@@ -1,7 +1,8 @@
 -- The change at the place is made again.
-use Rattle.std.proofs.Common.{◌+◌, ◌≤◌, subst, arith, refl, sym}
+use Rattle.std.proofs.Common.{◌+◌, ◌≤◌, List, subst, arith, refl, ap, sym, ◌∙◌}
+use Rattle.std.proofs.lemmas.List.{drop_all}
 use Rattle.lfs_block.specs.Patch.{ChangeSet}
-use Rattle.lfs_history.specs.History.{History, history_at}
+use Rattle.lfs_history.specs.History.{History, history_at, future_of}
 use Rattle.lfs_history.specs.Moves.{Redoes}
 use Rattle.lfs_journal.proofs.PlaceLemmas.{is_at, redone_at}
 use Rattle.lfs_journal.proofs.RoomLemmas.{each_at, room_same}
@@ -38,3 +39,9 @@ returns-clause-done c =
     let to = redone_at (record { disk = made.disk; agrees = back.agrees; back = back.back }) s.image.disk c.apply.new.image.disk
     s.patches.items s.done (s.done + 1) c.index.result.now at c.self.invariant.at c.apply.ensures.applied in
     subst (λ (old : History). Redoes old (history_at c.apply.new.image.disk s.patches.items (s.done + 1))) c.self.view_is to.moves
+
+pub returns-then-self-len-clause-refused : goal.returns-then-self-len-clause-refused
+returns-then-self-len-clause-refused c =
+    let s = c.self.inside in
+    let none = drop_all s.done s.patches.items (omega arith) in
+    (refl, sym (ap (λ (h : History). h.future) c.self.view_is) ∙ ap (λ (ps : List ChangeSet). future_of ps s.image.disk) none, refl)

@@ -1,6 +1,6 @@
 -- The change before the place is taken back.
-use Rattle.std.proofs.Common.{◌-◌, subst, arith}
-use Rattle.lfs_history.specs.History.{History, history_at}
+use Rattle.std.proofs.Common.{ℕ, ◌-◌, reverse, take, refl, ap, sym, ◌∙◌, subst, arith}
+use Rattle.lfs_history.specs.History.{History, history_at, past_of}
 use Rattle.lfs_history.specs.Moves.{Undoes}
 use Rattle.lfs_journal.proofs.PlaceLemmas.{is_at, made_agrees, undone_at}
 use Rattle.lfs_journal.proofs.RoomLemmas.{room_same}
@@ -37,3 +37,9 @@ returns-clause-done c =
     (s.done - 1) s.done c.index.result.now
     at c.self.invariant.at c.revert.ensures.reverted in
     subst (λ (old : History). Undoes old (history_at c.revert.new.image.disk s.patches.items (s.done - 1))) c.self.view_is to.moves
+
+pub returns-then-self-eq0-clause-refused : goal.returns-then-self-eq0-clause-refused
+returns-then-self-eq0-clause-refused c =
+    let s = c.self.inside in
+    let none = ap (λ (n : ℕ). past_of (reverse (take n s.patches.items)) s.image.disk) c.if-self-eq0.true in
+    (refl, sym (ap (λ (h : History). h.past) c.self.view_is) ∙ none, refl)

@@ -1,0 +1,9 @@
+-- What stood at the place is replaced, and what stood behind it is cut off.
+use Rattle.std.proofs.Common.{◌<◌, length, ◌∙◌, arith}
+use Rattle.std.proofs.lemmas.List.{take_more_set}
+use Rattle.lfs_journal.proofs.replacing.replace_from.Goals as goal
+
+pub returns-then-at-len-clause-done : goal.returns-then-at-len-clause-done
+returns-then-at-len-clause-done c =
+    let within : c.args.at < length c.args.patches.now.items = omega arith in
+    c.truncate.ensures.items ∙ take_more_set c.args.patches.now.items c.args.at c.args.patch within
