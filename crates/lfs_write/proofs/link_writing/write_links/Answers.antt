@@ -1,11 +1,15 @@
 -- One link more is written.
-use Rattle.std.proofs.Common.{◌+◌, [], ◌∷◌, drop}
+use Rattle.std.proofs.Common.{◌≡◌, ◌+◌, List, [], ◌∷◌, drop, sym, subst, arith}
+use Rattle.std.proofs.Math.ListN.{drop_of_length-le}
 use Rattle.lfs_commit.specs.DifferenceSeen.{forced_seen}
+use Rattle.lfs_fs.specs.Thread.{Link}
 use Rattle.lfs_law.specs.PairWritten.{link_to}
 use Rattle.lfs_law.specs.PlansHold.{is_unmarked}
 use Rattle.lfs_law.specs.SuperblockBytes.{volume_bytes}
+use Rattle.lfs_law.specs.WrittenLinks.{AreWritten, ChangesLinks}
+use Rattle.lfs_law.proofs.LinksAdded.{no_links_are_written}
 use Rattle.lfs_write.proofs.LinksOfOutlines.{one_left}
-use Rattle.lfs_write.proofs.LinksInTurn.{can_first, can_later, changed_whole, written_whole}
+use Rattle.lfs_write.proofs.LinksInTurn.{can_first, can_later, changed_whole, none_changed, written_whole}
 use Rattle.lfs_write.proofs.link_writing.write_links.Goals as goal
 
 pub write_link-requires-clause-can : goal.write_link-requires-clause-can
@@ -40,3 +44,31 @@ loop-link-preserved g c =
           (changed_whole d bytes attributes is_new (forced_seen c.args.forced) c.loop-link.changes.items c.write_link.new.changes.items new all _
           later split c.loop-link.invariant.can c.in_ok-write_link.ensures.written written c.in_ok-write_link.ensures.changed changed);
     }
+
+pub returns-clause-written : goal.returns-clause-written
+returns-clause-written g c =
+    let d = g.B.Blocks.disk c.args.image.now in
+    let bytes = volume_bytes c.args.outline.now in
+    let attributes = c.args.outline.now.attributes in
+    let is_new = is_unmarked c.args.used.now in
+    let cs = c.loop-link.changes.items in
+    let all = c.deref-link-items.result.now in
+    let can = c.loop-link.invariant.can in
+    let none : drop c.loop-link.link-index all ≡ [] = drop_of_length-le all (omega (arith, c.loop-link-test.false)) in
+    c.loop-link.invariant.whole cs (subst (λ (ls : List Link). AreWritten d bytes attributes is_new cs ls cs) (sym none)
+    (no_links_are_written d bytes attributes is_new cs can.rising can.made))
+
+pub returns-clause-changed : goal.returns-clause-changed
+returns-clause-changed g c =
+    let d = g.B.Blocks.disk c.args.image.now in
+    let bytes = volume_bytes c.args.outline.now in
+    let attributes = c.args.outline.now.attributes in
+    let is_new = is_unmarked c.args.used.now in
+    let forced = forced_seen c.args.forced in
+    let cs = c.loop-link.changes.items in
+    let all = c.deref-link-items.result.now in
+    let can = c.loop-link.invariant.can in
+    let none : drop c.loop-link.link-index all ≡ [] = drop_of_length-le all (omega (arith, c.loop-link-test.false)) in
+    c.loop-link.invariant.changed cs (subst (λ (ls : List Link). AreWritten d bytes attributes is_new cs ls cs) (sym none)
+    (no_links_are_written d bytes attributes is_new cs can.rising can.made)) (subst (λ (ls : List Link). ChangesLinks d is_new forced ls cs)
+    (sym none) (none_changed d bytes attributes is_new forced cs))
