@@ -17,6 +17,14 @@ fn set_root<'a>(value: &'a [u8]) -> Command<'a> {
     }
 }
 
+// the step of a command, which keeps all of the past
+fn does<'a>(command: Command<'a>) -> Move<'a> {
+    Move::Do {
+        command,
+        keep: None,
+    }
+}
+
 // asserts how a session replies to a run of steps
 fn replies_to(
     rt: &impl Abort,
@@ -39,8 +47,8 @@ fn runs_carry_commands_out(rt: HostRuntime) -> Result<(), Fail> {
         kind: 0x74,
     };
     let steps = [
-        Move::Do(set_root(&[1, 2])),
-        Move::Do(nowhere),
+        does(set_root(&[1, 2])),
+        does(nowhere),
         Move::Undo,
         Move::Redo,
         Move::Undo,

@@ -152,7 +152,7 @@ record Laws : Type 0 where
 
 -- a step on a history
 changes : Laws → (m : Move) (s : Step) (size : ℕ) (name : List ℕ) (typed : Option (List ℕ)) (old new : Files) (h : History) (b : HandedBytes)
-    (outcome : Outcome) → deed_of s b.input ≡ Change m → FilesDenote size name old h → ReadsFile (Some old) name most_image b.image
+    (outcome : Outcome) → deed_of s b.input None ≡ Change m → FilesDenote size name old h → ReadsFile (Some old) name most_image b.image
     → FindsFile (Some old) (journal_name name) most_journal b.journal → HandsInput s typed b.input
     → AnswersDone (Change m) (given size b.image b.journal) outcome → HasBoth name outcome.image.items outcome.journal.items old new
     → StepLeads size name s typed new h
@@ -167,7 +167,7 @@ changes laws m s size name typed old new h b outcome is denotes image journal in
 
 -- a question
 asks : (q : Deed) (s : Step) (size : ℕ) (name : List ℕ) (typed : Option (List ℕ)) (old new : Files) (h : History) (b : HandedBytes)
-    → GoesOn size q h h → deed_of s b.input ≡ q → FilesDenote size name old h → HandsInput s typed b.input → Some new ≡ Some old
+    → GoesOn size q h h → deed_of s b.input None ≡ q → FilesDenote size name old h → HandsInput s typed b.input → Some new ≡ Some old
     → StepLeads size name s typed new h
 asks q s size name typed old new h b goes is denotes input same = record {
   next = h;
@@ -212,7 +212,7 @@ forgets laws size name typed old new h b outcome denotes image none input answer
 
 -- a new image
 makes : Laws → (count : ℕ) (s : Step) (size : ℕ) (name : List ℕ) (typed : Option (List ℕ)) (old new : Files) (h : History) (b : HandedBytes)
-    (outcome : Outcome) → deed_of s b.input ≡ Make count → HandsInput s typed b.input
+    (outcome : Outcome) → deed_of s b.input None ≡ Make count → HandsInput s typed b.input
     → AnswersDone (Make count) (given size b.image b.journal) outcome → HasBoth name outcome.image.items outcome.journal.items old new
     → StepLeads size name s typed new h
 makes laws count s size name typed old new h b outcome is input answers both =
@@ -225,7 +225,7 @@ makes laws count s size name typed old new h b outcome is input answers both =
     }
 
 packs : Laws → (count : ℕ) (rows : List PackRow) (s : Step) (size : ℕ) (name : List ℕ) (typed : Option (List ℕ)) (old new : Files) (h : History)
-    (b : HandedBytes) (outcome : Outcome) → HasGoodRows (Pack count rows) → deed_of s b.input ≡ Pack count rows → HandsInput s typed b.input
+    (b : HandedBytes) (outcome : Outcome) → HasGoodRows (Pack count rows) → deed_of s b.input None ≡ Pack count rows → HandsInput s typed b.input
     → AnswersDone (Pack count rows) (given size b.image b.journal) outcome → HasBoth name outcome.image.items outcome.journal.items old new
     → StepLeads size name s typed new h
 packs laws count rows s size name typed old new h b outcome (packed, are) is input answers both =
@@ -244,8 +244,8 @@ with_files scene files = record scene { files = Some files }
 
 -- any step
 done_leads : Laws → (s : Step) (size : ℕ) (name : List ℕ) (scene : Scene) (old new : Files) (h : History) (b : HandedBytes) (outcome : Outcome)
-    → HasGoodRows (deed_of s []) → FilesDenote size name old h → IsHanded s name (with_files scene old) b
-    → AnswersDone (deed_of s b.input) (given size b.image b.journal) outcome → LeavesFiles (kind_of s) (Some old) (Some new) name outcome
+    → HasGoodRows (deed_of s [] None) → FilesDenote size name old h → IsHanded s name (with_files scene old) b
+    → AnswersDone (deed_of s b.input None) (given size b.image b.journal) outcome → LeavesFiles (kind_of s) (Some old) (Some new) name outcome
     → StepLeads size name s scene.typed new h
 done_leads laws (step.Format count) size name scene old new h b outcome good denotes handed answers leaves =
     makes laws count (step.Format count) size name scene.typed old new h b outcome refl handed.input answers leaves
@@ -258,25 +258,25 @@ done_leads laws step.Ls size name scene old new h b outcome good denotes handed 
 done_leads laws (step.Cat path) size name scene old new h b outcome good denotes handed answers leaves =
     asks (Ask (query.Cat path)) (step.Cat path) size name scene.typed old new h b refl refl denotes handed.input leaves
 done_leads laws (step.Mkdir path) size name scene old new h b outcome good denotes handed answers leaves =
-    changes laws (Do (asked.Mkdir path.now)) (step.Mkdir path) size name scene.typed old new h b outcome refl denotes handed.image
+    changes laws (Do (asked.Mkdir path.now) None) (step.Mkdir path) size name scene.typed old new h b outcome refl denotes handed.image
     handed.journal handed.input answers leaves
 done_leads laws (step.Put path) size name scene old new h b outcome good denotes handed answers leaves =
-    changes laws (Do (asked.Put path.now b.input)) (step.Put path) size name scene.typed old new h b outcome refl denotes handed.image
+    changes laws (Do (asked.Put path.now b.input) None) (step.Put path) size name scene.typed old new h b outcome refl denotes handed.image
     handed.journal handed.input answers leaves
 done_leads laws (step.Rm path) size name scene old new h b outcome good denotes handed answers leaves =
-    changes laws (Do (asked.Rm path.now)) (step.Rm path) size name scene.typed old new h b outcome refl denotes handed.image
+    changes laws (Do (asked.Rm path.now) None) (step.Rm path) size name scene.typed old new h b outcome refl denotes handed.image
     handed.journal handed.input answers leaves
 done_leads laws (step.Mv from to) size name scene old new h b outcome good denotes handed answers leaves =
-    changes laws (Do (asked.Mv from.now to.now)) (step.Mv from to) size name scene.typed old new h b outcome refl denotes handed.image
+    changes laws (Do (asked.Mv from.now to.now) None) (step.Mv from to) size name scene.typed old new h b outcome refl denotes handed.image
     handed.journal handed.input answers leaves
 done_leads laws (step.SetAttr path kind value) size name scene old new h b outcome good denotes handed answers leaves =
-    changes laws (Do (asked.SetAttr path.now kind value.now)) (step.SetAttr path kind value) size name scene.typed old new h b outcome refl denotes handed.image
+    changes laws (Do (asked.SetAttr path.now kind value.now) None) (step.SetAttr path kind value) size name scene.typed old new h b outcome refl denotes handed.image
     handed.journal handed.input answers leaves
 done_leads laws (step.RmAttr path kind) size name scene old new h b outcome good denotes handed answers leaves =
-    changes laws (Do (asked.RmAttr path.now kind)) (step.RmAttr path kind) size name scene.typed old new h b outcome refl denotes handed.image
+    changes laws (Do (asked.RmAttr path.now kind) None) (step.RmAttr path kind) size name scene.typed old new h b outcome refl denotes handed.image
     handed.journal handed.input answers leaves
 done_leads laws (step.Grow count) size name scene old new h b outcome good denotes handed answers leaves =
-    changes laws (Do (asked.Grow count)) (step.Grow count) size name scene.typed old new h b outcome refl denotes handed.image
+    changes laws (Do (asked.Grow count) None) (step.Grow count) size name scene.typed old new h b outcome refl denotes handed.image
     handed.journal handed.input answers leaves
 done_leads laws step.Undo size name scene old new h b outcome good denotes handed answers leaves =
     changes laws Undo step.Undo size name scene.typed old new h b outcome refl denotes handed.image
@@ -288,12 +288,12 @@ done_leads laws step.Forget size name scene old new h b outcome good denotes han
     forgets laws size name scene.typed old new h b outcome denotes handed.image handed.journal handed.input answers leaves
 
 -- a step that was done
-step_leads : Laws → (s : Step) (size : ℕ) (name : List ℕ) (scene behind : Scene) (old new : Files) (h : History) → HasGoodRows (deed_of s [])
+step_leads : Laws → (s : Step) (size : ℕ) (name : List ℕ) (scene behind : Scene) (old new : Files) (h : History) → HasGoodRows (deed_of s [] None)
     → scene.files ≡ Some old → behind.files ≡ Some new → FilesDenote size name old h → EndsStep s size name scene behind None
     → StepLeads size name s scene.typed new h
 step_leads laws s size name scene behind old new h good before later denotes (outcome, (b, handed, (answers, none, sends), blamed), leaves) =
     let at : IsHanded s name (with_files scene old) b = handed_from s name scene (with_files scene old) b before refl handed in
-    let done = subst (λ (f : Option Fault). AnswersBy f (deed_of s b.input) (given size b.image b.journal) outcome) none answers in
+    let done = subst (λ (f : Option Fault). AnswersBy f (deed_of s b.input None) (given size b.image b.journal) outcome) none answers in
     let left : LeavesFiles (kind_of s) (Some old) (Some new) name outcome =
     subst (λ (f : Option Files). LeavesFiles (kind_of s) (Some old) f name outcome) later
     (subst (λ (f : Option Files). LeavesFiles (kind_of s) f behind.files name outcome) before leaves) in
@@ -343,7 +343,7 @@ stop_leaves s size name scene behind fault old new h before later denotes (inr (
 -- ---- tasks
 
 -- rows of a folder are good, and no other step has any
-good_step : (t : Task) (tree : Option HostTree) (s : Step) → BecomesStep t tree s → HasGoodRows (deed_of s [])
+good_step : (t : Task) (tree : Option HostTree) (s : Step) → BecomesStep t tree s → HasGoodRows (deed_of s [] None)
 good_step (task.Pack n dir) tree (step.Pack count packed) (rows, folder, asks) =
     (map packed_of folder.shown, subst (λ (rs : List PackRow). AreRowsOf rs (map packed_of folder.shown)) (sym asks.1) folder.packed)
 good_step (task.Pack n dir) tree _ (rows, folder, asks) = absurd asks
@@ -371,7 +371,7 @@ extracted (Some fault) size dir scene h = refl
 
 -- a task whose words say all of it
 step_ends : Laws → (fault : Option Fault) (s : Step) (size : ℕ) (name : List ℕ) (scene behind : Scene) (old new : Files) (h : History)
-    → HasGoodRows (deed_of s []) → scene.files ≡ Some old → behind.files ≡ Some new → FilesDenote size name old h
+    → HasGoodRows (deed_of s [] None) → scene.files ≡ Some old → behind.files ≡ Some new → FilesDenote size name old h
     → EndsStep s size name scene behind fault → Ends size name (task.Step s) scene fault old new h
 step_ends laws None s size name scene behind old new h good before later denotes ends =
     let leads = step_leads laws s size name scene behind old new h good before later denotes ends in

@@ -28,7 +28,7 @@ Runs deed g fault old new outcome = Answers deed g outcome × (outcome.fault ≡
 
 -- the same of a step that was handed these bytes
 abbrev pub RunsOn : Step → ℕ → HandedBytes → Option Fault → Option (List ℕ) → Option (List ℕ) → Outcome → Type 0
-RunsOn step size h fault old new outcome = Runs (deed_of step h.input) (given size h.image h.journal) fault old new outcome
+RunsOn step size h fault old new outcome = Runs (deed_of step h.input None) (given size h.image h.journal) fault old new outcome
 
 -- standard output is blamed only where the host has refused something
 abbrev pub IsBlamed : Option Fault → Scene → Type 0

@@ -33,7 +33,7 @@ pub record Served : Type 0 where
 
 -- rows that a step has say what is packed, as it is taken; those of a folder always do
 abbrev pub SaysGoodRows : Task → Type 0
-SaysGoodRows (task.Step step) = HasGoodRows (deed_of step [])
+SaysGoodRows (task.Step step) = HasGoodRows (deed_of step [] None)
 SaysGoodRows _ = Unit {0}
 
 -- it was one on the image of this name, with blocks of this size, and it ended as it does, on files that are known
@@ -54,7 +54,7 @@ AreServed size name (s ∷ ss) old new = (mid : Files) × IsServedOn size name s
 
 -- where a step leads that was done, with what it was handed of standard input
 abbrev pub StepGoes : ℕ → Step → Option (List ℕ) → History → History → Type 0
-StepGoes size step typed old new = (input : List ℕ) × HandsInput step typed input × GoesOn size (deed_of step input) old new
+StepGoes size step typed old new = (input : List ℕ) × HandsInput step typed input × GoesOn size (deed_of step input None) old new
 
 -- where a task leads that was done: as the step that it says, or that it becomes; a folder that is made leaves the history
 abbrev pub TaskGoes : ℕ → Task → Scene → History → History → Type 0

@@ -1,6 +1,6 @@
 //! What is asked for on an image's file.
 
-ghost use Rattle.std.specs.Prelude.{◌≡◌, Some, IfOk};
+ghost use Rattle.std.specs.Prelude.{◌≡◌, None, Some, IfOk};
 ghost use Rattle.lfs_request.specs.declared.task.Task.TheVariants.{Pack, SetAttr, RmAttr};
 ghost use Rattle.lfs_step.specs.Deed.{deed_of};
 ghost use Rattle.lfs_change.specs.Fault.{status_of};
@@ -135,8 +135,8 @@ fn stepped<H: Host>(
 
 /// Runs a step on what it is handed.
 fn ran<H: Host>(alloc: Global, host: &mut H, size: u32, step: &Step<'_>, handed: Handed) -> Outcome
-    ensures answers { Answers (deed_of step.now handed.input.items) (given size handed.image.items handed.journal.items) result }
-    ensures sent { SendsText (deed_of step.now handed.input.items) (given size handed.image.items handed.journal.items) result.fault (H.known host.old).printed (H.known host.new).printed }
+    ensures answers { Answers (deed_of step.now handed.input.items None) (given size handed.image.items handed.journal.items) result }
+    ensures sent { SendsText (deed_of step.now handed.input.items None) (given size handed.image.items handed.journal.items) result.fault (H.known host.old).printed (H.known host.new).printed }
     ensures blamed { IsBlamed result.fault (H.known host.new) }
     ensures kept { ((H.known host.new).files ≡ (H.known host.old).files) × ((H.known host.new).typed ≡ (H.known host.old).typed) }
 {
@@ -146,7 +146,16 @@ fn ran<H: Host>(alloc: Global, host: &mut H, size: u32, step: &Step<'_>, handed:
         input,
     } = handed;
     let out = &mut Output::new(host);
-    run(alloc, step, size, image, journal, input.as_slice(), out)
+    run(
+        alloc,
+        step,
+        size,
+        image,
+        journal,
+        input.as_slice(),
+        None,
+        out,
+    )
 }
 
 /// Takes a step on what it is handed, and answers what it leaves.
