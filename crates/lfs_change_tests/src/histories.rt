@@ -1,5 +1,9 @@
 //! Sessions by example: runs of steps, and lists of commands.
 
+ghost use Rattle.std.specs.List.{AllByRecursion};
+ghost use Rattle.lfs_history.specs.Meaning.{step_of};
+ghost use Rattle.lfs_history.specs.Taking.{KeepsInRange};
+
 use crate::images::{fresh, has_image, new_image, new_session, replies};
 use lfs_block::Image;
 use lfs_edit::{Command, Refusal};
@@ -18,7 +22,9 @@ fn set_root<'a>(value: &'a [u8]) -> Command<'a> {
 }
 
 // the step of a command, which keeps all of the past
-fn does<'a>(command: Command<'a>) -> Move<'a> {
+fn does<'a>(command: Command<'a>) -> Move<'a>
+    ensures { KeepsInRange (step_of result) }
+{
     Move::Do {
         command,
         keep: None,
@@ -32,7 +38,9 @@ fn replies_to(
     session: &mut Session,
     steps: &[Move<'_>],
     expected: &[Result<(), StepFault>],
-) -> Result<(), AllocError> {
+) -> Result<(), AllocError>
+    requires { AllByRecursion (λ step. KeepsInRange (step_of step)) steps.now }
+{
     let replies = run_steps(alloc, session, steps)?;
     assert_eq!(rt; replies.as_slice(), expected);
     Ok(())

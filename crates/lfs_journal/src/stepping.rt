@@ -1,6 +1,7 @@
 //! Runs of steps.
 
-ghost use Rattle.std.specs.Prelude.{◌≡◌, map, All, IfOk, OnErr};
+ghost use Rattle.std.specs.Prelude.{◌≡◌, map, IfOk, OnErr};
+ghost use Rattle.std.specs.List.{AllByRecursion};
 ghost use Rattle.std.specs.Result.{result_err};
 ghost use Rattle.lfs_history.specs.Meaning.{step_of};
 ghost use Rattle.lfs_history.specs.Taking.{KeepsInRange, Run};
@@ -47,7 +48,7 @@ pub fn run_steps(
     session: &mut Session,
     steps: &[Move<'_>],
 ) -> Result<Vec<Result<(), StepFault>>, AllocError>
-    requires { All (λ step. KeepsInRange (step_of step)) steps.now }
+    requires { AllByRecursion (λ step. KeepsInRange (step_of step)) steps.now }
     ensures run { IfOk result (λ replies. Run (map step_of steps.now) (map result_err replies.items) session.old session.new) }
     ensures unchanged { OnErr result (session.new ≡ session.old) }
 {

@@ -1,5 +1,5 @@
 -- What the words of a command line ask for (own).
-use Rattle.std.specs.Prelude.{ℕ, Bool, ◌≡◌, List, [], ◌∷◌, Option, Some, codes}
+use Rattle.std.specs.Prelude.{ℕ, Bool, ◌≡◌, List, [], ◌∷◌, Option, None, Some, codes}
 use Rattle.std.specs.List.{list_any}
 use Rattle.std.specs.Str.{bytes_eq}
 use Rattle.std.specs.Str.Parse.{digits_value, without_leading_plus}
@@ -53,12 +53,13 @@ IsTask (SetAttr path kind value) name rows =
 IsTask (RmAttr path kind) name rows =
     (name ≡ codes "rmattr") × HasText rows (codes "path") path.now × HasText rows (codes "kind") kind.now
 
--- the request that a command and its options ask for
+-- the request that a command and its options ask for; all of the past is kept
 abbrev pub IsRequest : Request → Text → List Row → Type 0
 IsRequest request name rows =
     IsTask request.task name rows
     × HasNumber rows (codes "block") request.size
     × HasText rows (codes "image") request.image.now
+    × (request.keep ≡ None)
 
 -- what a command and its options ask for
 abbrev pub IsWish : Wish → Text → List Row → Type 0

@@ -92,6 +92,7 @@ pub fn wished<'a>(matches: &ArgMatches<'a>) -> Option<Wish<'a>>
     Some(Wish::Request(Request {
         task: task_of(name, options)?,
         size: number(options, "block")?,
+        keep: None,
         image: text(options, "image")?,
     }))
 }
