@@ -77,6 +77,43 @@ fn runs_carry_commands_out(rt: HostRuntime) -> Result<(), Fail> {
     Ok(())
 }
 
+// the step of a command, which keeps two images of the past
+fn keeps_two<'a>(command: Command<'a>) -> Move<'a>
+    ensures { KeepsInRange (step_of result) }
+{
+    Move::Do {
+        command,
+        keep: Some(2),
+    }
+}
+
+#[test]
+fn the_latest_images_are_kept(rt: HostRuntime) -> Result<(), Fail> {
+    let mut other = new_session(rt.alloc())?;
+    replies(&rt, rt.alloc(), &mut other, &set_root(&[1]), Ok(()));
+    let first = other.into_image();
+    let mut session = new_session(rt.alloc())?;
+    let steps = [
+        keeps_two(set_root(&[1])),
+        keeps_two(set_root(&[2])),
+        keeps_two(set_root(&[3])),
+        Move::Undo,
+        Move::Undo,
+        Move::Undo,
+    ];
+    let expected = [
+        Ok(()),
+        Ok(()),
+        Ok(()),
+        Ok(()),
+        Ok(()),
+        Err(StepFault::NothingToUndo),
+    ];
+    replies_to(&rt, rt.alloc(), &mut session, &steps, &expected)?;
+    has_image(&rt, &session, &first);
+    Ok(())
+}
+
 // commands, of which one is refused
 const LIST: [Command<'static>; 7] = [
     Command::Mkdir { path: b"/a" },
