@@ -116,14 +116,14 @@ invariant_of-self-2 c =
     record {
       at = (done_at (record { disk = made.disk; agrees = back.agrees; back = back.back })
           (record { cut = follow.cut; clean = follow.clean }) (asked_for c.args.command.now) c.args.keep
-          s.image.disk c.apply.new.image.disk s.patches.items news c.keep_latest.new.patches.items s.done c.keep_latest.result change.patch q
-          put c.index.ensures c.keep_latest.ensures.kept c.keep_latest.ensures.left
+          s.image.disk c.apply.new.image.disk s.patches.items news c.keep_latest-self-inside.new.patches.items s.done c.keep_latest-self-inside.result change.patch q
+          put c.index.ensures c.keep_latest-self-inside.ensures.kept c.keep_latest-self-inside.ensures.left
           c.self.invariant.at place c.in_ok-patch.ensures.planned to).keeps;
       known = subst (λ (e : Disk). IsOutlineOf e change.outline)
           (sym (put_makes s.image.disk c.apply.new.image.disk s.patches.items news s.done change.patch q put c.index.ensures to))
           c.in_ok-patch.ensures.outline;
-      room = room_same c.reserve.new.self.room c.apply.new.image.room c.keep_latest.new.patches.items c.apply.ensures.room
-          (room_kept c.reserve.new.self.room c.args.keep news c.keep_latest.new.patches.items c.keep_latest.ensures.kept
+      room = room_same c.reserve.new.self.room c.apply.new.image.room c.keep_latest-self-inside.new.patches.items c.apply.ensures.room
+          (room_kept c.reserve.new.self.room c.args.keep news c.keep_latest-self-inside.new.patches.items c.keep_latest-self-inside.ensures.kept
           (room_put s.image.room c.reserve.new.self.room s.patches.items news s.done change.patch c.reserve.ensures.most
           c.self.invariant.room fits c.in_ok-replace_from.ensures.done));
     }
@@ -143,8 +143,8 @@ returns-clause-done c =
     let place = subst (HasPlace c.args.keep) (sym c.self.view_is) c.requires in
     let to = done_at (record { disk = made.disk; agrees = back.agrees; back = back.back })
     (record { cut = follow.cut; clean = follow.clean }) (asked_for c.args.command.now) c.args.keep
-    s.image.disk c.apply.new.image.disk s.patches.items news c.keep_latest.new.patches.items s.done c.keep_latest.result change.patch q
-    put c.index.ensures c.keep_latest.ensures.kept c.keep_latest.ensures.left
+    s.image.disk c.apply.new.image.disk s.patches.items news c.keep_latest-self-inside.new.patches.items s.done c.keep_latest-self-inside.result change.patch q
+    put c.index.ensures c.keep_latest-self-inside.ensures.kept c.keep_latest-self-inside.ensures.left
     c.self.invariant.at place c.in_ok-patch.ensures.planned is in
     subst (λ (old : History). Does (asked_for c.args.command.now) c.args.keep old
-    (history_at c.apply.new.image.disk c.keep_latest.new.patches.items c.keep_latest.result)) c.self.view_is to.moves
+    (history_at c.apply.new.image.disk c.keep_latest-self-inside.new.patches.items c.keep_latest-self-inside.result)) c.self.view_is to.moves
