@@ -63,7 +63,7 @@ command_said name rows names =
 -- what must be said is
 wanted_said : (rule : Rule) (rows : List Row) → is_wanted rule ≡ true → IsSaidOrNeedNot rule rows → IsSaid rule rows
 wanted_said rule rows wanted (inl said) = said
-wanted_said rule rows wanted (inr (left, gone)) = absurd (cc)
+wanted_said rule rows wanted (inr (left, first, one)) = absurd (cc)
 
 each_wanted : (all : List Rule) (rows : List Row) → Each (λ rule. IsSaidOrNeedNot rule rows) all
     → Each (λ rule. is_wanted rule ≡ true → IsSaid rule rows) all

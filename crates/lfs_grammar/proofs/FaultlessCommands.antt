@@ -147,9 +147,10 @@ says_built : (a b : Rule) (rows : List Row) → b.id ≡ a.id → b.ignore_case 
     → parser_of_value b.parser ≡ parser_of_value a.parser → is_wanted b ≡ is_wanted a
     → IsSaidOrNeedNot b rows → IsSaidOrNeedNot a rows
 says_built a b rows id case parser wanted (inl said) = inl (said_built a b rows id case parser said)
-says_built a b rows id case parser wanted (inr (left, (first, one))) = inr (
+says_built a b rows id case parser wanted (inr (left, first, one)) = inr (
   sym wanted ∙ left,
-  (subst (λ (i : Text). first_of i rows ≡ None) id first, subst (λ (i : Text). one_of i rows ≡ None) id one),
+  subst (λ (i : Text). first_of i rows ≡ None) id first,
+  subst (λ (i : Text). one_of i rows ≡ None) id one,
 )
 
 all_said : (rules made : List Rule) (rows : List Row) → AreBuilt rules made

@@ -554,7 +554,7 @@ end_says R a start one here all checked = by_wanted (is_wanted a) refl
 
     by_row : (o : Option Row) → find (λ r. bytes_eq r.id a.id) rows ≡ o → is_wanted a ≡ false → IsSaidOrNeedNot a rows
     by_row (Some r) e left = inl (row_said R a rows (Some r) one here all e refl)
-    by_row None e left = inr (left, (ap (option_and_then (λ (x : Row). slice_get x.values 0)) e, ap (option_and_then row_text) e))
+    by_row None e left = inr (left, ap (option_and_then (λ (x : Row). slice_get x.values 0)) e, ap (option_and_then row_text) e)
 
     by_wanted : (b : Bool) → is_wanted a ≡ b → IsSaidOrNeedNot a rows
     by_wanted true is = inl (end_said R a start one here all checked is)

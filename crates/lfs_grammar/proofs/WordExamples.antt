@@ -1,5 +1,5 @@
 -- What the grammar makes of some command lines.
-use Rattle.std.proofs.Common.{◌≡◌, ◌∷◌, List, [], Option, Some, codes, refl}
+use Rattle.std.proofs.Common.{◌≡◌, ◌∷◌, List, [], Option, Some, None, codes, refl}
 use Rattle.std.specs.Prelude.{option_map}
 use Rattle.clap.specs.Words.{Text, fault_of, first_of, one_of, subcommand_of}
 use Rattle.clap.specs.declared.error.kind.ErrorKind.TheVariants.{DisplayHelp, MissingRequiredArgument, MissingSubcommand, UnknownArgument}
