@@ -197,7 +197,8 @@ const NEW_COUNT: &str =
     "Number of blocks that it gets, more than it has; at most 65536, and 67108864 bytes in all";
 
 /// What is said of the number of images that are kept.
-const KEEP: &str = "Number of the latest changes that are kept, from 1 to 1000; all where it is not said";
+const KEEP: &str =
+    "Number of the latest changes that are kept, from 1 to 1000; all where it is not said";
 
 /// What is said of a path.
 const PATH: &str = "Path of a file or a directory in the image, from / on";

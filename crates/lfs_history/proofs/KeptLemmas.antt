@@ -26,8 +26,8 @@ last_turned n ps =
     elim (cases_lt n (length ps)) [
       | inl less ↦ sym (ap (take n) turned ∙ take_at (reverse (drop k ps)) (reverse (take k ps)) n (omega arith))
       | inr most ↦
-        let none : k ≡ 0 = omega arith in
-        ap (λ (i : ℕ). reverse (drop i ps)) none ∙ sym (take_all n (reverse ps) (omega arith))
+          let none : k ≡ 0 = omega arith in
+          ap (λ (i : ℕ). reverse (drop i ps)) none ∙ sym (take_all n (reverse ps) (omega arith))
     ]
 
 past_of_first : (n : ℕ) (ps : List ChangeSet) (d : Disk) → past_of (take n ps) d ≡ take n (past_of ps d)
