@@ -1,5 +1,5 @@
 -- What is read of an argument that is said.
-use Rattle.std.proofs.Common.{◌≡◌, ◌≤◌, ◌∙◌, ℕ, List, Option, Some, None, sym, ap, subst, refl, true, inl, inr, codes}
+use Rattle.std.proofs.Common.{◌≡◌, ◌≤◌, ◌∙◌, ℕ, List, Option, Some, None, sym, ap, subst, refl, true, inl, inr, codes, arith}
 use Rattle.std.specs.Prelude.{IfSome, IsNone, Ok, Result, option_map, pos, unwrap_or}
 use Rattle.std.proofs.lemmas.Option.{none-some}
 use Rattle.std.specs.Borrow.{Bor}
@@ -16,7 +16,7 @@ use Rattle.clap.proofs.CallerReads.{signed_reads}
 use Rattle.clap.proofs.ValueTestLemmas.{accepts-Accepts}
 use Rattle.clap.proofs.WalkLemmas.{first_value-rows, one_text-rows}
 use Rattle.lfs_grammar.specs.Grammar.{IsNumber, IsSaid, NamesCommand, is_change, keep}
-use Rattle.lfs_grammar.proofs.CommandLemmas.{keep_is, keep_says}
+use Rattle.lfs_grammar.proofs.CommandLemmas.{keep_says}
 use Rattle.lfs_history.specs.Taking.{MayKeep}
 use Rattle.lfs_words.specs.Words.{HasNumber, HasText, IsKept}
 
@@ -106,6 +106,6 @@ pub kept_within : (r : Option ℕ) (name : Text) (rows : List Row) → is_change
 kept_within None name rows changes has within names = tt
 kept_within (Some n) name rows changes has within names =
     elim (keep_says name rows changes names) [
-      | inl said ↦ within keep refl keep_is said
+      | inl said ↦ let is : IsNumber keep = (1, 1000, refl, omega arith) in within keep refl is said
       | inr gone ↦ absurd (none-some has.0 (sym gone.2 ∙ has.1))
     ]
