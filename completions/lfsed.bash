@@ -32,31 +32,31 @@ _lfsed() {
       words='IMAGE PATH'
       ;;
     mkdir)
-      options='-b --block -h --help'
+      options='-b --block --keep -h --help'
       words='IMAGE PATH'
       ;;
     put)
-      options='-b --block -h --help'
+      options='-b --block --keep -h --help'
       words='IMAGE PATH'
       ;;
     rm)
-      options='-b --block -h --help'
+      options='-b --block --keep -h --help'
       words='IMAGE PATH'
       ;;
     mv)
-      options='-b --block -h --help'
+      options='-b --block --keep -h --help'
       words='IMAGE FROM TO'
       ;;
     setattr)
-      options='-b --block -h --help'
+      options='-b --block --keep -h --help'
       words='IMAGE PATH KIND HEX'
       ;;
     rmattr)
-      options='-b --block -h --help'
+      options='-b --block --keep -h --help'
       words='IMAGE PATH KIND'
       ;;
     grow)
-      options='-b --block -h --help'
+      options='-b --block --keep -h --help'
       words='IMAGE COUNT'
       ;;
     undo)
@@ -78,7 +78,7 @@ _lfsed() {
     help) words='COMMAND' ;;
   esac
   case ${COMP_WORDS[COMP_CWORD - 1]} in
-    -b | --block | --count) return ;;
+    -b | --block | --count | --keep) return ;;
   esac
   case $current in
     -*)
@@ -88,7 +88,7 @@ _lfsed() {
   esac
   for ((at = 2; at < COMP_CWORD; at++)); do
     case ${COMP_WORDS[at]} in
-      -b | --block | --count) at=$((at + 1)) ;;
+      -b | --block | --count | --keep) at=$((at + 1)) ;;
       -*) ;;
       *) at_word=$((at_word + 1)) ;;
     esac

@@ -15,6 +15,7 @@ NO_IMAGE = "lfsed: 52 JournalImage\n"
 NO_UNDO = "lfsed: 53 NothingToUndo\n"
 NO_REDO = "lfsed: 54 NothingToRedo\n"
 FULL = "lfsed: 55 JournalFull\n"
+ROOT = "lfsed: 41 IsRoot\n"
 # Without changes, for 8 blocks of 512 bytes.
 FRESH = bytes.fromhex("6c66736a 02000000 00020000 08000000 00000000 00000000")
 # The same in the first version.
@@ -291,6 +292,34 @@ def a_thousand_changes_are_kept(folder):
     journal.does("setattr / 74 01")
 
 
+def the_latest_changes_are_kept(folder):
+    journal = Journal(folder)
+    journal.does("mkdir /a --keep 2", 3_120)
+    first = folder.old()
+    for path in "/b", "/c":
+        journal.does(f"mkdir {path} --keep 2", 6_216)
+    for _ in range(2):
+        journal.does("undo", 6_216)
+    journal.is_image("what is kept", first)
+    journal.refuses("undo", 1, NO_UNDO)
+    journal.does("mkdir /d --keep 1", 3_120)
+    journal.does("undo")
+    journal.is_image("one that is kept", first)
+
+
+def full_journals_are_cut(folder):
+    journal = Journal(folder)
+    for _ in range(1_000):
+        folder.run("setattr -b 512 a.img / 74 01")
+    journal.refuses("rm / --keep 1", 1, ROOT)
+    journal.refuses("setattr / 74 02", 1, FULL)
+    for words, left in ("setattr / 74 02 --keep 1000", 1_000), ("grow 9 --keep 999", 999), ("rmattr / 74 --keep 1", 1):
+        journal.does(words)
+        folder.check(f"{words}: changes", journal.now()[16:24] == word(left) + word(0), journal.now()[16:24])
+    journal.does("undo")
+    journal.refuses("undo", 1, NO_UNDO)
+
+
 def a_run_that_stopped_between_the_files(folder):
     """The image doesn't get its place behind the new journal: the image is old, and the two don't match."""
     journal = Journal(folder)
@@ -325,5 +354,7 @@ if __name__ == "__main__":
         journals_cut_at_every_length,
         images_of_a_history_mount,
         a_thousand_changes_are_kept,
+        the_latest_changes_are_kept,
+        full_journals_are_cut,
         a_run_that_stopped_between_the_files,
     ]))

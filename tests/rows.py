@@ -374,6 +374,11 @@ USAGE = [
     ("setattr --block 255 a.img / 7 0", "error: invalid value '255' for '--block <BYTES>': 255 is not in 256..=65536\n"),
     ("undo", "error: the following required arguments were not provided:\n  <IMAGE>\n"),
     ("redo a.img /a", "error: unexpected argument '/a' found\n"),
+    ("mkdir --keep 0 a.img /a", "error: invalid value '0' for '--keep <K>': 0 is not in 1..=1000\n"),
+    ("grow a.img 16 --keep 1001", "error: invalid value '1001' for '--keep <K>': 1001 is not in 1..=1000\n"),
+    ("rm --keep x a.img /a", "error: invalid value 'x' for '--keep <K>': invalid digit found in string\n"),
+    ("check --keep 1 a.img", "error: unexpected argument '--keep' found\n"),
+    ("undo a.img --keep 1", "error: unexpected argument '--keep' found\n"),
     ("forget -b 250 a.img", "error: invalid value '250' for '--block <BYTES>': 250 is not in 256..=65536\n"),
 ]
 

@@ -5,15 +5,16 @@ use Rattle.lfs_block.specs.Disk.{Disk, IsDisk}
 use Rattle.lfs_block.specs.declared.mount_fault.MountFault.{MountFault}
 use Rattle.lfs_block.specs.declared.mount_fault.MountFault.TheVariants.{Memory as No_memory}
 use Rattle.lfs_fs.specs.Cause.{HasCause}
+use Rattle.lfs_command.specs.Command.{Asked}
 use Rattle.lfs_history.specs.declared.open_fault.OpenFault.{OpenFault}
 use Rattle.lfs_history.specs.declared.open_fault.OpenFault.TheVariants as opening
 use Rattle.lfs_history.specs.declared.step_fault.StepFault.{StepFault}
 use Rattle.lfs_history.specs.declared.step_fault.StepFault.TheVariants.{Refused as Refused_step, NothingToUndo, NothingToRedo, JournalFull}
 use Rattle.lfs_history.specs.History.{History, IsHistory}
-use Rattle.lfs_history.specs.Moves.{Undoes}
+use Rattle.lfs_history.specs.Moves.{kept_images, but_one}
 use Rattle.lfs_history.specs.Opening.{Opens, RefusesOpening}
-use Rattle.lfs_history.specs.Taking.{Move, Do, Undo, Redo, Forget, Takes}
-use Rattle.lfs_history.proofs.MoveLemmas.{first_same}
+use Rattle.lfs_history.specs.Taking.{Move, Do, Undo, Redo, Forget, Does, Takes}
+use Rattle.lfs_history.proofs.KeptLemmas.{image_kept}
 use Rattle.lfs_change.specs.declared.fault.Fault.{Fault}
 use Rattle.lfs_change.specs.declared.fault.Fault.TheVariants as fault
 use Rattle.lfs_change.specs.declared.fault.Fault.TheVariants.{Image, Refused}
@@ -27,10 +28,10 @@ use Rattle.lfs_change.proofs.BytesLemmas.{image_of_disk}
 
 -- it leaves the history
 pub refused_keeps : (step : Move) (f : StepFault) (old new : History) → Takes step (Some f) old new → new ≡ old
-refused_keeps (Do asked) JournalFull old new takes = takes.1
-refused_keeps (Do asked) (Refused_step r) old new takes = takes.2
-refused_keeps (Do asked) NothingToUndo old new takes = absurd takes
-refused_keeps (Do asked) NothingToRedo old new takes = absurd takes
+refused_keeps (Do asked keep) JournalFull old new takes = takes.1
+refused_keeps (Do asked keep) (Refused_step r) old new takes = takes.2
+refused_keeps (Do asked keep) NothingToUndo old new takes = absurd takes
+refused_keeps (Do asked keep) NothingToRedo old new takes = absurd takes
 refused_keeps Undo NothingToUndo old new takes = takes.1
 refused_keeps Undo (Refused_step r) old new takes = absurd takes
 refused_keeps Undo NothingToRedo old new takes = absurd takes
@@ -53,27 +54,10 @@ refused_saving step JournalFull old new takes = refused_here step JournalFull ol
 
 -- ---- a step that is taken back
 
-none_first : (x : Disk) (xs : List Disk) → x ∷ xs ≡ [] → ⊥
-none_first x xs h = cc
-
--- behind a command, or a change that was made again, stands the image before it
-past_first : (step : Move) (before mid : History) → (step ≡ Undo → ⊥) → (step ≡ Forget → ⊥) → Takes step None before mid
-    → mid.past ≡ before.present ∷ before.past
-past_first (Do asked) before mid not_undo not_forget takes = takes.pushes.past
-past_first Redo before mid not_undo not_forget takes = takes.past
-past_first Undo before mid not_undo not_forget takes = absurd (not_undo refl)
-past_first Forget before mid not_undo not_forget takes = absurd (not_forget refl)
-
-pub undone_again : (ds : List Disk) (before mid new : History) → mid.past ≡ before.present ∷ ds → Undoes mid new
-    → new.present ≡ before.present
-undone_again ds before mid new past undoes = first_same _ _ _ _ (sym undoes.past ∙ past)
-
-pub redone_again : (ds : List Disk) (before mid new : History) → mid.future ≡ before.present ∷ ds → Undoes new mid
-    → new.present ≡ before.present
-redone_again ds before mid new future redoes = first_same _ _ _ _ (sym redoes.future ∙ future)
-
-pub not_empty : {T : Type 0} (d : Disk) (ds es : List Disk) → es ≡ d ∷ ds → es ≡ [] → T
-not_empty d ds es is none = absurd (none_first d ds (sym is ∙ none))
+-- behind a command stands the image before it
+pub does_in_front : (asked : Asked) (keep : Option ℕ) (before mid : History) → Does asked keep before mid
+    → mid.past ≡ before.present ∷ kept_images (but_one keep) before.past
+does_in_front asked keep before mid does = does.pushes.past ∙ image_kept keep before before.present before.past does.room
 
 -- ---- what is denoted
 

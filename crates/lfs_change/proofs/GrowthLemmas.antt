@@ -9,11 +9,11 @@ use Rattle.lfs_fs.specs.Holds.{Holds}
 use Rattle.lfs_fs.specs.Reading.{reading_of}
 use Rattle.lfs_command.specs.Need.{need}
 use Rattle.lfs_history.specs.History.{History}
-use Rattle.lfs_history.specs.Opening.{journal_of}
-use Rattle.lfs_history.specs.OpeningLaws.{JournalsGrowByTheNeed}
+use Rattle.lfs_history.specs.Opening.{journal_of, kept_journal}
+use Rattle.lfs_history.specs.OpeningLaws.{JournalsGrowByTheNeed, KeptJournalsGrowByTheNeed}
 use Rattle.lfs_change.specs.Bytes.{image_of}
 use Rattle.lfs_change.specs.Change.{DenotesOn}
-use Rattle.lfs_change.specs.Laws.{JournalsOfBytesGrowByTheNeed, journal_length, version_of, done_of}
+use Rattle.lfs_change.specs.Laws.{JournalsOfBytesGrowByTheNeed, JournalsOfBytesGrowOnTheKept, journal_length, version_of, done_of}
 use Rattle.lfs_change.proofs.ChangeLemmas.{denoted_present}
 
 -- ---- the numbers that stand in a journal
@@ -75,13 +75,13 @@ denoted_length d (byte ∷ bytes) h denotes =
     }
 
 pub bytes_grow : JournalsGrowByTheNeed → JournalsOfBytesGrowByTheNeed
-bytes_grow grow asked size image journal o changes =
+bytes_grow grow asked keep size image journal o changes =
     let is = changes.1 in
     let plans = is.takes.plans in
     let present = denoted_present (image_of size image) journal is.old is.denotes in
     let blocks = need plans.volume plans.command + 2 in
     let before = denoted_length (image_of size image) journal is.old is.denotes in
-    let longer = grow asked is.old is.new before.version is.takes in
+    let longer = grow asked keep is.old is.new before.version is.takes in
     let len = before.len in
     let more = before.more in
     let after : length o.journal.items ≡ length (journal_bytes (journal_of is.new)) = ap length is.journal_is in
@@ -94,5 +94,27 @@ bytes_grow grow asked size image journal o changes =
       command = plans.command;
       spells = plans.spells;
       grows = subst (λ (n : ℕ). length o.journal.items ≤ journal_length journal + added + 12 + blocks * (2 * n + 4))
+          (ap (λ (d : Disk). d.size) present) sized;
+    }
+
+pub bytes_grow_on_the_kept : KeptJournalsGrowByTheNeed → JournalsOfBytesGrowOnTheKept
+bytes_grow_on_the_kept grow asked keep size image journal o changes =
+    let is = changes.1 in
+    let plans = is.takes.plans in
+    let present = denoted_present (image_of size image) journal is.old is.denotes in
+    let blocks = need plans.volume plans.command + 2 in
+    let kept = kept_journal keep is.old in
+    let longer = grow asked keep is.old is.new 2 is.takes in
+    let after : length o.journal.items ≡ length (journal_bytes (journal_of is.new)) = ap length is.journal_is in
+    let sized : length o.journal.items ≤ length (journal_bytes kept) + 12 + blocks * (2 * is.old.present.size + 4) =
+    omega (arith, longer, after) in
+    record {
+      old = is.old;
+      denotes = is.denotes;
+      volume = plans.volume;
+      holds = subst (λ (d : Disk). Holds (reading_of d) plans.volume) present plans.holds;
+      command = plans.command;
+      spells = plans.spells;
+      grows = subst (λ (n : ℕ). length o.journal.items ≤ length (journal_bytes kept) + 12 + blocks * (2 * n + 4))
           (ap (λ (d : Disk). d.size) present) sized;
     }

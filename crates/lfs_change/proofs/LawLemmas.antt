@@ -5,8 +5,10 @@ use Rattle.lfs_fs.specs.Reading.{reading_of}
 use Rattle.lfs_fs.specs.Holds.{Holds}
 use Rattle.lfs_fs.specs.Mounts.{Mounts}
 use Rattle.lfs_book.specs.Book.{Book, bytes_in, journal_bytes}
+use Rattle.lfs_command.specs.Command.{Asked}
 use Rattle.lfs_history.specs.History.{History, IsHistory, fresh_history}
 use Rattle.lfs_history.specs.Laws.{IsCarriedOut, CommandsPushEquations, RunsKeepHistories, StepsKeepSize, UndoIsExact}
+use Rattle.lfs_history.specs.Laws.{UndoIsExactAsFarAsKept}
 use Rattle.lfs_history.specs.Opening.{journal_of}
 use Rattle.lfs_history.specs.OpeningLaws.{JournalsDenoteOneHistory, SavedHistoriesOpen}
 use Rattle.lfs_history.specs.Taking.{Move, Do, Undo, Redo, Forget, Takes, Run}
@@ -59,14 +61,14 @@ bytes_are_denoted keep keep_size opens step size image journal o changes =
     )
 
 pub bytes_are_equations : ChangedBytesAreDenoted → CommandsPushEquations → ChangedBytesAreEquations
-bytes_are_equations denoted push asked size image journal o v t changes holds mounts =
+bytes_are_equations denoted push asked keep size image journal o v t changes holds mounts =
     let is = changes.1 in
     let old = denoted_present (image_of size image) journal is.old is.denotes in
     let new = denoted_present (image_of size o.image.items) o.journal.items is.new
-    (denoted (Do asked) size image journal o changes).1 in
+    (denoted (Do asked keep) size image journal o changes).1 in
     let held : Holds (reading_of is.old.present) v = subst (λ (d : Disk). Holds (reading_of d) v) (sym old) holds in
     let mounted : Mounts is.old.present t = subst (λ (d : Disk). Mounts d t) (sym old) mounts in
-    subst (λ (d : Disk). IsCarriedOut asked d v t) new (push asked is.old is.new v t is.takes held mounted).present
+    subst (λ (d : Disk). IsCarriedOut asked d v t) new (push asked keep is.old is.new v t is.takes held mounted).present
 
 -- ---- what bytes denote
 
@@ -75,15 +77,21 @@ pub one_denoted : JournalsDenoteOneHistory → (d : Disk) (journal : List ℕ) (
 one_denoted one d [] h k first second = first.0 ∙ sym second.0
 one_denoted one d (byte ∷ bytes) h k first second = one d (byte ∷ bytes) h k first second
 
-pub bytes_stand_again : ChangedBytesAreDenoted → JournalsDenoteOneHistory → UndoIsExact → UndoneBytesStandAgain
-bytes_stand_again denoted one exact asked size image journal done undone first second =
-    let mid = (denoted (Do asked) size image journal done first).1 in
+-- a command that is taken back leaves the image, however much of the past is kept
+image_again : UndoIsExact → UndoIsExactAsFarAsKept → (asked : Asked) (keep : Option ℕ) (old new : History)
+    → Run (Do asked keep ∷ Undo ∷ []) (None ∷ None ∷ []) old new → new.present ≡ old.present
+image_again all kept asked None old new run = (all asked old new run).0
+image_again all kept asked (Some keep) old new run = (kept asked keep old new run).0
+
+pub bytes_stand_again : ChangedBytesAreDenoted → JournalsDenoteOneHistory → UndoIsExact → UndoIsExactAsFarAsKept → UndoneBytesStandAgain
+bytes_stand_again denoted one all kept asked keep size image journal done undone first second =
+    let mid = (denoted (Do asked keep) size image journal done first).1 in
     let same : second.1.old ≡ first.1.new = one_denoted one (image_of size done.image.items) done.journal.items second.1.old first.1.new
     second.1.denotes mid in
     let takes : Takes Undo None first.1.new second.1.new = subst (λ (h : History). Takes Undo None h second.1.new) same second.1.takes in
-    let run : Run (Do asked ∷ Undo ∷ []) (None ∷ None ∷ []) first.1.old second.1.new =
+    let run : Run (Do asked keep ∷ Undo ∷ []) (None ∷ None ∷ []) first.1.old second.1.new =
     (first.1.new, first.1.takes, (second.1.new, takes, refl)) in
-    let back = (exact asked first.1.old second.1.new run).0 in
+    let back = image_again all kept asked keep first.1.old second.1.new run in
     second.1.image_is ∙ ap (λ (d : Disk). d.bytes) (back ∙ denoted_present (image_of size image) journal first.1.old first.1.denotes)
 
 -- ---- runs
@@ -91,8 +99,8 @@ bytes_stand_again denoted one exact asked size image journal done undone first s
 -- a step on bytes is one on what they denote
 takes_from : JournalsDenoteOneHistory → (step : Move) (d : Disk) (journal : List ℕ) (old : History) (o : Outcome)
     → DenotesOn d journal old → (is : IsChanged step d journal o) → Takes step None old is.new
-takes_from one (Do asked) d journal old o denotes is =
-    subst (λ (h : History). Takes (Do asked) None h is.new) (one_denoted one d journal is.old old is.denotes denotes) is.takes
+takes_from one (Do asked keep) d journal old o denotes is =
+    subst (λ (h : History). Takes (Do asked keep) None h is.new) (one_denoted one d journal is.old old is.denotes denotes) is.takes
 takes_from one Undo d journal old o denotes is =
     subst (λ (h : History). Takes Undo None h is.new) (one_denoted one d journal is.old old is.denotes denotes) is.takes
 takes_from one Redo d journal old o denotes is =

@@ -7,16 +7,17 @@ use Rattle.lfs_fs.specs.Tree.{Node}
 use Rattle.lfs_fs.specs.Reading.{reading_of}
 use Rattle.lfs_fs.specs.Holds.{Holds}
 use Rattle.lfs_fs.specs.Mounts.{Mounts}
-use Rattle.lfs_book.specs.Book.{respelling}
+use Rattle.lfs_book.specs.Book.{journal_bytes, respelling}
 use Rattle.lfs_command.specs.Command.{Asked, Command, Spells}
 use Rattle.lfs_command.specs.Need.{need}
 use Rattle.lfs_history.specs.History.{History}
+use Rattle.lfs_history.specs.Opening.{kept_journal}
 use Rattle.lfs_history.specs.Taking.{Move, Do, Undo, Run}
 use Rattle.lfs_history.specs.Laws.{IsCarriedOut}
 use Rattle.lfs_change.specs.declared.fault.Fault.{Fault}
 use Rattle.lfs_change.specs.declared.outcome.Outcome.{Outcome}
 use Rattle.lfs_change.specs.Bytes.{image_of}
-use Rattle.lfs_change.specs.Change.{Denotes, ChangesBytes, AnswersChange}
+use Rattle.lfs_change.specs.Change.{Denotes, DenotesOn, ChangesBytes, AnswersChange}
 
 -- the image and the journal that a step leaves denote the history that it leaves
 abbrev pub ChangedBytesAreDenoted : Type 0
@@ -27,14 +28,15 @@ ChangedBytesAreDenoted = (step : Move) (size : ℕ) (image journal : List ℕ) (
 -- Bytes that a command changed are an image that mounts to the command's equation of the tree of the image before, with the same
 -- size and limits, and with as many blocks as the command leaves.
 abbrev pub ChangedBytesAreEquations : Type 0
-ChangedBytesAreEquations = (asked : Asked) (size : ℕ) (image journal : List ℕ) (outcome : Outcome) (v : Volume) (t : Path → Option Node)
-    → ChangesBytes (Do asked) size image journal outcome → Holds (reading_of (image_of size image)) v
+ChangedBytesAreEquations = (asked : Asked) (keep : Option ℕ) (size : ℕ) (image journal : List ℕ) (outcome : Outcome)
+    (v : Volume) (t : Path → Option Node)
+    → ChangesBytes (Do asked keep) size image journal outcome → Holds (reading_of (image_of size image)) v
     → Mounts (image_of size image) t → IsCarriedOut asked (image_of size outcome.image.items) v t
 
--- what a command did is undone byte for byte, by the journal that it left
+-- what a command did is undone byte for byte, by the journal that it left, however much of the past it keeps
 abbrev pub UndoneBytesStandAgain : Type 0
-UndoneBytesStandAgain = (asked : Asked) (size : ℕ) (image journal : List ℕ) (done undone : Outcome)
-    → ChangesBytes (Do asked) size image journal done
+UndoneBytesStandAgain = (asked : Asked) (keep : Option ℕ) (size : ℕ) (image journal : List ℕ) (done undone : Outcome)
+    → ChangesBytes (Do asked keep) size image journal done
     → ChangesBytes Undo size done.image.items done.journal.items undone → undone.image.items ≡ image
 
 -- the length of a journal; of one without bytes, that of a journal without changes
@@ -63,8 +65,25 @@ pub record GrowsByTheNeed (asked : Asked) (size : ℕ) (image journal : List ℕ
 
 -- the journal of bytes that a command changed grows by no more than the need
 abbrev pub JournalsOfBytesGrowByTheNeed : Type 0
-JournalsOfBytesGrowByTheNeed = (asked : Asked) (size : ℕ) (image journal : List ℕ) (outcome : Outcome)
-    → ChangesBytes (Do asked) size image journal outcome → GrowsByTheNeed asked size image journal outcome
+JournalsOfBytesGrowByTheNeed = (asked : Asked) (keep : Option ℕ) (size : ℕ) (image journal : List ℕ) (outcome : Outcome)
+    → ChangesBytes (Do asked keep) size image journal outcome → GrowsByTheNeed asked size image journal outcome
+
+-- On the volume that the image holds the command needs some blocks, and the new journal is longer by no more than that even than the
+-- journal that has nothing but those of the changes that are kept.
+pub record GrowsOnTheKept (asked : Asked) (keep : Option ℕ) (size : ℕ) (image journal : List ℕ) (outcome : Outcome) : Type 0 where
+  pub old : History
+  pub denotes : DenotesOn (image_of size image) journal old
+  pub volume : Volume
+  pub holds : Holds (reading_of (image_of size image)) volume
+  pub command : Command
+  pub spells : Spells asked command
+  pub grows : length outcome.journal.items ≤ length (journal_bytes (kept_journal keep old)) + 12
+      + (need volume command + 2) * (2 * size + 4)
+
+-- the journal of bytes that a command changed is bounded by what it keeps
+abbrev pub JournalsOfBytesGrowOnTheKept : Type 0
+JournalsOfBytesGrowOnTheKept = (asked : Asked) (keep : Option ℕ) (size : ℕ) (image journal : List ℕ) (outcome : Outcome)
+    → ChangesBytes (Do asked keep) size image journal outcome → GrowsOnTheKept asked keep size image journal outcome
 
 -- the bytes of an image and of its journal
 pub record BothFiles : Type 0 where

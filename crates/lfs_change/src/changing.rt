@@ -3,7 +3,7 @@
 ghost use Rattle.std.specs.Prelude.{◌≡◌, false, Some, None, IfOk, IfErr, OnErr};
 ghost use Rattle.lfs_history.specs.History.{History};
 ghost use Rattle.lfs_history.specs.Meaning.{step_of};
-ghost use Rattle.lfs_history.specs.Taking.{Takes};
+ghost use Rattle.lfs_history.specs.Taking.{KeepsInRange, Takes};
 ghost use Rattle.lfs_change.specs.Change.{AnswersChange, AnswersImage, DenotesOn, IsSaved, RefusesDenoting, RefusesSaving, journal_read};
 ghost use Rattle.lfs_change.specs.Fault.{blames_output, status_of};
 
@@ -16,8 +16,8 @@ use lfs_journal::{Refused, Session};
 use std::alloc::Global;
 
 /// Takes a step on the history of bytes that are an image, with blocks of `size` bytes, and of its journal, which is spelled in
-/// version 2 then, whichever version it was read in. With a fault the image and the journal are those that were handed in.
-/// Takes memory.
+/// version 2 then, whichever version it was read in. The caller owes that what the step keeps is 1 to 1,000 images. With a fault the
+/// image and the journal are those that were handed in. Takes memory.
 ///
 /// Source: own.
 pub fn changed(
@@ -27,6 +27,7 @@ pub fn changed(
     image: Vec<u8>,
     journal: Vec<u8>,
 ) -> Outcome
+    requires { KeepsInRange (step_of change.now) }
     ensures answers { AnswersChange result.fault (step_of change.now) size image.items journal.items result }
     ensures failed { blames_output result.fault ≡ false }
     ensures status { result.status ≡ status_of result.fault }
@@ -39,6 +40,7 @@ pub fn changed(
 
 /// Takes a step on the history of an image.
 fn changed_image(alloc: Global, change: &Move<'_>, image: Image, journal: Vec<u8>) -> Outcome
+    requires { KeepsInRange (step_of change.now) }
     ensures answers { AnswersImage result.fault (step_of change.now) image.disk journal.items result }
     ensures failed { blames_output result.fault ≡ false }
     ensures status { result.status ≡ status_of result.fault }
@@ -84,6 +86,7 @@ fn opened(alloc: Global, image: Image, journal: &[u8]) -> Result<Session, Refuse
 
 /// Takes a step, and gives the bytes of the journal that it leaves. With a fault the image is as it was.
 fn saved(alloc: Global, change: &Move<'_>, session: &mut Session) -> Result<Vec<u8>, Fault>
+    requires { KeepsInRange (step_of change.now) }
     ensures saved { IfOk result (λ bytes. IsSaved (step_of change.now) session.old session.new bytes.items) }
     ensures refused { IfErr result (λ fault. RefusesSaving (step_of change.now) session.old fault) }
     ensures failed { IfErr result (λ fault. blames_output (Some fault) ≡ false) }
@@ -98,11 +101,12 @@ fn saved(alloc: Global, change: &Move<'_>, session: &mut Session) -> Result<Vec<
 }
 
 /// Takes a step back that was just taken, so that the image is as it was before. Takes no memory.
+#[tactic(auto, using(crate::proofs::ChangeLemmas::does_in_front))]
 fn take_back(change: &Move<'_>, session: &mut Session)
     ensures { (before : History) → Takes (step_of change.now) None before session.old → session.new.present ≡ before.present }
 {
     let _ = match change {
-        Move::Do(_) | Move::Redo => session.undo(),
+        Move::Do { .. } | Move::Redo => session.undo(),
         Move::Undo => session.redo(),
         Move::Forget => Ok(()),
     };

@@ -1,6 +1,6 @@
 //! Laws of bytes on which steps are taken: each function does nothing but call laws, and its contract is the law.
 
-ghost use Rattle.lfs_change.specs.Laws.{ChangedBytesAreDenoted, ChangedBytesAreEquations, JournalsOfBytesGrowByTheNeed, RunsOfBytesAreRuns, UndoneBytesStandAgain};
+ghost use Rattle.lfs_change.specs.Laws.{ChangedBytesAreDenoted, ChangedBytesAreEquations, JournalsOfBytesGrowByTheNeed, JournalsOfBytesGrowOnTheKept, RunsOfBytesAreRuns, UndoneBytesStandAgain};
 
 use lfs_history::{
     commands_push_equations, journals_grow_by_the_need, runs_keep_histories, saved_histories_open,
@@ -29,7 +29,8 @@ pub fn changed_bytes_are_equations()
     commands_push_equations();
 }
 
-/// A law: what a command did is undone byte for byte, by the journal that it left. Takes no memory.
+/// A law: what a command did is undone byte for byte, by the journal that it left, however many images of the past it keeps. Takes no
+/// memory.
 ///
 /// Source: own.
 pub fn undone_bytes_stand_again()
@@ -53,11 +54,14 @@ pub fn runs_of_bytes_are_runs()
 
 /// A law: the journal that a command leaves is longer than the one before it by no more than three numbers and, for each block that
 /// the command needs on the image's volume and two more, the block's number, its bytes before and its bytes after; than one of version
-/// 1 also by two numbers for each change that is kept. A journal without bytes counts as one without changes. Takes no memory.
+/// 1 also by two numbers for each change that is kept (`whole`). A journal without bytes counts as one without changes. No more than
+/// that is added even to the journal of nothing but the changes that are kept: those that were undone aren't, nor those that the
+/// command drops (`kept`). Takes no memory.
 ///
 /// Source: own.
 pub fn journals_of_bytes_grow_by_the_need()
-    ensures { JournalsOfBytesGrowByTheNeed }
+    ensures whole { JournalsOfBytesGrowByTheNeed }
+    ensures kept { JournalsOfBytesGrowOnTheKept }
 {
     journals_grow_by_the_need();
 }

@@ -1,5 +1,9 @@
 //! Sessions by example: runs of steps, and lists of commands.
 
+ghost use Rattle.std.specs.List.{AllByRecursion};
+ghost use Rattle.lfs_history.specs.Meaning.{step_of};
+ghost use Rattle.lfs_history.specs.Taking.{KeepsInRange};
+
 use crate::images::{fresh, has_image, new_image, new_session, replies};
 use lfs_block::Image;
 use lfs_edit::{Command, Refusal};
@@ -17,6 +21,16 @@ fn set_root<'a>(value: &'a [u8]) -> Command<'a> {
     }
 }
 
+// the step of a command, which keeps all of the past
+fn does<'a>(command: Command<'a>) -> Move<'a>
+    ensures { KeepsInRange (step_of result) }
+{
+    Move::Do {
+        command,
+        keep: None,
+    }
+}
+
 // asserts how a session replies to a run of steps
 fn replies_to(
     rt: &impl Abort,
@@ -24,7 +38,9 @@ fn replies_to(
     session: &mut Session,
     steps: &[Move<'_>],
     expected: &[Result<(), StepFault>],
-) -> Result<(), AllocError> {
+) -> Result<(), AllocError>
+    requires { AllByRecursion (λ step. KeepsInRange (step_of step)) steps.now }
+{
     let replies = run_steps(alloc, session, steps)?;
     assert_eq!(rt; replies.as_slice(), expected);
     Ok(())
@@ -39,8 +55,8 @@ fn runs_carry_commands_out(rt: HostRuntime) -> Result<(), Fail> {
         kind: 0x74,
     };
     let steps = [
-        Move::Do(set_root(&[1, 2])),
-        Move::Do(nowhere),
+        does(set_root(&[1, 2])),
+        does(nowhere),
         Move::Undo,
         Move::Redo,
         Move::Undo,
@@ -55,6 +71,43 @@ fn runs_carry_commands_out(rt: HostRuntime) -> Result<(), Fail> {
         Ok(()),
         Ok(()),
         Err(StepFault::NothingToRedo),
+    ];
+    replies_to(&rt, rt.alloc(), &mut session, &steps, &expected)?;
+    has_image(&rt, &session, &first);
+    Ok(())
+}
+
+// the step of a command, which keeps two images of the past
+fn keeps_two<'a>(command: Command<'a>) -> Move<'a>
+    ensures { KeepsInRange (step_of result) }
+{
+    Move::Do {
+        command,
+        keep: Some(2),
+    }
+}
+
+#[test]
+fn the_latest_images_are_kept(rt: HostRuntime) -> Result<(), Fail> {
+    let mut other = new_session(rt.alloc())?;
+    replies(&rt, rt.alloc(), &mut other, &set_root(&[1]), Ok(()));
+    let first = other.into_image();
+    let mut session = new_session(rt.alloc())?;
+    let steps = [
+        keeps_two(set_root(&[1])),
+        keeps_two(set_root(&[2])),
+        keeps_two(set_root(&[3])),
+        Move::Undo,
+        Move::Undo,
+        Move::Undo,
+    ];
+    let expected = [
+        Ok(()),
+        Ok(()),
+        Ok(()),
+        Ok(()),
+        Ok(()),
+        Err(StepFault::NothingToUndo),
     ];
     replies_to(&rt, rt.alloc(), &mut session, &steps, &expected)?;
     has_image(&rt, &session, &first);

@@ -12,7 +12,8 @@ use Rattle.clap.proofs.SimpleLemmas.{is_false}
 use Rattle.clap.proofs.WalkLemmas.{both}
 use Rattle.lfs_grammar.proofs.FaultlessRows.{none_of}
 use Rattle.lfs_grammar.proofs.Lists.{Each, In, contained, each, each_in}
-use Rattle.lfs_grammar.specs.Grammar.{IsNumber, IsSaid, NamesCommand, block, commands, count, new_count, number, word}
+use Rattle.lfs_grammar.specs.Grammar.{IsNumber, IsSaid, IsSaidOrNeedNot, NamesCommand, block, commands, count, is_change, is_wanted, keep}
+use Rattle.lfs_grammar.specs.Grammar.{new_count, number, word}
 
 -- ---- the command of a name
 
@@ -51,24 +52,35 @@ all_distinct = refl
 called : (name : Text) (rows : List Row) (names : NamesCommand (Some (name, rows))) → names.command.name ≡ name
 called name rows names = ap (λ (o : Option (Text × List Row)). option_map_or (λ p. p.0) o []) (sym names.is)
 
--- what the command takes is said
+-- what the command takes is said, or needn't be
 command_said : (name : Text) (rows : List Row) (names : NamesCommand (Some (name, rows)))
-    → Each (λ rule. IsSaid rule rows) names.command.rules
+    → Each (λ rule. IsSaidOrNeedNot rule rows) names.command.rules
 command_said name rows names =
     let has : names.rows ≡ rows = ap (λ (o : Option (Text × List Row)). option_map_or (λ p. p.1) o []) (sym names.is) in
-    subst (λ (r : List Row). Each (λ rule. IsSaid rule r) names.command.rules) has
-    (each (λ rule. IsSaid rule names.rows) names.command.rules names.said)
+    subst (λ (r : List Row). Each (λ rule. IsSaidOrNeedNot rule r) names.command.rules) has
+    (each (λ rule. IsSaidOrNeedNot rule names.rows) names.command.rules names.said)
 
--- what the command of this name takes is said
+-- what must be said is
+wanted_said : (rule : Rule) (rows : List Row) → is_wanted rule ≡ true → IsSaidOrNeedNot rule rows → IsSaid rule rows
+wanted_said rule rows wanted (inl said) = said
+wanted_said rule rows wanted (inr (left, first, one)) = absurd (cc)
+
+each_wanted : (all : List Rule) (rows : List Row) → Each (λ rule. IsSaidOrNeedNot rule rows) all
+    → Each (λ rule. is_wanted rule ≡ true → IsSaid rule rows) all
+each_wanted [] rows says = tt
+each_wanted (rule ∷ all) rows says = (λ wanted. wanted_said rule rows wanted says.0, each_wanted all rows says.1)
+
+-- what the command of this name takes and must be said is said
 pub said_of : (name word : Text) (rows : List Row) → name ≡ word → NamesCommand (Some (name, rows))
-    → Each (λ rule. IsSaid rule rows) (rules_at word)
+    → Each (λ rule. is_wanted rule ≡ true → IsSaid rule rows) (rules_at word)
 said_of name word rows same names =
     let command = names.command in
     let found : find (λ c. bytes_eq c.name command.name) commands ≡ Some command =
     found_again commands command all_distinct (contained commands command names.here) in
     let rules : rules_at word ≡ command.rules =
     ap rules_at (sym (called name rows names ∙ same)) ∙ ap (λ (o : Option Shape). option_map_or (λ (c : Shape). c.rules) o []) found in
-    subst (λ (rules : List Rule). Each (λ rule. IsSaid rule rows) rules) (sym rules) (command_said name rows names)
+    subst (λ (rules : List Rule). Each (λ rule. is_wanted rule ≡ true → IsSaid rule rows) rules) (sym rules)
+    (each_wanted command.rules rows (command_said name rows names))
 
 pub count_is : IsNumber count
 count_is = (2, 65536, refl, omega arith)
@@ -78,6 +90,9 @@ new_count_is = (2, 65536, refl, omega arith)
 
 pub block_is : IsNumber block
 block_is = (256, 65536, refl, omega arith)
+
+pub keep_is : IsNumber keep
+keep_is = (1, 1000, refl, omega arith)
 
 pub number_is : IsNumber number
 number_is = (0, 4294967295, refl, omega arith)
@@ -89,12 +104,12 @@ TakesImage c = ((rest : List Rule) × (c.rules ≡ block ∷ word (codes "image"
 takes_image : Each TakesImage commands
 takes_image = search rules
 
-image_of : (rows : List Row) (rules rest : List Rule) → rules ≡ block ∷ word (codes "image") ∷ rest → Each (λ rule. IsSaid rule rows) rules
+image_of : (rows : List Row) (rules rest : List Rule) → rules ≡ block ∷ word (codes "image") ∷ rest → Each (λ rule. IsSaidOrNeedNot rule rows) rules
     → IsSaid block rows × IsSaid (word (codes "image")) rows
 image_of rows rules rest is said =
-    let all : Each (λ rule. IsSaid rule rows) (block ∷ word (codes "image") ∷ rest) =
-    subst (λ (r : List Rule). Each (λ rule. IsSaid rule rows) r) is said in
-    (all.0, all.1.0)
+    let all : Each (λ rule. IsSaidOrNeedNot rule rows) (block ∷ word (codes "image") ∷ rest) =
+    subst (λ (r : List Rule). Each (λ rule. IsSaidOrNeedNot rule rows) r) is said in
+    (wanted_said block rows refl all.0, wanted_said (word (codes "image")) rows refl all.1.0)
 
 pub image_said : (name : Text) (rows : List Row) → (name ≡ codes "explain" → ⊥) → NamesCommand (Some (name, rows))
     → IsSaid block rows × IsSaid (word (codes "image")) rows
@@ -102,4 +117,21 @@ image_said name rows other names =
     elim (each_in TakesImage commands names.command takes_image (contained commands names.command names.here)) [
       | inl takes ↦ image_of rows names.command.rules takes.0 takes.1 (command_said name rows names)
       | inr is ↦ absurd (other (sym (called name rows names) ∙ is))
+    ]
+
+-- each command that changes an image takes how many images of the past are kept
+abbrev TakesKeep : Shape → Type 0
+TakesKeep c = In keep c.rules ⊎ (is_change c.name ≡ false)
+
+takes_keep : Each TakesKeep commands
+takes_keep = search rules
+
+-- how many images are kept is said, or it isn't
+pub keep_says : (name : Text) (rows : List Row) → is_change name ≡ true → NamesCommand (Some (name, rows)) → IsSaidOrNeedNot keep rows
+keep_says name rows changes names =
+    elim (each_in TakesKeep commands names.command takes_keep (contained commands names.command names.here)) [
+      | inl takes ↦ each_in (λ rule. IsSaidOrNeedNot rule rows) names.command.rules keep (command_said name rows names) takes
+      | inr other ↦
+          let same : is_change names.command.name ≡ is_change name = ap is_change (called name rows names) in
+          absurd (cc)
     ]

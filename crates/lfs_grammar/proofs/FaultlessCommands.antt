@@ -25,8 +25,8 @@ use Rattle.clap.specs.Walk.{finished, first_of, one_of, settled, reading_by, ref
 use Rattle.clap.specs.Walk.{subcommand_met, subcommand_or_other, to_positional, trailing}
 use Rattle.clap.specs.Walk.{value, waits, walk, walk_from, walked, walked_from, word_met}
 use Rattle.clap.specs.declared.error.kind.ErrorKind.TheVariants.{DisplayHelp, InvalidSubcommand}
-use Rattle.lfs_grammar.proofs.FaultlessRows.{Wants, distinct, first_none, found_in, found_passes, level_said, then_none}
-use Rattle.lfs_grammar.specs.Grammar.{IsSaid, IsMatched, IsTaken, NamesCommand, commands, grammar}
+use Rattle.lfs_grammar.proofs.FaultlessRows.{Wants, distinct, first_none, found_in, found_passes, level_says, then_none}
+use Rattle.lfs_grammar.specs.Grammar.{IsSaid, IsSaidOrNeedNot, IsMatched, IsTaken, NamesCommand, commands, grammar, is_wanted}
 use Rattle.lfs_grammar.proofs.Lists.{Each, In, contains, each_in, every}
 
 -- ---- no step leads to the help
@@ -123,15 +123,13 @@ walk_stops s names (word ∷ rest) w kept e stops =
 
 -- ---- commands, and what building makes of them
 
-abbrev is_wanted : Rule → Bool
-is_wanted a = a.required || not (is_empty a.defaults)
-
 -- arguments, and the same as they are built
 abbrev pub AreBuilt : List Rule → List Rule → Type 0
 AreBuilt [] made = Unit {0}
 AreBuilt (a ∷ rules) [] = ⊥
 AreBuilt (a ∷ rules) (b ∷ made) =
-    (b.id ≡ a.id) × (b.ignore_case ≡ a.ignore_case) × (parser_of_value b.parser ≡ parser_of_value a.parser) × (is_wanted b ≡ true)
+    (b.id ≡ a.id) × (b.ignore_case ≡ a.ignore_case) × (parser_of_value b.parser ≡ parser_of_value a.parser)
+    × (is_wanted b ≡ is_wanted a)
     × AreBuilt rules made
 
 said_built : (a b : Rule) (rows : List Row) → b.id ≡ a.id → b.ignore_case ≡ a.ignore_case
@@ -145,12 +143,22 @@ said_built a b rows id case parser said = record {
   passes = ap₂ (λ (i : Bool) (p : ValueParser). accepts i p said.text) (sym case) (sym parser) ∙ said.passes;
 }
 
+says_built : (a b : Rule) (rows : List Row) → b.id ≡ a.id → b.ignore_case ≡ a.ignore_case
+    → parser_of_value b.parser ≡ parser_of_value a.parser → is_wanted b ≡ is_wanted a
+    → IsSaidOrNeedNot b rows → IsSaidOrNeedNot a rows
+says_built a b rows id case parser wanted (inl said) = inl (said_built a b rows id case parser said)
+says_built a b rows id case parser wanted (inr (left, first, one)) = inr (
+  sym wanted ∙ left,
+  subst (λ (i : Text). first_of i rows ≡ None) id first,
+  subst (λ (i : Text). one_of i rows ≡ None) id one,
+)
+
 all_said : (rules made : List Rule) (rows : List Row) → AreBuilt rules made
-    → ((b : Rule) → In b made → is_wanted b ≡ true → IsSaid b rows) → Each (λ a. IsSaid a rows) rules
+    → ((b : Rule) → In b made → IsSaidOrNeedNot b rows) → Each (λ a. IsSaidOrNeedNot a rows) rules
 all_said [] made rows built said = tt
 all_said (a ∷ rules) [] rows built said = absurd built
 all_said (a ∷ rules) (b ∷ made) rows built said = (
-  said_built a b rows built.0 built.1 built.2 (said b (inl refl) built.3),
+  says_built a b rows built.0 built.1 built.2 built.3 (said b (inl refl)),
   all_said rules made rows built.4 (λ x here. said x (inr here)),
 )
 
@@ -204,7 +212,7 @@ pub record Said (all : List Shape) (named : Option (Text × List Row)) : Type 0 
   pub rows : List Row
   pub is : named ≡ Some (command.name, rows)
   pub here : In command all
-  pub said : Each (λ rule. IsSaid rule rows) command.rules
+  pub said : Each (λ rule. IsSaidOrNeedNot rule rows) command.rules
 
 command_said : (all : List Shape) (b : App) (stop : Option (Text × List Text)) → CommandsBuilt all b.subs
     → StopsAtCommand stop → is_some (entered b stop) ≡ true → entered_fault b stop ≡ [] → Said all (entered b stop)
@@ -221,7 +229,7 @@ command_said all b (Some p) built stops has e =
         let found = command_found all b.subs s p.0 built (of s refl) (answers s refl) stops in
         let made = found.built in
         let rows = rows_after s.rules [] p.1 in
-        let said = level_said s p.1 made.wants made.distinct made.kept e in
+        let said = level_says s p.1 made.wants made.distinct made.kept e in
         record {
           command = found.command;
           rows = rows;
@@ -270,7 +278,7 @@ taken_named words e =
       rows = said.rows;
       is = said.is;
       here = contains commands said.command said.here;
-      said = every (λ rule. IsSaid rule said.rows) said.command.rules said.said;
+      said = every (λ rule. IsSaidOrNeedNot rule said.rows) said.command.rules said.said;
     }
 
 -- the matches of words that are taken

@@ -38,7 +38,7 @@ use Rattle.clap.specs.declared.builder.value_parser.Reading.{Reading}
 use Rattle.std.proofs.lemmas.Slice.Eq.{bytes_eq-Decides}
 use Rattle.clap.specs.Values.{read_as}
 use Rattle.clap.specs.Walk.{nothing_held, row_text, rows_after, walk, walk_from}
-use Rattle.lfs_grammar.specs.Grammar.{IsSaid}
+use Rattle.lfs_grammar.specs.Grammar.{IsSaid, IsSaidOrNeedNot, is_wanted}
 use Rattle.lfs_grammar.proofs.Lists.{Each, In, each_in}
 use Rattle.clap.proofs.FaultLemmas.{request_fault}
 use Rattle.clap.proofs.SimpleLemmas.{is_false}
@@ -543,11 +543,28 @@ end_said R a start one here all checked wanted =
     go false r true is e = absurd (cc)
     go false r false is e = some_found (λ x. bytes_eq x.id a.id) (fold with_default start R) (defaults_come R a start here is)
 
+-- what needn't be said is said, or isn't there
+end_says : (R : List Rule) (a : Rule) (start : List Row) → distinct R ≡ true → In a R → AllFit R (fold with_default start R)
+    → list_any (λ x. x.required && not (is_given x.id (fold with_default start R))) R ≡ false
+    → IsSaidOrNeedNot a (fold with_default start R)
+end_says R a start one here all checked = by_wanted (is_wanted a) refl
+  where
+    rows : List Row
+    rows = fold with_default start R
+
+    by_row : (o : Option Row) → find (λ r. bytes_eq r.id a.id) rows ≡ o → is_wanted a ≡ false → IsSaidOrNeedNot a rows
+    by_row (Some r) e left = inl (row_said R a rows (Some r) one here all e refl)
+    by_row None e left = inr (left, ap (option_and_then (λ (x : Row). slice_get x.values 0)) e, ap (option_and_then row_text) e)
+
+    by_wanted : (b : Bool) → is_wanted a ≡ b → IsSaidOrNeedNot a rows
+    by_wanted true is = inl (end_said R a start one here all checked is)
+    by_wanted false is = by_row (find (λ r. bytes_eq r.id a.id) rows) refl is
+
 -- what words say of a command without commands of its own that takes them
-pub level_said : (s : Shape) (words : List Text) → Each Wants s.rules → distinct s.rules ≡ true → s.subcommand_negates_reqs ≡ false
+pub level_says : (s : Shape) (words : List Text) → Each Wants s.rules → distinct s.rules ≡ true → s.subcommand_negates_reqs ≡ false
     → level_fault s [] nothing_held words false [] ≡ []
-    → (a : Rule) → In a s.rules → (a.required || not (is_empty a.defaults)) ≡ true → IsSaid a (rows_after s.rules [] words)
-level_said s words wants one kept e a here wanted =
+    → (a : Rule) → In a s.rules → IsSaidOrNeedNot a (rows_after s.rules [] words)
+level_says s words wants one kept e a here =
     let end = (walk s.rules [] nothing_held words).held in
     let walked_over = walk_fault s [] (walk_from nothing_held) words in
     let settling = settle_fault s.rules s.args_override_self end in
@@ -559,4 +576,4 @@ level_said s words wants one kept e a here wanted =
     let after_settling = then_none settling _ after_walk in
     let all = defaults_fit s.rules s.rules start (λ b h. h) (first_none (defaults_fault start s.rules) _ after_settling) settled_fit in
     let checked = nothing_wanted _ _ _ (then_none (defaults_fault start s.rules) (check_fault s rows false) after_settling) in
-    end_said s.rules a start one here all (rw kept at checked) wanted
+    end_says s.rules a start one here all (rw kept at checked)

@@ -1,5 +1,5 @@
 -- What the grammar makes of some command lines.
-use Rattle.std.proofs.Common.{◌≡◌, ◌∷◌, List, [], Option, Some, codes, refl}
+use Rattle.std.proofs.Common.{◌≡◌, ◌∷◌, List, [], Option, Some, None, codes, refl}
 use Rattle.std.specs.Prelude.{option_map}
 use Rattle.clap.specs.Words.{Text, fault_of, first_of, one_of, subcommand_of}
 use Rattle.clap.specs.declared.error.kind.ErrorKind.TheVariants.{DisplayHelp, MissingRequiredArgument, MissingSubcommand, UnknownArgument}
@@ -55,6 +55,18 @@ growing_says : (text_at (codes "image") growing ≡ Some (Some (codes "a.img")))
 unfolding clap_on_literals
 growing_says = (refl, refl)
 
+-- lfsed rm --keep 20 a.img /x, and without it
+abbrev keeping : List Text
+keeping = codes "lfsed" ∷ codes "rm" ∷ codes "--keep" ∷ codes "20" ∷ codes "a.img" ∷ codes "/x" ∷ []
+
+keeping_is_taken : IsTaken keeping
+unfolding clap_on_literals
+keeping_is_taken = refl
+
+keeping_says : (number_at (codes "keep") keeping ≡ Some (Some (codes "20"))) × (number_at (codes "keep") moving ≡ Some None)
+unfolding clap_on_literals
+keeping_says = (refl, refl)
+
 -- what is refused: no command, an option that is left out, a number out of its range, a word too many
 no_command : fault_of grammar (codes "lfsed" ∷ []) ≡ MissingSubcommand ∷ []
 unfolding clap_on_literals
@@ -71,6 +83,14 @@ one_block = refl
 grown_to_one_block : fault_of grammar (codes "lfsed" ∷ codes "grow" ∷ codes "a.img" ∷ codes "1" ∷ []) ≡ ValueValidation ∷ []
 unfolding clap_on_literals
 grown_to_one_block = refl
+
+none_kept : fault_of grammar (codes "lfsed" ∷ codes "rm" ∷ codes "--keep" ∷ codes "0" ∷ codes "a.img" ∷ codes "/x" ∷ []) ≡ ValueValidation ∷ []
+unfolding clap_on_literals
+none_kept = refl
+
+nothing_to_keep : fault_of grammar (codes "lfsed" ∷ codes "check" ∷ codes "--keep" ∷ codes "1" ∷ codes "a.img" ∷ []) ≡ UnknownArgument ∷ []
+unfolding clap_on_literals
+nothing_to_keep = refl
 
 two_images : fault_of grammar (codes "lfsed" ∷ codes "check" ∷ codes "a.img" ∷ codes "b.img" ∷ []) ≡ UnknownArgument ∷ []
 unfolding clap_on_literals

@@ -1,8 +1,9 @@
 -- The program's command line as data: its commands, in their order, and the words that each takes (own).
-use Rattle.std.specs.Prelude.{ℕ, ◌<◌, ◌^◌, ◌≡◌, Option, List, [], ◌∷◌, Some, true, codes, fold, map, pos}
+use Rattle.std.specs.Prelude.{ℕ, ◌<◌, ◌^◌, ◌≡◌, ◌⊎◌, ◌||◌, Bool, not, Option, List, [], ◌∷◌, ◌++◌, Some, None, true, false, codes, fold, map, pos}
 use Rattle.std.specs.List.{All, Contains}
+use Rattle.std.specs.Str.{bytes_eq}
 use Rattle.clap.specs.Takes.{value_passes}
-use Rattle.clap.specs.Walk.{reading_by}
+use Rattle.clap.specs.Walk.{is_empty, reading_by}
 use Rattle.clap.specs.Words.{App, Row, Rule, Shape, Text, fault_of, first_of, new_app, new_rule, one_of, read_as, subcommand_of}
 use Rattle.clap.specs.Words.{subcommand_rows_of, with_rule, with_subcommand}
 use Rattle.clap.specs.declared.parser.matches.ArgMatches.{ArgMatches}
@@ -33,6 +34,10 @@ count = record (word (codes "count")) { long = Some (codes "count"); parser = So
 abbrev pub new_count : Rule
 new_count = record (word (codes "count")) { parser = Some (Signed (pos 2) (pos 65536)) }
 
+-- how many images of the past are kept: `--keep`, a whole number from 1 to 1,000, which needn't be said
+abbrev pub keep : Rule
+keep = record (new_rule (codes "keep")) { long = Some (codes "keep"); value_names = 1; parser = Some (Signed (pos 1) (pos 1000)) }
+
 -- a fault's number
 abbrev pub number : Rule
 number = record (word (codes "number")) { parser = Some (Signed (pos 0) (pos 4294967295)) }
@@ -42,6 +47,7 @@ abbrev pub rule_at : Argument → Rule
 rule_at argument.Block = block
 rule_at argument.Count = count
 rule_at argument.NewCount = new_count
+rule_at argument.Keep = keep
 rule_at argument.Image = word (codes "image")
 rule_at argument.Dir = word (codes "dir")
 rule_at argument.NewDir = word (codes "dir")
@@ -68,6 +74,16 @@ program = record { top = record (command (codes "lfsed") []).top { has_version =
 abbrev pub on_image : Text → List Rule → Shape
 on_image name rules = (command name (block ∷ word (codes "image") ∷ rules)).top
 
+-- a command that changes the image: behind it the past may be cut
+abbrev pub changing : Text → List Rule → Shape
+changing name rules = on_image name (rules ++ keep ∷ [])
+
+-- it has one of these names
+abbrev pub is_change : Text → Bool
+is_change name =
+    bytes_eq name (codes "mkdir") || bytes_eq name (codes "put") || bytes_eq name (codes "rm") || bytes_eq name (codes "mv")
+    || bytes_eq name (codes "setattr") || bytes_eq name (codes "rmattr") || bytes_eq name (codes "grow")
+
 -- the program's commands
 abbrev pub commands : List Shape
 commands =
@@ -77,13 +93,13 @@ commands =
     ∷ on_image (codes "check") []
     ∷ on_image (codes "ls") []
     ∷ on_image (codes "cat") (word (codes "path") ∷ [])
-    ∷ on_image (codes "mkdir") (word (codes "path") ∷ [])
-    ∷ on_image (codes "put") (word (codes "path") ∷ [])
-    ∷ on_image (codes "rm") (word (codes "path") ∷ [])
-    ∷ on_image (codes "mv") (word (codes "from") ∷ word (codes "to") ∷ [])
-    ∷ on_image (codes "setattr") (word (codes "path") ∷ word (codes "kind") ∷ word (codes "hex") ∷ [])
-    ∷ on_image (codes "rmattr") (word (codes "path") ∷ word (codes "kind") ∷ [])
-    ∷ on_image (codes "grow") (new_count ∷ [])
+    ∷ changing (codes "mkdir") (word (codes "path") ∷ [])
+    ∷ changing (codes "put") (word (codes "path") ∷ [])
+    ∷ changing (codes "rm") (word (codes "path") ∷ [])
+    ∷ changing (codes "mv") (word (codes "from") ∷ word (codes "to") ∷ [])
+    ∷ changing (codes "setattr") (word (codes "path") ∷ word (codes "kind") ∷ word (codes "hex") ∷ [])
+    ∷ changing (codes "rmattr") (word (codes "path") ∷ word (codes "kind") ∷ [])
+    ∷ changing (codes "grow") (new_count ∷ [])
     ∷ on_image (codes "undo") []
     ∷ on_image (codes "redo") []
     ∷ on_image (codes "forget") []
@@ -105,13 +121,22 @@ pub record IsSaid (rule : Rule) (rows : List Row) : Type 0 where
 abbrev pub IsNumber : Rule → Type 0
 IsNumber rule = (least : ℕ) × (most : ℕ) × (rule.parser ≡ Some (Signed (pos least) (pos most))) × (most < 2 ^ 32)
 
--- a command of the grammar is named, and all that it takes is said
+-- an argument must be said, or has a value where it isn't
+abbrev pub is_wanted : Rule → Bool
+is_wanted rule = rule.required || not (is_empty rule.defaults)
+
+-- an argument is said, or it needn't be, and isn't
+abbrev pub IsSaidOrNeedNot : Rule → List Row → Type 0
+IsSaidOrNeedNot rule rows =
+    IsSaid rule rows ⊎ ((is_wanted rule ≡ false) × (first_of rule.id rows ≡ None) × (one_of rule.id rows ≡ None))
+
+-- a command of the grammar is named, and all is said that it takes and that must be said
 pub record NamesCommand (named : Option (Text × List Row)) : Type 0 where
   pub command : Shape
   pub rows : List Row
   pub is : named ≡ Some (command.name, rows)
   pub here : Contains commands command
-  pub said : All (λ rule. IsSaid rule rows) command.rules
+  pub said : All (λ rule. IsSaidOrNeedNot rule rows) command.rules
 
 -- the grammar takes the words: it finds no fault with them
 abbrev pub IsTaken : List Text → Type 0

@@ -13,7 +13,7 @@ begins_with word start = starts_with nat_eq word start
 abbrev pub names_option : Text → Bool
 names_option word =
     begins_with word (codes "-b") || begins_with word (codes "--block") || begins_with word (codes "--count")
-    || bytes_eq word (codes "-h") || bytes_eq word (codes "--help")
+    || begins_with word (codes "--keep") || bytes_eq word (codes "-h") || bytes_eq word (codes "--help")
 
 -- a word that begins with a hyphen and is no option
 abbrev pub is_stray : Text → Bool

@@ -24,6 +24,8 @@ enum Argument {
     Count,
     /// The number of blocks that an image gets.
     NewCount,
+    /// The number of images of the past that are kept.
+    Keep,
     /// The image's file name.
     Image,
     /// The name of a folder that is read.
@@ -91,17 +93,32 @@ const COMMANDS: [CommandRow; 17] = [
     CommandRow {
         name: "mkdir",
         about: "Make a directory",
-        arguments: &[Argument::Block, Argument::Image, Argument::Path],
+        arguments: &[
+            Argument::Block,
+            Argument::Image,
+            Argument::Path,
+            Argument::Keep,
+        ],
     },
     CommandRow {
         name: "put",
         about: "Put a file, in place of one of this path; its contents are read from standard input",
-        arguments: &[Argument::Block, Argument::Image, Argument::Path],
+        arguments: &[
+            Argument::Block,
+            Argument::Image,
+            Argument::Path,
+            Argument::Keep,
+        ],
     },
     CommandRow {
         name: "rm",
         about: "Remove a file or an empty directory",
-        arguments: &[Argument::Block, Argument::Image, Argument::Path],
+        arguments: &[
+            Argument::Block,
+            Argument::Image,
+            Argument::Path,
+            Argument::Keep,
+        ],
     },
     CommandRow {
         name: "mv",
@@ -111,6 +128,7 @@ const COMMANDS: [CommandRow; 17] = [
             Argument::Image,
             Argument::From,
             Argument::To,
+            Argument::Keep,
         ],
     },
     CommandRow {
@@ -122,6 +140,7 @@ const COMMANDS: [CommandRow; 17] = [
             Argument::Path,
             Argument::Kind,
             Argument::Value,
+            Argument::Keep,
         ],
     },
     CommandRow {
@@ -132,12 +151,18 @@ const COMMANDS: [CommandRow; 17] = [
             Argument::Image,
             Argument::Path,
             Argument::Kind,
+            Argument::Keep,
         ],
     },
     CommandRow {
         name: "grow",
         about: "Lengthen an image by erased blocks; what it holds stays",
-        arguments: &[Argument::Block, Argument::Image, Argument::NewCount],
+        arguments: &[
+            Argument::Block,
+            Argument::Image,
+            Argument::NewCount,
+            Argument::Keep,
+        ],
     },
     CommandRow {
         name: "undo",
@@ -170,6 +195,10 @@ const NEW_DIR: &str = "Folder that is made; nothing may be there";
 /// What is said of the number of blocks that an image gets.
 const NEW_COUNT: &str =
     "Number of blocks that it gets, more than it has; at most 65536, and 67108864 bytes in all";
+
+/// What is said of the number of images that are kept.
+const KEEP: &str =
+    "Number of the latest changes that are kept, from 1 to 1000; all where it is not said";
 
 /// What is said of a path.
 const PATH: &str = "Path of a file or a directory in the image, from / on";
@@ -209,6 +238,11 @@ fn clap_argument<'a>(alloc: Global, argument: Argument) -> Arg<'a>
             let counts = value_parser!(u32).range(2..=65_536);
             word(alloc, "count", "COUNT", NEW_COUNT).value_parser(counts)
         }
+        Argument::Keep => Arg::new(alloc, "keep")
+            .long("keep")
+            .value_name("K")
+            .value_parser(value_parser!(u32).range(1..=1_000))
+            .help(KEEP),
         Argument::Image => word(alloc, "image", "IMAGE", "File of the image"),
         Argument::Dir => word(alloc, "dir", "DIR", DIR),
         Argument::NewDir => word(alloc, "dir", "DIR", NEW_DIR),

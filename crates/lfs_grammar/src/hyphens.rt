@@ -15,6 +15,7 @@ fn names_option(word: &str) -> bool
     word.starts_with("-b")
         || word.starts_with("--block")
         || word.starts_with("--count")
+        || word.starts_with("--keep")
         || word == "-h"
         || word == "--help"
 }

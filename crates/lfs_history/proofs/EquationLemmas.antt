@@ -31,7 +31,7 @@ equations one law d asked p v t plans holds (w, shown, sound, is) =
     }
 
 pub push_equations : CommandsAreEquations → CommandsPushEquations
-push_equations equation_of asked old new v t does holds mounts =
+push_equations equation_of asked keep old new v t does holds mounts =
     let p = does.pushes in
     let P : Disk → Type 0 = λ (d : Disk). IsCarriedOut asked d v t in
     record {

@@ -1,15 +1,15 @@
 -- How much longer a command makes a journal.
-use Rattle.std.proofs.Common.{ℕ, ◌+◌, ◌*◌, ◌≤◌, List, [], ◌∷◌, length, ap, ◌∙◌, arith, length-append, append-nil}
+use Rattle.std.proofs.Common.{◌≡◌, ℕ, ◌+◌, ◌*◌, ◌≤◌, List, [], ◌∷◌, ◌++◌, length, take, drop, Option, ap, ◌∙◌, arith, length-append, append-nil}
 use Rattle.std.specs.Prelude.{flat_map}
 use Rattle.std.proofs.lemmas.Grind.{flat_map-append}
-use Rattle.std.proofs.lemmas.List.{length-map}
+use Rattle.std.proofs.lemmas.List.{length-map, take-append-drop}
 use Rattle.std.proofs.lemmas.Nat.{mul-le}
 use Rattle.lfs_block.specs.Change.{Change}
 use Rattle.lfs_block.specs.Disk.{Disk}
 use Rattle.lfs_block.specs.Patch.{ChangeSet}
 use Rattle.lfs_fs.specs.Stored.{HeldAreHeldByLinks}
 use Rattle.lfs_fs.specs.Reading.{reading_of}
-use Rattle.lfs_book.specs.Book.{patch_bytes, bytes_in, journal_bytes, respelling}
+use Rattle.lfs_book.specs.Book.{patch_bytes, journal_bytes}
 use Rattle.lfs_book.proofs.Lengths.{bytes_len, patch_len, respelled}
 use Rattle.lfs_command.specs.Command.{Asked}
 use Rattle.lfs_command.specs.Need.{need}
@@ -17,8 +17,11 @@ use Rattle.lfs_command.specs.Planned.{Plans}
 use Rattle.lfs_law.specs.Laws.{FewPartsChange}
 use Rattle.lfs_law.specs.Written.{HeldAreClean}
 use Rattle.lfs_history.specs.History.{History}
-use Rattle.lfs_history.specs.Opening.{journal_of}
+use Rattle.lfs_history.specs.Moves.{kept_changes, dropped, but_one}
+use Rattle.lfs_history.specs.Opening.{journal_of, kept_journal}
+use Rattle.lfs_history.specs.OpeningLaws.{JournalsGrowByTheNeed, KeptJournalsGrowByTheNeed}
 use Rattle.lfs_history.specs.Taking.{Does}
+use Rattle.lfs_history.proofs.KeptLemmas.{pushes_kept}
 
 -- the blocks that a command changes are those that it needs, and two more at most
 changes_few : FewPartsChange → HeldAreClean → HeldAreHeldByLinks → (d : Disk) (asked : Asked) (p : ChangeSet) (plans : Plans d asked p)
@@ -40,17 +43,45 @@ patch_few few clean links d asked p plans =
     let times = mul-le (length p.changes) (2 * p.size + 4) (need plans.volume plans.command + 2) (2 * d.size + 4) many bytes in
     omega arith
 
-pub journal_grows : FewPartsChange → HeldAreClean → HeldAreHeldByLinks → (asked : Asked) (old new : History) (version : ℕ) (does : Does asked old new)
-    → length (journal_bytes (journal_of new)) ≤ length (bytes_in version (journal_of old)) + respelling version (length old.done) + 12
+-- the kept changes take no more bytes than all of them
+kept_no_longer : (keep : Option ℕ) (ps : List ChangeSet)
+    → length (flat_map patch_bytes (kept_changes keep ps)) ≤ length (flat_map patch_bytes ps)
+kept_no_longer keep ps =
+    let many = dropped keep (length ps) in
+    let all = ap (λ (qs : List ChangeSet). length (flat_map patch_bytes qs)) (take-append-drop many ps) in
+    let split = ap length (flat_map-append patch_bytes (take many ps) (drop many ps)) in
+    let both = length-append (flat_map patch_bytes (take many ps)) (flat_map patch_bytes (drop many ps)) in
+    omega arith
+
+-- the journal once a command is done: what is kept of the old changes, and one more
+new_len : FewPartsChange → HeldAreClean → HeldAreHeldByLinks → (asked : Asked) (keep : Option ℕ) (old new : History)
+    → (does : Does asked keep old new)
+    → length (journal_bytes (journal_of new)) ≤ 24 + length (flat_map patch_bytes (kept_changes (but_one keep) old.done)) + 12
     + (need does.plans.volume does.plans.command + 2) * (2 * old.present.size + 4)
-journal_grows few clean links asked old new version does =
+new_len few clean links asked keep old new does =
     let p = does.change in
-    let before = bytes_len version (journal_of old) in
+    let kept = kept_changes (but_one keep) old.done in
+    let pushes = pushes_kept p keep old new does.room does.pushes in
+    let made : new.done ≡ kept ++ p ∷ [] = pushes.done in
     let after = bytes_len 2 (journal_of new) in
-    let kept = respelled version old.done in
-    let done = ap length (ap (flat_map patch_bytes) does.pushes.done ∙ flat_map-append patch_bytes old.done (p ∷ [])) in
-    let both = length-append (flat_map patch_bytes old.done) (flat_map patch_bytes (p ∷ [])) in
+    let done = ap length (ap (flat_map patch_bytes) made ∙ flat_map-append patch_bytes kept (p ∷ [])) in
+    let both = length-append (flat_map patch_bytes kept) (flat_map patch_bytes (p ∷ [])) in
     let one = ap length (append-nil (patch_bytes p)) in
     let none = ap (λ (ps : List ChangeSet). length (flat_map patch_bytes ps)) does.pushes.undone in
     let more = patch_few few clean links old.present asked p does.plans in
+    omega arith
+
+pub kept_journal_grows : FewPartsChange → HeldAreClean → HeldAreHeldByLinks → KeptJournalsGrowByTheNeed
+kept_journal_grows few clean links asked keep old new version does =
+    let after = new_len few clean links asked keep old new does in
+    let before = bytes_len version (kept_journal keep old) in
+    let kept = respelled version (kept_changes (but_one keep) old.done) in
+    omega arith
+
+pub journal_grows : FewPartsChange → HeldAreClean → HeldAreHeldByLinks → JournalsGrowByTheNeed
+journal_grows few clean links asked keep old new version does =
+    let after = new_len few clean links asked keep old new does in
+    let before = bytes_len version (journal_of old) in
+    let fewer = kept_no_longer (but_one keep) old.done in
+    let kept = respelled version old.done in
     omega arith

@@ -1,12 +1,14 @@
 -- Undo takes a command back, and undo and redo keep all images.
-use Rattle.std.proofs.Common.{◌≡◌, List, [], ◌∷◌, ◌++◌, reverse, ap, sym, ◌∙◌, append_assoc, Some, None}
+use Rattle.std.proofs.Common.{◌≡◌, ℕ, List, [], ◌∷◌, ◌++◌, reverse, ap, sym, ◌∙◌, append_assoc, Option, Some, None}
 use Rattle.std.proofs.lemmas.List.{reverse-append, same_from_push}
 use Rattle.lfs_block.specs.Disk.{Disk}
+use Rattle.lfs_command.specs.Command.{Asked}
 use Rattle.lfs_history.specs.declared.step_fault.StepFault.TheVariants.{Refused, NothingToUndo, NothingToRedo, JournalFull}
 use Rattle.lfs_history.specs.History.{History}
-use Rattle.lfs_history.specs.Moves.{Undoes}
-use Rattle.lfs_history.specs.Taking.{Move, Do, Undo, Redo, Forget, Reply, Takes}
-use Rattle.lfs_history.specs.Laws.{images, IsUndoOrRedo, UndoAndRedoKeepImages, UndoIsExact}
+use Rattle.lfs_history.specs.Moves.{Undoes, kept_images, kept_changes, but_one}
+use Rattle.lfs_history.specs.Taking.{Move, Do, Undo, Redo, Forget, Reply, Takes, Run}
+use Rattle.lfs_history.specs.Laws.{images, IsUndoOrRedo, UndoAndRedoKeepImages, UndoIsExact, UndoIsExactAsFarAsKept}
+use Rattle.lfs_history.proofs.KeptLemmas.{kept_history, pushes_kept}
 
 -- the nearest image of the past becomes the present one: the images are the same
 moved : (front : Disk) (past : List Disk) (x : Disk) (future : List Disk)
@@ -32,7 +34,7 @@ step_keeps_images Undo (Some JournalFull) old new is t = absurd t
 step_keeps_images Redo (Some (Refused r)) old new is t = absurd t
 step_keeps_images Redo (Some NothingToUndo) old new is t = absurd t
 step_keeps_images Redo (Some JournalFull) old new is t = absurd t
-step_keeps_images (Do asked) reply old new is t = absurd is
+step_keeps_images (Do asked keep) reply old new is t = absurd is
 step_keeps_images Forget reply old new is t = absurd is
 
 pub runs_keep_images : UndoAndRedoKeepImages
@@ -47,9 +49,20 @@ runs_keep_images (step ∷ steps) [] old new each run = absurd run
 same_front : (x y : Disk) (xs ys : List Disk) → x ∷ xs ≡ y ∷ ys → (x ≡ y) × (xs ≡ ys)
 same_front x y xs ys is = (cc, cc)
 
-pub done_is_undone : UndoIsExact
-done_is_undone asked old new (mid, does, (last, undoes, same)) =
-    let front = same_front last.present old.present last.past old.past (sym undoes.past ∙ does.pushes.past) in
-    let made : last.done ≡ old.done = (same_from_push last.done old.done undoes.change does.change
-    (sym undoes.done ∙ does.pushes.done)).0 in
+-- what was kept beside the image that the command put in front is there again
+undone_as_kept : (asked : Asked) (keep : Option ℕ) (old new : History) → Run (Do asked keep ∷ Undo ∷ []) (None ∷ None ∷ []) old new
+    → (new.present ≡ old.present) × (new.past ≡ kept_images (but_one keep) old.past)
+    × (new.done ≡ kept_changes (but_one keep) old.done)
+undone_as_kept asked keep old new (mid, does, (last, undoes, same)) =
+    let kept = kept_history (but_one keep) old in
+    let pushes = pushes_kept does.change keep old mid does.room does.pushes in
+    let front = same_front last.present old.present last.past kept.past (sym undoes.past ∙ pushes.past) in
+    let made : last.done ≡ kept.done = (same_from_push last.done kept.done undoes.change does.change
+    (sym undoes.done ∙ pushes.done)).0 in
     (ap (λ (h : History). h.present) same ∙ front.0, ap (λ (h : History). h.past) same ∙ front.1, ap (λ (h : History). h.done) same ∙ made)
+
+pub done_is_undone : UndoIsExact
+done_is_undone asked old new run = undone_as_kept asked None old new run
+
+pub done_is_undone_as_kept : UndoIsExactAsFarAsKept
+done_is_undone_as_kept asked keep old new run = undone_as_kept asked (Some keep) old new run

@@ -1,3 +1,4 @@
+pub mod KeptLemmas
 pub mod MoveLemmas
 pub mod RunLemmas
 pub mod EquationLemmas

@@ -1,5 +1,5 @@
 -- Each move leads from a history to a history.
-use Rattle.std.proofs.Common.{◌≡◌, ℕ, ◌+◌, ◌<◌, ◌≤◌, List, [], ◌∷◌, ◌++◌, length, ap, sym, ◌∙◌, subst, arith, length-append, append-nil}
+use Rattle.std.proofs.Common.{◌≡◌, ℕ, ◌+◌, ◌<◌, ◌≤◌, List, [], ◌∷◌, ◌++◌, length, Option, None, ap, sym, ◌∙◌, subst, arith, length-append, append-nil}
 use Rattle.std.specs.Prelude.{reverse}
 use Rattle.std.specs.List.{AllByRecursion}
 use Rattle.std.proofs.lemmas.List.{reverse-append}
@@ -13,7 +13,9 @@ use Rattle.lfs_law.specs.Laws.{CutsFollow, CleansFollow}
 use Rattle.lfs_command.specs.Planned.{Plans}
 use Rattle.lfs_law.proofs.CarriedFollow.{carried_follow}
 use Rattle.lfs_history.specs.History.{History, IsHistory, IsMounted, past_of, future_of, GoesBack, GoesForward}
-use Rattle.lfs_history.specs.Moves.{Pushes, Undoes, Redoes, Forgets}
+use Rattle.lfs_history.specs.Moves.{Pushes, Undoes, Redoes, Forgets, but_one}
+use Rattle.lfs_history.specs.Taking.{HasPlace}
+use Rattle.lfs_history.proofs.KeptLemmas.{kept_history, kept_is_history, kept_room, pushes_kept}
 
 -- ---- what is owed by the layers below
 
@@ -133,9 +135,10 @@ planned_mounts law d asked p plans =
     let follows = carried_follow law.cut law.clean plans.command plans.volume plans.next plans.carried in
     (plans.next, plans.after, follows.sound)
 
-pub push_keeps : Make → Follow → (asked : Asked) (p : ChangeSet) (old new : History) → IsHistory old → length old.done < most_changes
-    → Plans old.present asked p → Pushes p old new → IsHistory new
-push_keeps law follow asked p old new h room plans u =
+-- where all of the past is kept
+push_keeps_all : Make → Follow → (asked : Asked) (p : ChangeSet) (old new : History) → IsHistory old → length old.done < most_changes
+    → Plans old.present asked p → Pushes p None old new → IsHistory new
+push_keeps_all law follow asked p old new h room plans u =
     let behind = is_behind law p old new.present h plans.patch plans.stands u.present in
     let turned : reverse new.done ≡ p ∷ reverse old.done = latest old.done new.done p u.done in
     let len : length (new.done ++ new.undone) ≡ length old.done + 1 =
@@ -152,6 +155,13 @@ push_keeps law follow asked p old new h room plans u =
       future_mounts = subst (AllByRecursion IsMounted) (sym u.future) tt;
       few = omega arith;
     }
+
+-- else it is pushed on what is kept
+pub push_keeps : Make → Follow → (asked : Asked) (keep : Option ℕ) (p : ChangeSet) (old new : History) → IsHistory old
+    → HasPlace keep old → Plans old.present asked p → Pushes p keep old new → IsHistory new
+push_keeps law follow asked keep p old new h place plans u =
+    push_keeps_all law follow asked p (kept_history (but_one keep) old) new (kept_is_history (but_one keep) old h) (kept_room keep old place)
+    plans (pushes_kept p keep old new place u)
 
 -- ---- all is forgotten
 

@@ -11,16 +11,17 @@ same_keeps old new h is = subst IsHistory (sym is) h
 
 step_keeps : TakeBack → Make → Follow → (step : Move) (reply : Reply) (old new : History) → Takes step reply old new → IsHistory old
     → IsHistory new
-step_keeps back make follow (Do asked) None old new t h = push_keeps make follow asked t.change old new h t.room t.plans t.pushes
-step_keeps back make follow (Do asked) (Some JournalFull) old new t h = same_keeps old new h t.1
-step_keeps back make follow (Do asked) (Some (Refused r)) old new t h = same_keeps old new h t.2
+step_keeps back make follow (Do asked keep) None old new t h =
+    push_keeps make follow asked keep t.change old new h t.room t.plans t.pushes
+step_keeps back make follow (Do asked keep) (Some JournalFull) old new t h = same_keeps old new h t.1
+step_keeps back make follow (Do asked keep) (Some (Refused r)) old new t h = same_keeps old new h t.2
 step_keeps back make follow Undo None old new t h = undo_keeps back old new h t
 step_keeps back make follow Undo (Some NothingToUndo) old new t h = same_keeps old new h t.1
 step_keeps back make follow Redo None old new t h = redo_keeps make old new h t
 step_keeps back make follow Redo (Some NothingToRedo) old new t h = same_keeps old new h t.1
 step_keeps back make follow Forget None old new t h = forget_keeps old new h t
-step_keeps back make follow (Do asked) (Some NothingToUndo) old new t h = absurd t
-step_keeps back make follow (Do asked) (Some NothingToRedo) old new t h = absurd t
+step_keeps back make follow (Do asked keep) (Some NothingToUndo) old new t h = absurd t
+step_keeps back make follow (Do asked keep) (Some NothingToRedo) old new t h = absurd t
 step_keeps back make follow Undo (Some (Refused r)) old new t h = absurd t
 step_keeps back make follow Undo (Some NothingToRedo) old new t h = absurd t
 step_keeps back make follow Undo (Some JournalFull) old new t h = absurd t

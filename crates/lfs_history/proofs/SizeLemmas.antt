@@ -38,11 +38,11 @@ kept_size old new is = same_size old.present new.present (ap (λ (h : History). 
 
 pub taken_size : (step : Move) (reply : Reply) (old new : History) → IsHistory old → Takes step reply old new
     → new.present.size ≡ old.present.size
-taken_size (Do asked) None old new h does = made_size does.change old.present new.present does.pushes.present
-taken_size (Do asked) (Some JournalFull) old new h takes = kept_size old new takes.1
-taken_size (Do asked) (Some (Refused r)) old new h takes = kept_size old new takes.2
-taken_size (Do asked) (Some NothingToUndo) old new h takes = absurd takes
-taken_size (Do asked) (Some NothingToRedo) old new h takes = absurd takes
+taken_size (Do asked keep) None old new h does = made_size does.change old.present new.present does.pushes.present
+taken_size (Do asked keep) (Some JournalFull) old new h takes = kept_size old new takes.1
+taken_size (Do asked keep) (Some (Refused r)) old new h takes = kept_size old new takes.2
+taken_size (Do asked keep) (Some NothingToUndo) old new h takes = absurd takes
+taken_size (Do asked keep) (Some NothingToRedo) old new h takes = absurd takes
 taken_size Undo None old new h takes = undone_size old new h takes
 taken_size Undo (Some NothingToUndo) old new h takes = kept_size old new takes.1
 taken_size Undo (Some (Refused r)) old new h takes = absurd takes

@@ -1,5 +1,5 @@
 -- Laws of histories (own).
-use Rattle.std.specs.Prelude.{◌≡◌, List, [], ◌∷◌, ◌++◌, reverse, Option, None}
+use Rattle.std.specs.Prelude.{◌≡◌, ℕ, ◌-◌, List, [], ◌∷◌, ◌++◌, length, take, drop, reverse, Option, None, Some}
 use Rattle.std.specs.List.{AllByRecursion}
 use Rattle.lfs_block.specs.Disk.{Disk}
 use Rattle.lfs_block.specs.Patch.{ChangeSet, applied}
@@ -14,6 +14,7 @@ use Rattle.lfs_command.specs.Equation.{equation}
 use Rattle.lfs_command.specs.Accepted.{Follows}
 use Rattle.lfs_command.specs.Planned.{Plans}
 use Rattle.lfs_history.specs.History.{History, IsHistory}
+use Rattle.lfs_history.specs.Moves.{kept_images}
 use Rattle.lfs_history.specs.Taking.{Move, Do, Undo, Redo, Reply, Does, Takes, Run}
 
 -- the patched image holds a sound volume of the same size and limits, with as many blocks as the command leaves, whose tree is the
@@ -31,16 +32,17 @@ abbrev pub CommandsAreEquations : Type 0
 CommandsAreEquations = (d : Disk) (asked : Asked) (p : ChangeSet) (v : Volume) (t : Path → Option Node) → Plans d asked p
     → Holds (reading_of d) v → Mounts d t → IsCarriedOut asked (applied p d) v t
 
--- the old present is the nearest image of the past, there is no future, and the new present makes the command's equation
-pub record PushesEquation (asked : Asked) (old new : History) (v : Volume) (t : Path → Option Node) : Type 0 where
-  pub past : new.past ≡ old.present ∷ old.past
+-- the old present is the nearest image of the past, of which what is said is kept, there is no future, and the new present makes the
+-- command's equation
+pub record PushesEquation (asked : Asked) (keep : Option ℕ) (old new : History) (v : Volume) (t : Path → Option Node) : Type 0 where
+  pub past : new.past ≡ kept_images keep (old.present ∷ old.past)
   pub future : new.future ≡ []
   pub present : IsCarriedOut asked new.present v t
 
 -- a command that is carried out puts an image in front that mounts to its equation of the tree of the one before
 abbrev pub CommandsPushEquations : Type 0
-CommandsPushEquations = (asked : Asked) (old new : History) (v : Volume) (t : Path → Option Node) → Does asked old new
-    → Holds (reading_of old.present) v → Mounts old.present t → PushesEquation asked old new v t
+CommandsPushEquations = (asked : Asked) (keep : Option ℕ) (old new : History) (v : Volume) (t : Path → Option Node)
+    → Does asked keep old new → Holds (reading_of old.present) v → Mounts old.present t → PushesEquation asked keep old new v t
 
 -- all images of a history, from the first one on
 abbrev pub images : History → List Disk
@@ -64,8 +66,15 @@ RunsKeepHistories = (steps : List Move) (replies : List Reply) (old new : Histor
 
 -- what is done and undone leaves the image and the images before it
 abbrev pub UndoIsExact : Type 0
-UndoIsExact = (asked : Asked) (old new : History) → Run (Do asked ∷ Undo ∷ []) (None ∷ None ∷ []) old new
+UndoIsExact = (asked : Asked) (old new : History) → Run (Do asked None ∷ Undo ∷ []) (None ∷ None ∷ []) old new
     → (new.present ≡ old.present) × (new.past ≡ old.past) × (new.done ≡ old.done)
+
+-- where a number of images is kept, it leaves the image, and of those before it the nearest that were kept beside it
+abbrev pub UndoIsExactAsFarAsKept : Type 0
+UndoIsExactAsFarAsKept = (asked : Asked) (keep : ℕ) (old new : History)
+    → Run (Do asked (Some keep) ∷ Undo ∷ []) (None ∷ None ∷ []) old new
+    → (new.present ≡ old.present) × (new.past ≡ take (keep - 1) old.past)
+    × (new.done ≡ drop (length old.done - (keep - 1)) old.done)
 
 -- what is undone and redone leaves the history
 abbrev pub RedoIsExact : Type 0

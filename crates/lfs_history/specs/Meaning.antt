@@ -5,7 +5,7 @@ use Rattle.lfs_history.specs.declared.moves.Move.TheVariants as case
 use Rattle.lfs_history.specs.Taking.{Move, Do, Undo, Redo, Forget}
 
 abbrev pub step_of : Written → Move
-step_of (case.Do command) = Do (asked_for command)
+step_of (case.Do command keep) = Do (asked_for command) keep
 step_of case.Undo = Undo
 step_of case.Redo = Redo
 step_of case.Forget = Forget

@@ -1,5 +1,5 @@
 -- Which journals are an image's, and what is opened of them (own).
-use Rattle.std.specs.Prelude.{◌≡◌, ℕ, List, ◌++◌, reverse, Contains}
+use Rattle.std.specs.Prelude.{◌≡◌, ℕ, List, [], ◌++◌, reverse, Option, Contains}
 use Rattle.lfs_block.specs.Disk.{Disk}
 use Rattle.lfs_block.specs.declared.mount_fault.MountFault.{MountFault}
 use Rattle.lfs_fs.specs.Cause.{HasCause, IsOfFormat}
@@ -7,10 +7,20 @@ use Rattle.lfs_book.specs.Book.{Book, Spells}
 use Rattle.lfs_history.specs.declared.open_fault.OpenFault.{OpenFault}
 use Rattle.lfs_history.specs.declared.open_fault.OpenFault.TheVariants.{Mount, JournalFormat, JournalMismatch, JournalImage}
 use Rattle.lfs_history.specs.History.{History, IsHistory, IsMounted, GoesBack, GoesForward, history, past_of, future_of}
+use Rattle.lfs_history.specs.Moves.{kept_changes, but_one}
 
 -- the journal of a history
 abbrev pub journal_of : History → Book
 journal_of h = record { size = h.present.size; count = h.present.count; done = h.done; undone = h.undone }
+
+-- the same without the undone changes, and without those that are dropped once a command is done
+abbrev pub kept_journal : Option ℕ → History → Book
+kept_journal keep h = record {
+  size = h.present.size;
+  count = h.present.count;
+  done = kept_changes (but_one keep) h.done;
+  undone = [];
+}
 
 -- the journal denotes a history of the image: it is one of its size and count, and each change agrees with the image that it
 -- leads back or on from

@@ -1,5 +1,5 @@
 -- Moves of a session, their replies, and runs of them (own).
-use Rattle.std.specs.Prelude.{◌≡◌, ◌<◌, ◌≤◌, List, [], ◌∷◌, Option, Some, None, length}
+use Rattle.std.specs.Prelude.{◌≡◌, ℕ, ◌<◌, ◌≤◌, List, [], ◌∷◌, Option, Some, None, length}
 use Rattle.lfs_block.specs.Patch.{ChangeSet}
 use Rattle.lfs_book.specs.Book.{most_changes}
 use Rattle.lfs_command.specs.Command.{Asked}
@@ -9,10 +9,10 @@ use Rattle.lfs_history.specs.declared.step_fault.StepFault.TheVariants.{Refused,
 use Rattle.lfs_history.specs.History.{History}
 use Rattle.lfs_history.specs.Moves.{Pushes, Undoes, Redoes, Forgets}
 
--- A command is carried out, the latest command is taken back, the latest that was taken back is carried out again, all but
--- the image is forgotten.
+-- A command is carried out, and then so many images of the past are kept, or all of them where no number is said; the latest command
+-- is taken back, the latest that was taken back is carried out again, all but the image is forgotten.
 pub data Move : Type 0 where
-  Do : (asked : Asked) → Move
+  Do : (asked : Asked) → (keep : Option ℕ) → Move
   Undo : Move
   Redo : Move
   Forget : Move
@@ -21,18 +21,38 @@ pub data Move : Type 0 where
 abbrev pub Reply : Type 0
 Reply = Option StepFault
 
+-- how many images of the past may be kept: from 1 to 1,000, or all
+abbrev pub MayKeep : Option ℕ → Type 0
+MayKeep None = Unit {0}
+MayKeep (Some keep) = (1 ≤ keep) × (keep ≤ most_changes)
+
+-- what a move keeps may be kept: its caller owes it
+abbrev pub KeepsInRange : Move → Type 0
+KeepsInRange (Do asked keep) = MayKeep keep
+KeepsInRange _ = Unit {0}
+
+-- there is room for a change more; where a number is kept there always is
+abbrev pub HasPlace : Option ℕ → History → Type 0
+HasPlace None h = length h.done < most_changes
+HasPlace (Some keep) h = MayKeep (Some keep)
+
+-- there is none
+abbrev pub IsFull : Option ℕ → History → Type 0
+IsFull None h = most_changes ≤ length h.done
+IsFull (Some keep) h = ⊥
+
 -- there is room for a change, and a patch that carries the command out on the present image is made
-pub record Does (asked : Asked) (old new : History) : Type 0 where
-  pub room : length old.done < most_changes
+pub record Does (asked : Asked) (keep : Option ℕ) (old new : History) : Type 0 where
+  pub room : HasPlace keep old
   pub change : ChangeSet
   pub plans : Plans old.present asked change
-  pub pushes : Pushes change old new
+  pub pushes : Pushes change keep old new
 
 -- From the old history, the step may get this reply and leave the new one.
 abbrev pub Takes : Move → Reply → History → History → Type 0
-Takes (Do asked) None old new = Does asked old new
-Takes (Do asked) (Some JournalFull) old new = (most_changes ≤ length old.done) × (new ≡ old)
-Takes (Do asked) (Some (Refused r)) old new = (length old.done < most_changes) × RefusesPlan old.present asked r × (new ≡ old)
+Takes (Do asked keep) None old new = Does asked keep old new
+Takes (Do asked keep) (Some JournalFull) old new = IsFull keep old × (new ≡ old)
+Takes (Do asked keep) (Some (Refused r)) old new = HasPlace keep old × RefusesPlan old.present asked r × (new ≡ old)
 Takes Undo None old new = Undoes old new
 Takes Undo (Some NothingToUndo) old new = (old.past ≡ []) × (new ≡ old)
 Takes Redo None old new = Redoes old new

@@ -1,7 +1,7 @@
 //! Laws of histories: each function does nothing but call laws, and its contract is the law.
 
-ghost use Rattle.lfs_history.specs.OpeningLaws.{HistoriesAreBooks, JournalsDenoteOneHistory, JournalsGrowByTheNeed, SavedHistoriesAreTaken, SavedHistoriesOpen};
-ghost use Rattle.lfs_history.specs.Laws.{CommandsAreEquations, CommandsPushEquations, RunsKeepHistories, StepsKeepSize, UndoIsExact, RedoIsExact, UndoAndRedoKeepImages};
+ghost use Rattle.lfs_history.specs.OpeningLaws.{HistoriesAreBooks, JournalsDenoteOneHistory, JournalsGrowByTheNeed, KeptJournalsGrowByTheNeed, SavedHistoriesAreTaken, SavedHistoriesOpen};
+ghost use Rattle.lfs_history.specs.Laws.{CommandsAreEquations, CommandsPushEquations, RunsKeepHistories, StepsKeepSize, UndoIsExact, UndoIsExactAsFarAsKept, RedoIsExact, UndoAndRedoKeepImages};
 
 use lfs_block::{
     applied_patches_change_their_blocks, applied_patches_revert, reverted_patches_apply_again,
@@ -21,8 +21,8 @@ pub fn commands_are_equations()
     cuts_follow();
 }
 
-/// A law: a command that is carried out leaves the old present image in front of those before it, and no image to go on to.
-/// The present image mounts to the command's equation of the old one's tree, with the same size and limits, and with as many
+/// A law: a command that is carried out leaves the old present image in front of those before it, of which the nearest are kept where
+/// it says how many, and no image to go on to. The present image mounts to the command's equation of the old one's tree, with the same size and limits, and with as many
 /// blocks as the command says. Takes no memory.
 ///
 /// Source: own.
@@ -52,11 +52,13 @@ pub fn steps_keep_size()
     ensures { StepsKeepSize }
 {}
 
-/// A law: a command that is carried out and taken back leaves the image and all images before it. Takes no memory.
+/// A law: a command that is carried out and taken back leaves the image and all images before it (`all`); where it says how many
+/// images are kept, the image and the nearest before it, one less than that (`kept`). Takes no memory.
 ///
 /// Source: own.
 pub fn undo_is_exact()
-    ensures { UndoIsExact }
+    ensures all { UndoIsExact }
+    ensures kept { UndoIsExactAsFarAsKept }
 {}
 
 /// A law: a change that is taken back and made again leaves the history. Takes no memory.
@@ -99,11 +101,13 @@ pub fn saved_histories_open()
 
 /// A law: a command makes the journal longer by three numbers and, for each block that it needs and two more at most, the
 /// block's number, its bytes before and its bytes after; a journal of version 1 also by two numbers for each change that is
-/// kept. Takes no memory.
+/// kept (`whole`). No more than that is added even to a journal of nothing but the changes that are kept: those that were undone
+/// aren't, nor those that the command drops (`kept`). Takes no memory.
 ///
 /// Source: own.
 pub fn journals_grow_by_the_need()
-    ensures { JournalsGrowByTheNeed }
+    ensures whole { JournalsGrowByTheNeed }
+    ensures kept { KeptJournalsGrowByTheNeed }
 {
     both_sides_hold();
     need_is_exact();

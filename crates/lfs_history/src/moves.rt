@@ -8,7 +8,12 @@ use lfs_command::Command;
 #[derive(Clone, Copy)]
 pub enum Move<'a> {
     /// Carries a command out.
-    Do(Command<'a>),
+    Do {
+        /// The command.
+        command: Command<'a>,
+        /// How many images of the past are kept once the command is done, 1 to 1,000; all of them for `None`.
+        keep: Option<u32>,
+    },
     /// Takes the latest change back.
     Undo,
     /// Makes again the latest change that was taken back.

@@ -1,15 +1,15 @@
 -- A history is one list of changes, cut at a place.
 use Rattle.std.proofs.Common.{◌≡◌, ℕ, ◌+◌, ◌<◌, ◌≤◌, List, [], ◌∷◌, ◌++◌, length, take, drop, get_or, ap, sym, ◌∙◌, subst, arith}
-use Rattle.std.specs.Prelude.{reverse}
-use Rattle.std.proofs.lemmas.List.{take_more, drop_more, take_all, drop_all, length_push, length-take-le, get_or_push}
+use Rattle.std.specs.Prelude.{reverse, Option}
+use Rattle.std.proofs.lemmas.List.{take_more, drop_more, take_all, drop_all, length-take-le, get_or_push}
 use Rattle.lfs_block.specs.Disk.{Disk}
 use Rattle.lfs_block.specs.Patch.{ChangeSet, IsGrowth, AgreesOld, AgreesNew, applied, reverted}
-use Rattle.lfs_book.specs.Book.{most_changes}
 use Rattle.lfs_command.specs.Command.{Asked}
 use Rattle.lfs_command.specs.Planned.{Plans}
 use Rattle.lfs_history.specs.History.{History, IsHistoryAt, history_at, past_of, future_of, GoesBack, GoesForward}
-use Rattle.lfs_history.specs.Moves.{Pushes, Undoes, Redoes}
-use Rattle.lfs_history.specs.Taking.{Does}
+use Rattle.lfs_history.specs.Moves.{Pushes, Undoes, Redoes, kept_changes, but_one}
+use Rattle.lfs_history.specs.Taking.{Does, HasPlace}
+use Rattle.lfs_history.proofs.KeptLemmas.{kept_past, image_kept, change_kept}
 use Rattle.lfs_history.proofs.MoveLemmas.{TakeBack, Make, Follow, latest, undo_keeps, redo_keeps, push_keeps}
 
 -- the change at a place, between those before it and those behind it
@@ -92,9 +92,6 @@ pub record IsPut (old new : List ChangeSet) (i : ℕ) (p : ChangeSet) : Type 0 w
   pub all : new ≡ take i old ++ p ∷ []
   pub within : i ≤ length old
 
-put_len : (old new : List ChangeSet) (i : ℕ) (p : ChangeSet) → IsPut old new i p → length new ≡ i + 1
-put_len old new i p put = ap length put.all ∙ length_push (take i old) p ∙ ap (λ (n : ℕ). n + 1) (length-take-le i old put.within)
-
 -- it stands at the place
 pub put_is : (old new : List ChangeSet) (i : ℕ) (p q : ChangeSet) → IsPut old new i p → q ≡ get_or new i q → q ≡ p
 put_is old new i p q put read = read ∙ ap (λ (xs : List ChangeSet). get_or xs i q) put.all
@@ -105,29 +102,34 @@ pub put_makes : (d e : Disk) (old new : List ChangeSet) (i : ℕ) (p q : ChangeS
     → e ≡ applied p d
 put_makes d e old new i p q put read is = is ∙ ap (λ (x : ChangeSet). applied x d) (put_is old new i p q put read)
 
-pub done_at : Make → Follow → (asked : Asked) (d e : Disk) (old new : List ChangeSet) (i : ℕ) (p q : ChangeSet) → IsPut old new i p
-    → q ≡ get_or new i q → IsHistoryAt d old i → i < most_changes
-    → Plans d asked p → e ≡ applied q d → MovesTo (Does asked) (history_at d old i) e new (i + 1)
-done_at law follow asked d e old new i p q put read h room plans is =
-    let len = put_len old new i p put in
-    let all : take (i + 1) new ≡ new = take_all (i + 1) new (omega arith) in
-    let none : drop (i + 1) new ≡ [] = drop_all (i + 1) new (omega arith) in
-    let made : take (i + 1) new ≡ take i old ++ p ∷ [] = all ∙ put.all in
+-- what is kept then is all that is left, and what was put is in front
+pub done_at : Make → Follow → (asked : Asked) (keep : Option ℕ) (d e : Disk) (old new kept : List ChangeSet) (i j : ℕ) (p q : ChangeSet)
+    → IsPut old new i p → q ≡ get_or new i q → kept ≡ kept_changes keep new → j ≡ length kept
+    → IsHistoryAt d old i → HasPlace keep (history_at d old i) → Plans d asked p → e ≡ applied q d
+    → MovesTo (Does asked keep) (history_at d old i) e kept j
+done_at law follow asked keep d e old new kept i j p q put read latest_are many h place plans is =
+    let before = take i old in
+    let left = kept_changes (but_one keep) before in
+    let all : take j kept ≡ kept = take_all j kept (omega arith) in
+    let none : drop j kept ≡ [] = drop_all j kept (omega arith) in
+    let made : take j kept ≡ kept_changes keep (before ++ p ∷ []) = all ∙ latest_are ∙ ap (kept_changes keep) put.all in
+    let beside : take j kept ≡ left ++ p ∷ [] = made ∙ change_kept keep (history_at d old i) before p place in
     let to : e ≡ applied p d = put_makes d e old new i p q put read is in
-    let few : length (take i old) < most_changes = let a = length-take-le i old put.within in omega arith in
-    let pushes : Pushes p (history_at d old i) (history_at e new (i + 1)) = record {
-      past = ap (λ (ps : List ChangeSet). past_of ps e) (latest (take i old) (take (i + 1) new) p made)
-          ∙ ap (λ (x : Disk). x ∷ past_of (reverse (take i old)) x) (ap (reverted p) to
-          ∙ law.back p d h.history.disk plans.patch.patch plans.stands);
+    let back : reverted p e ≡ d = ap (reverted p) to ∙ law.back p d h.history.disk plans.patch.patch plans.stands in
+    let pushes : Pushes p keep (history_at d old i) (history_at e kept j) = record {
+      past = ap (λ (ps : List ChangeSet). past_of ps e) (latest left (take j kept) p beside)
+          ∙ ap (λ (x : Disk). x ∷ past_of (reverse left) x) back
+          ∙ ap (λ (ds : List Disk). d ∷ ds) (kept_past (but_one keep) before d)
+          ∙ sym (image_kept keep (history_at d old i) d (past_of (reverse before) d) place);
       present = to;
       future = ap (λ (us : List ChangeSet). future_of us e) none;
       done = made;
       undone = none;
     } in
     record {
-      moves = record { room = few; change = p; plans = plans; pushes = pushes };
+      moves = record { room = place; change = p; plans = plans; pushes = pushes };
       keeps = record {
         within = omega arith;
-        history = push_keeps law follow asked p (history_at d old i) (history_at e new (i + 1)) h.history few plans pushes;
+        history = push_keeps law follow asked keep p (history_at d old i) (history_at e kept j) h.history place plans pushes;
       };
     }

@@ -8,6 +8,7 @@ use Rattle.lfs_block.specs.Medium.{Medium}
 use Rattle.lfs_block.specs.Patch.{ChangeSet}
 use Rattle.lfs_fs.specs.Volume.{Volume}
 use Rattle.lfs_history.specs.History.{IsHistoryAt}
+use Rattle.lfs_history.specs.Moves.{kept_changes, dropped}
 use Rattle.lfs_journal.specs.Known.{HasRoom, IsKnown, IsSession}
 
 -- ---- lists
@@ -55,6 +56,12 @@ pub room_put : (old new : ℕ) (olds news : List ChangeSet) (i : ℕ) (p : Chang
 room_put old new olds news i p le room fits is =
     subst (HasRoom new) (sym is) (each_push (λ q. q.after ≤ new) (take i olds) p
     (each_take (λ q. q.after ≤ new) i olds (room_grows old new olds le room)) fits)
+
+-- the latest changes are kept
+pub room_kept : (room : ℕ) (keep : Option ℕ) (olds news : List ChangeSet) → news ≡ kept_changes keep olds → HasRoom room olds
+    → HasRoom room news
+room_kept room keep olds news is has =
+    subst (HasRoom room) (sym is) (each_drop (λ q. q.after ≤ room) (dropped keep (length olds)) olds has)
 
 -- the same room
 pub room_same : (old new : ℕ) (ps : List ChangeSet) → new ≡ old → HasRoom old ps → HasRoom new ps

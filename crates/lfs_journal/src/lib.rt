@@ -3,6 +3,7 @@
 
 mod agreeing;
 mod carried;
+mod keeping;
 mod mounting;
 mod opening;
 mod refused;

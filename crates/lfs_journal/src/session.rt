@@ -1,6 +1,7 @@
 //! An image with its changes.
 
 use crate::carried::{Carried, carried_out};
+use crate::keeping::keep_latest;
 use crate::opening::{Opened, read_history};
 use crate::refused::Refused;
 use crate::replacing::replace_from;
@@ -43,7 +44,7 @@ impl Model for Session {
 }
 
 impl Session {
-    ghost use Rattle.std.specs.Prelude.{◌≡◌, [], Some, IfOk, IfErr, IfSome, OnOk, OnErr};
+    ghost use Rattle.std.specs.Prelude.{◌≡◌, [], None, Some, IfOk, IfErr, IfSome, OnOk, OnErr};
     ghost use Rattle.lfs_fs.specs.Cause.{HasCause};
     ghost use Rattle.lfs_book.specs.Book.{journal_bytes};
     ghost use Rattle.lfs_command.specs.AskedFor.{asked_for};
@@ -51,7 +52,7 @@ impl Session {
     ghost use Rattle.lfs_history.specs.History.{IsHistory, fresh_history};
     ghost use Rattle.lfs_history.specs.Moves.{Undoes, Redoes, Forgets};
     ghost use Rattle.lfs_history.specs.Opening.{Opens, RefusesOpening, journal_of};
-    ghost use Rattle.lfs_history.specs.Taking.{Does, Takes, Do};
+    ghost use Rattle.lfs_history.specs.Taking.{Does, Takes, Do, MayKeep, HasPlace};
 
     /// A session of an image that nothing was done to. A refusal hands the image back: the image has the cause that the
     /// fault names, and `Memory` says only that a growth was refused.
@@ -134,20 +135,52 @@ impl Session {
         image
     }
 
-    /// Carries a command out, as a change that can be taken back; what was undone is dropped. Room for the image that it leaves
-    /// is made before anything changes. Any refusal leaves all as it was: `JournalFull` where 1,000 changes were made, then what
-    /// `carry_out` refuses, or `Memory`.
+    /// Carries a command out, as a change that can be taken back; what was undone is dropped. Any refusal leaves all as it was:
+    /// `JournalFull` where 1,000 changes were made, then what `carry_out` refuses, or `Memory`.
     pub fn command(&mut self, alloc: Global, command: &Command<'_>) -> Result<(), StepFault>
-        ensures done { OnOk result (Does (asked_for command.now) self.old self.new) }
-        ensures refused { IfErr result (λ fault. Takes (Do (asked_for command.now)) (Some fault) self.old self.new) }
+        ensures done { OnOk result (Does (asked_for command.now) None self.old self.new) }
+        ensures refused { IfErr result (λ fault. Takes (Do (asked_for command.now) None) (Some fault) self.old self.new) }
+        ensures unchanged { OnErr result (self.new ≡ self.old) }
+    {
+        if self.done >= MOST_CHANGES as usize {
+            return Err(StepFault::JournalFull);
+        }
+        self.push(alloc, command, None)
+    }
+
+    /// Carries a command out, as a change that can be taken back; what was undone is dropped, and then all images of the past but the
+    /// nearest, of which `keep` are kept. The caller owes that these are 1 to 1,000. Any refusal leaves all as it was: what
+    /// `carry_out` refuses, or `Memory`. Dropping takes no memory.
+    pub fn command_keep(
+        &mut self,
+        alloc: Global,
+        command: &Command<'_>,
+        keep: u32,
+    ) -> Result<(), StepFault>
+        requires { MayKeep (Some keep) }
+        ensures done { OnOk result (Does (asked_for command.now) (Some keep) self.old self.new) }
+        ensures refused { IfErr result (λ fault. Takes (Do (asked_for command.now) (Some keep)) (Some fault) self.old self.new) }
+        ensures unchanged { OnErr result (self.new ≡ self.old) }
+    {
+        self.push(alloc, command, Some(keep))
+    }
+
+    /// Carries a command out where there is room for a change, and then keeps as many images of the past as are said. Room for
+    /// the image that it leaves is made before anything changes.
+    fn push(
+        &mut self,
+        alloc: Global,
+        command: &Command<'_>,
+        keep: Option<u32>,
+    ) -> Result<(), StepFault>
+        requires { HasPlace keep self.old }
+        ensures done { OnOk result (Does (asked_for command.now) keep self.old self.new) }
+        ensures refused { IfErr result (λ fault. Takes (Do (asked_for command.now) keep) (Some fault) self.old self.new) }
         ensures unchanged { OnErr result (self.new ≡ self.old) }
     {
         applied_patches_change_their_blocks();
         applied_patches_revert();
         cuts_follow();
-        if self.done >= MOST_CHANGES as usize {
-            return Err(StepFault::JournalFull);
-        }
         let Carried { patch, outline } = carried_out(
             alloc,
             &self.image,
@@ -160,7 +193,7 @@ impl Session {
         replace_from(&mut self.patches, self.done, patch)?;
         self.patches[self.done].apply(&mut self.image);
         self.outline = Some(outline);
-        self.done += 1;
+        self.done = keep_latest(&mut self.patches, keep);
         Ok(())
     }
 

@@ -11,6 +11,8 @@ pub struct Request<'a> {
     pub task: Task<'a>,
     /// The block size, in bytes.
     pub size: u32,
+    /// How many images of the past are kept behind a command, 1 to 1,000; all of them for `None`. Nothing else looks at it.
+    pub keep: Option<u32>,
     /// The image's file name.
     pub image: &'a str,
 }

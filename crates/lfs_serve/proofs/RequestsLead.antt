@@ -131,9 +131,9 @@ written size name old new outcome h both denotes = (
 
 -- ---- where a step leads that was done
 
-record StepLeads (size : ℕ) (name : List ℕ) (s : Step) (typed : Option (List ℕ)) (new : Files) (old : History) : Type 0 where
+record StepLeads (size : ℕ) (keep : Option ℕ) (name : List ℕ) (s : Step) (typed : Option (List ℕ)) (new : Files) (old : History) : Type 0 where
   next : History
-  goes : StepGoes size s typed old next
+  goes : StepGoes size keep s typed old next
   denotes : FilesDenote size name new next
 
 -- what a change was handed is what the files have
@@ -151,12 +151,12 @@ record Laws : Type 0 where
   runs : RunsOfBytesAreRuns
 
 -- a step on a history
-changes : Laws → (m : Move) (s : Step) (size : ℕ) (name : List ℕ) (typed : Option (List ℕ)) (old new : Files) (h : History) (b : HandedBytes)
-    (outcome : Outcome) → deed_of s b.input ≡ Change m → FilesDenote size name old h → ReadsFile (Some old) name most_image b.image
+changes : Laws → (m : Move) (s : Step) (size : ℕ) (keep : Option ℕ) (name : List ℕ) (typed : Option (List ℕ)) (old new : Files) (h : History)
+    (b : HandedBytes) (outcome : Outcome) → deed_of s b.input keep ≡ Change m → FilesDenote size name old h → ReadsFile (Some old) name most_image b.image
     → FindsFile (Some old) (journal_name name) most_journal b.journal → HandsInput s typed b.input
     → AnswersDone (Change m) (given size b.image b.journal) outcome → HasBoth name outcome.image.items outcome.journal.items old new
-    → StepLeads size name s typed new h
-changes laws m s size name typed old new h b outcome is denotes image journal input answers both =
+    → StepLeads size keep name s typed new h
+changes laws m s size keep name typed old new h b outcome is denotes image journal input answers both =
     let handed = handed_change laws.short size name old h b denotes image journal in
     let one = one_goes laws.leaves laws.runs None (Change m) (given size b.image b.journal) outcome h tt handed answers in
     record {
@@ -166,22 +166,22 @@ changes laws m s size name typed old new h b outcome is denotes image journal in
     }
 
 -- a question
-asks : (q : Deed) (s : Step) (size : ℕ) (name : List ℕ) (typed : Option (List ℕ)) (old new : Files) (h : History) (b : HandedBytes)
-    → GoesOn size q h h → deed_of s b.input ≡ q → FilesDenote size name old h → HandsInput s typed b.input → Some new ≡ Some old
-    → StepLeads size name s typed new h
-asks q s size name typed old new h b goes is denotes input same = record {
+asks : (q : Deed) (s : Step) (size : ℕ) (keep : Option ℕ) (name : List ℕ) (typed : Option (List ℕ)) (old new : Files) (h : History) (b : HandedBytes)
+    → GoesOn size q h h → deed_of s b.input keep ≡ q → FilesDenote size name old h → HandsInput s typed b.input → Some new ≡ Some old
+    → StepLeads size keep name s typed new h
+asks q s size keep name typed old new h b goes is denotes input same = record {
   next = h;
   goes = (b.input, input, subst (λ (d : Deed). GoesOn size d h h) (sym is) goes);
   denotes = same_files size name old new h same denotes;
 }
 
 -- all but the image is forgotten
-forgets : Laws → (size : ℕ) (name : List ℕ) (typed : Option (List ℕ)) (old new : Files) (h : History) (b : HandedBytes) (outcome : Outcome)
+forgets : Laws → (size : ℕ) (keep : Option ℕ) (name : List ℕ) (typed : Option (List ℕ)) (old new : Files) (h : History) (b : HandedBytes) (outcome : Outcome)
     → FilesDenote size name old h → ReadsFile (Some old) name most_image b.image → b.journal ≡ [] → HandsInput step.Forget typed b.input
     → AnswersDone (Change Forget) (given size b.image b.journal) outcome
     → HasReplaced (journal_name name) (new_name (journal_name name)) outcome.journal.items old new
-    → StepLeads size name step.Forget typed new h
-forgets laws size name typed old new h b outcome denotes image none input answers replaced =
+    → StepLeads size keep name step.Forget typed new h
+forgets laws size keep name typed old new h b outcome denotes image none input answers replaced =
     let d = image_of size b.image in
     let read = image_read size name b.image old h denotes image in
     let journal = bytes_there (old (journal_name name)) in
@@ -211,11 +211,11 @@ forgets laws size name typed old new h b outcome denotes image none input answer
     }
 
 -- a new image
-makes : Laws → (count : ℕ) (s : Step) (size : ℕ) (name : List ℕ) (typed : Option (List ℕ)) (old new : Files) (h : History) (b : HandedBytes)
-    (outcome : Outcome) → deed_of s b.input ≡ Make count → HandsInput s typed b.input
+makes : Laws → (count : ℕ) (s : Step) (size : ℕ) (keep : Option ℕ) (name : List ℕ) (typed : Option (List ℕ)) (old new : Files) (h : History) (b : HandedBytes)
+    (outcome : Outcome) → deed_of s b.input keep ≡ Make count → HandsInput s typed b.input
     → AnswersDone (Make count) (given size b.image b.journal) outcome → HasBoth name outcome.image.items outcome.journal.items old new
-    → StepLeads size name s typed new h
-makes laws count s size name typed old new h b outcome is input answers both =
+    → StepLeads size keep name s typed new h
+makes laws count s size keep name typed old new h b outcome is input answers both =
     let next = fresh_history (image_of size outcome.image.items) in
     let goes : GoesOn size (Make count) h next = (refl, answers.0) in
     record {
@@ -224,11 +224,11 @@ makes laws count s size name typed old new h b outcome is input answers both =
       denotes = written size name old new outcome next both (laws.leaves (Make count) (given size b.image b.journal) outcome answers);
     }
 
-packs : Laws → (count : ℕ) (rows : List PackRow) (s : Step) (size : ℕ) (name : List ℕ) (typed : Option (List ℕ)) (old new : Files) (h : History)
-    (b : HandedBytes) (outcome : Outcome) → HasGoodRows (Pack count rows) → deed_of s b.input ≡ Pack count rows → HandsInput s typed b.input
+packs : Laws → (count : ℕ) (rows : List PackRow) (s : Step) (size : ℕ) (keep : Option ℕ) (name : List ℕ) (typed : Option (List ℕ))
+    (old new : Files) (h : History) (b : HandedBytes) (outcome : Outcome) → HasGoodRows (Pack count rows) → deed_of s b.input keep ≡ Pack count rows → HandsInput s typed b.input
     → AnswersDone (Pack count rows) (given size b.image b.journal) outcome → HasBoth name outcome.image.items outcome.journal.items old new
-    → StepLeads size name s typed new h
-packs laws count rows s size name typed old new h b outcome (packed, are) is input answers both =
+    → StepLeads size keep name s typed new h
+packs laws count rows s size keep name typed old new h b outcome (packed, are) is input answers both =
     let next = fresh_history (image_of size outcome.image.items) in
     let goes : GoesOn size (Pack count rows) h next = (refl, answers.0) in
     record {
@@ -243,61 +243,61 @@ abbrev with_files : Scene → Files → Scene
 with_files scene files = record scene { files = Some files }
 
 -- any step
-done_leads : Laws → (s : Step) (size : ℕ) (name : List ℕ) (scene : Scene) (old new : Files) (h : History) (b : HandedBytes) (outcome : Outcome)
-    → HasGoodRows (deed_of s []) → FilesDenote size name old h → IsHanded s name (with_files scene old) b
-    → AnswersDone (deed_of s b.input) (given size b.image b.journal) outcome → LeavesFiles (kind_of s) (Some old) (Some new) name outcome
-    → StepLeads size name s scene.typed new h
-done_leads laws (step.Format count) size name scene old new h b outcome good denotes handed answers leaves =
-    makes laws count (step.Format count) size name scene.typed old new h b outcome refl handed.input answers leaves
-done_leads laws (step.Pack count rows) size name scene old new h b outcome good denotes handed answers leaves =
-    packs laws count rows.now (step.Pack count rows) size name scene.typed old new h b outcome good refl handed.input answers leaves
-done_leads laws step.Check size name scene old new h b outcome good denotes handed answers leaves =
-    asks (Ask query.Check) step.Check size name scene.typed old new h b refl refl denotes handed.input leaves
-done_leads laws step.Ls size name scene old new h b outcome good denotes handed answers leaves =
-    asks (Ask query.Ls) step.Ls size name scene.typed old new h b refl refl denotes handed.input leaves
-done_leads laws (step.Cat path) size name scene old new h b outcome good denotes handed answers leaves =
-    asks (Ask (query.Cat path)) (step.Cat path) size name scene.typed old new h b refl refl denotes handed.input leaves
-done_leads laws (step.Mkdir path) size name scene old new h b outcome good denotes handed answers leaves =
-    changes laws (Do (asked.Mkdir path.now)) (step.Mkdir path) size name scene.typed old new h b outcome refl denotes handed.image
+done_leads : Laws → (s : Step) (size : ℕ) (keep : Option ℕ) (name : List ℕ) (scene : Scene) (old new : Files) (h : History) (b : HandedBytes) (outcome : Outcome)
+    → HasGoodRows (deed_of s [] None) → FilesDenote size name old h → IsHanded s name (with_files scene old) b
+    → AnswersDone (deed_of s b.input keep) (given size b.image b.journal) outcome → LeavesFiles (kind_of s) (Some old) (Some new) name outcome
+    → StepLeads size keep name s scene.typed new h
+done_leads laws (step.Format count) size keep name scene old new h b outcome good denotes handed answers leaves =
+    makes laws count (step.Format count) size keep name scene.typed old new h b outcome refl handed.input answers leaves
+done_leads laws (step.Pack count rows) size keep name scene old new h b outcome good denotes handed answers leaves =
+    packs laws count rows.now (step.Pack count rows) size keep name scene.typed old new h b outcome good refl handed.input answers leaves
+done_leads laws step.Check size keep name scene old new h b outcome good denotes handed answers leaves =
+    asks (Ask query.Check) step.Check size keep name scene.typed old new h b refl refl denotes handed.input leaves
+done_leads laws step.Ls size keep name scene old new h b outcome good denotes handed answers leaves =
+    asks (Ask query.Ls) step.Ls size keep name scene.typed old new h b refl refl denotes handed.input leaves
+done_leads laws (step.Cat path) size keep name scene old new h b outcome good denotes handed answers leaves =
+    asks (Ask (query.Cat path)) (step.Cat path) size keep name scene.typed old new h b refl refl denotes handed.input leaves
+done_leads laws (step.Mkdir path) size keep name scene old new h b outcome good denotes handed answers leaves =
+    changes laws (Do (asked.Mkdir path.now) keep) (step.Mkdir path) size keep name scene.typed old new h b outcome refl denotes handed.image
     handed.journal handed.input answers leaves
-done_leads laws (step.Put path) size name scene old new h b outcome good denotes handed answers leaves =
-    changes laws (Do (asked.Put path.now b.input)) (step.Put path) size name scene.typed old new h b outcome refl denotes handed.image
+done_leads laws (step.Put path) size keep name scene old new h b outcome good denotes handed answers leaves =
+    changes laws (Do (asked.Put path.now b.input) keep) (step.Put path) size keep name scene.typed old new h b outcome refl denotes handed.image
     handed.journal handed.input answers leaves
-done_leads laws (step.Rm path) size name scene old new h b outcome good denotes handed answers leaves =
-    changes laws (Do (asked.Rm path.now)) (step.Rm path) size name scene.typed old new h b outcome refl denotes handed.image
+done_leads laws (step.Rm path) size keep name scene old new h b outcome good denotes handed answers leaves =
+    changes laws (Do (asked.Rm path.now) keep) (step.Rm path) size keep name scene.typed old new h b outcome refl denotes handed.image
     handed.journal handed.input answers leaves
-done_leads laws (step.Mv from to) size name scene old new h b outcome good denotes handed answers leaves =
-    changes laws (Do (asked.Mv from.now to.now)) (step.Mv from to) size name scene.typed old new h b outcome refl denotes handed.image
+done_leads laws (step.Mv from to) size keep name scene old new h b outcome good denotes handed answers leaves =
+    changes laws (Do (asked.Mv from.now to.now) keep) (step.Mv from to) size keep name scene.typed old new h b outcome refl denotes handed.image
     handed.journal handed.input answers leaves
-done_leads laws (step.SetAttr path kind value) size name scene old new h b outcome good denotes handed answers leaves =
-    changes laws (Do (asked.SetAttr path.now kind value.now)) (step.SetAttr path kind value) size name scene.typed old new h b outcome refl denotes handed.image
+done_leads laws (step.SetAttr path kind value) size keep name scene old new h b outcome good denotes handed answers leaves =
+    changes laws (Do (asked.SetAttr path.now kind value.now) keep) (step.SetAttr path kind value) size keep name scene.typed old new h b outcome refl denotes handed.image
     handed.journal handed.input answers leaves
-done_leads laws (step.RmAttr path kind) size name scene old new h b outcome good denotes handed answers leaves =
-    changes laws (Do (asked.RmAttr path.now kind)) (step.RmAttr path kind) size name scene.typed old new h b outcome refl denotes handed.image
+done_leads laws (step.RmAttr path kind) size keep name scene old new h b outcome good denotes handed answers leaves =
+    changes laws (Do (asked.RmAttr path.now kind) keep) (step.RmAttr path kind) size keep name scene.typed old new h b outcome refl denotes handed.image
     handed.journal handed.input answers leaves
-done_leads laws (step.Grow count) size name scene old new h b outcome good denotes handed answers leaves =
-    changes laws (Do (asked.Grow count)) (step.Grow count) size name scene.typed old new h b outcome refl denotes handed.image
+done_leads laws (step.Grow count) size keep name scene old new h b outcome good denotes handed answers leaves =
+    changes laws (Do (asked.Grow count) keep) (step.Grow count) size keep name scene.typed old new h b outcome refl denotes handed.image
     handed.journal handed.input answers leaves
-done_leads laws step.Undo size name scene old new h b outcome good denotes handed answers leaves =
-    changes laws Undo step.Undo size name scene.typed old new h b outcome refl denotes handed.image
+done_leads laws step.Undo size keep name scene old new h b outcome good denotes handed answers leaves =
+    changes laws Undo step.Undo size keep name scene.typed old new h b outcome refl denotes handed.image
     handed.journal handed.input answers leaves
-done_leads laws step.Redo size name scene old new h b outcome good denotes handed answers leaves =
-    changes laws Redo step.Redo size name scene.typed old new h b outcome refl denotes handed.image
+done_leads laws step.Redo size keep name scene old new h b outcome good denotes handed answers leaves =
+    changes laws Redo step.Redo size keep name scene.typed old new h b outcome refl denotes handed.image
     handed.journal handed.input answers leaves
-done_leads laws step.Forget size name scene old new h b outcome good denotes handed answers leaves =
-    forgets laws size name scene.typed old new h b outcome denotes handed.image handed.journal handed.input answers leaves
+done_leads laws step.Forget size keep name scene old new h b outcome good denotes handed answers leaves =
+    forgets laws size keep name scene.typed old new h b outcome denotes handed.image handed.journal handed.input answers leaves
 
 -- a step that was done
-step_leads : Laws → (s : Step) (size : ℕ) (name : List ℕ) (scene behind : Scene) (old new : Files) (h : History) → HasGoodRows (deed_of s [])
-    → scene.files ≡ Some old → behind.files ≡ Some new → FilesDenote size name old h → EndsStep s size name scene behind None
-    → StepLeads size name s scene.typed new h
-step_leads laws s size name scene behind old new h good before later denotes (outcome, (b, handed, (answers, none, sends), blamed), leaves) =
+step_leads : Laws → (s : Step) (size : ℕ) (keep : Option ℕ) (name : List ℕ) (scene behind : Scene) (old new : Files) (h : History) → HasGoodRows (deed_of s [] None)
+    → scene.files ≡ Some old → behind.files ≡ Some new → FilesDenote size name old h → EndsStep s size keep name scene behind None
+    → StepLeads size keep name s scene.typed new h
+step_leads laws s size keep name scene behind old new h good before later denotes (outcome, (b, handed, (answers, none, sends), blamed), leaves) =
     let at : IsHanded s name (with_files scene old) b = handed_from s name scene (with_files scene old) b before refl handed in
-    let done = subst (λ (f : Option Fault). AnswersBy f (deed_of s b.input) (given size b.image b.journal) outcome) none answers in
+    let done = subst (λ (f : Option Fault). AnswersBy f (deed_of s b.input keep) (given size b.image b.journal) outcome) none answers in
     let left : LeavesFiles (kind_of s) (Some old) (Some new) name outcome =
     subst (λ (f : Option Files). LeavesFiles (kind_of s) (Some old) f name outcome) later
     (subst (λ (f : Option Files). LeavesFiles (kind_of s) f behind.files name outcome) before leaves) in
-    done_leads laws s size name scene old new h b outcome good denotes at done left
+    done_leads laws s size keep name scene old new h b outcome good denotes at done left
 
 -- ---- what a step leaves that wasn't done
 
@@ -324,14 +324,14 @@ spared _ Makes size name old new h outcome denotes (inr torn) = inr (torn.others
 spared _ Changes size name old new h outcome denotes (inr torn) = inr (torn.others name (image_not_journal name, image_apart name))
 
 -- the files denote the history still, or the host tore them apart
-stop_leaves : (s : Step) (size : ℕ) (name : List ℕ) (scene behind : Scene) (fault : Fault) (old new : Files) (h : History)
-    → scene.files ≡ Some old → behind.files ≡ Some new → FilesDenote size name old h → StopsStep s size name scene behind fault
+stop_leaves : (s : Step) (size : ℕ) (keep : Option ℕ) (name : List ℕ) (scene behind : Scene) (fault : Fault) (old new : Files) (h : History)
+    → scene.files ≡ Some old → behind.files ≡ Some new → FilesDenote size name old h → StopsStep s size keep name scene behind fault
     → FilesDenote size name new h ⊎ ((status_of (Some fault) ≡ 4) × (new name ≡ old name))
-stop_leaves s size name scene behind fault old new h before later denotes (inl (outcome, runs, same)) =
+stop_leaves s size keep name scene behind fault old new h before later denotes (inl (outcome, runs, same)) =
     inl (same_files size name old new h (sym later ∙ same ∙ before) denotes)
-stop_leaves s size name scene behind fault old new h before later denotes (inr (inl (not_aimed, keeps))) =
+stop_leaves s size keep name scene behind fault old new h before later denotes (inr (inl (not_aimed, keeps))) =
     inl (same_files size name old new h (sym later ∙ keeps.0 ∙ before) denotes)
-stop_leaves s size name scene behind fault old new h before later denotes (inr (inr (of_host, (outcome, runs, spares)))) =
+stop_leaves s size keep name scene behind fault old new h before later denotes (inr (inr (of_host, (outcome, runs, spares)))) =
     let left : SparesFiles fault (kind_of s) (Some old) (Some new) name outcome =
     subst (λ (f : Option Files). SparesFiles fault (kind_of s) (Some old) f name outcome) later
     (subst (λ (f : Option Files). SparesFiles fault (kind_of s) f behind.files name outcome) before spares) in
@@ -343,7 +343,7 @@ stop_leaves s size name scene behind fault old new h before later denotes (inr (
 -- ---- tasks
 
 -- rows of a folder are good, and no other step has any
-good_step : (t : Task) (tree : Option HostTree) (s : Step) → BecomesStep t tree s → HasGoodRows (deed_of s [])
+good_step : (t : Task) (tree : Option HostTree) (s : Step) → BecomesStep t tree s → HasGoodRows (deed_of s [] None)
 good_step (task.Pack n dir) tree (step.Pack count packed) (rows, folder, asks) =
     (map packed_of folder.shown, subst (λ (rs : List PackRow). AreRowsOf rs (map packed_of folder.shown)) (sym asks.1) folder.packed)
 good_step (task.Pack n dir) tree _ (rows, folder, asks) = absurd asks
@@ -354,59 +354,59 @@ good_step (task.RmAttr path kind) tree _ (rows, folder, asks) = absurd asks
 good_step _ tree s (rows, folder, asks) = absurd asks
 
 -- where a request leads, or that it is torn
-data Ends (size : ℕ) (name : List ℕ) (t : Task) (scene : Scene) (fault : Option Fault) (old new : Files) (h : History) : Type 0 where
-  Stored_directory : (next : History) → TaskGoesBy fault size t scene h next → FilesDenote size name new next → Ends size name t scene fault old new h
-  Tears : status_of fault ≡ 4 → new name ≡ old name → Ends size name t scene fault old new h
+data Ends (size : ℕ) (keep : Option ℕ) (name : List ℕ) (t : Task) (scene : Scene) (fault : Option Fault) (old new : Files) (h : History) : Type 0 where
+  Stored_directory : (next : History) → TaskGoesBy fault size keep t scene h next → FilesDenote size name new next → Ends size keep name t scene fault old new h
+  Tears : status_of fault ≡ 4 → new name ≡ old name → Ends size keep name t scene fault old new h
 
 -- what wasn't done leaves the history, or tears
-stopped : (size : ℕ) (name : List ℕ) (t : Task) (scene : Scene) (fault : Fault) (old new : Files) (h : History)
-    → FilesDenote size name new h ⊎ ((status_of (Some fault) ≡ 4) × (new name ≡ old name)) → Ends size name t scene (Some fault) old new h
-stopped size name t scene fault old new h (inl denotes) = Stored_directory h refl denotes
-stopped size name t scene fault old new h (inr (status, image)) = Tears status image
+stopped : (size : ℕ) (keep : Option ℕ) (name : List ℕ) (t : Task) (scene : Scene) (fault : Fault) (old new : Files) (h : History)
+    → FilesDenote size name new h ⊎ ((status_of (Some fault) ≡ 4) × (new name ≡ old name)) → Ends size keep name t scene (Some fault) old new h
+stopped size keep name t scene fault old new h (inl denotes) = Stored_directory h refl denotes
+stopped size keep name t scene fault old new h (inr (status, image)) = Tears status image
 
 -- a folder that is made leaves the history
-extracted : (fault : Option Fault) (size : ℕ) (dir : Bor (List ℕ)) (scene : Scene) (h : History) → TaskGoesBy fault size (task.Extract dir) scene h h
-extracted None size dir scene h = refl
-extracted (Some fault) size dir scene h = refl
+extracted : (fault : Option Fault) (size : ℕ) (keep : Option ℕ) (dir : Bor (List ℕ)) (scene : Scene) (h : History) → TaskGoesBy fault size keep (task.Extract dir) scene h h
+extracted None size keep dir scene h = refl
+extracted (Some fault) size keep dir scene h = refl
 
 -- a task whose words say all of it
-step_ends : Laws → (fault : Option Fault) (s : Step) (size : ℕ) (name : List ℕ) (scene behind : Scene) (old new : Files) (h : History)
-    → HasGoodRows (deed_of s []) → scene.files ≡ Some old → behind.files ≡ Some new → FilesDenote size name old h
-    → EndsStep s size name scene behind fault → Ends size name (task.Step s) scene fault old new h
-step_ends laws None s size name scene behind old new h good before later denotes ends =
-    let leads = step_leads laws s size name scene behind old new h good before later denotes ends in
+step_ends : Laws → (fault : Option Fault) (s : Step) (size : ℕ) (keep : Option ℕ) (name : List ℕ) (scene behind : Scene) (old new : Files) (h : History)
+    → HasGoodRows (deed_of s [] None) → scene.files ≡ Some old → behind.files ≡ Some new → FilesDenote size name old h
+    → EndsStep s size keep name scene behind fault → Ends size keep name (task.Step s) scene fault old new h
+step_ends laws None s size keep name scene behind old new h good before later denotes ends =
+    let leads = step_leads laws s size keep name scene behind old new h good before later denotes ends in
     Stored_directory leads.next leads.goes leads.denotes
-step_ends laws (Some fault) s size name scene behind old new h good before later denotes ends =
-    stopped size name (task.Step s) scene fault old new h (stop_leaves s size name scene behind fault old new h before later denotes ends)
+step_ends laws (Some fault) s size keep name scene behind old new h good before later denotes ends =
+    stopped size keep name (task.Step s) scene fault old new h (stop_leaves s size keep name scene behind fault old new h before later denotes ends)
 
 -- a task for which something is read first
-reading_ends : Laws → (fault : Option Fault) (t : Task) (size : ℕ) (name : List ℕ) (scene behind : Scene) (old new : Files) (h : History)
-    → ((next : History) → (s : Step) × BecomesStep t scene.tree s × StepGoes size s scene.typed h next → TaskGoes size t scene h next)
-    → scene.files ≡ Some old → behind.files ≡ Some new → FilesDenote size name old h → EndsReading t size name scene behind fault
-    → Ends size name t scene fault old new h
-reading_ends laws None t size name scene behind old new h turn before later denotes (inl (s, becomes, ends)) =
-    let leads = step_leads laws s size name scene behind old new h (good_step t scene.tree s becomes) before later denotes ends in
+reading_ends : Laws → (fault : Option Fault) (t : Task) (size : ℕ) (keep : Option ℕ) (name : List ℕ) (scene behind : Scene) (old new : Files) (h : History)
+    → ((next : History) → (s : Step) × BecomesStep t scene.tree s × StepGoes size keep s scene.typed h next → TaskGoes size keep t scene h next)
+    → scene.files ≡ Some old → behind.files ≡ Some new → FilesDenote size name old h → EndsReading t size keep name scene behind fault
+    → Ends size keep name t scene fault old new h
+reading_ends laws None t size keep name scene behind old new h turn before later denotes (inl (s, becomes, ends)) =
+    let leads = step_leads laws s size keep name scene behind old new h (good_step t scene.tree s becomes) before later denotes ends in
     Stored_directory leads.next (turn leads.next (s, becomes, leads.goes)) leads.denotes
-reading_ends laws None t size name scene behind old new h turn before later denotes (inr (keeps, (why, is, no_step))) = absurd cc
-reading_ends laws (Some fault) t size name scene behind old new h turn before later denotes (inl (s, becomes, ends)) =
-    stopped size name t scene fault old new h (stop_leaves s size name scene behind fault old new h before later denotes ends)
-reading_ends laws (Some fault) t size name scene behind old new h turn before later denotes (inr (keeps, no_step)) =
+reading_ends laws None t size keep name scene behind old new h turn before later denotes (inr (keeps, (why, is, no_step))) = absurd cc
+reading_ends laws (Some fault) t size keep name scene behind old new h turn before later denotes (inl (s, becomes, ends)) =
+    stopped size keep name t scene fault old new h (stop_leaves s size keep name scene behind fault old new h before later denotes ends)
+reading_ends laws (Some fault) t size keep name scene behind old new h turn before later denotes (inr (keeps, no_step)) =
     Stored_directory h refl (same_files size name old new h (sym later ∙ keeps.0 ∙ before) denotes)
 
 -- any task
-task_ends : Laws → (fault : Option Fault) (t : Task) (size : ℕ) (name : List ℕ) (scene behind : Scene) (old new : Files) (h : History)
+task_ends : Laws → (fault : Option Fault) (t : Task) (size : ℕ) (keep : Option ℕ) (name : List ℕ) (scene behind : Scene) (old new : Files) (h : History)
     → SaysGoodRows t → scene.files ≡ Some old → behind.files ≡ Some new → FilesDenote size name old h
-    → EndsTask t size name scene behind fault → Ends size name t scene fault old new h
-task_ends laws fault (task.Step s) size name scene behind old new h good before later denotes ends =
-    step_ends laws fault s size name scene behind old new h good before later denotes ends
-task_ends laws fault (task.Extract dir) size name scene behind old new h good before later denotes ends =
-    Stored_directory h (extracted fault size dir scene h) (same_files size name old new h (sym later ∙ ends.0.0 ∙ before) denotes)
-task_ends laws fault (task.Pack count dir) size name scene behind old new h good before later denotes ends =
-    reading_ends laws fault (task.Pack count dir) size name scene behind old new h (λ next goes. goes) before later denotes ends
-task_ends laws fault (task.SetAttr path kind value) size name scene behind old new h good before later denotes ends =
-    reading_ends laws fault (task.SetAttr path kind value) size name scene behind old new h (λ next goes. goes) before later denotes ends
-task_ends laws fault (task.RmAttr path kind) size name scene behind old new h good before later denotes ends =
-    reading_ends laws fault (task.RmAttr path kind) size name scene behind old new h (λ next goes. goes) before later denotes ends
+    → EndsTask t size keep name scene behind fault → Ends size keep name t scene fault old new h
+task_ends laws fault (task.Step s) size keep name scene behind old new h good before later denotes ends =
+    step_ends laws fault s size keep name scene behind old new h good before later denotes ends
+task_ends laws fault (task.Extract dir) size keep name scene behind old new h good before later denotes ends =
+    Stored_directory h (extracted fault size keep dir scene h) (same_files size name old new h (sym later ∙ ends.0.0 ∙ before) denotes)
+task_ends laws fault (task.Pack count dir) size keep name scene behind old new h good before later denotes ends =
+    reading_ends laws fault (task.Pack count dir) size keep name scene behind old new h (λ next goes. goes) before later denotes ends
+task_ends laws fault (task.SetAttr path kind value) size keep name scene behind old new h good before later denotes ends =
+    reading_ends laws fault (task.SetAttr path kind value) size keep name scene behind old new h (λ next goes. goes) before later denotes ends
+task_ends laws fault (task.RmAttr path kind) size keep name scene behind old new h good before later denotes ends =
+    reading_ends laws fault (task.RmAttr path kind) size keep name scene behind old new h (λ next goes. goes) before later denotes ends
 
 -- ---- requests
 
@@ -416,7 +416,7 @@ GoesOrTears size name s old new h =
     IsTorn name s old new ⊎ ((next : History) × RequestGoes size s h next × FilesDenote size name new next)
 
 by_end : (size : ℕ) (name : List ℕ) (s : Served) (fault : Option Fault) (old new : Files) (h : History) → s.status ≡ status_of fault
-    → Ends size name s.request.task s.old fault old new h → GoesOrTears size name s old new h
+    → Ends size s.request.keep name s.request.task s.old fault old new h → GoesOrTears size name s old new h
 by_end size name s fault old new h status (Stored_directory next goes denotes) = inr (next, (fault, status, goes), denotes)
 by_end size name s fault old new h status (Tears four image) = inl (record { status = status ∙ four; image = image })
 
@@ -425,10 +425,11 @@ request_ends : Laws → (size : ℕ) (name : List ℕ) (s : Served) (old new : F
 request_ends laws size name s old new h denotes is =
     let fault = is.ends.0 in
     let t = s.request.task in
-    let by_size = subst (λ (n : ℕ). EndsTask t n s.request.image.now s.old s.new fault) is.size_is is.ends.1 in
-    let by_name = subst (λ (n : List ℕ). EndsTask t size n s.old s.new fault) is.name_is by_size in
+    let keep = s.request.keep in
+    let by_size = subst (λ (n : ℕ). EndsTask t n keep s.request.image.now s.old s.new fault) is.size_is is.ends.1 in
+    let by_name = subst (λ (n : List ℕ). EndsTask t size keep n s.old s.new fault) is.name_is by_size in
     by_end size name s fault old new h is.ends.2
-    (task_ends laws fault t size name s.old s.new old new h is.rows is.before is.behind denotes by_name)
+    (task_ends laws fault t size keep name s.old s.new old new h is.rows is.before is.behind denotes by_name)
 
 lead_on : Laws → RequestsLeadOn
 lead_on laws size name [] old last h denotes same = subst (λ (f : Files). FilesDenote size name f h) (sym same) denotes

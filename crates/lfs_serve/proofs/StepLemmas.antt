@@ -126,14 +126,14 @@ blames (Some CannotWrite) failed s is blamed = blamed_has_refused failed s is bl
 blames _ failed s is blamed = tt
 
 -- a step that ran on what it was handed; nothing was printed before it nor behind it
-pub step_ran : (step : Step) (size : ℕ) (name : List ℕ) (old new : Scene) (h : HandedBytes) (fault : Option Fault)
-    (before after : Option (List ℕ)) (outcome : Outcome) → IsHanded step name old h → RunsOn step size h fault before after outcome
-    → before ≡ old.printed → new.printed ≡ after → IsBlamed fault new → RunsStep step size name old new fault outcome
-step_ran step size name old new h fault before after outcome is runs first last blamed = (
+pub step_ran : (step : Step) (size : ℕ) (keep : Option ℕ) (name : List ℕ) (old new : Scene) (h : HandedBytes) (fault : Option Fault)
+    (before after : Option (List ℕ)) (outcome : Outcome) → IsHanded step name old h → RunsOn step size keep h fault before after outcome
+    → before ≡ old.printed → new.printed ≡ after → IsBlamed fault new → RunsStep step size keep name old new fault outcome
+step_ran step size keep name old new h fault before after outcome is runs first last blamed = (
   h,
   is,
-  subst (λ (p : Option (List ℕ)). RunsOn step size h fault old.printed p outcome) (sym last)
-      (subst (λ (p : Option (List ℕ)). RunsOn step size h fault p after outcome) first runs),
+  subst (λ (p : Option (List ℕ)). RunsOn step size keep h fault old.printed p outcome) (sym last)
+      (subst (λ (p : Option (List ℕ)). RunsOn step size keep h fault p after outcome) first runs),
   blamed,
 )
 
@@ -144,15 +144,15 @@ stopped_at r fault stop is same = ap stopped_by is ∙ ap Some same
 
 -- ---- how steps end
 
-ends_stopped : (step : Step) (size : ℕ) (name : List ℕ) (old new : Scene) (ended : Option Fault) (fault : Fault)
-    → ended ≡ Some fault → StopsStep step size name old new fault → EndsStep step size name old new ended
-ends_stopped step size name old new ended fault is stops = subst (EndsStep step size name old new) (sym is) stops
+ends_stopped : (step : Step) (size : ℕ) (keep : Option ℕ) (name : List ℕ) (old new : Scene) (ended : Option Fault) (fault : Fault)
+    → ended ≡ Some fault → StopsStep step size keep name old new fault → EndsStep step size keep name old new ended
+ends_stopped step size keep name old new ended fault is stops = subst (EndsStep step size keep name old new) (sym is) stops
 
 -- what isn't at hand changes nothing
-pub ends_before : (step : Step) (size : ℕ) (name : List ℕ) (old new : Scene) (ended : Option Fault) (fault : Fault)
-    → ended ≡ Some fault → IsNotAimed (kind_of step) new name fault → KeepsScene old new → EndsStep step size name old new ended
-ends_before step size name old new ended fault is not_aimed keeps =
-    ends_stopped step size name old new ended fault is (inr (inl (not_aimed, keeps)))
+pub ends_before : (step : Step) (size : ℕ) (keep : Option ℕ) (name : List ℕ) (old new : Scene) (ended : Option Fault) (fault : Fault)
+    → ended ≡ Some fault → IsNotAimed (kind_of step) new name fault → KeepsScene old new → EndsStep step size keep name old new ended
+ends_before step size keep name old new ended fault is not_aimed keeps =
+    ends_stopped step size keep name old new ended fault is (inr (inl (not_aimed, keeps)))
 
 -- what isn't read
 unread_is_of_host : (new : Scene) (fault : Fault) → IsUnread new fault → IsOfHost new fault
@@ -167,49 +167,49 @@ unread_is_not_aimed Changes new name fault unread = inl (unread_is_of_host new f
 unread_is_not_aimed Forgets new name fault unread = inl (unread_is_of_host new fault unread)
 
 -- a run that is refused changes no file
-pub ends_refused : (step : Step) (size : ℕ) (name : List ℕ) (old new : Scene) (ended : Option Fault) (fault : Fault) (outcome : Outcome)
-    → ended ≡ Some fault → RunsStep step size name old new (Some fault) outcome → new.files ≡ old.files
-    → EndsStep step size name old new ended
-ends_refused step size name old new ended fault outcome is runs same =
-    ends_stopped step size name old new ended fault is (inl (outcome, runs, same))
+pub ends_refused : (step : Step) (size : ℕ) (keep : Option ℕ) (name : List ℕ) (old new : Scene) (ended : Option Fault) (fault : Fault) (outcome : Outcome)
+    → ended ≡ Some fault → RunsStep step size keep name old new (Some fault) outcome → new.files ≡ old.files
+    → EndsStep step size keep name old new ended
+ends_refused step size keep name old new ended fault outcome is runs same =
+    ends_stopped step size keep name old new ended fault is (inl (outcome, runs, same))
 
 -- what the host refuses behind a run spares the files
-pub ends_behind : (step : Step) (size : ℕ) (name : List ℕ) (old new : Scene) (ended : Option Fault) (fault : Fault) (outcome : Outcome)
-    → ended ≡ Some fault → IsOfHost new fault → RunsStep step size name old new None outcome
-    → SparesFiles fault (kind_of step) old.files new.files name outcome → EndsStep step size name old new ended
-ends_behind step size name old new ended fault outcome is of_host runs spares =
-    ends_stopped step size name old new ended fault is (inr (inr (of_host, (outcome, runs, spares))))
+pub ends_behind : (step : Step) (size : ℕ) (keep : Option ℕ) (name : List ℕ) (old new : Scene) (ended : Option Fault) (fault : Fault) (outcome : Outcome)
+    → ended ≡ Some fault → IsOfHost new fault → RunsStep step size keep name old new None outcome
+    → SparesFiles fault (kind_of step) old.files new.files name outcome → EndsStep step size keep name old new ended
+ends_behind step size keep name old new ended fault outcome is of_host runs spares =
+    ends_stopped step size keep name old new ended fault is (inr (inr (of_host, (outcome, runs, spares))))
 
 -- ---- a step on a host with the same files, standard input and standard output
 
-runs_from : (step : Step) (size : ℕ) (name : List ℕ) (mid old new : Scene) (fault : Option Fault) (outcome : Outcome)
-    → mid.files ≡ old.files → mid.typed ≡ old.typed → mid.printed ≡ old.printed → RunsStep step size name mid new fault outcome
-    → RunsStep step size name old new fault outcome
-runs_from step size name mid old new fault outcome files typed printed (h, is, runs, blamed) = (
+runs_from : (step : Step) (size : ℕ) (keep : Option ℕ) (name : List ℕ) (mid old new : Scene) (fault : Option Fault) (outcome : Outcome)
+    → mid.files ≡ old.files → mid.typed ≡ old.typed → mid.printed ≡ old.printed → RunsStep step size keep name mid new fault outcome
+    → RunsStep step size keep name old new fault outcome
+runs_from step size keep name mid old new fault outcome files typed printed (h, is, runs, blamed) = (
   h,
   handed_from step name mid old h files typed is,
-  subst (λ (p : Option (List ℕ)). RunsOn step size h fault p new.printed outcome) printed runs,
+  subst (λ (p : Option (List ℕ)). RunsOn step size keep h fault p new.printed outcome) printed runs,
   blamed,
 )
 
-pub step_from : (step : Step) (size : ℕ) (name : List ℕ) (mid old new : Scene) (ended : Option Fault)
-    → mid.files ≡ old.files → mid.typed ≡ old.typed → mid.printed ≡ old.printed → EndsStep step size name mid new ended
-    → EndsStep step size name old new ended
-step_from step size name mid old new None files typed printed (outcome, runs, leaves) = (
+pub step_from : (step : Step) (size : ℕ) (keep : Option ℕ) (name : List ℕ) (mid old new : Scene) (ended : Option Fault)
+    → mid.files ≡ old.files → mid.typed ≡ old.typed → mid.printed ≡ old.printed → EndsStep step size keep name mid new ended
+    → EndsStep step size keep name old new ended
+step_from step size keep name mid old new None files typed printed (outcome, runs, leaves) = (
   outcome,
-  runs_from step size name mid old new None outcome files typed printed runs,
+  runs_from step size keep name mid old new None outcome files typed printed runs,
   subst (λ (f : Option Files). LeavesFiles (kind_of step) f new.files name outcome) files leaves,
 )
-step_from step size name mid old new (Some fault) files typed printed (inl (outcome, runs, same)) =
-    inl (outcome, runs_from step size name mid old new (Some fault) outcome files typed printed runs, same ∙ files)
-step_from step size name mid old new (Some fault) files typed printed (inr (inl (not_aimed, keeps))) =
+step_from step size keep name mid old new (Some fault) files typed printed (inl (outcome, runs, same)) =
+    inl (outcome, runs_from step size keep name mid old new (Some fault) outcome files typed printed runs, same ∙ files)
+step_from step size keep name mid old new (Some fault) files typed printed (inr (inl (not_aimed, keeps))) =
     inr (inl (not_aimed, (keeps.0 ∙ files, keeps.1 ∙ printed)))
-step_from step size name mid old new (Some fault) files typed printed (inr (inr (of_host, (outcome, runs, spares)))) =
+step_from step size keep name mid old new (Some fault) files typed printed (inr (inr (of_host, (outcome, runs, spares)))) =
     inr (inr (
       of_host,
       (
         outcome,
-        runs_from step size name mid old new None outcome files typed printed runs,
+        runs_from step size keep name mid old new None outcome files typed printed runs,
         subst (λ (f : Option Files). SparesFiles fault (kind_of step) f new.files name outcome) files spares,
       ),
     ))

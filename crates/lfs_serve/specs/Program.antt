@@ -26,9 +26,9 @@ use Rattle.lfs_request.specs.Asking.{AsksFor, NamesNoStep}
 abbrev pub Runs : Deed → Given → Option Fault → Option (List ℕ) → Option (List ℕ) → Outcome → Type 0
 Runs deed g fault old new outcome = Answers deed g outcome × (outcome.fault ≡ fault) × SendsText deed g fault old new
 
--- the same of a step that was handed these bytes
-abbrev pub RunsOn : Step → ℕ → HandedBytes → Option Fault → Option (List ℕ) → Option (List ℕ) → Outcome → Type 0
-RunsOn step size h fault old new outcome = Runs (deed_of step h.input) (given size h.image h.journal) fault old new outcome
+-- the same of a step that was handed these bytes, behind which so many images of the past are kept
+abbrev pub RunsOn : Step → ℕ → Option ℕ → HandedBytes → Option Fault → Option (List ℕ) → Option (List ℕ) → Outcome → Type 0
+RunsOn step size keep h fault old new outcome = Runs (deed_of step h.input keep) (given size h.image h.journal) fault old new outcome
 
 -- standard output is blamed only where the host has refused something
 abbrev pub IsBlamed : Option Fault → Scene → Type 0
@@ -36,24 +36,24 @@ IsBlamed (Some CannotWrite) s = HasRefused s
 IsBlamed _ s = ⊤
 
 -- the same of a step that was handed what is known of the host
-abbrev pub RunsStep : Step → ℕ → List ℕ → Scene → Scene → Option Fault → Outcome → Type 0
-RunsStep step size name old new fault outcome =
-    (h : HandedBytes) × IsHanded step name old h × RunsOn step size h fault old.printed new.printed outcome × IsBlamed fault new
+abbrev pub RunsStep : Step → ℕ → Option ℕ → List ℕ → Scene → Scene → Option Fault → Outcome → Type 0
+RunsStep step size keep name old new fault outcome =
+    (h : HandedBytes) × IsHanded step name old h × RunsOn step size keep h fault old.printed new.printed outcome × IsBlamed fault new
 
 -- why a step wasn't done: `run` refused it, or the host something before it was run, or behind that
-abbrev pub StopsStep : Step → ℕ → List ℕ → Scene → Scene → Fault → Type 0
-StopsStep step size name old new fault =
-    ((outcome : Outcome) × RunsStep step size name old new (Some fault) outcome × (new.files ≡ old.files))
+abbrev pub StopsStep : Step → ℕ → Option ℕ → List ℕ → Scene → Scene → Fault → Type 0
+StopsStep step size keep name old new fault =
+    ((outcome : Outcome) × RunsStep step size keep name old new (Some fault) outcome × (new.files ≡ old.files))
     ⊎ (IsNotAimed (kind_of step) new name fault × KeepsScene old new)
     ⊎ (IsOfHost new fault × ((outcome : Outcome)
-    × RunsStep step size name old new None outcome × SparesFiles fault (kind_of step) old.files new.files name outcome))
+    × RunsStep step size keep name old new None outcome × SparesFiles fault (kind_of step) old.files new.files name outcome))
 
 -- how a step on an image's file ends: done, and the files have the bytes of the outcome; or with a fault
-abbrev pub EndsStep : Step → ℕ → List ℕ → Scene → Scene → Option Fault → Type 0
-EndsStep step size name old new None =
-    (outcome : Outcome) × RunsStep step size name old new None outcome
+abbrev pub EndsStep : Step → ℕ → Option ℕ → List ℕ → Scene → Scene → Option Fault → Type 0
+EndsStep step size keep name old new None =
+    (outcome : Outcome) × RunsStep step size keep name old new None outcome
     × LeavesFiles (kind_of step) old.files new.files name outcome
-EndsStep step size name old new (Some fault) = StopsStep step size name old new fault
+EndsStep step size keep name old new (Some fault) = StopsStep step size keep name old new fault
 
 -- the step that a task becomes, with the rows of the folder that it packs
 abbrev pub BecomesStep : Task → Option HostTree → Step → Type 0
@@ -65,16 +65,16 @@ BecomesNoStep (Pack count dir) tree new why = ReadsNoFolder tree dir.now new why
 BecomesNoStep task tree new why = NamesNoStep task why
 
 -- how a task ends for which something is read first: as the step that it becomes, or with a fault since it becomes none
-abbrev pub EndsReading : Task → ℕ → List ℕ → Scene → Scene → Option Fault → Type 0
-EndsReading task size name old new fault =
-    ((step : Step) × BecomesStep task old.tree step × EndsStep step size name old new fault)
+abbrev pub EndsReading : Task → ℕ → Option ℕ → List ℕ → Scene → Scene → Option Fault → Type 0
+EndsReading task size keep name old new fault =
+    ((step : Step) × BecomesStep task old.tree step × EndsStep step size keep name old new fault)
     ⊎ (KeepsScene old new × ((why : Fault) × (fault ≡ Some why) × BecomesNoStep task old.tree new why))
 
 -- how a task on an image's file ends: as the step that its words say, as a folder that is made, or by what is read first
-abbrev pub EndsTask : Task → ℕ → List ℕ → Scene → Scene → Option Fault → Type 0
-EndsTask (task.Step step) size name old new fault = EndsStep step size name old new fault
-EndsTask (Extract dir) size name old new fault = EndsExtract size name dir.now old new fault
-EndsTask task size name old new fault = EndsReading task size name old new fault
+abbrev pub EndsTask : Task → ℕ → Option ℕ → List ℕ → Scene → Scene → Option Fault → Type 0
+EndsTask (task.Step step) size keep name old new fault = EndsStep step size keep name old new fault
+EndsTask (Extract dir) size keep name old new fault = EndsExtract size name dir.now old new fault
+EndsTask task size keep name old new fault = EndsReading task size keep name old new fault
 
 -- the fault that a run stopped with, if any
 abbrev pub stopped_by : {T : Type 0} → Result T Stop → Option Fault
@@ -84,4 +84,4 @@ stopped_by (Err stop) = Some stop.fault
 -- how a request ends: as its task
 abbrev pub EndsRequest : Request → Scene → Scene → ℕ → Type 0
 EndsRequest request old new status =
-    (fault : Option Fault) × EndsTask request.task request.size request.image.now old new fault × (status ≡ status_of fault)
+    (fault : Option Fault) × EndsTask request.task request.size request.keep request.image.now old new fault × (status ≡ status_of fault)

@@ -33,7 +33,7 @@ pub record Served : Type 0 where
 
 -- rows that a step has say what is packed, as it is taken; those of a folder always do
 abbrev pub SaysGoodRows : Task → Type 0
-SaysGoodRows (task.Step step) = HasGoodRows (deed_of step [])
+SaysGoodRows (task.Step step) = HasGoodRows (deed_of step [] None)
 SaysGoodRows _ = Unit {0}
 
 -- it was one on the image of this name, with blocks of this size, and it ended as it does, on files that are known
@@ -53,24 +53,24 @@ AreServed size name (s ∷ ss) old new = (mid : Files) × IsServedOn size name s
 -- ---- where they lead
 
 -- where a step leads that was done, with what it was handed of standard input
-abbrev pub StepGoes : ℕ → Step → Option (List ℕ) → History → History → Type 0
-StepGoes size step typed old new = (input : List ℕ) × HandsInput step typed input × GoesOn size (deed_of step input) old new
+abbrev pub StepGoes : ℕ → Option ℕ → Step → Option (List ℕ) → History → History → Type 0
+StepGoes size keep step typed old new = (input : List ℕ) × HandsInput step typed input × GoesOn size (deed_of step input keep) old new
 
 -- where a task leads that was done: as the step that it says, or that it becomes; a folder that is made leaves the history
-abbrev pub TaskGoes : ℕ → Task → Scene → History → History → Type 0
-TaskGoes size (task.Step step) s old new = StepGoes size step s.typed old new
-TaskGoes size (Extract dir) s old new = new ≡ old
-TaskGoes size t s old new = (step : Step) × BecomesStep t s.tree step × StepGoes size step s.typed old new
+abbrev pub TaskGoes : ℕ → Option ℕ → Task → Scene → History → History → Type 0
+TaskGoes size keep (task.Step step) s old new = StepGoes size keep step s.typed old new
+TaskGoes size keep (Extract dir) s old new = new ≡ old
+TaskGoes size keep t s old new = (step : Step) × BecomesStep t s.tree step × StepGoes size keep step s.typed old new
 
 -- one that wasn't done leaves the history
-abbrev pub TaskGoesBy : Option Fault → ℕ → Task → Scene → History → History → Type 0
-TaskGoesBy None size t s old new = TaskGoes size t s old new
-TaskGoesBy (Some fault) size t s old new = new ≡ old
+abbrev pub TaskGoesBy : Option Fault → ℕ → Option ℕ → Task → Scene → History → History → Type 0
+TaskGoesBy None size keep t s old new = TaskGoes size keep t s old new
+TaskGoesBy (Some fault) size keep t s old new = new ≡ old
 
 -- where a request leads, by the fault that its status tells
 abbrev pub RequestGoes : ℕ → Served → History → History → Type 0
 RequestGoes size s old new =
-    (fault : Option Fault) × (s.status ≡ status_of fault) × TaskGoesBy fault size s.request.task s.old old new
+    (fault : Option Fault) × (s.status ≡ status_of fault) × TaskGoesBy fault size s.request.keep s.request.task s.old old new
 
 -- The host refused the new image its place, where the new journal had got its own: the image is the one that was there. The next
 -- request is told so, and `forget` keeps that image.

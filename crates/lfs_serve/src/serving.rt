@@ -2,6 +2,7 @@
 
 ghost use Rattle.std.specs.Prelude.{◌≡◌, Some, IfOk};
 ghost use Rattle.lfs_request.specs.declared.task.Task.TheVariants.{Pack, SetAttr, RmAttr};
+ghost use Rattle.lfs_history.specs.Taking.{MayKeep};
 ghost use Rattle.lfs_step.specs.Deed.{deed_of};
 ghost use Rattle.lfs_change.specs.Fault.{status_of};
 ghost use Rattle.lfs_step.specs.Outcome.{Answers, SendsText, given};
@@ -18,11 +19,12 @@ use lfs_request::{Request, Task, byte_of, bytes_of};
 use lfs_step::{Fault, Outcome, Step, run};
 use std::alloc::Global;
 
-/// Does what is asked for, and answers the status that the program ends with. A fault is told on standard error, with
-/// what is known of it beside. Takes memory.
+/// Does what is asked for, and answers the status that the program ends with. The caller owes that what is kept is 1 to 1,000 images.
+/// A fault is told on standard error, with what is known of it beside. Takes memory.
 ///
 /// Source: own.
 pub fn served<H: Host>(alloc: Global, host: &mut H, request: &Request<'_>) -> u8
+    requires { MayKeep request.now.keep }
     ensures ended { EndsRequest request.now (H.known host.old) (H.known host.new) result }
 {
     match done(alloc, host, request) {
@@ -54,7 +56,8 @@ fn tell_of<H: Host>(host: &mut H, request: &Request<'_>, stop: &Stop) -> u8
 
 /// Does the task that is asked for.
 fn done<H: Host>(alloc: Global, host: &mut H, request: &Request<'_>) -> Result<(), Stop>
-    ensures ended { EndsTask request.now.task request.now.size request.now.image.now
+    requires { MayKeep request.now.keep }
+    ensures ended { EndsTask request.now.task request.now.size request.now.keep request.now.image.now
         (H.known host.old) (H.known host.new) (stopped_by result) }
 {
     match request.task {
@@ -74,7 +77,8 @@ fn packed<H: Host>(
     count: u32,
     dir: &str,
 ) -> Result<(), Stop>
-    ensures ended { EndsTask (Pack count dir.entry) request.now.size request.now.image.now
+    requires { MayKeep request.now.keep }
+    ensures ended { EndsTask (Pack count dir.entry) request.now.size request.now.keep request.now.image.now
         (H.known host.old) (H.known host.new) (stopped_by result) }
 {
     let folder = folder_of(alloc, host, dir)?;
@@ -92,7 +96,8 @@ fn set<H: Host>(
     kind: &str,
     value: &str,
 ) -> Result<(), Stop>
-    ensures ended { EndsTask (SetAttr path.entry kind.entry value.entry) request.now.size request.now.image.now
+    requires { MayKeep request.now.keep }
+    ensures ended { EndsTask (SetAttr path.entry kind.entry value.entry) request.now.size request.now.keep request.now.image.now
         (H.known host.old) (H.known host.new) (stopped_by result) }
 {
     let value = bytes_of(alloc, value)?;
@@ -109,7 +114,8 @@ fn cleared<H: Host>(
     path: &[u8],
     kind: &str,
 ) -> Result<(), Stop>
-    ensures ended { EndsTask (RmAttr path.entry kind.entry) request.now.size request.now.image.now
+    requires { MayKeep request.now.keep }
+    ensures ended { EndsTask (RmAttr path.entry kind.entry) request.now.size request.now.keep request.now.image.now
         (H.known host.old) (H.known host.new) (stopped_by result) }
 {
     let kind = byte_of(kind)?;
@@ -123,20 +129,29 @@ fn stepped<H: Host>(
     request: &Request<'_>,
     step: &Step<'_>,
 ) -> Result<(), Stop>
-    ensures ended { EndsStep step.now request.now.size request.now.image.now
+    requires { MayKeep request.now.keep }
+    ensures ended { EndsStep step.now request.now.size request.now.keep request.now.image.now
         (H.known host.old) (H.known host.new) (stopped_by result) }
 {
     let kind = kind_of(step);
     let target = aimed(alloc, host, kind, request.image)?;
     let handed = hand_over(alloc, host, step, target.as_str())?;
-    let outcome = taken(alloc, host, request.size, step, handed)?;
+    let outcome = taken(alloc, host, request.size, request.keep, step, handed)?;
     Ok(stored(alloc, host, kind, target.as_str(), &outcome)?)
 }
 
 /// Runs a step on what it is handed.
-fn ran<H: Host>(alloc: Global, host: &mut H, size: u32, step: &Step<'_>, handed: Handed) -> Outcome
-    ensures answers { Answers (deed_of step.now handed.input.items) (given size handed.image.items handed.journal.items) result }
-    ensures sent { SendsText (deed_of step.now handed.input.items) (given size handed.image.items handed.journal.items) result.fault (H.known host.old).printed (H.known host.new).printed }
+fn ran<H: Host>(
+    alloc: Global,
+    host: &mut H,
+    size: u32,
+    keep: Option<u32>,
+    step: &Step<'_>,
+    handed: Handed,
+) -> Outcome
+    requires { MayKeep keep }
+    ensures answers { Answers (deed_of step.now handed.input.items keep) (given size handed.image.items handed.journal.items) result }
+    ensures sent { SendsText (deed_of step.now handed.input.items keep) (given size handed.image.items handed.journal.items) result.fault (H.known host.old).printed (H.known host.new).printed }
     ensures blamed { IsBlamed result.fault (H.known host.new) }
     ensures kept { ((H.known host.new).files ≡ (H.known host.old).files) × ((H.known host.new).typed ≡ (H.known host.old).typed) }
 {
@@ -146,7 +161,16 @@ fn ran<H: Host>(alloc: Global, host: &mut H, size: u32, step: &Step<'_>, handed:
         input,
     } = handed;
     let out = &mut Output::new(host);
-    run(alloc, step, size, image, journal, input.as_slice(), out)
+    run(
+        alloc,
+        step,
+        size,
+        image,
+        journal,
+        input.as_slice(),
+        keep,
+        out,
+    )
 }
 
 /// Takes a step on what it is handed, and answers what it leaves.
@@ -154,15 +178,17 @@ fn taken<H: Host>(
     alloc: Global,
     host: &mut H,
     size: u32,
+    keep: Option<u32>,
     step: &Step<'_>,
     handed: Handed,
 ) -> Result<Outcome, Stop>
-    ensures ran { (outcome : Outcome) × RunsOn step.now size (record { image = handed.image.items; journal = handed.journal.items; input = handed.input.items })
+    requires { MayKeep keep }
+    ensures ran { (outcome : Outcome) × RunsOn step.now size keep (record { image = handed.image.items; journal = handed.journal.items; input = handed.input.items })
         (stopped_by result) (H.known host.old).printed (H.known host.new).printed outcome × IfOk result (λ left. left ≡ outcome) }
     ensures blamed { IsBlamed (stopped_by result) (H.known host.new) }
     ensures kept { ((H.known host.new).files ≡ (H.known host.old).files) × ((H.known host.new).typed ≡ (H.known host.old).typed) }
 {
-    let outcome = ran(alloc, host, size, step, handed);
+    let outcome = ran(alloc, host, size, keep, step, handed);
     match outcome.fault {
         None => Ok(outcome),
         Some(fault) => Err(Stop {

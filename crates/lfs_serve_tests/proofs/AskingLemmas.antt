@@ -21,27 +21,27 @@ all_spared : (fault : Fault) (old new : Option Files) (name : List ℕ) (o : Out
 all_spared (Refused refusal) old new name o same = same
 all_spared _ old new name o same = same
 
-step_keeps : (fault : Option Fault) (step : Step) (size : ℕ) (name : List ℕ) (old new : Scene) → kind_of step ≡ Asks
-    → EndsStep step size name old new fault → new.files ≡ old.files
-step_keeps None step size name old new asks (o, runs, leaves) =
+step_keeps : (fault : Option Fault) (step : Step) (size : ℕ) (keep : Option ℕ) (name : List ℕ) (old new : Scene) → kind_of step ≡ Asks
+    → EndsStep step size keep name old new fault → new.files ≡ old.files
+step_keeps None step size keep name old new asks (o, runs, leaves) =
     subst (λ (kind : StepKind). LeavesFiles kind old.files new.files name o) asks leaves
-step_keeps (Some fault) step size name old new asks (inl (o, runs, same)) = same
-step_keeps (Some fault) step size name old new asks (inr (inl (of_host, keeps))) = keeps.0
-step_keeps (Some fault) step size name old new asks (inr (inr (of_host, (o, runs, spares)))) =
+step_keeps (Some fault) step size keep name old new asks (inl (o, runs, same)) = same
+step_keeps (Some fault) step size keep name old new asks (inr (inl (of_host, keeps))) = keeps.0
+step_keeps (Some fault) step size keep name old new asks (inr (inr (of_host, (o, runs, spares)))) =
     all_spared fault old.files new.files name o
     (subst (λ (kind : StepKind). SparesFiles fault kind old.files new.files name o) asks spares)
 
-task_keeps : (fault : Option Fault) (t : Task) (size : ℕ) (name : List ℕ) (old new : Scene) → OnlyAsks t
-    → EndsTask t size name old new fault → new.files ≡ old.files
-task_keeps fault (task.Step step) size name old new asks ends = step_keeps fault step size name old new asks ends
-task_keeps fault (task.Extract dir) size name old new asks ends = ends.0.0
-task_keeps fault _ size name old new only ends = absurd only
+task_keeps : (fault : Option Fault) (t : Task) (size : ℕ) (keep : Option ℕ) (name : List ℕ) (old new : Scene) → OnlyAsks t
+    → EndsTask t size keep name old new fault → new.files ≡ old.files
+task_keeps fault (task.Step step) size keep name old new asks ends = step_keeps fault step size keep name old new asks ends
+task_keeps fault (task.Extract dir) size keep name old new asks ends = ends.0.0
+task_keeps fault _ size keep name old new only ends = absurd only
 
 -- a request that asks changes no file
 pub asking_keeps : (request : Request) (old new : Scene) (status : ℕ) → OnlyAsks request.task → EndsRequest request old new status
     → new.files ≡ old.files
 asking_keeps request old new status only (fault, ends, told) =
-    task_keeps fault request.task request.size request.image.now old new only ends
+    task_keeps fault request.task request.size request.keep request.image.now old new only ends
 
 -- what is there is there alike
 pub some_same : {X : Type 0} (x y : X) → Some x ≡ Some y → x ≡ y

@@ -65,6 +65,7 @@ fn an_old_image_with_a_new_journal_is_kept(rt: HostRuntime) -> Result<(), Fail> 
     let check = Request {
         task: Task::Step(Step::Check),
         size: 512,
+        keep: None,
         image: IMAGE,
     };
     host.printed.clear();

@@ -64,6 +64,7 @@ pub(crate) fn ends(
     let request = Request {
         task: Task::Step(*step),
         size: 512,
+        keep: None,
         image: IMAGE,
     };
     let status = served(alloc, host, &request);

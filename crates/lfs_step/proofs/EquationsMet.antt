@@ -1,9 +1,9 @@
 -- What steps that aren't refused make of the image and of the journal.
-use Rattle.std.proofs.Common.{◌≡◌, Option, None, subst}
+use Rattle.std.proofs.Common.{◌≡◌, Option, None, Some, subst}
 use Rattle.lfs_history.specs.Taking.{Do, Undo, Redo, Forget}
 use Rattle.lfs_change.specs.declared.fault.Fault.{Fault}
 use Rattle.lfs_change.specs.declared.outcome.Outcome.{Outcome}
-use Rattle.lfs_change.specs.Laws.{ChangedBytesAreEquations, JournalsOfBytesGrowByTheNeed}
+use Rattle.lfs_change.specs.Laws.{ChangedBytesAreEquations, JournalsOfBytesGrowByTheNeed, JournalsOfBytesGrowOnTheKept}
 use Rattle.lfs_step.specs.Deed.{Deed, Make, Pack, Ask, Change}
 use Rattle.lfs_step.specs.Equations.{KeepsEquations, KeepsNeeds, MeetsEquation, MeetsNeed}
 use Rattle.lfs_step.specs.Outcome.{Answers, AnswersBy, AnswersDone, Given}
@@ -14,8 +14,8 @@ done deed g outcome answers none = subst (λ (f : Option Fault). AnswersBy f dee
 
 meets_equation : ChangedBytesAreEquations → (deed : Deed) (g : Given) (outcome : Outcome) → AnswersDone deed g outcome
     → MeetsEquation deed g outcome
-meets_equation law (Change (Do asked)) g outcome changes =
-    λ v tree holds mounts. law asked g.size g.image g.journal outcome v tree changes holds mounts
+meets_equation law (Change (Do asked keep)) g outcome changes =
+    λ v tree holds mounts. law asked keep g.size g.image g.journal outcome v tree changes holds mounts
 meets_equation law (Change Undo) g outcome changes = tt
 meets_equation law (Change Redo) g outcome changes = tt
 meets_equation law (Change Forget) g outcome changes = tt
@@ -27,16 +27,18 @@ pub keeps_equations : ChangedBytesAreEquations → (deed : Deed) (g : Given) (ou
     → KeepsEquations deed g outcome
 keeps_equations law deed g outcome answers none = meets_equation law deed g outcome (done deed g outcome answers none)
 
-meets_need : JournalsOfBytesGrowByTheNeed → (deed : Deed) (g : Given) (outcome : Outcome) → AnswersDone deed g outcome
-    → MeetsNeed deed g outcome
-meets_need law (Change (Do asked)) g outcome changes = law asked g.size g.image g.journal outcome changes
-meets_need law (Change Undo) g outcome changes = tt
-meets_need law (Change Redo) g outcome changes = tt
-meets_need law (Change Forget) g outcome changes = tt
-meets_need law (Make count) g outcome answers = tt
-meets_need law (Pack count rows) g outcome answers = tt
-meets_need law (Ask query) g outcome answers = tt
+meets_need : JournalsOfBytesGrowByTheNeed → JournalsOfBytesGrowOnTheKept → (deed : Deed) (g : Given) (outcome : Outcome)
+    → AnswersDone deed g outcome → MeetsNeed deed g outcome
+meets_need law kept (Change (Do asked None)) g outcome changes = law asked None g.size g.image g.journal outcome changes
+meets_need law kept (Change (Do asked (Some keep))) g outcome changes =
+    (law asked (Some keep) g.size g.image g.journal outcome changes, kept asked (Some keep) g.size g.image g.journal outcome changes)
+meets_need law kept (Change Undo) g outcome changes = tt
+meets_need law kept (Change Redo) g outcome changes = tt
+meets_need law kept (Change Forget) g outcome changes = tt
+meets_need law kept (Make count) g outcome answers = tt
+meets_need law kept (Pack count rows) g outcome answers = tt
+meets_need law kept (Ask query) g outcome answers = tt
 
-pub keeps_needs : JournalsOfBytesGrowByTheNeed → (deed : Deed) (g : Given) (outcome : Outcome) → Answers deed g outcome
-    → KeepsNeeds deed g outcome
-keeps_needs law deed g outcome answers none = meets_need law deed g outcome (done deed g outcome answers none)
+pub keeps_needs : JournalsOfBytesGrowByTheNeed → JournalsOfBytesGrowOnTheKept → (deed : Deed) (g : Given) (outcome : Outcome)
+    → Answers deed g outcome → KeepsNeeds deed g outcome
+keeps_needs law kept deed g outcome answers none = meets_need law kept deed g outcome (done deed g outcome answers none)

@@ -1,3 +1,4 @@
+pub mod DeedLemmas
 pub mod OutcomeLemmas
 pub mod ListingLemmas
 pub mod HistoriesLeft

@@ -1,5 +1,5 @@
 -- What a step does with an image (own).
-use Rattle.std.specs.Prelude.{ℕ, List}
+use Rattle.std.specs.Prelude.{ℕ, List, Option}
 use Rattle.lfs_command.specs.Command as asked
 use Rattle.lfs_history.specs.Meaning.{step_of}
 use Rattle.lfs_history.specs.Taking as change
@@ -21,23 +21,23 @@ pub data Deed : Type 0 where
   Ask : (query : Query) → Deed
   Change : (step : change.Move) → Deed
 
--- what a step does, with what it reads
-abbrev pub deed_of : Step → List ℕ → Deed
-deed_of (Format count) input = Make count
-deed_of (step.Pack count rows) input = Pack count rows.now
-deed_of Check input = Ask query.Check
-deed_of Ls input = Ask query.Ls
-deed_of (Cat path) input = Ask (query.Cat path)
-deed_of (Mkdir path) input = Change (Do (asked.Mkdir path.now))
-deed_of (Put path) input = Change (Do (asked.Put path.now input))
-deed_of (Rm path) input = Change (Do (asked.Rm path.now))
-deed_of (Mv from to) input = Change (Do (asked.Mv from.now to.now))
-deed_of (SetAttr path kind value) input = Change (Do (asked.SetAttr path.now kind value.now))
-deed_of (RmAttr path kind) input = Change (Do (asked.RmAttr path.now kind))
-deed_of (Grow count) input = Change (Do (asked.Grow count))
-deed_of Undo input = Change change.Undo
-deed_of Redo input = Change change.Redo
-deed_of Forget input = Change change.Forget
+-- what a step does, with what it reads, and with how many images of the past are kept behind a command
+abbrev pub deed_of : Step → List ℕ → Option ℕ → Deed
+deed_of (Format count) input keep = Make count
+deed_of (step.Pack count rows) input keep = Pack count rows.now
+deed_of Check input keep = Ask query.Check
+deed_of Ls input keep = Ask query.Ls
+deed_of (Cat path) input keep = Ask (query.Cat path)
+deed_of (Mkdir path) input keep = Change (Do (asked.Mkdir path.now) keep)
+deed_of (Put path) input keep = Change (Do (asked.Put path.now input) keep)
+deed_of (Rm path) input keep = Change (Do (asked.Rm path.now) keep)
+deed_of (Mv from to) input keep = Change (Do (asked.Mv from.now to.now) keep)
+deed_of (SetAttr path kind value) input keep = Change (Do (asked.SetAttr path.now kind value.now) keep)
+deed_of (RmAttr path kind) input keep = Change (Do (asked.RmAttr path.now kind) keep)
+deed_of (Grow count) input keep = Change (Do (asked.Grow count) keep)
+deed_of Undo input keep = Change change.Undo
+deed_of Redo input keep = Change change.Redo
+deed_of Forget input keep = Change change.Forget
 
 -- what the code's value stands for
 abbrev pub deed_held : Written → Deed

@@ -32,11 +32,12 @@ pub enum Deed<'a> {
     Change(Move<'a>),
 }
 
-/// What a step does with an image, `input` being what it reads: the contents of a file that is put. Takes no memory.
+/// What a step does with an image, `input` being what it reads: the contents of a file that is put. Behind a command `keep` images of
+/// the past are kept, or all of them. Takes no memory.
 ///
 /// Source: own.
-pub fn deed_of<'a>(step: &Step<'a>, input: &'a [u8]) -> Deed<'a>
-    ensures { deed_held result ≡ deed_of step.now input.now }
+pub fn deed_of<'a>(step: &Step<'a>, input: &'a [u8], keep: Option<u32>) -> Deed<'a>
+    ensures { deed_held result ≡ deed_of step.now input.now keep }
 {
     let command = match *step {
         Step::Format { count } => return Deed::Make { count },
@@ -55,5 +56,5 @@ pub fn deed_of<'a>(step: &Step<'a>, input: &'a [u8]) -> Deed<'a>
         Step::RmAttr { path, kind } => Command::RmAttr { path, kind },
         Step::Grow { count } => Command::Grow { count },
     };
-    Deed::Change(Move::Do(command))
+    Deed::Change(Move::Do { command, keep })
 }

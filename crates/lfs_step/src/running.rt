@@ -5,6 +5,7 @@ ghost use Rattle.lfs_block.specs.Geometry.{IsGeometry};
 ghost use Rattle.lfs_book.specs.Book.{book_of, journal_bytes};
 ghost use Rattle.lfs_command.specs.declared.refusal.Refusal.TheVariants.{Memory};
 ghost use Rattle.lfs_edit.specs.Formatted.{IsFormatted};
+ghost use Rattle.lfs_history.specs.Taking.{MayKeep};
 ghost use Rattle.lfs_change.specs.Fault.{blames_output, status_of};
 ghost use Rattle.lfs_change.specs.declared.fault.Fault.TheVariants.{Refused};
 ghost use Rattle.lfs_step.specs.Equations.{KeepsEquations, KeepsNeeds};
@@ -33,9 +34,10 @@ use std::alloc::Global;
 /// fault the image and the journal are those that were handed in, and nothing goes out but where `out` itself failed.
 /// An empty journal is that of an image that nothing was done to. A step that changes the image is one on the history
 /// that image and journal denote, and answers those of the history that it leaves; a new image gets a journal without
-/// changes. Queries and new images read no journal, and forgetting none either. A step that is done leaves an image and a journal
-/// that denote the history to which it leads; a command, an image that mounts to the command's equation, and a journal that has
-/// grown by no more than the command's need. Takes memory.
+/// changes. Queries and new images read no journal, and forgetting none either. Behind a command `keep` images of the past are kept,
+/// or all of them; the caller owes that it is 1 to 1,000, and other steps don't look at it. A step that is done leaves an image and a
+/// journal that denote the history to which it leads; a command, an image that mounts to the command's equation, and a journal that
+/// has grown by no more than the command's need. Takes memory.
 ///
 /// Source: own.
 pub fn run<S: Sink>(
@@ -45,14 +47,16 @@ pub fn run<S: Sink>(
     image: Vec<u8>,
     journal: Vec<u8>,
     input: &[u8],
+    keep: Option<u32>,
     out: &mut S,
 ) -> Outcome
-    requires { S.failed out.old ≡ false }
-    ensures answers { Answers (deed_of step.now input.now) (given size image.items journal.items) result }
-    ensures history { KeepsHistories (deed_of step.now input.now) (given size image.items journal.items) result }
-    ensures equation { KeepsEquations (deed_of step.now input.now) (given size image.items journal.items) result }
-    ensures growth { KeepsNeeds (deed_of step.now input.now) (given size image.items journal.items) result }
-    ensures sent { SendsText (deed_of step.now input.now) (given size image.items journal.items) result.fault (S.sent out.old) (S.sent out.new) }
+    requires works { S.failed out.old ≡ false }
+    requires keep { MayKeep keep }
+    ensures answers { Answers (deed_of step.now input.now keep) (given size image.items journal.items) result }
+    ensures history { KeepsHistories (deed_of step.now input.now keep) (given size image.items journal.items) result }
+    ensures equation { KeepsEquations (deed_of step.now input.now keep) (given size image.items journal.items) result }
+    ensures growth { KeepsNeeds (deed_of step.now input.now keep) (given size image.items journal.items) result }
+    ensures sent { SendsText (deed_of step.now input.now keep) (given size image.items journal.items) result.fault (S.sent out.old) (S.sent out.new) }
     ensures failed { S.failed out.new ≡ blames_output result.fault }
     ensures kept { S.kept out.new ≡ S.kept out.old }
     ensures status { result.status ≡ status_of result.fault }
@@ -60,7 +64,7 @@ pub fn run<S: Sink>(
     changed_bytes_are_equations();
     journals_of_bytes_grow_by_the_need();
     steps_leave_histories();
-    match deed_of(step, input) {
+    match deed_of(step, input, keep) {
         Deed::Make { count } => formatted(alloc, size, count, image, journal),
         Deed::Pack { count, rows } => packed(alloc, size, count, rows, image, journal),
         Deed::Ask(query) => queried(alloc, &query, size, image, journal, out),

@@ -1,21 +1,27 @@
 -- What is read of an argument that is said.
-use Rattle.std.proofs.Common.{◌≡◌, ◌∙◌, ℕ, Option, Some, None, sym, ap, subst, refl}
-use Rattle.std.specs.Prelude.{IfSome, IsNone, Ok, Result, option_map, pos}
+use Rattle.std.proofs.Common.{◌≡◌, ◌≤◌, ◌∙◌, ℕ, List, Option, Some, None, sym, ap, subst, refl, true, inl, inr, codes, arith}
+use Rattle.std.specs.Prelude.{IfSome, IsNone, Ok, Result, option_map, pos, unwrap_or}
+use Rattle.std.proofs.lemmas.Option.{none-some}
 use Rattle.std.specs.Borrow.{Bor}
 use Rattle.std.specs.Str.Parse.{ParsesUnsigned}
 use Rattle.clap.specs.Lexer.{without_minus}
 use Rattle.clap.specs.Matches.{ReadsOne, first_value, one_text}
 use Rattle.clap.specs.Values.{Accepts, IsSignedIn, read_as, reading_of}
 use Rattle.clap.specs.Facts.{parser_of_value}
-use Rattle.clap.specs.Walk.{Rule, Text, first_of, one_of, rows_of}
+use Rattle.clap.specs.Walk.{Row, Rule, Text, first_of, one_of, rows_of}
 use Rattle.clap.specs.declared.parser.matches.Found.{Found}
 use Rattle.clap.specs.declared.builder.value_parser.ValueParser.{ValueParser}
 use Rattle.clap.specs.declared.builder.value_parser.ValueParser.TheVariants.{Signed}
 use Rattle.clap.proofs.CallerReads.{signed_reads}
 use Rattle.clap.proofs.ValueTestLemmas.{accepts-Accepts}
 use Rattle.clap.proofs.WalkLemmas.{first_value-rows, one_text-rows}
-use Rattle.lfs_grammar.specs.Grammar.{IsNumber, IsSaid}
-use Rattle.lfs_words.specs.Words.{HasNumber, HasText}
+use Rattle.lfs_grammar.specs.Grammar.{IsNumber, IsSaid, NamesCommand, is_change, keep}
+use Rattle.lfs_grammar.proofs.CommandLemmas.{keep_says}
+use Rattle.lfs_history.specs.Taking.{MayKeep}
+use Rattle.lfs_words.specs.Words.{HasNumber, HasText, IsKept}
+
+some_is : {X : Type 0} (x y : X) → Some x ≡ Some y → x ≡ y
+some_is {X} x y same = ap (λ (o : Option X). unwrap_or o x) same
 
 none_is : {X : Type 0} (r : Option X) → IsNone r → r ≡ None
 none_is None none = refl
@@ -50,12 +56,13 @@ number_read E G f id r only none some = go (one_text f id) refl none some r refl
         let read : ReadsOne G t (Some n) = subst (λ (q : Option ℕ). ReadsOne G t q) same (some t refl) in
         (t, sym (one_text-rows f id) ∙ is, (only t (Ok n) read).1)
 
--- a number that is said is read
-pub number_there : (E : Type 0) (G : Text → Result ℕ E → Type 0) (f : Found) (id : Text) (r : Option ℕ) (rule : Rule)
+-- a number that is said is read, and lies in its range
+said_read : (E : Type 0) (G : Text → Result ℕ E → Type 0) (f : Found) (id : Text) (r : Option ℕ) (rule : Rule)
     → ((u : Text) (x : Result ℕ E) → G u x → ParsesUnsigned 32 10 u x)
     → ((t : Text) → one_text f id ≡ Some t → ReadsOne G t r)
-    → IsNone r → rule.id ≡ id → IsNumber rule → IsSaid rule (rows_of f) → ⊥
-number_there E G f id r rule only some none is number said =
+    → rule.id ≡ id → (number : IsNumber rule) → IsSaid rule (rows_of f)
+    → (n : ℕ) × (r ≡ Some n) × (number.0 ≤ n) × (n ≤ number.1)
+said_read E G f id r rule only some is number said =
     let parser : parser_of_value rule.parser ≡ Signed (pos number.0) (pos number.1) = ap parser_of_value number.2 in
     let accepted = accepts-Accepts rule.ignore_case (parser_of_value rule.parser) said.text said.passes in
     let within : IsSignedIn (pos number.0) (pos number.1) said.text =
@@ -63,6 +70,42 @@ number_there E G f id r rule only some none is number said =
     let one : one_text f id ≡ Some (without_minus said.text) =
     one_text-rows f id ∙ ap (λ (i : Text). one_of i (rows_of f)) (sym is) ∙ said.one
     ∙ ap (λ (p : ValueParser). Some (read_as (reading_of p) said.text)) parser in
-    let got = signed_reads E G 32 number.0 number.1 said.text r (some (without_minus said.text) one) only number.3 within in
+    signed_reads E G 32 number.0 number.1 said.text r (some (without_minus said.text) one) only number.3 within
+
+pub number_there : (E : Type 0) (G : Text → Result ℕ E → Type 0) (f : Found) (id : Text) (r : Option ℕ) (rule : Rule)
+    → ((u : Text) (x : Result ℕ E) → G u x → ParsesUnsigned 32 10 u x)
+    → ((t : Text) → one_text f id ≡ Some t → ReadsOne G t r)
+    → IsNone r → rule.id ≡ id → IsNumber rule → IsSaid rule (rows_of f) → ⊥
+number_there E G f id r rule only some none is number said =
+    let got = said_read E G f id r rule only some is number said in
     let there : None ≡ Some got.0 = sym (none_is r none) ∙ got.1 in
     cc
+
+pub number_within : (E : Type 0) (G : Text → Result ℕ E → Type 0) (f : Found) (id : Text) (r : Option ℕ)
+    → ((u : Text) (x : Result ℕ E) → G u x → ParsesUnsigned 32 10 u x)
+    → ((t : Text) → one_text f id ≡ Some t → ReadsOne G t r)
+    → IfSome r (λ n. (rule : Rule) → rule.id ≡ id → (number : IsNumber rule) → IsSaid rule (rows_of f)
+    → (number.0 ≤ n) × (n ≤ number.1))
+number_within E G f id None only some = tt
+number_within E G f id (Some n) only some = λ rule is number said.
+    let got = said_read E G f id (Some n) rule only some is number said in
+    let same : got.0 ≡ n = some_is got.0 n (sym got.1) in
+    (subst (λ (m : ℕ). number.0 ≤ m) same got.2, subst (λ (m : ℕ). m ≤ number.1) same got.3)
+
+-- ---- how many images are kept
+
+pub kept_as_said : (r : Option ℕ) (name : Text) (rows : List Row) → is_change name ≡ true
+    → IfSome r (λ n. HasNumber rows (codes "keep") n) → (IsNone r → IsSaid keep rows → ⊥) → IsKept r name rows
+kept_as_said None name rows changes has none = λ again said. none refl said
+kept_as_said (Some n) name rows changes has none = (changes, has)
+
+pub kept_within : (r : Option ℕ) (name : Text) (rows : List Row) → is_change name ≡ true
+    → IfSome r (λ n. HasNumber rows (codes "keep") n)
+    → IfSome r (λ n. (rule : Rule) → rule.id ≡ codes "keep" → (is : IsNumber rule) → IsSaid rule rows → (is.0 ≤ n) × (n ≤ is.1))
+    → NamesCommand (Some (name, rows)) → MayKeep r
+kept_within None name rows changes has within names = tt
+kept_within (Some n) name rows changes has within names =
+    elim (keep_says name rows changes names) [
+      | inl said ↦ let is : IsNumber keep = (1, 1000, refl, omega arith) in within keep refl is said
+      | inr gone ↦ absurd (none-some has.0 (sym gone.2 ∙ has.1))
+    ]

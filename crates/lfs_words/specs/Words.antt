@@ -1,9 +1,11 @@
 -- What the words of a command line ask for (own).
-use Rattle.std.specs.Prelude.{ℕ, Bool, ◌≡◌, List, [], ◌∷◌, Option, Some, codes}
+use Rattle.std.specs.Prelude.{ℕ, Bool, true, ◌≡◌, List, [], ◌∷◌, Option, None, Some, codes}
 use Rattle.std.specs.List.{list_any}
 use Rattle.std.specs.Str.{bytes_eq}
 use Rattle.std.specs.Str.Parse.{digits_value, without_leading_plus}
 use Rattle.clap.specs.Words.{Row, Text, first_of, one_of}
+use Rattle.lfs_grammar.specs.Grammar.{IsSaid, is_change, keep}
+use Rattle.lfs_history.specs.Taking.{MayKeep}
 use Rattle.lfs_request.specs.declared.request.Request.{Request}
 use Rattle.lfs_words.specs.declared.wish.Wish.{Wish}
 use Rattle.lfs_words.specs.declared.wish.Wish.TheVariants as wish
@@ -53,12 +55,18 @@ IsTask (SetAttr path kind value) name rows =
 IsTask (RmAttr path kind) name rows =
     (name ≡ codes "rmattr") × HasText rows (codes "path") path.now × HasText rows (codes "kind") kind.now
 
+-- how many images of the past are kept: as many as a command says that changes an image, or all where it says no number
+abbrev pub IsKept : Option ℕ → Text → List Row → Type 0
+IsKept (Some number) name rows = (is_change name ≡ true) × HasNumber rows (codes "keep") number
+IsKept None name rows = is_change name ≡ true → IsSaid keep rows → ⊥
+
 -- the request that a command and its options ask for
 abbrev pub IsRequest : Request → Text → List Row → Type 0
 IsRequest request name rows =
     IsTask request.task name rows
     × HasNumber rows (codes "block") request.size
     × HasText rows (codes "image") request.image.now
+    × IsKept request.keep name rows
 
 -- what a command and its options ask for
 abbrev pub IsWish : Wish → Text → List Row → Type 0
@@ -74,3 +82,8 @@ is_other name =
 -- what is asked for, by the command that is named with its options
 abbrev pub AsksFor : Option (Text × List Row) → Wish → Type 0
 AsksFor named wish = (name : Text) × (rows : List Row) × (named ≡ Some (name, rows)) × IsWish wish name rows
+
+-- what a request keeps may be kept
+abbrev pub KeepsInRange : Wish → Type 0
+KeepsInRange (wish.Explanation number) = Unit {0}
+KeepsInRange (wish.Request request) = MayKeep request.keep

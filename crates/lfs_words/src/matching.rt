@@ -2,8 +2,9 @@
 
 ghost use Rattle.std.specs.Prelude.{◌≡◌, IfSome, IsNone, Some, codes, true};
 ghost use Rattle.clap.specs.Words.{found_of, rows_of, subcommand_rows_of};
-ghost use Rattle.lfs_grammar.specs.Grammar.{NamesCommand};
-ghost use Rattle.lfs_words.specs.Words.{AsksFor, IsStep, IsTask, is_other};
+ghost use Rattle.lfs_grammar.specs.Grammar.{NamesCommand, is_change};
+ghost use Rattle.lfs_history.specs.Taking.{MayKeep};
+ghost use Rattle.lfs_words.specs.Words.{AsksFor, IsKept, IsStep, IsTask, KeepsInRange, is_other};
 
 use crate::options::{bytes, number, text};
 use crate::wish::Wish;
@@ -76,11 +77,38 @@ fn task_of<'a>(name: &str, options: &ArgMatches<'a>) -> Option<Task<'a>>
     Some(task)
 }
 
-/// What the words that were matched ask for. `None` only where they name no command with all that it takes. Takes no memory.
+/// Whether a command of this name changes an image.
+fn is_change(name: &str) -> bool
+    ensures { result ≡ is_change name.now }
+{
+    name == "mkdir"
+        || name == "put"
+        || name == "rm"
+        || name == "mv"
+        || name == "setattr"
+        || name == "rmattr"
+        || name == "grow"
+}
+
+/// How many images of the past are kept behind a command; all of them for `None`.
+fn keep_of(name: &str, options: &ArgMatches<'_>) -> Option<u32>
+    ensures kept { IsKept result name.now (rows_of (found_of options.now)) }
+    ensures within { NamesCommand (Some (name.now, rows_of (found_of options.now))) → MayKeep result }
+{
+    if is_change(name) {
+        number(options, "keep")
+    } else {
+        None
+    }
+}
+
+/// What the words that were matched ask for; what is kept is 1 to 1,000 images, where they name a command with all that it takes.
+/// `None` only where they don't. Takes no memory.
 ///
 /// Source: own.
 pub fn wished<'a>(matches: &ArgMatches<'a>) -> Option<Wish<'a>>
     ensures some { IfSome result (λ wish. AsksFor (subcommand_rows_of matches.now) wish) }
+    ensures within { IfSome result (λ wish. NamesCommand (subcommand_rows_of matches.now) → KeepsInRange wish) }
     ensures none { IsNone result → NamesCommand (subcommand_rows_of matches.now) → ⊥ }
 {
     let (name, options) = matches.subcommand()?;
@@ -92,6 +120,7 @@ pub fn wished<'a>(matches: &ArgMatches<'a>) -> Option<Wish<'a>>
     Some(Wish::Request(Request {
         task: task_of(name, options)?,
         size: number(options, "block")?,
+        keep: keep_of(name, options),
         image: text(options, "image")?,
     }))
 }

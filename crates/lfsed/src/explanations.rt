@@ -258,7 +258,8 @@ const EXPLANATIONS: [Explanation; 48] = [
     Explanation {
         number: 55,
         name: "JournalFull",
-        text: "As many changes were made as a journal keeps, 1000. `forget` drops them all.",
+        text: "As many changes were made as a journal keeps, 1000. `forget` drops them all; with `--keep` a command \
+         keeps the latest alone.",
     },
     Explanation {
         number: 60,

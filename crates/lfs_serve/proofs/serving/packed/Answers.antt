@@ -51,6 +51,6 @@ returns g c =
     let rows_is : c.as_slice-rows.result.now ≡ rows = search rules in
     let step = Pack c.args.count c.as_slice-rows.result in
     let kept = c.folder_of.ensures.kept.0 in
-    let ends = step_from step request.size request.image.now mid old new (stopped_by c.stepped.result) kept.0 kept.1 kept.2
+    let ends = step_from step request.size request.keep request.image.now mid old new (stopped_by c.stepped.result) kept.0 kept.1 kept.2
     c.stepped.ensures.ended in
     record { ended = inl (step, (rows, packed, (refl, rows_is)), ends) }

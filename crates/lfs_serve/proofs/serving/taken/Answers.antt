@@ -8,7 +8,7 @@ pub returns-in-None-clause-ran : goal.returns-in-None-clause-ran
 returns-in-None-clause-ran g c =
     let o = c.ran-outcome.result in (
       o,
-      runs_with (deed_of c.args.step.now c.args.handed.input.items)
+      runs_with (deed_of c.args.step.now c.args.handed.input.items c.args.keep)
           (given c.args.size c.args.handed.image.items c.args.handed.journal.items) None
           (g.H.Known.known c.args.host.now).printed (g.H.Known.known c.ran-outcome.new.host).printed o c.ran-outcome.ensures.answers
           c.ran-outcome.ensures.sent c.in-None.is,
@@ -19,7 +19,7 @@ pub returns-in-Some-clause-ran : goal.returns-in-Some-clause-ran
 returns-in-Some-clause-ran g c =
     let o = c.ran-outcome.result in (
       o,
-      runs_with (deed_of c.args.step.now c.args.handed.input.items)
+      runs_with (deed_of c.args.step.now c.args.handed.input.items c.args.keep)
           (given c.args.size c.args.handed.image.items c.args.handed.journal.items) (Some c.in-Some.fault)
           (g.H.Known.known c.args.host.now).printed (g.H.Known.known c.ran-outcome.new.host).printed o c.ran-outcome.ensures.answers
           c.ran-outcome.ensures.sent c.in-Some.is,

@@ -7,39 +7,39 @@ use Rattle.lfs_words.proofs.matching.step_of.Goals as goal
 pub returns-in_err-number-in-format-clause-none : goal.returns-in_err-number-in-format-clause-none
 returns-in_err-number-in-format-clause-none c = λ none names.
     let said = said_of c.args.name.now (codes "format") (rows_of (found_of c.args.options.now)) c.in-format.is names in
-    absurd (c.in_err-number-in-format.ensures.none refl count refl count_is said.1.1.0)
+    absurd (c.in_err-number-in-format.ensures.none refl count refl count_is (said.1.1.0 refl))
 
 pub returns-in_err-bytes-in-cat-clause-none : goal.returns-in_err-bytes-in-cat-clause-none
 returns-in_err-bytes-in-cat-clause-none c = λ none names.
     let said = said_of c.args.name.now (codes "cat") (rows_of (found_of c.args.options.now)) c.in-cat.is names in
-    absurd (c.in_err-bytes-in-cat.ensures.none refl (word (codes "path")) refl said.1.1.0)
+    absurd (c.in_err-bytes-in-cat.ensures.none refl (word (codes "path")) refl (said.1.1.0 refl))
 
 pub returns-in_err-bytes-in-mkdir-clause-none : goal.returns-in_err-bytes-in-mkdir-clause-none
 returns-in_err-bytes-in-mkdir-clause-none c = λ none names.
     let said = said_of c.args.name.now (codes "mkdir") (rows_of (found_of c.args.options.now)) c.in-mkdir.is names in
-    absurd (c.in_err-bytes-in-mkdir.ensures.none refl (word (codes "path")) refl said.1.1.0)
+    absurd (c.in_err-bytes-in-mkdir.ensures.none refl (word (codes "path")) refl (said.1.1.0 refl))
 
 pub returns-in_err-bytes-in-put-clause-none : goal.returns-in_err-bytes-in-put-clause-none
 returns-in_err-bytes-in-put-clause-none c = λ none names.
     let said = said_of c.args.name.now (codes "put") (rows_of (found_of c.args.options.now)) c.in-put.is names in
-    absurd (c.in_err-bytes-in-put.ensures.none refl (word (codes "path")) refl said.1.1.0)
+    absurd (c.in_err-bytes-in-put.ensures.none refl (word (codes "path")) refl (said.1.1.0 refl))
 
 pub returns-in_err-bytes-in-rm-clause-none : goal.returns-in_err-bytes-in-rm-clause-none
 returns-in_err-bytes-in-rm-clause-none c = λ none names.
     let said = said_of c.args.name.now (codes "rm") (rows_of (found_of c.args.options.now)) c.in-rm.is names in
-    absurd (c.in_err-bytes-in-rm.ensures.none refl (word (codes "path")) refl said.1.1.0)
+    absurd (c.in_err-bytes-in-rm.ensures.none refl (word (codes "path")) refl (said.1.1.0 refl))
 
 pub returns-in_err-bytes-in-mv-clause-none : goal.returns-in_err-bytes-in-mv-clause-none
 returns-in_err-bytes-in-mv-clause-none c = λ none names.
     let said = said_of c.args.name.now (codes "mv") (rows_of (found_of c.args.options.now)) c.in-mv.is names in
-    absurd (c.in_err-bytes-in-mv.ensures.none refl (word (codes "from")) refl said.1.1.0)
+    absurd (c.in_err-bytes-in-mv.ensures.none refl (word (codes "from")) refl (said.1.1.0 refl))
 
 pub returns-in_err-bytes-in-mv-2-clause-none : goal.returns-in_err-bytes-in-mv-2-clause-none
 returns-in_err-bytes-in-mv-2-clause-none c = λ none names.
     let said = said_of c.args.name.now (codes "mv") (rows_of (found_of c.args.options.now)) c.in-mv.is names in
-    absurd (c.in_err-bytes-in-mv-2.ensures.none refl (word (codes "to")) refl said.1.1.1.0)
+    absurd (c.in_err-bytes-in-mv-2.ensures.none refl (word (codes "to")) refl (said.1.1.1.0 refl))
 
 pub returns-in_err-number-in-grow-clause-none : goal.returns-in_err-number-in-grow-clause-none
 returns-in_err-number-in-grow-clause-none c = λ none names.
     let said = said_of c.args.name.now (codes "grow") (rows_of (found_of c.args.options.now)) c.in-grow.is names in
-    absurd (c.in_err-number-in-grow.ensures.none refl new_count refl new_count_is said.1.1.0)
+    absurd (c.in_err-number-in-grow.ensures.none refl new_count refl new_count_is (said.1.1.0 refl))

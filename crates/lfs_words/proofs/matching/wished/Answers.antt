@@ -16,7 +16,7 @@ returns-in_err-number-clause-none c = λ none names.
     let is = names_command m (codes "explain") rows name has in
     let named = subst NamesCommand is names in
     let said = said_of (codes "explain") (codes "explain") rows refl named in
-    absurd (c.in_err-number.ensures.none refl number refl number_is said.0)
+    absurd (c.in_err-number.ensures.none refl number refl number_is (said.0 refl))
 
 pub returns-in_err-number-2-clause-none : goal.returns-in_err-number-2-clause-none
 returns-in_err-number-2-clause-none c = λ none names.
