@@ -1,14 +1,15 @@
 -- Undo takes a command back, and undo and redo keep all images.
-use Rattle.std.proofs.Common.{◌≡◌, ℕ, List, [], ◌∷◌, ◌++◌, reverse, ap, sym, ◌∙◌, append_assoc, Option, Some, None}
+use Rattle.std.proofs.Common.{◌≡◌, ℕ, List, [], ◌∷◌, ◌++◌, reverse, refl, ap, sym, ◌∙◌, append_assoc, Option, Some, None}
 use Rattle.std.proofs.lemmas.List.{reverse-append, same_from_push}
 use Rattle.lfs_block.specs.Disk.{Disk}
 use Rattle.lfs_command.specs.Command.{Asked}
 use Rattle.lfs_history.specs.declared.step_fault.StepFault.TheVariants.{Refused, NothingToUndo, NothingToRedo, JournalFull}
 use Rattle.lfs_history.specs.History.{History}
-use Rattle.lfs_history.specs.Moves.{Undoes, kept_images, kept_changes, but_one}
+use Rattle.lfs_history.specs.Moves.{Undoes, Redoes, Repeats, kept_images, kept_changes, but_one}
 use Rattle.lfs_history.specs.Taking.{Move, Do, Undo, Redo, Forget, Reply, Takes, Run}
 use Rattle.lfs_history.specs.Laws.{images, IsUndoOrRedo, UndoAndRedoKeepImages, UndoIsExact, UndoIsExactAsFarAsKept}
 use Rattle.lfs_history.proofs.KeptLemmas.{kept_history, pushes_kept}
+use Rattle.lfs_history.proofs.RepeatLemmas.{repeats_keep, same_front}
 
 -- the nearest image of the past becomes the present one: the images are the same
 moved : (front : Disk) (past : List Disk) (x : Disk) (future : List Disk)
@@ -22,18 +23,24 @@ undo_keeps_images old new u =
     ∙ moved new.present new.past old.present old.future
     ∙ ap (λ (p : List Disk). reverse p ++ old.present ∷ old.future) (sym u.past)
 
+-- so many of one move
+repeated_keeps_images : (move : History → History → Type 0) → ((old new : History) → move old new → images new ≡ images old)
+    → (n : ℕ) (old new : History) → Repeats move n old new → images new ≡ images old
+repeated_keeps_images move keeps n old new moves =
+    repeats_keep (λ h. images h ≡ images old) move (λ mid next same moved. keeps mid next moved ∙ same) n old new refl moves
+
 step_keeps_images : (step : Move) (reply : Reply) (old new : History) → IsUndoOrRedo step → Takes step reply old new
     → images new ≡ images old
-step_keeps_images Undo None old new is t = undo_keeps_images old new t
-step_keeps_images Undo (Some NothingToUndo) old new is t = ap images t.1
-step_keeps_images Redo None old new is t = sym (undo_keeps_images new old t)
-step_keeps_images Redo (Some NothingToRedo) old new is t = ap images t.1
-step_keeps_images Undo (Some (Refused r)) old new is t = absurd t
-step_keeps_images Undo (Some NothingToRedo) old new is t = absurd t
-step_keeps_images Undo (Some JournalFull) old new is t = absurd t
-step_keeps_images Redo (Some (Refused r)) old new is t = absurd t
-step_keeps_images Redo (Some NothingToUndo) old new is t = absurd t
-step_keeps_images Redo (Some JournalFull) old new is t = absurd t
+step_keeps_images (Undo n) None old new is t = repeated_keeps_images Undoes undo_keeps_images n old new t
+step_keeps_images (Undo n) (Some NothingToUndo) old new is t = ap images t.1
+step_keeps_images (Redo n) None old new is t = repeated_keeps_images Redoes (λ a b u. sym (undo_keeps_images b a u)) n old new t
+step_keeps_images (Redo n) (Some NothingToRedo) old new is t = ap images t.1
+step_keeps_images (Undo n) (Some (Refused r)) old new is t = absurd t
+step_keeps_images (Undo n) (Some NothingToRedo) old new is t = absurd t
+step_keeps_images (Undo n) (Some JournalFull) old new is t = absurd t
+step_keeps_images (Redo n) (Some (Refused r)) old new is t = absurd t
+step_keeps_images (Redo n) (Some NothingToUndo) old new is t = absurd t
+step_keeps_images (Redo n) (Some JournalFull) old new is t = absurd t
 step_keeps_images (Do asked keep) reply old new is t = absurd is
 step_keeps_images Forget reply old new is t = absurd is
 
@@ -46,14 +53,12 @@ runs_keep_images (step ∷ steps) [] old new each run = absurd run
 
 -- ---- a command taken back
 
-same_front : (x y : Disk) (xs ys : List Disk) → x ∷ xs ≡ y ∷ ys → (x ≡ y) × (xs ≡ ys)
-same_front x y xs ys is = (cc, cc)
-
 -- what was kept beside the image that the command put in front is there again
-undone_as_kept : (asked : Asked) (keep : Option ℕ) (old new : History) → Run (Do asked keep ∷ Undo ∷ []) (None ∷ None ∷ []) old new
+undone_as_kept : (asked : Asked) (keep : Option ℕ) (old new : History) → Run (Do asked keep ∷ Undo 1 ∷ []) (None ∷ None ∷ []) old new
     → (new.present ≡ old.present) × (new.past ≡ kept_images (but_one keep) old.past)
     × (new.done ≡ kept_changes (but_one keep) old.done)
-undone_as_kept asked keep old new (mid, does, (last, undoes, same)) =
+undone_as_kept asked keep old new (mid, does, (after, (last, undoes, after_is), new_is)) =
+    let same : new ≡ last = new_is ∙ after_is in
     let kept = kept_history (but_one keep) old in
     let pushes = pushes_kept does.change keep old mid does.room does.pushes in
     let front = same_front last.present old.present last.past kept.past (sym undoes.past ∙ pushes.past) in

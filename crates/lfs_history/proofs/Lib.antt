@@ -1,5 +1,6 @@
 pub mod KeptLemmas
 pub mod MoveLemmas
+pub mod RepeatLemmas
 pub mod RunLemmas
 pub mod EquationLemmas
 pub mod ImageLemmas

@@ -2,9 +2,11 @@
 use Rattle.std.proofs.Common.{◌≡◌, [], ◌∷◌, sym, subst, Some, None}
 use Rattle.lfs_history.specs.declared.step_fault.StepFault.TheVariants.{Refused, NothingToUndo, NothingToRedo, JournalFull}
 use Rattle.lfs_history.specs.History.{History, IsHistory}
+use Rattle.lfs_history.specs.Moves.{Undoes, Redoes}
 use Rattle.lfs_history.specs.Taking.{Move, Do, Undo, Redo, Forget, Reply, Takes}
 use Rattle.lfs_history.specs.Laws.{RunsKeepHistories}
 use Rattle.lfs_history.proofs.MoveLemmas.{TakeBack, Make, Follow, undo_keeps, redo_keeps, push_keeps, forget_keeps}
+use Rattle.lfs_history.proofs.RepeatLemmas.{repeats_keep}
 
 same_keeps : (old new : History) → IsHistory old → new ≡ old → IsHistory new
 same_keeps old new h is = subst IsHistory (sym is) h
@@ -15,19 +17,19 @@ step_keeps back make follow (Do asked keep) None old new t h =
     push_keeps make follow asked keep t.change old new h t.room t.plans t.pushes
 step_keeps back make follow (Do asked keep) (Some JournalFull) old new t h = same_keeps old new h t.1
 step_keeps back make follow (Do asked keep) (Some (Refused r)) old new t h = same_keeps old new h t.2
-step_keeps back make follow Undo None old new t h = undo_keeps back old new h t
-step_keeps back make follow Undo (Some NothingToUndo) old new t h = same_keeps old new h t.1
-step_keeps back make follow Redo None old new t h = redo_keeps make old new h t
-step_keeps back make follow Redo (Some NothingToRedo) old new t h = same_keeps old new h t.1
+step_keeps back make follow (Undo n) None old new t h = repeats_keep IsHistory Undoes (undo_keeps back) n old new h t
+step_keeps back make follow (Undo n) (Some NothingToUndo) old new t h = same_keeps old new h t.1
+step_keeps back make follow (Redo n) None old new t h = repeats_keep IsHistory Redoes (redo_keeps make) n old new h t
+step_keeps back make follow (Redo n) (Some NothingToRedo) old new t h = same_keeps old new h t.1
 step_keeps back make follow Forget None old new t h = forget_keeps old new h t
 step_keeps back make follow (Do asked keep) (Some NothingToUndo) old new t h = absurd t
 step_keeps back make follow (Do asked keep) (Some NothingToRedo) old new t h = absurd t
-step_keeps back make follow Undo (Some (Refused r)) old new t h = absurd t
-step_keeps back make follow Undo (Some NothingToRedo) old new t h = absurd t
-step_keeps back make follow Undo (Some JournalFull) old new t h = absurd t
-step_keeps back make follow Redo (Some (Refused r)) old new t h = absurd t
-step_keeps back make follow Redo (Some NothingToUndo) old new t h = absurd t
-step_keeps back make follow Redo (Some JournalFull) old new t h = absurd t
+step_keeps back make follow (Undo n) (Some (Refused r)) old new t h = absurd t
+step_keeps back make follow (Undo n) (Some NothingToRedo) old new t h = absurd t
+step_keeps back make follow (Undo n) (Some JournalFull) old new t h = absurd t
+step_keeps back make follow (Redo n) (Some (Refused r)) old new t h = absurd t
+step_keeps back make follow (Redo n) (Some NothingToUndo) old new t h = absurd t
+step_keeps back make follow (Redo n) (Some JournalFull) old new t h = absurd t
 step_keeps back make follow Forget (Some fault) old new t h = absurd t
 
 pub runs_keep : TakeBack → Make → Follow → RunsKeepHistories

@@ -48,10 +48,10 @@ CommandsPushEquations = (asked : Asked) (keep : Option ℕ) (old new : History) 
 abbrev pub images : History → List Disk
 images h = reverse h.past ++ h.present ∷ h.future
 
--- a step that takes a change back or makes it again
+-- a step that takes changes back or makes them again
 abbrev pub IsUndoOrRedo : Move → Type 0
-IsUndoOrRedo Undo = Unit {0}
-IsUndoOrRedo Redo = Unit {0}
+IsUndoOrRedo (Undo steps) = Unit {0}
+IsUndoOrRedo (Redo steps) = Unit {0}
 IsUndoOrRedo _ = ⊥
 
 -- undo and redo, in any list, keep all images, each byte for byte
@@ -66,19 +66,19 @@ RunsKeepHistories = (steps : List Move) (replies : List Reply) (old new : Histor
 
 -- what is done and undone leaves the image and the images before it
 abbrev pub UndoIsExact : Type 0
-UndoIsExact = (asked : Asked) (old new : History) → Run (Do asked None ∷ Undo ∷ []) (None ∷ None ∷ []) old new
+UndoIsExact = (asked : Asked) (old new : History) → Run (Do asked None ∷ Undo 1 ∷ []) (None ∷ None ∷ []) old new
     → (new.present ≡ old.present) × (new.past ≡ old.past) × (new.done ≡ old.done)
 
 -- where a number of images is kept, it leaves the image, and of those before it the nearest that were kept beside it
 abbrev pub UndoIsExactAsFarAsKept : Type 0
 UndoIsExactAsFarAsKept = (asked : Asked) (keep : ℕ) (old new : History)
-    → Run (Do asked (Some keep) ∷ Undo ∷ []) (None ∷ None ∷ []) old new
+    → Run (Do asked (Some keep) ∷ Undo 1 ∷ []) (None ∷ None ∷ []) old new
     → (new.present ≡ old.present) × (new.past ≡ take (keep - 1) old.past)
     × (new.done ≡ drop (length old.done - (keep - 1)) old.done)
 
--- what is undone and redone leaves the history
+-- what is undone and redone leaves the history, however many changes it is
 abbrev pub RedoIsExact : Type 0
-RedoIsExact = (old new : History) → Run (Undo ∷ Redo ∷ []) (None ∷ None ∷ []) old new → new ≡ old
+RedoIsExact = (steps : ℕ) (old new : History) → Run (Undo steps ∷ Redo steps ∷ []) (None ∷ None ∷ []) old new → new ≡ old
 
 -- a step keeps the size of the blocks
 abbrev pub StepsKeepSize : Type 0

@@ -6,6 +6,6 @@ use Rattle.lfs_history.specs.Taking.{Move, Do, Undo, Redo, Forget}
 
 abbrev pub step_of : Written → Move
 step_of (case.Do command keep) = Do (asked_for command) keep
-step_of case.Undo = Undo
-step_of case.Redo = Redo
+step_of (case.Undo steps) = Undo steps
+step_of (case.Redo steps) = Redo steps
 step_of case.Forget = Forget

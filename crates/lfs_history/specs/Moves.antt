@@ -1,5 +1,5 @@
 -- How a history goes on to another (own).
-use Rattle.std.specs.Prelude.{◌≡◌, ℕ, ◌-◌, List, [], ◌∷◌, ◌++◌, length, take, drop, Option, None, Some}
+use Rattle.std.specs.Prelude.{◌≡◌, ℕ, zero, suc, ◌-◌, List, [], ◌∷◌, ◌++◌, length, take, drop, Option, None, Some}
 use Rattle.lfs_block.specs.Disk.{Disk}
 use Rattle.lfs_block.specs.Patch.{ChangeSet, applied}
 use Rattle.lfs_history.specs.History.{History, fresh_history}
@@ -42,6 +42,11 @@ pub record Undoes (old new : History) : Type 0 where
 -- the reverse
 abbrev pub Redoes : History → History → Type 0
 Redoes old new = Undoes new old
+
+-- a move that is made so many times, one after another
+abbrev pub Repeats : (History → History → Type 0) → ℕ → History → History → Type 0
+Repeats move zero old new = new ≡ old
+Repeats move (suc n) old new = (mid : History) × move old mid × Repeats move n mid new
 
 -- the present stays, and all else is dropped
 abbrev pub Forgets : History → History → Type 0

@@ -7,14 +7,15 @@ use Rattle.lfs_command.specs.Planned.{Plans, RefusesPlan}
 use Rattle.lfs_history.specs.declared.step_fault.StepFault.{StepFault}
 use Rattle.lfs_history.specs.declared.step_fault.StepFault.TheVariants.{Refused, NothingToUndo, NothingToRedo, JournalFull}
 use Rattle.lfs_history.specs.History.{History}
-use Rattle.lfs_history.specs.Moves.{Pushes, Undoes, Redoes, Forgets}
+use Rattle.lfs_history.specs.Moves.{Pushes, Undoes, Redoes, Repeats, Forgets}
 
--- A command is carried out, and then so many images of the past are kept, or all of them where no number is said; the latest command
--- is taken back, the latest that was taken back is carried out again, all but the image is forgotten.
+-- A command is carried out, and then so many images of the past are kept, or all of them where no number is said; so many of the
+-- latest changes are taken back, or so many of those that were taken back last are made again, all of them or none; all but the image
+-- is forgotten.
 pub data Move : Type 0 where
   Do : (asked : Asked) → (keep : Option ℕ) → Move
-  Undo : Move
-  Redo : Move
+  Undo : (steps : ℕ) → Move
+  Redo : (steps : ℕ) → Move
   Forget : Move
 
 -- why a step is refused; none is done
@@ -53,10 +54,10 @@ abbrev pub Takes : Move → Reply → History → History → Type 0
 Takes (Do asked keep) None old new = Does asked keep old new
 Takes (Do asked keep) (Some JournalFull) old new = IsFull keep old × (new ≡ old)
 Takes (Do asked keep) (Some (Refused r)) old new = HasPlace keep old × RefusesPlan old.present asked r × (new ≡ old)
-Takes Undo None old new = Undoes old new
-Takes Undo (Some NothingToUndo) old new = (old.past ≡ []) × (new ≡ old)
-Takes Redo None old new = Redoes old new
-Takes Redo (Some NothingToRedo) old new = (old.future ≡ []) × (new ≡ old)
+Takes (Undo steps) None old new = Repeats Undoes steps old new
+Takes (Undo steps) (Some NothingToUndo) old new = (length old.past < steps) × (new ≡ old)
+Takes (Redo steps) None old new = Repeats Redoes steps old new
+Takes (Redo steps) (Some NothingToRedo) old new = (length old.future < steps) × (new ≡ old)
 Takes Forget None old new = Forgets old new
 -- no other reply is given
 Takes _ _ old new = ⊥

@@ -22,8 +22,8 @@ pub fn commands_are_equations()
 }
 
 /// A law: a command that is carried out leaves the old present image in front of those before it, of which the nearest are kept where
-/// it says how many, and no image to go on to. The present image mounts to the command's equation of the old one's tree, with the same size and limits, and with as many
-/// blocks as the command says. Takes no memory.
+/// it says how many, and no image to go on to. The present image mounts to the command's equation of the old one's tree, with the same
+/// size and limits, and with as many blocks as the command says. Takes no memory.
 ///
 /// Source: own.
 pub fn commands_push_equations()
@@ -50,7 +50,9 @@ pub fn runs_keep_histories()
 /// Source: own.
 pub fn steps_keep_size()
     ensures { StepsKeepSize }
-{}
+{
+    runs_keep_histories();
+}
 
 /// A law: a command that is carried out and taken back leaves the image and all images before it (`all`); where it says how many
 /// images are kept, the image and the nearest before it, one less than that (`kept`). Takes no memory.
@@ -61,7 +63,7 @@ pub fn undo_is_exact()
     ensures kept { UndoIsExactAsFarAsKept }
 {}
 
-/// A law: a change that is taken back and made again leaves the history. Takes no memory.
+/// A law: changes that are taken back and made again, however many, leave the history. Takes no memory.
 ///
 /// Source: own.
 pub fn redo_is_exact()

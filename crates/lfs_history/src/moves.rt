@@ -14,10 +14,16 @@ pub enum Move<'a> {
         /// How many images of the past are kept once the command is done, 1 to 1,000; all of them for `None`.
         keep: Option<u32>,
     },
-    /// Takes the latest change back.
-    Undo,
-    /// Makes again the latest change that was taken back.
-    Redo,
+    /// Takes the latest changes back, all of them or none.
+    Undo {
+        /// How many changes.
+        steps: u32,
+    },
+    /// Makes again the latest changes that were taken back, all of them or none.
+    Redo {
+        /// How many changes.
+        steps: u32,
+    },
     /// Keeps the image alone.
     Forget,
 }

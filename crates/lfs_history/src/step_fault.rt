@@ -12,9 +12,9 @@ use thiserror::Error;
 pub enum StepFault {
     /// The command is refused, or a growth of memory was.
     Refused(Refusal),
-    /// No change was made that isn't undone.
+    /// Fewer changes are there to be taken back than were to be.
     NothingToUndo,
-    /// No change was undone since the last that was made.
+    /// Fewer changes were taken back since the last that was made than were to be made again.
     NothingToRedo,
     /// As many changes were made as a session keeps.
     JournalFull,
