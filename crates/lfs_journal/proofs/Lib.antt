@@ -1,4 +1,5 @@
 pub mod PlaceLemmas
+pub mod CountLemmas
 pub mod StepLemmas
 pub mod KnownLemmas
 pub mod OpeningLemmas

@@ -15,9 +15,9 @@ use Rattle.lfs_book.specs.Book.{Book, IsBookOf, IsPatchOf, Spells, book_of}
 use Rattle.lfs_history.specs.declared.open_fault.OpenFault.{OpenFault}
 use Rattle.lfs_history.specs.declared.open_fault.OpenFault.TheVariants.{Mount, JournalFormat, JournalMismatch, JournalImage}
 use Rattle.lfs_history.specs.History.{IsMounted, GoesBack, GoesForward, past_of, future_of}
-use Rattle.lfs_history.specs.Opening.{HasHistory, RefusesOpening, others}
+use Rattle.lfs_history.specs.Opening.{RefusesOpening, others}
 use Rattle.lfs_journal.specs.Known.{HasRoom, HaveSize}
-use Rattle.lfs_journal.specs.Opened.{RefusesMount, RefusesMounts, OpensParts}
+use Rattle.lfs_journal.specs.Opened.{RefusesMount, RefusesMounts, DenotesChanges, OpensParts}
 use Rattle.lfs_history.proofs.MoveLemmas.{latest}
 
 -- ---- lists
@@ -109,19 +109,14 @@ future_later_refused fault qs ps p d e is to h =
 
 -- ---- what was read
 
--- the bytes spell these changes, and they agree with the image
-pub record IsAgreed (d : Disk) (bytes : List ℕ) (ps : List ChangeSet) (done : ℕ) : Type 0 where
-  pub within : done ≤ length ps
-  pub spelled : Spells bytes (book_of d.size d.count ps done)
-  pub agrees : HasHistory d (book_of d.size d.count ps done)
-
-pub agreed : (d : Disk) (bytes : List ℕ) (j : Book) (ps : List ChangeSet) (done : ℕ) → Spells bytes j
+pub agreed : (d : Disk) (bytes : List ℕ) (j : Book) (ps : List ChangeSet) (done : ℕ) → IsDisk d → Spells bytes j
     → book_of j.size j.count ps done ≡ j → done ≤ length ps → j.size ≡ d.size → j.count ≡ d.count
-    → GoesBack (reverse (take done ps)) d → GoesForward (drop done ps) d → IsAgreed d bytes ps done
-agreed d bytes j ps done spelled parts within size count back on =
+    → GoesBack (reverse (take done ps)) d → GoesForward (drop done ps) d → DenotesChanges d bytes ps done
+agreed d bytes j ps done disk spelled parts within size count back on =
     let is : book_of d.size d.count ps done ≡ j = ap (λ (n : ℕ). book_of n d.count ps done) (sym size)
     ∙ ap (λ (n : ℕ). book_of j.size n ps done) (sym count) ∙ parts in
     record {
+      disk = disk;
       within = within;
       spelled = subst (Spells bytes) (sym is) spelled;
       agrees = record { size = refl; count = refl; back = back; on = on };
@@ -142,7 +137,7 @@ pub refused_right : (fault : OpenFault) (es fs : List Disk) → RefusesMounts fa
 refused_right fault es fs h = refused_among fault fs (es ++ fs) (λ e there. Contains-append_right es fs e there) h
 
 pub others_refused : (fault : OpenFault) (d : Disk) (bytes : List ℕ) (ps : List ChangeSet) (done : ℕ)
-    → IsMounted d → IsAgreed d bytes ps done → RefusesMounts fault (others d (book_of d.size d.count ps done))
+    → IsMounted d → DenotesChanges d bytes ps done → RefusesMounts fault (others d (book_of d.size d.count ps done))
     → RefusesOpening fault d bytes
 others_refused (Mount fault) d bytes ps done mounts is h = subst (HasCause d) (sym h) tt
 others_refused JournalImage d bytes ps done mounts is (e, there, cause) =
@@ -150,12 +145,14 @@ others_refused JournalImage d bytes ps done mounts is (e, there, cause) =
 others_refused JournalFormat d bytes ps done mounts is h = absurd h
 others_refused JournalMismatch d bytes ps done mounts is h = absurd h
 
+-- an image with an outline mounts
+pub known_mounts : (d : Disk) (o : Volume) → IsOutlineOf d o → IsMounted d
+known_mounts d o is = (is.volume, is.holds, is.sound)
+
 -- what was found of an image and of the changes that were read
 pub record IsFound (d : Disk) (bytes : List ℕ) (outline : Volume) (ps : List ChangeSet) (done : ℕ) : Type 0 where
-  pub disk : IsDisk d
-  pub mounts : IsMounted d
   pub known : IsOutlineOf d outline
-  pub agreed : IsAgreed d bytes ps done
+  pub agreed : DenotesChanges d bytes ps done
   pub past : AllByRecursion IsMounted (past_of (reverse (take done ps)) d)
   pub future : AllByRecursion IsMounted (future_of (drop done ps) d)
 
@@ -172,8 +169,8 @@ parts_opened m bytes outline ps done is room = record {
         future = refl;
         back = is.agreed.agrees.back;
         on = is.agreed.agrees.on;
-        disk = is.disk;
-        mounts = is.mounts;
+        disk = is.agreed.disk;
+        mounts = known_mounts m.disk outline is.known;
         past_mounts = is.past;
         future_mounts = is.future;
         few = is.agreed.spelled.book.few;

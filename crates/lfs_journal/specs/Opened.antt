@@ -1,6 +1,6 @@
 -- What is opened of an image and the bytes of its journal (own).
-use Rattle.std.specs.Prelude.{◌≡◌, ℕ, List, Some, Contains}
-use Rattle.lfs_block.specs.Disk.{Disk}
+use Rattle.std.specs.Prelude.{◌≡◌, ℕ, ◌≤◌, List, Some, Contains, length}
+use Rattle.lfs_block.specs.Disk.{Disk, IsDisk}
 use Rattle.lfs_block.specs.Medium.{Medium}
 use Rattle.lfs_block.specs.declared.mount_fault.MountFault.TheVariants.{Memory}
 use Rattle.lfs_block.specs.Patch.{ChangeSet}
@@ -22,6 +22,14 @@ abbrev pub RefusesMounts : OpenFault → List Disk → Type 0
 RefusesMounts JournalImage es = (e : Disk) × Contains es e × HasSomeCause e
 RefusesMounts (Mount fault) es = fault ≡ Memory
 RefusesMounts _ es = ⊥
+
+-- the bytes spell these changes, of which so many are done, and they denote a history of the image; whether its other images mount
+-- isn't said
+pub record DenotesChanges (d : Disk) (bytes : List ℕ) (patches : List ChangeSet) (done : ℕ) : Type 0 where
+  pub disk : IsDisk d
+  pub within : done ≤ length patches
+  pub spelled : Spells bytes (book_of d.size d.count patches done)
+  pub agrees : HasHistory d (book_of d.size d.count patches done)
 
 -- what a session keeps of an image and the bytes of its journal
 pub record OpensParts (m : Medium) (bytes : List ℕ) (outline : Volume) (patches : List ChangeSet) (done : ℕ) : Type 0 where

@@ -5,6 +5,7 @@ mod agreeing;
 mod carried;
 mod keeping;
 mod mounting;
+mod moving;
 mod opening;
 mod refused;
 mod replacing;
@@ -14,6 +15,7 @@ mod stepping;
 mod unmounted;
 
 pub use lfs_history::{Move, OpenFault, StepFault};
+pub use opening::{Changes, read_changes};
 pub use refused::Refused;
 pub use session::Session;
 pub use stepping::run_steps;

@@ -5,11 +5,12 @@ ghost use Rattle.std.specs.List.{AllByRecursion};
 ghost use Rattle.lfs_block.specs.Disk.{IsDisk, erased_block};
 ghost use Rattle.lfs_block.specs.Patch.{IsGrowth};
 ghost use Rattle.lfs_block.specs.declared.mount_fault.MountFault.TheVariants.{Memory};
+ghost use Rattle.lfs_fs.specs.Mounted.{IsOutlineOf};
 ghost use Rattle.lfs_history.specs.declared.open_fault.OpenFault.TheVariants.{Mount};
 ghost use Rattle.lfs_history.specs.History.{GoesBack, GoesForward, IsMounted, past_of, future_of};
 ghost use Rattle.lfs_history.specs.Opening.{RefusesOpening};
 ghost use Rattle.lfs_journal.specs.Known.{HasRoom};
-ghost use Rattle.lfs_journal.specs.Opened.{OpensParts, RefusesMounts};
+ghost use Rattle.lfs_journal.specs.Opened.{DenotesChanges, OpensParts, RefusesMounts};
 
 use crate::agreeing::{goes_back, goes_on};
 use crate::mounting::{mounts_back, mounts_on};
@@ -19,6 +20,20 @@ use lfs_book::Journal;
 use lfs_fs::{Outline, mount};
 use lfs_history::OpenFault;
 use std::alloc::Global;
+
+/// The changes of an image, as the bytes of a journal denote them.
+///
+/// Source: own.
+#[derive(Drop)]
+pub struct Changes {
+    /// The image's outline.
+    pub outline: Outline,
+    /// The changes: those that are done, in the order in which they were made, then those that are undone, in the order in
+    /// which they are made again.
+    pub patches: Vec<Patch>,
+    /// The number of changes that are done.
+    pub done: usize,
+}
 
 /// What a session keeps beside its image.
 #[derive(Drop)]
@@ -78,13 +93,16 @@ fn others_mount(
     mounts_on(alloc, image, undone, &erased)
 }
 
-/// What the bytes of a journal denote on an image, which stands again as it was, with room for each image of the history.
-pub(crate) fn read_history(
-    alloc: Global,
-    image: &mut Image,
-    journal: &[u8],
-) -> Result<Opened, OpenFault>
-    ensures opened { IfOk result (λ o. OpensParts image.new journal.now o.outline o.patches.items o.done) }
+/// The changes that the bytes of a journal denote on an image, which stands again as it was, with room for each image of the
+/// history; whether the others mount isn't asked. A refusal says the first of these that holds: the image has a cause for which
+/// it does not mount; `JournalFormat` where no journal is spelled so; `JournalMismatch` where it denotes no history of the image.
+/// Want of memory is told as the mount's.
+///
+/// Source: own.
+pub fn read_changes(alloc: Global, image: &mut Image, journal: &[u8]) -> Result<Changes, OpenFault>
+    ensures read { IfOk result (λ changes. DenotesChanges image.old.disk journal.now changes.patches.items changes.done) }
+    ensures outline { IfOk result (λ changes. IsOutlineOf image.old.disk changes.outline) }
+    ensures room { IfOk result (λ changes. HasRoom image.new.room changes.patches.items) }
     ensures refused { IfErr result (λ fault. RefusesOpening fault image.old.disk journal.now) }
     ensures disk { image.new.disk ≡ image.old.disk }
 {
@@ -100,6 +118,29 @@ pub(crate) fn read_history(
     if !agree(image, &patches, done) {
         return Err(OpenFault::JournalMismatch);
     }
+    Ok(Changes {
+        outline,
+        patches,
+        done,
+    })
+}
+
+/// What a session keeps of an image and the bytes of its journal. The image stands again as it was, with room for each image
+/// of the history.
+pub(crate) fn read_history(
+    alloc: Global,
+    image: &mut Image,
+    journal: &[u8],
+) -> Result<Opened, OpenFault>
+    ensures opened { IfOk result (λ o. OpensParts image.new journal.now o.outline o.patches.items o.done) }
+    ensures refused { IfErr result (λ fault. RefusesOpening fault image.old.disk journal.now) }
+    ensures disk { image.new.disk ≡ image.old.disk }
+{
+    let Changes {
+        outline,
+        patches,
+        done,
+    } = read_changes(alloc, image, journal)?;
     others_mount(alloc, image, &patches, done)?;
     Ok(Opened {
         outline,

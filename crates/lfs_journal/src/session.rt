@@ -44,7 +44,7 @@ impl Model for Session {
 }
 
 impl Session {
-    ghost use Rattle.std.specs.Prelude.{◌≡◌, [], None, Some, IfOk, IfErr, IfSome, OnOk, OnErr};
+    ghost use Rattle.std.specs.Prelude.{◌≡◌, [], length, None, Some, IfOk, IfErr, IfSome, OnOk, OnErr};
     ghost use Rattle.lfs_fs.specs.Cause.{HasCause};
     ghost use Rattle.lfs_book.specs.Book.{journal_bytes};
     ghost use Rattle.lfs_command.specs.AskedFor.{asked_for};
@@ -195,6 +195,20 @@ impl Session {
         self.outline = Some(outline);
         self.done = keep_latest(&mut self.patches, keep);
         Ok(())
+    }
+
+    /// How many changes can be taken back. Takes no memory.
+    pub(crate) fn undoable(&self) -> usize
+        ensures { result ≡ length self.now.past }
+    {
+        self.done
+    }
+
+    /// How many changes can be made again. Takes no memory.
+    pub(crate) fn redoable(&self) -> usize
+        ensures { result ≡ length self.now.future }
+    {
+        self.patches.len() - self.done
     }
 
     /// Takes the latest change back. `NothingToUndo` where none was made that isn't undone, which leaves all as it was.

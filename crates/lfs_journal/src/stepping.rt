@@ -29,8 +29,8 @@ impl Session {
                 command,
                 keep: Some(keep),
             } => self.command_keep(alloc, command, *keep),
-            Move::Undo => self.undo(),
-            Move::Redo => self.redo(),
+            Move::Undo { steps } => self.undo_steps(*steps),
+            Move::Redo { steps } => self.redo_steps(*steps),
             Move::Forget => {
                 self.forget();
                 Ok(())
