@@ -1,6 +1,6 @@
 -- What a step on an image answers, from what is said of its session, and what it answers on bytes.
 use Rattle.std.proofs.Common.{◌≡◌, ◌≢◌, ◌==◌, ℕ, Bool, false, List, [], ◌∷◌, length, Option, Some, None, inl, inr, refl, sym, subst, ap}
-use Rattle.std.proofs.Common.{◌∙◌}
+use Rattle.std.proofs.Common.{◌∙◌, ◌<◌, Result, Ok, Err, OnOk, IfErr, arith}
 use Rattle.lfs_block.specs.Disk.{Disk, IsDisk}
 use Rattle.lfs_block.specs.declared.mount_fault.MountFault.{MountFault}
 use Rattle.lfs_block.specs.declared.mount_fault.MountFault.TheVariants.{Memory as No_memory}
@@ -11,10 +11,11 @@ use Rattle.lfs_history.specs.declared.open_fault.OpenFault.TheVariants as openin
 use Rattle.lfs_history.specs.declared.step_fault.StepFault.{StepFault}
 use Rattle.lfs_history.specs.declared.step_fault.StepFault.TheVariants.{Refused as Refused_step, NothingToUndo, NothingToRedo, JournalFull}
 use Rattle.lfs_history.specs.History.{History, IsHistory}
-use Rattle.lfs_history.specs.Moves.{kept_images, but_one}
+use Rattle.lfs_history.specs.Moves.{Undoes, Redoes, Repeats, kept_images, but_one}
 use Rattle.lfs_history.specs.Opening.{Opens, RefusesOpening}
 use Rattle.lfs_history.specs.Taking.{Move, Do, Undo, Redo, Forget, Does, Takes}
 use Rattle.lfs_history.proofs.KeptLemmas.{image_kept}
+use Rattle.lfs_history.proofs.RepeatLemmas.{undone_future, redone_past, undone_and_redone, redone_and_undone}
 use Rattle.lfs_change.specs.declared.fault.Fault.{Fault}
 use Rattle.lfs_change.specs.declared.fault.Fault.TheVariants as fault
 use Rattle.lfs_change.specs.declared.fault.Fault.TheVariants.{Image, Refused}
@@ -32,14 +33,14 @@ refused_keeps (Do asked keep) JournalFull old new takes = takes.1
 refused_keeps (Do asked keep) (Refused_step r) old new takes = takes.2
 refused_keeps (Do asked keep) NothingToUndo old new takes = absurd takes
 refused_keeps (Do asked keep) NothingToRedo old new takes = absurd takes
-refused_keeps Undo NothingToUndo old new takes = takes.1
-refused_keeps Undo (Refused_step r) old new takes = absurd takes
-refused_keeps Undo NothingToRedo old new takes = absurd takes
-refused_keeps Undo JournalFull old new takes = absurd takes
-refused_keeps Redo NothingToRedo old new takes = takes.1
-refused_keeps Redo (Refused_step r) old new takes = absurd takes
-refused_keeps Redo NothingToUndo old new takes = absurd takes
-refused_keeps Redo JournalFull old new takes = absurd takes
+refused_keeps (Undo n) NothingToUndo old new takes = takes.1
+refused_keeps (Undo n) (Refused_step r) old new takes = absurd takes
+refused_keeps (Undo n) NothingToRedo old new takes = absurd takes
+refused_keeps (Undo n) JournalFull old new takes = absurd takes
+refused_keeps (Redo n) NothingToRedo old new takes = takes.1
+refused_keeps (Redo n) (Refused_step r) old new takes = absurd takes
+refused_keeps (Redo n) NothingToUndo old new takes = absurd takes
+refused_keeps (Redo n) JournalFull old new takes = absurd takes
 refused_keeps Forget f old new takes = absurd takes
 
 refused_here : (step : Move) (f : StepFault) (old new : History) → Takes step (Some f) old new → Takes step (Some f) old old
@@ -58,6 +59,26 @@ refused_saving step JournalFull old new takes = refused_here step JournalFull ol
 pub does_in_front : (asked : Asked) (keep : Option ℕ) (before mid : History) → Does asked keep before mid
     → mid.past ≡ before.present ∷ kept_images (but_one keep) before.past
 does_in_front asked keep before mid does = does.pushes.past ∙ image_kept keep before before.present before.past does.room
+
+-- behind changes that were taken back so many can be made again, and that leaves the image before
+pub redone_present : (n : ℕ) (before mid new : History) (reply : Result (Unit {0}) StepFault) → Repeats Undoes n before mid
+    → OnOk reply (Repeats Redoes n mid new)
+    → IfErr reply (λ f. (f ≡ NothingToRedo) × (length mid.future < n) × (new ≡ mid)) → new.present ≡ before.present
+redone_present n before mid new (Ok unit) undone again none = ap (λ (h : History). h.present) (undone_and_redone n before mid new undone again)
+redone_present n before mid new (Err f) undone again none =
+    let left = undone_future n before mid undone in
+    let few = none.1 in
+    absurd (omega arith)
+
+-- and the other way round
+pub undone_present : (n : ℕ) (before mid new : History) (reply : Result (Unit {0}) StepFault) → Repeats Redoes n before mid
+    → OnOk reply (Repeats Undoes n mid new)
+    → IfErr reply (λ f. (f ≡ NothingToUndo) × (length mid.past < n) × (new ≡ mid)) → new.present ≡ before.present
+undone_present n before mid new (Ok unit) made again none = ap (λ (h : History). h.present) (redone_and_undone n before mid new made again)
+undone_present n before mid new (Err f) made again none =
+    let left = redone_past n before mid made in
+    let few = none.1 in
+    absurd (omega arith)
 
 -- ---- what is denoted
 

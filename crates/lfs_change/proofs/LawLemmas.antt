@@ -79,7 +79,7 @@ one_denoted one d (byte ∷ bytes) h k first second = one d (byte ∷ bytes) h k
 
 -- a command that is taken back leaves the image, however much of the past is kept
 image_again : UndoIsExact → UndoIsExactAsFarAsKept → (asked : Asked) (keep : Option ℕ) (old new : History)
-    → Run (Do asked keep ∷ Undo ∷ []) (None ∷ None ∷ []) old new → new.present ≡ old.present
+    → Run (Do asked keep ∷ Undo 1 ∷ []) (None ∷ None ∷ []) old new → new.present ≡ old.present
 image_again all kept asked None old new run = (all asked old new run).0
 image_again all kept asked (Some keep) old new run = (kept asked keep old new run).0
 
@@ -88,8 +88,8 @@ bytes_stand_again denoted one all kept asked keep size image journal done undone
     let mid = (denoted (Do asked keep) size image journal done first).1 in
     let same : second.1.old ≡ first.1.new = one_denoted one (image_of size done.image.items) done.journal.items second.1.old first.1.new
     second.1.denotes mid in
-    let takes : Takes Undo None first.1.new second.1.new = subst (λ (h : History). Takes Undo None h second.1.new) same second.1.takes in
-    let run : Run (Do asked keep ∷ Undo ∷ []) (None ∷ None ∷ []) first.1.old second.1.new =
+    let takes : Takes (Undo 1) None first.1.new second.1.new = subst (λ (h : History). Takes (Undo 1) None h second.1.new) same second.1.takes in
+    let run : Run (Do asked keep ∷ Undo 1 ∷ []) (None ∷ None ∷ []) first.1.old second.1.new =
     (first.1.new, first.1.takes, (second.1.new, takes, refl)) in
     let back = image_again all kept asked keep first.1.old second.1.new run in
     second.1.image_is ∙ ap (λ (d : Disk). d.bytes) (back ∙ denoted_present (image_of size image) journal first.1.old first.1.denotes)
@@ -101,10 +101,10 @@ takes_from : JournalsDenoteOneHistory → (step : Move) (d : Disk) (journal : Li
     → DenotesOn d journal old → (is : IsChanged step d journal o) → Takes step None old is.new
 takes_from one (Do asked keep) d journal old o denotes is =
     subst (λ (h : History). Takes (Do asked keep) None h is.new) (one_denoted one d journal is.old old is.denotes denotes) is.takes
-takes_from one Undo d journal old o denotes is =
-    subst (λ (h : History). Takes Undo None h is.new) (one_denoted one d journal is.old old is.denotes denotes) is.takes
-takes_from one Redo d journal old o denotes is =
-    subst (λ (h : History). Takes Redo None h is.new) (one_denoted one d journal is.old old is.denotes denotes) is.takes
+takes_from one (Undo n) d journal old o denotes is =
+    subst (λ (h : History). Takes (Undo n) None h is.new) (one_denoted one d journal is.old old is.denotes denotes) is.takes
+takes_from one (Redo n) d journal old o denotes is =
+    subst (λ (h : History). Takes (Redo n) None h is.new) (one_denoted one d journal is.old old is.denotes denotes) is.takes
 takes_from one Forget d journal old o denotes is =
     is.takes ∙ ap fresh_history (denoted_present d [] is.old is.denotes ∙ sym (denoted_present d journal old denotes))
 

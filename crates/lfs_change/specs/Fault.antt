@@ -11,7 +11,15 @@ use Rattle.lfs_history.specs.declared.step_fault.StepFault.{StepFault}
 use Rattle.lfs_history.specs.declared.step_fault.StepFault.TheVariants.{Refused as Refused_step}
 use Rattle.lfs_history.specs.Faults.{step_fault_number}
 use Rattle.lfs_change.specs.declared.fault.Fault.{Fault}
-use Rattle.lfs_change.specs.declared.fault.Fault.TheVariants.{Image, Mount, Refused, Step, JournalFormat, JournalMismatch, JournalImage, CannotRead, CannotWrite, HostEntry, HostName, BadHex}
+use Rattle.lfs_change.specs.declared.fault.Fault.TheVariants.{Image, Mount, Refused, Step, JournalFormat, JournalMismatch, JournalImage, CannotRead, CannotWrite, HostEntry, HostName, BadHex, Other}
+use Rattle.lfs_change.specs.declared.other_fault.OtherFault.{OtherFault}
+use Rattle.lfs_change.specs.declared.other_fault.OtherFault.TheVariants as other
+
+-- a fault of an image that another is compared with has the number that it has for any image
+abbrev pub other_fault_number : OtherFault → ℕ
+other_fault_number (other.Image fault) = image_fault_number fault
+other_fault_number (other.Mount fault) = mount_fault_number fault
+other_fault_number other.CannotRead = 60
 
 -- each fault by its number; those of the layers below keep theirs
 abbrev pub fault_number : Fault → ℕ
@@ -27,6 +35,7 @@ fault_number CannotWrite = 61
 fault_number HostEntry = 62
 fault_number HostName = 63
 fault_number BadHex = 64
+fault_number (Other fault) = other_fault_number fault
 
 -- a number lies in a range, both ends included
 abbrev pub is_within : ℕ → ℕ → ℕ → Bool

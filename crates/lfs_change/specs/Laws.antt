@@ -37,7 +37,7 @@ ChangedBytesAreEquations = (asked : Asked) (keep : Option ℕ) (size : ℕ) (ima
 abbrev pub UndoneBytesStandAgain : Type 0
 UndoneBytesStandAgain = (asked : Asked) (keep : Option ℕ) (size : ℕ) (image journal : List ℕ) (done undone : Outcome)
     → ChangesBytes (Do asked keep) size image journal done
-    → ChangesBytes Undo size done.image.items done.journal.items undone → undone.image.items ≡ image
+    → ChangesBytes (Undo 1) size done.image.items done.journal.items undone → undone.image.items ≡ image
 
 -- the length of a journal; of one without bytes, that of a journal without changes
 abbrev pub journal_length : List ℕ → ℕ

@@ -106,8 +106,9 @@ fn take_back(change: &Move<'_>, session: &mut Session)
     ensures { (before : History) → Takes (step_of change.now) None before session.old → session.new.present ≡ before.present }
 {
     let _ = match change {
-        Move::Do { .. } | Move::Redo => session.undo(),
-        Move::Undo => session.redo(),
+        Move::Do { .. } => session.undo(),
+        Move::Undo { steps } => session.redo_steps(*steps),
+        Move::Redo { steps } => session.undo_steps(*steps),
         Move::Forget => Ok(()),
     };
 }

@@ -1,5 +1,6 @@
 //! Why the program ends without having done what it was asked for.
 
+use crate::other_fault::OtherFault;
 use lfs_block::{ImageFault, MountFault};
 use lfs_command::Refusal;
 use lfs_history::{OpenFault, StepFault};
@@ -36,6 +37,8 @@ pub enum Fault {
     HostName,
     /// An argument is not made of as many hexadecimal digits as it takes.
     BadHex,
+    /// The image that another is compared with is refused.
+    Other(OtherFault),
 }
 
 impl Fault {
@@ -59,6 +62,7 @@ impl Fault {
             Fault::HostEntry => 62,
             Fault::HostName => 63,
             Fault::BadHex => 64,
+            Fault::Other(fault) => fault.number(),
         }
     }
 
@@ -90,6 +94,7 @@ impl Fault {
             Fault::HostEntry => "HostEntry",
             Fault::HostName => "HostName",
             Fault::BadHex => "BadHex",
+            Fault::Other(fault) => fault.name(),
         }
     }
 }

@@ -4,6 +4,7 @@
 mod changing;
 mod fault;
 mod laws;
+mod other_fault;
 mod outcome;
 
 pub use changing::changed;
@@ -12,4 +13,5 @@ pub use laws::{
     changed_bytes_are_denoted, changed_bytes_are_equations, journals_of_bytes_grow_by_the_need,
     runs_of_bytes_are_runs, undone_bytes_stand_again,
 };
+pub use other_fault::OtherFault;
 pub use outcome::Outcome;

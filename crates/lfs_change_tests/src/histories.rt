@@ -57,11 +57,11 @@ fn runs_carry_commands_out(rt: HostRuntime) -> Result<(), Fail> {
     let steps = [
         does(set_root(&[1, 2])),
         does(nowhere),
-        Move::Undo,
-        Move::Redo,
-        Move::Undo,
+        Move::Undo { steps: 1 },
+        Move::Redo { steps: 1 },
+        Move::Undo { steps: 1 },
         Move::Forget,
-        Move::Redo,
+        Move::Redo { steps: 1 },
     ];
     let expected = [
         Ok(()),
@@ -97,9 +97,9 @@ fn the_latest_images_are_kept(rt: HostRuntime) -> Result<(), Fail> {
         keeps_two(set_root(&[1])),
         keeps_two(set_root(&[2])),
         keeps_two(set_root(&[3])),
-        Move::Undo,
-        Move::Undo,
-        Move::Undo,
+        Move::Undo { steps: 1 },
+        Move::Undo { steps: 1 },
+        Move::Undo { steps: 1 },
     ];
     let expected = [
         Ok(()),
@@ -108,6 +108,37 @@ fn the_latest_images_are_kept(rt: HostRuntime) -> Result<(), Fail> {
         Ok(()),
         Ok(()),
         Err(StepFault::NothingToUndo),
+    ];
+    replies_to(&rt, rt.alloc(), &mut session, &steps, &expected)?;
+    has_image(&rt, &session, &first);
+    Ok(())
+}
+
+#[test]
+fn several_changes_are_undone_and_redone_at_once(rt: HostRuntime) -> Result<(), Fail> {
+    let mut other = new_session(rt.alloc())?;
+    replies(&rt, rt.alloc(), &mut other, &set_root(&[1]), Ok(()));
+    let first = other.into_image();
+    let mut session = new_session(rt.alloc())?;
+    let steps = [
+        does(set_root(&[1])),
+        does(set_root(&[2])),
+        does(set_root(&[3])),
+        Move::Undo { steps: 4 },
+        Move::Undo { steps: 3 },
+        Move::Redo { steps: 2 },
+        Move::Redo { steps: 2 },
+        Move::Undo { steps: 1 },
+    ];
+    let expected = [
+        Ok(()),
+        Ok(()),
+        Ok(()),
+        Err(StepFault::NothingToUndo),
+        Ok(()),
+        Ok(()),
+        Err(StepFault::NothingToRedo),
+        Ok(()),
     ];
     replies_to(&rt, rt.alloc(), &mut session, &steps, &expected)?;
     has_image(&rt, &session, &first);
