@@ -8,7 +8,7 @@ use lfs_meta::Attribute;
 use std::alloc::AllocError;
 
 /// Adds the line of an attribute.
-fn append_attribute(text: &mut Vec<u8>, attribute: &Attribute) -> Result<(), AllocError>
+pub(crate) fn append_attribute(text: &mut Vec<u8>, attribute: &Attribute) -> Result<(), AllocError>
     ensures { OnOk result (text.new.items ≡ text.old.items ++ attribute_line attribute.now) }
 {
     text.extend_from_slice(b"@ ")?;
