@@ -1,0 +1,3 @@
+pub mod BetweenLemmas
+pub mod TellingLemmas
+pub mod LogLemmas

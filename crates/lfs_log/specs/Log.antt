@@ -1,0 +1,31 @@
+-- The text of a history: its changes from the oldest on, and what each of them does to the tree (own).
+use Rattle.std.specs.Prelude.{◌≡◌, ℕ, ◌+◌, nat_le, List, [], ◌∷◌, ◌++◌, if◌then◌else◌, length, codes}
+use Rattle.std.specs.Fmt.{decimal}
+use Rattle.std.specs.List.{AllZip}
+use Rattle.lfs_block.specs.Disk.{Disk}
+use Rattle.lfs_fs.specs.Mounted.{MountedValue, IsMountOf}
+use Rattle.lfs_history.specs.History.{History}
+use Rattle.lfs_history.specs.Laws.{images}
+use Rattle.lfs_listing.specs.Difference.{difference}
+
+-- the line of a change: its number, from the oldest on, and whether it is one of those that are done
+abbrev pub change_line : ℕ → ℕ → List ℕ
+change_line number done = codes "change " ++ decimal number ++ (if nat_le number done then codes ", done\n" else codes ", undone\n")
+
+-- The text of the changes behind an image, from a number on, where the first so many of all are done, and where it and the images
+-- behind it mount to these: the line of each change, and what differs between the trees before it and after it.
+abbrev pub log_behind : ℕ → ℕ → Disk → MountedValue → List Disk → List MountedValue → List ℕ
+log_behind number done d m (e ∷ es) (k ∷ ks) =
+    change_line number done ++ difference d m.rows e k.rows ++ log_behind (number + 1) done e k es ks
+log_behind number done d m _ _ = []
+
+-- the text of the changes between images, from a number on
+abbrev pub log_from : ℕ → ℕ → List Disk → List MountedValue → List ℕ
+log_from number done (d ∷ ds) (m ∷ ms) = log_behind number done d m ds ms
+log_from number done _ _ = []
+
+-- the text of a history: each of its images mounts, and between each two of them stands a change
+pub record IsLog (h : History) (text : List ℕ) : Type 0 where
+  pub mounts : List MountedValue
+  pub are : AllZip IsMountOf (images h) mounts
+  pub text_is : text ≡ log_from 1 (length h.done) (images h) mounts

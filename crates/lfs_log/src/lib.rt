@@ -1,0 +1,11 @@
+//! The text of a history: its changes, and what each of them does to the tree.
+#![tactic(auto)]
+
+mod course;
+mod lines;
+mod log;
+mod mounting;
+mod telling;
+mod text;
+
+pub use log::log_of;
