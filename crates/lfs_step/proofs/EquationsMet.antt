@@ -4,7 +4,7 @@ use Rattle.lfs_history.specs.Taking.{Do, Undo, Redo, Forget}
 use Rattle.lfs_change.specs.declared.fault.Fault.{Fault}
 use Rattle.lfs_change.specs.declared.outcome.Outcome.{Outcome}
 use Rattle.lfs_change.specs.Laws.{ChangedBytesAreEquations, JournalsOfBytesGrowByTheNeed, JournalsOfBytesGrowOnTheKept}
-use Rattle.lfs_step.specs.Deed.{Deed, Make, Pack, Ask, Change}
+use Rattle.lfs_step.specs.Deed.{Deed, Make, Pack, Ask, Compare, Recount, Change}
 use Rattle.lfs_step.specs.Equations.{KeepsEquations, KeepsNeeds, MeetsEquation, MeetsNeed}
 use Rattle.lfs_step.specs.Outcome.{Answers, AnswersBy, AnswersDone, Given}
 
@@ -16,12 +16,14 @@ meets_equation : ChangedBytesAreEquations → (deed : Deed) (g : Given) (outcome
     → MeetsEquation deed g outcome
 meets_equation law (Change (Do asked keep)) g outcome changes =
     λ v tree holds mounts. law asked keep g.size g.image g.journal outcome v tree changes holds mounts
-meets_equation law (Change Undo) g outcome changes = tt
-meets_equation law (Change Redo) g outcome changes = tt
+meets_equation law (Change (Undo steps)) g outcome changes = tt
+meets_equation law (Change (Redo steps)) g outcome changes = tt
 meets_equation law (Change Forget) g outcome changes = tt
 meets_equation law (Make count) g outcome answers = tt
 meets_equation law (Pack count rows) g outcome answers = tt
 meets_equation law (Ask query) g outcome answers = tt
+meets_equation law (Compare other) g outcome answers = tt
+meets_equation law Recount g outcome answers = tt
 
 pub keeps_equations : ChangedBytesAreEquations → (deed : Deed) (g : Given) (outcome : Outcome) → Answers deed g outcome
     → KeepsEquations deed g outcome
@@ -32,12 +34,14 @@ meets_need : JournalsOfBytesGrowByTheNeed → JournalsOfBytesGrowOnTheKept → (
 meets_need law kept (Change (Do asked None)) g outcome changes = law asked None g.size g.image g.journal outcome changes
 meets_need law kept (Change (Do asked (Some keep))) g outcome changes =
     (law asked (Some keep) g.size g.image g.journal outcome changes, kept asked (Some keep) g.size g.image g.journal outcome changes)
-meets_need law kept (Change Undo) g outcome changes = tt
-meets_need law kept (Change Redo) g outcome changes = tt
+meets_need law kept (Change (Undo steps)) g outcome changes = tt
+meets_need law kept (Change (Redo steps)) g outcome changes = tt
 meets_need law kept (Change Forget) g outcome changes = tt
 meets_need law kept (Make count) g outcome answers = tt
 meets_need law kept (Pack count rows) g outcome answers = tt
 meets_need law kept (Ask query) g outcome answers = tt
+meets_need law kept (Compare other) g outcome answers = tt
+meets_need law kept Recount g outcome answers = tt
 
 pub keeps_needs : JournalsOfBytesGrowByTheNeed → JournalsOfBytesGrowOnTheKept → (deed : Deed) (g : Given) (outcome : Outcome)
     → Answers deed g outcome → KeepsNeeds deed g outcome

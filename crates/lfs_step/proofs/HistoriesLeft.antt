@@ -14,9 +14,9 @@ use Rattle.lfs_change.specs.Laws.{ChangedBytesAreDenoted}
 use Rattle.lfs_change.proofs.BytesLemmas.{image_of_disk}
 use Rattle.lfs_change.proofs.ChangeLemmas.{opened_denotes}
 use Rattle.lfs_change.proofs.LawLemmas.{one_denoted, some_bytes}
-use Rattle.lfs_step.specs.Deed.{Deed, Make, Pack, Ask, Change}
+use Rattle.lfs_step.specs.Deed.{Deed, Make, Pack, Ask, Compare, Recount, Change}
 use Rattle.lfs_step.specs.Histories.{KeepsHistories, StepsLeaveHistories}
-use Rattle.lfs_step.specs.Outcome.{Answers, AnswersBy, Given}
+use Rattle.lfs_step.specs.Outcome.{Answers, AnswersBy, Given, KeepsBoth}
 
 -- ---- a new image
 
@@ -44,6 +44,15 @@ begins opens size count image journal disk mounts empty =
     let read : DenotesOn d journal (fresh_history d) = subst (λ (l : List ℕ). DenotesOn d l (fresh_history d)) (sym empty) opened in
     subst (λ (e : Disk). IsDisk e × DenotesOn e journal (fresh_history e)) (sym (image_of_disk d disk)) (disk, read)
 
+-- ---- what is asked
+
+-- where image and journal stay, they denote what they denoted
+asked_leaves : (g : Given) (outcome : Outcome) → KeepsBoth g outcome → (old : History) → Denotes g.size g.image g.journal old
+    → Denotes g.size outcome.image.items outcome.journal.items old
+asked_leaves g outcome (image, journal) old denotes =
+    subst (λ (l : List ℕ). Denotes g.size l outcome.journal.items old) (sym image)
+    (subst (λ (l : List ℕ). Denotes g.size g.image l old) (sym journal) denotes)
+
 -- ---- any step
 
 pub steps_leave_histories : JournalsDenoteOneHistory → SavedHistoriesOpen → ChangedBytesAreDenoted → StepsLeaveHistories
@@ -53,9 +62,9 @@ steps_leave_histories one opens denoted (Make count) g outcome (formatted, empty
 steps_leave_histories one opens denoted (Pack count rows) g outcome (is, empty) = λ packed are.
     let packs = is packed are in
     begins opens g.size count outcome.image.items outcome.journal.items packs.disk (packs.volume, packs.holds, packs.sound) empty
-steps_leave_histories one opens denoted (Ask query) g outcome (image, journal) = λ old denotes.
-    subst (λ (l : List ℕ). Denotes g.size l outcome.journal.items old) (sym image)
-    (subst (λ (l : List ℕ). Denotes g.size g.image l old) (sym journal) denotes)
+steps_leave_histories one opens denoted (Ask query) g outcome both = λ old denotes. asked_leaves g outcome both old denotes
+steps_leave_histories one opens denoted (Compare other) g outcome both = λ old denotes. asked_leaves g outcome both old denotes
+steps_leave_histories one opens denoted Recount g outcome both = λ old denotes. asked_leaves g outcome both old denotes
 steps_leave_histories one opens denoted (Change step) g outcome changes = λ old denotes.
     let is = changes.1 in
     let d = image_of g.size g.image in

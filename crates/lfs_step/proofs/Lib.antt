@@ -6,3 +6,5 @@ pub mod RunsLeft
 pub mod RefusalLemmas
 pub mod EquationsMet
 pub mod PackedListed
+pub mod ComparingLemmas
+pub mod RecountingLemmas

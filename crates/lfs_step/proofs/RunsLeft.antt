@@ -7,7 +7,7 @@ use Rattle.lfs_change.specs.declared.outcome.Outcome.{Outcome}
 use Rattle.lfs_change.specs.Bytes.{image_of}
 use Rattle.lfs_change.specs.Change.{Denotes}
 use Rattle.lfs_change.specs.Laws.{BothFiles, RunsOfBytesAreRuns, Taken}
-use Rattle.lfs_step.specs.Deed.{Deed, Make, Pack, Ask, Change}
+use Rattle.lfs_step.specs.Deed.{Deed, Make, Pack, Ask, Compare, Recount, Change}
 use Rattle.lfs_step.specs.Histories.{Leaves, StepsLeaveHistories}
 use Rattle.lfs_step.specs.Outcome.{AnswersBy, Given, given}
 use Rattle.lfs_step.specs.Runs.{GoesBy, HasGoodRows, RunsGoOn, left_files}
@@ -34,6 +34,16 @@ one_goes leaves runs None (Ask query) g outcome old good denotes answers = recor
   new = old;
   goes = refl;
   leaves = leaves (Ask query) g outcome answers old denotes;
+}
+one_goes leaves runs None (Compare other) g outcome old good denotes answers = record {
+  new = old;
+  goes = refl;
+  leaves = leaves (Compare other) g outcome answers old denotes;
+}
+one_goes leaves runs None Recount g outcome old good denotes answers = record {
+  new = old;
+  goes = refl;
+  leaves = leaves Recount g outcome answers old denotes;
 }
 one_goes leaves runs None (Change step) g outcome old good denotes answers =
     let first : BothFiles = record { image = g.image; journal = g.journal } in

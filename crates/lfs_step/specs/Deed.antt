@@ -11,14 +11,17 @@ use Rattle.lfs_step.specs.declared.query.Query.{Query}
 use Rattle.lfs_step.specs.declared.query.Query.TheVariants as query
 use Rattle.lfs_step.specs.declared.step.Step.{Step}
 use Rattle.lfs_step.specs.declared.step.Step.TheVariants as step
-use Rattle.lfs_step.specs.declared.step.Step.TheVariants.{Format, Check, Ls, Cat, Mkdir, Put, Rm, Mv, SetAttr, RmAttr, Grow}
+use Rattle.lfs_step.specs.declared.step.Step.TheVariants.{Format, Check, Ls, Cat, Diff, Log, Mkdir, Put, Rm, Mv, SetAttr, RmAttr, Grow}
 use Rattle.lfs_step.specs.declared.step.Step.TheVariants.{Undo, Redo, Forget}
 
--- a new image of so many blocks is made, the root alone or with what rows have at their paths; something is asked of an image, or a step is taken on its history
+-- A new image of so many blocks is made, the root alone or with what rows have at their paths; something is asked of an image, also
+-- what another has otherwise, and what the changes in its journal changed; or a step is taken on its history.
 pub data Deed : Type 0 where
   Make : (count : ℕ) → Deed
   Pack : (count : ℕ) → (rows : List PackRow) → Deed
   Ask : (query : Query) → Deed
+  Compare : (other : List ℕ) → Deed
+  Recount : Deed
   Change : (step : change.Move) → Deed
 
 -- what a step does, with what it reads, and with how many images of the past are kept behind a command
@@ -28,6 +31,8 @@ deed_of (step.Pack count rows) input keep = Pack count rows.now
 deed_of Check input keep = Ask query.Check
 deed_of Ls input keep = Ask query.Ls
 deed_of (Cat path) input keep = Ask (query.Cat path)
+deed_of (Diff name) input keep = Compare input
+deed_of Log input keep = Recount
 deed_of (Mkdir path) input keep = Change (Do (asked.Mkdir path.now) keep)
 deed_of (Put path) input keep = Change (Do (asked.Put path.now input) keep)
 deed_of (Rm path) input keep = Change (Do (asked.Rm path.now) keep)
@@ -35,13 +40,20 @@ deed_of (Mv from to) input keep = Change (Do (asked.Mv from.now to.now) keep)
 deed_of (SetAttr path kind value) input keep = Change (Do (asked.SetAttr path.now kind value.now) keep)
 deed_of (RmAttr path kind) input keep = Change (Do (asked.RmAttr path.now kind) keep)
 deed_of (Grow count) input keep = Change (Do (asked.Grow count) keep)
-deed_of Undo input keep = Change change.Undo
-deed_of Redo input keep = Change change.Redo
+deed_of (Undo steps) input keep = Change (change.Undo steps)
+deed_of (Redo steps) input keep = Change (change.Redo steps)
 deed_of Forget input keep = Change change.Forget
 
--- what the code's value stands for
-abbrev pub deed_held : Written → Deed
-deed_held (written.Make count) = Make count
-deed_held (written.Pack count rows) = Pack count rows.now
-deed_held (written.Ask query) = Ask query
-deed_held (written.Change step) = Change (step_of step)
+-- a step that compares no images
+abbrev pub IsNoComparison : Step → Type 0
+IsNoComparison (Diff name) = ⊥
+IsNoComparison _ = Unit {0}
+
+-- what the code's value stands for, with what the step reads
+abbrev pub deed_held : List ℕ → Written → Deed
+deed_held input (written.Make count) = Make count
+deed_held input (written.Pack count rows) = Pack count rows.now
+deed_held input (written.Ask query) = Ask query
+deed_held input written.Compare = Compare input
+deed_held input written.Recount = Recount
+deed_held input (written.Change step) = Change (step_of step)

@@ -6,7 +6,7 @@ use Rattle.lfs_change.specs.declared.outcome.Outcome.{Outcome}
 use Rattle.lfs_change.specs.Bytes.{image_of}
 use Rattle.lfs_change.specs.Change.{Denotes, journal_read}
 use Rattle.lfs_pack.specs.Packed.{AreRowsOf, Packed}
-use Rattle.lfs_step.specs.Deed.{Deed, Make, Pack, Ask, Change}
+use Rattle.lfs_step.specs.Deed.{Deed, Make, Pack, Ask, Compare, Recount, Change}
 use Rattle.lfs_step.specs.Outcome.{AnswersDone, Given}
 
 -- the image and the journal that are left denote this history
@@ -20,6 +20,8 @@ LeavesHistory (Make count) g outcome = Leaves g outcome (fresh_history (image_of
 LeavesHistory (Pack count rows) g outcome =
     (packed : List Packed) → AreRowsOf rows packed → Leaves g outcome (fresh_history (image_of g.size outcome.image.items))
 LeavesHistory (Ask query) g outcome = (old : History) → Denotes g.size g.image g.journal old → Leaves g outcome old
+LeavesHistory (Compare other) g outcome = (old : History) → Denotes g.size g.image g.journal old → Leaves g outcome old
+LeavesHistory Recount g outcome = (old : History) → Denotes g.size g.image g.journal old → Leaves g outcome old
 LeavesHistory (Change step) g outcome =
     (old : History) → Denotes g.size g.image (journal_read step g.journal) old
     → (new : History) × Takes step None old new × Leaves g outcome new

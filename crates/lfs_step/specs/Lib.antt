@@ -1,6 +1,8 @@
 pub mod Deed
 pub mod Outcome
 pub mod Query
+pub mod Comparing
+pub mod Recounting
 pub mod Summary
 pub mod Histories
 pub mod Runs

@@ -12,11 +12,13 @@ use Rattle.lfs_change.specs.declared.fault.Fault.TheVariants.{Image, Refused}
 use Rattle.lfs_change.specs.declared.outcome.Outcome.{Outcome}
 use Rattle.lfs_change.specs.Bytes.{image_of}
 use Rattle.lfs_change.specs.Change.{ChangesBytes, RefusesChange}
+use Rattle.lfs_step.specs.Comparing.{RefusesCompared, SendsCompared}
 use Rattle.lfs_step.specs.Query.{RefusesQuery, SendsReport}
+use Rattle.lfs_step.specs.Recounting.{RefusesRecounted, SendsRecounted}
 use Rattle.lfs_pack.specs.declared.pack_row.PackRow.{PackRow}
 use Rattle.lfs_pack.specs.Packed.{AreRowsOf, Packed}
 use Rattle.lfs_pack.specs.Packing.{IsPacked, RefusesPack}
-use Rattle.lfs_step.specs.Deed.{Deed, Make, Pack, Ask, Change}
+use Rattle.lfs_step.specs.Deed.{Deed, Make, Pack, Ask, Compare, Recount, Change}
 
 -- what a step is given, beside what it reads: the size of a block, the bytes of the image and of the journal
 pub record Given : Type 0 where
@@ -47,6 +49,8 @@ abbrev pub Refuses : Deed → Given → Fault → Type 0
 Refuses (Make count) g fault = RefusesFormat g.size count fault
 Refuses (Pack count rows) g fault = RefusesPacking g.size count rows fault
 Refuses (Ask query) g fault = RefusesQuery query g.size g.image fault
+Refuses (Compare other) g fault = RefusesCompared g.size g.image other fault
+Refuses Recount g fault = RefusesRecounted g.size g.image g.journal fault
 Refuses (Change step) g fault = RefusesChange step g.size g.image g.journal fault
 
 -- image and journal are those that the step was given
@@ -62,6 +66,8 @@ AnswersDone (Pack count rows) g outcome =
     ((packed : List Packed) → AreRowsOf rows packed → IsPacked g.size count packed outcome.image.items)
     × (outcome.journal.items ≡ journal_bytes (book_of g.size count [] 0))
 AnswersDone (Ask query) g outcome = KeepsBoth g outcome
+AnswersDone (Compare other) g outcome = KeepsBoth g outcome
+AnswersDone Recount g outcome = KeepsBoth g outcome
 AnswersDone (Change step) g outcome = ChangesBytes step g.size g.image g.journal outcome
 
 -- what is answered; with a fault, image and journal are those that were given
@@ -74,9 +80,11 @@ AnswersBy (Some fault) deed g outcome =
 abbrev pub Answers : Deed → Given → Outcome → Type 0
 Answers deed g outcome = AnswersBy outcome.fault deed g outcome
 
--- what goes out of a deed's text; only a query has one
+-- what goes out of a deed's text; only what is asked has one
 abbrev pub SendsText : Deed → Given → Option Fault → Option (List ℕ) → Option (List ℕ) → Type 0
 SendsText (Make count) g fault old new = Keeps old new
 SendsText (Pack count rows) g fault old new = Keeps old new
 SendsText (Ask query) g fault old new = SendsReport query (image_of g.size g.image) fault old new
+SendsText (Compare other) g fault old new = SendsCompared g.size g.image other fault old new
+SendsText Recount g fault old new = SendsRecounted g.size g.image g.journal fault old new
 SendsText (Change step) g fault old new = Keeps old new

@@ -10,7 +10,7 @@ use Rattle.lfs_change.specs.Change.{Denotes}
 use Rattle.lfs_change.specs.Laws.{BothFiles}
 use Rattle.lfs_pack.specs.Packed.{AreRowsOf, Packed}
 use Rattle.lfs_pack.specs.Packing.{IsPacked}
-use Rattle.lfs_step.specs.Deed.{Deed, Make, Pack, Ask, Change}
+use Rattle.lfs_step.specs.Deed.{Deed, Make, Pack, Ask, Compare, Recount, Change}
 use Rattle.lfs_step.specs.Outcome.{Answers, Given, Refuses, given}
 
 -- a deed, and what was answered to it
@@ -41,6 +41,8 @@ GoesOn size (Pack count rows) old new =
     (new ≡ fresh_history new.present)
     × ((packed : List Packed) → AreRowsOf rows packed → IsPacked size count packed new.present.bytes)
 GoesOn size (Ask query) old new = new ≡ old
+GoesOn size (Compare other) old new = new ≡ old
+GoesOn size Recount old new = new ≡ old
 GoesOn size (Change step) old new = Takes step None old new
 
 -- a deed that is refused leaves the history, and the cause holds of what it was given

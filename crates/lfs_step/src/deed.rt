@@ -28,16 +28,20 @@ pub enum Deed<'a> {
     },
     /// Asks something of it.
     Ask(Query<'a>),
+    /// Asks what an image that the step reads has otherwise.
+    Compare,
+    /// Asks what the changes in its journal changed.
+    Recount,
     /// Changes it, or what is kept of its changes: a step on its history.
     Change(Move<'a>),
 }
 
-/// What a step does with an image, `input` being what it reads: the contents of a file that is put. Behind a command `keep` images of
-/// the past are kept, or all of them. Takes no memory.
+/// What a step does with an image, `input` being what it reads: the contents of a file that is put, or an image that the first is compared
+/// with. Behind a command `keep` images of the past are kept, or all of them. Takes no memory.
 ///
 /// Source: own.
 pub fn deed_of<'a>(step: &Step<'a>, input: &'a [u8], keep: Option<u32>) -> Deed<'a>
-    ensures { deed_held result ≡ deed_of step.now input.now keep }
+    ensures { deed_held input.now result ≡ deed_of step.now input.now keep }
 {
     let command = match *step {
         Step::Format { count } => return Deed::Make { count },
@@ -45,8 +49,10 @@ pub fn deed_of<'a>(step: &Step<'a>, input: &'a [u8], keep: Option<u32>) -> Deed<
         Step::Check => return Deed::Ask(Query::Check),
         Step::Ls => return Deed::Ask(Query::Ls),
         Step::Cat { path } => return Deed::Ask(Query::Cat { path }),
-        Step::Undo => return Deed::Change(Move::Undo),
-        Step::Redo => return Deed::Change(Move::Redo),
+        Step::Diff { .. } => return Deed::Compare,
+        Step::Log => return Deed::Recount,
+        Step::Undo { steps } => return Deed::Change(Move::Undo { steps }),
+        Step::Redo { steps } => return Deed::Change(Move::Redo { steps }),
         Step::Forget => return Deed::Change(Move::Forget),
         Step::Mkdir { path } => Command::Mkdir { path },
         Step::Put { path } => Command::Put { path, bytes: input },

@@ -1,11 +1,14 @@
 //! One step on the bytes of an image and its journal.
 #![tactic(auto)]
 
+mod comparing;
 mod deed;
 mod laws;
 mod query;
 mod querying;
+mod recounting;
 mod running;
+mod sending;
 mod step;
 mod summary;
 

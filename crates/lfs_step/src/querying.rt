@@ -1,21 +1,20 @@
 //! One query of an image.
 
-ghost use Rattle.std.specs.Prelude.{◌≡◌, false, IfErr, None, Some, if◌then◌else◌};
+ghost use Rattle.std.specs.Prelude.{◌≡◌, false, IfErr};
 ghost use Rattle.std.specs.Result.{result_err};
 ghost use Rattle.lfs_fs.specs.Mounted.{IsMountOf};
 ghost use Rattle.lfs_change.specs.Fault.{blames_output, status_of};
-ghost use Rattle.lfs_change.specs.declared.fault.Fault.TheVariants.{CannotWrite};
 ghost use Rattle.lfs_step.specs.declared.query.Query.TheVariants.{Check, Ls};
-ghost use Rattle.lfs_step.specs.Query.{AnswersQuery, RefusesReport, SendsQuery, SendsReport, fault_of_unsent};
+ghost use Rattle.lfs_step.specs.Query.{AnswersQuery, RefusesReport, SendsQuery, SendsReport};
 
 use crate::query::Query;
+use crate::sending::{fault_of_listing, sent_whole};
 use crate::summary::summary;
 use lfs_block::Image;
 use lfs_change::{Fault, Outcome};
 use lfs_contents::send_file;
-use lfs_edit::Refusal;
 use lfs_fs::{Mounted, mount};
-use lfs_listing::{Unsent, send_listing};
+use lfs_listing::send_listing;
 use lfs_sink::{Sink, send};
 use std::alloc::Global;
 use std::mem::forget;
@@ -45,27 +44,6 @@ pub fn queried<S: Sink>(
             Outcome::new(image.into_bytes(), journal, fault)
         }
         Err((fault, image)) => Outcome::new(image, journal, Some(Fault::Image(fault))),
-    }
-}
-
-/// What a text that did not go out as a whole is told as.
-fn sent_whole(whole: bool) -> Result<(), Fault>
-    ensures { result_err result ≡ (if whole then None else Some CannotWrite) }
-{
-    if whole {
-        Ok(())
-    } else {
-        Err(Fault::CannotWrite)
-    }
-}
-
-/// What a listing that did not go out as a whole is told as.
-fn fault_of_listing(unsent: Unsent) -> Fault
-    ensures { result ≡ fault_of_unsent unsent }
-{
-    match unsent {
-        Unsent::Memory => Fault::Refused(Refusal::Memory),
-        Unsent::CannotWrite => Fault::CannotWrite,
     }
 }
 

@@ -13,11 +13,13 @@ ghost use Rattle.lfs_step.specs.Histories.{KeepsHistories};
 ghost use Rattle.lfs_step.specs.Outcome.{Answers, RefusesFormat, RefusesPacking, SendsText, given};
 ghost use Rattle.lfs_pack.specs.Packed.{AreRowsOf, Packed};
 ghost use Rattle.lfs_pack.specs.Packing.{IsPacked};
-ghost use Rattle.lfs_step.specs.Deed.{Make, Pack, deed_of};
+ghost use Rattle.lfs_step.specs.Deed.{IsNoComparison, Make, Pack, deed_of};
 
+use crate::comparing::compared;
 use crate::deed::{Deed, deed_of};
 use crate::laws::steps_leave_histories;
 use crate::querying::queried;
+use crate::recounting::recounted;
 use crate::step::Step;
 use lfs_block::{ImageFault, geometry_ok};
 use lfs_book::write_journal;
@@ -30,11 +32,12 @@ use lfs_sink::Sink;
 use std::alloc::Global;
 
 /// Takes one step on an image and its journal, with blocks of `size` bytes. `input` is what the step reads: the
-/// contents of a file that is put. What it says goes to `out`, and the caller owes that this has not failed. With a
+/// contents of a file that is put, or an image that the first is compared with. What it says goes to `out`, and the caller owes that this has not failed. With a
 /// fault the image and the journal are those that were handed in, and nothing goes out but where `out` itself failed.
 /// An empty journal is that of an image that nothing was done to. A step that changes the image is one on the history
 /// that image and journal denote, and answers those of the history that it leaves; a new image gets a journal without
-/// changes. Queries and new images read no journal, and forgetting none either. Behind a command `keep` images of the past are kept,
+/// changes. What is asked leaves both files as they are; of such
+/// steps only the recount of changes reads the journal. New images read none, and forgetting none either. Behind a command `keep` images of the past are kept,
 /// or all of them; the caller owes that it is 1 to 1,000, and other steps don't look at it. A step that is done leaves an image and a
 /// journal that denote the history to which it leads; a command, an image that mounts to the command's equation, and a journal that
 /// has grown by no more than the command's need. Takes memory.
@@ -46,17 +49,17 @@ pub fn run<S: Sink>(
     size: u32,
     image: Vec<u8>,
     journal: Vec<u8>,
-    input: &[u8],
+    input: Vec<u8>,
     keep: Option<u32>,
     out: &mut S,
 ) -> Outcome
     requires works { S.failed out.old ≡ false }
     requires keep { MayKeep keep }
-    ensures answers { Answers (deed_of step.now input.now keep) (given size image.items journal.items) result }
-    ensures history { KeepsHistories (deed_of step.now input.now keep) (given size image.items journal.items) result }
-    ensures equation { KeepsEquations (deed_of step.now input.now keep) (given size image.items journal.items) result }
-    ensures growth { KeepsNeeds (deed_of step.now input.now keep) (given size image.items journal.items) result }
-    ensures sent { SendsText (deed_of step.now input.now keep) (given size image.items journal.items) result.fault (S.sent out.old) (S.sent out.new) }
+    ensures answers { Answers (deed_of step.now input.items keep) (given size image.items journal.items) result }
+    ensures history { KeepsHistories (deed_of step.now input.items keep) (given size image.items journal.items) result }
+    ensures equation { KeepsEquations (deed_of step.now input.items keep) (given size image.items journal.items) result }
+    ensures growth { KeepsNeeds (deed_of step.now input.items keep) (given size image.items journal.items) result }
+    ensures sent { SendsText (deed_of step.now input.items keep) (given size image.items journal.items) result.fault (S.sent out.old) (S.sent out.new) }
     ensures failed { S.failed out.new ≡ blames_output result.fault }
     ensures kept { S.kept out.new ≡ S.kept out.old }
     ensures status { result.status ≡ status_of result.fault }
@@ -64,10 +67,38 @@ pub fn run<S: Sink>(
     changed_bytes_are_equations();
     journals_of_bytes_grow_by_the_need();
     steps_leave_histories();
+    match step {
+        Step::Diff { .. } => compared(alloc, size, image, journal, input, out),
+        _ => taken(alloc, step, size, image, journal, &input, keep, out),
+    }
+}
+
+/// Takes a step that compares no images.
+fn taken<S: Sink>(
+    alloc: Global,
+    step: &Step<'_>,
+    size: u32,
+    image: Vec<u8>,
+    journal: Vec<u8>,
+    input: &[u8],
+    keep: Option<u32>,
+    out: &mut S,
+) -> Outcome
+    requires other { IsNoComparison step.now }
+    requires works { S.failed out.old ≡ false }
+    requires keep { MayKeep keep }
+    ensures answers { Answers (deed_of step.now input.now keep) (given size image.items journal.items) result }
+    ensures sent { SendsText (deed_of step.now input.now keep) (given size image.items journal.items) result.fault (S.sent out.old) (S.sent out.new) }
+    ensures failed { S.failed out.new ≡ blames_output result.fault }
+    ensures kept { S.kept out.new ≡ S.kept out.old }
+    ensures status { result.status ≡ status_of result.fault }
+{
     match deed_of(step, input, keep) {
         Deed::Make { count } => formatted(alloc, size, count, image, journal),
         Deed::Pack { count, rows } => packed(alloc, size, count, rows, image, journal),
         Deed::Ask(query) => queried(alloc, &query, size, image, journal, out),
+        Deed::Compare => unreachable!(),
+        Deed::Recount => recounted(alloc, size, image, journal, out),
         Deed::Change(change) => changed(alloc, &change, size, image, journal),
     }
 }

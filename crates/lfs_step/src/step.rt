@@ -28,6 +28,13 @@ pub enum Step<'a> {
         /// The text of the file's path.
         path: &'a [u8],
     },
+    /// Says what another image has otherwise. The step reads that image.
+    Diff {
+        /// The name of its file.
+        other: &'a str,
+    },
+    /// Says what the changes in the journal changed.
+    Log,
     /// Makes a directory.
     Mkdir {
         /// The text of the directory's path.
@@ -71,10 +78,16 @@ pub enum Step<'a> {
         /// How many blocks the image then has.
         count: u32,
     },
-    /// Takes the latest change back.
-    Undo,
-    /// Makes again the latest change that was taken back.
-    Redo,
+    /// Takes the latest changes back, all of them or none.
+    Undo {
+        /// How many changes.
+        steps: u32,
+    },
+    /// Makes again the latest changes that were taken back, all of them or none.
+    Redo {
+        /// How many changes.
+        steps: u32,
+    },
     /// Keeps the image, and no change that led to it or was taken back.
     Forget,
 }

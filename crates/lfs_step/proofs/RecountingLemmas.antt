@@ -1,0 +1,96 @@
+-- What is answered of the changes in a journal.
+use Rattle.std.proofs.Common.{◌≡◌, ◌≢◌, ℕ, List, [], ◌∷◌, Option, Result, Ok, Err, IfErr, IfOk, Bool, true, false, None, Some, length, refl, sym, ap, ap₂, subst, ◌∙◌}
+use Rattle.std.proofs.Common.{arith}
+use Rattle.std.proofs.lemmas.Bool.{eqb-true}
+use Rattle.std.specs.Prelude.{◌==◌, if◌then◌else◌, unwrap_or}
+use Rattle.std.specs.Global.{Vec}
+use Rattle.std.specs.Result.{result_err}
+use Rattle.lfs_block.specs.Disk.{Disk, IsDisk}
+use Rattle.lfs_fs.specs.Mounted.{MountedValue, IsMountOf}
+use Rattle.lfs_history.specs.declared.open_fault.OpenFault.{OpenFault}
+use Rattle.lfs_history.specs.History.{History, fresh_history}
+use Rattle.lfs_history.specs.Opening.{Opens}
+use Rattle.lfs_log.specs.Log.{IsLog}
+use Rattle.lfs_change.specs.declared.fault.Fault.{Fault}
+use Rattle.lfs_change.specs.declared.fault.Fault.TheVariants as fault
+use Rattle.lfs_change.specs.declared.outcome.Outcome.{Outcome}
+use Rattle.lfs_change.specs.Bytes.{image_of}
+use Rattle.lfs_change.proofs.BytesLemmas.{image_of_disk}
+use Rattle.lfs_change.proofs.ChangeLemmas.{opened_denotes}
+use Rattle.lfs_step.specs.Deed.{Recount}
+use Rattle.lfs_step.specs.Outcome.{Answers, AnswersBy, given}
+use Rattle.lfs_step.proofs.HistoriesLeft.{fresh_is}
+use Rattle.lfs_step.specs.Recounting.{IsRecount, RefusesRecount, RefusesRecounted, SendsRecount, SendsRecounted}
+
+-- what is refused of an image is refused of its bytes
+bytes_refused : (size : ℕ) (bytes journal : List ℕ) (f : Fault) → IsDisk (image_of size bytes) × RefusesRecount (image_of size bytes) journal f
+    → RefusesRecounted size bytes journal f
+bytes_refused size bytes journal (fault.Image f) refuses = absurd refuses.1
+bytes_refused size bytes journal f refuses = refuses
+
+at_bytes : (d : Disk) (size : ℕ) (bytes : List ℕ) (P : Disk → Type 0) → IsDisk d → d.size ≡ size → d.bytes ≡ bytes → P d → P (image_of size bytes)
+at_bytes d size bytes P is sizes same holds = subst P (sym (image_of_disk d is) ∙ ap₂ image_of sizes same) holds
+
+answered : {T : Type 0} (d : Disk) (size : ℕ) (bytes journal : List ℕ) (reported : Result T Fault) (o : Outcome) → IsDisk d → d.size ≡ size
+    → d.bytes ≡ bytes → IfErr reported (λ f. RefusesRecount d journal f) → o.image.items ≡ bytes → o.journal.items ≡ journal
+    → AnswersBy (result_err reported) Recount (given size bytes journal) o
+answered d size bytes journal (Ok x) o is sizes same refuses image kept = (image, kept)
+answered d size bytes journal (Err f) o is sizes same refuses image kept = (
+  image,
+  kept,
+  bytes_refused size bytes journal f
+      (at_bytes d size bytes (λ x. IsDisk x × RefusesRecount x journal f) is sizes same (is, refuses)),
+)
+
+pub recount_answers : {T : Type 0} (size : ℕ) (bytes journal : List ℕ) (d : Disk) (reported : Result T Fault) (o : Outcome) → IsDisk d
+    → d.size ≡ size → d.bytes ≡ bytes → IfErr reported (λ f. RefusesRecount d journal f) → o.fault ≡ result_err reported
+    → o.image.items ≡ bytes → o.journal.items ≡ journal → Answers Recount (given size bytes journal) o
+recount_answers size bytes journal d reported o is sizes same refuses fault_is image kept =
+    subst (λ (x : Option Fault). AnswersBy x Recount (given size bytes journal) o) (sym fault_is)
+    (answered d size bytes journal reported o is sizes same refuses image kept)
+
+pub recount_sends : (size : ℕ) (bytes journal : List ℕ) (d : Disk) (f : Option Fault) (old new : Option (List ℕ)) → IsDisk d → d.size ≡ size
+    → d.bytes ≡ bytes → SendsRecount d journal f old new → SendsRecounted size bytes journal f old new
+recount_sends size bytes journal d f old new is sizes same sends =
+    at_bytes d size bytes (λ x. SendsRecount x journal f old new) is sizes same sends
+
+-- ---- the text
+
+-- a journal that is there is told as its history
+pub log_told : (d : Disk) (journal : List ℕ) (r : Result (Vec ℕ) OpenFault) → journal ≢ []
+    → IfOk r (λ text. (h : History) × Opens d journal h × IsLog h text.items) → IfOk r (λ text. IsRecount d journal text.items)
+log_told d journal (Ok text) some (h, opens, log) =
+    record { history = h; denotes = opened_denotes d journal h some opens; log = log }
+log_told d journal (Err f) some told = tt
+
+-- without any, nothing was done to the image
+pub nothing_told : (d : Disk) (m : MountedValue) → IsDisk d → IsMountOf d m → IsRecount d [] []
+nothing_told d m is mount = record {
+  history = fresh_history d;
+  denotes = (refl, fresh_is d is (mount.volume, mount.holds, mount.sound));
+  log = record { mounts = m ∷ []; are = (mount, tt); text_is = refl };
+}
+
+-- ---- what is told of it
+
+-- bytes of which there are none
+no_bytes : (bytes : List ℕ) (is_none : Bool) → is_none ≡ length bytes == 0 → is_none ≡ true → [] ≡ bytes
+no_bytes [] is_none is none = refl
+no_bytes (byte ∷ bytes) is_none is none =
+    let zero_long : length (byte ∷ bytes) ≡ 0 = eqb-true (length (byte ∷ bytes)) 0 (sym is ∙ none) in
+    absurd (omega (arith, zero_long))
+
+pub empty_told : (d : Disk) (journal text : List ℕ) (m : MountedValue) (is_none : Bool) → is_none ≡ length journal == 0 → is_none ≡ true
+    → text ≡ [] → IsDisk d → IsMountOf d m → IsRecount d journal text
+empty_told d journal text m is_none is none empty disk mount =
+    subst (λ (j : List ℕ). IsRecount d j text) (no_bytes journal is_none is none)
+    (subst (λ (t : List ℕ). IsRecount d [] t) (sym empty) (nothing_told d m disk mount))
+
+-- a text that didn't go out as a whole is told as that
+pub recount_unsent : (d : Disk) (journal text : List ℕ) (r : Result (Unit {0}) Fault) (whole : Bool)
+    → result_err r ≡ (if whole then None else Some fault.CannotWrite) → IsRecount d journal text → IfErr r (λ f. RefusesRecount d journal f)
+recount_unsent d journal text (Ok x) whole is told = tt
+recount_unsent d journal text (Err f) true is told = absurd cc
+recount_unsent d journal text (Err f) false is told =
+    let same : f ≡ fault.CannotWrite = ap (λ (o : Option Fault). unwrap_or o f) is in
+    subst (λ (x : Fault). RefusesRecount d journal x) (sym same) (text, told)

@@ -1,0 +1,79 @@
+//! What the changes in a journal changed.
+
+ghost use Rattle.std.specs.Prelude.{◌≡◌, false, IfErr, IfOk};
+ghost use Rattle.std.specs.Result.{result_err};
+ghost use Rattle.lfs_change.specs.Change.{RefusesDenoting};
+ghost use Rattle.lfs_change.specs.Fault.{blames_output, status_of};
+ghost use Rattle.lfs_step.specs.Deed.{Recount};
+ghost use Rattle.lfs_step.specs.Outcome.{Answers, given};
+ghost use Rattle.lfs_step.specs.Recounting.{IsRecount, RefusesRecount, SendsRecount, SendsRecounted};
+
+use crate::sending::sent_whole;
+use lfs_block::{Blocks, Image};
+use lfs_change::{Fault, Outcome};
+use lfs_fs::mount;
+use lfs_history::OpenFault;
+use lfs_log::log_of;
+use lfs_sink::{Sink, send};
+use std::alloc::Global;
+
+/// Tells what the changes in a journal changed of bytes that are an image, with blocks of `size` bytes; image and journal are answered
+/// as they were handed in. An empty journal is one without changes. The caller owes that `out` has not failed. The journal is judged as
+/// where a change is taken back, before anything goes out. Takes memory.
+///
+/// Source: own.
+pub fn recounted<S: Sink>(
+    alloc: Global,
+    size: u32,
+    image: Vec<u8>,
+    journal: Vec<u8>,
+    out: &mut S,
+) -> Outcome
+    requires { S.failed out.old ≡ false }
+    ensures answers { Answers Recount (given size image.items journal.items) result }
+    ensures sent { SendsRecounted size image.items journal.items result.fault (S.sent out.old) (S.sent out.new) }
+    ensures failed { S.failed out.new ≡ blames_output result.fault }
+    ensures kept { S.kept out.new ≡ S.kept out.old }
+    ensures status { result.status ≡ status_of result.fault }
+{
+    match Image::new(image, size) {
+        Ok(mut image) => {
+            let fault = recount(alloc, &mut image, &journal, out).err();
+            Outcome::new(image.into_bytes(), journal, fault)
+        }
+        Err((fault, image)) => Outcome::new(image, journal, Some(Fault::Image(fault))),
+    }
+}
+
+/// Tells what the changes in a journal changed of an image, which stands again as it was.
+fn recount<S: Sink>(
+    alloc: Global,
+    image: &mut Image,
+    journal: &[u8],
+    out: &mut S,
+) -> Result<(), Fault>
+    requires { S.failed out.old ≡ false }
+    ensures refused { IfErr result (λ fault. RefusesRecount image.old.disk journal.now fault) }
+    ensures sent { SendsRecount image.old.disk journal.now (result_err result) (S.sent out.old) (S.sent out.new) }
+    ensures failed { S.failed out.new ≡ blames_output (result_err result) }
+    ensures kept { S.kept out.new ≡ S.kept out.old }
+    ensures disk { image.new.disk ≡ image.old.disk }
+{
+    let text = recount_of(alloc, image, journal)?;
+    sent_whole(send(out, &text))
+}
+
+/// The text of the history that an image and the bytes of a journal denote; without any, nothing was done to the image, which stands
+/// again as it was.
+fn recount_of(alloc: Global, image: &mut Image, journal: &[u8]) -> Result<Vec<u8>, OpenFault>
+    ensures text { IfOk result (λ text. IsRecount image.old.disk journal.now text.items) }
+    ensures refused { IfErr result (λ fault. RefusesDenoting fault image.old.disk journal.now) }
+    ensures disk { image.new.disk ≡ image.old.disk }
+{
+    if !journal.is_empty() {
+        return log_of(alloc, image, journal);
+    }
+    let _size = image.size();
+    mount(alloc, image)?;
+    Ok(Vec::new(alloc))
+}
