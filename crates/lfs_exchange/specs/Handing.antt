@@ -4,11 +4,12 @@ use Rattle.lfs_book.specs.Book.{most_journal}
 use Rattle.lfs_fs.specs.Limits.{most_file}
 use Rattle.lfs_command.specs.declared.refusal.Refusal.TheVariants.{Memory}
 use Rattle.lfs_change.specs.declared.fault.Fault.{Fault}
-use Rattle.lfs_change.specs.declared.fault.Fault.TheVariants.{Refused, CannotRead, CannotWrite}
+use Rattle.lfs_change.specs.declared.fault.Fault.TheVariants.{Refused, CannotRead, CannotWrite, Other}
+use Rattle.lfs_change.specs.declared.other_fault.OtherFault.TheVariants as other
 use Rattle.lfs_exchange.specs.declared.step_kind.StepKind.{StepKind}
-use Rattle.lfs_exchange.specs.declared.step_kind.StepKind.TheVariants.{Makes, Asks, Changes}
+use Rattle.lfs_exchange.specs.declared.step_kind.StepKind.TheVariants.{Makes, Asks, Recounts, Changes}
 use Rattle.lfs_step.specs.declared.step.Step.{Step}
-use Rattle.lfs_step.specs.declared.step.Step.TheVariants.{Put}
+use Rattle.lfs_step.specs.declared.step.Step.TheVariants.{Diff, Put}
 use Rattle.lfs_host.specs.declared.read_fault.ReadFault.{ReadFault}
 use Rattle.lfs_host.specs.declared.read_fault.ReadFault.TheVariants as reading
 use Rattle.lfs_host.specs.Files.{Files, FindsFile, IsMissing, ReadsFile, ReadsInput}
@@ -28,12 +29,14 @@ HandsImage _ files name image = ReadsFile files name most_image image
 -- the bytes of a journal that a step is handed: those of its file, where the step reads one and it is there
 abbrev pub HandsJournal : StepKind → Option Files → List ℕ → List ℕ → Type 0
 HandsJournal Changes files name journal = FindsFile files (journal_name name) most_journal journal
+HandsJournal Recounts files name journal = FindsFile files (journal_name name) most_journal journal
 HandsJournal _ files name journal = journal ≡ []
 
--- the contents that a step is handed: those on standard input where a file is put
-abbrev pub HandsInput : Step → Option (List ℕ) → List ℕ → Type 0
-HandsInput (Put path) typed input = ReadsInput typed most_file input
-HandsInput _ typed input = input ≡ []
+-- what a step reads besides: standard input where a file is put, the file of an image that the first is compared with
+abbrev pub HandsInput : Step → Option Files → Option (List ℕ) → List ℕ → Type 0
+HandsInput (Put path) files typed input = ReadsInput typed most_file input
+HandsInput (Diff name) files typed input = ReadsFile files name.now most_image input
+HandsInput _ files typed input = input ≡ []
 
 -- what a step is handed
 pub record HandedBytes : Type 0 where
@@ -45,7 +48,7 @@ pub record HandedBytes : Type 0 where
 pub record IsHanded (step : Step) (name : List ℕ) (s : Scene) (h : HandedBytes) : Type 0 where
   pub image : HandsImage (kind_of step) s.files name h.image
   pub journal : HandsJournal (kind_of step) s.files name h.journal
-  pub input : HandsInput step s.typed h.input
+  pub input : HandsInput step s.files s.typed h.input
 
 -- ---- faults of the host
 
@@ -54,6 +57,15 @@ abbrev pub IsUnread : Scene → Fault → Type 0
 IsUnread scene CannotRead = HasRefused scene
 IsUnread scene (Refused refusal) = refusal ≡ Memory
 IsUnread scene _ = ⊥
+
+-- the host has refused to read the image that another is compared with
+abbrev pub IsOtherUnread : Step → Scene → Fault → Type 0
+IsOtherUnread (Diff name) scene fault = (fault ≡ Other other.CannotRead) × HasRefused scene
+IsOtherUnread _ scene fault = ⊥
+
+-- why a step isn't handed what it needs
+abbrev pub IsNotHanded : Step → Scene → Fault → Type 0
+IsNotHanded step scene fault = IsUnread scene fault ⊎ IsOtherUnread step scene fault
 
 -- a fault that the host alone gives rise to: it has refused something, or memory was wanting
 abbrev pub IsOfHost : Scene → Fault → Type 0
@@ -69,6 +81,7 @@ IsNotLocked scene name fault = IsOfHost scene fault ⊎ ((fault ≡ CannotRead) 
 -- why the file of a name isn't at hand: one that is only read isn't read, another isn't locked
 abbrev pub IsNotAimed : StepKind → Scene → List ℕ → Fault → Type 0
 IsNotAimed Asks scene name fault = IsUnread scene fault
+IsNotAimed Recounts scene name fault = IsUnread scene fault
 IsNotAimed _ scene name fault = IsNotLocked scene name fault
 
 -- what a fault of reading is told as

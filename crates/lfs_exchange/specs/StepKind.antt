@@ -1,8 +1,8 @@
 -- What a step is to an image and its journal (own).
 use Rattle.lfs_exchange.specs.declared.step_kind.StepKind.{StepKind}
-use Rattle.lfs_exchange.specs.declared.step_kind.StepKind.TheVariants.{Makes, Asks, Changes, Forgets}
+use Rattle.lfs_exchange.specs.declared.step_kind.StepKind.TheVariants.{Makes, Asks, Recounts, Changes, Forgets}
 use Rattle.lfs_step.specs.declared.step.Step.{Step}
-use Rattle.lfs_step.specs.declared.step.Step.TheVariants.{Format, Pack, Check, Ls, Cat, Forget}
+use Rattle.lfs_step.specs.declared.step.Step.TheVariants.{Format, Pack, Check, Ls, Cat, Diff, Log, Forget}
 
 -- the kind of a step
 abbrev pub kind_of : Step → StepKind
@@ -11,5 +11,7 @@ kind_of (Pack count rows) = Makes
 kind_of Check = Asks
 kind_of Ls = Asks
 kind_of (Cat path) = Asks
+kind_of (Diff name) = Asks
+kind_of Log = Recounts
 kind_of Forget = Forgets
 kind_of _ = Changes

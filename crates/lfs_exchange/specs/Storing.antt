@@ -4,7 +4,7 @@ use Rattle.lfs_change.specs.declared.fault.Fault.{Fault}
 use Rattle.lfs_change.specs.declared.fault.Fault.TheVariants.{Refused}
 use Rattle.lfs_change.specs.declared.outcome.Outcome.{Outcome}
 use Rattle.lfs_exchange.specs.declared.step_kind.StepKind.{StepKind}
-use Rattle.lfs_exchange.specs.declared.step_kind.StepKind.TheVariants.{Asks, Forgets}
+use Rattle.lfs_exchange.specs.declared.step_kind.StepKind.TheVariants.{Asks, Recounts, Forgets}
 use Rattle.lfs_exchange.specs.declared.names.Names.{Names}
 use Rattle.lfs_host.specs.Files.{Files, KeepsOthers, OnKnown, Replaces, StaysBut}
 
@@ -69,6 +69,7 @@ LeavesBoth old new name outcome = OnKnown (HasBoth name outcome.image.items outc
 -- the files once a step is done: what is asked changes none, forgetting the journal alone, any other step both
 abbrev pub LeavesFiles : StepKind → Option Files → Option Files → List ℕ → Outcome → Type 0
 LeavesFiles Asks old new name outcome = new ≡ old
+LeavesFiles Recounts old new name outcome = new ≡ old
 LeavesFiles Forgets old new name outcome = LeavesJournal old new name outcome.journal.items
 LeavesFiles _ old new name outcome = LeavesBoth old new name outcome
 
@@ -88,5 +89,6 @@ SparesImage old new name outcome = OnKnown (HasJournal name outcome.journal.item
 abbrev pub SparesFiles : Fault → StepKind → Option Files → Option Files → List ℕ → Outcome → Type 0
 SparesFiles (Refused refusal) kind old new name outcome = new ≡ old
 SparesFiles _ Asks old new name outcome = new ≡ old
+SparesFiles _ Recounts old new name outcome = new ≡ old
 SparesFiles _ Forgets old new name outcome = SparesJournal old new name
 SparesFiles _ _ old new name outcome = SparesBoth old new name ⊎ SparesImage old new name outcome

@@ -1,16 +1,20 @@
 //! What a step is handed of a host.
 
-ghost use Rattle.std.specs.Prelude.{◌≡◌, IfErr, IfOk, string_bytes};
+ghost use Rattle.std.specs.Prelude.{◌≡◌, ◌⊎◌, IfErr, IfOk, string_bytes};
 ghost use Rattle.lfs_book.specs.Book.{most_journal};
-ghost use Rattle.lfs_host.specs.Files.{FindsFile, IsTarget};
-ghost use Rattle.lfs_host.specs.Scene.{KeepsAll, KeepsScene};
-ghost use Rattle.lfs_exchange.specs.Handing.{HandsImage, HandsInput, HandsJournal, IsHanded, IsNotAimed, IsNotLocked, IsUnread, fault_at, fault_of_reading};
+ghost use Rattle.lfs_change.specs.declared.fault.Fault.TheVariants.{Other};
+ghost use Rattle.lfs_change.specs.declared.other_fault.OtherFault.TheVariants as other;
+ghost use Rattle.lfs_fs.specs.Limits.{most_file};
+ghost use Rattle.lfs_host.specs.Files.{FindsFile, IsTarget, ReadsFile, ReadsInput};
+ghost use Rattle.lfs_host.specs.Scene.{HasRefused, KeepsAll, KeepsScene};
+ghost use Rattle.lfs_exchange.specs.Handing.{HandsImage, HandsInput, HandsJournal, IsHanded, IsNotAimed, IsNotHanded, IsNotLocked, IsOtherUnread, IsUnread, fault_at, fault_of_reading, most_image};
 ghost use Rattle.lfs_exchange.specs.Storing.{journal_name};
 
 use crate::names::journal_name;
 use crate::step_kind::{StepKind, kind_of};
 use lfs_block::MAX_IMAGE_LENGTH;
 use lfs_book::MAX_JOURNAL_LENGTH;
+use lfs_change::OtherFault;
 use lfs_edit::Refusal;
 use lfs_fs::MOST_FILE;
 use lfs_host::{Host, Lock, ReadFault};
@@ -44,7 +48,7 @@ pub fn aimed<H: Host>(
         Err(fault) => return Err(fault_at(kind, fault)),
     };
     match kind {
-        StepKind::Asks => {}
+        StepKind::Asks | StepKind::Recounts => {}
         _ => lock(host, kind, target.as_str())?,
     }
     Ok(target)
@@ -62,7 +66,7 @@ fn lock<H: Host>(host: &mut H, kind: StepKind, name: &str) -> Result<(), Fault>
     }
 }
 
-/// What a step is handed: the image's file before its journal, and that before standard input.
+/// What a step is handed: the image's file before its journal, and that before what it reads besides.
 pub fn hand_over<H: Host>(
     alloc: Global,
     host: &mut H,
@@ -71,7 +75,7 @@ pub fn hand_over<H: Host>(
 ) -> Result<Handed, Fault>
     ensures handed { IfOk result (λ h. IsHanded step.now name.now (H.known host.old)
         (record { image = h.image.items; journal = h.journal.items; input = h.input.items })) }
-    ensures refused { IfErr result (IsUnread (H.known host.new)) }
+    ensures refused { IfErr result (IsNotHanded step.now (H.known host.new)) }
     ensures kept { KeepsScene (H.known host.old) (H.known host.new) }
 {
     let kind = kind_of(step);
@@ -120,7 +124,7 @@ fn journal_of<H: Host>(
     ensures kept { KeepsAll (H.known host.old) (H.known host.new) }
 {
     match kind {
-        StepKind::Changes => find_journal(alloc, host, name),
+        StepKind::Changes | StepKind::Recounts => find_journal(alloc, host, name),
         _ => Ok(Vec::new(alloc)),
     }
 }
@@ -138,18 +142,42 @@ fn find_journal<H: Host>(alloc: Global, host: &mut H, name: &str) -> Result<Vec<
     }
 }
 
-/// What a step reads: the contents of a file that is put.
+/// What a step reads besides: the contents of a file that is put, or an image that the first is compared with.
 fn input_of<H: Host>(alloc: Global, host: &mut H, step: &Step<'_>) -> Result<Vec<u8>, Fault>
-    ensures input { IfOk result (λ input. HandsInput step.now (H.known host.old).typed input.items) }
+    ensures input { IfOk result (λ input. HandsInput step.now (H.known host.old).files (H.known host.old).typed input.items) }
+    ensures refused { IfErr result (IsNotHanded step.now (H.known host.new)) }
+    ensures kept { KeepsScene (H.known host.old) (H.known host.new) }
+{
+    match *step {
+        Step::Put { .. } => contents(alloc, host),
+        Step::Diff { other } => read_other(alloc, host, other),
+        _ => Ok(Vec::new(alloc)),
+    }
+}
+
+/// The contents of a file that is put: what is on standard input.
+fn contents<H: Host>(alloc: Global, host: &mut H) -> Result<Vec<u8>, Fault>
+    ensures input { IfOk result (λ input. ReadsInput (H.known host.old).typed most_file input.items) }
     ensures refused { IfErr result (IsUnread (H.known host.new)) }
     ensures kept { KeepsScene (H.known host.old) (H.known host.new) }
 {
-    let Step::Put { .. } = step else {
-        return Ok(Vec::new(alloc));
-    };
     match host.input(alloc, u64::from(MOST_FILE)) {
         Ok(bytes) => Ok(bytes),
         Err(fault) => Err(fault_of_reading(fault)),
+    }
+}
+
+/// The bytes of the file of an image that another is compared with, and one more than an image has where there are more.
+fn read_other<H: Host>(alloc: Global, host: &mut H, name: &str) -> Result<Vec<u8>, Fault>
+    ensures bytes { IfOk result (λ bytes. ReadsFile (H.known host.old).files name.now most_image bytes.items) }
+    ensures refused { IfErr result (λ fault. IsUnread (H.known host.new) fault
+        ⊎ ((fault ≡ Other other.CannotRead) × HasRefused (H.known host.new))) }
+    ensures kept { KeepsAll (H.known host.old) (H.known host.new) }
+{
+    match host.read(alloc, name, MAX_IMAGE_LENGTH) {
+        Ok(bytes) => Ok(bytes),
+        Err(ReadFault::Memory) => Err(Fault::Refused(Refusal::Memory)),
+        Err(ReadFault::CannotRead) => Err(Fault::Other(OtherFault::CannotRead)),
     }
 }
 

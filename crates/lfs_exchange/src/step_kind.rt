@@ -14,6 +14,8 @@ pub enum StepKind {
     Makes,
     /// It asks something of it.
     Asks,
+    /// It asks something of the changes in its journal.
+    Recounts,
     /// It changes it, and its journal with it.
     Changes,
     /// It changes its journal alone.
@@ -28,7 +30,8 @@ pub fn kind_of(step: &Step<'_>) -> StepKind
 {
     match *step {
         Step::Format { .. } | Step::Pack { .. } => StepKind::Makes,
-        Step::Check | Step::Ls | Step::Cat { .. } => StepKind::Asks,
+        Step::Check | Step::Ls | Step::Cat { .. } | Step::Diff { .. } => StepKind::Asks,
+        Step::Log => StepKind::Recounts,
         Step::Forget => StepKind::Forgets,
         _ => StepKind::Changes,
     }

@@ -30,7 +30,7 @@ pub fn stored<H: Host>(
     ensures kept { (H.known host.new).printed ≡ (H.known host.old).printed }
 {
     match kind {
-        StepKind::Asks => flush(host),
+        StepKind::Asks | StepKind::Recounts => flush(host),
         StepKind::Forgets => {
             let names = names_of(alloc, name)?;
             put_journal(host, name, &names, outcome.journal.as_slice())

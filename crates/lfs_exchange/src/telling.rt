@@ -3,6 +3,7 @@
 ghost use Rattle.std.specs.Prelude.{◌≡◌, Some};
 ghost use Rattle.lfs_change.specs.Fault.{status_of};
 
+use lfs_change::OtherFault;
 use lfs_host::Host;
 use lfs_step::Fault;
 
@@ -30,7 +31,12 @@ pub fn tell_of_image<H: Host>(host: &mut H, image: &str, fault: Fault) -> u8
     ensures kept { H.known host.new ≡ H.known host.old }
 {
     let status = tell(host, fault);
-    if let Fault::CannotRead | Fault::CannotWrite | Fault::HostEntry | Fault::HostName = fault {
+    if let Fault::CannotRead
+    | Fault::CannotWrite
+    | Fault::HostEntry
+    | Fault::HostName
+    | Fault::Other(OtherFault::CannotRead) = fault
+    {
         host.complain_of(image);
     }
     status

@@ -23,14 +23,14 @@ use Rattle.lfs_pack.specs.declared.pack_row.PackRow.{PackRow}
 use Rattle.lfs_pack.specs.Packed.{AreRowsOf}
 use Rattle.lfs_step.specs.declared.step.Step.{Step}
 use Rattle.lfs_step.specs.declared.step.Step.TheVariants as step
-use Rattle.lfs_step.specs.Deed.{Deed, Make, Pack, Ask, Change, deed_of}
+use Rattle.lfs_step.specs.Deed.{Deed, Make, Pack, Ask, Compare, Recount, Change, deed_of}
 use Rattle.lfs_step.specs.Histories.{StepsLeaveHistories}
 use Rattle.lfs_step.specs.Outcome.{AnswersBy, AnswersDone, given}
 use Rattle.lfs_step.specs.Runs.{GoesOn, HasGoodRows}
 use Rattle.lfs_step.proofs.HistoriesLeft.{fresh_is}
 use Rattle.lfs_step.proofs.RunsLeft.{one_goes}
 use Rattle.lfs_exchange.specs.declared.step_kind.StepKind.{StepKind}
-use Rattle.lfs_exchange.specs.declared.step_kind.StepKind.TheVariants.{Makes, Asks, Changes, Forgets}
+use Rattle.lfs_exchange.specs.declared.step_kind.StepKind.TheVariants.{Makes, Asks, Recounts, Changes, Forgets}
 use Rattle.lfs_exchange.specs.Handing.{HandedBytes, HandsInput, IsHanded, IsOfHost, most_image}
 use Rattle.lfs_exchange.specs.StepKind.{kind_of}
 use Rattle.lfs_exchange.specs.Storing.{HasBoth, LeavesFiles, SparesFiles, journal_name, new_name, new_names}
@@ -131,9 +131,9 @@ written size name old new outcome h both denotes = (
 
 -- ---- where a step leads that was done
 
-record StepLeads (size : ℕ) (keep : Option ℕ) (name : List ℕ) (s : Step) (typed : Option (List ℕ)) (new : Files) (old : History) : Type 0 where
+record StepLeads (size : ℕ) (keep : Option ℕ) (name : List ℕ) (s : Step) (files : Option Files) (typed : Option (List ℕ)) (new : Files) (old : History) : Type 0 where
   next : History
-  goes : StepGoes size keep s typed old next
+  goes : StepGoes size keep s files typed old next
   denotes : FilesDenote size name new next
 
 -- what a change was handed is what the files have
@@ -153,9 +153,9 @@ record Laws : Type 0 where
 -- a step on a history
 changes : Laws → (m : Move) (s : Step) (size : ℕ) (keep : Option ℕ) (name : List ℕ) (typed : Option (List ℕ)) (old new : Files) (h : History)
     (b : HandedBytes) (outcome : Outcome) → deed_of s b.input keep ≡ Change m → FilesDenote size name old h → ReadsFile (Some old) name most_image b.image
-    → FindsFile (Some old) (journal_name name) most_journal b.journal → HandsInput s typed b.input
+    → FindsFile (Some old) (journal_name name) most_journal b.journal → HandsInput s (Some old) typed b.input
     → AnswersDone (Change m) (given size b.image b.journal) outcome → HasBoth name outcome.image.items outcome.journal.items old new
-    → StepLeads size keep name s typed new h
+    → StepLeads size keep name s (Some old) typed new h
 changes laws m s size keep name typed old new h b outcome is denotes image journal input answers both =
     let handed = handed_change laws.short size name old h b denotes image journal in
     let one = one_goes laws.leaves laws.runs None (Change m) (given size b.image b.journal) outcome h tt handed answers in
@@ -167,8 +167,8 @@ changes laws m s size keep name typed old new h b outcome is denotes image journ
 
 -- a question
 asks : (q : Deed) (s : Step) (size : ℕ) (keep : Option ℕ) (name : List ℕ) (typed : Option (List ℕ)) (old new : Files) (h : History) (b : HandedBytes)
-    → GoesOn size q h h → deed_of s b.input keep ≡ q → FilesDenote size name old h → HandsInput s typed b.input → Some new ≡ Some old
-    → StepLeads size keep name s typed new h
+    → GoesOn size q h h → deed_of s b.input keep ≡ q → FilesDenote size name old h → HandsInput s (Some old) typed b.input → Some new ≡ Some old
+    → StepLeads size keep name s (Some old) typed new h
 asks q s size keep name typed old new h b goes is denotes input same = record {
   next = h;
   goes = (b.input, input, subst (λ (d : Deed). GoesOn size d h h) (sym is) goes);
@@ -177,10 +177,10 @@ asks q s size keep name typed old new h b goes is denotes input same = record {
 
 -- all but the image is forgotten
 forgets : Laws → (size : ℕ) (keep : Option ℕ) (name : List ℕ) (typed : Option (List ℕ)) (old new : Files) (h : History) (b : HandedBytes) (outcome : Outcome)
-    → FilesDenote size name old h → ReadsFile (Some old) name most_image b.image → b.journal ≡ [] → HandsInput step.Forget typed b.input
+    → FilesDenote size name old h → ReadsFile (Some old) name most_image b.image → b.journal ≡ [] → HandsInput step.Forget (Some old) typed b.input
     → AnswersDone (Change Forget) (given size b.image b.journal) outcome
     → HasReplaced (journal_name name) (new_name (journal_name name)) outcome.journal.items old new
-    → StepLeads size keep name step.Forget typed new h
+    → StepLeads size keep name step.Forget (Some old) typed new h
 forgets laws size keep name typed old new h b outcome denotes image none input answers replaced =
     let d = image_of size b.image in
     let read = image_read size name b.image old h denotes image in
@@ -212,9 +212,9 @@ forgets laws size keep name typed old new h b outcome denotes image none input a
 
 -- a new image
 makes : Laws → (count : ℕ) (s : Step) (size : ℕ) (keep : Option ℕ) (name : List ℕ) (typed : Option (List ℕ)) (old new : Files) (h : History) (b : HandedBytes)
-    (outcome : Outcome) → deed_of s b.input keep ≡ Make count → HandsInput s typed b.input
+    (outcome : Outcome) → deed_of s b.input keep ≡ Make count → HandsInput s (Some old) typed b.input
     → AnswersDone (Make count) (given size b.image b.journal) outcome → HasBoth name outcome.image.items outcome.journal.items old new
-    → StepLeads size keep name s typed new h
+    → StepLeads size keep name s (Some old) typed new h
 makes laws count s size keep name typed old new h b outcome is input answers both =
     let next = fresh_history (image_of size outcome.image.items) in
     let goes : GoesOn size (Make count) h next = (refl, answers.0) in
@@ -225,9 +225,9 @@ makes laws count s size keep name typed old new h b outcome is input answers bot
     }
 
 packs : Laws → (count : ℕ) (rows : List PackRow) (s : Step) (size : ℕ) (keep : Option ℕ) (name : List ℕ) (typed : Option (List ℕ))
-    (old new : Files) (h : History) (b : HandedBytes) (outcome : Outcome) → HasGoodRows (Pack count rows) → deed_of s b.input keep ≡ Pack count rows → HandsInput s typed b.input
+    (old new : Files) (h : History) (b : HandedBytes) (outcome : Outcome) → HasGoodRows (Pack count rows) → deed_of s b.input keep ≡ Pack count rows → HandsInput s (Some old) typed b.input
     → AnswersDone (Pack count rows) (given size b.image b.journal) outcome → HasBoth name outcome.image.items outcome.journal.items old new
-    → StepLeads size keep name s typed new h
+    → StepLeads size keep name s (Some old) typed new h
 packs laws count rows s size keep name typed old new h b outcome (packed, are) is input answers both =
     let next = fresh_history (image_of size outcome.image.items) in
     let goes : GoesOn size (Pack count rows) h next = (refl, answers.0) in
@@ -246,7 +246,7 @@ with_files scene files = record scene { files = Some files }
 done_leads : Laws → (s : Step) (size : ℕ) (keep : Option ℕ) (name : List ℕ) (scene : Scene) (old new : Files) (h : History) (b : HandedBytes) (outcome : Outcome)
     → HasGoodRows (deed_of s [] None) → FilesDenote size name old h → IsHanded s name (with_files scene old) b
     → AnswersDone (deed_of s b.input keep) (given size b.image b.journal) outcome → LeavesFiles (kind_of s) (Some old) (Some new) name outcome
-    → StepLeads size keep name s scene.typed new h
+    → StepLeads size keep name s (Some old) scene.typed new h
 done_leads laws (step.Format count) size keep name scene old new h b outcome good denotes handed answers leaves =
     makes laws count (step.Format count) size keep name scene.typed old new h b outcome refl handed.input answers leaves
 done_leads laws (step.Pack count rows) size keep name scene old new h b outcome good denotes handed answers leaves =
@@ -257,6 +257,10 @@ done_leads laws step.Ls size keep name scene old new h b outcome good denotes ha
     asks (Ask query.Ls) step.Ls size keep name scene.typed old new h b refl refl denotes handed.input leaves
 done_leads laws (step.Cat path) size keep name scene old new h b outcome good denotes handed answers leaves =
     asks (Ask (query.Cat path)) (step.Cat path) size keep name scene.typed old new h b refl refl denotes handed.input leaves
+done_leads laws (step.Diff other) size keep name scene old new h b outcome good denotes handed answers leaves =
+    asks (Compare b.input) (step.Diff other) size keep name scene.typed old new h b refl refl denotes handed.input leaves
+done_leads laws step.Log size keep name scene old new h b outcome good denotes handed answers leaves =
+    asks Recount step.Log size keep name scene.typed old new h b refl refl denotes handed.input leaves
 done_leads laws (step.Mkdir path) size keep name scene old new h b outcome good denotes handed answers leaves =
     changes laws (Do (asked.Mkdir path.now) keep) (step.Mkdir path) size keep name scene.typed old new h b outcome refl denotes handed.image
     handed.journal handed.input answers leaves
@@ -278,11 +282,11 @@ done_leads laws (step.RmAttr path kind) size keep name scene old new h b outcome
 done_leads laws (step.Grow count) size keep name scene old new h b outcome good denotes handed answers leaves =
     changes laws (Do (asked.Grow count) keep) (step.Grow count) size keep name scene.typed old new h b outcome refl denotes handed.image
     handed.journal handed.input answers leaves
-done_leads laws step.Undo size keep name scene old new h b outcome good denotes handed answers leaves =
-    changes laws Undo step.Undo size keep name scene.typed old new h b outcome refl denotes handed.image
+done_leads laws (step.Undo steps) size keep name scene old new h b outcome good denotes handed answers leaves =
+    changes laws (Undo steps) (step.Undo steps) size keep name scene.typed old new h b outcome refl denotes handed.image
     handed.journal handed.input answers leaves
-done_leads laws step.Redo size keep name scene old new h b outcome good denotes handed answers leaves =
-    changes laws Redo step.Redo size keep name scene.typed old new h b outcome refl denotes handed.image
+done_leads laws (step.Redo steps) size keep name scene old new h b outcome good denotes handed answers leaves =
+    changes laws (Redo steps) (step.Redo steps) size keep name scene.typed old new h b outcome refl denotes handed.image
     handed.journal handed.input answers leaves
 done_leads laws step.Forget size keep name scene old new h b outcome good denotes handed answers leaves =
     forgets laws size keep name scene.typed old new h b outcome denotes handed.image handed.journal handed.input answers leaves
@@ -290,14 +294,15 @@ done_leads laws step.Forget size keep name scene old new h b outcome good denote
 -- a step that was done
 step_leads : Laws → (s : Step) (size : ℕ) (keep : Option ℕ) (name : List ℕ) (scene behind : Scene) (old new : Files) (h : History) → HasGoodRows (deed_of s [] None)
     → scene.files ≡ Some old → behind.files ≡ Some new → FilesDenote size name old h → EndsStep s size keep name scene behind None
-    → StepLeads size keep name s scene.typed new h
+    → StepLeads size keep name s scene.files scene.typed new h
 step_leads laws s size keep name scene behind old new h good before later denotes (outcome, (b, handed, (answers, none, sends), blamed), leaves) =
     let at : IsHanded s name (with_files scene old) b = handed_from s name scene (with_files scene old) b before refl handed in
     let done = subst (λ (f : Option Fault). AnswersBy f (deed_of s b.input keep) (given size b.image b.journal) outcome) none answers in
     let left : LeavesFiles (kind_of s) (Some old) (Some new) name outcome =
     subst (λ (f : Option Files). LeavesFiles (kind_of s) (Some old) f name outcome) later
     (subst (λ (f : Option Files). LeavesFiles (kind_of s) f behind.files name outcome) before leaves) in
-    done_leads laws s size keep name scene old new h b outcome good denotes at done left
+    subst (λ (f : Option Files). StepLeads size keep name s f scene.typed new h) (sym before)
+    (done_leads laws s size keep name scene old new h b outcome good denotes at done left)
 
 -- ---- what a step leaves that wasn't done
 
@@ -314,6 +319,7 @@ spared : (fault : Fault) (kind : StepKind) (size : ℕ) (name : List ℕ) (old n
     → FilesDenote size name new h ⊎ (new name ≡ old name)
 spared (Refused refusal) kind size name old new h outcome denotes same = inl (same_files size name old new h same denotes)
 spared _ Asks size name old new h outcome denotes same = inl (same_files size name old new h same denotes)
+spared _ Recounts size name old new h outcome denotes same = inl (same_files size name old new h same denotes)
 spared _ Forgets size name old new h outcome denotes kept =
     inl (stays size name old new h (kept name (apart_at name).0) (kept (journal_name name) (apart_at name).1) denotes)
 spared _ Makes size name old new h outcome denotes (inl kept) =
@@ -381,7 +387,7 @@ step_ends laws (Some fault) s size keep name scene behind old new h good before 
 
 -- a task for which something is read first
 reading_ends : Laws → (fault : Option Fault) (t : Task) (size : ℕ) (keep : Option ℕ) (name : List ℕ) (scene behind : Scene) (old new : Files) (h : History)
-    → ((next : History) → (s : Step) × BecomesStep t scene.tree s × StepGoes size keep s scene.typed h next → TaskGoes size keep t scene h next)
+    → ((next : History) → (s : Step) × BecomesStep t scene.tree s × StepGoes size keep s scene.files scene.typed h next → TaskGoes size keep t scene h next)
     → scene.files ≡ Some old → behind.files ≡ Some new → FilesDenote size name old h → EndsReading t size keep name scene behind fault
     → Ends size keep name t scene fault old new h
 reading_ends laws None t size keep name scene behind old new h turn before later denotes (inl (s, becomes, ends)) =

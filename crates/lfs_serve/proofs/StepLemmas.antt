@@ -10,7 +10,7 @@ use Rattle.lfs_step.specs.declared.step.Step.{Step}
 use Rattle.lfs_step.specs.Deed.{Deed}
 use Rattle.lfs_step.specs.Outcome.{Answers, Given, SendsText}
 use Rattle.lfs_exchange.specs.declared.step_kind.StepKind.{StepKind}
-use Rattle.lfs_exchange.specs.declared.step_kind.StepKind.TheVariants.{Makes, Asks, Changes, Forgets}
+use Rattle.lfs_exchange.specs.declared.step_kind.StepKind.TheVariants.{Makes, Asks, Recounts, Changes, Forgets}
 use Rattle.lfs_serve.specs.declared.stop.Stop.{Stop}
 use Rattle.lfs_host.specs.Files.{Files, FindsFile, IsTarget, ReadsFile}
 use Rattle.lfs_exchange.specs.StepKind.{kind_of}
@@ -18,7 +18,7 @@ use Rattle.lfs_exchange.specs.Storing.{LeavesFiles, SparesFiles, journal_name}
 use Rattle.lfs_host.specs.Scene.{KeepsScene, Scene, is_blamed}
 use Rattle.lfs_host.proofs.BlameLemmas.{blamed_has_refused}
 use Rattle.lfs_change.specs.Fault.{blames_output}
-use Rattle.lfs_exchange.specs.Handing.{HandedBytes, HandsImage, HandsInput, HandsJournal, IsHanded, IsNotAimed, IsOfHost, IsUnread, most_image}
+use Rattle.lfs_exchange.specs.Handing.{HandedBytes, HandsImage, HandsInput, HandsJournal, IsHanded, IsNotAimed, IsNotHanded, IsOfHost, IsOtherUnread, IsUnread, most_image}
 use Rattle.lfs_book.specs.Book.{most_journal}
 use Rattle.lfs_serve.specs.Program.{EndsStep, IsBlamed, Runs, RunsOn, RunsStep, StopsStep, stopped_by}
 
@@ -39,6 +39,7 @@ image_target : (kind : StepKind) (files : Option Files) (name target image : Lis
     → HandsImage kind files target image → HandsImage kind files name image
 image_target Makes files name target image leads h = h
 image_target Asks files name target image leads h = reads_target files name target image most_image leads h
+image_target Recounts files name target image leads h = reads_target files name target image most_image leads h
 image_target Changes files name target image leads h = reads_target files name target image most_image leads h
 image_target Forgets files name target image leads h = reads_target files name target image most_image leads h
 
@@ -46,6 +47,7 @@ journal_target : (kind : StepKind) (files : Option Files) (name target journal :
     → HandsJournal kind files target journal → HandsJournal kind files name journal
 journal_target Makes files name target journal leads h = h
 journal_target Asks files name target journal leads h = h
+journal_target Recounts files name target journal leads h = finds_target files name target journal most_journal leads h
 journal_target Changes files name target journal leads h = finds_target files name target journal most_journal leads h
 journal_target Forgets files name target journal leads h = h
 
@@ -63,6 +65,7 @@ leaves_target : (kind : StepKind) (old new : Option Files) (name target : List �
     → LeavesFiles kind old new target o → LeavesFiles kind old new name o
 leaves_target kind (Some old) new name target o leads leaves = subst (λ (at : List ℕ). LeavesFiles kind (Some old) new at o) leads leaves
 leaves_target Asks None new name target o leads leaves = leaves
+leaves_target Recounts None new name target o leads leaves = leaves
 leaves_target Forgets None new name target o leads leaves = tt
 leaves_target Makes None new name target o leads leaves = tt
 leaves_target Changes None new name target o leads leaves = tt
@@ -74,6 +77,7 @@ spares_target fault kind (Some old) new name target o leads spares =
     subst (λ (at : List ℕ). SparesFiles fault kind (Some old) new at o) leads spares
 spares_target (Refused refusal) kind None new name target o leads spares = spares
 spares_target _ Asks None new name target o leads spares = spares
+spares_target _ Recounts None new name target o leads spares = spares
 spares_target _ Forgets None new name target o leads spares = tt
 spares_target _ Makes None new name target o leads spares = inl tt
 spares_target _ Changes None new name target o leads spares = inl tt
@@ -84,7 +88,8 @@ pub handed_from : (step : Step) (name : List ℕ) (mid old : Scene) (h : HandedB
 handed_from step name mid old h files typed is = record {
   image = subst (λ (f : Option Files). HandsImage (kind_of step) f name h.image) files is.image;
   journal = subst (λ (f : Option Files). HandsJournal (kind_of step) f name h.journal) files is.journal;
-  input = subst (λ (t : Option (List ℕ)). HandsInput step t h.input) typed is.input;
+  input = subst (λ (t : Option (List ℕ)). HandsInput step old.files t h.input) typed
+      (subst (λ (f : Option Files). HandsInput step f mid.typed h.input) files is.input);
 }
 
 -- the same by what is known of the target's name, of the files that were there, of the kind and of the outcome
@@ -150,9 +155,10 @@ ends_stopped step size keep name old new ended fault is stops = subst (EndsStep 
 
 -- what isn't at hand changes nothing
 pub ends_before : (step : Step) (size : ℕ) (keep : Option ℕ) (name : List ℕ) (old new : Scene) (ended : Option Fault) (fault : Fault)
-    → ended ≡ Some fault → IsNotAimed (kind_of step) new name fault → KeepsScene old new → EndsStep step size keep name old new ended
-ends_before step size keep name old new ended fault is not_aimed keeps =
-    ends_stopped step size keep name old new ended fault is (inr (inl (not_aimed, keeps)))
+    → ended ≡ Some fault → IsNotAimed (kind_of step) new name fault ⊎ IsOtherUnread step new fault → KeepsScene old new
+    → EndsStep step size keep name old new ended
+ends_before step size keep name old new ended fault is why keeps =
+    ends_stopped step size keep name old new ended fault is (inr (inl (why, keeps)))
 
 -- what isn't read
 unread_is_of_host : (new : Scene) (fault : Fault) → IsUnread new fault → IsOfHost new fault
@@ -162,9 +168,16 @@ unread_is_of_host new _ unread = absurd unread
 
 pub unread_is_not_aimed : (kind : StepKind) (new : Scene) (name : List ℕ) (fault : Fault) → IsUnread new fault → IsNotAimed kind new name fault
 unread_is_not_aimed Asks new name fault unread = unread
+unread_is_not_aimed Recounts new name fault unread = unread
 unread_is_not_aimed Makes new name fault unread = inl (unread_is_of_host new fault unread)
 unread_is_not_aimed Changes new name fault unread = inl (unread_is_of_host new fault unread)
 unread_is_not_aimed Forgets new name fault unread = inl (unread_is_of_host new fault unread)
+
+-- what isn't handed
+pub not_handed : (step : Step) (new : Scene) (name : List ℕ) (fault : Fault) → IsNotHanded step new fault
+    → IsNotAimed (kind_of step) new name fault ⊎ IsOtherUnread step new fault
+not_handed step new name fault (inl unread) = inl (unread_is_not_aimed (kind_of step) new name fault unread)
+not_handed step new name fault (inr other) = inr other
 
 -- a run that is refused changes no file
 pub ends_refused : (step : Step) (size : ℕ) (keep : Option ℕ) (name : List ℕ) (old new : Scene) (ended : Option Fault) (fault : Fault) (outcome : Outcome)

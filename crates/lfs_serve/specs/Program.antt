@@ -14,7 +14,7 @@ use Rattle.lfs_change.specs.Fault.{status_of}
 use Rattle.lfs_host.specs.HostTree.{HostTree}
 use Rattle.lfs_pack.specs.declared.pack_row.PackRow.{PackRow}
 use Rattle.lfs_host.specs.Scene.{HasRefused, KeepsScene, Scene}
-use Rattle.lfs_exchange.specs.Handing.{HandedBytes, IsHanded, IsNotAimed, IsOfHost}
+use Rattle.lfs_exchange.specs.Handing.{HandedBytes, IsHanded, IsNotAimed, IsOfHost, IsOtherUnread}
 use Rattle.lfs_serve.specs.Extracting.{EndsExtract}
 use Rattle.lfs_serve.specs.HostFolder.{PacksRows, ReadsNoFolder}
 use Rattle.lfs_exchange.specs.StepKind.{kind_of}
@@ -44,7 +44,7 @@ RunsStep step size keep name old new fault outcome =
 abbrev pub StopsStep : Step → ℕ → Option ℕ → List ℕ → Scene → Scene → Fault → Type 0
 StopsStep step size keep name old new fault =
     ((outcome : Outcome) × RunsStep step size keep name old new (Some fault) outcome × (new.files ≡ old.files))
-    ⊎ (IsNotAimed (kind_of step) new name fault × KeepsScene old new)
+    ⊎ ((IsNotAimed (kind_of step) new name fault ⊎ IsOtherUnread step new fault) × KeepsScene old new)
     ⊎ (IsOfHost new fault × ((outcome : Outcome)
     × RunsStep step size keep name old new None outcome × SparesFiles fault (kind_of step) old.files new.files name outcome))
 

@@ -52,15 +52,16 @@ AreServed size name (s ∷ ss) old new = (mid : Files) × IsServedOn size name s
 
 -- ---- where they lead
 
--- where a step leads that was done, with what it was handed of standard input
-abbrev pub StepGoes : ℕ → Option ℕ → Step → Option (List ℕ) → History → History → Type 0
-StepGoes size keep step typed old new = (input : List ℕ) × HandsInput step typed input × GoesOn size (deed_of step input keep) old new
+-- where a step leads that was done, with what it was handed of other files and of standard input
+abbrev pub StepGoes : ℕ → Option ℕ → Step → Option Files → Option (List ℕ) → History → History → Type 0
+StepGoes size keep step files typed old new =
+    (input : List ℕ) × HandsInput step files typed input × GoesOn size (deed_of step input keep) old new
 
 -- where a task leads that was done: as the step that it says, or that it becomes; a folder that is made leaves the history
 abbrev pub TaskGoes : ℕ → Option ℕ → Task → Scene → History → History → Type 0
-TaskGoes size keep (task.Step step) s old new = StepGoes size keep step s.typed old new
+TaskGoes size keep (task.Step step) s old new = StepGoes size keep step s.files s.typed old new
 TaskGoes size keep (Extract dir) s old new = new ≡ old
-TaskGoes size keep t s old new = (step : Step) × BecomesStep t s.tree step × StepGoes size keep step s.typed old new
+TaskGoes size keep t s old new = (step : Step) × BecomesStep t s.tree step × StepGoes size keep step s.files s.typed old new
 
 -- one that wasn't done leaves the history
 abbrev pub TaskGoesBy : Option Fault → ℕ → Option ℕ → Task → Scene → History → History → Type 0

@@ -57,7 +57,7 @@ fn extract_bytes<H: Host>(
         Ok(()) => Ok(()),
         Err(fault) => Err(Stop {
             fault,
-            stated: stated_for(fault, &image.into_bytes()),
+            stated: stated_for(fault, &image.into_bytes(), None),
         }),
     }
 }

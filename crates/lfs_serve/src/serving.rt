@@ -10,9 +10,10 @@ ghost use Rattle.lfs_serve.specs.Program.{EndsRequest, EndsStep, EndsTask, IsBla
 
 use crate::extracting::extracted;
 use crate::host_folder::{folder_of, pack_rows};
-use crate::stated::stated_for;
+use crate::stated::{stated_for, stated_in};
 use crate::stop::Stop;
 use lfs_block::{BLOCK_SIZE_STEP, ImageFault};
+use lfs_change::OtherFault;
 use lfs_exchange::{Handed, Output, aimed, hand_over, kind_of, stored, tell_of_image};
 use lfs_host::Host;
 use lfs_request::{Request, Task, byte_of, bytes_of};
@@ -38,13 +39,16 @@ fn tell_of<H: Host>(host: &mut H, request: &Request<'_>, stop: &Stop) -> u8
     ensures status { result ≡ status_of (Some stop.now.fault) }
     ensures kept { H.known host.new ≡ H.known host.old }
 {
-    let (image, size) = (request.image, request.size);
+    let size = request.size;
+    let image = told_of(request, stop.fault);
     let status = tell_of_image(host, image, stop.fault);
     if let Some(stated) = stop.stated {
         host.complain(format_args!(
             "lfsed: {image}: its superblock states {} blocks of {} bytes\n",
             stated.count, stated.size
         ));
+    } else if compares(request) && is_of_image(stop.fault) {
+        host.complain(format_args!("lfsed: {image}: this image is refused\n"));
     }
     if size % BLOCK_SIZE_STEP != 0 && matches!(stop.fault, Fault::Image(ImageFault::BadGeometry)) {
         host.complain(format_args!(
@@ -52,6 +56,28 @@ fn tell_of<H: Host>(host: &mut H, request: &Request<'_>, stop: &Stop) -> u8
         ));
     }
     status
+}
+
+/// The name of the image that a fault is of.
+fn told_of<'a>(request: &Request<'a>, fault: Fault) -> &'a str {
+    match (fault, request.task) {
+        (Fault::Other(_), Task::Step(Step::Diff { other })) => other,
+        _ => request.image,
+    }
+}
+
+/// Whether two images are compared.
+fn compares(request: &Request<'_>) -> bool {
+    matches!(request.task, Task::Step(Step::Diff { .. }))
+}
+
+/// Whether a fault is of an image, and not of the host.
+fn is_of_image(fault: Fault) -> bool {
+    match fault {
+        Fault::Image(_) | Fault::Mount(_) => true,
+        Fault::Other(other) => !matches!(other, OtherFault::CannotRead),
+        _ => false,
+    }
 }
 
 /// Does the task that is asked for.
@@ -161,16 +187,7 @@ fn ran<H: Host>(
         input,
     } = handed;
     let out = &mut Output::new(host);
-    run(
-        alloc,
-        step,
-        size,
-        image,
-        journal,
-        input.as_slice(),
-        keep,
-        out,
-    )
+    run(alloc, step, size, image, journal, input, keep, out)
 }
 
 /// Takes a step on what it is handed, and answers what it leaves.
@@ -188,12 +205,13 @@ fn taken<H: Host>(
     ensures blamed { IsBlamed (stopped_by result) (H.known host.new) }
     ensures kept { ((H.known host.new).files ≡ (H.known host.old).files) × ((H.known host.new).typed ≡ (H.known host.old).typed) }
 {
+    let other = stated_in(&handed.input);
     let outcome = ran(alloc, host, size, keep, step, handed);
     match outcome.fault {
         None => Ok(outcome),
         Some(fault) => Err(Stop {
             fault,
-            stated: stated_for(fault, &outcome.image),
+            stated: stated_for(fault, &outcome.image, other),
         }),
     }
 }

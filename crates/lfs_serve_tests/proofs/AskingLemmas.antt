@@ -1,5 +1,5 @@
 -- What asks changes no file, however it ends.
-use Rattle.std.proofs.Common.{◌≡◌, ℕ, List, Option, Some, None, ap, subst, inl, inr}
+use Rattle.std.proofs.Common.{◌≡◌, ◌⊎◌, ℕ, List, Option, Some, None, ap, subst, inl, inr}
 use Rattle.lfs_change.specs.declared.fault.Fault.{Fault}
 use Rattle.lfs_change.specs.declared.fault.Fault.TheVariants.{Refused}
 use Rattle.lfs_change.specs.declared.outcome.Outcome.{Outcome}
@@ -8,7 +8,7 @@ use Rattle.lfs_request.specs.declared.request.Request.{Request}
 use Rattle.lfs_request.specs.declared.task.Task.{Task}
 use Rattle.lfs_request.specs.declared.task.Task.TheVariants as task
 use Rattle.lfs_exchange.specs.declared.step_kind.StepKind.{StepKind}
-use Rattle.lfs_exchange.specs.declared.step_kind.StepKind.TheVariants.{Asks}
+use Rattle.lfs_exchange.specs.declared.step_kind.StepKind.TheVariants.{Asks, Recounts}
 use Rattle.lfs_host.specs.Files.{Files}
 use Rattle.lfs_exchange.specs.StepKind.{kind_of}
 use Rattle.lfs_exchange.specs.Storing.{LeavesFiles, SparesFiles}
@@ -16,20 +16,36 @@ use Rattle.lfs_serve_tests.specs.Asking.{OnlyAsks}
 use Rattle.lfs_host.specs.Scene.{Scene}
 use Rattle.lfs_serve.specs.Program.{EndsRequest, EndsStep, EndsTask}
 
--- where the host refused something, all files stay
-all_spared : (fault : Fault) (old new : Option Files) (name : List ℕ) (o : Outcome) → SparesFiles fault Asks old new name o → new ≡ old
-all_spared (Refused refusal) old new name o same = same
-all_spared _ old new name o same = same
+-- where the host refused something behind what asks, all files stay
+all_spared : (fault : Fault) (kind : StepKind) (old new : Option Files) (name : List ℕ) (o : Outcome) → (kind ≡ Asks) ⊎ (kind ≡ Recounts)
+    → SparesFiles fault kind old new name o → new ≡ old
+all_spared (Refused refusal) kind old new name o asks same = same
+all_spared fault kind old new name o (inl asks) spares =
+    by_fault fault (subst (λ (k : StepKind). SparesFiles fault k old new name o) asks spares)
+  where
+    by_fault : (f : Fault) → SparesFiles f Asks old new name o → new ≡ old
+    by_fault (Refused refusal) same = same
+    by_fault _ same = same
+all_spared fault kind old new name o (inr asks) spares =
+    by_fault fault (subst (λ (k : StepKind). SparesFiles fault k old new name o) asks spares)
+  where
+    by_fault : (f : Fault) → SparesFiles f Recounts old new name o → new ≡ old
+    by_fault (Refused refusal) same = same
+    by_fault _ same = same
 
-step_keeps : (fault : Option Fault) (step : Step) (size : ℕ) (keep : Option ℕ) (name : List ℕ) (old new : Scene) → kind_of step ≡ Asks
-    → EndsStep step size keep name old new fault → new.files ≡ old.files
-step_keeps None step size keep name old new asks (o, runs, leaves) =
-    subst (λ (kind : StepKind). LeavesFiles kind old.files new.files name o) asks leaves
+-- and where it is done
+all_left : (kind : StepKind) (old new : Option Files) (name : List ℕ) (o : Outcome) → (kind ≡ Asks) ⊎ (kind ≡ Recounts)
+    → LeavesFiles kind old new name o → new ≡ old
+all_left kind old new name o (inl asks) leaves = subst (λ (k : StepKind). LeavesFiles k old new name o) asks leaves
+all_left kind old new name o (inr asks) leaves = subst (λ (k : StepKind). LeavesFiles k old new name o) asks leaves
+
+step_keeps : (fault : Option Fault) (step : Step) (size : ℕ) (keep : Option ℕ) (name : List ℕ) (old new : Scene)
+    → (kind_of step ≡ Asks) ⊎ (kind_of step ≡ Recounts) → EndsStep step size keep name old new fault → new.files ≡ old.files
+step_keeps None step size keep name old new asks (o, runs, leaves) = all_left (kind_of step) old.files new.files name o asks leaves
 step_keeps (Some fault) step size keep name old new asks (inl (o, runs, same)) = same
-step_keeps (Some fault) step size keep name old new asks (inr (inl (of_host, keeps))) = keeps.0
+step_keeps (Some fault) step size keep name old new asks (inr (inl (why, keeps))) = keeps.0
 step_keeps (Some fault) step size keep name old new asks (inr (inr (of_host, (o, runs, spares)))) =
-    all_spared fault old.files new.files name o
-    (subst (λ (kind : StepKind). SparesFiles fault kind old.files new.files name o) asks spares)
+    all_spared fault (kind_of step) old.files new.files name o asks spares
 
 task_keeps : (fault : Option Fault) (t : Task) (size : ℕ) (keep : Option ℕ) (name : List ℕ) (old new : Scene) → OnlyAsks t
     → EndsTask t size keep name old new fault → new.files ≡ old.files

@@ -11,8 +11,8 @@ use lfs_serve::served;
 use std::alloc::Global;
 
 /// Asks something of an image in memory, and answers the status. However it ends, no file changes: a law of requests on
-/// files that are known. The caller owes a task that asks: `Check`, `Ls`, `Cat` or `Extract`, and that what is kept is 1 to 1,000
-/// images. Takes memory.
+/// files that are known. The caller owes a task that asks: `Check`, `Ls`, `Cat`, `Diff`, `Log` or `Extract`, and that what is kept
+/// is 1 to 1,000 images. Takes memory.
 ///
 /// Source: own.
 pub fn ask_in_memory(alloc: Global, host: &mut MemoryHost, request: &Request<'_>) -> u8

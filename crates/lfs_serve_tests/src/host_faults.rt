@@ -61,7 +61,13 @@ const SAID: &str = "block 512, count 8, free 4, directories 2, files 0\n";
 fn an_old_image_with_a_new_journal_is_kept(rt: HostRuntime) -> Result<(), Fail> {
     let mut host = failed_host(&rt, rt.alloc(), 3);
     let image = copied(rt.alloc(), &host, IMAGE)?;
-    is_refused(&rt, rt.alloc(), &mut host, &Step::Undo, &NO_MATCH)?;
+    is_refused(
+        &rt,
+        rt.alloc(),
+        &mut host,
+        &Step::Undo { steps: 1 },
+        &NO_MATCH,
+    )?;
     let check = Request {
         task: Task::Step(Step::Check),
         size: 512,

@@ -1,5 +1,10 @@
--- A step that changes the image reads the journal that is found.
+-- A step that changes the image, or recounts its changes, reads the journal that is found.
+use Rattle.std.proofs.Common.{inl, inr}
 use Rattle.lfs_exchange.proofs.handing.journal_of.Goals as goal
 
 pub returns-in-Changes-clause-journal : goal.returns-in-Changes-clause-journal
-returns-in-Changes-clause-journal g c = rw c.in-Changes.is c.find_journal.ensures.journal
+returns-in-Changes-clause-journal g c =
+    elim c.in-Changes.is [
+      | inl changes ↦ rw changes c.find_journal.ensures.journal
+      | inr recounts ↦ rw recounts c.find_journal.ensures.journal
+    ]

@@ -9,6 +9,10 @@ returns-in-Check c =
       | inr more ↦
           elim more [
             | inl ls ↦ rw ls refl
-            | inr cat ↦ rw cat.1 refl
+            | inr rest ↦
+                elim rest [
+                  | inl cat ↦ rw cat.1 refl
+                  | inr diff ↦ rw diff.1 refl
+                ]
           ]
     ]
