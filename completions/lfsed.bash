@@ -1,11 +1,35 @@
 # Completions of lfsed for bash, written by bin/manual.
+
+# The paths in an image: _lfsed_paths IMAGE [BLOCK]. A path with a byte that isn't printed as itself is left out.
+_lfsed_paths() {
+  lfsed ls ${2:+--block "$2"} -- "$1" 2>/dev/null | sed -n '/\\x/d; s/^[df] .\{10\} //p'
+}
+
+# Offers those of the lines that begin as the word that is completed.
+_lfsed_offer() {
+  local line
+  compopt +o filenames 2>/dev/null
+  while IFS= read -r line; do
+    if [[ $line == "$current"* ]]; then
+      COMPREPLY+=("$(printf '%q' "$line")")
+    fi
+  done
+}
+
 _lfsed() {
-  local current=${COMP_WORDS[COMP_CWORD]} options= words= at at_word=0 named
+  local current=${COMP_WORDS[COMP_CWORD]} before=${COMP_WORDS[COMP_CWORD - 1]} options= words= block= image= at at_word=0 named
   COMPREPLY=()
   if [ "$COMP_CWORD" = 1 ]; then
-    mapfile -t COMPREPLY < <(compgen -W 'format pack extract check ls cat mkdir put rm mv setattr rmattr grow undo redo forget explain help --help --version' -- "$current")
+    mapfile -t COMPREPLY < <(compgen -W 'format pack extract check ls cat diff log mkdir put rm mv setattr rmattr grow undo redo forget explain help --help --version' -- "$current")
     return
   fi
+  case $before in
+    '<' | '>' | '>>')
+      mapfile -t COMPREPLY < <(compgen -f -- "$current")
+      return
+      ;;
+    = | -b | --block | --count | --keep | --steps) return ;;
+  esac
   case ${COMP_WORDS[1]} in
     format)
       options='-b --block --count -h --help'
@@ -30,6 +54,14 @@ _lfsed() {
     cat)
       options='-b --block -h --help'
       words='IMAGE PATH'
+      ;;
+    diff)
+      options='-b --block -h --help'
+      words='IMAGE OTHER'
+      ;;
+    log)
+      options='-b --block -h --help'
+      words='IMAGE'
       ;;
     mkdir)
       options='-b --block --keep -h --help'
@@ -60,11 +92,11 @@ _lfsed() {
       words='IMAGE COUNT'
       ;;
     undo)
-      options='-b --block -h --help'
+      options='-b --block --steps -h --help'
       words='IMAGE'
       ;;
     redo)
-      options='-b --block -h --help'
+      options='-b --block --steps -h --help'
       words='IMAGE'
       ;;
     forget)
@@ -77,10 +109,8 @@ _lfsed() {
       ;;
     help) words='COMMAND' ;;
   esac
-  case ${COMP_WORDS[COMP_CWORD - 1]} in
-    -b | --block | --count | --keep) return ;;
-  esac
   case $current in
+    =) return ;;
     -*)
       mapfile -t COMPREPLY < <(compgen -W "$options" -- "$current")
       return
@@ -88,16 +118,31 @@ _lfsed() {
   esac
   for ((at = 2; at < COMP_CWORD; at++)); do
     case ${COMP_WORDS[at]} in
-      -b | --block | --count | --keep) at=$((at + 1)) ;;
+      -b | --block | --count | --keep | --steps)
+        named=${COMP_WORDS[at]} at=$((at + 1))
+        if [ "${COMP_WORDS[at]}" = = ]; then
+          at=$((at + 1))
+        fi
+        case $named in
+          -b | --block) block=${COMP_WORDS[at]} ;;
+        esac
+        ;;
+      --block=*) block=${COMP_WORDS[at]#*=} ;;
+      '<' | '>' | '>>') at=$((at + 1)) ;;
       -*) ;;
-      *) at_word=$((at_word + 1)) ;;
+      *)
+        image=${image:-${COMP_WORDS[at]}}
+        at_word=$((at_word + 1))
+        ;;
     esac
   done
   read -r -a named <<<"$words"
   case ${named[at_word]-} in
-    IMAGE) mapfile -t COMPREPLY < <(compgen -f -- "$current") ;;
+    IMAGE | OTHER) mapfile -t COMPREPLY < <(compgen -f -- "$current") ;;
     DIR) mapfile -t COMPREPLY < <(compgen -d -- "$current") ;;
-    COMMAND) mapfile -t COMPREPLY < <(compgen -W 'format pack extract check ls cat mkdir put rm mv setattr rmattr grow undo redo forget explain' -- "$current") ;;
+    PATH | FROM | TO) _lfsed_offer < <(_lfsed_paths "$image" "$block") ;;
+    NUMBER) mapfile -t COMPREPLY < <(compgen -W '1 2 3 4 5 6 7 8 9 10 11 12 13 14 15 16 17 18 19 20 21 30 31 32 33 34 35 36 37 38 39 40 41 42 43 44 46 50 51 52 53 54 55 60 61 62 63 64' -- "$current") ;;
+    COMMAND) mapfile -t COMPREPLY < <(compgen -W 'format pack extract check ls cat diff log mkdir put rm mv setattr rmattr grow undo redo forget explain' -- "$current") ;;
   esac
 }
 complete -o filenames -F _lfsed lfsed

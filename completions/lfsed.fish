@@ -1,11 +1,48 @@
 # Completions of lfsed for fish, written by bin/manual.
-complete -c lfsed -n __fish_use_subcommand -f
+
+# The words of the line that are no options, behind the command; and the block size that is said.
+function __lfsed_words
+  set -l words (commandline -opc)
+  set -l at 3
+  while test $at -le (count $words)
+    switch $words[$at]
+      case -b --block --count --keep --steps
+        set at (math $at + 1)
+      case '-*'
+      case '*'
+        echo -- $words[$at]
+    end
+    set at (math $at + 1)
+  end
+end
+
+function __lfsed_block
+  string match -rg -- '(?:^|\s)(?:-b\s*|--block[=\s])(\d+)' (commandline -pc | string collect)
+end
+
+# Whether a command is named, and so many words stand behind it: __lfsed_at COMMAND COUNT
+function __lfsed_at
+  set -l words (commandline -opc)
+  test (count $words) -ge 2; and test $words[2] = $argv[1]; and test (count (__lfsed_words)) -eq $argv[2]
+end
+
+# The paths in the image that is named. A path with a byte that isn't printed as itself is left out.
+function __lfsed_paths
+  set -l image (__lfsed_words)[1]
+  set -l block (__lfsed_block)
+  set -q block[1]; and set block --block $block[-1]
+  lfsed ls $block -- $image 2>/dev/null | string match -v '*\\x*' | string match -rg '^[df] .{10} (.*)$'
+end
+
+complete -c lfsed -f
 complete -c lfsed -n __fish_use_subcommand -a format -d 'Write a new image, in place of a file of this name'
 complete -c lfsed -n __fish_use_subcommand -a pack -d 'Write a new image with what is in a folder, in place of a file of this name'
 complete -c lfsed -n __fish_use_subcommand -a extract -d 'Make a new folder with what is in an image; attributes are left behind'
 complete -c lfsed -n __fish_use_subcommand -a check -d 'Judge an image; print its geometry, free blocks, directories and files'
 complete -c lfsed -n __fish_use_subcommand -a ls -d 'List what stands at each path, with sizes and attributes'
 complete -c lfsed -n __fish_use_subcommand -a cat -d 'Print the contents of a file'
+complete -c lfsed -n __fish_use_subcommand -a diff -d 'List what another image has otherwise, row by row, as ls prints it'
+complete -c lfsed -n __fish_use_subcommand -a log -d 'List the changes that the journal keeps, and what each of them changed'
 complete -c lfsed -n __fish_use_subcommand -a mkdir -d 'Make a directory'
 complete -c lfsed -n __fish_use_subcommand -a put -d 'Put a file, in place of one of this path; its contents are read from standard input'
 complete -c lfsed -n __fish_use_subcommand -a rm -d 'Remove a file or an empty directory'
@@ -17,46 +54,82 @@ complete -c lfsed -n __fish_use_subcommand -a undo -d 'Take the latest change ba
 complete -c lfsed -n __fish_use_subcommand -a redo -d 'Make the latest change again that was taken back'
 complete -c lfsed -n __fish_use_subcommand -a forget -d 'Keep the image alone: its changes can no longer be taken back'
 complete -c lfsed -n __fish_use_subcommand -a explain -d 'Say what a fault means, and what to do'
+complete -c lfsed -n '__lfsed_at help 0' -a 'format pack extract check ls cat diff log mkdir put rm mv setattr rmattr grow undo redo forget explain'
+complete -c lfsed -n '__lfsed_at format 0' -F
 complete -c lfsed -n '__fish_seen_subcommand_from format' -s b -l block -x -d 'Size of a block, a multiple of 16 from 256 to 65536 [default: 4096]'
 complete -c lfsed -n '__fish_seen_subcommand_from format' -l count -x -d 'Number of blocks, from 2 to 65536; at most 67108864 bytes in all'
 complete -c lfsed -n '__fish_seen_subcommand_from format' -s h -l help -d 'Print help'
+complete -c lfsed -n '__lfsed_at pack 0' -F
+complete -c lfsed -n '__lfsed_at pack 1' -a '(__fish_complete_directories)'
 complete -c lfsed -n '__fish_seen_subcommand_from pack' -s b -l block -x -d 'Size of a block, a multiple of 16 from 256 to 65536 [default: 4096]'
 complete -c lfsed -n '__fish_seen_subcommand_from pack' -l count -x -d 'Number of blocks, from 2 to 65536; at most 67108864 bytes in all'
 complete -c lfsed -n '__fish_seen_subcommand_from pack' -s h -l help -d 'Print help'
+complete -c lfsed -n '__lfsed_at extract 0' -F
+complete -c lfsed -n '__lfsed_at extract 1' -a '(__fish_complete_directories)'
 complete -c lfsed -n '__fish_seen_subcommand_from extract' -s b -l block -x -d 'Size of a block, a multiple of 16 from 256 to 65536 [default: 4096]'
 complete -c lfsed -n '__fish_seen_subcommand_from extract' -s h -l help -d 'Print help'
+complete -c lfsed -n '__lfsed_at check 0' -F
 complete -c lfsed -n '__fish_seen_subcommand_from check' -s b -l block -x -d 'Size of a block, a multiple of 16 from 256 to 65536 [default: 4096]'
 complete -c lfsed -n '__fish_seen_subcommand_from check' -s h -l help -d 'Print help'
+complete -c lfsed -n '__lfsed_at ls 0' -F
 complete -c lfsed -n '__fish_seen_subcommand_from ls' -s b -l block -x -d 'Size of a block, a multiple of 16 from 256 to 65536 [default: 4096]'
 complete -c lfsed -n '__fish_seen_subcommand_from ls' -s h -l help -d 'Print help'
+complete -c lfsed -n '__lfsed_at cat 0' -F
+complete -c lfsed -n '__lfsed_at cat 1' -a '(__lfsed_paths)'
 complete -c lfsed -n '__fish_seen_subcommand_from cat' -s b -l block -x -d 'Size of a block, a multiple of 16 from 256 to 65536 [default: 4096]'
 complete -c lfsed -n '__fish_seen_subcommand_from cat' -s h -l help -d 'Print help'
+complete -c lfsed -n '__lfsed_at diff 0' -F
+complete -c lfsed -n '__lfsed_at diff 1' -F
+complete -c lfsed -n '__fish_seen_subcommand_from diff' -s b -l block -x -d 'Size of a block, a multiple of 16 from 256 to 65536 [default: 4096]'
+complete -c lfsed -n '__fish_seen_subcommand_from diff' -s h -l help -d 'Print help'
+complete -c lfsed -n '__lfsed_at log 0' -F
+complete -c lfsed -n '__fish_seen_subcommand_from log' -s b -l block -x -d 'Size of a block, a multiple of 16 from 256 to 65536 [default: 4096]'
+complete -c lfsed -n '__fish_seen_subcommand_from log' -s h -l help -d 'Print help'
+complete -c lfsed -n '__lfsed_at mkdir 0' -F
+complete -c lfsed -n '__lfsed_at mkdir 1' -a '(__lfsed_paths)'
 complete -c lfsed -n '__fish_seen_subcommand_from mkdir' -s b -l block -x -d 'Size of a block, a multiple of 16 from 256 to 65536 [default: 4096]'
 complete -c lfsed -n '__fish_seen_subcommand_from mkdir' -l keep -x -d 'Number of the latest changes that are kept, from 1 to 1000; all where it is not said'
 complete -c lfsed -n '__fish_seen_subcommand_from mkdir' -s h -l help -d 'Print help'
+complete -c lfsed -n '__lfsed_at put 0' -F
+complete -c lfsed -n '__lfsed_at put 1' -a '(__lfsed_paths)'
 complete -c lfsed -n '__fish_seen_subcommand_from put' -s b -l block -x -d 'Size of a block, a multiple of 16 from 256 to 65536 [default: 4096]'
 complete -c lfsed -n '__fish_seen_subcommand_from put' -l keep -x -d 'Number of the latest changes that are kept, from 1 to 1000; all where it is not said'
 complete -c lfsed -n '__fish_seen_subcommand_from put' -s h -l help -d 'Print help'
+complete -c lfsed -n '__lfsed_at rm 0' -F
+complete -c lfsed -n '__lfsed_at rm 1' -a '(__lfsed_paths)'
 complete -c lfsed -n '__fish_seen_subcommand_from rm' -s b -l block -x -d 'Size of a block, a multiple of 16 from 256 to 65536 [default: 4096]'
 complete -c lfsed -n '__fish_seen_subcommand_from rm' -l keep -x -d 'Number of the latest changes that are kept, from 1 to 1000; all where it is not said'
 complete -c lfsed -n '__fish_seen_subcommand_from rm' -s h -l help -d 'Print help'
+complete -c lfsed -n '__lfsed_at mv 0' -F
+complete -c lfsed -n '__lfsed_at mv 1' -a '(__lfsed_paths)'
+complete -c lfsed -n '__lfsed_at mv 2' -a '(__lfsed_paths)'
 complete -c lfsed -n '__fish_seen_subcommand_from mv' -s b -l block -x -d 'Size of a block, a multiple of 16 from 256 to 65536 [default: 4096]'
 complete -c lfsed -n '__fish_seen_subcommand_from mv' -l keep -x -d 'Number of the latest changes that are kept, from 1 to 1000; all where it is not said'
 complete -c lfsed -n '__fish_seen_subcommand_from mv' -s h -l help -d 'Print help'
+complete -c lfsed -n '__lfsed_at setattr 0' -F
+complete -c lfsed -n '__lfsed_at setattr 1' -a '(__lfsed_paths)'
 complete -c lfsed -n '__fish_seen_subcommand_from setattr' -s b -l block -x -d 'Size of a block, a multiple of 16 from 256 to 65536 [default: 4096]'
 complete -c lfsed -n '__fish_seen_subcommand_from setattr' -l keep -x -d 'Number of the latest changes that are kept, from 1 to 1000; all where it is not said'
 complete -c lfsed -n '__fish_seen_subcommand_from setattr' -s h -l help -d 'Print help'
+complete -c lfsed -n '__lfsed_at rmattr 0' -F
+complete -c lfsed -n '__lfsed_at rmattr 1' -a '(__lfsed_paths)'
 complete -c lfsed -n '__fish_seen_subcommand_from rmattr' -s b -l block -x -d 'Size of a block, a multiple of 16 from 256 to 65536 [default: 4096]'
 complete -c lfsed -n '__fish_seen_subcommand_from rmattr' -l keep -x -d 'Number of the latest changes that are kept, from 1 to 1000; all where it is not said'
 complete -c lfsed -n '__fish_seen_subcommand_from rmattr' -s h -l help -d 'Print help'
+complete -c lfsed -n '__lfsed_at grow 0' -F
 complete -c lfsed -n '__fish_seen_subcommand_from grow' -s b -l block -x -d 'Size of a block, a multiple of 16 from 256 to 65536 [default: 4096]'
 complete -c lfsed -n '__fish_seen_subcommand_from grow' -l keep -x -d 'Number of the latest changes that are kept, from 1 to 1000; all where it is not said'
 complete -c lfsed -n '__fish_seen_subcommand_from grow' -s h -l help -d 'Print help'
+complete -c lfsed -n '__lfsed_at undo 0' -F
 complete -c lfsed -n '__fish_seen_subcommand_from undo' -s b -l block -x -d 'Size of a block, a multiple of 16 from 256 to 65536 [default: 4096]'
+complete -c lfsed -n '__fish_seen_subcommand_from undo' -l steps -x -d 'Number of changes, from 1 to 1000: all of them, or none where there are fewer [default: 1]'
 complete -c lfsed -n '__fish_seen_subcommand_from undo' -s h -l help -d 'Print help'
+complete -c lfsed -n '__lfsed_at redo 0' -F
 complete -c lfsed -n '__fish_seen_subcommand_from redo' -s b -l block -x -d 'Size of a block, a multiple of 16 from 256 to 65536 [default: 4096]'
+complete -c lfsed -n '__fish_seen_subcommand_from redo' -l steps -x -d 'Number of changes, from 1 to 1000: all of them, or none where there are fewer [default: 1]'
 complete -c lfsed -n '__fish_seen_subcommand_from redo' -s h -l help -d 'Print help'
+complete -c lfsed -n '__lfsed_at forget 0' -F
 complete -c lfsed -n '__fish_seen_subcommand_from forget' -s b -l block -x -d 'Size of a block, a multiple of 16 from 256 to 65536 [default: 4096]'
 complete -c lfsed -n '__fish_seen_subcommand_from forget' -s h -l help -d 'Print help'
-complete -c lfsed -n '__fish_seen_subcommand_from explain' -f
+complete -c lfsed -n '__lfsed_at explain 0' -a '1 2 3 4 5 6 7 8 9 10 11 12 13 14 15 16 17 18 19 20 21 30 31 32 33 34 35 36 37 38 39 40 41 42 43 44 46 50 51 52 53 54 55 60 61 62 63 64'
 complete -c lfsed -n '__fish_seen_subcommand_from explain' -s h -l help -d 'Print help'

@@ -13,7 +13,7 @@ use Rattle.clap.proofs.WalkLemmas.{both}
 use Rattle.lfs_grammar.proofs.FaultlessRows.{none_of}
 use Rattle.lfs_grammar.proofs.Lists.{Each, In, contained, each, each_in}
 use Rattle.lfs_grammar.specs.Grammar.{IsNumber, IsSaid, IsSaidOrNeedNot, NamesCommand, block, commands, count, is_change, is_wanted, keep}
-use Rattle.lfs_grammar.specs.Grammar.{new_count, number, word}
+use Rattle.lfs_grammar.specs.Grammar.{new_count, number, steps, word}
 
 -- ---- the command of a name
 
@@ -93,6 +93,9 @@ block_is = (256, 65536, refl, omega arith)
 
 pub keep_is : IsNumber keep
 keep_is = (1, 1000, refl, omega arith)
+
+pub steps_is : IsNumber steps
+steps_is = (1, 1000, refl, omega arith)
 
 pub number_is : IsNumber number
 number_is = (0, 4294967295, refl, omega arith)

@@ -67,6 +67,32 @@ keeping_says : (number_at (codes "keep") keeping ≡ Some (Some (codes "20"))) �
 unfolding clap_on_literals
 keeping_says = (refl, refl)
 
+-- lfsed undo --steps 3 a.img, and without it
+abbrev undoing : List Text
+undoing = codes "lfsed" ∷ codes "undo" ∷ codes "--steps" ∷ codes "3" ∷ codes "a.img" ∷ []
+
+undoing_is_taken : IsTaken undoing
+unfolding clap_on_literals
+undoing_is_taken = refl
+
+undoing_says : (number_at (codes "steps") undoing ≡ Some (Some (codes "3")))
+    × (number_at (codes "steps") (codes "lfsed" ∷ codes "redo" ∷ codes "a.img" ∷ []) ≡ Some (Some (codes "1")))
+unfolding clap_on_literals
+undoing_says = (refl, refl)
+
+-- lfsed diff a.img b.img
+abbrev comparing : List Text
+comparing = codes "lfsed" ∷ codes "diff" ∷ codes "a.img" ∷ codes "b.img" ∷ []
+
+comparing_is_taken : IsTaken comparing
+unfolding clap_on_literals
+comparing_is_taken = refl
+
+comparing_says : (text_at (codes "image") comparing ≡ Some (Some (codes "a.img")))
+    × (text_at (codes "other") comparing ≡ Some (Some (codes "b.img")))
+unfolding clap_on_literals
+comparing_says = (refl, refl)
+
 -- what is refused: no command, an option that is left out, a number out of its range, a word too many
 no_command : fault_of grammar (codes "lfsed" ∷ []) ≡ MissingSubcommand ∷ []
 unfolding clap_on_literals

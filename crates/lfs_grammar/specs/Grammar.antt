@@ -38,6 +38,15 @@ new_count = record (word (codes "count")) { parser = Some (Signed (pos 2) (pos 6
 abbrev pub keep : Rule
 keep = record (new_rule (codes "keep")) { long = Some (codes "keep"); value_names = 1; parser = Some (Signed (pos 1) (pos 1000)) }
 
+-- how many changes are taken back or made again: `--steps`, a whole number from 1 to 1,000, and 1 where it isn't said
+abbrev pub steps : Rule
+steps = record (new_rule (codes "steps")) {
+  long = Some (codes "steps");
+  value_names = 1;
+  parser = Some (Signed (pos 1) (pos 1000));
+  defaults = codes "1" ∷ [];
+}
+
 -- a fault's number
 abbrev pub number : Rule
 number = record (word (codes "number")) { parser = Some (Signed (pos 0) (pos 4294967295)) }
@@ -48,7 +57,9 @@ rule_at argument.Block = block
 rule_at argument.Count = count
 rule_at argument.NewCount = new_count
 rule_at argument.Keep = keep
+rule_at argument.Steps = steps
 rule_at argument.Image = word (codes "image")
+rule_at argument.Other = word (codes "other")
 rule_at argument.Dir = word (codes "dir")
 rule_at argument.NewDir = word (codes "dir")
 rule_at argument.Path = word (codes "path")
@@ -93,6 +104,8 @@ commands =
     ∷ on_image (codes "check") []
     ∷ on_image (codes "ls") []
     ∷ on_image (codes "cat") (word (codes "path") ∷ [])
+    ∷ on_image (codes "diff") (word (codes "other") ∷ [])
+    ∷ on_image (codes "log") []
     ∷ changing (codes "mkdir") (word (codes "path") ∷ [])
     ∷ changing (codes "put") (word (codes "path") ∷ [])
     ∷ changing (codes "rm") (word (codes "path") ∷ [])
@@ -100,8 +113,8 @@ commands =
     ∷ changing (codes "setattr") (word (codes "path") ∷ word (codes "kind") ∷ word (codes "hex") ∷ [])
     ∷ changing (codes "rmattr") (word (codes "path") ∷ word (codes "kind") ∷ [])
     ∷ changing (codes "grow") (new_count ∷ [])
-    ∷ on_image (codes "undo") []
-    ∷ on_image (codes "redo") []
+    ∷ on_image (codes "undo") (steps ∷ [])
+    ∷ on_image (codes "redo") (steps ∷ [])
     ∷ on_image (codes "forget") []
     ∷ (command (codes "explain") (number ∷ [])).top
     ∷ []

@@ -9,11 +9,16 @@ use Rattle.lfs_grammar.specs.Grammar.{IsTaken, grammar}
 abbrev pub begins_with : Text → Text → Bool
 begins_with word start = starts_with nat_eq word start
 
+-- an option by its long name
+abbrev pub names_long_option : Text → Bool
+names_long_option word =
+    begins_with word (codes "--block") || begins_with word (codes "--count") || begins_with word (codes "--keep")
+    || begins_with word (codes "--steps")
+
 -- an option, or a call for help
 abbrev pub names_option : Text → Bool
 names_option word =
-    begins_with word (codes "-b") || begins_with word (codes "--block") || begins_with word (codes "--count")
-    || begins_with word (codes "--keep") || bytes_eq word (codes "-h") || bytes_eq word (codes "--help")
+    begins_with word (codes "-b") || names_long_option word || bytes_eq word (codes "-h") || bytes_eq word (codes "--help")
 
 -- a word that begins with a hyphen and is no option
 abbrev pub is_stray : Text → Bool
@@ -33,7 +38,8 @@ is_plain_name (Some name) = not (begins_with name (codes "-"))
 abbrev pub names_files_plainly : Option (Text × List Row) → Bool
 names_files_plainly None = true
 names_files_plainly (Some named) =
-    is_plain_name (first_of (codes "image") named.1) && is_plain_name (first_of (codes "dir") named.1)
+    is_plain_name (first_of (codes "image") named.1)
+    && (is_plain_name (first_of (codes "dir") named.1) && is_plain_name (first_of (codes "other") named.1))
 
 -- how words are read: as they are, where the grammar takes them; else with `--` before the first stray one, where it takes
 -- these and no file of the host is named by a word that begins with a hyphen

@@ -26,8 +26,12 @@ enum Argument {
     NewCount,
     /// The number of images of the past that are kept.
     Keep,
+    /// The number of changes that are taken back or made again.
+    Steps,
     /// The image's file name.
     Image,
+    /// The file name of an image that it is compared with.
+    Other,
     /// The name of a folder that is read.
     Dir,
     /// The name of a folder that is made.
@@ -54,7 +58,7 @@ struct CommandRow {
 }
 
 /// The program's commands, in the order of its help. Each but the last takes the block size and the image's file name.
-const COMMANDS: [CommandRow; 17] = [
+const COMMANDS: [CommandRow; 19] = [
     CommandRow {
         name: "format",
         about: "Write a new image, in place of a file of this name",
@@ -89,6 +93,16 @@ const COMMANDS: [CommandRow; 17] = [
         name: "cat",
         about: "Print the contents of a file",
         arguments: &[Argument::Block, Argument::Image, Argument::Path],
+    },
+    CommandRow {
+        name: "diff",
+        about: "List what another image has otherwise, row by row, as ls prints it",
+        arguments: &[Argument::Block, Argument::Image, Argument::Other],
+    },
+    CommandRow {
+        name: "log",
+        about: "List the changes that the journal keeps, and what each of them changed",
+        arguments: &[Argument::Block, Argument::Image],
     },
     CommandRow {
         name: "mkdir",
@@ -167,12 +181,12 @@ const COMMANDS: [CommandRow; 17] = [
     CommandRow {
         name: "undo",
         about: "Take the latest change back, byte for byte",
-        arguments: &[Argument::Block, Argument::Image],
+        arguments: &[Argument::Block, Argument::Image, Argument::Steps],
     },
     CommandRow {
         name: "redo",
         about: "Make the latest change again that was taken back",
-        arguments: &[Argument::Block, Argument::Image],
+        arguments: &[Argument::Block, Argument::Image, Argument::Steps],
     },
     CommandRow {
         name: "forget",
@@ -199,6 +213,12 @@ const NEW_COUNT: &str =
 /// What is said of the number of images that are kept.
 const KEEP: &str =
     "Number of the latest changes that are kept, from 1 to 1000; all where it is not said";
+
+/// What is said of the number of changes that are taken back or made again.
+const STEPS: &str = "Number of changes, from 1 to 1000: all of them, or none where there are fewer";
+
+/// What is said of an image that another is compared with.
+const OTHER: &str = "File of the image that it is compared with";
 
 /// What is said of a path.
 const PATH: &str = "Path of a file or a directory in the image, from / on";
@@ -243,7 +263,14 @@ fn clap_argument<'a>(alloc: Global, argument: Argument) -> Arg<'a>
             .value_name("K")
             .value_parser(value_parser!(u32).range(1..=1_000))
             .help(KEEP),
+        Argument::Steps => Arg::new(alloc, "steps")
+            .long("steps")
+            .value_name("N")
+            .value_parser(value_parser!(u32).range(1..=1_000))
+            .default_value("1")
+            .help(STEPS),
         Argument::Image => word(alloc, "image", "IMAGE", "File of the image"),
+        Argument::Other => word(alloc, "other", "OTHER", OTHER),
         Argument::Dir => word(alloc, "dir", "DIR", DIR),
         Argument::NewDir => word(alloc, "dir", "DIR", NEW_DIR),
         Argument::Path => word(alloc, "path", "PATH", PATH),

@@ -1,23 +1,28 @@
 //! Words that begin with a hyphen and are no options.
 
-ghost use Rattle.std.specs.Prelude.{◌≡◌, IfOk, map};
+ghost use Rattle.std.specs.Prelude.{◌≡◌, ◌&&◌, IfOk, codes, map};
 ghost use Rattle.clap.specs.Words.{first_of, found_of, rows_of, subcommand_rows_of};
-ghost use Rattle.lfs_grammar.specs.Hyphens.{dashed, is_plain_name, is_stray, names_files_plainly, names_option};
+ghost use Rattle.lfs_grammar.specs.Hyphens.{dashed, is_plain_name, is_stray, names_files_plainly, names_long_option, names_option};
 
 use clap::ArgMatches;
 use std::alloc::{AllocError, Global};
 use std::convert::AsStr;
 
+/// Whether a word is an option by its long name.
+fn names_long_option(word: &str) -> bool
+    ensures { result ≡ names_long_option word.now }
+{
+    word.starts_with("--block")
+        || word.starts_with("--count")
+        || word.starts_with("--keep")
+        || word.starts_with("--steps")
+}
+
 /// Whether a word is an option, or asks for help.
 fn names_option(word: &str) -> bool
     ensures { result ≡ names_option word.now }
 {
-    word.starts_with("-b")
-        || word.starts_with("--block")
-        || word.starts_with("--count")
-        || word.starts_with("--keep")
-        || word == "-h"
-        || word == "--help"
+    word.starts_with("-b") || names_long_option(word) || word == "-h" || word == "--help"
 }
 
 /// Whether a word begins with a hyphen, and is no option.
@@ -57,6 +62,14 @@ fn is_plain(options: &ArgMatches<'_>, id: &str) -> bool
     }
 }
 
+/// Whether neither a folder's name nor that of another image begins with a hyphen.
+fn are_plain(options: &ArgMatches<'_>) -> bool
+    ensures { result ≡ (is_plain_name (first_of (codes "dir") (rows_of (found_of options.now)))
+        && is_plain_name (first_of (codes "other") (rows_of (found_of options.now)))) }
+{
+    is_plain(options, "dir") && is_plain(options, "other")
+}
+
 /// Whether no file or folder of the host is named by a word that begins with a hyphen. Takes no memory.
 ///
 /// Source: own.
@@ -64,7 +77,7 @@ pub fn names_files_plainly(matches: &ArgMatches<'_>) -> bool
     ensures { result ≡ names_files_plainly (subcommand_rows_of matches.now) }
 {
     match matches.subcommand() {
-        Some((_, options)) => is_plain(options, "image") && is_plain(options, "dir"),
+        Some((_, options)) => is_plain(options, "image") && are_plain(options),
         None => true,
     }
 }

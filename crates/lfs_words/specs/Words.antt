@@ -13,7 +13,8 @@ use Rattle.lfs_request.specs.declared.task.Task.{Task}
 use Rattle.lfs_request.specs.declared.task.Task.TheVariants as task
 use Rattle.lfs_request.specs.declared.task.Task.TheVariants.{Pack, Extract, SetAttr, RmAttr}
 use Rattle.lfs_step.specs.declared.step.Step.{Step}
-use Rattle.lfs_step.specs.declared.step.Step.TheVariants.{Format, Check, Ls, Cat, Mkdir, Put, Rm, Mv, Grow, Undo, Redo, Forget}
+use Rattle.lfs_step.specs.declared.step.Step.TheVariants.{Format, Check, Ls, Cat, Diff, Log, Mkdir, Put, Rm, Mv, Grow}
+use Rattle.lfs_step.specs.declared.step.Step.TheVariants.{Undo, Redo, Forget}
 
 -- an option's text
 abbrev pub HasText : List Row → Text → Text → Type 0
@@ -29,8 +30,10 @@ abbrev pub IsStep : Step → Text → List Row → Type 0
 IsStep (Format count) name rows = (name ≡ codes "format") × HasNumber rows (codes "count") count
 IsStep Check name rows = name ≡ codes "check"
 IsStep Ls name rows = name ≡ codes "ls"
-IsStep Undo name rows = name ≡ codes "undo"
-IsStep Redo name rows = name ≡ codes "redo"
+IsStep (Diff other) name rows = (name ≡ codes "diff") × HasText rows (codes "other") other.now
+IsStep Log name rows = name ≡ codes "log"
+IsStep (Undo steps) name rows = (name ≡ codes "undo") × HasNumber rows (codes "steps") steps
+IsStep (Redo steps) name rows = (name ≡ codes "redo") × HasNumber rows (codes "steps") steps
 IsStep Forget name rows = name ≡ codes "forget"
 IsStep (Cat path) name rows = (name ≡ codes "cat") × HasText rows (codes "path") path.now
 IsStep (Mkdir path) name rows = (name ≡ codes "mkdir") × HasText rows (codes "path") path.now

@@ -26,6 +26,10 @@ fn step_of<'a>(name: &str, options: &ArgMatches<'a>) -> Option<Step<'a>>
         "cat" => Step::Cat {
             path: bytes(options, "path")?,
         },
+        "diff" => Step::Diff {
+            other: text(options, "other")?,
+        },
+        "log" => Step::Log,
         "mkdir" => Step::Mkdir {
             path: bytes(options, "path")?,
         },
@@ -42,8 +46,12 @@ fn step_of<'a>(name: &str, options: &ArgMatches<'a>) -> Option<Step<'a>>
         "grow" => Step::Grow {
             count: number(options, "count")?,
         },
-        "undo" => Step::Undo,
-        "redo" => Step::Redo,
+        "undo" => Step::Undo {
+            steps: number(options, "steps")?,
+        },
+        "redo" => Step::Redo {
+            steps: number(options, "steps")?,
+        },
         "forget" => Step::Forget,
         _ => return None,
     };

@@ -248,12 +248,14 @@ const EXPLANATIONS: [Explanation; 48] = [
     Explanation {
         number: 53,
         name: "NothingToUndo",
-        text: "No change was made that isn't taken back already.",
+        text: "Fewer changes are done than are to be taken back: none, or fewer than `--steps` says. Nothing was \
+         taken back; `log` shows those that are done.",
     },
     Explanation {
         number: 54,
         name: "NothingToRedo",
-        text: "No change was taken back since the last one that was made.",
+        text: "Fewer changes are undone than are to be made again: none since the last one that was made, or fewer \
+         than `--steps` says. Nothing was made again; `log` shows those that are undone.",
     },
     Explanation {
         number: 55,

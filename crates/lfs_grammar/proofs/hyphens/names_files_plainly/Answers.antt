@@ -20,7 +20,7 @@ returns-then-is_plain c =
     let rows = rows_of (found_of c.in-Some.options.now) in
     let name : subcommand_name_of m ≡ Some c.in-Some.field-0-0.now = search rules in
     let has : option_map (λ p. p.1) (subcommand_rows_of m) ≡ Some rows = search rules in
-    second _ _ c.is_plain-then-is_plain.result c.if-is_plain.ensures c.is_plain-then-is_plain.ensures
+    second _ _ c.are_plain.result c.if-is_plain.ensures c.are_plain.ensures
     ∙ ap names_files_plainly (sym (names_command m c.in-Some.field-0-0.now rows name has))
 
 pub returns-else-is_plain : goal.returns-else-is_plain

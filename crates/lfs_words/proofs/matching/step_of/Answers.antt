@@ -1,7 +1,7 @@
 use Rattle.std.proofs.Common.{codes, refl}
 use Rattle.clap.specs.Words.{found_of, rows_of}
-use Rattle.lfs_grammar.specs.Grammar.{count, new_count, word}
-use Rattle.lfs_grammar.proofs.CommandLemmas.{count_is, new_count_is, said_of}
+use Rattle.lfs_grammar.specs.Grammar.{count, new_count, steps, word}
+use Rattle.lfs_grammar.proofs.CommandLemmas.{count_is, new_count_is, said_of, steps_is}
 use Rattle.lfs_words.proofs.matching.step_of.Goals as goal
 
 pub returns-in_err-number-in-format-clause-none : goal.returns-in_err-number-in-format-clause-none
@@ -43,3 +43,18 @@ pub returns-in_err-number-in-grow-clause-none : goal.returns-in_err-number-in-gr
 returns-in_err-number-in-grow-clause-none c = λ none names.
     let said = said_of c.args.name.now (codes "grow") (rows_of (found_of c.args.options.now)) c.in-grow.is names in
     absurd (c.in_err-number-in-grow.ensures.none refl new_count refl new_count_is (said.1.1.0 refl))
+
+pub returns-in_err-text-in-diff-clause-none : goal.returns-in_err-text-in-diff-clause-none
+returns-in_err-text-in-diff-clause-none c = λ none names.
+    let said = said_of c.args.name.now (codes "diff") (rows_of (found_of c.args.options.now)) c.in-diff.is names in
+    absurd (c.in_err-text-in-diff.ensures.none refl (word (codes "other")) refl (said.1.1.0 refl))
+
+pub returns-in_err-number-in-undo-clause-none : goal.returns-in_err-number-in-undo-clause-none
+returns-in_err-number-in-undo-clause-none c = λ none names.
+    let said = said_of c.args.name.now (codes "undo") (rows_of (found_of c.args.options.now)) c.in-undo.is names in
+    absurd (c.in_err-number-in-undo.ensures.none refl steps refl steps_is (said.1.1.0 refl))
+
+pub returns-in_err-number-in-redo-clause-none : goal.returns-in_err-number-in-redo-clause-none
+returns-in_err-number-in-redo-clause-none c = λ none names.
+    let said = said_of c.args.name.now (codes "redo") (rows_of (found_of c.args.options.now)) c.in-redo.is names in
+    absurd (c.in_err-number-in-redo.ensures.none refl steps refl steps_is (said.1.1.0 refl))
