@@ -8,6 +8,7 @@ import sys
 from support.folder import run_scenes
 from support.littlefs import DIRECTORY, IN_BLOCKS, ROOT, Reader
 from support.logs import HARD, SOFT, attribute, directory, file, image, log, superblock, tail
+from support.texts import lines_of
 
 WORKED = """d          - /
 d          - /a
@@ -26,20 +27,9 @@ f          0 /\\xc3\\xa9
 """
 
 
-def shown(path):
-    """A path with its odd bytes in hexadecimal digits."""
-    return "".join(chr(b) if 0x20 <= b <= 0x7E and b != 0x5C else f"\\x{b:02x}" for b in path)
-
-
 def size_of(entry):
     """The size of a file."""
     return struct.unpack("<2I", entry.value)[1] if entry.kind == IN_BLOCKS else len(entry.value)
-
-
-def lines_of(path, size, attributes):
-    """The lines of what stands at a path; a directory has no size."""
-    first = f"{'d' if size is None else 'f'} {'-' if size is None else size:>10} {shown(path)}\n"
-    return first + "".join(f"@ {kind:02x} {value.hex()}\n" for kind, value in sorted(attributes.items()))
 
 
 def listing_of(data, size):

@@ -50,6 +50,11 @@ class Folder:
         ended = subprocess.run(command, cwd=self.room.name, input=contents(length), capture_output=True, timeout=60, **how)
         return ended.returncode, ended.stderr.decode(), ended.stdout
 
+    def run_into(self, output, words):
+        """Runs the program with a file as its standard output; answers its status and what it complained."""
+        ended = subprocess.run([PROGRAM, *words.split(" ")], cwd=self.room.name, stdout=output, stderr=subprocess.PIPE, timeout=60)
+        return ended.returncode, ended.stderr.decode()
+
     def check(self, what, is_right, found=""):
         """Counts one thing that is to be so."""
         self.right, self.wrong = self.right + is_right, self.wrong + (not is_right)

@@ -1,0 +1,34 @@
+"""What the program prints of trees, as it should: rows, and what differs between two trees."""
+from support.scattering import key
+
+
+def shown(path):
+    """A path with its odd bytes in hexadecimal digits."""
+    return "".join(chr(b) if 0x20 <= b <= 0x7E and b != 0x5C else f"\\x{b:02x}" for b in path)
+
+
+def lines_of(path, size, attributes):
+    """The lines of what stands at a path; a directory has no size."""
+    first = f"{'d' if size is None else 'f'} {'-' if size is None else size:>10} {shown(path)}\n"
+    return first + "".join(f"@ {kind:02x} {value.hex()}\n" for kind, value in sorted(attributes.items()))
+
+
+def in_order(path):
+    """What paths are sorted by: a path comes before those below it, and names as in their directory."""
+    return [key(name) for name in path.split(b"/")[1:] if name]
+
+
+def marked(mark, path, row):
+    """The lines of a path's bytes and attributes with a mark in front of each."""
+    held, attributes = row
+    return "".join(f"{mark} {line}\n" for line in lines_of(path, None if held is None else len(held), attributes).splitlines())
+
+
+def difference_of(old, new):
+    """What differs between two trees, each of which has the bytes, or None, and the attributes at each path."""
+    text = ""
+    for path in sorted({*old, *new}, key=in_order):
+        if old.get(path) != new.get(path):
+            text += marked("-", path, old[path]) if path in old else ""
+            text += marked("+", path, new[path]) if path in new else ""
+    return text
