@@ -1,5 +1,5 @@
 #!/usr/bin/env python3
-"""Compares what the program explains of each fault with docs/FAULTS.md, and the faults of the other documents with both."""
+"""Compares what the program explains of each fault with docs/FAULTS.md, and the faults of docs/FORMAT.md with both."""
 import pathlib
 import re
 import subprocess
@@ -31,12 +31,11 @@ def main():
         wrong += is_wrong
         if is_wrong:
             print(f"{number}: wanted {wanted}, found {explained(number)}")
-    for document in "README.md", "docs/FORMAT.md":
-        for number, (name, _) in table(document).items():
-            ran, is_wrong = ran + 1, faults.get(number, ("", ""))[0] != name
-            wrong += is_wrong
-            if is_wrong:
-                print(f"{document}: {number} {name}")
+    for number, (name, _) in table("docs/FORMAT.md").items():
+        ran, is_wrong = ran + 1, faults.get(number, ("", ""))[0] != name
+        wrong += is_wrong
+        if is_wrong:
+            print(f"docs/FORMAT.md: {number} {name}")
     print(f"{ran - wrong} passed, {wrong} failed")
     return 1 if wrong else 0
 
