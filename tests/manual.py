@@ -15,7 +15,7 @@ INSTALLED = {
     "share/zsh/site-functions/_lfsed": "completions/_lfsed",
     "share/fish/vendor_completions.d/lfsed.fish": "completions/lfsed.fish",
 }
-COMMANDS = "cat check explain extract forget format grow ls mkdir mv pack put redo rm rmattr setattr undo"
+COMMANDS = "cat check diff explain extract forget format grow log ls mkdir mv pack put redo rm rmattr setattr undo"
 # The words of a command line, of which the last one is completed, and what it may become.
 COMPLETED = [
     ("lfsed ", f"--help --version {COMMANDS} help"),
@@ -34,7 +34,14 @@ COMPLETED = [
     ("lfsed g", "grow"),
     ("lfsed grow fw", "fw.img"),
     ("lfsed grow fw.img ", ""),
-    ("lfsed explain ", ""),
+    ("lfsed diff fw.img f", "fw.img"),
+    ("lfsed diff fw.img fw.img ", ""),
+    ("lfsed undo --s", "--steps"),
+    ("lfsed undo --steps 3 f", "fw.img"),
+    ("lfsed explain 5", "5 50 51 52 53 54 55"),
+    ("lfsed check --block = 512 f", "fw.img"),
+    ("lfsed check --block = ", ""),
+    ("lfsed put fw.img /x < f", "fw.img"),
 ]
 
 
@@ -72,6 +79,15 @@ def main():
             counts.check(name, (folder / "prefix" / name).read_bytes() == (HOME / source).read_bytes())
         ended = subprocess.run([folder / "prefix/bin/lfsed", "--version"], stdout=subprocess.PIPE, text=True)
         counts.check("installed", ended.stdout == "lfsed 0.1.0\n", ended)
+        other = folder / "prefix/share/man/man1/other.1"
+        other.write_bytes(b"")
+        ended = subprocess.run([HOME / "bin/install", "--uninstall", folder / "prefix"], capture_output=True)
+        counts.check("uninstall", (ended.returncode, ended.stdout, ended.stderr) == (0, b"", b""), ended)
+        left = [path for path in (folder / "prefix").rglob("*") if path.is_file()]
+        counts.check("uninstalled", left == [other], left)
+        for words, status in ("--help", 0), ("-h", 0), ("--remove", 2):
+            ended = subprocess.run([HOME / "bin/install", words], capture_output=True, text=True)
+            counts.check(f"install {words}", ended.returncode == status and "Usage: bin/install" in ended.stdout + ended.stderr, ended)
         place = folder / "place"
         (place / "src").mkdir(parents=True)
         (place / "fw.img").write_bytes(b"")

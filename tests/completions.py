@@ -1,0 +1,146 @@
+#!/usr/bin/env python3
+"""Types lines into bash, zsh and fish, each of them where it is installed, with a tab behind them, and compares the words that a program
+of lfsed's name is then called with."""
+import concurrent.futures
+import os
+import pathlib
+import pty
+import re
+import select
+import shutil
+import subprocess
+import sys
+import tempfile
+import time
+
+HOME = pathlib.Path(__file__).resolve().parent.parent
+PROGRAM = HOME / "crates/lfsed/out/lfsed"
+# Says the words that it is called with; what is in an image is said by the real program.
+SPEAKER = f"""#!/bin/sh
+if [ "$1" = ls ]; then exec {PROGRAM} "$@"; fi
+printf 'called:'
+for word; do printf '<%s>' "$word"; done
+echo .
+"""
+SHELLS = {
+    "bash": (["bash", "--norc", "--noprofile", "-i"], [
+        "bind 'set enable-bracketed-paste off'", f"source {HOME}/completions/lfsed.bash",
+    ]),
+    "zsh": (["zsh", "-f", "-i"], [
+        "unset zle_bracketed_paste", f"fpath=({HOME}/completions $fpath)", "autoload -U compinit", "compinit -u -D",
+    ]),
+    "fish": (["fish", "--no-config", "-i"], [f"source {HOME}/completions/lfsed.fish"]),
+}
+# What is typed before the tab, and the words that the program is called with then.
+LINES = [
+    ("lfsed unde", ["unde"]),
+    ("lfsed und", ["undo"]),
+    ("lfsed check fw", ["check", "fw.img"]),
+    ("lfsed check --block=512 fw", ["check", "--block=512", "fw.img"]),
+    ("lfsed check -b 512 fw", ["check", "-b", "512", "fw.img"]),
+    ("lfsed diff fw.img oth", ["diff", "fw.img", "other.img"]),
+    ("lfsed pack fw.img fol", ["pack", "fw.img", "folder/"]),
+    ("lfsed cat -b 512 fw.img /con", ["cat", "-b", "512", "fw.img", "/config"]),
+    ("lfsed cat --block=512 fw.img /dir/t", ["cat", "--block=512", "fw.img", "/dir/two words"]),
+    ("lfsed cat -b 512 fw.img /oth", ["cat", "-b", "512", "fw.img", "/oth"]),
+    ("lfsed mv -b 512 fw.img /config /di", ["mv", "-b", "512", "fw.img", "/config", "/dir"]),
+    ("lfsed put -b 512 fw.img /config < hos", ["put", "-b", "512", "fw.img", "/config"]),
+    ("lfsed undo --ste", ["undo", "--steps"]),
+    ("lfsed help expl", ["help", "explain"]),
+    ("lfsed explain 6", ["explain", "6"]),
+    ("lfsed explain 46", ["explain", "46"]),
+]
+
+
+class Shell:
+    """A shell that reads from a terminal of its own."""
+
+    def __init__(self, name, folder):
+        command, first = SHELLS[name]
+        self.process, self.terminal = pty.fork()
+        if self.process == 0:
+            os.chdir(folder)
+            paths = f"{folder}/programs:{os.environ['PATH']}"
+            os.execvpe(command[0], command, dict(os.environ, PATH=paths, PS1="> ", TERM="xterm", HOME=str(folder), ZDOTDIR=str(folder)))
+        self.wait(1.0)
+        for line in first:
+            self.type(line + "\r", 0.6)
+
+    def wait(self, quiet):
+        """What is shown until nothing comes for so many seconds."""
+        shown, end = b"", time.monotonic() + 20
+        while time.monotonic() < end and select.select([self.terminal], [], [], quiet)[0]:
+            try:
+                shown += os.read(self.terminal, 65_536)
+            except OSError:
+                break
+        return shown.decode(errors="replace")
+
+    def type(self, text, quiet):
+        """Types a text, and answers what is shown then."""
+        os.write(self.terminal, text.encode())
+        return self.wait(quiet)
+
+    def called(self, line):
+        """The words that the program is called with where a tab ends a line."""
+        self.type(line, 0.2)
+        self.type("\t", 0.7)
+        shown = self.type("\r", 0.4)
+        self.type("\x03", 0.2)
+        found = re.findall(r"called:((?:<[^>]*>)*)\.", shown)
+        return re.findall(r"<([^>]*)>", found[-1]) if found else shown
+
+    def end(self):
+        os.close(self.terminal)
+        os.waitpid(self.process, 0)
+
+
+def run_shell(name, folder):
+    """Types all lines into a shell; answers how many were right and wrong."""
+    shell, right, wrong = Shell(name, folder), 0, 0
+    for line, wanted in LINES:
+        found = shell.called(line)
+        # A shell may take the slash behind a folder away again.
+        is_right = [word.rstrip("/") or word for word in found] == [word.rstrip("/") or word for word in wanted]
+        right, wrong = right + is_right, wrong + (not is_right)
+        if not is_right:
+            print(f"wrong: {name}: {line}: {found}")
+    shell.end()
+    return right, wrong
+
+
+def fill(folder):
+    """Makes the files that lines name."""
+    (folder / "programs").mkdir()
+    (folder / "programs/lfsed").write_text(SPEAKER)
+    (folder / "programs/lfsed").chmod(0o755)
+    (folder / "folder").mkdir()
+    (folder / "other.img").write_bytes(b"")
+    (folder / "host.txt").write_bytes(b"")
+    for words in ["format --count 16 fw.img", "put fw.img /config", "mkdir fw.img /dir"]:
+        name, *rest = words.split(" ")
+        subprocess.run([PROGRAM, name, "-b", "512", *rest], cwd=folder, input=b"", check=True)
+    subprocess.run([PROGRAM, "put", "-b", "512", "fw.img", "/dir/two words"], cwd=folder, input=b"", check=True)
+    (folder / "fw.img.lfsj").unlink()
+
+
+def try_shell(name):
+    """Types all lines into a shell in a folder of its own, where it is installed; answers how many were right and wrong."""
+    if not shutil.which(name):
+        print(f"{name} isn't there")
+        return 0, 0
+    with tempfile.TemporaryDirectory() as room:
+        fill(pathlib.Path(room))
+        return run_shell(name, pathlib.Path(room))
+
+
+def main():
+    subprocess.run([HOME / "bin/lfsed", "--help"], stdout=subprocess.DEVNULL, check=True)
+    with concurrent.futures.ThreadPoolExecutor() as pool:
+        counts = list(pool.map(try_shell, SHELLS))
+    right, wrong = (sum(count) for count in zip(*counts))
+    print(f"{right} passed, {wrong} failed")
+    return 1 if wrong else 0
+
+
+sys.exit(main())
