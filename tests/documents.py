@@ -7,6 +7,8 @@ import re
 import subprocess
 import sys
 
+from support.counts import Counts
+
 HOME = pathlib.Path(__file__).resolve().parent.parent
 DOCUMENTS = sorted([*HOME.glob("*.md"), *HOME.glob("docs/*.md")])
 # Folders below which a path that is named stands.
@@ -36,18 +38,6 @@ class Crate:
     def has(self, name):
         """Whether there is a function, a type or a definition of this name, or a type's function."""
         return all(part in self.functions or part in self.types | self.definitions for part in name.split("::"))
-
-
-class Counts:
-    """How many things were right and wrong."""
-
-    def __init__(self):
-        self.right = self.wrong = 0
-
-    def check(self, what, is_right, found=""):
-        self.right, self.wrong = self.right + is_right, self.wrong + (not is_right)
-        if not is_right:
-            print(f"wrong: {what} {found}")
 
 
 def crates():
@@ -113,8 +103,7 @@ def main():
         check_definitions(counts, document, text, all_crates)
     check_order(counts, all_crates)
     check_kit(counts)
-    print(f"{counts.right} passed, {counts.wrong} failed")
-    return 1 if counts.wrong else 0
+    return counts.end()
 
 
 sys.exit(main())

@@ -6,6 +6,8 @@ import subprocess
 import sys
 import tempfile
 
+from support.counts import Counts
+
 HOME = pathlib.Path(__file__).resolve().parent.parent
 MADE = ["man/lfsed.1", "completions/lfsed.bash", "completions/_lfsed", "completions/lfsed.fish"]
 INSTALLED = {
@@ -45,18 +47,6 @@ COMPLETED = [
 ]
 
 
-class Counts:
-    """How many things were right and wrong."""
-
-    def __init__(self):
-        self.right = self.wrong = 0
-
-    def check(self, what, is_right, found=""):
-        self.right, self.wrong = self.right + is_right, self.wrong + (not is_right)
-        if not is_right:
-            print(f"wrong: {what}: {found}")
-
-
 def completed(folder, line):
     """What bash completes the last word of a line to."""
     words = line.split(" ")
@@ -93,8 +83,7 @@ def main():
         (place / "fw.img").write_bytes(b"")
         for line, wanted in COMPLETED:
             counts.check(line, completed(place, line) == sorted(wanted.split()), completed(place, line))
-    print(f"{counts.right} passed, {counts.wrong} failed")
-    return 1 if counts.wrong else 0
+    return counts.end()
 
 
 sys.exit(main())
