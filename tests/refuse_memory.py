@@ -133,10 +133,27 @@ def history_rows(runs):
     runs.row(["redo", "a.img"], runs.row(["redo", "a.img"], undone))
     runs.row(["redo", "a.img"], runs.row(["mkdir", "a.img", "/b"], undone))
     runs.row(["undo", "a.img"], runs.row(["forget", "a.img"], filled))
+    runs.row(["redo", "--steps=2", "a.img"], runs.row(["undo", "--steps=2", "a.img"], filled))
+    runs.row(["log", "a.img"], filled)
+    runs.row(["log", "a.img"], emptied)
+    runs.row(["log", "a.img"], (new[0], None))
     erased, zeroed, first = b"\xff" * 512, bytes(512), new[0][:512]
     for changes in [(erased, first)], [(erased, zeroed), (erased, first)], [(zeroed, erased), (erased, first)]:
         done = [(8, 8, [(0, old, now)]) for old, now in changes]
         runs.row(["undo", "a.img"], (new[0], journal(512, 8, done, [])))
+        runs.row(["log", "a.img"], (new[0], journal(512, 8, done, [])))
+
+
+def comparing_rows(runs):
+    """Two images that are compared, of which one may be none."""
+    new = runs.row(["format", "--count=8", "a.img"], NOTHING)
+    made = runs.row(["mkdir", "a.img", "/a"], new)
+    filled = runs.row(["put", "a.img", "/a/x"], made, bytes(700))
+    other = runs.files[0].with_name("b.img")
+    for held in filled[0], new[0], bytes(4_096):
+        other.write_bytes(held)
+        runs.row(["diff", "a.img", "b.img"], (filled[0], None))
+        runs.row(["diff", "a.img", "b.img"], (made[0], None))
 
 
 def growing_rows(runs):
@@ -165,6 +182,7 @@ with tempfile.TemporaryDirectory() as folder:
     small_block_rows(tried)
     folder_rows(tried)
     history_rows(tried)
+    comparing_rows(tried)
     growing_rows(tried)
 print(f"{tried.ran - tried.wrong} passed, {tried.wrong} failed")
 sys.exit(1 if tried.wrong else 0)
