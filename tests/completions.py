@@ -8,6 +8,7 @@ import pty
 import re
 import select
 import shutil
+import signal
 import subprocess
 import sys
 import tempfile
@@ -91,7 +92,9 @@ class Shell:
         return re.findall(r"<([^>]*)>", found[-1]) if found else []
 
     def end(self):
+        """Ends it, whatever it does."""
         os.close(self.terminal)
+        os.kill(self.process, signal.SIGKILL)
         os.waitpid(self.process, 0)
 
 
