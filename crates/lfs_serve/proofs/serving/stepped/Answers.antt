@@ -26,7 +26,8 @@ returns-in_err-outcome g c =
     let files = c.taken.ensures.kept.0 ∙ c.hand_over.ensures.kept.0 ∙ aimed.0 in
     let fault = c.in_err-outcome.field-0.0.fault in
     let outcome = c.in_err-outcome.ensures.ran.0 in
-    let runs : RunsStep step c.args.request.now.size c.args.request.now.keep name old by_taken (Some fault) outcome = step_ran step c.args.request.now.size c.args.request.now.keep name old by_taken h (Some fault)
+    let runs : RunsStep step c.args.request.now.size c.args.request.now.keep name old by_taken (Some fault) outcome =
+    step_ran step c.args.request.now.size c.args.request.now.keep name old by_taken h (Some fault)
     (g.H.Known.known c.hand_over.new.host).printed by_taken.printed outcome is c.in_err-outcome.ensures.ran.1 silent refl c.in_err-outcome.ensures.blamed in
     record { ended = ends_refused step c.args.request.now.size c.args.request.now.keep name old by_taken _ fault outcome (search rules) runs files }
 
@@ -50,7 +51,8 @@ returns-in_err-stored g c =
     let silent = c.hand_over.ensures.kept.1 ∙ aimed.2 in
     let files = c.taken.ensures.kept.0 ∙ c.hand_over.ensures.kept.0 ∙ aimed.0 in
     let outcome = c.in_ok-outcome.ensures.ran.0 in
-    let runs : RunsStep step c.args.request.now.size c.args.request.now.keep name old by_stored None outcome = step_ran step c.args.request.now.size c.args.request.now.keep name old by_stored h None
+    let runs : RunsStep step c.args.request.now.size c.args.request.now.keep name old by_stored None outcome =
+    step_ran step c.args.request.now.size c.args.request.now.keep name old by_stored h None
     (g.H.Known.known c.hand_over.new.host).printed by_taken.printed outcome is c.in_ok-outcome.ensures.ran.1 silent c.stored.ensures.kept tt in
     let spares = spares_at c.in_err-stored.field-0.0 c.kind_of-kind.result (kind_of step) old.files by_taken.files by_stored.files name target c.as_str-2.result.now
     outcome c.in_ok-outcome.outcome c.in_ok-target.ensures.target (search rules) files c.kind_of-kind.ensures
@@ -80,7 +82,8 @@ returns g c =
     let silent = c.hand_over.ensures.kept.1 ∙ aimed.2 in
     let files = c.taken.ensures.kept.0 ∙ c.hand_over.ensures.kept.0 ∙ aimed.0 in
     let outcome = c.in_ok-outcome.ensures.ran.0 in
-    let runs : RunsStep step c.args.request.now.size c.args.request.now.keep name old by_stored None outcome = step_ran step c.args.request.now.size c.args.request.now.keep name old by_stored h None
+    let runs : RunsStep step c.args.request.now.size c.args.request.now.keep name old by_stored None outcome =
+    step_ran step c.args.request.now.size c.args.request.now.keep name old by_stored h None
     (g.H.Known.known c.hand_over.new.host).printed by_taken.printed outcome is c.in_ok-outcome.ensures.ran.1 silent c.stored.ensures.kept tt in
     let leaves = leaves_at c.kind_of-kind.result (kind_of step) old.files by_taken.files by_stored.files name target c.as_str-2.result.now
     outcome c.in_ok-outcome.outcome c.in_ok-target.ensures.target (search rules) files c.kind_of-kind.ensures
