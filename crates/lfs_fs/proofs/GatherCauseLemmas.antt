@@ -62,7 +62,7 @@ state_refuses d _ ps start h says = absurd says
 first_at : (r : Reading) (p : PairPart) (ps : List PairPart) (start : List Bool) → IsThreadRead r (p ∷ ps) start → p.0 ≡ root
 first_at r p ps start h = let first : Some root ≡ Some p.0 = h.is_thread.front.follow.0 in cc
 
-no_first : (r : Reading) (s : StoredPart) (bytes : List ℕ) (attributes : Attributes) → r.part root ≡ Some s → s.entries ≡ []
+pub no_first : (r : Reading) (s : StoredPart) (bytes : List ℕ) (attributes : Attributes) → r.part root ≡ Some s → s.entries ≡ []
     → HasSuperblock r bytes attributes → ⊥
 no_first r s bytes attributes read none super =
     let part : super.part ≡ s = cc (super.read, read) in

@@ -51,6 +51,7 @@ pub mod PartsLemmas
 pub mod FoldersLemmas
 pub mod GatheredLemmas
 pub mod GatherCauseLemmas
+pub mod SuperblockFirstLemmas
 pub mod MountLemmas
 pub mod ThreadThereLemmas
 pub mod EntriesThereLemmas

@@ -144,7 +144,7 @@ unread_by : (d : Disk) (fault : MountFault) (ps : List Pair) (p : Pair) → IsFr
     → Unread d fault
 unread_by d fault ps p front cause = record { front = ps ++ p ∷ []; is_front = front; pair = p; there = Contains-push ps p; cause = cause }
 
-unread_pair : (d : Disk) (fault : MountFault) (ps : List Pair) (p : Pair) → IsFront (reading_of d) (ps ++ p ∷ []) → ReadCause fault d p
+pub unread_pair : (d : Disk) (fault : MountFault) (ps : List Pair) (p : Pair) → IsFront (reading_of d) (ps ++ p ∷ []) → ReadCause fault d p
     → HasCause d fault
 unread_pair d NoValidCommit ps p front cause = unread_by d NoValidCommit ps p front cause
 unread_pair d UnknownTag ps p front cause = unread_by d UnknownTag ps p front cause

@@ -42,6 +42,7 @@ pub mod MarksMore
 pub mod Gathering
 pub mod ThreadRead
 pub mod Judged
+pub mod SuperblockFirst
 pub mod Gathered
 pub mod Mounts
 pub mod Formatted

@@ -1,9 +1,10 @@
 //! What is gathered of an image before its tree is walked.
 
-ghost use Rattle.std.specs.Prelude.{◌≡◌, IfOk, IfErr};
+ghost use Rattle.std.specs.Prelude.{◌≡◌, IfOk, IfErr, OnOk};
 ghost use Rattle.lfs_meta.specs.Fits.{RiseFrom};
 ghost use Rattle.lfs_fs.specs.Cause.{HasCause};
 ghost use Rattle.lfs_fs.specs.Gathered.{IsGathered};
+ghost use Rattle.lfs_fs.specs.SuperblockFirst.{BlamesSuperblock, HasGoodSuperblock};
 
 use crate::joining::directories_of;
 use crate::outline::Outline;
@@ -37,6 +38,8 @@ fn attributes_of(entry: Entry) -> Vec<Attribute>
 pub(crate) fn gather<B: Blocks>(alloc: Global, blocks: &B) -> Result<Gathered, MountFault>
     ensures gathered { IfOk result (λ gathered. IsGathered (B.disk blocks.now) gathered) }
     ensures refused { IfErr result (λ fault. HasCause (B.disk blocks.now) fault) }
+    ensures good { OnOk result (HasGoodSuperblock (B.disk blocks.now)) }
+    ensures first { IfErr result (λ fault. BlamesSuperblock (B.disk blocks.now) fault) }
 {
     let size = blocks.size();
     let count = blocks.count();

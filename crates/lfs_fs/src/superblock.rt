@@ -1,9 +1,10 @@
 //! The superblock of an image.
 
-ghost use Rattle.std.specs.Prelude.{◌≡◌, ◌≤◌, ◌<◌, ◌+◌, ◌*◌, ℕ, List, [], All, IfOk, IfErr, IfSome, IfNone, IsTrue, MatchBool, ◌↔◌, length};
+ghost use Rattle.std.specs.Prelude.{◌≡◌, ◌≤◌, ◌<◌, ◌+◌, ◌*◌, ℕ, List, [], All, IfOk, IfErr, IfSome, IfNone, IsTrue, MatchBool, OnOk, ◌↔◌, length};
 ghost use Rattle.std.specs.List.{Any};
 ghost use Rattle.lfs_fs.specs.Header.{IsHeader, HeaderCause};
 ghost use Rattle.lfs_fs.specs.Judged.{SaysLimits, JudgedCause, TakesFirst, BeginsWithNone};
+ghost use Rattle.lfs_fs.specs.SuperblockFirst.{FirstRefused, FirstTaken, HeaderRefused, HeaderTaken};
 ghost use Rattle.lfs_fs.specs.Superblock.{IsLimits, IsSuperblock, header_of, word_at};
 
 use crate::limits::{Limits, MOST_FILE, MOST_HELD};
@@ -87,6 +88,28 @@ pub(crate) fn are_within(attributes: &[Attribute], limit: u32) -> bool
         }
     }
     true
+}
+
+/// Whether an entry is a superblock of an image of `count` blocks of `size` bytes: `NoSuperblock` where it isn't one, else what
+/// `limits_of` refuses.
+fn header_fits(entry: &Entry, size: u32, count: u32) -> Result<(), MountFault>
+    ensures taken { OnOk result (HeaderTaken size count entry.now) }
+    ensures refused { IfErr result (λ fault. HeaderRefused fault size count entry.now) }
+{
+    let bytes = struct_of(entry).ok_or(MountFault::NoSuperblock)?;
+    limits_of(bytes, size, count)?;
+    Ok(())
+}
+
+/// Whether the first of these entries is a superblock of an image of `count` blocks of `size` bytes.
+pub(crate) fn first_fits(entries: &[Entry], size: u32, count: u32) -> Result<(), MountFault>
+    ensures taken { OnOk result (FirstTaken size count entries.now) }
+    ensures refused { IfErr result (λ fault. FirstRefused fault size count entries.now) }
+{
+    match entries.split_first() {
+        Some((first, _)) => header_fits(first, size, count),
+        None => Err(MountFault::NoSuperblock),
+    }
 }
 
 /// The limits that an entry says, where it is a superblock of an image of `count` blocks of `size` bytes: `NoSuperblock`

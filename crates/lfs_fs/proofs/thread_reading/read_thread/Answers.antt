@@ -11,7 +11,7 @@ use Rattle.lfs_fs.proofs.thread_reading.read_thread.Goals as goal
 pub returns-in_err-mark_all-clause-refused : goal.returns-in_err-mark_all-clause-refused
 returns-in_err-mark_all-clause-refused g c =
     let d = g.B.Blocks.disk c.args.blocks.now in
-    let p = err_from_is_err_and c.from_residual.result c.from_residual.ensures.1 in
+    let p = err_from_is_err_and c.from_residual-in_err-mark_all.result c.from_residual-in_err-mark_all.ensures.1 in
     let h = subst (λ (o : Option Pair). IsReadTo (reading_of d) c.thread.parts.items o c.thread.used) c.in-Some.is c.thread.invariant in
     rw (p.1, p.2) (next_refused d c.in_err-mark_all.field-0.0 c.thread.parts.items c.in-Some.pair c.thread.used h
     c.in_err-mark_all.ensures.refused)
@@ -41,8 +41,8 @@ thread-preserved g c =
     let h = subst (λ (o : Option Pair). IsReadTo (reading_of d) c.thread.parts.items o c.thread.used) c.in-Some.is c.thread.invariant in
     let more = read_more (reading_of d) c.thread.parts.items c.in-Some.pair part c.thread.used c.mark_all.new.used h
     c.in_ok-mark_all.ensures.marked c.in_ok-part.ensures.pair c.in_ok-part.ensures.found c.in_ok-part.ensures.whole in
-    let pushed : c.push.new.items.items ≡ c.thread.parts.items ++ part ∷ [] = c.in_ok-push.ensures.pushed in
-    let next_is : c.next_pair-next.result ≡ next part.1.tail = c.next_pair-next.ensures
+    let pushed : c.push-in-Some.new.items.items ≡ c.thread.parts.items ++ part ∷ [] = c.in_ok-push-2.ensures.pushed in
+    let next_is : c.next_pair-next-in-Some.result ≡ next part.1.tail = c.next_pair-next-in-Some.ensures
     ∙ ap (λ (p : PairPart). next p.1.tail) c.part.view_is in
     rw (pushed, next_is) more
 
