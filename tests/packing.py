@@ -3,6 +3,8 @@
 contents that a reader apart from the program finds in the image."""
 import os
 import pathlib
+import random
+import shutil
 import socket
 import struct
 import sys
@@ -103,7 +105,7 @@ def worked_folder(folder):
     place = source(folder)
     (place / "d").mkdir(parents=True)
     (place / "d/f").write_bytes(contents(65))
-    is_refused(folder, "too few blocks", 1, "lfsed: 43 NoSpace need 1 free 0", "", "pack -b 512 --count 4 a.img src")
+    is_refused(folder, "too few blocks", 1, "lfsed: 43 NoSpace need 1 free 0", "lfsed: src: needs 5 blocks of 512 bytes in all", "pack -b 512 --count 4 a.img src")
     is_packed(folder, "a file in a folder", 512, 8)
     ended = folder.run("ls -b 512 a.img")
     folder.check("listing", ended[2] == b"d          - /\nd          - /d\nf         65 /d/f\n", ended)
@@ -177,7 +179,7 @@ def what_is_refused(folder):
     is_refused(folder, "a name that isn't UTF-8", 4, "lfsed: 63 HostName", "lfsed: src/d: invalid filename")
     os.unlink(name)
     (place / "d/long").write_bytes(contents(4_000))
-    is_refused(folder, "more than fits", 1, "lfsed: 43 NoSpace need 8 free 4", "")
+    is_refused(folder, "more than fits", 1, "lfsed: 43 NoSpace need 8 free 4", "lfsed: src: needs 12 blocks of 512 bytes in all")
 
 
 def what_is_not_read(folder):
@@ -198,6 +200,40 @@ def what_is_not_read(folder):
                 folder.check(f"{call} {at}", status == 0 or is_told and is_kept, (status, complained))
 
 
+def scatter(place, chance, size):
+    """Makes a folder of a few files and folders, as chance has it, that fit into parts of blocks of a size."""
+    places = [place]
+    place.mkdir()
+    for number in range(chance.randrange(16)):
+        here = chance.choice(places) / (chance.choice("abc") * chance.choice([1, 1, 20, 80]) + str(number))
+        if chance.random() < 0.3:
+            here.mkdir()
+            places.append(here)
+        else:
+            here.write_bytes(contents(chance.choice([0, 3, size // 8, size // 8 + 1, size, 3 * size, chance.randrange(9 * size)])))
+
+
+def least_images(folder):
+    """The least number of blocks that holds a folder, of 200 of them: all of these are taken, and one fewer are too few."""
+    place, chance = source(folder), random.Random(6)
+    for number in range(200):
+        size = chance.choice([256, 512, 1_024, 4_096])
+        scatter(place, chance, size)
+        what = f"folder {number}, blocks of {size}"
+        folder.check(what, folder.run(f"pack -b {size} --least a.img src") == (0, "", b""))
+        least = folder.old()
+        wanted = {os.fsencode(path): here.read_bytes() for path, here in paths_of(place) if here.is_file()}
+        folder.check(f"{what}: contents", files_in(least, size) == wanted)
+        folder.check(f"{what}: none is free", Reader(least, size).free() == 0)
+        count = len(least) // size
+        folder.check(f"{what}: as many", folder.run(f"pack -b {size} --count {count} a.img src") == (0, "", b"") and folder.old() == least)
+        if count > 2:
+            status, complained, _ = folder.run(f"pack -b {size} --count {count - 1} a.img src")
+            is_refused_so = status == 1 and complained.startswith("lfsed: 43 NoSpace need ")
+            folder.check(f"{what}: one fewer", is_refused_so and folder.old() == least, (status, complained))
+        shutil.rmtree(place)
+
+
 def many_files(folder):
     """5,000 files of mixed sizes in 300 folders, packed twice."""
     fill(source(folder))
@@ -209,4 +245,5 @@ def many_files(folder):
 
 
 if __name__ == "__main__":
-    sys.exit(run_scenes([worked_folder, odd_folders, many_files_in_one_folder, what_is_refused, what_is_not_read, many_files]))
+    scenes = [worked_folder, odd_folders, many_files_in_one_folder, what_is_refused, what_is_not_read, least_images, many_files]
+    sys.exit(run_scenes(scenes))

@@ -32,7 +32,7 @@ use Rattle.lfs_build.proofs.Weighed.{all_weighed}
 abbrev pub IsAddedTo : Command → List Pair → List Entry → Entry → ℕ → ℕ → Disk → ℕ → List Directory → Directory → List Directory → Path
     → Volume → Type 0
 IsAddedTo c new es e before n f next above d closed home v =
-    (w : Volume) × CarriesOut c v w × (w.attributes ≡ v.attributes)
+    (w : Volume) × CarriesOut c v w × (w.attributes ≡ v.attributes) × (w.limits ≡ v.limits)
     × IsBuilt f (next + n) above (with_more (outlined v) es e (pair_behind next before) d) (made new ++ closed) home w
 
 module _ (t : NewVolume) (c : Command) (before : ℕ) (new : List Pair) (es : List Entry) (e : Entry) (laid : Disk → Type 0)
@@ -69,10 +69,11 @@ built_as d e n m above ds x y closed cs names w disk next same deepest gone buil
 
 pub taking_after : (u : NewVolume) (home : Path) (v w : Volume)
     → IsBuilt u.image.disk u.next (map opened u.above.items) (opened u.deepest) (reverse u.closed.items) home w
-    → w.attributes ≡ v.attributes → v.attributes ≡ u.attributes.items → RiseFrom 0 u.attributes.items → All (IsWeighed (outlined v)) u.above.items
-    → IsWeighed (outlined v) u.deepest → TakesMore u home w
-taking_after u home v w built same attributes rise above deepest = record {
+    → w.limits ≡ u.limits → w.attributes ≡ v.attributes → v.attributes ≡ u.attributes.items → RiseFrom 0 u.attributes.items
+    → All (IsWeighed (outlined v)) u.above.items → IsWeighed (outlined v) u.deepest → TakesMore u home w
+taking_after u home v w built limits same attributes rise above deepest = record {
   built = built;
+  limits = limits;
   attributes = same ∙ attributes;
   rise = rise;
   weighed =

@@ -88,6 +88,7 @@ module _ (laws : BuildingLaws) (d : Disk) (next : ℕ) (above : List Directory) 
           to.0,
           to.1.carries,
           ap (λ (w : Volume). w.attributes) to.1.outline,
+          to.1.follows.limits,
           more_built laws d next above deepest closed names v built c before new es e supplied.count block supplied.behind light enough f
               (supplied.leaves f lays) (supplied.erased some f lays) to.0 to.1
               (subst (OfNew (IsThere (reading_of f)) v c) (sym to.1.least) (supplied.contents some f lays)),

@@ -8,6 +8,7 @@ use Rattle.std.proofs.lemmas.List.Sums.{sum_by-append}
 use Rattle.lfs_block.specs.Medium.{Medium}
 use Rattle.lfs_meta.specs.Attribute.{set_attribute}
 use Rattle.lfs_meta.specs.Name.{Name, IsName}
+use Rattle.lfs_fs.specs.declared.limits.Limits.{Limits}
 use Rattle.lfs_fs.specs.Directory.{Directory, Part}
 use Rattle.lfs_fs.specs.Entry.{Entry, target}
 use Rattle.lfs_fs.specs.Path.{Path}
@@ -45,6 +46,7 @@ module _ (e : Entry) (t m : NewVolume) (without : IsWithoutLast e t m) where
   ready : EndsSo m.deepest.last.entries t m
   ready = record {
     image = without.image;
+    limits = without.limits;
     attributes = without.attributes;
     above = without.above;
     closed = without.closed;
@@ -112,12 +114,17 @@ module _ (k : ℕ) (value : List ℕ) (t : NewVolume) (adds : AttributesAreAdded
       adds has.n k value es e t.image.disk t.next (map opened t.above.items) (opened t.deepest) (reverse t.closed.items) has.home v
       has.taking.built (subst (λ (q : Path). All IsName q) has.is has.names) ends
 
-  pub too_long : 1022 < length value → RefusesAttribute k value t AttrTooLarge
+  pub too_long : t.limits.attribute < length value → RefusesAttribute k value t AttrTooLarge
   too_long long = inr (λ p v has.
       subst (λ (q : Path). verdict v (SetAttr q k value) ≡ Some AttrTooLarge) (sym has.is)
-      ((added_at p v has has.es has.e has.ends).long long))
+      ((added_at p v has has.es has.e has.ends).long
+      (subst (λ (l : Limits). l.attribute < length value) (sym has.taking.limits) long)))
 
-  module _ (short : length value ≤ 1022) (e : Entry) (m : NewVolume) (without : IsWithoutLast e t m) (x : Entry)
+  -- the volume has the same limits
+  value_at : length value ≤ t.limits.attribute → (p : Path) (v : Volume) → HasEntry t p v → length value ≤ v.limits.attribute
+  value_at short p v has = subst (λ (l : Limits). length value ≤ l.attribute) (sym has.taking.limits) short
+
+  module _ (short : length value ≤ t.limits.attribute) (e : Entry) (m : NewVolume) (without : IsWithoutLast e t m) (x : Entry)
       (is : x ≡ with_entry_attributes (set_attribute k value) e) (i : ℕ) (weighs : i ≡ weight x) where
     same : i ≡ weight (with_entry_attributes (set_attribute k value) e)
     same = weighs ∙ ap weight is
@@ -129,7 +136,7 @@ module _ (k : ℕ) (value : List ℕ) (t : NewVolume) (adds : AttributesAreAdded
         subst (λ (q : Path). verdict v (SetAttr q k value) ≡ Some r) (sym has.is)
         (not_put t m (SetAttr (has.home ++ has.n ∷ []) k value) 0 [] es new (λ f. f ≡ t.image.disk) has.home v (ready e t m without) has.taking
         (counted e t m without _ (deepest_counted t has.home v has.taking))
-        ((added_at p v has es e (ends e t m without has.n has.es has.e has.ends)).added short) r
+        ((added_at p v has es e (ends e t m without has.n has.es has.e has.ends)).added (value_at short p v has)) r
         (subst (λ (j : ℕ). HasNoRoom j 0 m r) same none)))
 
     pub is_set : DirectoriesTakeMore → i ≤ m.image.disk.size - 40 → m.next + blocks_for i 0 m ≤ m.image.disk.count → (u : NewVolume)
@@ -142,7 +149,7 @@ module _ (k : ℕ) (value : List ℕ) (t : NewVolume) (adds : AttributesAreAdded
         let done : IsCarried (SetAttr (has.home ++ has.n ∷ []) k value) new has.home v u =
         is_put t m (SetAttr (has.home ++ has.n ∷ []) k value) 0 [] es new (λ f. f ≡ t.image.disk) has.home v (ready e t m without) has.taking
         (counted e t m without _ (deepest_counted t has.home v has.taking))
-        ((added_at p v has es e (ends e t m without has.n has.es has.e has.ends)).added short) takes_more m u u (same_volume m) refl
+        ((added_at p v has es e (ends e t m without has.n has.es has.e has.ends)).added (value_at short p v has)) takes_more m u u (same_volume m) refl
         (ap (λ (i : Medium). i.disk) without.image)
         (subst (λ (y : Entry). IsPushed y 0 m u) is pushed) (none_made u) (subst (λ (j : ℕ). j ≤ m.image.disk.size - 40) same light)
         (subst (λ (j : ℕ). m.next + blocks_for j 0 m ≤ m.image.disk.count) same fits) in

@@ -12,19 +12,19 @@ use Rattle.lfs_fs.specs.Formatted.{empty_volume}
 use Rattle.lfs_fs.specs.Outlined.{outlined, outlined_directories, outlined_directory, outlined_entry, outlined_part}
 use Rattle.lfs_fs.specs.Pair.{root}
 use Rattle.lfs_fs.specs.Sound.{IsSound}
+use Rattle.lfs_fs.specs.Superblock.{IsLimits}
 use Rattle.lfs_fs.specs.Thread.{Link}
 use Rattle.lfs_fs.specs.Uses.{uses}
 use Rattle.lfs_fs.specs.Volume.{Volume}
 use Rattle.lfs_fs.specs.Weight.{superblock_weight}
-use Rattle.lfs_fs.specs.Limits.{new_limits}
 use Rattle.lfs_law.proofs.LinksAdded.{contains_one}
 use Rattle.lfs_new.specs.OutlinesTaken.{FitsNewPair}
 use Rattle.lfs_build.specs.Built.{AreErasedFrom, AreThere}
 use Rattle.lfs_build.specs.Rooted.{IsBareBuilt, bare_directory}
 
 -- the root alone in an image
-abbrev pub bare_volume : Disk → Attributes → Volume
-bare_volume d attributes = empty_volume d.size d.count new_limits attributes
+abbrev pub bare_volume : Disk → Limits → Attributes → Volume
+bare_volume d limits attributes = empty_volume d.size d.count limits attributes
 
 -- ---- which volumes have the outline of a bare root
 
@@ -52,19 +52,18 @@ bare_directories (d ∷ ds) is =
     ap (λ (x : Directory). x ∷ ds) (bare_root d first ∙ first)
     ∙ ap (λ (xs : List Directory). bare_directory root ∷ xs) (none_mapped outlined_directory ds more ∙ more)
 
--- a bare volume that is built has nothing but its attributes
-pub bare_is : (d : Disk) (v : Volume) → IsBareBuilt d v → v ≡ bare_volume d v.attributes
+-- a bare volume that is built has nothing but its limits and its attributes
+pub bare_is : (d : Disk) (v : Volume) → IsBareBuilt d v → v ≡ bare_volume d v.limits v.attributes
 bare_is d v bare =
-    ap (λ (n : ℕ). volume_of n v.count v.limits v.directories) bare.size
-    ∙ ap (λ (n : ℕ). volume_of d.size n v.limits v.directories) bare.count
-    ∙ ap (λ (l : Limits). volume_of d.size d.count l v.directories) bare.limits
-    ∙ ap (volume_of d.size d.count new_limits) (bare_directories v.directories bare.directories)
+    ap (λ (n : ℕ). volume_of n v.count v.directories) bare.size
+    ∙ ap (λ (n : ℕ). volume_of d.size n v.directories) bare.count
+    ∙ ap (volume_of d.size d.count) (bare_directories v.directories bare.directories)
   where
-    volume_of : ℕ → ℕ → Limits → List Directory → Volume
-    volume_of size count limits ds = record {
+    volume_of : ℕ → ℕ → List Directory → Volume
+    volume_of size count ds = record {
       size = size;
       count = count;
-      limits = limits;
+      limits = v.limits;
       attributes = v.attributes;
       directories = ds;
     }
@@ -79,31 +78,31 @@ bare_uses b size count l a = grind (arith, nat_tests)
 none_inside : (x : Entry) → Contains [] x → ⊥
 none_inside x there = omega arith
 
-none_there : (d : Disk) (a : Attributes) → AreThere d (bare_volume d a)
-none_there d a l there x inside =
-    let bare : l.part.entries ≡ [] = ap (λ (m : Link). m.part.entries) (contains_one _ l there) in
+none_there : (d : Disk) (l : Limits) (a : Attributes) → AreThere d (bare_volume d l a)
+none_there d l a k there x inside =
+    let bare : k.part.entries ≡ [] = ap (λ (m : Link). m.part.entries) (contains_one _ k there) in
     absurd (none_inside x (subst (λ (es : List Entry). Contains es x) bare inside))
 
 -- where the image is erased behind the first block, and the attributes fit that
-pub bare_is_built : (d : Disk) (a : Attributes) → IsDisk d → IsSound (bare_volume d a) → superblock_weight a ≤ d.size - 40
-    → block_of d 1 ≡ replicate d.size 0xff → AreErasedFrom 2 d → IsBareBuilt d (bare_volume d a)
-bare_is_built d a disk sound light second erased = record {
+pub bare_is_built : (d : Disk) (l : Limits) (a : Attributes) → IsDisk d → IsLimits l → IsSound (bare_volume d l a)
+    → superblock_weight a ≤ d.size - 40 → block_of d 1 ≡ replicate d.size 0xff → AreErasedFrom 2 d → IsBareBuilt d (bare_volume d l a)
+bare_is_built d l a disk limits sound light second erased = record {
   disk = disk;
   size = refl;
   count = refl;
-  limits = refl;
+  limits = limits;
   sound = sound;
   clean = All-cons (λ (p : Part). p.dirty ≡ false) _ [] refl (All-nil (λ (p : Part). p.dirty ≡ false));
   directories = refl;
   way = (refl, refl);
   begin = omega arith;
   within = disk.geometry.count_fits.0;
-  free = λ b lt. bare_uses b d.size d.count new_limits a;
-  fit = All-cons (FitsNewPair d (outlined (bare_volume d a))) (bare_directory root).first []
+  free = λ b lt. bare_uses b d.size d.count l a;
+  fit = All-cons (FitsNewPair d (outlined (bare_volume d l a))) (bare_directory root).first []
       (record { few = omega arith; light = omega (arith, light); none = refl; erased = second })
-      (All-nil (FitsNewPair d (outlined (bare_volume d a))));
+      (All-nil (FitsNewPair d (outlined (bare_volume d l a))));
   erased = erased;
-  there = none_there d a;
+  there = none_there d l a;
 }
 
 -- the second block of the root's pair is erased

@@ -37,6 +37,7 @@ closed_taking close t u front more v down taking len = record {
       (close t.image.disk t.next (map opened t.above.items) (opened t.deepest) (reverse t.closed.items) front more v
       (map opened u.above.items) (opened u.deepest) (map opened down.gone) taking.built (way_before t u down)
       (length-map u.above.items opened ∙ len));
+  limits = taking.limits ∙ sym down.limits;
   attributes = taking.attributes ∙ ap (λ (a : _). a.items) (sym down.attributes);
   rise = subst (λ (a : _). RiseFrom 0 a.items) (sym down.attributes) taking.rise;
   weighed =
@@ -47,11 +48,12 @@ closed_taking close t u front more v down taking len = record {
 -- ---- closed one after another
 
 pub none_closed : (t : NewVolume) → ClosesDown t t
-none_closed t = record { image = refl; attributes = refl; next = refl; gone = []; are = refl; closed = refl }
+none_closed t = record { image = refl; limits = refl; attributes = refl; next = refl; gone = []; are = refl; closed = refl }
 
 pub closed_on : (t u w : NewVolume) → ClosesDown t u → ClosesDown u w → ClosesDown t w
 closed_on t u w first then = record {
   image = then.image ∙ first.image;
+  limits = then.limits ∙ first.limits;
   attributes = then.attributes ∙ first.attributes;
   next = then.next ∙ first.next;
   gone = then.gone ++ first.gone;

@@ -1,9 +1,10 @@
 -- A directory that is made under a name of the deepest directory of a new volume.
-use Rattle.std.proofs.Common.{◌≡◌, ◌+◌, ◌-◌, ◌<◌, ◌≤◌, ℕ, false, List, [], ◌∷◌, ◌++◌, length, refl, ap, ◌∙◌, subst, inr, map, arith}
+use Rattle.std.proofs.Common.{◌≡◌, ◌+◌, ◌-◌, ◌<◌, ◌≤◌, ℕ, false, List, [], ◌∷◌, ◌++◌, length, refl, ap, sym, ◌∙◌, subst, inr, map, arith}
 use Rattle.std.specs.Prelude.{reverse}
 use Rattle.std.proofs.lemmas.Bool.Decides.{nat_tests}
 use Rattle.std.proofs.lemmas.List.{reverse-append}
 use Rattle.lfs_meta.specs.Name.{Name}
+use Rattle.lfs_fs.specs.declared.limits.Limits.{Limits}
 use Rattle.lfs_fs.specs.Directory.{Directory}
 use Rattle.lfs_fs.specs.Entry.{Entry, Directory_at, target}
 use Rattle.lfs_fs.specs.Pair.{root, same_pair}
@@ -34,6 +35,7 @@ closed_first next t u closed =
 pub with_made : (next : ℕ) (t u : NewVolume) → IsWithClosed (bare_directory (next, next + 1)) t u → IsWithMade ((next, next + 1) ∷ []) t u
 with_made next t u closed = record {
   image = closed.image;
+  limits = closed.limits;
   attributes = closed.attributes;
   above = closed.above;
   deepest = closed.deepest;
@@ -62,18 +64,21 @@ module _ (n : Name) (t : NewVolume) (adds : DirectoriesAreAdded) where
   added_at home v is =
       adds n t.image.disk t.next (map opened t.above.items) (opened t.deepest) (reverse t.closed.items) home v is.taking.built is.names is.last
 
-  pub too_long : 255 < length n → RefusesName (λ p. Mkdir p) n t NameTooLong
-  too_long long = inr (λ home v is. (added_at home v is).long long)
+  pub too_long : t.limits.name < length n → RefusesName (λ p. Mkdir p) n t NameTooLong
+  too_long long = inr (λ home v is. (added_at home v is).long (subst (λ (l : Limits). l.name < length n) (sym is.taking.limits) long))
 
-  pub no_place : length n ≤ 255 → (e : Entry) → e ≡ new_entry n (Directory_at (t.next, t.next + 1)) → (k : ℕ) → k ≡ weight e
+  fits_at : length n ≤ t.limits.name → (home : Path) (v : Volume) → IsHome t home n v → length n ≤ v.limits.name
+  fits_at short home v is = subst (λ (l : Limits). length n ≤ l.name) (sym is.taking.limits) short
+
+  pub no_place : length n ≤ t.limits.name → (e : Entry) → e ≡ new_entry n (Directory_at (t.next, t.next + 1)) → (k : ℕ) → k ≡ weight e
       → (r : Refusal) → HasNoRoom k 2 t r → RefusesName (λ p. Mkdir p) n t r
   no_place short e is k weighs r none = inr (λ home v at.
       let new = new_entry n (Directory_at (t.next, t.next + 1)) in
       not_put t t (Mkdir (home ++ n ∷ [])) 2 ((t.next, t.next + 1) ∷ []) (last_part (opened t.deepest)).entries new (λ f. f ≡ t.image.disk) home v
-      (same_end t) at.taking (deepest_counted t home v at.taking) ((added_at home v at).added short) r
+      (same_end t) at.taking (deepest_counted t home v at.taking) ((added_at home v at).added (fits_at short home v at)) r
       (subst (λ (m : ℕ). HasNoRoom m 2 t r) (weighs ∙ ap weight is) none))
 
-  pub is_made : DirectoriesTakeMore → length n ≤ 255 → (e : Entry) → e ≡ new_entry n (Directory_at (t.next, t.next + 1)) → (k : ℕ) → k ≡ weight e
+  pub is_made : DirectoriesTakeMore → length n ≤ t.limits.name → (e : Entry) → e ≡ new_entry n (Directory_at (t.next, t.next + 1)) → (k : ℕ) → k ≡ weight e
       → k ≤ t.image.disk.size - 40 → t.next + blocks_for k 2 t ≤ t.image.disk.count → (u y : NewVolume) → IsPushed e 2 t u
       → IsWithClosed (bare_directory (t.next, t.next + 1)) u y → PutsName (λ p. Mkdir p) n t y
   is_made takes_more short e is k weighs light fits u y pushed closed home v at =
@@ -81,7 +86,7 @@ module _ (n : Name) (t : NewVolume) (adds : DirectoriesAreAdded) where
       let same : k ≡ weight new = weighs ∙ ap weight is in
       let done : IsCarried (Mkdir (home ++ n ∷ [])) new home v y =
       is_put t t (Mkdir (home ++ n ∷ [])) 2 ((t.next, t.next + 1) ∷ []) (last_part (opened t.deepest)).entries new (λ f. f ≡ t.image.disk) home v
-      (same_end t) at.taking (deepest_counted t home v at.taking) ((added_at home v at).added short) takes_more t u y (same_volume t) refl refl
+      (same_end t) at.taking (deepest_counted t home v at.taking) ((added_at home v at).added (fits_at short home v at)) takes_more t u y (same_volume t) refl refl
       (subst (λ (x : Entry). IsPushed x 2 t u) is pushed) (with_made t.next u y closed) (subst (λ (m : ℕ). m ≤ t.image.disk.size - 40) same light)
       (subst (λ (m : ℕ). t.next + blocks_for m 2 t ≤ t.image.disk.count) same fits) in (
         done.w,

@@ -111,6 +111,7 @@ entered enter t u opens p v has leads =
             (opened t.deepest) (reverse t.closed.items) (bare_directory leads.pair ∷ leads.more) has.home v refl refl refl refl (sym leads.are)
             has.taking.built)
             (record { es = has.es; e = has.e; ends = has.ends; leads = leads.leads }));
+        limits = has.taking.limits ∙ sym opens.limits;
         attributes = has.taking.attributes ∙ ap (λ (a : _). a.items) (sym opens.attributes);
         rise = subst (λ (a : _). RiseFrom 0 a.items) (sym opens.attributes) has.taking.rise;
         weighed =

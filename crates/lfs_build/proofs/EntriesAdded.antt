@@ -8,7 +8,6 @@ use Rattle.lfs_file.specs.Laws.{LaidIsContent, LaidIsFound}
 use Rattle.lfs_meta.specs.Attribute.{set_attribute}
 use Rattle.lfs_meta.specs.Body.{Pair}
 use Rattle.lfs_meta.specs.Name.{Name, IsName}
-use Rattle.lfs_fs.specs.declared.limits.Limits.{Limits}
 use Rattle.lfs_fs.specs.Directory.{Directory}
 use Rattle.lfs_fs.specs.Entry.{Entry, Directory_at}
 use Rattle.lfs_fs.specs.Free.{free_blocks}
@@ -61,16 +60,6 @@ module _ (laws : AddingLaws) (d : Disk) (next : ℕ) (above : List Directory) (d
   free : free_blocks v ≡ range_with_len next (d.count - next)
   free = free_range v next open_at.within built.free ∙ ap (λ (n : ℕ). range_with_len next (n - next)) built.count
 
-  -- names, files and attributes are of a new image's lengths
-  name_limit : v.limits.name ≡ 255
-  name_limit = ap (λ (l : Limits). l.name) built.limits
-
-  file_limit : v.limits.file ≡ 2147483647
-  file_limit = ap (λ (l : Limits). l.file) built.limits
-
-  value_limit : v.limits.attribute ≡ 1022
-  value_limit = ap (λ (l : Limits). l.attribute) built.limits
-
   -- ---- a file
 
   file_supplied : (n : Name) (bytes : List ℕ) → Supplied (Put (names ++ n ∷ []) bytes) (file_blocks d.size bytes) [] []
@@ -92,12 +81,12 @@ module _ (laws : AddingLaws) (d : Disk) (next : ℕ) (above : List Directory) (d
   file_added n bytes named last =
       let puts : IsFilePut v names n bytes next above deepest closed = laws.put v names n bytes next above deepest closed open_at named last in
       record {
-        long = λ lt. puts.long (omega (arith, lt, name_limit));
-        large = λ le lt. puts.large (omega (arith, le, name_limit)) (omega (arith, lt, file_limit));
+        long = puts.long;
+        large = puts.large;
         added = λ le few. is_added laws.building d next above deepest closed names v built (Put (names ++ n ∷ []) bytes)
             (file_blocks d.size bytes) [] [] (last_part deepest).entries (new_entry n (file_body d.size next bytes))
             (file_entry v names n bytes) (LaysFile d next bytes) open_at.fit (file_supplied n bytes)
-            (puts.put (omega (arith, le, name_limit)) (omega (arith, few, file_limit)));
+            (puts.put le few);
       }
 
   -- ---- a directory
@@ -123,11 +112,11 @@ module _ (laws : AddingLaws) (d : Disk) (next : ℕ) (above : List Directory) (d
   directory_added n named last =
       let makes : IsDirectoryMade v names n next above deepest closed = laws.made v names n next above deepest closed open_at named last in
       record {
-        long = λ lt. makes.long (omega (arith, lt, name_limit));
+        long = makes.long;
         added = λ le. is_added laws.building d next above deepest closed names v built (Mkdir (names ++ n ∷ [])) 2
             ((next, next + 1) ∷ []) (new_pair v ∷ []) (last_part deepest).entries (new_entry n (Directory_at (next, next + 1)))
             (new_entry n (Directory_at (new_pair v))) (λ f. f ≡ d) open_at.fit (directory_supplied n)
-            (makes.made (omega (arith, le, name_limit)));
+            (makes.made le);
       }
 
   -- ---- an attribute
@@ -154,9 +143,9 @@ module _ (laws : AddingLaws) (d : Disk) (next : ℕ) (above : List Directory) (d
       fits_less (outlined v) (last_part deepest) es e (subst (FitBlock (outlined v) (last_part deepest)) ends.entries open_at.fit) in
       let now : Entry = with_entry_attributes (set_attribute k value) e in
       record {
-        long = λ lt. sets.long (omega (arith, lt, value_limit));
+        long = sets.long;
         added = λ le. is_added laws.building d next above deepest closed names v built (SetAttr (names ++ n ∷ []) k value) 0 [] [] es now now
-            (λ f. f ≡ d) fit (attribute_supplied n k value now) (sets.set (omega (arith, le, value_limit)));
+            (λ f. f ≡ d) fit (attribute_supplied n k value now) (sets.set le);
       }
 
 -- ---- the laws

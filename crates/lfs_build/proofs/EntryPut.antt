@@ -12,6 +12,7 @@ use Rattle.lfs_fs.specs.Directory.{Directory, Part}
 use Rattle.lfs_fs.specs.Entry.{Entry}
 use Rattle.lfs_fs.specs.Outlined.{outlined}
 use Rattle.lfs_fs.specs.Path.{Path}
+use Rattle.lfs_fs.specs.Superblock.{IsLimits}
 use Rattle.lfs_fs.specs.Volume.{Volume}
 use Rattle.lfs_fs.specs.Weight.{weight}
 use Rattle.lfs_command.specs.declared.refusal.Refusal.{Refusal}
@@ -35,6 +36,7 @@ use Rattle.lfs_build.proofs.OpenedLemmas.{more_same, last_opened, other_part, ta
 -- A volume is as it was, but that the last part of its deepest directory has these entries.
 pub record EndsSo (es : List Entry) (t m : NewVolume) : Type 0 where
   pub image : m.image ≡ t.image
+  pub limits : m.limits ≡ t.limits
   pub attributes : m.attributes ≡ t.attributes
   pub above : m.above ≡ t.above
   pub closed : m.closed ≡ t.closed
@@ -45,6 +47,7 @@ pub record EndsSo (es : List Entry) (t m : NewVolume) : Type 0 where
 -- Directories are made in front of the closed ones, and all else is as it was.
 pub record IsWithMade (new : List Pair) (u y : NewVolume) : Type 0 where
   pub image : y.image ≡ u.image
+  pub limits : y.limits ≡ u.limits
   pub attributes : y.attributes ≡ u.attributes
   pub above : y.above ≡ u.above
   pub deepest : y.deepest ≡ u.deepest
@@ -59,10 +62,15 @@ pub record IsCarried (c : Command) (e : Entry) (home : Path) (v : Volume) (y : N
   pub fs : List Entry
   pub ends : EndsWithName e.name (opened y.deepest) fs e
 
+-- its limits are those of a volume that is built
+pub limits_in_range : (t : NewVolume) (home : Path) (v : Volume) → TakesMore t home v → IsLimits t.limits
+limits_in_range t home v taking = subst IsLimits taking.limits taking.built.limits
+
 -- a volume ends with what its last part has
 pub same_end : (t : NewVolume) → EndsSo (last_part (opened t.deepest)).entries t t
 same_end t = record {
   image = refl;
+  limits = refl;
   attributes = refl;
   above = refl;
   closed = refl;
@@ -73,10 +81,10 @@ same_end t = record {
 
 -- all is as it was
 pub same_volume : (t : NewVolume) → IsWithImage t t
-same_volume t = record { attributes = refl; above = refl; deepest = refl; closed = refl; next = refl }
+same_volume t = record { limits = refl; attributes = refl; above = refl; deepest = refl; closed = refl; next = refl }
 
 pub none_made : (t : NewVolume) → IsWithMade [] t t
-none_made t = record { image = refl; attributes = refl; above = refl; deepest = refl; closed = refl; next = refl }
+none_made t = record { image = refl; limits = refl; attributes = refl; above = refl; deepest = refl; closed = refl; next = refl }
 
 -- the deepest directory is counted
 pub deepest_counted : (t : NewVolume) (home : Path) (v : Volume) → TakesMore t home v → IsCounted (outlined v) t.deepest
@@ -164,8 +172,8 @@ module _ (t m : NewVolume) (c : Command) (before : ℕ) (new : List Pair) (es : 
             (built_as l.image.disk y.image.disk (m.next + blocks_for (weight e) before m) y.next (map opened t.above.items) (map opened y.above.items)
             (with_more (outlined v) es e (pair_behind m.next before) (opened t.deepest)) (opened y.deepest) (made new ++ reverse t.closed.items)
             (reverse y.closed.items) home room.0 (ap (λ (i : Medium). i.disk) (with.image ∙ pushed.image)) (with.next ∙ pushed.next ∙ blocks_so l others size)
-            (ap (λ (xs : Vec OpenDirectory). map opened xs.items) above) deepest closed room.3)
-            room.2 (taking.attributes ∙ ap (λ (a : Vec (ℕ × List ℕ)). a.items) attributes)
+            (ap (λ (xs : Vec OpenDirectory). map opened xs.items) above) deepest closed room.4)
+            (room.3 ∙ taking.limits ∙ sym (with.limits ∙ pushed.limits ∙ others.limits ∙ ready.limits)) room.2 (taking.attributes ∙ ap (λ (a : Vec (ℕ × List ℕ)). a.items) attributes)
             (subst (λ (a : Vec (ℕ × List ℕ)). RiseFrom 0 a.items) attributes taking.rise)
             (subst (λ (xs : Vec OpenDirectory). All (IsWeighed (outlined v)) xs.items) (sym above)
             (All-left (IsWeighed (outlined v)) t.above.items (t.deepest ∷ []) taking.weighed))

@@ -1,9 +1,10 @@
 -- A file that is put under a name of the deepest directory of a new volume.
-use Rattle.std.proofs.Common.{◌≡◌, ◌+◌, ◌-◌, ◌<◌, ◌≤◌, ℕ, Bool, true, false, List, [], ◌∷◌, ◌++◌, None, length, refl, ap, ◌∙◌, subst, inl, inr, map}
+use Rattle.std.proofs.Common.{◌≡◌, ◌+◌, ◌-◌, ◌<◌, ◌≤◌, ℕ, Bool, true, false, List, [], ◌∷◌, ◌++◌, None, length, refl, ap, sym, ◌∙◌, subst, inl, inr, map}
 use Rattle.std.specs.Prelude.{if◌then◌else◌, nat_le, replicate, reverse}
 use Rattle.std.specs.List.{range_with_len}
 use Rattle.lfs_file.specs.Capacity.{least_blocks}
 use Rattle.lfs_meta.specs.Name.{Name}
+use Rattle.lfs_fs.specs.declared.limits.Limits.{Limits}
 use Rattle.lfs_fs.specs.Entry.{Inline, Chain, Entry, body_target, target}
 use Rattle.lfs_fs.specs.Path.{Path}
 use Rattle.lfs_fs.specs.Volume.{Volume}
@@ -40,13 +41,21 @@ module _ (n : Name) (bytes : List ℕ) (t : NewVolume) (adds : FilesAreAdded) wh
       adds n bytes t.image.disk t.next (map opened t.above.items) (opened t.deepest) (reverse t.closed.items) home v is.taking.built is.names
       is.last
 
-  pub too_long : 255 < length n → RefusesName (λ p. Put p bytes) n t NameTooLong
-  too_long long = inr (λ home v is. (added_at home v is).long long)
+  -- the volume has the same limits
+  name_at : length n ≤ t.limits.name → (home : Path) (v : Volume) → IsHome t home n v → length n ≤ v.limits.name
+  name_at short home v is = subst (λ (l : Limits). length n ≤ l.name) (sym is.taking.limits) short
 
-  pub too_large : length n ≤ 255 → 2147483647 < length bytes → RefusesName (λ p. Put p bytes) n t FileTooLarge
-  too_large short large = inr (λ home v is. (added_at home v is).large short large)
+  file_at : length bytes ≤ t.limits.file → (home : Path) (v : Volume) → IsHome t home n v → length bytes ≤ v.limits.file
+  file_at small home v is = subst (λ (l : Limits). length bytes ≤ l.file) (sym is.taking.limits) small
 
-  module _ (short : length n ≤ 255) (small : length bytes ≤ 2147483647) (e : Entry)
+  pub too_long : t.limits.name < length n → RefusesName (λ p. Put p bytes) n t NameTooLong
+  too_long long = inr (λ home v is. (added_at home v is).long (subst (λ (l : Limits). l.name < length n) (sym is.taking.limits) long))
+
+  pub too_large : length n ≤ t.limits.name → t.limits.file < length bytes → RefusesName (λ p. Put p bytes) n t FileTooLarge
+  too_large short large = inr (λ home v is.
+      (added_at home v is).large (name_at short home v is) (subst (λ (l : Limits). l.file < length bytes) (sym is.taking.limits) large))
+
+  module _ (short : length n ≤ t.limits.name) (small : length bytes ≤ t.limits.file) (e : Entry)
       (is : e ≡ new_entry n (file_body t.image.disk.size t.next bytes)) (k : ℕ) (weighs : k ≡ weight e) (before : ℕ)
       (counts : before ≡ file_blocks t.image.disk.size bytes) where
     same : k ≡ weight (new_entry n (file_body t.image.disk.size t.next bytes))
@@ -56,7 +65,7 @@ module _ (n : Name) (bytes : List ℕ) (t : NewVolume) (adds : FilesAreAdded) wh
     no_place r none = inr (λ home v at.
         not_put t t (Put (home ++ n ∷ []) bytes) (file_blocks t.image.disk.size bytes) [] (last_part (opened t.deepest)).entries
         (new_entry n (file_body t.image.disk.size t.next bytes)) (LaysFile t.image.disk t.next bytes) home v (same_end t) at.taking
-        (deepest_counted t home v at.taking) ((added_at home v at).added short small) r
+        (deepest_counted t home v at.taking) ((added_at home v at).added (name_at short home v at) (file_at small home v at)) r
         (subst (λ (m : ℕ). HasNoRoom m (file_blocks t.image.disk.size bytes) t r) same
         (subst (λ (m : ℕ). HasNoRoom k m t r) counts none)))
 
@@ -67,7 +76,7 @@ module _ (n : Name) (bytes : List ℕ) (t : NewVolume) (adds : FilesAreAdded) wh
         let blocks = file_blocks t.image.disk.size bytes in
         let done : IsCarried (Put (home ++ n ∷ []) bytes) new home v u =
         is_put t t (Put (home ++ n ∷ []) bytes) blocks [] (last_part (opened t.deepest)).entries new (LaysFile t.image.disk t.next bytes) home v
-        (same_end t) at.taking (deepest_counted t home v at.taking) ((added_at home v at).added short small) takes_more l u u others
+        (same_end t) at.taking (deepest_counted t home v at.taking) ((added_at home v at).added (name_at short home v at) (file_at small home v at)) takes_more l u u others
         laid.but.disk.size laid
         (subst (λ (x : Entry). IsPushed x blocks l u) is (subst (λ (m : ℕ). IsPushed e m l u) counts pushed)) (none_made u)
         (subst (λ (m : ℕ). m ≤ t.image.disk.size - 40) same light)

@@ -8,7 +8,6 @@ use Rattle.lfs_fs.specs.Directory.{Directory}
 use Rattle.lfs_fs.specs.Outlined.{outlined}
 use Rattle.lfs_fs.specs.Path.{Path}
 use Rattle.lfs_fs.specs.Volume.{Volume}
-use Rattle.lfs_fs.specs.Limits.{new_limits}
 use Rattle.lfs_build.specs.declared.new_volume.NewVolume.{NewVolume}
 use Rattle.lfs_build.specs.declared.open_directory.OpenDirectory.{OpenDirectory}
 use Rattle.lfs_build.specs.Closing.{ClosesDown}
@@ -30,11 +29,11 @@ volume_is o size count limits attributes ds s c l a d = rw (s, c, l, a, d) refl
 pub outline_is : BuiltAreClosed → (t u : NewVolume) (q : Path) (v : Volume) → IsAt t q v → ClosesDown t u → length u.above.items ≡ 0
     → (size count : ℕ) (ds : List Directory) → size ≡ u.image.disk.size → count ≡ u.image.disk.count
     → ds ≡ reverse (u.closed.items ++ opened u.deepest ∷ [])
-    → record { size = size; count = count; limits = new_limits; attributes = u.attributes.items; directories = ds } ≡ outlined v
+    → record { size = size; count = count; limits = u.limits; attributes = u.attributes.items; directories = ds } ≡ outlined v
 outline_is close t u q v at down none size count ds size_is count_is ds_is =
     let taking = closed_taking close t u [] at.names v down at.taking none in
-    volume_is (outlined v) size count new_limits u.attributes.items ds (size_is ∙ sym taking.built.size) (count_is ∙ sym taking.built.count)
-    (sym taking.built.limits) (sym taking.attributes)
+    volume_is (outlined v) size count u.limits u.attributes.items ds (size_is ∙ sym taking.built.size) (count_is ∙ sym taking.built.count)
+    (sym taking.limits) (sym taking.attributes)
     (ds_is ∙ reverse-append u.closed.items (opened u.deepest ∷ [])
     ∙ ap (λ (xs : List OpenDirectory). map opened xs ++ opened u.deepest ∷ reverse u.closed.items) (sym (none_above u.above.items none))
     ∙ sym taking.built.directories)

@@ -12,6 +12,7 @@ use Rattle.lfs_fs.specs.Outlined.{outlined}
 use Rattle.lfs_fs.specs.Pair.{root}
 use Rattle.lfs_fs.specs.Path.{Path}
 use Rattle.lfs_fs.specs.Reading.{reading_of}
+use Rattle.lfs_fs.specs.Superblock.{IsLimits}
 use Rattle.lfs_fs.specs.Volume.{Volume}
 use Rattle.lfs_fs.specs.Weight.{weight}
 use Rattle.lfs_command.specs.Command.{Command}
@@ -155,7 +156,7 @@ module _ (laws : BuildingLaws) (d : Disk) (next : ℕ) (above : List Directory) 
       disk = leaves.disk.disk;
       size = to.follows.size ∙ built.size ∙ sym leaves.disk.size;
       count = ap (λ (x : Volume). x.count) outline ∙ built.count ∙ sym leaves.disk.count;
-      limits = to.follows.limits ∙ built.limits;
+      limits = subst IsLimits (sym to.follows.limits) built.limits;
       sound = to.follows.sound;
       clean = to.clean;
       directories = ap (λ (x : Volume). x.directories) outline;

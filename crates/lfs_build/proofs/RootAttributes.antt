@@ -10,6 +10,7 @@ use Rattle.lfs_meta.specs.Attribute.{Attributes, set_attribute}
 use Rattle.lfs_meta.specs.Body.{Pair}
 use Rattle.lfs_meta.specs.Name.{IsName}
 use Rattle.lfs_meta.specs.Runs.{runs_after}
+use Rattle.lfs_fs.specs.declared.limits.Limits.{Limits}
 use Rattle.lfs_fs.specs.Directory.{Part, thread}
 use Rattle.lfs_fs.specs.Free.{free_blocks}
 use Rattle.lfs_fs.specs.Volume.{Volume}
@@ -33,12 +34,12 @@ use Rattle.lfs_build.proofs.BareVolumes.{bare_is, bare_is_built, bare_volume, se
 none_chosen : Part → List Pair
 none_chosen p = []
 
-module _ (d : Disk) (a : Attributes) (k : ℕ) (value : List ℕ) where
+module _ (d : Disk) (l : Limits) (a : Attributes) (k : ℕ) (value : List ℕ) where
   abbrev v : Volume
-  v = bare_volume d a
+  v = bare_volume d l a
 
   abbrev w : Volume
-  w = bare_volume d (set_attribute k value a)
+  w = bare_volume d l (set_attribute k value a)
 
   abbrev c : Command
   c = SetAttr [] k value
@@ -72,7 +73,7 @@ module _ (d : Disk) (a : Attributes) (k : ℕ) (value : List ℕ) where
       ap (λ (t : Bool). refuse_if t (NoSpace (need v c) (length (free_blocks v)))) no
 
   -- by the tests of its value and of its room
-  judged : (s t : Bool) → nat_lt 1022 (length value) ≡ s → nat_lt (d.size - 40) (superblock_weight (set_attribute k value a)) ≡ t
+  judged : (s t : Bool) → nat_lt l.attribute (length value) ≡ s → nat_lt (d.size - 40) (superblock_weight (set_attribute k value a)) ≡ t
       → verdict v c ≡ first_refusal (refuse_if s AttrTooLarge ∷ refuse_if t EntryTooLarge ∷ [])
   judged s t long heavy =
       ap (λ (x : Bool). first_refusal (refuse_if x AttrTooLarge ∷ room_checks v c)) long
@@ -130,19 +131,19 @@ module _ (d : Disk) (a : Attributes) (k : ℕ) (value : List ℕ) where
 
     built : superblock_weight (set_attribute k value a) ≤ d.size - 40 → IsBareBuilt d w
     built light =
-        bare_is_built d (set_attribute k value a) bare.disk follows.sound light (second_erased d v bare) bare.erased
+        bare_is_built d l (set_attribute k value a) bare.disk bare.limits follows.sound light (second_erased d v bare) bare.erased
 
   -- ---- the whole
 
   adds : CutsFollow → CleansFollow → IsBareBuilt d v → AddsRootAttribute k value d v
   adds cuts cleans bare = record {
-    long = λ lt. judged true (nat_lt (d.size - 40) (superblock_weight (set_attribute k value a))) (is_less 1022 (length value) lt) refl;
-    heavy = λ le lt. judged false true (not_less 1022 (length value) le) (is_less (d.size - 40)
+    long = λ lt. judged true (nat_lt (d.size - 40) (superblock_weight (set_attribute k value a))) (is_less l.attribute (length value) lt) refl;
+    heavy = λ le lt. judged false true (not_less l.attribute (length value) le) (is_less (d.size - 40)
         (superblock_weight (set_attribute k value a)) lt);
     added = λ le light.
-        let unrefused : verdict v c ≡ None = judged false false (not_less 1022 (length value) le) (not_less (d.size - 40)
+        let unrefused : verdict v c ≡ None = judged false false (not_less l.attribute (length value) le) (not_less (d.size - 40)
         (superblock_weight (set_attribute k value a)) light) in
-        (w, carries cuts cleans bare unrefused, refl, built cuts cleans bare unrefused light);
+        (w, carries cuts cleans bare unrefused, refl, refl, built cuts cleans bare unrefused light);
   }
     where
       is_less : (m n : ℕ) → m < n → nat_lt m n ≡ true
@@ -156,4 +157,4 @@ pub root_attributes_are_added : CutsFollow → CleansFollow → RootAttributesAr
 root_attributes_are_added cuts cleans k value d v bare =
     let same = bare_is d v bare in
     subst (λ (x : Volume). AddsRootAttribute k value d x) (sym same)
-    (adds d v.attributes k value cuts cleans (subst (IsBareBuilt d) same bare))
+    (adds d v.limits v.attributes k value cuts cleans (subst (IsBareBuilt d) same bare))

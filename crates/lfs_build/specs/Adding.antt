@@ -14,7 +14,6 @@ use Rattle.lfs_fs.specs.Outlined.{outlined}
 use Rattle.lfs_fs.specs.Path.{Path}
 use Rattle.lfs_fs.specs.Volume.{Volume}
 use Rattle.lfs_fs.specs.Weight.{weight}
-use Rattle.lfs_fs.specs.Limits.{new_limits}
 use Rattle.lfs_command.specs.declared.refusal.Refusal.TheVariants.{AttrTooLarge, EntryTooLarge, FileTooLarge, NameTooLong, NoSpace}
 use Rattle.lfs_command.specs.Command.{Command, Mkdir, Put, SetAttr}
 use Rattle.lfs_command.specs.Edited.{new_entry, with_entry_attributes}
@@ -48,7 +47,7 @@ pub record IsAdded (c : Command) (before : ℕ) (new : List Pair) (es : List Ent
       → verdict v c ≡ Some (NoSpace (blocks_behind v deepest es e before) (d.count - next))
   pub added : weight e ≤ d.size - 40 → next + blocks_behind v deepest es e before ≤ d.count
       → (f : Disk) → laid f
-      → (w : Volume) × CarriesOut c v w × (w.attributes ≡ v.attributes)
+      → (w : Volume) × CarriesOut c v w × (w.attributes ≡ v.attributes) × (w.limits ≡ v.limits)
       × IsBuilt f (next + blocks_behind v deepest es e before) above (with_more (outlined v) es e (pair_behind next before) deepest)
       (made new ++ closed) names w
 
@@ -74,9 +73,9 @@ pub record LaysFile (d : Disk) (next : ℕ) (bytes : List ℕ) (e : Disk) : Type
 -- A name that is too long is refused, then contents that are too large; else the file is added, or there is no room.
 pub record AddsFile (n : Name) (bytes : List ℕ) (d : Disk) (next : ℕ) (above : List Directory) (deepest : Directory) (closed : List Directory)
     (names : Path) (v : Volume) : Type 0 where
-  pub long : new_limits.name < length n → verdict v (Put (names ++ n ∷ []) bytes) ≡ Some NameTooLong
-  pub large : length n ≤ new_limits.name → new_limits.file < length bytes → verdict v (Put (names ++ n ∷ []) bytes) ≡ Some FileTooLarge
-  pub added : length n ≤ new_limits.name → length bytes ≤ new_limits.file
+  pub long : v.limits.name < length n → verdict v (Put (names ++ n ∷ []) bytes) ≡ Some NameTooLong
+  pub large : length n ≤ v.limits.name → v.limits.file < length bytes → verdict v (Put (names ++ n ∷ []) bytes) ≡ Some FileTooLarge
+  pub added : length n ≤ v.limits.name → length bytes ≤ v.limits.file
       → IsAdded (Put (names ++ n ∷ []) bytes) (file_blocks d.size bytes) [] (last_part deepest).entries
       (new_entry n (file_body d.size next bytes)) (LaysFile d next bytes) d next above deepest closed names v
 
@@ -91,8 +90,8 @@ FilesAreAdded = (n : Name) (bytes : List ℕ) (d : Disk) (next : ℕ) (above : L
 -- A name that is too long is refused; else the directory is added, or there is no room.
 pub record AddsDirectory (n : Name) (d : Disk) (next : ℕ) (above : List Directory) (deepest : Directory) (closed : List Directory)
     (names : Path) (v : Volume) : Type 0 where
-  pub long : new_limits.name < length n → verdict v (Mkdir (names ++ n ∷ [])) ≡ Some NameTooLong
-  pub added : length n ≤ new_limits.name
+  pub long : v.limits.name < length n → verdict v (Mkdir (names ++ n ∷ [])) ≡ Some NameTooLong
+  pub added : length n ≤ v.limits.name
       → IsAdded (Mkdir (names ++ n ∷ [])) 2 ((next, next + 1) ∷ []) (last_part deepest).entries
       (new_entry n (Directory_at (next, next + 1))) (λ e. e ≡ d) d next above deepest closed names v
 
@@ -107,8 +106,8 @@ DirectoriesAreAdded = (n : Name) (d : Disk) (next : ℕ) (above : List Directory
 -- A value that is too long is refused; else the last entry gets it, or there is no room.
 pub record AddsAttribute (n : Name) (k : ℕ) (value : List ℕ) (es : List Entry) (e : Entry) (d : Disk) (next : ℕ) (above : List Directory)
     (deepest : Directory) (closed : List Directory) (names : Path) (v : Volume) : Type 0 where
-  pub long : new_limits.attribute < length value → verdict v (SetAttr (names ++ n ∷ []) k value) ≡ Some AttrTooLarge
-  pub added : length value ≤ new_limits.attribute
+  pub long : v.limits.attribute < length value → verdict v (SetAttr (names ++ n ∷ []) k value) ≡ Some AttrTooLarge
+  pub added : length value ≤ v.limits.attribute
       → IsAdded (SetAttr (names ++ n ∷ []) k value) 0 [] es (with_entry_attributes (set_attribute k value) e) (λ f. f ≡ d)
       d next above deepest closed names v
 

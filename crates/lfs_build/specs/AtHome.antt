@@ -25,6 +25,7 @@ RefusesName c n t r = (r ≡ Memory) ⊎ ((home : Path) (v : Volume) → IsHome 
 -- The last entry of the deepest directory's last part is taken out, and all else is as it was.
 pub record IsWithoutLast (e : Entry) (t u : NewVolume) : Type 0 where
   pub image : u.image ≡ t.image
+  pub limits : u.limits ≡ t.limits
   pub attributes : u.attributes ≡ t.attributes
   pub above : u.above ≡ t.above
   pub closed : u.closed ≡ t.closed

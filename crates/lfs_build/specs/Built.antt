@@ -8,9 +8,9 @@ use Rattle.lfs_fs.specs.Pair.{root}
 use Rattle.lfs_fs.specs.Path.{Path}
 use Rattle.lfs_fs.specs.Reading.{reading_of}
 use Rattle.lfs_fs.specs.Sound.{IsSound}
+use Rattle.lfs_fs.specs.Superblock.{IsLimits}
 use Rattle.lfs_fs.specs.Thread.{Link, links}
 use Rattle.lfs_fs.specs.Volume.{Volume}
-use Rattle.lfs_fs.specs.Limits.{new_limits}
 use Rattle.lfs_command.specs.Clean.{IsClean}
 use Rattle.lfs_law.specs.OutlineLaws.{IsThere}
 use Rattle.lfs_ends.specs.OneMore.{AreFreeFrom}
@@ -25,7 +25,7 @@ AreErasedFrom next d = (b : ℕ) → next ≤ b → b < d.count → block_of d b
 abbrev pub AreThere : Disk → Volume → Type 0
 AreThere d v = (l : Link) → Contains (links v.directories) l → (x : Entry) → Contains l.part.entries x → IsThere (reading_of d) x.body
 
--- A sound volume with the limits of a new image, whose directories lead to the deepest one at the path of names, and are closed behind it.
+-- A sound volume with limits that an image may have, whose directories lead to the deepest one at the path of names, and are closed behind it.
 -- Its blocks end before `next`. Each of its parts fits the first block of its pair, the second one of which is erased, as is all from `next`
 -- on, and the contents of its files are in the image: only its parts aren't written yet.
 pub record IsBuilt (d : Disk) (next : ℕ) (above : List Directory) (deepest : Directory) (closed : List Directory) (names : Path) (v : Volume)
@@ -33,7 +33,7 @@ pub record IsBuilt (d : Disk) (next : ℕ) (above : List Directory) (deepest : D
   pub disk : IsDisk d
   pub size : v.size ≡ d.size
   pub count : v.count ≡ d.count
-  pub limits : v.limits ≡ new_limits
+  pub limits : IsLimits v.limits
   pub sound : IsSound v
   pub clean : IsClean v
   pub directories : (outlined v).directories ≡ above ++ deepest ∷ closed

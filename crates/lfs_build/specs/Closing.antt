@@ -17,6 +17,7 @@ use Rattle.lfs_build.specs.Rooted.{bare_directory}
 -- Some of the last open directories are closed, in front of those that are, and all else is as it was.
 pub record ClosesDown (t u : NewVolume) : Type 0 where
   pub image : u.image ≡ t.image
+  pub limits : u.limits ≡ t.limits
   pub attributes : u.attributes ≡ t.attributes
   pub next : u.next ≡ t.next
   pub gone : List OpenDirectory
@@ -39,6 +40,7 @@ RefusesWay p t r = (q : Path) (v : Volume) → IsAt t q v → path_precedes q p 
 -- The first of the closed directories is open, without entries, below the deepest one.
 pub record OpensClosed (t u : NewVolume) : Type 0 where
   pub image : u.image ≡ t.image
+  pub limits : u.limits ≡ t.limits
   pub attributes : u.attributes ≡ t.attributes
   pub next : u.next ≡ t.next
   pub above : u.above.items ≡ t.above.items ++ t.deepest ∷ []

@@ -1,5 +1,5 @@
 -- What a new volume that is built stands for (own).
-use Rattle.std.specs.Prelude.{ℕ, ◌≡◌, ◌⊎◌, true, false, List, [], ◌∷◌, ◌++◌, None, Some, All, map, reverse}
+use Rattle.std.specs.Prelude.{ℕ, ◌≡◌, ◌≤◌, ◌⊎◌, true, false, List, [], ◌∷◌, ◌++◌, None, Some, All, map, reverse}
 use Rattle.lfs_block.specs.Disk.{Disk}
 use Rattle.lfs_meta.specs.Body.{Pair}
 use Rattle.lfs_meta.specs.Fits.{RiseFrom}
@@ -14,13 +14,13 @@ use Rattle.lfs_fs.specs.Reading.{reading_of}
 use Rattle.lfs_fs.specs.Row.{path_precedes}
 use Rattle.lfs_fs.specs.Sound.{IsSound}
 use Rattle.lfs_fs.specs.Volume.{Volume}
-use Rattle.lfs_fs.specs.Limits.{new_limits}
 use Rattle.lfs_command.specs.declared.refusal.Refusal.{Refusal}
 use Rattle.lfs_command.specs.declared.refusal.Refusal.TheVariants.{Memory}
 use Rattle.lfs_command.specs.Command.{Command, SetAttr}
 use Rattle.lfs_command.specs.Verdict.{verdict}
 use Rattle.lfs_command.specs.Planned.{CarriesOut}
 use Rattle.lfs_ends.specs.EndEdits.{ComesLast, EndsWithName}
+use Rattle.lfs_ends.specs.OneMore.{AreFreeFrom}
 use Rattle.lfs_ends.specs.Way.{IsLastIn}
 use Rattle.lfs_build.specs.declared.new_volume.NewVolume.{NewVolume}
 use Rattle.lfs_build.specs.Built.{IsBuilt}
@@ -32,6 +32,7 @@ use Rattle.lfs_build.specs.Rooted.{IsBareBuilt, bare_directory}
 -- The volume, with its deepest directory at the path of names.
 pub record TakesMore (t : NewVolume) (names : Path) (v : Volume) : Type 0 where
   pub built : IsBuilt t.image.disk t.next (map opened t.above.items) (opened t.deepest) (reverse t.closed.items) names v
+  pub limits : v.limits ≡ t.limits
   pub attributes : v.attributes ≡ t.attributes.items
   pub rise : RiseFrom 0 t.attributes.items
   pub weighed : All (IsWeighed (outlined v)) (t.above.items ++ t.deepest ∷ [])
@@ -75,9 +76,16 @@ pub record IsBare (t : NewVolume) (v : Volume) : Type 0 where
   pub above : t.above.items ≡ []
   pub deepest : opened t.deepest ≡ bare_directory root
   pub closed : t.closed.items ≡ []
+  pub limits : v.limits ≡ t.limits
   pub attributes : v.attributes ≡ t.attributes.items
   pub rise : RiseFrom 0 t.attributes.items
   pub weighed : IsWeighed (outlined v) t.deepest
+
+-- It uses so many blocks, the first ones.
+pub record UsesFirst (v : Volume) (n : ℕ) : Type 0 where
+  pub begin : 2 ≤ n
+  pub within : n ≤ v.count
+  pub free : AreFreeFrom v n
 
 -- ---- what becomes of it
 
@@ -112,4 +120,3 @@ pub record IsNewImageOf (v : Volume) (d : Disk) : Type 0 where
   pub sound : IsSound v
   pub size : v.size ≡ d.size
   pub count : v.count ≡ d.count
-  pub limits : v.limits ≡ new_limits

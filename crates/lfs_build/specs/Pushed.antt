@@ -30,6 +30,7 @@ HasNoRoom w before t r =
 -- The entry stands at the end of the deepest directory, in its last part or alone in a new one, and all else is as it was.
 pub record IsPushed (e : Entry) (before : ℕ) (t u : NewVolume) : Type 0 where
   pub image : u.image ≡ t.image
+  pub limits : u.limits ≡ t.limits
   pub attributes : u.attributes ≡ t.attributes
   pub above : u.above ≡ t.above
   pub closed : u.closed ≡ t.closed
@@ -40,6 +41,7 @@ pub record IsPushed (e : Entry) (before : ℕ) (t u : NewVolume) : Type 0 where
 
 -- All but the image is as it was.
 pub record IsWithImage (t u : NewVolume) : Type 0 where
+  pub limits : u.limits ≡ t.limits
   pub attributes : u.attributes ≡ t.attributes
   pub above : u.above ≡ t.above
   pub deepest : u.deepest ≡ t.deepest
@@ -49,6 +51,7 @@ pub record IsWithImage (t u : NewVolume) : Type 0 where
 -- One more directory is closed, in front of the others, and all else is as it was.
 pub record IsWithClosed (d : Directory) (t u : NewVolume) : Type 0 where
   pub image : u.image ≡ t.image
+  pub limits : u.limits ≡ t.limits
   pub attributes : u.attributes ≡ t.attributes
   pub above : u.above ≡ t.above
   pub deepest : u.deepest ≡ t.deepest

@@ -13,7 +13,7 @@ use lfs_command::Refusal;
 use lfs_cut::weight;
 use lfs_draft::new_entry;
 use lfs_ends::ways_lead_to_ends;
-use lfs_fs::{Delta, NEW_LIMITS, OutlineBody, OutlineDirectory, OutlineEntry, OutlinePart};
+use lfs_fs::{Delta, OutlineBody, OutlineDirectory, OutlineEntry, OutlinePart};
 use lfs_meta::set_attribute;
 use std::alloc::{AllocError, Global};
 
@@ -51,7 +51,6 @@ impl NewVolume {
     ghost use Rattle.lfs_meta.specs.Name.{Name, IsName};
     ghost use Rattle.lfs_fs.specs.Path.{Path};
     ghost use Rattle.lfs_fs.specs.Volume.{Volume};
-    ghost use Rattle.lfs_fs.specs.Limits.{new_limits};
     ghost use Rattle.lfs_command.specs.Command.{Mkdir, Put};
     ghost use Rattle.lfs_build.specs.AtHome.{IsWithoutLast, PutsName, RefusesName};
     ghost use Rattle.lfs_build.specs.Pushed.{IsWithClosed};
@@ -61,8 +60,8 @@ impl NewVolume {
     /// Puts a file under a name of the deepest directory. The caller owes contents that aren't too large.
     fn put_short(&mut self, alloc: Global, name: &[u8], bytes: &[u8]) -> Result<(), Refusal>
         requires home { (home : Path) × (v : Volume) × IsHome self.old home name.now v }
-        requires short { length name.now ≤ new_limits.name }
-        requires small { length bytes.now ≤ new_limits.file }
+        requires short { length name.now ≤ self.old.limits.name }
+        requires small { length bytes.now ≤ self.old.limits.file }
         ensures put { OnOk result (PutsName (λ p. Put p bytes.now) name.now self.old self.new) }
         ensures refused { IfErr result (λ r. RefusesName (λ p. Put p bytes.now) name.now self.old r) }
     {
@@ -85,10 +84,10 @@ impl NewVolume {
         ensures refused { IfErr result (λ r. RefusesName (λ p. Put p bytes.now) name.now self.old r) }
     {
         entries_are_added();
-        if name.len() > NEW_LIMITS.name as usize {
+        if name.len() > self.limits.name as usize {
             return Err(Refusal::NameTooLong);
         }
-        if bytes.len() > NEW_LIMITS.file as usize {
+        if bytes.len() > self.limits.file as usize {
             return Err(Refusal::FileTooLarge);
         }
         self.put_short(alloc, name, bytes)
@@ -111,7 +110,7 @@ impl NewVolume {
     {
         entries_are_added();
         ways_lead_to_ends();
-        if name.len() > NEW_LIMITS.name as usize {
+        if name.len() > self.limits.name as usize {
             return Err(Refusal::NameTooLong);
         }
         let first = self.next;
@@ -174,7 +173,7 @@ impl NewVolume {
     {
         entries_are_added();
         ways_lead_to_ends();
-        if value.len() > NEW_LIMITS.attribute as usize {
+        if value.len() > self.limits.attribute as usize {
             return Err(Refusal::AttrTooLarge);
         }
         let last = self.take_last();

@@ -3,7 +3,7 @@
 use crate::laws::{built_can_be_finished, directories_are_walked};
 use crate::new_volume::NewVolume;
 use lfs_block::{Blocks, Image};
-use lfs_fs::{NEW_LIMITS, Outline};
+use lfs_fs::Outline;
 use lfs_new::write_outline;
 use std::alloc::{AllocError, Global};
 
@@ -24,6 +24,7 @@ impl NewVolume {
         self.close_down(0)?;
         let NewVolume {
             image,
+            limits,
             attributes,
             above: _,
             deepest,
@@ -35,7 +36,7 @@ impl NewVolume {
         let outline = Outline {
             size: image.size(),
             count: image.count(),
-            limits: NEW_LIMITS,
+            limits,
             attributes,
             directories,
         };

@@ -7,7 +7,7 @@ ghost use Rattle.lfs_build.specs.Walking.{BuiltAreClosed, BuiltAreEntered, NextA
 
 use lfs_ends::{ends_are_judged, ends_are_put, next_names_come_last, ways_lead_to_ends};
 use lfs_file::{chains_stay_on_their_blocks, laid_blocks_are_chains};
-use lfs_fs::{entries_are_cut_greedily, formatted_volumes_are_sound, outlines_are_sound};
+use lfs_fs::{entries_are_cut_greedily, outlines_are_sound};
 use lfs_law::{cuts_follow, outlines_are_judged_alike};
 use lfs_new::{new_images_hold, sound_outlines_can_be_taken};
 
@@ -18,7 +18,6 @@ pub fn built_volumes_begin()
     ensures erased { ErasedAreNew }
     ensures attributes { RootAttributesAreAdded }
 {
-    formatted_volumes_are_sound();
     cuts_follow();
 }
 

@@ -1,10 +1,11 @@
 //! A new volume that is built in the order of its paths.
 
 ghost use Rattle.std.specs.Prelude.{◌≤◌};
+ghost use Rattle.lfs_fs.specs.Superblock.{IsLimits};
 
 use crate::open_directory::OpenDirectory;
 use lfs_block::Image;
-use lfs_fs::OutlineDirectory;
+use lfs_fs::{Limits, OutlineDirectory};
 use lfs_meta::Attribute;
 
 /// A new volume that is built in the order of its paths. The contents of files stand in its image already; the parts of its directories
@@ -15,6 +16,8 @@ use lfs_meta::Attribute;
 pub struct NewVolume {
     // the image, erased but for the contents of files
     pub(crate) image: Image,
+    // the limits, which an image may have
+    pub(crate) limits: Limits,
     // the root's attributes
     pub(crate) attributes: Vec<Attribute>,
     // the open directories above the deepest one, from the root on
@@ -26,4 +29,5 @@ pub struct NewVolume {
     // the first block that is free, as are all behind it
     pub(crate) next: u32,
     pub(crate) ghost within: { next ≤ image.disk.count },
+    pub(crate) ghost limited: { IsLimits limits },
 }

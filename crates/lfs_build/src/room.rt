@@ -10,7 +10,19 @@ const KEPT: u32 = 40;
 impl NewVolume {
     ghost use Rattle.std.specs.Prelude.{◌≡◌, ◌+◌, ◌-◌, ◌<◌, ◌≤◌, ◌⊎◌, IfErr, IfOk, OnOk, true, false};
     ghost use Rattle.lfs_command.specs.declared.refusal.Refusal.TheVariants.{EntryTooLarge, NoSpace};
+    ghost use Rattle.lfs_fs.specs.Path.{Path};
+    ghost use Rattle.lfs_fs.specs.Volume.{Volume};
+    ghost use Rattle.lfs_build.specs.NewVolumes.{IsAt, UsesFirst};
     ghost use Rattle.lfs_build.specs.Pushed.{HasNoRoom, blocks_for, takes};
+
+    /// How many blocks it uses, which are the first ones: the root's two, and those of what was added. Takes no memory.
+    ///
+    /// Source: own.
+    pub fn used(&self) -> u32
+        ensures { (q : Path) (v : Volume) → IsAt self.now q v → UsesFirst v result }
+    {
+        self.next
+    }
 
     /// The bytes of a block that entries may take. Takes no memory.
     pub(crate) fn room(&self) -> u32

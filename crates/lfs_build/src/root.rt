@@ -9,7 +9,7 @@ use crate::new_volume::NewVolume;
 use crate::open_directory::OpenDirectory;
 use lfs_block::Image;
 use lfs_command::Refusal;
-use lfs_fs::NEW_LIMITS;
+use lfs_fs::Limits;
 use lfs_meta::{attributes_weight, set_attribute};
 use std::alloc::{AllocError, Global};
 
@@ -29,24 +29,33 @@ fn erased_image(alloc: Global, size: u32, count: u32) -> Result<Image, AllocErro
 }
 
 impl NewVolume {
-    ghost use Rattle.std.specs.Prelude.{IfErr, IfOk, OnOk};
+    ghost use Rattle.std.specs.Prelude.{[], IfErr, IfOk, OnOk};
     ghost use Rattle.lfs_block.specs.Geometry.{IsGeometry};
-    ghost use Rattle.lfs_fs.specs.Formatted.{formatted_volume};
+    ghost use Rattle.lfs_fs.specs.Formatted.{empty_volume};
+    ghost use Rattle.lfs_fs.specs.Superblock.{IsLimits};
     ghost use Rattle.lfs_fs.specs.Volume.{Volume};
     ghost use Rattle.lfs_build.specs.NewVolumes.{IsBare, RefusesRootAttribute, SetsRootAttribute};
 
-    /// A new volume of `count` blocks of `size` bytes, with the limits of a new image. The caller owes a good geometry.
+    /// A new volume of `count` blocks of `size` bytes, with these limits. The caller owes a good geometry, and limits that an image may
+    /// have.
     ///
     /// Source: own.
-    pub fn new(alloc: Global, size: u32, count: u32) -> Result<NewVolume, AllocError>
-        requires { IsGeometry size count }
-        ensures { IfOk result (λ t. IsBare t (formatted_volume size count)) }
+    pub fn new(
+        alloc: Global,
+        size: u32,
+        count: u32,
+        limits: Limits,
+    ) -> Result<NewVolume, AllocError>
+        requires geometry { IsGeometry size count }
+        requires limits { IsLimits limits }
+        ensures { IfOk result (λ t. IsBare t (empty_volume size count limits [])) }
     {
         built_volumes_begin();
         let image = erased_image(alloc, size, count)?;
         let deepest = OpenDirectory::new(alloc, (0, 1), SUPERBLOCK_LEN, 1);
         Ok(NewVolume {
             image,
+            limits,
             attributes: Vec::new(alloc),
             above: Vec::new(alloc),
             deepest,
@@ -70,7 +79,7 @@ impl NewVolume {
         ensures refused { IfErr result (λ r. RefusesRootAttribute kind value.now self.old r) }
     {
         built_volumes_begin();
-        if value.len() > NEW_LIMITS.attribute as usize {
+        if value.len() > self.limits.attribute as usize {
             return Err(Refusal::AttrTooLarge);
         }
         set_attribute(&mut self.attributes, alloc, kind, value)?;

@@ -1,6 +1,8 @@
 //! New images, whose bytes were computed by another program.
 
-use lfs_edit::format;
+use lfs_edit::{format, format_within};
+use lfs_fs::Limits;
+use std::process::Abort;
 use std::test::Fail;
 
 // block 0 of a new image of 8 blocks of 512 bytes, up to where it is erased: revision 1, the tags 0x0ff00008 `littlefs` and
@@ -12,14 +14,40 @@ const ROOT: [u8; 64] = [
     0xc8, 0x95, 0xba, 0xf9, 0xff, 0xff, 0xff, 0xff, 0xff, 0xff, 0xff, 0xff, 0xff, 0xff, 0xff, 0xff,
 ];
 
+// the same with the limits 3, 100 and 5
+const LIMITED_ROOT: [u8; 64] = [
+    0x01, 0x00, 0x00, 0x00, 0xf0, 0x0f, 0xff, 0xf7, 0x6c, 0x69, 0x74, 0x74, 0x6c, 0x65, 0x66, 0x73,
+    0x2f, 0xe0, 0x00, 0x10, 0x00, 0x00, 0x02, 0x00, 0x00, 0x02, 0x00, 0x00, 0x08, 0x00, 0x00, 0x00,
+    0x03, 0x00, 0x00, 0x00, 0x64, 0x00, 0x00, 0x00, 0x05, 0x00, 0x00, 0x00, 0x70, 0x1f, 0xfc, 0x08,
+    0xc4, 0x64, 0xc1, 0x87, 0xff, 0xff, 0xff, 0xff, 0xff, 0xff, 0xff, 0xff, 0xff, 0xff, 0xff, 0xff,
+];
+
+// asserts that an image of 8 blocks of 512 bytes begins with a root, and is erased behind it
+fn begins_with(rt: &impl Abort, bytes: &[u8], root: &[u8; 64]) {
+    assert_eq!(rt; bytes.len(), 4_096);
+    for (place, byte) in bytes.iter().enumerate() {
+        let expected = root.get(place).copied().unwrap_or(0xff);
+        assert_eq!(rt; *byte, expected, "at {place}");
+    }
+}
+
 #[test]
 fn new_image_has_one_commit(rt: HostRuntime) -> Result<(), Fail> {
     assert!(rt; lfs_block::geometry_ok(512, 8));
     let bytes = format(rt.alloc(), 512, 8)?;
-    assert_eq!(rt; bytes.len(), 4_096);
-    for (place, byte) in bytes.iter().enumerate() {
-        let expected = ROOT.get(place).copied().unwrap_or(0xff);
-        assert_eq!(rt; *byte, expected, "at {place}");
-    }
+    begins_with(&rt, &bytes, &ROOT);
+    Ok(())
+}
+
+#[test]
+fn new_image_states_its_limits(rt: HostRuntime) -> Result<(), Fail> {
+    assert!(rt; lfs_block::geometry_ok(512, 8));
+    let limits = Limits {
+        name: 3,
+        file: 100,
+        attribute: 5,
+    };
+    let bytes = format_within(rt.alloc(), 512, 8, limits)?;
+    begins_with(&rt, &bytes, &LIMITED_ROOT);
     Ok(())
 }

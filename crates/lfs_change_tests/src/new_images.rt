@@ -2,6 +2,7 @@
 
 ghost use Rattle.std.specs.Prelude.{◌≡◌, IfSome};
 ghost use Rattle.lfs_block.specs.Geometry.{IsGeometry};
+ghost use Rattle.lfs_fs.specs.Limits.{new_limits};
 ghost use Rattle.lfs_edit.specs.Formatted.{IsFormatted};
 
 use lfs_block::Image;
@@ -14,7 +15,7 @@ use std::alloc::Global;
 /// Source: own.
 pub fn new_image_of(alloc: Global, size: u32, count: u32) -> Option<Image>
     requires { IsGeometry size count }
-    ensures image { IfSome result (λ image. (image.disk.size ≡ size) × IsFormatted size count image.disk.bytes) }
+    ensures image { IfSome result (λ image. (image.disk.size ≡ size) × IsFormatted size count new_limits image.disk.bytes) }
 {
     let bytes = format(alloc, size, count).ok()?;
     Image::new(bytes, size).ok()

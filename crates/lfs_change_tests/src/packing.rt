@@ -1,9 +1,10 @@
 //! Rows that are packed into a new image.
 
 use lfs_block::{Image, geometry_ok};
-use lfs_fs::mount;
+use lfs_edit::Refusal;
+use lfs_fs::{Limits, NEW_LIMITS, mount};
 use lfs_listing::send_listing;
-use lfs_pack::{PackRow, pack};
+use lfs_pack::{PackRow, least_count, pack, pack_within};
 use lfs_sink::Out;
 use std::alloc::Global;
 use std::process::Abort;
@@ -55,6 +56,55 @@ fn rows_are_packed_into_an_image(rt: HostRuntime) -> Result<(), Fail> {
     let bytes = pack(rt.alloc(), 512, 8, &rows(&attributes))?;
     let image = Image::new(bytes, 512).ok().ok_or("no image")?;
     holds(&rt, rt.alloc(), &image)
+}
+
+// the limits of what is packed, which has nothing that is longer
+const LIMITS: Limits = Limits {
+    name: 1,
+    file: 65,
+    attribute: 1,
+};
+
+// asserts the limits of an image
+fn has_limits(rt: &impl Abort, alloc: Global, image: &Image, limits: Limits) -> Result<(), Fail> {
+    let outline = mount(alloc, image)?.into_outline();
+    assert!(rt; outline.limits == limits);
+    Ok(())
+}
+
+#[test]
+fn rows_are_packed_within_limits(rt: HostRuntime) -> Result<(), Fail> {
+    if !geometry_ok(512, 8) {
+        return Err(Fail::new("no image has such blocks"));
+    }
+    let attributes = attributes(rt.alloc())?;
+    let bytes = pack_within(rt.alloc(), 512, 8, LIMITS, &rows(&attributes))?;
+    let image = Image::new(bytes, 512).ok().ok_or("no image")?;
+    has_limits(&rt, rt.alloc(), &image, LIMITS)?;
+    holds(&rt, rt.alloc(), &image)
+}
+
+#[test]
+fn longer_files_are_not_packed(rt: HostRuntime) -> Result<(), Fail> {
+    if !geometry_ok(512, 8) {
+        return Err(Fail::new("no image has such blocks"));
+    }
+    let limits = Limits { file: 64, ..LIMITS };
+    let attributes = attributes(rt.alloc())?;
+    let packed = pack_within(rt.alloc(), 512, 8, limits, &rows(&attributes));
+    assert!(rt; matches!(packed, Err(Refusal::FileTooLarge)));
+    Ok(())
+}
+
+#[test]
+fn rows_need_as_many_blocks_as_they_use(rt: HostRuntime) -> Result<(), Fail> {
+    if !geometry_ok(512, 8) {
+        return Err(Fail::new("no image has such blocks"));
+    }
+    let attributes = attributes(rt.alloc())?;
+    let count = least_count(rt.alloc(), 512, NEW_LIMITS, &rows(&attributes))?;
+    assert_eq!(rt; count, 5);
+    Ok(())
 }
 
 // asserts what an image lists

@@ -1,11 +1,10 @@
 -- A root block filled up with erased bytes is a new image.
-use Rattle.std.proofs.Common.{◌≡◌, ℕ, ◌-◌, ◌*◌, ◌<◌, ◌≤◌, ◌^◌, List, [], ◌∷◌, ◌++◌, length, take, drop, refl, ap, sym, ◌∙◌, arith, subst}
+use Rattle.std.proofs.Common.{◌≡◌, ℕ, ◌-◌, ◌*◌, ◌≤◌, List, [], ◌∷◌, ◌++◌, length, take, drop, refl, ap, sym, ◌∙◌, arith, subst}
 use Rattle.std.proofs.Common.{length-append, Some}
 use Rattle.std.specs.Prelude.{replicate}
 use Rattle.std.proofs.Math.Nat.{mul-le-mul_left}
 use Rattle.std.proofs.Math.Seq.{take-append_seam, drop-append_seam}
 use Rattle.std.proofs.lemmas.List.{take-replicate, length-replicate}
-use Rattle.std.proofs.lemmas.Nat.{from_le_bytes-to_le_bytes_4}
 use Rattle.lfs_block.specs.Bytes.{IsBytes}
 use Rattle.lfs_block.specs.Geometry.{IsGeometry}
 use Rattle.lfs_block.specs.Disk.{Disk, IsDisk, block_of}
@@ -17,36 +16,38 @@ use Rattle.lfs_meta.specs.LiveBlock.{stored_part_of}
 use Rattle.lfs_commit.specs.Spelling.{part_tags}
 use Rattle.lfs_commit.specs.Writing.{log_written, part_in, stored_part}
 use Rattle.lfs_file.proofs.LaidByteLemmas.{IsBytes-fill}
-use Rattle.lfs_fs.specs.Header.{IsHeader}
-use Rattle.lfs_fs.specs.LoneSuperblock.{LoneSuperblockMounts, IsLoneSuperblock}
+use Rattle.lfs_fs.specs.declared.limits.Limits.{Limits}
+use Rattle.lfs_fs.specs.Formatted.{empty_volume}
+use Rattle.lfs_fs.specs.LoneSuperblock.{LoneSuperblockMounts, IsLoneSuperblock, mounted_root}
+use Rattle.lfs_fs.specs.Mounted.{IsMountOf}
 use Rattle.lfs_fs.specs.Pair.{root}
-use Rattle.lfs_fs.specs.Limits.{new_limits}
-use Rattle.lfs_law.specs.SuperblockBytes.{superblock_bytes, new_superblock}
-use Rattle.lfs_edit.specs.Formatted.{disk_with, root_block, IsFormatted}
-
--- the superblock's words are read back
-is_header : (size count : ℕ) → size < 2 ^ 32 → count < 2 ^ 32 → IsHeader size count (superblock_bytes size count new_limits)
-is_header size count size_fits count_fits = record {
-  version = refl;
-  size_is = from_le_bytes-to_le_bytes_4 size size_fits;
-  count_is = from_le_bytes-to_le_bytes_4 count count_fits;
-  limits = record { name = (omega arith, omega arith); file = (omega arith, omega arith); attribute = (omega arith, omega arith) };
-}
+use Rattle.lfs_fs.specs.Stored.{SaysVolume}
+use Rattle.lfs_fs.specs.Superblock.{IsLimits}
+use Rattle.lfs_law.specs.CutWritten.{MadeBytesSay}
+use Rattle.lfs_law.specs.SuperblockBytes.{superblock_bytes, volume_bytes}
+use Rattle.lfs_edit.specs.Formatted.{disk_with, new_superblock, root_block, IsFormatted}
 
 -- what the root's first pair holds
-abbrev root_part : ℕ → ℕ → StoredPart
-root_part size count = stored_part (new_superblock size count ∷ []) End (replicate 12 0)
+abbrev root_part : ℕ → ℕ → Limits → StoredPart
+root_part size count limits = stored_part (new_superblock size count limits ∷ []) End (replicate 12 0)
 
-is_lone : (size count : ℕ) → IsLoneSuperblock (root_part size count) (superblock_bytes size count new_limits) []
-is_lone size count = record { is = refl; len = refl; tail = refl; delta = refl }
+-- the superblock says the new volume
+says : (size count : ℕ) (limits : Limits) → MadeBytesSay → IsGeometry size count → IsLimits limits
+    → SaysVolume (empty_volume size count limits []) (superblock_bytes size count limits)
+unfolding volume_bytes
+says size count limits said geometry fit =
+    said (empty_volume size count limits []) (omega (arith, geometry.size_fits.1)) (omega (arith, geometry.count_fits.1)) fit
 
 -- the root block, and erased ones behind it
-whole : (size count : ℕ) (first : List ℕ) → LoneSuperblockMounts → IsGeometry size count → length first ≡ size → IsBytes first
-    → first ≡ root_block size count → part_in first (replicate size 0xff) ≡ Some (root_part size count)
-    → IsFormatted size count (first ++ replicate (size * count - size) 0xff)
-whole size count first lone geometry len bytes is part =
+whole : (size count : ℕ) (limits : Limits) (first : List ℕ) → LoneSuperblockMounts → MadeBytesSay → IsGeometry size count → IsLimits limits
+    → length first ≡ size → IsBytes first → first ≡ root_block size count limits
+    → part_in first (replicate size 0xff) ≡ Some (root_part size count limits)
+    → IsFormatted size count limits (first ++ replicate (size * count - size) 0xff)
+whole size count limits first lone said geometry fit len bytes is part =
     let rest : List ℕ = replicate (size * count - size) 0xff in
     let disk : Disk = disk_with size count (first ++ rest) in
+    let words : List ℕ = superblock_bytes size count limits in
+    let say = says size count limits said geometry fit in
     let two : size * 2 ≤ size * count = mul-le-mul_left size geometry.count_fits.0 in
     let rest_len : length rest ≡ size * count - size = length-replicate (size * count - size) 255 in
     let all_len : length (first ++ rest) ≡ count * size = omega (arith, length-append first rest, rest_len, len, two) in
@@ -63,23 +64,25 @@ whole size count first lone geometry len bytes is part =
     let one_is : block_of disk 1 ≡ replicate size 0xff =
     ap (λ (k : ℕ). take size (drop k (first ++ rest))) one_block ∙ ap (take size) (drop-append_seam first rest)
     ∙ take-replicate size (size * count - size) 255 (omega (arith, two)) in
-    let held : stored_part_of disk root ≡ Some (root_part size count) =
+    let held : stored_part_of disk root ≡ Some (root_part size count limits) =
     ap (λ (b : List ℕ). part_in b (block_of disk 1)) zero_is ∙ ap (part_in first) one_is ∙ part in
+    let alone : IsLoneSuperblock (root_part size count limits) words [] = record { is = refl; len = refl; tail = refl; delta = refl } in
     record {
       content = ap (λ (b : List ℕ). b ++ rest) is;
       disk = is_disk;
-      mount = lone disk (root_part size count) (superblock_bytes size count new_limits) [] is_disk held (is_lone size count)
-          (is_header size count (omega (arith, geometry.size_fits.1)) (omega (arith, geometry.count_fits.1))) tt;
+      mount = subst (λ (l : Limits). IsMountOf disk (mounted_root (empty_volume size count l []))) (sym say.limits)
+          (lone disk (root_part size count limits) words [] is_disk held alone say.header tt);
     }
 
 -- the same, as it is made
-pub formatted : (size count : ℕ) (first bytes : List ℕ) (entry : StoredEntry) → LoneSuperblockMounts → IsGeometry size count
-    → length first ≡ size → IsBytes first → bytes ≡ first ++ replicate (size * count - length first) 0xff
+pub formatted : (size count : ℕ) (limits : Limits) (first bytes : List ℕ) (entry : StoredEntry) → LoneSuperblockMounts → MadeBytesSay
+    → IsGeometry size count → IsLimits limits → length first ≡ size → IsBytes first
+    → bytes ≡ first ++ replicate (size * count - length first) 0xff
     → first ≡ log_written 1 (part_tags (stored_part (entry ∷ []) End (replicate 12 0))) (replicate size 0xff)
-    → part_in first (replicate size 0xff) ≡ Some (stored_part (entry ∷ []) End (replicate 12 0)) → entry ≡ new_superblock size count
-    → IsFormatted size count bytes
-formatted size count first bytes entry lone geometry len first_bytes is block part entry_is =
-    subst (IsFormatted size count) (sym (is ∙ ap (λ (k : ℕ). first ++ replicate (size * count - k) 0xff) len))
-    (whole size count first lone geometry len first_bytes
+    → part_in first (replicate size 0xff) ≡ Some (stored_part (entry ∷ []) End (replicate 12 0)) → entry ≡ new_superblock size count limits
+    → IsFormatted size count limits bytes
+formatted size count limits first bytes entry lone said geometry fit len first_bytes is block part entry_is =
+    subst (IsFormatted size count limits) (sym (is ∙ ap (λ (k : ℕ). first ++ replicate (size * count - k) 0xff) len))
+    (whole size count limits first lone said geometry fit len first_bytes
     (block ∙ ap (λ (e : StoredEntry). log_written 1 (part_tags (stored_part (e ∷ []) End (replicate 12 0))) (replicate size 0xff)) entry_is)
     (part ∙ ap (λ (e : StoredEntry). Some (stored_part (e ∷ []) End (replicate 12 0))) entry_is))

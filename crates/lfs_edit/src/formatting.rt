@@ -3,11 +3,14 @@
 ghost use Rattle.std.specs.Prelude.{◌≡◌, ◌+◌, ◌-◌, ◌≤◌, ◌++◌, length, replicate, IfOk, IfErr};
 ghost use Rattle.lfs_block.specs.Bytes.{IsBytes};
 ghost use Rattle.lfs_block.specs.Geometry.{IsGeometry};
+ghost use Rattle.lfs_fs.specs.Limits.{new_limits};
+ghost use Rattle.lfs_fs.specs.Superblock.{IsLimits};
 ghost use Rattle.lfs_edit.specs.Formatted.{IsFormatted};
 
 use lfs_command::Refusal;
 use lfs_commit::first_block;
-use lfs_fs::lone_superblocks_mount;
+use lfs_fs::{Limits, NEW_LIMITS, lone_superblocks_mount};
+use lfs_law::made_superblocks_say_their_volume;
 use lfs_meta::Tail;
 use lfs_write::new_superblock;
 use std::alloc::{AllocError, Global};
@@ -22,18 +25,37 @@ fn filled(mut bytes: Vec<u8>, len: usize) -> Result<Vec<u8>, AllocError>
     Ok(bytes)
 }
 
-/// A new image of `count` blocks of `size` bytes, which mounts to the root alone. Names may have 255 bytes, files
-/// 2,147,483,647 and attributes 1,022. Block 0 holds revision 1 and one commit of the superblock; all other bytes are
-/// 0xff. The caller owes a good geometry; the only refusal is `Memory`.
+/// A new image of `count` blocks of `size` bytes with the usual limits: names may have 255 bytes, files 2,147,483,647 and
+/// attributes 1,022. Else it is as `format_within` says.
 ///
 /// Source: own.
 pub fn format(alloc: Global, size: u32, count: u32) -> Result<Vec<u8>, Refusal>
     requires { IsGeometry size count }
-    ensures image { IfOk result (λ bytes. IsFormatted size count bytes.items) }
+    ensures image { IfOk result (λ bytes. IsFormatted size count new_limits bytes.items) }
+    ensures refused { IfErr result (λ refusal. refusal ≡ Refusal.Memory) }
+{
+    format_within(alloc, size, count, NEW_LIMITS)
+}
+
+/// A new image of `count` blocks of `size` bytes with these limits, which mounts to the root alone. Block 0 holds revision 1
+/// and one commit of the superblock; all other bytes are 0xff. The caller owes a good geometry, and limits that an image may
+/// have: names and attributes of 1 to 1,022 bytes, and files of 1 to 2,147,483,647. The only refusal is `Memory`.
+///
+/// Source: own.
+pub fn format_within(
+    alloc: Global,
+    size: u32,
+    count: u32,
+    limits: Limits,
+) -> Result<Vec<u8>, Refusal>
+    requires geometry { IsGeometry size count }
+    requires limits { IsLimits limits }
+    ensures image { IfOk result (λ bytes. IsFormatted size count limits bytes.items) }
     ensures refused { IfErr result (λ refusal. refusal ≡ Refusal.Memory) }
 {
     lone_superblocks_mount();
-    let entries = [new_superblock(alloc, size, count)?];
+    made_superblocks_say_their_volume();
+    let entries = [new_superblock(alloc, size, count, limits)?];
     let Some(root) = first_block(alloc, size, &entries, Tail::End) else {
         return Err(Refusal::Memory);
     };

@@ -8,6 +8,6 @@ mod formatting;
 mod planning;
 
 pub use carrying_out::carry_out;
-pub use formatting::format;
+pub use formatting::{format, format_within};
 pub use lfs_command::{Command, Refusal};
 pub use planning::plan;

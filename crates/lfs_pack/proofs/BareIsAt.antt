@@ -19,6 +19,7 @@ bare_takes_more t v bare = record {
       (subst (λ (d : Directory). IsBuilt t.image.disk t.next (map opened t.above.items) d [] [] v) (sym bare.deepest)
       (subst (λ (ds : List Directory). IsBuilt t.image.disk t.next ds (bare_directory root) [] [] v) (sym (ap (map opened) bare.above))
       (subst (λ (n : ℕ). IsBuilt t.image.disk n [] (bare_directory root) [] [] v) (sym bare.next) bare.built)));
+  limits = bare.limits;
   attributes = bare.attributes;
   rise = bare.rise;
   weighed = subst (λ (l : List OpenDirectory). All (IsWeighed (outlined v)) (l ++ t.deepest ∷ [])) (sym bare.above)

@@ -36,12 +36,12 @@ rows_keep (r ∷ rows) =
     (both_keep (making r.path r.bytes) (setting r.path r.attributes) (making_keeps r.path r.bytes) (setting_keeps r.path r.attributes))
     (rows_keep rows)
 
--- what such commands lead to has the same size and count
+-- what such commands lead to has the same size, count and limits
 pub kept : CarriedFollow → (cs : List Command) (v w : Volume) → AllByRecursion KeepsCount cs → Lead cs v w
-    → (w.size ≡ v.size) × (w.count ≡ v.count)
+    → (w.size ≡ v.size) × (w.count ≡ v.count) × (w.limits ≡ v.limits)
 unfolding KeepsCount
-kept follow [] v w keep is = (ap (λ (x : Volume). x.size) is, ap (λ (x : Volume). x.count) is)
+kept follow [] v w keep is = (ap (λ (x : Volume). x.size) is, ap (λ (x : Volume). x.count) is, ap (λ (x : Volume). x.limits) is)
 kept follow (c ∷ cs) v w keep (u, does, led) =
     let one = follow c v u does in
     let rest = kept follow cs u w keep.1 led in
-    (rest.0 ∙ one.size, rest.1 ∙ one.count ∙ keep.0 v.count)
+    (rest.0 ∙ one.size, rest.1 ∙ one.count ∙ keep.0 v.count, rest.2 ∙ one.limits)

@@ -6,7 +6,8 @@ use Rattle.std.specs.Option.{option_map}
 use Rattle.std.proofs.lemmas.Bool.Decides.{nat_tests}
 use Rattle.std.proofs.lemmas.List.Elements.{All-head, All-tail, All-cons, All-nil}
 use Rattle.lfs_meta.specs.Attribute.{Attributes, put_by, set_attribute}
-use Rattle.lfs_fs.specs.Formatted.{formatted_volume}
+use Rattle.lfs_fs.specs.declared.limits.Limits.{Limits}
+use Rattle.lfs_fs.specs.Formatted.{empty_volume}
 use Rattle.lfs_fs.specs.Path.{Path}
 use Rattle.lfs_fs.specs.Row.{path_precedes, PathsAreOrdered}
 use Rattle.lfs_fs.specs.Tree.{Node, File, Dir, tree}
@@ -260,22 +261,22 @@ rows_led follow order (r ∷ rs) v w old can rise kinds is led q =
 
 -- ---- from a new volume
 
-new_tree : (size count : ℕ) (n : List ℕ) (p : Path) → tree (formatted_volume size count) (n ∷ p) ≡ None
-new_tree size count n [] = refl
-new_tree size count n (m ∷ p) = new_tree size count m p
+new_tree : (size count : ℕ) (limits : Limits) (n : List ℕ) (p : Path) → tree (empty_volume size count limits []) (n ∷ p) ≡ None
+new_tree size count limits n [] = refl
+new_tree size count limits n (m ∷ p) = new_tree size count limits m p
 
-new_stands : (size count : ℕ) (p : Path) (bytes : Option (List ℕ)) → path_precedes [] p ≡ true
-    → CanStand (tree (formatted_volume size count)) p bytes
-new_stands size count [] bytes first = absurd (false_true first)
-new_stands size count (n ∷ p) bytes first = new_tree size count n p
+new_stands : (size count : ℕ) (limits : Limits) (p : Path) (bytes : Option (List ℕ)) → path_precedes [] p ≡ true
+    → CanStand (tree (empty_volume size count limits [])) p bytes
+new_stands size count limits [] bytes first = absurd (false_true first)
+new_stands size count limits (n ∷ p) bytes first = new_tree size count limits n p
 
-all_new_stand : (size count : ℕ) (rs : List Packed) → All (λ (s : Packed). path_precedes [] s.path ≡ true) rs
-    → AllCanStand (tree (formatted_volume size count)) rs
-all_new_stand size count [] first = All-nil (λ (s : Packed). CanStand (tree (formatted_volume size count)) s.path s.bytes)
-all_new_stand size count (s ∷ rs) first =
-    All-cons (λ (t : Packed). CanStand (tree (formatted_volume size count)) t.path t.bytes) s rs
-    (new_stands size count s.path s.bytes (All-head (λ (t : Packed). path_precedes [] t.path ≡ true) s rs first))
-    (all_new_stand size count rs (All-tail (λ (t : Packed). path_precedes [] t.path ≡ true) s rs first))
+all_new_stand : (size count : ℕ) (limits : Limits) (rs : List Packed) → All (λ (s : Packed). path_precedes [] s.path ≡ true) rs
+    → AllCanStand (tree (empty_volume size count limits [])) rs
+all_new_stand size count limits [] first = All-nil (λ (s : Packed). CanStand (tree (empty_volume size count limits [])) s.path s.bytes)
+all_new_stand size count limits (s ∷ rs) first =
+    All-cons (λ (t : Packed). CanStand (tree (empty_volume size count limits [])) t.path t.bytes) s rs
+    (new_stands size count limits s.path s.bytes (All-head (λ (t : Packed). path_precedes [] t.path ≡ true) s rs first))
+    (all_new_stand size count limits rs (All-tail (λ (t : Packed). path_precedes [] t.path ≡ true) s rs first))
 
 -- over a map that has nothing but the root, the rows are their map
 over_new : (rs : List Packed) (old : Path → Option Node) (q : Path) → old q ≡ None → over rs old q ≡ packed_at rs q
@@ -283,25 +284,25 @@ over_new [] old q none = none
 over_new (r ∷ rs) old q none =
     ap (λ (x : Option Node). if same_path r.path q then Some (packed_node r.bytes r.attributes) else x) (over_new rs old q none)
 
-over_formatted : (size count : ℕ) (r : Packed) (rs : List Packed) (q : Path) → r.path ≡ []
-    → over (r ∷ rs) (tree (formatted_volume size count)) q ≡ packed_at (r ∷ rs) q
-over_formatted size count r rs [] root =
-    if_true (same_path r.path []) (Some (packed_node r.bytes r.attributes)) (over rs (tree (formatted_volume size count)) [])
+over_formatted : (size count : ℕ) (limits : Limits) (r : Packed) (rs : List Packed) (q : Path) → r.path ≡ []
+    → over (r ∷ rs) (tree (empty_volume size count limits [])) q ≡ packed_at (r ∷ rs) q
+over_formatted size count limits r rs [] root =
+    if_true (same_path r.path []) (Some (packed_node r.bytes r.attributes)) (over rs (tree (empty_volume size count limits [])) [])
     ((same_path_decides r.path []).1 root)
     ∙ sym (if_true (same_path r.path []) (Some (packed_node r.bytes r.attributes)) (packed_at rs []) ((same_path_decides r.path []).1 root))
-over_formatted size count r rs (n ∷ q) root = over_new (r ∷ rs) (tree (formatted_volume size count)) (n ∷ q) (new_tree size count n q)
+over_formatted size count limits r rs (n ∷ q) root = over_new (r ∷ rs) (tree (empty_volume size count limits [])) (n ∷ q) (new_tree size count limits n q)
 
-root_stands : (size count : ℕ) (p : Path) (bytes : Option (List ℕ)) → p ≡ [] → bytes ≡ None
-    → CanStand (tree (formatted_volume size count)) p bytes
-root_stands size count [] bytes root none = (none, refl)
-root_stands size count (n ∷ p) bytes root none = absurd (cc)
+root_stands : (size count : ℕ) (limits : Limits) (p : Path) (bytes : Option (List ℕ)) → p ≡ [] → bytes ≡ None
+    → CanStand (tree (empty_volume size count limits [])) p bytes
+root_stands size count limits [] bytes root none = (none, refl)
+root_stands size count limits (n ∷ p) bytes root none = absurd (cc)
 
 pub led_to_their_map : CarriedFollow → PathsAreOrdered → LedToTheirMap
-led_to_their_map follow order size count [] v packable led q = absurd packable.root
-led_to_their_map follow order size count (r ∷ rs) v packable led q =
+led_to_their_map follow order size count limits [] v packable led q = absurd packable.root
+led_to_their_map follow order size count limits (r ∷ rs) v packable led q =
     let later = subst (λ (p : Path). All (λ (s : Packed). path_precedes p s.path ≡ true) rs) packable.root.0 packable.rise.0 in
-    rows_led follow order (r ∷ rs) (formatted_volume size count) v (tree (formatted_volume size count))
-    (All-cons (λ (s : Packed). CanStand (tree (formatted_volume size count)) s.path s.bytes) r rs
-    (root_stands size count r.path r.bytes packable.root.0 packable.root.1) (all_new_stand size count rs later))
+    rows_led follow order (r ∷ rs) (empty_volume size count limits []) v (tree (empty_volume size count limits []))
+    (All-cons (λ (s : Packed). CanStand (tree (empty_volume size count limits [])) s.path s.bytes) r rs
+    (root_stands size count limits r.path r.bytes packable.root.0 packable.root.1) (all_new_stand size count limits rs later))
     packable.rise packable.kinds (λ p. refl) led q
-    ∙ over_formatted size count r rs q packable.root.0
+    ∙ over_formatted size count limits r rs q packable.root.0

@@ -9,3 +9,4 @@ pub mod RowsInTurn
 pub mod BareIsAt
 pub mod CountsKept
 pub mod PackedLemmas
+pub mod LeastCounts

@@ -2,7 +2,8 @@
 use Rattle.std.proofs.Common.{◌≡◌, ℕ, true, List, [], ◌∷◌, ◌++◌, Option, refl, ap, sym, ◌∙◌, subst, inl, inr, All, map, length, arith}
 use Rattle.lfs_block.specs.Disk.{Disk, IsDisk}
 use Rattle.lfs_meta.specs.Attribute.{Attributes}
-use Rattle.lfs_fs.specs.Formatted.{formatted_volume}
+use Rattle.lfs_fs.specs.declared.limits.Limits.{Limits}
+use Rattle.lfs_fs.specs.Formatted.{empty_volume}
 use Rattle.lfs_fs.specs.Holds.{Holds}
 use Rattle.lfs_fs.specs.Path.{Path, TextsSpellOnePath}
 use Rattle.lfs_fs.specs.Reading.{reading_of}
@@ -41,16 +42,16 @@ rows_commands row r rs is root =
 
 -- ---- refusals
 
-pub memory_refused : (size count : ℕ) (what : List Packed) (r : Refusal) → r ≡ Memory → RefusesPack size count what r
-memory_refused size count what r is = subst (λ (x : Refusal). RefusesPack size count what x) (sym is) tt
+pub memory_refused : (size count : ℕ) (limits : Limits) (what : List Packed) (r : Refusal) → r ≡ Memory → RefusesPack size count limits what r
+memory_refused size count limits what r is = subst (λ (x : Refusal). RefusesPack size count limits what x) (sym is) tt
 
-refuses_pack : (size count : ℕ) (what : List Packed) (r : Refusal) → IsNotPacked size count what r → RefusesPack size count what r
-refuses_pack size count what Memory stop = tt
-refuses_pack size count what _ stop = stop
+refuses_pack : (size count : ℕ) (limits : Limits) (what : List Packed) (r : Refusal) → IsNotPacked size count limits what r → RefusesPack size count limits what r
+refuses_pack size count limits what Memory stop = tt
+refuses_pack size count limits what _ stop = stop
 
-stopped : (size count : ℕ) (what : List Packed) (r : Refusal) → AreStopped (commands what) (formatted_volume size count) r
-    → RefusesPack size count what r
-stopped size count what r stop = refuses_pack size count what r (record {
+stopped : (size count : ℕ) (limits : Limits) (what : List Packed) (r : Refusal) → AreStopped (commands what) (empty_volume size count limits []) r
+    → RefusesPack size count limits what r
+stopped size count limits what r stop = refuses_pack size count limits what r (record {
   done = stop.done;
   next = stop.next;
   later = stop.later;
@@ -62,77 +63,77 @@ stopped size count what r stop = refuses_pack size count what r (record {
 
 -- ---- rows are added to a new volume
 
-pub none_packed : (size count : ℕ) (rows : List PackRow) (t : NewVolume) → length rows ≡ 0 → IsBare t (formatted_volume size count)
-    → PacksVolume size count rows t
-none_packed size count (row ∷ rows) t no_rows bare = absurd (omega arith)
-none_packed size count [] t no_rows bare = record {
-  is = ([], formatted_volume size count, bare_is_at t (formatted_volume size count) bare);
+pub none_packed : (size count : ℕ) (limits : Limits) (rows : List PackRow) (t : NewVolume) → length rows ≡ 0 → IsBare t (empty_volume size count limits [])
+    → PacksVolume size count limits rows t
+none_packed size count limits (row ∷ rows) t no_rows bare = absurd (omega arith)
+none_packed size count limits [] t no_rows bare = record {
+  is = ([], empty_volume size count limits [], bare_is_at t (empty_volume size count limits []) bare);
   led = λ packed are. none packed are;
 }
   -- no rows can't be packed
   where
     none : (packed : List Packed) → AreRowsOf [] packed
-        → (v : Volume) × Lead (commands packed) (formatted_volume size count) v × (q : Path) × IsAt t q v
+        → (v : Volume) × Lead (commands packed) (empty_volume size count limits []) v × (q : Path) × IsAt t q v
     none [] are = absurd are.packable.root
     none (r ∷ rs) are = absurd are.each
 
-module _ (texts : TextsSpellOnePath) (size count : ℕ) (row : PackRow) (rows : List PackRow) (t : NewVolume)
-    (bare : IsBare t (formatted_volume size count)) where
-  at_root : IsBareAt t [] (formatted_volume size count)
+module _ (texts : TextsSpellOnePath) (size count : ℕ) (limits : Limits) (row : PackRow) (rows : List PackRow) (t : NewVolume)
+    (bare : IsBare t (empty_volume size count limits [])) where
+  at_root : IsBareAt t [] (empty_volume size count limits [])
   at_root = record { root = refl; bare = bare }
 
   pub root_is_at : (a : NewVolume) → SetsAll IsBareAt (map attribute_of row.attributes.now) t a → (q : Path) × (v : Volume) × IsAt a q v
   root_is_at a sets =
-      let one = sets [] (formatted_volume size count) at_root in
+      let one = sets [] (empty_volume size count limits []) at_root in
       ([], one.0, bare_is_at a one.0 one.2.bare)
 
   pub rows_packed : (a b : NewVolume) → SetsAll IsBareAt (map attribute_of row.attributes.now) t a → AddsRows rows a b
-      → PacksVolume size count (row ∷ rows) b
+      → PacksVolume size count limits (row ∷ rows) b
   rows_packed a b sets adds =
-      let one = sets [] (formatted_volume size count) at_root in
+      let one = sets [] (empty_volume size count limits []) at_root in
       let two = adds [] one.0 (bare_is_at a one.0 one.2.bare) in
       record { is = (two.4, two.2, two.5); led = led }
     -- to what the rows say
     where
       led : (packed : List Packed) → AreRowsOf (row ∷ rows) packed
-          → (v : Volume) × Lead (commands packed) (formatted_volume size count) v × (q : Path) × IsAt b q v
+          → (v : Volume) × Lead (commands packed) (empty_volume size count limits []) v × (q : Path) × IsAt b q v
       led [] are = absurd are.packable.root
       led (r ∷ rs) are =
-          let one = sets [] (formatted_volume size count) at_root in
+          let one = sets [] (empty_volume size count limits []) at_root in
           let two = adds [] one.0 (bare_is_at a one.0 one.2.bare) in
           let same : two.0 ≡ rs = same_rows texts rows two.0 rs two.1 are.each.1 in (
             two.2,
-            subst (λ (cs : List Command). Lead cs (formatted_volume size count) two.2)
+            subst (λ (cs : List Command). Lead cs (empty_volume size count limits []) two.2)
                 (sym (rows_commands row r rs are.each.0 are.packable.root.0))
-                (led_on (setting [] (map attribute_of row.attributes.now)) (commands rs) (formatted_volume size count) one.0 two.2 one.1
+                (led_on (setting [] (map attribute_of row.attributes.now)) (commands rs) (empty_volume size count limits []) one.0 two.2 one.1
                 (subst (λ (l : List Packed). Lead (commands l) one.0 two.2) same two.3)),
             two.4,
             two.5,
           )
 
   pub root_refused : (r : Refusal) → RefusesAll IsBareAt (map attribute_of row.attributes.now) t r
-      → (what : List Packed) → AreRowsOf (row ∷ rows) what → RefusesPack size count what r
-  root_refused r (inl memory) what are = memory_refused size count what r memory
+      → (what : List Packed) → AreRowsOf (row ∷ rows) what → RefusesPack size count limits what r
+  root_refused r (inl memory) what are = memory_refused size count limits what r memory
   root_refused r (inr refuses) [] are = absurd are.packable.root
   root_refused r (inr refuses) (p ∷ ps) are =
-      stopped size count (p ∷ ps) r
-      (subst (λ (cs : List Command). AreStopped cs (formatted_volume size count) r)
+      stopped size count limits (p ∷ ps) r
+      (subst (λ (cs : List Command). AreStopped cs (empty_volume size count limits []) r)
       (sym (rows_commands row p ps are.each.0 are.packable.root.0))
-      (stopped_first (setting [] (map attribute_of row.attributes.now)) (commands ps) (formatted_volume size count) r
-      (refuses [] (formatted_volume size count) at_root)))
+      (stopped_first (setting [] (map attribute_of row.attributes.now)) (commands ps) (empty_volume size count limits []) r
+      (refuses [] (empty_volume size count limits []) at_root)))
 
   pub rows_refused : (a : NewVolume) (r : Refusal) → SetsAll IsBareAt (map attribute_of row.attributes.now) t a → RefusesRows rows a r
-      → (what : List Packed) → AreRowsOf (row ∷ rows) what → RefusesPack size count what r
-  rows_refused a r sets (inl memory) what are = memory_refused size count what r memory
+      → (what : List Packed) → AreRowsOf (row ∷ rows) what → RefusesPack size count limits what r
+  rows_refused a r sets (inl memory) what are = memory_refused size count limits what r memory
   rows_refused a r sets (inr refuses) [] are = absurd are.packable.root
   rows_refused a r sets (inr refuses) (p ∷ ps) are =
-      let one = sets [] (formatted_volume size count) at_root in
+      let one = sets [] (empty_volume size count limits []) at_root in
       let behind : All (λ (s : Packed). path_precedes [] s.path ≡ true) ps =
       subst (λ (x : Path). All (λ (s : Packed). path_precedes x s.path ≡ true) ps) are.packable.root.0 are.packable.rise.0 in
-      stopped size count (p ∷ ps) r
-      (subst (λ (cs : List Command). AreStopped cs (formatted_volume size count) r)
+      stopped size count limits (p ∷ ps) r
+      (subst (λ (cs : List Command). AreStopped cs (empty_volume size count limits []) r)
       (sym (rows_commands row p ps are.each.0 are.packable.root.0))
-      (stopped_then (setting [] (map attribute_of row.attributes.now)) (commands ps) (formatted_volume size count) one.0 r one.1
+      (stopped_then (setting [] (map attribute_of row.attributes.now)) (commands ps) (empty_volume size count limits []) one.0 r one.1
       (refuses [] one.0 ps (bare_is_at a one.0 one.2.bare) are.each.1 behind are.packable.rise.1)))
 
 -- ---- the image
@@ -141,20 +142,20 @@ same_disk : (size count : ℕ) (d : Disk) → d.size ≡ size → d.count ≡ co
 same_disk size count d is_size is_count =
     sym (ap (λ (n : ℕ). disk_with n d.count d.bytes) is_size ∙ ap (λ (n : ℕ). disk_with size n d.bytes) is_count)
 
-pub packed : CarriedFollow → LedToTheirMap → (size count : ℕ) (rows : List PackRow) (t : NewVolume) (d : Disk)
-    → PacksVolume size count rows t → IsDisk d → ((q : Path) (v : Volume) → IsAt t q v → IsNewImageOf v d)
-    → (what : List Packed) → AreRowsOf rows what → IsPacked size count what d.bytes
-packed follow map_of size count rows t d packs disk finished what are =
+pub packed : CarriedFollow → LedToTheirMap → (size count : ℕ) (limits : Limits) (rows : List PackRow) (t : NewVolume) (d : Disk)
+    → PacksVolume size count limits rows t → IsDisk d → ((q : Path) (v : Volume) → IsAt t q v → IsNewImageOf v d)
+    → (what : List Packed) → AreRowsOf rows what → IsPacked size count limits what d.bytes
+packed follow map_of size count limits rows t d packs disk finished what are =
     let to = packs.led what are in
     let done = finished to.2 to.0 to.3 in
-    let keeps = kept follow (commands what) (formatted_volume size count) to.0 (rows_keep what) to.1 in
+    let keeps = kept follow (commands what) (empty_volume size count limits []) to.0 (rows_keep what) to.1 in
     let same : d ≡ disk_with size count d.bytes = sym (same_disk size count d (sym done.size ∙ keeps.0) (sym done.count ∙ keeps.1)) in
     record {
       disk = subst IsDisk same disk;
       volume = to.0;
       holds = subst (λ (x : Disk). Holds (reading_of x) to.0) same done.holds;
       sound = done.sound;
-      limits = done.limits;
+      limited = keeps.2;
       led = to.1;
-      at = map_of size count what to.0 are.packable to.1;
+      at = map_of size count limits what to.0 are.packable to.1;
     }

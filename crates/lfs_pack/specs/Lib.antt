@@ -1,5 +1,6 @@
 pub mod Packed
 pub mod Packing
+pub mod Least
 pub mod RowsAdded
 pub mod Laws
 pub mod PackingLaws

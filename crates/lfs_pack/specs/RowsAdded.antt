@@ -2,7 +2,8 @@
 use Rattle.std.specs.Prelude.{◌≡◌, ◌⊎◌, ℕ, true, Option, Some, List, [], ◌∷◌, ◌++◌, All}
 use Rattle.std.specs.List.{AllZip}
 use Rattle.lfs_meta.specs.Attribute.{Attributes}
-use Rattle.lfs_fs.specs.Formatted.{formatted_volume}
+use Rattle.lfs_fs.specs.declared.limits.Limits.{Limits}
+use Rattle.lfs_fs.specs.Formatted.{empty_volume}
 use Rattle.lfs_fs.specs.Path.{Path, IsPathText}
 use Rattle.lfs_fs.specs.Row.{path_precedes}
 use Rattle.lfs_fs.specs.Volume.{Volume}
@@ -75,7 +76,7 @@ RefusesRows rows t r = (r ≡ Memory) ⊎ ((q : Path) (v : Volume) (packed : Lis
     → AreStopped (commands packed) v r)
 
 -- All rows are added to a new volume, of which the first is the root's.
-pub record PacksVolume (size count : ℕ) (rows : List PackRow) (t : NewVolume) : Type 0 where
+pub record PacksVolume (size count : ℕ) (limits : Limits) (rows : List PackRow) (t : NewVolume) : Type 0 where
   pub is : (q : Path) × (v : Volume) × IsAt t q v
   pub led : (packed : List Packed) → AreRowsOf rows packed
-      → (v : Volume) × Lead (commands packed) (formatted_volume size count) v × (q : Path) × IsAt t q v
+      → (v : Volume) × Lead (commands packed) (empty_volume size count limits []) v × (q : Path) × IsAt t q v

@@ -2,7 +2,9 @@
 
 ghost use Rattle.std.specs.Prelude.{IfErr, IfOk, List, OnOk, map};
 ghost use Rattle.lfs_block.specs.Geometry.{IsGeometry};
+ghost use Rattle.lfs_fs.specs.Limits.{new_limits};
 ghost use Rattle.lfs_fs.specs.Path.{Path};
+ghost use Rattle.lfs_fs.specs.Superblock.{IsLimits};
 ghost use Rattle.lfs_fs.specs.Volume.{Volume};
 ghost use Rattle.lfs_build.specs.NewVolumes.{HasEntry, IsAt, IsBare};
 ghost use Rattle.lfs_pack.specs.RowsAdded.{AddsRow, AddsRows, IsBareAt, PacksVolume, Places, SetsAll};
@@ -15,6 +17,7 @@ use crate::packing_laws::packing_laws;
 use lfs_block::Blocks;
 use lfs_build::NewVolume;
 use lfs_command::{Refusal, names_of};
+use lfs_fs::{Limits, NEW_LIMITS};
 use std::alloc::Global;
 
 /// Sets attributes of the last row, one after another.
@@ -90,18 +93,20 @@ fn add_rows(alloc: Global, volume: &mut NewVolume, rows: &[PackRow<'_>]) -> Resu
 }
 
 /// A new volume with all rows, the first of which is the root's: it is there, and gets its attributes.
-fn packed_volume(
+pub(crate) fn packed_volume(
     alloc: Global,
     size: u32,
     count: u32,
+    limits: Limits,
     rows: &[PackRow<'_>],
 ) -> Result<NewVolume, Refusal>
-    requires { IsGeometry size count }
-    ensures packed { IfOk result (λ t. PacksVolume size count rows.now t) }
-    ensures refused { IfErr result (λ r. (packed : List Packed) → AreRowsOf rows.now packed → RefusesPack size count packed r) }
+    requires geometry { IsGeometry size count }
+    requires limits { IsLimits limits }
+    ensures packed { IfOk result (λ t. PacksVolume size count limits rows.now t) }
+    ensures refused { IfErr result (λ r. (packed : List Packed) → AreRowsOf rows.now packed → RefusesPack size count limits packed r) }
 {
     packing_laws();
-    let mut volume = NewVolume::new(alloc, size, count)?;
+    let mut volume = NewVolume::new(alloc, size, count, limits)?;
     let Some((root, others)) = rows.split_first() else {
         return Ok(volume);
     };
@@ -110,22 +115,42 @@ fn packed_volume(
     Ok(volume)
 }
 
-/// A new image of `count` blocks of `size` bytes with what the rows have at their paths: one with the limits of a new image that mounts
-/// to exactly the map of the rows. Contents go straight into the image, and each part of a directory is written once, into the first block of
-/// its pair. Takes time that is near-linear in bytes and rows. The caller owes a good geometry; and of the rows, for which this is said, that
-/// the root's is the first and has no bytes, that the texts spell paths, each of which comes before all later ones in the order of a mounted
-/// image's rows, and that the kinds of each row's attributes rise strictly. A refusal is what the next of these commands is refused with, with
-/// its numbers, once those before it are carried out: for each row but the root's, to make the directory or to put the file; then to set its
-/// attributes, one after another. `Memory` says only that a growth was refused.
+/// A new image of `count` blocks of `size` bytes with what the rows have at their paths, with the usual limits: names may have 255 bytes,
+/// files 2,147,483,647 and attributes 1,022. Else it is as `pack_within` says.
 ///
 /// Source: own.
 pub fn pack(alloc: Global, size: u32, count: u32, rows: &[PackRow<'_>]) -> Result<Vec<u8>, Refusal>
     requires { IsGeometry size count }
-    ensures packed { IfOk result (λ bytes. (packed : List Packed) → AreRowsOf rows.now packed → IsPacked size count packed bytes.items) }
-    ensures refused { IfErr result (λ r. (packed : List Packed) → AreRowsOf rows.now packed → RefusesPack size count packed r) }
+    ensures packed { IfOk result (λ bytes. (packed : List Packed) → AreRowsOf rows.now packed → IsPacked size count new_limits packed bytes.items) }
+    ensures refused { IfErr result (λ r. (packed : List Packed) → AreRowsOf rows.now packed → RefusesPack size count new_limits packed r) }
+{
+    pack_within(alloc, size, count, NEW_LIMITS, rows)
+}
+
+/// A new image of `count` blocks of `size` bytes with what the rows have at their paths: one with these limits that mounts to exactly the
+/// map of the rows. Contents go straight into the image, and each part of a directory is written once, into the first block of its pair.
+/// Takes time that is near-linear in bytes and rows. The caller owes a good geometry, and limits that an image may have: names and attributes
+/// of 1 to 1,022 bytes, and files of 1 to 2,147,483,647; and of the rows, for which this is said, that the root's is the first and has no
+/// bytes, that the texts spell paths, each of which comes before all later ones in the order of a mounted image's rows, and that the kinds of
+/// each row's attributes rise strictly. A refusal is what the next of these commands is refused with, with its numbers, once those before it
+/// are carried out: for each row but the root's, to make the directory or to put the file; then to set its attributes, one after another.
+/// `Memory` says only that a growth was refused.
+///
+/// Source: own.
+pub fn pack_within(
+    alloc: Global,
+    size: u32,
+    count: u32,
+    limits: Limits,
+    rows: &[PackRow<'_>],
+) -> Result<Vec<u8>, Refusal>
+    requires geometry { IsGeometry size count }
+    requires limits { IsLimits limits }
+    ensures packed { IfOk result (λ bytes. (packed : List Packed) → AreRowsOf rows.now packed → IsPacked size count limits packed bytes.items) }
+    ensures refused { IfErr result (λ r. (packed : List Packed) → AreRowsOf rows.now packed → RefusesPack size count limits packed r) }
 {
     packing_laws();
-    let volume = packed_volume(alloc, size, count, rows)?;
+    let volume = packed_volume(alloc, size, count, limits, rows)?;
     let image = volume.finish(alloc)?;
     let _size = image.size();
     Ok(image.into_bytes())

@@ -1,10 +1,14 @@
 -- What a step does with an image.
 use Rattle.std.proofs.Common.{◌≡◌, ℕ, List, Option, sym, subst}
+use Rattle.lfs_fs.specs.declared.limits.Limits.{Limits}
+use Rattle.lfs_fs.specs.Superblock.{IsLimits}
 use Rattle.lfs_history.specs.Taking.{Move, KeepsInRange, MayKeep}
+use Rattle.lfs_pack.specs.declared.pack_row.PackRow.{PackRow}
 use Rattle.lfs_step.specs.declared.step.Step.{Step}
 use Rattle.lfs_step.specs.declared.step.Step.TheVariants.{Format, Pack, Check, Ls, Cat, Diff, Log, Mkdir, Put, Rm, Mv, SetAttr, RmAttr, Grow}
 use Rattle.lfs_step.specs.declared.step.Step.TheVariants.{Undo, Redo, Forget}
-use Rattle.lfs_step.specs.Deed.{Deed, Change, Compare, IsNoComparison, deed_of}
+use Rattle.lfs_step.specs.Deed.{Deed, Change, Compare, HasLimits, IsNoComparison, Make, deed_of}
+use Rattle.lfs_step.specs.Deed as deed
 
 -- what a change keeps may be kept
 abbrev InRange : Deed → Type 0
@@ -12,15 +16,15 @@ InRange (Change step) = KeepsInRange step
 InRange _ = Unit {0}
 
 deed_in_range : (step : Step) (input : List ℕ) (keep : Option ℕ) → MayKeep keep → InRange (deed_of step input keep)
-deed_in_range (Format count) input keep may = tt
-deed_in_range (Pack count rows) input keep may = tt
+deed_in_range (Format count limits) input keep may = tt
+deed_in_range (Pack count limits rows) input keep may = tt
 deed_in_range Check input keep may = tt
 deed_in_range Ls input keep may = tt
 deed_in_range (Cat path) input keep may = tt
 deed_in_range (Diff name) input keep may = tt
 deed_in_range Log input keep may = tt
 deed_in_range (Mkdir path) input keep may = may
-deed_in_range (Put path) input keep may = may
+deed_in_range (Put path from) input keep may = may
 deed_in_range (Rm path) input keep may = may
 deed_in_range (Mv from to) input keep may = may
 deed_in_range (SetAttr path kind value) input keep may = may
@@ -41,15 +45,15 @@ IsOther (Compare others) = ⊥
 IsOther _ = Unit {0}
 
 deed_is_other : (step : Step) (input : List ℕ) (keep : Option ℕ) → IsNoComparison step → IsOther (deed_of step input keep)
-deed_is_other (Format count) input keep other = tt
-deed_is_other (Pack count rows) input keep other = tt
+deed_is_other (Format count limits) input keep other = tt
+deed_is_other (Pack count limits rows) input keep other = tt
 deed_is_other Check input keep other = tt
 deed_is_other Ls input keep other = tt
 deed_is_other (Cat path) input keep other = tt
 deed_is_other (Diff name) input keep other = absurd other
 deed_is_other Log input keep other = tt
 deed_is_other (Mkdir path) input keep other = tt
-deed_is_other (Put path) input keep other = tt
+deed_is_other (Put path from) input keep other = tt
 deed_is_other (Rm path) input keep other = tt
 deed_is_other (Mv from to) input keep other = tt
 deed_is_other (SetAttr path kind value) input keep other = tt
@@ -62,3 +66,36 @@ deed_is_other Forget input keep other = tt
 pub no_comparison : (step : Step) (input others : List ℕ) (keep : Option ℕ) → IsNoComparison step
     → Compare others ≡ deed_of step input keep → ⊥
 no_comparison step input others keep other is = subst IsOther (sym is) (deed_is_other step input keep other)
+
+-- the limits of an image that is made may be those of an image
+abbrev IsWithin : Deed → Type 0
+IsWithin (Make count limits) = IsLimits limits
+IsWithin (deed.Pack count limits rows) = IsLimits limits
+IsWithin _ = Unit {0}
+
+deed_has_limits : (step : Step) (input : List ℕ) (keep : Option ℕ) → HasLimits step → IsWithin (deed_of step input keep)
+deed_has_limits (Format count limits) input keep has = has
+deed_has_limits (Pack count limits rows) input keep has = has
+deed_has_limits Check input keep has = tt
+deed_has_limits Ls input keep has = tt
+deed_has_limits (Cat path) input keep has = tt
+deed_has_limits (Diff name) input keep has = tt
+deed_has_limits Log input keep has = tt
+deed_has_limits (Mkdir path) input keep has = tt
+deed_has_limits (Put path from) input keep has = tt
+deed_has_limits (Rm path) input keep has = tt
+deed_has_limits (Mv from to) input keep has = tt
+deed_has_limits (SetAttr path kind value) input keep has = tt
+deed_has_limits (RmAttr path kind) input keep has = tt
+deed_has_limits (Grow count) input keep has = tt
+deed_has_limits (Undo steps) input keep has = tt
+deed_has_limits (Redo steps) input keep has = tt
+deed_has_limits Forget input keep has = tt
+
+pub made_within : (step : Step) (input : List ℕ) (keep : Option ℕ) (count : ℕ) (limits : Limits) → HasLimits step
+    → Make count limits ≡ deed_of step input keep → IsLimits limits
+made_within step input keep count limits has is = subst IsWithin (sym is) (deed_has_limits step input keep has)
+
+pub packed_within : (step : Step) (input : List ℕ) (keep : Option ℕ) (count : ℕ) (limits : Limits) (rows : List PackRow) → HasLimits step
+    → deed.Pack count limits rows ≡ deed_of step input keep → IsLimits limits
+packed_within step input keep count limits rows has is = subst IsWithin (sym is) (deed_has_limits step input keep has)

@@ -56,10 +56,10 @@ asked_leaves g outcome (image, journal) old denotes =
 -- ---- any step
 
 pub steps_leave_histories : JournalsDenoteOneHistory → SavedHistoriesOpen → ChangedBytesAreDenoted → StepsLeaveHistories
-steps_leave_histories one opens denoted (Make count) g outcome (formatted, empty) =
+steps_leave_histories one opens denoted (Make count limits) g outcome (formatted, empty) =
     let mount = formatted.mount in
     begins opens g.size count outcome.image.items outcome.journal.items formatted.disk (mount.volume, mount.holds, mount.sound) empty
-steps_leave_histories one opens denoted (Pack count rows) g outcome (is, empty) = λ packed are.
+steps_leave_histories one opens denoted (Pack count limits rows) g outcome (is, empty) = λ packed are.
     let packs = is packed are in
     begins opens g.size count outcome.image.items outcome.journal.items packs.disk (packs.volume, packs.holds, packs.sound) empty
 steps_leave_histories one opens denoted (Ask query) g outcome both = λ old denotes. asked_leaves g outcome both old denotes

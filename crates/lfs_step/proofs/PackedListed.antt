@@ -193,7 +193,7 @@ lists order at whole rows rise says = same_listing (row_at at) listed_row rows (
     ∙ lines_by r.path here.entry.name here.entry.body here.entry.attributes r.attributes r.bytes here.shows)
 
 pub packed_images_list_their_rows : PathsAreOrdered → RowsAreUnique → TreesAreOne → PackedImagesListTheirRows
-packed_images_list_their_rows order unique one size count rows bytes m packable packed mount =
+packed_images_list_their_rows order unique one size count limits rows bytes m packable packed mount =
     let d = disk_with size count bytes in
     let at = entry_at m.outline in
     let whole = entry_at mount.volume in

@@ -2,6 +2,7 @@
 use Rattle.std.proofs.Common.{ℕ, List, Bor}
 use Rattle.lfs_block.specs.Disk.{Disk}
 use Rattle.lfs_block.specs.Geometry.{IsGeometry}
+use Rattle.lfs_fs.specs.declared.limits.Limits.{Limits}
 use Rattle.lfs_fs.specs.Mounted.{MountedValue, IsMountOf}
 use Rattle.lfs_command.specs.declared.refusal.Refusal.{Refusal}
 use Rattle.lfs_command.specs.declared.refusal.Refusal.TheVariants.{Memory}
@@ -21,7 +22,7 @@ contents_refused path d m is Memory refuses = tt
 contents_refused path d m is r refuses = ((m, is), refuses)
 
 -- rows of an image whose geometry is good
-pub rows_refused : (size count : ℕ) (rows : List PackRow) → IsGeometry size count → (r : Refusal)
-    → ((packed : List Packed) → AreRowsOf rows packed → RefusesPack size count packed r) → RefusesPacking size count rows (Refused r)
-rows_refused size count rows is Memory refuses = tt
-rows_refused size count rows is r refuses = (is, refuses)
+pub rows_refused : (size count : ℕ) (limits : Limits) (rows : List PackRow) → IsGeometry size count → (r : Refusal)
+    → ((packed : List Packed) → AreRowsOf rows packed → RefusesPack size count limits packed r) → RefusesPacking size count limits rows (Refused r)
+rows_refused size count limits rows is Memory refuses = tt
+rows_refused size count limits rows is r refuses = (is, refuses)

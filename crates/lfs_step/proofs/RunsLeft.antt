@@ -20,15 +20,15 @@ pub record Goes (fault : Option Fault) (deed : Deed) (g : Given) (outcome : Outc
 
 pub one_goes : StepsLeaveHistories → RunsOfBytesAreRuns → (fault : Option Fault) (deed : Deed) (g : Given) (outcome : Outcome) (old : History)
     → HasGoodRows deed → Denotes g.size g.image g.journal old → AnswersBy fault deed g outcome → Goes fault deed g outcome old
-one_goes leaves runs None (Make count) g outcome old good denotes answers = record {
+one_goes leaves runs None (Make count limits) g outcome old good denotes answers = record {
   new = fresh_history (image_of g.size outcome.image.items);
   goes = (refl, answers.0);
-  leaves = leaves (Make count) g outcome answers;
+  leaves = leaves (Make count limits) g outcome answers;
 }
-one_goes leaves runs None (Pack count rows) g outcome old (packed, are) denotes answers = record {
+one_goes leaves runs None (Pack count limits rows) g outcome old (packed, are) denotes answers = record {
   new = fresh_history (image_of g.size outcome.image.items);
   goes = (refl, answers.0);
-  leaves = leaves (Pack count rows) g outcome answers packed are;
+  leaves = leaves (Pack count limits rows) g outcome answers packed are;
 }
 one_goes leaves runs None (Ask query) g outcome old good denotes answers = record {
   new = old;

@@ -1,5 +1,7 @@
 -- What a step does with an image (own).
 use Rattle.std.specs.Prelude.{ℕ, List, Option}
+use Rattle.lfs_fs.specs.declared.limits.Limits.{Limits}
+use Rattle.lfs_fs.specs.Superblock.{IsLimits}
 use Rattle.lfs_command.specs.Command as asked
 use Rattle.lfs_history.specs.Meaning.{step_of}
 use Rattle.lfs_history.specs.Taking as change
@@ -14,11 +16,11 @@ use Rattle.lfs_step.specs.declared.step.Step.TheVariants as step
 use Rattle.lfs_step.specs.declared.step.Step.TheVariants.{Format, Check, Ls, Cat, Diff, Log, Mkdir, Put, Rm, Mv, SetAttr, RmAttr, Grow}
 use Rattle.lfs_step.specs.declared.step.Step.TheVariants.{Undo, Redo, Forget}
 
--- A new image of so many blocks is made, the root alone or with what rows have at their paths; something is asked of an image, also
--- what another has otherwise, and what the changes in its journal changed; or a step is taken on its history.
+-- A new image of so many blocks with such limits is made, the root alone or with what rows have at their paths; something is asked of an
+-- image, also what another has otherwise, and what the changes in its journal changed; or a step is taken on its history.
 pub data Deed : Type 0 where
-  Make : (count : ℕ) → Deed
-  Pack : (count : ℕ) → (rows : List PackRow) → Deed
+  Make : (count : ℕ) → (limits : Limits) → Deed
+  Pack : (count : ℕ) → (limits : Limits) → (rows : List PackRow) → Deed
   Ask : (query : Query) → Deed
   Compare : (other : List ℕ) → Deed
   Recount : Deed
@@ -26,15 +28,15 @@ pub data Deed : Type 0 where
 
 -- what a step does, with what it reads, and with how many images of the past are kept behind a command
 abbrev pub deed_of : Step → List ℕ → Option ℕ → Deed
-deed_of (Format count) input keep = Make count
-deed_of (step.Pack count rows) input keep = Pack count rows.now
+deed_of (Format count limits) input keep = Make count limits
+deed_of (step.Pack count limits rows) input keep = Pack count limits rows.now
 deed_of Check input keep = Ask query.Check
 deed_of Ls input keep = Ask query.Ls
 deed_of (Cat path) input keep = Ask (query.Cat path)
 deed_of (Diff name) input keep = Compare input
 deed_of Log input keep = Recount
 deed_of (Mkdir path) input keep = Change (Do (asked.Mkdir path.now) keep)
-deed_of (Put path) input keep = Change (Do (asked.Put path.now input) keep)
+deed_of (Put path from) input keep = Change (Do (asked.Put path.now input) keep)
 deed_of (Rm path) input keep = Change (Do (asked.Rm path.now) keep)
 deed_of (Mv from to) input keep = Change (Do (asked.Mv from.now to.now) keep)
 deed_of (SetAttr path kind value) input keep = Change (Do (asked.SetAttr path.now kind value.now) keep)
@@ -44,6 +46,12 @@ deed_of (Undo steps) input keep = Change (change.Undo steps)
 deed_of (Redo steps) input keep = Change (change.Redo steps)
 deed_of Forget input keep = Change change.Forget
 
+-- the limits of an image that a step makes are such that an image may have
+abbrev pub HasLimits : Step → Type 0
+HasLimits (Format count limits) = IsLimits limits
+HasLimits (step.Pack count limits rows) = IsLimits limits
+HasLimits _ = Unit {0}
+
 -- a step that compares no images
 abbrev pub IsNoComparison : Step → Type 0
 IsNoComparison (Diff name) = ⊥
@@ -51,8 +59,8 @@ IsNoComparison _ = Unit {0}
 
 -- what the code's value stands for, with what the step reads
 abbrev pub deed_held : List ℕ → Written → Deed
-deed_held input (written.Make count) = Make count
-deed_held input (written.Pack count rows) = Pack count rows.now
+deed_held input (written.Make count limits) = Make count limits
+deed_held input (written.Pack count limits rows) = Pack count limits rows.now
 deed_held input (written.Ask query) = Ask query
 deed_held input written.Compare = Compare input
 deed_held input written.Recount = Recount

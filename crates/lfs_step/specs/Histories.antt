@@ -16,8 +16,8 @@ Leaves g outcome h = Denotes g.size outcome.image.items outcome.journal.items h
 -- A new image, empty or of rows, begins a history. A question leaves the history that image and journal denoted, and a change
 -- leaves the one to which it leads from there; where all is forgotten, whatever the journal was.
 abbrev pub LeavesHistory : Deed → Given → Outcome → Type 0
-LeavesHistory (Make count) g outcome = Leaves g outcome (fresh_history (image_of g.size outcome.image.items))
-LeavesHistory (Pack count rows) g outcome =
+LeavesHistory (Make count limits) g outcome = Leaves g outcome (fresh_history (image_of g.size outcome.image.items))
+LeavesHistory (Pack count limits rows) g outcome =
     (packed : List Packed) → AreRowsOf rows packed → Leaves g outcome (fresh_history (image_of g.size outcome.image.items))
 LeavesHistory (Ask query) g outcome = (old : History) → Denotes g.size g.image g.journal old → Leaves g outcome old
 LeavesHistory (Compare other) g outcome = (old : History) → Denotes g.size g.image g.journal old → Leaves g outcome old

@@ -3,6 +3,7 @@ use Rattle.std.specs.Prelude.{ℕ, ◌≡◌, List, [], Option, Some, None}
 use Rattle.std.specs.Io.KnownBytes.{Keeps}
 use Rattle.lfs_block.specs.Geometry.{IsGeometry}
 use Rattle.lfs_block.specs.declared.image_fault.ImageFault.TheVariants.{BadGeometry}
+use Rattle.lfs_fs.specs.declared.limits.Limits.{Limits}
 use Rattle.lfs_command.specs.declared.refusal.Refusal.TheVariants.{Memory}
 use Rattle.lfs_command.specs.Faults.{refusal_number}
 use Rattle.lfs_book.specs.Book.{book_of, journal_bytes}
@@ -37,17 +38,17 @@ RefusesFormat size count (Refused refusal) = refusal_number refusal ≡ 44
 RefusesFormat size count _ = ⊥
 
 -- why no new image of rows is made: its geometry, where that is good the verdict of the next command of the rows, or want of memory
-abbrev pub RefusesPacking : ℕ → ℕ → List PackRow → Fault → Type 0
-RefusesPacking size count rows (Image BadGeometry) = ¬ IsGeometry size count
-RefusesPacking size count rows (Refused Memory) = Unit {0}
-RefusesPacking size count rows (Refused refusal) =
-    IsGeometry size count × ((packed : List Packed) → AreRowsOf rows packed → RefusesPack size count packed refusal)
-RefusesPacking size count rows _ = ⊥
+abbrev pub RefusesPacking : ℕ → ℕ → Limits → List PackRow → Fault → Type 0
+RefusesPacking size count limits rows (Image BadGeometry) = ¬ IsGeometry size count
+RefusesPacking size count limits rows (Refused Memory) = Unit {0}
+RefusesPacking size count limits rows (Refused refusal) =
+    IsGeometry size count × ((packed : List Packed) → AreRowsOf rows packed → RefusesPack size count limits packed refusal)
+RefusesPacking size count limits rows _ = ⊥
 
 -- the first fault of a deed that holds, or want of memory
 abbrev pub Refuses : Deed → Given → Fault → Type 0
-Refuses (Make count) g fault = RefusesFormat g.size count fault
-Refuses (Pack count rows) g fault = RefusesPacking g.size count rows fault
+Refuses (Make count limits) g fault = RefusesFormat g.size count fault
+Refuses (Pack count limits rows) g fault = RefusesPacking g.size count limits rows fault
 Refuses (Ask query) g fault = RefusesQuery query g.size g.image fault
 Refuses (Compare other) g fault = RefusesCompared g.size g.image other fault
 Refuses Recount g fault = RefusesRecounted g.size g.image g.journal fault
@@ -60,10 +61,10 @@ KeepsBoth g outcome = (outcome.image.items ≡ g.image) × (outcome.journal.item
 -- the image and the journal once a deed is done: a new image and a journal without changes, those that were given, or those of
 -- the history that a step leaves
 abbrev pub AnswersDone : Deed → Given → Outcome → Type 0
-AnswersDone (Make count) g outcome =
-    IsFormatted g.size count outcome.image.items × (outcome.journal.items ≡ journal_bytes (book_of g.size count [] 0))
-AnswersDone (Pack count rows) g outcome =
-    ((packed : List Packed) → AreRowsOf rows packed → IsPacked g.size count packed outcome.image.items)
+AnswersDone (Make count limits) g outcome =
+    IsFormatted g.size count limits outcome.image.items × (outcome.journal.items ≡ journal_bytes (book_of g.size count [] 0))
+AnswersDone (Pack count limits rows) g outcome =
+    ((packed : List Packed) → AreRowsOf rows packed → IsPacked g.size count limits packed outcome.image.items)
     × (outcome.journal.items ≡ journal_bytes (book_of g.size count [] 0))
 AnswersDone (Ask query) g outcome = KeepsBoth g outcome
 AnswersDone (Compare other) g outcome = KeepsBoth g outcome
@@ -82,8 +83,8 @@ Answers deed g outcome = AnswersBy outcome.fault deed g outcome
 
 -- what goes out of a deed's text; only what is asked has one
 abbrev pub SendsText : Deed → Given → Option Fault → Option (List ℕ) → Option (List ℕ) → Type 0
-SendsText (Make count) g fault old new = Keeps old new
-SendsText (Pack count rows) g fault old new = Keeps old new
+SendsText (Make count limits) g fault old new = Keeps old new
+SendsText (Pack count limits rows) g fault old new = Keeps old new
 SendsText (Ask query) g fault old new = SendsReport query (image_of g.size g.image) fault old new
 SendsText (Compare other) g fault old new = SendsCompared g.size g.image other fault old new
 SendsText Recount g fault old new = SendsRecounted g.size g.image g.journal fault old new

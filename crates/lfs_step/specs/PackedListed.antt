@@ -1,5 +1,6 @@
 -- What is listed of an image that was packed (own).
 use Rattle.std.specs.Prelude.{◌≡◌, ℕ, List, [], Option, Some, None, map}
+use Rattle.lfs_fs.specs.declared.limits.Limits.{Limits}
 use Rattle.lfs_edit.specs.Formatted.{disk_with}
 use Rattle.lfs_fs.specs.Entry.{Body, Inline, Directory_at}
 use Rattle.lfs_fs.specs.Mounted.{MountedValue, IsMountOf}
@@ -20,5 +21,5 @@ listed_row r = record { path = r.path; entry = record { name = []; body = listed
 
 -- the law: an image that was packed is listed as the rows that it was packed of
 abbrev pub PackedImagesListTheirRows : Type 0
-PackedImagesListTheirRows = (size count : ℕ) (rows : List Packed) (bytes : List ℕ) (m : MountedValue) → ArePackable rows
-    → IsPacked size count rows bytes → IsMountOf (disk_with size count bytes) m → listing m.rows ≡ listing (map listed_row rows)
+PackedImagesListTheirRows = (size count : ℕ) (limits : Limits) (rows : List Packed) (bytes : List ℕ) (m : MountedValue) → ArePackable rows
+    → IsPacked size count limits rows bytes → IsMountOf (disk_with size count bytes) m → listing m.rows ≡ listing (map listed_row rows)

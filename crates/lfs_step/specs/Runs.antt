@@ -30,16 +30,16 @@ AreRuns size (r ∷ rs) old new =
 
 -- rows that are packed say what is packed, as it is taken
 abbrev pub HasGoodRows : Deed → Type 0
-HasGoodRows (Pack count rows) = (packed : List Packed) × AreRowsOf rows packed
+HasGoodRows (Pack count limits rows) = (packed : List Packed) × AreRowsOf rows packed
 HasGoodRows _ = Unit {0}
 
 -- a new image begins a history, and has the root alone, or the map of its rows; a question leaves the history that was there, and
 -- a change is a step of it
 abbrev pub GoesOn : ℕ → Deed → History → History → Type 0
-GoesOn size (Make count) old new = (new ≡ fresh_history new.present) × IsFormatted size count new.present.bytes
-GoesOn size (Pack count rows) old new =
+GoesOn size (Make count limits) old new = (new ≡ fresh_history new.present) × IsFormatted size count limits new.present.bytes
+GoesOn size (Pack count limits rows) old new =
     (new ≡ fresh_history new.present)
-    × ((packed : List Packed) → AreRowsOf rows packed → IsPacked size count packed new.present.bytes)
+    × ((packed : List Packed) → AreRowsOf rows packed → IsPacked size count limits packed new.present.bytes)
 GoesOn size (Ask query) old new = new ≡ old
 GoesOn size (Compare other) old new = new ≡ old
 GoesOn size Recount old new = new ≡ old

@@ -6,6 +6,7 @@ ghost use Rattle.lfs_step.specs.Deed.{deed_held, deed_of};
 use crate::query::Query;
 use crate::step::Step;
 use lfs_edit::Command;
+use lfs_fs::Limits;
 use lfs_history::Move;
 use lfs_pack::PackRow;
 
@@ -14,15 +15,19 @@ use lfs_pack::PackRow;
 /// Source: own.
 #[derive(Clone, Copy)]
 pub enum Deed<'a> {
-    /// Makes a new one of this many blocks.
+    /// Makes a new one of this many blocks with these limits.
     Make {
         /// The number of blocks.
         count: u32,
+        /// The greatest lengths of a name, a file and an attribute.
+        limits: Limits,
     },
-    /// Makes a new one of this many blocks, with what the rows have at their paths.
+    /// Makes a new one of this many blocks with these limits, with what the rows have at their paths.
     Pack {
         /// The number of blocks.
         count: u32,
+        /// The greatest lengths of a name, a file and an attribute.
+        limits: Limits,
         /// The rows, in the order of their paths.
         rows: &'a [PackRow<'a>],
     },
@@ -44,8 +49,18 @@ pub fn deed_of<'a>(step: &Step<'a>, input: &'a [u8], keep: Option<u32>) -> Deed<
     ensures { deed_held input.now result ≡ deed_of step.now input.now keep }
 {
     let command = match *step {
-        Step::Format { count } => return Deed::Make { count },
-        Step::Pack { count, rows } => return Deed::Pack { count, rows },
+        Step::Format { count, limits } => return Deed::Make { count, limits },
+        Step::Pack {
+            count,
+            limits,
+            rows,
+        } => {
+            return Deed::Pack {
+                count,
+                limits,
+                rows,
+            };
+        }
         Step::Check => return Deed::Ask(Query::Check),
         Step::Ls => return Deed::Ask(Query::Ls),
         Step::Cat { path } => return Deed::Ask(Query::Cat { path }),
@@ -55,7 +70,7 @@ pub fn deed_of<'a>(step: &Step<'a>, input: &'a [u8], keep: Option<u32>) -> Deed<
         Step::Redo { steps } => return Deed::Change(Move::Redo { steps }),
         Step::Forget => return Deed::Change(Move::Forget),
         Step::Mkdir { path } => Command::Mkdir { path },
-        Step::Put { path } => Command::Put { path, bytes: input },
+        Step::Put { path, .. } => Command::Put { path, bytes: input },
         Step::Rm { path } => Command::Rm { path },
         Step::Mv { from, to } => Command::Mv { from, to },
         Step::SetAttr { path, kind, value } => Command::SetAttr { path, kind, value },

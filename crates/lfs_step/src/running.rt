@@ -4,6 +4,7 @@ ghost use Rattle.std.specs.Prelude.{◌≡◌, List, [], false, IfOk, IfErr};
 ghost use Rattle.lfs_block.specs.Geometry.{IsGeometry};
 ghost use Rattle.lfs_book.specs.Book.{book_of, journal_bytes};
 ghost use Rattle.lfs_command.specs.declared.refusal.Refusal.TheVariants.{Memory};
+ghost use Rattle.lfs_fs.specs.Superblock.{IsLimits};
 ghost use Rattle.lfs_edit.specs.Formatted.{IsFormatted};
 ghost use Rattle.lfs_history.specs.Taking.{MayKeep};
 ghost use Rattle.lfs_change.specs.Fault.{blames_output, status_of};
@@ -13,7 +14,7 @@ ghost use Rattle.lfs_step.specs.Histories.{KeepsHistories};
 ghost use Rattle.lfs_step.specs.Outcome.{Answers, RefusesFormat, RefusesPacking, SendsText, given};
 ghost use Rattle.lfs_pack.specs.Packed.{AreRowsOf, Packed};
 ghost use Rattle.lfs_pack.specs.Packing.{IsPacked};
-ghost use Rattle.lfs_step.specs.Deed.{IsNoComparison, Make, Pack, deed_of};
+ghost use Rattle.lfs_step.specs.Deed.{HasLimits, IsNoComparison, Make, Pack, deed_of};
 
 use crate::comparing::compared;
 use crate::deed::{Deed, deed_of};
@@ -26,8 +27,9 @@ use lfs_book::write_journal;
 use lfs_change::{
     Fault, Outcome, changed, changed_bytes_are_equations, journals_of_bytes_grow_by_the_need,
 };
-use lfs_edit::{Refusal, format};
-use lfs_pack::{PackRow, pack};
+use lfs_edit::{Refusal, format_within};
+use lfs_fs::Limits;
+use lfs_pack::{PackRow, pack_within};
 use lfs_sink::Sink;
 use std::alloc::Global;
 
@@ -38,7 +40,8 @@ use std::alloc::Global;
 /// that image and journal denote, and answers those of the history that it leaves; a new image gets a journal without
 /// changes. What is asked leaves both files as they are; of such
 /// steps only the recount of changes reads the journal. New images read none, and forgetting none either. Behind a command `keep` images of the past are kept,
-/// or all of them; the caller owes that it is 1 to 1,000, and other steps don't look at it. A step that is done leaves an image and a
+/// or all of them; the caller owes that it is 1 to 1,000, and other steps don't look at it. Where the step makes a new image the caller
+/// owes limits that an image may have. A step that is done leaves an image and a
 /// journal that denote the history to which it leads; a command, an image that mounts to the command's equation, and a journal that
 /// has grown by no more than the command's need. Takes memory.
 ///
@@ -55,6 +58,7 @@ pub fn run<S: Sink>(
 ) -> Outcome
     requires works { S.failed out.old ≡ false }
     requires keep { MayKeep keep }
+    requires limits { HasLimits step.now }
     ensures answers { Answers (deed_of step.now input.items keep) (given size image.items journal.items) result }
     ensures history { KeepsHistories (deed_of step.now input.items keep) (given size image.items journal.items) result }
     ensures equation { KeepsEquations (deed_of step.now input.items keep) (given size image.items journal.items) result }
@@ -87,6 +91,7 @@ fn taken<S: Sink>(
     requires other { IsNoComparison step.now }
     requires works { S.failed out.old ≡ false }
     requires keep { MayKeep keep }
+    requires limits { HasLimits step.now }
     ensures answers { Answers (deed_of step.now input.now keep) (given size image.items journal.items) result }
     ensures sent { SendsText (deed_of step.now input.now keep) (given size image.items journal.items) result.fault (S.sent out.old) (S.sent out.new) }
     ensures failed { S.failed out.new ≡ blames_output result.fault }
@@ -94,8 +99,12 @@ fn taken<S: Sink>(
     ensures status { result.status ≡ status_of result.fault }
 {
     match deed_of(step, input, keep) {
-        Deed::Make { count } => formatted(alloc, size, count, image, journal),
-        Deed::Pack { count, rows } => packed(alloc, size, count, rows, image, journal),
+        Deed::Make { count, limits } => formatted(alloc, size, count, limits, image, journal),
+        Deed::Pack {
+            count,
+            limits,
+            rows,
+        } => packed(alloc, size, count, limits, rows, image, journal),
         Deed::Ask(query) => queried(alloc, &query, size, image, journal, out),
         Deed::Compare => unreachable!(),
         Deed::Recount => recounted(alloc, size, image, journal, out),
@@ -104,12 +113,20 @@ fn taken<S: Sink>(
 }
 
 /// A new image, with a journal without changes.
-fn formatted(alloc: Global, size: u32, count: u32, image: Vec<u8>, journal: Vec<u8>) -> Outcome
-    ensures answers { Answers (Make count) (given size image.items journal.items) result }
+fn formatted(
+    alloc: Global,
+    size: u32,
+    count: u32,
+    limits: Limits,
+    image: Vec<u8>,
+    journal: Vec<u8>,
+) -> Outcome
+    requires { IsLimits limits }
+    ensures answers { Answers (Make count limits) (given size image.items journal.items) result }
     ensures failed { blames_output result.fault ≡ false }
     ensures status { result.status ≡ status_of result.fault }
 {
-    match new_image(alloc, size, count) {
+    match new_image(alloc, size, count, limits) {
         Ok((new, empty)) => Outcome::new(new, empty, None),
         Err(fault) => Outcome::new(image, journal, Some(fault)),
     }
@@ -125,8 +142,14 @@ fn empty_journal(alloc: Global, size: u32, count: u32) -> Result<Vec<u8>, Fault>
 }
 
 /// The bytes of a new image, and of a journal without changes.
-fn new_image(alloc: Global, size: u32, count: u32) -> Result<(Vec<u8>, Vec<u8>), Fault>
-    ensures made { IfOk result (λ new. IsFormatted size count new.0.items) }
+fn new_image(
+    alloc: Global,
+    size: u32,
+    count: u32,
+    limits: Limits,
+) -> Result<(Vec<u8>, Vec<u8>), Fault>
+    requires { IsLimits limits }
+    ensures made { IfOk result (λ new. IsFormatted size count limits new.0.items) }
     ensures empty { IfOk result (λ new. new.1.items ≡ journal_bytes (book_of size count [] 0)) }
     ensures refused { IfErr result (λ fault. RefusesFormat size count fault) }
 {
@@ -134,7 +157,7 @@ fn new_image(alloc: Global, size: u32, count: u32) -> Result<(Vec<u8>, Vec<u8>),
         return Err(Fault::Image(ImageFault::BadGeometry));
     }
     let journal = empty_journal(alloc, size, count)?;
-    Ok((format(alloc, size, count)?, journal))
+    Ok((format_within(alloc, size, count, limits)?, journal))
 }
 
 /// A new image of rows, with a journal without changes.
@@ -142,15 +165,17 @@ fn packed(
     alloc: Global,
     size: u32,
     count: u32,
+    limits: Limits,
     rows: &[PackRow<'_>],
     image: Vec<u8>,
     journal: Vec<u8>,
 ) -> Outcome
-    ensures answers { Answers (Pack count rows.now) (given size image.items journal.items) result }
+    requires { IsLimits limits }
+    ensures answers { Answers (Pack count limits rows.now) (given size image.items journal.items) result }
     ensures failed { blames_output result.fault ≡ false }
     ensures status { result.status ≡ status_of result.fault }
 {
-    match packed_image(alloc, size, count, rows) {
+    match packed_image(alloc, size, count, limits, rows) {
         Ok((filled, empty)) => Outcome::new(filled, empty, None),
         Err(refused) => Outcome::new(image, journal, Some(refused)),
     }
@@ -161,15 +186,17 @@ fn packed_image(
     alloc: Global,
     size: u32,
     count: u32,
+    limits: Limits,
     rows: &[PackRow<'_>],
 ) -> Result<(Vec<u8>, Vec<u8>), Fault>
-    ensures made { IfOk result (λ new. (packed : List Packed) → AreRowsOf rows.now packed → IsPacked size count packed new.0.items) }
+    requires { IsLimits limits }
+    ensures made { IfOk result (λ new. (packed : List Packed) → AreRowsOf rows.now packed → IsPacked size count limits packed new.0.items) }
     ensures empty { IfOk result (λ new. new.1.items ≡ journal_bytes (book_of size count [] 0)) }
-    ensures refused { IfErr result (λ fault. RefusesPacking size count rows.now fault) }
+    ensures refused { IfErr result (λ fault. RefusesPacking size count limits rows.now fault) }
 {
     if !geometry_ok(size, count) {
         return Err(Fault::Image(ImageFault::BadGeometry));
     }
     let journal = empty_journal(alloc, size, count)?;
-    Ok((pack(alloc, size, count, rows)?, journal))
+    Ok((pack_within(alloc, size, count, limits, rows)?, journal))
 }

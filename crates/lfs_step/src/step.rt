@@ -1,5 +1,6 @@
 //! The steps that a run takes.
 
+use lfs_fs::Limits;
 use lfs_pack::PackRow;
 
 /// What a run does with an image.
@@ -7,15 +8,19 @@ use lfs_pack::PackRow;
 /// Source: own.
 #[derive(Clone, Copy)]
 pub enum Step<'a> {
-    /// Makes a new image of this many blocks.
+    /// Makes a new image of this many blocks with these limits.
     Format {
         /// The number of blocks.
         count: u32,
+        /// The greatest lengths of a name, a file and an attribute.
+        limits: Limits,
     },
-    /// Makes a new image of this many blocks, with what the rows have at their paths.
+    /// Makes a new image of this many blocks with these limits, with what the rows have at their paths.
     Pack {
         /// The number of blocks.
         count: u32,
+        /// The greatest lengths of a name, a file and an attribute.
+        limits: Limits,
         /// The rows, in the order of their paths.
         rows: &'a [PackRow<'a>],
     },
@@ -44,6 +49,8 @@ pub enum Step<'a> {
     Put {
         /// The text of the file's path.
         path: &'a [u8],
+        /// The host's file that the step reads; standard input where there is none.
+        from: Option<&'a str>,
     },
     /// Removes a file or an empty directory.
     Rm {

@@ -1,12 +1,12 @@
 //! The superblock that is written.
 
-ghost use Rattle.std.specs.Prelude.{◌≡◌, IfOk};
+ghost use Rattle.std.specs.Prelude.{◌≡◌, [], IfOk};
 ghost use Rattle.lfs_meta.specs.Fits.{RiseFrom};
 ghost use Rattle.lfs_fs.specs.Superblock.{superblock_entry};
-ghost use Rattle.lfs_law.specs.SuperblockBytes.{new_superblock, superblock_bytes};
+ghost use Rattle.lfs_law.specs.SuperblockBytes.{superblock_bytes};
 
 use byteorder::{ByteOrder, LittleEndian};
-use lfs_fs::{Limits, NEW_LIMITS};
+use lfs_fs::Limits;
 use lfs_meta::{Attribute, Body, Entry, Kind};
 use std::alloc::{AllocError, Global};
 
@@ -50,12 +50,17 @@ pub(crate) fn superblock(
     })
 }
 
-/// The superblock of a new image of `count` blocks of `size` bytes, without attributes.
+/// The superblock of a new image of `count` blocks of `size` bytes with these limits, without attributes.
 ///
 /// Source: SPEC.md, "0x0ff superblock".
-pub fn new_superblock(alloc: Global, size: u32, count: u32) -> Result<Entry, AllocError>
-    ensures { IfOk result (λ entry. entry ≡ new_superblock size count) }
+pub fn new_superblock(
+    alloc: Global,
+    size: u32,
+    count: u32,
+    limits: Limits,
+) -> Result<Entry, AllocError>
+    ensures { IfOk result (λ entry. entry ≡ superblock_entry (superblock_bytes size count limits) []) }
 {
     let attributes = Vec::new(alloc);
-    superblock(alloc, size, count, NEW_LIMITS, attributes)
+    superblock(alloc, size, count, limits, attributes)
 }

@@ -1,5 +1,5 @@
 -- What is said of two images is said of their bytes.
-use Rattle.std.proofs.Common.{List, ℕ, ◌∙◌, subst}
+use Rattle.std.proofs.Common.{ℕ, ◌∙◌, subst}
 use Rattle.std.specs.Result.{result_err}
 use Rattle.std.proofs.lemmas.Result.{IfErr-weaker}
 use Rattle.lfs_block.specs.ImageFault.{IsNoImage}

@@ -13,6 +13,7 @@ returns-clause-down c =
     let above = c.pop.new.self.items in
     record {
       image = refl;
+      limits = refl;
       attributes = refl;
       next = refl;
       gone = t.deepest ∷ [];

@@ -25,5 +25,4 @@ returns c q v at =
       sound = at.taking.built.sound;
       size = at.taking.built.size ∙ sym taken.but.disk.size;
       count = at.taking.built.count ∙ sym taken.but.disk.count;
-      limits = at.taking.built.limits;
     }

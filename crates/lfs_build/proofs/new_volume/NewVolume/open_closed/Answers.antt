@@ -14,6 +14,7 @@ returns c =
     let new = c.in-Some.directory in
     record {
       image = refl;
+      limits = refl;
       attributes = refl;
       next = refl;
       above = c.in_ok-push.ensures.items ∙ ap (λ (x : OpenDirectory). t.above.items ++ x ∷ []) c.replace-above.ensures.value;

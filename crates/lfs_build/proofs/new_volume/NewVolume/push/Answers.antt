@@ -28,11 +28,11 @@ pub returns : goal.returns
 returns c =
     let t = c.args.self.now in
     let pair = pair_behind t.next c.args.before in
-    let more : HasOneMore c.args.entry t.image.disk.size pair t.deepest c.if-takes.self.1.1.1.1.0 = elim c.if-takes.branch [
+    let more : HasOneMore c.args.entry t.image.disk.size pair t.deepest c.if-takes.self.1.1.1.1.1.0 = elim c.if-takes.branch [
       | then-takes+in_ok-push w ↦
           let takes = same_takes true t.image.disk.size c.room-room.result t.deepest.weight t.deepest.count
           c.weight-weight.result (weight c.args.entry) c.room-room.ensures.bytes c.weight-weight.ensures.value w.if-takes.ensures in
-          subst (λ s. HasOneMore c.args.entry t.image.disk.size pair t.deepest s.1.1.1.1.0) (sym w.self-is)
+          subst (λ s. HasOneMore c.args.entry t.image.disk.size pair t.deepest s.1.1.1.1.1.0) (sym w.self-is)
           (one_more_here c.args.entry t.image.disk.size pair t.deepest w.push.new.self takes
           (ap (λ ps. ps.items) w.in_ok-push.ensures.full)
           w.in_ok-push.ensures.last
@@ -41,7 +41,7 @@ returns c =
       | else-takes+in_ok-push_alone w ↦
           let not = same_takes false t.image.disk.size c.room-room.result t.deepest.weight t.deepest.count
           c.weight-weight.result (weight c.args.entry) c.room-room.ensures.bytes c.weight-weight.ensures.value w.if-takes.ensures in
-          subst (λ s. HasOneMore c.args.entry t.image.disk.size pair t.deepest s.1.1.1.1.0) (sym w.self-is)
+          subst (λ s. HasOneMore c.args.entry t.image.disk.size pair t.deepest s.1.1.1.1.1.0) (sym w.self-is)
           (one_more_alone c.args.entry t.image.disk.size pair t.deepest w.push_alone.new.self not
           w.in_ok-push_alone.ensures.full
           w.in_ok-push_alone.ensures.last
@@ -50,6 +50,7 @@ returns c =
     ] in
     record {
       image = refl;
+      limits = refl;
       attributes = refl;
       above = refl;
       closed = refl;

@@ -3,6 +3,7 @@ use Rattle.std.proofs.Common.{◌+◌, ◌≤◌, ℕ, ap, ◌∙◌, subst, ari
 use Rattle.std.proofs.lemmas.Result.{err_from_is_err_and}
 use Rattle.lfs_command.specs.Edited.{new_entry}
 use Rattle.lfs_build.specs.Adding.{file_blocks, file_body}
+use Rattle.lfs_build.proofs.EntryPut.{limits_in_range}
 use Rattle.lfs_build.proofs.FewBlocks.{file_few}
 use Rattle.lfs_build.proofs.FilesPut.{file_put, no_place}
 use Rattle.lfs_build.proofs.new_volume.NewVolume.put_short.Goals as goal
@@ -12,12 +13,14 @@ file_body-requires-clause-next c =
     let few = file_few c.size-size.result c.args.bytes.now in
     let disk = c.size-size.ensures.disk in
     let within = c.requires.home.2.taking.built.within in
-    omega (arith, few, within, disk.geometry.count_fits.1, c.requires.small)
+    let most = (limits_in_range c.args.self.now c.requires.home.0 c.requires.home.1 c.requires.home.2.taking).file.1 in
+    omega (arith, few, within, disk.geometry.count_fits.1, c.requires.small, most)
 
 pub needed-requires-clause-before : goal.needed-requires-clause-before
 needed-requires-clause-before c =
     let few = file_few c.size-size.result c.args.bytes.now in
-    omega (arith, few, c.file_blocks-blocks.ensures, c.requires.small)
+    let most = (limits_in_range c.args.self.now c.requires.home.0 c.requires.home.1 c.requires.home.2.taking).file.1 in
+    omega (arith, few, c.file_blocks-blocks.ensures, c.requires.small, most)
 
 pub returns-in_err-need-clause-refused : goal.returns-in_err-need-clause-refused
 returns-in_err-need-clause-refused c =

@@ -1,6 +1,7 @@
-use Rattle.std.proofs.Common.{◌≡◌, ◌+◌, ◌-◌, ◌≤◌, ◌∙◌, ap, sym, arith, length}
+use Rattle.std.proofs.Common.{◌≡◌, ◌+◌, ◌-◌, ◌≤◌, ◌∙◌, ap, sym, subst, arith, length}
 use Rattle.lfs_meta.specs.Attribute.{set_attribute}
 use Rattle.lfs_meta.specs.Weighing.{attributes_weight}
+use Rattle.lfs_fs.specs.declared.limits.Limits.{Limits}
 use Rattle.lfs_fs.specs.Outlined.{outlined}
 use Rattle.lfs_fs.specs.Weight.{superblock_weight}
 use Rattle.lfs_build.proofs.BareRoots.{bare_count, bare_weighed}
@@ -8,7 +9,8 @@ use Rattle.lfs_build.proofs.new_volume.NewVolume.set_root_attribute.Goals as goa
 
 pub returns-clause-set : goal.returns-clause-set
 returns-clause-set c v bare =
-    let short : length c.args.value.now ≤ 1022 = omega arith in
+    let short : length c.args.value.now ≤ v.limits.attribute =
+    subst (λ (l : Limits). length c.args.value.now ≤ l.attribute) (sym bare.limits) c.if-value-self.false in
     let are : c.set_attribute.new.attributes.items ≡ set_attribute c.args.kind c.args.value.now v.attributes =
     c.in_ok-set_attribute.ensures.set ∙ ap (set_attribute c.args.kind c.args.value.now) (sym bare.attributes) in
     let weighs : c.attributes_weight-weight.result ≡ attributes_weight (set_attribute c.args.kind c.args.value.now v.attributes) =
@@ -20,11 +22,12 @@ returns-clause-set c v bare =
       added.0,
       added.1,
       record {
-        built = added.3;
+        built = added.4;
         next = bare.next;
         above = bare.above;
         deepest = bare.deepest;
         closed = bare.closed;
+        limits = added.3 ∙ bare.limits;
         attributes = added.2 ∙ sym are;
         rise = c.set_attribute.ensures.rise bare.rise;
         weighed = bare_weighed (outlined added.0) _ bare.deepest
