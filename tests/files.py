@@ -174,10 +174,12 @@ def with_the_journal_of(before, after):
 
 
 def fail_in_turn(files, words, call, refusing):
-    """Each call of a name fails in turn in a run. What the run leaves is put back behind each."""
+    """Each call of a name fails in turn in a run, which ends with a fault, or is done as without it, where the call only kept a
+    descriptor free or waited for the folder's names. What the run leaves is put back behind each."""
     before = files.listing()
     status, said = files.run(words, b"contents")
-    between = with_the_journal_of(before, files.listing())
+    done = files.listing()
+    between = with_the_journal_of(before, done)
     files.check(f"{words} without a fault", status == 0, (status, said))
     files.put_back(before)
     at, is_hit = 0, True
@@ -187,9 +189,12 @@ def fail_in_turn(files, words, call, refusing):
         is_hit, left = refusing.was_hit(), files.listing()
         is_told = status == 4 and said[:1] in ([NOT_READ], [NOT_WRITTEN]) and len(said) == 2
         is_spared = left in (before, between if call in ("statx", "rename", "link") else before)
-        files.check(f"{call} {at} in {words}", is_told and is_spared if is_hit else status == 0, (status, said, [*left]))
+        is_done = status == 0 and not said and left == done and (not is_hit or call in ("open", "fsync"))
+        files.check(f"{call} {at} in {words}", is_told and is_spared if is_hit and not is_done else is_done, (status, said, [*left]))
         files.put_back(before)
     files.check(f"{call} in {words}", at > 1)
+    if call == "fsync":
+        files.check(f"files and folder that {words} wait for", at - 1 == (2 if words[0] == "forget" else 3), at - 1)
 
 
 def links_and_rights(files):
@@ -207,6 +212,71 @@ def links_and_rights(files):
     files.run(["format", "--block", "512", "--count", "8", "new.img"], preexec_fn=lambda: os.umask(0o027))
     made = files.folder / "new.img"
     files.check("a new image has the umask's rights", made.stat().st_mode & 0o777 == 0o640, oct(made.stat().st_mode))
+
+
+def owners(files):
+    """Who may give files away keeps the owner and the group of an image, and its journal gets them."""
+    if os.geteuid() != 0:
+        return
+    os.chown(files.image, NOBODY, NOBODY - 1)
+    files.image.chmod(0o640)
+    files.must(["mkdir", "--block", "512", "a.img", "/owned"])
+    for name in "a.img", "a.img.lfsj":
+        found = (files.folder / name).stat()
+        files.check(f"the owner of {name}", (found.st_uid, found.st_gid, found.st_mode & 0o777) == (NOBODY, NOBODY - 1, 0o640), found)
+
+
+def close(numbers):
+    """Closes standard files."""
+    for number in numbers:
+        os.close(number)
+
+
+def standard_files_that_are_closed(files):
+    """Standard input, output and error may be closed, each of them: no file of the program takes their place."""
+    put = ["put", "--block", "512", "a.img", "/x"]
+    said = "lfsed: standard input: it is closed"
+    files.refused("closed input", put, NOT_READ, said, preexec_fn=lambda: close([0]))
+    check = ["check", "--block", "512", "a.img"]
+    files.refused("closed output", check, NOT_WRITTEN, "lfsed: standard output: ", preexec_fn=lambda: close([1]))
+    for set_of in range(8):
+        closed = [number for number in range(3) if set_of >> number & 1]
+        status, _ = files.run(["mkdir", "--block", "512", "a.img", f"/closed{set_of}"], preexec_fn=lambda: close(closed))
+        files.check(f"a change without {closed}", status == 0, status)
+        status, _ = files.run(put, b"contents", preexec_fn=lambda: close(closed))
+        files.check(f"contents without {closed}", status == (4 if 0 in closed else 0), status)
+    printed = subprocess.run([files.program, "ls", "--block", "512", "a.img"], cwd=files.folder, stdout=subprocess.PIPE, text=True).stdout
+    files.check("what they left", all(f"/closed{set_of}\n" in printed for set_of in range(8)), printed)
+
+
+def images_that_are_new(files):
+    """With `--new` nothing is replaced that is there."""
+    words = ["--block", "512", "--count", "8", "--new"]
+    (files.folder / "gone.img").symlink_to("nowhere.img")
+    (files.folder / "full").mkdir()
+    for name in "a.img", "gone.img", "full":
+        there = f"lfsed: {name}: something is there already"
+        files.refused(f"a new image: {name}", ["format", *words, name], NOT_WRITTEN, there)
+        files.refused(f"a new image of a folder: {name}", ["pack", *words, name, "full"], NOT_WRITTEN, there)
+    for command in ["format", *words, "one.img"], ["pack", *words, "two.img", "full"]:
+        files.must(command)
+        files.refused(f"{command[-1]} again", command, NOT_WRITTEN, f"lfsed: {command[6]}: something is there already")
+
+
+def contents_of_a_file(files):
+    """`--from` reads the contents from a file, of which a second line tells where it can't be read."""
+    (files.folder / "some").write_bytes(b"some contents")
+    (files.folder / "room").mkdir()
+    put = ["put", "--block", "512", "a.img", "/from", "--from"]
+    files.must([*put, "some"], b"not these")
+    cat = [files.program, "cat", "--block", "512", "a.img", "/from"]
+    printed = subprocess.run(cat, cwd=files.folder, stdout=subprocess.PIPE).stdout
+    files.check("contents of a file", printed == b"some contents", printed)
+    files.refused("a file that isn't there", [*put, "none"], NOT_READ, "lfsed: none: No such file")
+    files.refused("a folder", [*put, "room"], NOT_READ, "lfsed: room: it is a folder")
+    files.must([*put, "/dev/stdin"], b"typed")
+    printed = subprocess.run(cat, cwd=files.folder, stdout=subprocess.PIPE).stdout
+    files.check("contents of a pipe", printed == b"typed", printed)
 
 
 def leftovers(files):
@@ -287,6 +357,10 @@ SCENES = (
     an_image_that_another_keeps,
     calls_that_fail,
     links_and_rights,
+    owners,
+    standard_files_that_are_closed,
+    images_that_are_new,
+    contents_of_a_file,
     leftovers,
     journals_that_are_no_files,
     disks_that_refuse,

@@ -1,5 +1,5 @@
 -- What a step is handed of a host, and which faults the host gives rise to (own).
-use Rattle.std.specs.Prelude.{ℕ, ◌≡◌, ◌⊎◌, List, [], Option}
+use Rattle.std.specs.Prelude.{ℕ, ◌≡◌, ◌⊎◌, List, [], Option, None, Some}
 use Rattle.lfs_book.specs.Book.{most_journal}
 use Rattle.lfs_fs.specs.Limits.{most_file}
 use Rattle.lfs_command.specs.declared.refusal.Refusal.TheVariants.{Memory}
@@ -32,9 +32,11 @@ HandsJournal Changes files name journal = FindsFile files (journal_name name) mo
 HandsJournal Recounts files name journal = FindsFile files (journal_name name) most_journal journal
 HandsJournal _ files name journal = journal ≡ []
 
--- what a step reads besides: standard input where a file is put, the file of an image that the first is compared with
+-- what a step reads besides: the contents of a file that is put, of a file of the host or on standard input; the file of an image
+-- that the first is compared with
 abbrev pub HandsInput : Step → Option Files → Option (List ℕ) → List ℕ → Type 0
-HandsInput (Put path) files typed input = ReadsInput typed most_file input
+HandsInput (Put path None) files typed input = ReadsInput typed most_file input
+HandsInput (Put path (Some name)) files typed input = ReadsFile files name.now most_file input
 HandsInput (Diff name) files typed input = ReadsFile files name.now most_image input
 HandsInput _ files typed input = input ≡ []
 

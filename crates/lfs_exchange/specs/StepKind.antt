@@ -6,8 +6,8 @@ use Rattle.lfs_step.specs.declared.step.Step.TheVariants.{Format, Pack, Check, L
 
 -- the kind of a step
 abbrev pub kind_of : Step → StepKind
-kind_of (Format count) = Makes
-kind_of (Pack count rows) = Makes
+kind_of (Format count limits) = Makes
+kind_of (Pack count limits rows) = Makes
 kind_of Check = Asks
 kind_of Ls = Asks
 kind_of (Cat path) = Asks

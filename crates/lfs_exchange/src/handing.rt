@@ -1,11 +1,11 @@
 //! What a step is handed of a host.
 
-ghost use Rattle.std.specs.Prelude.{◌≡◌, ◌⊎◌, IfErr, IfOk, string_bytes};
+ghost use Rattle.std.specs.Prelude.{◌≡◌, ◌⊎◌, IfErr, IfOk, OnOk, string_bytes, true};
 ghost use Rattle.lfs_book.specs.Book.{most_journal};
-ghost use Rattle.lfs_change.specs.declared.fault.Fault.TheVariants.{Other};
+ghost use Rattle.lfs_change.specs.declared.fault.Fault.TheVariants.{CannotWrite, Other};
 ghost use Rattle.lfs_change.specs.declared.other_fault.OtherFault.TheVariants as other;
 ghost use Rattle.lfs_fs.specs.Limits.{most_file};
-ghost use Rattle.lfs_host.specs.Files.{FindsFile, IsTarget, ReadsFile, ReadsInput};
+ghost use Rattle.lfs_host.specs.Files.{FindsFile, IsMissing, IsTarget, ReadsFile, ReadsInput};
 ghost use Rattle.lfs_host.specs.Scene.{HasRefused, KeepsAll, KeepsScene};
 ghost use Rattle.lfs_exchange.specs.Handing.{HandsImage, HandsInput, HandsJournal, IsHanded, IsNotAimed, IsNotHanded, IsNotLocked, IsOtherUnread, IsUnread, fault_at, fault_of_reading, most_image};
 ghost use Rattle.lfs_exchange.specs.Storing.{journal_name};
@@ -64,6 +64,21 @@ fn lock<H: Host>(host: &mut H, kind: StepKind, name: &str) -> Result<(), Fault>
         (Ok(Lock::HeldByAnother), _) | (Err(_), StepKind::Makes) => Err(Fault::CannotWrite),
         (Ok(Lock::NoFile), _) | (Err(_), _) => Err(Fault::CannotRead),
     }
+}
+
+/// Refuses a name under which something is, where an image is asked for that is new. Takes no memory.
+///
+/// Source: own.
+pub fn spare<H: Host>(host: &mut H, is_new: bool, name: &str) -> Result<(), Fault>
+    ensures missing { OnOk result (is_new ≡ true → IsMissing (H.known host.old).files name.now) }
+    ensures same { OnOk result (H.known host.new ≡ H.known host.old) }
+    ensures refused { IfErr result (λ fault. (is_new ≡ true) × (fault ≡ CannotWrite) × HasRefused (H.known host.new)) }
+    ensures kept { KeepsAll (H.known host.old) (H.known host.new) }
+{
+    if is_new && host.must_be_new(name).is_err() {
+        return Err(Fault::CannotWrite);
+    }
+    Ok(())
 }
 
 /// What a step is handed: the image's file before its journal, and that before what it reads besides.
@@ -149,9 +164,25 @@ fn input_of<H: Host>(alloc: Global, host: &mut H, step: &Step<'_>) -> Result<Vec
     ensures kept { KeepsScene (H.known host.old) (H.known host.new) }
 {
     match *step {
-        Step::Put { .. } => contents(alloc, host),
+        Step::Put { from: None, .. } => contents(alloc, host),
+        Step::Put {
+            from: Some(name),
+            ..
+        } => read_contents(alloc, host, name),
         Step::Diff { other } => read_other(alloc, host, other),
         _ => Ok(Vec::new(alloc)),
+    }
+}
+
+/// The contents of a file that is put: those of a file of the host.
+fn read_contents<H: Host>(alloc: Global, host: &mut H, name: &str) -> Result<Vec<u8>, Fault>
+    ensures input { IfOk result (λ input. ReadsFile (H.known host.old).files name.now most_file input.items) }
+    ensures refused { IfErr result (IsUnread (H.known host.new)) }
+    ensures kept { KeepsAll (H.known host.old) (H.known host.new) }
+{
+    match host.read_contents(alloc, name, u64::from(MOST_FILE)) {
+        Ok(bytes) => Ok(bytes),
+        Err(fault) => Err(fault_of_reading(fault)),
     }
 }
 

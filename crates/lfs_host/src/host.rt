@@ -1,8 +1,8 @@
 //! What the program needs of the system that it runs on.
 
-ghost use Rattle.std.specs.Prelude.{◌≡◌, ◌<◌, ◌≤◌, length, take, false, is_err, is_none, IfOk, IfSome, MatchOption, MatchResult, string_bytes};
+ghost use Rattle.std.specs.Prelude.{◌≡◌, ◌<◌, ◌≤◌, length, take, false, is_err, is_none, IfOk, IfSome, MatchOption, MatchResult, OnOk, string_bytes};
 ghost use Rattle.std.specs.Io.KnownBytes.{Appends, Keeps};
-ghost use Rattle.lfs_host.specs.Files.{FindsFile, IsLocked, IsTarget, KeepsOthers, ReadsFile, ReadsInput, Renames, Writes};
+ghost use Rattle.lfs_host.specs.Files.{FindsFile, IsLocked, IsMissing, IsTarget, KeepsOthers, ReadsFile, ReadsInput, Renames, Writes};
 ghost use Rattle.lfs_host.specs.Scene.{KeepsAll, KeepsFiles, KeepsText, Notes, lock_refused, reading_refused};
 
 use crate::folders::Folders;
@@ -30,6 +30,17 @@ pub trait Host: Folders + NewFolder {
         ensures noted { Notes (lock_refused result) (Self.known self.old) (Self.known self.new) }
         ensures kept { KeepsAll (Self.known self.old) (Self.known self.new) };
 
+    /// Refuses a name under which something is, a file or a link that leads nowhere.
+    fn must_be_new(&mut self, name: &str) -> Result<(), HostFault>
+        ensures missing { OnOk result (IsMissing (Self.known self.old).files name.now) }
+        ensures same { OnOk result (Self.known self.new ≡ Self.known self.old) }
+        ensures noted { Notes (is_err result) (Self.known self.old) (Self.known self.new) }
+        ensures kept { KeepsAll (Self.known self.old) (Self.known self.new) };
+
+    /// Whether the file of a name is, or would be, below a folder. Where that can't be known it counts as elsewhere.
+    fn is_below(&mut self, name: &str, folder: &str) -> bool
+        ensures kept { Self.known self.new ≡ Self.known self.old };
+
     /// The bytes of a file, `most` of them and one more at most.
     fn read(&mut self, alloc: Global, name: &str, most: u64) -> Result<Vec<u8>, ReadFault>
         ensures read { IfOk result (λ bytes. ReadsFile (Self.known self.old).files name.now most bytes.items) }
@@ -39,6 +50,12 @@ pub trait Host: Folders + NewFolder {
     /// The bytes of a file, `most` of them and one more at most; none where there is no such file.
     fn find(&mut self, alloc: Global, name: &str, most: u64) -> Result<Vec<u8>, ReadFault>
         ensures found { IfOk result (λ bytes. FindsFile (Self.known self.old).files name.now most bytes.items) }
+        ensures noted { Notes (reading_refused result) (Self.known self.old) (Self.known self.new) }
+        ensures kept { KeepsAll (Self.known self.old) (Self.known self.new) };
+
+    /// The bytes of a file whose contents are put, `most` of them and one more at most. It need not be a regular one.
+    fn read_contents(&mut self, alloc: Global, name: &str, most: u64) -> Result<Vec<u8>, ReadFault>
+        ensures read { IfOk result (λ bytes. ReadsFile (Self.known self.old).files name.now most bytes.items) }
         ensures noted { Notes (reading_refused result) (Self.known self.old) (Self.known self.new) }
         ensures kept { KeepsAll (Self.known self.old) (Self.known self.new) };
 
@@ -98,7 +115,7 @@ pub trait Host: Folders + NewFolder {
         ensures kept { Self.known self.new ≡ Self.known self.old };
 
     /// Writes a line to standard error: what was refused last, the image of this name, its journal, what is below a folder,
-    /// standard input or standard output, and what the system said. Nothing where it said nothing.
+    /// a file whose contents are put, standard input or standard output, and what the system said. Nothing where it said nothing.
     fn complain_of(&mut self, image: &str)
         ensures kept { Self.known self.new ≡ Self.known self.old };
 }

@@ -16,7 +16,7 @@ use crate::list_fault::ListFault;
 use crate::lock::Lock;
 use crate::made_entry::MadeEntry;
 use crate::memory_files::{MemoryFiles, move_file, put, take};
-use crate::memory_tree::{kind_of, names_in};
+use crate::memory_tree::{below, kind_of, names_in};
 use crate::new_folder::NewFolder;
 use crate::read_fault::ReadFault;
 use std::alloc::{AllocError, Global};
@@ -234,6 +234,18 @@ impl Host for MemoryHost {
         }
     }
 
+    fn must_be_new(&mut self, name: &str) -> Result<(), HostFault> {
+        if self.bytes(name).is_some() {
+            self.has_refused = true;
+            return Err(HostFault);
+        }
+        Ok(())
+    }
+
+    fn is_below(&mut self, name: &str, folder: &str) -> bool {
+        below(folder, name).is_some()
+    }
+
     fn read(&mut self, alloc: Global, name: &str, most: u64) -> Result<Vec<u8>, ReadFault> {
         match self.files.get(name) {
             Some(bytes) => {
@@ -253,6 +265,15 @@ impl Host for MemoryHost {
             }
             None => Ok(Vec::new(alloc)),
         }
+    }
+
+    fn read_contents(
+        &mut self,
+        alloc: Global,
+        name: &str,
+        most: u64,
+    ) -> Result<Vec<u8>, ReadFault> {
+        self.read(alloc, name, most)
     }
 
     fn input(&mut self, alloc: Global, most: u64) -> Result<Vec<u8>, ReadFault> {

@@ -13,7 +13,7 @@ use std::alloc::{AllocError, Global};
 use std::collections::BTreeSet;
 
 /// What a file's name has behind a folder's name and a slash, where the file is below the folder.
-fn below<'a>(folder: &str, file: &'a str) -> Option<&'a str>
+pub(crate) fn below<'a>(folder: &str, file: &'a str) -> Option<&'a str>
     ensures { option_map (λ rest. rest.now) result ≡ below folder.now file.now }
 {
     file.strip_prefix(folder)?.strip_prefix('/')

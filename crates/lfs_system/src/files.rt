@@ -1,8 +1,9 @@
 //! Files that runs of the program don't take from each other.
 
-use std::fs::{self, File, TryLockError};
+use crate::folders::parent;
+use std::fs::{self, File, Metadata, TryLockError};
 use std::io::{self, ErrorKind, Read, Write};
-use std::os::unix::fs::MetadataExt;
+use std::os::unix::fs::{MetadataExt, fchown};
 
 /// How often a file is tried for that other runs replace meanwhile.
 const MOST_TRIES: u32 = 1_000;
@@ -17,12 +18,39 @@ fn is_locked() -> io::Error {
     io::Error::new(ErrorKind::ResourceBusy, "another run is changing it")
 }
 
+/// What is said of a folder whose contents are asked for.
+fn is_folder() -> io::Error {
+    io::Error::new(ErrorKind::IsADirectory, "it is a folder")
+}
+
+/// What is said of a name that is taken.
+fn is_there() -> io::Error {
+    io::Error::new(ErrorKind::AlreadyExists, "something is there already")
+}
+
 /// A file that is read. Only a regular one is opened.
 pub fn opened(rt: &HostRuntime, name: &str) -> io::Result<File> {
     if !fs::metadata(rt, name)?.is_file() {
         return Err(is_no_file());
     }
     File::open(rt, name)
+}
+
+/// A file whose contents are put: anything but a folder.
+pub fn opened_contents(rt: &HostRuntime, name: &str) -> io::Result<File> {
+    if fs::metadata(rt, name)?.is_dir() {
+        return Err(is_folder());
+    }
+    File::open(rt, name)
+}
+
+/// Refuses a name under which something is, if it were a link that leads nowhere.
+pub fn must_be_new(rt: &HostRuntime, name: &str) -> io::Result<()> {
+    match fs::symlink_metadata(rt, name) {
+        Ok(_) => Err(is_there()),
+        Err(error) if error.kind() == ErrorKind::NotFound => Ok(()),
+        Err(error) => Err(error),
+    }
 }
 
 /// A file that is read, but for one that a link leads to.
@@ -112,10 +140,26 @@ fn created(rt: &HostRuntime, name: &str) -> io::Result<File> {
     Err(is_locked())
 }
 
-/// Fills a new file, with the rights of the file `like` where there is one, and waits until the disk has it.
+/// Gives a file the owner and the group that another one has, or the group alone, as far as the system lets this user.
+fn give_owner(file: &File, old: &Metadata) -> io::Result<()> {
+    let made = file.metadata()?;
+    if made.uid() == old.uid() && made.gid() == old.gid() {
+        return Ok(());
+    }
+    if fchown(file, Some(old.uid()), Some(old.gid())).is_err() {
+        let _ = fchown(file, None, Some(old.gid()));
+    }
+    Ok(())
+}
+
+/// Fills a new file, with owner, group and rights of the file `like` where there is one, and waits until the disk has it. The rights
+/// come behind the owner, since a change of that takes some of them away.
 fn fill(rt: &HostRuntime, file: &mut File, bytes: &[u8], like: &str) -> io::Result<()> {
     match fs::metadata(rt, like) {
-        Ok(old) => file.set_permissions(old.permissions())?,
+        Ok(old) => {
+            give_owner(file, &old)?;
+            file.set_permissions(old.permissions())?;
+        }
         Err(error) if error.kind() == ErrorKind::NotFound => {}
         Err(error) => return Err(error),
     }
@@ -132,6 +176,14 @@ pub fn written(rt: &HostRuntime, name: &str, bytes: &[u8], like: &str) -> io::Re
             let _ = fs::remove_file(rt, name);
             Err(error)
         }
+    }
+}
+
+/// Waits until the disk has the names of the folder that a name stands in, where the system can say so: behind the renames, which are
+/// done by then.
+pub fn sync_folder(rt: &HostRuntime, name: &str) {
+    if let Ok(folder) = File::open(rt, parent(name)) {
+        let _ = folder.sync_all();
     }
 }
 

@@ -25,6 +25,25 @@ pub fn names_in(rt: &HostRuntime, alloc: Global, folder: &str) -> io::Result<Vec
     Ok(names)
 }
 
+/// The name of the folder that a name stands in.
+pub fn parent(name: &str) -> &str {
+    match name.rsplit_once('/') {
+        Some(("", _)) => "/",
+        Some((folder, _)) => folder,
+        None => ".",
+    }
+}
+
+/// Whether the file of a name is, or would be, below a folder.
+pub fn is_below(rt: &HostRuntime, name: &str, folder: &str) -> io::Result<bool> {
+    let above = fs::canonicalize(rt, folder)?.into_string();
+    let own = fs::canonicalize(rt, parent(name))?.into_string();
+    Ok(match own.strip_prefix(above.as_str()) {
+        Some(rest) => rest.is_empty() || rest.starts_with('/') || above.as_str() == "/",
+        None => false,
+    })
+}
+
 /// What is said of something that is neither a file nor a folder.
 pub fn is_other() -> io::Error {
     io::Error::new(

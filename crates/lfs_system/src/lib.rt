@@ -3,6 +3,7 @@
 
 mod files;
 mod folders;
+mod standard;
 mod terminal;
 mod waiting;
 

@@ -1,7 +1,11 @@
 //! The system as a host.
 
-use crate::files::{locked, name_anew, opened, opened_entry, replace, settle, written};
-use crate::folders::{is_other, kind_of, names_in};
+use crate::files::{
+    locked, must_be_new, name_anew, opened, opened_contents, opened_entry, replace, settle,
+    sync_folder, written,
+};
+use crate::folders::{is_below, is_other, kind_of, names_in};
+use crate::standard::{Closed, is_closed};
 use crate::waiting::{write_later, write_rest};
 use lfs_block::MAX_IMAGE_LENGTH;
 use lfs_host::{Folders, Host, HostFault, HostKind, Known, ListFault, Lock, NewFolder, ReadFault};
@@ -34,11 +38,15 @@ enum Subject {
 #[derive(Drop)]
 pub struct Terminal<'a> {
     rt: &'a HostRuntime,
+    /// What stands in the place of a standard file that is closed.
+    closed: Closed,
     out: Out<Printer<'a, HostRuntime>>,
     /// The image's file, whose lock this run holds.
     image: Option<File>,
     /// The first new file, whose lock this run holds: as long as it is there, no other run makes new files of the same image.
     new_file: Option<File>,
+    /// Whether a new image is written, and has no place yet.
+    image_waits: bool,
     /// The file that is being made in a new folder.
     making: Option<File>,
     /// What waits to be written to it.
@@ -52,13 +60,15 @@ pub struct Terminal<'a> {
 }
 
 impl<'a> Terminal<'a> {
-    /// The host that the runtime stands for. Takes no memory.
+    /// The host that the runtime stands for. No file of the program is open yet. Takes no memory.
     pub fn new(rt: &'a HostRuntime) -> Terminal<'a> {
         Terminal {
             rt,
+            closed: Closed::new(rt),
             out: Out::new(io::writer(rt)),
             image: None,
             new_file: None,
+            image_waits: false,
             making: None,
             waiting: Vec::new(rt.alloc()),
             said: None,
@@ -149,6 +159,20 @@ fn bytes_of(alloc: Global, file: File, most: u64) -> io::Result<Vec<u8>> {
 /// The bytes of the file that a name leads to, `most` of them and one more at most.
 fn read_bytes(rt: &HostRuntime, alloc: Global, name: &str, most: u64) -> io::Result<Vec<u8>> {
     bytes_of(alloc, opened(rt, name)?, most)
+}
+
+/// The bytes of a file whose contents are put, `most` of them and one more at most.
+fn contents_of(rt: &HostRuntime, alloc: Global, name: &str, most: u64) -> io::Result<Vec<u8>> {
+    bytes_of(alloc, opened_contents(rt, name)?, most)
+}
+
+/// The bytes of standard input, `most` of them and one more at most.
+fn input_of(rt: &HostRuntime, alloc: Global, most: u64) -> io::Result<Vec<u8>> {
+    let mut bytes = Vec::new(alloc);
+    rt.reader()
+        .take(most.saturating_add(1))
+        .read_to_end(&mut bytes)?;
+    Ok(bytes)
 }
 
 /// The bytes of a file in a folder, `most` of them and one more at most.
@@ -257,6 +281,14 @@ impl Host for Terminal<'_> {
         }
     }
 
+    fn must_be_new(&mut self, name: &str) -> Result<(), HostFault> {
+        must_be_new(self.rt, name).map_err(|error| self.refused(error))
+    }
+
+    fn is_below(&mut self, name: &str, folder: &str) -> bool {
+        is_below(self.rt, name, folder).unwrap_or(false)
+    }
+
     fn read(&mut self, alloc: Global, name: &str, most: u64) -> Result<Vec<u8>, ReadFault> {
         read_bytes(self.rt, alloc, name, most).map_err(|error| self.read_fault(error))
     }
@@ -272,26 +304,32 @@ impl Host for Terminal<'_> {
         }
     }
 
+    fn read_contents(
+        &mut self,
+        alloc: Global,
+        name: &str,
+        most: u64,
+    ) -> Result<Vec<u8>, ReadFault> {
+        contents_of(self.rt, alloc, name, most).map_err(|error| self.entry_fault(name, error))
+    }
+
     fn input(&mut self, alloc: Global, most: u64) -> Result<Vec<u8>, ReadFault> {
-        let mut bytes = Vec::new(alloc);
-        match self
-            .rt
-            .reader()
-            .take(most.saturating_add(1))
-            .read_to_end(&mut bytes)
-        {
-            Ok(_) => Ok(bytes),
-            Err(error) => {
-                self.subject = Subject::Input;
-                Err(self.read_fault(error))
-            }
-        }
+        let read = if self.closed.is_input() {
+            Err(is_closed())
+        } else {
+            input_of(self.rt, alloc, most)
+        };
+        read.map_err(|error| {
+            self.subject = Subject::Input;
+            self.read_fault(error)
+        })
     }
 
     fn write(&mut self, name: &str, bytes: &[u8], like: &str) -> Result<(), HostFault> {
         self.subject = subject_of(name, like);
         match written(self.rt, name, bytes, like) {
             Ok(file) => {
+                self.image_waits = self.image_waits || matches!(self.subject, Subject::Image);
                 self.new_file.get_or_insert(file);
                 Ok(())
             }
@@ -305,12 +343,18 @@ impl Host for Terminal<'_> {
             Some(_) => replace(self.rt, from, to),
             None => name_anew(self.rt, from, to),
         };
-        renamed.map_err(|error| self.refused(error))
+        renamed.map_err(|error| self.refused(error))?;
+        sync_folder(self.rt, to);
+        Ok(())
     }
 
     fn settle(&mut self, from: &str, to: &str) -> Result<(), HostFault> {
         self.subject = Subject::Journal;
-        settle(self.rt, from, to).map_err(|error| self.refused(error))
+        settle(self.rt, from, to).map_err(|error| self.refused(error))?;
+        if !self.image_waits {
+            sync_folder(self.rt, to);
+        }
+        Ok(())
     }
 
     fn remove(&mut self, name: &str) {
