@@ -1,0 +1,8 @@
+//! Commits of later disk versions, which a reader of version 2.0 passes over: the look at the first pair of an image.
+#![tactic(auto)]
+
+mod block;
+mod commit;
+mod version;
+
+pub use version::later_version;
