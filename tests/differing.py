@@ -101,9 +101,9 @@ def refused(folder):
     good = image(512, 8, {0: log(1, superblock(512, 8))})
     small = image(256, 16, {0: log(1, superblock(256, 16))})
     refusals = [
-        (good[:-1], good, "lfsed: 1 ImageLength\nlfsed: a.img: this image is refused\n"),
-        (good, good[:-1], "lfsed: 1 ImageLength\nlfsed: b.img: this image is refused\n"),
-        (good[:-1], small[:-1], "lfsed: 1 ImageLength\nlfsed: a.img: this image is refused\n"),
+        (good[:-1], good, "lfsed: 1 ImageLength\nlfsed: a.img: its first block states 8 blocks of 512 bytes\n"),
+        (good, good[:-1], "lfsed: 1 ImageLength\nlfsed: b.img: its first block states 8 blocks of 512 bytes\n"),
+        (good[:-1], small[:-1], "lfsed: 1 ImageLength\nlfsed: a.img: its first block states 8 blocks of 512 bytes\n"),
         (bytes(4_096), good, "lfsed: 3 NoValidCommit\nlfsed: a.img: this image is refused\n"),
         (good, bytes(4_096), "lfsed: 3 NoValidCommit\nlfsed: b.img: this image is refused\n"),
         (bytes(4_096), bytes(4_096), "lfsed: 3 NoValidCommit\nlfsed: a.img: this image is refused\n"),

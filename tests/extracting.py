@@ -23,7 +23,7 @@ def is_extracted(folder, what, size, wanted):
     folder.check(f"{what}: contents", found == wanted, [*found][:9])
     folder.check(f"{what}: image", (folder.old(), folder.saved()) == before)
     again = folder.run(f"extract -b {size} a.img made")
-    folder.check(f"{what}: again", again == (4, "lfsed: 62 HostEntry\n", b"") and holds(place) == found, again)
+    folder.check(f"{what}: again", again == (4, "lfsed: 62 HostEntry\nlfsed: made: is there already\n", b"") and holds(place) == found, again)
 
 
 def is_refused(folder, what, status, complaint, words="extract -b 512 a.img made", **how):
@@ -66,7 +66,7 @@ def what_is_refused(folder):
         else:
             place.symlink_to("missing")
         second = "lfsed: link: neither a regular file nor a folder\n" if there == "link" else ""
-        is_refused(folder, f"a {there}", 4, f"lfsed: 62 HostEntry\n{second}", f"extract -b 512 a.img {there}")
+        is_refused(folder, f"a {there}", 4, f"lfsed: 62 HostEntry\n{second}lfsed: {there}: is there already\n", f"extract -b 512 a.img {there}")
     folder.check("the file is kept", folder.image.with_name("file").read_bytes() == b"kept")
 
 

@@ -5,7 +5,7 @@ import re
 import struct
 import sys
 
-from support.folder import run_scenes
+from support.folder import is_told, run_scenes
 from support.logs import (
     DELETED, Draft, HARD, NO_ENTRY, SOFT, attribute, chained, created, deleted, directory, file, image, log, moved, superblock, tail,
 )
@@ -175,7 +175,8 @@ def images_that_mount(folder):
 def is_refused(folder, what, size, complaint):
     """Compares what is complained of the folder's image."""
     ended = folder.run(f"check -b {size} a.img")
-    folder.check(what, ended == (3, f"lfsed: {complaint}\n", b""), ended)
+    is_right = (ended[0], ended[2]) == (3, b"") and is_told(ended[1], f"lfsed: {complaint}\n")
+    folder.check(what, is_right, ended)
 
 
 def images_that_do_not_mount(folder):

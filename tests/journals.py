@@ -5,7 +5,7 @@ import pathlib
 import sys
 import tempfile
 
-from support.folder import run_scenes
+from support.folder import is_told, run_scenes
 from support.journal import in_first_version, journal as journal_of, read, word
 from support.refusing import Refusing
 
@@ -59,7 +59,8 @@ class Journal:
         """Runs words that are refused, and compares both files with what they were."""
         before = self.folder.old(), self.now()
         ended = self.ended(words)
-        self.folder.check(f"{words}: {what}", ended == (status, complaint, b""), ended)
+        is_right = (ended[0], ended[2]) == (status, b"") and is_told(ended[1], complaint)
+        self.folder.check(f"{words}: {what}", is_right, ended)
         self.folder.check(f"{words}: {what}: files", (self.folder.old(), self.now()) == before)
 
     def is_image(self, what, wanted):

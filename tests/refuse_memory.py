@@ -40,13 +40,15 @@ class Runs:
         return ended.returncode, ended.stdout, ended.stderr, after
 
     def row(self, words, state, contents=b""):
-        """Refuses each request of a run in turn; answers the files that the run leaves with ample memory."""
+        """Refuses each request of a run in turn; answers the files that the run leaves with ample memory. A refused run may leave out
+        the lines behind that of its fault, where there is no memory to find out what they say."""
         ample = self.run(words, state, contents, 0)
+        fault = (*ample[:2], ample[2][: ample[2].find(b"\n") + 1], ample[3])
         at, memory, is_right = 0, 0, True
         while at == 0 or self.refusing.was_hit():
             at += 1
             status, printed, complained, after = ended = self.run(words, state, contents, at)
-            if ended == ample:
+            if ended in (ample, fault):
                 continue
             memory += 1
             if (status, complained, after) != (4, b"lfsed: 44 Memory\n", state) or not ample[1].startswith(printed):

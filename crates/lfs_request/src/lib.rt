@@ -2,9 +2,11 @@
 #![tactic(auto)]
 
 mod digits;
+mod extent;
 mod request;
 mod task;
 
 pub use digits::{byte_of, bytes_of};
+pub use extent::Extent;
 pub use request::Request;
 pub use task::Task;

@@ -13,6 +13,10 @@ pub struct Request<'a> {
     pub size: u32,
     /// How many images of the past are kept behind a command, 1 to 1,000; all of them for `None`. Nothing else looks at it.
     pub keep: Option<u32>,
+    /// Whether a file that is there is not replaced by a new image.
+    pub is_new: bool,
+    /// Whether an image is refused in which a commit of a later disk version stands.
+    pub is_strict: bool,
     /// The image's file name.
     pub image: &'a str,
 }

@@ -1,5 +1,7 @@
 //! What is asked for on an image.
 
+use crate::extent::Extent;
+use lfs_fs::Limits;
 use lfs_step::Step;
 
 /// What is asked for on an image: a step, where the words say all of it; else what becomes one once digits or a folder of
@@ -10,10 +12,12 @@ use lfs_step::Step;
 pub enum Task<'a> {
     /// A step.
     Step(Step<'a>),
-    /// A new image of this many blocks, with what is below a folder of the host.
+    /// A new image with what is below a folder of the host.
     Pack {
-        /// The number of blocks.
-        count: u32,
+        /// How many blocks it gets.
+        extent: Extent,
+        /// The greatest lengths of a name, a file and an attribute.
+        limits: Limits,
         /// The folder's name.
         dir: &'a str,
     },

@@ -1,10 +1,11 @@
 -- Where lists of requests lead.
-use Rattle.std.proofs.Common.{◌≡◌, ◌⊎◌, ◌<◌, ◌≤◌, ◌+◌, ℕ, Bor, List, [], ◌∷◌, ◌++◌, Option, Some, None, length, refl, sym, ap, subst, ◌∙◌, arith, inl, inr, length-append}
+use Rattle.std.proofs.Common.{◌≡◌, ◌⊎◌, ◌<◌, ◌≤◌, ◌+◌, ℕ, Bor, Bool, List, [], ◌∷◌, ◌++◌, Option, Some, None, length, refl, sym, ap, subst, ◌∙◌, arith, inl, inr, length-append}
 use Rattle.std.specs.Prelude.{codes, map}
 use Rattle.std.proofs.lemmas.List.{take_all}
 use Rattle.lfs_block.specs.Disk.{Disk, IsDisk}
 use Rattle.lfs_book.specs.Book.{most_journal}
 use Rattle.lfs_book.specs.Laws.{JournalsAreShort}
+use Rattle.lfs_fs.specs.declared.limits.Limits.{Limits}
 use Rattle.lfs_command.specs.declared.refusal.Refusal.{Refusal}
 use Rattle.lfs_history.specs.History.{History, IsMounted, fresh_history}
 use Rattle.lfs_history.specs.Taking.{Move, Do, Undo, Redo, Forget}
@@ -36,7 +37,7 @@ use Rattle.lfs_exchange.specs.StepKind.{kind_of}
 use Rattle.lfs_exchange.specs.Storing.{HasBoth, LeavesFiles, SparesFiles, journal_name, new_name, new_names}
 use Rattle.lfs_host.specs.Files.{Apart, BeginsWith, Files, FindsFile, HasReplaced, ReadsFile, bytes_there}
 use Rattle.lfs_host.specs.HostTree.{HostTree}
-use Rattle.lfs_host.specs.Scene.{Scene}
+use Rattle.lfs_host.specs.Scene.{KeepsScene, Scene}
 use Rattle.lfs_request.specs.declared.task.Task.{Task}
 use Rattle.lfs_request.specs.declared.task.Task.TheVariants as task
 use Rattle.lfs_serve.specs.HostFolder.{packed_of}
@@ -211,31 +212,31 @@ forgets laws size keep name typed old new h b outcome denotes image none input a
     }
 
 -- a new image
-makes : Laws → (count : ℕ) (s : Step) (size : ℕ) (keep : Option ℕ) (name : List ℕ) (typed : Option (List ℕ)) (old new : Files) (h : History) (b : HandedBytes)
-    (outcome : Outcome) → deed_of s b.input keep ≡ Make count → HandsInput s (Some old) typed b.input
-    → AnswersDone (Make count) (given size b.image b.journal) outcome → HasBoth name outcome.image.items outcome.journal.items old new
+makes : Laws → (count : ℕ) (limits : Limits) (s : Step) (size : ℕ) (keep : Option ℕ) (name : List ℕ) (typed : Option (List ℕ)) (old new : Files) (h : History) (b : HandedBytes)
+    (outcome : Outcome) → deed_of s b.input keep ≡ Make count limits → HandsInput s (Some old) typed b.input
+    → AnswersDone (Make count limits) (given size b.image b.journal) outcome → HasBoth name outcome.image.items outcome.journal.items old new
     → StepLeads size keep name s (Some old) typed new h
-makes laws count s size keep name typed old new h b outcome is input answers both =
+makes laws count limits s size keep name typed old new h b outcome is input answers both =
     let next = fresh_history (image_of size outcome.image.items) in
-    let goes : GoesOn size (Make count) h next = (refl, answers.0) in
+    let goes : GoesOn size (Make count limits) h next = (refl, answers.0) in
     record {
       next = next;
       goes = (b.input, input, subst (λ (d : Deed). GoesOn size d h next) (sym is) goes);
-      denotes = written size name old new outcome next both (laws.leaves (Make count) (given size b.image b.journal) outcome answers);
+      denotes = written size name old new outcome next both (laws.leaves (Make count limits) (given size b.image b.journal) outcome answers);
     }
 
-packs : Laws → (count : ℕ) (rows : List PackRow) (s : Step) (size : ℕ) (keep : Option ℕ) (name : List ℕ) (typed : Option (List ℕ))
-    (old new : Files) (h : History) (b : HandedBytes) (outcome : Outcome) → HasGoodRows (Pack count rows) → deed_of s b.input keep ≡ Pack count rows → HandsInput s (Some old) typed b.input
-    → AnswersDone (Pack count rows) (given size b.image b.journal) outcome → HasBoth name outcome.image.items outcome.journal.items old new
+packs : Laws → (count : ℕ) (limits : Limits) (rows : List PackRow) (s : Step) (size : ℕ) (keep : Option ℕ) (name : List ℕ) (typed : Option (List ℕ))
+    (old new : Files) (h : History) (b : HandedBytes) (outcome : Outcome) → HasGoodRows (Pack count limits rows) → deed_of s b.input keep ≡ Pack count limits rows → HandsInput s (Some old) typed b.input
+    → AnswersDone (Pack count limits rows) (given size b.image b.journal) outcome → HasBoth name outcome.image.items outcome.journal.items old new
     → StepLeads size keep name s (Some old) typed new h
-packs laws count rows s size keep name typed old new h b outcome (packed, are) is input answers both =
+packs laws count limits rows s size keep name typed old new h b outcome (packed, are) is input answers both =
     let next = fresh_history (image_of size outcome.image.items) in
-    let goes : GoesOn size (Pack count rows) h next = (refl, answers.0) in
+    let goes : GoesOn size (Pack count limits rows) h next = (refl, answers.0) in
     record {
       next = next;
       goes = (b.input, input, subst (λ (d : Deed). GoesOn size d h next) (sym is) goes);
       denotes = written size name old new outcome next both
-          (laws.leaves (Pack count rows) (given size b.image b.journal) outcome answers packed are);
+          (laws.leaves (Pack count limits rows) (given size b.image b.journal) outcome answers packed are);
     }
 
 -- a host of which the same is known, whose files are these
@@ -247,10 +248,10 @@ done_leads : Laws → (s : Step) (size : ℕ) (keep : Option ℕ) (name : List �
     → HasGoodRows (deed_of s [] None) → FilesDenote size name old h → IsHanded s name (with_files scene old) b
     → AnswersDone (deed_of s b.input keep) (given size b.image b.journal) outcome → LeavesFiles (kind_of s) (Some old) (Some new) name outcome
     → StepLeads size keep name s (Some old) scene.typed new h
-done_leads laws (step.Format count) size keep name scene old new h b outcome good denotes handed answers leaves =
-    makes laws count (step.Format count) size keep name scene.typed old new h b outcome refl handed.input answers leaves
-done_leads laws (step.Pack count rows) size keep name scene old new h b outcome good denotes handed answers leaves =
-    packs laws count rows.now (step.Pack count rows) size keep name scene.typed old new h b outcome good refl handed.input answers leaves
+done_leads laws (step.Format count limits) size keep name scene old new h b outcome good denotes handed answers leaves =
+    makes laws count limits (step.Format count limits) size keep name scene.typed old new h b outcome refl handed.input answers leaves
+done_leads laws (step.Pack count limits rows) size keep name scene old new h b outcome good denotes handed answers leaves =
+    packs laws count limits rows.now (step.Pack count limits rows) size keep name scene.typed old new h b outcome good refl handed.input answers leaves
 done_leads laws step.Check size keep name scene old new h b outcome good denotes handed answers leaves =
     asks (Ask query.Check) step.Check size keep name scene.typed old new h b refl refl denotes handed.input leaves
 done_leads laws step.Ls size keep name scene old new h b outcome good denotes handed answers leaves =
@@ -264,8 +265,8 @@ done_leads laws step.Log size keep name scene old new h b outcome good denotes h
 done_leads laws (step.Mkdir path) size keep name scene old new h b outcome good denotes handed answers leaves =
     changes laws (Do (asked.Mkdir path.now) keep) (step.Mkdir path) size keep name scene.typed old new h b outcome refl denotes handed.image
     handed.journal handed.input answers leaves
-done_leads laws (step.Put path) size keep name scene old new h b outcome good denotes handed answers leaves =
-    changes laws (Do (asked.Put path.now b.input) keep) (step.Put path) size keep name scene.typed old new h b outcome refl denotes handed.image
+done_leads laws (step.Put path from) size keep name scene old new h b outcome good denotes handed answers leaves =
+    changes laws (Do (asked.Put path.now b.input) keep) (step.Put path from) size keep name scene.typed old new h b outcome refl denotes handed.image
     handed.journal handed.input answers leaves
 done_leads laws (step.Rm path) size keep name scene old new h b outcome good denotes handed answers leaves =
     changes laws (Do (asked.Rm path.now) keep) (step.Rm path) size keep name scene.typed old new h b outcome refl denotes handed.image
@@ -292,10 +293,10 @@ done_leads laws step.Forget size keep name scene old new h b outcome good denote
     forgets laws size keep name scene.typed old new h b outcome denotes handed.image handed.journal handed.input answers leaves
 
 -- a step that was done
-step_leads : Laws → (s : Step) (size : ℕ) (keep : Option ℕ) (name : List ℕ) (scene behind : Scene) (old new : Files) (h : History) → HasGoodRows (deed_of s [] None)
-    → scene.files ≡ Some old → behind.files ≡ Some new → FilesDenote size name old h → EndsStep s size keep name scene behind None
+step_leads : Laws → (s : Step) (strict : Bool) (size : ℕ) (keep : Option ℕ) (name : List ℕ) (scene behind : Scene) (old new : Files) (h : History) → HasGoodRows (deed_of s [] None)
+    → scene.files ≡ Some old → behind.files ≡ Some new → FilesDenote size name old h → EndsStep s strict size keep name scene behind None
     → StepLeads size keep name s scene.files scene.typed new h
-step_leads laws s size keep name scene behind old new h good before later denotes (outcome, (b, handed, (answers, none, sends), blamed), leaves) =
+step_leads laws s strict size keep name scene behind old new h good before later denotes (outcome, (b, handed, unrefused, (answers, none, sends), blamed), leaves) =
     let at : IsHanded s name (with_files scene old) b = handed_from s name scene (with_files scene old) b before refl handed in
     let done = subst (λ (f : Option Fault). AnswersBy f (deed_of s b.input keep) (given size b.image b.journal) outcome) none answers in
     let left : LeavesFiles (kind_of s) (Some old) (Some new) name outcome =
@@ -330,14 +331,14 @@ spared _ Makes size name old new h outcome denotes (inr torn) = inr (torn.others
 spared _ Changes size name old new h outcome denotes (inr torn) = inr (torn.others name (image_not_journal name, image_apart name))
 
 -- the files denote the history still, or the host tore them apart
-stop_leaves : (s : Step) (size : ℕ) (keep : Option ℕ) (name : List ℕ) (scene behind : Scene) (fault : Fault) (old new : Files) (h : History)
-    → scene.files ≡ Some old → behind.files ≡ Some new → FilesDenote size name old h → StopsStep s size keep name scene behind fault
+stop_leaves : (s : Step) (strict : Bool) (size : ℕ) (keep : Option ℕ) (name : List ℕ) (scene behind : Scene) (fault : Fault) (old new : Files) (h : History)
+    → scene.files ≡ Some old → behind.files ≡ Some new → FilesDenote size name old h → StopsStep s strict size keep name scene behind fault
     → FilesDenote size name new h ⊎ ((status_of (Some fault) ≡ 4) × (new name ≡ old name))
-stop_leaves s size keep name scene behind fault old new h before later denotes (inl (outcome, runs, same)) =
+stop_leaves s strict size keep name scene behind fault old new h before later denotes (inl (outcome, runs, same)) =
     inl (same_files size name old new h (sym later ∙ same ∙ before) denotes)
-stop_leaves s size keep name scene behind fault old new h before later denotes (inr (inl (not_aimed, keeps))) =
+stop_leaves s strict size keep name scene behind fault old new h before later denotes (inr (inl (not_run, keeps))) =
     inl (same_files size name old new h (sym later ∙ keeps.0 ∙ before) denotes)
-stop_leaves s size keep name scene behind fault old new h before later denotes (inr (inr (of_host, (outcome, runs, spares)))) =
+stop_leaves s strict size keep name scene behind fault old new h before later denotes (inr (inr (of_host, (outcome, runs, spares)))) =
     let left : SparesFiles fault (kind_of s) (Some old) (Some new) name outcome =
     subst (λ (f : Option Files). SparesFiles fault (kind_of s) (Some old) f name outcome) later
     (subst (λ (f : Option Files). SparesFiles fault (kind_of s) f behind.files name outcome) before spares) in
@@ -350,9 +351,9 @@ stop_leaves s size keep name scene behind fault old new h before later denotes (
 
 -- rows of a folder are good, and no other step has any
 good_step : (t : Task) (tree : Option HostTree) (s : Step) → BecomesStep t tree s → HasGoodRows (deed_of s [] None)
-good_step (task.Pack n dir) tree (step.Pack count packed) (rows, folder, asks) =
-    (map packed_of folder.shown, subst (λ (rs : List PackRow). AreRowsOf rs (map packed_of folder.shown)) (sym asks.1) folder.packed)
-good_step (task.Pack n dir) tree _ (rows, folder, asks) = absurd asks
+good_step (task.Pack extent limits dir) tree (step.Pack count stated packed) (rows, folder, asks) =
+    (map packed_of folder.shown, subst (λ (rs : List PackRow). AreRowsOf rs (map packed_of folder.shown)) (sym asks.2) folder.packed)
+good_step (task.Pack extent limits dir) tree _ (rows, folder, asks) = absurd asks
 good_step (task.SetAttr path kind value) tree (step.SetAttr at of to) becomes = tt
 good_step (task.SetAttr path kind value) tree _ (rows, folder, asks) = absurd asks
 good_step (task.RmAttr path kind) tree (step.RmAttr at of) becomes = tt
@@ -375,44 +376,50 @@ extracted : (fault : Option Fault) (size : ℕ) (keep : Option ℕ) (dir : Bor (
 extracted None size keep dir scene h = refl
 extracted (Some fault) size keep dir scene h = refl
 
+-- the name of an image that is to be new is taken: nothing is done
+name_taken : (fault : Option Fault) (size : ℕ) (keep : Option ℕ) (name : List ℕ) (t : Task) (scene : Scene) (old new : Files) (h : History)
+    → fault ≡ Some CannotWrite → FilesDenote size name new h → Ends size keep name t scene fault old new h
+name_taken fault size keep name t scene old new h is denotes =
+    subst (λ (f : Option Fault). Ends size keep name t scene f old new h) (sym is) (Stored_directory h refl denotes)
+
 -- a task whose words say all of it
-step_ends : Laws → (fault : Option Fault) (s : Step) (size : ℕ) (keep : Option ℕ) (name : List ℕ) (scene behind : Scene) (old new : Files) (h : History)
+step_ends : Laws → (fault : Option Fault) (s : Step) (strict : Bool) (size : ℕ) (keep : Option ℕ) (name : List ℕ) (scene behind : Scene) (old new : Files) (h : History)
     → HasGoodRows (deed_of s [] None) → scene.files ≡ Some old → behind.files ≡ Some new → FilesDenote size name old h
-    → EndsStep s size keep name scene behind fault → Ends size keep name (task.Step s) scene fault old new h
-step_ends laws None s size keep name scene behind old new h good before later denotes ends =
-    let leads = step_leads laws s size keep name scene behind old new h good before later denotes ends in
+    → EndsStep s strict size keep name scene behind fault → Ends size keep name (task.Step s) scene fault old new h
+step_ends laws None s strict size keep name scene behind old new h good before later denotes ends =
+    let leads = step_leads laws s strict size keep name scene behind old new h good before later denotes ends in
     Stored_directory leads.next leads.goes leads.denotes
-step_ends laws (Some fault) s size keep name scene behind old new h good before later denotes ends =
-    stopped size keep name (task.Step s) scene fault old new h (stop_leaves s size keep name scene behind fault old new h before later denotes ends)
+step_ends laws (Some fault) s strict size keep name scene behind old new h good before later denotes ends =
+    stopped size keep name (task.Step s) scene fault old new h (stop_leaves s strict size keep name scene behind fault old new h before later denotes ends)
 
 -- a task for which something is read first
-reading_ends : Laws → (fault : Option Fault) (t : Task) (size : ℕ) (keep : Option ℕ) (name : List ℕ) (scene behind : Scene) (old new : Files) (h : History)
+reading_ends : Laws → (fault : Option Fault) (t : Task) (strict : Bool) (size : ℕ) (keep : Option ℕ) (name : List ℕ) (scene behind : Scene) (old new : Files) (h : History)
     → ((next : History) → (s : Step) × BecomesStep t scene.tree s × StepGoes size keep s scene.files scene.typed h next → TaskGoes size keep t scene h next)
-    → scene.files ≡ Some old → behind.files ≡ Some new → FilesDenote size name old h → EndsReading t size keep name scene behind fault
+    → scene.files ≡ Some old → behind.files ≡ Some new → FilesDenote size name old h → EndsReading t strict size keep name scene behind fault
     → Ends size keep name t scene fault old new h
-reading_ends laws None t size keep name scene behind old new h turn before later denotes (inl (s, becomes, ends)) =
-    let leads = step_leads laws s size keep name scene behind old new h (good_step t scene.tree s becomes) before later denotes ends in
+reading_ends laws None t strict size keep name scene behind old new h turn before later denotes (inl (s, becomes, ends)) =
+    let leads = step_leads laws s strict size keep name scene behind old new h (good_step t scene.tree s becomes) before later denotes ends in
     Stored_directory leads.next (turn leads.next (s, becomes, leads.goes)) leads.denotes
-reading_ends laws None t size keep name scene behind old new h turn before later denotes (inr (keeps, (why, is, no_step))) = absurd cc
-reading_ends laws (Some fault) t size keep name scene behind old new h turn before later denotes (inl (s, becomes, ends)) =
-    stopped size keep name t scene fault old new h (stop_leaves s size keep name scene behind fault old new h before later denotes ends)
-reading_ends laws (Some fault) t size keep name scene behind old new h turn before later denotes (inr (keeps, no_step)) =
+reading_ends laws None t strict size keep name scene behind old new h turn before later denotes (inr (keeps, (why, is, no_step))) = absurd cc
+reading_ends laws (Some fault) t strict size keep name scene behind old new h turn before later denotes (inl (s, becomes, ends)) =
+    stopped size keep name t scene fault old new h (stop_leaves s strict size keep name scene behind fault old new h before later denotes ends)
+reading_ends laws (Some fault) t strict size keep name scene behind old new h turn before later denotes (inr (keeps, no_step)) =
     Stored_directory h refl (same_files size name old new h (sym later ∙ keeps.0 ∙ before) denotes)
 
 -- any task
-task_ends : Laws → (fault : Option Fault) (t : Task) (size : ℕ) (keep : Option ℕ) (name : List ℕ) (scene behind : Scene) (old new : Files) (h : History)
+task_ends : Laws → (fault : Option Fault) (t : Task) (strict : Bool) (size : ℕ) (keep : Option ℕ) (name : List ℕ) (scene behind : Scene) (old new : Files) (h : History)
     → SaysGoodRows t → scene.files ≡ Some old → behind.files ≡ Some new → FilesDenote size name old h
-    → EndsTask t size keep name scene behind fault → Ends size keep name t scene fault old new h
-task_ends laws fault (task.Step s) size keep name scene behind old new h good before later denotes ends =
-    step_ends laws fault s size keep name scene behind old new h good before later denotes ends
-task_ends laws fault (task.Extract dir) size keep name scene behind old new h good before later denotes ends =
+    → EndsTask t strict size keep name scene behind fault → Ends size keep name t scene fault old new h
+task_ends laws fault (task.Step s) strict size keep name scene behind old new h good before later denotes ends =
+    step_ends laws fault s strict size keep name scene behind old new h good before later denotes ends
+task_ends laws fault (task.Extract dir) strict size keep name scene behind old new h good before later denotes ends =
     Stored_directory h (extracted fault size keep dir scene h) (same_files size name old new h (sym later ∙ ends.0.0 ∙ before) denotes)
-task_ends laws fault (task.Pack count dir) size keep name scene behind old new h good before later denotes ends =
-    reading_ends laws fault (task.Pack count dir) size keep name scene behind old new h (λ next goes. goes) before later denotes ends
-task_ends laws fault (task.SetAttr path kind value) size keep name scene behind old new h good before later denotes ends =
-    reading_ends laws fault (task.SetAttr path kind value) size keep name scene behind old new h (λ next goes. goes) before later denotes ends
-task_ends laws fault (task.RmAttr path kind) size keep name scene behind old new h good before later denotes ends =
-    reading_ends laws fault (task.RmAttr path kind) size keep name scene behind old new h (λ next goes. goes) before later denotes ends
+task_ends laws fault (task.Pack extent limits dir) strict size keep name scene behind old new h good before later denotes ends =
+    reading_ends laws fault (task.Pack extent limits dir) strict size keep name scene behind old new h (λ next goes. goes) before later denotes ends
+task_ends laws fault (task.SetAttr path kind value) strict size keep name scene behind old new h good before later denotes ends =
+    reading_ends laws fault (task.SetAttr path kind value) strict size keep name scene behind old new h (λ next goes. goes) before later denotes ends
+task_ends laws fault (task.RmAttr path kind) strict size keep name scene behind old new h good before later denotes ends =
+    reading_ends laws fault (task.RmAttr path kind) strict size keep name scene behind old new h (λ next goes. goes) before later denotes ends
 
 -- ---- requests
 
@@ -431,11 +438,20 @@ request_ends : Laws → (size : ℕ) (name : List ℕ) (s : Served) (old new : F
 request_ends laws size name s old new h denotes is =
     let fault = is.ends.0 in
     let t = s.request.task in
+    let strict = s.request.is_strict in
     let keep = s.request.keep in
-    let by_size = subst (λ (n : ℕ). EndsTask t n keep s.request.image.now s.old s.new fault) is.size_is is.ends.1 in
-    let by_name = subst (λ (n : List ℕ). EndsTask t size keep n s.old s.new fault) is.name_is by_size in
-    by_end size name s fault old new h is.ends.2
-    (task_ends laws fault t size keep name s.old s.new old new h is.rows is.before is.behind denotes by_name)
+    let by_task : EndsTask t strict s.request.size keep s.request.image.now s.old s.new fault → Ends size keep name t s.old fault old new h = λ ends.
+    let by_size = subst (λ (n : ℕ). EndsTask t strict n keep s.request.image.now s.old s.new fault) is.size_is ends in
+    let by_name = subst (λ (n : List ℕ). EndsTask t strict size keep n s.old s.new fault) is.name_is by_size in
+    task_ends laws fault t strict size keep name s.old s.new old new h is.rows is.before is.behind denotes by_name in
+    let same : KeepsScene s.old s.new → FilesDenote size name new h = λ keeps.
+    same_files size name old new h (sym is.behind ∙ keeps.0 ∙ is.before) denotes in
+    by_end size name s fault old new h is.ends.2 (
+    elim is.ends.1 [
+      | inl task ↦ by_task task.1
+      | inr taken ↦ name_taken fault size keep name t s.old old new h taken.1 (same taken.3)
+    ]
+    )
 
 lead_on : Laws → RequestsLeadOn
 lead_on laws size name [] old last h denotes same = subst (λ (f : Files). FilesDenote size name f h) (sym same) denotes

@@ -11,6 +11,7 @@ use Rattle.lfs_step.specs.Deed.{Deed}
 use Rattle.lfs_step.specs.Outcome.{Answers, Given, SendsText}
 use Rattle.lfs_exchange.specs.declared.step_kind.StepKind.{StepKind}
 use Rattle.lfs_exchange.specs.declared.step_kind.StepKind.TheVariants.{Makes, Asks, Recounts, Changes, Forgets}
+use Rattle.lfs_serve.specs.declared.later.Later.{Later}
 use Rattle.lfs_serve.specs.declared.stop.Stop.{Stop}
 use Rattle.lfs_host.specs.Files.{Files, FindsFile, IsTarget, ReadsFile}
 use Rattle.lfs_exchange.specs.StepKind.{kind_of}
@@ -18,9 +19,10 @@ use Rattle.lfs_exchange.specs.Storing.{LeavesFiles, SparesFiles, journal_name}
 use Rattle.lfs_host.specs.Scene.{KeepsScene, Scene, is_blamed}
 use Rattle.lfs_host.proofs.BlameLemmas.{blamed_has_refused}
 use Rattle.lfs_change.specs.Fault.{blames_output}
-use Rattle.lfs_exchange.specs.Handing.{HandedBytes, HandsImage, HandsInput, HandsJournal, IsHanded, IsNotAimed, IsNotHanded, IsOfHost, IsOtherUnread, IsUnread, most_image}
+use Rattle.lfs_exchange.specs.Handing.{HandedBytes, HandsImage, HandsInput, HandsJournal, IsHanded, IsNotAimed, IsNotHanded, IsOfHost, IsUnread, most_image}
 use Rattle.lfs_book.specs.Book.{most_journal}
-use Rattle.lfs_serve.specs.Program.{EndsStep, IsBlamed, Runs, RunsOn, RunsStep, StopsStep, stopped_by}
+use Rattle.lfs_serve.specs.Later.{later_handed, refused_by}
+use Rattle.lfs_serve.specs.Program.{EndsStep, IsBlamed, IsNotRun, Runs, RunsOn, RunsStep, StopsStep, stopped_by}
 
 -- ---- the file that a name leads to
 
@@ -131,12 +133,13 @@ blames (Some CannotWrite) failed s is blamed = blamed_has_refused failed s is bl
 blames _ failed s is blamed = tt
 
 -- a step that ran on what it was handed; nothing was printed before it nor behind it
-pub step_ran : (step : Step) (size : ℕ) (keep : Option ℕ) (name : List ℕ) (old new : Scene) (h : HandedBytes) (fault : Option Fault)
-    (before after : Option (List ℕ)) (outcome : Outcome) → IsHanded step name old h → RunsOn step size keep h fault before after outcome
-    → before ≡ old.printed → new.printed ≡ after → IsBlamed fault new → RunsStep step size keep name old new fault outcome
-step_ran step size keep name old new h fault before after outcome is runs first last blamed = (
+pub step_ran : (step : Step) (strict : Bool) (size : ℕ) (keep : Option ℕ) (name : List ℕ) (old new : Scene) (h : HandedBytes) (fault : Option Fault)
+    (before after : Option (List ℕ)) (outcome : Outcome) → IsHanded step name old h → refused_by strict (later_handed step size h) ≡ None
+    → RunsOn step size keep h fault before after outcome → before ≡ old.printed → new.printed ≡ after → IsBlamed fault new → RunsStep step strict size keep name old new fault outcome
+step_ran step strict size keep name old new h fault before after outcome is none runs first last blamed = (
   h,
   is,
+  none,
   subst (λ (p : Option (List ℕ)). RunsOn step size keep h fault old.printed p outcome) (sym last)
       (subst (λ (p : Option (List ℕ)). RunsOn step size keep h fault p after outcome) first runs),
   blamed,
@@ -147,18 +150,31 @@ pub stopped_at : {T : Type 0} (r : Result T Stop) (fault : Fault) (stop : Stop) 
     → stopped_by r ≡ Some fault
 stopped_at r fault stop is same = ap stopped_by is ∙ ap Some same
 
+-- ---- commits of a later version
+
+-- what a result is stopped by, of what a step was handed
+pub refused_handed : (strict : Bool) (step : Step) (size : ℕ) (h : HandedBytes) (found : Later) (ended : Option Fault) → found ≡ later_handed step size h
+    → ended ≡ refused_by strict found → refused_by strict (later_handed step size h) ≡ ended
+refused_handed strict step size h found ended is refused = subst (λ (l : Later). refused_by strict l ≡ ended) is (sym refused)
+
 -- ---- how steps end
 
-ends_stopped : (step : Step) (size : ℕ) (keep : Option ℕ) (name : List ℕ) (old new : Scene) (ended : Option Fault) (fault : Fault)
-    → ended ≡ Some fault → StopsStep step size keep name old new fault → EndsStep step size keep name old new ended
-ends_stopped step size keep name old new ended fault is stops = subst (EndsStep step size keep name old new) (sym is) stops
+ends_stopped : (step : Step) (strict : Bool) (size : ℕ) (keep : Option ℕ) (name : List ℕ) (old new : Scene) (ended : Option Fault) (fault : Fault)
+    → ended ≡ Some fault → StopsStep step strict size keep name old new fault → EndsStep step strict size keep name old new ended
+ends_stopped step strict size keep name old new ended fault is stops = subst (EndsStep step strict size keep name old new) (sym is) stops
 
--- what isn't at hand changes nothing
-pub ends_before : (step : Step) (size : ℕ) (keep : Option ℕ) (name : List ℕ) (old new : Scene) (ended : Option Fault) (fault : Fault)
-    → ended ≡ Some fault → IsNotAimed (kind_of step) new name fault ⊎ IsOtherUnread step new fault → KeepsScene old new
-    → EndsStep step size keep name old new ended
-ends_before step size keep name old new ended fault is why keeps =
-    ends_stopped step size keep name old new ended fault is (inr (inl (why, keeps)))
+-- what isn't run changes nothing
+pub ends_before : (step : Step) (strict : Bool) (size : ℕ) (keep : Option ℕ) (name : List ℕ) (old new : Scene) (ended : Option Fault) (fault : Fault)
+    → ended ≡ Some fault → IsNotRun step strict size name old new fault → KeepsScene old new → EndsStep step strict size keep name old new ended
+ends_before step strict size keep name old new ended fault is why keeps =
+    ends_stopped step strict size keep name old new ended fault is (inr (inl (why, keeps)))
+
+-- nor does what is refused for a commit of a later version
+pub ends_later : (step : Step) (strict : Bool) (size : ℕ) (keep : Option ℕ) (name : List ℕ) (old new : Scene) (h : HandedBytes) (ended : Option Fault) (fault : Fault)
+    → ended ≡ Some fault → IsHanded step name old h → refused_by strict (later_handed step size h) ≡ Some fault → KeepsScene old new
+    → EndsStep step strict size keep name old new ended
+ends_later step strict size keep name old new h ended fault is handed refused keeps =
+    ends_before step strict size keep name old new ended fault is (inr (inr (h, handed, refused))) keeps
 
 -- what isn't read
 unread_is_of_host : (new : Scene) (fault : Fault) → IsUnread new fault → IsOfHost new fault
@@ -174,55 +190,63 @@ unread_is_not_aimed Changes new name fault unread = inl (unread_is_of_host new f
 unread_is_not_aimed Forgets new name fault unread = inl (unread_is_of_host new fault unread)
 
 -- what isn't handed
-pub not_handed : (step : Step) (new : Scene) (name : List ℕ) (fault : Fault) → IsNotHanded step new fault
-    → IsNotAimed (kind_of step) new name fault ⊎ IsOtherUnread step new fault
-not_handed step new name fault (inl unread) = inl (unread_is_not_aimed (kind_of step) new name fault unread)
-not_handed step new name fault (inr other) = inr other
+pub not_handed : (step : Step) (strict : Bool) (size : ℕ) (name : List ℕ) (old new : Scene) (fault : Fault) → IsNotHanded step new fault
+    → IsNotRun step strict size name old new fault
+not_handed step strict size name old new fault (inl unread) = inl (unread_is_not_aimed (kind_of step) new name fault unread)
+not_handed step strict size name old new fault (inr other) = inr (inl other)
 
 -- a run that is refused changes no file
-pub ends_refused : (step : Step) (size : ℕ) (keep : Option ℕ) (name : List ℕ) (old new : Scene) (ended : Option Fault) (fault : Fault) (outcome : Outcome)
-    → ended ≡ Some fault → RunsStep step size keep name old new (Some fault) outcome → new.files ≡ old.files
-    → EndsStep step size keep name old new ended
-ends_refused step size keep name old new ended fault outcome is runs same =
-    ends_stopped step size keep name old new ended fault is (inl (outcome, runs, same))
+pub ends_refused : (step : Step) (strict : Bool) (size : ℕ) (keep : Option ℕ) (name : List ℕ) (old new : Scene) (ended : Option Fault) (fault : Fault) (outcome : Outcome)
+    → ended ≡ Some fault → RunsStep step strict size keep name old new (Some fault) outcome → new.files ≡ old.files
+    → EndsStep step strict size keep name old new ended
+ends_refused step strict size keep name old new ended fault outcome is runs same =
+    ends_stopped step strict size keep name old new ended fault is (inl (outcome, runs, same))
 
 -- what the host refuses behind a run spares the files
-pub ends_behind : (step : Step) (size : ℕ) (keep : Option ℕ) (name : List ℕ) (old new : Scene) (ended : Option Fault) (fault : Fault) (outcome : Outcome)
-    → ended ≡ Some fault → IsOfHost new fault → RunsStep step size keep name old new None outcome
-    → SparesFiles fault (kind_of step) old.files new.files name outcome → EndsStep step size keep name old new ended
-ends_behind step size keep name old new ended fault outcome is of_host runs spares =
-    ends_stopped step size keep name old new ended fault is (inr (inr (of_host, (outcome, runs, spares))))
+pub ends_behind : (step : Step) (strict : Bool) (size : ℕ) (keep : Option ℕ) (name : List ℕ) (old new : Scene) (ended : Option Fault) (fault : Fault) (outcome : Outcome)
+    → ended ≡ Some fault → IsOfHost new fault → RunsStep step strict size keep name old new None outcome
+    → SparesFiles fault (kind_of step) old.files new.files name outcome → EndsStep step strict size keep name old new ended
+ends_behind step strict size keep name old new ended fault outcome is of_host runs spares =
+    ends_stopped step strict size keep name old new ended fault is (inr (inr (of_host, (outcome, runs, spares))))
 
 -- ---- a step on a host with the same files, standard input and standard output
 
-runs_from : (step : Step) (size : ℕ) (keep : Option ℕ) (name : List ℕ) (mid old new : Scene) (fault : Option Fault) (outcome : Outcome)
-    → mid.files ≡ old.files → mid.typed ≡ old.typed → mid.printed ≡ old.printed → RunsStep step size keep name mid new fault outcome
-    → RunsStep step size keep name old new fault outcome
-runs_from step size keep name mid old new fault outcome files typed printed (h, is, runs, blamed) = (
+runs_from : (step : Step) (strict : Bool) (size : ℕ) (keep : Option ℕ) (name : List ℕ) (mid old new : Scene) (fault : Option Fault) (outcome : Outcome)
+    → mid.files ≡ old.files → mid.typed ≡ old.typed → mid.printed ≡ old.printed → RunsStep step strict size keep name mid new fault outcome
+    → RunsStep step strict size keep name old new fault outcome
+runs_from step strict size keep name mid old new fault outcome files typed printed (h, is, none, runs, blamed) = (
   h,
   handed_from step name mid old h files typed is,
+  none,
   subst (λ (p : Option (List ℕ)). RunsOn step size keep h fault p new.printed outcome) printed runs,
   blamed,
 )
 
-pub step_from : (step : Step) (size : ℕ) (keep : Option ℕ) (name : List ℕ) (mid old new : Scene) (ended : Option Fault)
-    → mid.files ≡ old.files → mid.typed ≡ old.typed → mid.printed ≡ old.printed → EndsStep step size keep name mid new ended
-    → EndsStep step size keep name old new ended
-step_from step size keep name mid old new None files typed printed (outcome, runs, leaves) = (
+not_run_from : (step : Step) (strict : Bool) (size : ℕ) (name : List ℕ) (mid old new : Scene) (fault : Fault)
+    → mid.files ≡ old.files → mid.typed ≡ old.typed → IsNotRun step strict size name mid new fault → IsNotRun step strict size name old new fault
+not_run_from step strict size name mid old new fault files typed (inl not_aimed) = inl not_aimed
+not_run_from step strict size name mid old new fault files typed (inr (inl unread)) = inr (inl unread)
+not_run_from step strict size name mid old new fault files typed (inr (inr (h, is, refused))) =
+    inr (inr (h, handed_from step name mid old h files typed is, refused))
+
+pub step_from : (step : Step) (strict : Bool) (size : ℕ) (keep : Option ℕ) (name : List ℕ) (mid old new : Scene) (ended : Option Fault)
+    → mid.files ≡ old.files → mid.typed ≡ old.typed → mid.printed ≡ old.printed → EndsStep step strict size keep name mid new ended
+    → EndsStep step strict size keep name old new ended
+step_from step strict size keep name mid old new None files typed printed (outcome, runs, leaves) = (
   outcome,
-  runs_from step size keep name mid old new None outcome files typed printed runs,
+  runs_from step strict size keep name mid old new None outcome files typed printed runs,
   subst (λ (f : Option Files). LeavesFiles (kind_of step) f new.files name outcome) files leaves,
 )
-step_from step size keep name mid old new (Some fault) files typed printed (inl (outcome, runs, same)) =
-    inl (outcome, runs_from step size keep name mid old new (Some fault) outcome files typed printed runs, same ∙ files)
-step_from step size keep name mid old new (Some fault) files typed printed (inr (inl (not_aimed, keeps))) =
-    inr (inl (not_aimed, (keeps.0 ∙ files, keeps.1 ∙ printed)))
-step_from step size keep name mid old new (Some fault) files typed printed (inr (inr (of_host, (outcome, runs, spares)))) =
+step_from step strict size keep name mid old new (Some fault) files typed printed (inl (outcome, runs, same)) =
+    inl (outcome, runs_from step strict size keep name mid old new (Some fault) outcome files typed printed runs, same ∙ files)
+step_from step strict size keep name mid old new (Some fault) files typed printed (inr (inl (not_run, keeps))) =
+    inr (inl (not_run_from step strict size name mid old new fault files typed not_run, (keeps.0 ∙ files, keeps.1 ∙ printed)))
+step_from step strict size keep name mid old new (Some fault) files typed printed (inr (inr (of_host, (outcome, runs, spares)))) =
     inr (inr (
       of_host,
       (
         outcome,
-        runs_from step size keep name mid old new None outcome files typed printed runs,
+        runs_from step strict size keep name mid old new None outcome files typed printed runs,
         subst (λ (f : Option Files). SparesFiles fault (kind_of step) f new.files name outcome) files spares,
       ),
     ))

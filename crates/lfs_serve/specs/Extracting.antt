@@ -19,6 +19,7 @@ use Rattle.lfs_host.specs.declared.host_kind.HostKind.{HostKind}
 use Rattle.lfs_host.specs.declared.host_kind.HostKind.TheVariants.{Missing}
 use Rattle.lfs_step.specs.Query.{HasMount}
 use Rattle.lfs_exchange.specs.Handing.{IsUnread, most_image}
+use Rattle.lfs_serve.specs.Later.{later_alone, refused_by}
 
 -- ---- a mounted image
 
@@ -73,11 +74,17 @@ abbrev pub EndsBytes : ℕ → List ℕ → List ℕ → Option HostTree → Opt
 EndsBytes size bytes dir tree old new (Some (Image fault)) = IsNoImage fault size bytes × (new.made ≡ old)
 EndsBytes size bytes dir tree old new fault = IsDisk (image_of size bytes) × EndsMaking (image_of size bytes) dir tree old new fault
 
+-- the same where a commit of a later version may be refused: then nothing is made
+abbrev pub EndsRead : Bool → ℕ → List ℕ → List ℕ → Option HostTree → Option (List Made) → Scene → Option Fault → Type 0
+EndsRead strict size bytes dir tree old new fault =
+    ((new.made ≡ old) × ((why : Fault) × (fault ≡ Some why) × (refused_by strict (later_alone size bytes) ≡ Some why)))
+    ⊎ ((refused_by strict (later_alone size bytes) ≡ None) × EndsBytes size bytes dir tree old new fault)
+
 -- ---- an image's file
 
 -- what is made of an image's file: nothing where it isn't read, and else as of its bytes; no file changes, and nothing is printed
-abbrev pub EndsExtract : ℕ → List ℕ → List ℕ → Scene → Scene → Option Fault → Type 0
-EndsExtract size name dir old new fault =
+abbrev pub EndsExtract : Bool → ℕ → List ℕ → List ℕ → Scene → Scene → Option Fault → Type 0
+EndsExtract strict size name dir old new fault =
     KeepsScene old new
     × (((new.made ≡ old.made) × ((why : Fault) × (fault ≡ Some why) × IsUnread new why))
-    ⊎ ((bytes : List ℕ) × ReadsFile old.files name most_image bytes × EndsBytes size bytes dir old.tree old.made new fault))
+    ⊎ ((bytes : List ℕ) × ReadsFile old.files name most_image bytes × EndsRead strict size bytes dir old.tree old.made new fault))

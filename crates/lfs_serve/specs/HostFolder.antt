@@ -46,7 +46,7 @@ pub record PacksFolder (tree : Option HostTree) (dir : List ℕ) (rows : List Pa
 
 -- the rows that a task packs are those of its folder
 abbrev pub PacksRows : Task → Option HostTree → List PackRow → Type 0
-PacksRows (Pack count dir) tree rows = PacksFolder tree dir.now rows
+PacksRows (Pack extent limits dir) tree rows = PacksFolder tree dir.now rows
 PacksRows _ tree rows = ⊤
 
 -- ---- rows, as the code has them

@@ -1,4 +1,6 @@
+pub mod Later
 pub mod Program
 pub mod Extracting
 pub mod HostFolder
 pub mod Requests
+pub mod Stated

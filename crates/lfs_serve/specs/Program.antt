@@ -1,5 +1,5 @@
 -- What the program does with the files of a host (own).
-use Rattle.std.specs.Prelude.{ℕ, ◌≡◌, ◌⊎◌, ⊤, List, Option, Some, None, Result, Ok, Err}
+use Rattle.std.specs.Prelude.{ℕ, ◌≡◌, ◌⊎◌, ⊤, Bool, true, List, Option, Some, None, Result, Ok, Err}
 use Rattle.lfs_change.specs.declared.fault.Fault.{Fault}
 use Rattle.lfs_change.specs.declared.fault.Fault.TheVariants.{CannotWrite}
 use Rattle.lfs_change.specs.declared.outcome.Outcome.{Outcome}
@@ -11,12 +11,14 @@ use Rattle.lfs_request.specs.declared.task.Task.TheVariants as task
 use Rattle.lfs_request.specs.declared.task.Task.TheVariants.{Extract, Pack}
 use Rattle.lfs_step.specs.Deed.{Deed, deed_of}
 use Rattle.lfs_change.specs.Fault.{status_of}
+use Rattle.lfs_host.specs.Files.{IsMissing}
 use Rattle.lfs_host.specs.HostTree.{HostTree}
 use Rattle.lfs_pack.specs.declared.pack_row.PackRow.{PackRow}
 use Rattle.lfs_host.specs.Scene.{HasRefused, KeepsScene, Scene}
 use Rattle.lfs_exchange.specs.Handing.{HandedBytes, IsHanded, IsNotAimed, IsOfHost, IsOtherUnread}
 use Rattle.lfs_serve.specs.Extracting.{EndsExtract}
 use Rattle.lfs_serve.specs.HostFolder.{PacksRows, ReadsNoFolder}
+use Rattle.lfs_serve.specs.Later.{later_handed, refused_by}
 use Rattle.lfs_exchange.specs.StepKind.{kind_of}
 use Rattle.lfs_exchange.specs.Storing.{LeavesFiles, SparesFiles}
 use Rattle.lfs_step.specs.Outcome.{Answers, Given, SendsText, given}
@@ -35,25 +37,36 @@ abbrev pub IsBlamed : Option Fault → Scene → Type 0
 IsBlamed (Some CannotWrite) s = HasRefused s
 IsBlamed _ s = ⊤
 
--- the same of a step that was handed what is known of the host
-abbrev pub RunsStep : Step → ℕ → Option ℕ → List ℕ → Scene → Scene → Option Fault → Outcome → Type 0
-RunsStep step size keep name old new fault outcome =
-    (h : HandedBytes) × IsHanded step name old h × RunsOn step size keep h fault old.printed new.printed outcome × IsBlamed fault new
+-- the same of a step that was handed what is known of the host, in which nothing was to be refused as later
+abbrev pub RunsStep : Step → Bool → ℕ → Option ℕ → List ℕ → Scene → Scene → Option Fault → Outcome → Type 0
+RunsStep step strict size keep name old new fault outcome =
+    (h : HandedBytes) × IsHanded step name old h × (refused_by strict (later_handed step size h) ≡ None)
+    × RunsOn step size keep h fault old.printed new.printed outcome × IsBlamed fault new
 
--- why a step wasn't done: `run` refused it, or the host something before it was run, or behind that
-abbrev pub StopsStep : Step → ℕ → Option ℕ → List ℕ → Scene → Scene → Fault → Type 0
-StopsStep step size keep name old new fault =
-    ((outcome : Outcome) × RunsStep step size keep name old new (Some fault) outcome × (new.files ≡ old.files))
-    ⊎ ((IsNotAimed (kind_of step) new name fault ⊎ IsOtherUnread step new fault) × KeepsScene old new)
+-- a step is refused for a commit of a later version in what it was handed
+abbrev pub IsLater : Step → Bool → ℕ → List ℕ → Scene → Fault → Type 0
+IsLater step strict size name old fault =
+    (h : HandedBytes) × IsHanded step name old h × (refused_by strict (later_handed step size h) ≡ Some fault)
+
+-- why a step isn't run: its image isn't at hand, the other one isn't read, or a commit of a later version is refused
+abbrev pub IsNotRun : Step → Bool → ℕ → List ℕ → Scene → Scene → Fault → Type 0
+IsNotRun step strict size name old new fault =
+    IsNotAimed (kind_of step) new name fault ⊎ IsOtherUnread step new fault ⊎ IsLater step strict size name old fault
+
+-- why a step wasn't done: `run` refused it, or it wasn't run, or the host refused something behind that
+abbrev pub StopsStep : Step → Bool → ℕ → Option ℕ → List ℕ → Scene → Scene → Fault → Type 0
+StopsStep step strict size keep name old new fault =
+    ((outcome : Outcome) × RunsStep step strict size keep name old new (Some fault) outcome × (new.files ≡ old.files))
+    ⊎ (IsNotRun step strict size name old new fault × KeepsScene old new)
     ⊎ (IsOfHost new fault × ((outcome : Outcome)
-    × RunsStep step size keep name old new None outcome × SparesFiles fault (kind_of step) old.files new.files name outcome))
+    × RunsStep step strict size keep name old new None outcome × SparesFiles fault (kind_of step) old.files new.files name outcome))
 
 -- how a step on an image's file ends: done, and the files have the bytes of the outcome; or with a fault
-abbrev pub EndsStep : Step → ℕ → Option ℕ → List ℕ → Scene → Scene → Option Fault → Type 0
-EndsStep step size keep name old new None =
-    (outcome : Outcome) × RunsStep step size keep name old new None outcome
+abbrev pub EndsStep : Step → Bool → ℕ → Option ℕ → List ℕ → Scene → Scene → Option Fault → Type 0
+EndsStep step strict size keep name old new None =
+    (outcome : Outcome) × RunsStep step strict size keep name old new None outcome
     × LeavesFiles (kind_of step) old.files new.files name outcome
-EndsStep step size keep name old new (Some fault) = StopsStep step size keep name old new fault
+EndsStep step strict size keep name old new (Some fault) = StopsStep step strict size keep name old new fault
 
 -- the step that a task becomes, with the rows of the folder that it packs
 abbrev pub BecomesStep : Task → Option HostTree → Step → Type 0
@@ -61,27 +74,38 @@ BecomesStep task tree step = (rows : List PackRow) × PacksRows task tree rows �
 
 -- why it becomes none: its folder isn't read, or it names none
 abbrev pub BecomesNoStep : Task → Option HostTree → Scene → Fault → Type 0
-BecomesNoStep (Pack count dir) tree new why = ReadsNoFolder tree dir.now new why
+BecomesNoStep (Pack extent limits dir) tree new why = ReadsNoFolder tree dir.now new why
 BecomesNoStep task tree new why = NamesNoStep task why
 
 -- how a task ends for which something is read first: as the step that it becomes, or with a fault since it becomes none
-abbrev pub EndsReading : Task → ℕ → Option ℕ → List ℕ → Scene → Scene → Option Fault → Type 0
-EndsReading task size keep name old new fault =
-    ((step : Step) × BecomesStep task old.tree step × EndsStep step size keep name old new fault)
+abbrev pub EndsReading : Task → Bool → ℕ → Option ℕ → List ℕ → Scene → Scene → Option Fault → Type 0
+EndsReading task strict size keep name old new fault =
+    ((step : Step) × BecomesStep task old.tree step × EndsStep step strict size keep name old new fault)
     ⊎ (KeepsScene old new × ((why : Fault) × (fault ≡ Some why) × BecomesNoStep task old.tree new why))
 
 -- how a task on an image's file ends: as the step that its words say, as a folder that is made, or by what is read first
-abbrev pub EndsTask : Task → ℕ → Option ℕ → List ℕ → Scene → Scene → Option Fault → Type 0
-EndsTask (task.Step step) size keep name old new fault = EndsStep step size keep name old new fault
-EndsTask (Extract dir) size keep name old new fault = EndsExtract size name dir.now old new fault
-EndsTask task size keep name old new fault = EndsReading task size keep name old new fault
+abbrev pub EndsTask : Task → Bool → ℕ → Option ℕ → List ℕ → Scene → Scene → Option Fault → Type 0
+EndsTask (task.Step step) strict size keep name old new fault = EndsStep step strict size keep name old new fault
+EndsTask (Extract dir) strict size keep name old new fault = EndsExtract strict size name dir.now old new fault
+EndsTask task strict size keep name old new fault = EndsReading task strict size keep name old new fault
 
 -- the fault that a run stopped with, if any
 abbrev pub stopped_by : {T : Type 0} → Result T Stop → Option Fault
 stopped_by (Ok value) = None
 stopped_by (Err stop) = Some stop.fault
 
--- how a request ends: as its task
+-- nothing is under the name of an image that is to be new
+abbrev pub IsSpared : Request → Scene → Type 0
+IsSpared request scene = request.is_new ≡ true → IsMissing scene.files request.image.now
+
+-- how what is asked for ends: as its task, which is strict where that is asked for, or since the name of an image that is to be new is
+-- refused, where nothing is changed
+abbrev pub EndsAsked : Request → Scene → Scene → Option Fault → Type 0
+EndsAsked request old new fault =
+    (IsSpared request old × EndsTask request.task request.is_strict request.size request.keep request.image.now old new fault)
+    ⊎ ((request.is_new ≡ true) × (fault ≡ Some CannotWrite) × HasRefused new × KeepsScene old new)
+
+-- how a request ends
 abbrev pub EndsRequest : Request → Scene → Scene → ℕ → Type 0
 EndsRequest request old new status =
-    (fault : Option Fault) × EndsTask request.task request.size request.keep request.image.now old new fault × (status ≡ status_of fault)
+    (fault : Option Fault) × EndsAsked request old new fault × (status ≡ status_of fault)

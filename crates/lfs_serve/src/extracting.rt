@@ -11,8 +11,9 @@ ghost use Rattle.lfs_host.specs.Scene.{KeepsAll, KeepsFiles};
 ghost use Rattle.lfs_serve.specs.Extracting.{EndsBytes, EndsExtract, EndsMaking, FindsFolder, fault_of_extracting};
 ghost use Rattle.lfs_serve.specs.Program.{stopped_by};
 
-use crate::stated::stated_for;
+use crate::later::{Later, later_alone, must_be_read};
 use crate::stop::Stop;
+use crate::stopping::{stop_of_extracting, stop_of_image};
 use lfs_block::Image;
 use lfs_edit::Refusal;
 use lfs_exchange::{StepKind, aimed, fault_of_reading, read_image};
@@ -23,18 +24,22 @@ use lfs_request::Request;
 use lfs_step::Fault;
 use std::alloc::Global;
 
-/// Makes a folder of the host out of an image's file. Takes memory.
+/// Makes a folder of the host out of an image's file. What commits of a later version stand in it is put into `later`. Takes memory.
 pub fn extracted<H: Host>(
     alloc: Global,
     host: &mut H,
     request: &Request<'_>,
+    later: &mut Later,
     dir: &str,
 ) -> Result<(), Stop>
-    ensures made { EndsExtract request.now.size request.now.image.now dir.now (H.known host.old) (H.known host.new) (stopped_by result) }
+    ensures made { EndsExtract request.now.is_strict request.now.size request.now.image.now dir.now (H.known host.old) (H.known host.new) (stopped_by result) }
     ensures kept { KeepsFiles (H.known host.old) (H.known host.new) }
 {
     let target = aimed(alloc, host, StepKind::Asks, request.image)?;
     let bytes = read_image(alloc, host, StepKind::Asks, target.as_str())?;
+    let found = later_alone(request.size, bytes.as_slice());
+    must_be_read(request.is_strict, found)?;
+    *later = found;
     extract_bytes(alloc, host, request.size, bytes, dir)
 }
 
@@ -51,14 +56,11 @@ fn extract_bytes<H: Host>(
 {
     let image = match Image::new(bytes, size) {
         Ok(image) => image,
-        Err((fault, _)) => return Err(Stop::from(Fault::Image(fault))),
+        Err((fault, bytes)) => return Err(stop_of_image(Fault::Image(fault), size, &bytes)),
     };
     match extract_image(alloc, host, &image, dir) {
         Ok(()) => Ok(()),
-        Err(fault) => Err(Stop {
-            fault,
-            stated: stated_for(fault, &image.into_bytes(), None),
-        }),
+        Err(fault) => Err(stop_of_extracting(alloc, fault, image)),
     }
 }
 

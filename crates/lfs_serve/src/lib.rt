@@ -3,10 +3,21 @@
 
 mod extracting;
 mod host_folder;
+mod later;
 mod laws;
+mod least;
+mod new_image;
+mod path_note;
 mod serving;
+mod sizing;
 mod stated;
+mod step_paths;
 mod stop;
+mod stopping;
+mod superblock;
+mod telling;
+mod within;
 
 pub use laws::requests_lead_on;
 pub use serving::served;
+pub use sizing::stated_size;

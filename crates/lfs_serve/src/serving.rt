@@ -1,97 +1,92 @@
 //! What is asked for on an image's file.
 
-ghost use Rattle.std.specs.Prelude.{◌≡◌, Some, IfOk};
+ghost use Rattle.std.specs.Prelude.{◌≡◌, IfOk};
 ghost use Rattle.lfs_request.specs.declared.task.Task.TheVariants.{Pack, SetAttr, RmAttr};
 ghost use Rattle.lfs_history.specs.Taking.{MayKeep};
-ghost use Rattle.lfs_step.specs.Deed.{deed_of};
-ghost use Rattle.lfs_change.specs.Fault.{status_of};
+ghost use Rattle.lfs_fs.specs.Superblock.{IsLimits};
+ghost use Rattle.lfs_request.specs.Asking.{HasLimits as TaskHasLimits};
+ghost use Rattle.lfs_step.specs.Deed.{HasLimits, deed_of};
 ghost use Rattle.lfs_step.specs.Outcome.{Answers, SendsText, given};
-ghost use Rattle.lfs_serve.specs.Program.{EndsRequest, EndsStep, EndsTask, IsBlamed, RunsOn, stopped_by};
+ghost use Rattle.lfs_serve.specs.Program.{EndsAsked, EndsRequest, EndsStep, EndsTask, IsBlamed, RunsOn, stopped_by};
 
 use crate::extracting::extracted;
 use crate::host_folder::{folder_of, pack_rows};
-use crate::stated::{stated_for, stated_in};
+use crate::later::{Later, later_handed, must_be_read, tell_later};
+use crate::least::{counted, with_need};
+use crate::new_image::with_new_image;
+use crate::stated::stated_in;
 use crate::stop::Stop;
-use lfs_block::{BLOCK_SIZE_STEP, ImageFault};
-use lfs_change::OtherFault;
-use lfs_exchange::{Handed, Output, aimed, hand_over, kind_of, stored, tell_of_image};
+use crate::stopping::stop_of_run;
+use crate::telling::tell_end;
+use crate::within::tell_within;
+use lfs_exchange::{Handed, Output, aimed, hand_over, kind_of, spare, stored};
+use lfs_fs::Limits;
 use lfs_host::Host;
-use lfs_request::{Request, Task, byte_of, bytes_of};
-use lfs_step::{Fault, Outcome, Step, run};
+use lfs_request::{Extent, Request, Task, byte_of, bytes_of};
+use lfs_step::{Outcome, Step, run};
 use std::alloc::Global;
 
-/// Does what is asked for, and answers the status that the program ends with. The caller owes that what is kept is 1 to 1,000 images.
-/// A fault is told on standard error, with what is known of it beside. Takes memory.
+/// Does what is asked for, and answers the status that the program ends with. The caller owes that what is kept is 1 to 1,000 images,
+/// and limits of a new image that images may state.
+/// A fault is told on standard error, with what is known of it beside; and so are commits of a later disk version in what is read as
+/// an image, which are refused with `Version` where the request is strict. Takes memory.
 ///
 /// Source: own.
 pub fn served<H: Host>(alloc: Global, host: &mut H, request: &Request<'_>) -> u8
-    requires { MayKeep request.now.keep }
+    requires keep { MayKeep request.now.keep }
+    requires limits { TaskHasLimits request.now.task }
     ensures ended { EndsRequest request.now (H.known host.old) (H.known host.new) result }
 {
-    match done(alloc, host, request) {
-        Ok(()) => 0,
-        Err(stop) => tell_of(host, request, &stop),
-    }
-}
-
-/// Tells why a request ended early, and answers the status.
-fn tell_of<H: Host>(host: &mut H, request: &Request<'_>, stop: &Stop) -> u8
-    ensures status { result ≡ status_of (Some stop.now.fault) }
-    ensures kept { H.known host.new ≡ H.known host.old }
-{
-    let size = request.size;
-    let image = told_of(request, stop.fault);
-    let status = tell_of_image(host, image, stop.fault);
-    if let Some(stated) = stop.stated {
-        host.complain(format_args!(
-            "lfsed: {image}: its superblock states {} blocks of {} bytes\n",
-            stated.count, stated.size
-        ));
-    } else if compares(request) && is_of_image(stop.fault) {
-        host.complain(format_args!("lfsed: {image}: this image is refused\n"));
-    }
-    if size % BLOCK_SIZE_STEP != 0 && matches!(stop.fault, Fault::Image(ImageFault::BadGeometry)) {
-        host.complain(format_args!(
-            "lfsed: --block {size}: a block is a multiple of {BLOCK_SIZE_STEP} bytes\n"
-        ));
-    }
+    let mut later = Later {
+        image: None,
+        other: None,
+    };
+    let end = asked(alloc, host, request, &mut later);
+    let status = tell_end(host, request, &end);
+    tell_later(host, request, later);
+    tell_within(host, request);
     status
 }
 
-/// The name of the image that a fault is of.
-fn told_of<'a>(request: &Request<'a>, fault: Fault) -> &'a str {
-    match (fault, request.task) {
-        (Fault::Other(_), Task::Step(Step::Diff { other })) => other,
-        _ => request.image,
-    }
-}
-
-/// Whether two images are compared.
-fn compares(request: &Request<'_>) -> bool {
-    matches!(request.task, Task::Step(Step::Diff { .. }))
-}
-
-/// Whether a fault is of an image, and not of the host.
-fn is_of_image(fault: Fault) -> bool {
-    match fault {
-        Fault::Image(_) | Fault::Mount(_) => true,
-        Fault::Other(other) => !matches!(other, OtherFault::CannotRead),
-        _ => false,
-    }
+/// Does what is asked for, unless a new image is, and something has its name.
+fn asked<H: Host>(
+    alloc: Global,
+    host: &mut H,
+    request: &Request<'_>,
+    later: &mut Later,
+) -> Result<(), Stop>
+    requires keep { MayKeep request.now.keep }
+    requires limits { TaskHasLimits request.now.task }
+    ensures ended { EndsAsked request.now (H.known host.old) (H.known host.new) (stopped_by result) }
+{
+    spare(host, request.is_new, request.image)?;
+    done(alloc, host, request, later)
 }
 
 /// Does the task that is asked for.
-fn done<H: Host>(alloc: Global, host: &mut H, request: &Request<'_>) -> Result<(), Stop>
-    requires { MayKeep request.now.keep }
-    ensures ended { EndsTask request.now.task request.now.size request.now.keep request.now.image.now
+fn done<H: Host>(
+    alloc: Global,
+    host: &mut H,
+    request: &Request<'_>,
+    later: &mut Later,
+) -> Result<(), Stop>
+    requires keep { MayKeep request.now.keep }
+    requires limits { TaskHasLimits request.now.task }
+    ensures ended { EndsTask request.now.task request.now.is_strict request.now.size request.now.keep request.now.image.now
         (H.known host.old) (H.known host.new) (stopped_by result) }
 {
     match request.task {
-        Task::Step(ref step) => stepped(alloc, host, request, step),
-        Task::Pack { count, dir } => packed(alloc, host, request, count, dir),
-        Task::Extract { dir } => extracted(alloc, host, request, dir),
-        Task::SetAttr { path, kind, value } => set(alloc, host, request, path, kind, value),
-        Task::RmAttr { path, kind } => cleared(alloc, host, request, path, kind),
+        Task::Step(ref step) => stepped(alloc, host, request, later, step),
+        Task::Pack {
+            extent,
+            limits,
+            dir,
+        } => packed(alloc, host, request, later, extent, limits, dir),
+        Task::Extract { dir } => extracted(alloc, host, request, later, dir),
+        Task::SetAttr { path, kind, value } => {
+            set(alloc, host, request, later, path, kind, value)
+        }
+        Task::RmAttr { path, kind } => cleared(alloc, host, request, later, path, kind),
     }
 }
 
@@ -100,17 +95,29 @@ fn packed<H: Host>(
     alloc: Global,
     host: &mut H,
     request: &Request<'_>,
-    count: u32,
+    later: &mut Later,
+    extent: Extent,
+    limits: Limits,
     dir: &str,
 ) -> Result<(), Stop>
-    requires { MayKeep request.now.keep }
-    ensures ended { EndsTask (Pack count dir.entry) request.now.size request.now.keep request.now.image.now
+    requires keep { MayKeep request.now.keep }
+    requires limits { IsLimits limits }
+    ensures ended { EndsTask (Pack extent limits dir.entry) request.now.is_strict request.now.size request.now.keep request.now.image.now
         (H.known host.old) (H.known host.new) (stopped_by result) }
 {
     let folder = folder_of(alloc, host, dir)?;
     let rows = pack_rows(alloc, &folder)?;
     let rows = rows.as_slice();
-    stepped(alloc, host, request, &Step::Pack { count, rows })
+    let count = counted(alloc, request.size, extent, limits, rows)?;
+    let step = Step::Pack {
+        count,
+        limits,
+        rows,
+    };
+    match stepped(alloc, host, request, later, &step) {
+        Ok(()) => Ok(()),
+        Err(stop) => Err(with_need(alloc, request.size, limits, rows, stop)),
+    }
 }
 
 /// Sets the attribute that digits spell.
@@ -118,18 +125,25 @@ fn set<H: Host>(
     alloc: Global,
     host: &mut H,
     request: &Request<'_>,
+    later: &mut Later,
     path: &[u8],
     kind: &str,
     value: &str,
 ) -> Result<(), Stop>
     requires { MayKeep request.now.keep }
-    ensures ended { EndsTask (SetAttr path.entry kind.entry value.entry) request.now.size request.now.keep request.now.image.now
+    ensures ended { EndsTask (SetAttr path.entry kind.entry value.entry) request.now.is_strict request.now.size request.now.keep request.now.image.now
         (H.known host.old) (H.known host.new) (stopped_by result) }
 {
     let value = bytes_of(alloc, value)?;
     let kind = byte_of(kind)?;
     let value = value.as_slice();
-    stepped(alloc, host, request, &Step::SetAttr { path, kind, value })
+    stepped(
+        alloc,
+        host,
+        request,
+        later,
+        &Step::SetAttr { path, kind, value },
+    )
 }
 
 /// Removes the attribute of the kind that digits spell.
@@ -137,15 +151,16 @@ fn cleared<H: Host>(
     alloc: Global,
     host: &mut H,
     request: &Request<'_>,
+    later: &mut Later,
     path: &[u8],
     kind: &str,
 ) -> Result<(), Stop>
     requires { MayKeep request.now.keep }
-    ensures ended { EndsTask (RmAttr path.entry kind.entry) request.now.size request.now.keep request.now.image.now
+    ensures ended { EndsTask (RmAttr path.entry kind.entry) request.now.is_strict request.now.size request.now.keep request.now.image.now
         (H.known host.old) (H.known host.new) (stopped_by result) }
 {
     let kind = byte_of(kind)?;
-    stepped(alloc, host, request, &Step::RmAttr { path, kind })
+    stepped(alloc, host, request, later, &Step::RmAttr { path, kind })
 }
 
 /// Takes a step on an image's file, and writes what it leaves.
@@ -153,16 +168,27 @@ fn stepped<H: Host>(
     alloc: Global,
     host: &mut H,
     request: &Request<'_>,
+    later: &mut Later,
     step: &Step<'_>,
 ) -> Result<(), Stop>
-    requires { MayKeep request.now.keep }
-    ensures ended { EndsStep step.now request.now.size request.now.keep request.now.image.now
+    requires keep { MayKeep request.now.keep }
+    requires limits { HasLimits step.now }
+    ensures ended { EndsStep step.now request.now.is_strict request.now.size request.now.keep request.now.image.now
         (H.known host.old) (H.known host.new) (stopped_by result) }
 {
     let kind = kind_of(step);
     let target = aimed(alloc, host, kind, request.image)?;
     let handed = hand_over(alloc, host, step, target.as_str())?;
-    let outcome = taken(alloc, host, request.size, request.keep, step, handed)?;
+    let found = later_handed(step, request.size, &handed);
+    must_be_read(request.is_strict, found)?;
+    *later = found;
+    let outcome = match taken(alloc, host, request.size, request.keep, step, handed) {
+        Ok(outcome) => outcome,
+        Err(stop) => {
+            let name = target.as_str();
+            return Err(with_new_image(alloc, host, request.size, name, stop));
+        }
+    };
     Ok(stored(alloc, host, kind, target.as_str(), &outcome)?)
 }
 
@@ -175,7 +201,8 @@ fn ran<H: Host>(
     step: &Step<'_>,
     handed: Handed,
 ) -> Outcome
-    requires { MayKeep keep }
+    requires keep { MayKeep keep }
+    requires limits { HasLimits step.now }
     ensures answers { Answers (deed_of step.now handed.input.items keep) (given size handed.image.items handed.journal.items) result }
     ensures sent { SendsText (deed_of step.now handed.input.items keep) (given size handed.image.items handed.journal.items) result.fault (H.known host.old).printed (H.known host.new).printed }
     ensures blamed { IsBlamed result.fault (H.known host.new) }
@@ -199,7 +226,8 @@ fn taken<H: Host>(
     step: &Step<'_>,
     handed: Handed,
 ) -> Result<Outcome, Stop>
-    requires { MayKeep keep }
+    requires keep { MayKeep keep }
+    requires limits { HasLimits step.now }
     ensures ran { (outcome : Outcome) × RunsOn step.now size keep (record { image = handed.image.items; journal = handed.journal.items; input = handed.input.items })
         (stopped_by result) (H.known host.old).printed (H.known host.new).printed outcome × IfOk result (λ left. left ≡ outcome) }
     ensures blamed { IsBlamed (stopped_by result) (H.known host.new) }
@@ -209,9 +237,6 @@ fn taken<H: Host>(
     let outcome = ran(alloc, host, size, keep, step, handed);
     match outcome.fault {
         None => Ok(outcome),
-        Some(fault) => Err(Stop {
-            fault,
-            stated: stated_for(fault, &outcome.image, other),
-        }),
+        Some(fault) => Err(stop_of_run(alloc, size, step, fault, outcome.image, other)),
     }
 }

@@ -1,41 +1,92 @@
-//! The geometry that an image states of itself.
+//! What an image states of itself, where it is refused.
 
+use crate::path_note::PathNote;
 use byteorder::{ByteOrder, LittleEndian};
-use lfs_block::MountFault;
+use lfs_block::{ImageFault, MountFault};
 use lfs_change::OtherFault;
 use lfs_step::Fault;
 
 /// What stands in front of the superblock's fields.
-const MAGIC: &[u8] = b"littlefs";
+pub const MAGIC: &[u8] = b"littlefs";
 
-/// The block size and count that a superblock states.
+/// The disk version that is edited.
+const VERSION: u32 = 0x0002_0000;
+
+/// What a superblock states: the disk version, the size of a block in bytes, and the number of blocks.
 #[derive(Clone, Copy)]
 pub struct Stated {
+    /// The disk version, with its major number in the upper half.
+    pub version: u32,
     /// The size of a block, in bytes.
     pub size: u32,
     /// The number of blocks.
     pub count: u32,
 }
 
-/// The geometry that an image's superblock states, where the fault is that it isn't the image's; `other` is what that of an image states
-/// that the first is compared with. Takes no memory.
-pub fn stated_for(fault: Fault, image: &[u8], other: Option<Stated>) -> Option<Stated> {
+/// What is told behind a fault.
+#[derive(Clone, Copy)]
+pub enum Statement {
+    /// The geometry that the superblock states.
+    Superblock(Stated),
+    /// The geometry that stands in the first block, which isn't read as a superblock.
+    FirstBlock(Stated),
+    /// The disk version that stands there, which is a later one.
+    Version(Stated),
+    /// The disk version of a later commit, for which the image is refused.
+    Later(u32),
+    /// What is known of the path for which a step is refused.
+    Path(PathNote),
+    /// How many blocks the folder needs that is packed.
+    Need(u32),
+    /// No image of this block size holds the folder that is packed.
+    NoImageHolds,
+    /// What was to become the image is the one that the journal leads to.
+    NewImage,
+}
+
+/// What is told of an image behind a fault; `other` is what that of an image states that the first is compared with. Takes no memory.
+pub fn statement_for(fault: Fault, image: &[u8], other: Option<Stated>) -> Option<Statement> {
     match fault {
-        Fault::Mount(MountFault::Geometry) => stated_in(image),
-        Fault::Other(OtherFault::Mount(MountFault::Geometry)) => other,
+        Fault::Image(fault) => statement_of_bytes(fault, stated_in(image)?),
+        Fault::Mount(fault) => statement_of_image(fault, stated_in(image)?),
+        Fault::Other(OtherFault::Image(fault)) => statement_of_bytes(fault, other?),
+        Fault::Other(OtherFault::Mount(fault)) => statement_of_image(fault, other?),
         _ => None,
     }
 }
 
-/// The geometry that the superblock at the front of block 0 states, whatever the size of a block is; nothing where there
-/// is no superblock. Takes no memory.
+/// What is told where bytes are no image.
+fn statement_of_bytes(fault: ImageFault, stated: Stated) -> Option<Statement> {
+    match fault {
+        ImageFault::ImageLength | ImageFault::BadGeometry => Some(Statement::FirstBlock(stated)),
+    }
+}
+
+/// What is told where an image doesn't mount.
+fn statement_of_image(fault: MountFault, stated: Stated) -> Option<Statement> {
+    match fault {
+        MountFault::Geometry => Some(Statement::Superblock(stated)),
+        MountFault::NoValidCommit if stated.version != VERSION => Some(Statement::Version(stated)),
+        MountFault::NoValidCommit | MountFault::NoSuperblock => Some(Statement::FirstBlock(stated)),
+        _ => None,
+    }
+}
+
+/// What the superblock at the front of block 0 states, whatever the size of a block is; nothing where there is none. Takes no memory.
 pub fn stated_in(image: &[u8]) -> Option<Stated> {
     let front = image.get(8..32)?;
     if !front.starts_with(MAGIC) {
         return None;
     }
+    stated_of(&front[12..])
+}
+
+/// What the first words of a superblock's struct state; nothing where there are too few. Takes no memory.
+pub fn stated_of(words: &[u8]) -> Option<Stated> {
+    let words = words.get(..12)?;
     Some(Stated {
-        size: LittleEndian::read_u32(&front[16..20]),
-        count: LittleEndian::read_u32(&front[20..24]),
+        version: LittleEndian::read_u32(&words[..4]),
+        size: LittleEndian::read_u32(&words[4..8]),
+        count: LittleEndian::read_u32(&words[8..12]),
     })
 }

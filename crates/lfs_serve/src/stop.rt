@@ -1,17 +1,18 @@
 //! Why a run ends early, and what is told of it.
 
-use crate::stated::Stated;
+use crate::stated::Statement;
 use lfs_step::Fault;
 use std::alloc::AllocError;
 
-/// Why a run ends without having done what it was asked for, and the geometry that the image's superblock states, where
-/// that is why.
+/// Why a run ends without having done what it was asked for, with what is told of it beside.
 #[derive(Clone, Copy)]
 pub struct Stop {
     /// The fault.
     pub fault: Fault,
-    /// What the superblock states.
-    pub stated: Option<Stated>,
+    /// What more is known of it.
+    pub statement: Option<Statement>,
+    /// How many blocks the image has or would get.
+    pub count: Option<usize>,
 }
 
 impl From<Fault> for Stop {
@@ -22,7 +23,8 @@ impl From<Fault> for Stop {
     fn from(fault: Fault) -> Stop {
         Stop {
             fault,
-            stated: None,
+            statement: None,
+            count: None,
         }
     }
 }

@@ -2,8 +2,8 @@
 
 use crate::asking::ask_in_memory;
 use crate::requests::{
-    DONE, End, FRESH, IMAGE, JOURNAL, MKDIR, NO_MATCH, PUT, are_done, copied, edited_host, ends,
-    has_files, is_refused, new_host,
+    DONE, End, FRESH, IMAGE, JOURNAL, MKDIR, NO_MATCH, PUT, copied, edited_host, ends, has_files,
+    is_done, is_refused, new_host,
 };
 use lfs_host::{Failing, MemoryHost};
 use lfs_request::{Request, Task};
@@ -21,7 +21,7 @@ const NOT_WRITTEN: End = End {
 // a host with a directory
 fn middle_host(rt: &impl Abort, alloc: Global) -> MemoryHost {
     let mut host = new_host(rt, alloc);
-    are_done(rt, alloc, &mut host, &[MKDIR]);
+    is_done(rt, alloc, &mut host, &MKDIR);
     host
 }
 
@@ -72,12 +72,14 @@ fn an_old_image_with_a_new_journal_is_kept(rt: HostRuntime) -> Result<(), Fail> 
         task: Task::Step(Step::Check),
         size: 512,
         keep: None,
+        is_new: false,
+        is_strict: false,
         image: IMAGE,
     };
     host.printed.clear();
     assert_eq!(rt; ask_in_memory(rt.alloc(), &mut host, &check), 0);
     assert!(rt; host.printed.as_slice() == SAID.as_bytes());
-    are_done(&rt, rt.alloc(), &mut host, &[Step::Forget]);
+    is_done(&rt, rt.alloc(), &mut host, &Step::Forget);
     has_files(&rt, &host, &image, &FRESH);
     Ok(())
 }
@@ -91,7 +93,7 @@ fn leftovers_are_replaced(rt: HostRuntime) -> Result<(), Fail> {
     for name in ["a.img.new", "a.img.lfsj.new"] {
         host.put(name, b"left")?;
     }
-    are_done(&rt, rt.alloc(), &mut host, &[PUT]);
+    is_done(&rt, rt.alloc(), &mut host, &PUT);
     has_files(&rt, &host, &image, &journal);
     Ok(())
 }

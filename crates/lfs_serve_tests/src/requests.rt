@@ -1,5 +1,8 @@
 //! Requests on an image in memory, and how they end.
 
+ghost use Rattle.lfs_step.specs.Deed.{HasLimits};
+
+use lfs_fs::NEW_LIMITS;
 use lfs_host::MemoryHost;
 use lfs_request::{Request, Task};
 use lfs_serve::served;
@@ -23,7 +26,16 @@ pub(crate) const FRESH: [u8; 24] = [
 pub(crate) const MKDIR: Step<'static> = Step::Mkdir { path: b"/a" };
 
 /// A file in it.
-pub(crate) const PUT: Step<'static> = Step::Put { path: b"/a/x" };
+pub(crate) const PUT: Step<'static> = Step::Put {
+    path: b"/a/x",
+    from: None,
+};
+
+/// A new image of 8 blocks.
+const FORMAT: Step<'static> = Step::Format {
+    count: 8,
+    limits: NEW_LIMITS,
+};
 
 /// How a request ends.
 #[derive(Clone, Copy)]
@@ -58,13 +70,17 @@ pub(crate) fn ends(
     host: &mut MemoryHost,
     step: &Step<'static>,
     end: &End,
-) {
+)
+    requires { HasLimits step.now }
+{
     host.printed.clear();
     host.complained.clear();
     let request = Request {
         task: Task::Step(*step),
         size: 512,
         keep: None,
+        is_new: false,
+        is_strict: false,
         image: IMAGE,
     };
     let status = served(alloc, host, &request);
@@ -72,16 +88,11 @@ pub(crate) fn ends(
     assert_eq!(rt; status, end.status);
 }
 
-/// Asserts that steps are done, one after another.
-pub(crate) fn are_done(
-    rt: &impl Abort,
-    alloc: Global,
-    host: &mut MemoryHost,
-    steps: &[Step<'static>],
-) {
-    for step in steps {
-        ends(rt, alloc, host, step, &DONE);
-    }
+/// Asserts that a step is done.
+pub(crate) fn is_done(rt: &impl Abort, alloc: Global, host: &mut MemoryHost, step: &Step<'static>)
+    requires { HasLimits step.now }
+{
+    ends(rt, alloc, host, step, &DONE);
 }
 
 /// Asserts how a step ends, and that it leaves all files as they were.
@@ -91,7 +102,9 @@ pub(crate) fn is_refused(
     host: &mut MemoryHost,
     step: &Step<'static>,
     end: &End,
-) -> Result<(), AllocError> {
+) -> Result<(), AllocError>
+    requires { HasLimits step.now }
+{
     let files = host.files.clone()?;
     ends(rt, alloc, host, step, end);
     assert!(rt; host.files == files);
@@ -107,14 +120,15 @@ pub(crate) fn copied(alloc: Global, host: &MemoryHost, name: &str) -> Result<Vec
 /// A host with a new image of 8 blocks of 512 bytes, and what comes on its standard input is `hello`.
 pub(crate) fn new_host(rt: &impl Abort, alloc: Global) -> MemoryHost {
     let mut host = MemoryHost::new(alloc, b"hello");
-    are_done(rt, alloc, &mut host, &[Step::Format { count: 8 }]);
+    is_done(rt, alloc, &mut host, &FORMAT);
     host
 }
 
 /// The same, with a directory and a file in it.
 pub(crate) fn edited_host(rt: &impl Abort, alloc: Global) -> MemoryHost {
     let mut host = new_host(rt, alloc);
-    are_done(rt, alloc, &mut host, &[MKDIR, PUT]);
+    is_done(rt, alloc, &mut host, &MKDIR);
+    is_done(rt, alloc, &mut host, &PUT);
     host
 }
 

@@ -1,4 +1,4 @@
-use Rattle.std.proofs.Common.{rules, ◌≡◌, Option, Some, None}
+use Rattle.std.proofs.Common.{rules, ◌≡◌, ap, ◌∙◌, Option, Some, None}
 use Rattle.std.specs.Result.{result_err}
 use Rattle.lfs_change.specs.declared.fault.Fault.{Fault}
 use Rattle.lfs_serve.proofs.ExtractingLemmas.{bytes_end}
@@ -15,7 +15,9 @@ returns-in-Ok-extract_image-clause-made g c =
 pub returns-in-Err-extract_image-clause-made : goal.returns-in-Err-extract_image-clause-made
 returns-in-Err-extract_image-clause-made g c =
     let fault : Option Fault = result_err c.extract_image.result in
-    let told : Some c.in-Err-extract_image.fault ≡ fault = search rules in
+    let is : Some c.in-Err-extract_image.fault ≡ fault = search rules in
+    let stop = c.stop_of_extracting.result in
+    let told : Some stop.fault ≡ fault = ap Some c.stop_of_extracting.ensures ∙ is in
     bytes_end c.args.size c.args.bytes.items c.in-Ok.image.disk c.args.dir.now (g.H.Known.known c.args.host.now).tree (g.H.Known.known c.args.host.now).made
-    (g.H.Known.known c.extract_image.new.host) (Some c.in-Err-extract_image.fault) fault c.in-Ok.ensures.disk c.in-Ok.ensures.size
+    (g.H.Known.known c.extract_image.new.host) (Some stop.fault) fault c.in-Ok.ensures.disk c.in-Ok.ensures.size
     c.in-Ok.ensures.bytes told c.extract_image.ensures.made

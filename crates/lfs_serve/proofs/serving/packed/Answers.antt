@@ -1,4 +1,4 @@
-use Rattle.std.proofs.Common.{rules, ◌≡◌, List, refl, sym, subst, inl, inr}
+use Rattle.std.proofs.Common.{rules, ◌≡◌, List, Some, None, refl, sym, ap, subst, ◌∙◌, inl, inr}
 use Rattle.std.proofs.lemmas.Result.{err_from_is_err_and}
 use Rattle.lfs_command.specs.declared.refusal.Refusal.TheVariants.{Memory as No_memory}
 use Rattle.lfs_change.specs.declared.fault.Fault.TheVariants.{Refused}
@@ -7,7 +7,7 @@ use Rattle.lfs_folder.specs.FolderRows.{IsFolder}
 use Rattle.lfs_host.specs.Scene.{Scene}
 use Rattle.lfs_step.specs.declared.step.Step.TheVariants.{Pack}
 use Rattle.lfs_fs.specs.Limits.{most_file}
-use Rattle.lfs_serve.specs.Program.{stopped_by}
+use Rattle.lfs_serve.specs.Program.{EndsStep, stopped_by}
 use Rattle.lfs_serve.proofs.HostFolderLemmas.{packs, wants_memory}
 use Rattle.lfs_serve.proofs.StepLemmas.{step_from, stopped_at}
 use Rattle.lfs_serve.proofs.serving.packed.Goals as goal
@@ -36,6 +36,41 @@ returns-in_err-rows g c =
       );
     }
 
+pub returns-in_err-count : goal.returns-in_err-count
+returns-in_err-count g c =
+    let p = err_from_is_err_and c.from_residual-in_err-count.result c.from_residual-in_err-count.ensures.1 in
+    let kept = c.folder_of.ensures.kept in
+    record {
+      ended = inr (
+        (kept.0.0, kept.0.2),
+        (
+          Refused No_memory,
+          stopped_at c.from_residual-in_err-count.result (Refused No_memory) p.0 p.1 p.2,
+          wants_memory (g.H.Known.known c.args.host.now).tree c.args.dir.now (g.H.Known.known c.folder_of.new.host),
+        ),
+      );
+    }
+
+pub returns-in-Ok : goal.returns-in-Ok
+returns-in-Ok g c =
+    let old : Scene = g.H.Known.known c.args.host.now in
+    let mid : Scene = g.H.Known.known c.folder_of.new.host in
+    let new : Scene = g.H.Known.known c.stepped.new.host in
+    let request = c.args.request.now in
+    let dir = c.args.dir.now in
+    let rows = c.in_ok-rows.rows.items in
+    let folder = c.deref.result.now in
+    let folder_is : folder ≡ c.in_ok-folder.folder.items = search rules in
+    let read = subst (λ (rs : List FolderRow). IsFolder most_file old.tree dir rs) (sym folder_is) c.in_ok-folder.ensures.read in
+    let packed = packs old.tree dir folder rows read c.in_ok-rows.ensures in
+    let rows_is : c.as_slice-rows.result.now ≡ rows = search rules in
+    let step = Pack c.in_ok-count.count c.args.limits c.as_slice-rows.result in
+    let kept = c.folder_of.ensures.kept.0 in
+    let ended = subst (EndsStep step request.is_strict request.size request.keep request.image.now mid new) (ap stopped_by c.in-Ok.is) c.stepped.ensures.ended in
+    let ends = step_from step request.is_strict request.size request.keep request.image.now mid old new None kept.0 kept.1 kept.2
+    ended in
+    record { ended = inl (step, (rows, packed, (c.in_ok-count.ensures, refl, rows_is)), ends) }
+
 pub returns : goal.returns
 returns g c =
     let old : Scene = g.H.Known.known c.args.host.now in
@@ -49,8 +84,10 @@ returns g c =
     let read = subst (λ (rs : List FolderRow). IsFolder most_file old.tree dir rs) (sym folder_is) c.in_ok-folder.ensures.read in
     let packed = packs old.tree dir folder rows read c.in_ok-rows.ensures in
     let rows_is : c.as_slice-rows.result.now ≡ rows = search rules in
-    let step = Pack c.args.count c.as_slice-rows.result in
+    let step = Pack c.in_ok-count.count c.args.limits c.as_slice-rows.result in
     let kept = c.folder_of.ensures.kept.0 in
-    let ends = step_from step request.size request.keep request.image.now mid old new (stopped_by c.stepped.result) kept.0 kept.1 kept.2
-    c.stepped.ensures.ended in
-    record { ended = inl (step, (rows, packed, (refl, rows_is)), ends) }
+    let ended = subst (EndsStep step request.is_strict request.size request.keep request.image.now mid new)
+    (ap stopped_by c.in-Err.is ∙ ap Some (sym c.with_need.ensures)) c.stepped.ensures.ended in
+    let ends = step_from step request.is_strict request.size request.keep request.image.now mid old new (Some c.with_need.result.fault) kept.0 kept.1 kept.2
+    ended in
+    record { ended = inl (step, (rows, packed, (c.in_ok-count.ensures, refl, rows_is)), ends) }

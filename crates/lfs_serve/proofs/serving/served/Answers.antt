@@ -1,13 +1,13 @@
-use Rattle.std.proofs.Common.{Some, sym, subst}
+use Rattle.std.proofs.Common.{sym, subst, ◌∙◌}
 use Rattle.lfs_host.specs.Scene.{Scene}
-use Rattle.lfs_serve.specs.Program.{EndsTask}
+use Rattle.lfs_serve.specs.Program.{EndsAsked, stopped_by}
 use Rattle.lfs_serve.proofs.serving.served.Goals as goal
 
-pub returns-in-Err : goal.returns-in-Err
-returns-in-Err g c =
+pub returns : goal.returns
+returns g c =
     let request = c.args.request.now in
-    let fault = Some c.in-Err.stop.fault in
+    let fault = stopped_by c.asked-end.result in
     let old : Scene = g.H.Known.known c.args.host.now in
-    let ends = subst (λ (new : Scene). EndsTask request.task request.size request.keep request.image.now old new fault) (sym c.tell_of.ensures.kept)
-    c.in-Err.ensures.ended in
-    record { ended = (fault, ends, c.tell_of.ensures.status) }
+    let ends = subst (λ (new : Scene). EndsAsked request old new fault)
+    (sym (c.tell_within.ensures.kept ∙ c.tell_later.ensures.kept ∙ c.tell_end-status.ensures.kept)) c.asked-end.ensures.ended in
+    record { ended = (fault, ends, c.tell_end-status.ensures.status) }

@@ -1,0 +1,12 @@
+//! How many blocks a packed image gets.
+
+/// How many blocks a packed image gets.
+///
+/// Source: own.
+#[derive(Clone, Copy)]
+pub enum Extent {
+    /// So many.
+    Count(u32),
+    /// The least number that holds the folder.
+    Least,
+}

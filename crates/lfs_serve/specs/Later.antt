@@ -1,0 +1,30 @@
+-- Commits of later disk versions in what is read as an image, and how they are refused where that is asked for (own).
+use Rattle.std.specs.Prelude.{ℕ, Bool, List, Option, Some, None, if◌then◌else◌}
+use Rattle.lfs_block.specs.declared.mount_fault.MountFault.TheVariants.{Version}
+use Rattle.lfs_change.specs.declared.fault.Fault.{Fault}
+use Rattle.lfs_change.specs.declared.fault.Fault.TheVariants.{Mount, Other}
+use Rattle.lfs_change.specs.declared.other_fault.OtherFault.TheVariants as other
+use Rattle.lfs_exchange.specs.Handing.{HandedBytes}
+use Rattle.lfs_later.specs.Version.{later_version}
+use Rattle.lfs_step.specs.declared.step.Step.{Step}
+use Rattle.lfs_step.specs.declared.step.Step.TheVariants.{Diff}
+use Rattle.lfs_serve.specs.declared.later.Later.{Later}
+
+-- those in an image alone
+abbrev pub later_alone : ℕ → List ℕ → Later
+later_alone size bytes = record { image = later_version bytes size; other = None }
+
+-- those in what a step is handed: in the image, and in the one that it is compared with
+abbrev pub later_handed : Step → ℕ → HandedBytes → Later
+later_handed (Diff name) size h = record { image = later_version h.image size; other = later_version h.input size }
+later_handed step size h = later_alone size h.image
+
+-- what they are refused with, by the versions of those in the image and in the other one
+abbrev pub refusal_of : Option ℕ → Option ℕ → Option Fault
+refusal_of (Some version) compared = Some (Mount Version)
+refusal_of None (Some version) = Some (Other (other.Mount Version))
+refusal_of None None = None
+
+-- the same where that is asked for
+abbrev pub refused_by : Bool → Later → Option Fault
+refused_by strict later = if strict then refusal_of later.image later.other else None

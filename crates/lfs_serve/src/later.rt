@@ -1,0 +1,97 @@
+//! Commits of later disk versions in what is read as an image.
+
+ghost use Rattle.std.specs.Prelude.{◌≡◌};
+ghost use Rattle.lfs_serve.specs.Later.{later_alone, later_handed, refused_by};
+ghost use Rattle.lfs_serve.specs.Program.{stopped_by};
+
+use crate::stated::Statement;
+use crate::stop::Stop;
+use lfs_block::MountFault;
+use lfs_change::OtherFault;
+use lfs_exchange::Handed;
+use lfs_host::Host;
+use lfs_later::later_version;
+use lfs_request::{Request, Task};
+use lfs_step::{Fault, Step};
+
+/// The disk versions of commits that aren't read, where such stand in an image, and in the one that it is compared with.
+#[derive(Clone, Copy)]
+pub struct Later {
+    /// In the image.
+    pub image: Option<u32>,
+    /// In the other one.
+    pub other: Option<u32>,
+}
+
+/// Those in an image alone, of blocks of `size` bytes. Takes no memory.
+pub fn later_alone(size: u32, bytes: &[u8]) -> Later
+    ensures { result ≡ later_alone size bytes.now }
+{
+    Later {
+        image: later_version(bytes, size),
+        other: None,
+    }
+}
+
+/// Those in what a step is handed. Takes no memory.
+pub fn later_handed(step: &Step<'_>, size: u32, handed: &Handed) -> Later
+    ensures { result ≡ later_handed step.now size (record { image = handed.now.image.items; journal = handed.now.journal.items; input = handed.now.input.items }) }
+{
+    let image = later_version(handed.image.as_slice(), size);
+    let other = match *step {
+        Step::Diff { .. } => later_version(handed.input.as_slice(), size),
+        _ => None,
+    };
+    Later { image, other }
+}
+
+/// Refuses them, where that is asked for. Takes no memory.
+pub fn must_be_read(is_strict: bool, later: Later) -> Result<(), Stop>
+    ensures { stopped_by result ≡ refused_by is_strict later }
+{
+    if !is_strict {
+        return Ok(());
+    }
+    match (later.image, later.other) {
+        (Some(version), _) => Err(stop_of(Fault::Mount(MountFault::Version), version)),
+        (None, Some(version)) => Err(stop_of(
+            Fault::Other(OtherFault::Mount(MountFault::Version)),
+            version,
+        )),
+        (None, None) => Ok(()),
+    }
+}
+
+/// The fault of an image in which commits of this version stand.
+fn stop_of(fault: Fault, version: u32) -> Stop
+    ensures { result.fault ≡ fault }
+{
+    Stop {
+        fault,
+        statement: Some(Statement::Later(version)),
+        count: None,
+    }
+}
+
+/// Tells of them on standard error. Takes no memory.
+pub fn tell_later<H: Host>(host: &mut H, request: &Request<'_>, later: Later)
+    ensures kept { H.known host.new ≡ H.known host.old }
+{
+    if let Some(version) = later.image {
+        tell_version(host, request.image, version);
+    }
+    if let (Some(version), Task::Step(Step::Diff { other })) = (later.other, request.task) {
+        tell_version(host, other, version);
+    }
+}
+
+/// Tells of those in the image of this name.
+pub fn tell_version<H: Host>(host: &mut H, image: &str, version: u32)
+    ensures kept { H.known host.new ≡ H.known host.old }
+{
+    host.complain(format_args!(
+        "lfsed: {image}: a later commit of disk version {}.{} stands in it, which is not read\n",
+        version >> 16,
+        version & 0xffff
+    ));
+}

@@ -1,0 +1,95 @@
+//! The paths of a step, and how their bytes are shown.
+
+use crate::path_note::Front;
+use lfs_request::Task;
+use lfs_step::Step;
+use std::fmt;
+
+/// The paths of a step.
+#[derive(Clone, Copy)]
+pub struct StepPaths<'a> {
+    /// The path that it is about.
+    pub path: &'a [u8],
+    /// The one that what is there is moved to.
+    pub target: Option<&'a [u8]>,
+}
+
+impl<'a> StepPaths<'a> {
+    /// The paths of a step, where it has any. Takes no memory.
+    pub fn of(step: &Step<'a>) -> Option<StepPaths<'a>> {
+        match *step {
+            Step::Mv { from, to } => Some(StepPaths {
+                path: from,
+                target: Some(to),
+            }),
+            Step::Cat { path } | Step::Mkdir { path } | Step::Rm { path } => Some(StepPaths::alone(
+                path,
+            )),
+            Step::Put { path, .. } | Step::SetAttr { path, .. } | Step::RmAttr { path, .. } => {
+                Some(StepPaths::alone(path))
+            }
+            _ => None,
+        }
+    }
+
+    /// The paths of a task, where it has any. Takes no memory.
+    pub fn of_task(task: &Task<'a>) -> Option<StepPaths<'a>> {
+        match *task {
+            Task::Step(ref step) => StepPaths::of(step),
+            Task::SetAttr { path, .. } | Task::RmAttr { path, .. } => Some(StepPaths::alone(path)),
+            _ => None,
+        }
+    }
+
+    /// One path.
+    fn alone(path: &'a [u8]) -> StepPaths<'a> {
+        StepPaths { path, target: None }
+    }
+
+    /// The text of a front. Takes no memory.
+    pub fn text(self, front: Front) -> &'a [u8] {
+        let path = match self.target {
+            Some(target) if front.is_of_target => target,
+            _ => self.path,
+        };
+        path.get(..front.len).unwrap_or(path)
+    }
+
+    /// The whole of the first path. Takes no memory.
+    pub fn first(self) -> Front {
+        Front {
+            is_of_target: false,
+            len: self.path.len(),
+        }
+    }
+
+    /// The whole of the path that something is moved to, or of the only one. Takes no memory.
+    pub fn last(self) -> Front {
+        match self.target {
+            Some(target) => Front {
+                is_of_target: true,
+                len: target.len(),
+            },
+            None => self.first(),
+        }
+    }
+}
+
+/// Bytes of a path, as they are shown.
+#[derive(Clone, Copy)]
+pub struct Shown<'a> {
+    /// The bytes.
+    pub bytes: &'a [u8],
+}
+
+impl fmt::Display for Shown<'_> {
+    fn fmt<W: fmt::Write>(&self, f: &mut fmt::Formatter<W>) -> fmt::Result {
+        for &byte in self.bytes {
+            match byte {
+                b'\\' | 0..=0x1f | 0x7f..=0xff => write!(f, "\\x{byte:02x}")?,
+                _ => f.write_char(char::from(byte))?,
+            }
+        }
+        Ok(())
+    }
+}

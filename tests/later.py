@@ -1,0 +1,175 @@
+#!/usr/bin/env python3
+"""Images that a later littlefs has written: commits of disk version 2.1, from a writer apart from the program. Where such stand
+behind what version 2.0 reads, or in the block that a device takes for the live one, each command says so, and `--strict` refuses the
+image. Where they are unfinished, stale or of version 2.0 nothing is said."""
+import struct
+import sys
+import zlib
+
+from support.folder import run_scenes
+from support.littlefs import Reader
+from support.logs import NO_ENTRY, Draft, attribute, file, image, superblock
+
+SIZE, COUNT = 512, 8
+LATER, FIRST = 0x0002_0001, 0x0002_0000
+FORWARD = 0x5FF
+TOLD = "lfsed: a.img: a later commit of disk version 2.1 stands in it, which is not read\n"
+TOLD_OTHER = TOLD.replace("a.img", "b.img")
+REFUSED = "lfsed: 10 Version\n" + TOLD
+SAID = "block 512, count 8, free 6, directories 1, files 1\n"
+
+
+def version(number, name=()):
+    """The items of a superblock that states a version; those of its name are left out where it has one already."""
+    return [*name, (0x201, 0, struct.pack("<6I", number, SIZE, COUNT, 255, 2_147_483_647, 1_022))]
+
+
+def later(draft, items, step=16):
+    """Adds a commit as version 2.1 has it: a checksum of the erased bytes behind it stands before the closing tag."""
+    erased = struct.pack("<2I", step, zlib.crc32(step * b"\xff") ^ 0xFFFF_FFFF)
+    return draft.add(items).tag(FORWARD, NO_ENTRY, len(erased), erased).close_at(step)
+
+
+def first(*more):
+    """A block that version 2.0 wrote: a superblock and a file, and further commits."""
+    draft = Draft(1).add(superblock(SIZE, COUNT) + file(1, b"old", b"old")).close_at(16)
+    for items in more:
+        draft.add(items).close_at(16)
+    return draft.bytes
+
+
+def written(block, *commits):
+    """A block of version 2.0 behind which a device of version 2.1 wrote these commits."""
+    draft = Draft.behind(block.ljust(SIZE, b"\xff"))
+    for items in commits:
+        later(draft, items)
+    return draft.bytes
+
+
+def anew(revision, number=LATER):
+    """A block that a device of version 2.1 wrote anew."""
+    return later(Draft(revision), superblock(SIZE, COUNT)[:1] + version(number) + file(1, b"new", b"new")).bytes
+
+
+# What a device of version 2.1 leaves of an image of version 2.0: its first write states its version.
+APPENDED = image(SIZE, COUNT, {0: written(first(), version(LATER), file(2, b"new", b"new"))})
+BEHIND_SEVERAL = image(SIZE, COUNT, {0: written(first(attribute(0, 0x74, b"\1"), attribute(0, 0x75, b"\2")), version(LATER))})
+REWRITTEN = image(SIZE, COUNT, {0: first(), 1: anew(2)})
+APPENDED_IN_ONE = image(SIZE, COUNT, {0: Draft(0).add(superblock(SIZE, COUNT)).close_at(16).bytes, 1: written(first(), version(LATER))})
+LATEST = {"appended": APPENDED, "behind several": BEHIND_SEVERAL, "rewritten": REWRITTEN, "in block 1": APPENDED_IN_ONE}
+
+# What is read of those is what version 2.0 wrote.
+ASKED = [
+    ("check -b 512 a.img", SAID),
+    ("cat -b 512 a.img /old", "old"),
+    ("log -b 512 a.img", ""),
+]
+
+# What changes those, or isn't carried out.
+CHANGED = [
+    ("put -b 512 a.img /more", 0, ""),
+    ("mkdir -b 512 a.img /made", 0, ""),
+    ("mv -b 512 a.img /old /moved", 0, ""),
+    ("rm -b 512 a.img /old", 0, ""),
+    ("setattr -b 512 a.img /old 74 01", 0, ""),
+    ("grow -b 512 a.img 9", 0, ""),
+    ("forget -b 512 a.img", 0, ""),
+    ("undo -b 512 a.img", 1, "lfsed: 53 NothingToUndo\n"),
+    ("redo -b 512 a.img", 1, "lfsed: 54 NothingToRedo\n"),
+    ("mkdir -b 512 a.img /old", 1, "lfsed: 31 Exists\nlfsed: a.img: /old: something is there\n"),
+]
+
+STALE = Draft(1).add(superblock(SIZE, COUNT)).close_at(16).bytes
+CUT_OFF = written(first(), version(LATER))[:-9]
+PLAIN = image(SIZE, COUNT, {0: first()})
+
+# Images of which nothing is said, and how many files they have.
+UNSAID = {
+    "as version 2.0 wrote it": PLAIN,
+    "an unfinished commit": image(SIZE, COUNT, {0: CUT_OFF}),
+    "a commit whose checksum is wrong": image(SIZE, COUNT, {0: written(first(), version(LATER))[:-12] + 12 * b"\0"}),
+    "an unfinished block": image(SIZE, COUNT, {0: first(), 1: anew(2)[:-9]}),
+    "a block of an earlier revision": image(SIZE, COUNT, {0: Draft(3).add(superblock(SIZE, COUNT) + file(1, b"old", b"old")).close_at(16).bytes, 1: anew(2)}),
+    "a stale block with later commits": image(SIZE, COUNT, {0: written(STALE, version(LATER)), 1: Draft(2).add(
+        superblock(SIZE, COUNT) + file(1, b"old", b"old")).close_at(16).bytes}),
+    "commits of version 2.0 with such a tag": image(SIZE, COUNT, {0: written(first(), version(FIRST))}),
+    "commits that state no version": image(SIZE, COUNT, {0: written(first(), attribute(0, 0x74, b"\1"))}),
+}
+
+
+def each_command_says_so(folder):
+    for name, latest in LATEST.items():
+        for words, printed in ASKED:
+            folder.be(latest, 0)
+            folder.play([(words, 0, 0, TOLD, printed)])
+            folder.check(f"{name}: {words}", folder.old() == latest)
+        for words, status, complaint in CHANGED:
+            folder.be(latest, 0)
+            folder.play([(words, 4, status, complaint + TOLD, "")])
+
+
+def a_block_that_is_written_anew_ends_it(folder):
+    for name, latest in LATEST.items():
+        folder.be(latest, 0)
+        # What is appended to block 0 leaves block 1 the later one.
+        told = TOLD if name == "rewritten" else ""
+        folder.play([("put -b 512 a.img /more", 4, 0, TOLD, ""), ("cat -b 512 a.img /more", 0, 0, told, 4)])
+        paths = [path for path, _ in Reader(folder.old(), SIZE).rows()]
+        folder.check(f"{name}: what stands there", paths == [b"/", b"/more", b"/old"], paths)
+
+
+def strict_runs_are_refused(folder):
+    for name, latest in LATEST.items():
+        for words in [words for words, *_ in ASKED + CHANGED] + ["ls -b 512 a.img"]:
+            folder.be(latest, 0)
+            folder.play([(f"{words} --strict", 4, 3, REFUSED, "")])
+            folder.check(f"{name}: strict: {words}", (folder.old(), folder.saved()) == (latest, None))
+        folder.be(latest, 0)
+        folder.play([("extract -b 512 --strict a.img made", 0, 3, REFUSED, "")])
+
+
+def nothing_is_said_of_others(folder):
+    for name, quiet in UNSAID.items():
+        for strict in "", " --strict":
+            folder.be(quiet, 0)
+            folder.play([(f"check -b 512 a.img{strict}", 0, 0, "", SAID), (f"cat -b 512 a.img /old{strict}", 0, 0, "", "old")])
+            folder.check(f"{name}{strict}", folder.old() == quiet)
+
+
+def a_later_image_states_its_version(folder):
+    second = "lfsed: 3 NoValidCommit\nlfsed: a.img: its first block states disk version 2.1\n"
+    for strict in "", " --strict":
+        folder.be(image(SIZE, COUNT, {0: anew(1)}), 0)
+        folder.play([(f"check -b 512 a.img{strict}", 0, 3, second, ""), (f"put -b 512 a.img /more{strict}", 4, 3, second, "")])
+
+
+def images_are_compared(folder):
+    other = folder.image.with_name("b.img")
+    for left, right, told, refused in [
+        (APPENDED, PLAIN, TOLD, TOLD), (PLAIN, REWRITTEN, TOLD_OTHER, TOLD_OTHER), (APPENDED, REWRITTEN, TOLD + TOLD_OTHER, TOLD),
+        (PLAIN, PLAIN, "", ""),
+    ]:
+        folder.image.write_bytes(left)
+        other.write_bytes(right)
+        ended = folder.run("diff -b 512 a.img b.img")
+        folder.check("compared", ended == (0, told, b""), ended)
+        ended = folder.run("diff -b 512 --strict a.img b.img")
+        wanted = (3, "lfsed: 10 Version\n" + refused, b"") if refused else (0, "", b"")
+        folder.check("compared strictly", ended == wanted, ended)
+        folder.check("both stand", (folder.old(), other.read_bytes()) == (left, right))
+    other.unlink()
+
+
+def an_image_is_extracted(folder):
+    folder.be(APPENDED, 0)
+    ended = folder.run("extract -b 512 a.img made")
+    made = folder.image.with_name("made")
+    folder.check("extracted", ended == (0, TOLD, b""), ended)
+    folder.check("what is made", [path.name for path in made.iterdir()] == ["old"])
+
+
+if __name__ == "__main__":
+    sys.exit(run_scenes([
+        each_command_says_so, a_block_that_is_written_anew_ends_it, strict_runs_are_refused, nothing_is_said_of_others,
+        a_later_image_states_its_version, images_are_compared, an_image_is_extracted,
+    ]))

@@ -1,0 +1,159 @@
+#!/usr/bin/env python3
+"""What is told behind a fault, in a second line: the path that it is of, the limit that isn't kept, what the first block states, how
+many blocks a folder needs, and what stands where it may not. Each row was written by hand."""
+import sys
+
+from support.folder import run_scenes
+from support.logs import image, log, superblock
+
+MADE = [
+    ("mkdir -b 512 a.img /a", 0),
+    ("put -b 512 a.img /a/f", 3),
+    ("mkdir -b 512 a.img /d", 0),
+    ("setattr -b 512 a.img /a/f 75 01", 0),
+]
+
+# Commands on that image, and what is told: the first line, and the second one behind the image's name.
+PATHS = [
+    ("cat -b 512 a.img /x", "30 NotFound", "/x: nothing is there"),
+    ("cat -b 512 a.img /a/x", "30 NotFound", "/a/x: nothing is there"),
+    ("mkdir -b 512 a.img /x/y/z", "30 NotFound", "/x: nothing is there"),
+    ("put -b 512 a.img /a/x/y", "30 NotFound", "/a/x: nothing is there"),
+    ("rm -b 512 a.img /x", "30 NotFound", "/x: nothing is there"),
+    ("mv -b 512 a.img /x /y", "30 NotFound", "/x: nothing is there"),
+    ("mv -b 512 a.img /a/f /x/y", "30 NotFound", "/x: nothing is there"),
+    ("setattr -b 512 a.img /x 74 01", "30 NotFound", "/x: nothing is there"),
+    ("rmattr -b 512 a.img /x/y 74", "30 NotFound", "/x: nothing is there"),
+    ("mkdir -b 512 a.img /a", "31 Exists", "/a: something is there"),
+    ("mkdir -b 512 a.img /a/f", "31 Exists", "/a/f: something is there"),
+    ("mv -b 512 a.img /a /d", "31 Exists", "/d: something is there"),
+    ("mkdir -b 512 a.img /a/f/x", "32 NotADirectory", "/a/f: is a file"),
+    ("cat -b 512 a.img /a/f/x/y", "32 NotADirectory", "/a/f: is a file"),
+    ("mv -b 512 a.img /a/f/x /y", "32 NotADirectory", "/a/f: is a file"),
+    ("mv -b 512 a.img /d /a/f/x", "32 NotADirectory", "/a/f: is a file"),
+    ("cat -b 512 a.img /a", "33 IsADirectory", "/a: is a directory"),
+    ("put -b 512 a.img /a", "33 IsADirectory", "/a: is a directory"),
+    ("rm -b 512 a.img /a", "34 NotEmpty", "/a: is not empty"),
+    ("cat -b 512 a.img x", "35 BadPath", "x: is no path"),
+    ("mkdir -b 512 a.img /a//x", "35 BadPath", "/a//x: is no path"),
+    ("mkdir -b 512 a.img /a/../x", "35 BadPath", "/a/../x: is no path"),
+    ("mv -b 512 a.img x /y", "35 BadPath", "x: is no path"),
+    ("mv -b 512 a.img /a y", "35 BadPath", "y: is no path"),
+    (f"mkdir -b 512 a.img /{256 * 'n'}", "36 NameTooLong", f"/{256 * 'n'}: its name is longer than 255 bytes"),
+    (f"mv -b 512 a.img /d /{256 * 'n'}", "36 NameTooLong", f"/{256 * 'n'}: its name is longer than 255 bytes"),
+    (f"setattr -b 512 a.img / 74 {1_023 * '00'}", "38 AttrTooLarge", "/: its attribute is longer than 1022 bytes"),
+    ("rmattr -b 512 a.img /a/f 74", "39 NoAttr", "/a/f: has no attribute of kind 74"),
+    ("rmattr -b 512 a.img / 0B", "39 NoAttr", "/: has no attribute of kind 0b"),
+    ("mv -b 512 a.img /a /a/x", "40 IntoItself", "/a: can't be moved to /a/x, which is below it"),
+    ("rm -b 512 a.img /", "41 IsRoot", "/: is the root"),
+    ("mv -b 512 a.img / /x", "41 IsRoot", "/: is the root"),
+    ("mv -b 512 a.img /a /", "41 IsRoot", "/: is the root"),
+    (f"setattr -b 512 a.img /a/f 74 {600 * '00'}", "42 EntryTooLarge", "/a/f: takes more than a block has room for"),
+    ("mkdir -b 512 a.img /\\/x", "30 NotFound", "/\\x5c: nothing is there"),
+    ("mkdir -b 512 a.img /\xe4/x", "30 NotFound", "/\\xc3\\xa4: nothing is there"),
+]
+
+# A small image of three bytes for a name, and two for contents and attributes.
+SMALL = image(512, 8, {0: log(1, superblock(512, 8, 3, 2, 2))})
+
+LIMITS = [
+    ("mkdir -b 512 a.img /four", 0, "36 NameTooLong", "/four: its name is longer than 3 bytes"),
+    ("put -b 512 a.img /f", 3, "37 FileTooLarge", "/f: its contents are longer than 2 bytes"),
+    ("setattr -b 512 a.img / 74 010203", 0, "38 AttrTooLarge", "/: its attribute is longer than 2 bytes"),
+]
+
+# Geometries that no image has.
+GEOMETRIES = [
+    ("format -b 65536 --count 1025 b.img", "lfsed: b.img: an image has at most 67108864 bytes, this one 1025 blocks of 65536\n"),
+    ("format -b 4096 --count 65536 b.img", "lfsed: b.img: an image has at most 67108864 bytes, this one 65536 blocks of 4096\n"),
+    ("format -b 260 --count 8 b.img", "lfsed: --block 260: a block is a multiple of 16 bytes\n"),
+]
+
+
+def is_refused(folder, words, length, first, second):
+    """A run that tells these two lines, and nothing else."""
+    ended = folder.run(words, length)
+    status = 3 if first.split(" ")[0] in ("1", "2", "3", "9", "10", "11") else 1
+    folder.check(words[:80], ended == (status, f"lfsed: {first}\n{second}", b""), ended)
+
+
+def paths_are_named(folder):
+    folder.play([("format -b 512 --count 32 a.img", 0, 0, "", "")])
+    folder.play([(words, length, 0, "", "") for words, length in MADE])
+    held = folder.old()
+    for words, first, second in PATHS:
+        is_refused(folder, words, 0, first, f"lfsed: a.img: {second}\n")
+    folder.check("the image stands", folder.old() == held)
+
+
+def limits_are_those_of_the_image(folder):
+    folder.be(SMALL, 0)
+    for words, length, first, second in LIMITS:
+        is_refused(folder, words, length, first, f"lfsed: a.img: {second}\n")
+
+
+def geometries_are_named(folder):
+    for words, second in GEOMETRIES:
+        is_refused(folder, words, 0, "2 BadGeometry", second)
+    folder.be(b"", 512)
+    is_refused(folder, "check -b 512 a.img", 0, "2 BadGeometry", "lfsed: a.img: an image has 2 to 65536 blocks, this one 1 of 512 bytes\n")
+    folder.be(b"", 65_537 * 256)
+    is_refused(folder, "check -b 256 a.img", 0, "2 BadGeometry", "lfsed: a.img: an image has 2 to 65536 blocks, this one 65537 of 256 bytes\n")
+
+
+def the_first_block_is_told(folder):
+    states = "lfsed: a.img: its first block states 8 blocks of 512 bytes\n"
+    new = image(512, 8, {0: log(1, superblock(512, 8))})
+    folder.be(new[:4_095], 0)
+    is_refused(folder, "check -b 512 a.img", 0, "1 ImageLength", states)
+    folder.be(new[:512], 0)
+    is_refused(folder, "check -b 512 a.img", 0, "2 BadGeometry",
+               "lfsed: a.img: an image has 2 to 65536 blocks, this one 1 of 512 bytes\n" + states)
+    folder.be(new[:40] + b"\0" + new[41:], 0)
+    is_refused(folder, "check -b 512 a.img", 0, "3 NoValidCommit", states)
+    folder.be(new, 0)
+    is_refused(folder, "check -b 1024 a.img", 0, "11 Geometry", "lfsed: a.img: its superblock states 8 blocks of 512 bytes\n")
+    folder.play([("grow -b 512 a.img 16", 0, 0, "", "")])
+    is_refused(folder, "check -b 1024 a.img", 0, "11 Geometry", "lfsed: a.img: its superblock states 16 blocks of 512 bytes\n")
+
+
+def folders_are_named(folder):
+    there = folder.image.with_name("made")
+    there.mkdir()
+    ended = folder.run("format -b 512 --count 8 a.img")
+    folder.check("made", ended == (0, "", b""), ended)
+    ended = folder.run("extract -b 512 a.img made")
+    folder.check("a folder that is there", ended == (4, "lfsed: 62 HostEntry\nlfsed: made: is there already\n", b""), ended)
+    (there / "f").write_bytes(bytes(5_000))
+    ended = folder.run("pack -b 512 --count 4 a.img made")
+    lines = ended[1].splitlines()
+    folder.check("a folder without room", ended[0] == 1 and lines[0].startswith("lfsed: 43 NoSpace need ")
+                 and lines[1:] == ["lfsed: made: needs 12 blocks of 512 bytes in all"], ended)
+    ended = folder.run("pack -b 512 --count 32 made/a.img made")
+    folder.check("an image in its folder", ended == (0, "lfsed: made/a.img: stands in the folder that is packed\n", b""), ended)
+
+
+def the_image_of_a_journal_is_told(folder):
+    folder.play([("format -b 512 --count 8 a.img", 0, 0, "", "")])
+    old = folder.old()
+    folder.play([("mkdir -b 512 a.img /d", 0, 0, "", "")])
+    new, beside = folder.old(), folder.image.with_name("a.img.new")
+    folder.image.write_bytes(old)
+    first = "lfsed: 51 JournalMismatch\n"
+    second = "lfsed: a.img.new: is the image of the journal: renamed to a.img it mends both, which forget would lose\n"
+    for bytes_beside, told in (None, ""), (old, ""), (new[:-512], ""), (new, second):
+        if bytes_beside is not None:
+            beside.write_bytes(bytes_beside)
+        for words in "undo -b 512 a.img", "log -b 512 a.img":
+            ended = folder.run(words)
+            folder.check(f"{words}: {told}", ended == (3, first + told, b""), ended)
+    beside.rename(folder.image)
+    folder.play([("undo -b 512 a.img", 0, 0, "", "")])
+    folder.check("what is mended is taken back", folder.old() == old)
+
+
+if __name__ == "__main__":
+    sys.exit(run_scenes([
+        paths_are_named, limits_are_those_of_the_image, geometries_are_named, the_first_block_is_told, folders_are_named,
+        the_image_of_a_journal_is_told,
+    ]))
