@@ -24,88 +24,94 @@ _lfsed() {
     return
   fi
   case $before in
-    '<' | '>' | '>>')
+    '<' | '>' | '>>' | --from)
       mapfile -t COMPREPLY < <(compgen -f -- "$current")
       return
       ;;
-    = | -b | --block | --count | --keep | --steps) return ;;
+    =)
+      case ${COMP_WORDS[COMP_CWORD - 2]} in
+        --from) mapfile -t COMPREPLY < <(compgen -f -- "$current") ;;
+      esac
+      return
+      ;;
+    -b | --block | --count | --size | --name-max | --file-max | --attr-max | --keep | --from | --steps) return ;;
   esac
   case ${COMP_WORDS[1]} in
     format)
-      options='-b --block --count -h --help'
+      options='-b --block --count --size --name-max --file-max --attr-max --new -h --help'
       words='IMAGE'
       ;;
     pack)
-      options='-b --block --count -h --help'
+      options='-b --block --count --size --least --name-max --file-max --attr-max --new -h --help'
       words='IMAGE DIR'
       ;;
     extract)
-      options='-b --block -h --help'
+      options='-b --block --strict -h --help'
       words='IMAGE DIR'
       ;;
     check)
-      options='-b --block -h --help'
+      options='-b --block --strict -h --help'
       words='IMAGE'
       ;;
     ls)
-      options='-b --block -h --help'
+      options='-b --block --strict -h --help'
       words='IMAGE'
       ;;
     cat)
-      options='-b --block -h --help'
+      options='-b --block --strict -h --help'
       words='IMAGE PATH'
       ;;
     diff)
-      options='-b --block -h --help'
+      options='-b --block --strict -h --help'
       words='IMAGE OTHER'
       ;;
     log)
-      options='-b --block -h --help'
+      options='-b --block --strict -h --help'
       words='IMAGE'
       ;;
     mkdir)
-      options='-b --block --keep -h --help'
+      options='-b --block --keep --strict -h --help'
       words='IMAGE PATH'
       ;;
     put)
-      options='-b --block --keep -h --help'
+      options='-b --block --from --keep --strict -h --help'
       words='IMAGE PATH'
       ;;
     rm)
-      options='-b --block --keep -h --help'
+      options='-b --block --keep --strict -h --help'
       words='IMAGE PATH'
       ;;
     mv)
-      options='-b --block --keep -h --help'
+      options='-b --block --keep --strict -h --help'
       words='IMAGE FROM TO'
       ;;
     setattr)
-      options='-b --block --keep -h --help'
+      options='-b --block --keep --strict -h --help'
       words='IMAGE PATH KIND HEX'
       ;;
     rmattr)
-      options='-b --block --keep -h --help'
+      options='-b --block --keep --strict -h --help'
       words='IMAGE PATH KIND'
       ;;
     grow)
-      options='-b --block --keep -h --help'
+      options='-b --block --size --keep --strict -h --help'
       words='IMAGE COUNT'
       ;;
     undo)
-      options='-b --block --steps -h --help'
+      options='-b --block --steps --strict -h --help'
       words='IMAGE'
       ;;
     redo)
-      options='-b --block --steps -h --help'
+      options='-b --block --steps --strict -h --help'
       words='IMAGE'
       ;;
     forget)
-      options='-b --block -h --help'
+      options='-b --block --strict -h --help'
       words='IMAGE'
       ;;
     explain)
       options='-h --help'
-      words='NUMBER'
+      words='FAULT'
       ;;
     help) words='COMMAND' ;;
   esac
@@ -118,7 +124,7 @@ _lfsed() {
   esac
   for ((at = 2; at < COMP_CWORD; at++)); do
     case ${COMP_WORDS[at]} in
-      -b | --block | --count | --keep | --steps)
+      -b | --block | --count | --size | --name-max | --file-max | --attr-max | --keep | --from | --steps)
         named=${COMP_WORDS[at]} at=$((at + 1))
         if [ "${COMP_WORDS[at]}" = = ]; then
           at=$((at + 1))
@@ -141,7 +147,7 @@ _lfsed() {
     IMAGE | OTHER) mapfile -t COMPREPLY < <(compgen -f -- "$current") ;;
     DIR) mapfile -t COMPREPLY < <(compgen -d -- "$current") ;;
     PATH | FROM | TO) _lfsed_offer < <(_lfsed_paths "$image" "$block") ;;
-    NUMBER) mapfile -t COMPREPLY < <(compgen -W '1 2 3 4 5 6 7 8 9 10 11 12 13 14 15 16 17 18 19 20 21 30 31 32 33 34 35 36 37 38 39 40 41 42 43 44 46 50 51 52 53 54 55 60 61 62 63 64' -- "$current") ;;
+    FAULT) mapfile -t COMPREPLY < <(compgen -W '1 2 3 4 5 6 7 8 9 10 11 12 13 14 15 16 17 18 19 20 21 30 31 32 33 34 35 36 37 38 39 40 41 42 43 44 46 50 51 52 53 54 55 60 61 62 63 64 ImageLength BadGeometry NoValidCommit UnknownTag BadTag IncompleteEntry BadName BadSkipList NoSuperblock Version Geometry Limits OrderFault BlockRange BlockTwice MissingDirectory Orphan UnfinishedMove SuperblockElsewhere BadSize UnknownState NotFound Exists NotADirectory IsADirectory NotEmpty BadPath NameTooLong FileTooLarge AttrTooLarge NoAttr IntoItself IsRoot EntryTooLarge NoSpace Memory BadCount JournalFormat JournalMismatch JournalImage NothingToUndo NothingToRedo JournalFull CannotRead CannotWrite HostEntry HostName BadHex' -- "$current") ;;
     COMMAND) mapfile -t COMPREPLY < <(compgen -W 'format pack extract check ls cat diff log mkdir put rm mv setattr rmattr grow undo redo forget explain' -- "$current") ;;
   esac
 }

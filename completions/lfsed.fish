@@ -6,7 +6,7 @@ function __lfsed_words
   set -l at 3
   while test $at -le (count $words)
     switch $words[$at]
-      case -b --block --count --keep --steps
+      case -b --block --count --size --name-max --file-max --attr-max --keep --from --steps
         set at (math $at + 1)
       case '-*'
       case '*'
@@ -17,7 +17,7 @@ function __lfsed_words
 end
 
 function __lfsed_block
-  string match -rg -- '(?:^|\s)(?:-b\s*|--block[=\s])(\d+)' (commandline -pc | string collect)
+  string match -rg -- '(?:^|\s)(?:-b\s*|--block[=\s])(\d+|auto)' (commandline -pc | string collect)
 end
 
 # Whether a command is named, and so many words stand behind it: __lfsed_at COMMAND COUNT
@@ -58,78 +58,107 @@ complete -c lfsed -n '__lfsed_at help 0' -a 'format pack extract check ls cat di
 complete -c lfsed -n '__lfsed_at format 0' -F
 complete -c lfsed -n '__fish_seen_subcommand_from format' -s b -l block -x -d 'Size of a block, a multiple of 16 from 256 to 65536 [default: 4096]'
 complete -c lfsed -n '__fish_seen_subcommand_from format' -l count -x -d 'Number of blocks, from 2 to 65536; at most 67108864 bytes in all'
+complete -c lfsed -n '__fish_seen_subcommand_from format' -l size -x -d 'Size of the image, in place of the number of blocks: 1048576, 0x100000, 1024k or 1M'
+complete -c lfsed -n '__fish_seen_subcommand_from format' -l name-max -x -d 'Greatest length of a name in bytes, from 1 to 1022 [default: 255]'
+complete -c lfsed -n '__fish_seen_subcommand_from format' -l file-max -x -d 'Greatest length of a file in bytes, from 1 to 2147483647 [default: 2147483647]'
+complete -c lfsed -n '__fish_seen_subcommand_from format' -l attr-max -x -d 'Greatest length of an attribute in bytes, from 1 to 1022 [default: 1022]'
+complete -c lfsed -n '__fish_seen_subcommand_from format' -l new -d 'Refuse to replace a file that is there'
 complete -c lfsed -n '__fish_seen_subcommand_from format' -s h -l help -d 'Print help'
 complete -c lfsed -n '__lfsed_at pack 0' -F
 complete -c lfsed -n '__lfsed_at pack 1' -a '(__fish_complete_directories)'
 complete -c lfsed -n '__fish_seen_subcommand_from pack' -s b -l block -x -d 'Size of a block, a multiple of 16 from 256 to 65536 [default: 4096]'
 complete -c lfsed -n '__fish_seen_subcommand_from pack' -l count -x -d 'Number of blocks, from 2 to 65536; at most 67108864 bytes in all'
+complete -c lfsed -n '__fish_seen_subcommand_from pack' -l size -x -d 'Size of the image, in place of the number of blocks: 1048576, 0x100000, 1024k or 1M'
+complete -c lfsed -n '__fish_seen_subcommand_from pack' -l least -d 'Give it the least number of blocks that holds the folder'
+complete -c lfsed -n '__fish_seen_subcommand_from pack' -l name-max -x -d 'Greatest length of a name in bytes, from 1 to 1022 [default: 255]'
+complete -c lfsed -n '__fish_seen_subcommand_from pack' -l file-max -x -d 'Greatest length of a file in bytes, from 1 to 2147483647 [default: 2147483647]'
+complete -c lfsed -n '__fish_seen_subcommand_from pack' -l attr-max -x -d 'Greatest length of an attribute in bytes, from 1 to 1022 [default: 1022]'
+complete -c lfsed -n '__fish_seen_subcommand_from pack' -l new -d 'Refuse to replace a file that is there'
 complete -c lfsed -n '__fish_seen_subcommand_from pack' -s h -l help -d 'Print help'
 complete -c lfsed -n '__lfsed_at extract 0' -F
 complete -c lfsed -n '__lfsed_at extract 1' -a '(__fish_complete_directories)'
 complete -c lfsed -n '__fish_seen_subcommand_from extract' -s b -l block -x -d 'Size of a block, a multiple of 16 from 256 to 65536 [default: 4096]'
+complete -c lfsed -n '__fish_seen_subcommand_from extract' -l strict -d 'Refuse an image in which a commit of a later disk version stands'
 complete -c lfsed -n '__fish_seen_subcommand_from extract' -s h -l help -d 'Print help'
 complete -c lfsed -n '__lfsed_at check 0' -F
 complete -c lfsed -n '__fish_seen_subcommand_from check' -s b -l block -x -d 'Size of a block, a multiple of 16 from 256 to 65536 [default: 4096]'
+complete -c lfsed -n '__fish_seen_subcommand_from check' -l strict -d 'Refuse an image in which a commit of a later disk version stands'
 complete -c lfsed -n '__fish_seen_subcommand_from check' -s h -l help -d 'Print help'
 complete -c lfsed -n '__lfsed_at ls 0' -F
 complete -c lfsed -n '__fish_seen_subcommand_from ls' -s b -l block -x -d 'Size of a block, a multiple of 16 from 256 to 65536 [default: 4096]'
+complete -c lfsed -n '__fish_seen_subcommand_from ls' -l strict -d 'Refuse an image in which a commit of a later disk version stands'
 complete -c lfsed -n '__fish_seen_subcommand_from ls' -s h -l help -d 'Print help'
 complete -c lfsed -n '__lfsed_at cat 0' -F
 complete -c lfsed -n '__lfsed_at cat 1' -a '(__lfsed_paths)'
 complete -c lfsed -n '__fish_seen_subcommand_from cat' -s b -l block -x -d 'Size of a block, a multiple of 16 from 256 to 65536 [default: 4096]'
+complete -c lfsed -n '__fish_seen_subcommand_from cat' -l strict -d 'Refuse an image in which a commit of a later disk version stands'
 complete -c lfsed -n '__fish_seen_subcommand_from cat' -s h -l help -d 'Print help'
 complete -c lfsed -n '__lfsed_at diff 0' -F
 complete -c lfsed -n '__lfsed_at diff 1' -F
 complete -c lfsed -n '__fish_seen_subcommand_from diff' -s b -l block -x -d 'Size of a block, a multiple of 16 from 256 to 65536 [default: 4096]'
+complete -c lfsed -n '__fish_seen_subcommand_from diff' -l strict -d 'Refuse an image in which a commit of a later disk version stands'
 complete -c lfsed -n '__fish_seen_subcommand_from diff' -s h -l help -d 'Print help'
 complete -c lfsed -n '__lfsed_at log 0' -F
 complete -c lfsed -n '__fish_seen_subcommand_from log' -s b -l block -x -d 'Size of a block, a multiple of 16 from 256 to 65536 [default: 4096]'
+complete -c lfsed -n '__fish_seen_subcommand_from log' -l strict -d 'Refuse an image in which a commit of a later disk version stands'
 complete -c lfsed -n '__fish_seen_subcommand_from log' -s h -l help -d 'Print help'
 complete -c lfsed -n '__lfsed_at mkdir 0' -F
 complete -c lfsed -n '__lfsed_at mkdir 1' -a '(__lfsed_paths)'
 complete -c lfsed -n '__fish_seen_subcommand_from mkdir' -s b -l block -x -d 'Size of a block, a multiple of 16 from 256 to 65536 [default: 4096]'
 complete -c lfsed -n '__fish_seen_subcommand_from mkdir' -l keep -x -d 'Number of the latest changes that are kept, from 1 to 1000; all where it is not said'
+complete -c lfsed -n '__fish_seen_subcommand_from mkdir' -l strict -d 'Refuse an image in which a commit of a later disk version stands'
 complete -c lfsed -n '__fish_seen_subcommand_from mkdir' -s h -l help -d 'Print help'
 complete -c lfsed -n '__lfsed_at put 0' -F
 complete -c lfsed -n '__lfsed_at put 1' -a '(__lfsed_paths)'
 complete -c lfsed -n '__fish_seen_subcommand_from put' -s b -l block -x -d 'Size of a block, a multiple of 16 from 256 to 65536 [default: 4096]'
+complete -c lfsed -n '__fish_seen_subcommand_from put' -l from -r -F -d 'File that the contents are read from, in place of standard input'
 complete -c lfsed -n '__fish_seen_subcommand_from put' -l keep -x -d 'Number of the latest changes that are kept, from 1 to 1000; all where it is not said'
+complete -c lfsed -n '__fish_seen_subcommand_from put' -l strict -d 'Refuse an image in which a commit of a later disk version stands'
 complete -c lfsed -n '__fish_seen_subcommand_from put' -s h -l help -d 'Print help'
 complete -c lfsed -n '__lfsed_at rm 0' -F
 complete -c lfsed -n '__lfsed_at rm 1' -a '(__lfsed_paths)'
 complete -c lfsed -n '__fish_seen_subcommand_from rm' -s b -l block -x -d 'Size of a block, a multiple of 16 from 256 to 65536 [default: 4096]'
 complete -c lfsed -n '__fish_seen_subcommand_from rm' -l keep -x -d 'Number of the latest changes that are kept, from 1 to 1000; all where it is not said'
+complete -c lfsed -n '__fish_seen_subcommand_from rm' -l strict -d 'Refuse an image in which a commit of a later disk version stands'
 complete -c lfsed -n '__fish_seen_subcommand_from rm' -s h -l help -d 'Print help'
 complete -c lfsed -n '__lfsed_at mv 0' -F
 complete -c lfsed -n '__lfsed_at mv 1' -a '(__lfsed_paths)'
 complete -c lfsed -n '__lfsed_at mv 2' -a '(__lfsed_paths)'
 complete -c lfsed -n '__fish_seen_subcommand_from mv' -s b -l block -x -d 'Size of a block, a multiple of 16 from 256 to 65536 [default: 4096]'
 complete -c lfsed -n '__fish_seen_subcommand_from mv' -l keep -x -d 'Number of the latest changes that are kept, from 1 to 1000; all where it is not said'
+complete -c lfsed -n '__fish_seen_subcommand_from mv' -l strict -d 'Refuse an image in which a commit of a later disk version stands'
 complete -c lfsed -n '__fish_seen_subcommand_from mv' -s h -l help -d 'Print help'
 complete -c lfsed -n '__lfsed_at setattr 0' -F
 complete -c lfsed -n '__lfsed_at setattr 1' -a '(__lfsed_paths)'
 complete -c lfsed -n '__fish_seen_subcommand_from setattr' -s b -l block -x -d 'Size of a block, a multiple of 16 from 256 to 65536 [default: 4096]'
 complete -c lfsed -n '__fish_seen_subcommand_from setattr' -l keep -x -d 'Number of the latest changes that are kept, from 1 to 1000; all where it is not said'
+complete -c lfsed -n '__fish_seen_subcommand_from setattr' -l strict -d 'Refuse an image in which a commit of a later disk version stands'
 complete -c lfsed -n '__fish_seen_subcommand_from setattr' -s h -l help -d 'Print help'
 complete -c lfsed -n '__lfsed_at rmattr 0' -F
 complete -c lfsed -n '__lfsed_at rmattr 1' -a '(__lfsed_paths)'
 complete -c lfsed -n '__fish_seen_subcommand_from rmattr' -s b -l block -x -d 'Size of a block, a multiple of 16 from 256 to 65536 [default: 4096]'
 complete -c lfsed -n '__fish_seen_subcommand_from rmattr' -l keep -x -d 'Number of the latest changes that are kept, from 1 to 1000; all where it is not said'
+complete -c lfsed -n '__fish_seen_subcommand_from rmattr' -l strict -d 'Refuse an image in which a commit of a later disk version stands'
 complete -c lfsed -n '__fish_seen_subcommand_from rmattr' -s h -l help -d 'Print help'
 complete -c lfsed -n '__lfsed_at grow 0' -F
 complete -c lfsed -n '__fish_seen_subcommand_from grow' -s b -l block -x -d 'Size of a block, a multiple of 16 from 256 to 65536 [default: 4096]'
+complete -c lfsed -n '__fish_seen_subcommand_from grow' -l size -x -d 'Size of the image, in place of the number of blocks: 1048576, 0x100000, 1024k or 1M'
 complete -c lfsed -n '__fish_seen_subcommand_from grow' -l keep -x -d 'Number of the latest changes that are kept, from 1 to 1000; all where it is not said'
+complete -c lfsed -n '__fish_seen_subcommand_from grow' -l strict -d 'Refuse an image in which a commit of a later disk version stands'
 complete -c lfsed -n '__fish_seen_subcommand_from grow' -s h -l help -d 'Print help'
 complete -c lfsed -n '__lfsed_at undo 0' -F
 complete -c lfsed -n '__fish_seen_subcommand_from undo' -s b -l block -x -d 'Size of a block, a multiple of 16 from 256 to 65536 [default: 4096]'
 complete -c lfsed -n '__fish_seen_subcommand_from undo' -l steps -x -d 'Number of changes, from 1 to 1000: all of them, or none where there are fewer [default: 1]'
+complete -c lfsed -n '__fish_seen_subcommand_from undo' -l strict -d 'Refuse an image in which a commit of a later disk version stands'
 complete -c lfsed -n '__fish_seen_subcommand_from undo' -s h -l help -d 'Print help'
 complete -c lfsed -n '__lfsed_at redo 0' -F
 complete -c lfsed -n '__fish_seen_subcommand_from redo' -s b -l block -x -d 'Size of a block, a multiple of 16 from 256 to 65536 [default: 4096]'
 complete -c lfsed -n '__fish_seen_subcommand_from redo' -l steps -x -d 'Number of changes, from 1 to 1000: all of them, or none where there are fewer [default: 1]'
+complete -c lfsed -n '__fish_seen_subcommand_from redo' -l strict -d 'Refuse an image in which a commit of a later disk version stands'
 complete -c lfsed -n '__fish_seen_subcommand_from redo' -s h -l help -d 'Print help'
 complete -c lfsed -n '__lfsed_at forget 0' -F
 complete -c lfsed -n '__fish_seen_subcommand_from forget' -s b -l block -x -d 'Size of a block, a multiple of 16 from 256 to 65536 [default: 4096]'
+complete -c lfsed -n '__fish_seen_subcommand_from forget' -l strict -d 'Refuse an image in which a commit of a later disk version stands'
 complete -c lfsed -n '__fish_seen_subcommand_from forget' -s h -l help -d 'Print help'
-complete -c lfsed -n '__lfsed_at explain 0' -a '1 2 3 4 5 6 7 8 9 10 11 12 13 14 15 16 17 18 19 20 21 30 31 32 33 34 35 36 37 38 39 40 41 42 43 44 46 50 51 52 53 54 55 60 61 62 63 64'
+complete -c lfsed -n '__lfsed_at explain 0' -a '1 2 3 4 5 6 7 8 9 10 11 12 13 14 15 16 17 18 19 20 21 30 31 32 33 34 35 36 37 38 39 40 41 42 43 44 46 50 51 52 53 54 55 60 61 62 63 64 ImageLength BadGeometry NoValidCommit UnknownTag BadTag IncompleteEntry BadName BadSkipList NoSuperblock Version Geometry Limits OrderFault BlockRange BlockTwice MissingDirectory Orphan UnfinishedMove SuperblockElsewhere BadSize UnknownState NotFound Exists NotADirectory IsADirectory NotEmpty BadPath NameTooLong FileTooLarge AttrTooLarge NoAttr IntoItself IsRoot EntryTooLarge NoSpace Memory BadCount JournalFormat JournalMismatch JournalImage NothingToUndo NothingToRedo JournalFull CannotRead CannotWrite HostEntry HostName BadHex'
 complete -c lfsed -n '__fish_seen_subcommand_from explain' -s h -l help -d 'Print help'

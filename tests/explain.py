@@ -14,23 +14,24 @@ def table(name):
     return {int(number): (fault, text) for number, fault, text in rows}
 
 
-def explained(number):
-    """What the program prints for a number, and its status."""
-    ended = subprocess.run([HOME / "bin/lfsed", "explain", str(number)], stdout=subprocess.PIPE, stderr=subprocess.PIPE, text=True)
+def explained(fault):
+    """What the program prints for a number or a name, and its status."""
+    ended = subprocess.run([HOME / "bin/lfsed", "explain", fault], stdout=subprocess.PIPE, stderr=subprocess.PIPE, text=True)
     return ended.returncode, ended.stdout
 
 
 def main():
     faults, ran, wrong = table("docs/FAULTS.md"), 0, 0
-    for number in range(1, 256):
-        wanted = (2, "")
-        if number in faults:
-            name, text = faults[number]
-            wanted = (0, f"{number} {name}\n{text}\n")
-        ran, is_wrong = ran + 1, explained(number) != wanted
+    pages = {}
+    for number, (name, text) in faults.items():
+        pages[str(number)] = pages[name] = f"{number} {name}\n{text}\n"
+    others = ["", "0", "256", "-1", "isroot", "IsRoot ", "Memor", "é"]
+    for fault in [*map(str, range(1, 256)), *(name for name, _ in faults.values()), *others]:
+        wanted = (0, pages[fault]) if fault in pages else (2, "")
+        ran, is_wrong = ran + 1, explained(fault) != wanted
         wrong += is_wrong
         if is_wrong:
-            print(f"{number}: wanted {wanted}, found {explained(number)}")
+            print(f"{fault}: wanted {wanted}, found {explained(fault)}")
     for number, (name, _) in table("docs/FORMAT.md").items():
         ran, is_wrong = ran + 1, faults.get(number, ("", ""))[0] != name
         wrong += is_wrong

@@ -340,34 +340,104 @@ NO_IMAGE = [
     ("forget a.img", 0, 4, "lfsed: 60 CannotRead\n", ""),
 ]
 
+# The size of an image of 8 blocks of 512 bytes in each way that it is said, and of one that grew to 16.
+SIZES = ["--count 8", "--size 4096", "--size=4k", "--size 0x1000", "--size 0x00001000"]
+GROWN = ["16", "--size 8192", "--size=8k", "--size 0x2000"]
+GROWN_CHECK = ("check -b 512 a.img", 0, 0, "", "block 512, count 16, free 14, directories 1, files 0\n")
+
+# The block size that the first block states, said in each way.
+AUTO = [
+    ("check --block auto a.img", 0, 0, "", "block 512, count 8, free 6, directories 1, files 0\n"),
+    ("mkdir --block=auto a.img /d", 0, 0, "", ""),
+    ("ls -b auto a.img", 0, 0, "", "d          - /\nd          - /d\n"),
+    ("undo -bauto a.img", 0, 0, "", ""),
+    ("grow -b auto a.img --size 8k", 0, 0, "", ""),
+    ("check --strict -b auto a.img", 0, 0, "", "block 512, count 16, free 14, directories 1, files 0\n"),
+    ("check a.img", 0, 3, "lfsed: 11 Geometry\nlfsed: a.img: its superblock states 16 blocks of 512 bytes\n", ""),
+]
+
+MORE = "\n\nFor more information, try '--help'.\n"
+NOT_SAID = "error: the following required arguments were not provided:\n"
+NO_SIZE = "error: invalid value '%s' for '--size <BYTES>': "
+NO_NUMBER = "it is no number of bytes: decimal, hexadecimal behind 0x, or decimal with k or M behind it"
+CONTENTS_TIP = "  tip: the contents are read from standard input, or from a file with '--from FILE'"
+FORMAT_USAGE = "Usage: lfsed format [OPTIONS] <--count <N>|--size <BYTES>> <IMAGE>"
+PACK_USAGE = "Usage: lfsed pack [OPTIONS] <--count <N>|--size <BYTES>|--least> <IMAGE> <DIR>"
+GROW_USAGE = "Usage: lfsed grow [OPTIONS] <IMAGE> <COUNT|--size <BYTES>>"
+
 # Command lines that are refused, and how what is complained begins.
 USAGE = [
-    ("explain 22", "error: invalid value '22' for '<NUMBER>': no fault has this number\n\nFor more information, try '--help'.\n"),
+    ("explain 22", "error: invalid value '22' for '<FAULT>': no fault has this number or name\n\nFor more information, try '--help'.\n"),
+    ("explain nospace", "error: invalid value 'nospace' for '<FAULT>': no fault has this number or name\n\nFor more information, try '--help'.\n"),
     ("", "error: 'lfsed' requires a subcommand but one was not provided\n"),
     ("frob", "error: unrecognized subcommand 'frob'\n"),
-    ("format a.img", "error: the following required arguments were not provided:\n  --count <N>\n"),
+    ("create a.img", "error: unrecognized subcommand 'create'\n\nUsage: lfsed <COMMAND>\n\nFor more information, try '--help'.\n"),
+    ("format a.img", f"{NOT_SAID}  <--count <N>|--size <BYTES>>\n\n{FORMAT_USAGE}{MORE}"),
+    ("format --count 8 --size 32k a.img", f"error: the argument '--count <N>' cannot be used with '--size <BYTES>'\n\n{FORMAT_USAGE}{MORE}"),
+    ("format --size 100 a.img", f"{NO_SIZE % '100'}100 is no multiple of the block size, 4096{MORE}"),
+    ("format --size 0x64 -b 512 a.img", f"{NO_SIZE % '0x64'}100 is no multiple of the block size, 512{MORE}"),
+    ("format --size 4096 a.img", f"{NO_SIZE % '4096'}4096 is not in 8192..=268435456{MORE}"),
+    ("format --size 257M a.img", f"{NO_SIZE % '257M'}269484032 is not in 8192..=268435456{MORE}"),
+    ("format --size 0 a.img", f"{NO_SIZE % '0'}0 is not in 8192..=268435456{MORE}"),
+    ("format --size 1G a.img", f"{NO_SIZE % '1G'}{NO_NUMBER}{MORE}"),
+    ("format --size 4K a.img", f"{NO_SIZE % '4K'}{NO_NUMBER}{MORE}"),
+    ("format --size k a.img", f"{NO_SIZE % 'k'}{NO_NUMBER}{MORE}"),
+    ("format --size 0x10k a.img", f"{NO_SIZE % '0x10k'}{NO_NUMBER}{MORE}"),
+    ("format --size 0X8000 a.img", f"{NO_SIZE % '0X8000'}{NO_NUMBER}{MORE}"),
+    ("format --size= a.img", f"{NO_SIZE % ''}{NO_NUMBER}{MORE}"),
+    ("format --size 18446744073709551616 a.img", f"{NO_SIZE % '18446744073709551616'}{NO_NUMBER}{MORE}"),
+    ("format --size 17592186044416M a.img", f"{NO_SIZE % '17592186044416M'}{NO_NUMBER}{MORE}"),
+    ("format --least a.img", "error: unexpected argument '--least' found\n"),
+    ("format --count 8 --name-max 1023 a.img", "error: invalid value '1023' for '--name-max <N>': 1023 is not in 1..=1022\n"),
+    ("format --count 8 --name-max 0 a.img", "error: invalid value '0' for '--name-max <N>': 0 is not in 1..=1022\n"),
+    ("format --count 8 --file-max 2147483648 a.img", "error: invalid value '2147483648' for '--file-max <N>': 2147483648 is not in 1..=2147483647\n"),
+    ("format --count 8 --attr-max 1023 a.img", "error: invalid value '1023' for '--attr-max <N>': 1023 is not in 1..=1022\n"),
+    ("format --count 8 --block auto a.img", "error: invalid value 'auto' for '--block <BYTES>': invalid digit found in string\n"),
+    ("format --count 8 --strict a.img", "error: unexpected argument '--strict' found\n"),
+    ("format --count 8 --new=1 a.img", "error: unexpected value '1' for '--new' found; no more were expected\n"),
+    ("pack a.img src", f"{NOT_SAID}  <--count <N>|--size <BYTES>|--least>\n\n{PACK_USAGE}{MORE}"),
+    ("pack --least --count 8 a.img src", f"error: the argument '--count <N>' cannot be used with '--least'\n\n{PACK_USAGE}{MORE}"),
+    ("pack --least --size 32k a.img src", f"error: the argument '--size <BYTES>' cannot be used with '--least'\n\n{PACK_USAGE}{MORE}"),
+    ("pack --count 8 --size 32k a.img src", f"error: the argument '--count <N>' cannot be used with '--size <BYTES>'\n\n{PACK_USAGE}{MORE}"),
+    ("pack --least --least a.img src", "error: the argument '--least' cannot be used multiple times\n"),
+    ("pack --least --block auto a.img src", "error: invalid value 'auto' for '--block <BYTES>': invalid digit found in string\n"),
+    ("pack --least a.img -src", "error: unexpected argument '-s' found\n"),
     ("format --count 8", "error: the following required arguments were not provided:\n  <IMAGE>\n"),
     ("format --count 1 a.img", "error: invalid value '1' for '--count <N>': 1 is not in 2..=65536\n"),
     ("format --count eight a.img", "error: invalid value 'eight' for '--count <N>': invalid digit found in string\n"),
     ("format --block 255 --count 8 a.img", "error: invalid value '255' for '--block <BYTES>': 255 is not in 256..=65536\n"),
     ("check --block 65537 a.img", "error: invalid value '65537' for '--block <BYTES>': 65537 is not in 256..=65536\n"),
+    ("check --block x a.img", "error: invalid value 'x' for '--block <BYTES>': invalid digit found in string\n\nFor more information, try '--help'.\n"),
+    ("check --block= a.img", "error: invalid value '' for '--block <BYTES>': cannot parse integer from empty string\n"),
+    ("check --block=-512 a.img", "error: invalid value '-512' for '--block <BYTES>': -512 is not in 256..=65536\n"),
+    ("check --block 70000000000 a.img", "error: invalid value '70000000000' for '--block <BYTES>': 70000000000 is not in 256..=65536\n"),
+    ("check --block Auto a.img", "error: invalid value 'Auto' for '--block <BYTES>': invalid digit found in string\n"),
+    ("check --new a.img", "error: unexpected argument '--new' found\n"),
+    ("check --stric a.img", "error: unexpected argument '--stric' found\n\nUsage: lfsed check "),
+    ("put a.img /x notes", f"error: unexpected argument 'notes' found\n\n{CONTENTS_TIP}\n\nUsage: lfsed put [OPTIONS] <IMAGE> <PATH>{MORE}"),
+    ("put a.img /x --from", "error: a value is required for '--from <FILE>' but none was supplied\n"),
+    ("put a.img /x --from -x", "error: unexpected argument '-x' found\n"),
+    ("cat --from notes a.img /x", "error: unexpected argument '--from' found\n"),
     ("check a.img b.img", "error: unexpected argument 'b.img' found\n"),
     ("mkdir a.img", "error: the following required arguments were not provided:\n  <PATH>\n"),
     ("rm a.img /a /b", "error: unexpected argument '/b' found\n"),
     ("rm -x a.img", "error: unexpected argument '-x' found\n"),
     ("check a.img -x", "error: unexpected argument '-x' found\n"),
     ("extract a.img -x", "error: unexpected argument '-x' found\n"),
-    ("explain -5", "error: unexpected argument '-5' found\n"),
+    ("explain -5", "error: invalid value '-5' for '<FAULT>': no fault has this number or name\n"),
     ("mv a.img /a", "error: the following required arguments were not provided:\n  <TO>\n"),
     ("setattr a.img / 74", "error: the following required arguments were not provided:\n  <HEX>\n"),
     ("rmattr a.img /", "error: the following required arguments were not provided:\n  <KIND>\n"),
     ("rmattr a.img / 74 00", "error: unexpected argument '00' found\n"),
-    ("grow", "error: the following required arguments were not provided:\n  <IMAGE>\n  <COUNT>\n"),
-    ("grow a.img", "error: the following required arguments were not provided:\n  <COUNT>\n"),
-    ("grow a.img 0", "error: invalid value '0' for '<COUNT>': 0 is not in 2..=65536\n"),
-    ("grow a.img 1", "error: invalid value '1' for '<COUNT>': 1 is not in 2..=65536\n"),
-    ("grow a.img 65537", "error: invalid value '65537' for '<COUNT>': 65537 is not in 2..=65536\n"),
-    ("grow a.img x", "error: invalid value 'x' for '<COUNT>': invalid digit found in string\n"),
+    ("grow", f"{NOT_SAID}  <IMAGE>\n\n{GROW_USAGE}{MORE}"),
+    ("grow a.img", f"{NOT_SAID}  <COUNT|--size <BYTES>>\n\n{GROW_USAGE}{MORE}"),
+    ("grow a.img 0", "error: invalid value '0' for '[COUNT]': 0 is not in 2..=65536\n"),
+    ("grow a.img 1", "error: invalid value '1' for '[COUNT]': 1 is not in 2..=65536\n"),
+    ("grow a.img 65537", "error: invalid value '65537' for '[COUNT]': 65537 is not in 2..=65536\n"),
+    ("grow a.img x", "error: invalid value 'x' for '[COUNT]': invalid digit found in string\n"),
+    ("grow a.img 16 --size 64k", f"error: the argument '[COUNT]' cannot be used with '--size <BYTES>'\n\n{GROW_USAGE}{MORE}"),
+    ("grow a.img --size 4097", f"{NO_SIZE % '4097'}4097 is no multiple of the block size, 4096{MORE}"),
+    ("grow -b 512 a.img --size 0x200", f"{NO_SIZE % '0x200'}512 is not in 1024..=33554432{MORE}"),
     ("grow a.img -1", "error: unexpected argument '-1' found\n"),
     ("grow a.img 16 17", "error: unexpected argument '17' found\n"),
     ("grow --count 16 a.img", "error: unexpected argument '--count' found\n"),
@@ -385,26 +455,28 @@ USAGE = [
 # Help, the version and an explanation.
 HELPS = [
     ("explain 41", 0, 0, "", "41 IsRoot\nThe root can't be made, put, moved or removed.\n"),
+    ("explain IsRoot", 0, 0, "", "41 IsRoot\nThe root can't be made, put, moved or removed.\n"),
     ("--help", 0, 0, "", "Edit littlefs images of disk version 2.0\n\nUsage: lfsed <COMMAND>\n\nCommands:\n  format   Write a new image, in place of a file of this name\n  pack     Write a new image with what is in a folder, in place of a file of this name\n  extract  Make a new folder with what is in an image; attributes are left behind\n  check    Judge an image; print its geometry, free blocks, directories and files\n  ls       List what stands at each path, with sizes and attributes\n  cat      Print the contents of a file\n  diff     List what another image has otherwise, row by row, as ls prints it\n  log      List the changes that the journal keeps, and what each of them changed\n  mkdir    Make a directory\n  put      Put a file, in place of one of this path; its contents are read from standard input\n  rm       Remove a file or an empty directory\n  mv       Move a file, or a directory with all that is below it\n  setattr  Set an attribute of a file or a directory\n  rmattr   Remove an attribute of a file or a directory\n  grow     Lengthen an image by erased blocks; what it holds stays\n  undo     Take the latest change back, byte for byte\n  redo     Make the latest change again that was taken back\n  forget   Keep the image alone: its changes can no longer be taken back\n  explain  Say what a fault means, and what to do\n  help     Print this message or the help of the given subcommand(s)\n\nOptions:\n  -h, --help     Print help\n  -V, --version  Print version\n\nStatus: 0 done; 1 the change is refused; 2 the command line is refused;\n3 the image or its journal is refused; 4 out of memory, or a file is not read or written.\n"),
     ("help", 0, 0, "", "Edit littlefs images of disk version 2.0\n\nUsage: lfsed <COMMAND>\n\nCommands:\n  format   Write a new image, in place of a file of this name\n  pack     Write a new image with what is in a folder, in place of a file of this name\n  extract  Make a new folder with what is in an image; attributes are left behind\n  check    Judge an image; print its geometry, free blocks, directories and files\n  ls       List what stands at each path, with sizes and attributes\n  cat      Print the contents of a file\n  diff     List what another image has otherwise, row by row, as ls prints it\n  log      List the changes that the journal keeps, and what each of them changed\n  mkdir    Make a directory\n  put      Put a file, in place of one of this path; its contents are read from standard input\n  rm       Remove a file or an empty directory\n  mv       Move a file, or a directory with all that is below it\n  setattr  Set an attribute of a file or a directory\n  rmattr   Remove an attribute of a file or a directory\n  grow     Lengthen an image by erased blocks; what it holds stays\n  undo     Take the latest change back, byte for byte\n  redo     Make the latest change again that was taken back\n  forget   Keep the image alone: its changes can no longer be taken back\n  explain  Say what a fault means, and what to do\n  help     Print this message or the help of the given subcommand(s)\n\nOptions:\n  -h, --help     Print help\n  -V, --version  Print version\n\nStatus: 0 done; 1 the change is refused; 2 the command line is refused;\n3 the image or its journal is refused; 4 out of memory, or a file is not read or written.\n"),
-    ("help mv", 0, 0, "", "Move a file, or a directory with all that is below it\n\nUsage: lfsed mv [OPTIONS] <IMAGE> <FROM> <TO>\n\nArguments:\n  <IMAGE>  File of the image\n  <FROM>   Path of what is moved, from / on\n  <TO>     Path that it gets, from / on; nothing may be there\n\nOptions:\n  -b, --block <BYTES>  Size of a block, a multiple of 16 from 256 to 65536 [default: 4096]\n      --keep <K>       Number of the latest changes that are kept, from 1 to 1000; all where it is not said\n  -h, --help           Print help\n"),
+    ("help mv", 0, 0, "", "Move a file, or a directory with all that is below it\n\nUsage: lfsed mv [OPTIONS] <IMAGE> <FROM> <TO>\n\nArguments:\n  <IMAGE>  File of the image\n  <FROM>   Path of what is moved, from / on\n  <TO>     Path that it gets, from / on; nothing may be there\n\nOptions:\n  -b, --block <BYTES>  Size of a block, a multiple of 16 from 256 to 65536 [default: 4096]\n      --keep <K>       Number of the latest changes that are kept, from 1 to 1000; all where it is not said\n      --strict         Refuse an image in which a commit of a later disk version stands\n  -h, --help           Print help\n"),
     ("--version", 0, 0, "", "lfsed 0.1.0\n"),
     ("-V", 0, 0, "", "lfsed 0.1.0\n"),
-    ("format --help", 0, 0, "", "Write a new image, in place of a file of this name\n\nUsage: lfsed format [OPTIONS] --count <N> <IMAGE>\n\nArguments:\n  <IMAGE>  File of the image\n\nOptions:\n  -b, --block <BYTES>  Size of a block, a multiple of 16 from 256 to 65536 [default: 4096]\n      --count <N>      Number of blocks, from 2 to 65536; at most 67108864 bytes in all\n  -h, --help           Print help\n"),
-    ("check --help", 0, 0, "", "Judge an image; print its geometry, free blocks, directories and files\n\nUsage: lfsed check [OPTIONS] <IMAGE>\n\nArguments:\n  <IMAGE>  File of the image\n\nOptions:\n  -b, --block <BYTES>  Size of a block, a multiple of 16 from 256 to 65536 [default: 4096]\n  -h, --help           Print help\n"),
-    ("cat --help", 0, 0, "", "Print the contents of a file\n\nUsage: lfsed cat [OPTIONS] <IMAGE> <PATH>\n\nArguments:\n  <IMAGE>  File of the image\n  <PATH>   Path of a file or a directory in the image, from / on\n\nOptions:\n  -b, --block <BYTES>  Size of a block, a multiple of 16 from 256 to 65536 [default: 4096]\n  -h, --help           Print help\n"),
-    ("diff --help", 0, 0, "", "List what another image has otherwise, row by row, as ls prints it\n\nUsage: lfsed diff [OPTIONS] <IMAGE> <OTHER>\n\nArguments:\n  <IMAGE>  File of the image\n  <OTHER>  File of the image that it is compared with\n\nOptions:\n  -b, --block <BYTES>  Size of a block, a multiple of 16 from 256 to 65536 [default: 4096]\n  -h, --help           Print help\n"),
-    ("log --help", 0, 0, "", "List the changes that the journal keeps, and what each of them changed\n\nUsage: lfsed log [OPTIONS] <IMAGE>\n\nArguments:\n  <IMAGE>  File of the image\n\nOptions:\n  -b, --block <BYTES>  Size of a block, a multiple of 16 from 256 to 65536 [default: 4096]\n  -h, --help           Print help\n"),
-    ("mkdir --help", 0, 0, "", "Make a directory\n\nUsage: lfsed mkdir [OPTIONS] <IMAGE> <PATH>\n\nArguments:\n  <IMAGE>  File of the image\n  <PATH>   Path of a file or a directory in the image, from / on\n\nOptions:\n  -b, --block <BYTES>  Size of a block, a multiple of 16 from 256 to 65536 [default: 4096]\n      --keep <K>       Number of the latest changes that are kept, from 1 to 1000; all where it is not said\n  -h, --help           Print help\n"),
-    ("put --help", 0, 0, "", "Put a file, in place of one of this path; its contents are read from standard input\n\nUsage: lfsed put [OPTIONS] <IMAGE> <PATH>\n\nArguments:\n  <IMAGE>  File of the image\n  <PATH>   Path of a file or a directory in the image, from / on\n\nOptions:\n  -b, --block <BYTES>  Size of a block, a multiple of 16 from 256 to 65536 [default: 4096]\n      --keep <K>       Number of the latest changes that are kept, from 1 to 1000; all where it is not said\n  -h, --help           Print help\n"),
-    ("rm --help", 0, 0, "", "Remove a file or an empty directory\n\nUsage: lfsed rm [OPTIONS] <IMAGE> <PATH>\n\nArguments:\n  <IMAGE>  File of the image\n  <PATH>   Path of a file or a directory in the image, from / on\n\nOptions:\n  -b, --block <BYTES>  Size of a block, a multiple of 16 from 256 to 65536 [default: 4096]\n      --keep <K>       Number of the latest changes that are kept, from 1 to 1000; all where it is not said\n  -h, --help           Print help\n"),
-    ("mv --help", 0, 0, "", "Move a file, or a directory with all that is below it\n\nUsage: lfsed mv [OPTIONS] <IMAGE> <FROM> <TO>\n\nArguments:\n  <IMAGE>  File of the image\n  <FROM>   Path of what is moved, from / on\n  <TO>     Path that it gets, from / on; nothing may be there\n\nOptions:\n  -b, --block <BYTES>  Size of a block, a multiple of 16 from 256 to 65536 [default: 4096]\n      --keep <K>       Number of the latest changes that are kept, from 1 to 1000; all where it is not said\n  -h, --help           Print help\n"),
-    ("setattr --help", 0, 0, "", "Set an attribute of a file or a directory\n\nUsage: lfsed setattr [OPTIONS] <IMAGE> <PATH> <KIND> <HEX>\n\nArguments:\n  <IMAGE>  File of the image\n  <PATH>   Path of a file or a directory in the image, from / on\n  <KIND>   Kind of the attribute, in two hexadecimal digits\n  <HEX>    Value of the attribute, in two hexadecimal digits for each byte; may be empty\n\nOptions:\n  -b, --block <BYTES>  Size of a block, a multiple of 16 from 256 to 65536 [default: 4096]\n      --keep <K>       Number of the latest changes that are kept, from 1 to 1000; all where it is not said\n  -h, --help           Print help\n"),
-    ("rmattr --help", 0, 0, "", "Remove an attribute of a file or a directory\n\nUsage: lfsed rmattr [OPTIONS] <IMAGE> <PATH> <KIND>\n\nArguments:\n  <IMAGE>  File of the image\n  <PATH>   Path of a file or a directory in the image, from / on\n  <KIND>   Kind of the attribute, in two hexadecimal digits\n\nOptions:\n  -b, --block <BYTES>  Size of a block, a multiple of 16 from 256 to 65536 [default: 4096]\n      --keep <K>       Number of the latest changes that are kept, from 1 to 1000; all where it is not said\n  -h, --help           Print help\n"),
-    ("grow --help", 0, 0, "", "Lengthen an image by erased blocks; what it holds stays\n\nUsage: lfsed grow [OPTIONS] <IMAGE> <COUNT>\n\nArguments:\n  <IMAGE>  File of the image\n  <COUNT>  Number of blocks that it gets, more than it has; at most 65536, and 67108864 bytes in all\n\nOptions:\n  -b, --block <BYTES>  Size of a block, a multiple of 16 from 256 to 65536 [default: 4096]\n      --keep <K>       Number of the latest changes that are kept, from 1 to 1000; all where it is not said\n  -h, --help           Print help\n"),
-    ("undo --help", 0, 0, "", "Take the latest change back, byte for byte\n\nUsage: lfsed undo [OPTIONS] <IMAGE>\n\nArguments:\n  <IMAGE>  File of the image\n\nOptions:\n  -b, --block <BYTES>  Size of a block, a multiple of 16 from 256 to 65536 [default: 4096]\n      --steps <N>      Number of changes, from 1 to 1000: all of them, or none where there are fewer [default: 1]\n  -h, --help           Print help\n"),
-    ("redo --help", 0, 0, "", "Make the latest change again that was taken back\n\nUsage: lfsed redo [OPTIONS] <IMAGE>\n\nArguments:\n  <IMAGE>  File of the image\n\nOptions:\n  -b, --block <BYTES>  Size of a block, a multiple of 16 from 256 to 65536 [default: 4096]\n      --steps <N>      Number of changes, from 1 to 1000: all of them, or none where there are fewer [default: 1]\n  -h, --help           Print help\n"),
-    ("forget --help", 0, 0, "", "Keep the image alone: its changes can no longer be taken back\n\nUsage: lfsed forget [OPTIONS] <IMAGE>\n\nArguments:\n  <IMAGE>  File of the image\n\nOptions:\n  -b, --block <BYTES>  Size of a block, a multiple of 16 from 256 to 65536 [default: 4096]\n  -h, --help           Print help\n"),
+    ("format --help", 0, 0, "", "Write a new image, in place of a file of this name\n\nUsage: lfsed format [OPTIONS] <--count <N>|--size <BYTES>> <IMAGE>\n\nArguments:\n  <IMAGE>  File of the image\n\nOptions:\n  -b, --block <BYTES>  Size of a block, a multiple of 16 from 256 to 65536 [default: 4096]\n      --count <N>      Number of blocks, from 2 to 65536; at most 67108864 bytes in all\n      --size <BYTES>   Size of the image, in place of the number of blocks: 1048576, 0x100000, 1024k or 1M\n      --name-max <N>   Greatest length of a name in bytes, from 1 to 1022 [default: 255]\n      --file-max <N>   Greatest length of a file in bytes, from 1 to 2147483647 [default: 2147483647]\n      --attr-max <N>   Greatest length of an attribute in bytes, from 1 to 1022 [default: 1022]\n      --new            Refuse to replace a file that is there\n  -h, --help           Print help\n"),
+    ("pack --help", 0, 0, "", "Write a new image with what is in a folder, in place of a file of this name\n\nUsage: lfsed pack [OPTIONS] <--count <N>|--size <BYTES>|--least> <IMAGE> <DIR>\n\nArguments:\n  <IMAGE>  File of the image\n  <DIR>    Folder, of whose files and folders the image is made\n\nOptions:\n  -b, --block <BYTES>  Size of a block, a multiple of 16 from 256 to 65536 [default: 4096]\n      --count <N>      Number of blocks, from 2 to 65536; at most 67108864 bytes in all\n      --size <BYTES>   Size of the image, in place of the number of blocks: 1048576, 0x100000, 1024k or 1M\n      --least          Give it the least number of blocks that holds the folder\n      --name-max <N>   Greatest length of a name in bytes, from 1 to 1022 [default: 255]\n      --file-max <N>   Greatest length of a file in bytes, from 1 to 2147483647 [default: 2147483647]\n      --attr-max <N>   Greatest length of an attribute in bytes, from 1 to 1022 [default: 1022]\n      --new            Refuse to replace a file that is there\n  -h, --help           Print help\n"),
+    ("check --help", 0, 0, "", "Judge an image; print its geometry, free blocks, directories and files\n\nUsage: lfsed check [OPTIONS] <IMAGE>\n\nArguments:\n  <IMAGE>  File of the image\n\nOptions:\n  -b, --block <BYTES>  Size of a block, a multiple of 16 from 256 to 65536 [default: 4096]\n      --strict         Refuse an image in which a commit of a later disk version stands\n  -h, --help           Print help\n"),
+    ("cat --help", 0, 0, "", "Print the contents of a file\n\nUsage: lfsed cat [OPTIONS] <IMAGE> <PATH>\n\nArguments:\n  <IMAGE>  File of the image\n  <PATH>   Path of a file or a directory in the image, from / on\n\nOptions:\n  -b, --block <BYTES>  Size of a block, a multiple of 16 from 256 to 65536 [default: 4096]\n      --strict         Refuse an image in which a commit of a later disk version stands\n  -h, --help           Print help\n"),
+    ("diff --help", 0, 0, "", "List what another image has otherwise, row by row, as ls prints it\n\nUsage: lfsed diff [OPTIONS] <IMAGE> <OTHER>\n\nArguments:\n  <IMAGE>  File of the image\n  <OTHER>  File of the image that it is compared with\n\nOptions:\n  -b, --block <BYTES>  Size of a block, a multiple of 16 from 256 to 65536 [default: 4096]\n      --strict         Refuse an image in which a commit of a later disk version stands\n  -h, --help           Print help\n"),
+    ("log --help", 0, 0, "", "List the changes that the journal keeps, and what each of them changed\n\nUsage: lfsed log [OPTIONS] <IMAGE>\n\nArguments:\n  <IMAGE>  File of the image\n\nOptions:\n  -b, --block <BYTES>  Size of a block, a multiple of 16 from 256 to 65536 [default: 4096]\n      --strict         Refuse an image in which a commit of a later disk version stands\n  -h, --help           Print help\n"),
+    ("mkdir --help", 0, 0, "", "Make a directory\n\nUsage: lfsed mkdir [OPTIONS] <IMAGE> <PATH>\n\nArguments:\n  <IMAGE>  File of the image\n  <PATH>   Path of a file or a directory in the image, from / on\n\nOptions:\n  -b, --block <BYTES>  Size of a block, a multiple of 16 from 256 to 65536 [default: 4096]\n      --keep <K>       Number of the latest changes that are kept, from 1 to 1000; all where it is not said\n      --strict         Refuse an image in which a commit of a later disk version stands\n  -h, --help           Print help\n"),
+    ("put --help", 0, 0, "", "Put a file, in place of one of this path; its contents are read from standard input\n\nUsage: lfsed put [OPTIONS] <IMAGE> <PATH>\n\nArguments:\n  <IMAGE>  File of the image\n  <PATH>   Path of a file or a directory in the image, from / on\n\nOptions:\n  -b, --block <BYTES>  Size of a block, a multiple of 16 from 256 to 65536 [default: 4096]\n      --from <FILE>    File that the contents are read from, in place of standard input\n      --keep <K>       Number of the latest changes that are kept, from 1 to 1000; all where it is not said\n      --strict         Refuse an image in which a commit of a later disk version stands\n  -h, --help           Print help\n"),
+    ("rm --help", 0, 0, "", "Remove a file or an empty directory\n\nUsage: lfsed rm [OPTIONS] <IMAGE> <PATH>\n\nArguments:\n  <IMAGE>  File of the image\n  <PATH>   Path of a file or a directory in the image, from / on\n\nOptions:\n  -b, --block <BYTES>  Size of a block, a multiple of 16 from 256 to 65536 [default: 4096]\n      --keep <K>       Number of the latest changes that are kept, from 1 to 1000; all where it is not said\n      --strict         Refuse an image in which a commit of a later disk version stands\n  -h, --help           Print help\n"),
+    ("mv --help", 0, 0, "", "Move a file, or a directory with all that is below it\n\nUsage: lfsed mv [OPTIONS] <IMAGE> <FROM> <TO>\n\nArguments:\n  <IMAGE>  File of the image\n  <FROM>   Path of what is moved, from / on\n  <TO>     Path that it gets, from / on; nothing may be there\n\nOptions:\n  -b, --block <BYTES>  Size of a block, a multiple of 16 from 256 to 65536 [default: 4096]\n      --keep <K>       Number of the latest changes that are kept, from 1 to 1000; all where it is not said\n      --strict         Refuse an image in which a commit of a later disk version stands\n  -h, --help           Print help\n"),
+    ("setattr --help", 0, 0, "", "Set an attribute of a file or a directory\n\nUsage: lfsed setattr [OPTIONS] <IMAGE> <PATH> <KIND> <HEX>\n\nArguments:\n  <IMAGE>  File of the image\n  <PATH>   Path of a file or a directory in the image, from / on\n  <KIND>   Kind of the attribute, in two hexadecimal digits\n  <HEX>    Value of the attribute, in two hexadecimal digits for each byte; may be empty\n\nOptions:\n  -b, --block <BYTES>  Size of a block, a multiple of 16 from 256 to 65536 [default: 4096]\n      --keep <K>       Number of the latest changes that are kept, from 1 to 1000; all where it is not said\n      --strict         Refuse an image in which a commit of a later disk version stands\n  -h, --help           Print help\n"),
+    ("rmattr --help", 0, 0, "", "Remove an attribute of a file or a directory\n\nUsage: lfsed rmattr [OPTIONS] <IMAGE> <PATH> <KIND>\n\nArguments:\n  <IMAGE>  File of the image\n  <PATH>   Path of a file or a directory in the image, from / on\n  <KIND>   Kind of the attribute, in two hexadecimal digits\n\nOptions:\n  -b, --block <BYTES>  Size of a block, a multiple of 16 from 256 to 65536 [default: 4096]\n      --keep <K>       Number of the latest changes that are kept, from 1 to 1000; all where it is not said\n      --strict         Refuse an image in which a commit of a later disk version stands\n  -h, --help           Print help\n"),
+    ("grow --help", 0, 0, "", "Lengthen an image by erased blocks; what it holds stays\n\nUsage: lfsed grow [OPTIONS] <IMAGE> <COUNT|--size <BYTES>>\n\nArguments:\n  <IMAGE>  File of the image\n  [COUNT]  Number of blocks that it gets, more than it has; at most 65536, and 67108864 bytes in all\n\nOptions:\n  -b, --block <BYTES>  Size of a block, a multiple of 16 from 256 to 65536 [default: 4096]\n      --size <BYTES>   Size of the image, in place of the number of blocks: 1048576, 0x100000, 1024k or 1M\n      --keep <K>       Number of the latest changes that are kept, from 1 to 1000; all where it is not said\n      --strict         Refuse an image in which a commit of a later disk version stands\n  -h, --help           Print help\n"),
+    ("undo --help", 0, 0, "", "Take the latest change back, byte for byte\n\nUsage: lfsed undo [OPTIONS] <IMAGE>\n\nArguments:\n  <IMAGE>  File of the image\n\nOptions:\n  -b, --block <BYTES>  Size of a block, a multiple of 16 from 256 to 65536 [default: 4096]\n      --steps <N>      Number of changes, from 1 to 1000: all of them, or none where there are fewer [default: 1]\n      --strict         Refuse an image in which a commit of a later disk version stands\n  -h, --help           Print help\n"),
+    ("redo --help", 0, 0, "", "Make the latest change again that was taken back\n\nUsage: lfsed redo [OPTIONS] <IMAGE>\n\nArguments:\n  <IMAGE>  File of the image\n\nOptions:\n  -b, --block <BYTES>  Size of a block, a multiple of 16 from 256 to 65536 [default: 4096]\n      --steps <N>      Number of changes, from 1 to 1000: all of them, or none where there are fewer [default: 1]\n      --strict         Refuse an image in which a commit of a later disk version stands\n  -h, --help           Print help\n"),
+    ("forget --help", 0, 0, "", "Keep the image alone: its changes can no longer be taken back\n\nUsage: lfsed forget [OPTIONS] <IMAGE>\n\nArguments:\n  <IMAGE>  File of the image\n\nOptions:\n  -b, --block <BYTES>  Size of a block, a multiple of 16 from 256 to 65536 [default: 4096]\n      --strict         Refuse an image in which a commit of a later disk version stands\n  -h, --help           Print help\n"),
 ]
 
 
@@ -483,6 +555,22 @@ def changes(folder):
         folder.play(rows)
 
 
+def sizes(folder):
+    for said in SIZES:
+        folder.play([(f"format -b 512 {said} a.img", 0, 0, "", "")])
+        folder.check(said, folder.old() == NEW.ljust(4_096, b"\xff"))
+        folder.image.unlink()
+    folder.play([("format --size 1M a.img", 0, 0, "", ""), ("check a.img", 0, 0, "", "block 4096, count 256, free 254, directories 1, files 0\n")])
+    for said in GROWN:
+        folder.be(NEW, 4_096)
+        folder.play([(f"grow -b 512 a.img {said}", 0, 0, "", ""), GROWN_CHECK])
+    folder.be(NEW, 4_096)
+    folder.play(AUTO)
+    folder.image.unlink()
+    ended = folder.run("check -b auto a.img")
+    folder.check("no image", ended[0] == 4 and ended[1].startswith("lfsed: 60 CannotRead\n"), ended)
+
+
 def command_lines(folder):
     folder.play([*BAD_DIGITS, *HELPS])
     for words, length, status, complaint, printed in NO_IMAGE:
@@ -492,4 +580,4 @@ def command_lines(folder):
         folder.begins(words, front)
 
 
-sys.exit(run_scenes([verdicts, files, changes, command_lines]))
+sys.exit(run_scenes([verdicts, files, changes, sizes, command_lines]))

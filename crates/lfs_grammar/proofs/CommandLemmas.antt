@@ -12,8 +12,8 @@ use Rattle.clap.proofs.SimpleLemmas.{is_false}
 use Rattle.clap.proofs.WalkLemmas.{both}
 use Rattle.lfs_grammar.proofs.FaultlessRows.{none_of}
 use Rattle.lfs_grammar.proofs.Lists.{Each, In, contained, each, each_in}
-use Rattle.lfs_grammar.specs.Grammar.{IsNumber, IsSaid, IsSaidOrNeedNot, NamesCommand, block, commands, count, is_change, is_wanted, keep}
-use Rattle.lfs_grammar.specs.Grammar.{new_count, number, steps, word}
+use Rattle.lfs_grammar.specs.Grammar.{IsNumber, IsSaid, IsSaidOrNeedNot, NamesCommand, attr_max, block, commands, count, file_max}
+use Rattle.lfs_grammar.specs.Grammar.{is_change, is_wanted, keep, name_max, new_block, new_count, steps, word}
 
 -- ---- the command of a name
 
@@ -70,17 +70,21 @@ each_wanted : (all : List Rule) (rows : List Row) → Each (λ rule. IsSaidOrNee
 each_wanted [] rows says = tt
 each_wanted (rule ∷ all) rows says = (λ wanted. wanted_said rule rows wanted says.0, each_wanted all rows says.1)
 
--- what the command of this name takes and must be said is said
-pub said_of : (name word : Text) (rows : List Row) → name ≡ word → NamesCommand (Some (name, rows))
-    → Each (λ rule. is_wanted rule ≡ true → IsSaid rule rows) (rules_at word)
-said_of name word rows same names =
+-- what the command of this name takes is said, or needn't be
+pub says_of : (name word : Text) (rows : List Row) → name ≡ word → NamesCommand (Some (name, rows))
+    → Each (λ rule. IsSaidOrNeedNot rule rows) (rules_at word)
+says_of name word rows same names =
     let command = names.command in
     let found : find (λ c. bytes_eq c.name command.name) commands ≡ Some command =
     found_again commands command all_distinct (contained commands command names.here) in
     let rules : rules_at word ≡ command.rules =
     ap rules_at (sym (called name rows names ∙ same)) ∙ ap (λ (o : Option Shape). option_map_or (λ (c : Shape). c.rules) o []) found in
-    subst (λ (rules : List Rule). Each (λ rule. is_wanted rule ≡ true → IsSaid rule rows) rules) (sym rules)
-    (each_wanted command.rules rows (command_said name rows names))
+    subst (λ (rules : List Rule). Each (λ rule. IsSaidOrNeedNot rule rows) rules) (sym rules) (command_said name rows names)
+
+-- what it takes and must be said is said
+pub said_of : (name word : Text) (rows : List Row) → name ≡ word → NamesCommand (Some (name, rows))
+    → Each (λ rule. is_wanted rule ≡ true → IsSaid rule rows) (rules_at word)
+said_of name word rows same names = each_wanted (rules_at word) rows (says_of name word rows same names)
 
 pub count_is : IsNumber count
 count_is = (2, 65536, refl, omega arith)
@@ -88,8 +92,14 @@ count_is = (2, 65536, refl, omega arith)
 pub new_count_is : IsNumber new_count
 new_count_is = (2, 65536, refl, omega arith)
 
-pub block_is : IsNumber block
-block_is = (256, 65536, refl, omega arith)
+pub name_max_is : IsNumber name_max
+name_max_is = (1, 1022, refl, omega arith)
+
+pub file_max_is : IsNumber file_max
+file_max_is = (1, 2147483647, refl, omega arith)
+
+pub attr_max_is : IsNumber attr_max
+attr_max_is = (1, 1022, refl, omega arith)
 
 pub keep_is : IsNumber keep
 keep_is = (1, 1000, refl, omega arith)
@@ -97,29 +107,33 @@ keep_is = (1, 1000, refl, omega arith)
 pub steps_is : IsNumber steps
 steps_is = (1, 1000, refl, omega arith)
 
-pub number_is : IsNumber number
-number_is = (0, 4294967295, refl, omega arith)
-
 -- each command but the one that explains takes the block size and an image
 abbrev TakesImage : Shape → Type 0
-TakesImage c = ((rest : List Rule) × (c.rules ≡ block ∷ word (codes "image") ∷ rest)) ⊎ (c.name ≡ codes "explain")
+TakesImage c =
+    ((rest : List Rule) × (c.rules ≡ block ∷ word (codes "image") ∷ rest))
+    ⊎ ((rest : List Rule) × (c.rules ≡ new_block ∷ word (codes "image") ∷ rest))
+    ⊎ (c.name ≡ codes "explain")
 
 takes_image : Each TakesImage commands
 takes_image = search rules
 
-image_of : (rows : List Row) (rules rest : List Rule) → rules ≡ block ∷ word (codes "image") ∷ rest → Each (λ rule. IsSaidOrNeedNot rule rows) rules
-    → IsSaid block rows × IsSaid (word (codes "image")) rows
-image_of rows rules rest is said =
-    let all : Each (λ rule. IsSaidOrNeedNot rule rows) (block ∷ word (codes "image") ∷ rest) =
-    subst (λ (r : List Rule). Each (λ rule. IsSaidOrNeedNot rule rows) r) is said in
-    (wanted_said block rows refl all.0, wanted_said (word (codes "image")) rows refl all.1.0)
+-- the block size is said, in whatever way it is, and the image
+abbrev pub SaysImage : List Row → Type 0
+SaysImage rows = ((rule : Rule) × (rule.id ≡ codes "block") × IsSaid rule rows) × IsSaid (word (codes "image")) rows
 
-pub image_said : (name : Text) (rows : List Row) → (name ≡ codes "explain" → ⊥) → NamesCommand (Some (name, rows))
-    → IsSaid block rows × IsSaid (word (codes "image")) rows
-image_said name rows other names =
+image_of : (rows : List Row) (first : Rule) (rules rest : List Rule) → first.id ≡ codes "block" → is_wanted first ≡ true
+    → rules ≡ first ∷ word (codes "image") ∷ rest → Each (λ rule. IsSaidOrNeedNot rule rows) rules → SaysImage rows
+image_of rows first rules rest named wanted is said =
+    let all : Each (λ rule. IsSaidOrNeedNot rule rows) (first ∷ word (codes "image") ∷ rest) =
+    subst (λ (r : List Rule). Each (λ rule. IsSaidOrNeedNot rule rows) r) is said in
+    ((first, named, wanted_said first rows wanted all.0), wanted_said (word (codes "image")) rows refl all.1.0)
+
+pub image_said : (name : Text) (rows : List Row) → NamesCommand (Some (name, rows)) → (name ≡ codes "explain") ⊎ SaysImage rows
+image_said name rows names =
     elim (each_in TakesImage commands names.command takes_image (contained commands names.command names.here)) [
-      | inl takes ↦ image_of rows names.command.rules takes.0 takes.1 (command_said name rows names)
-      | inr is ↦ absurd (other (sym (called name rows names) ∙ is))
+      | inl takes ↦ inr (image_of rows block names.command.rules takes.0 refl refl takes.1 (command_said name rows names))
+      | inr (inl takes) ↦ inr (image_of rows new_block names.command.rules takes.0 refl refl takes.1 (command_said name rows names))
+      | inr (inr is) ↦ inl (sym (called name rows names) ∙ is)
     ]
 
 -- each command that changes an image takes how many images of the past are kept

@@ -19,7 +19,7 @@ use Rattle.clap.specs.declared.error.Error.{Error}
 use Rattle.clap.specs.declared.parser.matches.ArgMatches.{ArgMatches}
 use Rattle.clap.specs.Walk.{Held, Names, Outcome, Row, Rule, Step, Text, Waiting, Walk, after_flag, after_step, answers_to, arg_by_index}
 use Rattle.clap.specs.Walk.{bundle}
-use Rattle.clap.specs.Walk.{arg_by_long, done, idle, is_empty, long_met, long_or_other, next, nothing_held, option, plain, plain_word}
+use Rattle.clap.specs.Walk.{arg_by_long, done, idle, long_met, long_or_other, next, nothing_held, option, plain, plain_word}
 use Rattle.clap.specs.Walk.{positional}
 use Rattle.clap.specs.Walk.{finished, first_of, one_of, settled, reading_by, refused, rows_after, short_or_plain, subcommand}
 use Rattle.clap.specs.Walk.{subcommand_met, subcommand_or_other, to_positional, trailing}
@@ -129,7 +129,7 @@ AreBuilt [] made = Unit {0}
 AreBuilt (a ∷ rules) [] = ⊥
 AreBuilt (a ∷ rules) (b ∷ made) =
     (b.id ≡ a.id) × (b.ignore_case ≡ a.ignore_case) × (parser_of_value b.parser ≡ parser_of_value a.parser)
-    × (is_wanted b ≡ is_wanted a)
+    × ((not (is_wanted a) || is_wanted b) ≡ true)
     × AreBuilt rules made
 
 said_built : (a b : Rule) (rows : List Row) → b.id ≡ a.id → b.ignore_case ≡ a.ignore_case
@@ -143,12 +143,17 @@ said_built a b rows id case parser said = record {
   passes = ap₂ (λ (i : Bool) (p : ValueParser). accepts i p said.text) (sym case) (sym parser) ∙ said.passes;
 }
 
+-- what needn't be said once it is built needn't be before
+left_too : (x y : Bool) → (not x || y) ≡ true → y ≡ false → x ≡ false
+left_too true y wanted left = absurd (cc)
+left_too false y wanted left = refl
+
 says_built : (a b : Rule) (rows : List Row) → b.id ≡ a.id → b.ignore_case ≡ a.ignore_case
-    → parser_of_value b.parser ≡ parser_of_value a.parser → is_wanted b ≡ is_wanted a
+    → parser_of_value b.parser ≡ parser_of_value a.parser → (not (is_wanted a) || is_wanted b) ≡ true
     → IsSaidOrNeedNot b rows → IsSaidOrNeedNot a rows
 says_built a b rows id case parser wanted (inl said) = inl (said_built a b rows id case parser said)
 says_built a b rows id case parser wanted (inr (left, first, one)) = inr (
-  sym wanted ∙ left,
+  left_too (is_wanted a) (is_wanted b) wanted left,
   subst (λ (i : Text). first_of i rows ≡ None) id first,
   subst (λ (i : Text). one_of i rows ≡ None) id one,
 )

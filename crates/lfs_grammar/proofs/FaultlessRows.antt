@@ -8,7 +8,7 @@ use Rattle.clap.specs.Facts.{explicit_source, unwrap_or_range, parser_of_value}
 use Rattle.clap.specs.Kinds.{Kinds, check_kinds, or_else, range_kinds, request_kinds, value_kinds}
 use Rattle.clap.specs.Values.{is_request, refused_kind}
 use Rattle.clap.specs.Takes.{is_given, value_passes}
-use Rattle.clap.specs.Faults.{bundle_fault, bundle_step_fault, check_fault, default_fault, defaults_fault, flag_word_fault, flags_fault}
+use Rattle.clap.specs.Faults.{action_fault, bundle_fault, bundle_step_fault, check_fault, default_fault, defaults_fault, flag_word_fault, flags_fault}
 use Rattle.clap.specs.Faults.{level_fault, long_fault, option_fault, other_fault}
 use Rattle.clap.specs.Faults.{positional_fault, react_fault, set_fault, settle_fault, short_fault, step_fault, stray_fault, turn_fault}
 use Rattle.clap.specs.Faults.{use_fault}
@@ -133,9 +133,12 @@ with_fits R a s v vs rows here passes all =
 
 -- ---- one use
 
--- an argument that takes one value or more, or asks for help or the version
+-- an argument that takes one value or more, one without a value, or one that asks for help or the version
 abbrev pub Wants : Rule → Type 0
-Wants a = ((action_of a ≡ Set) × ((unwrap_or_range a.range).start_inclusive ≡ 1)) ⊎ (is_request (action_of a) ≡ true)
+Wants a =
+    ((action_of a ≡ Set) × ((unwrap_or_range a.range).start_inclusive ≡ 1))
+    ⊎ ((action_of a ≡ SetTrue) × (is_empty a.missing ≡ false))
+    ⊎ (is_request (action_of a) ≡ true)
 
 -- a value without a fault passes
 value_passed : (a : Rule) (v : Text) → value_kinds a.ignore_case (parser_of_value a.parser) v ≡ [] → value_passes a v ≡ true
@@ -159,6 +162,23 @@ set_fits R again a (v ∷ vs) rows here one e all =
     let passes = value_passed a v (first_none _ _ faultless) in
     with_fits R a CommandLine v vs (without a.id rows) here passes (without_fits R a.id rows all)
 
+some_left : {X : Type 0} (x : X) (xs : List X) → is_empty (x ∷ xs) ≡ false
+some_left x xs = ne_eqb _ _ (λ e. omega arith)
+
+-- an argument without a value gets the one that stands for a use
+flag_used : (R : List Rule) (again : Bool) (a : Rule) (values : List Text) (rows : List Row)
+    → In a R → is_empty values ≡ false → set_fault again a values rows ≡ []
+    → AllFit R rows → AllFit R (used_as SetTrue a.id (reading_by a) values rows)
+flag_used R again a [] rows here some e all = absurd (cc)
+flag_used R again a (v ∷ vs) rows here some e all =
+    let faultless : values_fault a (v ∷ vs) ≡ [] = then_none _ _ e in
+    let passes = value_passed a v (first_none _ _ faultless) in
+    with_fits R a CommandLine v vs (without a.id rows) here passes (without_fits R a.id rows all)
+
+some_for : (a : Rule) (values : List Text) → is_empty a.missing ≡ false → is_empty (values_or_missing a values) ≡ false
+some_for a [] some = some
+some_for a (v ∷ vs) some = some_left v vs
+
 never_asked : (x : ArgAction) → is_request x ≡ true → request_kinds x ≡ [] → ⊥
 never_asked Help e none = cc
 never_asked HelpShort e none = cc
@@ -174,7 +194,12 @@ pub use_fits : (R : List Rule) (again : Bool) (a : Rule) (values : List Text) (r
     → In a R → Wants a → use_fault again a values rows ≡ [] → AllFit R rows → AllFit R (used a values rows)
 use_fits R again a values rows here (inl w) e all =
     rw w.0 (set_fits R again a values rows here w.1 (rw w.0 at e) all)
-use_fits R again a values rows here (inr w) e all =
+use_fits R again a values rows here (inr (inl w)) e all =
+    let counts : Kinds = range_kinds (unwrap_or_range a.range).start_inclusive (most_values a) (length values) in
+    let asked = then_none counts (action_fault (action_of a) again a (values_or_missing a values) rows) e in
+    let fault : set_fault again a (values_or_missing a values) rows ≡ [] = rw w.0 at asked in
+    rw w.0 (flag_used R again a (values_or_missing a values) rows here (some_for a values w.1) fault all)
+use_fits R again a values rows here (inr (inr w)) e all =
     absurd (never_asked (action_of a) w (request_fault (action_of a) again a (values_or_missing a values) rows w ∙ then_none _ _ e))
 
 -- ---- the argument that waits, and the one that is met
@@ -353,9 +378,6 @@ walk_fits s names (word ∷ rest) w wants e all =
     (turn_fits s names w word wants (first_none (turn_fault s names w word) _ e) all)
 
 -- ---- the values that stand for what isn't said
-
-some_left : {X : Type 0} (x : X) (xs : List X) → is_empty (x ∷ xs) ≡ false
-some_left x xs = ne_eqb _ _ (λ e. omega arith)
 
 default_fits : (R : List Rule) (a : Rule) (rows : List Row) → In a R → default_fault rows a ≡ [] → AllFit R rows
     → AllFit R (with_default rows a)

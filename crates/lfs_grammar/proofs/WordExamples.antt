@@ -93,14 +93,62 @@ comparing_says : (text_at (codes "image") comparing ≡ Some (Some (codes "a.img
 unfolding clap_on_literals
 comparing_says = (refl, refl)
 
+-- lfsed pack a.img src --least --size=1M --name-max 3 --new
+abbrev packing : List Text
+packing = codes "lfsed" ∷ codes "pack" ∷ codes "a.img" ∷ codes "src" ∷ codes "--least" ∷ codes "--size=1M" ∷ codes "--name-max" ∷ codes "3"
+    ∷ codes "--new" ∷ []
+
+packing_is_taken : IsTaken packing
+unfolding clap_on_literals
+packing_is_taken = refl
+
+packing_says : (text_at (codes "least") packing ≡ Some (Some (codes "true")))
+    × (text_at (codes "size") packing ≡ Some (Some (codes "1M")))
+    × (number_at (codes "count") packing ≡ Some None)
+    × (number_at (codes "name-max") packing ≡ Some (Some (codes "3")))
+    × (number_at (codes "attr-max") packing ≡ Some (Some (codes "1022")))
+    × (text_at (codes "new") packing ≡ Some (Some (codes "true")))
+    × (text_at (codes "new") formatting ≡ Some (Some (codes "false")))
+unfolding clap_on_literals
+packing_says = (refl, refl, refl, refl, refl, refl, refl)
+
+-- lfsed put --block auto --strict --from b.txt a.img /x
+abbrev putting : List Text
+putting = codes "lfsed" ∷ codes "put" ∷ codes "--block" ∷ codes "auto" ∷ codes "--strict" ∷ codes "--from" ∷ codes "b.txt" ∷ codes "a.img"
+    ∷ codes "/x" ∷ []
+
+putting_is_taken : IsTaken putting
+unfolding clap_on_literals
+putting_is_taken = refl
+
+putting_says : (text_at (codes "block") putting ≡ Some (Some (codes "auto")))
+    × (text_at (codes "contents") putting ≡ Some (Some (codes "b.txt")))
+    × (text_at (codes "strict") putting ≡ Some (Some (codes "true")))
+unfolding clap_on_literals
+putting_says = (refl, refl, refl)
+
+-- how many blocks needn't be said, as far as the grammar goes
+no_count_is_taken : IsTaken (codes "lfsed" ∷ codes "format" ∷ codes "a.img" ∷ [])
+unfolding clap_on_literals
+no_count_is_taken = refl
+
 -- what is refused: no command, an option that is left out, a number out of its range, a word too many
 no_command : fault_of grammar (codes "lfsed" ∷ []) ≡ MissingSubcommand ∷ []
 unfolding clap_on_literals
 no_command = refl
 
-no_count : fault_of grammar (codes "lfsed" ∷ codes "format" ∷ codes "a.img" ∷ []) ≡ MissingRequiredArgument ∷ []
+no_image : fault_of grammar (codes "lfsed" ∷ codes "format" ∷ codes "--count=8" ∷ []) ≡ MissingRequiredArgument ∷ []
 unfolding clap_on_literals
-no_count = refl
+no_image = refl
+
+no_size_of_a_new_image : fault_of grammar (codes "lfsed" ∷ codes "format" ∷ codes "-b" ∷ codes "auto" ∷ codes "a.img" ∷ [])
+    ≡ ValueValidation ∷ []
+unfolding clap_on_literals
+no_size_of_a_new_image = refl
+
+too_long_a_name : fault_of grammar (codes "lfsed" ∷ codes "format" ∷ codes "--name-max=1023" ∷ codes "a.img" ∷ []) ≡ ValueValidation ∷ []
+unfolding clap_on_literals
+too_long_a_name = refl
 
 one_block : fault_of grammar (codes "lfsed" ∷ codes "format" ∷ codes "--count" ∷ codes "1" ∷ codes "a.img" ∷ []) ≡ ValueValidation ∷ []
 unfolding clap_on_literals

@@ -7,6 +7,8 @@ use Rattle.clap.specs.Walk.{is_empty, reading_by}
 use Rattle.clap.specs.Words.{App, Row, Rule, Shape, Text, fault_of, first_of, new_app, new_rule, one_of, read_as, subcommand_of}
 use Rattle.clap.specs.Words.{subcommand_rows_of, with_rule, with_subcommand}
 use Rattle.clap.specs.declared.parser.matches.ArgMatches.{ArgMatches}
+use Rattle.clap.specs.declared.builder.action.ArgAction.TheVariants.{SetTrue}
+use Rattle.clap.specs.declared.builder.value_parser.ValueParser.TheVariants as vp
 use Rattle.clap.specs.declared.builder.value_parser.ValueParser.TheVariants.{Signed}
 use Rattle.lfs_grammar.specs.declared.grammar.Argument.{Argument}
 use Rattle.lfs_grammar.specs.declared.grammar.Argument.TheVariants as argument
@@ -16,46 +18,86 @@ use Rattle.lfs_grammar.specs.declared.grammar.CommandRow.{CommandRow}
 abbrev pub word : Text → Rule
 word id = record (new_rule id) { value_names = 1; required = true }
 
--- the block size: `-b` or `--block`, a whole number from 256 to 65536, and 4096 where it isn't said
+-- an option that is named as its long name, which needn't be said
+abbrev pub option : Text → Rule
+option id = record (new_rule id) { long = Some id; value_names = 1 }
+
+-- an option that is a whole number from the first to the second
+abbrev pub number : Text → ℕ → ℕ → Rule
+number id least most = record (option id) { parser = Some (Signed (pos least) (pos most)) }
+
+-- the same with a number that stands where none is said
+abbrev pub number_or : Text → ℕ → ℕ → Text → Rule
+number_or id least most default = record (number id least most) { defaults = default ∷ [] }
+
+-- an option without a value, which needn't be said
+abbrev pub flag : Text → Rule
+flag id = record (new_rule id) { long = Some id; action = Some SetTrue; parser = Some vp.Bool }
+
+-- the block size: `-b` or `--block`, a text, and 4096 where it isn't said
 abbrev pub block : Rule
-block = record (new_rule (codes "block")) {
-  short = Some 98;
-  long = Some (codes "block");
-  value_names = 1;
-  parser = Some (Signed (pos 256) (pos 65536));
-  defaults = codes "4096" ∷ [];
-}
+block = record (option (codes "block")) { short = Some 98; defaults = codes "4096" ∷ [] }
 
--- the number of blocks: `--count`, a whole number from 2 to 65536, which must be said
+-- the block size of an image that is made: a whole number from 256 to 65536
+abbrev pub new_block : Rule
+new_block = record block { parser = Some (Signed (pos 256) (pos 65536)) }
+
+-- the number of blocks: `--count`, a whole number from 2 to 65536
 abbrev pub count : Rule
-count = record (word (codes "count")) { long = Some (codes "count"); parser = Some (Signed (pos 2) (pos 65536)) }
+count = number (codes "count") 2 65536
 
--- the number of blocks that an image gets: a word that is a whole number from 2 to 65536
+-- the number of blocks that an image gets: a word that is a whole number from 2 to 65536, which needn't be said
 abbrev pub new_count : Rule
-new_count = record (word (codes "count")) { parser = Some (Signed (pos 2) (pos 65536)) }
+new_count = record (new_rule (codes "count")) { value_names = 1; parser = Some (Signed (pos 2) (pos 65536)) }
+
+-- the size of the image, in place of the number of blocks
+abbrev pub size : Rule
+size = option (codes "size")
+
+-- the greatest lengths that the superblock states: of a name, 255 where it isn't said; of a file, as much as an image may state;
+-- of an attribute, 1022
+abbrev pub name_max : Rule
+name_max = number_or (codes "name-max") 1 1022 (codes "255")
+
+abbrev pub file_max : Rule
+file_max = number_or (codes "file-max") 1 2147483647 (codes "2147483647")
+
+abbrev pub attr_max : Rule
+attr_max = number_or (codes "attr-max") 1 1022 (codes "1022")
 
 -- how many images of the past are kept: `--keep`, a whole number from 1 to 1,000, which needn't be said
 abbrev pub keep : Rule
-keep = record (new_rule (codes "keep")) { long = Some (codes "keep"); value_names = 1; parser = Some (Signed (pos 1) (pos 1000)) }
+keep = number (codes "keep") 1 1000
 
 -- how many changes are taken back or made again: `--steps`, a whole number from 1 to 1,000, and 1 where it isn't said
 abbrev pub steps : Rule
-steps = record (new_rule (codes "steps")) {
-  long = Some (codes "steps");
-  value_names = 1;
-  parser = Some (Signed (pos 1) (pos 1000));
-  defaults = codes "1" ∷ [];
-}
+steps = number_or (codes "steps") 1 1000 (codes "1")
 
--- a fault's number
-abbrev pub number : Rule
-number = record (word (codes "number")) { parser = Some (Signed (pos 0) (pos 4294967295)) }
+-- the file that contents are read from, in place of standard input
+abbrev pub contents : Rule
+contents = record (option (codes "contents")) { long = Some (codes "from") }
+
+-- no file is replaced
+abbrev pub is_new : Rule
+is_new = flag (codes "new")
+
+-- an image is refused in which a commit of a later disk version stands
+abbrev pub strict : Rule
+strict = flag (codes "strict")
 
 -- what stands for an argument
 abbrev pub rule_at : Argument → Rule
 rule_at argument.Block = block
+rule_at argument.NewBlock = new_block
 rule_at argument.Count = count
 rule_at argument.NewCount = new_count
+rule_at argument.Size = size
+rule_at argument.Least = flag (codes "least")
+rule_at argument.NameMax = name_max
+rule_at argument.FileMax = file_max
+rule_at argument.AttrMax = attr_max
+rule_at argument.New = is_new
+rule_at argument.Strict = strict
 rule_at argument.Keep = keep
 rule_at argument.Steps = steps
 rule_at argument.Image = word (codes "image")
@@ -63,11 +105,12 @@ rule_at argument.Other = word (codes "other")
 rule_at argument.Dir = word (codes "dir")
 rule_at argument.NewDir = word (codes "dir")
 rule_at argument.Path = word (codes "path")
+rule_at argument.Contents = contents
 rule_at argument.From = word (codes "from")
 rule_at argument.To = word (codes "to")
 rule_at argument.Kind = word (codes "kind")
 rule_at argument.Value = word (codes "hex")
-rule_at argument.Number = number
+rule_at argument.Fault = word (codes "fault")
 
 -- a command of this name, with what it takes, in this order
 abbrev pub command : Text → List Rule → App
@@ -81,13 +124,18 @@ shape_at row = (command row.name.now (map rule_at row.arguments.now)).top
 abbrev pub program : App
 program = record { top = record (command (codes "lfsed") []).top { has_version = true; subcommand_required = true }; subs = [] }
 
--- a command that takes the block size, the image's file name, and these words
-abbrev pub on_image : Text → List Rule → Shape
-on_image name rules = (command name (block ∷ word (codes "image") ∷ rules)).top
+-- a command that makes an image: it takes the block size, the image's file name, these words, the limits, and whether a file is replaced
+abbrev pub making : Text → List Rule → Shape
+making name rules =
+    (command name (new_block ∷ word (codes "image") ∷ rules ++ name_max ∷ file_max ∷ attr_max ∷ is_new ∷ [])).top
+
+-- a command that reads one: it takes the block size, the image's file name, these words, and whether a later disk version is refused
+abbrev pub reading : Text → List Rule → Shape
+reading name rules = (command name (block ∷ word (codes "image") ∷ rules ++ strict ∷ [])).top
 
 -- a command that changes the image: behind it the past may be cut
 abbrev pub changing : Text → List Rule → Shape
-changing name rules = on_image name (rules ++ keep ∷ [])
+changing name rules = reading name (rules ++ keep ∷ [])
 
 -- it has one of these names
 abbrev pub is_change : Text → Bool
@@ -98,25 +146,25 @@ is_change name =
 -- the program's commands
 abbrev pub commands : List Shape
 commands =
-    on_image (codes "format") (count ∷ [])
-    ∷ on_image (codes "pack") (word (codes "dir") ∷ count ∷ [])
-    ∷ on_image (codes "extract") (word (codes "dir") ∷ [])
-    ∷ on_image (codes "check") []
-    ∷ on_image (codes "ls") []
-    ∷ on_image (codes "cat") (word (codes "path") ∷ [])
-    ∷ on_image (codes "diff") (word (codes "other") ∷ [])
-    ∷ on_image (codes "log") []
+    making (codes "format") (count ∷ size ∷ [])
+    ∷ making (codes "pack") (word (codes "dir") ∷ count ∷ size ∷ flag (codes "least") ∷ [])
+    ∷ reading (codes "extract") (word (codes "dir") ∷ [])
+    ∷ reading (codes "check") []
+    ∷ reading (codes "ls") []
+    ∷ reading (codes "cat") (word (codes "path") ∷ [])
+    ∷ reading (codes "diff") (word (codes "other") ∷ [])
+    ∷ reading (codes "log") []
     ∷ changing (codes "mkdir") (word (codes "path") ∷ [])
-    ∷ changing (codes "put") (word (codes "path") ∷ [])
+    ∷ changing (codes "put") (word (codes "path") ∷ contents ∷ [])
     ∷ changing (codes "rm") (word (codes "path") ∷ [])
     ∷ changing (codes "mv") (word (codes "from") ∷ word (codes "to") ∷ [])
     ∷ changing (codes "setattr") (word (codes "path") ∷ word (codes "kind") ∷ word (codes "hex") ∷ [])
     ∷ changing (codes "rmattr") (word (codes "path") ∷ word (codes "kind") ∷ [])
-    ∷ changing (codes "grow") (new_count ∷ [])
-    ∷ on_image (codes "undo") (steps ∷ [])
-    ∷ on_image (codes "redo") (steps ∷ [])
-    ∷ on_image (codes "forget") []
-    ∷ (command (codes "explain") (number ∷ [])).top
+    ∷ changing (codes "grow") (new_count ∷ size ∷ [])
+    ∷ reading (codes "undo") (steps ∷ [])
+    ∷ reading (codes "redo") (steps ∷ [])
+    ∷ reading (codes "forget") []
+    ∷ (command (codes "explain") (word (codes "fault") ∷ [])).top
     ∷ []
 
 -- the program with its commands

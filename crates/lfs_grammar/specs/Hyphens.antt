@@ -9,11 +9,30 @@ use Rattle.lfs_grammar.specs.Grammar.{IsTaken, grammar}
 abbrev pub begins_with : Text → Text → Bool
 begins_with word start = starts_with nat_eq word start
 
+-- an option of a new image, or of one that gets more blocks, by its long name
+abbrev pub names_new_option : Text → Bool
+names_new_option word =
+    begins_with word (codes "--count") || begins_with word (codes "--size") || begins_with word (codes "--least")
+    || begins_with word (codes "--new")
+
+-- an option that is a limit, by its long name
+abbrev pub names_limit_option : Text → Bool
+names_limit_option word =
+    begins_with word (codes "--name-max") || begins_with word (codes "--file-max") || begins_with word (codes "--attr-max")
+
+-- an option of a change, by its long name
+abbrev pub names_change_option : Text → Bool
+names_change_option word = begins_with word (codes "--keep") || begins_with word (codes "--steps")
+
+-- an option of an image or a file that is there, by its long name
+abbrev pub names_image_option : Text → Bool
+names_image_option word =
+    begins_with word (codes "--block") || begins_with word (codes "--strict") || begins_with word (codes "--from")
+
 -- an option by its long name
 abbrev pub names_long_option : Text → Bool
 names_long_option word =
-    begins_with word (codes "--block") || begins_with word (codes "--count") || begins_with word (codes "--keep")
-    || begins_with word (codes "--steps")
+    names_new_option word || names_limit_option word || names_change_option word || names_image_option word
 
 -- an option, or a call for help
 abbrev pub names_option : Text → Bool
@@ -34,12 +53,17 @@ abbrev pub is_plain_name : Option Text → Bool
 is_plain_name None = true
 is_plain_name (Some name) = not (begins_with name (codes "-"))
 
+-- neither a folder, another image nor a file of contents is named by a word that begins with a hyphen
+abbrev pub are_plain_names : List Row → Bool
+are_plain_names rows =
+    is_plain_name (first_of (codes "dir") rows) && is_plain_name (first_of (codes "other") rows)
+    && is_plain_name (first_of (codes "contents") rows)
+
 -- no file or folder of the host is named by a word that begins with a hyphen
 abbrev pub names_files_plainly : Option (Text × List Row) → Bool
 names_files_plainly None = true
 names_files_plainly (Some named) =
-    is_plain_name (first_of (codes "image") named.1)
-    && (is_plain_name (first_of (codes "dir") named.1) && is_plain_name (first_of (codes "other") named.1))
+    is_plain_name (first_of (codes "image") named.1) && are_plain_names named.1
 
 -- how words are read: as they are, where the grammar takes them; else with `--` before the first stray one, where it takes
 -- these and no file of the host is named by a word that begins with a hyphen

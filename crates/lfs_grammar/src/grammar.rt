@@ -3,9 +3,12 @@
 ghost use Rattle.std.specs.Prelude.{◌≡◌, IfOk, false, fold, map};
 ghost use Rattle.clap.specs.Words.{app_of, rule_of, with_subcommand};
 ghost use Rattle.clap.specs.declared.builder.command.Command.TheViews.{out-Command as fields_of};
-ghost use Rattle.lfs_grammar.specs.Grammar.{command, grammar, rule_at, shape_at, word as word_rule};
+ghost use Rattle.lfs_grammar.specs.Grammar.{command, grammar, rule_at, shape_at};
+ghost use Rattle.lfs_grammar.specs.Grammar.{attr_max as attr_max_rule, block as block_rule, contents as contents_rule, count as count_rule};
+ghost use Rattle.lfs_grammar.specs.Grammar.{file_max as file_max_rule, flag as flag_rule, keep as keep_rule, name_max as name_max_rule};
+ghost use Rattle.lfs_grammar.specs.Grammar.{new_count as new_count_rule, option as option_rule, steps as steps_rule, word as word_rule};
 
-use clap::{Arg, Command, value_parser};
+use clap::{Arg, ArgAction, Command, value_parser};
 use std::alloc::{AllocError, Global};
 
 /// The program's version.
@@ -18,12 +21,28 @@ const STATUSES: &str = "Status: 0 done; 1 the change is refused; 2 the command l
 /// What a command takes on its command line.
 #[derive(Clone, Copy)]
 enum Argument {
-    /// The block size.
+    /// The block size of an image that is there.
     Block,
+    /// The block size of an image that is made.
+    NewBlock,
     /// The number of blocks.
     Count,
     /// The number of blocks that an image gets.
     NewCount,
+    /// The size of the image, in place of the number of blocks.
+    Size,
+    /// That the image gets the least number of blocks.
+    Least,
+    /// The greatest length of a name.
+    NameMax,
+    /// The greatest length of a file.
+    FileMax,
+    /// The greatest length of an attribute.
+    AttrMax,
+    /// That no file is replaced.
+    New,
+    /// That an image is refused in which a commit of a later disk version stands.
+    Strict,
     /// The number of images of the past that are kept.
     Keep,
     /// The number of changes that are taken back or made again.
@@ -38,6 +57,8 @@ enum Argument {
     NewDir,
     /// A path within the image.
     Path,
+    /// The name of the file that contents are read from.
+    Contents,
     /// The path of what is moved.
     From,
     /// The path that it gets.
@@ -46,108 +67,174 @@ enum Argument {
     Kind,
     /// An attribute's value.
     Value,
-    /// A fault's number.
-    Number,
+    /// A fault's number or name.
+    Fault,
 }
 
 /// A command of the program.
 struct CommandRow {
     name: &'static str,
     about: &'static str,
+    /// How it is used, where one of several arguments has to be said.
+    usage: Option<&'static str>,
     arguments: &'static [Argument],
 }
+
+/// How `format` is used.
+///
+/// Source: own.
+pub const FORMAT_USAGE: &str = "lfsed format [OPTIONS] <--count <N>|--size <BYTES>> <IMAGE>";
+
+/// How `pack` is used.
+///
+/// Source: own.
+pub const PACK_USAGE: &str =
+    "lfsed pack [OPTIONS] <--count <N>|--size <BYTES>|--least> <IMAGE> <DIR>";
+
+/// How `grow` is used.
+///
+/// Source: own.
+pub const GROW_USAGE: &str = "lfsed grow [OPTIONS] <IMAGE> <COUNT|--size <BYTES>>";
 
 /// The program's commands, in the order of its help. Each but the last takes the block size and the image's file name.
 const COMMANDS: [CommandRow; 19] = [
     CommandRow {
         name: "format",
         about: "Write a new image, in place of a file of this name",
-        arguments: &[Argument::Block, Argument::Image, Argument::Count],
+        usage: Some(FORMAT_USAGE),
+        arguments: &[
+            Argument::NewBlock,
+            Argument::Image,
+            Argument::Count,
+            Argument::Size,
+            Argument::NameMax,
+            Argument::FileMax,
+            Argument::AttrMax,
+            Argument::New,
+        ],
     },
     CommandRow {
         name: "pack",
         about: "Write a new image with what is in a folder, in place of a file of this name",
+        usage: Some(PACK_USAGE),
         arguments: &[
-            Argument::Block,
+            Argument::NewBlock,
             Argument::Image,
             Argument::Dir,
             Argument::Count,
+            Argument::Size,
+            Argument::Least,
+            Argument::NameMax,
+            Argument::FileMax,
+            Argument::AttrMax,
+            Argument::New,
         ],
     },
     CommandRow {
         name: "extract",
         about: "Make a new folder with what is in an image; attributes are left behind",
-        arguments: &[Argument::Block, Argument::Image, Argument::NewDir],
+        usage: None,
+        arguments: &[
+            Argument::Block,
+            Argument::Image,
+            Argument::NewDir,
+            Argument::Strict,
+        ],
     },
     CommandRow {
         name: "check",
         about: "Judge an image; print its geometry, free blocks, directories and files",
-        arguments: &[Argument::Block, Argument::Image],
+        usage: None,
+        arguments: &[Argument::Block, Argument::Image, Argument::Strict],
     },
     CommandRow {
         name: "ls",
         about: "List what stands at each path, with sizes and attributes",
-        arguments: &[Argument::Block, Argument::Image],
+        usage: None,
+        arguments: &[Argument::Block, Argument::Image, Argument::Strict],
     },
     CommandRow {
         name: "cat",
         about: "Print the contents of a file",
-        arguments: &[Argument::Block, Argument::Image, Argument::Path],
+        usage: None,
+        arguments: &[
+            Argument::Block,
+            Argument::Image,
+            Argument::Path,
+            Argument::Strict,
+        ],
     },
     CommandRow {
         name: "diff",
         about: "List what another image has otherwise, row by row, as ls prints it",
-        arguments: &[Argument::Block, Argument::Image, Argument::Other],
+        usage: None,
+        arguments: &[
+            Argument::Block,
+            Argument::Image,
+            Argument::Other,
+            Argument::Strict,
+        ],
     },
     CommandRow {
         name: "log",
         about: "List the changes that the journal keeps, and what each of them changed",
-        arguments: &[Argument::Block, Argument::Image],
+        usage: None,
+        arguments: &[Argument::Block, Argument::Image, Argument::Strict],
     },
     CommandRow {
         name: "mkdir",
         about: "Make a directory",
+        usage: None,
         arguments: &[
             Argument::Block,
             Argument::Image,
             Argument::Path,
             Argument::Keep,
+            Argument::Strict,
         ],
     },
     CommandRow {
         name: "put",
         about: "Put a file, in place of one of this path; its contents are read from standard input",
+        usage: None,
         arguments: &[
             Argument::Block,
             Argument::Image,
             Argument::Path,
+            Argument::Contents,
             Argument::Keep,
+            Argument::Strict,
         ],
     },
     CommandRow {
         name: "rm",
         about: "Remove a file or an empty directory",
+        usage: None,
         arguments: &[
             Argument::Block,
             Argument::Image,
             Argument::Path,
             Argument::Keep,
+            Argument::Strict,
         ],
     },
     CommandRow {
         name: "mv",
         about: "Move a file, or a directory with all that is below it",
+        usage: None,
         arguments: &[
             Argument::Block,
             Argument::Image,
             Argument::From,
             Argument::To,
             Argument::Keep,
+            Argument::Strict,
         ],
     },
     CommandRow {
         name: "setattr",
         about: "Set an attribute of a file or a directory",
+        usage: None,
         arguments: &[
             Argument::Block,
             Argument::Image,
@@ -155,48 +242,68 @@ const COMMANDS: [CommandRow; 19] = [
             Argument::Kind,
             Argument::Value,
             Argument::Keep,
+            Argument::Strict,
         ],
     },
     CommandRow {
         name: "rmattr",
         about: "Remove an attribute of a file or a directory",
+        usage: None,
         arguments: &[
             Argument::Block,
             Argument::Image,
             Argument::Path,
             Argument::Kind,
             Argument::Keep,
+            Argument::Strict,
         ],
     },
     CommandRow {
         name: "grow",
         about: "Lengthen an image by erased blocks; what it holds stays",
+        usage: Some(GROW_USAGE),
         arguments: &[
             Argument::Block,
             Argument::Image,
             Argument::NewCount,
+            Argument::Size,
             Argument::Keep,
+            Argument::Strict,
         ],
     },
     CommandRow {
         name: "undo",
         about: "Take the latest change back, byte for byte",
-        arguments: &[Argument::Block, Argument::Image, Argument::Steps],
+        usage: None,
+        arguments: &[
+            Argument::Block,
+            Argument::Image,
+            Argument::Steps,
+            Argument::Strict,
+        ],
     },
     CommandRow {
         name: "redo",
         about: "Make the latest change again that was taken back",
-        arguments: &[Argument::Block, Argument::Image, Argument::Steps],
+        usage: None,
+        arguments: &[
+            Argument::Block,
+            Argument::Image,
+            Argument::Steps,
+            Argument::Strict,
+        ],
     },
     CommandRow {
         name: "forget",
         about: "Keep the image alone: its changes can no longer be taken back",
-        arguments: &[Argument::Block, Argument::Image],
+        usage: None,
+        arguments: &[Argument::Block, Argument::Image, Argument::Strict],
     },
     CommandRow {
         name: "explain",
         about: "Say what a fault means, and what to do",
-        arguments: &[Argument::Number],
+        usage: None,
+        arguments: &[Argument::Fault],
     },
 ];
 
@@ -206,9 +313,37 @@ const DIR: &str = "Folder, of whose files and folders the image is made";
 /// What is said of a folder that is made.
 const NEW_DIR: &str = "Folder that is made; nothing may be there";
 
+/// What is said of the number of blocks.
+const COUNT: &str = "Number of blocks, from 2 to 65536; at most 67108864 bytes in all";
+
 /// What is said of the number of blocks that an image gets.
 const NEW_COUNT: &str =
     "Number of blocks that it gets, more than it has; at most 65536, and 67108864 bytes in all";
+
+/// What is said of the size of an image.
+const SIZE: &str =
+    "Size of the image, in place of the number of blocks: 1048576, 0x100000, 1024k or 1M";
+
+/// What is said of the least number of blocks.
+const LEAST: &str = "Give it the least number of blocks that holds the folder";
+
+/// What is said of the greatest length of a name.
+const NAME_MAX: &str = "Greatest length of a name in bytes, from 1 to 1022";
+
+/// What is said of the greatest length of a file.
+const FILE_MAX: &str = "Greatest length of a file in bytes, from 1 to 2147483647";
+
+/// What is said of the greatest length of an attribute.
+const ATTR_MAX: &str = "Greatest length of an attribute in bytes, from 1 to 1022";
+
+/// What is said where no file is replaced.
+const NEW: &str = "Refuse to replace a file that is there";
+
+/// What is said where a later disk version is refused.
+const STRICT: &str = "Refuse an image in which a commit of a later disk version stands";
+
+/// What is said of the file that contents are read from.
+const CONTENTS: &str = "File that the contents are read from, in place of standard input";
 
 /// What is said of the number of images that are kept.
 const KEEP: &str =
@@ -241,47 +376,142 @@ fn clap_argument<'a>(alloc: Global, argument: Argument) -> Arg<'a>
     ensures local { result.global ≡ false }
 {
     match argument {
-        Argument::Block => Arg::new(alloc, "block")
-            .short('b')
-            .long("block")
-            .value_name("BYTES")
-            .value_parser(value_parser!(u32).range(256..=65_536))
-            .default_value("4096")
-            .help("Size of a block, a multiple of 16 from 256 to 65536"),
-        Argument::Count => Arg::new(alloc, "count")
-            .long("count")
-            .value_name("N")
-            .value_parser(value_parser!(u32).range(2..=65_536))
-            .required(true)
-            .help("Number of blocks, from 2 to 65536; at most 67108864 bytes in all"),
-        Argument::NewCount => {
-            let counts = value_parser!(u32).range(2..=65_536);
-            word(alloc, "count", "COUNT", NEW_COUNT).value_parser(counts)
-        }
-        Argument::Keep => Arg::new(alloc, "keep")
-            .long("keep")
-            .value_name("K")
-            .value_parser(value_parser!(u32).range(1..=1_000))
-            .help(KEEP),
-        Argument::Steps => Arg::new(alloc, "steps")
-            .long("steps")
-            .value_name("N")
-            .value_parser(value_parser!(u32).range(1..=1_000))
-            .default_value("1")
-            .help(STEPS),
+        Argument::Block => block(alloc),
+        Argument::NewBlock => block(alloc).value_parser(value_parser!(u32).range(256..=65_536)),
+        Argument::Count => count(alloc),
+        Argument::NewCount => new_count(alloc),
+        Argument::Size => option(alloc, "size", "BYTES", SIZE),
+        Argument::Least => flag(alloc, "least", LEAST),
+        Argument::NameMax => name_max(alloc),
+        Argument::FileMax => file_max(alloc),
+        Argument::AttrMax => attr_max(alloc),
+        Argument::New => flag(alloc, "new", NEW),
+        Argument::Strict => flag(alloc, "strict", STRICT),
+        Argument::Keep => keep(alloc),
+        Argument::Steps => steps(alloc),
         Argument::Image => word(alloc, "image", "IMAGE", "File of the image"),
         Argument::Other => word(alloc, "other", "OTHER", OTHER),
         Argument::Dir => word(alloc, "dir", "DIR", DIR),
         Argument::NewDir => word(alloc, "dir", "DIR", NEW_DIR),
         Argument::Path => word(alloc, "path", "PATH", PATH),
+        Argument::Contents => contents(alloc),
         Argument::From => word(alloc, "from", "FROM", FROM),
         Argument::To => word(alloc, "to", "TO", TO),
         Argument::Kind => word(alloc, "kind", "KIND", KIND),
         Argument::Value => word(alloc, "hex", "HEX", VALUE),
-        Argument::Number => {
-            word(alloc, "number", "NUMBER", "Number of the fault").value_parser(value_parser!(u32))
-        }
+        Argument::Fault => word(alloc, "fault", "FAULT", "Number or name of the fault"),
     }
+}
+
+/// The block size.
+fn block<'a>(alloc: Global) -> Arg<'a>
+    ensures rule { rule_of result ≡ block_rule }
+    ensures local { result.global ≡ false }
+{
+    Arg::new(alloc, "block")
+        .short('b')
+        .long("block")
+        .value_name("BYTES")
+        .default_value("4096")
+        .help("Size of a block, a multiple of 16 from 256 to 65536")
+}
+
+/// The number of blocks.
+fn count<'a>(alloc: Global) -> Arg<'a>
+    ensures rule { rule_of result ≡ count_rule }
+    ensures local { result.global ≡ false }
+{
+    option(alloc, "count", "N", COUNT).value_parser(value_parser!(u32).range(2..=65_536))
+}
+
+/// The number of blocks that an image gets.
+fn new_count<'a>(alloc: Global) -> Arg<'a>
+    ensures rule { rule_of result ≡ new_count_rule }
+    ensures local { result.global ≡ false }
+{
+    Arg::new(alloc, "count")
+        .value_name("COUNT")
+        .value_parser(value_parser!(u32).range(2..=65_536))
+        .help(NEW_COUNT)
+}
+
+/// The greatest length of a name.
+fn name_max<'a>(alloc: Global) -> Arg<'a>
+    ensures rule { rule_of result ≡ name_max_rule }
+    ensures local { result.global ≡ false }
+{
+    option(alloc, "name-max", "N", NAME_MAX)
+        .value_parser(value_parser!(u32).range(1..=1_022))
+        .default_value("255")
+}
+
+/// The greatest length of a file.
+fn file_max<'a>(alloc: Global) -> Arg<'a>
+    ensures rule { rule_of result ≡ file_max_rule }
+    ensures local { result.global ≡ false }
+{
+    option(alloc, "file-max", "N", FILE_MAX)
+        .value_parser(value_parser!(u32).range(1..=2_147_483_647))
+        .default_value("2147483647")
+}
+
+/// The greatest length of an attribute.
+fn attr_max<'a>(alloc: Global) -> Arg<'a>
+    ensures rule { rule_of result ≡ attr_max_rule }
+    ensures local { result.global ≡ false }
+{
+    option(alloc, "attr-max", "N", ATTR_MAX)
+        .value_parser(value_parser!(u32).range(1..=1_022))
+        .default_value("1022")
+}
+
+/// The number of images of the past that are kept.
+fn keep<'a>(alloc: Global) -> Arg<'a>
+    ensures rule { rule_of result ≡ keep_rule }
+    ensures local { result.global ≡ false }
+{
+    option(alloc, "keep", "K", KEEP).value_parser(value_parser!(u32).range(1..=1_000))
+}
+
+/// The number of changes that are taken back or made again.
+fn steps<'a>(alloc: Global) -> Arg<'a>
+    ensures rule { rule_of result ≡ steps_rule }
+    ensures local { result.global ≡ false }
+{
+    option(alloc, "steps", "N", STEPS)
+        .value_parser(value_parser!(u32).range(1..=1_000))
+        .default_value("1")
+}
+
+/// The name of the file that contents are read from.
+fn contents<'a>(alloc: Global) -> Arg<'a>
+    ensures rule { rule_of result ≡ contents_rule }
+    ensures local { result.global ≡ false }
+{
+    Arg::new(alloc, "contents")
+        .long("from")
+        .value_name("FILE")
+        .help(CONTENTS)
+}
+
+/// An option that is named as its long name, which needn't be there.
+fn option<'a>(alloc: Global, id: &'a str, name: &'a str, help: &'a str) -> Arg<'a>
+    ensures rule { rule_of result ≡ option_rule id.entry.now }
+    ensures local { result.global ≡ false }
+{
+    Arg::new(alloc, id).long(id).value_name(name).help(help)
+}
+
+/// An option without a value, which is named as its long name and needn't be there.
+fn flag<'a>(alloc: Global, id: &'a str, help: &'a str) -> Arg<'a>
+    ensures rule { rule_of result ≡ flag_rule id.entry.now }
+    ensures local { result.global ≡ false }
+{
+    Arg::new(alloc, id)
+        .long(id)
+        .action(ArgAction::SetTrue)
+        .value_parser(value_parser!(bool))
+        .help(help)
 }
 
 /// A word that must be there.
@@ -301,6 +531,9 @@ fn clap_command<'a>(alloc: Global, row: &CommandRow) -> Result<Command<'a>, Allo
     ensures local { IfOk result (λ made. (fields_of made).has_globals ≡ false) }
 {
     let mut command = Command::new(alloc, row.name).about(row.about);
+    if let Some(usage) = row.usage {
+        command = command.override_usage(usage);
+    }
     for argument in row.arguments {
         command = command.arg(clap_argument(alloc, *argument))?;
     }

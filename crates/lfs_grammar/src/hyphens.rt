@@ -1,8 +1,9 @@
 //! Words that begin with a hyphen and are no options.
 
-ghost use Rattle.std.specs.Prelude.{◌≡◌, ◌&&◌, IfOk, codes, map};
+ghost use Rattle.std.specs.Prelude.{◌≡◌, IfOk, map};
 ghost use Rattle.clap.specs.Words.{first_of, found_of, rows_of, subcommand_rows_of};
-ghost use Rattle.lfs_grammar.specs.Hyphens.{dashed, is_plain_name, is_stray, names_files_plainly, names_long_option, names_option};
+ghost use Rattle.lfs_grammar.specs.Hyphens.{are_plain_names, dashed, is_plain_name, is_stray, names_change_option, names_files_plainly};
+ghost use Rattle.lfs_grammar.specs.Hyphens.{names_image_option, names_limit_option, names_long_option, names_new_option, names_option};
 
 use clap::ArgMatches;
 use std::alloc::{AllocError, Global};
@@ -12,10 +13,43 @@ use std::convert::AsStr;
 fn names_long_option(word: &str) -> bool
     ensures { result ≡ names_long_option word.now }
 {
-    word.starts_with("--block")
-        || word.starts_with("--count")
-        || word.starts_with("--keep")
-        || word.starts_with("--steps")
+    names_new_option(word)
+        || names_limit_option(word)
+        || names_change_option(word)
+        || names_image_option(word)
+}
+
+/// Whether a word is an option of a new image, or of one that gets more blocks, by its long name.
+fn names_new_option(word: &str) -> bool
+    ensures { result ≡ names_new_option word.now }
+{
+    word.starts_with("--count")
+        || word.starts_with("--size")
+        || word.starts_with("--least")
+        || word.starts_with("--new")
+}
+
+/// Whether a word is an option that is a limit, by its long name.
+fn names_limit_option(word: &str) -> bool
+    ensures { result ≡ names_limit_option word.now }
+{
+    word.starts_with("--name-max")
+        || word.starts_with("--file-max")
+        || word.starts_with("--attr-max")
+}
+
+/// Whether a word is an option of a change, by its long name.
+fn names_change_option(word: &str) -> bool
+    ensures { result ≡ names_change_option word.now }
+{
+    word.starts_with("--keep") || word.starts_with("--steps")
+}
+
+/// Whether a word is an option of an image or a file that is there, by its long name.
+fn names_image_option(word: &str) -> bool
+    ensures { result ≡ names_image_option word.now }
+{
+    word.starts_with("--block") || word.starts_with("--strict") || word.starts_with("--from")
 }
 
 /// Whether a word is an option, or asks for help.
@@ -62,12 +96,11 @@ fn is_plain(options: &ArgMatches<'_>, id: &str) -> bool
     }
 }
 
-/// Whether neither a folder's name nor that of another image begins with a hyphen.
+/// Whether neither a folder's name, that of another image, nor that of a file of contents begins with a hyphen.
 fn are_plain(options: &ArgMatches<'_>) -> bool
-    ensures { result ≡ (is_plain_name (first_of (codes "dir") (rows_of (found_of options.now)))
-        && is_plain_name (first_of (codes "other") (rows_of (found_of options.now)))) }
+    ensures { result ≡ are_plain_names (rows_of (found_of options.now)) }
 {
-    is_plain(options, "dir") && is_plain(options, "other")
+    is_plain(options, "dir") && is_plain(options, "other") && is_plain(options, "contents")
 }
 
 /// Whether no file or folder of the host is named by a word that begins with a hyphen. Takes no memory.

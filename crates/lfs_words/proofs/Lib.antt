@@ -1,1 +1,4 @@
+pub mod AutoLemmas
+pub mod Handed
 pub mod OptionLemmas
+pub mod SizeLemmas

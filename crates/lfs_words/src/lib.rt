@@ -1,9 +1,14 @@
 //! What the words of the program's command line ask for.
 #![tactic(auto)]
 
+mod counting;
 mod matching;
+mod misuse;
 mod options;
+mod sizes;
 mod wish;
 
-pub use matching::wished;
+pub use matching::{auto_image, wished};
+pub use misuse::{Misuse, Ways};
+pub use sizes::{SizeFault, blocks_said};
 pub use wish::Wish;

@@ -1,88 +1,103 @@
 //! What the words of a command line ask for.
 
-ghost use Rattle.std.specs.Prelude.{◌≡◌, IfSome, IsNone, Some, codes, true};
-ghost use Rattle.clap.specs.Words.{found_of, rows_of, subcommand_rows_of};
+ghost use Rattle.std.specs.Prelude.{◌≡◌, ◌<◌, ◌⊎◌, IfErr, IfOk, IfSome, IsNone, Some, codes, true};
+ghost use Rattle.clap.specs.Words.{Text, found_of, rows_of, subcommand_rows_of};
 ghost use Rattle.lfs_grammar.specs.Grammar.{NamesCommand, is_change};
 ghost use Rattle.lfs_history.specs.Taking.{MayKeep};
-ghost use Rattle.lfs_words.specs.Words.{AsksFor, IsKept, IsStep, IsTask, KeepsInRange, is_other};
+ghost use Rattle.lfs_request.specs.Asking.{HasLimits};
+ghost use Rattle.lfs_step.specs.Deed.{HasLimits as StepHasLimits};
+ghost use Rattle.lfs_words.specs.Words.{AsksFor, IsInRange, IsKept, IsMissaid, IsMisuse, IsRequest, IsSizeMisuse, IsStep, IsTask};
+ghost use Rattle.lfs_words.specs.Words.{SaysAuto, StaysInRange, is_other};
+ghost use Rattle.lfs_words.specs.declared.misuse.Misuse.TheVariants.{Unsaid};
 
-use crate::options::{bytes, number, text};
+use crate::counting::{block_of, count_of, extent_of, limits_of};
+use crate::misuse::{FORMAT, GROW, Misuse};
+use crate::options::{bytes, number, number_if_said, said, text};
 use crate::wish::Wish;
 use clap::ArgMatches;
 use lfs_request::{Request, Task};
 use lfs_step::Step;
 
-/// The step that a command's words say.
-fn step_of<'a>(name: &str, options: &ArgMatches<'a>) -> Option<Step<'a>>
-    ensures some { IfSome result (λ step. IsStep step name.now (rows_of (found_of options.now))) }
-    ensures none { IsNone result → NamesCommand (Some (name.now, rows_of (found_of options.now))) → is_other name.now ≡ true }
+/// The step that a command's words say, on an image of this block size.
+fn step_of<'a>(name: &str, options: &ArgMatches<'a>, block: u32) -> Result<Step<'a>, Misuse<'a>>
+    requires { 0 < block }
+    ensures some { IfOk result (λ step. IsStep step name.now (rows_of (found_of options.now)) block) }
+    ensures within { IfOk result (λ step. NamesCommand (Some (name.now, rows_of (found_of options.now))) → StepHasLimits step) }
+    ensures refused { IfErr result (λ misuse. (misuse ≡ Unsaid) ⊎ IsSizeMisuse misuse name.now (rows_of (found_of options.now)) block) }
+    ensures unsaid { IfErr result (λ misuse. misuse ≡ Unsaid → NamesCommand (Some (name.now, rows_of (found_of options.now)))
+        → is_other name.now ≡ true) }
 {
-    let step = match name {
-        "format" => Step::Format {
-            count: number(options, "count")?,
-        },
-        "check" => Step::Check,
-        "ls" => Step::Ls,
-        "cat" => Step::Cat {
+    match name {
+        "format" => Ok(Step::Format {
+            count: count_of(options, block, FORMAT)?,
+            limits: limits_of(options)?,
+        }),
+        "check" => Ok(Step::Check),
+        "ls" => Ok(Step::Ls),
+        "cat" => Ok(Step::Cat {
             path: bytes(options, "path")?,
-        },
-        "diff" => Step::Diff {
+        }),
+        "diff" => Ok(Step::Diff {
             other: text(options, "other")?,
-        },
-        "log" => Step::Log,
-        "mkdir" => Step::Mkdir {
+        }),
+        "log" => Ok(Step::Log),
+        "mkdir" => Ok(Step::Mkdir {
             path: bytes(options, "path")?,
-        },
-        "put" => Step::Put {
+        }),
+        "put" => Ok(Step::Put {
             path: bytes(options, "path")?,
-        },
-        "rm" => Step::Rm {
+            from: options.get_str("contents"),
+        }),
+        "rm" => Ok(Step::Rm {
             path: bytes(options, "path")?,
-        },
-        "mv" => Step::Mv {
+        }),
+        "mv" => Ok(Step::Mv {
             from: bytes(options, "from")?,
             to: bytes(options, "to")?,
-        },
-        "grow" => Step::Grow {
-            count: number(options, "count")?,
-        },
-        "undo" => Step::Undo {
+        }),
+        "grow" => Ok(Step::Grow {
+            count: count_of(options, block, GROW)?,
+        }),
+        "undo" => Ok(Step::Undo {
             steps: number(options, "steps")?,
-        },
-        "redo" => Step::Redo {
+        }),
+        "redo" => Ok(Step::Redo {
             steps: number(options, "steps")?,
-        },
-        "forget" => Step::Forget,
-        _ => return None,
-    };
-    Some(step)
+        }),
+        "forget" => Ok(Step::Forget),
+        _ => Err(Misuse::Unsaid),
+    }
 }
 
-/// What a command's words ask to be done.
-fn task_of<'a>(name: &str, options: &ArgMatches<'a>) -> Option<Task<'a>>
-    ensures some { IfSome result (λ task. IsTask task name.now (rows_of (found_of options.now))) }
-    ensures none { IsNone result → NamesCommand (Some (name.now, rows_of (found_of options.now))) → name.now ≡ codes "explain" }
+/// What a command's words ask to be done, on an image of this block size.
+fn task_of<'a>(name: &str, options: &ArgMatches<'a>, block: u32) -> Result<Task<'a>, Misuse<'a>>
+    requires { 0 < block }
+    ensures some { IfOk result (λ task. IsTask task name.now (rows_of (found_of options.now)) block) }
+    ensures within { IfOk result (λ task. NamesCommand (Some (name.now, rows_of (found_of options.now))) → HasLimits task) }
+    ensures refused { IfErr result (λ misuse. (misuse ≡ Unsaid) ⊎ IsSizeMisuse misuse name.now (rows_of (found_of options.now)) block) }
+    ensures unsaid { IfErr result (λ misuse. misuse ≡ Unsaid → NamesCommand (Some (name.now, rows_of (found_of options.now)))
+        → name.now ≡ codes "explain") }
 {
-    let task = match name {
-        "pack" => Task::Pack {
-            count: number(options, "count")?,
+    match name {
+        "pack" => Ok(Task::Pack {
+            extent: extent_of(options, block)?,
+            limits: limits_of(options)?,
             dir: text(options, "dir")?,
-        },
-        "extract" => Task::Extract {
+        }),
+        "extract" => Ok(Task::Extract {
             dir: text(options, "dir")?,
-        },
-        "setattr" => Task::SetAttr {
+        }),
+        "setattr" => Ok(Task::SetAttr {
             path: bytes(options, "path")?,
             kind: text(options, "kind")?,
             value: text(options, "hex")?,
-        },
-        "rmattr" => Task::RmAttr {
+        }),
+        "rmattr" => Ok(Task::RmAttr {
             path: bytes(options, "path")?,
             kind: text(options, "kind")?,
-        },
-        _ => Task::Step(step_of(name, options)?),
-    };
-    Some(task)
+        }),
+        _ => Ok(Task::Step(step_of(name, options, block)?)),
+    }
 }
 
 /// Whether a command of this name changes an image.
@@ -104,31 +119,68 @@ fn keep_of(name: &str, options: &ArgMatches<'_>) -> Option<u32>
     ensures within { NamesCommand (Some (name.now, rows_of (found_of options.now))) → MayKeep result }
 {
     if is_change(name) {
-        number(options, "keep")
+        number_if_said(options, "keep")
     } else {
         None
     }
 }
 
-/// What the words that were matched ask for; what is kept is 1 to 1,000 images, where they name a command with all that it takes.
-/// `None` only where they don't. Takes no memory.
+/// The request that a command's words say, where `auto` stands for this block size.
+fn request_of<'a>(
+    name: &str,
+    options: &ArgMatches<'a>,
+    stated: u32,
+) -> Result<Request<'a>, Misuse<'a>>
+    ensures some { IfOk result (λ request. IsRequest request name.now (rows_of (found_of options.now)) stated) }
+    ensures within { IfOk result (λ request. NamesCommand (Some (name.now, rows_of (found_of options.now))) → IsInRange request) }
+    ensures refused { IfErr result (λ misuse. (misuse ≡ Unsaid) ⊎ IsMisuse misuse name.now (rows_of (found_of options.now)) stated) }
+    ensures unsaid { IfErr result (λ misuse. misuse ≡ Unsaid → NamesCommand (Some (name.now, rows_of (found_of options.now)))
+        → name.now ≡ codes "explain") }
+{
+    let size = block_of(options, stated)?;
+    Ok(Request {
+        task: task_of(name, options, size)?,
+        size,
+        keep: keep_of(name, options),
+        is_new: said(options, "new"),
+        is_strict: said(options, "strict"),
+        image: text(options, "image")?,
+    })
+}
+
+/// What the words that were matched ask for, where `auto` stands for a block of so many bytes; what is kept is 1 to 1,000 images,
+/// and the limits of a new image are such that images may state, where they name a command with all that it takes. Else why they ask
+/// for nothing: `Unsaid` only where they name no such command. Takes no memory.
 ///
 /// Source: own.
-pub fn wished<'a>(matches: &ArgMatches<'a>) -> Option<Wish<'a>>
-    ensures some { IfSome result (λ wish. AsksFor (subcommand_rows_of matches.now) wish) }
-    ensures within { IfSome result (λ wish. NamesCommand (subcommand_rows_of matches.now) → KeepsInRange wish) }
-    ensures none { IsNone result → NamesCommand (subcommand_rows_of matches.now) → ⊥ }
+pub fn wished<'a>(matches: &ArgMatches<'a>, stated: u32) -> Result<Wish<'a>, Misuse<'a>>
+    ensures some { IfOk result (λ wish. AsksFor (subcommand_rows_of matches.now) stated wish) }
+    ensures within { IfOk result (λ wish. NamesCommand (subcommand_rows_of matches.now) → StaysInRange wish) }
+    ensures refused { IfErr result (λ misuse. (misuse ≡ Unsaid) ⊎ IsMissaid (subcommand_rows_of matches.now) stated misuse) }
+    ensures unsaid { IfErr result (λ misuse. misuse ≡ Unsaid → NamesCommand (subcommand_rows_of matches.now) → ⊥) }
 {
-    let (name, options) = matches.subcommand()?;
+    let Some((name, options)) = matches.subcommand() else {
+        return Err(Misuse::Unsaid);
+    };
     if name == "explain" {
-        return Some(Wish::Explanation {
-            number: number(options, "number")?,
+        return Ok(Wish::Explanation {
+            fault: text(options, "fault")?,
         });
     }
-    Some(Wish::Request(Request {
-        task: task_of(name, options)?,
-        size: number(options, "block")?,
-        keep: keep_of(name, options),
-        image: text(options, "image")?,
-    }))
+    Ok(Wish::Request(request_of(name, options, stated)?))
+}
+
+/// The file of the image whose first block states the block size, where the words that were matched say `auto` for it. Takes no memory.
+///
+/// Source: own.
+pub fn auto_image<'a>(matches: &ArgMatches<'a>) -> Option<&'a str>
+    ensures some { IfSome result (λ image. SaysAuto (subcommand_rows_of matches.now) image.now) }
+    ensures none { IsNone result → (image : Text) → SaysAuto (subcommand_rows_of matches.now) image → ⊥ }
+{
+    let (_, options) = matches.subcommand()?;
+    if options.get_str("block")? == "auto" {
+        options.get_str("image")
+    } else {
+        None
+    }
 }

@@ -1,30 +1,51 @@
 //! The options that a command's words have.
 
-ghost use Rattle.std.specs.Prelude.{◌≡◌, ◌≤◌, IfSome, IsNone};
+ghost use Rattle.std.specs.Prelude.{◌≡◌, ◌≤◌, IfErr, IfOk, IfSome, IsNone};
 ghost use Rattle.clap.specs.Words.{Rule, found_of, rows_of};
 ghost use Rattle.lfs_grammar.specs.Grammar.{IsNumber, IsSaid};
-ghost use Rattle.lfs_words.specs.Words.{HasNumber, HasText};
+ghost use Rattle.lfs_words.specs.Words.{HasNumber, HasText, is_flagged};
+ghost use Rattle.lfs_words.specs.declared.misuse.Misuse.TheVariants.{Unsaid};
 
+use crate::misuse::Misuse;
 use clap::ArgMatches;
 
 /// The text of an option.
-pub(crate) fn text<'a>(options: &ArgMatches<'a>, id: &str) -> Option<&'a str>
-    ensures some { IfSome result (λ text. HasText (rows_of (found_of options.now)) id.now text.now) }
-    ensures none { IsNone result → (rule : Rule) → rule.id ≡ id.now → IsSaid rule (rows_of (found_of options.now)) → ⊥ }
+pub(crate) fn text<'a>(options: &ArgMatches<'a>, id: &str) -> Result<&'a str, Misuse<'a>>
+    ensures some { IfOk result (λ text. HasText (rows_of (found_of options.now)) id.now text.now) }
+    ensures none { IfErr result (λ misuse. (misuse ≡ Unsaid)
+        × ((rule : Rule) → rule.id ≡ id.now → IsSaid rule (rows_of (found_of options.now)) → ⊥)) }
 {
-    options.get_str(id)
+    match options.get_str(id) {
+        Some(text) => Ok(text),
+        None => Err(Misuse::Unsaid),
+    }
 }
 
 /// The bytes of an option's text.
-pub(crate) fn bytes<'a>(options: &ArgMatches<'a>, id: &str) -> Option<&'a [u8]>
-    ensures some { IfSome result (λ bytes. HasText (rows_of (found_of options.now)) id.now bytes.now) }
-    ensures none { IsNone result → (rule : Rule) → rule.id ≡ id.now → IsSaid rule (rows_of (found_of options.now)) → ⊥ }
+pub(crate) fn bytes<'a>(options: &ArgMatches<'a>, id: &str) -> Result<&'a [u8], Misuse<'a>>
+    ensures some { IfOk result (λ bytes. HasText (rows_of (found_of options.now)) id.now bytes.now) }
+    ensures none { IfErr result (λ misuse. (misuse ≡ Unsaid)
+        × ((rule : Rule) → rule.id ≡ id.now → IsSaid rule (rows_of (found_of options.now)) → ⊥)) }
 {
-    Some(text(options, id)?.as_bytes())
+    Ok(text(options, id)?.as_bytes())
+}
+
+/// The number that an option's text says, which must be there.
+pub(crate) fn number<'a>(options: &ArgMatches<'a>, id: &str) -> Result<u32, Misuse<'a>>
+    ensures some { IfOk result (λ number. HasNumber (rows_of (found_of options.now)) id.now number) }
+    ensures within { IfOk result (λ number. (rule : Rule) → rule.id ≡ id.now → (is : IsNumber rule)
+        → IsSaid rule (rows_of (found_of options.now)) → (is.0 ≤ number) × (number ≤ is.1)) }
+    ensures none { IfErr result (λ misuse. (misuse ≡ Unsaid)
+        × ((rule : Rule) → rule.id ≡ id.now → IsNumber rule → IsSaid rule (rows_of (found_of options.now)) → ⊥)) }
+{
+    match number_if_said(options, id) {
+        Some(number) => Ok(number),
+        None => Err(Misuse::Unsaid),
+    }
 }
 
 /// The number that an option's text says.
-pub(crate) fn number(options: &ArgMatches<'_>, id: &str) -> Option<u32>
+pub(crate) fn number_if_said(options: &ArgMatches<'_>, id: &str) -> Option<u32>
     ensures some { IfSome result (λ number. HasNumber (rows_of (found_of options.now)) id.now number) }
     ensures within { IfSome result (λ number. (rule : Rule) → rule.id ≡ id.now → (is : IsNumber rule)
         → IsSaid rule (rows_of (found_of options.now)) → (is.0 ≤ number) × (number ≤ is.1)) }
@@ -32,4 +53,14 @@ pub(crate) fn number(options: &ArgMatches<'_>, id: &str) -> Option<u32>
         → IsSaid rule (rows_of (found_of options.now)) → ⊥ }
 {
     options.get_one::<u32>(id)
+}
+
+/// Whether an option without a value is said.
+pub(crate) fn said(options: &ArgMatches<'_>, id: &str) -> bool
+    ensures { result ≡ is_flagged id.now (rows_of (found_of options.now)) }
+{
+    match options.get_str(id) {
+        Some(text) => text == "true",
+        None => false,
+    }
 }

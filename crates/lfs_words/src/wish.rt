@@ -7,10 +7,10 @@ use lfs_request::Request;
 /// Source: own.
 #[derive(Drop)]
 pub enum Wish<'a> {
-    /// What the fault of a number means.
+    /// What the fault of a number or a name means.
     Explanation {
-        /// The number.
-        number: u32,
+        /// The number or the name.
+        fault: &'a str,
     },
     /// What is asked for on an image.
     Request(Request<'a>),

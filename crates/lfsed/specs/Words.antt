@@ -1,5 +1,6 @@
 -- How the words of a command line end (own).
 use Rattle.std.specs.Prelude.{ℕ, ◌≡◌, ◌⊎◌, List, Option, Result, Ok, Err, Some}
+use Rattle.std.specs.Borrow.{Bor}
 use Rattle.clap.specs.Words.{IsAmong, Row, Text, fault_of, subcommand_of}
 use Rattle.clap.specs.declared.error.kind.ErrorKind.{ErrorKind}
 use Rattle.clap.specs.declared.error.kind.ErrorKind.TheVariants.{DisplayHelp, DisplayVersion}
@@ -11,9 +12,11 @@ use Rattle.lfs_request.specs.declared.request.Request.{Request}
 use Rattle.lfs_words.specs.declared.wish.Wish.TheVariants as wish
 use Rattle.lfs_grammar.specs.Grammar.{grammar}
 use Rattle.lfs_grammar.specs.Hyphens.{IsRead}
-use Rattle.lfs_words.specs.Words.{AsksFor}
-use Rattle.lfs_host.specs.Scene.{KeepsScene, Scene}
+use Rattle.lfs_words.specs.Words.{AsksFor, IsMissaid, SaysAuto}
+use Rattle.lfs_words.specs.declared.misuse.Misuse.{Misuse}
+use Rattle.lfs_host.specs.Scene.{KeepsAll, KeepsScene, Scene}
 use Rattle.lfs_serve.specs.Program.{EndsRequest}
+use Rattle.lfs_serve.specs.Stated.{IsStatedSize}
 
 -- the status of a command line that is refused
 abbrev pub usage : ℕ
@@ -36,12 +39,25 @@ CallsForHelp kind = (kind ≡ DisplayHelp) ⊎ (kind ≡ DisplayVersion)
 abbrev pub EndsForMemory : Scene → Scene → ℕ → Type 0
 EndsForMemory old new status = KeepsScene old new × (status ≡ status_of (Some (Refused Memory)))
 
--- how a command that is named with its options ends: as the request that it asks for, or by saying what the fault of the
--- number means that it asks for, with no file changed
+-- a block size stands for `auto`: what the first block of the image's file states, or any where the words don't say so
+abbrev pub IsStated : Option (Text × List Row) → Scene → ℕ → Type 0
+IsStated named old stated =
+    ((image : Text) × SaysAuto named image × IsStatedSize old.files image stated)
+    ⊎ ((image : Text) → ¬ SaysAuto named image)
+
+-- how a command that is named with its options ends, once that is known: as the request that it asks for; by saying what the fault of
+-- the number or the name means that it asks for; or, where it says no request, with the status of a refused command line. No file is
+-- changed but by a request
+abbrev pub EndsStated : Option (Text × List Row) → ℕ → Scene → Scene → ℕ → Type 0
+EndsStated named stated old new status =
+    ((request : Request) × AsksFor named stated (wish.Request request) × EndsRequest request old new status)
+    ⊎ ((fault : Bor Text) × AsksFor named stated (wish.Explanation fault) × (new.files ≡ old.files))
+    ⊎ ((misuse : Misuse) × IsMissaid named stated misuse × (new.files ≡ old.files) × (status ≡ usage))
+
+-- how it ends: so, behind a look at the image's file, which changes nothing
 abbrev pub EndsNamed : Option (Text × List Row) → Scene → Scene → ℕ → Type 0
 EndsNamed named old new status =
-    ((request : Request) × AsksFor named (wish.Request request) × EndsRequest request old new status)
-    ⊎ ((number : ℕ) × AsksFor named (wish.Explanation number) × (new.files ≡ old.files))
+    (stated : ℕ) × (looked : Scene) × IsStated named old stated × KeepsAll old looked × EndsStated named stated looked new status
 
 -- how refused words end: with no file changed, and with the status of a refused command line, unless they call for help
 abbrev pub EndsRefused : List Text → Scene → Scene → ℕ → Type 0

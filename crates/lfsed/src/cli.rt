@@ -4,18 +4,20 @@ ghost use Rattle.std.specs.Prelude.{◌≡◌, ◌≢◌, ◌⊎◌, Ok, map};
 ghost use Rattle.clap.specs.Words.{HasKind, fault_of, kind_of, subcommand_rows_of};
 ghost use Rattle.lfs_grammar.specs.Grammar.{IsTaken, NamesCommand, grammar};
 ghost use Rattle.lfs_grammar.specs.Hyphens.{IsRead};
-ghost use Rattle.lfsed.specs.Words.{CallsForHelp, EndsNamed, EndsWords, ended_with, usage};
+ghost use Rattle.lfs_host.specs.Scene.{KeepsAll};
+ghost use Rattle.lfsed.specs.Words.{CallsForHelp, EndsNamed, EndsWords, IsStated, ended_with, usage};
 
 use crate::explanations::explained;
+use crate::tips::retold;
 use clap::error::ErrorKind;
 use clap::{ArgMatches, Error};
 use lfs_edit::Refusal;
 use lfs_exchange::{MORE, print, tell_of_image};
 use lfs_grammar::{dashed, matched, names_files_plainly};
 use lfs_host::Host;
-use lfs_serve::served;
+use lfs_serve::{served, stated_size};
 use lfs_step::Fault;
-use lfs_words::{Wish, wished};
+use lfs_words::{Misuse, Wish, auto_image, wished};
 use std::alloc::Global;
 use std::convert::AsStr;
 
@@ -77,24 +79,40 @@ fn carried<H: Host>(alloc: Global, host: &mut H, matches: &ArgMatches<'_>) -> Re
     requires { NamesCommand (subcommand_rows_of matches.now) }
     ensures ended { EndsNamed (subcommand_rows_of matches.now) (H.known host.old) (H.known host.new) (ended_with result) }
 {
-    match wished(matches) {
-        Some(Wish::Explanation { number }) => explain(alloc, host, number),
-        Some(Wish::Request(request)) => Ok(served(alloc, host, &request)),
-        None => unreachable!(),
+    let stated = stated_for(alloc, host, matches);
+    match wished(matches, stated) {
+        Ok(Wish::Explanation { fault }) => explain(alloc, host, fault),
+        Ok(Wish::Request(request)) => Ok(served(alloc, host, &request)),
+        Err(Misuse::Unsaid) => unreachable!(),
+        Err(misuse) => {
+            host.complain(format_args!("error: {misuse}{MORE}"));
+            Ok(USAGE)
+        }
     }
 }
 
-/// Says what the fault of a number means. A number that no fault has is refused.
-fn explain<H: Host>(alloc: Global, host: &mut H, number: u32) -> Result<u8, Fault>
+/// What the first block of the image states as its block size, where the words say `auto` for it.
+fn stated_for<H: Host>(alloc: Global, host: &mut H, matches: &ArgMatches<'_>) -> u32
+    ensures stated { IsStated (subcommand_rows_of matches.now) (H.known host.old) result }
+    ensures kept { KeepsAll (H.known host.old) (H.known host.new) }
+{
+    match auto_image(matches) {
+        Some(image) => stated_size(alloc, host, image),
+        None => 0,
+    }
+}
+
+/// Says what the fault of a number or a name means. What is neither is refused.
+fn explain<H: Host>(alloc: Global, host: &mut H, fault: &str) -> Result<u8, Fault>
     ensures kept { (H.known host.new).files ≡ (H.known host.old).files }
 {
-    let Some(found) = explained(number) else {
+    let Some(found) = explained(fault) else {
         host.complain(format_args!(
-            "error: invalid value '{number}' for '<NUMBER>': no fault has this number{MORE}"
+            "error: invalid value '{fault}' for '<FAULT>': no fault has this number or name{MORE}"
         ));
         return Ok(USAGE);
     };
-    let (name, text) = (found.name, found.text);
+    let (number, name, text) = (found.number, found.name, found.text);
     let page = format!(in alloc; "{number} {name}\n{text}\n")?;
     print(host, page.as_str())?;
     Ok(0)
@@ -106,7 +124,10 @@ fn refused<H: Host>(alloc: Global, host: &mut H, error: Error) -> Result<u8, Fau
     ensures status { (result ≡ Ok usage) ⊎ CallsForHelp (kind_of error) }
 {
     if error.use_stderr() {
-        host.complain(error);
+        match retold(alloc, &error) {
+            Ok(text) => host.complain(text.as_str()),
+            Err(_) => host.complain(error),
+        }
         return Ok(USAGE);
     }
     let help = error.to_string(alloc)?;

@@ -31,14 +31,16 @@ const EXPLANATIONS: [Explanation; 48] = [
     Explanation {
         number: 3,
         name: "NoValidCommit",
-        text: "Neither block of a pair that the thread names holds a commit whose checksum is right. The \
-         image is damaged, or `--block` isn't its block size.",
+        text: "Neither block of a pair that the thread names holds a commit whose checksum is right. \
+         The image is damaged, or `--block` isn't its block size, or a later littlefs wrote it: \
+         the second line says what its first block states of that, and 10 what keeps a device at \
+         disk version 2.0.",
     },
     Explanation {
         number: 4,
         name: "UnknownTag",
-        text: "A commit has a tag of a type that disk version 2.0 doesn't have. The image was written by a \
-         later version, or is damaged.",
+        text: "A commit has a tag of a type that disk version 2.0 doesn't have. The image was written \
+         by a later version, or is damaged; 10 says what keeps a device at disk version 2.0.",
     },
     Explanation {
         number: 5,
@@ -72,8 +74,11 @@ const EXPLANATIONS: [Explanation; 48] = [
     Explanation {
         number: 10,
         name: "Version",
-        text: "The image is of another disk version than 2.0. Write it again with a littlefs that keeps \
-         version 2.0.",
+        text: "The image is of another disk version than 2.0, or, with `--strict`, a later commit of \
+         another one stands in it, as the second line says. Since 2.6 littlefs writes disk \
+         version 2.1, also into an image of 2.0. It keeps 2.0 where it is built with \
+         LFS_MULTIVERSION and `lfs_config.disk_version` is 0x00020000: build the device so, and \
+         write the image again.",
     },
     Explanation {
         number: 11,
@@ -175,19 +180,20 @@ const EXPLANATIONS: [Explanation; 48] = [
     Explanation {
         number: 36,
         name: "NameTooLong",
-        text: "The new name is longer than the image's limit, which is 255 bytes in an image that lfsed \
-         made.",
+        text: "The new name is longer than the image's limit, which is 255 bytes where a new image \
+         wasn't given another by `--name-max`.",
     },
     Explanation {
         number: 37,
         name: "FileTooLarge",
-        text: "The contents are longer than the image's limit, which is 2147483647 bytes in an image that \
-         lfsed made.",
+        text: "The contents are longer than the image's limit, which is 2147483647 bytes where a new \
+         image wasn't given another by `--file-max`.",
     },
     Explanation {
         number: 38,
         name: "AttrTooLarge",
-        text: "The value is longer than the image's limit, which is 1022 bytes in an image that lfsed made.",
+        text: "The value is longer than the image's limit, which is 1022 bytes where a new image wasn't \
+         given another by `--attr-max`.",
     },
     Explanation {
         number: 39,
@@ -213,7 +219,8 @@ const EXPLANATIONS: [Explanation; 48] = [
     Explanation {
         number: 43,
         name: "NoSpace",
-        text: "The change needs more new blocks than are free; both numbers are said. Remove something, \
+        text: "The change needs more new blocks than are free; both numbers are said, and of a folder \
+         that is packed a second line says how many blocks it needs in all. Remove something, \
          lengthen the image with `grow`, or pack into an image of more blocks.",
     },
     Explanation {
@@ -236,8 +243,10 @@ const EXPLANATIONS: [Explanation; 48] = [
     Explanation {
         number: 51,
         name: "JournalMismatch",
-        text: "The journal isn't that of this image: another program changed the image, or a run was stopped \
-         between the two files. `forget` keeps the image and makes a new journal, without changes.",
+        text: "The journal isn't that of this image: another program changed the image, or a run was \
+         stopped between the two files. Where a second line names the image that the journal \
+         leads to, rename it to this one's name, and both fit again. Else `forget` keeps the \
+         image and makes a new journal, without changes.",
     },
     Explanation {
         number: 52,
@@ -279,9 +288,10 @@ const EXPLANATIONS: [Explanation; 48] = [
     Explanation {
         number: 62,
         name: "HostEntry",
-        text: "Something in the folder that is packed is neither a regular file nor a folder, and the second line says \
-         which: put what is meant in its place, or take it away. Or something is under the name of the folder that is to be \
-         made: give another name.",
+        text: "Something in the folder that is packed is neither a regular file nor a folder, and the \
+         second line says which: put what is meant in its place, or take it away. Or something is \
+         under the name of the folder that is to be made, which the second line says: give \
+         another name.",
     },
     Explanation {
         number: 63,
@@ -296,11 +306,12 @@ const EXPLANATIONS: [Explanation; 48] = [
     },
 ];
 
-/// What the fault of a number means; nothing where no fault has it. Takes no memory.
+/// What the fault of a number, in decimal digits, or of a name means; nothing where no fault has it. Takes no memory.
 ///
 /// Source: own.
-pub fn explained(number: u32) -> Option<&'static Explanation> {
-    EXPLANATIONS
-        .iter()
-        .find(|explanation| u32::from(explanation.number) == number)
+pub fn explained(fault: &str) -> Option<&'static Explanation> {
+    match fault.parse::<u8>() {
+        Ok(number) => EXPLANATIONS.iter().find(|known| known.number == number),
+        Err(_) => EXPLANATIONS.iter().find(|known| known.name == fault),
+    }
 }

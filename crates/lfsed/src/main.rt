@@ -3,6 +3,7 @@
 
 mod cli;
 mod explanations;
+mod tips;
 
 use crate::cli::{USAGE, cli as run_words};
 use lfs_edit::Refusal;

@@ -9,11 +9,11 @@ pub returns-then-is_change-clause-kept : goal.returns-then-is_change-clause-kept
 returns-then-is_change-clause-kept c =
     let rows = rows_of (found_of c.args.options.now) in
     let changes : is_change c.args.name.now ≡ true = sym c.is_change.ensures ∙ c.if-is_change.true in
-    kept_as_said c.number.result c.args.name.now rows changes c.number.ensures.some
-    (λ none said. c.number.ensures.none none keep refl keep_is said)
+    kept_as_said c.number_if_said.result c.args.name.now rows changes c.number_if_said.ensures.some
+    (λ none said. c.number_if_said.ensures.none none keep refl keep_is said)
 
 pub returns-then-is_change-clause-within : goal.returns-then-is_change-clause-within
 returns-then-is_change-clause-within c =
     let rows = rows_of (found_of c.args.options.now) in
     let changes : is_change c.args.name.now ≡ true = sym c.is_change.ensures ∙ c.if-is_change.true in
-    kept_within c.number.result c.args.name.now rows changes c.number.ensures.some c.number.ensures.within
+    kept_within c.number_if_said.result c.args.name.now rows changes c.number_if_said.ensures.some c.number_if_said.ensures.within

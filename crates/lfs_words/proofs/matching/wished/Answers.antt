@@ -1,41 +1,61 @@
-use Rattle.std.proofs.Common.{rules, ◌≡◌, Some, codes, refl, subst}
+use Rattle.std.proofs.Common.{rules, ◌≡◌, Some, codes, inl, inr, refl, subst}
 use Rattle.std.specs.Prelude.{option_map}
 use Rattle.clap.specs.Matches.{subcommand_name_of}
 use Rattle.clap.specs.Words.{found_of, rows_of, subcommand_rows_of}
-use Rattle.lfs_grammar.specs.Grammar.{NamesCommand, block, number, word}
-use Rattle.lfs_grammar.proofs.CommandLemmas.{block_is, image_said, number_is, said_of}
+use Rattle.lfs_grammar.specs.Grammar.{NamesCommand, word}
+use Rattle.lfs_grammar.proofs.CommandLemmas.{said_of}
 use Rattle.lfs_grammar.proofs.WordLemmas.{names_command}
+use Rattle.lfs_words.proofs.Handed.{handed_on}
 use Rattle.lfs_words.proofs.matching.wished.Goals as goal
 
-pub returns-in_err-number-clause-none : goal.returns-in_err-number-clause-none
-returns-in_err-number-clause-none c = λ none names.
+pub returns-in_err-text-clause-unsaid : goal.returns-in_err-text-clause-unsaid
+returns-in_err-text-clause-unsaid c =
+    let on = c.from_residual in
+    handed_on on.result c.in_err-text.field-0.0 _ on.ensures.1
+    (λ unsaid names.
     let m = c.args.matches.now in
-    let rows = rows_of (found_of c.in_ok-name.options.now) in
+    let rows = rows_of (found_of c.in-Some.options.now) in
     let name : subcommand_name_of m ≡ Some (codes "explain") = search rules in
     let has : option_map (λ p. p.1) (subcommand_rows_of m) ≡ Some rows = search rules in
     let is = names_command m (codes "explain") rows name has in
     let named = subst NamesCommand is names in
     let said = said_of (codes "explain") (codes "explain") rows refl named in
-    absurd (c.in_err-number.ensures.none refl number refl number_is (said.0 refl))
+    absurd (c.in_err-text.ensures.none.1 (word (codes "fault")) refl (said.0 refl)))
 
-pub returns-in_err-number-2-clause-none : goal.returns-in_err-number-2-clause-none
-returns-in_err-number-2-clause-none c = λ none names.
+pub returns-in_err-request_of-clause-refused : goal.returns-in_err-request_of-clause-refused
+returns-in_err-request_of-clause-refused c =
     let m = c.args.matches.now in
-    let rows = rows_of (found_of c.in_ok-name.options.now) in
-    let name : subcommand_name_of m ≡ Some c.in_ok-name.name.now = search rules in
+    let called = c.in-Some.name.now in
+    let rows = rows_of (found_of c.in-Some.options.now) in
+    let name : subcommand_name_of m ≡ Some called = search rules in
     let has : option_map (λ p. p.1) (subcommand_rows_of m) ≡ Some rows = search rules in
-    let is = names_command m c.in_ok-name.name.now rows name has in
-    let other : c.in_ok-name.name.now ≡ codes "explain" → ⊥ = search rules in
-    let said = image_said c.in_ok-name.name.now rows other (subst NamesCommand is names) in
-    absurd (c.in_err-number-2.ensures.none refl block refl block_is said.0)
+    let on = c.from_residual-in_err-request_of in
+    handed_on on.result c.in_err-request_of.field-0.0 _ on.ensures.1
+    (elim c.in_err-request_of.ensures.refused [
+      | inl unsaid ↦ inl unsaid
+      | inr misuse ↦ inr (called, rows, names_command m called rows name has, misuse)
+    ])
 
-pub returns-in_err-text-clause-none : goal.returns-in_err-text-clause-none
-returns-in_err-text-clause-none c = λ none names.
+pub returns-in_err-request_of-clause-unsaid : goal.returns-in_err-request_of-clause-unsaid
+returns-in_err-request_of-clause-unsaid c =
+    let on = c.from_residual-in_err-request_of in
+    handed_on on.result c.in_err-request_of.field-0.0 _ on.ensures.1
+    (λ unsaid names.
     let m = c.args.matches.now in
-    let rows = rows_of (found_of c.in_ok-name.options.now) in
-    let name : subcommand_name_of m ≡ Some c.in_ok-name.name.now = search rules in
+    let called = c.in-Some.name.now in
+    let rows = rows_of (found_of c.in-Some.options.now) in
+    let name : subcommand_name_of m ≡ Some called = search rules in
     let has : option_map (λ p. p.1) (subcommand_rows_of m) ≡ Some rows = search rules in
-    let is = names_command m c.in_ok-name.name.now rows name has in
-    let other : c.in_ok-name.name.now ≡ codes "explain" → ⊥ = search rules in
-    let said = image_said c.in_ok-name.name.now rows other (subst NamesCommand is names) in
-    absurd (c.in_err-text.ensures.none refl (word (codes "image")) refl said.1)
+    let is = names_command m called rows name has in
+    let explains = c.in_err-request_of.ensures.unsaid unsaid (subst NamesCommand is names) in
+    let other : called ≡ codes "explain" → ⊥ = search rules in
+    absurd (other explains))
+
+pub returns-clause-within : goal.returns-clause-within
+returns-clause-within c = λ names.
+    let m = c.args.matches.now in
+    let called = c.in-Some.name.now in
+    let rows = rows_of (found_of c.in-Some.options.now) in
+    let name : subcommand_name_of m ≡ Some called = search rules in
+    let has : option_map (λ p. p.1) (subcommand_rows_of m) ≡ Some rows = search rules in
+    c.in_ok-request_of.ensures.within (subst NamesCommand (names_command m called rows name has) names)

@@ -1,10 +1,12 @@
+use Rattle.std.proofs.Common.{◌∙◌, None, refl, sym}
 use Rattle.clap.specs.Words.{found_of}
-use Rattle.lfs_words.proofs.OptionLemmas.{text_read, text_there}
+use Rattle.clap.proofs.WalkLemmas.{first_value-rows}
+use Rattle.lfs_words.proofs.OptionLemmas.{text_there}
 use Rattle.lfs_words.proofs.options.text.Goals as goal
 
-pub returns-clause-some : goal.returns-clause-some
-returns-clause-some c = text_read (found_of c.args.options.now) c.args.id.now c.get_str.result c.get_str.ensures
+pub returns-in-Some-clause-some : goal.returns-in-Some-clause-some
+returns-in-Some-clause-some c = sym (c.in-Some.ensures ∙ first_value-rows (found_of c.args.options.now) c.args.id.now)
 
-pub returns-clause-none : goal.returns-clause-none
-returns-clause-none c = λ none rule is said.
-    text_there (found_of c.args.options.now) c.args.id.now c.get_str.result rule c.get_str.ensures none is said
+pub returns-in-None-clause-none : goal.returns-in-None-clause-none
+returns-in-None-clause-none c =
+    (refl, λ rule is said. text_there (found_of c.args.options.now) c.args.id.now None rule c.in-None.ensures refl is said)

@@ -1,0 +1,101 @@
+//! Why the words of a command say no request.
+
+use crate::sizes::SizeFault;
+use lfs_grammar::{FORMAT_USAGE, GROW_USAGE, PACK_USAGE};
+use std::fmt;
+
+/// How a command says the number of blocks that an image gets.
+///
+/// Source: own.
+#[derive(Clone, Copy)]
+pub struct Ways {
+    /// The argument that is the number, as a help text shows it.
+    pub count: &'static str,
+    /// All ways.
+    pub all: &'static str,
+    /// How the command is used.
+    pub usage: &'static str,
+}
+
+/// How `format` says it.
+pub(crate) const FORMAT: Ways = Ways {
+    count: "--count <N>",
+    all: "<--count <N>|--size <BYTES>>",
+    usage: FORMAT_USAGE,
+};
+
+/// How `pack` says it.
+pub(crate) const PACK: Ways = Ways {
+    count: "--count <N>",
+    all: "<--count <N>|--size <BYTES>|--least>",
+    usage: PACK_USAGE,
+};
+
+/// How `grow` says it.
+pub(crate) const GROW: Ways = Ways {
+    count: "[COUNT]",
+    all: "<COUNT|--size <BYTES>>",
+    usage: GROW_USAGE,
+};
+
+/// Why the words of a command say no request.
+///
+/// Source: own.
+#[derive(Clone, Copy)]
+pub enum Misuse<'a> {
+    /// A command is named that takes other words, or one of its words isn't there. The grammar takes no such words.
+    Unsaid,
+    /// The text of `--block` is no size of a block.
+    Block(&'a str),
+    /// No number of blocks is said in any way.
+    NoCount(Ways),
+    /// It is said in two ways.
+    TwoCounts {
+        /// How it may be said.
+        ways: Ways,
+        /// The one way, as a help text shows it.
+        one: &'static str,
+        /// The other.
+        other: &'static str,
+    },
+    /// The text of `--size` is no size of an image.
+    Size {
+        /// The text.
+        text: &'a str,
+        /// What is wrong with it.
+        fault: SizeFault,
+    },
+}
+
+impl<'a> fmt::Display for Misuse<'a> {
+    fn fmt<W: fmt::Write>(&self, f: &mut fmt::Formatter<W>) -> fmt::Result {
+        match *self {
+            Misuse::Unsaid => f.write_str("the command or one of its arguments is missing"),
+            Misuse::Block(text) => show_block(f, text),
+            Misuse::NoCount(ways) => write!(
+                f,
+                "the following required arguments were not provided:\n  {}\n\nUsage: {}",
+                ways.all, ways.usage
+            ),
+            Misuse::TwoCounts { ways, one, other } => write!(
+                f,
+                "the argument '{one}' cannot be used with '{other}'\n\nUsage: {}",
+                ways.usage
+            ),
+            Misuse::Size { text, fault } => {
+                write!(f, "invalid value '{text}' for '--size <BYTES>': {fault}")
+            }
+        }
+    }
+}
+
+/// Says why a text is no size of a block.
+fn show_block<W: fmt::Write>(f: &mut fmt::Formatter<W>, text: &str) -> fmt::Result {
+    match text.parse::<i64>() {
+        Ok(size) => write!(
+            f,
+            "invalid value '{text}' for '--block <BYTES>': {size} is not in 256..=65536"
+        ),
+        Err(error) => write!(f, "invalid value '{text}' for '--block <BYTES>': {error}"),
+    }
+}

@@ -1,0 +1,50 @@
+//! What is told of words that the grammar refuses.
+
+use clap::Error;
+use std::alloc::{AllocError, Global};
+
+/// How the text begins of an error that a word is too many.
+const UNEXPECTED: &str = "error: unexpected argument '";
+
+/// What is told where a word stands behind the path of `put`.
+const CONTENTS: &str =
+    "  tip: the contents are read from standard input, or from a file with '--from FILE'\n\n";
+
+/// The text of an error, without tips that name another command or option. Where a word stands behind the path of `put`, it says
+/// where contents come from. Takes memory.
+///
+/// Source: own.
+pub fn retold(alloc: Global, error: &Error) -> Result<String, AllocError> {
+    let text = error.to_string(alloc)?;
+    let text = text.as_str();
+    let is_of_contents = names_contents(text);
+    let mut told = String::new(alloc);
+    let mut is_blank = false;
+    for line in text.lines() {
+        if is_misleading(line) || (is_blank && line.is_empty()) {
+            continue;
+        }
+        if is_of_contents && line.starts_with("Usage:") {
+            told.push_str(CONTENTS)?;
+        }
+        told.push_str(line)?;
+        told.push_str("\n")?;
+        is_blank = line.is_empty();
+    }
+    Ok(told)
+}
+
+/// Whether a line is a tip that names another command or option.
+fn is_misleading(line: &str) -> bool {
+    line.starts_with("  tip: a similar")
+        || line.starts_with("  tip: some similar")
+        || line.starts_with("  tip: '")
+}
+
+/// Whether an error says that a word stands behind the path of `put` that begins with no hyphen.
+fn names_contents(text: &str) -> bool {
+    let Some(word) = text.strip_prefix(UNEXPECTED) else {
+        return false;
+    };
+    !word.starts_with("-") && text.contains("\n\nUsage: lfsed put ")
+}
