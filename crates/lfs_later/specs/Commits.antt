@@ -1,5 +1,5 @@
 -- Commits as later disk versions read them: since version 2.1 a tag of type 0x5ff, which is no closing one, may stand before the
--- tag that closes a commit (SPEC.md, "0x5ff FCRC"). It counts into the checksum like any other tag; all else is as in version 2.0.
+-- tag that closes a commit (littlefs disk version 2.1). It counts into the checksum like any other tag; all else is as in version 2.0.
 use Rattle.std.specs.Prelude.{ℕ, zero, suc, ◌==◌, ◌&&◌, nat_lt, Bool, List, [], ◌∷◌, length, Option, Some, None, option_map}
 use Rattle.std.specs.Prelude.{if◌then◌else◌}
 use Rattle.lfs_block.specs.Checksum.{crc}

@@ -59,7 +59,7 @@ fn version_of_pair(first: &[u8], second: &[u8]) -> Option<u32>
 /// `size` is the size of a block in bytes. `None` where there are no such commits, where version 2.0 reads no commit of either
 /// block, and where there aren't two blocks. Takes no memory, and time for the two blocks alone.
 ///
-/// Source: SPEC.md, "0x5ff FCRC"; which commits are told of: own.
+/// Source: littlefs disk version 2.1; which commits are told of: own.
 #[tactic(auto, unfolding(crate::specs::Version::later_version))]
 pub fn later_version(image: &[u8], size: u32) -> Option<u32>
     ensures { result ≡ later_version image.now size }
