@@ -3,7 +3,7 @@
 many blocks a folder needs, and what stands where it may not. Each row was written by hand."""
 import sys
 
-from support.folder import run_scenes
+from support.folder import contents, run_scenes
 from support.logs import image, log, superblock
 
 MADE = [
@@ -60,6 +60,24 @@ LIMITS = [
     ("mkdir -b 512 a.img /four", 0, "36 NameTooLong", "/four: its name is longer than 3 bytes"),
     ("put -b 512 a.img /f", 3, "37 FileTooLarge", "/f: its contents are longer than 2 bytes"),
     ("setattr -b 512 a.img / 74 010203", 0, "38 AttrTooLarge", "/: its attribute is longer than 2 bytes"),
+]
+
+# What a folder has below a folder `d`, the name and how many bytes a file has, each packed into an image of 32 blocks; and what is told of
+# it. A block of 256 bytes has room for an entry of 216: 8 of them for tags, and 8 more where the contents don't stand in it.
+PACKED = [
+    ("pack -b 512 --name-max 3", "four", None, "36 NameTooLong", "its name is longer than 3 bytes"),
+    ("pack -b 512 --name-max 3", "four", 9, "36 NameTooLong", "its name is longer than 3 bytes"),
+    ("pack -b 512 --file-max 99", "f", 100, "37 FileTooLarge", "its contents are longer than 99 bytes"),
+    ("pack -b 512 --name-max 3 --file-max 99", "four", 100, "36 NameTooLong", "its name is longer than 3 bytes"),
+    ("pack -b 512 --file-max 2", "a\\\xe4", 3, "37 FileTooLarge", "its contents are longer than 2 bytes"),
+    ("pack -b 256", 201 * "n", None, "42 EntryTooLarge", "takes more than a block has room for"),
+    ("pack -b 256", 201 * "n", 33, "42 EntryTooLarge", "takes more than a block has room for"),
+    ("pack -b 256", 177 * "n", 32, "42 EntryTooLarge", "takes more than a block has room for"),
+    ("pack -b 256", 209 * "n", 0, "42 EntryTooLarge", "takes more than a block has room for"),
+    ("pack -b 256", 200 * "n", None, "", ""),
+    ("pack -b 256", 200 * "n", 33, "", ""),
+    ("pack -b 256", 176 * "n", 32, "", ""),
+    ("pack -b 256", 208 * "n", 0, "", ""),
 ]
 
 # Geometries that no image has.
@@ -133,6 +151,26 @@ def folders_are_named(folder):
     folder.check("an image in its folder", ended == (0, "lfsed: made/a.img: stands in the folder that is packed\n", b""), ended)
 
 
+def shown(name):
+    """A name as it is shown: bytes that are no printable letters, and a backslash, by their digits."""
+    return "".join(chr(byte) if 0x20 <= byte < 0x7f and byte != 0x5c else f"\\x{byte:02x}" for byte in name.encode())
+
+
+def rows_of_folders_are_named(folder):
+    place = folder.image.with_name("src")
+    (place / "d").mkdir(parents=True)
+    (place / "d/a").write_bytes(b"a")
+    (place / "d/z").mkdir()
+    for words, name, length, first, second in PACKED:
+        row = place / "d" / name
+        row.mkdir() if length is None else row.write_bytes(contents(length))
+        told = f"lfsed: {first}\nlfsed: a.img: /d/{shown(name)}: {second}\n" if first else ""
+        for extent in "--count 32", "--least":
+            ended = folder.run(f"{words} {extent} a.img src")
+            folder.check(f"{words} {name} {length}", ended == (int(bool(first)), told, b""), ended)
+        row.rmdir() if length is None else row.unlink()
+
+
 def the_image_of_a_journal_is_told(folder):
     folder.play([("format -b 512 --count 8 a.img", 0, 0, "", "")])
     old = folder.old()
@@ -155,5 +193,5 @@ def the_image_of_a_journal_is_told(folder):
 if __name__ == "__main__":
     sys.exit(run_scenes([
         paths_are_named, limits_are_those_of_the_image, geometries_are_named, the_first_block_is_told, folders_are_named,
-        the_image_of_a_journal_is_told,
+        rows_of_folders_are_named, the_image_of_a_journal_is_told,
     ]))

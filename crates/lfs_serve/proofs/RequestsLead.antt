@@ -226,7 +226,8 @@ makes laws count limits s size keep name typed old new h b outcome is input answ
     }
 
 packs : Laws → (count : ℕ) (limits : Limits) (rows : List PackRow) (s : Step) (size : ℕ) (keep : Option ℕ) (name : List ℕ) (typed : Option (List ℕ))
-    (old new : Files) (h : History) (b : HandedBytes) (outcome : Outcome) → HasGoodRows (Pack count limits rows) → deed_of s b.input keep ≡ Pack count limits rows → HandsInput s (Some old) typed b.input
+    (old new : Files) (h : History) (b : HandedBytes) (outcome : Outcome) → HasGoodRows (Pack count limits rows)
+    → deed_of s b.input keep ≡ Pack count limits rows → HandsInput s (Some old) typed b.input
     → AnswersDone (Pack count limits rows) (given size b.image b.journal) outcome → HasBoth name outcome.image.items outcome.journal.items old new
     → StepLeads size keep name s (Some old) typed new h
 packs laws count limits rows s size keep name typed old new h b outcome (packed, are) is input answers both =

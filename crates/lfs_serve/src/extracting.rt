@@ -11,7 +11,8 @@ ghost use Rattle.lfs_host.specs.Scene.{KeepsAll, KeepsFiles};
 ghost use Rattle.lfs_serve.specs.Extracting.{EndsBytes, EndsExtract, EndsMaking, FindsFolder, fault_of_extracting};
 ghost use Rattle.lfs_serve.specs.Program.{stopped_by};
 
-use crate::later::{Later, later_alone, must_be_read};
+use crate::beside::Beside;
+use crate::later::{later_alone, must_be_read};
 use crate::stop::Stop;
 use crate::stopping::{stop_of_extracting, stop_of_image};
 use lfs_block::Image;
@@ -24,12 +25,12 @@ use lfs_request::Request;
 use lfs_step::Fault;
 use std::alloc::Global;
 
-/// Makes a folder of the host out of an image's file. What commits of a later version stand in it is put into `later`. Takes memory.
+/// Makes a folder of the host out of an image's file. What commits of a later version stand in it is put into `beside`. Takes memory.
 pub fn extracted<H: Host>(
     alloc: Global,
     host: &mut H,
     request: &Request<'_>,
-    later: &mut Later,
+    beside: &mut Beside,
     dir: &str,
 ) -> Result<(), Stop>
     ensures made { EndsExtract request.now.is_strict request.now.size request.now.image.now dir.now (H.known host.old) (H.known host.new) (stopped_by result) }
@@ -39,7 +40,7 @@ pub fn extracted<H: Host>(
     let bytes = read_image(alloc, host, StepKind::Asks, target.as_str())?;
     let found = later_alone(request.size, bytes.as_slice());
     must_be_read(request.is_strict, found)?;
-    *later = found;
+    beside.later = found;
     extract_bytes(alloc, host, request.size, bytes, dir)
 }
 

@@ -1,6 +1,7 @@
 //! A request on a host's files: what the program does, but for the words that ask for it.
 #![tactic(auto)]
 
+mod beside;
 mod extracting;
 mod host_folder;
 mod later;
@@ -8,6 +9,7 @@ mod laws;
 mod least;
 mod new_image;
 mod path_note;
+mod refused_row;
 mod serving;
 mod sizing;
 mod stated;

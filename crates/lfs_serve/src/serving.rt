@@ -9,11 +9,13 @@ ghost use Rattle.lfs_step.specs.Deed.{HasLimits, deed_of};
 ghost use Rattle.lfs_step.specs.Outcome.{Answers, SendsText, given};
 ghost use Rattle.lfs_serve.specs.Program.{EndsAsked, EndsRequest, EndsStep, EndsTask, IsBlamed, RunsOn, stopped_by};
 
+use crate::beside::Beside;
 use crate::extracting::extracted;
 use crate::host_folder::{folder_of, pack_rows};
-use crate::later::{Later, later_handed, must_be_read, tell_later};
+use crate::later::{later_handed, must_be_read, tell_later};
 use crate::least::{counted, with_need};
 use crate::new_image::with_new_image;
+use crate::refused_row::with_row;
 use crate::stated::stated_in;
 use crate::stop::Stop;
 use crate::stopping::stop_of_run;
@@ -37,13 +39,10 @@ pub fn served<H: Host>(alloc: Global, host: &mut H, request: &Request<'_>) -> u8
     requires limits { TaskHasLimits request.now.task }
     ensures ended { EndsRequest request.now (H.known host.old) (H.known host.new) result }
 {
-    let mut later = Later {
-        image: None,
-        other: None,
-    };
-    let end = asked(alloc, host, request, &mut later);
-    let status = tell_end(host, request, &end);
-    tell_later(host, request, later);
+    let mut beside = Beside::new(alloc);
+    let end = asked(alloc, host, request, &mut beside);
+    let status = tell_end(host, request, &end, &beside.text);
+    tell_later(host, request, beside.later);
     tell_within(host, request);
     status
 }
@@ -53,14 +52,14 @@ fn asked<H: Host>(
     alloc: Global,
     host: &mut H,
     request: &Request<'_>,
-    later: &mut Later,
+    beside: &mut Beside,
 ) -> Result<(), Stop>
     requires keep { MayKeep request.now.keep }
     requires limits { TaskHasLimits request.now.task }
     ensures ended { EndsAsked request.now (H.known host.old) (H.known host.new) (stopped_by result) }
 {
     spare(host, request.is_new, request.image)?;
-    done(alloc, host, request, later)
+    done(alloc, host, request, beside)
 }
 
 /// Does the task that is asked for.
@@ -68,7 +67,7 @@ fn done<H: Host>(
     alloc: Global,
     host: &mut H,
     request: &Request<'_>,
-    later: &mut Later,
+    beside: &mut Beside,
 ) -> Result<(), Stop>
     requires keep { MayKeep request.now.keep }
     requires limits { TaskHasLimits request.now.task }
@@ -76,17 +75,17 @@ fn done<H: Host>(
         (H.known host.old) (H.known host.new) (stopped_by result) }
 {
     match request.task {
-        Task::Step(ref step) => stepped(alloc, host, request, later, step),
+        Task::Step(ref step) => stepped(alloc, host, request, beside, step),
         Task::Pack {
             extent,
             limits,
             dir,
-        } => packed(alloc, host, request, later, extent, limits, dir),
-        Task::Extract { dir } => extracted(alloc, host, request, later, dir),
+        } => packed(alloc, host, request, beside, extent, limits, dir),
+        Task::Extract { dir } => extracted(alloc, host, request, beside, dir),
         Task::SetAttr { path, kind, value } => {
-            set(alloc, host, request, later, path, kind, value)
+            set(alloc, host, request, beside, path, kind, value)
         }
-        Task::RmAttr { path, kind } => cleared(alloc, host, request, later, path, kind),
+        Task::RmAttr { path, kind } => cleared(alloc, host, request, beside, path, kind),
     }
 }
 
@@ -95,7 +94,7 @@ fn packed<H: Host>(
     alloc: Global,
     host: &mut H,
     request: &Request<'_>,
-    later: &mut Later,
+    beside: &mut Beside,
     extent: Extent,
     limits: Limits,
     dir: &str,
@@ -114,9 +113,12 @@ fn packed<H: Host>(
         limits,
         rows,
     };
-    match stepped(alloc, host, request, later, &step) {
+    match stepped(alloc, host, request, beside, &step) {
         Ok(()) => Ok(()),
-        Err(stop) => Err(with_need(alloc, request.size, limits, rows, stop)),
+        Err(stop) => {
+            let stop = with_need(alloc, request.size, limits, rows, stop);
+            Err(with_row(alloc, request.size, limits, rows, beside, stop))
+        }
     }
 }
 
@@ -125,7 +127,7 @@ fn set<H: Host>(
     alloc: Global,
     host: &mut H,
     request: &Request<'_>,
-    later: &mut Later,
+    beside: &mut Beside,
     path: &[u8],
     kind: &str,
     value: &str,
@@ -141,7 +143,7 @@ fn set<H: Host>(
         alloc,
         host,
         request,
-        later,
+        beside,
         &Step::SetAttr { path, kind, value },
     )
 }
@@ -151,7 +153,7 @@ fn cleared<H: Host>(
     alloc: Global,
     host: &mut H,
     request: &Request<'_>,
-    later: &mut Later,
+    beside: &mut Beside,
     path: &[u8],
     kind: &str,
 ) -> Result<(), Stop>
@@ -160,7 +162,7 @@ fn cleared<H: Host>(
         (H.known host.old) (H.known host.new) (stopped_by result) }
 {
     let kind = byte_of(kind)?;
-    stepped(alloc, host, request, later, &Step::RmAttr { path, kind })
+    stepped(alloc, host, request, beside, &Step::RmAttr { path, kind })
 }
 
 /// Takes a step on an image's file, and writes what it leaves.
@@ -168,7 +170,7 @@ fn stepped<H: Host>(
     alloc: Global,
     host: &mut H,
     request: &Request<'_>,
-    later: &mut Later,
+    beside: &mut Beside,
     step: &Step<'_>,
 ) -> Result<(), Stop>
     requires keep { MayKeep request.now.keep }
@@ -181,7 +183,7 @@ fn stepped<H: Host>(
     let handed = hand_over(alloc, host, step, target.as_str())?;
     let found = later_handed(step, request.size, &handed);
     must_be_read(request.is_strict, found)?;
-    *later = found;
+    beside.later = found;
     let outcome = match taken(alloc, host, request.size, request.keep, step, handed) {
         Ok(outcome) => outcome,
         Err(stop) => {

@@ -1,6 +1,6 @@
 //! What an image states of itself, where it is refused.
 
-use crate::path_note::PathNote;
+use crate::path_note::{Finding, PathNote};
 use byteorder::{ByteOrder, LittleEndian};
 use lfs_block::{ImageFault, MountFault};
 use lfs_change::OtherFault;
@@ -36,6 +36,8 @@ pub enum Statement {
     Later(u32),
     /// What is known of the path for which a step is refused.
     Path(PathNote),
+    /// What is known of the row for which a folder isn't packed; the text of its path is kept beside.
+    Row(Finding),
     /// How many blocks the folder needs that is packed.
     Need(u32),
     /// No image of this block size holds the folder that is packed.

@@ -22,19 +22,24 @@ const MIN_BLOCK_COUNT: usize = 2;
 /// The greatest number of blocks of an image.
 const MAX_BLOCK_COUNT: usize = 65_536;
 
-/// Tells how a request ended, and answers the status.
-pub fn tell_end<H: Host>(host: &mut H, request: &Request<'_>, end: &Result<(), Stop>) -> u8
+/// Tells how a request ended, and answers the status; `text` is what a statement speaks of.
+pub fn tell_end<H: Host>(
+    host: &mut H,
+    request: &Request<'_>,
+    end: &Result<(), Stop>,
+    text: &[u8],
+) -> u8
     ensures status { result ≡ status_of (stopped_by end.now) }
     ensures kept { H.known host.new ≡ H.known host.old }
 {
     match end {
         Ok(()) => 0,
-        Err(stop) => tell_of(host, request, stop),
+        Err(stop) => tell_of(host, request, stop, text),
     }
 }
 
 /// Tells why a request ended early, and answers the status.
-fn tell_of<H: Host>(host: &mut H, request: &Request<'_>, stop: &Stop) -> u8
+fn tell_of<H: Host>(host: &mut H, request: &Request<'_>, stop: &Stop, text: &[u8]) -> u8
     ensures status { result ≡ status_of (Some stop.now.fault) }
     ensures kept { H.known host.new ≡ H.known host.old }
 {
@@ -48,7 +53,7 @@ fn tell_of<H: Host>(host: &mut H, request: &Request<'_>, stop: &Stop) -> u8
         _ => {}
     }
     if let Some(statement) = stop.statement {
-        tell_statement(host, request, image, statement);
+        tell_statement(host, request, image, statement, text);
     } else if compares(request) && is_of_image(stop.fault) {
         host.complain(format_args!("lfsed: {image}: this image is refused\n"));
     }
@@ -102,6 +107,14 @@ fn tell_note<H: Host>(host: &mut H, request: &Request<'_>, note: PathNote)
     }
 }
 
+/// Tells what is known of the row for which a folder isn't packed.
+fn tell_row<H: Host>(host: &mut H, image: &str, text: &[u8], finding: Finding)
+    ensures kept { H.known host.new ≡ H.known host.old }
+{
+    let path = Shown { bytes: text };
+    host.complain(format_args!("lfsed: {image}: {path}: {finding}\n"));
+}
+
 /// Tells how many blocks a folder needs, or that none are enough.
 fn tell_need<H: Host>(host: &mut H, request: &Request<'_>, count: Option<u32>)
     ensures kept { H.known host.new ≡ H.known host.old }
@@ -119,7 +132,13 @@ fn tell_need<H: Host>(host: &mut H, request: &Request<'_>, count: Option<u32>)
 }
 
 /// Tells what more is known of a fault, that of the image of this name.
-fn tell_statement<H: Host>(host: &mut H, request: &Request<'_>, image: &str, statement: Statement)
+fn tell_statement<H: Host>(
+    host: &mut H,
+    request: &Request<'_>,
+    image: &str,
+    statement: Statement,
+    text: &[u8],
+)
     ensures kept { H.known host.new ≡ H.known host.old }
 {
     match statement {
@@ -133,6 +152,7 @@ fn tell_statement<H: Host>(host: &mut H, request: &Request<'_>, image: &str, sta
         )),
         Statement::Later(version) => tell_version(host, image, version),
         Statement::Path(note) => tell_note(host, request, note),
+        Statement::Row(finding) => tell_row(host, image, text, finding),
         Statement::Need(count) => tell_need(host, request, Some(count)),
         Statement::NoImageHolds => tell_need(host, request, None),
         Statement::NewImage => host.complain(format_args!(

@@ -87,7 +87,7 @@ returns g c =
     let step = Pack c.in_ok-count.count c.args.limits c.as_slice-rows.result in
     let kept = c.folder_of.ensures.kept.0 in
     let ended = subst (EndsStep step request.is_strict request.size request.keep request.image.now mid new)
-    (ap stopped_by c.in-Err.is ∙ ap Some (sym c.with_need.ensures)) c.stepped.ensures.ended in
-    let ends = step_from step request.is_strict request.size request.keep request.image.now mid old new (Some c.with_need.result.fault) kept.0 kept.1 kept.2
+    (ap stopped_by c.in-Err.is ∙ ap Some (sym (c.with_row.ensures ∙ c.with_need-stop.ensures))) c.stepped.ensures.ended in
+    let ends = step_from step request.is_strict request.size request.keep request.image.now mid old new (Some c.with_row.result.fault) kept.0 kept.1 kept.2
     ended in
     record { ended = inl (step, (rows, packed, (c.in_ok-count.ensures, refl, rows_is)), ends) }

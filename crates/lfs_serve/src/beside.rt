@@ -1,0 +1,26 @@
+//! What is kept beside the end of a run, for what is told of it.
+
+use crate::later::Later;
+use std::alloc::Global;
+
+/// What is kept beside the end of a run.
+#[derive(Drop)]
+pub struct Beside {
+    /// Commits of later disk versions in what was read as an image.
+    pub later: Later,
+    /// The text that the statement of a stop speaks of; empty where it speaks of none.
+    pub text: Vec<u8>,
+}
+
+impl Beside {
+    /// Nothing yet. Takes no memory.
+    pub fn new(alloc: Global) -> Beside {
+        Beside {
+            later: Later {
+                image: None,
+                other: None,
+            },
+            text: Vec::new(alloc),
+        }
+    }
+}
