@@ -2,6 +2,7 @@ pub mod KeptLemmas
 pub mod MoveLemmas
 pub mod RepeatLemmas
 pub mod RunLemmas
+pub mod RefusedLemmas
 pub mod EquationLemmas
 pub mod ImageLemmas
 pub mod BookLemmas

@@ -2,6 +2,7 @@ pub mod Faults
 pub mod History
 pub mod Moves
 pub mod Taking
+pub mod Batch
 pub mod Meaning
 pub mod Laws
 pub mod Opening

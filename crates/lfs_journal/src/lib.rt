@@ -2,6 +2,7 @@
 #![tactic(auto)]
 
 mod agreeing;
+mod batching;
 mod carried;
 mod keeping;
 mod mounting;
@@ -12,6 +13,7 @@ mod replacing;
 mod reserving;
 mod session;
 mod stepping;
+mod stopped;
 mod unmounted;
 
 pub use lfs_history::{Move, OpenFault, StepFault};
@@ -19,4 +21,5 @@ pub use opening::{Changes, read_changes};
 pub use refused::Refused;
 pub use session::Session;
 pub use stepping::run_steps;
+pub use stopped::Stopped;
 pub use unmounted::Unmounted;

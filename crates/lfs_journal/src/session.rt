@@ -126,13 +126,21 @@ impl Session {
     pub fn into_image(self) -> Image
         ensures { result.disk ≡ self.present }
     {
+        let (image, _) = self.into_parts();
+        image
+    }
+
+    /// The image as it is now, without its changes, and its outline where that is known. Takes no memory.
+    pub fn into_parts(self) -> (Image, Option<Outline>)
+        ensures { result.0.disk ≡ self.present }
+    {
         let Session {
             image,
-            outline: _,
+            outline,
             patches: _,
             done: _,
         } = self;
-        image
+        (image, outline)
     }
 
     /// Carries a command out, as a change that can be taken back; what was undone is dropped. Any refusal leaves all as it was:

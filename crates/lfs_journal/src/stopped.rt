@@ -1,0 +1,14 @@
+//! Where steps stopped.
+
+use lfs_history::StepFault;
+
+/// The first of several steps that is refused.
+///
+/// Source: own.
+#[derive(Clone, Copy)]
+pub struct Stopped {
+    /// How many were taken before it.
+    pub at: usize,
+    /// Why it is refused.
+    pub fault: StepFault,
+}
