@@ -13,8 +13,9 @@ use Rattle.lfs_history.specs.declared.step_fault.StepFault.TheVariants.{Refused 
 use Rattle.lfs_history.specs.History.{History, IsHistory}
 use Rattle.lfs_history.specs.Moves.{Undoes, Redoes, Repeats, kept_images, but_one}
 use Rattle.lfs_history.specs.Opening.{Opens, RefusesOpening}
-use Rattle.lfs_history.specs.Taking.{Move, Do, Undo, Redo, Forget, Does, Takes}
+use Rattle.lfs_history.specs.Taking.{Move, Does, Takes}
 use Rattle.lfs_history.proofs.KeptLemmas.{image_kept}
+use Rattle.lfs_history.proofs.RefusedLemmas.{refused_keeps}
 use Rattle.lfs_history.proofs.RepeatLemmas.{undone_future, redone_past, undone_and_redone, redone_and_undone}
 use Rattle.lfs_change.specs.declared.fault.Fault.{Fault}
 use Rattle.lfs_change.specs.declared.fault.Fault.TheVariants as fault
@@ -26,22 +27,6 @@ use Rattle.lfs_change.specs.Change.{RefusesChange, AnswersChange, journal_read}
 use Rattle.lfs_change.proofs.BytesLemmas.{image_of_disk}
 
 -- ---- a step that is refused
-
--- it leaves the history
-pub refused_keeps : (step : Move) (f : StepFault) (old new : History) → Takes step (Some f) old new → new ≡ old
-refused_keeps (Do asked keep) JournalFull old new takes = takes.1
-refused_keeps (Do asked keep) (Refused_step r) old new takes = takes.2
-refused_keeps (Do asked keep) NothingToUndo old new takes = absurd takes
-refused_keeps (Do asked keep) NothingToRedo old new takes = absurd takes
-refused_keeps (Undo n) NothingToUndo old new takes = takes.1
-refused_keeps (Undo n) (Refused_step r) old new takes = absurd takes
-refused_keeps (Undo n) NothingToRedo old new takes = absurd takes
-refused_keeps (Undo n) JournalFull old new takes = absurd takes
-refused_keeps (Redo n) NothingToRedo old new takes = takes.1
-refused_keeps (Redo n) (Refused_step r) old new takes = absurd takes
-refused_keeps (Redo n) NothingToUndo old new takes = absurd takes
-refused_keeps (Redo n) JournalFull old new takes = absurd takes
-refused_keeps Forget f old new takes = absurd takes
 
 refused_here : (step : Move) (f : StepFault) (old new : History) → Takes step (Some f) old new → Takes step (Some f) old old
 refused_here step f old new takes = subst (λ (h : History). Takes step (Some f) old h) (refused_keeps step f old new takes) takes

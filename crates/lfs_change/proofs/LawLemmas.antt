@@ -1,11 +1,12 @@
 -- What steps on bytes leave, by the laws of histories.
-use Rattle.std.proofs.Common.{◌≡◌, ◌≢◌, ℕ, List, [], ◌∷◌, Option, Some, None, refl, sym, ◌∙◌, ap, subst}
+use Rattle.std.proofs.Common.{◌≡◌, ◌≢◌, ℕ, List, [], ◌∷◌, Option, Some, None, map, refl, sym, ◌∙◌, ap, subst}
 use Rattle.lfs_block.specs.Disk.{Disk, IsDisk}
 use Rattle.lfs_fs.specs.Reading.{reading_of}
 use Rattle.lfs_fs.specs.Holds.{Holds}
 use Rattle.lfs_fs.specs.Mounts.{Mounts}
 use Rattle.lfs_book.specs.Book.{Book, bytes_in, journal_bytes}
 use Rattle.lfs_command.specs.Command.{Asked}
+use Rattle.lfs_history.specs.Batch.{TakesAll}
 use Rattle.lfs_history.specs.History.{History, IsHistory, fresh_history}
 use Rattle.lfs_history.specs.Laws.{IsCarriedOut, CommandsPushEquations, RunsKeepHistories, StepsKeepSize, UndoIsExact}
 use Rattle.lfs_history.specs.Laws.{UndoIsExactAsFarAsKept}
@@ -14,9 +15,10 @@ use Rattle.lfs_history.specs.OpeningLaws.{JournalsDenoteOneHistory, SavedHistori
 use Rattle.lfs_history.specs.Taking.{Move, Do, Undo, Redo, Forget, Takes, Run}
 use Rattle.lfs_change.specs.declared.fault.Fault.{Fault}
 use Rattle.lfs_change.specs.declared.outcome.Outcome.{Outcome}
+use Rattle.lfs_change.specs.Batch.{ChangesBytesByAll}
 use Rattle.lfs_change.specs.Bytes.{image_of}
 use Rattle.lfs_change.specs.Change.{DenotesOn, Denotes, IsChanged, ChangesBytes, AnswersChange, journal_read}
-use Rattle.lfs_change.specs.Laws.{ChangedBytesAreDenoted, ChangedBytesAreEquations, UndoneBytesStandAgain, RunsOfBytesAreRuns}
+use Rattle.lfs_change.specs.Laws.{BatchesAreDenoted, ChangedBytesAreDenoted, ChangedBytesAreEquations, UndoneBytesStandAgain, RunsOfBytesAreRuns}
 use Rattle.lfs_change.specs.Laws.{BothFiles, Taken, IsRunOf}
 use Rattle.lfs_change.proofs.BytesLemmas.{image_of_disk}
 use Rattle.lfs_change.proofs.ChangeLemmas.{denoted_present, denoted_history, opened_denotes}
@@ -48,17 +50,47 @@ left_image : (size : ℕ) (h : History) (bytes : List ℕ) → IsLeft size h →
 left_image size h bytes is same =
     sym (image_of_disk h.present is.history.disk) ∙ ap (λ (n : ℕ). image_of n h.present.bytes) is.size_is ∙ ap (image_of size) (sym same)
 
-pub bytes_are_denoted : RunsKeepHistories → StepsKeepSize → SavedHistoriesOpen → ChangedBytesAreDenoted
-bytes_are_denoted keep keep_size opens step size image journal o changes =
-    let h = changes.1.new in
-    let is = step_left keep keep_size step size image journal o changes in
-    let present = left_image size h o.image.items is changes.1.image_is in
+-- and they denote it with the bytes of its journal
+left_denotes : SavedHistoriesOpen → (size : ℕ) (h : History) (image journal : List ℕ) → IsLeft size h → image ≡ h.present.bytes
+    → journal ≡ journal_bytes (journal_of h) → Denotes size image journal h
+left_denotes opens size h image journal is image_is journal_is =
+    let present = left_image size h image is image_is in
     let here : DenotesOn h.present (journal_bytes (journal_of h)) h =
     opened_denotes h.present (journal_bytes (journal_of h)) h (some_bytes (journal_of h)) (opens h is.history) in (
       subst IsDisk present is.history.disk,
-      subst (λ (bytes : List ℕ). DenotesOn (image_of size o.image.items) bytes h) (sym changes.1.journal_is)
+      subst (λ (bytes : List ℕ). DenotesOn (image_of size image) bytes h) (sym journal_is)
           (subst (λ (d : Disk). DenotesOn d (journal_bytes (journal_of h)) h) present here),
     )
+
+pub bytes_are_denoted : RunsKeepHistories → StepsKeepSize → SavedHistoriesOpen → ChangedBytesAreDenoted
+bytes_are_denoted keep keep_size opens step size image journal o changes =
+    let is = step_left keep keep_size step size image journal o changes in
+    left_denotes opens size changes.1.new o.image.items o.journal.items is changes.1.image_is changes.1.journal_is
+
+-- ---- what several steps leave
+
+-- they keep the size of the blocks
+size_kept : RunsKeepHistories → StepsKeepSize → (steps : List Move) (old new : History) → TakesAll steps old new → IsHistory old
+    → new.present.size ≡ old.present.size
+size_kept keep keep_size [] old new same is = ap (λ (h : History). h.present.size) same
+size_kept keep keep_size (step ∷ steps) old new (mid, takes, later) is =
+    let on = keep (step ∷ []) (None ∷ []) old mid (mid, takes, refl) is in
+    size_kept keep keep_size steps mid new later on ∙ keep_size step None old mid is takes
+
+steps_left : RunsKeepHistories → StepsKeepSize → (steps : List Move) (size : ℕ) (image journal : List ℕ) (o : Outcome)
+    → (changes : ChangesBytesByAll steps size image journal o) → IsLeft size changes.1.new
+steps_left keep keep_size steps size image journal o (disk, is) =
+    let old = denoted_history (image_of size image) journal is.old is.denotes in
+    let present = denoted_present (image_of size image) journal is.old is.denotes in
+    record {
+      history = keep steps (map (λ _. None) steps) is.old is.new is.takes old;
+      size_is = size_kept keep keep_size steps is.old is.new is.takes old ∙ ap (λ (d : Disk). d.size) present;
+    }
+
+pub batches_are_denoted : RunsKeepHistories → StepsKeepSize → SavedHistoriesOpen → BatchesAreDenoted
+batches_are_denoted keep keep_size opens steps size image journal o changes =
+    let is = steps_left keep keep_size steps size image journal o changes in
+    left_denotes opens size changes.1.new o.image.items o.journal.items is changes.1.image_is changes.1.journal_is
 
 pub bytes_are_equations : ChangedBytesAreDenoted → CommandsPushEquations → ChangedBytesAreEquations
 bytes_are_equations denoted push asked keep size image journal o v t changes holds mounts =

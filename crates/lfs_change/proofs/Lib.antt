@@ -1,4 +1,5 @@
 pub mod BytesLemmas
 pub mod ChangeLemmas
+pub mod BatchLemmas
 pub mod LawLemmas
 pub mod GrowthLemmas

@@ -11,7 +11,7 @@ use Rattle.lfs_history.specs.declared.step_fault.StepFault.{StepFault}
 use Rattle.lfs_history.specs.declared.step_fault.StepFault.TheVariants.{Refused as Refused_step}
 use Rattle.lfs_history.specs.Faults.{step_fault_number}
 use Rattle.lfs_change.specs.declared.fault.Fault.{Fault}
-use Rattle.lfs_change.specs.declared.fault.Fault.TheVariants.{Image, Mount, Refused, Step, JournalFormat, JournalMismatch, JournalImage, CannotRead, CannotWrite, HostEntry, HostName, BadHex, Other}
+use Rattle.lfs_change.specs.declared.fault.Fault.TheVariants.{Image, Mount, Refused, Step, JournalFormat, JournalMismatch, JournalImage, CannotRead, CannotWrite, HostEntry, HostName, BadHex, BadLine, Other}
 use Rattle.lfs_change.specs.declared.other_fault.OtherFault.{OtherFault}
 use Rattle.lfs_change.specs.declared.other_fault.OtherFault.TheVariants as other
 
@@ -35,6 +35,7 @@ fault_number CannotWrite = 61
 fault_number HostEntry = 62
 fault_number HostName = 63
 fault_number BadHex = 64
+fault_number BadLine = 65
 fault_number (Other fault) = other_fault_number fault
 
 -- a number lies in a range, both ends included
@@ -45,7 +46,7 @@ is_within first last number = nat_le first number && nat_le number last
 abbrev pub status_of_number : ℕ → ℕ
 status_of_number number =
     if is_within 30 43 number || number == 46 || is_within 53 55 number then 1
-    else (if number == 64 then 2
+    else (if is_within 64 65 number then 2
     else (if is_within 1 21 number || is_within 50 52 number then 3
     else 4))
 

@@ -16,6 +16,7 @@ use Rattle.lfs_history.specs.Taking.{Move, Do, Undo, Run}
 use Rattle.lfs_history.specs.Laws.{IsCarriedOut}
 use Rattle.lfs_change.specs.declared.fault.Fault.{Fault}
 use Rattle.lfs_change.specs.declared.outcome.Outcome.{Outcome}
+use Rattle.lfs_change.specs.Batch.{ChangesBytesByAll}
 use Rattle.lfs_change.specs.Bytes.{image_of}
 use Rattle.lfs_change.specs.Change.{Denotes, DenotesOn, ChangesBytes, AnswersChange}
 
@@ -23,6 +24,12 @@ use Rattle.lfs_change.specs.Change.{Denotes, DenotesOn, ChangesBytes, AnswersCha
 abbrev pub ChangedBytesAreDenoted : Type 0
 ChangedBytesAreDenoted = (step : Move) (size : ℕ) (image journal : List ℕ) (outcome : Outcome)
     (changes : ChangesBytes step size image journal outcome)
+    → Denotes size outcome.image.items outcome.journal.items changes.1.new
+
+-- so do those that several steps leave
+abbrev pub BatchesAreDenoted : Type 0
+BatchesAreDenoted = (steps : List Move) (size : ℕ) (image journal : List ℕ) (outcome : Outcome)
+    (changes : ChangesBytesByAll steps size image journal outcome)
     → Denotes size outcome.image.items outcome.journal.items changes.1.new
 
 -- Bytes that a command changed are an image that mounts to the command's equation of the tree of the image before, with the same

@@ -1,4 +1,5 @@
 pub mod Bytes
 pub mod Fault
 pub mod Change
+pub mod Batch
 pub mod Laws

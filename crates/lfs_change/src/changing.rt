@@ -14,6 +14,7 @@ use lfs_command::Refusal;
 use lfs_history::{Move, OpenFault};
 use lfs_journal::{Refused, Session};
 use std::alloc::Global;
+use std::mem::forget;
 
 /// Takes a step on the history of bytes that are an image, with blocks of `size` bytes, and of its journal, which is spelled in
 /// version 2 then, whichever version it was read in. The caller owes that what the step keeps is 1 to 1,000 images. With a fault the
@@ -47,8 +48,8 @@ fn changed_image(alloc: Global, change: &Move<'_>, image: Image, journal: Vec<u8
 {
     match opened(alloc, image, read_journal(change, &journal)) {
         Ok(mut session) => match saved(alloc, change, &mut session) {
-            Ok(bytes) => Outcome::new(session.into_image().into_bytes(), bytes, None),
-            Err(fault) => Outcome::new(session.into_image().into_bytes(), journal, Some(fault)),
+            Ok(bytes) => Outcome::new(image_bytes(session), bytes, None),
+            Err(fault) => Outcome::new(image_bytes(session), journal, Some(fault)),
         },
         Err(Refused { fault, image }) => {
             Outcome::new(image.into_bytes(), journal, Some(Fault::from(fault)))
@@ -67,7 +68,7 @@ fn read_journal<'a>(change: &Move<'_>, journal: &'a [u8]) -> &'a [u8]
 }
 
 /// The session of an image and the bytes of its journal; without any, nothing was done to the image.
-fn opened(alloc: Global, image: Image, journal: &[u8]) -> Result<Session, Refused>
+pub(crate) fn opened(alloc: Global, image: Image, journal: &[u8]) -> Result<Session, Refused>
     ensures opened { IfOk result (λ session. DenotesOn image.disk journal.now session) }
     ensures refused { IfErr result (λ refused. RefusesDenoting refused.fault image.disk journal.now) }
     ensures handed_back { IfErr result (λ refused. refused.image.disk ≡ image.disk) }
@@ -82,6 +83,15 @@ fn opened(alloc: Global, image: Image, journal: &[u8]) -> Result<Session, Refuse
             image: unmounted.image,
         }),
     }
+}
+
+/// The bytes of a session's image. Its outline's memory isn't given back, name by name: the run is at its end.
+pub(crate) fn image_bytes(session: Session) -> Vec<u8>
+    ensures { result.items ≡ session.present.bytes }
+{
+    let (image, outline) = session.into_parts();
+    forget(outline);
+    image.into_bytes()
 }
 
 /// Takes a step, and gives the bytes of the journal that it leaves. With a fault the image is as it was.

@@ -37,6 +37,8 @@ pub enum Fault {
     HostName,
     /// An argument is not made of as many hexadecimal digits as it takes.
     BadHex,
+    /// A line of a script says no step.
+    BadLine,
     /// The image that another is compared with is refused.
     Other(OtherFault),
 }
@@ -62,6 +64,7 @@ impl Fault {
             Fault::HostEntry => 62,
             Fault::HostName => 63,
             Fault::BadHex => 64,
+            Fault::BadLine => 65,
             Fault::Other(fault) => fault.number(),
         }
     }
@@ -73,7 +76,7 @@ impl Fault {
     {
         match self.number() {
             30..=43 | 46 | 53..=55 => 1,
-            64 => 2,
+            64 | 65 => 2,
             1..=21 | 50..=52 => 3,
             _ => 4,
         }
@@ -94,6 +97,7 @@ impl Fault {
             Fault::HostEntry => "HostEntry",
             Fault::HostName => "HostName",
             Fault::BadHex => "BadHex",
+            Fault::BadLine => "BadLine",
             Fault::Other(fault) => fault.name(),
         }
     }

@@ -1,6 +1,6 @@
 //! Laws of bytes on which steps are taken: each function does nothing but call laws, and its contract is the law.
 
-ghost use Rattle.lfs_change.specs.Laws.{ChangedBytesAreDenoted, ChangedBytesAreEquations, JournalsOfBytesGrowByTheNeed, JournalsOfBytesGrowOnTheKept, RunsOfBytesAreRuns, UndoneBytesStandAgain};
+ghost use Rattle.lfs_change.specs.Laws.{BatchesAreDenoted, ChangedBytesAreDenoted, ChangedBytesAreEquations, JournalsOfBytesGrowByTheNeed, JournalsOfBytesGrowOnTheKept, RunsOfBytesAreRuns, UndoneBytesStandAgain};
 
 use lfs_history::{
     commands_push_equations, journals_grow_by_the_need, runs_keep_histories, saved_histories_open,
@@ -12,6 +12,17 @@ use lfs_history::{
 /// Source: own.
 pub fn changed_bytes_are_denoted()
     ensures { ChangedBytesAreDenoted }
+{
+    runs_keep_histories();
+    saved_histories_open();
+    steps_keep_size();
+}
+
+/// A law: the image and the journal that several steps leave denote the history that they leave. Takes no memory.
+///
+/// Source: own.
+pub fn batches_are_denoted()
+    ensures { BatchesAreDenoted }
 {
     runs_keep_histories();
     saved_histories_open();

@@ -1,9 +1,10 @@
 //! What a run answers.
 
 use crate::fault::Fault;
+use crate::stop::Stop;
 
-/// What a run answers: the image and the journal to be kept, why nothing was done where there is a reason, and the
-/// status to end with.
+/// What a run answers: the image and the journal to be kept, why nothing was done where there is a reason, at which of several steps
+/// that is, and the status to end with.
 ///
 /// Source: own.
 #[derive(Drop)]
@@ -14,12 +15,14 @@ pub struct Outcome {
     pub journal: Vec<u8>,
     /// Why nothing was done.
     pub fault: Option<Fault>,
+    /// How many of several steps could have been done before the one that is refused; 0 else.
+    pub at: usize,
     /// The status that the program ends with.
     pub status: u8,
 }
 
 impl Outcome {
-    ghost use Rattle.std.specs.Prelude.{◌≡◌};
+    ghost use Rattle.std.specs.Prelude.{◌≡◌, Some};
     ghost use Rattle.lfs_change.specs.Fault.{status_of};
 
     /// The outcome with this fault, if any, and its status. Takes no memory.
@@ -36,7 +39,20 @@ impl Outcome {
             image,
             journal,
             fault,
+            at: 0,
             status,
         }
+    }
+
+    /// The outcome of several steps that aren't done. Takes no memory.
+    pub(crate) fn stopped(image: Vec<u8>, journal: Vec<u8>, stop: Stop) -> Outcome
+        ensures kept { (result.image ≡ image) × (result.journal ≡ journal) }
+        ensures fault { result.fault ≡ Some stop.fault }
+        ensures at { result.at ≡ stop.at }
+        ensures status { result.status ≡ status_of (Some stop.fault) }
+    {
+        let mut outcome = Outcome::new(image, journal, Some(stop.fault));
+        outcome.at = stop.at;
+        outcome
     }
 }

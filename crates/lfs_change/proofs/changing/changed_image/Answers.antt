@@ -1,5 +1,4 @@
 use Rattle.std.proofs.Common.{rules, ◌≡◌, List, ℕ, Option, Some, ap, subst, sym, ◌∙◌}
-use Rattle.lfs_block.specs.Disk.{Disk}
 use Rattle.lfs_history.specs.Meaning.{step_of}
 use Rattle.lfs_change.specs.declared.fault.Fault.{Fault}
 use Rattle.lfs_change.specs.Change.{AnswersImage, DenotesOn, RefusesDenoting, journal_read}
@@ -30,7 +29,7 @@ returns-in-Err-saved-clause-answers c =
     let read : c.read_journal.result.now ≡ journal_read step journal = c.read_journal.ensures ∙ ap (journal_read step) c.deref.ensures.value in
     let denotes = subst (λ (bytes : List ℕ). DenotesOn d bytes c.in-Ok.session) read c.in-Ok.ensures.opened in
     let image : o.image.items ≡ c.saved.new.session.present.bytes = ap (λ v. v.items) c.new-in-Err-saved.ensures.kept.0
-    ∙ c.into_bytes-in-Err-saved.ensures ∙ ap (λ (e : Disk). e.bytes) c.into_image-in-Err-saved.ensures in
+    ∙ c.image_bytes-in-Err-saved.ensures in
     let same : o.journal.items ≡ journal = ap (λ v. v.items) c.new-in-Err-saved.ensures.kept.1 in
     subst (λ (x : Option Fault). AnswersImage x step d journal o) (sym c.new-in-Err-saved.ensures.fault)
     (fault_answers c.in-Err-saved.fault step d journal c.in-Ok.session c.saved.new.session o denotes c.in-Err-saved.ensures.refused
