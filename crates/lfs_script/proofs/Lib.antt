@@ -1,0 +1,4 @@
+pub mod NumberLemmas
+pub mod StepLemmas
+pub mod WordLemmas
+pub mod ScriptLemmas

@@ -1,0 +1,14 @@
+//! Where a script asks for no step.
+
+use crate::line_fault::LineFault;
+
+/// The first line of a script that asks for no step, and why.
+///
+/// Source: own.
+#[derive(Clone, Copy, Debug, PartialEq, Eq)]
+pub struct ScriptFault {
+    /// The line's number, from 1 on.
+    pub number: usize,
+    /// Why it asks for none.
+    pub fault: LineFault,
+}
