@@ -164,7 +164,7 @@ fn input_of<H: Host>(alloc: Global, host: &mut H, step: &Step<'_>) -> Result<Vec
     ensures kept { KeepsScene (H.known host.old) (H.known host.new) }
 {
     match *step {
-        Step::Put { from: None, .. } => contents(alloc, host),
+        Step::Put { from: None, .. } => read_input(alloc, host),
         Step::Put {
             from: Some(name),
             ..
@@ -174,8 +174,10 @@ fn input_of<H: Host>(alloc: Global, host: &mut H, step: &Step<'_>) -> Result<Vec
     }
 }
 
-/// The contents of a file that is put: those of a file of the host.
-fn read_contents<H: Host>(alloc: Global, host: &mut H, name: &str) -> Result<Vec<u8>, Fault>
+/// The contents of a file of the host, as those of one that is put. Takes memory.
+///
+/// Source: own.
+pub fn read_contents<H: Host>(alloc: Global, host: &mut H, name: &str) -> Result<Vec<u8>, Fault>
     ensures input { IfOk result (λ input. ReadsFile (H.known host.old).files name.now most_file input.items) }
     ensures refused { IfErr result (IsUnread (H.known host.new)) }
     ensures kept { KeepsAll (H.known host.old) (H.known host.new) }
@@ -186,8 +188,10 @@ fn read_contents<H: Host>(alloc: Global, host: &mut H, name: &str) -> Result<Vec
     }
 }
 
-/// The contents of a file that is put: what is on standard input.
-fn contents<H: Host>(alloc: Global, host: &mut H) -> Result<Vec<u8>, Fault>
+/// What is left on standard input, as the contents of a file that is put. Takes memory.
+///
+/// Source: own.
+pub fn read_input<H: Host>(alloc: Global, host: &mut H) -> Result<Vec<u8>, Fault>
     ensures input { IfOk result (λ input. ReadsInput (H.known host.old).typed most_file input.items) }
     ensures refused { IfErr result (IsUnread (H.known host.new)) }
     ensures kept { KeepsScene (H.known host.old) (H.known host.new) }

@@ -10,7 +10,9 @@ mod step_kind;
 mod storing;
 mod telling;
 
-pub use handing::{Handed, aimed, fault_of_reading, hand_over, read_image, spare};
+pub use handing::{
+    Handed, aimed, fault_of_reading, hand_over, read_contents, read_image, read_input, spare,
+};
 pub use names::{Names, names_of};
 pub use output::Output;
 pub use printing::{flush, print};

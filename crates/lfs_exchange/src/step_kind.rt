@@ -22,7 +22,7 @@ pub enum StepKind {
     Forgets,
 }
 
-/// The kind of a step. Takes no memory.
+/// The kind of a step. Several steps change both files; none at all ask whether there is an image. Takes no memory.
 ///
 /// Source: own.
 pub fn kind_of(step: &Step<'_>) -> StepKind
@@ -33,6 +33,7 @@ pub fn kind_of(step: &Step<'_>) -> StepKind
         Step::Check | Step::Ls | Step::Cat { .. } | Step::Diff { .. } => StepKind::Asks,
         Step::Log => StepKind::Recounts,
         Step::Forget => StepKind::Forgets,
+        Step::Batch { steps } if steps.is_empty() => StepKind::Asks,
         _ => StepKind::Changes,
     }
 }

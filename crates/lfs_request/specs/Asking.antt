@@ -46,11 +46,11 @@ AsksFor (task.SetAttr text digits value_digits) rows (SetAttr path kind value) =
 AsksFor (task.RmAttr text digits) rows (RmAttr path kind) = (path.now ≡ text.now) × SpellsByte digits.now kind
 AsksFor _ rows _ = ⊥
 
--- the limits of an image that a task makes are such that an image may have
-abbrev pub HasLimits : Task → Type 0
-HasLimits (task.Step step) = of_step.HasLimits step
-HasLimits (task.Pack extent limits dir) = IsLimits limits
-HasLimits _ = ⊤
+-- what a task asks for is in range: the limits of an image that it makes are such that an image may have
+abbrev pub IsTaskInRange : Task → Type 0
+IsTaskInRange (task.Step step) = of_step.IsStepInRange step
+IsTaskInRange (task.Pack extent limits dir) = IsLimits limits
+IsTaskInRange _ = ⊤
 
 -- why a task asks for no step: its digits spell nothing, or want of memory
 abbrev pub NamesNoStep : Task → Fault → Type 0

@@ -42,4 +42,9 @@ pub enum Task<'a> {
         /// The hexadecimal digits of the attribute's kind.
         kind: &'a str,
     },
+    /// The steps of a script, one after another: all of them or none.
+    Batch {
+        /// The name of the script's file; standard input where there is none.
+        file: Option<&'a str>,
+    },
 }

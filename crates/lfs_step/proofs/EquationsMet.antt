@@ -4,7 +4,7 @@ use Rattle.lfs_history.specs.Taking.{Do, Undo, Redo, Forget}
 use Rattle.lfs_change.specs.declared.fault.Fault.{Fault}
 use Rattle.lfs_change.specs.declared.outcome.Outcome.{Outcome}
 use Rattle.lfs_change.specs.Laws.{ChangedBytesAreEquations, JournalsOfBytesGrowByTheNeed, JournalsOfBytesGrowOnTheKept}
-use Rattle.lfs_step.specs.Deed.{Deed, Make, Pack, Ask, Compare, Recount, Change}
+use Rattle.lfs_step.specs.Deed.{Deed, Make, Pack, Ask, Compare, Recount, Change, ChangeAll}
 use Rattle.lfs_step.specs.Equations.{KeepsEquations, KeepsNeeds, MeetsEquation, MeetsNeed}
 use Rattle.lfs_step.specs.Outcome.{Answers, AnswersBy, AnswersDone, Given}
 
@@ -24,6 +24,7 @@ meets_equation law (Pack count limits rows) g outcome answers = tt
 meets_equation law (Ask query) g outcome answers = tt
 meets_equation law (Compare other) g outcome answers = tt
 meets_equation law Recount g outcome answers = tt
+meets_equation law (ChangeAll steps) g outcome answers = tt
 
 pub keeps_equations : ChangedBytesAreEquations → (deed : Deed) (g : Given) (outcome : Outcome) → Answers deed g outcome
     → KeepsEquations deed g outcome
@@ -42,6 +43,7 @@ meets_need law kept (Pack count limits rows) g outcome answers = tt
 meets_need law kept (Ask query) g outcome answers = tt
 meets_need law kept (Compare other) g outcome answers = tt
 meets_need law kept Recount g outcome answers = tt
+meets_need law kept (ChangeAll steps) g outcome answers = tt
 
 pub keeps_needs : JournalsOfBytesGrowByTheNeed → JournalsOfBytesGrowOnTheKept → (deed : Deed) (g : Given) (outcome : Outcome)
     → Answers deed g outcome → KeepsNeeds deed g outcome

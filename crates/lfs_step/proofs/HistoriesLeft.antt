@@ -3,6 +3,7 @@ use Rattle.std.proofs.Common.{◌≡◌, ℕ, List, [], Option, None, refl, sym,
 use Rattle.lfs_block.specs.Disk.{Disk, IsDisk}
 use Rattle.lfs_book.specs.Book.{book_of, journal_bytes}
 use Rattle.lfs_edit.specs.Formatted.{disk_with}
+use Rattle.lfs_history.specs.Batch.{TakesAll}
 use Rattle.lfs_history.specs.History.{History, IsHistory, IsMounted, fresh_history}
 use Rattle.lfs_history.specs.OpeningLaws.{JournalsDenoteOneHistory, SavedHistoriesOpen}
 use Rattle.lfs_history.specs.Taking.{Takes}
@@ -10,11 +11,11 @@ use Rattle.lfs_change.specs.declared.fault.Fault.{Fault}
 use Rattle.lfs_change.specs.declared.outcome.Outcome.{Outcome}
 use Rattle.lfs_change.specs.Bytes.{image_of}
 use Rattle.lfs_change.specs.Change.{Denotes, DenotesOn, journal_read}
-use Rattle.lfs_change.specs.Laws.{ChangedBytesAreDenoted}
+use Rattle.lfs_change.specs.Laws.{BatchesAreDenoted, ChangedBytesAreDenoted}
 use Rattle.lfs_change.proofs.BytesLemmas.{image_of_disk}
 use Rattle.lfs_change.proofs.ChangeLemmas.{opened_denotes}
 use Rattle.lfs_change.proofs.LawLemmas.{one_denoted, some_bytes}
-use Rattle.lfs_step.specs.Deed.{Deed, Make, Pack, Ask, Compare, Recount, Change}
+use Rattle.lfs_step.specs.Deed.{Deed, Make, Pack, Ask, Compare, Recount, Change, ChangeAll}
 use Rattle.lfs_step.specs.Histories.{KeepsHistories, StepsLeaveHistories}
 use Rattle.lfs_step.specs.Outcome.{Answers, AnswersBy, Given, KeepsBoth}
 
@@ -55,23 +56,30 @@ asked_leaves g outcome (image, journal) old denotes =
 
 -- ---- any step
 
-pub steps_leave_histories : JournalsDenoteOneHistory → SavedHistoriesOpen → ChangedBytesAreDenoted → StepsLeaveHistories
-steps_leave_histories one opens denoted (Make count limits) g outcome (formatted, empty) =
+pub steps_leave_histories : JournalsDenoteOneHistory → SavedHistoriesOpen → ChangedBytesAreDenoted → BatchesAreDenoted → StepsLeaveHistories
+steps_leave_histories one opens denoted all (Make count limits) g outcome (formatted, empty) =
     let mount = formatted.mount in
     begins opens g.size count outcome.image.items outcome.journal.items formatted.disk (mount.volume, mount.holds, mount.sound) empty
-steps_leave_histories one opens denoted (Pack count limits rows) g outcome (is, empty) = λ packed are.
+steps_leave_histories one opens denoted all (Pack count limits rows) g outcome (is, empty) = λ packed are.
     let packs = is packed are in
     begins opens g.size count outcome.image.items outcome.journal.items packs.disk (packs.volume, packs.holds, packs.sound) empty
-steps_leave_histories one opens denoted (Ask query) g outcome both = λ old denotes. asked_leaves g outcome both old denotes
-steps_leave_histories one opens denoted (Compare other) g outcome both = λ old denotes. asked_leaves g outcome both old denotes
-steps_leave_histories one opens denoted Recount g outcome both = λ old denotes. asked_leaves g outcome both old denotes
-steps_leave_histories one opens denoted (Change step) g outcome changes = λ old denotes.
+steps_leave_histories one opens denoted all (Ask query) g outcome both = λ old denotes. asked_leaves g outcome both old denotes
+steps_leave_histories one opens denoted all (Compare other) g outcome both = λ old denotes. asked_leaves g outcome both old denotes
+steps_leave_histories one opens denoted all Recount g outcome both = λ old denotes. asked_leaves g outcome both old denotes
+steps_leave_histories one opens denoted all (Change step) g outcome changes = λ old denotes.
     let is = changes.1 in
     let d = image_of g.size g.image in
     let same = one_denoted one d (journal_read step g.journal) is.old old is.denotes denotes.1 in (
       is.new,
       subst (λ (h : History). Takes step None h is.new) same is.takes,
       denoted step g.size g.image g.journal outcome changes,
+    )
+steps_leave_histories one opens denoted all (ChangeAll steps) g outcome changes = λ old denotes.
+    let is = changes.1 in
+    let same = one_denoted one (image_of g.size g.image) g.journal is.old old is.denotes denotes.1 in (
+      is.new,
+      subst (λ (h : History). TakesAll steps h is.new) same is.takes,
+      all steps g.size g.image g.journal outcome changes,
     )
 
 pub keeps : StepsLeaveHistories → (deed : Deed) (g : Given) (outcome : Outcome) → Answers deed g outcome → KeepsHistories deed g outcome

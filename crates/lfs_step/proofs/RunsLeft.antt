@@ -7,7 +7,7 @@ use Rattle.lfs_change.specs.declared.outcome.Outcome.{Outcome}
 use Rattle.lfs_change.specs.Bytes.{image_of}
 use Rattle.lfs_change.specs.Change.{Denotes}
 use Rattle.lfs_change.specs.Laws.{BothFiles, RunsOfBytesAreRuns, Taken}
-use Rattle.lfs_step.specs.Deed.{Deed, Make, Pack, Ask, Compare, Recount, Change}
+use Rattle.lfs_step.specs.Deed.{Deed, Make, Pack, Ask, Compare, Recount, Change, ChangeAll}
 use Rattle.lfs_step.specs.Histories.{Leaves, StepsLeaveHistories}
 use Rattle.lfs_step.specs.Outcome.{AnswersBy, Given, given}
 use Rattle.lfs_step.specs.Runs.{GoesBy, HasGoodRows, RunsGoOn, left_files}
@@ -15,7 +15,7 @@ use Rattle.lfs_step.specs.Runs.{GoesBy, HasGoodRows, RunsGoOn, left_files}
 -- the history to which one run leads
 pub record Goes (fault : Option Fault) (deed : Deed) (g : Given) (outcome : Outcome) (old : History) : Type 0 where
   pub new : History
-  pub goes : GoesBy fault deed g old new
+  pub goes : GoesBy fault outcome.at deed g old new
   pub leaves : Leaves g outcome new
 
 pub one_goes : StepsLeaveHistories → RunsOfBytesAreRuns → (fault : Option Fault) (deed : Deed) (g : Given) (outcome : Outcome) (old : History)
@@ -51,6 +51,9 @@ one_goes leaves runs None (Change step) g outcome old good denotes answers =
     let run = runs g.size (taken ∷ []) first (left_files outcome) old denotes (outcome, answers, refl) in
     let (mid, takes, same) = run.run in
     record { new = run.new; goes = subst (Takes step None old) (sym same) takes; leaves = run.denotes }
+one_goes leaves runs None (ChangeAll steps) g outcome old good denotes answers =
+    let (new, takes, to) = leaves (ChangeAll steps) g outcome answers old denotes in
+    record { new = new; goes = takes; leaves = to }
 one_goes leaves runs (Some fault) deed g outcome old good denotes answers = record {
   new = old;
   goes = (refl, answers.2);

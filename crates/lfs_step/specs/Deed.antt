@@ -1,11 +1,12 @@
 -- What a step does with an image (own).
-use Rattle.std.specs.Prelude.{ℕ, List, Option}
+use Rattle.std.specs.Prelude.{ℕ, List, Option, map}
+use Rattle.std.specs.List.{AllByRecursion}
 use Rattle.lfs_fs.specs.declared.limits.Limits.{Limits}
 use Rattle.lfs_fs.specs.Superblock.{IsLimits}
 use Rattle.lfs_command.specs.Command as asked
 use Rattle.lfs_history.specs.Meaning.{step_of}
 use Rattle.lfs_history.specs.Taking as change
-use Rattle.lfs_history.specs.Taking.{Do}
+use Rattle.lfs_history.specs.Taking.{Do, KeepsInRange}
 use Rattle.lfs_pack.specs.declared.pack_row.PackRow.{PackRow}
 use Rattle.lfs_step.specs.declared.deed.Deed.{Deed as Written}
 use Rattle.lfs_step.specs.declared.deed.Deed.TheVariants as written
@@ -14,10 +15,11 @@ use Rattle.lfs_step.specs.declared.query.Query.TheVariants as query
 use Rattle.lfs_step.specs.declared.step.Step.{Step}
 use Rattle.lfs_step.specs.declared.step.Step.TheVariants as step
 use Rattle.lfs_step.specs.declared.step.Step.TheVariants.{Format, Check, Ls, Cat, Diff, Log, Mkdir, Put, Rm, Mv, SetAttr, RmAttr, Grow}
-use Rattle.lfs_step.specs.declared.step.Step.TheVariants.{Undo, Redo, Forget}
+use Rattle.lfs_step.specs.declared.step.Step.TheVariants.{Undo, Redo, Forget, Batch}
 
 -- A new image of so many blocks with such limits is made, the root alone or with what rows have at their paths; something is asked of an
--- image, also what another has otherwise, and what the changes in its journal changed; or a step is taken on its history.
+-- image, also what another has otherwise, and what the changes in its journal changed; or a step is taken on its history, or several
+-- are, all of them or none.
 pub data Deed : Type 0 where
   Make : (count : ℕ) → (limits : Limits) → Deed
   Pack : (count : ℕ) → (limits : Limits) → (rows : List PackRow) → Deed
@@ -25,6 +27,7 @@ pub data Deed : Type 0 where
   Compare : (other : List ℕ) → Deed
   Recount : Deed
   Change : (step : change.Move) → Deed
+  ChangeAll : (steps : List change.Move) → Deed
 
 -- what a step does, with what it reads, and with how many images of the past are kept behind a command
 abbrev pub deed_of : Step → List ℕ → Option ℕ → Deed
@@ -45,12 +48,15 @@ deed_of (Grow count) input keep = Change (Do (asked.Grow count) keep)
 deed_of (Undo steps) input keep = Change (change.Undo steps)
 deed_of (Redo steps) input keep = Change (change.Redo steps)
 deed_of Forget input keep = Change change.Forget
+deed_of (Batch steps) input keep = ChangeAll (map step_of steps.now)
 
--- the limits of an image that a step makes are such that an image may have
-abbrev pub HasLimits : Step → Type 0
-HasLimits (Format count limits) = IsLimits limits
-HasLimits (step.Pack count limits rows) = IsLimits limits
-HasLimits _ = Unit {0}
+-- what a step asks for is in range: the limits of an image that it makes are such that an image may have, and what each of several
+-- steps keeps may be kept
+abbrev pub IsStepInRange : Step → Type 0
+IsStepInRange (Format count limits) = IsLimits limits
+IsStepInRange (step.Pack count limits rows) = IsLimits limits
+IsStepInRange (Batch steps) = AllByRecursion (λ step. KeepsInRange (step_of step)) steps.now
+IsStepInRange _ = Unit {0}
 
 -- a step that compares no images
 abbrev pub IsNoComparison : Step → Type 0
@@ -65,3 +71,4 @@ deed_held input (written.Ask query) = Ask query
 deed_held input written.Compare = Compare input
 deed_held input written.Recount = Recount
 deed_held input (written.Change step) = Change (step_of step)
+deed_held input (written.ChangeAll steps) = ChangeAll (map step_of steps.now)

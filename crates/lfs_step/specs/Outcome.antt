@@ -11,6 +11,7 @@ use Rattle.lfs_edit.specs.Formatted.{IsFormatted}
 use Rattle.lfs_change.specs.declared.fault.Fault.{Fault}
 use Rattle.lfs_change.specs.declared.fault.Fault.TheVariants.{Image, Refused}
 use Rattle.lfs_change.specs.declared.outcome.Outcome.{Outcome}
+use Rattle.lfs_change.specs.Batch.{ChangesBytesByAll, RefusesChanges}
 use Rattle.lfs_change.specs.Bytes.{image_of}
 use Rattle.lfs_change.specs.Change.{ChangesBytes, RefusesChange}
 use Rattle.lfs_step.specs.Comparing.{RefusesCompared, SendsCompared}
@@ -19,7 +20,7 @@ use Rattle.lfs_step.specs.Recounting.{RefusesRecounted, SendsRecounted}
 use Rattle.lfs_pack.specs.declared.pack_row.PackRow.{PackRow}
 use Rattle.lfs_pack.specs.Packed.{AreRowsOf, Packed}
 use Rattle.lfs_pack.specs.Packing.{IsPacked, RefusesPack}
-use Rattle.lfs_step.specs.Deed.{Deed, Make, Pack, Ask, Compare, Recount, Change}
+use Rattle.lfs_step.specs.Deed.{Deed, Make, Pack, Ask, Compare, Recount, Change, ChangeAll}
 
 -- what a step is given, beside what it reads: the size of a block, the bytes of the image and of the journal
 pub record Given : Type 0 where
@@ -45,21 +46,22 @@ RefusesPacking size count limits rows (Refused refusal) =
     IsGeometry size count × ((packed : List Packed) → AreRowsOf rows packed → RefusesPack size count limits packed refusal)
 RefusesPacking size count limits rows _ = ⊥
 
--- the first fault of a deed that holds, or want of memory
-abbrev pub Refuses : Deed → Given → Fault → Type 0
-Refuses (Make count limits) g fault = RefusesFormat g.size count fault
-Refuses (Pack count limits rows) g fault = RefusesPacking g.size count limits rows fault
-Refuses (Ask query) g fault = RefusesQuery query g.size g.image fault
-Refuses (Compare other) g fault = RefusesCompared g.size g.image other fault
-Refuses Recount g fault = RefusesRecounted g.size g.image g.journal fault
-Refuses (Change step) g fault = RefusesChange step g.size g.image g.journal fault
+-- the first fault of a deed that holds, of several steps that of the one behind so many, or want of memory
+abbrev pub Refuses : Deed → Given → ℕ → Fault → Type 0
+Refuses (Make count limits) g at fault = RefusesFormat g.size count fault
+Refuses (Pack count limits rows) g at fault = RefusesPacking g.size count limits rows fault
+Refuses (Ask query) g at fault = RefusesQuery query g.size g.image fault
+Refuses (Compare other) g at fault = RefusesCompared g.size g.image other fault
+Refuses Recount g at fault = RefusesRecounted g.size g.image g.journal fault
+Refuses (Change step) g at fault = RefusesChange step g.size g.image g.journal fault
+Refuses (ChangeAll steps) g at fault = RefusesChanges steps at g.size g.image g.journal fault
 
 -- image and journal are those that the step was given
 abbrev pub KeepsBoth : Given → Outcome → Type 0
 KeepsBoth g outcome = (outcome.image.items ≡ g.image) × (outcome.journal.items ≡ g.journal)
 
 -- the image and the journal once a deed is done: a new image and a journal without changes, those that were given, or those of
--- the history that a step leaves
+-- the history that a step leaves, or several do
 abbrev pub AnswersDone : Deed → Given → Outcome → Type 0
 AnswersDone (Make count limits) g outcome =
     IsFormatted g.size count limits outcome.image.items × (outcome.journal.items ≡ journal_bytes (book_of g.size count [] 0))
@@ -70,12 +72,13 @@ AnswersDone (Ask query) g outcome = KeepsBoth g outcome
 AnswersDone (Compare other) g outcome = KeepsBoth g outcome
 AnswersDone Recount g outcome = KeepsBoth g outcome
 AnswersDone (Change step) g outcome = ChangesBytes step g.size g.image g.journal outcome
+AnswersDone (ChangeAll steps) g outcome = ChangesBytesByAll steps g.size g.image g.journal outcome
 
 -- what is answered; with a fault, image and journal are those that were given
 abbrev pub AnswersBy : Option Fault → Deed → Given → Outcome → Type 0
 AnswersBy None deed g outcome = AnswersDone deed g outcome
 AnswersBy (Some fault) deed g outcome =
-    (outcome.image.items ≡ g.image) × (outcome.journal.items ≡ g.journal) × Refuses deed g fault
+    (outcome.image.items ≡ g.image) × (outcome.journal.items ≡ g.journal) × Refuses deed g outcome.at fault
 
 -- the same by the outcome's own fault
 abbrev pub Answers : Deed → Given → Outcome → Type 0
@@ -89,3 +92,4 @@ SendsText (Ask query) g fault old new = SendsReport query (image_of g.size g.ima
 SendsText (Compare other) g fault old new = SendsCompared g.size g.image other fault old new
 SendsText Recount g fault old new = SendsRecounted g.size g.image g.journal fault old new
 SendsText (Change step) g fault old new = Keeps old new
+SendsText (ChangeAll steps) g fault old new = Keeps old new

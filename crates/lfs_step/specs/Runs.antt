@@ -2,6 +2,7 @@
 use Rattle.std.specs.Prelude.{◌≡◌, ℕ, List, [], ◌∷◌, Option, Some, None}
 use Rattle.std.specs.List.{AllByRecursion}
 use Rattle.lfs_edit.specs.Formatted.{IsFormatted}
+use Rattle.lfs_history.specs.Batch.{TakesAll}
 use Rattle.lfs_history.specs.History.{History, fresh_history}
 use Rattle.lfs_history.specs.Taking.{Takes}
 use Rattle.lfs_change.specs.declared.fault.Fault.{Fault}
@@ -10,7 +11,7 @@ use Rattle.lfs_change.specs.Change.{Denotes}
 use Rattle.lfs_change.specs.Laws.{BothFiles}
 use Rattle.lfs_pack.specs.Packed.{AreRowsOf, Packed}
 use Rattle.lfs_pack.specs.Packing.{IsPacked}
-use Rattle.lfs_step.specs.Deed.{Deed, Make, Pack, Ask, Compare, Recount, Change}
+use Rattle.lfs_step.specs.Deed.{Deed, Make, Pack, Ask, Compare, Recount, Change, ChangeAll}
 use Rattle.lfs_step.specs.Outcome.{Answers, Given, Refuses, given}
 
 -- a deed, and what was answered to it
@@ -34,7 +35,7 @@ HasGoodRows (Pack count limits rows) = (packed : List Packed) × AreRowsOf rows 
 HasGoodRows _ = Unit {0}
 
 -- a new image begins a history, and has the root alone, or the map of its rows; a question leaves the history that was there, and
--- a change is a step of it
+-- a change is a step of it, or several are
 abbrev pub GoesOn : ℕ → Deed → History → History → Type 0
 GoesOn size (Make count limits) old new = (new ≡ fresh_history new.present) × IsFormatted size count limits new.present.bytes
 GoesOn size (Pack count limits rows) old new =
@@ -44,18 +45,19 @@ GoesOn size (Ask query) old new = new ≡ old
 GoesOn size (Compare other) old new = new ≡ old
 GoesOn size Recount old new = new ≡ old
 GoesOn size (Change step) old new = Takes step None old new
+GoesOn size (ChangeAll steps) old new = TakesAll steps old new
 
 -- a deed that is refused leaves the history, and the cause holds of what it was given
-abbrev pub GoesBy : Option Fault → Deed → Given → History → History → Type 0
-GoesBy None deed g old new = GoesOn g.size deed old new
-GoesBy (Some fault) deed g old new = (new ≡ old) × Refuses deed g fault
+abbrev pub GoesBy : Option Fault → ℕ → Deed → Given → History → History → Type 0
+GoesBy None at deed g old new = GoesOn g.size deed old new
+GoesBy (Some fault) at deed g old new = (new ≡ old) × Refuses deed g at fault
 
 -- one after another; what each leaves denotes the history to which it leads
 abbrev pub GoOn : ℕ → List Ran → BothFiles → History → History → Type 0
 GoOn size [] files old new = new ≡ old
 GoOn size (r ∷ rs) files old new =
     (mid : History)
-    × GoesBy r.outcome.fault r.deed (given size files.image files.journal) old mid
+    × GoesBy r.outcome.fault r.outcome.at r.deed (given size files.image files.journal) old mid
     × Denotes size r.outcome.image.items r.outcome.journal.items mid
     × GoOn size rs (left_files r.outcome) mid new
 

@@ -39,10 +39,13 @@ pub enum Deed<'a> {
     Recount,
     /// Changes it, or what is kept of its changes: a step on its history.
     Change(Move<'a>),
+    /// Takes several such steps, all of them or none.
+    ChangeAll(&'a [Move<'a>]),
 }
 
 /// What a step does with an image, `input` being what it reads: the contents of a file that is put, or an image that the first is compared
-/// with. Behind a command `keep` images of the past are kept, or all of them. Takes no memory.
+/// with. Behind a command `keep` images of the past are kept, or all of them; each of several steps says itself what it
+/// keeps. Takes no memory.
 ///
 /// Source: own.
 pub fn deed_of<'a>(step: &Step<'a>, input: &'a [u8], keep: Option<u32>) -> Deed<'a>
@@ -69,6 +72,7 @@ pub fn deed_of<'a>(step: &Step<'a>, input: &'a [u8], keep: Option<u32>) -> Deed<
         Step::Undo { steps } => return Deed::Change(Move::Undo { steps }),
         Step::Redo { steps } => return Deed::Change(Move::Redo { steps }),
         Step::Forget => return Deed::Change(Move::Forget),
+        Step::Batch { steps } => return Deed::ChangeAll(steps),
         Step::Mkdir { path } => Command::Mkdir { path },
         Step::Put { path, .. } => Command::Put { path, bytes: input },
         Step::Rm { path } => Command::Rm { path },

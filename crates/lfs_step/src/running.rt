@@ -14,7 +14,7 @@ ghost use Rattle.lfs_step.specs.Histories.{KeepsHistories};
 ghost use Rattle.lfs_step.specs.Outcome.{Answers, RefusesFormat, RefusesPacking, SendsText, given};
 ghost use Rattle.lfs_pack.specs.Packed.{AreRowsOf, Packed};
 ghost use Rattle.lfs_pack.specs.Packing.{IsPacked};
-ghost use Rattle.lfs_step.specs.Deed.{HasLimits, IsNoComparison, Make, Pack, deed_of};
+ghost use Rattle.lfs_step.specs.Deed.{IsStepInRange, IsNoComparison, Make, Pack, deed_of};
 
 use crate::comparing::compared;
 use crate::deed::{Deed, deed_of};
@@ -25,7 +25,8 @@ use crate::step::Step;
 use lfs_block::{ImageFault, geometry_ok};
 use lfs_book::write_journal;
 use lfs_change::{
-    Fault, Outcome, changed, changed_bytes_are_equations, journals_of_bytes_grow_by_the_need,
+    Fault, Outcome, changed, changed_by_all, changed_bytes_are_equations,
+    journals_of_bytes_grow_by_the_need,
 };
 use lfs_edit::{Refusal, format_within};
 use lfs_fs::Limits;
@@ -58,7 +59,7 @@ pub fn run<S: Sink>(
 ) -> Outcome
     requires works { S.failed out.old ≡ false }
     requires keep { MayKeep keep }
-    requires limits { HasLimits step.now }
+    requires range { IsStepInRange step.now }
     ensures answers { Answers (deed_of step.now input.items keep) (given size image.items journal.items) result }
     ensures history { KeepsHistories (deed_of step.now input.items keep) (given size image.items journal.items) result }
     ensures equation { KeepsEquations (deed_of step.now input.items keep) (given size image.items journal.items) result }
@@ -91,7 +92,7 @@ fn taken<S: Sink>(
     requires other { IsNoComparison step.now }
     requires works { S.failed out.old ≡ false }
     requires keep { MayKeep keep }
-    requires limits { HasLimits step.now }
+    requires range { IsStepInRange step.now }
     ensures answers { Answers (deed_of step.now input.now keep) (given size image.items journal.items) result }
     ensures sent { SendsText (deed_of step.now input.now keep) (given size image.items journal.items) result.fault (S.sent out.old) (S.sent out.new) }
     ensures failed { S.failed out.new ≡ blames_output result.fault }
@@ -109,6 +110,7 @@ fn taken<S: Sink>(
         Deed::Compare => unreachable!(),
         Deed::Recount => recounted(alloc, size, image, journal, out),
         Deed::Change(change) => changed(alloc, &change, size, image, journal),
+        Deed::ChangeAll(steps) => changed_by_all(alloc, steps, size, image, journal),
     }
 }
 

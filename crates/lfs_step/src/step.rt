@@ -1,6 +1,7 @@
 //! The steps that a run takes.
 
 use lfs_fs::Limits;
+use lfs_history::Move;
 use lfs_pack::PackRow;
 
 /// What a run does with an image.
@@ -97,4 +98,9 @@ pub enum Step<'a> {
     },
     /// Keeps the image, and no change that led to it or was taken back.
     Forget,
+    /// Takes several steps on the image's history, one after another: all of them or none.
+    Batch {
+        /// The steps.
+        steps: &'a [Move<'a>],
+    },
 }
