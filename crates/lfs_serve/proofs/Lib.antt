@@ -1,4 +1,5 @@
 pub mod StepLemmas
 pub mod ExtractingLemmas
 pub mod HostFolderLemmas
+pub mod BatchingLemmas
 pub mod RequestsLead

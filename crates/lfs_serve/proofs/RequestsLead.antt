@@ -8,7 +8,10 @@ use Rattle.lfs_book.specs.Laws.{JournalsAreShort}
 use Rattle.lfs_fs.specs.declared.limits.Limits.{Limits}
 use Rattle.lfs_command.specs.declared.refusal.Refusal.{Refusal}
 use Rattle.lfs_history.specs.History.{History, IsMounted, fresh_history}
-use Rattle.lfs_history.specs.Taking.{Move, Do, Undo, Redo, Forget}
+use Rattle.lfs_history.specs.Batch.{TakesAll}
+use Rattle.lfs_history.specs.declared.moves.Move.{Move as Written}
+use Rattle.lfs_history.specs.Meaning.{step_of}
+use Rattle.lfs_history.specs.Taking.{Do, Undo, Redo, Forget}
 use Rattle.lfs_command.specs.Command as asked
 use Rattle.lfs_step.specs.declared.query.Query.TheVariants as query
 use Rattle.lfs_serve.proofs.StepLemmas.{handed_from}
@@ -24,7 +27,7 @@ use Rattle.lfs_pack.specs.declared.pack_row.PackRow.{PackRow}
 use Rattle.lfs_pack.specs.Packed.{AreRowsOf}
 use Rattle.lfs_step.specs.declared.step.Step.{Step}
 use Rattle.lfs_step.specs.declared.step.Step.TheVariants as step
-use Rattle.lfs_step.specs.Deed.{Deed, Make, Pack, Ask, Compare, Recount, Change, deed_of}
+use Rattle.lfs_step.specs.Deed.{Deed, Make, Pack, Ask, Compare, Recount, Change, ChangeAll, deed_of}
 use Rattle.lfs_step.specs.Histories.{StepsLeaveHistories}
 use Rattle.lfs_step.specs.Outcome.{AnswersBy, AnswersDone, given}
 use Rattle.lfs_step.specs.Runs.{GoesOn, HasGoodRows}
@@ -32,11 +35,10 @@ use Rattle.lfs_step.proofs.HistoriesLeft.{fresh_is}
 use Rattle.lfs_step.proofs.RunsLeft.{one_goes}
 use Rattle.lfs_exchange.specs.declared.step_kind.StepKind.{StepKind}
 use Rattle.lfs_exchange.specs.declared.step_kind.StepKind.TheVariants.{Makes, Asks, Recounts, Changes, Forgets}
-use Rattle.lfs_exchange.specs.Handing.{HandedBytes, HandsInput, IsHanded, IsOfHost, most_image}
-use Rattle.lfs_exchange.specs.StepKind.{kind_of}
+use Rattle.lfs_exchange.specs.Handing.{HandedBytes, HandsImage, HandsInput, HandsJournal, IsHanded, IsOfHost, most_image}
+use Rattle.lfs_exchange.specs.StepKind.{kind_of, kind_of_steps}
 use Rattle.lfs_exchange.specs.Storing.{HasBoth, LeavesFiles, SparesFiles, journal_name, new_name, new_names}
 use Rattle.lfs_host.specs.Files.{Apart, BeginsWith, Files, FindsFile, HasReplaced, ReadsFile, bytes_there}
-use Rattle.lfs_host.specs.HostTree.{HostTree}
 use Rattle.lfs_host.specs.Scene.{KeepsScene, Scene}
 use Rattle.lfs_request.specs.declared.task.Task.{Task}
 use Rattle.lfs_request.specs.declared.task.Task.TheVariants as task
@@ -151,18 +153,18 @@ record Laws : Type 0 where
   leaves : StepsLeaveHistories
   runs : RunsOfBytesAreRuns
 
--- a step on a history
-changes : Laws → (m : Move) (s : Step) (size : ℕ) (keep : Option ℕ) (name : List ℕ) (typed : Option (List ℕ)) (old new : Files) (h : History)
-    (b : HandedBytes) (outcome : Outcome) → deed_of s b.input keep ≡ Change m → FilesDenote size name old h → ReadsFile (Some old) name most_image b.image
-    → FindsFile (Some old) (journal_name name) most_journal b.journal → HandsInput s (Some old) typed b.input
-    → AnswersDone (Change m) (given size b.image b.journal) outcome → HasBoth name outcome.image.items outcome.journal.items old new
-    → StepLeads size keep name s (Some old) typed new h
-changes laws m s size keep name typed old new h b outcome is denotes image journal input answers both =
+-- a step on a history, or several
+changes : Laws → (d : Deed) (s : Step) (size : ℕ) (keep : Option ℕ) (name : List ℕ) (typed : Option (List ℕ)) (old new : Files) (h : History)
+    (b : HandedBytes) (outcome : Outcome) → HasGoodRows d → deed_of s b.input keep ≡ d → FilesDenote size name old h
+    → ReadsFile (Some old) name most_image b.image → FindsFile (Some old) (journal_name name) most_journal b.journal
+    → HandsInput s (Some old) typed b.input → AnswersDone d (given size b.image b.journal) outcome
+    → HasBoth name outcome.image.items outcome.journal.items old new → StepLeads size keep name s (Some old) typed new h
+changes laws d s size keep name typed old new h b outcome good is denotes image journal input answers both =
     let handed = handed_change laws.short size name old h b denotes image journal in
-    let one = one_goes laws.leaves laws.runs None (Change m) (given size b.image b.journal) outcome h tt handed answers in
+    let one = one_goes laws.leaves laws.runs None d (given size b.image b.journal) outcome h good handed answers in
     record {
       next = one.new;
-      goes = (b.input, input, subst (λ (d : Deed). GoesOn size d h one.new) (sym is) one.goes);
+      goes = (b.input, input, subst (λ (e : Deed). GoesOn size e h one.new) (sym is) one.goes);
       denotes = written size name old new outcome one.new both one.leaves;
     }
 
@@ -244,6 +246,24 @@ packs laws count limits rows s size keep name typed old new h b outcome (packed,
 abbrev with_files : Scene → Files → Scene
 with_files scene files = record scene { files = Some files }
 
+-- several steps; none at all leave the history
+takes_all : Laws → (written : List Written) (steps : Bor (List Written)) → written ≡ steps.now → (size : ℕ) (keep : Option ℕ) (name : List ℕ)
+    (scene : Scene) (old new : Files) (h : History) (b : HandedBytes) (outcome : Outcome) → FilesDenote size name old h
+    → IsHanded (step.Batch steps) name (with_files scene old) b
+    → AnswersDone (ChangeAll (map step_of steps.now)) (given size b.image b.journal) outcome
+    → LeavesFiles (kind_of_steps steps.now) (Some old) (Some new) name outcome → StepLeads size keep name (step.Batch steps) (Some old) scene.typed new h
+takes_all laws [] steps are size keep name scene old new h b outcome denotes handed answers leaves =
+    let same : Some new ≡ Some old = subst (λ (k : StepKind). LeavesFiles k (Some old) (Some new) name outcome) (sym (ap kind_of_steps are)) leaves in
+    let goes : TakesAll (map step_of steps.now) h h = subst (λ (ms : List Written). TakesAll (map step_of ms) h h) are refl in
+    asks (ChangeAll (map step_of steps.now)) (step.Batch steps) size keep name scene.typed old new h b goes refl denotes handed.input same
+takes_all laws (m ∷ ms) steps are size keep name scene old new h b outcome denotes handed answers leaves =
+    let kind : kind_of_steps steps.now ≡ Changes = sym (ap kind_of_steps are) in
+    let image = subst (λ (k : StepKind). HandsImage k (Some old) name b.image) kind handed.image in
+    let journal = subst (λ (k : StepKind). HandsJournal k (Some old) name b.journal) kind handed.journal in
+    let both = subst (λ (k : StepKind). LeavesFiles k (Some old) (Some new) name outcome) kind leaves in
+    changes laws (ChangeAll (map step_of steps.now)) (step.Batch steps) size keep name scene.typed old new h b outcome tt refl denotes image journal
+    handed.input answers both
+
 -- any step
 done_leads : Laws → (s : Step) (size : ℕ) (keep : Option ℕ) (name : List ℕ) (scene : Scene) (old new : Files) (h : History) (b : HandedBytes) (outcome : Outcome)
     → HasGoodRows (deed_of s [] None) → FilesDenote size name old h → IsHanded s name (with_files scene old) b
@@ -264,34 +284,36 @@ done_leads laws (step.Diff other) size keep name scene old new h b outcome good 
 done_leads laws step.Log size keep name scene old new h b outcome good denotes handed answers leaves =
     asks Recount step.Log size keep name scene.typed old new h b refl refl denotes handed.input leaves
 done_leads laws (step.Mkdir path) size keep name scene old new h b outcome good denotes handed answers leaves =
-    changes laws (Do (asked.Mkdir path.now) keep) (step.Mkdir path) size keep name scene.typed old new h b outcome refl denotes handed.image
+    changes laws (Change (Do (asked.Mkdir path.now) keep)) (step.Mkdir path) size keep name scene.typed old new h b outcome tt refl denotes handed.image
     handed.journal handed.input answers leaves
 done_leads laws (step.Put path from) size keep name scene old new h b outcome good denotes handed answers leaves =
-    changes laws (Do (asked.Put path.now b.input) keep) (step.Put path from) size keep name scene.typed old new h b outcome refl denotes handed.image
+    changes laws (Change (Do (asked.Put path.now b.input) keep)) (step.Put path from) size keep name scene.typed old new h b outcome tt refl denotes handed.image
     handed.journal handed.input answers leaves
 done_leads laws (step.Rm path) size keep name scene old new h b outcome good denotes handed answers leaves =
-    changes laws (Do (asked.Rm path.now) keep) (step.Rm path) size keep name scene.typed old new h b outcome refl denotes handed.image
+    changes laws (Change (Do (asked.Rm path.now) keep)) (step.Rm path) size keep name scene.typed old new h b outcome tt refl denotes handed.image
     handed.journal handed.input answers leaves
 done_leads laws (step.Mv from to) size keep name scene old new h b outcome good denotes handed answers leaves =
-    changes laws (Do (asked.Mv from.now to.now) keep) (step.Mv from to) size keep name scene.typed old new h b outcome refl denotes handed.image
+    changes laws (Change (Do (asked.Mv from.now to.now) keep)) (step.Mv from to) size keep name scene.typed old new h b outcome tt refl denotes handed.image
     handed.journal handed.input answers leaves
 done_leads laws (step.SetAttr path kind value) size keep name scene old new h b outcome good denotes handed answers leaves =
-    changes laws (Do (asked.SetAttr path.now kind value.now) keep) (step.SetAttr path kind value) size keep name scene.typed old new h b outcome refl denotes handed.image
+    changes laws (Change (Do (asked.SetAttr path.now kind value.now) keep)) (step.SetAttr path kind value) size keep name scene.typed old new h b outcome tt refl denotes handed.image
     handed.journal handed.input answers leaves
 done_leads laws (step.RmAttr path kind) size keep name scene old new h b outcome good denotes handed answers leaves =
-    changes laws (Do (asked.RmAttr path.now kind) keep) (step.RmAttr path kind) size keep name scene.typed old new h b outcome refl denotes handed.image
+    changes laws (Change (Do (asked.RmAttr path.now kind) keep)) (step.RmAttr path kind) size keep name scene.typed old new h b outcome tt refl denotes handed.image
     handed.journal handed.input answers leaves
 done_leads laws (step.Grow count) size keep name scene old new h b outcome good denotes handed answers leaves =
-    changes laws (Do (asked.Grow count) keep) (step.Grow count) size keep name scene.typed old new h b outcome refl denotes handed.image
+    changes laws (Change (Do (asked.Grow count) keep)) (step.Grow count) size keep name scene.typed old new h b outcome tt refl denotes handed.image
     handed.journal handed.input answers leaves
 done_leads laws (step.Undo steps) size keep name scene old new h b outcome good denotes handed answers leaves =
-    changes laws (Undo steps) (step.Undo steps) size keep name scene.typed old new h b outcome refl denotes handed.image
+    changes laws (Change (Undo steps)) (step.Undo steps) size keep name scene.typed old new h b outcome tt refl denotes handed.image
     handed.journal handed.input answers leaves
 done_leads laws (step.Redo steps) size keep name scene old new h b outcome good denotes handed answers leaves =
-    changes laws (Redo steps) (step.Redo steps) size keep name scene.typed old new h b outcome refl denotes handed.image
+    changes laws (Change (Redo steps)) (step.Redo steps) size keep name scene.typed old new h b outcome tt refl denotes handed.image
     handed.journal handed.input answers leaves
 done_leads laws step.Forget size keep name scene old new h b outcome good denotes handed answers leaves =
     forgets laws size keep name scene.typed old new h b outcome denotes handed.image handed.journal handed.input answers leaves
+done_leads laws (step.Batch steps) size keep name scene old new h b outcome good denotes handed answers leaves =
+    takes_all laws steps.now steps refl size keep name scene old new h b outcome denotes handed answers leaves
 
 -- a step that was done
 step_leads : Laws → (s : Step) (strict : Bool) (size : ℕ) (keep : Option ℕ) (name : List ℕ) (scene behind : Scene) (old new : Files) (h : History) → HasGoodRows (deed_of s [] None)
@@ -351,15 +373,17 @@ stop_leaves s strict size keep name scene behind fault old new h before later de
 -- ---- tasks
 
 -- rows of a folder are good, and no other step has any
-good_step : (t : Task) (tree : Option HostTree) (s : Step) → BecomesStep t tree s → HasGoodRows (deed_of s [] None)
-good_step (task.Pack extent limits dir) tree (step.Pack count stated packed) (rows, folder, asks) =
+good_step : (t : Task) (keep : Option ℕ) (scene : Scene) (s : Step) → BecomesStep t keep scene s → HasGoodRows (deed_of s [] None)
+good_step (task.Pack extent limits dir) keep scene (step.Pack count stated packed) (rows, folder, asks) =
     (map packed_of folder.shown, subst (λ (rs : List PackRow). AreRowsOf rs (map packed_of folder.shown)) (sym asks.2) folder.packed)
-good_step (task.Pack extent limits dir) tree _ (rows, folder, asks) = absurd asks
-good_step (task.SetAttr path kind value) tree (step.SetAttr at of to) becomes = tt
-good_step (task.SetAttr path kind value) tree _ (rows, folder, asks) = absurd asks
-good_step (task.RmAttr path kind) tree (step.RmAttr at of) becomes = tt
-good_step (task.RmAttr path kind) tree _ (rows, folder, asks) = absurd asks
-good_step _ tree s (rows, folder, asks) = absurd asks
+good_step (task.Pack extent limits dir) keep scene _ (rows, folder, asks) = absurd asks
+good_step (task.SetAttr path kind value) keep scene (step.SetAttr at of to) becomes = tt
+good_step (task.SetAttr path kind value) keep scene _ (rows, folder, asks) = absurd asks
+good_step (task.RmAttr path kind) keep scene (step.RmAttr at of) becomes = tt
+good_step (task.RmAttr path kind) keep scene _ (rows, folder, asks) = absurd asks
+good_step (task.Batch file) keep scene (step.Batch steps) becomes = tt
+good_step (task.Batch file) keep scene _ (text, reads, (lines, says, takes)) = absurd takes
+good_step _ keep scene s (rows, folder, asks) = absurd asks
 
 -- where a request leads, or that it is torn
 data Ends (size : ℕ) (keep : Option ℕ) (name : List ℕ) (t : Task) (scene : Scene) (fault : Option Fault) (old new : Files) (h : History) : Type 0 where
@@ -395,11 +419,11 @@ step_ends laws (Some fault) s strict size keep name scene behind old new h good 
 
 -- a task for which something is read first
 reading_ends : Laws → (fault : Option Fault) (t : Task) (strict : Bool) (size : ℕ) (keep : Option ℕ) (name : List ℕ) (scene behind : Scene) (old new : Files) (h : History)
-    → ((next : History) → (s : Step) × BecomesStep t scene.tree s × StepGoes size keep s scene.files scene.typed h next → TaskGoes size keep t scene h next)
+    → ((next : History) → (s : Step) × BecomesStep t keep scene s × StepGoes size keep s scene.files scene.typed h next → TaskGoes size keep t scene h next)
     → scene.files ≡ Some old → behind.files ≡ Some new → FilesDenote size name old h → EndsReading t strict size keep name scene behind fault
     → Ends size keep name t scene fault old new h
 reading_ends laws None t strict size keep name scene behind old new h turn before later denotes (inl (s, becomes, ends)) =
-    let leads = step_leads laws s strict size keep name scene behind old new h (good_step t scene.tree s becomes) before later denotes ends in
+    let leads = step_leads laws s strict size keep name scene behind old new h (good_step t keep scene s becomes) before later denotes ends in
     Stored_directory leads.next (turn leads.next (s, becomes, leads.goes)) leads.denotes
 reading_ends laws None t strict size keep name scene behind old new h turn before later denotes (inr (keeps, (why, is, no_step))) = absurd cc
 reading_ends laws (Some fault) t strict size keep name scene behind old new h turn before later denotes (inl (s, becomes, ends)) =
@@ -421,6 +445,8 @@ task_ends laws fault (task.SetAttr path kind value) strict size keep name scene 
     reading_ends laws fault (task.SetAttr path kind value) strict size keep name scene behind old new h (λ next goes. goes) before later denotes ends
 task_ends laws fault (task.RmAttr path kind) strict size keep name scene behind old new h good before later denotes ends =
     reading_ends laws fault (task.RmAttr path kind) strict size keep name scene behind old new h (λ next goes. goes) before later denotes ends
+task_ends laws fault (task.Batch file) strict size keep name scene behind old new h good before later denotes ends =
+    reading_ends laws fault (task.Batch file) strict size keep name scene behind old new h (λ next goes. goes) before later denotes ends
 
 -- ---- requests
 

@@ -6,7 +6,9 @@ use Rattle.lfs_command.specs.declared.refusal.Refusal.TheVariants.{Memory}
 use Rattle.lfs_request.specs.declared.task.Task.TheVariants.{SetAttr, RmAttr}
 use Rattle.lfs_request.specs.Asking.{NamesNoStep, SpellsNoByte, SpellsNoBytes}
 use Rattle.lfs_change.specs.declared.outcome.Outcome.{Outcome}
+use Rattle.lfs_history.specs.declared.moves.Move.{Move}
 use Rattle.lfs_step.specs.declared.step.Step.{Step}
+use Rattle.lfs_step.specs.declared.step.Step.TheVariants.{Batch}
 use Rattle.lfs_step.specs.Deed.{Deed}
 use Rattle.lfs_step.specs.Outcome.{Answers, Given, SendsText}
 use Rattle.lfs_exchange.specs.declared.step_kind.StepKind.{StepKind}
@@ -84,15 +86,29 @@ spares_target _ Forgets None new name target o leads spares = tt
 spares_target _ Makes None new name target o leads spares = inl tt
 spares_target _ Changes None new name target o leads spares = inl tt
 
--- what is handed of a host whose files and standard input are the same
-pub handed_from : (step : Step) (name : List ℕ) (mid old : Scene) (h : HandedBytes) → mid.files ≡ old.files → mid.typed ≡ old.typed
+-- what a step reads besides of one host it reads of another
+abbrev HandsAlike : Step → Scene → Scene → Type 0
+HandsAlike step mid old = (input : List ℕ) → HandsInput step mid.files mid.typed input → HandsInput step old.files old.typed input
+
+-- so it is where files and standard input are the same
+alike_from : (step : Step) (mid old : Scene) → mid.files ≡ old.files → mid.typed ≡ old.typed → HandsAlike step mid old
+alike_from step mid old files typed input hands =
+    subst (λ (t : Option (List ℕ)). HandsInput step old.files t input) typed
+    (subst (λ (f : Option Files). HandsInput step f mid.typed input) files hands)
+
+-- what is handed of a host whose files are the same
+handed_alike : (step : Step) (name : List ℕ) (mid old : Scene) (h : HandedBytes) → mid.files ≡ old.files → HandsAlike step mid old
     → IsHanded step name mid h → IsHanded step name old h
-handed_from step name mid old h files typed is = record {
+handed_alike step name mid old h files alike is = record {
   image = subst (λ (f : Option Files). HandsImage (kind_of step) f name h.image) files is.image;
   journal = subst (λ (f : Option Files). HandsJournal (kind_of step) f name h.journal) files is.journal;
-  input = subst (λ (t : Option (List ℕ)). HandsInput step old.files t h.input) typed
-      (subst (λ (f : Option Files). HandsInput step f mid.typed h.input) files is.input);
+  input = alike h.input is.input;
 }
+
+-- and standard input too
+pub handed_from : (step : Step) (name : List ℕ) (mid old : Scene) (h : HandedBytes) → mid.files ≡ old.files → mid.typed ≡ old.typed
+    → IsHanded step name mid h → IsHanded step name old h
+handed_from step name mid old h files typed is = handed_alike step name mid old h files (alike_from step mid old files typed) is
 
 -- the same by what is known of the target's name, of the files that were there, of the kind and of the outcome
 pub handed_at : (step : Step) (name target at : List ℕ) (old mid : Scene) (h : HandedBytes) → IsTarget old.files name target
@@ -209,47 +225,60 @@ pub ends_behind : (step : Step) (strict : Bool) (size : ℕ) (keep : Option ℕ)
 ends_behind step strict size keep name old new ended fault outcome is of_host runs spares =
     ends_stopped step strict size keep name old new ended fault is (inr (inr (of_host, (outcome, runs, spares))))
 
--- ---- a step on a host with the same files, standard input and standard output
+-- ---- a step on a host with the same files and standard output
 
-runs_from : (step : Step) (strict : Bool) (size : ℕ) (keep : Option ℕ) (name : List ℕ) (mid old new : Scene) (fault : Option Fault) (outcome : Outcome)
-    → mid.files ≡ old.files → mid.typed ≡ old.typed → mid.printed ≡ old.printed → RunsStep step strict size keep name mid new fault outcome
+runs_alike : (step : Step) (strict : Bool) (size : ℕ) (keep : Option ℕ) (name : List ℕ) (mid old new : Scene) (fault : Option Fault) (outcome : Outcome)
+    → mid.files ≡ old.files → HandsAlike step mid old → mid.printed ≡ old.printed → RunsStep step strict size keep name mid new fault outcome
     → RunsStep step strict size keep name old new fault outcome
-runs_from step strict size keep name mid old new fault outcome files typed printed (h, is, none, runs, blamed) = (
+runs_alike step strict size keep name mid old new fault outcome files alike printed (h, is, none, runs, blamed) = (
   h,
-  handed_from step name mid old h files typed is,
+  handed_alike step name mid old h files alike is,
   none,
   subst (λ (p : Option (List ℕ)). RunsOn step size keep h fault p new.printed outcome) printed runs,
   blamed,
 )
 
-not_run_from : (step : Step) (strict : Bool) (size : ℕ) (name : List ℕ) (mid old new : Scene) (fault : Fault)
-    → mid.files ≡ old.files → mid.typed ≡ old.typed → IsNotRun step strict size name mid new fault → IsNotRun step strict size name old new fault
-not_run_from step strict size name mid old new fault files typed (inl not_aimed) = inl not_aimed
-not_run_from step strict size name mid old new fault files typed (inr (inl unread)) = inr (inl unread)
-not_run_from step strict size name mid old new fault files typed (inr (inr (h, is, refused))) =
-    inr (inr (h, handed_from step name mid old h files typed is, refused))
+not_run_alike : (step : Step) (strict : Bool) (size : ℕ) (name : List ℕ) (mid old new : Scene) (fault : Fault)
+    → mid.files ≡ old.files → HandsAlike step mid old → IsNotRun step strict size name mid new fault → IsNotRun step strict size name old new fault
+not_run_alike step strict size name mid old new fault files alike (inl not_aimed) = inl not_aimed
+not_run_alike step strict size name mid old new fault files alike (inr (inl unread)) = inr (inl unread)
+not_run_alike step strict size name mid old new fault files alike (inr (inr (h, is, refused))) =
+    inr (inr (h, handed_alike step name mid old h files alike is, refused))
 
-pub step_from : (step : Step) (strict : Bool) (size : ℕ) (keep : Option ℕ) (name : List ℕ) (mid old new : Scene) (ended : Option Fault)
-    → mid.files ≡ old.files → mid.typed ≡ old.typed → mid.printed ≡ old.printed → EndsStep step strict size keep name mid new ended
+step_alike : (step : Step) (strict : Bool) (size : ℕ) (keep : Option ℕ) (name : List ℕ) (mid old new : Scene) (ended : Option Fault)
+    → mid.files ≡ old.files → HandsAlike step mid old → mid.printed ≡ old.printed → EndsStep step strict size keep name mid new ended
     → EndsStep step strict size keep name old new ended
-step_from step strict size keep name mid old new None files typed printed (outcome, runs, leaves) = (
+step_alike step strict size keep name mid old new None files alike printed (outcome, runs, leaves) = (
   outcome,
-  runs_from step strict size keep name mid old new None outcome files typed printed runs,
+  runs_alike step strict size keep name mid old new None outcome files alike printed runs,
   subst (λ (f : Option Files). LeavesFiles (kind_of step) f new.files name outcome) files leaves,
 )
-step_from step strict size keep name mid old new (Some fault) files typed printed (inl (outcome, runs, same)) =
-    inl (outcome, runs_from step strict size keep name mid old new (Some fault) outcome files typed printed runs, same ∙ files)
-step_from step strict size keep name mid old new (Some fault) files typed printed (inr (inl (not_run, keeps))) =
-    inr (inl (not_run_from step strict size name mid old new fault files typed not_run, (keeps.0 ∙ files, keeps.1 ∙ printed)))
-step_from step strict size keep name mid old new (Some fault) files typed printed (inr (inr (of_host, (outcome, runs, spares)))) =
+step_alike step strict size keep name mid old new (Some fault) files alike printed (inl (outcome, runs, same)) =
+    inl (outcome, runs_alike step strict size keep name mid old new (Some fault) outcome files alike printed runs, same ∙ files)
+step_alike step strict size keep name mid old new (Some fault) files alike printed (inr (inl (not_run, keeps))) =
+    inr (inl (not_run_alike step strict size name mid old new fault files alike not_run, (keeps.0 ∙ files, keeps.1 ∙ printed)))
+step_alike step strict size keep name mid old new (Some fault) files alike printed (inr (inr (of_host, (outcome, runs, spares)))) =
     inr (inr (
       of_host,
       (
         outcome,
-        runs_from step strict size keep name mid old new None outcome files typed printed runs,
+        runs_alike step strict size keep name mid old new None outcome files alike printed runs,
         subst (λ (f : Option Files). SparesFiles fault (kind_of step) f new.files name outcome) files spares,
       ),
     ))
+
+-- the same where standard input is the same
+pub step_from : (step : Step) (strict : Bool) (size : ℕ) (keep : Option ℕ) (name : List ℕ) (mid old new : Scene) (ended : Option Fault)
+    → mid.files ≡ old.files → mid.typed ≡ old.typed → mid.printed ≡ old.printed → EndsStep step strict size keep name mid new ended
+    → EndsStep step strict size keep name old new ended
+step_from step strict size keep name mid old new ended files typed printed ends =
+    step_alike step strict size keep name mid old new ended files (alike_from step mid old files typed) printed ends
+
+-- several steps read nothing besides
+pub batch_from : (steps : Bor (List Move)) (strict : Bool) (size : ℕ) (keep : Option ℕ) (name : List ℕ) (mid old new : Scene) (ended : Option Fault)
+    → KeepsScene old mid → EndsStep (Batch steps) strict size keep name mid new ended → EndsStep (Batch steps) strict size keep name old new ended
+batch_from steps strict size keep name mid old new ended kept ends =
+    step_alike (Batch steps) strict size keep name mid old new ended kept.0 (λ input hands. hands) kept.1 ends
 
 -- ---- tasks that become no step
 

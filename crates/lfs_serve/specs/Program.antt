@@ -8,14 +8,14 @@ use Rattle.lfs_step.specs.declared.step.Step.{Step}
 use Rattle.lfs_serve.specs.declared.stop.Stop.{Stop}
 use Rattle.lfs_request.specs.declared.task.Task.{Task}
 use Rattle.lfs_request.specs.declared.task.Task.TheVariants as task
-use Rattle.lfs_request.specs.declared.task.Task.TheVariants.{Extract, Pack}
+use Rattle.lfs_request.specs.declared.task.Task.TheVariants.{Extract, Pack, Batch}
 use Rattle.lfs_step.specs.Deed.{Deed, deed_of}
 use Rattle.lfs_change.specs.Fault.{status_of}
 use Rattle.lfs_host.specs.Files.{IsMissing}
-use Rattle.lfs_host.specs.HostTree.{HostTree}
 use Rattle.lfs_pack.specs.declared.pack_row.PackRow.{PackRow}
 use Rattle.lfs_host.specs.Scene.{HasRefused, KeepsScene, Scene}
 use Rattle.lfs_exchange.specs.Handing.{HandedBytes, IsHanded, IsNotAimed, IsOfHost, IsOtherUnread}
+use Rattle.lfs_serve.specs.Batching.{BecomesBatch, BecomesNoBatch}
 use Rattle.lfs_serve.specs.Extracting.{EndsExtract}
 use Rattle.lfs_serve.specs.HostFolder.{PacksRows, ReadsNoFolder}
 use Rattle.lfs_serve.specs.Later.{later_handed, refused_by}
@@ -68,20 +68,27 @@ EndsStep step strict size keep name old new None =
     × LeavesFiles (kind_of step) old.files new.files name outcome
 EndsStep step strict size keep name old new (Some fault) = StopsStep step strict size keep name old new fault
 
--- the step that a task becomes, with the rows of the folder that it packs
-abbrev pub BecomesStep : Task → Option HostTree → Step → Type 0
-BecomesStep task tree step = (rows : List PackRow) × PacksRows task tree rows × AsksFor task rows step
+-- how what becomes a step ends: as that step, or with a fault since it becomes none
+abbrev pub EndsAs : (Step → Type 0) → (Fault → Type 0) → Bool → ℕ → Option ℕ → List ℕ → Scene → Scene → Option Fault → Type 0
+EndsAs becomes refused strict size keep name old new fault =
+    ((step : Step) × becomes step × EndsStep step strict size keep name old new fault)
+    ⊎ (KeepsScene old new × ((why : Fault) × (fault ≡ Some why) × refused why))
 
--- why it becomes none: its folder isn't read, or it names none
-abbrev pub BecomesNoStep : Task → Option HostTree → Scene → Fault → Type 0
-BecomesNoStep (Pack extent limits dir) tree new why = ReadsNoFolder tree dir.now new why
-BecomesNoStep task tree new why = NamesNoStep task why
+-- the step that a task becomes, with the steps of its script, or with the rows of the folder that it packs
+abbrev pub BecomesStep : Task → Option ℕ → Scene → Step → Type 0
+BecomesStep (Batch file) keep scene step = BecomesBatch file keep scene step
+BecomesStep task keep scene step = (rows : List PackRow) × PacksRows task scene.tree rows × AsksFor task rows step
 
--- how a task ends for which something is read first: as the step that it becomes, or with a fault since it becomes none
+-- why it becomes none: its folder isn't read, or its script, or it names none
+abbrev pub BecomesNoStep : Task → Scene → Scene → Fault → Type 0
+BecomesNoStep (Pack extent limits dir) old new why = ReadsNoFolder old.tree dir.now new why
+BecomesNoStep (Batch file) old new why = BecomesNoBatch file old new why
+BecomesNoStep task old new why = NamesNoStep task why
+
+-- how a task ends for which something is read first
 abbrev pub EndsReading : Task → Bool → ℕ → Option ℕ → List ℕ → Scene → Scene → Option Fault → Type 0
 EndsReading task strict size keep name old new fault =
-    ((step : Step) × BecomesStep task old.tree step × EndsStep step strict size keep name old new fault)
-    ⊎ (KeepsScene old new × ((why : Fault) × (fault ≡ Some why) × BecomesNoStep task old.tree new why))
+    EndsAs (BecomesStep task keep old) (BecomesNoStep task old new) strict size keep name old new fault
 
 -- how a task on an image's file ends: as the step that its words say, as a folder that is made, or by what is read first
 abbrev pub EndsTask : Task → Bool → ℕ → Option ℕ → List ℕ → Scene → Scene → Option Fault → Type 0

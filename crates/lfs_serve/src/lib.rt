@@ -1,6 +1,7 @@
 //! A request on a host's files: what the program does, but for the words that ask for it.
 #![tactic(auto)]
 
+mod batching;
 mod beside;
 mod extracting;
 mod host_folder;
@@ -9,6 +10,8 @@ mod laws;
 mod least;
 mod new_image;
 mod path_note;
+mod read_line;
+mod refused_line;
 mod refused_row;
 mod serving;
 mod sizing;

@@ -4,11 +4,12 @@ ghost use Rattle.std.specs.Prelude.{◌≡◌, IfOk};
 ghost use Rattle.lfs_request.specs.declared.task.Task.TheVariants.{Pack, SetAttr, RmAttr};
 ghost use Rattle.lfs_history.specs.Taking.{MayKeep};
 ghost use Rattle.lfs_fs.specs.Superblock.{IsLimits};
-ghost use Rattle.lfs_request.specs.Asking.{HasLimits as TaskHasLimits};
-ghost use Rattle.lfs_step.specs.Deed.{HasLimits, deed_of};
+ghost use Rattle.lfs_request.specs.Asking.{IsTaskInRange};
+ghost use Rattle.lfs_step.specs.Deed.{IsStepInRange, deed_of};
 ghost use Rattle.lfs_step.specs.Outcome.{Answers, SendsText, given};
 ghost use Rattle.lfs_serve.specs.Program.{EndsAsked, EndsRequest, EndsStep, EndsTask, IsBlamed, RunsOn, stopped_by};
 
+use crate::batching::batched;
 use crate::beside::Beside;
 use crate::extracting::extracted;
 use crate::host_folder::{folder_of, pack_rows};
@@ -36,7 +37,7 @@ use std::alloc::Global;
 /// Source: own.
 pub fn served<H: Host>(alloc: Global, host: &mut H, request: &Request<'_>) -> u8
     requires keep { MayKeep request.now.keep }
-    requires limits { TaskHasLimits request.now.task }
+    requires range { IsTaskInRange request.now.task }
     ensures ended { EndsRequest request.now (H.known host.old) (H.known host.new) result }
 {
     let mut beside = Beside::new(alloc);
@@ -55,7 +56,7 @@ fn asked<H: Host>(
     beside: &mut Beside,
 ) -> Result<(), Stop>
     requires keep { MayKeep request.now.keep }
-    requires limits { TaskHasLimits request.now.task }
+    requires range { IsTaskInRange request.now.task }
     ensures ended { EndsAsked request.now (H.known host.old) (H.known host.new) (stopped_by result) }
 {
     spare(host, request.is_new, request.image)?;
@@ -70,7 +71,7 @@ fn done<H: Host>(
     beside: &mut Beside,
 ) -> Result<(), Stop>
     requires keep { MayKeep request.now.keep }
-    requires limits { TaskHasLimits request.now.task }
+    requires range { IsTaskInRange request.now.task }
     ensures ended { EndsTask request.now.task request.now.is_strict request.now.size request.now.keep request.now.image.now
         (H.known host.old) (H.known host.new) (stopped_by result) }
 {
@@ -86,6 +87,7 @@ fn done<H: Host>(
             set(alloc, host, request, beside, path, kind, value)
         }
         Task::RmAttr { path, kind } => cleared(alloc, host, request, beside, path, kind),
+        Task::Batch { file } => batched(alloc, host, request, beside, file),
     }
 }
 
@@ -100,7 +102,7 @@ fn packed<H: Host>(
     dir: &str,
 ) -> Result<(), Stop>
     requires keep { MayKeep request.now.keep }
-    requires limits { IsLimits limits }
+    requires range { IsLimits limits }
     ensures ended { EndsTask (Pack extent limits dir.entry) request.now.is_strict request.now.size request.now.keep request.now.image.now
         (H.known host.old) (H.known host.new) (stopped_by result) }
 {
@@ -165,8 +167,8 @@ fn cleared<H: Host>(
     stepped(alloc, host, request, beside, &Step::RmAttr { path, kind })
 }
 
-/// Takes a step on an image's file, and writes what it leaves.
-fn stepped<H: Host>(
+/// Takes a step on an image's file, and writes what it leaves. Takes memory.
+pub fn stepped<H: Host>(
     alloc: Global,
     host: &mut H,
     request: &Request<'_>,
@@ -174,7 +176,7 @@ fn stepped<H: Host>(
     step: &Step<'_>,
 ) -> Result<(), Stop>
     requires keep { MayKeep request.now.keep }
-    requires limits { HasLimits step.now }
+    requires range { IsStepInRange step.now }
     ensures ended { EndsStep step.now request.now.is_strict request.now.size request.now.keep request.now.image.now
         (H.known host.old) (H.known host.new) (stopped_by result) }
 {
@@ -204,7 +206,7 @@ fn ran<H: Host>(
     handed: Handed,
 ) -> Outcome
     requires keep { MayKeep keep }
-    requires limits { HasLimits step.now }
+    requires range { IsStepInRange step.now }
     ensures answers { Answers (deed_of step.now handed.input.items keep) (given size handed.image.items handed.journal.items) result }
     ensures sent { SendsText (deed_of step.now handed.input.items keep) (given size handed.image.items handed.journal.items) result.fault (H.known host.old).printed (H.known host.new).printed }
     ensures blamed { IsBlamed result.fault (H.known host.new) }
@@ -229,7 +231,7 @@ fn taken<H: Host>(
     handed: Handed,
 ) -> Result<Outcome, Stop>
     requires keep { MayKeep keep }
-    requires limits { HasLimits step.now }
+    requires range { IsStepInRange step.now }
     ensures ran { (outcome : Outcome) × RunsOn step.now size keep (record { image = handed.image.items; journal = handed.journal.items; input = handed.input.items })
         (stopped_by result) (H.known host.old).printed (H.known host.new).printed outcome × IfOk result (λ left. left ≡ outcome) }
     ensures blamed { IsBlamed (stopped_by result) (H.known host.new) }
@@ -239,6 +241,6 @@ fn taken<H: Host>(
     let outcome = ran(alloc, host, size, keep, step, handed);
     match outcome.fault {
         None => Ok(outcome),
-        Some(fault) => Err(stop_of_run(alloc, size, step, fault, outcome.image, other)),
+        Some(fault) => Err(stop_of_run(alloc, size, step, fault, outcome, other)),
     }
 }

@@ -38,6 +38,10 @@ pub enum Statement {
     Path(PathNote),
     /// What is known of the row for which a folder isn't packed; the text of its path is kept beside.
     Row(Finding),
+    /// How many of several steps were done before the one that is refused.
+    Step(usize),
+    /// The number of the line of a script that is refused; its text is kept beside.
+    Line(usize),
     /// How many blocks the folder needs that is packed.
     Need(u32),
     /// No image of this block size holds the folder that is packed.

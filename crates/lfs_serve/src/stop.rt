@@ -2,7 +2,7 @@
 
 use crate::stated::Statement;
 use lfs_step::Fault;
-use std::alloc::AllocError;
+use std::alloc::{AllocError, AllocFailed};
 
 /// Why a run ends without having done what it was asked for, with what is told of it beside.
 #[derive(Clone, Copy)]
@@ -38,5 +38,17 @@ impl From<AllocError> for Stop {
 
     fn from(error: AllocError) -> Stop {
         Stop::from(Fault::from(error))
+    }
+}
+
+impl<T: Drop> From<AllocFailed<T>> for Stop {
+    ghost use Rattle.std.specs.Prelude.{◌≡◌};
+    ghost use Rattle.lfs_command.specs.declared.refusal.Refusal.TheVariants.{Memory};
+    ghost use Rattle.lfs_change.specs.declared.fault.Fault.TheVariants.{Refused};
+
+    ghost from_gives = { λ failed stop. stop.fault ≡ Refused Memory };
+
+    fn from(failed: AllocFailed<T>) -> Stop {
+        Stop::from(AllocError::from(failed))
     }
 }

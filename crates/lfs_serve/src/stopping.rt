@@ -7,7 +7,8 @@ use crate::stated::{Stated, Statement, statement_for};
 use crate::stop::Stop;
 use crate::superblock::superblock_statement;
 use lfs_block::{Image, MountFault};
-use lfs_step::{Fault, Step};
+use lfs_edit::Refusal;
+use lfs_step::{Fault, Outcome, Step};
 use std::alloc::Global;
 
 /// Why an image was refused, with what it states. Takes no memory.
@@ -28,13 +29,15 @@ pub fn stop_of_run(
     size: u32,
     step: &Step<'_>,
     fault: Fault,
-    bytes: Vec<u8>,
+    outcome: Outcome,
     other: Option<Stated>,
 ) -> Stop
     ensures { result.fault ≡ fault }
 {
-    let count = count_of(size, step, &bytes);
+    let count = count_of(size, step, &outcome.image);
+    let bytes = outcome.image;
     let statement = match fault {
+        fault if is_of_batch(step, fault) => Some(Statement::Step(outcome.at)),
         Fault::Refused(refusal) => path_statement(note_of(alloc, size, step, refusal, bytes)),
         Fault::Mount(MountFault::Geometry) => statement_of_bytes(alloc, size, bytes),
         fault => statement_for(fault, &bytes, other),
@@ -43,6 +46,15 @@ pub fn stop_of_run(
         fault,
         statement,
         count,
+    }
+}
+
+/// Whether a fault is of one of several steps, and neither of the image and its journal nor want of memory.
+fn is_of_batch(step: &Step<'_>, fault: Fault) -> bool {
+    match (step, fault) {
+        (Step::Batch { .. }, Fault::Refused(Refusal::Memory)) => false,
+        (Step::Batch { .. }, Fault::Refused(_) | Fault::Step(_)) => true,
+        _ => false,
     }
 }
 

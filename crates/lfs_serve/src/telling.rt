@@ -115,6 +115,18 @@ fn tell_row<H: Host>(host: &mut H, image: &str, text: &[u8], finding: Finding)
     host.complain(format_args!("lfsed: {image}: {path}: {finding}\n"));
 }
 
+/// Tells which line of a script is refused.
+fn tell_line<H: Host>(host: &mut H, request: &Request<'_>, text: &[u8], number: usize)
+    ensures kept { H.known host.new ≡ H.known host.old }
+{
+    let script = match request.task {
+        Task::Batch { file } => file.unwrap_or("standard input"),
+        _ => return,
+    };
+    let line = Shown { bytes: text };
+    host.complain(format_args!("lfsed: {script}: line {number}: {line}\n"));
+}
+
 /// Tells how many blocks a folder needs, or that none are enough.
 fn tell_need<H: Host>(host: &mut H, request: &Request<'_>, count: Option<u32>)
     ensures kept { H.known host.new ≡ H.known host.old }
@@ -153,6 +165,8 @@ fn tell_statement<H: Host>(
         Statement::Later(version) => tell_version(host, image, version),
         Statement::Path(note) => tell_note(host, request, note),
         Statement::Row(finding) => tell_row(host, image, text, finding),
+        Statement::Step(_) => {}
+        Statement::Line(number) => tell_line(host, request, text, number),
         Statement::Need(count) => tell_need(host, request, Some(count)),
         Statement::NoImageHolds => tell_need(host, request, None),
         Statement::NewImage => host.complain(format_args!(

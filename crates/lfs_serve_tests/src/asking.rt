@@ -2,7 +2,7 @@
 
 ghost use Rattle.std.specs.Prelude.{◌≡◌};
 ghost use Rattle.lfs_history.specs.Taking.{MayKeep};
-ghost use Rattle.lfs_request.specs.Asking.{HasLimits};
+ghost use Rattle.lfs_request.specs.Asking.{IsTaskInRange};
 ghost use Rattle.lfs_host.specs.MemoryFiles.{files_of};
 ghost use Rattle.lfs_serve_tests.specs.Asking.{OnlyAsks};
 
@@ -19,7 +19,7 @@ use std::alloc::Global;
 pub fn ask_in_memory(alloc: Global, host: &mut MemoryHost, request: &Request<'_>) -> u8
     requires asks { OnlyAsks request.now.task }
     requires keep { MayKeep request.now.keep }
-    requires limits { HasLimits request.now.task }
+    requires range { IsTaskInRange request.now.task }
     ensures kept { files_of host.new.files ≡ files_of host.old.files }
 {
     served(alloc, host, request)

@@ -5,6 +5,8 @@
 
 mod asking;
 #[cfg(test)]
+mod batches;
+#[cfg(test)]
 mod host_faults;
 #[cfg(test)]
 mod memory_folders;

@@ -1,6 +1,6 @@
 //! Requests on an image in memory, and how they end.
 
-ghost use Rattle.lfs_step.specs.Deed.{HasLimits};
+ghost use Rattle.lfs_step.specs.Deed.{IsStepInRange};
 
 use lfs_fs::NEW_LIMITS;
 use lfs_host::MemoryHost;
@@ -59,7 +59,7 @@ pub(crate) const NO_MATCH: End = End {
 };
 
 /// Whether this text, and no other, went to standard error.
-fn has_told(host: &MemoryHost, text: &str) -> bool {
+pub(crate) fn has_told(host: &MemoryHost, text: &str) -> bool {
     host.complained.as_str() == text
 }
 
@@ -71,7 +71,7 @@ pub(crate) fn ends(
     step: &Step<'static>,
     end: &End,
 )
-    requires { HasLimits step.now }
+    requires { IsStepInRange step.now }
 {
     host.printed.clear();
     host.complained.clear();
@@ -90,7 +90,7 @@ pub(crate) fn ends(
 
 /// Asserts that a step is done.
 pub(crate) fn is_done(rt: &impl Abort, alloc: Global, host: &mut MemoryHost, step: &Step<'static>)
-    requires { HasLimits step.now }
+    requires { IsStepInRange step.now }
 {
     ends(rt, alloc, host, step, &DONE);
 }
@@ -103,7 +103,7 @@ pub(crate) fn is_refused(
     step: &Step<'static>,
     end: &End,
 ) -> Result<(), AllocError>
-    requires { HasLimits step.now }
+    requires { IsStepInRange step.now }
 {
     let files = host.files.clone()?;
     ends(rt, alloc, host, step, end);

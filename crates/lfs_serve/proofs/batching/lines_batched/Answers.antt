@@ -1,0 +1,76 @@
+-- A file that a line puts isn't read, or the steps of the lines are taken.
+use Rattle.std.proofs.Common.{rules, ◌≡◌, List, Some, None, refl, sym, ap, subst, ◌∙◌, inl, inr, map}
+use Rattle.std.proofs.lemmas.Result.{err_from_is_err_and}
+use Rattle.std.specs.List.{AllByRecursion}
+use Rattle.lfs_command.specs.declared.refusal.Refusal.TheVariants.{Memory as No_memory}
+use Rattle.lfs_change.specs.declared.fault.Fault.TheVariants.{Refused}
+use Rattle.lfs_history.specs.declared.moves.Move.{Move}
+use Rattle.lfs_history.specs.Meaning.{step_of}
+use Rattle.lfs_history.specs.Taking.{KeepsInRange}
+use Rattle.lfs_host.specs.Scene.{Scene}
+use Rattle.lfs_step.specs.declared.step.Step.TheVariants.{Batch}
+use Rattle.lfs_serve.specs.Program.{EndsStep, stopped_by}
+use Rattle.lfs_serve.specs.ReadLine.{move_of_line}
+use Rattle.lfs_serve.specs.declared.read_line.ReadLine.{ReadLine}
+use Rattle.lfs_serve.proofs.BatchingLemmas.{all_in_range, takes_lines}
+use Rattle.lfs_serve.proofs.StepLemmas.{step_from, stopped_at}
+use Rattle.lfs_serve.proofs.batching.lines_batched.Goals as goal
+
+pub stepped-requires-clause-range : goal.stepped-requires-clause-range
+stepped-requires-clause-range g c =
+    let keep = c.args.request.now.keep in
+    let steps = c.as_slice-steps.result.now in
+    let are : steps ≡ c.in_ok-moves.moves.items = search rules in
+    subst (λ (ms : List Move). AllByRecursion (λ m. KeepsInRange (step_of m)) ms) (sym are)
+    (all_in_range keep c.in_ok-moves.moves.items c.deref.result.now c.requires.keep c.in_ok-moves.ensures)
+
+pub returns-in_err-read : goal.returns-in_err-read
+returns-in_err-read g c =
+    let stop = c.in_err-read.field-0.0 in
+    let kept = c.read_lines.ensures.kept.0 in
+    record { ended = inr ((kept.0, kept.2), (stop.fault, search rules, c.in_err-read.ensures.refused)) }
+
+pub returns-in_err-moves : goal.returns-in_err-moves
+returns-in_err-moves g c =
+    let p = err_from_is_err_and c.from_residual-in_err-moves.result c.from_residual-in_err-moves.ensures.1 in
+    let kept = c.read_lines.ensures.kept.0 in
+    record {
+      ended = inr ((kept.0, kept.2), (Refused No_memory, stopped_at c.from_residual-in_err-moves.result (Refused No_memory) p.0 p.1 p.2, refl));
+    }
+
+pub returns-in-Ok : goal.returns-in-Ok
+returns-in-Ok g c =
+    let old : Scene = g.H.Known.known c.args.host.now in
+    let mid : Scene = g.H.Known.known c.read_lines.new.host in
+    let new : Scene = g.H.Known.known c.stepped.new.host in
+    let request = c.args.request.now in
+    let steps = c.as_slice-steps.result in
+    let are : steps.now ≡ c.in_ok-moves.moves.items = search rules in
+    let read : List ReadLine = c.deref.result.now in
+    let read_is : read ≡ c.in_ok-read.read.items = search rules in
+    let meant = subst (λ (rs : List ReadLine). map step_of c.in_ok-moves.moves.items ≡ map (move_of_line request.keep) rs) read_is c.in_ok-moves.ensures in
+    let taken = takes_lines old.files request.keep c.args.lines.now c.in_ok-read.read.items steps c.in_ok-moves.moves.items c.in_ok-read.ensures.read meant are in
+    let kept = c.read_lines.ensures.kept.0 in
+    let ended = subst (EndsStep (Batch steps) request.is_strict request.size request.keep request.image.now mid new) (ap stopped_by c.in-Ok.is)
+    c.stepped.ensures.ended in
+    let ends = step_from (Batch steps) request.is_strict request.size request.keep request.image.now mid old new None kept.0 kept.1 kept.2 ended in
+    record { ended = inl (Batch steps, taken, ends) }
+
+pub returns : goal.returns
+returns g c =
+    let old : Scene = g.H.Known.known c.args.host.now in
+    let mid : Scene = g.H.Known.known c.read_lines.new.host in
+    let new : Scene = g.H.Known.known c.stepped.new.host in
+    let request = c.args.request.now in
+    let steps = c.as_slice-steps.result in
+    let are : steps.now ≡ c.in_ok-moves.moves.items = search rules in
+    let read : List ReadLine = c.deref.result.now in
+    let read_is : read ≡ c.in_ok-read.read.items = search rules in
+    let meant = subst (λ (rs : List ReadLine). map step_of c.in_ok-moves.moves.items ≡ map (move_of_line request.keep) rs) read_is c.in_ok-moves.ensures in
+    let taken = takes_lines old.files request.keep c.args.lines.now c.in_ok-read.read.items steps c.in_ok-moves.moves.items c.in_ok-read.ensures.read meant are in
+    let kept = c.read_lines.ensures.kept.0 in
+    let ended = subst (EndsStep (Batch steps) request.is_strict request.size request.keep request.image.now mid new)
+    (ap stopped_by c.in-Err.is ∙ ap Some (sym c.with_number.ensures)) c.stepped.ensures.ended in
+    let ends = step_from (Batch steps) request.is_strict request.size request.keep request.image.now mid old new (Some c.with_number.result.fault)
+    kept.0 kept.1 kept.2 ended in
+    record { ended = inl (Batch steps, taken, ends) }

@@ -1,0 +1,34 @@
+-- A line of a text says no step, or its lines are taken.
+use Rattle.std.proofs.Common.{rules, ◌≡◌, ◌⊎◌, List, refl, sym, subst, inl, inr}
+use Rattle.std.specs.List.{AllZip}
+use Rattle.lfs_change.specs.declared.fault.Fault.{Fault}
+use Rattle.lfs_exchange.specs.Handing.{IsUnread}
+use Rattle.lfs_host.specs.Scene.{Scene}
+use Rattle.lfs_script.specs.Script.{SaysLine, asking_lines}
+use Rattle.lfs_script.specs.declared.script_line.ScriptLine.{ScriptLine}
+use Rattle.lfs_serve.specs.Batching.{SaysNoSteps, TakesLines, TakesText}
+use Rattle.lfs_serve.specs.Program.{stopped_by}
+use Rattle.lfs_serve.proofs.BatchingLemmas.{ends_by}
+use Rattle.lfs_serve.proofs.batching.text_batched.Goals as goal
+
+pub returns-in-Ok : goal.returns-in-Ok
+returns-in-Ok g c =
+    let old : Scene = g.H.Known.known c.args.host.now in
+    let new : Scene = g.H.Known.known c.lines_batched.new.host in
+    let request = c.args.request.now in
+    let text = c.args.text.now in
+    let lines : List ScriptLine = c.deref.result.now in
+    let same : lines ≡ c.in-Ok.lines.items = search rules in
+    let says = subst (AllZip SaysLine (asking_lines text)) (sym same) c.in-Ok.ensures.lines in
+    let fault = stopped_by c.lines_batched.result in
+    record {
+      ended = ends_by (TakesLines old.files request.keep lines) (TakesText old.files request.keep text) (IsUnread new)
+          (λ (why : Fault). IsUnread new why ⊎ SaysNoSteps text why) request.is_strict request.size request.keep request.image.now old new fault fault
+          refl (λ step takes. (lines, says, takes)) (λ why unread. inl unread) c.lines_batched.ensures.ended;
+    }
+
+pub returns-in-Err : goal.returns-in-Err
+returns-in-Err g c =
+    record {
+      ended = inr ((refl, refl), (c.stop_of_line.result.fault, refl, inr (c.in-Err.first, c.in-Err.ensures.refused, c.stop_of_line.ensures)));
+    }

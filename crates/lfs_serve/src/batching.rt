@@ -1,0 +1,93 @@
+//! The steps of a script, taken on an image's file.
+
+ghost use Rattle.std.specs.Prelude.{◌⊎◌, IfErr, IfOk};
+ghost use Rattle.lfs_exchange.specs.Handing.{IsUnread};
+ghost use Rattle.lfs_history.specs.Taking.{MayKeep};
+ghost use Rattle.lfs_host.specs.Scene.{KeepsScene};
+ghost use Rattle.lfs_request.specs.declared.task.Task.TheVariants.{Batch};
+ghost use Rattle.lfs_serve.specs.Batching.{ReadsScript, SaysNoSteps, TakesLines, TakesText};
+ghost use Rattle.lfs_serve.specs.Program.{EndsAs, EndsTask, stopped_by};
+
+use crate::beside::Beside;
+use crate::read_line::{moves_of, read_lines};
+use crate::refused_line::{stop_of_line, with_line, with_number};
+use crate::serving::stepped;
+use crate::stop::Stop;
+use lfs_exchange::{read_contents, read_input};
+use lfs_host::Host;
+use lfs_request::Request;
+use lfs_script::{ScriptLine, script_lines};
+use lfs_step::{Fault, Step};
+use std::alloc::Global;
+
+/// Takes the steps of a script on an image's file, all of them or none, and writes what they leave once: the script is read first, and
+/// then each file of the host that its lines put. Takes memory.
+pub fn batched<H: Host>(
+    alloc: Global,
+    host: &mut H,
+    request: &Request<'_>,
+    beside: &mut Beside,
+    file: Option<&str>,
+) -> Result<(), Stop>
+    requires keep { MayKeep request.now.keep }
+    ensures ended { EndsTask (Batch file.entry) request.now.is_strict request.now.size request.now.keep request.now.image.now
+        (H.known host.old) (H.known host.new) (stopped_by result) }
+{
+    let text = script_text(alloc, host, file)?;
+    match text_batched(alloc, host, request, beside, &text) {
+        Ok(()) => Ok(()),
+        Err(stop) => Err(with_line(alloc, &text, beside, stop)),
+    }
+}
+
+/// The text of a script: of a file of the host, or of standard input.
+fn script_text<H: Host>(alloc: Global, host: &mut H, file: Option<&str>) -> Result<Vec<u8>, Fault>
+    ensures text { IfOk result (λ text. ReadsScript file.entry (H.known host.old) text.items) }
+    ensures refused { IfErr result (IsUnread (H.known host.new)) }
+    ensures kept { KeepsScene (H.known host.old) (H.known host.new) }
+{
+    match file {
+        Some(name) => read_contents(alloc, host, name),
+        None => read_input(alloc, host),
+    }
+}
+
+/// Takes the steps of a script's text.
+fn text_batched<H: Host>(
+    alloc: Global,
+    host: &mut H,
+    request: &Request<'_>,
+    beside: &mut Beside,
+    text: &[u8],
+) -> Result<(), Stop>
+    requires keep { MayKeep request.now.keep }
+    ensures ended { EndsAs (TakesText (H.known host.old).files request.now.keep text.now)
+        (λ why. IsUnread (H.known host.new) why ⊎ SaysNoSteps text.now why)
+        request.now.is_strict request.now.size request.now.keep request.now.image.now (H.known host.old) (H.known host.new) (stopped_by result) }
+{
+    match script_lines(alloc, text) {
+        Ok(lines) => lines_batched(alloc, host, request, beside, &lines),
+        Err(first) => Err(stop_of_line(first)),
+    }
+}
+
+/// Takes the steps of a script's lines.
+fn lines_batched<H: Host>(
+    alloc: Global,
+    host: &mut H,
+    request: &Request<'_>,
+    beside: &mut Beside,
+    lines: &[ScriptLine],
+) -> Result<(), Stop>
+    requires keep { MayKeep request.now.keep }
+    ensures ended { EndsAs (TakesLines (H.known host.old).files request.now.keep lines.now) (IsUnread (H.known host.new))
+        request.now.is_strict request.now.size request.now.keep request.now.image.now (H.known host.old) (H.known host.new) (stopped_by result) }
+{
+    let read = read_lines(alloc, host, lines)?;
+    let moves = moves_of(alloc, &read, request.keep)?;
+    let steps = moves.as_slice();
+    match stepped(alloc, host, request, beside, &Step::Batch { steps }) {
+        Ok(()) => Ok(()),
+        Err(stop) => Err(with_number(lines, stop)),
+    }
+}

@@ -1,0 +1,85 @@
+//! The line of a script for which none of its steps are done.
+
+ghost use Rattle.std.specs.Prelude.{◌≡◌};
+ghost use Rattle.lfs_serve.specs.Batching.{fault_of_line};
+
+use crate::beside::Beside;
+use crate::stated::Statement;
+use crate::stop::Stop;
+use lfs_edit::Refusal;
+use lfs_script::{LineFault, ScriptFault, ScriptLine, line_at};
+use lfs_step::Fault;
+use std::alloc::Global;
+
+/// What a fault of a line is told as.
+fn fault_of_line(fault: LineFault) -> Fault
+    ensures { result ≡ fault_of_line fault }
+{
+    match fault {
+        LineFault::Memory => Fault::Refused(Refusal::Memory),
+        LineFault::BadHex => Fault::BadHex,
+        LineFault::BadLine => Fault::BadLine,
+    }
+}
+
+/// Why the line of a number is refused; want of memory is of no line. Takes no memory.
+pub fn stop_at(number: usize, fault: Fault) -> Stop
+    ensures { result.fault ≡ fault }
+{
+    let statement = match fault {
+        Fault::Refused(Refusal::Memory) => None,
+        _ => Some(Statement::Line(number)),
+    };
+    Stop {
+        fault,
+        statement,
+        count: None,
+    }
+}
+
+/// Why a line says no step. Takes no memory.
+pub fn stop_of_line(first: ScriptFault) -> Stop
+    ensures { result.fault ≡ fault_of_line first.fault }
+{
+    stop_at(first.number, fault_of_line(first.fault))
+}
+
+/// Why steps of lines are refused; where one is, with the number of its line. Takes no memory.
+pub fn with_number(lines: &[ScriptLine], stop: Stop) -> Stop
+    ensures { result.fault ≡ stop.fault }
+{
+    let Some(Statement::Step(at)) = stop.statement else {
+        return stop;
+    };
+    let Some(line) = lines.get(at) else {
+        return stop;
+    };
+    Stop {
+        fault: stop.fault,
+        statement: Some(Statement::Line(line.number)),
+        count: stop.count,
+    }
+}
+
+/// Why a script is refused; where a line of its text is, with that in `beside`. Takes memory, and tells of no line where there is none.
+pub fn with_line(alloc: Global, text: &[u8], beside: &mut Beside, stop: Stop) -> Stop
+    ensures { result.fault ≡ stop.fault }
+{
+    let Some(Statement::Line(number)) = stop.statement else {
+        return stop;
+    };
+    if let Some(line) = copied_line(alloc, text, number) {
+        beside.text = line;
+        return stop;
+    }
+    Stop {
+        fault: stop.fault,
+        statement: None,
+        count: stop.count,
+    }
+}
+
+/// A copy of the line of a text that has this number.
+fn copied_line(alloc: Global, text: &[u8], number: usize) -> Option<Vec<u8>> {
+    Vec::from_slice(alloc, line_at(text, number)?).ok()
+}
