@@ -20,7 +20,7 @@ _lfsed() {
   local current=${COMP_WORDS[COMP_CWORD]} before=${COMP_WORDS[COMP_CWORD - 1]} options= words= block= image= at at_word=0 named
   COMPREPLY=()
   if [ "$COMP_CWORD" = 1 ]; then
-    mapfile -t COMPREPLY < <(compgen -W 'format pack extract check ls cat diff log mkdir put rm mv setattr rmattr grow undo redo forget explain help --help --version' -- "$current")
+    mapfile -t COMPREPLY < <(compgen -W 'format pack extract check ls cat diff log mkdir put rm mv setattr rmattr grow undo redo forget batch explain help --help --version' -- "$current")
     return
   fi
   case $before in
@@ -109,6 +109,10 @@ _lfsed() {
       options='-b --block --strict -h --help'
       words='IMAGE'
       ;;
+    batch)
+      options='-b --block --keep --strict -h --help'
+      words='IMAGE FILE'
+      ;;
     explain)
       options='-h --help'
       words='FAULT'
@@ -144,11 +148,11 @@ _lfsed() {
   done
   read -r -a named <<<"$words"
   case ${named[at_word]-} in
-    IMAGE | OTHER) mapfile -t COMPREPLY < <(compgen -f -- "$current") ;;
+    IMAGE | OTHER | FILE) mapfile -t COMPREPLY < <(compgen -f -- "$current") ;;
     DIR) mapfile -t COMPREPLY < <(compgen -d -- "$current") ;;
     PATH | FROM | TO) _lfsed_offer < <(_lfsed_paths "$image" "$block") ;;
-    FAULT) mapfile -t COMPREPLY < <(compgen -W '1 2 3 4 5 6 7 8 9 10 11 12 13 14 15 16 17 18 19 20 21 30 31 32 33 34 35 36 37 38 39 40 41 42 43 44 46 50 51 52 53 54 55 60 61 62 63 64 ImageLength BadGeometry NoValidCommit UnknownTag BadTag IncompleteEntry BadName BadSkipList NoSuperblock Version Geometry Limits OrderFault BlockRange BlockTwice MissingDirectory Orphan UnfinishedMove SuperblockElsewhere BadSize UnknownState NotFound Exists NotADirectory IsADirectory NotEmpty BadPath NameTooLong FileTooLarge AttrTooLarge NoAttr IntoItself IsRoot EntryTooLarge NoSpace Memory BadCount JournalFormat JournalMismatch JournalImage NothingToUndo NothingToRedo JournalFull CannotRead CannotWrite HostEntry HostName BadHex' -- "$current") ;;
-    COMMAND) mapfile -t COMPREPLY < <(compgen -W 'format pack extract check ls cat diff log mkdir put rm mv setattr rmattr grow undo redo forget explain' -- "$current") ;;
+    FAULT) mapfile -t COMPREPLY < <(compgen -W '1 2 3 4 5 6 7 8 9 10 11 12 13 14 15 16 17 18 19 20 21 30 31 32 33 34 35 36 37 38 39 40 41 42 43 44 46 50 51 52 53 54 55 60 61 62 63 64 65 ImageLength BadGeometry NoValidCommit UnknownTag BadTag IncompleteEntry BadName BadSkipList NoSuperblock Version Geometry Limits OrderFault BlockRange BlockTwice MissingDirectory Orphan UnfinishedMove SuperblockElsewhere BadSize UnknownState NotFound Exists NotADirectory IsADirectory NotEmpty BadPath NameTooLong FileTooLarge AttrTooLarge NoAttr IntoItself IsRoot EntryTooLarge NoSpace Memory BadCount JournalFormat JournalMismatch JournalImage NothingToUndo NothingToRedo JournalFull CannotRead CannotWrite HostEntry HostName BadHex BadLine' -- "$current") ;;
+    COMMAND) mapfile -t COMPREPLY < <(compgen -W 'format pack extract check ls cat diff log mkdir put rm mv setattr rmattr grow undo redo forget batch explain' -- "$current") ;;
   esac
 }
 complete -o filenames -F _lfsed lfsed

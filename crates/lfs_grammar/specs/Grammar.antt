@@ -77,6 +77,10 @@ steps = number_or (codes "steps") 1 1000 (codes "1")
 abbrev pub contents : Rule
 contents = record (option (codes "contents")) { long = Some (codes "from") }
 
+-- the file that steps are read from, in place of standard input: a word that needn't be said
+abbrev pub script : Rule
+script = record (new_rule (codes "script")) { value_names = 1 }
+
 -- no file is replaced
 abbrev pub is_new : Rule
 is_new = flag (codes "new")
@@ -106,6 +110,7 @@ rule_at argument.Dir = word (codes "dir")
 rule_at argument.NewDir = word (codes "dir")
 rule_at argument.Path = word (codes "path")
 rule_at argument.Contents = contents
+rule_at argument.Script = script
 rule_at argument.From = word (codes "from")
 rule_at argument.To = word (codes "to")
 rule_at argument.Kind = word (codes "kind")
@@ -142,6 +147,7 @@ abbrev pub is_change : Text → Bool
 is_change name =
     bytes_eq name (codes "mkdir") || bytes_eq name (codes "put") || bytes_eq name (codes "rm") || bytes_eq name (codes "mv")
     || bytes_eq name (codes "setattr") || bytes_eq name (codes "rmattr") || bytes_eq name (codes "grow")
+    || bytes_eq name (codes "batch")
 
 -- the program's commands
 abbrev pub commands : List Shape
@@ -164,6 +170,7 @@ commands =
     ∷ reading (codes "undo") (steps ∷ [])
     ∷ reading (codes "redo") (steps ∷ [])
     ∷ reading (codes "forget") []
+    ∷ changing (codes "batch") (script ∷ [])
     ∷ (command (codes "explain") (word (codes "fault") ∷ [])).top
     ∷ []
 

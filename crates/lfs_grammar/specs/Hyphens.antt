@@ -53,11 +53,11 @@ abbrev pub is_plain_name : Option Text → Bool
 is_plain_name None = true
 is_plain_name (Some name) = not (begins_with name (codes "-"))
 
--- neither a folder, another image nor a file of contents is named by a word that begins with a hyphen
+-- neither a folder, another image, a file of contents nor one of steps is named by a word that begins with a hyphen
 abbrev pub are_plain_names : List Row → Bool
 are_plain_names rows =
     is_plain_name (first_of (codes "dir") rows) && is_plain_name (first_of (codes "other") rows)
-    && is_plain_name (first_of (codes "contents") rows)
+    && is_plain_name (first_of (codes "contents") rows) && is_plain_name (first_of (codes "script") rows)
 
 -- no file or folder of the host is named by a word that begins with a hyphen
 abbrev pub names_files_plainly : Option (Text × List Row) → Bool

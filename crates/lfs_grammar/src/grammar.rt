@@ -6,7 +6,8 @@ ghost use Rattle.clap.specs.declared.builder.command.Command.TheViews.{out-Comma
 ghost use Rattle.lfs_grammar.specs.Grammar.{command, grammar, rule_at, shape_at};
 ghost use Rattle.lfs_grammar.specs.Grammar.{attr_max as attr_max_rule, block as block_rule, contents as contents_rule, count as count_rule};
 ghost use Rattle.lfs_grammar.specs.Grammar.{file_max as file_max_rule, flag as flag_rule, keep as keep_rule, name_max as name_max_rule};
-ghost use Rattle.lfs_grammar.specs.Grammar.{new_count as new_count_rule, option as option_rule, steps as steps_rule, word as word_rule};
+ghost use Rattle.lfs_grammar.specs.Grammar.{new_block as new_block_rule, new_count as new_count_rule, option as option_rule};
+ghost use Rattle.lfs_grammar.specs.Grammar.{script as script_rule, steps as steps_rule, word as word_rule};
 
 use clap::{Arg, ArgAction, Command, value_parser};
 use std::alloc::{AllocError, Global};
@@ -59,6 +60,8 @@ enum Argument {
     Path,
     /// The name of the file that contents are read from.
     Contents,
+    /// The name of the file that steps are read from.
+    Script,
     /// The path of what is moved.
     From,
     /// The path that it gets.
@@ -97,7 +100,7 @@ pub const PACK_USAGE: &str =
 pub const GROW_USAGE: &str = "lfsed grow [OPTIONS] <IMAGE> <COUNT|--size <BYTES>>";
 
 /// The program's commands, in the order of its help. Each but the last takes the block size and the image's file name.
-const COMMANDS: [CommandRow; 19] = [
+const COMMANDS: [CommandRow; 20] = [
     CommandRow {
         name: "format",
         about: "Write a new image, in place of a file of this name",
@@ -300,12 +303,30 @@ const COMMANDS: [CommandRow; 19] = [
         arguments: &[Argument::Block, Argument::Image, Argument::Strict],
     },
     CommandRow {
+        name: "batch",
+        about: "Carry out the steps of a script, a line each: all of them or none",
+        usage: None,
+        arguments: &[
+            Argument::Block,
+            Argument::Image,
+            Argument::Script,
+            Argument::Keep,
+            Argument::Strict,
+        ],
+    },
+    CommandRow {
         name: "explain",
         about: "Say what a fault means, and what to do",
         usage: None,
         arguments: &[Argument::Fault],
     },
 ];
+
+/// What is said of the block size of an image that is there.
+const BLOCK: &str = "Size of a block, a multiple of 16 from 256 to 65536, or auto";
+
+/// What is said of the block size of an image that is made.
+const NEW_BLOCK: &str = "Size of a block, a multiple of 16 from 256 to 65536";
 
 /// What is said of a folder that is read.
 const DIR: &str = "Folder, of whose files and folders the image is made";
@@ -345,6 +366,9 @@ const STRICT: &str = "Refuse an image in which a commit of a later disk version 
 /// What is said of the file that contents are read from.
 const CONTENTS: &str = "File that the contents are read from, in place of standard input";
 
+/// What is said of the file that steps are read from.
+const SCRIPT: &str = "File of the script, in place of standard input";
+
 /// What is said of the number of images that are kept.
 const KEEP: &str =
     "Number of the latest changes that are kept, from 1 to 1000; all where it is not said";
@@ -376,8 +400,8 @@ fn clap_argument<'a>(alloc: Global, argument: Argument) -> Arg<'a>
     ensures local { result.global ≡ false }
 {
     match argument {
-        Argument::Block => block(alloc),
-        Argument::NewBlock => block(alloc).value_parser(value_parser!(u32).range(256..=65_536)),
+        Argument::Block => block(alloc, BLOCK),
+        Argument::NewBlock => new_block(alloc),
         Argument::Count => count(alloc),
         Argument::NewCount => new_count(alloc),
         Argument::Size => option(alloc, "size", "BYTES", SIZE),
@@ -395,6 +419,7 @@ fn clap_argument<'a>(alloc: Global, argument: Argument) -> Arg<'a>
         Argument::NewDir => word(alloc, "dir", "DIR", NEW_DIR),
         Argument::Path => word(alloc, "path", "PATH", PATH),
         Argument::Contents => contents(alloc),
+        Argument::Script => script(alloc),
         Argument::From => word(alloc, "from", "FROM", FROM),
         Argument::To => word(alloc, "to", "TO", TO),
         Argument::Kind => word(alloc, "kind", "KIND", KIND),
@@ -404,7 +429,7 @@ fn clap_argument<'a>(alloc: Global, argument: Argument) -> Arg<'a>
 }
 
 /// The block size.
-fn block<'a>(alloc: Global) -> Arg<'a>
+fn block<'a>(alloc: Global, help: &'a str) -> Arg<'a>
     ensures rule { rule_of result ≡ block_rule }
     ensures local { result.global ≡ false }
 {
@@ -413,7 +438,15 @@ fn block<'a>(alloc: Global) -> Arg<'a>
         .long("block")
         .value_name("BYTES")
         .default_value("4096")
-        .help("Size of a block, a multiple of 16 from 256 to 65536")
+        .help(help)
+}
+
+/// The block size of an image that is made.
+fn new_block<'a>(alloc: Global) -> Arg<'a>
+    ensures rule { rule_of result ≡ new_block_rule }
+    ensures local { result.global ≡ false }
+{
+    block(alloc, NEW_BLOCK).value_parser(value_parser!(u32).range(256..=65_536))
 }
 
 /// The number of blocks.
@@ -492,6 +525,14 @@ fn contents<'a>(alloc: Global) -> Arg<'a>
         .long("from")
         .value_name("FILE")
         .help(CONTENTS)
+}
+
+/// The name of the file that steps are read from.
+fn script<'a>(alloc: Global) -> Arg<'a>
+    ensures rule { rule_of result ≡ script_rule }
+    ensures local { result.global ≡ false }
+{
+    Arg::new(alloc, "script").value_name("FILE").help(SCRIPT)
 }
 
 /// An option that is named as its long name, which needn't be there.

@@ -96,11 +96,14 @@ fn is_plain(options: &ArgMatches<'_>, id: &str) -> bool
     }
 }
 
-/// Whether neither a folder's name, that of another image, nor that of a file of contents begins with a hyphen.
+/// Whether neither a folder's name, that of another image, nor that of a file of contents or of steps begins with a hyphen.
 fn are_plain(options: &ArgMatches<'_>) -> bool
     ensures { result ≡ are_plain_names (rows_of (found_of options.now)) }
 {
-    is_plain(options, "dir") && is_plain(options, "other") && is_plain(options, "contents")
+    is_plain(options, "dir")
+        && is_plain(options, "other")
+        && is_plain(options, "contents")
+        && is_plain(options, "script")
 }
 
 /// Whether no file or folder of the host is named by a word that begins with a hyphen. Takes no memory.

@@ -8,7 +8,7 @@ use Rattle.clap.specs.Words.{Row, Text, first_of, one_of}
 use Rattle.lfs_grammar.specs.Grammar.{IsSaid, is_change, keep}
 use Rattle.lfs_fs.specs.declared.limits.Limits.{Limits}
 use Rattle.lfs_history.specs.Taking.{MayKeep}
-use Rattle.lfs_request.specs.Asking.{HasLimits}
+use Rattle.lfs_request.specs.Asking.{IsTaskInRange}
 use Rattle.lfs_request.specs.declared.extent.Extent.{Extent}
 use Rattle.lfs_request.specs.declared.extent.Extent.TheVariants.{Count, Least}
 use Rattle.lfs_request.specs.declared.request.Request.{Request}
@@ -19,7 +19,7 @@ use Rattle.lfs_words.specs.declared.wish.Wish.{Wish}
 use Rattle.lfs_words.specs.declared.wish.Wish.TheVariants as wish
 use Rattle.lfs_request.specs.declared.task.Task.{Task}
 use Rattle.lfs_request.specs.declared.task.Task.TheVariants as task
-use Rattle.lfs_request.specs.declared.task.Task.TheVariants.{Pack, Extract, SetAttr, RmAttr}
+use Rattle.lfs_request.specs.declared.task.Task.TheVariants.{Pack, Extract, SetAttr, RmAttr, Batch}
 use Rattle.lfs_step.specs.declared.step.Step.{Step}
 use Rattle.lfs_step.specs.declared.step.Step.TheVariants.{Format, Check, Ls, Cat, Diff, Log, Mkdir, Put, Rm, Mv, Grow}
 use Rattle.lfs_step.specs.declared.step.Step.TheVariants.{Undo, Redo, Forget}
@@ -102,6 +102,7 @@ IsTask (SetAttr path kind value) name rows block =
     × HasText rows (codes "hex") value.now
 IsTask (RmAttr path kind) name rows block =
     (name ≡ codes "rmattr") × HasText rows (codes "path") path.now × HasText rows (codes "kind") kind.now
+IsTask (Batch file) name rows block = (name ≡ codes "batch") × (option_map (λ f. f.now) file ≡ first_of (codes "script") rows)
 
 -- how many images of the past are kept: as many as a command says that changes an image, or all where it says no number
 abbrev pub IsKept : Option ℕ → Text → List Row → Type 0
@@ -127,7 +128,7 @@ IsWish (wish.Request request) name rows stated = IsRequest request name rows sta
 abbrev pub is_other : Text → Bool
 is_other name =
     list_any (λ other. bytes_eq other name)
-    (codes "pack" ∷ codes "extract" ∷ codes "setattr" ∷ codes "rmattr" ∷ codes "explain" ∷ [])
+    (codes "pack" ∷ codes "extract" ∷ codes "setattr" ∷ codes "rmattr" ∷ codes "batch" ∷ codes "explain" ∷ [])
 
 -- what is asked for, by the command that is named with its options, where `auto` stands for this block size
 abbrev pub AsksFor : Option (Text × List Row) → ℕ → Wish → Type 0
@@ -181,7 +182,7 @@ IsMissaid named stated misuse = (name : Text) × (rows : List Row) × (named ≡
 
 -- what a request keeps may be kept, and the limits of an image that it makes are such that an image may have
 abbrev pub IsInRange : Request → Type 0
-IsInRange request = MayKeep request.keep × HasLimits request.task
+IsInRange request = MayKeep request.keep × IsTaskInRange request.task
 
 -- the same of what is asked for
 abbrev pub StaysInRange : Wish → Type 0

@@ -4,8 +4,8 @@ ghost use Rattle.std.specs.Prelude.{◌≡◌, ◌<◌, ◌⊎◌, IfErr, IfOk, 
 ghost use Rattle.clap.specs.Words.{Text, found_of, rows_of, subcommand_rows_of};
 ghost use Rattle.lfs_grammar.specs.Grammar.{NamesCommand, is_change};
 ghost use Rattle.lfs_history.specs.Taking.{MayKeep};
-ghost use Rattle.lfs_request.specs.Asking.{HasLimits};
-ghost use Rattle.lfs_step.specs.Deed.{HasLimits as StepHasLimits};
+ghost use Rattle.lfs_request.specs.Asking.{IsTaskInRange};
+ghost use Rattle.lfs_step.specs.Deed.{IsStepInRange};
 ghost use Rattle.lfs_words.specs.Words.{AsksFor, IsInRange, IsKept, IsMissaid, IsMisuse, IsRequest, IsSizeMisuse, IsStep, IsTask};
 ghost use Rattle.lfs_words.specs.Words.{SaysAuto, StaysInRange, is_other};
 ghost use Rattle.lfs_words.specs.declared.misuse.Misuse.TheVariants.{Unsaid};
@@ -22,7 +22,7 @@ use lfs_step::Step;
 fn step_of<'a>(name: &str, options: &ArgMatches<'a>, block: u32) -> Result<Step<'a>, Misuse<'a>>
     requires { 0 < block }
     ensures some { IfOk result (λ step. IsStep step name.now (rows_of (found_of options.now)) block) }
-    ensures within { IfOk result (λ step. NamesCommand (Some (name.now, rows_of (found_of options.now))) → StepHasLimits step) }
+    ensures within { IfOk result (λ step. NamesCommand (Some (name.now, rows_of (found_of options.now))) → IsStepInRange step) }
     ensures refused { IfErr result (λ misuse. (misuse ≡ Unsaid) ⊎ IsSizeMisuse misuse name.now (rows_of (found_of options.now)) block) }
     ensures unsaid { IfErr result (λ misuse. misuse ≡ Unsaid → NamesCommand (Some (name.now, rows_of (found_of options.now)))
         → is_other name.now ≡ true) }
@@ -73,7 +73,7 @@ fn step_of<'a>(name: &str, options: &ArgMatches<'a>, block: u32) -> Result<Step<
 fn task_of<'a>(name: &str, options: &ArgMatches<'a>, block: u32) -> Result<Task<'a>, Misuse<'a>>
     requires { 0 < block }
     ensures some { IfOk result (λ task. IsTask task name.now (rows_of (found_of options.now)) block) }
-    ensures within { IfOk result (λ task. NamesCommand (Some (name.now, rows_of (found_of options.now))) → HasLimits task) }
+    ensures within { IfOk result (λ task. NamesCommand (Some (name.now, rows_of (found_of options.now))) → IsTaskInRange task) }
     ensures refused { IfErr result (λ misuse. (misuse ≡ Unsaid) ⊎ IsSizeMisuse misuse name.now (rows_of (found_of options.now)) block) }
     ensures unsaid { IfErr result (λ misuse. misuse ≡ Unsaid → NamesCommand (Some (name.now, rows_of (found_of options.now)))
         → name.now ≡ codes "explain") }
@@ -96,6 +96,9 @@ fn task_of<'a>(name: &str, options: &ArgMatches<'a>, block: u32) -> Result<Task<
             path: bytes(options, "path")?,
             kind: text(options, "kind")?,
         }),
+        "batch" => Ok(Task::Batch {
+            file: options.get_str("script"),
+        }),
         _ => Ok(Task::Step(step_of(name, options, block)?)),
     }
 }
@@ -111,6 +114,7 @@ fn is_change(name: &str) -> bool
         || name == "setattr"
         || name == "rmattr"
         || name == "grow"
+        || name == "batch"
 }
 
 /// How many images of the past are kept behind a command; all of them for `None`.

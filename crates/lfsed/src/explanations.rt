@@ -14,7 +14,7 @@ pub struct Explanation {
 }
 
 /// The faults in the order of their numbers. docs/FAULTS.md has the same table.
-const EXPLANATIONS: [Explanation; 48] = [
+const EXPLANATIONS: [Explanation; 49] = [
     Explanation {
         number: 1,
         name: "ImageLength",
@@ -303,6 +303,14 @@ const EXPLANATIONS: [Explanation; 48] = [
         number: 64,
         name: "BadHex",
         text: "A kind isn't two hexadecimal digits, or a value isn't two for each byte.",
+    },
+    Explanation {
+        number: 65,
+        name: "BadLine",
+        text: "A line of a script says no step, and the second line says which one. The steps are `mkdir PATH`, \
+         `put PATH FILE`, `rm PATH`, `mv FROM TO`, `setattr PATH KIND HEX`, `rmattr PATH KIND`, `grow COUNT`, `undo`, \
+         `redo` and `forget`, with one space between words. In a word `\\x` and two hexadecimal digits stand for a \
+         byte, and each byte but a backslash for itself. No step was taken.",
     },
 ];
 

@@ -1,5 +1,6 @@
-use Rattle.std.proofs.Common.{codes, inl, inr, refl}
+use Rattle.std.proofs.Common.{◌∙◌, codes, inl, inr, refl}
 use Rattle.clap.specs.Words.{found_of, rows_of}
+use Rattle.clap.proofs.WalkLemmas.{first_value-rows}
 use Rattle.lfs_grammar.specs.Grammar.{count, word}
 use Rattle.lfs_grammar.proofs.CommandLemmas.{count_is, said_of, says_of}
 use Rattle.lfs_words.proofs.Handed.{handed_on}
@@ -92,3 +93,6 @@ returns-in_ok-text-in-pack-clause-within c = λ names.
     let said = said_of c.args.name.now (codes "pack") (rows_of (found_of c.args.options.now)) c.in-pack.is names in
     let limits = said.1.1.1.1.1.1 in
     c.in_ok-limits_of-in-pack.ensures.within (limits.0 refl) (limits.1.0 refl) (limits.1.1.0 refl)
+
+pub returns-in-batch-clause-some : goal.returns-in-batch-clause-some
+returns-in-batch-clause-some c = (c.in-batch.is, c.get_str.ensures ∙ first_value-rows (found_of c.args.options.now) (codes "script"))
