@@ -7,7 +7,7 @@ ghost use Rattle.lfs_history.specs.Taking.{KeepsInRange};
 use crate::images::{fresh, has_image, new_image, new_session, replies};
 use lfs_block::Image;
 use lfs_edit::{Command, Refusal};
-use lfs_journal::{Move, Session, StepFault, run_steps};
+use lfs_journal::{Move, Session, StepFault, Stopped, run_steps};
 use std::alloc::{AllocError, Global};
 use std::process::Abort;
 use std::test::Fail;
@@ -74,6 +74,26 @@ fn runs_carry_commands_out(rt: HostRuntime) -> Result<(), Fail> {
     ];
     replies_to(&rt, rt.alloc(), &mut session, &steps, &expected)?;
     has_image(&rt, &session, &first);
+    Ok(())
+}
+
+#[test]
+fn steps_are_taken_up_to_one_that_is_refused(rt: HostRuntime) -> Result<(), Fail> {
+    let mut session = new_session(rt.alloc())?;
+    let steps = [
+        does(set_root(&[1, 2])),
+        Move::Undo { steps: 1 },
+        Move::Undo { steps: 1 },
+        Move::Redo { steps: 1 },
+    ];
+    let Err(Stopped { at, fault }) = session.take_all(rt.alloc(), &steps) else {
+        return Err(Fail::new("no step is refused"));
+    };
+    assert_eq!(rt; at, 2);
+    assert_eq!(rt; fault, StepFault::NothingToUndo);
+    session
+        .take_all(rt.alloc(), &steps[3..])
+        .map_err(|stopped| stopped.fault)?;
     Ok(())
 }
 

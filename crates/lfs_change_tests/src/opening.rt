@@ -36,21 +36,42 @@ fn open(alloc: Global, image: &Image, journal: &[u8]) -> Result<Session, Fail> {
     Ok(Session::open(alloc, image, journal).map_err(|refused| refused.fault)?)
 }
 
+// makes the latest change of a session again, and takes both back
+fn goes_on_and_back(
+    rt: &impl Abort,
+    session: &mut Session,
+    first: &Image,
+    later: &Image,
+) -> Result<(), Fail> {
+    session.redo()?;
+    has_image(rt, session, later);
+    session.undo()?;
+    session.undo()?;
+    has_image(rt, session, first);
+    Ok(())
+}
+
+// opens what a session saves, which goes on and back as the session did
+fn opens_as_saved(
+    rt: &impl Abort,
+    alloc: Global,
+    session: &Session,
+    first: &Image,
+    later: &Image,
+) -> Result<(), Fail> {
+    let journal = saved(alloc, session)?;
+    let mut opened = open(alloc, session.image(), &journal)?;
+    has_image(rt, &opened, session.image());
+    goes_on_and_back(rt, &mut opened, first, later)
+}
+
 #[test]
 fn saved_sessions_open_as_they_were(rt: HostRuntime) -> Result<(), Fail> {
     let first = new_image(rt.alloc())?;
     let mut session = edited(&rt, rt.alloc())?;
     let later = copy_of(rt.alloc(), session.image())?;
     session.undo()?;
-    let journal = saved(rt.alloc(), &session)?;
-    let mut opened = open(rt.alloc(), session.image(), &journal)?;
-    has_image(&rt, &opened, session.image());
-    opened.redo()?;
-    has_image(&rt, &opened, &later);
-    opened.undo()?;
-    opened.undo()?;
-    has_image(&rt, &opened, &first);
-    Ok(())
+    opens_as_saved(&rt, rt.alloc(), &session, &first, &later)
 }
 
 // a new image of 9 blocks of 512 bytes
@@ -101,18 +122,34 @@ fn lengthening(
     Ok(bytes)
 }
 
+// asserts that a session saves this journal
+fn saves(rt: &impl Abort, alloc: Global, session: &Session, journal: &[u8]) -> Result<(), Fail> {
+    assert!(rt; saved(alloc, session)?.as_slice() == journal);
+    Ok(())
+}
+
+// takes a change back that made a small image a large one, and makes it again
+fn goes_back_and_on(
+    rt: &impl Abort,
+    session: &mut Session,
+    small: &Image,
+    large: &Image,
+) -> Result<(), Fail> {
+    session.undo()?;
+    has_image(rt, session, small);
+    session.redo()?;
+    has_image(rt, session, large);
+    Ok(())
+}
+
 #[test]
 fn changes_that_lengthen_an_image_are_taken_back(rt: HostRuntime) -> Result<(), Fail> {
     let small = new_image(rt.alloc())?;
     let large = larger_image(rt.alloc())?;
     let journal = lengthening(rt.alloc(), &small, &large, [9, 1, 0])?;
     let mut session = open(rt.alloc(), &large, &journal)?;
-    session.undo()?;
-    has_image(&rt, &session, &small);
-    session.redo()?;
-    has_image(&rt, &session, &large);
-    assert!(rt; saved(rt.alloc(), &session)? == journal);
-    Ok(())
+    goes_back_and_on(&rt, &mut session, &small, &large)?;
+    saves(&rt, rt.alloc(), &session, &journal)
 }
 
 #[test]
@@ -122,11 +159,9 @@ fn changes_that_lengthen_an_image_are_made_again(rt: HostRuntime) -> Result<(), 
     let journal = lengthening(rt.alloc(), &small, &large, [8, 0, 1])?;
     let mut session = open(rt.alloc(), &small, &journal)?;
     session.redo()?;
-    has_image(&rt, &session, &large);
+    goes_back_and_on(&rt, &mut session, &small, &large)?;
     session.undo()?;
-    has_image(&rt, &session, &small);
-    assert!(rt; saved(rt.alloc(), &session)? == journal);
-    Ok(())
+    saves(&rt, rt.alloc(), &session, &journal)
 }
 
 #[test]
