@@ -46,6 +46,8 @@ LINES = [
     ("lfsed cat -b 512 fw.img /oth", ["cat", "-b", "512", "fw.img", "/oth"]),
     ("lfsed mv -b 512 fw.img /config /di", ["mv", "-b", "512", "fw.img", "/config", "/dir"]),
     ("lfsed put -b 512 fw.img /config < hos", ["put", "-b", "512", "fw.img", "/config"]),
+    ("lfsed batch fw.img hos", ["batch", "fw.img", "host.txt"]),
+    ("lfsed batch --keep 3 -b 512 oth", ["batch", "--keep", "3", "-b", "512", "other.img"]),
     ("lfsed undo --ste", ["undo", "--steps"]),
     ("lfsed help expl", ["help", "explain"]),
     ("lfsed explain 6", ["explain", "6"]),

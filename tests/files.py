@@ -148,6 +148,7 @@ RUNS_THAT_CALL = (
     (["check", "a.img"], "open read write statx"),
     (["put", "a.img", "/f"], "open read write statx flock fchmod fsync rename"),
     (["put", "link.img", "/f"], "open read write statx flock fchmod fsync rename realpath"),
+    (["batch", "a.img", "steps"], "open read write statx flock fchmod fsync rename"),
     (["undo", "a.img"], "open read write statx flock fchmod fsync rename"),
     (["forget", "a.img"], "open read write statx flock fchmod fsync rename"),
     (["format", "--count", "8", "a.img"], "open write statx flock fchmod fsync rename"),
@@ -160,6 +161,7 @@ def calls_that_fail(files):
     journal alone where the image didn't get its place behind it."""
     files.must(["put", "--block", "512", "a.img", "/old"], b"contents")
     (files.folder / "link.img").symlink_to("a.img")
+    (files.folder / "steps").write_bytes(b"mkdir /made\nsetattr /old 74 01\n")
     with tempfile.TemporaryDirectory() as folder:
         os.chmod(folder, 0o755)
         refusing = Refusing(pathlib.Path(folder))

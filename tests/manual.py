@@ -17,7 +17,7 @@ INSTALLED = {
     "share/zsh/site-functions/_lfsed": "completions/_lfsed",
     "share/fish/vendor_completions.d/lfsed.fish": "completions/lfsed.fish",
 }
-COMMANDS = "cat check diff explain extract forget format grow log ls mkdir mv pack put redo rm rmattr setattr undo"
+COMMANDS = "batch cat check diff explain extract forget format grow log ls mkdir mv pack put redo rm rmattr setattr undo"
 # The words of a command line, of which the last one is completed, and what it may become.
 COMPLETED = [
     ("lfsed ", f"--help --version {COMMANDS} help"),
@@ -51,6 +51,11 @@ COMPLETED = [
     ("lfsed check --block = 512 f", "fw.img"),
     ("lfsed check --block = ", ""),
     ("lfsed put fw.img /x < f", "fw.img"),
+    ("lfsed b", "batch"),
+    ("lfsed batch --", "--block --help --keep --strict"),
+    ("lfsed batch --keep 3 f", "fw.img"),
+    ("lfsed batch fw.img ", "fw.img src"),
+    ("lfsed batch fw.img fw.img ", ""),
 ]
 
 

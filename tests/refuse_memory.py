@@ -43,12 +43,13 @@ class Runs:
         """Refuses each request of a run in turn; answers the files that the run leaves with ample memory. A refused run may leave out
         the lines behind that of its fault, where there is no memory to find out what they say."""
         ample = self.run(words, state, contents, 0)
-        fault = (*ample[:2], ample[2][: ample[2].find(b"\n") + 1], ample[3])
+        lines = ample[2].splitlines(keepends=True)
+        told = [(*ample[:2], b"".join(lines[:n]), ample[3]) for n in range(1, len(lines))] + [ample]
         at, memory, is_right = 0, 0, True
         while at == 0 or self.refusing.was_hit():
             at += 1
             status, printed, complained, after = ended = self.run(words, state, contents, at)
-            if ended in (ample, fault):
+            if ended in told:
                 continue
             memory += 1
             if (status, complained, after) != (4, b"lfsed: 44 Memory\n", state) or not ample[1].startswith(printed):
@@ -146,6 +147,20 @@ def history_rows(runs):
         runs.row(["log", "a.img"], (new[0], journal(512, 8, done, [])))
 
 
+def script_rows(runs):
+    """Scripts from a file, and one from standard input: steps that are taken, steps that are refused, none at all, a file that isn't
+    there, and lines that say no step."""
+    new = runs.row(["format", "--count=16", "a.img"], NOTHING)
+    made = runs.row(["mkdir", "a.img", "/a"], new)
+    steps, host = runs.files[0].with_name("steps"), runs.files[0].with_name("host file")
+    host.write_bytes(bytes(600))
+    taken = b"# steps\nmkdir /d\nput /d/x host\\x20file\nsetattr /d/x 74 0102\nundo\nredo\nmv /d /e\ngrow 18\n"
+    for text in taken, taken + b"forget\nrm /a\n", b"", b"undo\nrm /a\n", b"put /y none\n", b"rm /a\nsetattr / 7\n", b"rm /a\nmake /b\n":
+        steps.write_bytes(text)
+        runs.row(["batch", "--keep=2", "a.img", "steps"], made)
+    runs.row(["batch", "a.img"], made, taken)
+
+
 def comparing_rows(runs):
     """Two images that are compared, of which one may be none."""
     new = runs.row(["format", "--count=8", "a.img"], NOTHING)
@@ -184,6 +199,7 @@ with tempfile.TemporaryDirectory() as folder:
     small_block_rows(tried)
     folder_rows(tried)
     history_rows(tried)
+    script_rows(tried)
     comparing_rows(tried)
     growing_rows(tried)
 print(f"{tried.ran - tried.wrong} passed, {tried.wrong} failed")

@@ -2,7 +2,9 @@
 """Takes 10,000 random steps by a program, `random_steps.py PROGRAM [STEPS [SEED]]`, over new images and images of another writer
 whose logs have many commits, and compares after each: how it ends and what stands at each path, with a plain model; which blocks
 have changed, with the rule by which pairs change; how many blocks there are, of which added ones are erased; and the image byte for
-byte where changes are taken back or made again. Ends with 0 where nothing differs. It is run by hand."""
+byte where changes are taken back or made again, of which some runs keep the latest alone. At times the steps that were done are taken
+once more by one script, which leaves the same image and journal, and with one that is refused behind them leaves what was there.
+Ends with 0 where nothing differs. It is run by hand."""
 import pathlib
 import random
 import re
@@ -17,12 +19,15 @@ from support.changing import carried, whole
 from support.littlefs import Reader, blocks_for
 from support.logs import log
 from support.scattering import Scattered, key
+from support.scripts import MOVES, script, spelled
 
 STEPS_OF_AN_IMAGE = 250
 GEOMETRIES = (256, 16), (256, 40), (256, 200), (512, 24), (512, 64), (1_024, 16), (4_096, 12), (4_096, 40), (16_384, 10)
 NO_SPACE, TOO_LARGE, BAD_COUNT = 43, 42, 46
 # How often a step of a kind is taken.
 KINDS = {"mkdir": 12, "put": 32, "rm": 14, "mv": 12, "setattr": 18, "rmattr": 6, "grow": 5, "undo": 9, "redo": 6}
+# What keeps the latest changes alone where that is asked for.
+CHANGES = {*KINDS, "batch"} - {*MOVES}
 # The limits of images.
 MOST_BLOCKS, MOST_BYTES = 65_536, 67_108_864
 # How many blocks a command takes at most beside those of contents and of a directory: two parts, each cut into three.
@@ -130,8 +135,9 @@ class Run:
     def __init__(self, program, folder, chance, size):
         self.program, self.folder, self.chance, self.size = program, folder, chance, size
         self.image = folder / "a.img"
-        self.counts = {"done": 0, "refused": 0, "appended": 0, "rewritten": 0}
+        self.counts = {"done": 0, "refused": 0, "appended": 0, "rewritten": 0, "scripts": 0}
         self.past, self.future = [], []
+        self.keep, self.lines, self.number = None, [], 0
 
     def begin(self, count, is_scattered):
         """Makes the image."""
@@ -147,10 +153,22 @@ class Run:
     def ends(self, name, *words, held=b"", count=None):
         """Runs the program; answers the number of its refusal or 0, and all that it complained of and printed."""
         options = ["-b", str(self.size), *(["--count", str(count)] if count else [])]
+        options += ["--keep", str(self.keep)] if self.keep and name in CHANGES else []
         command = [self.program, name, *options, "a.img", *words]
         ended = subprocess.run(command, cwd=self.folder, input=held, capture_output=True, timeout=60)
         told = re.match(rb"lfsed: (\d+) ", ended.stderr)
         return int(told[1]) if told else ended.returncode, ended.stderr.decode(), ended.stdout.decode()
+
+    def files(self):
+        """The bytes of image and journal, where they are there."""
+        return [path.read_bytes() if path.exists() else None for path in (self.image, self.image.with_name("a.img.lfsj"))]
+
+    def put_back(self, files):
+        """Makes image and journal what they were."""
+        for path, held in zip((self.image, self.image.with_name("a.img.lfsj")), files):
+            path.unlink(missing_ok=True)
+            if held is not None:
+                path.write_bytes(held)
 
     def read(self):
         """The image as it is read, and its tree."""
@@ -205,8 +223,46 @@ class Run:
         return (kind,) if kind in ("undo", "redo") else (kind, path)
 
     def step(self):
+        """Takes one step, and at times those since the last time once more in one run; answers what differs."""
+        if not self.lines:
+            self.before, self.keep = self.files(), self.chance.choice([None, None, 1, 2, 3, 20])
+        done, (kind, *what) = self.counts["done"], self.command()
+        line, wrong = self.line(kind, what), self.takes(kind, what)
+        is_done = self.counts["done"] > done
+        if not wrong and self.chance.random() < (0.05 if is_done else 0.1):
+            wrong = self.in_one_run([*self.lines, line], is_done)
+            self.lines = [] if is_done else self.lines
+        elif is_done:
+            self.lines.append(line)
+        return wrong
+
+    def line(self, kind, what):
+        """The line of a script that says a step. What a file gets is put into a file of the host."""
+        words = [spelled(word.encode()) if isinstance(word, str) else word for word in what]
+        if kind == "put":
+            host = f"host{len(self.lines)}"
+            (self.folder / host).write_bytes(words.pop())
+            words.append(host)
+        elif kind in ("setattr", "rmattr"):
+            words = [words[0], f"{words[1]:02x}", *(value.hex() for value in words[2:] if value)]
+        return " ".join([kind, *map(str, words)])
+
+    def in_one_run(self, lines, is_done):
+        """Takes steps by a script, of which the last was done or refused, from what image and journal were before them; answers what
+        differs from what the steps left one by one, or, where the script is refused, from what was there."""
+        after, number = self.files(), self.number
+        self.put_back(self.before)
+        (self.folder / "steps").write_bytes(script(lines))
+        ended = self.ends("batch", "steps")
+        told = f"\nlfsed: steps: line {len(lines)}: {lines[-1]}\n"
+        is_right = ended == (0, "", "") if is_done else ended[0] == number and ended[1].endswith(told)
+        is_same = self.files() == (after if is_done else self.before)
+        self.put_back(after)
+        self.counts["scripts"] += 1
+        return "" if is_right and is_same else f"a script of {lines} ended with {ended}, files as wanted: {is_same}"
+
+    def takes(self, kind, what):
         """Takes one step; answers what differs."""
-        kind, *what = self.command()
         if kind in ("undo", "redo"):
             wrong = self.moves_in_history(kind)
             return wrong and f"{kind}: {wrong}"
@@ -221,6 +277,7 @@ class Run:
         source, target, number = (self.past, self.future, 53) if kind == "undo" else (self.future, self.past, 54)
         wanted = 0 if source else number
         ended = self.ends(kind)
+        self.number = ended[0]
         if ended[0] != wanted:
             return f"it ended with {ended}"
         if not wanted:
@@ -257,6 +314,7 @@ class Run:
         wanted, after = self.meant(kind, what)
         wanted = wanted or self.room(after, kind, what)
         count = what[0] if kind == "grow" else self.count()
+        self.number = ended[0]
         self.counts["refused" if ended[0] else "done"] += 1
         if ended[0]:
             is_right = ended[0] == wanted or ended[0] == NO_SPACE and not wanted and self.has_no_space(kind, what, ended[1])
@@ -264,7 +322,7 @@ class Run:
             return "" if is_right and is_kept else f"it ended with {ended}, not with {wanted}, image kept: {is_kept}"
         if wanted:
             return f"it was done, and not refused with {wanted}"
-        self.past, self.future = [*self.past, self.now], []
+        self.past, self.future = [*self.past, self.now][-self.keep if self.keep else 0:], []
         self.now = self.read()
         if self.now[1] != after.tree:
             return f"the tree is {self.now[1]}"
@@ -315,8 +373,8 @@ def main(program, steps=10_000, seed=1):
                     break
             total = {what: total.get(what, 0) + many for what, many in run.counts.items()}
     taken = total["done"] + total["refused"]
-    print(f"{taken} steps: {total['done']} done, {total['refused']} refused; pairs: {total['appended']} appended to, "
-          f"{total['rewritten']} rewritten; {wrong} images differ")
+    print(f"{taken} steps: {total['done']} done, {total['refused']} refused, {total['scripts']} scripts; pairs: "
+          f"{total['appended']} appended to, {total['rewritten']} rewritten; {wrong} images differ")
     return 1 if wrong or taken < steps else 0
 
 
