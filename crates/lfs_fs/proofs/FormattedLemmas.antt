@@ -1,4 +1,4 @@
--- A volume with the root alone is sound, and so is the one that `format` makes.
+-- A volume with the root alone is sound, and all blocks but the root's two are free.
 use Rattle.std.proofs.Common.{◌≡◌, ℕ, ◌+◌, ◌-◌, ◌<◌, ◌≤◌, ◌==◌, true, [], ◌∷◌, refl, ap, arith, zero, suc}
 use Rattle.std.specs.List.{filter, range_with_len, All}
 use Rattle.std.proofs.lemmas.List.Elements.{All-cons, All-nil}
@@ -11,8 +11,7 @@ use Rattle.lfs_fs.specs.Tree.{top, Reached}
 use Rattle.lfs_fs.specs.Uses.{uses}
 use Rattle.lfs_fs.specs.Free.{free_blocks}
 use Rattle.lfs_fs.specs.Sound.{IsSound, IsProper, AreAttributes, Rise}
-use Rattle.lfs_fs.specs.Formatted.{empty_volume, FormattedIsSound, FormattedLeavesTheRest}
-use Rattle.lfs_fs.specs.Limits.{new_limits}
+use Rattle.lfs_fs.specs.Formatted.{empty_volume}
 
 uses_once : (size count b : ℕ) (l : Limits) (a : Attributes) → uses b (empty_volume size count l a) ≤ 1
 uses_once size count b l a = grind (arith, nat_tests)
@@ -59,9 +58,3 @@ empty_leaves_the_rest size (suc zero) l a h = absurd (omega arith)
 empty_leaves_the_rest size (suc (suc n)) l a h =
     let rest : suc (suc n) - 2 ≡ n = omega arith in
     rw rest (rest_is_free size (suc (suc n)) 2 n l a (omega arith))
-
-pub formatted_is_sound : FormattedIsSound
-formatted_is_sound size count h = empty_is_sound size count new_limits [] h tt
-
-pub formatted_leaves_the_rest : FormattedLeavesTheRest
-formatted_leaves_the_rest size count h = empty_leaves_the_rest size count new_limits [] h

@@ -5,7 +5,6 @@ ghost use Rattle.lfs_meta.specs.Entry.{StoredEntry};
 ghost use Rattle.lfs_meta.specs.RunLaws.{RunsAreGreedy, RunsBehindFirst, RunsFollowWeights, RunsJoin, SomeRun};
 ghost use Rattle.lfs_fs.specs.Alike.{PairsAreOfParts, SameReadingsHoldTheSame, StoredLinksStay, SuperblockIsOfTheRoot};
 ghost use Rattle.lfs_fs.specs.Entry.{Entry};
-ghost use Rattle.lfs_fs.specs.Formatted.{FormattedIsSound, FormattedLeavesTheRest};
 ghost use Rattle.lfs_fs.specs.Front.{FrontsBeginEachOther};
 ghost use Rattle.lfs_fs.specs.Holds.{VolumesAreOne};
 ghost use Rattle.lfs_fs.specs.LoneSuperblock.{LoneSuperblockMounts};
@@ -100,14 +99,6 @@ pub fn images_without_cause_mount()
 /// Source: own.
 pub fn lone_superblocks_mount()
     ensures { LoneSuperblockMounts }
-{}
-
-/// A law: a formatted volume is sound, and all blocks but the root's two are free. Takes no memory.
-///
-/// Source: own.
-pub fn formatted_volumes_are_sound()
-    ensures sound { FormattedIsSound }
-    ensures free { FormattedLeavesTheRest }
 {}
 
 /// A law: the outline of a sound volume is sound. Takes no memory.

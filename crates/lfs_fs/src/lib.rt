@@ -42,12 +42,11 @@ pub use delta::Delta;
 pub use finding::{directory_at, entry_in};
 pub use found::Found;
 pub use laws::{
-    both_sides_hold, entries_are_cut_greedily, entries_weigh_as_stored,
-    formatted_volumes_are_sound, fronts_begin_each_other, images_mount_to_one_tree,
-    images_without_cause_mount, links_make_their_directories, lone_superblocks_mount,
-    mounted_images_have_no_cause, names_are_ordered, outlines_are_sound, paths_are_ordered,
-    rows_are_unique, rows_show_the_tree, same_readings_hold_the_same, stored_links_stay,
-    texts_spell_one_path,
+    both_sides_hold, entries_are_cut_greedily, entries_weigh_as_stored, fronts_begin_each_other,
+    images_mount_to_one_tree, images_without_cause_mount, links_make_their_directories,
+    lone_superblocks_mount, mounted_images_have_no_cause, names_are_ordered, outlines_are_sound,
+    paths_are_ordered, rows_are_unique, rows_show_the_tree, same_readings_hold_the_same,
+    stored_links_stay, texts_spell_one_path,
 };
 pub use limits::{Limits, MOST_FILE, MOST_HELD, NEW_LIMITS};
 pub use mounted::Mounted;

@@ -1,11 +1,8 @@
 -- The struct of the superblock that is written (SPEC.md, "0x0ff superblock").
 use Rattle.std.specs.Prelude.{ℕ, List, [], ◌∷◌, flat_map}
 use Rattle.std.specs.Int.{w32, to_le_bytes}
-use Rattle.lfs_meta.specs.Entry.{StoredEntry}
 use Rattle.lfs_fs.specs.declared.limits.Limits.{Limits}
-use Rattle.lfs_fs.specs.Superblock.{superblock_entry}
 use Rattle.lfs_fs.specs.Volume.{Volume}
-use Rattle.lfs_fs.specs.Limits.{new_limits}
 
 -- version 2.0, block size and count, and the largest name, file and attribute
 abbrev pub superblock_words : ℕ → ℕ → Limits → List ℕ
@@ -18,7 +15,3 @@ superblock_bytes size count limits = flat_map (to_le_bytes w32) (superblock_word
 -- a volume's
 unfoldable pub volume_bytes : Volume → List ℕ
 volume_bytes v = superblock_bytes v.size v.count v.limits
-
--- its entry, without attributes
-abbrev pub new_superblock : ℕ → ℕ → StoredEntry
-new_superblock size count = superblock_entry (superblock_bytes size count new_limits) []

@@ -31,7 +31,8 @@ returns-in_err-first_fits-clause-refused g c =
     let p = err_from_is_err_and c.from_residual-in_err-first_fits.result c.from_residual-in_err-first_fits.ensures.1 in
     let f = c.in_err-first_fits.field-0.0 in
     let root = c.in_ok-root.root in
-    let entries = subst (λ (es : List StoredEntry). FirstRefused f c.size-size.result c.count-count.result es) (c.deref.ensures.value ∙ ap (λ (q : PairPart). q.1.entries) c.root.view_is)
+    let same = c.deref.ensures.value ∙ ap (λ (q : PairPart). q.1.entries) c.root.view_is in
+    let entries = subst (λ (es : List StoredEntry). FirstRefused f c.size-size.result c.count-count.result es) same
     c.in_err-first_fits.ensures.refused in
     let by_size = subst (λ (n : ℕ). FirstRefused f n c.count-count.result root.1.entries) c.size-size.ensures.value entries in
     let refused = subst (λ (n : ℕ). FirstRefused f d.size n root.1.entries) c.count-count.ensures by_size in
@@ -41,7 +42,8 @@ pub returns-clause-good : goal.returns-clause-good
 returns-clause-good g c =
     let d = g.B.Blocks.disk c.args.blocks.now in
     let root = c.in_ok-root.root in
-    let entries = subst (λ (es : List StoredEntry). FirstTaken c.size-size.result c.count-count.result es) (c.deref.ensures.value ∙ ap (λ (q : PairPart). q.1.entries) c.root.view_is)
+    let same = c.deref.ensures.value ∙ ap (λ (q : PairPart). q.1.entries) c.root.view_is in
+    let entries = subst (λ (es : List StoredEntry). FirstTaken c.size-size.result c.count-count.result es) same
     c.in_ok-first_fits.ensures.taken in
     let by_size = subst (λ (n : ℕ). FirstTaken n c.count-count.result root.1.entries) c.size-size.ensures.value entries in
     let taken = subst (λ (n : ℕ). FirstTaken d.size n root.1.entries) c.count-count.ensures by_size in
