@@ -1,8 +1,6 @@
 -- The step that a task asks for, whose kinds and values are hexadecimal digits, and whose rows are those of a folder (own).
-use Rattle.std.specs.Prelude.{◌≡◌, ◌⊎◌, ⊤, ℕ, List, [], ◌∷◌, Ok, IsErr}
-use Rattle.hex.specs.declared.error.FromHexError.{FromHexError}
-use Rattle.hex.specs.declared.error.FromHexError.TheVariants.{OutOfMemory}
-use Rattle.hex.specs.Hex.{decode_of, decode_sized}
+use Rattle.std.specs.Prelude.{◌≡◌, ◌⊎◌, ⊤, ℕ, List}
+use Rattle.lfs_digits.specs.Digits.{SpellsByte, SpellsBytes, SpellsNoByte, SpellsNoBytes}
 use Rattle.lfs_command.specs.declared.refusal.Refusal.TheVariants.{Memory}
 use Rattle.lfs_fs.specs.Superblock.{IsLimits}
 use Rattle.lfs_pack.specs.declared.pack_row.PackRow.{PackRow}
@@ -15,22 +13,6 @@ use Rattle.lfs_request.specs.declared.extent.Extent.{Extent}
 use Rattle.lfs_request.specs.declared.extent.Extent.TheVariants.{Count, Least}
 use Rattle.lfs_request.specs.declared.task.Task.{Task}
 use Rattle.lfs_request.specs.declared.task.Task.TheVariants as task
-
--- the text is the two hexadecimal digits of a byte
-abbrev pub SpellsByte : List ℕ → ℕ → Type 0
-SpellsByte text byte = decode_sized text 1 ≡ Ok (byte ∷ [])
-
--- the text is no such digits
-abbrev pub SpellsNoByte : List ℕ → Type 0
-SpellsNoByte text = IsErr (decode_sized text 1)
-
--- the text is the hexadecimal digits of bytes, two of each
-abbrev pub SpellsBytes : List ℕ → List ℕ → Type 0
-SpellsBytes text bytes = decode_of text ≡ Ok bytes
-
--- the text is no such digits
-abbrev pub SpellsNoBytes : List ℕ → Type 0
-SpellsNoBytes text = IsErr (decode_of text)
 
 -- an image gets so many blocks: those that are said, or as many as hold a folder
 abbrev pub IsExtent : Extent → ℕ → Type 0
@@ -58,8 +40,3 @@ NamesNoStep (task.SetAttr path kind value) BadHex = SpellsNoByte kind.now ⊎ Sp
 NamesNoStep (task.SetAttr path kind value) (Refused refusal) = refusal ≡ Memory
 NamesNoStep (task.RmAttr path kind) BadHex = SpellsNoByte kind.now
 NamesNoStep _ _ = ⊥
-
--- a text that is no hexadecimal digits, or want of memory
-abbrev pub fault_of_hex : FromHexError → Fault
-fault_of_hex OutOfMemory = Refused Memory
-fault_of_hex error = BadHex

@@ -1,19 +1,11 @@
 -- The step that words say (own).
-use Rattle.std.specs.Prelude.{◌≡◌, ◌⊎◌, ◌<◌, ◌^◌, ⊤, ℕ, List, [], ◌∷◌, Ok, IsErr, codes, string_bytes}
+use Rattle.std.specs.Prelude.{◌≡◌, ◌⊎◌, ◌<◌, ◌^◌, ⊤, ℕ, List, [], ◌∷◌, codes, string_bytes}
 use Rattle.std.specs.Str.Parse.{IsNumeral, digits_value, without_leading_plus}
-use Rattle.hex.specs.Hex.{decode_of, decode_sized}
+use Rattle.lfs_digits.specs.Digits.{SpellsByte, SpellsBytes, SpellsNoByte, SpellsNoBytes}
 use Rattle.lfs_script.specs.declared.script_step.ScriptStep.{ScriptStep}
 use Rattle.lfs_script.specs.declared.script_step.ScriptStep.TheVariants.{Mkdir, Put, Rm, Mv, SetAttr, RmAttr, Grow, Undo, Redo, Forget}
 use Rattle.lfs_script.specs.declared.line_fault.LineFault.{LineFault}
 use Rattle.lfs_script.specs.declared.line_fault.LineFault.TheVariants.{Memory, BadHex, BadLine}
-
--- a word is the two hexadecimal digits of a byte
-abbrev pub SpellsByte : List ℕ → ℕ → Type 0
-SpellsByte digits byte = decode_sized digits 1 ≡ Ok (byte ∷ [])
-
--- a word is the hexadecimal digits of bytes, two of each
-abbrev pub SpellsBytes : List ℕ → List ℕ → Type 0
-SpellsBytes digits bytes = decode_of digits ≡ Ok bytes
 
 -- a word is the decimal digits of a number below 2 ^ 32, where a plus may stand first
 abbrev pub SpellsNumber : List ℕ → ℕ → Type 0
@@ -45,9 +37,9 @@ SaysNone words = (step : ScriptStep) → Says words step → ⊥
 
 -- words are those of an attribute's step, but for the digits of its kind or its value, which spell nothing
 abbrev pub HaveBadDigits : List (List ℕ) → Type 0
-HaveBadDigits (verb ∷ path ∷ kind ∷ []) = ((verb ≡ codes "setattr") ⊎ (verb ≡ codes "rmattr")) × IsErr (decode_sized kind 1)
+HaveBadDigits (verb ∷ path ∷ kind ∷ []) = ((verb ≡ codes "setattr") ⊎ (verb ≡ codes "rmattr")) × SpellsNoByte kind
 HaveBadDigits (verb ∷ path ∷ kind ∷ value ∷ []) =
-    (verb ≡ codes "setattr") × (IsErr (decode_sized kind 1) ⊎ IsErr (decode_of value))
+    (verb ≡ codes "setattr") × (SpellsNoByte kind ⊎ SpellsNoBytes value)
 HaveBadDigits _ = ⊥
 
 -- why words say no step, or want of memory

@@ -6,7 +6,7 @@ ghost use Rattle.lfs_script.specs.Words.{word_bytes, word_of};
 ghost use Rattle.lfs_script.specs.declared.line_fault.LineFault.TheVariants.{BadLine, Memory};
 
 use crate::line_fault::LineFault;
-use hex::FromHex;
+use lfs_digits::byte_of;
 use std::alloc::Global;
 
 /// The byte that stands first in a word, and what is behind it. `None` where a backslash stands first that says no byte.
@@ -20,10 +20,8 @@ fn first_of<'a>(first: u8, rest: &'a [u8]) -> Option<(u8, &'a [u8])>
     }
     match rest {
         [mark, high, low, behind @ ..] if *mark == b'x' => {
-            match <[u8; 1] as FromHex>::from_hex([*high, *low]) {
-                Ok(bytes) => Some((bytes[0], behind)),
-                Err(_) => None,
-            }
+            let byte = byte_of(&[*high, *low])?;
+            Some((byte, behind))
         }
         _ => None,
     }

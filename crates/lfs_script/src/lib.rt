@@ -1,17 +1,15 @@
 //! Scripts: the steps that the lines of a text ask for, one line each.
 #![tactic(auto)]
 
-mod digits;
 mod escapes;
 mod line_fault;
 mod lines;
+mod number;
 mod script;
 mod script_fault;
 mod script_line;
 mod script_step;
 mod steps;
-#[cfg(test)]
-mod tests;
 mod words;
 
 pub use line_fault::LineFault;

@@ -3,9 +3,10 @@
 ghost use Rattle.std.specs.Prelude.{◌≡◌, ◌↔◌, ◌∷◌, [], IfErr, IfOk, IsTrue, map};
 ghost use Rattle.lfs_script.specs.Steps.{IsFault, Says};
 
-use crate::digits::{byte_of, bytes_of, number_of};
 use crate::line_fault::LineFault;
+use crate::number::number_of;
 use crate::script_step::ScriptStep;
+use lfs_digits::{byte_of, bytes_of};
 use std::alloc::Global;
 
 /// Whether a word is this one.
@@ -106,13 +107,13 @@ fn with_three(
     let Some(kind) = byte_of(second) else {
         return Err(LineFault::BadHex);
     };
-    match bytes_of(alloc, third) {
-        Ok(value) => Ok(ScriptStep::SetAttr {
+    match bytes_of(alloc, third)? {
+        Some(value) => Ok(ScriptStep::SetAttr {
             path: first,
             kind,
             value,
         }),
-        Err(fault) => Err(fault),
+        None => Err(LineFault::BadHex),
     }
 }
 

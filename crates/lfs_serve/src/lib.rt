@@ -3,6 +3,7 @@
 
 mod batching;
 mod beside;
+mod digits;
 mod extracting;
 mod host_folder;
 mod later;

@@ -11,6 +11,7 @@ ghost use Rattle.lfs_serve.specs.Program.{EndsAsked, EndsRequest, EndsStep, Ends
 
 use crate::batching::batched;
 use crate::beside::Beside;
+use crate::digits::{kind_in, value_in};
 use crate::extracting::extracted;
 use crate::host_folder::{folder_of, pack_rows};
 use crate::later::{later_handed, must_be_read, tell_later};
@@ -25,7 +26,7 @@ use crate::within::tell_within;
 use lfs_exchange::{Handed, Output, aimed, hand_over, kind_of, spare, stored};
 use lfs_fs::Limits;
 use lfs_host::Host;
-use lfs_request::{Extent, Request, Task, byte_of, bytes_of};
+use lfs_request::{Extent, Request, Task};
 use lfs_step::{Outcome, Step, run};
 use std::alloc::Global;
 
@@ -138,8 +139,8 @@ fn set<H: Host>(
     ensures ended { EndsTask (SetAttr path.entry kind.entry value.entry) request.now.is_strict request.now.size request.now.keep request.now.image.now
         (H.known host.old) (H.known host.new) (stopped_by result) }
 {
-    let value = bytes_of(alloc, value)?;
-    let kind = byte_of(kind)?;
+    let value = value_in(alloc, value)?;
+    let kind = kind_in(kind)?;
     let value = value.as_slice();
     stepped(
         alloc,
@@ -163,7 +164,7 @@ fn cleared<H: Host>(
     ensures ended { EndsTask (RmAttr path.entry kind.entry) request.now.is_strict request.now.size request.now.keep request.now.image.now
         (H.known host.old) (H.known host.new) (stopped_by result) }
 {
-    let kind = byte_of(kind)?;
+    let kind = kind_in(kind)?;
     stepped(alloc, host, request, beside, &Step::RmAttr { path, kind })
 }
 

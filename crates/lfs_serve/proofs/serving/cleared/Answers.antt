@@ -13,4 +13,4 @@ returns-in_err-kind g c =
 
 pub returns : goal.returns
 returns g c =
-    record { ended = inl (RmAttr c.args.path c.in_ok-kind.kind, ([], tt, (refl, c.in_ok-kind.ensures.byte)), c.stepped.ensures.ended) }
+    record { ended = inl (RmAttr c.args.path c.in_ok-kind.kind, ([], tt, (refl, c.in_ok-kind.ensures.kind)), c.stepped.ensures.ended) }

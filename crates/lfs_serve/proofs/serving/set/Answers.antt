@@ -1,6 +1,6 @@
 use Rattle.std.proofs.Common.{rules, ◌≡◌, ℕ, List, [], refl, sym, subst, inl, inr}
 use Rattle.std.proofs.lemmas.Result.{err_from_is_err_and}
-use Rattle.lfs_request.specs.Asking.{SpellsBytes}
+use Rattle.lfs_digits.specs.Digits.{SpellsBytes}
 use Rattle.lfs_step.specs.declared.step.Step.TheVariants.{SetAttr}
 use Rattle.lfs_serve.proofs.StepLemmas.{no_bytes, no_kind, stopped_at}
 use Rattle.lfs_serve.proofs.serving.set.Goals as goal
@@ -22,11 +22,11 @@ returns-in_err-kind g c =
 pub returns : goal.returns
 returns g c =
     let same : c.as_slice-value.result.now ≡ c.in_ok-value.value.items = search rules in
-    let spells = subst (λ (bytes : List ℕ). SpellsBytes c.args.value.now bytes) (sym same) c.in_ok-value.ensures.bytes in
+    let spells = subst (λ (bytes : List ℕ). SpellsBytes c.args.value.now bytes) (sym same) c.in_ok-value.ensures.value in
     record {
       ended = inl (
         SetAttr c.args.path c.in_ok-kind.kind c.as_slice-value.result,
-        ([], tt, (refl, c.in_ok-kind.ensures.byte, spells)),
+        ([], tt, (refl, c.in_ok-kind.ensures.kind, spells)),
         c.stepped.ensures.ended,
       );
     }
