@@ -1,4 +1,3 @@
 pub mod AutoLemmas
 pub mod Handed
 pub mod OptionLemmas
-pub mod SizeLemmas

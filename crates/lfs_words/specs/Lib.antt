@@ -1,2 +1,1 @@
-pub mod Sizes
 pub mod Words

@@ -12,7 +12,7 @@ use Rattle.lfs_request.specs.Asking.{IsTaskInRange}
 use Rattle.lfs_request.specs.declared.extent.Extent.{Extent}
 use Rattle.lfs_request.specs.declared.extent.Extent.TheVariants.{Count, Least}
 use Rattle.lfs_request.specs.declared.request.Request.{Request}
-use Rattle.lfs_words.specs.Sizes.{IsSizeFault, SaysBlock, SaysBlocks, SaysNoBlock}
+use Rattle.lfs_sizes.specs.Sizes.{IsSizeFault, SaysBlock, SaysBlocks, SaysNoBlock}
 use Rattle.lfs_words.specs.declared.misuse.Misuse.{Misuse}
 use Rattle.lfs_words.specs.declared.misuse.Misuse.TheVariants.{Block, NoCount, TwoCounts, Size}
 use Rattle.lfs_words.specs.declared.wish.Wish.{Wish}
@@ -129,6 +129,11 @@ abbrev pub is_other : Text → Bool
 is_other name =
     list_any (λ other. bytes_eq other name)
     (codes "pack" ∷ codes "extract" ∷ codes "setattr" ∷ codes "rmattr" ∷ codes "batch" ∷ codes "explain" ∷ [])
+
+-- a command that asks something of an image
+abbrev pub is_question : Text → Bool
+is_question name =
+    list_any (λ other. bytes_eq other name) (codes "check" ∷ codes "ls" ∷ codes "cat" ∷ codes "diff" ∷ codes "log" ∷ [])
 
 -- what is asked for, by the command that is named with its options, where `auto` stands for this block size
 abbrev pub AsksFor : Option (Text × List Row) → ℕ → Wish → Type 0

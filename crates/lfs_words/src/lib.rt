@@ -5,10 +5,8 @@ mod counting;
 mod matching;
 mod misuse;
 mod options;
-mod sizes;
 mod wish;
 
 pub use matching::{auto_image, wished};
 pub use misuse::{Misuse, Ways};
-pub use sizes::{SizeFault, blocks_said};
 pub use wish::Wish;

@@ -1,13 +1,13 @@
 //! What the words of a command line ask for.
 
-ghost use Rattle.std.specs.Prelude.{◌≡◌, ◌<◌, ◌⊎◌, IfErr, IfOk, IfSome, IsNone, Some, codes, true};
+ghost use Rattle.std.specs.Prelude.{◌≡◌, ◌<◌, ◌⊎◌, IfErr, IfOk, IfSome, IsNone, Some, codes, false, true};
 ghost use Rattle.clap.specs.Words.{Text, found_of, rows_of, subcommand_rows_of};
 ghost use Rattle.lfs_grammar.specs.Grammar.{NamesCommand, is_change};
 ghost use Rattle.lfs_history.specs.Taking.{MayKeep};
 ghost use Rattle.lfs_request.specs.Asking.{IsTaskInRange};
 ghost use Rattle.lfs_step.specs.Deed.{IsStepInRange};
 ghost use Rattle.lfs_words.specs.Words.{AsksFor, IsInRange, IsKept, IsMissaid, IsMisuse, IsRequest, IsSizeMisuse, IsStep, IsTask};
-ghost use Rattle.lfs_words.specs.Words.{SaysAuto, StaysInRange, is_other};
+ghost use Rattle.lfs_words.specs.Words.{SaysAuto, StaysInRange, is_other, is_question};
 ghost use Rattle.lfs_words.specs.declared.misuse.Misuse.TheVariants.{Unsaid};
 
 use crate::counting::{block_of, count_of, extent_of, limits_of};
@@ -17,6 +17,27 @@ use crate::wish::Wish;
 use clap::ArgMatches;
 use lfs_request::{Request, Task};
 use lfs_step::Step;
+
+/// The question that a command's words say.
+fn question_of<'a>(name: &str, options: &ArgMatches<'a>) -> Result<Step<'a>, Misuse<'a>>
+    ensures some { IfOk result (λ step. (block : _) → IsStep step name.now (rows_of (found_of options.now)) block) }
+    ensures within { IfOk result (λ step. IsStepInRange step) }
+    ensures refused { IfErr result (λ misuse. misuse ≡ Unsaid) }
+    ensures unsaid { IfErr result (λ misuse. NamesCommand (Some (name.now, rows_of (found_of options.now))) → is_question name.now ≡ false) }
+{
+    match name {
+        "check" => Ok(Step::Check),
+        "ls" => Ok(Step::Ls),
+        "cat" => Ok(Step::Cat {
+            path: bytes(options, "path")?,
+        }),
+        "diff" => Ok(Step::Diff {
+            other: text(options, "other")?,
+        }),
+        "log" => Ok(Step::Log),
+        _ => Err(Misuse::Unsaid),
+    }
+}
 
 /// The step that a command's words say, on an image of this block size.
 fn step_of<'a>(name: &str, options: &ArgMatches<'a>, block: u32) -> Result<Step<'a>, Misuse<'a>>
@@ -32,15 +53,6 @@ fn step_of<'a>(name: &str, options: &ArgMatches<'a>, block: u32) -> Result<Step<
             count: count_of(options, block, FORMAT)?,
             limits: limits_of(options)?,
         }),
-        "check" => Ok(Step::Check),
-        "ls" => Ok(Step::Ls),
-        "cat" => Ok(Step::Cat {
-            path: bytes(options, "path")?,
-        }),
-        "diff" => Ok(Step::Diff {
-            other: text(options, "other")?,
-        }),
-        "log" => Ok(Step::Log),
         "mkdir" => Ok(Step::Mkdir {
             path: bytes(options, "path")?,
         }),
@@ -65,7 +77,7 @@ fn step_of<'a>(name: &str, options: &ArgMatches<'a>, block: u32) -> Result<Step<
             steps: number(options, "steps")?,
         }),
         "forget" => Ok(Step::Forget),
-        _ => Err(Misuse::Unsaid),
+        _ => question_of(name, options),
     }
 }
 

@@ -27,7 +27,10 @@ pub(crate) fn bytes<'a>(options: &ArgMatches<'a>, id: &str) -> Result<&'a [u8], 
     ensures none { IfErr result (λ misuse. (misuse ≡ Unsaid)
         × ((rule : Rule) → rule.id ≡ id.now → IsSaid rule (rows_of (found_of options.now)) → ⊥)) }
 {
-    Ok(text(options, id)?.as_bytes())
+    match options.get_str(id) {
+        Some(text) => Ok(text.as_bytes()),
+        None => Err(Misuse::Unsaid),
+    }
 }
 
 /// The number that an option's text says, which must be there.

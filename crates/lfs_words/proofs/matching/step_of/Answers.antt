@@ -6,14 +6,6 @@ use Rattle.lfs_grammar.proofs.CommandLemmas.{count_is, new_count_is, said_of, sa
 use Rattle.lfs_words.proofs.Handed.{handed_on}
 use Rattle.lfs_words.proofs.matching.step_of.Goals as goal
 
-pub returns-in_err-bytes-in-cat-clause-unsaid : goal.returns-in_err-bytes-in-cat-clause-unsaid
-returns-in_err-bytes-in-cat-clause-unsaid c =
-    let on = c.from_residual-in_err-bytes-in-cat in
-    handed_on on.result c.in_err-bytes-in-cat.field-0.0 _ on.ensures.1
-    (λ is names.
-    let said = said_of c.args.name.now (codes "cat") (rows_of (found_of c.args.options.now)) c.in-cat.is names in
-    absurd (c.in_err-bytes-in-cat.ensures.none.1 (word (codes "path")) refl (said.1.1.0 refl)))
-
 pub returns-in_err-bytes-in-mkdir-clause-unsaid : goal.returns-in_err-bytes-in-mkdir-clause-unsaid
 returns-in_err-bytes-in-mkdir-clause-unsaid c =
     let on = c.from_residual-in_err-bytes-in-mkdir in
@@ -53,14 +45,6 @@ returns-in_err-bytes-in-mv-2-clause-unsaid c =
     (λ is names.
     let said = said_of c.args.name.now (codes "mv") (rows_of (found_of c.args.options.now)) c.in-mv.is names in
     absurd (c.in_err-bytes-in-mv-2.ensures.none.1 (word (codes "to")) refl (said.1.1.1.0 refl)))
-
-pub returns-in_err-text-in-diff-clause-unsaid : goal.returns-in_err-text-in-diff-clause-unsaid
-returns-in_err-text-in-diff-clause-unsaid c =
-    let on = c.from_residual-in_err-text-in-diff in
-    handed_on on.result c.in_err-text-in-diff.field-0.0 _ on.ensures.1
-    (λ is names.
-    let said = said_of c.args.name.now (codes "diff") (rows_of (found_of c.args.options.now)) c.in-diff.is names in
-    absurd (c.in_err-text-in-diff.ensures.none.1 (word (codes "other")) refl (said.1.1.0 refl)))
 
 pub returns-in_err-number-in-undo-clause-unsaid : goal.returns-in_err-number-in-undo-clause-unsaid
 returns-in_err-number-in-undo-clause-unsaid c =

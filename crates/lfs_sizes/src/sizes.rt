@@ -1,7 +1,7 @@
 //! What texts say of sizes.
 
 ghost use Rattle.std.specs.Prelude.{◌<◌, IfErr, IfOk, IfSome, IsNone};
-ghost use Rattle.lfs_words.specs.Sizes.{HasUnit, IsSizeFault, SaysBlock, SaysBlocks, SaysBytes, SaysNoBytes};
+ghost use Rattle.lfs_sizes.specs.Sizes.{HasUnit, IsSizeFault, SaysBlock, SaysBlocks, SaysBytes, SaysNoBlock, SaysNoBytes};
 
 use std::fmt;
 
@@ -104,10 +104,13 @@ fn split_unit(text: &str) -> (&str, u64)
     }
 }
 
-/// The size of a block that a text says, in bytes, where `auto` stands for this one. `None` where it is none that blocks have.
-pub(crate) fn block_said(text: &str, stated: u32) -> Option<u32>
+/// The size of a block that a text says, in bytes, where `auto` stands for this one. `None` where it is none that blocks have, which
+/// is 256 to 65,536. Takes no memory.
+///
+/// Source: own.
+pub fn block_said(text: &str, stated: u32) -> Option<u32>
     ensures block { IfSome result (λ size. SaysBlock text.now stated size) }
-    ensures none { IsNone result → (size : _) → SaysBlock text.now stated size → ⊥ }
+    ensures none { IsNone result → SaysNoBlock text.now stated }
 {
     let size = if text == "auto" {
         stated

@@ -1,5 +1,5 @@
-use Rattle.lfs_words.proofs.SizeLemmas.{no_decimal_said, none_within, too_many_said}
-use Rattle.lfs_words.proofs.sizes.bytes_said.Goals as goal
+use Rattle.lfs_sizes.proofs.SizeLemmas.{no_decimal_said, none_within, too_many_said}
+use Rattle.lfs_sizes.proofs.sizes.bytes_said.Goals as goal
 
 pub returns-in-Ok-clause-none : goal.returns-in-Ok-clause-none
 returns-in-Ok-clause-none c = λ none.

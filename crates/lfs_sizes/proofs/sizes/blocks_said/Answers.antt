@@ -1,7 +1,7 @@
 use Rattle.std.proofs.Common.{rules, ◌≡◌, ◌∙◌, ◌*◌, ◌/◌, ◌%◌, ℕ, ap, refl, subst, sym}
-use Rattle.lfs_words.specs.Sizes.{SaysBytes}
-use Rattle.lfs_words.proofs.SizeLemmas.{in_blocks}
-use Rattle.lfs_words.proofs.sizes.blocks_said.Goals as goal
+use Rattle.lfs_sizes.specs.Sizes.{SaysBytes}
+use Rattle.lfs_sizes.proofs.SizeLemmas.{in_blocks}
+use Rattle.lfs_sizes.proofs.sizes.blocks_said.Goals as goal
 
 pub returns-in_default-clause-refused : goal.returns-in_default-clause-refused
 returns-in_default-clause-refused c = c.in_default.ensures.none refl
