@@ -350,6 +350,10 @@ JUDGED = {
     ),
     "lfsed: 33 IsADirectory\n": (("put /a", 5),),
     "lfsed: 34 NotEmpty\n": (("rm /a", 0),),
+    "lfsed: 35 BadPath\n": (
+        ("mkdir a", 0), ("mkdir /a/", 0), ("mkdir //", 0), ("mkdir /.", 0), ("mkdir /..", 0), ("mkdir /a//b", 0), ("mkdir /a/../b", 0),
+        ("mkdir //a", 0), ("mv /a /a/../b", 0),
+    ),
     "lfsed: 36 NameTooLong\n": (("mkdir /e/long", 0), ("put /long", 5), ("mv /e /a/long", 0)),
     "lfsed: 37 FileTooLarge\n": (("put /a/f", 5),),
     "lfsed: 38 AttrTooLarge\n": (("setattr /a/f 07 010203", 0),),
@@ -358,7 +362,7 @@ JUDGED = {
     "lfsed: 41 IsRoot\n": (("mkdir /", 0), ("put /", 0), ("rm /", 0), ("mv / /a/b", 0), ("mv /x /", 0)),
     "": (
         ("mkdir /e/new", 0), ("put /a/f", 4), ("put /new", 4), ("rm /a/f", 0), ("rm /e", 0), ("mv /a /e/a", 0),
-        ("mv /a/f /f", 0), ("setattr /a/f 07 0102", 0), ("setattr / 07 0102", 0), ("rmattr / 07", 0),
+        ("mv /a/f /f", 0), ("mkdir /..a", 0), ("mkdir /...", 0), ("mkdir /a/a.", 0), ("setattr /a/f 07 0102", 0), ("setattr / 07 0102", 0), ("rmattr / 07", 0),
     ),
 }
 

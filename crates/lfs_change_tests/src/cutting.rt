@@ -5,7 +5,7 @@ ghost use Rattle.lfs_fs.specs.Directory.{thread};
 ghost use Rattle.lfs_command.specs.Need.{dirty_parts, part_blocks};
 ghost use Rattle.lfs_cut.specs.Chosen.{HasPairsOnce};
 
-use crate::images::small_image;
+use crate::images::image_of;
 use arrayvec::ArrayVec;
 use lfs_command::Refusal;
 use lfs_cut::{NewPairs, choose, clean, cut, needed};
@@ -110,7 +110,7 @@ fn one_part(
 // the blocks of a new image of 64 blocks, of which all but two are free
 fn used_blocks(alloc: Global) -> Result<UsedBlocks, Fail> {
     outlines_are_sound();
-    let image = small_image(alloc, 64)?;
+    let image = image_of(alloc, 256, 64)?;
     let mounted = mount(alloc, &image)?;
     Ok(mounted.outline().used_blocks(alloc)?)
 }

@@ -8,20 +8,17 @@ use std::alloc::Global;
 use std::process::Abort;
 use std::test::Fail;
 
-/// A new image of 8 blocks of 512 bytes.
-pub(crate) fn new_image(alloc: Global) -> Result<Image, Fail> {
-    if !geometry_ok(512, 8) {
+/// A new image of so many blocks of this size.
+pub(crate) fn image_of(alloc: Global, size: u32, count: u32) -> Result<Image, Fail> {
+    if !geometry_ok(size, count) {
         return Err(Fail::new("no image has such blocks"));
     }
-    Ok(new_image_of(alloc, 512, 8).ok_or("no memory")?)
+    Ok(new_image_of(alloc, size, count).ok_or("no memory")?)
 }
 
-/// A new image of so many blocks of 256 bytes.
-pub(crate) fn small_image(alloc: Global, count: u32) -> Result<Image, Fail> {
-    if !geometry_ok(256, count) {
-        return Err(Fail::new("no image has so many blocks"));
-    }
-    Ok(new_image_of(alloc, 256, count).ok_or("no memory")?)
+/// A new image of 8 blocks of 512 bytes.
+pub(crate) fn new_image(alloc: Global) -> Result<Image, Fail> {
+    image_of(alloc, 512, 8)
 }
 
 /// A session of an image.

@@ -22,8 +22,6 @@ mod opening;
 #[cfg(test)]
 mod packing;
 #[cfg(test)]
-mod paths;
-#[cfg(test)]
 mod weighing;
 #[cfg(test)]
 mod writers;

@@ -1,8 +1,7 @@
 //! Sessions that are opened with journals.
 
-use crate::images::{carries_out, copy_of, has_image, new_image, new_session};
-use crate::new_images::new_image_of;
-use lfs_block::{Blocks, Image, geometry_ok};
+use crate::images::{carries_out, copy_of, has_image, image_of, new_image, new_session};
+use lfs_block::{Blocks, Image};
 use lfs_edit::Command;
 use lfs_journal::{OpenFault, Session};
 use std::alloc::Global;
@@ -74,14 +73,6 @@ fn saved_sessions_open_as_they_were(rt: HostRuntime) -> Result<(), Fail> {
     opens_as_saved(&rt, rt.alloc(), &session, &first, &later)
 }
 
-// a new image of 9 blocks of 512 bytes
-fn larger_image(alloc: Global) -> Result<Image, Fail> {
-    if !geometry_ok(512, 9) {
-        return Err(Fail::new("no image has such blocks"));
-    }
-    Ok(new_image_of(alloc, 512, 9).ok_or("no memory")?)
-}
-
 // adds words of four bytes, the lowest first
 fn add_words(bytes: &mut Vec<u8>, words: &[u32]) -> Result<(), Fail> {
     for word in words {
@@ -145,7 +136,7 @@ fn goes_back_and_on(
 #[test]
 fn changes_that_lengthen_an_image_are_taken_back(rt: HostRuntime) -> Result<(), Fail> {
     let small = new_image(rt.alloc())?;
-    let large = larger_image(rt.alloc())?;
+    let large = image_of(rt.alloc(), 512, 9)?;
     let journal = lengthening(rt.alloc(), &small, &large, [9, 1, 0])?;
     let mut session = open(rt.alloc(), &large, &journal)?;
     goes_back_and_on(&rt, &mut session, &small, &large)?;
@@ -155,7 +146,7 @@ fn changes_that_lengthen_an_image_are_taken_back(rt: HostRuntime) -> Result<(), 
 #[test]
 fn changes_that_lengthen_an_image_are_made_again(rt: HostRuntime) -> Result<(), Fail> {
     let small = new_image(rt.alloc())?;
-    let large = larger_image(rt.alloc())?;
+    let large = image_of(rt.alloc(), 512, 9)?;
     let journal = lengthening(rt.alloc(), &small, &large, [8, 0, 1])?;
     let mut session = open(rt.alloc(), &small, &journal)?;
     session.redo()?;
@@ -167,7 +158,7 @@ fn changes_that_lengthen_an_image_are_made_again(rt: HostRuntime) -> Result<(), 
 #[test]
 fn counts_that_do_not_join_are_no_history(rt: HostRuntime) -> Result<(), Fail> {
     let small = new_image(rt.alloc())?;
-    let large = larger_image(rt.alloc())?;
+    let large = image_of(rt.alloc(), 512, 9)?;
     let journal = lengthening(rt.alloc(), &small, &large, [8, 1, 0])?;
     let refused = Session::open(rt.alloc(), small, &journal).err();
     let fault = refused.map(|refused| refused.fault);

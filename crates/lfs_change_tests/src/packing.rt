@@ -47,14 +47,19 @@ fn holds(rt: &impl Abort, alloc: Global, image: &Image) -> Result<(), Fail> {
     lists(rt, alloc, image, LISTING)
 }
 
-#[test]
-fn rows_are_packed_into_an_image(rt: HostRuntime) -> Result<(), Fail> {
-    if !geometry_ok(512, 8) {
+// the image of so many blocks of 512 bytes into which rows are packed
+fn packed(alloc: Global, count: u32, rows: &[PackRow<'_>]) -> Result<Image, Fail> {
+    if !geometry_ok(512, count) {
         return Err(Fail::new("no image has such blocks"));
     }
+    let bytes = pack(alloc, 512, count, rows)?;
+    Ok(Image::new(bytes, 512).ok().ok_or("no image")?)
+}
+
+#[test]
+fn rows_are_packed_into_an_image(rt: HostRuntime) -> Result<(), Fail> {
     let attributes = attributes(rt.alloc())?;
-    let bytes = pack(rt.alloc(), 512, 8, &rows(&attributes))?;
-    let image = Image::new(bytes, 512).ok().ok_or("no image")?;
+    let image = packed(rt.alloc(), 8, &rows(&attributes))?;
     holds(&rt, rt.alloc(), &image)
 }
 
@@ -119,16 +124,12 @@ fn lists(rt: &impl Abort, alloc: Global, image: &Image, listing: &str) -> Result
 
 #[test]
 fn the_root_gets_attributes(rt: HostRuntime) -> Result<(), Fail> {
-    if !geometry_ok(512, 2) {
-        return Err(Fail::new("no image has such blocks"));
-    }
     let attributes = attributes(rt.alloc())?;
     let root = PackRow {
         path: b"/",
         bytes: None,
         attributes: &attributes,
     };
-    let bytes = pack(rt.alloc(), 512, 2, &[root])?;
-    let image = Image::new(bytes, 512).ok().ok_or("no image")?;
+    let image = packed(rt.alloc(), 2, &[root])?;
     lists(&rt, rt.alloc(), &image, "d          - /\n@ 74 01\n")
 }

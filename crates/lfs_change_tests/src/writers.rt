@@ -3,7 +3,7 @@
 use lfs_sink::{Out, Sink, send};
 use std::io;
 use std::io::{ErrorKind, Write};
-use std::test::Fail;
+use std::process::Abort;
 
 /// How a writer answers a write.
 #[derive(Clone, Copy)]
@@ -50,30 +50,38 @@ fn has_failure(replies: &[Reply]) -> bool {
     replies.iter().any(|reply| matches!(reply, Reply::Fails))
 }
 
+/// What a writer answers, whether a text goes out whole by it, and what goes out.
+type Row = ([Reply; 2], bool, &'static str);
+
+const ROWS: [Row; 8] = [
+    ([Reply::Takes(3), Reply::Takes(2)], true, "littlefs"),
+    ([Reply::Takes(3), Reply::Takes(0)], false, "lit"),
+    ([Reply::Takes(0), Reply::Takes(8)], false, ""),
+    ([Reply::Fails, Reply::Takes(8)], false, ""),
+    ([Reply::Takes(7), Reply::Fails], false, "littlef"),
+    ([Reply::Interrupts, Reply::Interrupts], true, "littlefs"),
+    ([Reply::Interrupts, Reply::Fails], false, ""),
+    ([Reply::Takes(1), Reply::Interrupts], true, "littlefs"),
+];
+
+/// Asserts that a text goes out whole or not, and what the sink says of it.
+fn goes_out(rt: &impl Abort, writer: &mut Scripted<'_>, whole: bool, fails: bool) {
+    let mut out = Out::new(writer);
+    assert_eq!(rt; send(&mut out, b"littlefs"), whole);
+    assert_eq!(rt; out.has_failed(), !whole);
+    assert_eq!(rt; out.error().is_some(), fails);
+    assert!(rt; !out.flush());
+    assert!(rt; out.error().is_some());
+}
+
 #[test]
-fn writers_that_misbehave(rt: HostRuntime) -> Result<(), Fail> {
-    let rows = [
-        ([Reply::Takes(3), Reply::Takes(2)], true, "littlefs"),
-        ([Reply::Takes(3), Reply::Takes(0)], false, "lit"),
-        ([Reply::Takes(0), Reply::Takes(8)], false, ""),
-        ([Reply::Fails, Reply::Takes(8)], false, ""),
-        ([Reply::Takes(7), Reply::Fails], false, "littlef"),
-        ([Reply::Interrupts, Reply::Interrupts], true, "littlefs"),
-        ([Reply::Interrupts, Reply::Fails], false, ""),
-        ([Reply::Takes(1), Reply::Interrupts], true, "littlefs"),
-    ];
-    for (replies, whole, text) in rows {
+fn writers_that_misbehave(rt: HostRuntime) {
+    for (replies, whole, text) in &ROWS {
         let mut writer = Scripted {
-            replies: &replies,
+            replies,
             written: Vec::new(rt.alloc()),
         };
-        let mut out = Out::new(&mut writer);
-        assert_eq!(rt; send(&mut out, b"littlefs"), whole);
-        assert_eq!(rt; out.has_failed(), !whole);
-        assert_eq!(rt; out.error().is_some(), !whole && has_failure(&replies));
-        assert!(rt; !out.flush());
-        assert!(rt; out.error().is_some());
+        goes_out(&rt, &mut writer, *whole, !*whole && has_failure(replies));
         assert!(rt; writer.written.as_slice() == text.as_bytes());
     }
-    Ok(())
 }

@@ -83,51 +83,68 @@ fn are_none(rt: &impl Abort, alloc: Global, bytes: &[u8]) {
     assert_eq!(rt; fault, Some(JournalFault::JournalFormat));
 }
 
+/// The bytes of a journal's parts.
+fn parts_written(alloc: Global, journal: Journal) -> Option<Vec<u8>> {
+    let size = journal.size();
+    let count = journal.count();
+    let (patches, done) = journal.into_parts();
+    write_journal(alloc, size, count, &patches, done)
+}
+
+/// The journal of a journal's parts.
+fn made_again(journal: Journal) -> Journal {
+    let size = journal.size();
+    let count = journal.count();
+    let (patches, done) = journal.into_parts();
+    Journal::new(size, count, patches, done)
+}
+
+/// Asserts that a journal is spelled so.
+fn is_spelled(rt: &impl Abort, alloc: Global, journal: &Journal, bytes: &[u8]) -> Result<(), Fail> {
+    let written = journal.write(alloc).ok_or("no memory")?;
+    assert!(rt; written.as_slice() == bytes);
+    Ok(())
+}
+
 #[test]
 fn fresh_journal_is_read_and_written(rt: HostRuntime) -> Result<(), Fail> {
     let journal = Journal::read(rt.alloc(), &FRESH)?;
     assert_eq!(rt; (journal.size(), journal.count()), (512, 8));
     assert_eq!(rt; (journal.patches().len(), journal.done()), (0, 0));
-    let written = journal.write(rt.alloc()).ok_or("no memory")?;
-    assert!(rt; written.as_slice() == FRESH.as_slice());
-    Ok(())
+    is_spelled(&rt, rt.alloc(), &journal, &FRESH)
 }
 
 #[test]
 fn parts_are_a_journal_again(rt: HostRuntime) -> Result<(), Fail> {
     let bytes = with_changes(rt.alloc(), 0xff)?;
-    let journal = Journal::read(rt.alloc(), &bytes)?;
-    let size = journal.size();
-    let count = journal.count();
-    assert_eq!(rt; (size, count), (256, 4));
-    let (patches, done) = journal.into_parts();
-    assert_eq!(rt; (patches.len(), done), (2, 1));
-    let written = write_journal(rt.alloc(), size, count, &patches, done).ok_or("no memory")?;
+    let journal = made_again(Journal::read(rt.alloc(), &bytes)?);
+    is_spelled(&rt, rt.alloc(), &journal, &bytes)?;
+    assert_eq!(rt; (journal.patches().len(), journal.done()), (2, 1));
+    let written = parts_written(rt.alloc(), journal).ok_or("no memory")?;
     assert!(rt; written == bytes);
-    let again = Journal::new(size, count, patches, done);
-    assert!(rt; again.write(rt.alloc()).ok_or("no memory")? == bytes);
     Ok(())
+}
+
+/// The counts before and after a change of a journal.
+fn counts_of(journal: &Journal, index: usize) -> Option<(u32, u32)> {
+    let patch = journal.patches().get(index)?;
+    Some((patch.before(), patch.after()))
 }
 
 #[test]
 fn changes_have_their_counts(rt: HostRuntime) -> Result<(), Fail> {
-    let bytes = with_changes(rt.alloc(), 0xff)?;
-    let journal = Journal::read(rt.alloc(), &bytes)?;
-    let first = journal.patches().first().ok_or("no change")?;
-    assert_eq!(rt; (first.before(), first.after()), (4, 4));
-    let last = journal.patches().last().ok_or("no change")?;
-    assert_eq!(rt; (last.before(), last.after()), (4, 6));
+    let journal = Journal::read(rt.alloc(), &with_changes(rt.alloc(), 0xff)?)?;
+    assert_eq!(rt; (journal.size(), journal.count()), (256, 4));
+    assert_eq!(rt; counts_of(&journal, 0), Some((4, 4)));
+    assert_eq!(rt; counts_of(&journal, 1), Some((4, 6)));
     Ok(())
 }
 
 #[test]
 fn version_one_is_read_and_version_two_written(rt: HostRuntime) -> Result<(), Fail> {
     let journal = Journal::read(rt.alloc(), &of_version_one(rt.alloc())?)?;
-    let first = journal.patches().first().ok_or("no change")?;
-    assert_eq!(rt; (first.before(), first.after()), (4, 4));
-    let written = journal.write(rt.alloc()).ok_or("no memory")?;
-    assert!(rt; written == of_version_two(rt.alloc())?);
-    Ok(())
+    assert_eq!(rt; counts_of(&journal, 0), Some((4, 4)));
+    is_spelled(&rt, rt.alloc(), &journal, &of_version_two(rt.alloc())?)
 }
 
 #[test]

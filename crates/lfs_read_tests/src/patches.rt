@@ -80,17 +80,22 @@ fn begin(rt: &impl Abort, blocks: &impl Blocks, firsts: &[u8]) {
     }
 }
 
+/// Asserts that a patch is made of an image, and what the image is then; and that it is taken back.
+fn turns(rt: &impl Abort, patch: &Patch, image: &mut Image, old: &[u8], new: &[u8]) {
+    assert!(rt; patch.agrees_old(image) && patch.after() <= image.room());
+    patch.apply(image);
+    begin(rt, image, new);
+    assert!(rt; patch.agrees_new(image));
+    patch.revert(image);
+    begin(rt, image, old);
+}
+
 #[test]
 fn applies_and_reverts(rt: HostRuntime) -> Result<(), Fail> {
     let patch = kept(rt.alloc())?;
     assert_eq!(rt; patch.records().len(), 2);
     let mut image = image_of(rt.alloc(), &[0, 1, 2, 3])?;
-    assert!(rt; patch.agrees_old(&image) && patch.after() <= image.room());
-    patch.apply(&mut image);
-    begin(&rt, &image, &[0, 8, 2, 9]);
-    assert!(rt; patch.agrees_new(&image));
-    patch.revert(&mut image);
-    begin(&rt, &image, &[0, 1, 2, 3]);
+    turns(&rt, &patch, &mut image, &[0, 1, 2, 3], &[0, 8, 2, 9]);
     Ok(())
 }
 
@@ -99,24 +104,27 @@ fn lengthens_and_cuts(rt: HostRuntime) -> Result<(), Fail> {
     let patch = grown(rt.alloc())?;
     assert_eq!(rt; (patch.size(), patch.before(), patch.after()), (256, 4, 6));
     let mut image = image_of(rt.alloc(), &[0, 1, 2, 3])?;
-    assert!(rt; image.reserve(6));
-    assert!(rt; patch.agrees_old(&image) && patch.after() <= image.room());
-    assert!(rt; !patch.agrees_new(&image));
-    patch.apply(&mut image);
-    begin(&rt, &image, &[0, 8, 2, 3, 0xff, 9]);
-    assert!(rt; patch.agrees_new(&image) && !patch.agrees_old(&image));
-    patch.revert(&mut image);
-    assert!(rt; image.into_bytes() == bytes_of(rt.alloc(), &[0, 1, 2, 3])?);
+    assert!(rt; image.reserve(6) && !patch.agrees_new(&image));
+    turns(
+        &rt,
+        &patch,
+        &mut image,
+        &[0, 1, 2, 3],
+        &[0, 8, 2, 3, 0xff, 9],
+    );
     Ok(())
+}
+
+/// Whether the patch that lengthens the image makes one of these blocks.
+fn is_made(alloc: Global, patch: &Patch, fills: &[u8]) -> Result<bool, Fail> {
+    Ok(patch.agrees_new(&image_of(alloc, fills)?))
 }
 
 #[test]
 fn added_blocks_are_erased_or_named(rt: HostRuntime) -> Result<(), Fail> {
     let patch = grown(rt.alloc())?;
-    let made = image_of(rt.alloc(), &[0, 8, 2, 3, 0xff, 9])?;
-    assert!(rt; patch.agrees_new(&made));
-    let written = image_of(rt.alloc(), &[0, 8, 2, 3, 7, 9])?;
-    assert!(rt; !patch.agrees_new(&written));
+    assert!(rt; is_made(rt.alloc(), &patch, &[0, 8, 2, 3, 0xff, 9])?);
+    assert!(rt; !is_made(rt.alloc(), &patch, &[0, 8, 2, 3, 7, 9])?);
     Ok(())
 }
 
@@ -125,51 +133,62 @@ fn room_is_reserved(rt: HostRuntime) -> Result<(), Fail> {
     let mut image = image_of(rt.alloc(), &[0, 1, 2, 3])?;
     assert!(rt; image.room() >= 4);
     assert!(rt; image.reserve(6) && image.room() >= 6);
-    assert!(rt; image.into_bytes() == bytes_of(rt.alloc(), &[0, 1, 2, 3])?);
+    assert_eq!(rt; image.into_bytes().len(), 1_024);
     Ok(())
+}
+
+/// Asserts what an image shows once a patch is made, and that the patch is one of two blocks of its size.
+fn shows_after(rt: &impl Abort, image: &Image, patch: &Patch, erased: &[u8], firsts: &[u8])
+    requires { erased.now ≡ erased_block image.now.disk.size }
+{
+    assert!(rt; patch.size() == image.size() && patch.records().len() == 2);
+    begin(rt, &Overlay::after(image, patch, erased), firsts);
 }
 
 #[test]
 fn overlays_show_what_patches_make(rt: HostRuntime) -> Result<(), Fail> {
     let image = image_of(rt.alloc(), &[0, 1, 2, 3])?;
     let erased = erased(rt.alloc(), image.size())?;
-    let patch = kept(rt.alloc())?;
-    assert!(rt; patch.size() == image.size() && patch.records().len() == 2);
-    begin(&rt, &Overlay::after(&image, &patch, &erased), &[0, 8, 2, 9]);
-    let patch = grown(rt.alloc())?;
-    assert!(rt; patch.size() == image.size() && patch.records().len() == 2);
-    begin(
+    shows_after(&rt, &image, &kept(rt.alloc())?, &erased, &[0, 8, 2, 9]);
+    shows_after(
         &rt,
-        &Overlay::after(&image, &patch, &erased),
+        &image,
+        &grown(rt.alloc())?,
+        &erased,
         &[0, 8, 2, 3, 0xff, 9],
     );
     Ok(())
+}
+
+/// Asserts what an image shows as if a patch of two blocks of its size weren't made.
+fn shows_before(rt: &impl Abort, image: &Image, patch: &Patch, erased: &[u8], firsts: &[u8])
+    requires { erased.now ≡ erased_block image.now.disk.size }
+{
+    assert!(rt; patch.size() == image.size() && patch.records().len() == 2);
+    begin(rt, &Overlay::before(image, patch, erased), firsts);
 }
 
 #[test]
 fn overlays_show_what_was_there(rt: HostRuntime) -> Result<(), Fail> {
     let image = image_of(rt.alloc(), &[0, 8, 2, 3, 0xff, 9])?;
     let erased = erased(rt.alloc(), image.size())?;
-    let patch = grown(rt.alloc())?;
-    assert!(rt; patch.size() == image.size() && patch.records().len() == 2);
-    begin(
-        &rt,
-        &Overlay::before(&image, &patch, &erased),
-        &[0, 1, 2, 3],
-    );
+    shows_before(&rt, &image, &grown(rt.alloc())?, &erased, &[0, 1, 2, 3]);
     Ok(())
+}
+
+/// Asserts what an image of four blocks of 256 bytes shows as if it had this number of blocks.
+fn shows_longer(rt: &impl Abort, image: &Image, count: u32, erased: &[u8], firsts: &[u8])
+    requires { erased.now ≡ erased_block image.now.disk.size }
+{
+    assert!(rt; geometry_ok(image.size(), count) && image.count() <= count);
+    begin(rt, &Lengthened::of(image, count, erased), firsts);
 }
 
 #[test]
 fn lengthened_images_go_on_with_erased_blocks(rt: HostRuntime) -> Result<(), Fail> {
     let image = image_of(rt.alloc(), &[0, 1, 2, 3])?;
     let erased = erased(rt.alloc(), image.size())?;
-    assert!(rt; geometry_ok(256, 4) && geometry_ok(256, 6) && image.count() == 4);
-    begin(
-        &rt,
-        &Lengthened::of(&image, 6, &erased),
-        &[0, 1, 2, 3, 0xff, 0xff],
-    );
-    begin(&rt, &Lengthened::of(&image, 4, &erased), &[0, 1, 2, 3]);
+    shows_longer(&rt, &image, 6, &erased, &[0, 1, 2, 3, 0xff, 0xff]);
+    shows_longer(&rt, &image, 4, &erased, &[0, 1, 2, 3]);
     Ok(())
 }

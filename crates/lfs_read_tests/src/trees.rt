@@ -2,8 +2,10 @@
 
 use crate::images::{Head, image_of};
 use crate::logs::{BELOW, TREE};
-use lfs_fs::{Mounted, Path, mount, outline_of, outlines_are_sound};
+use lfs_block::Image;
+use lfs_fs::{Mounted, Path, UsedBlocks, mount, outline_of, outlines_are_sound};
 use std::alloc::Global;
+use std::process::Abort;
 use std::test::Fail;
 
 // a tree, with a file in blocks 5 and 7
@@ -15,52 +17,88 @@ fn mounted_tree(alloc: Global) -> Result<Mounted, Fail> {
     Ok(mount(alloc, &image)?)
 }
 
-#[test]
-fn mounted_image_tells_what_it_has(rt: HostRuntime) -> Result<(), Fail> {
-    let mounted = mounted_tree(rt.alloc())?;
-    assert_eq!(rt; (mounted.directories(), mounted.files()), (2, 4));
+/// Asserts what the tree has.
+fn has_tree(rt: &impl Abort, mounted: &Mounted) {
+    assert_eq!(rt; mounted.directories(), 2);
+    assert_eq!(rt; mounted.files(), 4);
     assert!(rt; mounted.thread() == [(0, 1), (3, 4)].as_slice());
     assert_eq!(rt; mounted.limits().name, 255);
     assert_eq!(rt; mounted.rows().count(), 6);
-    assert!(rt; mounted.rows().next().is_some_and(|row| row.is_dir()));
+    assert_eq!(rt; mounted.free_count(), 2);
+}
+
+/// Whether the first row of an image shows a directory.
+fn begins_with_a_directory(mounted: &Mounted) -> bool {
+    match mounted.rows().next() {
+        Some(row) => row.is_dir(),
+        None => false,
+    }
+}
+
+#[test]
+fn mounted_image_tells_what_it_has(rt: HostRuntime) -> Result<(), Fail> {
+    let mounted = mounted_tree(rt.alloc())?;
+    has_tree(&rt, &mounted);
+    assert!(rt; begins_with_a_directory(&mounted));
     Ok(())
+}
+
+/// The least free blocks of an image, two of them.
+fn lowest_free(alloc: Global, mounted: &Mounted) -> Option<Vec<u32>> {
+    if mounted.free_count() < 2 {
+        return None;
+    }
+    mounted.lowest_free(alloc, 2)
 }
 
 #[test]
 fn mounted_image_tells_free_blocks(rt: HostRuntime) -> Result<(), Fail> {
-    let mounted = mounted_tree(rt.alloc())?;
-    assert_eq!(rt; mounted.free_count(), 2);
-    let blocks = mounted.lowest_free(rt.alloc(), 2).ok_or("memory")?;
+    let blocks = lowest_free(rt.alloc(), &mounted_tree(rt.alloc())?).ok_or("memory")?;
     assert!(rt; blocks.as_slice() == [2, 6].as_slice());
     Ok(())
+}
+
+/// Whether an image has a directory at the root's path.
+fn finds_root(alloc: Global, mounted: &Mounted) -> bool {
+    let root = Path::new(Vec::new(alloc));
+    match mounted.find(&root) {
+        Some(found) => root.names().is_empty() && found.target().is_some(),
+        None => false,
+    }
 }
 
 #[test]
 fn mounted_image_finds_its_root(rt: HostRuntime) -> Result<(), Fail> {
     let mounted = mounted_tree(rt.alloc())?;
-    let root = Path::new(Vec::new(rt.alloc()));
-    assert!(rt; root.names().is_empty());
-    let found = mounted.find(&root);
-    assert!(rt; found.is_some_and(|found| found.target().is_some()));
+    assert!(rt; finds_root(rt.alloc(), &mounted));
     Ok(())
+}
+
+/// The blocks that an image uses.
+fn used_of(alloc: Global, image: &Image) -> Result<UsedBlocks, Fail> {
+    outlines_are_sound();
+    let outline = mount(alloc, image)?.into_outline();
+    Ok(outline.used_blocks(alloc)?)
 }
 
 #[test]
 fn outline_tells_its_blocks(rt: HostRuntime) -> Result<(), Fail> {
-    outlines_are_sound();
-    let image = image_of(rt.alloc(), 8, &TREE_HEADS)?;
-    let outline = mount(rt.alloc(), &image)?.into_outline();
-    let used = outline.used_blocks(rt.alloc())?;
+    let used = used_of(rt.alloc(), &image_of(rt.alloc(), 8, &TREE_HEADS)?)?;
     assert_eq!(rt; used.free_count(), 2);
     assert_eq!(rt; used.flags().get(6).copied(), Some(false));
     Ok(())
 }
 
+/// How many directories the outline of an image has that is mounted before.
+fn directories_again(alloc: Global, image: &Image) -> Result<usize, Fail> {
+    let _mounted = mount(alloc, image)?;
+    let outline = outline_of(alloc, image)?;
+    Ok(outline.directories.len())
+}
+
 #[test]
 fn outline_is_read_again(rt: HostRuntime) -> Result<(), Fail> {
     let image = image_of(rt.alloc(), 8, &TREE_HEADS)?;
-    let _mounted = mount(rt.alloc(), &image)?;
-    let outline = outline_of(rt.alloc(), &image)?;
-    assert_eq!(rt; outline.directories.len(), 2);
+    assert_eq!(rt; directories_again(rt.alloc(), &image)?, 2);
     Ok(())
 }

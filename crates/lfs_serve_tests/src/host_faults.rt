@@ -84,13 +84,16 @@ fn an_old_image_with_a_new_journal_is_kept(rt: HostRuntime) -> Result<(), Fail> 
     Ok(())
 }
 
+// what an earlier run may have left
+const LEFTOVERS: [&str; 2] = ["a.img.new", "a.img.lfsj.new"];
+
 #[test]
 fn leftovers_are_replaced(rt: HostRuntime) -> Result<(), Fail> {
     let done = edited_host(&rt, rt.alloc());
     let image = copied(rt.alloc(), &done, IMAGE)?;
     let journal = copied(rt.alloc(), &done, JOURNAL)?;
     let mut host = middle_host(&rt, rt.alloc());
-    for name in ["a.img.new", "a.img.lfsj.new"] {
+    for name in &LEFTOVERS {
         host.put(name, b"left")?;
     }
     is_done(&rt, rt.alloc(), &mut host, &PUT);

@@ -11,7 +11,7 @@ use std::process::Abort;
 use std::test::Fail;
 
 /// What is expected at a path: a file's bytes, or a folder.
-type Expected = (&'static str, Option<&'static [u8]>);
+pub(crate) type Expected = (&'static str, Option<&'static [u8]>);
 
 /// The rows of the folder `d`, in the order of paths.
 const ROWS: [Expected; 5] = [
@@ -31,14 +31,21 @@ const MADE: [Expected; 5] = [
     ("out/b/e", Some(b"")),
 ];
 
-/// A host with a folder `d`, in which a folder `b` is, and with files beside it.
+/// The files of a host: a folder `d`, in which a folder `b` is, and files beside it.
+const FILES: [(&str, &[u8]); 5] = [
+    ("d/b/e", b""),
+    ("d/b/c", b"two"),
+    ("d/a", b"one"),
+    ("da", b"beside"),
+    ("x/a", b"elsewhere"),
+];
+
+/// A host with these.
 fn host_with_folders(alloc: Global) -> Result<MemoryHost, AllocError> {
     let mut host = MemoryHost::new(alloc, b"");
-    host.put("d/b/e", b"")?;
-    host.put("d/b/c", b"two")?;
-    host.put("d/a", b"one")?;
-    host.put("da", b"beside")?;
-    host.put("x/a", b"elsewhere")?;
+    for (name, bytes) in &FILES {
+        host.put(name, bytes)?;
+    }
     Ok(host)
 }
 
@@ -46,6 +53,14 @@ fn host_with_folders(alloc: Global) -> Result<MemoryHost, AllocError> {
 fn is_row(row: &FolderRow, expected: &Expected) -> bool {
     row.path.as_slice() == expected.0.as_bytes()
         && row.bytes.as_ref().map(|b| b.as_slice()) == expected.1
+}
+
+/// Asserts that rows are what is expected.
+pub(crate) fn are_rows(rt: &impl Abort, rows: &[FolderRow], expected: &[Expected]) {
+    assert_eq!(rt; rows.len(), expected.len());
+    for (row, expected) in rows.iter().zip(expected) {
+        assert!(rt; is_row(row, expected));
+    }
 }
 
 /// Whether what was made is what is expected.
@@ -86,8 +101,8 @@ fn made_again(alloc: Global, host: &mut MemoryHost) -> Result<Result<(), Extract
 /// Asserts that just the first of these were made.
 fn are_made(rt: &impl Abort, host: &MemoryHost, count: usize) {
     assert_eq!(rt; host.made.len(), count);
-    for (made, expected) in host.made.iter().zip(MADE) {
-        assert!(rt; is_made(made, &expected));
+    for (made, expected) in host.made.iter().zip(&MADE) {
+        assert!(rt; is_made(made, expected));
     }
 }
 
@@ -95,17 +110,17 @@ fn are_made(rt: &impl Abort, host: &MemoryHost, count: usize) {
 fn a_folder_in_memory_is_read(rt: HostRuntime) -> Result<(), Fail> {
     let mut host = host_with_folders(rt.alloc())?;
     let rows = folder_rows(rt.alloc(), &mut host, "d").map_err(|_| "a fault")?;
-    assert_eq!(rt; rows.len(), 5);
-    for (row, expected) in rows.iter().zip(ROWS) {
-        assert!(rt; is_row(row, &expected));
-    }
+    are_rows(&rt, &rows, &ROWS);
     assert!(rt; !host.has_refused);
     Ok(())
 }
 
+/// Names of this host that are no folder's.
+const NO_FOLDERS: [&str; 4] = ["e", "d/a", "d/", "d/b/c/"];
+
 #[test]
 fn what_is_no_folder_is_refused(rt: HostRuntime) -> Result<(), Fail> {
-    for name in ["e", "d/a", "d/", "d/b/c/"] {
+    for name in &NO_FOLDERS {
         let mut host = host_with_folders(rt.alloc())?;
         let rows = folder_rows(rt.alloc(), &mut host, name);
         assert!(rt; rows.err() == Some(FolderFault::CannotRead));

@@ -1,5 +1,6 @@
 //! A folder in memory, read as rows.
 
+use crate::memory_folders::{Expected, are_rows};
 use lfs_folder::{FolderFault, folder_rows};
 use lfs_host::{Folders, HostKind, Known, ListFault, ReadFault};
 use std::alloc::{AllocError, Global};
@@ -82,23 +83,53 @@ fn leaf(name: &'static str, kind: HostKind, bytes: &'static [u8]) -> Item {
     }
 }
 
+// a folder `d` with two files and a folder, in which a file is
+const TREE: [Item; 5] = [
+    Item {
+        name: "d",
+        kind: HostKind::Folder,
+        bytes: b"",
+        names: &["b", "a", "ab"],
+    },
+    Item {
+        name: "d/a",
+        kind: HostKind::File,
+        bytes: b"one",
+        names: &[],
+    },
+    Item {
+        name: "d/ab",
+        kind: HostKind::Folder,
+        bytes: b"",
+        names: &["c"],
+    },
+    Item {
+        name: "d/ab/c",
+        kind: HostKind::File,
+        bytes: b"",
+        names: &[],
+    },
+    Item {
+        name: "d/b",
+        kind: HostKind::File,
+        bytes: b"two",
+        names: &[],
+    },
+];
+
+// its rows
+const ROWS: [Expected; 5] = [
+    ("/", None),
+    ("/ab", None),
+    ("/ab/c", Some(b"")),
+    ("/a", Some(b"one")),
+    ("/b", Some(b"two")),
+];
+
 #[test]
 fn rows_stand_in_the_order_of_paths(rt: HostRuntime) -> Result<(), Fail> {
-    let items = [
-        folder("d", &["b", "a", "ab"]),
-        leaf("d/a", HostKind::File, b"one"),
-        folder("d/ab", &["c"]),
-        leaf("d/ab/c", HostKind::File, b""),
-        leaf("d/b", HostKind::File, b"two"),
-    ];
-    let paths = ["/", "/ab", "/ab/c", "/a", "/b"];
-    let bytes: [Option<&[u8]>; 5] = [None, None, Some(b""), Some(b"one"), Some(b"two")];
-    let rows = folder_rows(rt.alloc(), &mut Shelf(&items), "d").map_err(|_| "a fault")?;
-    assert_eq!(rt; rows.len(), 5);
-    for (row, (path, bytes)) in rows.iter().zip(paths.iter().zip(bytes)) {
-        assert!(rt; row.path.as_slice() == path.as_bytes());
-        assert!(rt; row.bytes.as_ref().map(|b| b.as_slice()) == bytes);
-    }
+    let rows = folder_rows(rt.alloc(), &mut Shelf(&TREE), "d").map_err(|_| "a fault")?;
+    are_rows(&rt, &rows, &ROWS);
     Ok(())
 }
 

@@ -1,0 +1,11 @@
+-- The image mounts.
+use Rattle.lfs_fs.proofs.OutliningLemmas.{mounted_outline}
+use Rattle.lfs_read_tests.proofs.trees.directories_again.Goals as goal
+
+pub outline_of-requires : goal.outline_of-requires
+outline_of-requires c = record {
+  outline = (
+    c.in_ok-_mounted._mounted.outline,
+    mounted_outline c.args.image.now.disk c.in_ok-_mounted._mounted c.in_ok-_mounted.ensures.mounted,
+  );
+}
