@@ -34,17 +34,22 @@ use lfs_pack::{PackRow, pack_within};
 use lfs_sink::Sink;
 use std::alloc::Global;
 
-/// Takes one step on an image and its journal, with blocks of `size` bytes. `input` is what the step reads: the
-/// contents of a file that is put, or an image that the first is compared with. What it says goes to `out`, and the caller owes that this has not failed. With a
-/// fault the image and the journal are those that were handed in, and nothing goes out but where `out` itself failed.
-/// An empty journal is that of an image that nothing was done to. A step that changes the image is one on the history
-/// that image and journal denote, and answers those of the history that it leaves; a new image gets a journal without
-/// changes. What is asked leaves both files as they are; of such
-/// steps only the recount of changes reads the journal. New images read none, and forgetting none either. Behind a command `keep` images of the past are kept,
-/// or all of them; the caller owes that it is 1 to 1,000, and other steps don't look at it. Where the step makes a new image the caller
-/// owes limits that an image may have. A step that is done leaves an image and a
-/// journal that denote the history to which it leads; a command, an image that mounts to the command's equation, and a journal that
-/// has grown by no more than the command's need. Takes memory.
+/// Takes one step on an image and its journal, with blocks of `size` bytes. `input` is what the step reads: the contents of a file that
+/// is put, or an image that the first is compared with. What it says goes to `out`, and the caller owes that this has not failed. With a
+/// fault the image and the journal are those that were handed in, and nothing goes out but where `out` itself failed. An empty journal is
+/// that of an image that nothing was done to.
+///
+/// A step that changes the image is one on the history that image and journal denote, and answers those of the history that it leaves;
+/// a batch is several of them, all of which are done or none, and its outcome says at which it is refused. A new image gets a journal
+/// without changes. What is asked leaves both files as they are; of such steps only the recount of changes reads the journal. New images
+/// read none, and forgetting none either.
+///
+/// Behind a command `keep` images of the past are kept, or all of them; the caller owes that it is 1 to 1,000, and other steps don't look
+/// at it: each step of a batch has its own, of which the caller owes the same. Where the step makes a new image the caller owes limits
+/// that an image may have.
+///
+/// A step that is done leaves an image and a journal that denote the history to which it leads; a command, an image that mounts to the
+/// command's equation, and a journal that has grown by no more than the command's need. Takes memory.
 ///
 /// Source: own.
 pub fn run<S: Sink>(
