@@ -3,3 +3,4 @@ pub mod ChangeLemmas
 pub mod BatchLemmas
 pub mod LawLemmas
 pub mod GrowthLemmas
+pub mod TakenBackLemmas

@@ -11,13 +11,18 @@ use Rattle.lfs_history.specs.declared.step_fault.StepFault.TheVariants.{Refused 
 use Rattle.lfs_history.specs.Batch.{StopsAt, TakesAll}
 use Rattle.lfs_history.specs.History.{History}
 use Rattle.lfs_history.specs.Opening.{journal_of}
-use Rattle.lfs_history.specs.Taking.{Move}
+use Rattle.lfs_history.specs.Taking.{Move, Do}
 use Rattle.lfs_change.specs.declared.fault.Fault.{Fault}
 use Rattle.lfs_change.specs.declared.fault.Fault.TheVariants as fault
 use Rattle.lfs_change.specs.declared.fault.Fault.TheVariants.{Image, Mount, Refused, JournalFormat, JournalMismatch, JournalImage}
 use Rattle.lfs_change.specs.declared.outcome.Outcome.{Outcome}
 use Rattle.lfs_change.specs.Bytes.{image_of}
 use Rattle.lfs_change.specs.Change.{DenotesOn, RefusesJournal}
+
+-- a command that drops nothing of the history
+abbrev pub KeepsPast : Move → Type 0
+KeepsPast (Do asked None) = Unit {0}
+KeepsPast _ = ⊥
 
 -- The steps are taken on the history that the image and the journal denote, all of them. These are the bytes of the image and of the
 -- journal of the history that they leave.

@@ -6,7 +6,7 @@ use Rattle.lfs_change.specs.declared.fault.Fault.{Fault}
 use Rattle.lfs_change.specs.declared.fault.Fault.TheVariants.{Refused}
 use Rattle.lfs_change.specs.Batch.{AnswersAll}
 use Rattle.lfs_change.proofs.BatchLemmas.{all_answers}
-use Rattle.lfs_change.proofs.batching.changed_by_all.Goals as goal
+use Rattle.lfs_change.proofs.batching.changed_beside.Goals as goal
 
 pub returns-in-Ok-Ok-clause-answers : goal.returns-in-Ok-Ok-clause-answers
 returns-in-Ok-Ok-clause-answers c =
