@@ -1,14 +1,15 @@
 -- What is refused while an image is gathered is a cause of the image.
-use Rattle.std.proofs.Common.{◌≡◌, ◌≢◌, ◌⊎◌, ℕ, ◌<◌, ◌≤◌, Bool, List, [], ◌∷◌, ◌++◌, length, map, Some, None, zero, suc, refl, ap, sym, ◌∙◌}
+use Rattle.std.proofs.Common.{◌≡◌, ◌≢◌, ◌⊎◌, ℕ, ◌<◌, ◌≤◌, List, [], ◌∷◌, ◌++◌, length, map, Some, None, zero, suc, refl, ap, sym, ◌∙◌}
 use Rattle.std.proofs.Common.{subst, arith}
 use Rattle.std.specs.Prelude.{Contains, slice_index_or}
 use Rattle.std.specs.List.{Any, slice_get}
-use Rattle.std.proofs.lemmas.List.Elements.{All-contains, All-head}
+use Rattle.std.proofs.lemmas.List.Elements.{All-contains}
 use Rattle.std.proofs.lemmas.List.Sums.{sum_by-cons}
 use mathlib.Core.Logic.{inl, inr}
 use Rattle.lfs_block.specs.Disk.{Disk}
 use Rattle.lfs_block.specs.declared.mount_fault.MountFault.{MountFault}
 use Rattle.lfs_block.specs.declared.mount_fault.MountFault.TheVariants as fault
+use Rattle.lfs_meta.specs.declared.kind.Kind.TheVariants.{Super}
 use Rattle.lfs_meta.specs.Attribute.{Attributes}
 use Rattle.lfs_meta.specs.Body.{Pair, StoredBody, Inline as Stored_inline, Chain as Stored_chain, Directory_at as Stored_directory}
 use Rattle.lfs_meta.specs.Entry.{StoredEntry}
@@ -21,7 +22,7 @@ use Rattle.lfs_fs.specs.Directory.{Directory, entries, thread}
 use Rattle.lfs_fs.specs.State.{delta_of}
 use Rattle.lfs_fs.specs.Thread.{pieces}
 use Rattle.lfs_fs.specs.Reading.{Reading, reading_of}
-use Rattle.lfs_fs.specs.Front.{pair_names, pairs_name}
+use Rattle.lfs_fs.specs.Front.{pair_names, pairs_name, IsThread}
 use Rattle.lfs_fs.specs.Superblock.{HasSuperblock, IsSuperblock, superblock_entry}
 use Rattle.lfs_fs.specs.Header.{HeaderCause}
 use Rattle.lfs_fs.specs.Held.{directories_at, volume_at}
@@ -32,35 +33,38 @@ use Rattle.lfs_fs.specs.ThreadCause.{HasState}
 use Rattle.lfs_fs.specs.Cause.{HasCause}
 use Rattle.lfs_fs.specs.Outlined.{outlined_entry, outlined_directory, outlined_directories}
 use Rattle.lfs_fs.specs.Gathering.{PairPart, delta_from, StateCause, NamesFall, HasNoChain, LeadsPast, EntryFault, PartsCause}
-use Rattle.lfs_fs.specs.ThreadRead.{pairs_of, IsPartRead, IsThreadRead}
-use Rattle.lfs_fs.specs.Judged.{SaysLimits, SaysBytes, JudgedCause, with_entries, BeginsWithNone}
+use Rattle.lfs_fs.specs.ThreadRead.{pairs_of, IsPartRead}
+use Rattle.lfs_fs.specs.Judged.{SaysLimits, SaysBytes, JudgedCause, with_entries}
 use Rattle.lfs_fs.proofs.CountLemmas.{element_le}
 use Rattle.lfs_fs.proofs.ThreadReadLemmas.{no_header}
 use Rattle.lfs_fs.proofs.OutlinedLemmas.{outlined_entries}
-use Rattle.lfs_fs.proofs.GatheredLemmas.{RootRead, root_superblock, later_links, same_links, uses_are, state_is}
+use Rattle.lfs_fs.proofs.GatheredLemmas.{RootRead, root_superblock, same_links, uses_are, state_is}
 use Rattle.lfs_fs.proofs.ContainsLemmas.{contains_mapped}
 
 -- ---- the global state
 
-state_at : (r : Reading) (ps : List PairPart) (start : List Bool) (f : ℕ → Type 0) → IsThreadRead r ps start → f (delta_from ps)
-    → HasState r f
-state_at r ps start f h says = record {
-  pairs = pairs_of ps;
-  is_thread = h.is_thread;
-  is = subst f (sym (state_is r ps) ∙ ap (λ x. delta_of (thread (pieces x))) (later_links r ps h.each)) says;
+state_at : (r : Reading) (f : ℕ → Type 0) (p : PairPart) (e : StoredEntry) (others : List StoredEntry)
+    (rest : List PairPart) → RootRead r p e others rest → e.kind ≡ Super → IsThread r (p.0 ∷ pairs_of rest)
+    → f (delta_from (with_entries p others ∷ rest)) → HasState r f
+state_at r f p e others rest h kind is_thread says = record {
+  pairs = p.0 ∷ pairs_of rest;
+  is_thread = is_thread;
+  is = subst f (sym (state_is r (with_entries p others ∷ rest))
+      ∙ ap (λ x. delta_of (thread (pieces x))) (same_links r p e others rest h kind)) says;
 }
 
-pub state_refuses : (d : Disk) (f : MountFault) (ps : List PairPart) (start : List Bool) → IsThreadRead (reading_of d) ps start
-    → StateCause f (delta_from ps) → HasCause d f
-state_refuses d fault.UnfinishedMove ps start h says = state_at (reading_of d) ps start (StateCause fault.UnfinishedMove) h says
-state_refuses d fault.Orphan ps start h says = inr (state_at (reading_of d) ps start (StateCause fault.Orphan) h says)
-state_refuses d fault.UnknownState ps start h says = state_at (reading_of d) ps start (StateCause fault.UnknownState) h says
-state_refuses d _ ps start h says = absurd says
+pub state_refuses : (d : Disk) (f : MountFault) (p : PairPart) (e : StoredEntry) (others : List StoredEntry) (rest : List PairPart)
+    → RootRead (reading_of d) p e others rest → e.kind ≡ Super → IsThread (reading_of d) (p.0 ∷ pairs_of rest)
+    → StateCause f (delta_from (with_entries p others ∷ rest)) → HasCause d f
+state_refuses d fault.UnfinishedMove p e others rest h kind is_thread says =
+    state_at (reading_of d) (StateCause fault.UnfinishedMove) p e others rest h kind is_thread says
+state_refuses d fault.Orphan p e others rest h kind is_thread says =
+    inr (state_at (reading_of d) (StateCause fault.Orphan) p e others rest h kind is_thread says)
+state_refuses d fault.UnknownState p e others rest h kind is_thread says =
+    state_at (reading_of d) (StateCause fault.UnknownState) p e others rest h kind is_thread says
+state_refuses d _ p e others rest h kind is_thread says = absurd says
 
 -- ---- the superblock
-
-first_at : (r : Reading) (p : PairPart) (ps : List PairPart) (start : List Bool) → IsThreadRead r (p ∷ ps) start → p.0 ≡ root
-first_at r p ps start h = let first : Some root ≡ Some p.0 = h.is_thread.front.follow.0 in cc
 
 pub no_first : (r : Reading) (s : StoredPart) (bytes : List ℕ) (attributes : Attributes) → r.part root ≡ Some s → s.entries ≡ []
     → HasSuperblock r bytes attributes → ⊥
@@ -69,27 +73,24 @@ no_first r s bytes attributes read none super =
     let first : superblock_entry bytes attributes ∷ super.others ≡ [] = sym super.is ∙ ap (λ (x : StoredPart). x.entries) part ∙ none in
     cc
 
-pub none_refuses : (r : Reading) (ps : List PairPart) (start : List Bool) → IsThreadRead r ps start → BeginsWithNone ps → NoSuperblock r
-none_refuses r [] start h none = let ends : Some root ≡ None = h.is_thread.ends in cc
-none_refuses r (p ∷ ps) start h none =
-    let at : p.0 ≡ root = first_at r p ps start h in
-    let read : r.part root ≡ Some p.1 = ap r.part (sym at) ∙ (All-head (IsPartRead r) p ps h.each).read in
-    record { part = p.1; read = read; none = λ bytes attributes super. no_first r p.1 bytes attributes read none super }
+pub none_refuses : (r : Reading) (s : StoredPart) → r.part root ≡ Some s → s.entries ≡ [] → NoSuperblock r
+none_refuses r s read none =
+    record { part = s; read = read; none = λ bytes attributes super. no_first r s bytes attributes read none super }
 
-e_is : (r : Reading) (start : List Bool) (p : PairPart) (e : StoredEntry) (others : List StoredEntry) (rest : List PairPart)
-    (bytes : List ℕ) (attributes : Attributes) → RootRead r start p e others rest → HasSuperblock r bytes attributes → IsSuperblock e bytes
-e_is r start p e others rest bytes attributes h super =
+e_is : (r : Reading) (p : PairPart) (e : StoredEntry) (others : List StoredEntry) (rest : List PairPart)
+    (bytes : List ℕ) (attributes : Attributes) → RootRead r p e others rest → HasSuperblock r bytes attributes → IsSuperblock e bytes
+e_is r p e others rest bytes attributes h super =
     let part : super.part ≡ (with_entries p (e ∷ others)).1 = cc (super.read, h.part) in
     let first : superblock_entry bytes attributes ∷ super.others ≡ e ∷ others = sym super.is ∙ ap (λ (s : StoredPart). s.entries) part in
     let same : superblock_entry bytes attributes ≡ e = cc in
     subst (λ (x : StoredEntry). IsSuperblock x bytes) same (record { kind = refl; name = refl; body = refl; len = super.len })
 
 -- the first entry
-e_stored : (r : Reading) (start : List Bool) (p : PairPart) (e : StoredEntry) (others : List StoredEntry) (rest : List PairPart)
-    → RootRead r start p e others rest → StoredOn r e
-e_stored r start p e others rest h = record {
+e_stored : (r : Reading) (p : PairPart) (e : StoredEntry) (others : List StoredEntry) (rest : List PairPart)
+    → RootRead r p e others rest → StoredOn r e
+e_stored r p e others rest h = record {
   front = p.0 ∷ pairs_of rest;
-  is_front = h.is_thread.front;
+  is_front = h.front;
   pair = root;
   there = (0, omega arith, h.at);
   part = (with_entries p (e ∷ others)).1;
@@ -98,37 +99,37 @@ e_stored r start p e others rest h = record {
   member = refl;
 }
 
-says_wrong : (r : Reading) (start : List Bool) (p : PairPart) (e : StoredEntry) (others : List StoredEntry) (rest : List PairPart)
-    (these : List ℕ → Type 0) → RootRead r start p e others rest → SaysBytes e these → SuperblockIs r these
-says_wrong r start p e others rest these h says = record {
+says_wrong : (r : Reading) (p : PairPart) (e : StoredEntry) (others : List StoredEntry) (rest : List PairPart)
+    (these : List ℕ → Type 0) → RootRead r p e others rest → SaysBytes e these → SuperblockIs r these
+says_wrong r p e others rest these h says = record {
   bytes = says.bytes;
   attributes = e.attributes;
-  superblock = root_superblock r start p e others rest says.bytes h says.is;
+  superblock = root_superblock r p e others rest says.bytes h says.is;
   is = says.says;
 }
 
-pub superblock_refuses : (d : Disk) (f : MountFault) (start : List Bool) (p : PairPart) (e : StoredEntry) (others : List StoredEntry)
-    (rest : List PairPart) → RootRead (reading_of d) start p e others rest → JudgedCause f d.size d.count e → HasCause d f
-superblock_refuses d fault.NoSuperblock start p e others rest h cause = record {
+pub superblock_refuses : (d : Disk) (f : MountFault) (p : PairPart) (e : StoredEntry) (others : List StoredEntry)
+    (rest : List PairPart) → RootRead (reading_of d) p e others rest → JudgedCause f d.size d.count e → HasCause d f
+superblock_refuses d fault.NoSuperblock p e others rest h cause = record {
   part = (with_entries p (e ∷ others)).1;
   read = h.part;
-  none = λ bytes attributes super. cause bytes (e_is (reading_of d) start p e others rest bytes attributes h super);
+  none = λ bytes attributes super. cause bytes (e_is (reading_of d) p e others rest bytes attributes h super);
 }
-superblock_refuses d fault.Version start p e others rest h cause = says_wrong (reading_of d) start p e others rest
+superblock_refuses d fault.Version p e others rest h cause = says_wrong (reading_of d) p e others rest
     (HeaderCause fault.Version d.size d.count) h cause
-superblock_refuses d fault.Geometry start p e others rest h cause = says_wrong (reading_of d) start p e others rest
+superblock_refuses d fault.Geometry p e others rest h cause = says_wrong (reading_of d) p e others rest
     (HeaderCause fault.Geometry d.size d.count) h cause
-superblock_refuses d fault.Limits start p e others rest h cause = says_wrong (reading_of d) start p e others rest
+superblock_refuses d fault.Limits p e others rest h cause = says_wrong (reading_of d) p e others rest
     (HeaderCause fault.Limits d.size d.count) h cause
-superblock_refuses d fault.BadSize start p e others rest h cause = record {
+superblock_refuses d fault.BadSize p e others rest h cause = record {
   bytes = cause.bytes;
   attributes = e.attributes;
-  superblock = root_superblock (reading_of d) start p e others rest cause.bytes h cause.is;
+  superblock = root_superblock (reading_of d) p e others rest cause.bytes h cause.is;
   entry = e;
-  stored = e_stored (reading_of d) start p e others rest h;
+  stored = e_stored (reading_of d) p e others rest h;
   over = inr (inr cause.says);
 }
-superblock_refuses d _ start p e others rest h cause = absurd cause.says
+superblock_refuses d _ p e others rest h cause = absurd cause.says
 
 -- ---- entries
 
@@ -145,25 +146,25 @@ record FoundEntry (r : Reading) (P : StoredEntry → Type 0) : Type 0 where
   elsewhere : (stored.pair ≢ root) ⊎ (0 < stored.index)
 
 -- the root's pair stands once
-not_again : (r : Reading) (start : List Bool) (p : PairPart) (e : StoredEntry) (others : List StoredEntry) (rest : List PairPart) (q : Pair)
-    → RootRead r start p e others rest → Contains (pairs_of rest) q → q ≢ root
-not_again r start p e others rest q h there same =
-    let once : pairs_name 0 (p.0 ∷ pairs_of rest) ≤ 1 = h.is_thread.front.once 0 in
+not_again : (r : Reading) (p : PairPart) (e : StoredEntry) (others : List StoredEntry) (rest : List PairPart) (q : Pair)
+    → RootRead r p e others rest → Contains (pairs_of rest) q → q ≢ root
+not_again r p e others rest q h there same =
+    let once : pairs_name 0 (p.0 ∷ pairs_of rest) ≤ 1 = h.front.once 0 in
     let first : pair_names 0 p.0 ≡ 1 = ap (pair_names 0) h.at in
     let again : pair_names 0 q ≡ 1 = ap (pair_names 0) same in
     let some : pair_names 0 q ≤ pairs_name 0 (pairs_of rest) = element_le (pair_names 0) (pairs_of rest) q there in
     omega (arith, sum_by-cons (pair_names 0) p.0 (pairs_of rest))
 
-found_entry : (r : Reading) (start : List Bool) (p : PairPart) (e : StoredEntry) (others : List StoredEntry) (rest : List PairPart)
-    (P : StoredEntry → Type 0) → RootRead r start p e others rest → Any (λ (q : PairPart). Any P q.1.entries) (with_entries p others ∷ rest)
+found_entry : (r : Reading) (p : PairPart) (e : StoredEntry) (others : List StoredEntry) (rest : List PairPart)
+    (P : StoredEntry → Type 0) → RootRead r p e others rest → Any (λ (q : PairPart). Any P q.1.entries) (with_entries p others ∷ rest)
     → FoundEntry r P
-found_entry r start p e others rest P h (zero, q, within, at, any) =
+found_entry r p e others rest P h (zero, q, within, at, any) =
     let inner : Any P others = subst (λ (y : PairPart). Any P y.1.entries) (sym at) any in
     record {
       entry = inner.1;
       stored = record {
         front = p.0 ∷ pairs_of rest;
-        is_front = h.is_thread.front;
+        is_front = h.front;
         pair = root;
         there = (0, omega arith, h.at);
         part = (with_entries p (e ∷ others)).1;
@@ -174,14 +175,14 @@ found_entry r start p e others rest P h (zero, q, within, at, any) =
       holds = inner.4;
       elsewhere = inr (omega arith);
     }
-found_entry r start p e others rest P h (suc k, q, within, at, (i, x, inside, is, holds)) =
+found_entry r p e others rest P h (suc k, q, within, at, (i, x, inside, is, holds)) =
     let there : Contains rest q = (k, omega arith, at) in
     let pairs : Contains (pairs_of rest) q.0 = contains_mapped (λ (y : PairPart). y.0) rest q there in
     record {
       entry = x;
       stored = record {
         front = p.0 ∷ pairs_of rest;
-        is_front = h.is_thread.front;
+        is_front = h.front;
         pair = q.0;
         there = (suc pairs.0, omega (arith, pairs.1), pairs.2);
         part = q.1;
@@ -190,7 +191,7 @@ found_entry r start p e others rest P h (suc k, q, within, at, (i, x, inside, is
         member = got q.1.entries i x inside is;
       };
       holds = holds;
-      elsewhere = inl (not_again r start p e others rest q.0 h pairs);
+      elsewhere = inl (not_again r p e others rest q.0 h pairs);
     }
 
 no_chain_of : (r : Reading) (body : StoredBody) → HasNoChain r body → (head : ℕ) × (size : ℕ) × (body ≡ Stored_chain head size)
@@ -269,48 +270,47 @@ misordered r pairs any =
 
 -- ---- parts
 
-pub parts_refuse : (d : Disk) (f : MountFault) (limits : Limits) (start : List Bool) (p : PairPart) (e : StoredEntry)
-    (others : List StoredEntry) (rest : List PairPart) → RootRead (reading_of d) start p e others rest → SaysLimits d.size d.count limits e
-    → PartsCause f (reading_of d) limits start (with_entries p others ∷ rest) → HasCause d f
-parts_refuse d fault.BadSkipList limits start p e others rest h judged cause =
+pub parts_refuse : (d : Disk) (f : MountFault) (limits : Limits) (p : PairPart) (e : StoredEntry)
+    (others : List StoredEntry) (rest : List PairPart) → RootRead (reading_of d) p e others rest → SaysLimits d.size d.count limits e
+    → PartsCause f (reading_of d) limits (λ b. pairs_name b (p.0 ∷ pairs_of rest)) (with_entries p others ∷ rest) → HasCause d f
+parts_refuse d fault.BadSkipList limits p e others rest h judged cause =
     let r = reading_of d in
-    let found = found_entry r start p e others rest (EntryFault fault.BadSkipList r limits) h cause in
+    let found = found_entry r p e others rest (EntryFault fault.BadSkipList r limits) h cause in
     let none = no_chain_of r found.entry.body found.holds in
     record { entry = found.entry; stored = found.stored; head = none.0; size = none.1; is_chain = none.2; none = none.3 }
-parts_refuse d fault.BlockRange limits start p e others rest h judged cause =
+parts_refuse d fault.BlockRange limits p e others rest h judged cause =
     let r = reading_of d in
-    let found = found_entry r start p e others rest (EntryFault fault.BlockRange r limits) h cause in
+    let found = found_entry r p e others rest (EntryFault fault.BlockRange r limits) h cause in
     let leads = leads_of r found.entry.body found.holds in
     inr (record { entry = found.entry; stored = found.stored; pair = leads.0; leads = leads.1; past = leads.2 })
-parts_refuse d fault.SuperblockElsewhere limits start p e others rest h judged cause =
-    let found = found_entry (reading_of d) start p e others rest (EntryFault fault.SuperblockElsewhere (reading_of d) limits) h cause in
+parts_refuse d fault.SuperblockElsewhere limits p e others rest h judged cause =
+    let found = found_entry (reading_of d) p e others rest (EntryFault fault.SuperblockElsewhere (reading_of d) limits) h cause in
     record { entry = found.entry; stored = found.stored; kind = found.holds; elsewhere = found.elsewhere }
-parts_refuse d fault.BadSize limits start p e others rest h judged cause =
-    let found = found_entry (reading_of d) start p e others rest (EntryFault fault.BadSize (reading_of d) limits) h cause in
+parts_refuse d fault.BadSize limits p e others rest h judged cause =
+    let found = found_entry (reading_of d) p e others rest (EntryFault fault.BadSize (reading_of d) limits) h cause in
     record {
       bytes = judged.bytes;
       attributes = e.attributes;
-      superblock = root_superblock (reading_of d) start p e others rest judged.bytes h judged.is;
+      superblock = root_superblock (reading_of d) p e others rest judged.bytes h judged.is;
       entry = found.entry;
       stored = found.stored;
       over = subst (λ (l : Limits). IsOversized l found.entry) judged.limits_are found.holds;
     }
-parts_refuse d fault.OrderFault limits start p e others rest h judged cause =
+parts_refuse d fault.OrderFault limits p e others rest h judged cause =
     let r = reading_of d in
-    let links = same_links r start p e others rest h judged.is.kind in
+    let links = same_links r p e others rest h judged.is.kind in
     record {
       header = no_header;
       front = p.0 ∷ pairs_of rest;
-      is_front = h.is_thread.front;
+      is_front = h.front;
       fault = misordered r (p.0 ∷ pairs_of rest) (subst (Any (λ (d : Directory). NamesFall (entries d)))
           (ap (λ x. outlined_directories (pieces x)) links) cause);
     }
-parts_refuse d fault.BlockTwice limits start p e others rest h judged (b, twice) =
+parts_refuse d fault.BlockTwice limits p e others rest h judged (b, twice) =
     let r = reading_of d in
     let all = uses_are r no_header b (with_entries p others ∷ rest) (p.0 ∷ pairs_of rest)
-    (same_links r start p e others rest h judged.is.kind) refl in
-    let marks = h.marks b in
-    record { header = no_header; front = p.0 ∷ pairs_of rest; is_front = h.is_thread.front; twice = inl (b, omega arith) }
-parts_refuse d fault.Memory limits start p e others rest h judged cause = tt
-parts_refuse d f limits start p e others rest h judged cause = absurd
-    (found_entry (reading_of d) start p e others rest (EntryFault f (reading_of d) limits) h cause).holds
+    (same_links r p e others rest h judged.is.kind) refl in
+    record { header = no_header; front = p.0 ∷ pairs_of rest; is_front = h.front; twice = inl (b, omega arith) }
+parts_refuse d fault.Memory limits p e others rest h judged cause = tt
+parts_refuse d f limits p e others rest h judged cause = absurd
+    (found_entry (reading_of d) p e others rest (EntryFault f (reading_of d) limits) h cause).holds

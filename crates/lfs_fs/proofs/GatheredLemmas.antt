@@ -2,8 +2,7 @@
 use Rattle.std.proofs.Common.{◌≡◌, ◌≢◌, ℕ, ◌+◌, Bool, false, List, [], ◌∷◌, ◌++◌, length, map, Some, zero, suc, refl, ap, sym, ◌∙◌, subst}
 use Rattle.std.proofs.Common.{arith}
 use Rattle.std.specs.Prelude.{All, Contains, flat_map, sum_by, bit_xor}
-use Rattle.std.specs.List.{AllByRecursion}
-use Rattle.std.proofs.lemmas.List.Elements.{All-cons, All-nil, All-head, All-tail, All-weaker}
+use Rattle.std.proofs.lemmas.List.Elements.{All-cons, All-nil, All-head, All-tail}
 use Rattle.std.proofs.lemmas.List.Sums.{sum_by-cons}
 use Rattle.lfs_block.specs.Disk.{Disk}
 use Rattle.lfs_meta.specs.declared.kind.Kind.{Kind}
@@ -11,7 +10,6 @@ use Rattle.lfs_meta.specs.declared.kind.Kind.TheVariants.{Super}
 use Rattle.lfs_meta.specs.Body.{Pair}
 use Rattle.lfs_meta.specs.Entry.{StoredEntry}
 use Rattle.lfs_meta.specs.Part.{StoredPart}
-use Rattle.lfs_meta.specs.Whole.{IsWhole}
 use Rattle.lfs_fs.specs.declared.limits.Limits.{Limits}
 use Rattle.lfs_fs.specs.declared.gathering.Gathered.{Gathered}
 use Rattle.lfs_fs.specs.Pair.{root}
@@ -24,14 +22,14 @@ use Rattle.lfs_fs.specs.State.{delta_of}
 use Rattle.lfs_fs.specs.Thread.{Link, pieces}
 use Rattle.lfs_fs.specs.Sound.{IsProper, Rise, AreAttributes}
 use Rattle.lfs_fs.specs.Reading.{Reading, reading_of}
-use Rattle.lfs_fs.specs.Front.{IsThread, pair_names, pairs_name}
+use Rattle.lfs_fs.specs.Front.{IsThread, pair_names, pairs_name, IsFront}
 use Rattle.lfs_fs.specs.Superblock.{Header, HasSuperblock, IsSuperblock, header_of}
 use Rattle.lfs_fs.specs.Held.{resolved_as, resolved, link_of, link_at, directories_at, volume_at}
 use Rattle.lfs_fs.specs.Holds.{Holds, IsResolved}
 use Rattle.lfs_fs.specs.Outlined.{outlined_directories}
 use Rattle.lfs_fs.specs.Gathering.{PairPart, delta_from, link_from, stored_uses, parts_use, IsProperPart, KeepsParts}
-use Rattle.lfs_fs.specs.ThreadRead.{pairs_of, IsPartRead, IsThreadRead}
-use Rattle.lfs_fs.specs.Judged.{SaysLimits, with_entries, TakesFirst}
+use Rattle.lfs_fs.specs.ThreadRead.{pairs_of, IsPartRead}
+use Rattle.lfs_fs.specs.Judged.{SaysLimits, with_entries}
 use Rattle.lfs_fs.specs.Gathered.{IsSoundUnwalked, IsGathered}
 use Rattle.lfs_fs.proofs.SuperblockLemmas.{super_by}
 use Rattle.lfs_fs.proofs.CountLemmas.{part_uses, uses_at, link_pair}
@@ -41,33 +39,16 @@ use Rattle.lfs_fs.proofs.OutlinedLemmas.{all_rise}
 
 -- ---- the first part
 
--- a thread whose first part begins with this entry
-pub record RootRead (r : Reading) (start : List Bool) (p : PairPart) (e : StoredEntry) (others : List StoredEntry)
-    (rest : List PairPart) : Type 0 where
+-- a front whose first part begins with this entry
+pub record RootRead (r : Reading) (p : PairPart) (e : StoredEntry) (others : List StoredEntry) (rest : List PairPart) : Type 0 where
   pub at : p.0 ≡ root
   pub part : r.part root ≡ Some (with_entries p (e ∷ others)).1
   pub later : All (IsPartRead r) rest
-  pub is_thread : IsThread r (p.0 ∷ pairs_of rest)
-  pub len : length start ≡ r.count
-  pub marks : Marks start (λ b. pairs_name b (p.0 ∷ pairs_of rest))
+  pub front : IsFront r (p.0 ∷ pairs_of rest)
 
-pub root_read : (r : Reading) (start : List Bool) (p : PairPart) (e : StoredEntry) (others : List StoredEntry) (rest : List PairPart)
-    → IsThreadRead r (with_entries p (e ∷ others) ∷ rest) start → RootRead r start p e others rest
-root_read r start p e others rest h =
-    let first : Some root ≡ Some p.0 = h.is_thread.front.follow.0 in
-    let at : p.0 ≡ root = cc in
-    record {
-      at = at;
-      part = ap r.part (sym at) ∙ (All-head (IsPartRead r) (with_entries p (e ∷ others)) rest h.each).read;
-      later = All-tail (IsPartRead r) (with_entries p (e ∷ others)) rest h.each;
-      is_thread = h.is_thread;
-      len = h.len;
-      marks = h.marks;
-    }
-
-pub root_superblock : (r : Reading) (start : List Bool) (p : PairPart) (e : StoredEntry) (others : List StoredEntry) (rest : List PairPart)
-    (bytes : List ℕ) → RootRead r start p e others rest → IsSuperblock e bytes → HasSuperblock r bytes e.attributes
-root_superblock r start p e others rest bytes h is = record {
+pub root_superblock : (r : Reading) (p : PairPart) (e : StoredEntry) (others : List StoredEntry) (rest : List PairPart)
+    (bytes : List ℕ) → RootRead r p e others rest → IsSuperblock e bytes → HasSuperblock r bytes e.attributes
+root_superblock r p e others rest bytes h is = record {
   part = (with_entries p (e ∷ others)).1;
   read = h.part;
   others = others;
@@ -89,10 +70,10 @@ none_for : (r : Reading) (e : StoredEntry) (others : List StoredEntry) → e.kin
 none_for r e others kind = ap (λ (k : Kind). resolved_as r e k ++ flat_map (resolved r) others) (sym kind)
 
 -- a superblock stands for nothing
-pub same_links : (r : Reading) (start : List Bool) (p : PairPart) (e : StoredEntry) (others : List StoredEntry) (rest : List PairPart)
-    → RootRead r start p e others rest → e.kind ≡ Super
+pub same_links : (r : Reading) (p : PairPart) (e : StoredEntry) (others : List StoredEntry) (rest : List PairPart)
+    → RootRead r p e others rest → e.kind ≡ Super
     → map (link_from r) (with_entries p others ∷ rest) ≡ map (link_at r) (p.0 ∷ pairs_of rest)
-same_links r start p e others rest h kind =
+same_links r p e others rest h kind =
     let read : r.part p.0 ≡ Some (with_entries p (e ∷ others)).1 = ap r.part h.at ∙ h.part in
     let here : link_from r (with_entries p others) ≡ link_from r (with_entries p (e ∷ others)) =
     ap (λ (es : List Entry). record {
@@ -159,27 +140,28 @@ later_one first ps pair (suc k, within, at) other = (k, omega arith, at)
 -- ---- all together
 
 -- what was found on the way
-pub record Found (r : Reading) (limits : Limits) (start used : List Bool) (p : PairPart) (e : StoredEntry) (others : List StoredEntry)
+pub record Found (r : Reading) (limits : Limits) (used : List Bool) (p : PairPart) (e : StoredEntry) (others : List StoredEntry)
     (rest : List PairPart) (ds : List Directory) : Type 0 where
-  pub read : RootRead r start p e others rest
+  pub read : RootRead r p e others rest
+  pub is_thread : IsThread r (p.0 ∷ pairs_of rest)
   pub judged : SaysLimits r.size r.count limits e
-  pub state : delta_from (with_entries p (e ∷ others) ∷ rest) ≡ 0
-  pub kept : KeepsParts r limits start used (with_entries p others ∷ rest) ds
+  pub state : delta_from (with_entries p others ∷ rest) ≡ 0
+  pub kept : KeepsParts r limits (λ b. pairs_name b (p.0 ∷ pairs_of rest)) used (with_entries p others ∷ rest) ds
 
 -- the volume that the image holds
 abbrev pub found_volume : Reading → List ℕ → StoredEntry → PairPart → List PairPart → Volume
 found_volume r bytes e p rest = volume_at r (header_of bytes e.attributes) (p.0 ∷ pairs_of rest)
 
-pub found_holds : (r : Reading) (limits : Limits) (start used : List Bool) (p : PairPart) (e : StoredEntry) (others : List StoredEntry)
-    (rest : List PairPart) (ds : List Directory) (h : Found r limits start used p e others rest ds)
+pub found_holds : (r : Reading) (limits : Limits) (used : List Bool) (p : PairPart) (e : StoredEntry) (others : List StoredEntry)
+    (rest : List PairPart) (ds : List Directory) (h : Found r limits used p e others rest ds)
     → Holds r (found_volume r h.judged.bytes e p rest)
 unfolding root_superblock
-found_holds r limits start used p e others rest ds h = record {
+found_holds r limits used p e others rest ds h = record {
   pairs = p.0 ∷ pairs_of rest;
-  is_thread = h.read.is_thread;
+  is_thread = h.is_thread;
   bytes = h.judged.bytes;
   attributes = e.attributes;
-  superblock = root_superblock r start p e others rest h.judged.bytes h.read h.judged.is;
+  superblock = root_superblock r p e others rest h.judged.bytes h.read h.judged.is;
   version = h.judged.header.version;
   size = h.judged.header.size_is;
   count = h.judged.header.count_is;
@@ -192,30 +174,29 @@ found_holds r limits start used p e others rest ds h = record {
 }
 
 -- the directories of the volume
-pub found_directories : (r : Reading) (limits : Limits) (start used : List Bool) (p : PairPart) (e : StoredEntry)
-    (others : List StoredEntry) (rest : List PairPart) (ds : List Directory) (h : Found r limits start used p e others rest ds)
+pub found_directories : (r : Reading) (limits : Limits) (used : List Bool) (p : PairPart) (e : StoredEntry)
+    (others : List StoredEntry) (rest : List PairPart) (ds : List Directory) (h : Found r limits used p e others rest ds)
     → pieces (map (link_from r) (with_entries p others ∷ rest)) ≡ directories_at r (p.0 ∷ pairs_of rest)
-found_directories r limits start used p e others rest ds h = ap pieces (same_links r start p e others rest h.read h.judged.is.kind)
+found_directories r limits used p e others rest ds h = ap pieces (same_links r p e others rest h.read h.judged.is.kind)
 
-pub found_uses : (r : Reading) (limits : Limits) (start used : List Bool) (p : PairPart) (e : StoredEntry) (others : List StoredEntry)
-    (rest : List PairPart) (ds : List Directory) (h : Found r limits start used p e others rest ds)
+pub found_uses : (r : Reading) (limits : Limits) (used : List Bool) (p : PairPart) (e : StoredEntry) (others : List StoredEntry)
+    (rest : List PairPart) (ds : List Directory) (h : Found r limits used p e others rest ds)
     → Marks used (λ b. uses b (found_volume r h.judged.bytes e p rest))
-found_uses r limits start used p e others rest ds h b =
+found_uses r limits used p e others rest ds h b =
     let all = uses_are r (header_of h.judged.bytes e.attributes) b (with_entries p others ∷ rest) (p.0 ∷ pairs_of rest)
-    (same_links r start p e others rest h.read h.judged.is.kind) refl in
+    (same_links r p e others rest h.read h.judged.is.kind) refl in
     let marks = h.kept.marks b in
-    let pairs = h.read.marks b in
     omega arith
 
-pub found_sound : (r : Reading) (limits : Limits) (start used : List Bool) (p : PairPart) (e : StoredEntry) (others : List StoredEntry)
-    (rest : List PairPart) (ds : List Directory) (h : Found r limits start used p e others rest ds)
+pub found_sound : (r : Reading) (limits : Limits) (used : List Bool) (p : PairPart) (e : StoredEntry) (others : List StoredEntry)
+    (rest : List PairPart) (ds : List Directory) (h : Found r limits used p e others rest ds)
     → IsSoundUnwalked (found_volume r h.judged.bytes e p rest)
-found_sound r limits start used p e others rest ds h =
+found_sound r limits used p e others rest ds h =
     let whole = pieces (map (link_from r) (with_entries p others ∷ rest)) in
-    let same : whole ≡ directories_at r (p.0 ∷ pairs_of rest) = found_directories r limits start used p e others rest ds h in
+    let same : whole ≡ directories_at r (p.0 ∷ pairs_of rest) = found_directories r limits used p e others rest ds h in
     let limits_are : limits ≡ (header_of h.judged.bytes e.attributes).limits = h.judged.limits_are in
-    let marks = found_uses r limits start used p e others rest ds h in
-    let len : length used ≡ r.count = h.kept.len ∙ h.read.len in
+    let marks = found_uses r limits used p e others rest ds h in
+    let len : length used ≡ r.count = h.kept.len in
     record {
       starts = starts_at_root (link_at r p.0) (map (link_at r) (pairs_of rest)) (link_pair r p.0 (r.part p.0) ∙ h.read.at);
       order = subst (All (λ (d : Directory). Rise (entries d))) same (all_rise whole
@@ -234,42 +215,23 @@ abbrev outline_with : Disk → Header → List Directory → Volume
 outline_with d h ds = record { size = d.size; count = d.count; limits = h.limits; attributes = h.attributes; directories = ds }
 
 -- what is answered
-pub gathered : (d : Disk) (parts bare : List PairPart) (start : List Bool) (e : StoredEntry) (limits : Limits) (kept : List Directory)
-    (g : Gathered) → IsThreadRead (reading_of d) parts start → delta_from parts ≡ 0 → TakesFirst parts bare e
-    → SaysLimits d.size d.count limits e
-    → KeepsParts (reading_of d) limits start g.used.items bare kept → g.outline
-    ≡ record { size = d.size; count = d.count; limits = limits; attributes = e.attributes; directories = kept } → IsGathered d g
-gathered d parts bare start e limits directories g read state taken judged kept outline =
+pub gathered : (d : Disk) (used : List Bool) (p : PairPart) (e : StoredEntry) (others : List StoredEntry) (rest : List PairPart)
+    (limits : Limits) (directories : List Directory) (g : Gathered) → Found (reading_of d) limits used p e others rest directories
+    → g.used.items ≡ used → g.outline
+    ≡ record { size = d.size; count = d.count; limits = limits; attributes = e.attributes; directories = directories } → IsGathered d g
+gathered d used p e others rest limits directories g h used_is outline =
     let r = reading_of d in
-    let p = taken.first in
-    let h : Found r limits start g.used.items p e taken.others taken.rest directories = record {
-      read = root_read r start p e taken.others taken.rest (subst (λ (ps : List PairPart). IsThreadRead r ps start) taken.was read);
-      judged = judged;
-      state = ap delta_from (sym taken.was) ∙ state;
-      kept = subst (λ (ps : List PairPart). KeepsParts r limits start g.used.items ps directories) taken.is kept;
-    } in
-    let same = found_directories r limits start g.used.items p e taken.others taken.rest directories h in
+    let same = found_directories r limits used p e others rest directories h in
     record {
-      volume = found_volume r judged.bytes e p taken.rest;
-      holds = found_holds r limits start g.used.items p e taken.others taken.rest directories h;
-      sound = found_sound r limits start g.used.items p e taken.others taken.rest directories h;
+      volume = found_volume r h.judged.bytes e p rest;
+      holds = found_holds r limits used p e others rest directories h;
+      sound = found_sound r limits used p e others rest directories h;
       outline = outline
           ∙ ap (λ (l : Limits). record { size = d.size; count = d.count; limits = l; attributes = e.attributes; directories = directories })
-          judged.limits_are
-          ∙ ap (λ (ds : List Directory). outline_with d (header_of judged.bytes e.attributes) ds)
+          h.judged.limits_are
+          ∙ ap (λ (ds : List Directory). outline_with d (header_of h.judged.bytes e.attributes) ds)
           (h.kept.is ∙ ap outlined_directories same);
-      len = h.kept.len ∙ h.read.len;
-      marks = found_uses r limits start g.used.items p e taken.others taken.rest directories h;
+      len = ap length used_is ∙ h.kept.len;
+      marks = subst (λ (u : List Bool). Marks u (λ b. uses b (found_volume r h.judged.bytes e p rest))) (sym used_is)
+          (found_uses r limits used p e others rest directories h);
     }
-
--- the entries are whole still where the first one is taken off
-pub whole_without : (r : Reading) (parts bare : List PairPart) (start : List Bool) (e : StoredEntry) → IsThreadRead r parts start
-    → TakesFirst parts bare e → All (λ p. AllByRecursion IsWhole p.1.entries) bare
-whole_without r parts bare start e read taken =
-    let each : All (IsPartRead r) (with_entries taken.first (e ∷ taken.others) ∷ taken.rest) =
-    subst (All (IsPartRead r)) taken.was read.each in
-    subst (All (λ (p : PairPart). AllByRecursion IsWhole p.1.entries)) (sym taken.is)
-    (All-cons (λ (p : PairPart). AllByRecursion IsWhole p.1.entries) (with_entries taken.first taken.others) taken.rest
-    (All-head (IsPartRead r) (with_entries taken.first (e ∷ taken.others)) taken.rest each).whole.1
-    (All-weaker (IsPartRead r) (λ (p : PairPart). AllByRecursion IsWhole p.1.entries) (λ p h. h.whole) taken.rest
-    (All-tail (IsPartRead r) (with_entries taken.first (e ∷ taken.others)) taken.rest each)))

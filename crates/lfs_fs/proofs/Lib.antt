@@ -12,6 +12,7 @@ pub mod OrderedLemmas
 pub mod OrderedEndLemmas
 pub mod DirectoryTableLemmas
 pub mod PlacedLemmas
+pub mod WaitingLemmas
 pub mod WalkingLemmas
 pub mod FindLemmas
 pub mod CountedLemmas
@@ -47,6 +48,7 @@ pub mod SoundOutlineLemmas
 pub mod OutlinedFaultLemmas
 pub mod KeepingLemmas
 pub mod GatheringLemmas
+pub mod JoinedLemmas
 pub mod PartsLemmas
 pub mod FoldersLemmas
 pub mod GatheredLemmas

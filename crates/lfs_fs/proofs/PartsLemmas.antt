@@ -12,7 +12,7 @@ use Rattle.lfs_block.specs.declared.mount_fault.MountFault.TheVariants as fault
 use Rattle.lfs_meta.specs.Whole.{IsWhole}
 use Rattle.lfs_meta.proofs.PartlessLemmas.{any_later}
 use Rattle.lfs_fs.specs.declared.limits.Limits.{Limits}
-use Rattle.lfs_fs.specs.Used.{marked}
+use Rattle.lfs_fs.specs.Used.{marked, Marks}
 use Rattle.lfs_fs.specs.Directory.{Part, Directory, parts, entries}
 use Rattle.lfs_fs.specs.Thread.{is_hard, joined_to, pieces}
 use Rattle.lfs_fs.specs.Entry.{Entry}
@@ -33,26 +33,26 @@ abbrev pub HasFault : MountFault → Reading → Limits → PairPart → Type 0
 HasFault f r limits p = Any (EntryFault f r limits) p.1.entries
 
 -- the directories so far, the parts of the one that may go on, and the parts that are left
-pub record PartsTo (r : Reading) (limits : Limits) (start : List Bool) (ps : List PairPart) (used : List Bool)
+pub record PartsTo (r : Reading) (limits : Limits) (others : ℕ → ℕ) (ps : List PairPart) (used : List Bool)
     (directories : List Directory) (joined : List Part) (rest : List PairPart) : Type 0 where
   pub whole : All IsWholePart rest
   pub rise : Rise (part_entries joined)
   pub rises : All (λ d. Rise (entries d)) directories
   pub is : directories ++ all_joined joined (outlined_pieces r rest) ≡ outlined_pieces r ps
-  pub len : length used ≡ length start
-  pub marks : (b : ℕ) → marked used b + parts_use r b rest ≡ marked start b + parts_use r b ps
+  pub len : length used ≡ r.count
+  pub marks : (b : ℕ) → marked used b + parts_use r b rest ≡ others b + parts_use r b ps
   pub faults : (f : MountFault) → Any (HasFault f r limits) rest → Any (HasFault f r limits) ps
   pub proper : All (IsProperPart r limits) rest → All (IsProperPart r limits) ps
 
-pub none_gathered : (r : Reading) (limits : Limits) (start : List Bool) (ps : List PairPart) → All IsWholePart ps
-    → PartsTo r limits start ps start [] [] ps
-none_gathered r limits start ps whole = record {
+pub none_gathered : (r : Reading) (limits : Limits) (others : ℕ → ℕ) (ps : List PairPart) (used : List Bool) → All IsWholePart ps
+    → length used ≡ r.count → Marks used others → PartsTo r limits others ps used [] [] ps
+none_gathered r limits others ps used whole len marks = record {
   whole = whole;
   rise = tt;
   rises = All-nil (λ (d : Directory). Rise (entries d));
   is = refl;
-  len = refl;
-  marks = λ b. refl;
+  len = len;
+  marks = λ b. let is = marks b in omega arith;
   faults = λ f any. any;
   proper = λ all. all;
 }
@@ -70,13 +70,13 @@ rise_alone (p ∷ ps) rise = All-push (λ (d : Directory). Rise (entries d)) [] 
     (All-nil (λ (d : Directory). Rise (entries d))) rise
 
 -- one part more, kept, which directories and parts are said to hold
-gathered_so : (r : Reading) (limits : Limits) (start : List Bool) (ps : List PairPart) (used new : List Bool)
-    (directories others : List Directory) (joined these : List Part) (p : PairPart) (rest : List PairPart) (kept : Part)
-    → PartsTo r limits start ps used directories joined (p ∷ rest) → KeepsPart r limits used new p joined kept → Rise (part_entries these)
-    → All (λ d. Rise (entries d)) others
-    → others ++ all_joined these (outlined_pieces r rest) ≡ directories ++ all_joined joined (outlined_pieces r (p ∷ rest))
-    → PartsTo r limits start ps new others these rest
-gathered_so r limits start ps used new directories others joined these p rest kept h keeps rise rises is = record {
+gathered_so : (r : Reading) (limits : Limits) (others : ℕ → ℕ) (ps : List PairPart) (used new : List Bool)
+    (directories these_directories : List Directory) (joined these : List Part) (p : PairPart) (rest : List PairPart) (kept : Part)
+    → PartsTo r limits others ps used directories joined (p ∷ rest) → KeepsPart r limits used new p joined kept → Rise (part_entries these)
+    → All (λ d. Rise (entries d)) these_directories
+    → these_directories ++ all_joined these (outlined_pieces r rest) ≡ directories ++ all_joined joined (outlined_pieces r (p ∷ rest))
+    → PartsTo r limits others ps new these_directories these rest
+gathered_so r limits others ps used new directories these_directories joined these p rest kept h keeps rise rises is = record {
   whole = All-tail IsWholePart p rest h.whole;
   rise = rise;
   rises = rises;
@@ -89,24 +89,24 @@ gathered_so r limits start ps used new directories others joined these p rest ke
 }
 
 -- the directory goes on behind it
-pub goes_on : (r : Reading) (limits : Limits) (start : List Bool) (ps : List PairPart) (used new : List Bool) (directories : List Directory)
+pub goes_on : (r : Reading) (limits : Limits) (others : ℕ → ℕ) (ps : List PairPart) (used new : List Bool) (directories : List Directory)
     (joined : List Part) (p : PairPart) (rest : List PairPart) (kept : Part)
-    → PartsTo r limits start ps used directories joined (p ∷ rest) → KeepsPart r limits used new p joined kept → is_hard p.1.tail ≡ true
-    → PartsTo r limits start ps new directories (joined ++ kept ∷ []) rest
-goes_on r limits start ps used new directories joined p rest kept h keeps hard =
-    gathered_so r limits start ps used new directories directories joined (joined ++ kept ∷ []) p rest kept h keeps keeps.order h.rises
+    → PartsTo r limits others ps used directories joined (p ∷ rest) → KeepsPart r limits used new p joined kept → is_hard p.1.tail ≡ true
+    → PartsTo r limits others ps new directories (joined ++ kept ∷ []) rest
+goes_on r limits others ps used new directories joined p rest kept h keeps hard =
+    gathered_so r limits others ps used new directories directories joined (joined ++ kept ∷ []) p rest kept h keeps keeps.order h.rises
     (ap (λ (ds : List Directory). directories ++ ds)
     (sym (joined_more joined kept (outlined_pieces r rest))
     ∙ ap (λ (x : Part). all_joined joined (cut_here true x (outlined_pieces r rest))) keeps.is
     ∙ ap (all_joined joined) (sym (next_piece r p rest true hard))))
 
 -- the directory ends with it
-pub ends_here : (r : Reading) (limits : Limits) (start : List Bool) (ps : List PairPart) (used new : List Bool)
+pub ends_here : (r : Reading) (limits : Limits) (others : ℕ → ℕ) (ps : List PairPart) (used new : List Bool)
     (directories : List Directory) (joined : List Part) (p : PairPart) (rest : List PairPart) (kept : Part)
-    → PartsTo r limits start ps used directories joined (p ∷ rest) → KeepsPart r limits used new p joined kept → is_hard p.1.tail ≡ false
-    → PartsTo r limits start ps new (directories ++ as_directory (joined ++ kept ∷ [])) [] rest
-ends_here r limits start ps used new directories joined p rest kept h keeps soft =
-    gathered_so r limits start ps used new directories (directories ++ as_directory (joined ++ kept ∷ [])) joined [] p rest kept h keeps tt
+    → PartsTo r limits others ps used directories joined (p ∷ rest) → KeepsPart r limits used new p joined kept → is_hard p.1.tail ≡ false
+    → PartsTo r limits others ps new (directories ++ as_directory (joined ++ kept ∷ [])) [] rest
+ends_here r limits others ps used new directories joined p rest kept h keeps soft =
+    gathered_so r limits others ps used new directories (directories ++ as_directory (joined ++ kept ∷ [])) joined [] p rest kept h keeps tt
     (All-append (λ (d : Directory). Rise (entries d)) directories (as_directory (joined ++ kept ∷ [])) h.rises
     (rise_alone (joined ++ kept ∷ []) keeps.order))
     (append_assoc directories (as_directory (joined ++ kept ∷ [])) (outlined_pieces r rest)
@@ -116,17 +116,17 @@ ends_here r limits start ps used new directories joined p rest kept h keeps soft
     ∙ ap (all_joined joined) (sym (next_piece r p rest false soft))))
 
 -- no part is left
-pub all_gathered : (r : Reading) (limits : Limits) (start : List Bool) (ps : List PairPart) (used : List Bool)
+pub all_gathered : (r : Reading) (limits : Limits) (others : ℕ → ℕ) (ps : List PairPart) (used : List Bool)
     (directories : List Directory) (joined : List Part) (rest : List PairPart) → length rest ≡ 0
-    → PartsTo r limits start ps used directories joined rest → KeepsParts r limits start used ps (directories ++ as_directory joined)
-all_gathered r limits start ps used directories joined [] none h = record {
+    → PartsTo r limits others ps used directories joined rest → KeepsParts r limits others used ps (directories ++ as_directory joined)
+all_gathered r limits others ps used directories joined [] none h = record {
   is = ap (λ (ds : List Directory). directories ++ ds) (sym (joined_last joined)) ∙ h.is;
   len = h.len;
   marks = λ b. let marks = h.marks b in omega arith;
   proper = h.proper (All-nil (IsProperPart r limits));
   order = All-append (λ (d : Directory). Rise (entries d)) directories (as_directory joined) h.rises (rise_alone joined h.rise);
 }
-all_gathered r limits start ps used directories joined (p ∷ rest) none h = absurd (omega arith)
+all_gathered r limits others ps used directories joined (p ∷ rest) none h = absurd (omega arith)
 
 -- ---- why parts are refused
 
@@ -182,29 +182,29 @@ one_behind : (ps : List Part) (p : Part) → part_entries ps ++ p.entries ≡ pa
 one_behind ps p = flat_map_more (λ (x : Part). x.entries) [] ps p
 
 -- what refuses the next part refuses all
-pub part_refuses : (f : MountFault) (r : Reading) (limits : Limits) (start : List Bool) (ps : List PairPart) (used : List Bool)
+pub part_refuses : (f : MountFault) (r : Reading) (limits : Limits) (others : ℕ → ℕ) (ps : List PairPart) (used : List Bool)
     (directories : List Directory) (joined : List Part) (p : PairPart) (rest : List PairPart)
-    → PartsTo r limits start ps used directories joined (p ∷ rest) → EntriesCause f r limits used (part_entries joined) p.1.entries
-    → PartsCause f r limits start ps
-part_refuses fault.OrderFault r limits start ps used directories joined p rest h fall =
+    → PartsTo r limits others ps used directories joined (p ∷ rest) → EntriesCause f r limits used (part_entries joined) p.1.entries
+    → PartsCause f r limits others ps
+part_refuses fault.OrderFault r limits others ps used directories joined p rest h fall =
     let here = outlined_part (link_from r p).part in
-    let others = all_joined joined (outlined_pieces r (p ∷ rest)) in
+    let these = all_joined joined (outlined_pieces r (p ∷ rest)) in
     let begun = begun_joined joined (outlined_pieces r (p ∷ rest)) (here ∷ [])
     (subst (λ (ds : List Directory). Begun ds (here ∷ [])) (sym (next_piece r p rest (is_hard p.1.tail) refl))
     (begun_cut (is_hard p.1.tail) here (outlined_pieces r rest))) in
     subst (Any (λ (d : Directory). NamesFall (entries d))) h.is
-    (any_behind (λ (d : Directory). NamesFall (entries d)) directories others
-    (falls_first others (joined ++ here ∷ []) begun (subst NamesFall (one_behind joined here) fall)))
-part_refuses fault.BlockTwice r limits start ps used directories joined p rest h (b, twice) =
+    (any_behind (λ (d : Directory). NamesFall (entries d)) directories these
+    (falls_first these (joined ++ here ∷ []) begun (subst NamesFall (one_behind joined here) fall)))
+part_refuses fault.BlockTwice r limits others ps used directories joined p rest h (b, twice) =
     let left = h.marks b in
     (b, omega (arith, sum_by-cons (λ (q : PairPart). stored_uses r b q.1.entries) p rest))
-part_refuses fault.Memory r limits start ps used directories joined p rest h cause = tt
-part_refuses fault.BadSkipList r limits start ps used directories joined p rest h cause =
+part_refuses fault.Memory r limits others ps used directories joined p rest h cause = tt
+part_refuses fault.BadSkipList r limits others ps used directories joined p rest h cause =
     h.faults fault.BadSkipList (any_here (HasFault fault.BadSkipList r limits) p rest cause)
-part_refuses fault.BlockRange r limits start ps used directories joined p rest h cause =
+part_refuses fault.BlockRange r limits others ps used directories joined p rest h cause =
     h.faults fault.BlockRange (any_here (HasFault fault.BlockRange r limits) p rest cause)
-part_refuses fault.SuperblockElsewhere r limits start ps used directories joined p rest h cause =
+part_refuses fault.SuperblockElsewhere r limits others ps used directories joined p rest h cause =
     h.faults fault.SuperblockElsewhere (any_here (HasFault fault.SuperblockElsewhere r limits) p rest cause)
-part_refuses fault.BadSize r limits start ps used directories joined p rest h cause =
+part_refuses fault.BadSize r limits others ps used directories joined p rest h cause =
     h.faults fault.BadSize (any_here (HasFault fault.BadSize r limits) p rest cause)
-part_refuses f r limits start ps used directories joined p rest h cause = h.faults f (any_here (HasFault f r limits) p rest cause)
+part_refuses f r limits others ps used directories joined p rest h cause = h.faults f (any_here (HasFault f r limits) p rest cause)

@@ -1,12 +1,12 @@
 -- Places of a directory's entries.
 use Rattle.std.proofs.Common.{◌≡◌, ℕ, ◌+◌, ◌≤◌, ◌<◌, Bool, false, List, [], ◌∷◌, ◌++◌, Some, refl, ap, sym, ◌∙◌, subst, arith, map, length}
-use Rattle.std.proofs.Common.{reverse, drop, get_or, zero, suc, append_assoc, inl, inr}
+use Rattle.std.proofs.Common.{drop, get_or, zero, suc, append_assoc, inl, inr}
 use Rattle.std.specs.Prelude.{◌==◌, flat_map, slice_get, IsSome, IfSome, if◌then◌else◌}
 use Rattle.std.proofs.lemmas.Bool.Decides.{nat_tests}
 use Rattle.std.specs.List.{All}
 use Rattle.std.specs.Option.{option_and_then, unwrap_or}
 use Rattle.std.proofs.lemmas.Option.{slice_get_cases}
-use Rattle.std.proofs.lemmas.List.{map-append, reverse-append, length-append, length-map}
+use Rattle.std.proofs.lemmas.List.{map-append, length-append, length-map}
 use Rattle.std.proofs.lemmas.List.Concat.{flat_map-cons}
 use Rattle.std.proofs.lemmas.List.Elements.{All-nil, All-cons, All-append}
 use Rattle.lfs_fs.specs.declared.place.Place.{Place}
@@ -20,38 +20,30 @@ use Rattle.lfs_fs.proofs.ItemLemmas.{drop_at}
 use Rattle.lfs_fs.proofs.ListedLemmas.{listed_below}
 use Rattle.lfs_fs.proofs.DirectoryTableLemmas.{slice_get_seam}
 
--- ---- what code puts on a stack
-
--- the place before those that wait
-pub place_pushed : (k d p e m n : ℕ) (stack new back : List Place) → m ≡ suc e → reverse stack ≡ places_from k d p m n ++ back
-    → new ≡ stack ++ record { depth = k; directory = d; part = p; entry = e } ∷ [] → reverse new ≡ places_from k d p e (suc n) ++ back
-place_pushed k d p e m n stack new back next is new_is =
-    let x : Place = record { depth = k; directory = d; part = p; entry = e } in
-    ap reverse new_is ∙ reverse-append stack (x ∷ []) ∙ ap (λ (xs : List Place). x ∷ xs)
-    (is ∙ ap (λ (i : ℕ). places_from k d p i n ++ back) next)
+-- ---- what waits
 
 -- the part before those that wait
-pub part_pushed : (k d i len : ℕ) (ps : List Part) (p : Part) (stack new back : List Place) → i < length ps → p ≡ get_or ps i p
+part_pushed : (k d i len : ℕ) (ps : List Part) (p : Part) (old new back : List Place) → i < length ps → p ≡ get_or ps i p
     → len ≡ length p.entries
-    → reverse stack ≡ places_in k d (i + 1) (drop (i + 1) ps) ++ back → reverse new ≡ places_from k d i 0 len ++ reverse stack
-    → reverse new ≡ places_in k d i (drop i ps) ++ back
-part_pushed k d i len ps p stack new back within at len_is is new_is =
+    → old ≡ places_in k d (i + 1) (drop (i + 1) ps) ++ back → new ≡ places_from k d i 0 len ++ old
+    → new ≡ places_in k d i (drop i ps) ++ back
+part_pushed k d i len ps p old new back within at len_is is new_is =
     let one : drop i ps ≡ p ∷ drop (i + 1) ps = drop_at ps i p within at in
     let places : places_from k d i 0 len ≡ places_from k d i 0 (length p.entries) = ap (places_from k d i 0) len_is in
     let next : places_in k d (i + 1) (drop (i + 1) ps) ≡ places_in k d (suc i) (drop (i + 1) ps) =
     ap (λ (j : ℕ). places_in k d j (drop (i + 1) ps)) (omega arith) in
-    new_is ∙ ap (λ (xs : List Place). xs ++ reverse stack) places ∙ ap (λ (xs : List Place). places_from k d i 0 (length p.entries) ++ xs)
+    new_is ∙ ap (λ (xs : List Place). xs ++ old) places ∙ ap (λ (xs : List Place). places_from k d i 0 (length p.entries) ++ xs)
     (is ∙ ap (λ (xs : List Place). xs ++ back) next)
     ∙ sym (append_assoc (places_from k d i 0 (length p.entries)) (places_in k d (suc i) (drop (i + 1) ps)) back)
     ∙ ap (λ (qs : List Part). places_in k d i qs ++ back) (sym one)
 
-pub parts_pushed : (k d i j len : ℕ) (ps : List Part) (stack new back : List Place) → j ≡ i + 1 → j ≤ length ps
+pub parts_pushed : (k d i j len : ℕ) (ps : List Part) (old new back : List Place) → j ≡ i + 1 → j ≤ length ps
     → IfSome (slice_get ps i) (λ p. len ≡ length p.entries)
-    → reverse stack ≡ places_in k d j (drop j ps) ++ back → reverse new ≡ places_from k d i 0 len ++ reverse stack
-    → reverse new ≡ places_in k d i (drop i ps) ++ back
-parts_pushed k d i j len ps stack new back next few len_is is new_is = elim (slice_get_cases ps i).1 [
+    → old ≡ places_in k d j (drop j ps) ++ back → new ≡ places_from k d i 0 len ++ old
+    → new ≡ places_in k d i (drop i ps) ++ back
+parts_pushed k d i j len ps old new back next few len_is is new_is = elim (slice_get_cases ps i).1 [
   | inl (p, within, at, there) ↦
-      part_pushed k d i len ps p stack new back within (sym there) (subst (λ o. IfSome o (λ (q : Part). len ≡ length q.entries)) at len_is)
+      part_pushed k d i len ps p old new back within (sym there) (subst (λ o. IfSome o (λ (q : Part). len ≡ length q.entries)) at len_is)
       (is ∙ ap (λ (m : ℕ). places_in k d m (drop m ps) ++ back) next) new_is
   | inr (past, none) ↦ absurd (omega (arith, next, few, past))
 ]

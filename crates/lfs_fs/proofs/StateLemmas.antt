@@ -1,16 +1,13 @@
 -- The global state as words.
-use Rattle.std.proofs.Common.{◌≡◌, ℕ, ◌+◌, ◌*◌, ◌^◌, ◌<◌, List, [], ◌∷◌, ◌++◌, length, take, drop, get_or, refl, ap, sym, append-nil, ◌∙◌}
+use Rattle.std.proofs.Common.{◌≡◌, ℕ, ◌+◌, ◌*◌, ◌^◌, ◌<◌, List, [], ◌∷◌, ◌++◌, length, take, drop, refl, ap, sym, append-nil, ◌∙◌}
 use Rattle.std.proofs.Common.{arith}
 use Rattle.std.specs.Prelude.{bit_xor, replicate}
 use Rattle.std.proofs.lemmas.List.{length-append}
 use borrow.Rule.Slice.PartMut.{put_mid}
-use Rattle.std.specs.Int.Bits.{xor_assoc}
 use Rattle.std.proofs.lemmas.Nat.{xor_block}
 use Rattle.byteorder.specs.Endian.{little_number, little_bytes}
 use Rattle.byteorder.specs.Numbers.{little_number-reads_back}
 use Rattle.lfs_fs.specs.State.{little_endian}
-use Rattle.lfs_fs.specs.Gathering.{PairPart, delta_from}
-use Rattle.lfs_fs.proofs.ItemLemmas.{drop_at}
 
 -- twelve bytes are a word and two more
 pub by_words : (bytes : List ℕ) → length bytes ≡ 12 → little_number 4 (take 4 bytes) + 2 ^ 32 * little_number 8 (take 8 (drop 4 bytes))
@@ -46,12 +43,3 @@ spelled_over word rest first others left right first_is short others_are long sm
     let same : first ≡ little_bytes 4 word = no_tail first (little_bytes 4 word) left first_is short in
     let eight : length others ≡ 8 = long ∙ ap (λ (l : List ℕ). length (take 8 (drop 4 (l ++ replicate 8 0)))) same in
     rw (same, no_tail others (little_bytes 8 rest) right others_are eight) (spelled word rest small less)
-
--- one part more is mixed in
-pub mixed_more : (state delta : ℕ) (ps : List PairPart) (i : ℕ) (p : PairPart) → delta ≡ little_endian p.1.delta → i < length ps
-    → p ≡ get_or ps i p
-    → bit_xor state (delta_from (drop i ps)) ≡ delta_from ps → bit_xor (bit_xor state delta) (delta_from (drop (i + 1) ps)) ≡ delta_from ps
-mixed_more state delta ps i p is within here before =
-    let rest = delta_from (drop (i + 1) ps) in
-    let at : delta_from (drop i ps) ≡ bit_xor (little_endian p.1.delta) rest = ap delta_from (drop_at ps i p within here) in
-    xor_assoc state delta rest ∙ ap (λ x. bit_xor state (bit_xor x rest)) is ∙ ap (bit_xor state) (sym at) ∙ before

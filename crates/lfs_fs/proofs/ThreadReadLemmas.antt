@@ -1,41 +1,31 @@
 -- Parts that are read along the tails.
 use Rattle.std.proofs.Common.{◌≡◌, ◌⊎◌, ℕ, ◌+◌, ◌<◌, ◌≤◌, Bool, true, false, List, [], ◌∷◌, ◌++◌, length, map, Option, Some, None, zero}
-use Rattle.std.proofs.Common.{suc, refl, ap, sym, ◌∙◌, subst, arith, get_or}
+use Rattle.std.proofs.Common.{suc, refl, ap, ◌∙◌, arith, get_or}
 use Rattle.std.specs.Prelude.{All, IsSome, slice_index_or, if◌then◌else◌, sum_by, option_to_list}
 use Rattle.std.proofs.lemmas.Bool.Decides.{nat_tests}
-use Rattle.std.proofs.lemmas.List.{map-append, get_or_past}
-use Rattle.std.proofs.lemmas.List.Elements.{All-nil, All-push, All-map, All-weaker, Contains-push}
+use Rattle.std.proofs.lemmas.List.{get_or_past}
+use Rattle.std.proofs.lemmas.List.Elements.{All-map, All-weaker, Contains-push}
 use Rattle.std.proofs.lemmas.List.Sums.{sum_by-append, sum_by-cons}
-use Rattle.std.specs.List.{AllByRecursion}
 use mathlib.Core.Logic.{inl, inr}
 use Rattle.lfs_block.specs.Disk.{Disk}
 use Rattle.lfs_block.specs.declared.mount_fault.MountFault.{MountFault}
 use Rattle.lfs_block.specs.declared.mount_fault.MountFault.TheVariants.{NoValidCommit, UnknownTag, BadTag, IncompleteEntry, BadName}
 use Rattle.lfs_block.specs.declared.mount_fault.MountFault.TheVariants.{BlockRange, BlockTwice, Memory}
 use Rattle.lfs_meta.specs.Body.{Pair}
-use Rattle.lfs_meta.specs.Whole.{IsWhole}
 use Rattle.lfs_meta.specs.Cause.{PairCause, ReadCause}
 use Rattle.lfs_fs.specs.Pair.{root}
 use Rattle.lfs_fs.specs.Uses.{times, pair_uses, uses}
 use Rattle.lfs_fs.specs.Used.{marked, Marks, AddsBlocks, AreTaken}
 use Rattle.lfs_fs.specs.Thread.{Link, next}
 use Rattle.lfs_fs.specs.Reading.{Reading, reading_of}
-use Rattle.lfs_fs.specs.Front.{Follow, after, tail_of, next_pair, next_after, pair_names, pairs_name, IsFront}
+use Rattle.lfs_fs.specs.Front.{Follow, after, tail_of, next_pair, next_after, pair_names, pairs_name, IsFront, IsThread}
 use Rattle.lfs_fs.specs.Superblock.{Header}
 use Rattle.lfs_fs.specs.Held.{link_at, volume_at}
 use Rattle.lfs_fs.specs.FrontCause.{Unread}
 use Rattle.lfs_fs.specs.Cause.{HasCause}
 use Rattle.lfs_fs.specs.Gathering.{PairPart}
-use Rattle.lfs_fs.specs.ThreadRead.{pairs_of, IsPartRead, IsThreadRead}
+use Rattle.lfs_fs.specs.ThreadRead.{pairs_of, IsPartRead}
 use Rattle.lfs_fs.proofs.CountLemmas.{uses_at, link_pair, part_uses}
-
--- the parts so far, the pair behind them, and their blocks, which are marked
-pub record IsReadTo (r : Reading) (ps : List PairPart) (behind : Option Pair) (used : List Bool) : Type 0 where
-  pub follow : Follow (next_pair r) (Some root) (pairs_of ps)
-  pub next_is : next_after r (pairs_of ps) ≡ behind
-  pub each : All (IsPartRead r) ps
-  pub len : length used ≡ r.count
-  pub marks : Marks used (λ b. pairs_name b (pairs_of ps))
 
 -- ---- marks
 
@@ -67,60 +57,39 @@ after_more step from (q ∷ ps) p = after_more step (step q) ps p
 pub pairs_more : (b : ℕ) (ps : List Pair) (p : Pair) → pairs_name b (ps ++ p ∷ []) ≡ pairs_name b ps + pair_names b p
 pairs_more b ps p = omega (arith, sum_by-append (pair_names b) ps (p ∷ []))
 
+-- the pairs are a front, where each block that they name is marked as often at least
 marked_front : (r : Reading) (ps : List Pair) (used : List Bool) → Follow (next_pair r) (Some root) ps → length used ≡ r.count
-    → Marks used (λ b. pairs_name b ps) → IsFront r ps
-marked_front r ps used follow len marks = record {
+    → ((b : ℕ) → pairs_name b ps ≤ marked used b) → IsFront r ps
+marked_front r ps used follow len over = record {
   follow = follow;
-  within = λ b some. let is = marks b in let within = marked_within used b (omega arith) in omega arith;
-  once = λ b. let is = marks b in let once = marked_once used b in omega arith;
+  within = λ b some. let is = over b in let within = marked_within used b (omega arith) in omega arith;
+  once = λ b. let is = over b in let once = marked_once used b in omega arith;
 }
 
-front_read : (r : Reading) (ps : List PairPart) (behind : Option Pair) (used : List Bool) → IsReadTo r ps behind used
-    → IsFront r (pairs_of ps)
-front_read r ps behind used h = marked_front r (pairs_of ps) used h.follow h.len h.marks
+-- the root's first pair alone
+pub root_front : (r : Reading) (used : List Bool) → length used ≡ r.count → Marks used (λ b. pairs_name b (root ∷ [])) → IsFront r (root ∷ [])
+root_front r used len marks = marked_front r (root ∷ []) used (refl, tt) len (λ b. let is = marks b in omega arith)
 
-front_more : (r : Reading) (ps : List PairPart) (p : Pair) (used new : List Bool) → IsReadTo r ps (Some p) used
-    → AddsBlocks used new (p.0 ∷ p.1 ∷ []) → IsFront r (pairs_of ps ++ p ∷ [])
-front_more r ps p used new h adds =
-    marked_front r (pairs_of ps ++ p ∷ []) new
-    (follow_more (next_pair r) (Some root) (pairs_of ps) p h.follow h.next_is)
-    (adds.len ∙ h.len)
-    (λ b. adds.marks b ∙ ap (λ n. n + pair_names b p) (h.marks b) ∙ sym (pairs_more b (pairs_of ps) p))
+-- a pair more that is marked
+pub front_more : (r : Reading) (ps : List Pair) (p : Pair) (used new : List Bool) → IsFront r ps → next_after r ps ≡ Some p
+    → length used ≡ r.count → ((b : ℕ) → pairs_name b ps ≤ marked used b) → AddsBlocks used new (p.0 ∷ p.1 ∷ []) → IsFront r (ps ++ p ∷ [])
+front_more r ps p used new front next_is len over adds =
+    marked_front r (ps ++ p ∷ []) new (follow_more (next_pair r) (Some root) ps p front.follow next_is) (adds.len ∙ len)
+    (λ b. let is = adds.marks b in let most = over b in let more = pairs_more b ps p in omega arith)
 
--- ---- the loop
-
-pub none_read : (r : Reading) (used : List Bool) → length used ≡ r.count → Marks used (λ b. 0) → IsReadTo r [] (Some root) used
-none_read r used len fresh = record { follow = tt; next_is = refl; each = All-nil (IsPartRead r); len = len; marks = fresh }
-
-pub read_more : (r : Reading) (ps : List PairPart) (p : Pair) (q : PairPart) (used new : List Bool) → IsReadTo r ps (Some p) used
-    → AddsBlocks used new (p.0 ∷ p.1 ∷ []) → q.0 ≡ p → r.part p ≡ Some q.1 → AllByRecursion IsWhole q.1.entries
-    → IsReadTo r (ps ++ q ∷ []) (next q.1.tail) new
-read_more r ps p q used new h adds at read whole =
-    let front = front_more r ps p used new h adds in
-    let pairs : pairs_of ps ++ p ∷ [] ≡ pairs_of (ps ++ q ∷ []) = ap (λ (x : Pair). pairs_of ps ++ x ∷ []) (sym at)
-    ∙ sym (map-append (λ (x : PairPart). x.0) ps (q ∷ [])) in
-    record {
-      follow = subst (Follow (next_pair r) (Some root)) pairs front.follow;
-      next_is = ap (next_after r) (sym pairs) ∙ after_more (next_pair r) (Some root) (pairs_of ps) p ∙ ap tail_of read;
-      each = All-push (IsPartRead r) ps q h.each (record { read = ap r.part at ∙ read; whole = whole });
-      len = adds.len ∙ h.len;
-      marks = λ b. adds.marks b ∙ ap (λ n. n + pair_names b p) (h.marks b) ∙ sym (pairs_more b (pairs_of ps) p) ∙ ap (pairs_name b) pairs;
-    }
+pub next_more : (r : Reading) (ps : List Pair) (p : Pair) (q : PairPart) → r.part p ≡ Some q.1 → next_after r (ps ++ p ∷ []) ≡ next q.1.tail
+next_more r ps p q read = after_more (next_pair r) (Some root) ps p ∙ ap tail_of read
 
 part_there : (r : Reading) (p : PairPart) → IsPartRead r p → IsSome (r.part p.0)
 part_there r p h = rw h.read refl
 
-pub thread_read : (r : Reading) (ps : List PairPart) (used : List Bool) → IsReadTo r ps None used → IsThreadRead r ps used
-thread_read r ps used h = record {
-  is_thread = record {
-    front = front_read r ps None used h;
-    parts = All-map (λ (p : Pair). IsSome (r.part p)) (λ (x : PairPart). x.0) ps
-        (All-weaker (IsPartRead r) (λ (x : PairPart). IsSome (r.part x.0)) (part_there r) ps h.each);
-    ends = h.next_is;
-  };
-  each = h.each;
-  len = h.len;
-  marks = h.marks;
+pub is_thread : (r : Reading) (ps : List PairPart) → IsFront r (pairs_of ps) → All (IsPartRead r) ps → next_after r (pairs_of ps) ≡ None
+    → IsThread r (pairs_of ps)
+is_thread r ps front each ends = record {
+  front = front;
+  parts = All-map (λ (p : Pair). IsSome (r.part p)) (λ (x : PairPart). x.0) ps
+      (All-weaker (IsPartRead r) (λ (x : PairPart). IsSome (r.part x.0)) (part_there r) ps each);
+  ends = ends;
 }
 
 added_within : (used new : List Bool) (blocks : List ℕ) (b : ℕ) → AddsBlocks used new blocks → 0 < times b blocks → b < length used
@@ -154,11 +123,6 @@ unread_pair d BadName ps p front cause = unread_by d BadName ps p front cause
 unread_pair d Memory ps p front cause = tt
 unread_pair d _ ps p front cause = absurd cause
 
--- the pair behind the parts so far isn't read
-pub read_refused : (d : Disk) (fault : MountFault) (ps : List PairPart) (p : Pair) (used new : List Bool)
-    → IsReadTo (reading_of d) ps (Some p) used → AddsBlocks used new (p.0 ∷ p.1 ∷ []) → ReadCause fault d p → HasCause d fault
-read_refused d fault ps p used new h adds cause = unread_pair d fault (pairs_of ps) p (front_more (reading_of d) ps p used new h adds) cause
-
 one_is_past : (count : ℕ) (p : Pair) (k x : ℕ) → k < 2 → get_or (p.0 ∷ p.1 ∷ []) k x ≡ x → count ≤ x → (count ≤ p.0) ⊎ (count ≤ p.1)
 one_is_past count p zero x below is past = inl (omega arith)
 one_is_past count p (suc zero) x below is past = inr (omega arith)
@@ -182,27 +146,21 @@ pairs_in_uses r h b ps =
     let some = pairs_in_links r b ps in
     omega arith
 
--- the pair behind the parts so far can't be marked
-pub next_refused : (d : Disk) (fault : MountFault) (ps : List PairPart) (p : Pair) (used : List Bool)
-    → IsReadTo (reading_of d) ps (Some p) used → AreTaken fault used (p.0 ∷ p.1 ∷ []) → HasCause d fault
-next_refused d BlockRange ps p used h (k, x, below, is, past) =
-    let len = h.len in
+-- the pair behind a front can't be marked, where no more is marked than the front uses
+pub next_refused : (d : Disk) (fault : MountFault) (ps : List Pair) (p : Pair) (used : List Bool) → IsFront (reading_of d) ps
+    → next_after (reading_of d) ps ≡ Some p → length used ≡ d.count
+    → ((b : ℕ) → marked used b ≤ uses b (volume_at (reading_of d) no_header ps)) → AreTaken fault used (p.0 ∷ p.1 ∷ []) → HasCause d fault
+next_refused d BlockRange ps p used front next_is len most (k, x, below, is, past) =
     inl (record {
-      front = pairs_of ps;
-      is_front = front_read (reading_of d) ps (Some p) used h;
+      front = ps;
+      is_front = front;
       pair = p;
-      follows = h.next_is;
+      follows = next_is;
       past = one_is_past d.count p k x below is (omega arith);
     })
-next_refused d BlockTwice ps p used h (b, twice) =
-    let marks = h.marks b in
-    let some = pairs_in_uses (reading_of d) no_header b (pairs_of ps) in
-    let one : pairs_name b (option_to_list (next_after (reading_of d) (pairs_of ps))) ≡ pair_names b p =
-    ap (λ (o : Option Pair). pairs_name b (option_to_list o)) h.next_is ∙ omega arith in
-    record {
-      header = no_header;
-      front = pairs_of ps;
-      is_front = front_read (reading_of d) ps (Some p) used h;
-      twice = inl (b, omega arith);
-    }
-next_refused d _ ps p used h taken = absurd taken
+next_refused d BlockTwice ps p used front next_is len most (b, twice) =
+    let some = most b in
+    let one : pairs_name b (option_to_list (next_after (reading_of d) ps)) ≡ pair_names b p =
+    ap (λ (o : Option Pair). pairs_name b (option_to_list o)) next_is ∙ omega arith in
+    record { header = no_header; front = ps; is_front = front; twice = inl (b, omega arith) }
+next_refused d _ ps p used front next_is len most taken = absurd taken

@@ -1,9 +1,9 @@
 -- A walk over places lists the rows of its volume.
 use Rattle.std.proofs.Common.{◌≡◌, ◌⊎◌, ℕ, ◌+◌, ◌≤◌, Bool, true, false, List, [], ◌∷◌, ◌++◌, Some, None, refl, ap, sym, ◌∙◌, subst, arith}
-use Rattle.std.proofs.Common.{map, length, reverse, replicate, suc, add-one, inl, inr}
+use Rattle.std.proofs.Common.{map, length, replicate, suc, add-one, inl, inr}
 use Rattle.std.specs.Prelude.{slice_get, IsSome}
 use Rattle.std.specs.List.{All}
-use Rattle.std.proofs.lemmas.List.{map-append, length-append, length-reverse}
+use Rattle.std.proofs.lemmas.List.{map-append, length-append}
 use Rattle.std.proofs.lemmas.List.Elements.{All-nil, All-cons, All-head, All-tail, All-append, All-push, All-weaker}
 use Rattle.lfs_block.specs.declared.mount_fault.MountFault.{MountFault}
 use Rattle.lfs_block.specs.declared.mount_fault.MountFault.TheVariants.{Memory}
@@ -111,19 +111,17 @@ walking_file v table order x rest opened leads walking =
     }
 
 pub walking_directory : (v : Volume) (table : List (Pair × ℕ)) (order : List Place) (x : Place) (rest : List Place)
-    (opened again : List Bool) (k : Pair) (waiting longer : List Place) → target (listed_at v x).entry ≡ Some k
-    → rest ≡ reverse waiting → Enters v.directories table k (x.depth + 1) opened again waiting longer
-    → IsWalking v table order (x ∷ rest) opened → IsWalking v table (order ++ x ∷ []) (reverse longer) again
-walking_directory v table order x rest opened again k waiting longer leads rest_is enters walking =
+    (opened again : List Bool) (k : Pair) (longer : List Place) → target (listed_at v x).entry ≡ Some k
+    → Enters v.directories table k (x.depth + 1) opened again rest longer
+    → IsWalking v table order (x ∷ rest) opened → IsWalking v table (order ++ x ∷ []) longer again
+walking_directory v table order x rest opened again k longer leads enters walking =
     let next = next_row v order x rest walking.queue walking.follow in
     let r : Row = next.row in
     let d : Directory = enters.directory in
     let i : ℕ = enters.index in
     let n : ℕ = suc x.depth in
     let places : List Place = places_in n i 0 (parts d) in
-    let pushed : reverse longer ≡ places ++ rest =
-    enters.pushed ∙ ap (λ (m : ℕ). places_in m i 0 (parts d) ++ reverse waiting) (add-one x.depth)
-    ∙ ap (λ (xs : List Place). places ++ xs) (sym rest_is) in
+    let pushed : longer ≡ places ++ rest = enters.pushed ∙ ap (λ (m : ℕ). places_in m i 0 (parts d) ++ rest) (add-one x.depth) in
     let walk : IsWalkTo v (rows_of v order) (r ∷ next.rows) opened = subst
     (λ (q : List Row). IsWalkTo v (rows_of v order) q opened) next.is walking.walk in
     let step = step_directory v (rows_of v order) r next.rows opened k i d
@@ -179,8 +177,7 @@ work_less v table x opened again k waiting longer enters =
     ap (flagged f v.directories) enters.opens.noted ∙ flagged_set f v.directories opened i d enters.there enters.opens.new in
     let room = flagged_room f v.directories opened i d enters.there enters.opens.new in
     let len : length longer ≡ length (places_in (x.depth + 1) i 0 (parts d)) + length waiting =
-    sym (length-reverse longer) ∙ ap length enters.pushed ∙ length-append (places_in (x.depth + 1) i 0 (parts d)) (reverse waiting)
-    ∙ ap (λ (n : ℕ). length (places_in (x.depth + 1) i 0 (parts d)) + n) (length-reverse waiting) in
+    ap length enters.pushed ∙ length-append (places_in (x.depth + 1) i 0 (parts d)) waiting in
     omega (arith, places, set', room, len)
 
 -- ---- the end

@@ -1,5 +1,5 @@
 -- What is gathered of parts that are read, one after another, and why parts are refused (own).
-use Rattle.std.specs.Prelude.{ℕ, ◌+◌, ◌≤◌, ◌≡◌, ◌⊎◌, Bool, false, List, [], ◌∷◌, ◌++◌, length, map, flat_map, sum_by, All, Some, None}
+use Rattle.std.specs.Prelude.{ℕ, ◌+◌, ◌≤◌, ◌≡◌, ◌⊎◌, Bool, true, false, List, [], ◌∷◌, ◌++◌, length, map, flat_map, sum_by, All, Some, None}
 use Rattle.std.specs.Prelude.{bit_xor}
 use Rattle.std.specs.List.{Any}
 use Rattle.lfs_block.specs.declared.mount_fault.MountFault.{MountFault}
@@ -10,6 +10,7 @@ use Rattle.lfs_meta.specs.Name.{Name}
 use Rattle.lfs_meta.specs.Body.{Pair, StoredBody, Inline as Stored_inline, Chain as Stored_chain, Directory_at as Stored_directory}
 use Rattle.lfs_meta.specs.Entry.{StoredEntry}
 use Rattle.lfs_meta.specs.Part.{StoredPart}
+use Rattle.lfs_fs.specs.declared.joined.Joined.{Joined}
 use Rattle.lfs_fs.specs.declared.limits.Limits.{Limits}
 use Rattle.lfs_fs.specs.NameOrder.{precedes}
 use Rattle.lfs_fs.specs.Entry.{Body, Entry, body_length}
@@ -17,7 +18,7 @@ use Rattle.lfs_fs.specs.Directory.{Part, Directory, entries}
 use Rattle.lfs_fs.specs.Uses.{body_uses, entry_uses}
 use Rattle.lfs_fs.specs.Used.{Marks, marked}
 use Rattle.lfs_fs.specs.State.{little_endian, IsUnfinishedMove, SaysOrphans, IsUnknownState}
-use Rattle.lfs_fs.specs.Thread.{Link, pieces}
+use Rattle.lfs_fs.specs.Thread.{Link, is_hard, pieces}
 use Rattle.lfs_fs.specs.Sound.{Rise, IsProper, AreAttributes}
 use Rattle.lfs_fs.specs.Reading.{Reading}
 use Rattle.lfs_fs.specs.Held.{resolved_body, resolved, link_of}
@@ -181,22 +182,35 @@ pub record KeepsPart (r : Reading) (limits : Limits) (old new : List Bool) (p : 
 abbrev pub outlined_pieces : Reading → List PairPart → List Directory
 outlined_pieces r ps = outlined_directories (pieces (map (link_from r) ps))
 
--- the directories of parts are kept, and the blocks of their files are marked
-pub record KeepsParts (r : Reading) (limits : Limits) (old new : List Bool) (ps : List PairPart) (kept : List Directory) : Type 0 where
+-- the directories of parts are kept, and the blocks of their files are marked, beside other uses
+pub record KeepsParts (r : Reading) (limits : Limits) (others : ℕ → ℕ) (new : List Bool) (ps : List PairPart) (kept : List Directory) : Type 0 where
   pub is : kept ≡ outlined_pieces r ps
-  pub len : length new ≡ length old
-  pub marks : Marks new (λ b. marked old b + parts_use r b ps)
+  pub len : length new ≡ r.count
+  pub marks : Marks new (λ b. others b + parts_use r b ps)
   pub proper : All (IsProperPart r limits) ps
   pub order : All (λ d. Rise (entries d)) kept
 
 -- why they aren't
-abbrev pub PartsCause : MountFault → Reading → Limits → List Bool → List PairPart → Type 0
-PartsCause OrderFault r limits used ps = Any (λ d. NamesFall (entries d)) (outlined_pieces r ps)
-PartsCause BlockTwice r limits used ps = (b : ℕ) × (2 ≤ marked used b + parts_use r b ps)
-PartsCause Memory r limits used ps = Unit {0}
-PartsCause fault r limits used ps = Any (λ p. Any (EntryFault fault r limits) p.1.entries) ps
+abbrev pub PartsCause : MountFault → Reading → Limits → (ℕ → ℕ) → List PairPart → Type 0
+PartsCause OrderFault r limits others ps = Any (λ d. NamesFall (entries d)) (outlined_pieces r ps)
+PartsCause BlockTwice r limits others ps = (b : ℕ) × (2 ≤ others b + parts_use r b ps)
+PartsCause Memory r limits others ps = Unit {0}
+PartsCause fault r limits others ps = Any (λ p. Any (EntryFault fault r limits) p.1.entries) ps
 
 -- parts as a directory, if there are any
 abbrev pub as_directory : List Part → List Directory
 as_directory [] = []
 as_directory (p ∷ ps) = record { first = p; more = ps } ∷ []
+
+-- a part that is kept is put behind those of its directory, which goes on or ends with it
+abbrev pub Joins : Bool → Part → Joined → Joined → Type 0
+Joins true kept old new = (new.directories.items ≡ old.directories.items) × (new.parts.items ≡ old.parts.items ++ kept ∷ [])
+Joins false kept old new =
+    (new.directories.items ≡ old.directories.items ++ as_directory (old.parts.items ++ kept ∷ [])) × (new.parts.items ≡ [])
+
+-- a part is kept behind those so far, and the blocks of its files are marked
+pub record KeepsNext (r : Reading) (limits : Limits) (used more : List Bool) (p : PairPart) (old new : Joined) : Type 0 where
+  pub kept : Part
+  pub keeps : KeepsPart r limits used more p old.parts.items kept
+  pub joins : Joins (is_hard p.1.tail) kept old new
+  pub state : new.state ≡ bit_xor old.state (little_endian p.1.delta)

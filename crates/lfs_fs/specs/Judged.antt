@@ -1,5 +1,5 @@
 -- The first entry of a thread, judged as a superblock and taken off (own).
-use Rattle.std.specs.Prelude.{ℕ, ◌≡◌, ◌<◌, List, [], ◌∷◌, length}
+use Rattle.std.specs.Prelude.{ℕ, ◌≡◌, ◌<◌, List, [], length}
 use Rattle.std.specs.List.{Any}
 use Rattle.lfs_block.specs.declared.mount_fault.MountFault.{MountFault}
 use Rattle.lfs_block.specs.declared.mount_fault.MountFault.TheVariants.{NoSuperblock, BadSize}
@@ -33,16 +33,3 @@ JudgedCause fault size count e = SaysBytes e (λ bytes. HeaderCause fault size c
 -- a part with other entries
 abbrev pub with_entries : PairPart → List StoredEntry → PairPart
 with_entries p es = (p.0, record { entries = es; tail = p.1.tail; delta = p.1.delta })
-
--- the first part's first entry is taken off
-pub record TakesFirst (old new : List PairPart) (e : StoredEntry) : Type 0 where
-  pub first : PairPart
-  pub others : List StoredEntry
-  pub rest : List PairPart
-  pub was : old ≡ with_entries first (e ∷ others) ∷ rest
-  pub is : new ≡ with_entries first others ∷ rest
-
--- there is no first entry of a first part
-abbrev pub BeginsWithNone : List PairPart → Type 0
-BeginsWithNone [] = Unit {0}
-BeginsWithNone (p ∷ ps) = p.1.entries ≡ []

@@ -7,6 +7,7 @@ pub mod Entry
 pub mod Weight
 pub mod Directory
 pub mod Volume
+pub mod Waiting
 pub mod Tree
 pub mod Uses
 pub mod Free

@@ -1,6 +1,6 @@
 -- A walk over the directories of a volume from the root: what is listed, what waits and what was opened (own).
 use Rattle.std.specs.Prelude.{◌≡◌, ℕ, bytes_eq, not, ◌+◌, ◌-◌, ◌≤◌, Bool, true, false, List, [], ◌∷◌, ◌++◌, Some, None, All, Contains}
-use Rattle.std.specs.Prelude.{if◌then◌else◌, sum_by, count_by, map, length, reverse, set, slice_get}
+use Rattle.std.specs.Prelude.{if◌then◌else◌, sum_by, count_by, map, length, set, slice_get}
 use Rattle.lfs_block.specs.declared.mount_fault.MountFault.{MountFault}
 use Rattle.lfs_block.specs.declared.mount_fault.MountFault.TheVariants.{MissingDirectory, BlockTwice, Orphan, Memory}
 use Rattle.lfs_meta.specs.Name.{Name}
@@ -161,7 +161,7 @@ NotOpened table k opened MissingDirectory = look_up k table ≡ None
 NotOpened table k opened BlockTwice = (i : ℕ) × (look_up k table ≡ Some i) × (slice_get opened i ≡ Some true)
 NotOpened table k opened _ = ⊥
 
--- a directory is opened, and the places of its entries are put before what waits, the first one last
+-- a directory is opened, and the places of its entries are put before what waits
 pub record Enters (ds : List Directory) (table : List (Pair × ℕ)) (k : Pair) (depth : ℕ) (opened more : List Bool)
     (waiting longer : List Place) : Type 0 where
   pub index : ℕ
@@ -169,7 +169,7 @@ pub record Enters (ds : List Directory) (table : List (Pair × ℕ)) (k : Pair) 
   pub opens : Opens table k opened more index
   pub there : slice_get ds index ≡ Some directory
   pub begins : begins_at k directory ≡ true
-  pub pushed : reverse longer ≡ places_in depth index 0 (parts directory) ++ reverse waiting
+  pub pushed : longer ≡ places_in depth index 0 (parts directory) ++ waiting
 
 -- what a walk has still to do: places that wait, and those of directories that weren't opened
 abbrev pub work : Volume → List Place → List Bool → ℕ

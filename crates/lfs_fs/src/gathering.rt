@@ -6,11 +6,10 @@ ghost use Rattle.lfs_fs.specs.Cause.{HasCause};
 ghost use Rattle.lfs_fs.specs.Gathered.{IsGathered};
 ghost use Rattle.lfs_fs.specs.SuperblockFirst.{BlamesSuperblock, HasGoodSuperblock};
 
-use crate::joining::directories_of;
 use crate::outline::Outline;
 use crate::state::settled;
 use crate::superblock::{judged, take_first};
-use crate::thread_reading::read_thread;
+use crate::thread_reading::{read_root, read_thread};
 use lfs_block::{Blocks, MountFault};
 use lfs_meta::{Attribute, Entry};
 use std::alloc::Global;
@@ -45,13 +44,14 @@ pub(crate) fn gather<B: Blocks>(alloc: Global, blocks: &B) -> Result<Gathered, M
     let count = blocks.count();
     let mut used = vec![in alloc; false; count as usize].map_err(|_| MountFault::Memory)?;
     let table = used.as_mut_slice();
-    let mut parts = read_thread(alloc, blocks, table)?;
-    settled(&parts)?;
-    let Some(superblock) = take_first(&mut parts) else {
+    let mut root = read_root(alloc, blocks, table)?;
+    let Some(superblock) = take_first(&mut root) else {
         return Err(MountFault::NoSuperblock);
     };
     let limits = judged(&superblock, size, count)?;
-    let directories = directories_of(alloc, blocks, limits, table, parts)?;
+    let joined = read_thread(alloc, blocks, limits, table, root)?;
+    settled(&joined.state)?;
+    let directories = joined.into_directories()?;
     Ok(Gathered {
         outline: Outline {
             size,

@@ -1,6 +1,6 @@
 //! The order in which an outline's entries are listed.
 
-ghost use Rattle.std.specs.Prelude.{IfOk, IfErr, reverse};
+ghost use Rattle.std.specs.Prelude.{IfOk, IfErr};
 ghost use Rattle.lfs_fs.specs.Placed.{ArePlaces, rows_of};
 ghost use Rattle.lfs_fs.specs.Ordered.{AreCounted, IsWalkable, IsListed, IsWalking, WalkCause};
 
@@ -8,25 +8,18 @@ use crate::directory_table::table_of;
 use crate::ordering::Walk;
 use crate::outline::Outline;
 use crate::place::Place;
+use crate::waiting::Waiting;
 use lfs_block::MountFault;
 use std::alloc::{AllocError, Global};
-
-/// The place of the root.
-const ROOT_PLACE: Place = Place {
-    depth: 0,
-    directory: 0,
-    part: 0,
-    entry: 0,
-};
 
 /// A walk that has listed nothing: the root waits, and no directory was opened.
 fn start(alloc: Global, outline: &Outline) -> Result<Walk, AllocError>
     requires { IsWalkable outline.now }
-    ensures { IfOk result (λ walk. IsWalking outline.now walk.table.entries walk.order.items (reverse walk.waiting.items) walk.opened.items) }
+    ensures { IfOk result (λ walk. IsWalking outline.now walk.table.entries walk.order.items walk.waiting walk.opened.items) }
 {
     let table = table_of(alloc, &outline.directories)?;
     let opened = vec![in alloc; false; outline.directories.len()]?;
-    let waiting = vec![in alloc; ROOT_PLACE]?;
+    let waiting = Waiting::root(alloc)?;
     Ok(Walk {
         table,
         opened,
@@ -49,7 +42,7 @@ pub(crate) fn order_of(alloc: Global, outline: &Outline) -> Result<Vec<Place>, M
     let Ok(mut walk) = start(alloc, outline) else {
         return Err(MountFault::Memory);
     };
-    while let Some(place) = walk.waiting.pop() {
+    while let Some(place) = walk.waiting.take_next()? {
         walk.list(outline, place)?;
     }
     if walk.opened.contains(&false) {

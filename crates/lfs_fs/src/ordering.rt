@@ -1,6 +1,6 @@
 //! The state of a walk over the directories of an outline, and its step.
 
-ghost use Rattle.std.specs.Prelude.{◌≡◌, ◌≤◌, ◌∷◌, IfOk, IfErr, OnOk, ◌⊎◌, length, reverse, ◌<◌};
+ghost use Rattle.std.specs.Prelude.{◌≡◌, ◌≤◌, ◌∷◌, IfOk, IfErr, OnOk, ◌⊎◌, length, ◌<◌};
 ghost use Rattle.std.specs.Prelude.{IfSome};
 ghost use Rattle.lfs_block.specs.declared.mount_fault.MountFault.TheVariants as MountFault;
 ghost use Rattle.lfs_fs.specs.DirectoryTable.{look_up};
@@ -11,19 +11,19 @@ use crate::outline::Outline;
 use crate::place::Place;
 use crate::placing::{push_directory, target_of};
 use crate::pushing::push;
+use crate::waiting::Waiting;
 use lfs_block::MountFault;
 use std::collections::BTreeMap;
 
-/// A walk: where the directories stand and which of them were opened, the places that wait, the next one last, and the
-/// order so far.
+/// A walk: where the directories stand and which of them were opened, the places that wait, and the order so far.
 #[derive(Drop)]
 pub(crate) struct Walk {
     /// Where each directory stands, under its first pair, the lesser block first.
     pub(crate) table: BTreeMap<(u32, u32), usize>,
     /// Which directories were opened.
     pub(crate) opened: Vec<bool>,
-    /// The places that wait, the next one last.
-    pub(crate) waiting: Vec<Place>,
+    /// The places that wait.
+    pub(crate) waiting: Waiting,
     /// The places so far.
     pub(crate) order: Vec<Place>,
 }
@@ -54,7 +54,7 @@ impl Walk {
         requires table { IsTableOf outline.now.directories self.old.table.entries }
         requires len { length self.old.opened.items ≡ length outline.now.directories }
         ensures entered { OnOk result (Enters outline.now.directories self.old.table.entries pair depth
-            self.old.opened.items self.new.opened.items self.old.waiting.items self.new.waiting.items) }
+            self.old.opened.items self.new.opened.items self.old.waiting self.new.waiting) }
         ensures order { self.new.order ≡ self.old.order }
         ensures table { self.new.table ≡ self.old.table }
         ensures refused { IfErr result (λ fault. (fault ≡ MountFault.Memory) ⊎ NotOpened self.old.table.entries pair self.old.opened.items fault) }
@@ -65,12 +65,12 @@ impl Walk {
 
     /// Lists a place, and lets what stands below it wait.
     pub(crate) fn list(&mut self, outline: &Outline, place: Place) -> Result<(), MountFault>
-        requires walking { IsWalking outline.now self.old.table.entries self.old.order.items (place ∷ reverse self.old.waiting.items) self.old.opened.items }
+        requires walking { IsWalking outline.now self.old.table.entries self.old.order.items (place ∷ self.old.waiting) self.old.opened.items }
         ensures listed { OnOk result (IsWalking outline.now
-            self.new.table.entries self.new.order.items (reverse self.new.waiting.items) self.new.opened.items) }
+            self.new.table.entries self.new.order.items self.new.waiting self.new.opened.items) }
         ensures refused { IfErr result (λ fault. WalkCause outline.now fault) }
-        ensures less { OnOk result (work outline.now self.new.waiting.items self.new.opened.items
-            ≤ work outline.now self.old.waiting.items self.old.opened.items) }
+        ensures less { OnOk result (work outline.now self.new.waiting self.new.opened.items
+            ≤ work outline.now self.old.waiting self.old.opened.items) }
     {
         if let Some(pair) = target_of(outline, place) {
             self.enter(outline, usize::from(place.depth) + 1, pair)?;

@@ -1,18 +1,18 @@
 //! Places of entries, looked up and listed.
 
-ghost use Rattle.std.specs.Prelude.{◌≡◌, ◌++◌, OnOk, IfOk, IfErr, IfSome, length, reverse, slice_get};
+ghost use Rattle.std.specs.Prelude.{◌≡◌, ◌++◌, OnOk, IfOk, IfErr, IfSome, length, slice_get};
 ghost use Rattle.std.specs.Option.{option_map};
 ghost use Rattle.lfs_block.specs.declared.mount_fault.MountFault.TheVariants as MountFault;
 ghost use Rattle.lfs_fs.specs.Entry.{target};
 ghost use Rattle.lfs_fs.specs.Directory.{parts};
-ghost use Rattle.lfs_fs.specs.Placed.{entry_in_directories, listed_at, places_from, places_in};
+ghost use Rattle.lfs_fs.specs.Placed.{entry_in_directories, listed_at, places_in};
 
 use crate::outline::Outline;
 use crate::outline_directory::OutlineDirectory;
 use crate::outline_entry::OutlineEntry;
 use crate::place::Place;
-use crate::pushing::push;
 use crate::thread_reading::ROOT;
+use crate::waiting::Waiting;
 use lfs_block::MountFault;
 
 /// The entry at a place of directories.
@@ -38,33 +38,6 @@ pub(crate) fn target_of(outline: &Outline, place: Place) -> Option<(u32, u32)>
     entry_in_directories(&outline.directories, place)?.target()
 }
 
-/// Puts the places of a part's entries on a stack, the first one last: `Memory` where the growth is refused.
-fn push_part(
-    stack: &mut Vec<Place>,
-    depth: u16,
-    directory: u16,
-    part: u16,
-    len: u16,
-) -> Result<(), MountFault>
-    ensures pushed { OnOk result (reverse stack.new.items ≡ places_from depth directory part 0 len ++ reverse stack.old.items) }
-    ensures refused { IfErr result (λ fault. fault ≡ MountFault.Memory) }
-{
-    let mut entry = len;
-    while entry > 0 {
-        entry -= 1;
-        push(
-            stack,
-            Place {
-                depth,
-                directory,
-                part,
-                entry,
-            },
-        )?;
-    }
-    Ok(())
-}
-
 /// A number of a place: `Memory` where a place has no room for it.
 fn number(value: usize) -> Result<u16, MountFault>
     ensures number { IfOk result (λ number. number ≡ value) }
@@ -84,36 +57,36 @@ fn part_len(directory: &OutlineDirectory, part: u16) -> Result<u16, MountFault>
     }
 }
 
-/// Puts the places of a directory's entries on a stack, the first one last: `Memory` where the growth is refused, or a
-/// place has no room for a number.
+/// Puts the places of a directory's entries before those that wait: `Memory` where the growth is refused, or a place has
+/// no room for a number.
 fn push_parts(
-    stack: &mut Vec<Place>,
+    waiting: &mut Waiting,
     depth: u16,
     index: u16,
     directory: &OutlineDirectory,
 ) -> Result<(), MountFault>
-    ensures pushed { OnOk result (reverse stack.new.items ≡ places_in depth index 0 (parts directory.now) ++ reverse stack.old.items) }
+    ensures pushed { OnOk result (waiting.new ≡ places_in depth index 0 (parts directory.now) ++ waiting.old) }
     ensures refused { IfErr result (λ fault. fault ≡ MountFault.Memory) }
 {
     let mut part = number(directory.len())?;
     while part > 0 {
         part -= 1;
         let len = part_len(directory, part)?;
-        push_part(stack, depth, index, part, len)?;
+        waiting.push_part(depth, index, part, len)?;
     }
     Ok(())
 }
 
-/// Puts the places of a directory's entries on a stack, the first one last: `Memory` where the growth is refused, or a
-/// place has no room for a number.
+/// Puts the places of a directory's entries before those that wait: `Memory` where the growth is refused, or a place has
+/// no room for a number.
 pub(crate) fn push_directory(
-    stack: &mut Vec<Place>,
+    waiting: &mut Waiting,
     depth: usize,
     index: usize,
     directory: &OutlineDirectory,
 ) -> Result<(), MountFault>
-    ensures pushed { OnOk result (reverse stack.new.items ≡ places_in depth index 0 (parts directory.now) ++ reverse stack.old.items) }
+    ensures pushed { OnOk result (waiting.new ≡ places_in depth index 0 (parts directory.now) ++ waiting.old) }
     ensures refused { IfErr result (λ fault. fault ≡ MountFault.Memory) }
 {
-    push_parts(stack, number(depth)?, number(index)?, directory)
+    push_parts(waiting, number(depth)?, number(index)?, directory)
 }

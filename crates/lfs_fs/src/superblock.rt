@@ -1,9 +1,9 @@
 //! The superblock of an image.
 
-ghost use Rattle.std.specs.Prelude.{◌≡◌, ◌≤◌, ◌<◌, ◌+◌, ◌*◌, ℕ, List, [], All, IfOk, IfErr, IfSome, IfNone, IsTrue, MatchBool, OnOk, ◌↔◌, length};
+ghost use Rattle.std.specs.Prelude.{◌≡◌, ◌≤◌, ◌<◌, ◌+◌, ◌*◌, ℕ, List, [], ◌∷◌, All, IfOk, IfErr, IfSome, IfNone, IsTrue, MatchBool, OnOk, ◌↔◌, length};
 ghost use Rattle.std.specs.List.{Any};
 ghost use Rattle.lfs_fs.specs.Header.{IsHeader, HeaderCause};
-ghost use Rattle.lfs_fs.specs.Judged.{SaysLimits, JudgedCause, TakesFirst, BeginsWithNone};
+ghost use Rattle.lfs_fs.specs.Judged.{SaysLimits, JudgedCause, with_entries};
 ghost use Rattle.lfs_fs.specs.SuperblockFirst.{FirstRefused, FirstTaken, HeaderRefused, HeaderTaken};
 ghost use Rattle.lfs_fs.specs.Superblock.{IsLimits, IsSuperblock, header_of, word_at};
 
@@ -126,14 +126,13 @@ pub(crate) fn judged(entry: &Entry, size: u32, count: u32) -> Result<Limits, Mou
     Ok(limits)
 }
 
-/// Takes the first entry of the first part off, if there is one.
-pub(crate) fn take_first(parts: &mut Vec<Part>) -> Option<Entry>
-    ensures taken { IfSome result (λ entry. TakesFirst parts.old.items parts.new.items entry) }
-    ensures none { IfNone result (BeginsWithNone parts.old.items) }
+/// Takes the first entry of a part off, if there is one.
+pub(crate) fn take_first(part: &mut Part) -> Option<Entry>
+    ensures taken { IfSome result (λ entry. part.old ≡ with_entries part.new (entry ∷ part.new.1.entries)) }
+    ensures none { IfNone result (part.old.1.entries ≡ []) }
 {
-    let first = parts.first_mut()?;
-    if first.entries.is_empty() {
+    if part.entries.is_empty() {
         return None;
     }
-    Some(first.entries.remove(0))
+    Some(part.entries.remove(0))
 }

@@ -1,14 +1,16 @@
-//! The parts of an image's thread.
+//! The parts of an image's thread, kept as they are read.
 
 ghost use Rattle.std.specs.Prelude.{◌≡◌, IfOk, IfErr, OnOk, length};
+ghost use Rattle.lfs_block.specs.Disk.{IsDisk};
 ghost use Rattle.lfs_fs.specs.Cause.{HasCause};
 ghost use Rattle.lfs_fs.specs.Reading.{reading_of};
 ghost use Rattle.lfs_fs.specs.Thread.{next};
 ghost use Rattle.lfs_fs.specs.SuperblockFirst.{BlamesSuperblock, HasGoodSuperblock};
-ghost use Rattle.lfs_fs.specs.ThreadRead.{IsRootRead, IsThreadRead};
+ghost use Rattle.lfs_fs.specs.ThreadRead.{IsRootRead, IsRootTaken, IsThreadKept};
 ghost use Rattle.lfs_fs.specs.Used.{Marks};
 
-use crate::pushing::push;
+use crate::joined::Joined;
+use crate::limits::Limits;
 use crate::superblock::first_fits;
 use crate::used::mark_all;
 use lfs_block::{Blocks, MountFault};
@@ -32,7 +34,11 @@ fn next_pair(tail: Tail) -> Option<(u32, u32)>
 
 /// The part of the root's first pair, whose blocks are marked: what `read_pair` refuses, else what its first entry is refused for
 /// as a superblock, so that this is told before anything that the pair leads to.
-fn read_root<B: Blocks>(alloc: Global, blocks: &B, used: &mut [bool]) -> Result<Part, MountFault>
+pub(crate) fn read_root<B: Blocks>(
+    alloc: Global,
+    blocks: &B,
+    used: &mut [bool],
+) -> Result<Part, MountFault>
     requires len { length used.old ≡ (B.disk blocks.now).count }
     requires fresh { Marks used.old (λ b. 0) }
     ensures read { IfOk result (λ part. IsRootRead (reading_of (B.disk blocks.now)) part used.new) }
@@ -49,30 +55,29 @@ fn read_root<B: Blocks>(alloc: Global, blocks: &B, used: &mut [bool]) -> Result<
     Ok(root)
 }
 
-/// The parts of the thread from the root's pair on, whose blocks are marked: `BlockRange` or `BlockTwice` where a tail
-/// names a block that isn't the disk's or that is marked, else what `read_pair` refuses. A superblock that isn't right is told
-/// before that.
+/// The parts of the thread from the root's on, less its superblock, each kept as soon as it is read, so that no part is held twice; the
+/// blocks of their pairs and of their files are marked: `BlockRange` or `BlockTwice` where a tail names a block that isn't the disk's or
+/// that is marked, else what `read_pair` refuses, or what a part isn't kept for.
 pub(crate) fn read_thread<B: Blocks>(
     alloc: Global,
     blocks: &B,
+    limits: Limits,
     used: &mut [bool],
-) -> Result<Vec<Part>, MountFault>
-    requires len { length used.old ≡ (B.disk blocks.now).count }
-    requires fresh { Marks used.old (λ b. 0) }
-    ensures read { IfOk result (λ parts. IsThreadRead (reading_of (B.disk blocks.now)) parts.items used.new) }
-    ensures good { OnOk result (HasGoodSuperblock (B.disk blocks.now)) }
+    root: Part,
+) -> Result<Joined, MountFault>
+    requires disk { IsDisk (B.disk blocks.now) }
+    requires root { IsRootTaken (reading_of (B.disk blocks.now)) limits root used.old }
+    ensures kept { IfOk result (λ joined. IsThreadKept (reading_of (B.disk blocks.now)) limits root used.new joined) }
     ensures refused { IfErr result (λ fault. HasCause (B.disk blocks.now) fault) }
-    ensures first { IfErr result (λ fault. BlamesSuperblock (B.disk blocks.now) fault) }
 {
-    let root = read_root(alloc, blocks, used)?;
     let mut next = next_pair(root.tail);
-    let mut parts = Vec::new(alloc);
-    push(&mut parts, root)?;
+    let mut joined = Joined::new(alloc);
+    joined.keep(alloc, blocks, limits, used, root)?;
     'thread: while let Some(pair) = next {
         mark_all(used, &[pair.0, pair.1])?;
         let part = read_pair(alloc, blocks, pair)?;
         next = next_pair(part.tail);
-        push(&mut parts, part)?;
+        joined.keep(alloc, blocks, limits, used, part)?;
     }
-    Ok(parts)
+    Ok(joined)
 }

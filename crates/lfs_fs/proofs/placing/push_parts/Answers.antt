@@ -1,4 +1,4 @@
-use Rattle.std.proofs.Common.{◌-◌, reverse, arith}
+use Rattle.std.proofs.Common.{◌-◌, arith}
 use Rattle.lfs_fs.specs.Directory.{parts}
 use Rattle.lfs_fs.proofs.PlacedLemmas.{parts_pushed}
 use Rattle.lfs_fs.proofs.placing.push_parts.Goals as goal
@@ -8,7 +8,7 @@ loop-part-preserved c =
     let d = c.args.directory.now in (
       omega (arith, c.loop-part.invariant.0, c.loop-part-test.true),
       parts_pushed c.args.depth c.args.index (c.loop-part.part - 1) c.loop-part.part c.in_ok-len.len
-          (parts d) c.loop-part.stack.items c.push_part.new.stack.items (reverse c.args.stack.now.items)
+          (parts d) c.loop-part.waiting c.push_part.new.self c.args.waiting.now
           (omega (arith, c.loop-part-test.true)) c.loop-part.invariant.0 c.in_ok-len.ensures.len c.loop-part.invariant.1
           c.in_ok-push_part.ensures.pushed,
     )

@@ -1,4 +1,4 @@
-use Rattle.std.proofs.Common.{◌≡◌, ◌+◌, ◌∷◌, ◌++◌, [], ℕ, reverse, refl, arith, subst, sym, ◌∙◌}
+use Rattle.std.proofs.Common.{◌≡◌, ◌+◌, ◌∷◌, ◌++◌, [], ℕ, arith, subst, sym, ◌∙◌}
 use Rattle.std.proofs.lemmas.Result.{err_from_is_err_and, on_ok_weaker}
 use Rattle.lfs_fs.specs.Ordered.{Enters}
 use Rattle.lfs_fs.proofs.WalkingLemmas.{walking_file, walking_directory, walking_fault, work_less}
@@ -10,7 +10,7 @@ returns-in_err-enter-clause-refused c =
     let old = c.args.self.now in
     let p = err_from_is_err_and c.from_residual.result c.from_residual.ensures.1 in
     rw (p.1, p.2) (walking_fault c.args.outline.now old.table.entries old.order.items c.args.place
-    (reverse old.waiting.items) old.opened.items c.in-Some.pair c.in_err-enter.field-0.0
+    old.waiting old.opened.items c.in-Some.pair c.in_err-enter.field-0.0
     (sym c.target_of.ensures ∙ c.in-Some.is) c.in_err-enter.ensures.refused c.requires.walking)
 
 pub returns-clause-listed : goal.returns-clause-listed
@@ -22,15 +22,14 @@ returns-clause-listed c =
       | in-Some+in_ok-enter w ↦
           let entered = subst (λ (n : ℕ). Enters o.directories old.table.entries w.in-Some.pair
           (n + 1) old.opened.items w.enter.new.self.opened.items
-          old.waiting.items w.enter.new.self.waiting.items) w.from.ensures w.in_ok-enter.ensures.entered in
+          old.waiting w.enter.new.self.waiting) w.from.ensures w.in_ok-enter.ensures.entered in
           let step = walking_directory o old.table.entries old.order.items x
-          (reverse old.waiting.items) old.opened.items w.enter.new.self.opened.items w.in-Some.pair old.waiting.items
-          w.enter.new.self.waiting.items
-          (sym c.target_of.ensures ∙ w.in-Some.is) refl entered c.requires.walking in
+          old.waiting old.opened.items w.enter.new.self.opened.items w.in-Some.pair w.enter.new.self.waiting
+          (sym c.target_of.ensures ∙ w.in-Some.is) entered c.requires.walking in
           on_ok_weaker c.push.result (λ (pushed : c.push.new.items.items ≡ c.match-target_of.self.order.items ++ x ∷ []). rw
           (pushed, w.self-is, w.in_ok-enter.ensures.order, w.in_ok-enter.ensures.table) step) c.push.ensures.pushed
       | in_default w ↦
-          let step = walking_file o old.table.entries old.order.items x (reverse old.waiting.items) old.opened.items
+          let step = walking_file o old.table.entries old.order.items x old.waiting old.opened.items
           (sym c.target_of.ensures ∙ w.in_default.is) c.requires.walking in
           on_ok_weaker c.push.result (λ (pushed : c.push.new.items.items ≡ c.match-target_of.self.order.items ++ x ∷ []). rw
           (pushed, w.self-is) step) c.push.ensures.pushed
@@ -44,8 +43,8 @@ returns-clause-less c =
       | in-Some+in_ok-enter w ↦
           let entered = subst (λ (n : ℕ). Enters o.directories old.table.entries w.in-Some.pair
           (n + 1) old.opened.items w.enter.new.self.opened.items
-          old.waiting.items w.enter.new.self.waiting.items) w.from.ensures w.in_ok-enter.ensures.entered in
+          old.waiting w.enter.new.self.waiting) w.from.ensures w.in_ok-enter.ensures.entered in
           on_ok_weaker c.push.result (λ _. rw w.self-is (work_less o old.table.entries c.args.place old.opened.items
-          w.enter.new.self.opened.items w.in-Some.pair old.waiting.items w.enter.new.self.waiting.items entered)) c.push.ensures.pushed
+          w.enter.new.self.opened.items w.in-Some.pair old.waiting w.enter.new.self.waiting entered)) c.push.ensures.pushed
       | in_default w ↦ on_ok_weaker c.push.result (λ _. rw w.self-is (omega arith)) c.push.ensures.pushed
     ]

@@ -10,7 +10,7 @@ use Rattle.lfs_fs.specs.Entry.{Entry}
 use Rattle.lfs_fs.specs.Gathering.{EndsAtOrAfter, part_entries}
 use Rattle.lfs_fs.specs.Reading.{reading_of}
 use Rattle.lfs_fs.proofs.GatheringLemmas.{KeepsTo, keeps_more, next_refuses, next_falls}
-use Rattle.lfs_fs.proofs.joining.kept_entries.Goals as goal
+use Rattle.lfs_fs.proofs.keeping_parts.kept_entries.Goals as goal
 
 pub returns-in_err-next-clause-refused : goal.returns-in_err-next-clause-refused
 returns-in_err-next-clause-refused g c =

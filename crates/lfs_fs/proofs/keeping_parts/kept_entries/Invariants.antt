@@ -3,7 +3,7 @@ use Rattle.std.specs.Vec.Iter.{into_iter_items, into_iter_len}
 use Rattle.lfs_fs.specs.Reading.{reading_of}
 use Rattle.lfs_fs.specs.Gathering.{part_entries}
 use Rattle.lfs_fs.proofs.GatheringLemmas.{KeepsTo}
-use Rattle.lfs_fs.proofs.joining.kept_entries.Given as goal
+use Rattle.lfs_fs.proofs.keeping_parts.kept_entries.Given as goal
 
 abbrev pub invariant-each : goal.invariant-each
 invariant-each g l = record {

@@ -1,24 +1,22 @@
-//! Parts joined to directories as they are gathered.
+//! Parts kept as they are read.
 
-ghost use Rattle.std.specs.Prelude.{◌≡◌, ◌++◌, All, IfOk, IfErr, OnOk, length};
+ghost use Rattle.std.specs.Prelude.{◌≡◌, ◌++◌, IfOk, IfErr, length};
 ghost use Rattle.std.specs.List.{AllByRecursion};
 ghost use Rattle.lfs_block.specs.Disk.{IsDisk};
 ghost use Rattle.lfs_meta.specs.Whole.{IsWhole};
-ghost use Rattle.lfs_fs.specs.Gathering.{EntriesCause, KeepsEntries, KeepsPart, KeepsParts, PartsCause, as_directory, part_entries};
+ghost use Rattle.lfs_fs.specs.Gathering.{EntriesCause, KeepsEntries, KeepsPart, part_entries};
 ghost use Rattle.lfs_fs.specs.Reading.{reading_of};
 ghost use Rattle.lfs_fs.specs.Sound.{Rise};
-ghost use Rattle.lfs_fs.specs.Thread.{is_hard};
 
 use crate::delta::Delta;
 use crate::following::comes_last;
 use crate::keeping::kept_entry;
 use crate::limits::Limits;
-use crate::outline_directory::OutlineDirectory;
 use crate::outline_entry::OutlineEntry;
 use crate::outline_part::OutlinePart;
 use crate::pushing::push;
 use lfs_block::{Blocks, MountFault};
-use lfs_meta::{Entry, Part, Tail};
+use lfs_meta::{Entry, Part};
 use std::alloc::Global;
 
 /// Entries of a part kept, and their blocks marked: what one is refused for, or `OrderFault` where a name doesn't come
@@ -52,7 +50,7 @@ fn kept_entries<B: Blocks>(
 
 /// A part kept behind the parts before it in its directory, and the blocks of its files marked: what one of its entries
 /// is refused for, or `OrderFault` where a name doesn't come after the one before.
-fn kept_part<B: Blocks>(
+pub(crate) fn kept_part<B: Blocks>(
     alloc: Global,
     blocks: &B,
     limits: Limits,
@@ -75,57 +73,4 @@ fn kept_part<B: Blocks>(
         delta,
         dirty: false,
     })
-}
-
-/// Whether the thread goes on in the same directory.
-fn is_hard(tail: Tail) -> bool
-    ensures { result ≡ is_hard tail }
-{
-    matches!(tail, Tail::Hard(..))
-}
-
-/// Puts parts behind the others as one directory, if there are any.
-fn push_directory(
-    directories: &mut Vec<OutlineDirectory>,
-    mut parts: Vec<OutlinePart>,
-) -> Result<(), MountFault>
-    ensures pushed { OnOk result (directories.new.items ≡ directories.old.items ++ as_directory parts.items) }
-    ensures refused { IfErr result (λ fault. fault ≡ MountFault.Memory) }
-{
-    if parts.is_empty() {
-        return Ok(());
-    }
-    let first = parts.remove(0);
-    push(directories, OutlineDirectory { first, more: parts })?;
-    Ok(())
-}
-
-/// The directories that parts make, in the order of the thread, and the blocks of their files marked: what one of their
-/// entries is refused for, or `OrderFault` where a name of a directory doesn't come after the one before.
-pub(crate) fn directories_of<B: Blocks>(
-    alloc: Global,
-    blocks: &B,
-    limits: Limits,
-    used: &mut [bool],
-    parts: Vec<Part>,
-) -> Result<Vec<OutlineDirectory>, MountFault>
-    requires disk { IsDisk (B.disk blocks.now) }
-    requires len { length used.old ≡ (B.disk blocks.now).count }
-    requires whole { All (λ p. AllByRecursion IsWhole p.1.entries) parts.items }
-    ensures kept { IfOk result (λ kept. KeepsParts (reading_of (B.disk blocks.now)) limits used.old used.new parts.items kept.items) }
-    ensures refused { IfErr result (λ fault. PartsCause fault (reading_of (B.disk blocks.now)) limits used.old parts.items) }
-{
-    let mut directories = Vec::new(alloc);
-    let mut joined = Vec::new(alloc);
-    'each: for part in parts {
-        let goes_on = is_hard(part.tail);
-        let next = kept_part(alloc, blocks, limits, used, &joined, part)?;
-        push(&mut joined, next)?;
-        if !goes_on {
-            push_directory(&mut directories, joined)?;
-            joined = Vec::new(alloc);
-        }
-    }
-    push_directory(&mut directories, joined)?;
-    Ok(directories)
 }

@@ -1,0 +1,119 @@
+//! Directories as their parts are joined.
+
+ghost use Rattle.std.specs.Prelude.{◌≡◌, ◌++◌, OnOk, IfErr};
+ghost use Rattle.lfs_block.specs.declared.mount_fault.MountFault.TheVariants as MountFault;
+ghost use Rattle.lfs_fs.specs.Gathering.{as_directory};
+ghost use Rattle.lfs_fs.specs.Thread.{is_hard};
+
+use crate::delta::Delta;
+use crate::keeping_parts::kept_part;
+use crate::limits::Limits;
+use crate::outline_directory::OutlineDirectory;
+use crate::outline_part::OutlinePart;
+use crate::pushing::push;
+use lfs_block::{Blocks, MountFault};
+use lfs_meta::{Part, Tail};
+use std::alloc::Global;
+use std::mem::replace;
+
+/// What is kept of the parts so far: the directories that have ended, the parts of the one that goes on, and the exclusive or of the
+/// deltas of all.
+#[derive(Drop)]
+pub(crate) struct Joined {
+    /// The directories that have ended.
+    pub(crate) directories: Vec<OutlineDirectory>,
+    /// The parts of the one that goes on.
+    pub(crate) parts: Vec<OutlinePart>,
+    /// The exclusive or of the deltas.
+    pub(crate) state: Delta,
+}
+
+/// Whether the thread goes on in the same directory.
+fn is_hard(tail: Tail) -> bool
+    ensures { result ≡ is_hard tail }
+{
+    matches!(tail, Tail::Hard(..))
+}
+
+/// Puts parts behind the others as one directory, if there are any.
+fn push_directory(
+    directories: &mut Vec<OutlineDirectory>,
+    mut parts: Vec<OutlinePart>,
+) -> Result<(), MountFault>
+    ensures pushed { OnOk result (directories.new.items ≡ directories.old.items ++ as_directory parts.items) }
+    ensures refused { IfErr result (λ fault. fault ≡ MountFault.Memory) }
+{
+    if parts.is_empty() {
+        return Ok(());
+    }
+    let first = parts.remove(0);
+    push(directories, OutlineDirectory { first, more: parts })?;
+    Ok(())
+}
+
+impl Joined {
+    ghost use Rattle.std.specs.Prelude.{◌≡◌, ◌++◌, [], IfOk, IfErr, OnOk, length};
+    ghost use Rattle.std.specs.List.{AllByRecursion};
+    ghost use Rattle.lfs_block.specs.Disk.{IsDisk};
+    ghost use Rattle.lfs_block.specs.declared.mount_fault.MountFault.TheVariants as MountFault;
+    ghost use Rattle.lfs_meta.specs.Whole.{IsWhole};
+    ghost use Rattle.lfs_fs.specs.Gathering.{EntriesCause, KeepsNext, as_directory, part_entries};
+    ghost use Rattle.lfs_fs.specs.Reading.{reading_of};
+    ghost use Rattle.lfs_fs.specs.Sound.{Rise};
+
+    /// Before the first part.
+    pub(crate) fn new(alloc: Global) -> Joined
+        ensures directories { result.directories.items ≡ [] }
+        ensures parts { result.parts.items ≡ [] }
+        ensures state { result.state ≡ 0 }
+    {
+        Joined {
+            directories: Vec::new(alloc),
+            parts: Vec::new(alloc),
+            state: Delta::none(),
+        }
+    }
+
+    /// Keeps a part behind those so far, and marks the blocks of its files: what one of its entries is refused for, or `OrderFault` where a
+    /// name of its directory doesn't come after the one before.
+    pub(crate) fn keep<B: Blocks>(
+        &mut self,
+        alloc: Global,
+        blocks: &B,
+        limits: Limits,
+        used: &mut [bool],
+        part: Part,
+    ) -> Result<(), MountFault>
+        requires disk { IsDisk (B.disk blocks.now) }
+        requires len { length used.old ≡ (B.disk blocks.now).count }
+        requires whole { AllByRecursion IsWhole part.1.entries }
+        requires rise { Rise (part_entries self.old.parts.items) }
+        ensures kept { OnOk result (KeepsNext (reading_of (B.disk blocks.now)) limits used.old used.new part self.old self.new) }
+        ensures refused { IfErr result (λ fault. EntriesCause fault (reading_of (B.disk blocks.now)) limits used.old
+            (part_entries self.old.parts.items) part.1.entries) }
+    {
+        let goes_on = is_hard(part.tail);
+        self.state = self.state.joined(&Delta::of(&part.delta));
+        let kept = kept_part(alloc, blocks, limits, used, &self.parts, part)?;
+        push(&mut self.parts, kept)?;
+        if !goes_on {
+            let parts = replace(&mut self.parts, Vec::new(alloc));
+            push_directory(&mut self.directories, parts)?;
+        }
+        Ok(())
+    }
+
+    /// The directories, the one that goes on as the last of them.
+    pub(crate) fn into_directories(self) -> Result<Vec<OutlineDirectory>, MountFault>
+        ensures directories { IfOk result (λ all. all.items ≡ self.directories.items ++ as_directory self.parts.items) }
+        ensures refused { IfErr result (λ fault. fault ≡ MountFault.Memory) }
+    {
+        let Joined {
+            mut directories,
+            parts,
+            ..
+        } = self;
+        push_directory(&mut directories, parts)?;
+        Ok(directories)
+    }
+}
