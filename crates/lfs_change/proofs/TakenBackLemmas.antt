@@ -1,4 +1,4 @@
--- What commands have done that drop nothing is taken back by as many undos.
+-- What commands have done that keep all earlier images is taken back by as many undos.
 use Rattle.std.proofs.Common.{◌≡◌, ◌∙◌, ℕ, zero, suc, ◌+◌, ◌≤◌, ◌<◌, List, [], ◌∷◌, ◌++◌, length, drop, map, None, Some, Result, Ok, Err, OnOk, IfErr, refl, sym, ap, subst, arith}
 use Rattle.lfs_block.specs.Disk.{Disk}
 use Rattle.std.specs.List.{AllByRecursion}
@@ -15,7 +15,7 @@ use Rattle.lfs_change.specs.Batch.{KeepsPast}
 abbrev pub images : History → List Disk
 images h = h.present ∷ h.past
 
--- commands that drop nothing of the history
+-- commands that keep all earlier images
 abbrev pub KeepPast : List Move → Type 0
 KeepPast [] = Unit {0}
 KeepPast (step ∷ steps) = KeepsPast step × KeepPast steps

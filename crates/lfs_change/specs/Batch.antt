@@ -19,7 +19,7 @@ use Rattle.lfs_change.specs.declared.outcome.Outcome.{Outcome}
 use Rattle.lfs_change.specs.Bytes.{image_of}
 use Rattle.lfs_change.specs.Change.{DenotesOn, RefusesJournal}
 
--- a command that drops nothing of the history
+-- a command that keeps all earlier images, so that an undo takes it back
 abbrev pub KeepsPast : Move → Type 0
 KeepsPast (Do asked None) = Unit {0}
 KeepsPast _ = ⊥

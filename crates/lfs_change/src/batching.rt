@@ -26,7 +26,7 @@ use std::alloc::Global;
 /// Takes steps, one after another, on the history of bytes that are an image, with blocks of `size` bytes, and of its journal: all of
 /// them or none. The journal is spelled in version 2 then. The caller owes that what each step keeps is 1 to 1,000 images. With a fault
 /// the image and the journal are those that were handed in, and where a step is refused the outcome says how many are done before it.
-/// Takes memory, for a copy of the image too where a step drops something of the history.
+/// Takes memory, for a copy of the image too where a step is anything else than a command that keeps all earlier images.
 ///
 /// Source: own.
 pub fn changed_by_all(
@@ -48,14 +48,14 @@ pub fn changed_by_all(
     }
 }
 
-/// Whether a step is a command that drops nothing of the history.
+/// Whether a step is a command that keeps all earlier images, so that an undo takes it back.
 fn keeps_past(step: &Move<'_>) -> bool
     ensures { IsTrue result ↔ KeepsPast (step_of step.now) }
 {
     matches!(step, Move::Do { keep: None, .. })
 }
 
-/// Whether all steps are.
+/// Whether all steps are such commands.
 fn keep_past(steps: &[Move<'_>]) -> bool
     ensures { IsTrue result ↔ AllByRecursion (λ step. KeepsPast (step_of step)) steps.now }
 {
@@ -72,7 +72,7 @@ fn take_back_all(session: &mut Session, many: usize)
     }
 }
 
-/// Takes steps that drop nothing, and gives the bytes of the journal that they leave. With a fault the image is as it was.
+/// Takes commands that keep all earlier images, and gives the bytes of the journal that they leave. With a fault the image is as it was.
 fn left_in(alloc: Global, steps: &[Move<'_>], session: &mut Session) -> Result<Vec<u8>, Stop>
     requires range { AllByRecursion (λ step. KeepsInRange (step_of step)) steps.now }
     requires keep { AllByRecursion (λ step. KeepsPast (step_of step)) steps.now }
@@ -94,7 +94,7 @@ fn left_in(alloc: Global, steps: &[Move<'_>], session: &mut Session) -> Result<V
     Err(Stop::from(Fault::Refused(Refusal::Memory)))
 }
 
-/// Takes steps that drop nothing on the history of an image, all of them or none.
+/// Takes commands that keep all earlier images on the history of an image, all of them or none.
 fn session_changed(alloc: Global, steps: &[Move<'_>], session: Session, journal: Vec<u8>) -> Outcome
     requires range { AllByRecursion (λ step. KeepsInRange (step_of step)) steps.now }
     requires keep { AllByRecursion (λ step. KeepsPast (step_of step)) steps.now }
@@ -109,8 +109,8 @@ fn session_changed(alloc: Global, steps: &[Move<'_>], session: Session, journal:
     }
 }
 
-/// Takes steps that drop nothing on the history of an image and of its journal, all of them or none: where one is refused, those before
-/// it are taken back.
+/// Takes commands that keep all earlier images on the history of an image and of its journal, all of them or none: where one is refused,
+/// those before it are taken back.
 fn image_changed(alloc: Global, steps: &[Move<'_>], image: Image, journal: Vec<u8>) -> Outcome
     requires range { AllByRecursion (λ step. KeepsInRange (step_of step)) steps.now }
     requires keep { AllByRecursion (λ step. KeepsPast (step_of step)) steps.now }
@@ -126,7 +126,7 @@ fn image_changed(alloc: Global, steps: &[Move<'_>], image: Image, journal: Vec<u
     }
 }
 
-/// Takes steps that drop nothing, as `changed_by_all` does, in the image that is handed in.
+/// Takes commands that keep all earlier images, as `changed_by_all` does, in the image that is handed in.
 fn changed_in_place(
     alloc: Global,
     steps: &[Move<'_>],
