@@ -169,6 +169,20 @@ def put_back(batch, files):
         batch.folder.journal.write_bytes(files[1])
 
 
+def a_line_that_says_nothing_takes_no_step(folder):
+    """A directory and a file in it, behind a line that says nothing, on an image of 8 blocks that has a journal: image and journal are
+    those that the two steps leave, and where a third step is refused they are those that were there."""
+    batch = Batch(folder, 8)
+    folder.journal.write_bytes(journal(512, 8, [], []))
+    (batch.room / "f").write_bytes(b"hello")
+    begin = batch.files()
+    batch.refuses(b"mkdir /a\n\nput /a/x f\nmkdir /a\n", 4, 1, "31 Exists")
+    wanted = one_by_one(batch, ["mkdir /a", "put /a/x f"])[-1]
+    put_back(batch, begin)
+    batch.takes("a directory and a file", b"# new\nmkdir /a\nput /a/x f\n")
+    folder.check("a directory and a file: files", batch.files() == wanted)
+
+
 def two_hundred_lines_one_by_one(folder):
     batch = Batch(folder, 256)
     begin = batch.files()
@@ -444,6 +458,7 @@ if __name__ == "__main__":
         all_of_a_script,
         none_of_a_script,
         batches_are_runs_line_by_line,
+        a_line_that_says_nothing_takes_no_step,
         two_hundred_lines_one_by_one,
         the_last_line_is_taken_back_alone,
         the_history_moves_in_a_script,

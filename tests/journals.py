@@ -73,6 +73,11 @@ class Journal:
         self.does("put /a/x", 4_160, 5)
         self.later = self.folder.old()
 
+    def middle_again(self):
+        """The image and the journal as they were between these two commands."""
+        self.folder.be(self.middle, 0)
+        self.be(self.early)
+
 
 def changes_are_taken_back_and_made_again(folder):
     journal = Journal(folder)
@@ -88,6 +93,30 @@ def changes_are_taken_back_and_made_again(folder):
     journal.does("redo", whole)
     journal.is_image("redo twice", journal.later)
     journal.refuses("redo", 1, NO_REDO)
+
+
+def what_is_undone_stays_in_the_journal(folder):
+    """The latest of two changes is taken back, made again and taken back; then the first."""
+    journal = Journal(folder)
+    journal.two_commands()
+    for step, image in ("undo", journal.middle), ("redo", journal.later), ("undo", journal.middle), ("undo", journal.first):
+        journal.does(step)
+        journal.is_image(step, image)
+
+
+def several_changes_are_taken_back_and_made_again(folder):
+    """All of so many changes, or none where there are fewer."""
+    journal = Journal(folder)
+    for value in "01", "02", "03":
+        journal.does(f"setattr / 74 {value}")
+        if value == "01":
+            first = folder.old()
+    journal.refuses("undo --steps 4", 1, NO_UNDO)
+    journal.does("undo --steps 3")
+    journal.does("redo --steps 2")
+    journal.refuses("redo --steps 2", 1, NO_REDO)
+    journal.does("undo --steps 1")
+    journal.is_image("undo", first)
 
 
 def nothing_is_there_without_a_journal(folder):
@@ -214,14 +243,39 @@ def first_version_is_read(folder):
     journal.does("rm /a/x", len(FRESH) + 12 + 1_028)
 
 
+def lengthened(journal, count):
+    """Makes the image a new one of so many blocks; answers its bytes, and the blocks of the short one that are others in it."""
+    short = journal.first
+    journal.does(f"format --count {count}", journal_of(512, count, [], []))
+    long = journal.folder.old()
+    both = [(number, short[at:at + 512], long[at:at + 512]) for number, at in enumerate((0, 512))]
+    blocks = [(number, old, new) for number, old, new in both if old != new]
+    journal.folder.check("block 0 says the count", [number for number, *_ in blocks] == [0])
+    return long, blocks
+
+
+def an_added_block_comes_and_goes(folder):
+    """A change that adds one block, handed in as done and as undone: the journal is the same behind steps that lead back to it."""
+    journal = Journal(folder)
+    short = journal.first
+    long, blocks = lengthened(journal, 9)
+    done, undone = journal_of(512, 9, [(8, 9, blocks)], []), journal_of(512, 8, [], [(8, 9, blocks)])
+    for now, files, steps in ("done", (long, done), ["undo", "redo"]), ("undone", (short, undone), ["redo", "undo", "redo", "undo"]):
+        folder.be(files[0], 0)
+        journal.be(files[1])
+        for step in steps:
+            journal.does(step, undone if step == "undo" else done)
+            journal.is_image(f"{now}: {step}", short if step == "undo" else long)
+    folder.be(short, 0)
+    journal.be(journal_of(512, 8, [(8, 9, blocks)], []))
+    journal.refuses("undo", 3, NO_MATCH, "an added block that isn't there")
+
+
 def added_blocks_are_taken_back(folder):
     """A change that lengthens the image, handed in: it is taken back and made again, where the added blocks are as it says."""
     journal = Journal(folder)
     short = journal.first
-    journal.does("format --count 12", journal_of(512, 12, [], []))
-    long = folder.old()
-    blocks = [(number, short[at:at + 512], long[at:at + 512]) for number, at in enumerate((0, 512)) if short[at:at + 512] != long[at:at + 512]]
-    folder.check("block 0 says the count", [number for number, *_ in blocks] == [0])
+    long, blocks = lengthened(journal, 12)
     grown = journal_of(512, 12, [(8, 12, blocks)], [])
     journal.be(grown)
     journal.does("undo", journal_of(512, 8, [], [(8, 12, blocks)]))
@@ -308,6 +362,21 @@ def the_latest_changes_are_kept(folder):
     journal.is_image("one that is kept", first)
 
 
+def the_latest_attributes_are_kept(folder):
+    """Of three values of an attribute two can be taken back."""
+    journal = Journal(folder)
+    journal.does("setattr / 74 01")
+    first = folder.old()
+    journal.does("undo")
+    journal.does("forget", FRESH)
+    for value in "01", "02", "03":
+        journal.does(f"setattr / 74 {value} --keep 2")
+    for _ in range(2):
+        journal.does("undo")
+    journal.refuses("undo", 1, NO_UNDO)
+    journal.is_image("what is kept", first)
+
+
 def full_journals_are_cut(folder):
     journal = Journal(folder)
     for _ in range(1_000):
@@ -321,18 +390,47 @@ def full_journals_are_cut(folder):
     journal.refuses("undo", 1, NO_UNDO)
 
 
+def a_call_fails(journal, call, at, library):
+    """Puts a file of 5 bytes into the directory, where the call of a name with this number fails, which the run tells."""
+    refusing = Refusing(pathlib.Path(library))
+    status, complained, _ = journal.ended("put /a/x", 5, env=refusing.env(at, call))
+    journal.folder.check(f"{call} {at} fails", refusing.was_hit())
+    is_told_so = status == 4 and complained.startswith("lfsed: 61 CannotWrite\n")
+    journal.folder.check(f"{call} {at}: put", is_told_so, (status, complained))
+
+
+def files_stay_until_the_journal_has_its_name(folder):
+    """The new image isn't written, or the new journal, or that one doesn't get its place: both files are as they were."""
+    journal = Journal(folder)
+    journal.does("mkdir /a", 3_120)
+    files = folder.old(), journal.now()
+    with tempfile.TemporaryDirectory() as library:
+        for call, at in ("write", 1), ("write", 2), ("rename", 1):
+            a_call_fails(journal, call, at, library)
+            folder.check(f"{call} {at}: files", (folder.old(), journal.now()) == files)
+
+
+def leftovers_are_replaced(folder):
+    """What an earlier run has left of both files is replaced, and is left no longer."""
+    journal = Journal(folder)
+    journal.two_commands()
+    new = journal.now()
+    journal.middle_again()
+    for name in "a.img.new", "a.img.lfsj.new":
+        folder.image.with_name(name).write_bytes(b"left")
+    journal.does("put /a/x", new, 5)
+    journal.is_image("put", journal.later)
+    folder.check("no other file", {*folder.image.parent.iterdir()} == {folder.image, folder.journal})
+
+
 def a_run_that_stopped_between_the_files(folder):
     """The image doesn't get its place behind the new journal: the image is old, and the two don't match."""
     journal = Journal(folder)
     journal.two_commands()
     new, middle = journal.now(), journal.middle
-    folder.be(middle, 0)
-    journal.be(journal.early)
+    journal.middle_again()
     with tempfile.TemporaryDirectory() as library:
-        refusing = Refusing(pathlib.Path(library))
-        status, complained, _ = journal.ended("put /a/x", 5, env=refusing.env(2, "rename"))
-        folder.check("a name that isn't given", refusing.was_hit())
-    folder.check("put", status == 4 and complained.startswith("lfsed: 61 CannotWrite\n"), (status, complained))
+        a_call_fails(journal, "rename", 2, library)
     journal.is_image("put", middle)
     folder.check("the new journal", journal.now() == new)
     journal.refuses("undo", 3, NO_MATCH)
@@ -345,17 +443,23 @@ def a_run_that_stopped_between_the_files(folder):
 if __name__ == "__main__":
     sys.exit(run_scenes([
         changes_are_taken_back_and_made_again,
+        what_is_undone_stays_in_the_journal,
+        several_changes_are_taken_back_and_made_again,
         nothing_is_there_without_a_journal,
         a_command_drops_what_was_undone,
         what_was_forgotten_is_gone,
         other_journals_are_refused,
         counts_that_are_refused,
         first_version_is_read,
+        an_added_block_comes_and_goes,
         added_blocks_are_taken_back,
         journals_cut_at_every_length,
         images_of_a_history_mount,
         a_thousand_changes_are_kept,
         the_latest_changes_are_kept,
+        the_latest_attributes_are_kept,
         full_journals_are_cut,
+        files_stay_until_the_journal_has_its_name,
+        leftovers_are_replaced,
         a_run_that_stopped_between_the_files,
     ]))

@@ -11,6 +11,12 @@ from support.logs import image, log, superblock
 OPTIONS = ("--name-max", "name"), ("--file-max", "file"), ("--attr-max", "attribute")
 LEAST, MOST = (1, 1, 1), (1_022, 2_147_483_647, 1_022)
 
+# The first bytes of a new image of 8 blocks of 512 bytes with the limits 3, 100 and 5, computed by another program.
+LIMITED = bytes.fromhex(
+    "01000000f00ffff76c6974746c6566732fe00010000002000002000008000000030000006400000005000000701ffc08"
+    "c464c187ffffffffffffffffffffffff"
+)
+
 # Limits that are asked for, by their names in the superblock.
 ASKED = [
     {},
@@ -18,6 +24,7 @@ ASKED = [
     {"file": 100},
     {"attribute": 5},
     {"attribute": 5, "name": 6, "file": 7},
+    {"name": 3, "file": 100, "attribute": 5},
     *(dict(zip(("name", "file", "attribute"), limits)) for limits in (LEAST, MOST)),
 ]
 
@@ -58,6 +65,13 @@ def formatted(folder):
             folder.check(f"{words}: check", ended[:2] == (0, ""), ended)
 
 
+def bytes_with_limits(folder):
+    """The superblock alone, and the image is erased behind it."""
+    words = "format -b 512 --count 8 --name-max 3 --file-max 100 --attr-max 5 a.img"
+    folder.check(words, folder.run(words) == (0, "", b""))
+    folder.check(f"{words}: bytes", folder.old() == LIMITED.ljust(4_096, b"\xff"), folder.old()[:64].hex())
+
+
 def put(folder):
     folder.check("format", folder.run(f"format -b 512 --count 16{said(SHORT)} a.img") == (0, "", b""))
     for row in PUT:
@@ -85,4 +99,4 @@ def packed(folder):
 
 
 if __name__ == "__main__":
-    sys.exit(run_scenes([formatted, put, packed]))
+    sys.exit(run_scenes([formatted, bytes_with_limits, put, packed]))

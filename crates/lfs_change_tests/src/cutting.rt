@@ -7,6 +7,7 @@ ghost use Rattle.lfs_cut.specs.Chosen.{HasPairsOnce};
 
 use crate::images::image_of;
 use arrayvec::ArrayVec;
+use lfs_block::Image;
 use lfs_command::Refusal;
 use lfs_cut::{NewPairs, choose, clean, cut, needed};
 use lfs_fs::{
@@ -107,12 +108,17 @@ fn one_part(
     Ok(outline(alloc, size, directories))
 }
 
+// the blocks that an image uses
+fn used_of(alloc: Global, image: &Image) -> Result<UsedBlocks, Fail> {
+    outlines_are_sound();
+    let outline = mount(alloc, image)?.into_outline();
+    Ok(outline.used_blocks(alloc)?)
+}
+
 // the blocks of a new image of 64 blocks, of which all but two are free
 fn used_blocks(alloc: Global) -> Result<UsedBlocks, Fail> {
-    outlines_are_sound();
     let image = image_of(alloc, 256, 64)?;
-    let mounted = mount(alloc, &image)?;
-    Ok(mounted.outline().used_blocks(alloc)?)
+    used_of(alloc, &image)
 }
 
 // how many new blocks the parts of an outline need, or why there is no room
@@ -142,33 +148,69 @@ fn rows_of(
     Ok(choose(alloc, outline, None, blocks)?)
 }
 
-// asserts that a part has a pair, and one entry whose name begins with a letter
-fn begins(rt: &impl Abort, part: &OutlinePart, pair: (u32, u32), letter: u8) {
-    assert_eq!(rt; part.pair, pair);
-    assert_eq!(rt; part.entries.len(), 1);
-    for entry in &part.entries {
-        assert_eq!(rt; entry.name.first().copied(), Some(letter));
+// whether a part has a pair, and one entry whose name begins with a letter
+fn begins(part: &OutlinePart, pair: (u32, u32), letter: u8) -> bool {
+    match part.entries.as_slice() {
+        [entry] => part.pair == pair && entry.name.first() == Some(&letter),
+        _ => false,
     }
 }
 
-// asserts how a part was cut into three
-fn is_cut(rt: &impl Abort, outline: &Outline) {
-    for directory in &outline.directories {
-        begins(rt, &directory.first, (0, 1), b'a');
-        assert_eq!(rt; directory.more.len(), 2);
-        for (part, (pair, letter)) in directory.more.iter().zip([((5, 6), b'b'), ((9, 7), b'c')]) {
-            begins(rt, part, pair, letter);
-            assert!(rt; !part.dirty);
+// the pairs of the parts behind the first, and the letters of their entries
+const BEHIND: [((u32, u32), u8); 2] = [((5, 6), b'b'), ((9, 7), b'c')];
+
+// whether these are the parts behind the first, which aren't set any more
+fn are_behind(parts: &[OutlinePart]) -> bool {
+    for (part, (pair, letter)) in parts.iter().zip(&BEHIND) {
+        if part.dirty || !begins(part, *pair, *letter) {
+            return false;
         }
     }
+    parts.len() == 2
+}
+
+// whether a part was cut into three
+fn is_cut(outline: &Outline) -> bool {
+    match outline.directories.as_slice() {
+        [directory] => begins(&directory.first, (0, 1), b'a') && are_behind(&directory.more),
+        _ => false,
+    }
+}
+
+// adds an empty file
+fn add_file(
+    entries: &mut Vec<OutlineEntry>,
+    alloc: Global,
+    letter: u8,
+    len: u16,
+) -> Result<(), AllocError>
+    requires { len < 1023 }
+{
+    let entry = file(alloc, letter, len)?;
+    entries.push(entry)?;
+    Ok(())
+}
+
+// adds a directory
+fn add_folder(
+    entries: &mut Vec<OutlineEntry>,
+    alloc: Global,
+    letter: u8,
+    len: u16,
+) -> Result<(), AllocError>
+    requires { len < 1023 }
+{
+    let entry = folder(alloc, letter, len)?;
+    entries.push(entry)?;
+    Ok(())
 }
 
 // the entries of that part
 fn three_entries(alloc: Global) -> Result<Vec<OutlineEntry>, AllocError> {
     let mut entries = Vec::new(alloc);
-    entries.push(file(alloc, b'a', 80)?)?;
-    entries.push(folder(alloc, b'b', 130)?)?;
-    entries.push(file(alloc, b'c', 80)?)?;
+    add_file(&mut entries, alloc, b'a', 80)?;
+    add_folder(&mut entries, alloc, b'b', 130)?;
+    add_file(&mut entries, alloc, b'c', 80)?;
     Ok(entries)
 }
 
@@ -180,6 +222,6 @@ fn parts_are_cut_into_the_next_blocks(rt: HostRuntime) -> Result<(), Fail> {
     let rows = rows_of(&rt, alloc, &outline, &[5, 6, 9, 7])?;
     cut(alloc, &mut outline, &rows)?;
     clean(&mut outline);
-    is_cut(&rt, &outline);
+    assert!(rt; is_cut(&outline));
     Ok(())
 }

@@ -8,160 +8,97 @@ use crate::images::{fresh, has_image, new_image, new_session, replies};
 use lfs_block::Image;
 use lfs_edit::{Command, Refusal};
 use lfs_journal::{Move, Session, StepFault, Stopped, run_steps};
-use std::alloc::{AllocError, Global};
+use std::alloc::Global;
 use std::process::Abort;
 use std::test::Fail;
 
-// the command that sets an attribute of the root
-fn set_root<'a>(value: &'a [u8]) -> Command<'a> {
-    Command::SetAttr {
+// sets an attribute of the root, and keeps all of the past
+const SET_ROOT: Move<'static> = Move::Do {
+    command: Command::SetAttr {
         path: b"/",
         kind: 0x74,
-        value,
-    }
-}
+        value: &[1, 2],
+    },
+    keep: None,
+};
 
-// the step of a command, which keeps all of the past
-fn does<'a>(command: Command<'a>) -> Move<'a>
-    ensures { KeepsInRange (step_of result) }
-{
-    Move::Do {
-        command,
-        keep: None,
-    }
-}
-
-// asserts how a session replies to a run of steps
+// whether a session replies so to a run of steps
 fn replies_to(
-    rt: &impl Abort,
     alloc: Global,
     session: &mut Session,
     steps: &[Move<'_>],
     expected: &[Result<(), StepFault>],
-) -> Result<(), AllocError>
+) -> bool
     requires { AllByRecursion (λ step. KeepsInRange (step_of step)) steps.now }
 {
-    let replies = run_steps(alloc, session, steps)?;
-    assert_eq!(rt; replies.as_slice(), expected);
-    Ok(())
+    match run_steps(alloc, session, steps) {
+        Ok(replies) => replies.as_slice() == expected,
+        Err(_) => false,
+    }
 }
+
+// steps, of which one is refused, and one has nothing to make again
+const STEPS: [Move<'static>; 7] = [
+    SET_ROOT,
+    Move::Do {
+        command: Command::RmAttr {
+            path: b"/a",
+            kind: 0x74,
+        },
+        keep: None,
+    },
+    Move::Undo { steps: 1 },
+    Move::Redo { steps: 1 },
+    Move::Undo { steps: 1 },
+    Move::Forget,
+    Move::Redo { steps: 1 },
+];
+
+// what is replied to them
+const REPLIES: [Result<(), StepFault>; 7] = [
+    Ok(()),
+    Err(StepFault::Refused(Refusal::NotFound)),
+    Ok(()),
+    Ok(()),
+    Ok(()),
+    Ok(()),
+    Err(StepFault::NothingToRedo),
+];
 
 #[test]
 fn runs_carry_commands_out(rt: HostRuntime) -> Result<(), Fail> {
     let first = new_image(rt.alloc())?;
     let mut session = new_session(rt.alloc())?;
-    let nowhere = Command::RmAttr {
-        path: b"/a",
-        kind: 0x74,
-    };
-    let steps = [
-        does(set_root(&[1, 2])),
-        does(nowhere),
-        Move::Undo { steps: 1 },
-        Move::Redo { steps: 1 },
-        Move::Undo { steps: 1 },
-        Move::Forget,
-        Move::Redo { steps: 1 },
-    ];
-    let expected = [
-        Ok(()),
-        Err(StepFault::Refused(Refusal::NotFound)),
-        Ok(()),
-        Ok(()),
-        Ok(()),
-        Ok(()),
-        Err(StepFault::NothingToRedo),
-    ];
-    replies_to(&rt, rt.alloc(), &mut session, &steps, &expected)?;
-    has_image(&rt, &session, &first);
+    assert!(rt; replies_to(rt.alloc(), &mut session, &STEPS, &REPLIES));
+    assert!(rt; has_image(&session, &first));
     Ok(())
+}
+
+// steps, of which the third has nothing to take back
+const UNDONE: [Move<'static>; 4] = [
+    SET_ROOT,
+    Move::Undo { steps: 1 },
+    Move::Undo { steps: 1 },
+    Move::Redo { steps: 1 },
+];
+
+// whether the third step is refused, since nothing is left to take back
+fn stops_at_the_third(taken: &Result<(), Stopped>) -> bool {
+    match taken {
+        Ok(()) => false,
+        Err(stopped) => stopped.at == 2 && stopped.fault == StepFault::NothingToUndo,
+    }
 }
 
 #[test]
 fn steps_are_taken_up_to_one_that_is_refused(rt: HostRuntime) -> Result<(), Fail> {
     let mut session = new_session(rt.alloc())?;
-    let steps = [
-        does(set_root(&[1, 2])),
-        Move::Undo { steps: 1 },
-        Move::Undo { steps: 1 },
-        Move::Redo { steps: 1 },
-    ];
-    let Err(Stopped { at, fault }) = session.take_all(rt.alloc(), &steps) else {
-        return Err(Fail::new("no step is refused"));
-    };
-    assert_eq!(rt; at, 2);
-    assert_eq!(rt; fault, StepFault::NothingToUndo);
-    session
-        .take_all(rt.alloc(), &steps[3..])
-        .map_err(|stopped| stopped.fault)?;
-    Ok(())
-}
-
-// the step of a command, which keeps two images of the past
-fn keeps_two<'a>(command: Command<'a>) -> Move<'a>
-    ensures { KeepsInRange (step_of result) }
-{
-    Move::Do {
-        command,
-        keep: Some(2),
-    }
-}
-
-#[test]
-fn the_latest_images_are_kept(rt: HostRuntime) -> Result<(), Fail> {
-    let mut other = new_session(rt.alloc())?;
-    replies(&rt, rt.alloc(), &mut other, &set_root(&[1]), Ok(()));
-    let first = other.into_image();
-    let mut session = new_session(rt.alloc())?;
-    let steps = [
-        keeps_two(set_root(&[1])),
-        keeps_two(set_root(&[2])),
-        keeps_two(set_root(&[3])),
-        Move::Undo { steps: 1 },
-        Move::Undo { steps: 1 },
-        Move::Undo { steps: 1 },
-    ];
-    let expected = [
-        Ok(()),
-        Ok(()),
-        Ok(()),
-        Ok(()),
-        Ok(()),
-        Err(StepFault::NothingToUndo),
-    ];
-    replies_to(&rt, rt.alloc(), &mut session, &steps, &expected)?;
-    has_image(&rt, &session, &first);
-    Ok(())
-}
-
-#[test]
-fn several_changes_are_undone_and_redone_at_once(rt: HostRuntime) -> Result<(), Fail> {
-    let mut other = new_session(rt.alloc())?;
-    replies(&rt, rt.alloc(), &mut other, &set_root(&[1]), Ok(()));
-    let first = other.into_image();
-    let mut session = new_session(rt.alloc())?;
-    let steps = [
-        does(set_root(&[1])),
-        does(set_root(&[2])),
-        does(set_root(&[3])),
-        Move::Undo { steps: 4 },
-        Move::Undo { steps: 3 },
-        Move::Redo { steps: 2 },
-        Move::Redo { steps: 2 },
-        Move::Undo { steps: 1 },
-    ];
-    let expected = [
-        Ok(()),
-        Ok(()),
-        Ok(()),
-        Err(StepFault::NothingToUndo),
-        Ok(()),
-        Ok(()),
-        Err(StepFault::NothingToRedo),
-        Ok(()),
-    ];
-    replies_to(&rt, rt.alloc(), &mut session, &steps, &expected)?;
-    has_image(&rt, &session, &first);
+    assert!(rt; stops_at_the_third(&session.take_all(rt.alloc(), &UNDONE)));
+    assert!(rt;
+        session
+            .take_all(rt.alloc(), &[Move::Redo { steps: 1 }])
+            .is_ok()
+    );
     Ok(())
 }
 
@@ -195,10 +132,10 @@ fn next_image(
     alloc: Global,
     image: Image,
     command: &Command<'_>,
-    reply: Result<(), StepFault>,
+    reply: &Result<(), StepFault>,
 ) -> Result<Image, Fail> {
     let mut session = fresh(alloc, image)?;
-    replies(rt, alloc, &mut session, command, reply);
+    assert!(rt; replies(alloc, &mut session, command, reply));
     Ok(session.into_image())
 }
 
@@ -212,8 +149,8 @@ fn does_what_many_do(
     let mut image = first;
     for command in &LIST {
         let reply = session.command(alloc, command);
-        image = next_image(rt, alloc, image, command, reply)?;
-        has_image(rt, session, &image);
+        image = next_image(rt, alloc, image, command, &reply)?;
+        assert!(rt; has_image(session, &image));
     }
     Ok(())
 }

@@ -5,7 +5,6 @@ use lfs_block::{Blocks, Image, geometry_ok};
 use lfs_edit::Command;
 use lfs_journal::{Session, StepFault};
 use std::alloc::Global;
-use std::process::Abort;
 use std::test::Fail;
 
 /// A new image of so many blocks of this size.
@@ -31,44 +30,40 @@ pub(crate) fn new_session(alloc: Global) -> Result<Session, Fail> {
     fresh(alloc, new_image(alloc)?)
 }
 
-/// A copy of an image.
-pub(crate) fn copy_of(alloc: Global, image: &Image) -> Result<Image, Fail> {
-    let mut bytes = Vec::new(alloc);
-    for n in 0..image.count() {
-        bytes.extend_from_slice(image.block(n))?;
-    }
-    Ok(Image::new(bytes, image.size()).map_err(|refused| refused.0)?)
-}
-
-/// Asserts how a session replies to a command.
+/// Whether a session replies so to a command.
 pub(crate) fn replies(
-    rt: &impl Abort,
     alloc: Global,
     session: &mut Session,
     command: &Command<'_>,
-    reply: Result<(), StepFault>,
-) {
-    assert_eq!(rt; session.command(alloc, command), reply);
+    reply: &Result<(), StepFault>,
+) -> bool {
+    session.command(alloc, command) == *reply
 }
 
-/// Asserts that a session carries commands out.
-pub(crate) fn carries_out(
-    rt: &impl Abort,
-    alloc: Global,
-    session: &mut Session,
-    commands: &[Command<'_>],
-) {
+/// Whether a session carries commands out.
+pub(crate) fn carries_out(alloc: Global, session: &mut Session, commands: &[Command<'_>]) -> bool {
     for command in commands {
-        assert_eq!(rt; session.command(alloc, command), Ok(()));
+        if session.command(alloc, command).is_err() {
+            return false;
+        }
     }
+    true
 }
 
 /// Whether two images are the same, byte for byte.
 pub(crate) fn are_same(left: &Image, right: &Image) -> bool {
-    left.count() == right.count() && (0..left.count()).all(|n| left.block(n) == right.block(n))
+    if left.count() != right.count() {
+        return false;
+    }
+    for n in 0..left.count() {
+        if left.block(n) != right.block(n) {
+            return false;
+        }
+    }
+    true
 }
 
-/// Asserts that a session's image is this one.
-pub(crate) fn has_image(rt: &impl Abort, session: &Session, image: &Image) {
-    assert!(rt; are_same(session.image(), image));
+/// Whether a session's image is this one.
+pub(crate) fn has_image(session: &Session, image: &Image) -> bool {
+    are_same(session.image(), image)
 }

@@ -1,5 +1,6 @@
-//! Tests of commands and their layers, which call them as the crates above do: refusals, outlines, what is written, sessions, writers.
-//! What a command makes of an image is tested by `tests/trees.py` and `tests/rows.py`, over the program.
+//! Tests of commands and their layers, which call them as the crates above do: refusals, outlines, what is written, runs of steps, writers.
+//! What a command makes of an image is tested by `tests/trees.py` and `tests/rows.py`, new images by `tests/limits.py`, and histories that
+//! are saved and opened by `tests/journals.py`, all over the program.
 #![tactic(auto)]
 
 #[cfg(test)]
@@ -9,16 +10,12 @@ mod contents;
 #[cfg(test)]
 mod cutting;
 #[cfg(test)]
-mod formatting;
-#[cfg(test)]
 mod histories;
 #[cfg(test)]
 mod images;
 #[cfg(test)]
 mod judging;
 mod new_images;
-#[cfg(test)]
-mod opening;
 #[cfg(test)]
 mod packing;
 #[cfg(test)]

@@ -17,6 +17,8 @@ pub fn new_image_of(alloc: Global, size: u32, count: u32) -> Option<Image>
     requires { IsGeometry size count }
     ensures image { IfSome result (λ image. (image.disk.size ≡ size) × IsFormatted size count new_limits image.disk.bytes) }
 {
-    let bytes = format(alloc, size, count).ok()?;
+    let Ok(bytes) = format(alloc, size, count) else {
+        return None;
+    };
     Image::new(bytes, size).ok()
 }

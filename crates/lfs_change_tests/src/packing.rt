@@ -2,12 +2,11 @@
 
 use lfs_block::{Image, geometry_ok};
 use lfs_edit::Refusal;
-use lfs_fs::{Limits, NEW_LIMITS, mount};
+use lfs_fs::{Limits, Mounted, NEW_LIMITS, mount};
 use lfs_listing::send_listing;
 use lfs_pack::{PackRow, least_count, pack, pack_within};
 use lfs_sink::Out;
 use std::alloc::Global;
-use std::process::Abort;
 use std::test::Fail;
 
 // what the packed image lists
@@ -41,10 +40,36 @@ fn rows(attributes: &[(u8, Vec<u8>)]) -> [PackRow<'_>; 3] {
     [root, directory, file]
 }
 
-// asserts what is free in an image, and what it lists
-fn holds(rt: &impl Abort, alloc: Global, image: &Image) -> Result<(), Fail> {
-    assert_eq!(rt; mount(alloc, image)?.free_count(), 3);
-    lists(rt, alloc, image, LISTING)
+// whether this is listed of a mounted image
+fn lists(alloc: Global, mounted: &Mounted, listing: &str) -> bool {
+    let mut text = Vec::new(alloc);
+    let mut out = Out::new(&mut text);
+    let is_sent = send_listing(alloc, mounted.rows(), &mut out).is_ok();
+    is_sent && text.as_slice() == listing.as_bytes()
+}
+
+// whether an image has the limits and so many free blocks, and lists this
+fn holds(
+    alloc: Global,
+    image: &Image,
+    limits: Limits,
+    free: u32,
+    listing: &str,
+) -> Result<bool, Fail> {
+    let mounted = mount(alloc, image)?;
+    Ok(
+        mounted.limits() == limits
+            && mounted.free_count() == free
+            && lists(alloc, &mounted, listing),
+    )
+}
+
+// the image of blocks of 512 bytes that has these
+fn image(bytes: Vec<u8>) -> Result<Image, Fail> {
+    match Image::new(bytes, 512) {
+        Ok(image) => Ok(image),
+        Err(_) => Err(Fail::new("no image")),
+    }
 }
 
 // the image of so many blocks of 512 bytes into which rows are packed
@@ -52,15 +77,15 @@ fn packed(alloc: Global, count: u32, rows: &[PackRow<'_>]) -> Result<Image, Fail
     if !geometry_ok(512, count) {
         return Err(Fail::new("no image has such blocks"));
     }
-    let bytes = pack(alloc, 512, count, rows)?;
-    Ok(Image::new(bytes, 512).ok().ok_or("no image")?)
+    image(pack(alloc, 512, count, rows)?)
 }
 
 #[test]
 fn rows_are_packed_into_an_image(rt: HostRuntime) -> Result<(), Fail> {
     let attributes = attributes(rt.alloc())?;
     let image = packed(rt.alloc(), 8, &rows(&attributes))?;
-    holds(&rt, rt.alloc(), &image)
+    assert!(rt; holds(rt.alloc(), &image, NEW_LIMITS, 3, LISTING)?);
+    Ok(())
 }
 
 // the limits of what is packed, which has nothing that is longer
@@ -70,30 +95,18 @@ const LIMITS: Limits = Limits {
     attribute: 1,
 };
 
-// asserts the limits of an image
-fn has_limits(rt: &impl Abort, alloc: Global, image: &Image, limits: Limits) -> Result<(), Fail> {
-    let outline = mount(alloc, image)?.into_outline();
-    assert!(rt; outline.limits == limits);
+#[test]
+fn rows_are_packed_within_limits(rt: HostRuntime) -> Result<(), Fail> {
+    assert!(rt; geometry_ok(512, 8));
+    let attributes = attributes(rt.alloc())?;
+    let image = image(pack_within(rt.alloc(), 512, 8, LIMITS, &rows(&attributes))?)?;
+    assert!(rt; holds(rt.alloc(), &image, LIMITS, 3, LISTING)?);
     Ok(())
 }
 
 #[test]
-fn rows_are_packed_within_limits(rt: HostRuntime) -> Result<(), Fail> {
-    if !geometry_ok(512, 8) {
-        return Err(Fail::new("no image has such blocks"));
-    }
-    let attributes = attributes(rt.alloc())?;
-    let bytes = pack_within(rt.alloc(), 512, 8, LIMITS, &rows(&attributes))?;
-    let image = Image::new(bytes, 512).ok().ok_or("no image")?;
-    has_limits(&rt, rt.alloc(), &image, LIMITS)?;
-    holds(&rt, rt.alloc(), &image)
-}
-
-#[test]
 fn longer_files_are_not_packed(rt: HostRuntime) -> Result<(), Fail> {
-    if !geometry_ok(512, 8) {
-        return Err(Fail::new("no image has such blocks"));
-    }
+    assert!(rt; geometry_ok(512, 8));
     let limits = Limits { file: 64, ..LIMITS };
     let attributes = attributes(rt.alloc())?;
     let packed = pack_within(rt.alloc(), 512, 8, limits, &rows(&attributes));
@@ -103,22 +116,10 @@ fn longer_files_are_not_packed(rt: HostRuntime) -> Result<(), Fail> {
 
 #[test]
 fn rows_need_as_many_blocks_as_they_use(rt: HostRuntime) -> Result<(), Fail> {
-    if !geometry_ok(512, 8) {
-        return Err(Fail::new("no image has such blocks"));
-    }
+    assert!(rt; geometry_ok(512, 8));
     let attributes = attributes(rt.alloc())?;
     let count = least_count(rt.alloc(), 512, NEW_LIMITS, &rows(&attributes))?;
-    assert_eq!(rt; count, 5);
-    Ok(())
-}
-
-// asserts what an image lists
-fn lists(rt: &impl Abort, alloc: Global, image: &Image, listing: &str) -> Result<(), Fail> {
-    let mounted = mount(alloc, image)?;
-    let mut text = Vec::new(alloc);
-    let mut out = Out::new(&mut text);
-    assert!(rt; send_listing(alloc, mounted.rows(), &mut out).is_ok());
-    assert!(rt; text.as_slice() == listing.as_bytes());
+    assert!(rt; count == 5);
     Ok(())
 }
 
@@ -131,5 +132,14 @@ fn the_root_gets_attributes(rt: HostRuntime) -> Result<(), Fail> {
         attributes: &attributes,
     };
     let image = packed(rt.alloc(), 2, &[root])?;
-    lists(&rt, rt.alloc(), &image, "d          - /\n@ 74 01\n")
+    assert!(rt;
+        holds(
+            rt.alloc(),
+            &image,
+            NEW_LIMITS,
+            0,
+            "d          - /\n@ 74 01\n"
+        )?
+    );
+    Ok(())
 }

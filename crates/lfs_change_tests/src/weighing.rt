@@ -4,15 +4,26 @@ use lfs_cut::weight;
 use lfs_draft::new_entry;
 use lfs_fs::OutlineBody;
 use lfs_meta::run_takes;
+use std::alloc::{AllocError, Global};
 use std::test::Fail;
+
+/// The weight of a file whose contents stand in its entry.
+fn file_weight(alloc: Global) -> Result<u32, AllocError> {
+    let held = OutlineBody::Inline(Vec::from_slice(alloc, b"hello")?);
+    let entry = new_entry(alloc, b"abc", held)?;
+    Ok(weight(&entry))
+}
+
+/// The weight of a directory.
+fn directory_weight(alloc: Global) -> Result<u32, AllocError> {
+    let entry = new_entry(alloc, b"d", OutlineBody::Directory(2, 3))?;
+    Ok(weight(&entry))
+}
 
 #[test]
 fn tags_names_and_contents_weigh(rt: HostRuntime) -> Result<(), Fail> {
-    let alloc = rt.alloc();
-    let held = OutlineBody::Inline(Vec::from_slice(alloc, b"hello")?);
-    assert_eq!(rt; weight(&new_entry(alloc, b"abc", held)?), 16);
-    let leads = OutlineBody::Directory(2, 3);
-    assert_eq!(rt; weight(&new_entry(alloc, b"d", leads)?), 17);
+    assert!(rt; file_weight(rt.alloc())? == 16);
+    assert!(rt; directory_weight(rt.alloc())? == 17);
     Ok(())
 }
 

@@ -1,9 +1,9 @@
 //! Writers that misbehave.
 
 use lfs_sink::{Out, Sink, send};
+use std::alloc::Global;
 use std::io;
 use std::io::{ErrorKind, Write};
-use std::process::Abort;
 
 /// How a writer answers a write.
 #[derive(Clone, Copy)]
@@ -64,24 +64,30 @@ const ROWS: [Row; 8] = [
     ([Reply::Takes(1), Reply::Interrupts], true, "littlefs"),
 ];
 
-/// Asserts that a text goes out whole or not, and what the sink says of it.
-fn goes_out(rt: &impl Abort, writer: &mut Scripted<'_>, whole: bool, fails: bool) {
+/// Whether a text goes out whole or not, as it should, and the sink says so; and whether the writer fails then where it is flushed.
+fn goes_out(writer: &mut Scripted<'_>, whole: bool, fails: bool) -> bool {
     let mut out = Out::new(writer);
-    assert_eq!(rt; send(&mut out, b"littlefs"), whole);
-    assert_eq!(rt; out.has_failed(), !whole);
-    assert_eq!(rt; out.error().is_some(), fails);
-    assert!(rt; !out.flush());
-    assert!(rt; out.error().is_some());
+    send(&mut out, b"littlefs") == whole
+        && out.has_failed() != whole
+        && out.error().is_some() == fails
+        && !out.flush()
+        && out.error().is_some()
+}
+
+/// Whether a writer that answers so gets what it should.
+fn is_written(alloc: Global, row: &Row) -> bool {
+    let (replies, whole, text) = row;
+    let mut writer = Scripted {
+        replies,
+        written: Vec::new(alloc),
+    };
+    goes_out(&mut writer, *whole, !*whole && has_failure(replies))
+        && writer.written.as_slice() == text.as_bytes()
 }
 
 #[test]
 fn writers_that_misbehave(rt: HostRuntime) {
-    for (replies, whole, text) in &ROWS {
-        let mut writer = Scripted {
-            replies,
-            written: Vec::new(rt.alloc()),
-        };
-        goes_out(&rt, &mut writer, *whole, !*whole && has_failure(replies));
-        assert!(rt; writer.written.as_slice() == text.as_bytes());
+    for row in &ROWS {
+        assert!(rt; is_written(rt.alloc(), row));
     }
 }

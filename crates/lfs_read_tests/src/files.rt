@@ -4,7 +4,8 @@ ghost use Rattle.std.specs.Prelude.{◌≡◌, ◌<◌, ◌≤◌, length, All, 
 ghost use Rattle.lfs_block.specs.Geometry.{IsBlockSize};
 ghost use Rattle.lfs_file.specs.Content.{content};
 
-use lfs_block::{Blocks, Image};
+use crate::images::image;
+use lfs_block::Blocks;
 use lfs_file::{blocks_for, chain, lay, read_file};
 use std::alloc::{AllocError, Global};
 use std::test::Fail;
@@ -42,24 +43,34 @@ fn byte_of(n: usize) -> u8 {
     (n % 251) as u8
 }
 
-/// The bytes of the image.
-fn image_bytes(alloc: Global) -> Result<Vec<u8>, Fail> {
-    let mut bytes = vec![in alloc; 0u8; 1_024]?;
-    for (pointers, from, to) in PARTS {
-        bytes.extend_from_slice(pointers)?;
-        for n in from..to {
-            bytes.push(byte_of(n))?;
-        }
+/// Adds the bytes of the file from one number to another.
+fn add_bytes(bytes: &mut Vec<u8>, from: usize, to: usize) -> Result<(), AllocError> {
+    for n in from..to {
+        bytes.push(byte_of(n))?;
     }
+    Ok(())
+}
+
+/// Adds what the blocks 2 to 7 hold.
+fn add_parts(bytes: &mut Vec<u8>) -> Result<(), AllocError> {
+    for (pointers, from, to) in &PARTS {
+        bytes.extend_from_slice(pointers)?;
+        add_bytes(bytes, *from, *to)?;
+    }
+    Ok(())
+}
+
+/// The bytes of the image.
+fn image_bytes(alloc: Global) -> Result<Vec<u8>, AllocError> {
+    let mut bytes = vec![in alloc; 0u8; 1_024]?;
+    add_parts(&mut bytes)?;
     Ok(bytes)
 }
 
-/// The first bytes of the file.
-fn file_bytes(alloc: Global, size: usize) -> Result<Vec<u8>, Fail> {
+/// The bytes of the file.
+fn file_bytes(alloc: Global) -> Result<Vec<u8>, AllocError> {
     let mut bytes = Vec::new(alloc);
-    for n in 0..size {
-        bytes.push(byte_of(n))?;
-    }
+    add_bytes(&mut bytes, 0, 3_040)?;
     Ok(bytes)
 }
 
@@ -77,12 +88,11 @@ fn lay_in(alloc: Global, file: &[u8], blocks: &[u32], size: u32) -> Option<Vec<V
 #[test]
 fn gives_the_contents(rt: HostRuntime) -> Result<(), Fail> {
     let alloc = rt.alloc();
-    let image = Image::new(image_bytes(alloc)?, 512).map_err(|refused| refused.0)?;
+    let image = image(image_bytes(alloc)?, 512)?;
     let found = chain(alloc, &image, 7, 3_040)?;
     assert!(rt; found.as_slice() == [2, 3, 4, 5, 6, 7].as_slice());
     let bytes = join(alloc, &image, &found, 3_040)?;
-    let want = file_bytes(alloc, 3_040)?;
-    assert!(rt; bytes == want);
+    assert!(rt; bytes == file_bytes(alloc)?);
     Ok(())
 }
 
@@ -92,20 +102,23 @@ const LONGEST: [(u32, u32); 2] = [(256, 17_318_417), (65_536, 65_545)];
 #[test]
 fn takes_the_least_blocks(rt: HostRuntime) {
     for (size, want) in &LONGEST {
-        assert_eq!(rt; blocks_for(0xffff_ffff, *size), *want);
+        assert!(rt; blocks_for(0xffff_ffff, *size) == *want);
     }
+}
+
+/// The bytes of an image of two blocks of zeros, and these behind them.
+fn behind_two(alloc: Global, laid: &[Vec<u8>]) -> Result<Vec<u8>, AllocError> {
+    let mut bytes = vec![in alloc; 0u8; 1_024]?;
+    for block in laid {
+        bytes.extend_from_slice(block)?;
+    }
+    Ok(bytes)
 }
 
 #[test]
 fn lays_blocks(rt: HostRuntime) -> Result<(), Fail> {
-    let alloc = rt.alloc();
-    let file = file_bytes(alloc, 3_040)?;
-    let laid = lay_in(alloc, &file, &[2, 3, 4, 5, 6, 7], 512).ok_or("not laid")?;
-    let mut bytes = vec![in alloc; 0u8; 1_024]?;
-    for block in &laid {
-        bytes.extend_from_slice(block)?;
-    }
-    let want = image_bytes(alloc)?;
-    assert!(rt; bytes == want);
+    let file = file_bytes(rt.alloc())?;
+    let laid = lay_in(rt.alloc(), &file, &[2, 3, 4, 5, 6, 7], 512).ok_or("not laid")?;
+    assert!(rt; behind_two(rt.alloc(), &laid)? == image_bytes(rt.alloc())?);
     Ok(())
 }

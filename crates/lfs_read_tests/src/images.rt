@@ -1,16 +1,30 @@
 //! Images that the tests read.
 
+ghost use Rattle.std.specs.Prelude.{◌≡◌, IfOk};
+
 use crate::samples::block_of;
 use lfs_block::Image;
 use lfs_meta::{Body, Entry, Kind, Part, read_pair};
 use std::alloc::{AllocError, Global};
 use std::test::Fail;
 
-/// An image of two blocks of 256 bytes, erased behind their logs.
-pub(crate) fn pair_of(alloc: Global, first: &[u8], second: &[u8]) -> Result<Image, Fail> {
+/// The image of these bytes in blocks of this size.
+pub(crate) fn image(bytes: Vec<u8>, size: u32) -> Result<Image, Fail>
+    ensures { IfOk result (λ image. image.disk.size ≡ size) }
+{
+    Ok(Image::new(bytes, size).map_err(|refused| refused.0)?)
+}
+
+/// The bytes of two blocks of 256 bytes, erased behind their logs.
+fn pair_bytes(alloc: Global, first: &[u8], second: &[u8]) -> Result<Vec<u8>, AllocError> {
     let mut bytes = block_of(alloc, 256, first)?;
     bytes.extend_from_slice(&block_of(alloc, 256, second)?)?;
-    Ok(Image::new(bytes, 256).map_err(|refused| refused.0)?)
+    Ok(bytes)
+}
+
+/// The image of these.
+pub(crate) fn pair_of(alloc: Global, first: &[u8], second: &[u8]) -> Result<Image, Fail> {
+    image(pair_bytes(alloc, first, second)?, 256)
 }
 
 /// What the pair of such a block and an erased one holds.
@@ -42,11 +56,16 @@ fn put(bytes: &mut [u8], at: usize, new: &[u8]) {
     }
 }
 
+/// Writes heads into blocks.
+fn put_heads(bytes: &mut [u8], heads: &[Head]) {
+    for (block, head) in heads {
+        put(bytes, usize::from(*block) * SIZE as usize, *head);
+    }
+}
+
 /// An image of so many blocks of 512 bytes, which are erased elsewhere.
 pub(crate) fn image_of(alloc: Global, blocks: u8, heads: &[Head]) -> Result<Image, Fail> {
     let mut bytes = vec![in alloc; 0xff; SIZE as usize * usize::from(blocks)]?;
-    for (block, head) in heads {
-        put(&mut bytes, usize::from(*block) * SIZE as usize, *head);
-    }
-    Ok(Image::new(bytes, SIZE).map_err(|refused| refused.0)?)
+    put_heads(&mut bytes, heads);
+    image(bytes, SIZE)
 }

@@ -5,9 +5,9 @@ ghost use Rattle.lfs_block.specs.Change.{IsBlockChange};
 ghost use Rattle.lfs_block.specs.Disk.{erased_block};
 ghost use Rattle.lfs_block.specs.Geometry.{IsGeometry};
 
+use crate::images::image;
 use lfs_block::{Blocks, Image, Lengthened, Overlay, Patch, Record, geometry_ok};
 use std::alloc::{AllocError, Global};
-use std::process::Abort;
 use std::test::Fail;
 
 /// Blocks of 256 bytes, filled with these.
@@ -23,30 +23,36 @@ fn bytes_of(alloc: Global, fills: &[u8]) -> Result<Vec<u8>, AllocError> {
 fn image_of(alloc: Global, fills: &[u8]) -> Result<Image, Fail>
     ensures { IfOk result (λ image. image.disk.size ≡ 256) }
 {
-    let image = Image::new(bytes_of(alloc, fills)?, 256).map_err(|refused| refused.0)?;
-    Ok(image)
+    image(bytes_of(alloc, fills)?, 256)
+}
+
+/// So many bytes of one value.
+fn filled(alloc: Global, size: u32, fill: u8) -> Result<Vec<u8>, AllocError>
+    ensures { IfOk result (λ bytes. bytes.items ≡ replicate size fill) }
+{
+    vec![in alloc; fill; size as usize]
 }
 
 /// So many bytes that nothing was written to.
 fn erased(alloc: Global, size: u32) -> Result<Vec<u8>, AllocError>
     ensures { IfOk result (λ bytes. bytes.items ≡ erased_block size) }
 {
-    vec![in alloc; 0xff; size as usize]
+    filled(alloc, size, 0xff)
 }
 
 /// The change of a block's bytes, of one value before and of one after.
-fn record(alloc: Global, size: u32, number: u32, old: u8, new: u8) -> Result<Record, Fail>
+fn record(alloc: Global, size: u32, number: u32, old: u8, new: u8) -> Result<Record, AllocError>
     ensures number { IfOk result (λ r. r.number ≡ number) }
     ensures whole { IfOk result (λ r. IsBlockChange size r) }
     ensures old { IfOk result (λ r. r.old ≡ replicate size old) }
 {
-    let old = vec![in alloc; old; size as usize]?;
-    let new = vec![in alloc; new; size as usize]?;
+    let old = filled(alloc, size, old)?;
+    let new = filled(alloc, size, new)?;
     Ok(Record { number, old, new })
 }
 
 /// The patch of an image of four blocks that makes 1 to 8 in block 1, and `old` to 9 in the block `second`.
-fn patch_of(alloc: Global, size: u32, after: u32, second: u32, old: u8) -> Result<Patch, Fail>
+fn patch_of(alloc: Global, size: u32, after: u32, second: u32, old: u8) -> Result<Patch, AllocError>
     requires before { IsGeometry size 4 }
     requires after { IsGeometry size after }
     requires rise { 4 ≤ after }
@@ -62,56 +68,54 @@ fn patch_of(alloc: Global, size: u32, after: u32, second: u32, old: u8) -> Resul
 }
 
 /// The patch that writes into blocks 1 and 3.
-fn kept(alloc: Global) -> Result<Patch, Fail> {
+fn kept(alloc: Global) -> Result<Patch, AllocError> {
     patch_of(alloc, 256, 4, 3, 3)
 }
 
 /// The patch that lengthens the image to six blocks, and writes into blocks 1 and 5.
-fn grown(alloc: Global) -> Result<Patch, Fail> {
+fn grown(alloc: Global) -> Result<Patch, AllocError> {
     patch_of(alloc, 256, 6, 5, 0xff)
 }
 
-/// Asserts that so many blocks of 256 bytes begin with these.
-fn begin(rt: &impl Abort, blocks: &impl Blocks, firsts: &[u8]) {
-    assert_eq!(rt; blocks.size(), 256);
-    assert_eq!(rt; blocks.count() as usize, firsts.len());
+/// Whether so many blocks of 256 bytes begin with these.
+fn begin(blocks: &impl Blocks, firsts: &[u8]) -> bool {
     for n in 0..blocks.count() {
-        assert_eq!(rt; blocks.block(n).first(), firsts.get(n as usize));
+        if blocks.block(n).first() != firsts.get(n as usize) {
+            return false;
+        }
     }
+    blocks.size() == 256 && blocks.count() as usize == firsts.len()
 }
 
-/// Asserts that a patch is made of an image, and what the image is then; and that it is taken back.
-fn turns(rt: &impl Abort, patch: &Patch, image: &mut Image, old: &[u8], new: &[u8]) {
-    assert!(rt; patch.agrees_old(image) && patch.after() <= image.room());
+/// Whether a patch is made of an image, which is so before and behind it, and is taken back.
+fn turns(patch: &Patch, image: &mut Image, old: &[u8], new: &[u8]) -> bool {
+    if !patch.agrees_old(image) || patch.after() > image.room() {
+        return false;
+    }
     patch.apply(image);
-    begin(rt, image, new);
-    assert!(rt; patch.agrees_new(image));
+    if !begin(image, new) || !patch.agrees_new(image) {
+        return false;
+    }
     patch.revert(image);
-    begin(rt, image, old);
+    begin(image, old)
 }
 
 #[test]
 fn applies_and_reverts(rt: HostRuntime) -> Result<(), Fail> {
     let patch = kept(rt.alloc())?;
-    assert_eq!(rt; patch.records().len(), 2);
+    assert!(rt; patch.records().len() == 2);
     let mut image = image_of(rt.alloc(), &[0, 1, 2, 3])?;
-    turns(&rt, &patch, &mut image, &[0, 1, 2, 3], &[0, 8, 2, 9]);
+    assert!(rt; turns(&patch, &mut image, &[0, 1, 2, 3], &[0, 8, 2, 9]));
     Ok(())
 }
 
 #[test]
 fn lengthens_and_cuts(rt: HostRuntime) -> Result<(), Fail> {
     let patch = grown(rt.alloc())?;
-    assert_eq!(rt; (patch.size(), patch.before(), patch.after()), (256, 4, 6));
+    assert!(rt; patch.size() == 256 && patch.before() == 4 && patch.after() == 6);
     let mut image = image_of(rt.alloc(), &[0, 1, 2, 3])?;
     assert!(rt; image.reserve(6) && !patch.agrees_new(&image));
-    turns(
-        &rt,
-        &patch,
-        &mut image,
-        &[0, 1, 2, 3],
-        &[0, 8, 2, 3, 0xff, 9],
-    );
+    assert!(rt; turns(&patch, &mut image, &[0, 1, 2, 3], &[0, 8, 2, 3, 0xff, 9]));
     Ok(())
 }
 
@@ -133,62 +137,61 @@ fn room_is_reserved(rt: HostRuntime) -> Result<(), Fail> {
     let mut image = image_of(rt.alloc(), &[0, 1, 2, 3])?;
     assert!(rt; image.room() >= 4);
     assert!(rt; image.reserve(6) && image.room() >= 6);
-    assert_eq!(rt; image.into_bytes().len(), 1_024);
+    assert!(rt; image.into_bytes().len() == 1_024);
     Ok(())
 }
 
-/// Asserts what an image shows once a patch is made, and that the patch is one of two blocks of its size.
-fn shows_after(rt: &impl Abort, image: &Image, patch: &Patch, erased: &[u8], firsts: &[u8])
+/// Whether an image shows this once a patch is made, which is one of two blocks of its size.
+fn shows_after(image: &Image, patch: &Patch, erased: &[u8], firsts: &[u8]) -> bool
     requires { erased.now ≡ erased_block image.now.disk.size }
 {
-    assert!(rt; patch.size() == image.size() && patch.records().len() == 2);
-    begin(rt, &Overlay::after(image, patch, erased), firsts);
+    patch.size() == image.size()
+        && patch.records().len() == 2
+        && begin(&Overlay::after(image, patch, erased), firsts)
 }
 
 #[test]
 fn overlays_show_what_patches_make(rt: HostRuntime) -> Result<(), Fail> {
     let image = image_of(rt.alloc(), &[0, 1, 2, 3])?;
     let erased = erased(rt.alloc(), image.size())?;
-    shows_after(&rt, &image, &kept(rt.alloc())?, &erased, &[0, 8, 2, 9]);
-    shows_after(
-        &rt,
-        &image,
-        &grown(rt.alloc())?,
-        &erased,
-        &[0, 8, 2, 3, 0xff, 9],
-    );
+    let (kept, grown) = (kept(rt.alloc())?, grown(rt.alloc())?);
+    assert!(rt; shows_after(&image, &kept, &erased, &[0, 8, 2, 9]));
+    assert!(rt; shows_after(&image, &grown, &erased, &[0, 8, 2, 3, 0xff, 9]));
     Ok(())
 }
 
-/// Asserts what an image shows as if a patch of two blocks of its size weren't made.
-fn shows_before(rt: &impl Abort, image: &Image, patch: &Patch, erased: &[u8], firsts: &[u8])
+/// Whether an image shows this as if a patch of two blocks of its size weren't made.
+fn shows_before(image: &Image, patch: &Patch, erased: &[u8], firsts: &[u8]) -> bool
     requires { erased.now ≡ erased_block image.now.disk.size }
 {
-    assert!(rt; patch.size() == image.size() && patch.records().len() == 2);
-    begin(rt, &Overlay::before(image, patch, erased), firsts);
+    patch.size() == image.size()
+        && patch.records().len() == 2
+        && begin(&Overlay::before(image, patch, erased), firsts)
 }
 
 #[test]
 fn overlays_show_what_was_there(rt: HostRuntime) -> Result<(), Fail> {
     let image = image_of(rt.alloc(), &[0, 8, 2, 3, 0xff, 9])?;
     let erased = erased(rt.alloc(), image.size())?;
-    shows_before(&rt, &image, &grown(rt.alloc())?, &erased, &[0, 1, 2, 3]);
+    let grown = grown(rt.alloc())?;
+    assert!(rt; shows_before(&image, &grown, &erased, &[0, 1, 2, 3]));
     Ok(())
 }
 
-/// Asserts what an image of four blocks of 256 bytes shows as if it had this number of blocks.
-fn shows_longer(rt: &impl Abort, image: &Image, count: u32, erased: &[u8], firsts: &[u8])
+/// Whether an image of four blocks of 256 bytes shows this as if it had this number of blocks.
+fn shows_longer(image: &Image, count: u32, erased: &[u8], firsts: &[u8]) -> bool
     requires { erased.now ≡ erased_block image.now.disk.size }
 {
-    assert!(rt; geometry_ok(image.size(), count) && image.count() <= count);
-    begin(rt, &Lengthened::of(image, count, erased), firsts);
+    geometry_ok(image.size(), count)
+        && image.count() <= count
+        && begin(&Lengthened::of(image, count, erased), firsts)
 }
 
 #[test]
 fn lengthened_images_go_on_with_erased_blocks(rt: HostRuntime) -> Result<(), Fail> {
     let image = image_of(rt.alloc(), &[0, 1, 2, 3])?;
     let erased = erased(rt.alloc(), image.size())?;
-    shows_longer(&rt, &image, 6, &erased, &[0, 1, 2, 3, 0xff, 0xff]);
-    shows_longer(&rt, &image, 4, &erased, &[0, 1, 2, 3]);
+    assert!(rt; shows_longer(&image, 6, &erased, &[0, 1, 2, 3, 0xff, 0xff]));
+    assert!(rt; shows_longer(&image, 4, &erased, &[0, 1, 2, 3]));
     Ok(())
 }

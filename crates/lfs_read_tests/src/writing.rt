@@ -50,10 +50,8 @@ pub(crate) fn weights(entries: &[Entry]) -> u32
 
 /// A block of 256 bytes with the three entries and a last byte of 0.
 fn three_entries(alloc: Global) -> Result<Vec<u8>, AllocError> {
-    let mut block = block_of(alloc, 256, THREE_ENTRIES)?;
-    if let Some(last) = block.last_mut() {
-        *last = 0;
-    }
+    let mut block = block_of(alloc, 255, THREE_ENTRIES)?;
+    block.push(0)?;
     Ok(block)
 }
 
@@ -67,30 +65,29 @@ fn rewritten(rt: &impl Abort, alloc: Global, image: &Image) -> Result<(u32, Vec<
     rewrite(alloc, image, (0, 1), entries, Tail::Hard(6, 7), DELTA)
 }
 
-/// Asserts that bytes are a block with this log.
-fn is_block(rt: &impl Abort, alloc: Global, bytes: &[u8], log: &[u8]) -> Result<(), AllocError> {
-    let block = block_of(alloc, 256, log)?;
-    assert!(rt; bytes == block.as_slice());
-    Ok(())
-}
-
 #[test]
 fn rewrites_the_block_that_is_not_live(rt: HostRuntime) -> Result<(), Fail> {
     let first = three_entries(rt.alloc())?;
     let image = pair_of(rt.alloc(), &first, LAST_BUT_ONE)?;
     let (number, bytes) = rewritten(&rt, rt.alloc(), &image)?;
-    assert_eq!(rt; number, 1);
-    is_block(&rt, rt.alloc(), &bytes, REWRITTEN)?;
+    assert!(rt; number == 1 && bytes == block_of(rt.alloc(), 256, REWRITTEN)?);
     Ok(())
+}
+
+/// The first block of a new pair with the entries of an image's, and a soft tail; none where memory is refused.
+fn first_of(rt: &impl Abort, alloc: Global, image: &Image) -> Result<Option<Vec<u8>>, MountFault> {
+    let _fits_the_limits = image.size();
+    let part = read_pair(alloc, image, (0, 1))?;
+    let entries = &part.entries;
+    assert!(rt; entries.len() <= 1_000);
+    assert!(rt; weights(entries) <= 216);
+    Ok(first_block(alloc, 256, entries, Tail::Soft(6, 7)))
 }
 
 #[test]
 fn first_block_of_a_new_pair(rt: HostRuntime) -> Result<(), Fail> {
     let image = pair_of(rt.alloc(), THREE_ENTRIES, b"")?;
-    let part = read_pair(rt.alloc(), &image, (0, 1))?;
-    assert!(rt; part.entries.len() <= 1_000);
-    assert!(rt; weights(&part.entries) <= 216);
-    let block = first_block(rt.alloc(), 256, &part.entries, Tail::Soft(6, 7)).ok_or("no memory")?;
-    is_block(&rt, rt.alloc(), &block, FIRST_BLOCK)?;
+    let block = first_of(&rt, rt.alloc(), &image)?.ok_or("no memory")?;
+    assert!(rt; block == block_of(rt.alloc(), 256, FIRST_BLOCK)?);
     Ok(())
 }

@@ -1,20 +1,14 @@
-//! Tests of requests on a host's files, over a host in memory, and a law of them; and of folders that are read and made, and a law of
-//! those that are read. What commands, undo and redo make of files, and which journals are refused, is tested by `tests/journals.py`
-//! and `tests/rows.py`, over the program.
+//! A law of requests on a host's files in memory; and tests of folders that are read and made, and a law of those that are read. What
+//! requests make of files, and how they end where a write or a renaming fails, is tested by `tests/journals.py`, `tests/batch.py` and
+//! `tests/rows.py`, over the program.
 #![tactic(auto)]
 
 mod asking;
-#[cfg(test)]
-mod batches;
-#[cfg(test)]
-mod host_faults;
 #[cfg(test)]
 mod memory_folders;
 mod memory_rows;
 #[cfg(test)]
 mod recorders;
-#[cfg(test)]
-mod requests;
 #[cfg(test)]
 mod shelves;
 

@@ -7,7 +7,6 @@ use lfs_fs::mount;
 use lfs_host::{Failing, MadeEntry, MemoryHost};
 use lfs_pack::{PackRow, pack};
 use std::alloc::{AllocError, Global};
-use std::process::Abort;
 use std::test::Fail;
 
 /// What is expected at a path: a file's bytes, or a folder.
@@ -40,44 +39,65 @@ const FILES: [(&str, &[u8]); 5] = [
     ("x/a", b"elsewhere"),
 ];
 
-/// A host with these.
-fn host_with_folders(alloc: Global) -> Result<MemoryHost, AllocError> {
-    let mut host = MemoryHost::new(alloc, b"");
+/// Puts these into a host.
+fn put_files(host: &mut MemoryHost) -> Result<(), AllocError> {
     for (name, bytes) in &FILES {
         host.put(name, bytes)?;
     }
+    Ok(())
+}
+
+/// A host with these.
+fn host_with_folders(alloc: Global) -> Result<MemoryHost, AllocError> {
+    let mut host = MemoryHost::new(alloc, b"");
+    put_files(&mut host)?;
     Ok(host)
 }
 
 /// Whether a row is what is expected.
 fn is_row(row: &FolderRow, expected: &Expected) -> bool {
-    row.path.as_slice() == expected.0.as_bytes()
-        && row.bytes.as_ref().map(|b| b.as_slice()) == expected.1
+    row.path.as_slice() == expected.0.as_bytes() && row.bytes.as_deref() == expected.1
 }
 
-/// Asserts that rows are what is expected.
-pub(crate) fn are_rows(rt: &impl Abort, rows: &[FolderRow], expected: &[Expected]) {
-    assert_eq!(rt; rows.len(), expected.len());
+/// Whether rows are what is expected.
+pub(crate) fn are_rows(rows: &[FolderRow], expected: &[Expected]) -> bool {
     for (row, expected) in rows.iter().zip(expected) {
-        assert!(rt; is_row(row, expected));
+        if !is_row(row, expected) {
+            return false;
+        }
     }
+    rows.len() == expected.len()
 }
 
 /// Whether what was made is what is expected.
 fn is_made(made: &MadeEntry, expected: &Expected) -> bool {
-    match made {
-        MadeEntry::Folder(name) => name.as_str() == expected.0 && expected.1.is_none(),
-        MadeEntry::File(name, bytes) => {
-            name.as_str() == expected.0 && expected.1 == Some(bytes.as_slice())
+    match (made, expected.1) {
+        (MadeEntry::Folder(name), None) => name.as_str() == expected.0,
+        (MadeEntry::File(name, bytes), Some(wanted)) => {
+            name.as_str() == expected.0 && bytes.as_slice() == wanted
         }
+        _ => false,
+    }
+}
+
+/// The image of so many blocks of this size into which rows are packed.
+pub(crate) fn packed(
+    alloc: Global,
+    size: u32,
+    count: u32,
+    rows: &[PackRow<'_>],
+) -> Result<Image, Fail> {
+    if !geometry_ok(size, count) {
+        return Err(Fail::new("no image has such blocks"));
+    }
+    match Image::new(pack(alloc, size, count, rows)?, size) {
+        Ok(image) => Ok(image),
+        Err(_) => Err(Fail::new("no image")),
     }
 }
 
 /// An image of 8 blocks of 512 bytes with what a folder's rows have.
 fn image_of(alloc: Global, folder: &[FolderRow]) -> Result<Image, Fail> {
-    if !geometry_ok(512, 8) {
-        return Err(Fail::new("no image has such blocks"));
-    }
     let mut rows = Vec::new(alloc);
     for row in folder {
         rows.push(PackRow {
@@ -86,31 +106,46 @@ fn image_of(alloc: Global, folder: &[FolderRow]) -> Result<Image, Fail> {
             attributes: &[],
         })?;
     }
-    let bytes = pack(alloc, 512, 8, rows.as_slice())?;
-    Ok(Image::new(bytes, 512).map_err(|refused| refused.0)?)
+    packed(alloc, 512, 8, &rows)
+}
+
+/// The image into which the folder `d` is packed.
+fn image_of_folder(alloc: Global, host: &mut MemoryHost) -> Result<Image, Fail> {
+    let folder = folder_rows(alloc, host, "d").map_err(|_| "a fault")?;
+    image_of(alloc, &folder)
+}
+
+/// What is answered where an image's folder is made as the folder `out`.
+fn made_of(
+    alloc: Global,
+    image: &Image,
+    host: &mut MemoryHost,
+) -> Result<Result<(), ExtractFault>, Fail> {
+    let mounted = mount(alloc, image)?;
+    Ok(extract_rows(alloc, image, &mounted, "out", host))
 }
 
 /// What is answered where the folder `d` is packed, and made again as the folder `out`, of the same host.
 fn made_again(alloc: Global, host: &mut MemoryHost) -> Result<Result<(), ExtractFault>, Fail> {
-    let folder = folder_rows(alloc, host, "d").map_err(|_| "a fault")?;
-    let image = image_of(alloc, folder.as_slice())?;
-    let mounted = mount(alloc, &image)?;
-    Ok(extract_rows(alloc, &image, &mounted, "out", host))
+    let image = image_of_folder(alloc, host)?;
+    made_of(alloc, &image, host)
 }
 
-/// Asserts that just the first of these were made.
-fn are_made(rt: &impl Abort, host: &MemoryHost, count: usize) {
-    assert_eq!(rt; host.made.len(), count);
+/// Whether just the first of these were made.
+fn are_made(host: &MemoryHost, count: usize) -> bool {
     for (made, expected) in host.made.iter().zip(&MADE) {
-        assert!(rt; is_made(made, expected));
+        if !is_made(made, expected) {
+            return false;
+        }
     }
+    host.made.len() == count
 }
 
 #[test]
 fn a_folder_in_memory_is_read(rt: HostRuntime) -> Result<(), Fail> {
     let mut host = host_with_folders(rt.alloc())?;
     let rows = folder_rows(rt.alloc(), &mut host, "d").map_err(|_| "a fault")?;
-    are_rows(&rt, &rows, &ROWS);
+    assert!(rt; are_rows(&rows, &ROWS));
     assert!(rt; !host.has_refused);
     Ok(())
 }
@@ -118,13 +153,17 @@ fn a_folder_in_memory_is_read(rt: HostRuntime) -> Result<(), Fail> {
 /// Names of this host that are no folder's.
 const NO_FOLDERS: [&str; 4] = ["e", "d/a", "d/", "d/b/c/"];
 
+/// Whether a name is refused as that of a folder.
+fn is_no_folder(alloc: Global, name: &str) -> Result<bool, AllocError> {
+    let mut host = host_with_folders(alloc)?;
+    let fault = folder_rows(alloc, &mut host, name).err();
+    Ok(fault == Some(FolderFault::CannotRead) && host.has_refused)
+}
+
 #[test]
 fn what_is_no_folder_is_refused(rt: HostRuntime) -> Result<(), Fail> {
     for name in &NO_FOLDERS {
-        let mut host = host_with_folders(rt.alloc())?;
-        let rows = folder_rows(rt.alloc(), &mut host, name);
-        assert!(rt; rows.err() == Some(FolderFault::CannotRead));
-        assert!(rt; host.has_refused);
+        assert!(rt; is_no_folder(rt.alloc(), name)?);
     }
     Ok(())
 }
@@ -133,21 +172,23 @@ fn what_is_no_folder_is_refused(rt: HostRuntime) -> Result<(), Fail> {
 fn what_is_packed_is_made_again(rt: HostRuntime) -> Result<(), Fail> {
     let mut host = host_with_folders(rt.alloc())?;
     let made = made_again(rt.alloc(), &mut host)?;
-    assert!(rt; made.is_ok());
-    are_made(&rt, &host, 5);
-    assert_eq!(rt; host.files.len(), 5);
+    assert!(rt; made.is_ok() && are_made(&host, 5));
+    assert!(rt; host.files.len() == 5);
     Ok(())
+}
+
+/// Whether a host that refuses what stands behind so many others has made just these.
+fn stops_behind(alloc: Global, others: usize) -> Result<bool, Fail> {
+    let mut host = host_with_folders(alloc)?;
+    host.failing = Failing::Behind(others);
+    let fault = made_again(alloc, &mut host)?.err();
+    Ok(fault == Some(ExtractFault::CannotWrite) && host.has_refused && are_made(&host, others))
 }
 
 #[test]
 fn what_was_made_before_a_refusal_is_known(rt: HostRuntime) -> Result<(), Fail> {
     for others in 0..5 {
-        let mut host = host_with_folders(rt.alloc())?;
-        host.failing = Failing::Behind(others);
-        let made = made_again(rt.alloc(), &mut host)?;
-        assert!(rt; made.err() == Some(ExtractFault::CannotWrite));
-        assert!(rt; host.has_refused);
-        are_made(&rt, &host, others);
+        assert!(rt; stops_behind(rt.alloc(), others)?);
     }
     Ok(())
 }

@@ -1,12 +1,12 @@
 //! A host that records what is made on it.
 
-use lfs_block::{Image, geometry_ok};
+use crate::memory_folders::packed;
+use lfs_block::Image;
 use lfs_extract::extract_rows;
 use lfs_fs::mount;
 use lfs_host::{HostFault, Known, NewFolder};
-use lfs_pack::{PackRow, pack};
+use lfs_pack::PackRow;
 use std::alloc::Global;
-use std::process::Abort;
 use std::test::Fail;
 
 /// A folder, or a file with its bytes.
@@ -86,9 +86,6 @@ impl NewFolder for Recorder {
 
 /// An image whose root has a file with these bytes, `bytes`.
 fn image_of_a_file(alloc: Global) -> Result<Image, Fail> {
-    if !geometry_ok(256, 2) {
-        return Err(Fail::new("no image has such blocks"));
-    }
     let root = PackRow {
         path: b"/",
         bytes: None,
@@ -99,17 +96,27 @@ fn image_of_a_file(alloc: Global) -> Result<Image, Fail> {
         bytes: Some(b"bytes"),
         attributes: &[],
     };
-    let bytes = pack(alloc, 256, 2, &[root, file])?;
-    Ok(Image::new(bytes, 256).map_err(|refused| refused.0)?)
+    packed(alloc, 256, 2, &[root, file])
 }
 
-/// Asserts that these are the folder `out`, and the file in it where it is made.
-fn are_made(rt: &impl Abort, things: &[Thing], is_made: bool) {
-    assert_eq!(rt; things.len(), 1 + usize::from(is_made));
-    for (thing, name) in things.iter().zip(["out", "out/f"]) {
-        assert!(rt; thing.name.as_str() == name);
-        assert_eq!(rt; thing.is_folder, name == "out");
-        assert!(rt; thing.is_folder || thing.bytes.as_slice() == b"bytes".as_slice());
+/// Whether this is the folder `out`.
+fn is_folder(thing: &Thing) -> bool {
+    thing.is_folder && thing.name.as_str() == "out"
+}
+
+/// Whether this is the whole file in it.
+fn is_file(thing: &Thing) -> bool {
+    !thing.is_folder
+        && thing.name.as_str() == "out/f"
+        && thing.bytes.as_slice() == b"bytes".as_slice()
+}
+
+/// Whether these are the folder, and the file in it where it is made.
+fn are_made(things: &[Thing], is_made: bool) -> bool {
+    match things {
+        [folder] => !is_made && is_folder(folder),
+        [folder, file] => is_made && is_folder(folder) && is_file(file),
+        _ => false,
     }
 }
 
@@ -126,8 +133,8 @@ fn a_file_is_made_whole_or_not_at_all(rt: HostRuntime) -> Result<(), Fail> {
             room,
         };
         let made = extract_rows(alloc, &image, &mounted, "out", &mut host);
-        assert_eq!(rt; made.is_ok(), is_made);
-        are_made(&rt, &host.things, is_made);
+        assert!(rt; made.is_ok() == is_made);
+        assert!(rt; are_made(&host.things, is_made));
     }
     Ok(())
 }

@@ -4,16 +4,15 @@ use crate::memory_folders::{Expected, are_rows};
 use lfs_folder::{FolderFault, folder_rows};
 use lfs_host::{Folders, HostKind, Known, ListFault, ReadFault};
 use std::alloc::{AllocError, Global};
-use std::test::Fail;
 
-/// What is under a name.
+/// A name with what is under it: its kind, its bytes, and the names in it.
 #[derive(Clone, Copy)]
-struct Item {
-    name: &'static str,
-    kind: HostKind,
-    bytes: &'static [u8],
-    names: &'static [&'static str],
-}
+struct Item(
+    &'static str,
+    HostKind,
+    &'static [u8],
+    &'static [&'static str],
+);
 
 /// A host that has these.
 #[derive(Drop)]
@@ -22,7 +21,8 @@ struct Shelf<'a>(&'a [Item]);
 impl Shelf<'_> {
     fn find(&self, name: &str) -> Option<Item> {
         for item in self.0 {
-            if item.name == name {
+            let Item(its_name, ..) = item;
+            if *its_name == name {
                 return Some(*item);
             }
         }
@@ -43,78 +43,35 @@ impl Known for Shelf<'_> {}
 impl Folders for Shelf<'_> {
     fn kind(&mut self, name: &str) -> Result<HostKind, ReadFault> {
         match self.find(name) {
-            Some(item) => Ok(item.kind),
+            Some(Item(_, kind, ..)) => Ok(kind),
             None => Ok(HostKind::Missing),
         }
     }
 
     fn list(&mut self, alloc: Global, name: &str) -> Result<Vec<String>, ListFault> {
         match self.find(name) {
-            Some(item) => texts(alloc, item.names).map_err(|_| ListFault::Memory),
+            Some(Item(.., names)) => texts(alloc, names).map_err(|_| ListFault::Memory),
             None => Err(ListFault::CannotRead),
         }
     }
 
     fn read_entry(&mut self, alloc: Global, name: &str, _most: u64) -> Result<Vec<u8>, ReadFault> {
         match self.find(name) {
-            Some(item) => Vec::from_slice(alloc, item.bytes).map_err(|_| ReadFault::Memory),
+            Some(Item(_, _, bytes, _)) => Vec::from_slice(alloc, bytes).map_err(
+                |_| ReadFault::Memory,
+            ),
             None => Err(ReadFault::CannotRead),
         }
     }
 }
 
-/// A folder with these names.
-fn folder(name: &'static str, names: &'static [&'static str]) -> Item {
-    Item {
-        name,
-        kind: HostKind::Folder,
-        bytes: b"",
-        names,
-    }
-}
-
-/// A file of these bytes, or something else.
-fn leaf(name: &'static str, kind: HostKind, bytes: &'static [u8]) -> Item {
-    Item {
-        name,
-        kind,
-        bytes,
-        names: &[],
-    }
-}
-
 // a folder `d` with two files and a folder, in which a file is
 const TREE: [Item; 5] = [
-    Item {
-        name: "d",
-        kind: HostKind::Folder,
-        bytes: b"",
-        names: &["b", "a", "ab"],
-    },
-    Item {
-        name: "d/a",
-        kind: HostKind::File,
-        bytes: b"one",
-        names: &[],
-    },
-    Item {
-        name: "d/ab",
-        kind: HostKind::Folder,
-        bytes: b"",
-        names: &["c"],
-    },
-    Item {
-        name: "d/ab/c",
-        kind: HostKind::File,
-        bytes: b"",
-        names: &[],
-    },
-    Item {
-        name: "d/b",
-        kind: HostKind::File,
-        bytes: b"two",
-        names: &[],
-    },
+    Item("d", HostKind::Folder, b"", &["b", "a", "ab"]),
+    Item("d/a", HostKind::File, b"one", &[]),
+    Item("d/ab", HostKind::Folder, b"", &["c"]),
+    Item("d/ab/c", HostKind::File, b"", &[]),
+    Item("d/b", HostKind::File, b"two", &[]),
 ];
 
 // its rows
@@ -126,40 +83,69 @@ const ROWS: [Expected; 5] = [
     ("/b", Some(b"two")),
 ];
 
-#[test]
-fn rows_stand_in_the_order_of_paths(rt: HostRuntime) -> Result<(), Fail> {
-    let rows = folder_rows(rt.alloc(), &mut Shelf(&TREE), "d").map_err(|_| "a fault")?;
-    are_rows(&rt, &rows, &ROWS);
-    Ok(())
+/// Whether the folder `d` of a host is read as these rows.
+fn is_read(alloc: Global, items: &[Item], expected: &[Expected]) -> bool {
+    match folder_rows(alloc, &mut Shelf(items), "d") {
+        Ok(rows) => are_rows(&rows, expected),
+        Err(_) => false,
+    }
 }
 
 #[test]
-fn folders_are_refused(rt: HostRuntime) -> Result<(), Fail> {
-    let cases = [
-        (
-            [folder("d", &["a"]), leaf("d/a", HostKind::Other, b"")],
-            FolderFault::HostEntry,
-        ),
-        (
-            [folder("d", &["a", ".."]), leaf("d/a", HostKind::File, b"")],
-            FolderFault::HostName,
-        ),
-        (
-            [folder("d", &["a", "a"]), leaf("d/a", HostKind::File, b"")],
-            FolderFault::CannotRead,
-        ),
-        (
-            [folder("d", &["b"]), leaf("d/a", HostKind::File, b"")],
-            FolderFault::CannotRead,
-        ),
-        (
-            [folder("e", &["a"]), leaf("e/a", HostKind::File, b"")],
-            FolderFault::CannotRead,
-        ),
-    ];
-    for (items, fault) in cases {
-        let result = folder_rows(rt.alloc(), &mut Shelf(&items), "d");
-        assert!(rt; result.err() == Some(fault));
+fn rows_stand_in_the_order_of_paths(rt: HostRuntime) {
+    assert!(rt; is_read(rt.alloc(), &TREE, &ROWS));
+}
+
+/// What a host has, and what its folder `d` is refused for.
+type Unread = ([Item; 2], FolderFault);
+
+const UNREAD: [Unread; 5] = [
+    (
+        [
+            Item("d", HostKind::Folder, b"", &["a"]),
+            Item("d/a", HostKind::Other, b"", &[]),
+        ],
+        FolderFault::HostEntry,
+    ),
+    (
+        [
+            Item("d", HostKind::Folder, b"", &["a", ".."]),
+            Item("d/a", HostKind::File, b"", &[]),
+        ],
+        FolderFault::HostName,
+    ),
+    (
+        [
+            Item("d", HostKind::Folder, b"", &["a", "a"]),
+            Item("d/a", HostKind::File, b"", &[]),
+        ],
+        FolderFault::CannotRead,
+    ),
+    (
+        [
+            Item("d", HostKind::Folder, b"", &["b"]),
+            Item("d/a", HostKind::File, b"", &[]),
+        ],
+        FolderFault::CannotRead,
+    ),
+    (
+        [
+            Item("e", HostKind::Folder, b"", &["a"]),
+            Item("e/a", HostKind::File, b"", &[]),
+        ],
+        FolderFault::CannotRead,
+    ),
+];
+
+/// Whether such a folder is refused so.
+fn is_refused(alloc: Global, row: &Unread) -> bool {
+    let (items, fault) = row;
+    folder_rows(alloc, &mut Shelf(items), "d").err() == Some(*fault)
+}
+
+#[test]
+fn folders_are_refused(rt: HostRuntime) {
+    for row in &UNREAD {
+        assert!(rt; is_refused(rt.alloc(), row));
     }
-    Ok(())
 }
