@@ -314,12 +314,17 @@ const EXPLANATIONS: [Explanation; 49] = [
     },
 ];
 
+/// The one of some explanations whose fault has a number, in decimal digits, or a name.
+fn found(explanations: &'static [Explanation], fault: &str) -> Option<&'static Explanation> {
+    match fault.parse::<u8>() {
+        Ok(number) => explanations.iter().find(|known| known.number == number),
+        Err(_) => explanations.iter().find(|known| known.name == fault),
+    }
+}
+
 /// What the fault of a number, in decimal digits, or of a name means; nothing where no fault has it. Takes no memory.
 ///
 /// Source: own.
 pub fn explained(fault: &str) -> Option<&'static Explanation> {
-    match fault.parse::<u8>() {
-        Ok(number) => EXPLANATIONS.iter().find(|known| known.number == number),
-        Err(_) => EXPLANATIONS.iter().find(|known| known.name == fault),
-    }
+    found(&EXPLANATIONS, fault)
 }
