@@ -1,6 +1,9 @@
 #!/usr/bin/env python3
 """Refuses each request for memory of some runs of lfsed in turn. Each run has to end as it does with ample memory, or with
 `44 Memory` and the image and its journal as they were; what went out of it is a beginning of what goes out with ample memory."""
+import concurrent.futures
+import contextlib
+import io
 import pathlib
 import shutil
 import subprocess
@@ -191,16 +194,22 @@ def growing_rows(runs):
     runs.size = 512
 
 
+def tried(group):
+    """Tries a group of rows in a folder of its own: what is said of them, how many there are, and of how many a run went wrong."""
+    said = io.StringIO()
+    with tempfile.TemporaryDirectory() as folder, contextlib.redirect_stdout(said):
+        runs = Runs(pathlib.Path(folder))
+        group(runs)
+    return said.getvalue(), runs.ran, runs.wrong
+
+
+GROUPS = [history_rows, script_rows, rows, directory_rows, small_block_rows, folder_rows, comparing_rows, growing_rows]
+
 subprocess.run([HOME / "bin/lfsed", "--help"], stdout=subprocess.DEVNULL, check=True)
-with tempfile.TemporaryDirectory() as folder:
-    tried = Runs(pathlib.Path(folder))
-    rows(tried)
-    directory_rows(tried)
-    small_block_rows(tried)
-    folder_rows(tried)
-    history_rows(tried)
-    script_rows(tried)
-    comparing_rows(tried)
-    growing_rows(tried)
-print(f"{tried.ran - tried.wrong} passed, {tried.wrong} failed")
-sys.exit(1 if tried.wrong else 0)
+ran = wrong = 0
+with concurrent.futures.ProcessPoolExecutor() as pool:
+    for said, tries, faults in pool.map(tried, GROUPS):
+        print(said, end="")
+        ran, wrong = ran + tries, wrong + faults
+print(f"{ran - wrong} passed, {wrong} failed")
+sys.exit(1 if wrong else 0)
