@@ -6,10 +6,11 @@ use Rattle.std.specs.List.{range_with_len, fold}
 use Rattle.std.specs.Simd.{first_chunks}
 use Rattle.std.proofs.lemmas.List.Sums.{fold-append}
 use Rattle.lfs_block.specs.declared.checksum_tables.TheConstants.{TABLES}
-use Rattle.std.specs.Int.{w32, from_le_bytes}
+use Rattle.std.specs.Int.{w64, from_le_bytes}
 use Rattle.std.specs.Int.Bits.{xor_assoc, xor_shifted}
 use Rattle.std.proofs.lemmas.Nat.{xor_comm, xor_shr, xor_mod}
 use Rattle.std.proofs.lemmas.Grind.{and_numeral}
+use native.Mathlib.Nat.{suc-mul, zero-mul}
 use Rattle.std.proofs.lemmas.List.{get_or-map, length-map, take-append-drop, drop-take, take-take}
 use Rattle.std.proofs.lemmas.List.FromFn.{length-range_with_len, get_or-range_with_len}
 use Rattle.lfs_block.specs.Checksum.{crc_bit, crc_bits, crc_shifted, crc_byte, crc}
@@ -191,7 +192,7 @@ rows zero row = []
 rows (suc n) row = map crc_bits row ∷ rows n (map crc_bits row)
 
 -- the tables are what one byte shifted out and more leave of each byte
-tables-are : TABLES ≡ rows 8 (range_with_len 0 256)
+tables-are : TABLES ≡ rows 16 (range_with_len 0 256)
 unfolding crc_bits crc_bit rows
 tables-are = refl
 
@@ -205,11 +206,11 @@ rows_word (suc n) (suc k) i row hk hi =
     ∙ ap (crc_shifted (suc k)) (get_or-map crc_bits row i 0 0 hi)
 
 -- the word of a byte in each table
-pub tables_word : (tables : List (List ℕ)) (k i : ℕ) → k < 8 → i < 256 → tables ≡ TABLES
+pub tables_word : (tables : List (List ℕ)) (k i : ℕ) → k < 16 → i < 256 → tables ≡ TABLES
     → slice_index_or (slice_index_or tables k []) i 0 ≡ crc_shifted (suc k) i
 tables_word tables k i hk hi is =
     ap (λ t. slice_index_or (slice_index_or t k []) i 0) (is ∙ tables-are)
-    ∙ rows_word 8 k i (range_with_len 0 256) hk (rw (length-range_with_len 0 256) hi)
+    ∙ rows_word 16 k i (range_with_len 0 256) hk (rw (length-range_with_len 0 256) hi)
     ∙ ap (crc_shifted (suc k)) (get_or-range_with_len 0 256 i 0 hi ∙ zero-add i)
 
 -- one byte more, by the table
@@ -246,48 +247,137 @@ last-first a b c d e f g h =
     let joined : bit_xor front behind ≡ bit_xor (bit_xor (bit_xor (bit_xor front e) f) g) h = simp xor_assoc in
     apart ∙ xor_comm behind front ∙ joined
 
--- eight bytes more, by the tables, where the first four meet those of the checksum as one word
-pub add-eight : (c w : ℕ) (met bytes : List ℕ) (w0 w1 w2 w3 w4 w5 w6 w7 : ℕ) → c < 2 ^ 32 → length bytes ≡ 8
-    → ((i : ℕ) → slice_index_or bytes i 0 < 256)
-    → w ≡ from_le_bytes w32 (slice_index_or bytes 0 0 ∷ slice_index_or bytes 1 0 ∷ slice_index_or bytes 2 0 ∷ slice_index_or bytes 3 0 ∷ [])
-    → met ≡ bit_xor c w % 256 ∷ bit_xor c w / 256 % 256 ∷ bit_xor c w / 65536 % 256 ∷ bit_xor c w / 16777216 % 256 ∷ []
-    → w4 ≡ crc_shifted 4 (slice_index_or bytes 4 0) → w5 ≡ crc_shifted 3 (slice_index_or bytes 5 0)
-    → w6 ≡ crc_shifted 2 (slice_index_or bytes 6 0) → w7 ≡ crc_shifted 1 (slice_index_or bytes 7 0)
-    → w0 ≡ crc_shifted 8 (slice_index_or met 0 0) → w1 ≡ crc_shifted 7 (slice_index_or met 1 0)
-    → w2 ≡ crc_shifted 6 (slice_index_or met 2 0) → w3 ≡ crc_shifted 5 (slice_index_or met 3 0)
-    → bit_xor (bit_xor (bit_xor (bit_xor (bit_xor (bit_xor (bit_xor w4 w5) w6) w7) w0) w1) w2) w3 ≡ crc c bytes
-add-eight c w met bytes w0 w1 w2 w3 w4 w5 w6 w7 fits len each is meets e4 e5 e6 e7 e0 e1 e2 e3 =
-    let b0 : w % 256 ≡ slice_index_or bytes 0 0 = omega (arith, is, each 0, each 1, each 2, each 3) in
-    let b1 : w / 256 % 256 ≡ slice_index_or bytes 1 0 = omega (arith, is, each 0, each 1, each 2, each 3) in
-    let b2 : w / 65536 % 256 ≡ slice_index_or bytes 2 0 = omega (arith, is, each 0, each 1, each 2, each 3) in
-    let b3 : w / 16777216 % 256 ≡ slice_index_or bytes 3 0 = omega (arith, is, each 0, each 1, each 2, each 3) in
+-- no byte shifted out
+pub none-shifted : (c x : ℕ) → x ≡ crc_shifted 0 c → x ≡ c
+unfolding crc_shifted
+none-shifted c x is = is
+
+-- some bytes shifted out, and then more
+crc_shifted-more : (n k x : ℕ) → crc_shifted (k + n) x ≡ crc_shifted k (crc_shifted n x)
+unfolding crc_shifted
+crc_shifted-more zero k x =
+    let none : k + 0 ≡ k = omega arith in
+    ap (λ m. crc_shifted m x) none
+crc_shifted-more (suc n) k x =
+    let one : k + suc n ≡ suc (k + n) = omega arith in
+    ap (λ m. crc_shifted m x) one ∙ crc_shifted-more n k (crc_bits x)
+
+-- a word of a table further on, by that of eight tables or fewer
+shifted-on : (k m n x w : ℕ) → w ≡ crc_shifted m x → m ≡ k + n → w ≡ crc_shifted k (crc_shifted n x)
+shifted-on k m n x w is on = is ∙ ap (λ m. crc_shifted m x) on ∙ crc_shifted-more n k x
+
+-- words that meet, once some bytes are shifted out
+shifted-chain : (k a b c d e f g h : ℕ)
+    → crc_shifted k (bit_xor (bit_xor (bit_xor (bit_xor (bit_xor (bit_xor (bit_xor a b) c) d) e) f) g) h)
+    ≡ bit_xor (bit_xor (bit_xor (bit_xor (bit_xor (bit_xor (bit_xor (crc_shifted k a) (crc_shifted k b)) (crc_shifted k c)) (crc_shifted k d))
+    (crc_shifted k e)) (crc_shifted k f)) (crc_shifted k g)) (crc_shifted k h)
+shifted-chain k a b c d e f g h = simp crc_shifted-xor
+
+-- the bytes of a word of 64 bits
+word-bytes : (w : ℕ) (bytes : List ℕ) → length bytes ≡ 8 → ((i : ℕ) → slice_index_or bytes i 0 < 256) → w ≡ from_le_bytes w64 bytes
+    → (w % 256 ≡ slice_index_or bytes 0 0) × (w / 256 % 256 ≡ slice_index_or bytes 1 0) × (w / 65536 % 256 ≡ slice_index_or bytes 2 0)
+    × (w / 16777216 % 256 ≡ slice_index_or bytes 3 0) × (w / 4294967296 % 256 ≡ slice_index_or bytes 4 0)
+    × (w / 1099511627776 % 256 ≡ slice_index_or bytes 5 0) × (w / 281474976710656 % 256 ≡ slice_index_or bytes 6 0)
+    × (w / 72057594037927936 % 256 ≡ slice_index_or bytes 7 0)
+word-bytes w bytes len each is =
+    let told : w ≡ from_le_bytes w64 (slice_index_or bytes 0 0 ∷ slice_index_or bytes 1 0 ∷ slice_index_or bytes 2 0 ∷ slice_index_or bytes 3 0 ∷ slice_index_or bytes 4 0 ∷ slice_index_or bytes 5 0 ∷ slice_index_or bytes 6 0 ∷ slice_index_or bytes 7 0 ∷ []) = is ∙ ap (from_le_bytes w64) (eight-are bytes len) in (
+      omega (arith, told, each 0, each 1, each 2, each 3, each 4, each 5, each 6, each 7),
+      omega (arith, told, each 0, each 1, each 2, each 3, each 4, each 5, each 6, each 7),
+      omega (arith, told, each 0, each 1, each 2, each 3, each 4, each 5, each 6, each 7),
+      omega (arith, told, each 0, each 1, each 2, each 3, each 4, each 5, each 6, each 7),
+      omega (arith, told, each 0, each 1, each 2, each 3, each 4, each 5, each 6, each 7),
+      omega (arith, told, each 0, each 1, each 2, each 3, each 4, each 5, each 6, each 7),
+      omega (arith, told, each 0, each 1, each 2, each 3, each 4, each 5, each 6, each 7),
+      omega (arith, told, each 0, each 1, each 2, each 3, each 4, each 5, each 6, each 7),
+    )
+
+-- a byte of two words of which the first has no more than 32 bits, behind these
+met-behind : (c w k : ℕ) → c / 2 ^ k ≡ 0 → bit_xor c w / 2 ^ k % 2 ^ 8 ≡ w / 2 ^ k % 2 ^ 8
+met-behind c w k none = met-byte c w k ∙ ap (λ (x : ℕ). bit_xor (x % 2 ^ 8) (w / 2 ^ k % 2 ^ 8)) none
+
+-- what eight bytes more leave once some are shifted out, by the tables, where they meet the checksum as one word
+pub eight-shifted : (k c w : ℕ) (met bytes : List ℕ) (w0 w1 w2 w3 w4 w5 w6 w7 : ℕ) → c < 2 ^ 32 → length bytes ≡ 8
+    → ((i : ℕ) → slice_index_or bytes i 0 < 256) → w ≡ from_le_bytes w64 bytes
+    → met ≡ bit_xor c w % 256 ∷ bit_xor c w / 256 % 256 ∷ bit_xor c w / 65536 % 256 ∷ bit_xor c w / 16777216 % 256 ∷ bit_xor c w / 4294967296 % 256 ∷ bit_xor c w / 1099511627776 % 256 ∷ bit_xor c w / 281474976710656 % 256 ∷ bit_xor c w / 72057594037927936 % 256 ∷ []
+    → w0 ≡ crc_shifted (k + 7 + 1) (slice_index_or met 0 0)
+    → w1 ≡ crc_shifted (k + 6 + 1) (slice_index_or met 1 0)
+    → w2 ≡ crc_shifted (k + 5 + 1) (slice_index_or met 2 0)
+    → w3 ≡ crc_shifted (k + 4 + 1) (slice_index_or met 3 0)
+    → w4 ≡ crc_shifted (k + 3 + 1) (slice_index_or met 4 0)
+    → w5 ≡ crc_shifted (k + 2 + 1) (slice_index_or met 5 0)
+    → w6 ≡ crc_shifted (k + 1 + 1) (slice_index_or met 6 0)
+    → w7 ≡ crc_shifted (k + 1) (slice_index_or met 7 0)
+    → bit_xor (bit_xor (bit_xor (bit_xor (bit_xor (bit_xor (bit_xor w4 w5) w6) w7) w0) w1) w2) w3 ≡ crc_shifted k (crc c bytes)
+eight-shifted k c w met bytes w0 w1 w2 w3 w4 w5 w6 w7 fits len each is meets e0 e1 e2 e3 e4 e5 e6 e7 =
+    let b = word-bytes w bytes len each is in
+    let met_is = λ (i : ℕ). ap (λ (l : List ℕ). slice_index_or l i 0) meets in
+    let m0 = met_is 0 ∙ xor_mod c w 8 ∙ ap (bit_xor (c % 256)) b.0 in
+    let m1 = met_is 1 ∙ met-byte c w 8 ∙ ap (bit_xor (c / 256 % 256)) b.1 in
+    let m2 = met_is 2 ∙ met-byte c w 16 ∙ ap (bit_xor (c / 65536 % 256)) b.2 in
+    let m3 = met_is 3 ∙ met-byte c w 24 ∙ ap (bit_xor (c / 16777216 % 256)) b.3 in
+    let m4 = met_is 4 ∙ met-behind c w 32 (omega (arith, fits)) ∙ b.4 in
+    let m5 = met_is 5 ∙ met-behind c w 40 (omega (arith, fits)) ∙ b.5 in
+    let m6 = met_is 6 ∙ met-behind c w 48 (omega (arith, fits)) ∙ b.6 in
+    let m7 = met_is 7 ∙ met-behind c w 56 (omega (arith, fits)) ∙ b.7 in
+    let s0 = shifted-on k (k + 7 + 1) 8 (slice_index_or met 0 0) w0 e0 (omega arith) in
+    let s1 = shifted-on k (k + 6 + 1) 7 (slice_index_or met 1 0) w1 e1 (omega arith) in
+    let s2 = shifted-on k (k + 5 + 1) 6 (slice_index_or met 2 0) w2 e2 (omega arith) in
+    let s3 = shifted-on k (k + 4 + 1) 5 (slice_index_or met 3 0) w3 e3 (omega arith) in
+    let s4 = shifted-on k (k + 3 + 1) 4 (slice_index_or met 4 0) w4 e4 (omega arith) in
+    let s5 = shifted-on k (k + 2 + 1) 3 (slice_index_or met 5 0) w5 e5 (omega arith) in
+    let s6 = shifted-on k (k + 1 + 1) 2 (slice_index_or met 6 0) w6 e6 (omega arith) in
+    let s7 = shifted-on k (k + 1) 1 (slice_index_or met 7 0) w7 e7 (omega arith) in
     last-first w0 w1 w2 w3 w4 w5 w6 w7
-    ∙ add-words c (c % 256 ∷ c / 256 % 256 ∷ c / 65536 % 256 ∷ c / 16777216 % 256 ∷ []) bytes w0 w1 w2 w3 w4 w5 w6 w7 fits len refl
-    (e0 ∙ ap (λ (l : List ℕ). crc_shifted 8 (slice_index_or l 0 0)) meets ∙ ap (crc_shifted 8) (xor_mod c w 8 ∙ ap (bit_xor (c % 256)) b0))
-    (e1 ∙ ap (λ (l : List ℕ). crc_shifted 7 (slice_index_or l 1 0)) meets
-    ∙ ap (crc_shifted 7) (met-byte c w 8 ∙ ap (bit_xor (c / 256 % 256)) b1))
-    (e2 ∙ ap (λ (l : List ℕ). crc_shifted 6 (slice_index_or l 2 0)) meets
-    ∙ ap (crc_shifted 6) (met-byte c w 16 ∙ ap (bit_xor (c / 65536 % 256)) b2))
-    (e3 ∙ ap (λ (l : List ℕ). crc_shifted 5 (slice_index_or l 3 0)) meets
-    ∙ ap (crc_shifted 5) (met-byte c w 24 ∙ ap (bit_xor (c / 16777216 % 256)) b3))
-    e4 e5 e6 e7
+    ∙ rw (s0, s1, s2, s3, s4, s5, s6, s7)
+    (sym (shifted-chain k (crc_shifted 8 (slice_index_or met 0 0)) (crc_shifted 7 (slice_index_or met 1 0))
+    (crc_shifted 6 (slice_index_or met 2 0)) (crc_shifted 5 (slice_index_or met 3 0)) (crc_shifted 4 (slice_index_or met 4 0))
+    (crc_shifted 3 (slice_index_or met 5 0)) (crc_shifted 2 (slice_index_or met 6 0)) (crc_shifted 1 (slice_index_or met 7 0)))
+    ∙ ap (crc_shifted k) (add-words c (c % 256 ∷ c / 256 % 256 ∷ c / 65536 % 256 ∷ c / 16777216 % 256 ∷ []) bytes _ _ _ _ _ _ _ _ fits len refl
+    (ap (crc_shifted 8) m0) (ap (crc_shifted 7) m1) (ap (crc_shifted 6) m2) (ap (crc_shifted 5) m3)
+    (ap (crc_shifted 4) m4) (ap (crc_shifted 3) m5) (ap (crc_shifted 2) m6) (ap (crc_shifted 1) m7)))
 
-pub take-more : (m n : ℕ) (bytes : List ℕ) → take m bytes ++ take n (drop m bytes) ≡ take (m + n) bytes
-take-more m n bytes =
-    ap₂ ◌++◌ (sym (take-take m (m + n) bytes (omega arith))) (sym (drop-take m n bytes))
-    ∙ take-append-drop m (take (m + n) bytes)
+two-are : {A : Type 0} (items : List A) (none : A) → length items ≡ 2 → items ≡ slice_index_or items 0 none ∷ slice_index_or items 1 none ∷ []
+two-are [] none len = absurd cc
+two-are (_ ∷ []) none len = absurd cc
+two-are (_ ∷ _ ∷ []) none len = refl
+two-are (_ ∷ _ ∷ _ ∷ items) none len = absurd (omega arith)
 
--- chunks of eight bytes and the rest are the whole
-pub crc-chunks : (n start : ℕ) (bytes : List ℕ) → fold crc start (first_chunks 8 n bytes) ≡ crc start (take (n * 8) bytes)
-crc-chunks zero start bytes = refl
-crc-chunks (suc n) start bytes =
-    crc-chunks n (crc start (take 8 bytes)) (drop 8 bytes)
-    ∙ sym (fold-append crc_byte start (take 8 bytes) (take (n * 8) (drop 8 bytes)))
-    ∙ ap (crc start) (take-more 8 (n * 8) bytes ∙ ap (λ (m : ℕ). take m bytes) (omega arith))
+-- sixteen bytes more: what the first eight leave once eight are shifted out meets the checksum of the others
+pub add-sixteen : (c : ℕ) (first second : List ℕ) (x y : ℕ) → length second ≡ 8
+    → x ≡ crc_shifted 8 (crc c first) → y ≡ crc_shifted 0 (crc 0 second) → bit_xor y x ≡ crc (crc c first) second
+unfolding crc_shifted
+add-sixteen c first second x y len front back =
+    xor_comm y x
+    ∙ ap₂ bit_xor front back
+    ∙ ap (λ n. bit_xor (crc_shifted n (crc c first)) (crc 0 second)) (sym len)
+    ∙ sym (crc-split (crc c first) second)
 
-pub crc-parts : (start : ℕ) (bytes : List ℕ) → crc (fold crc start (first_chunks 8 (length bytes / 8) bytes))
-    (drop (length bytes / 8 * 8) bytes) ≡ crc start bytes
-crc-parts start bytes =
-    ap (λ s. crc s (drop (length bytes / 8 * 8) bytes)) (crc-chunks (length bytes / 8) start bytes)
-    ∙ sym (fold-append crc_byte start (take (length bytes / 8 * 8) bytes) (drop (length bytes / 8 * 8) bytes))
-    ∙ ap (crc start) (take-append-drop (length bytes / 8 * 8) bytes)
+-- the checksum after both of a pair
+pub crc-pair : (c : ℕ) (pair : List (List ℕ)) → length pair ≡ 2
+    → crc (crc c (slice_index_or pair 0 [])) (slice_index_or pair 1 []) ≡ fold crc c pair
+crc-pair c pair two = ap (fold crc c) (sym (two-are pair [] two))
+
+pub take-more : {A : Type 0} (m n : ℕ) (items : List A) → take m items ++ take n (drop m items) ≡ take (m + n) items
+take-more m n items =
+    ap₂ ◌++◌ (sym (take-take m (m + n) items (omega arith))) (sym (drop-take m n items))
+    ∙ take-append-drop m (take (m + n) items)
+
+-- chunks of so many are the whole up to their end
+fold-chunks : {A : Type 0} (f : ℕ → A → ℕ) (k n start : ℕ) (items : List A)
+    → fold (fold f) start (first_chunks k n items) ≡ fold f start (take (n * k) items)
+fold-chunks f k zero start items =
+    let none : 0 ≡ 0 * k = sym (zero-mul k) in
+    ap (λ m. fold f start (take m items)) none
+fold-chunks f k (suc n) start items =
+    let all : k + n * k ≡ suc n * k = omega (arith, suc-mul n k) in
+    fold-chunks f k n (fold f start (take k items)) (drop k items)
+    ∙ sym (fold-append f start (take k items) (take (n * k) (drop k items)))
+    ∙ ap (fold f start) (take-more k (n * k) items ∙ ap (λ (m : ℕ). take m items) all)
+
+-- chunks of so many and the rest are the whole
+pub fold-parts : {A : Type 0} (f : ℕ → A → ℕ) (k n start : ℕ) (items : List A)
+    → fold f (fold (fold f) start (first_chunks k n items)) (drop (n * k) items) ≡ fold f start items
+fold-parts f k n start items =
+    ap (λ s. fold f s (drop (n * k) items)) (fold-chunks f k n start items)
+    ∙ sym (fold-append f start (take (n * k) items) (drop (n * k) items))
+    ∙ ap (fold f start) (take-append-drop (n * k) items)
