@@ -84,6 +84,18 @@ fn put_head(
     put_word(out, undone)
 }
 
+/// How many bytes the journal of changes has, in blocks of `size` bytes: room for them is made at once, so that they aren't moved as they
+/// come. More than there can be count as the most.
+fn length_of(size: u32, patches: &[Patch]) -> usize {
+    let record = 4usize.saturating_add((size as usize).saturating_mul(2));
+    let mut length: usize = 24;
+    for patch in patches {
+        let records = patch.records().len().saturating_mul(record);
+        length = length.saturating_add(12).saturating_add(records);
+    }
+    length
+}
+
 /// A journal's bytes: of its changes, the first `done` are done. The number of blocks of each fits a word.
 fn bytes_of(
     alloc: Global,
@@ -96,7 +108,7 @@ fn bytes_of(
     requires few { All (λ p. length p.changes < 2 ^ 32) patches.now }
     ensures { IfOk result (λ bytes. bytes.items ≡ journal_bytes (book_of size count patches.now done)) }
 {
-    let mut out = Vec::new(alloc);
+    let mut out = Vec::with_capacity(alloc, length_of(size, patches))?;
     let undone = patches.len() - done;
     put_head(&mut out, size, count, done as u32, undone as u32)?;
     put_patches(&mut out, patches)?;
