@@ -36,12 +36,14 @@ pub fn opened(rt: &HostRuntime, name: &str) -> io::Result<File> {
     File::open(rt, name)
 }
 
-/// A file whose contents are put: anything but a folder.
-pub fn opened_contents(rt: &HostRuntime, name: &str) -> io::Result<File> {
-    if fs::metadata(rt, name)?.is_dir() {
+/// A file whose contents are put, anything but a folder, and the length that it says.
+pub fn opened_contents(rt: &HostRuntime, name: &str) -> io::Result<(File, u64)> {
+    let file = File::open(rt, name)?;
+    let found = file.metadata()?;
+    if found.is_dir() {
         return Err(is_folder());
     }
-    File::open(rt, name)
+    Ok((file, found.len()))
 }
 
 /// Refuses a name under which something is, if it were a link that leads nowhere.

@@ -147,13 +147,18 @@ fn target_of(rt: &HostRuntime, alloc: Global, name: &str) -> io::Result<String> 
     }
 }
 
-/// The bytes of a file, `most` of them and one more at most. Room for as many as it has is made at once, so that they
-/// aren't moved as they come.
-fn bytes_of(alloc: Global, file: File, most: u64) -> io::Result<Vec<u8>> {
-    let len = file.metadata()?.len().min(most);
-    let mut bytes = Vec::with_capacity(alloc, len as usize)?;
+/// The bytes of a file that says how many it has, `most` of them and one more at most. Room for as many as it says is made at once, so that
+/// they aren't moved as they come.
+fn bytes_in(alloc: Global, file: File, len: u64, most: u64) -> io::Result<Vec<u8>> {
+    let mut bytes = Vec::with_capacity(alloc, len.min(most) as usize)?;
     file.take(most.saturating_add(1)).read_to_end(&mut bytes)?;
     Ok(bytes)
+}
+
+/// The bytes of a file, `most` of them and one more at most.
+fn bytes_of(alloc: Global, file: File, most: u64) -> io::Result<Vec<u8>> {
+    let len = file.metadata()?.len();
+    bytes_in(alloc, file, len, most)
 }
 
 /// The bytes of the file that a name leads to, `most` of them and one more at most.
@@ -163,7 +168,8 @@ fn read_bytes(rt: &HostRuntime, alloc: Global, name: &str, most: u64) -> io::Res
 
 /// The bytes of a file whose contents are put, `most` of them and one more at most.
 fn contents_of(rt: &HostRuntime, alloc: Global, name: &str, most: u64) -> io::Result<Vec<u8>> {
-    bytes_of(alloc, opened_contents(rt, name)?, most)
+    let (file, len) = opened_contents(rt, name)?;
+    bytes_in(alloc, file, len, most)
 }
 
 /// The bytes of standard input, `most` of them and one more at most.
