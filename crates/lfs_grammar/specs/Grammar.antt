@@ -1,5 +1,5 @@
 -- The program's command line as data: its commands, in their order, and the words that each takes (own).
-use Rattle.std.specs.Prelude.{ℕ, ◌<◌, ◌^◌, ◌≡◌, ◌⊎◌, ◌||◌, Bool, not, Option, List, [], ◌∷◌, ◌++◌, Some, None, true, false, codes, fold, map, pos}
+use Rattle.std.specs.Prelude.{ℕ, ℤ, ◌<◌, ◌^◌, ◌≡◌, ◌⊎◌, ◌||◌, Bool, not, Option, List, [], ◌∷◌, ◌++◌, Some, None, true, false, codes, fold, map, pos}
 use Rattle.std.specs.List.{All, Contains}
 use Rattle.std.specs.Str.{bytes_eq}
 use Rattle.clap.specs.Takes.{value_passes}
@@ -10,8 +10,11 @@ use Rattle.clap.specs.declared.parser.matches.ArgMatches.{ArgMatches}
 use Rattle.clap.specs.declared.builder.action.ArgAction.TheVariants.{SetTrue}
 use Rattle.clap.specs.declared.builder.value_parser.ValueParser.TheVariants as vp
 use Rattle.clap.specs.declared.builder.value_parser.ValueParser.TheVariants.{Signed}
-use Rattle.lfs_grammar.specs.declared.grammar.Argument.{Argument}
-use Rattle.lfs_grammar.specs.declared.grammar.Argument.TheVariants as argument
+use Rattle.lfs_grammar.specs.declared.argument.Argument.{Argument}
+use Rattle.lfs_grammar.specs.declared.argument.Argument.TheVariants as argument
+use Rattle.lfs_grammar.specs.declared.argument.ArgumentRow.{ArgumentRow}
+use Rattle.lfs_grammar.specs.declared.argument.Form.{Form}
+use Rattle.lfs_grammar.specs.declared.argument.Form.TheVariants as form
 use Rattle.lfs_grammar.specs.declared.grammar.CommandRow.{CommandRow}
 
 -- a word that must be there
@@ -116,6 +119,34 @@ rule_at argument.To = word (codes "to")
 rule_at argument.Kind = word (codes "kind")
 rule_at argument.Value = word (codes "hex")
 rule_at argument.Fault = word (codes "fault")
+
+-- a word that needn't be there
+abbrev pub spare_word : Text → Rule
+spare_word id = record (new_rule id) { value_names = 1 }
+
+-- an option that is a whole number within these bounds
+abbrev pub number_within : Text → ℤ → ℤ → Rule
+number_within id least most = record (option id) { parser = Some (Signed least most) }
+
+-- an option that is a block size
+abbrev pub block_option : Text → Rule
+block_option id = record block { id = id }
+
+-- what is said in this form
+abbrev pub form_rule : Form → Text → Rule
+form_rule (form.Word name) id = word id
+form_rule (form.SpareWord name) id = spare_word id
+form_rule (form.SpareNumber name least most) id = record (spare_word id) { parser = Some (Signed least most) }
+form_rule (form.Option name long) id = record (option id) { long = Some long.now }
+form_rule (form.Number name least most) id = number_within id least most
+form_rule (form.NumberOr name least most default) id = record (number_within id least most) { defaults = default.now ∷ [] }
+form_rule form.Block id = block_option id
+form_rule (form.BlockNumber least most) id = record (block_option id) { parser = Some (Signed least most) }
+form_rule form.Flag id = flag id
+
+-- what a row of the arguments stands for
+abbrev pub row_rule : ArgumentRow → Rule
+row_rule row = form_rule row.form row.id.now
 
 -- a command of this name, with what it takes, in this order
 abbrev pub command : Text → List Rule → App

@@ -1,6 +1,7 @@
 //! The grammar of the program's command line, and how words are read by it.
 #![tactic(auto)]
 
+mod argument;
 mod grammar;
 mod hyphens;
 mod reading;

@@ -1,7 +1,7 @@
 use Rattle.std.proofs.Common.{rules, ◌∙◌, sym, ap₂}
 use Rattle.clap.specs.Words.{new_app, with_rule}
 use Rattle.lfs_grammar.specs.Grammar.{rule_at}
-use Rattle.lfs_grammar.specs.declared.grammar.Argument.TheVariants.{Block}
+use Rattle.lfs_grammar.specs.declared.argument.Argument.TheVariants.{Block}
 use Rattle.lfs_grammar.proofs.GrammarLemmas.{fold_row}
 use Rattle.lfs_grammar.proofs.grammar.clap_command.Goals as goal
 

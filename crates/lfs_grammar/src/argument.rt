@@ -1,0 +1,375 @@
+//! What a command takes on its command line.
+
+ghost use Rattle.std.specs.Prelude.{◌≡◌, false};
+ghost use Rattle.clap.specs.Words.{rule_of};
+ghost use Rattle.lfs_grammar.specs.Grammar.{block_option, flag as flag_rule, number_within, row_rule, rule_at, spare_word};
+
+use clap::builder::ValueParser;
+use clap::{Arg, ArgAction};
+use std::alloc::Global;
+
+/// What a command takes on its command line.
+#[derive(Clone, Copy)]
+pub(crate) enum Argument {
+    /// The block size of an image that is there.
+    Block,
+    /// The block size of an image that is made.
+    NewBlock,
+    /// The number of blocks.
+    Count,
+    /// The number of blocks that an image gets.
+    NewCount,
+    /// The size of the image, in place of the number of blocks.
+    Size,
+    /// That the image gets the least number of blocks.
+    Least,
+    /// The greatest length of a name.
+    NameMax,
+    /// The greatest length of a file.
+    FileMax,
+    /// The greatest length of an attribute.
+    AttrMax,
+    /// That no file is replaced.
+    New,
+    /// That an image is refused in which a commit of a later disk version stands.
+    Strict,
+    /// The number of images of the past that are kept.
+    Keep,
+    /// The number of changes that are taken back or made again.
+    Steps,
+    /// The image's file name.
+    Image,
+    /// The file name of an image that it is compared with.
+    Other,
+    /// The name of a folder that is read.
+    Dir,
+    /// The name of a folder that is made.
+    NewDir,
+    /// A path within the image.
+    Path,
+    /// The name of the file that contents are read from.
+    Contents,
+    /// The name of the file that steps are read from.
+    Script,
+    /// The path of what is moved.
+    From,
+    /// The path that it gets.
+    To,
+    /// An attribute's kind.
+    Kind,
+    /// An attribute's value.
+    Value,
+    /// A fault's number or name.
+    Fault,
+}
+
+/// How an argument is said. The name is what the help calls its value.
+#[derive(Clone, Copy)]
+enum Form {
+    /// By a word that must be there.
+    Word(&'static str),
+    /// By a word that needn't be there.
+    SpareWord(&'static str),
+    /// By a word that needn't be there, a whole number from the first to the second.
+    SpareNumber(&'static str, i64, i64),
+    /// By an option of this long name, which needn't be there.
+    Option(&'static str, &'static str),
+    /// By an option that is named as the argument, a whole number from the first to the second.
+    Number(&'static str, i64, i64),
+    /// The same with a number that stands where none is said.
+    NumberOr(&'static str, i64, i64, &'static str),
+    /// By the option of the block size.
+    Block,
+    /// The same, a whole number from the first to the second.
+    BlockNumber(i64, i64),
+    /// By an option without a value, which is named as the argument.
+    Flag,
+}
+
+/// What an argument takes, and what the help says of it.
+struct ArgumentRow {
+    id: &'static str,
+    form: Form,
+    help: &'static str,
+}
+
+/// The block size of an image that is there.
+static BLOCK: ArgumentRow = ArgumentRow {
+    id: "block",
+    form: Form::Block,
+    help: "Size of a block, a multiple of 16 from 256 to 65536, or auto",
+};
+
+/// The block size of an image that is made.
+static NEW_BLOCK: ArgumentRow = ArgumentRow {
+    id: "block",
+    form: Form::BlockNumber(256, 65_536),
+    help: "Size of a block, a multiple of 16 from 256 to 65536",
+};
+
+/// The number of blocks.
+static COUNT: ArgumentRow = ArgumentRow {
+    id: "count",
+    form: Form::Number("N", 2, 65_536),
+    help: "Number of blocks, from 2 to 65536; at most 67108864 bytes in all",
+};
+
+/// The number of blocks that an image gets.
+static NEW_COUNT: ArgumentRow = ArgumentRow {
+    id: "count",
+    form: Form::SpareNumber("COUNT", 2, 65_536),
+    help: "Number of blocks that it gets, more than it has; at most 65536, and 67108864 bytes in all",
+};
+
+/// The size of the image.
+static SIZE: ArgumentRow = ArgumentRow {
+    id: "size",
+    form: Form::Option("BYTES", "size"),
+    help: "Size of the image, in place of the number of blocks: 1048576, 0x100000, 1024k or 1M",
+};
+
+/// That the image gets the least number of blocks.
+static LEAST: ArgumentRow = ArgumentRow {
+    id: "least",
+    form: Form::Flag,
+    help: "Give it the least number of blocks that holds the folder",
+};
+
+/// The greatest length of a name.
+static NAME_MAX: ArgumentRow = ArgumentRow {
+    id: "name-max",
+    form: Form::NumberOr("N", 1, 1_022, "255"),
+    help: "Greatest length of a name in bytes, from 1 to 1022",
+};
+
+/// The greatest length of a file.
+static FILE_MAX: ArgumentRow = ArgumentRow {
+    id: "file-max",
+    form: Form::NumberOr("N", 1, 2_147_483_647, "2147483647"),
+    help: "Greatest length of a file in bytes, from 1 to 2147483647",
+};
+
+/// The greatest length of an attribute.
+static ATTR_MAX: ArgumentRow = ArgumentRow {
+    id: "attr-max",
+    form: Form::NumberOr("N", 1, 1_022, "1022"),
+    help: "Greatest length of an attribute in bytes, from 1 to 1022",
+};
+
+/// That no file is replaced.
+static NEW: ArgumentRow = ArgumentRow {
+    id: "new",
+    form: Form::Flag,
+    help: "Refuse to replace a file that is there",
+};
+
+/// That a later disk version is refused.
+static STRICT: ArgumentRow = ArgumentRow {
+    id: "strict",
+    form: Form::Flag,
+    help: "Refuse an image in which a commit of a later disk version stands",
+};
+
+/// The number of images that are kept.
+static KEEP: ArgumentRow = ArgumentRow {
+    id: "keep",
+    form: Form::Number("K", 1, 1_000),
+    help: "Number of the latest changes that are kept, from 1 to 1000; all where it is not said",
+};
+
+/// The number of changes that are taken back or made again.
+static STEPS: ArgumentRow = ArgumentRow {
+    id: "steps",
+    form: Form::NumberOr("N", 1, 1_000, "1"),
+    help: "Number of changes, from 1 to 1000: all of them, or none where there are fewer",
+};
+
+/// The image's file name.
+static IMAGE: ArgumentRow = ArgumentRow {
+    id: "image",
+    form: Form::Word("IMAGE"),
+    help: "File of the image",
+};
+
+/// The file name of an image that it is compared with.
+static OTHER: ArgumentRow = ArgumentRow {
+    id: "other",
+    form: Form::Word("OTHER"),
+    help: "File of the image that it is compared with",
+};
+
+/// The name of a folder that is read.
+static DIR: ArgumentRow = ArgumentRow {
+    id: "dir",
+    form: Form::Word("DIR"),
+    help: "Folder, of whose files and folders the image is made",
+};
+
+/// The name of a folder that is made.
+static NEW_DIR: ArgumentRow = ArgumentRow {
+    id: "dir",
+    form: Form::Word("DIR"),
+    help: "Folder that is made; nothing may be there",
+};
+
+/// A path within the image.
+static PATH: ArgumentRow = ArgumentRow {
+    id: "path",
+    form: Form::Word("PATH"),
+    help: "Path of a file or a directory in the image, from / on",
+};
+
+/// The file that contents are read from.
+static CONTENTS: ArgumentRow = ArgumentRow {
+    id: "contents",
+    form: Form::Option("FILE", "from"),
+    help: "File that the contents are read from, in place of standard input",
+};
+
+/// The file that steps are read from.
+static SCRIPT: ArgumentRow = ArgumentRow {
+    id: "script",
+    form: Form::SpareWord("FILE"),
+    help: "File of the script, in place of standard input",
+};
+
+/// The path of what is moved.
+static FROM: ArgumentRow = ArgumentRow {
+    id: "from",
+    form: Form::Word("FROM"),
+    help: "Path of what is moved, from / on",
+};
+
+/// The path that it gets.
+static TO: ArgumentRow = ArgumentRow {
+    id: "to",
+    form: Form::Word("TO"),
+    help: "Path that it gets, from / on; nothing may be there",
+};
+
+/// An attribute's kind.
+static KIND: ArgumentRow = ArgumentRow {
+    id: "kind",
+    form: Form::Word("KIND"),
+    help: "Kind of the attribute, in two hexadecimal digits",
+};
+
+/// An attribute's value.
+static VALUE: ArgumentRow = ArgumentRow {
+    id: "hex",
+    form: Form::Word("HEX"),
+    help: "Value of the attribute, in two hexadecimal digits for each byte; may be empty",
+};
+
+/// A fault's number or name.
+static FAULT: ArgumentRow = ArgumentRow {
+    id: "fault",
+    form: Form::Word("FAULT"),
+    help: "Number or name of the fault",
+};
+
+/// What an argument takes.
+fn row_of(argument: Argument) -> &'static ArgumentRow
+    ensures { row_rule result.now ≡ rule_at argument }
+{
+    match argument {
+        Argument::Block => &BLOCK,
+        Argument::NewBlock => &NEW_BLOCK,
+        Argument::Count => &COUNT,
+        Argument::NewCount => &NEW_COUNT,
+        Argument::Size => &SIZE,
+        Argument::Least => &LEAST,
+        Argument::NameMax => &NAME_MAX,
+        Argument::FileMax => &FILE_MAX,
+        Argument::AttrMax => &ATTR_MAX,
+        Argument::New => &NEW,
+        Argument::Strict => &STRICT,
+        Argument::Keep => &KEEP,
+        Argument::Steps => &STEPS,
+        Argument::Image => &IMAGE,
+        Argument::Other => &OTHER,
+        Argument::Dir => &DIR,
+        Argument::NewDir => &NEW_DIR,
+        Argument::Path => &PATH,
+        Argument::Contents => &CONTENTS,
+        Argument::Script => &SCRIPT,
+        Argument::From => &FROM,
+        Argument::To => &TO,
+        Argument::Kind => &KIND,
+        Argument::Value => &VALUE,
+        Argument::Fault => &FAULT,
+    }
+}
+
+/// An argument as clap takes it.
+pub(crate) fn clap_argument<'a>(alloc: Global, argument: Argument) -> Arg<'a>
+    ensures rule { rule_of result ≡ rule_at argument }
+    ensures local { result.global ≡ false }
+{
+    formed(alloc, row_of(argument))
+}
+
+/// An argument in its form.
+fn formed<'a>(alloc: Global, row: &ArgumentRow) -> Arg<'a>
+    ensures rule { rule_of result ≡ row_rule row.now }
+    ensures local { result.global ≡ false }
+{
+    match row.form {
+        Form::Word(name) => named(alloc, row, name).required(true),
+        Form::SpareWord(name) => named(alloc, row, name),
+        Form::SpareNumber(name, least, most) => {
+            named(alloc, row, name).value_parser(ValueParser::Signed(least, most))
+        }
+        Form::Option(name, long) => named(alloc, row, name).long(long),
+        Form::Number(name, least, most) => number(alloc, row, name, least, most),
+        Form::NumberOr(name, least, most, default) => {
+            number(alloc, row, name, least, most).default_value(default)
+        }
+        Form::Block => block(alloc, row),
+        Form::BlockNumber(least, most) => {
+            block(alloc, row).value_parser(ValueParser::Signed(least, most))
+        }
+        Form::Flag => flag(alloc, row),
+    }
+}
+
+/// A word that needn't be there.
+fn named<'a>(alloc: Global, row: &ArgumentRow, name: &'a str) -> Arg<'a>
+    ensures rule { rule_of result ≡ spare_word row.now.id.now }
+    ensures local { result.global ≡ false }
+{
+    Arg::new(alloc, row.id).value_name(name).help(row.help)
+}
+
+/// An option that is a whole number from the first to the second, which needn't be there.
+fn number<'a>(alloc: Global, row: &ArgumentRow, name: &'a str, least: i64, most: i64) -> Arg<'a>
+    ensures rule { rule_of result ≡ number_within row.now.id.now least most }
+    ensures local { result.global ≡ false }
+{
+    named(alloc, row, name)
+        .long(row.id)
+        .value_parser(ValueParser::Signed(least, most))
+}
+
+/// The block size.
+fn block<'a>(alloc: Global, row: &ArgumentRow) -> Arg<'a>
+    ensures rule { rule_of result ≡ block_option row.now.id.now }
+    ensures local { result.global ≡ false }
+{
+    named(alloc, row, "BYTES")
+        .short('b')
+        .long("block")
+        .default_value("4096")
+}
+
+/// An option without a value, which needn't be there.
+fn flag<'a>(alloc: Global, row: &ArgumentRow) -> Arg<'a>
+    ensures rule { rule_of result ≡ flag_rule row.now.id.now }
+    ensures local { result.global ≡ false }
+{
+    Arg::new(alloc, row.id)
+        .long(row.id)
+        .action(ArgAction::SetTrue)
+        .value_parser(ValueParser::Bool)
+        .help(row.help)
+}
