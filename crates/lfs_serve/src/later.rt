@@ -4,6 +4,7 @@ ghost use Rattle.std.specs.Prelude.{◌≡◌};
 ghost use Rattle.lfs_serve.specs.Later.{later_alone, later_handed, refused_by};
 ghost use Rattle.lfs_serve.specs.Program.{stopped_by};
 
+use crate::line::say_version;
 use crate::stated::Statement;
 use crate::stop::Stop;
 use lfs_block::MountFault;
@@ -89,9 +90,11 @@ pub fn tell_later<H: Host>(host: &mut H, request: &Request<'_>, later: Later)
 pub fn tell_version<H: Host>(host: &mut H, image: &str, version: u32)
     ensures kept { H.known host.new ≡ H.known host.old }
 {
-    host.complain(format_args!(
-        "lfsed: {image}: a later commit of disk version {}.{} stands in it, which is not read\n",
-        version >> 16,
-        version & 0xffff
-    ));
+    say_version(
+        host,
+        image,
+        "a later commit of disk version ",
+        version,
+        " stands in it, which is not read",
+    );
 }

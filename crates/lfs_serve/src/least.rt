@@ -62,15 +62,21 @@ pub fn with_need(alloc: Global, size: u32, limits: Limits, rows: &[PackRow<'_>],
     let Fault::Refused(Refusal::NoSpace { .. }) = stop.fault else {
         return stop;
     };
-    let statement = match needed(alloc, size, limits, rows) {
-        Ok(count) => Some(Statement::Need(count)),
-        Err(Refusal::NoSpace { .. }) => Some(Statement::NoImageHolds),
-        Err(_) => None,
-    };
     Stop {
         fault: stop.fault,
-        statement,
+        statement: need_of(alloc, size, limits, rows),
         count: stop.count,
+    }
+}
+
+/// How many blocks rows need, as it is told.
+fn need_of(alloc: Global, size: u32, limits: Limits, rows: &[PackRow<'_>]) -> Option<Statement>
+    requires { IsLimits limits }
+{
+    match needed(alloc, size, limits, rows) {
+        Ok(count) => Some(Statement::Need(Some(count))),
+        Err(Refusal::NoSpace { .. }) => Some(Statement::Need(None)),
+        Err(_) => None,
     }
 }
 

@@ -44,17 +44,35 @@ pub fn with_new_image<H: Host>(
 fn leads_to_new<H: Host>(alloc: Global, host: &mut H, size: u32, name: &str) -> bool
     ensures kept { KeepsAll (H.known host.old) (H.known host.new) }
 {
-    let Ok(names) = names_of(alloc, name) else {
+    match names_of(alloc, name) {
+        Ok(names) => leads_to(
+            alloc,
+            host,
+            size,
+            names.new_image.as_str(),
+            names.journal.as_str(),
+        ),
+        Err(_) => false,
+    }
+}
+
+/// Whether a journal leads to an image, both by their names.
+fn leads_to<H: Host>(alloc: Global, host: &mut H, size: u32, image: &str, journal: &str) -> bool
+    ensures kept { KeepsAll (H.known host.old) (H.known host.new) }
+{
+    let Ok(bytes) = host.find(alloc, image, MAX_IMAGE_LENGTH) else {
         return false;
     };
-    let Ok(bytes) = host.find(alloc, names.new_image.as_str(), MAX_IMAGE_LENGTH) else {
-        return false;
-    };
-    let Ok(journal) = host.find(alloc, names.journal.as_str(), MAX_JOURNAL_LENGTH) else {
-        return false;
-    };
-    let Ok(image) = Image::new(bytes, size) else {
-        return false;
-    };
-    Session::open(alloc, image, &journal).is_ok()
+    match host.find(alloc, journal, MAX_JOURNAL_LENGTH) {
+        Ok(journal) => opens(alloc, size, bytes, &journal),
+        Err(_) => false,
+    }
+}
+
+/// Whether bytes are an image that a journal leads to.
+fn opens(alloc: Global, size: u32, bytes: Vec<u8>, journal: &[u8]) -> bool {
+    match Image::new(bytes, size) {
+        Ok(image) => Session::open(alloc, image, journal).is_ok(),
+        Err(_) => false,
+    }
 }

@@ -1,5 +1,6 @@
 //! What is told of the path for which a step is refused.
 
+use crate::finding::Finding;
 use crate::step_paths::StepPaths;
 use lfs_block::Image;
 use lfs_command::names_of;
@@ -8,58 +9,6 @@ use lfs_edit::Refusal;
 use lfs_fs::{Limits, Outline, mount};
 use lfs_step::Step;
 use std::alloc::Global;
-use std::fmt;
-
-/// What is said of a path.
-#[derive(Clone, Copy)]
-pub enum Finding {
-    /// Nothing is there.
-    Missing,
-    /// Something is there.
-    Present,
-    /// It is a file, and more names stand behind it.
-    File,
-    /// It is a directory.
-    Directory,
-    /// It is a directory with an entry.
-    NotEmpty,
-    /// It is no path.
-    NoPath,
-    /// Its last name has more bytes than this.
-    LongName(u32),
-    /// Its contents have more bytes than this.
-    LongFile(u32),
-    /// Its attribute has more bytes than this.
-    LongValue(u32),
-    /// It has no attribute of this kind.
-    NoAttribute(u8),
-    /// It is to be moved below itself.
-    IntoItself,
-    /// It is the root.
-    Root,
-    /// Its entry takes more than a block has room for.
-    LargeEntry,
-}
-
-impl fmt::Display for Finding {
-    fn fmt<W: fmt::Write>(&self, f: &mut fmt::Formatter<W>) -> fmt::Result {
-        match self {
-            Finding::Missing => f.write_str("nothing is there"),
-            Finding::Present => f.write_str("something is there"),
-            Finding::File => f.write_str("is a file"),
-            Finding::Directory => f.write_str("is a directory"),
-            Finding::NotEmpty => f.write_str("is not empty"),
-            Finding::NoPath => f.write_str("is no path"),
-            Finding::LongName(most) => write!(f, "its name is longer than {most} bytes"),
-            Finding::LongFile(most) => write!(f, "its contents are longer than {most} bytes"),
-            Finding::LongValue(most) => write!(f, "its attribute is longer than {most} bytes"),
-            Finding::NoAttribute(kind) => write!(f, "has no attribute of kind {kind:02x}"),
-            Finding::IntoItself => f.write_str("is to be moved below itself"),
-            Finding::Root => f.write_str("is the root"),
-            Finding::LargeEntry => f.write_str("takes more than a block has room for"),
-        }
-    }
-}
 
 /// A front of a step's path, by the length of its text.
 #[derive(Clone, Copy)]
@@ -88,15 +37,31 @@ pub fn note_of(
     refusal: Refusal,
     bytes: Vec<u8>,
 ) -> Option<PathNote> {
+    match Image::new(bytes, size) {
+        Ok(image) => note_in(alloc, step, refusal, &image),
+        Err(_) => None,
+    }
+}
+
+/// What is told of it, in an image.
+fn note_in(alloc: Global, step: &Step<'_>, refusal: Refusal, image: &Image) -> Option<PathNote> {
+    match mount(alloc, image) {
+        Ok(mounted) => note_below(alloc, step, refusal, mounted.limits(), mounted.outline()),
+        Err(_) => None,
+    }
+}
+
+/// What is told of it, below a root.
+fn note_below(
+    alloc: Global,
+    step: &Step<'_>,
+    refusal: Refusal,
+    limits: Limits,
+    outline: &Outline,
+) -> Option<PathNote> {
     let paths = StepPaths::of(step)?;
-    let Ok(image) = Image::new(bytes, size) else {
-        return None;
-    };
-    let Ok(mounted) = mount(alloc, &image) else {
-        return None;
-    };
-    let finding = finding_of(step, refusal, mounted.limits())?;
-    let front = front_of(alloc, mounted.outline(), paths, finding)?;
+    let finding = finding_of(step, refusal, limits)?;
+    let front = front_of(alloc, outline, paths, finding)?;
     Some(PathNote { front, finding })
 }
 
@@ -171,16 +136,24 @@ fn found_front(
 
 /// The length of the shortest front of a path that isn't there, or is a file with more names behind it.
 fn front_with(alloc: Global, outline: &Outline, text: &[u8], finding: Finding) -> Option<usize> {
-    let Ok(names) = names_of(alloc, text) else {
-        return None;
-    };
-    let mut front = Vec::new(alloc);
+    match names_of(alloc, text) {
+        Ok(names) => front_among(outline, names.as_slice(), text.len(), finding),
+        Err(_) => None,
+    }
+}
+
+/// The length of the shortest front of a path of these names, whose text has `whole` bytes.
+fn front_among(
+    outline: &Outline,
+    names: &[&[u8]],
+    whole: usize,
+    finding: Finding,
+) -> Option<usize> {
     let mut len: usize = 0;
-    for &name in names.as_slice() {
-        front.push(name).ok()?;
+    for (at, name) in names.iter().enumerate() {
+        let (front, _) = names.split_at(at + 1);
         len = len.saturating_add(1).saturating_add(name.len());
-        let has_more = len < text.len();
-        if is_found(outline, front.as_slice(), has_more, finding) {
+        if is_found(outline, front, len < whole, finding) {
             return Some(len);
         }
     }

@@ -3,7 +3,7 @@
 ghost use Rattle.std.specs.Prelude.{◌≡◌};
 
 use crate::beside::Beside;
-use crate::path_note::Finding;
+use crate::finding::Finding;
 use crate::stated::Statement;
 use crate::stop::Stop;
 use lfs_command::most_inline;

@@ -1,6 +1,7 @@
 //! What an image states of itself, where it is refused.
 
-use crate::path_note::{Finding, PathNote};
+use crate::finding::Finding;
+use crate::path_note::PathNote;
 use byteorder::{ByteOrder, LittleEndian};
 use lfs_block::{ImageFault, MountFault};
 use lfs_change::OtherFault;
@@ -23,15 +24,22 @@ pub struct Stated {
     pub count: u32,
 }
 
+/// Where an image states something, and what of that is told.
+#[derive(Clone, Copy)]
+pub enum Place {
+    /// The geometry that the superblock states.
+    Superblock,
+    /// The geometry that stands in the first block, which isn't read as a superblock.
+    FirstBlock,
+    /// The disk version that stands there, which is a later one.
+    Version,
+}
+
 /// What is told behind a fault.
 #[derive(Clone, Copy)]
 pub enum Statement {
-    /// The geometry that the superblock states.
-    Superblock(Stated),
-    /// The geometry that stands in the first block, which isn't read as a superblock.
-    FirstBlock(Stated),
-    /// The disk version that stands there, which is a later one.
-    Version(Stated),
+    /// What an image states somewhere.
+    Stated(Place, Stated),
     /// The disk version of a later commit, for which the image is refused.
     Later(u32),
     /// What is known of the path for which a step is refused.
@@ -42,10 +50,8 @@ pub enum Statement {
     Step(usize),
     /// The number of the line of a script that is refused; its text is kept beside.
     Line(usize),
-    /// How many blocks the folder needs that is packed.
-    Need(u32),
-    /// No image of this block size holds the folder that is packed.
-    NoImageHolds,
+    /// How many blocks the folder needs that is packed; no image of this block size holds it for `None`.
+    Need(Option<u32>),
     /// What was to become the image is the one that the journal leads to.
     NewImage,
 }
@@ -64,18 +70,21 @@ pub fn statement_for(fault: Fault, image: &[u8], other: Option<Stated>) -> Optio
 /// What is told where bytes are no image.
 fn statement_of_bytes(fault: ImageFault, stated: Stated) -> Option<Statement> {
     match fault {
-        ImageFault::ImageLength | ImageFault::BadGeometry => Some(Statement::FirstBlock(stated)),
+        ImageFault::ImageLength | ImageFault::BadGeometry => {
+            Some(Statement::Stated(Place::FirstBlock, stated))
+        }
     }
 }
 
 /// What is told where an image doesn't mount.
 fn statement_of_image(fault: MountFault, stated: Stated) -> Option<Statement> {
-    match fault {
-        MountFault::Geometry => Some(Statement::Superblock(stated)),
-        MountFault::NoValidCommit if stated.version != VERSION => Some(Statement::Version(stated)),
-        MountFault::NoValidCommit | MountFault::NoSuperblock => Some(Statement::FirstBlock(stated)),
-        _ => None,
-    }
+    let place = match fault {
+        MountFault::Geometry => Place::Superblock,
+        MountFault::NoValidCommit if stated.version != VERSION => Place::Version,
+        MountFault::NoValidCommit | MountFault::NoSuperblock => Place::FirstBlock,
+        _ => return None,
+    };
+    Some(Statement::Stated(place, stated))
 }
 
 /// What the superblock at the front of block 0 states, whatever the size of a block is; nothing where there is none. Takes no memory.

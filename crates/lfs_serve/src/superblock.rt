@@ -1,8 +1,8 @@
 //! What an image's superblock states, where its geometry is refused.
 
-use crate::stated::{Statement, stated_of};
+use crate::stated::{Place, Statement, stated_of};
 use lfs_block::{Blocks, Image};
-use lfs_meta::{Body, read_pair};
+use lfs_meta::{Body, Entry, read_pair};
 use std::alloc::Global;
 
 /// What the superblock of an image states, as its last commit says; nothing where it isn't read. Takes memory.
@@ -11,8 +11,13 @@ pub fn superblock_statement(alloc: Global, image: &Image) -> Option<Statement> {
     let Ok(root) = read_pair(alloc, image, (0, 1)) else {
         return None;
     };
-    match &root.entries.first()?.body {
-        Body::Inline(words) => Some(Statement::Superblock(stated_of(words)?)),
+    statement_in(&root.entries)
+}
+
+/// What the first of these entries states.
+fn statement_in(entries: &[Entry]) -> Option<Statement> {
+    match &entries.first()?.body {
+        Body::Inline(words) => Some(Statement::Stated(Place::Superblock, stated_of(words)?)),
         _ => None,
     }
 }

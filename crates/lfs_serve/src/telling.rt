@@ -4,10 +4,12 @@ ghost use Rattle.std.specs.Prelude.{◌≡◌, Some};
 ghost use Rattle.lfs_change.specs.Fault.{status_of};
 ghost use Rattle.lfs_serve.specs.Program.{stopped_by};
 
+use crate::finding::Finding;
 use crate::later::tell_version;
-use crate::path_note::{Finding, PathNote};
-use crate::stated::Statement;
-use crate::step_paths::{Shown, StepPaths};
+use crate::line::{Piece, say, say_blocks, say_version, say_words};
+use crate::path_note::PathNote;
+use crate::stated::{Place, Stated, Statement};
+use crate::step_paths::StepPaths;
 use crate::stop::Stop;
 use lfs_block::{BLOCK_SIZE_STEP, ImageFault, MAX_IMAGE_LENGTH};
 use lfs_change::OtherFault;
@@ -21,6 +23,9 @@ const MIN_BLOCK_COUNT: usize = 2;
 
 /// The greatest number of blocks of an image.
 const MAX_BLOCK_COUNT: usize = 65_536;
+
+/// What is told of the two limits.
+const COUNT_LIMITS: &str = "an image has 2 to 65536 blocks, this one ";
 
 /// Tells how a request ended, and answers the status; `text` is what a statement speaks of.
 pub fn tell_end<H: Host>(
@@ -45,102 +50,196 @@ fn tell_of<H: Host>(host: &mut H, request: &Request<'_>, stop: &Stop, text: &[u8
 {
     let image = told_of(request, stop.fault);
     let status = tell_of_image(host, image, stop.fault);
-    match (stop.fault, request.task) {
-        (Fault::Image(ImageFault::BadGeometry), _) => tell_limit(host, request, stop.count),
-        (Fault::HostEntry, Task::Extract { dir }) => {
-            host.complain(format_args!("lfsed: {dir}: is there already\n"));
-        }
+    match stop.fault {
+        Fault::Image(ImageFault::BadGeometry) => tell_limit(host, request, stop.count),
+        Fault::HostEntry => tell_entry(host, request),
         _ => {}
     }
     if let Some(statement) = stop.statement {
         tell_statement(host, request, image, statement, text);
     } else if compares(request) && is_of_image(stop.fault) {
-        host.complain(format_args!("lfsed: {image}: this image is refused\n"));
+        say_words(host, image, "this image is refused");
     }
     status
+}
+
+/// Tells of a folder that isn't made, since something has its name.
+fn tell_entry<H: Host>(host: &mut H, request: &Request<'_>)
+    ensures kept { H.known host.new ≡ H.known host.old }
+{
+    let Task::Extract { dir } = request.task else {
+        return;
+    };
+    say_words(host, dir, "is there already");
 }
 
 /// Tells which limit of a geometry isn't kept.
 fn tell_limit<H: Host>(host: &mut H, request: &Request<'_>, count: Option<usize>)
     ensures kept { H.known host.new ≡ H.known host.old }
 {
-    let size = request.size;
-    let image = request.image;
-    if size % BLOCK_SIZE_STEP != 0 {
-        host.complain(format_args!(
-            "lfsed: --block {size}: a block is a multiple of {BLOCK_SIZE_STEP} bytes\n"
-        ));
-        return;
+    if request.size % BLOCK_SIZE_STEP != 0 {
+        tell_size(host, request.size);
+    } else if let Some(count) = count {
+        tell_count(host, request.image, count, request.size);
     }
-    match count {
-        Some(count) if !(MIN_BLOCK_COUNT..=MAX_BLOCK_COUNT).contains(&count) => {
-            host.complain(format_args!(
-                "lfsed: {image}: an image has {MIN_BLOCK_COUNT} to {MAX_BLOCK_COUNT} blocks, this one {count} of {size} bytes\n"
-            ));
-        }
-        Some(count) => host.complain(format_args!(
-            "lfsed: {image}: an image has at most {MAX_IMAGE_LENGTH} bytes, this one {count} blocks of {size}\n"
-        )),
-        None => {}
+}
+
+/// Tells that no block has this size.
+fn tell_size<H: Host>(host: &mut H, size: u32)
+    ensures kept { H.known host.new ≡ H.known host.old }
+{
+    host.complain(format_args!(
+        "lfsed: --block {size}: a block is a multiple of {BLOCK_SIZE_STEP} bytes\n"
+    ));
+}
+
+/// Tells which limit of the number of its blocks an image doesn't keep.
+fn tell_count<H: Host>(host: &mut H, image: &str, count: usize, size: u32)
+    ensures kept { H.known host.new ≡ H.known host.old }
+{
+    if (MIN_BLOCK_COUNT..=MAX_BLOCK_COUNT).contains(&count) {
+        tell_length(host, image, count, size);
+    } else {
+        tell_wrong_count(host, image, count, size);
     }
+}
+
+/// Tells that an image of this many blocks has too many bytes.
+fn tell_length<H: Host>(host: &mut H, image: &str, count: usize, size: u32)
+    ensures kept { H.known host.new ≡ H.known host.old }
+{
+    say(
+        host,
+        image,
+        &[
+            Piece::Text("an image has at most "),
+            Piece::Number(MAX_IMAGE_LENGTH as usize),
+            Piece::Text(" bytes, this one "),
+            Piece::Number(count),
+            Piece::Text(" blocks of "),
+            Piece::Number(size as usize),
+        ],
+    );
+}
+
+/// Tells that an image has no such number of blocks.
+fn tell_wrong_count<H: Host>(host: &mut H, image: &str, count: usize, size: u32)
+    ensures kept { H.known host.new ≡ H.known host.old }
+{
+    say(
+        host,
+        image,
+        &[
+            Piece::Text(COUNT_LIMITS),
+            Piece::Number(count),
+            Piece::Text(" of "),
+            Piece::Number(size as usize),
+            Piece::Text(" bytes"),
+        ],
+    );
 }
 
 /// Tells what is known of a step's path.
 fn tell_note<H: Host>(host: &mut H, request: &Request<'_>, note: PathNote)
     ensures kept { H.known host.new ≡ H.known host.old }
 {
-    let image = request.image;
     let Some(paths) = StepPaths::of_task(&request.task) else {
         return;
     };
-    let path = Shown {
-        bytes: paths.text(note.front),
-    };
+    let path = paths.text(note.front);
     match (note.finding, paths.target) {
         (Finding::IntoItself, Some(target)) => {
-            let target = Shown { bytes: target };
-            host.complain(format_args!(
-                "lfsed: {image}: {path}: can't be moved to {target}, which is below it\n"
-            ));
+            tell_into_itself(host, request.image, path, target);
         }
-        (finding, _) => host.complain(format_args!("lfsed: {image}: {path}: {finding}\n")),
+        (finding, _) => tell_row(host, request.image, path, finding),
     }
 }
 
-/// Tells what is known of the row for which a folder isn't packed.
-fn tell_row<H: Host>(host: &mut H, image: &str, text: &[u8], finding: Finding)
+/// Tells that what is at a path would be moved below itself.
+fn tell_into_itself<'a, H: Host>(host: &mut H, image: &str, path: &'a [u8], target: &'a [u8])
     ensures kept { H.known host.new ≡ H.known host.old }
 {
-    let path = Shown { bytes: text };
-    host.complain(format_args!("lfsed: {image}: {path}: {finding}\n"));
+    say(
+        host,
+        image,
+        &[
+            Piece::Bytes(path),
+            Piece::Text(": can't be moved to "),
+            Piece::Bytes(target),
+            Piece::Text(", which is below it"),
+        ],
+    );
+}
+
+/// Tells what is known of a path, as that of the row for which a folder isn't packed.
+fn tell_row<H: Host>(host: &mut H, image: &str, path: &[u8], finding: Finding)
+    ensures kept { H.known host.new ≡ H.known host.old }
+{
+    say(
+        host,
+        image,
+        &[
+            Piece::Bytes(path),
+            Piece::Text(": "),
+            Piece::Finding(finding),
+        ],
+    );
 }
 
 /// Tells which line of a script is refused.
 fn tell_line<H: Host>(host: &mut H, request: &Request<'_>, text: &[u8], number: usize)
     ensures kept { H.known host.new ≡ H.known host.old }
 {
-    let script = match request.task {
-        Task::Batch { file } => file.unwrap_or("standard input"),
-        _ => return,
-    };
-    let line = Shown { bytes: text };
-    host.complain(format_args!("lfsed: {script}: line {number}: {line}\n"));
+    if let Task::Batch { file } = request.task {
+        tell_line_of(host, file.unwrap_or("standard input"), text, number);
+    }
+}
+
+/// Tells which line of a script of this name is refused.
+fn tell_line_of<H: Host>(host: &mut H, script: &str, text: &[u8], number: usize)
+    ensures kept { H.known host.new ≡ H.known host.old }
+{
+    say(
+        host,
+        script,
+        &[
+            Piece::Text("line "),
+            Piece::Number(number),
+            Piece::Text(": "),
+            Piece::Bytes(text),
+        ],
+    );
 }
 
 /// Tells how many blocks a folder needs, or that none are enough.
 fn tell_need<H: Host>(host: &mut H, request: &Request<'_>, count: Option<u32>)
     ensures kept { H.known host.new ≡ H.known host.old }
 {
-    let size = request.size;
-    match (request.task, count) {
-        (Task::Pack { dir, .. }, Some(count)) => host.complain(format_args!(
-            "lfsed: {dir}: needs {count} blocks of {size} bytes in all\n"
-        )),
-        (Task::Pack { dir, .. }, None) => host.complain(format_args!(
-            "lfsed: {dir}: no image with blocks of {size} bytes holds it\n"
-        )),
-        _ => {}
+    let Task::Pack { dir, .. } = request.task else {
+        return;
+    };
+    match count {
+        Some(count) => {
+            let blocks = (count as usize, request.size);
+            say_blocks(host, dir, "needs ", blocks, " bytes in all");
+        }
+        None => tell_no_image(host, dir, request.size),
     }
+}
+
+/// Tells that no image with blocks of a size holds a folder.
+fn tell_no_image<H: Host>(host: &mut H, dir: &str, size: u32)
+    ensures kept { H.known host.new ≡ H.known host.old }
+{
+    say(
+        host,
+        dir,
+        &[
+            Piece::Text("no image with blocks of "),
+            Piece::Number(size as usize),
+            Piece::Text(" bytes holds it"),
+        ],
+    );
 }
 
 /// Tells what more is known of a fault, that of the image of this name.
@@ -154,38 +253,62 @@ fn tell_statement<H: Host>(
     ensures kept { H.known host.new ≡ H.known host.old }
 {
     match statement {
-        Statement::Superblock(stated) => host.complain(format_args!(
-            "lfsed: {image}: its superblock states {} blocks of {} bytes\n",
-            stated.count, stated.size
-        )),
-        Statement::FirstBlock(stated) => host.complain(format_args!(
-            "lfsed: {image}: its first block states {} blocks of {} bytes\n",
-            stated.count, stated.size
-        )),
+        Statement::Stated(place, stated) => tell_stated(host, image, place, stated),
         Statement::Later(version) => tell_version(host, image, version),
         Statement::Path(note) => tell_note(host, request, note),
         Statement::Row(finding) => tell_row(host, image, text, finding),
         Statement::Step(_) => {}
         Statement::Line(number) => tell_line(host, request, text, number),
-        Statement::Need(count) => tell_need(host, request, Some(count)),
-        Statement::NoImageHolds => tell_need(host, request, None),
-        Statement::NewImage => host.complain(format_args!(
-            "lfsed: {image}.new: is the image of the journal: renamed to {image} it mends both, which forget would lose\n"
-        )),
-        Statement::Version(stated) => host.complain(format_args!(
-            "lfsed: {image}: its first block states disk version {}.{}\n",
-            stated.version >> 16,
-            stated.version & 0xffff
-        )),
+        Statement::Need(count) => tell_need(host, request, count),
+        Statement::NewImage => tell_new_image(host, image),
     }
+}
+
+/// Tells what is stated somewhere in an image.
+fn tell_stated<H: Host>(host: &mut H, image: &str, place: Place, stated: Stated)
+    ensures kept { H.known host.new ≡ H.known host.old }
+{
+    let blocks = (stated.count as usize, stated.size);
+    match place {
+        Place::Superblock => say_blocks(host, image, "its superblock states ", blocks, " bytes"),
+        Place::FirstBlock => say_blocks(host, image, "its first block states ", blocks, " bytes"),
+        Place::Version => tell_stated_version(host, image, stated.version),
+    }
+}
+
+/// Tells the disk version that an image's first block states.
+fn tell_stated_version<H: Host>(host: &mut H, image: &str, version: u32)
+    ensures kept { H.known host.new ≡ H.known host.old }
+{
+    say_version(
+        host,
+        image,
+        "its first block states disk version ",
+        version,
+        "",
+    );
+}
+
+/// Tells that what was to become an image is the one that its journal leads to.
+fn tell_new_image<H: Host>(host: &mut H, image: &str)
+    ensures kept { H.known host.new ≡ H.known host.old }
+{
+    host.complain(format_args!(
+        "lfsed: {image}.new: is the image of the journal: renamed to {image} it mends both, which forget would lose\n"
+    ));
 }
 
 /// The name of the image that a fault is of.
 fn told_of<'a>(request: &Request<'a>, fault: Fault) -> &'a str {
-    match (fault, request.task) {
-        (Fault::Other(_), Task::Step(Step::Diff { other })) => other,
+    match request.task {
+        Task::Step(Step::Diff { other }) if is_of_other(fault) => other,
         _ => request.image,
     }
+}
+
+/// Whether a fault is of the image that another is compared with.
+fn is_of_other(fault: Fault) -> bool {
+    matches!(fault, Fault::Other(_))
 }
 
 /// Whether two images are compared.

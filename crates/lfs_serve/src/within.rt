@@ -2,6 +2,7 @@
 
 ghost use Rattle.std.specs.Prelude.{◌≡◌};
 
+use crate::line::say_words;
 use lfs_host::Host;
 use lfs_request::{Request, Task};
 
@@ -14,6 +15,6 @@ pub fn tell_within<H: Host>(host: &mut H, request: &Request<'_>)
     };
     let image = request.image;
     if host.is_below(image, dir) {
-        host.complain(format_args!("lfsed: {image}: stands in the folder that is packed\n"));
+        say_words(host, image, "stands in the folder that is packed");
     }
 }

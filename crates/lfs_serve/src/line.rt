@@ -1,0 +1,111 @@
+//! Lines that are told on standard error.
+
+ghost use Rattle.std.specs.Prelude.{◌≡◌};
+
+use crate::finding::Finding;
+use crate::shown::Shown;
+use lfs_host::Host;
+use std::fmt;
+
+/// A piece of a line.
+#[derive(Clone, Copy)]
+pub enum Piece<'a> {
+    /// Words.
+    Text(&'a str),
+    /// Bytes of a path or of a script.
+    Bytes(&'a [u8]),
+    /// A number.
+    Number(usize),
+    /// What is said of a path.
+    Finding(Finding),
+}
+
+impl fmt::Display for Piece<'_> {
+    fn fmt<W: fmt::Write>(&self, f: &mut fmt::Formatter<W>) -> fmt::Result {
+        match *self {
+            Piece::Text(text) => f.write_str(text),
+            Piece::Bytes(bytes) => Shown { bytes }.fmt(f),
+            Piece::Number(number) => number.fmt(f),
+            Piece::Finding(finding) => finding.fmt(f),
+        }
+    }
+}
+
+/// A line of the program: what it is of, and pieces behind a colon.
+#[derive(Clone, Copy)]
+struct Line<'a, 'b, 'c> {
+    /// The name of what it is of.
+    name: &'a str,
+    /// The pieces.
+    pieces: &'b [Piece<'c>],
+}
+
+impl fmt::Display for Line<'_, '_, '_> {
+    fn fmt<W: fmt::Write>(&self, f: &mut fmt::Formatter<W>) -> fmt::Result {
+        write!(f, "lfsed: {}: ", self.name)?;
+        for piece in self.pieces {
+            piece.fmt(f)?;
+        }
+        f.write_str("\n")
+    }
+}
+
+/// Tells a line on standard error: what it is of, and these pieces. Takes no memory.
+pub fn say<H: Host>(host: &mut H, name: &str, pieces: &[Piece<'_>])
+    ensures kept { H.known host.new ≡ H.known host.old }
+{
+    host.complain(Line { name, pieces });
+}
+
+/// Tells a line of words alone. Takes no memory.
+pub fn say_words<H: Host>(host: &mut H, name: &str, words: &str)
+    ensures kept { H.known host.new ≡ H.known host.old }
+{
+    say(host, name, &[Piece::Text(words)]);
+}
+
+/// Tells a line with a disk version, and words in front of it and behind it. Takes no memory.
+pub fn say_version<'a, H: Host>(
+    host: &mut H,
+    name: &str,
+    front: &'a str,
+    version: u32,
+    behind: &'a str,
+)
+    ensures kept { H.known host.new ≡ H.known host.old }
+{
+    say(
+        host,
+        name,
+        &[
+            Piece::Text(front),
+            Piece::Number((version >> 16) as usize),
+            Piece::Text("."),
+            Piece::Number((version & 0xffff) as usize),
+            Piece::Text(behind),
+        ],
+    );
+}
+
+/// Tells a line with a number of blocks of a size, and words in front of them and behind them. Takes no memory.
+pub fn say_blocks<'a, H: Host>(
+    host: &mut H,
+    name: &str,
+    front: &'a str,
+    blocks: (usize, u32),
+    behind: &'a str,
+)
+    ensures kept { H.known host.new ≡ H.known host.old }
+{
+    say(
+        host,
+        name,
+        &[
+            Piece::Text(front),
+            Piece::Number(blocks.0),
+            Piece::Text(" blocks of "),
+            Piece::Number(blocks.1 as usize),
+            Piece::Text(behind),
+        ],
+    );
+}
