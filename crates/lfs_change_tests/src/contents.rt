@@ -3,6 +3,7 @@
 ghost use Rattle.std.specs.Prelude.{◌<◌, ◌≤◌, ◌^◌};
 ghost use Rattle.lfs_command.specs.NamedCommand.{contents_len};
 
+use lfs_block::geometry_ok;
 use lfs_command::{NamedCommand, count_after, data_blocks, directory_blocks, most_inline};
 use std::alloc::Global;
 
@@ -20,21 +21,27 @@ fn put(alloc: Global, len: usize) -> NamedCommand<'static>
     }
 }
 
-// lengths of files, and how many blocks of 512 bytes they take beside their entries
-const FILES: [(usize, u32); 5] = [(0, 0), (64, 0), (65, 1), (512, 1), (513, 2)];
+// a block's size, a file's length, and how many blocks the file takes beside its entry
+const FILES: [(u32, usize, u32); 7] = [
+    (512, 0, 0),
+    (512, 64, 0),
+    (512, 65, 1),
+    (512, 512, 1),
+    (512, 513, 2),
+    (16_384, 1_022, 0),
+    (16_384, 1_023, 1),
+];
 
-// whether a file of so many bytes, of which there are at most 1,024, takes so many blocks of 512 bytes
-fn takes(alloc: Global, len: usize, blocks: u32) -> bool {
-    len <= 1_024 && data_blocks(512, &put(alloc, len)) == blocks
+// whether a file of so many bytes, of which there are at most 1,024, takes so many blocks
+fn takes(alloc: Global, size: u32, len: usize, blocks: u32) -> bool {
+    geometry_ok(size, 2) && len <= 1_024 && data_blocks(size, &put(alloc, len)) == blocks
 }
 
 #[test]
 fn inline_limit(rt: HostRuntime) {
-    for (len, want) in &FILES {
-        assert!(rt; takes(rt.alloc(), *len, *want));
+    for (size, len, want) in &FILES {
+        assert!(rt; takes(rt.alloc(), *size, *len, *want));
     }
-    assert!(rt; data_blocks(16_384, &put(rt.alloc(), 1_022)) == 0);
-    assert!(rt; data_blocks(16_384, &put(rt.alloc(), 1_023)) == 1);
     assert!(rt; most_inline(512) == 64);
     assert!(rt; most_inline(16_384) == 1_022);
 }

@@ -1,6 +1,6 @@
 //! Parts that are set, weighed and cut.
 
-ghost use Rattle.std.specs.Prelude.{◌≡◌, ◌<◌, ◌≤◌, ◌∷◌, [], length, sum_by, IfOk};
+ghost use Rattle.std.specs.Prelude.{◌≡◌, ◌<◌, ◌≤◌, ◌∷◌, [], length, sum_by, IfOk, IfSome};
 ghost use Rattle.lfs_fs.specs.Directory.{thread};
 ghost use Rattle.lfs_command.specs.Need.{dirty_parts, part_blocks};
 ghost use Rattle.lfs_cut.specs.Chosen.{HasPairsOnce};
@@ -10,44 +10,38 @@ use arrayvec::ArrayVec;
 use lfs_block::Image;
 use lfs_command::Refusal;
 use lfs_cut::{NewPairs, choose, clean, cut, needed};
+use lfs_draft::new_entry;
 use lfs_fs::{
     Delta, Limits, Outline, OutlineBody, OutlineDirectory, OutlineEntry, OutlinePart, UsedBlocks,
     mount, outlines_are_sound,
 };
 use std::alloc::{AllocError, Global};
-use std::process::Abort;
-use std::test::Fail;
 
-// a name of so many of one letter
-fn name(alloc: Global, letter: u8, len: u16) -> Result<Vec<u8>, AllocError>
-    requires { len < 1023 }
-    ensures { IfOk result (λ name. length name.items ≡ len) }
-{
+// a letter of a name, how many of them it is, and whether it is a directory's, which weighs 16 more than its name is long, or an
+// empty file's, which weighs 8 more
+type Row = (u8, u8, bool);
+
+const ROWS: [Row; 3] = [(b'a', 80, false), (b'b', 130, true), (b'c', 80, false)];
+
+// the entry of a row
+fn entry(alloc: Global, row: &Row) -> Result<OutlineEntry, AllocError> {
+    let (letter, len, is_directory) = *row;
     let mut name = Vec::new(alloc);
-    name.resize(len as usize, letter)?;
-    Ok(name)
+    name.resize(usize::from(len), letter)?;
+    if is_directory {
+        new_entry(alloc, &name, OutlineBody::Directory(2, 3))
+    } else {
+        new_entry(alloc, &name, OutlineBody::Inline(Vec::new(alloc)))
+    }
 }
 
-// an empty file with such a name; it weighs 8 more than its name is long
-fn file(alloc: Global, letter: u8, len: u16) -> Result<OutlineEntry, AllocError>
-    requires { len < 1023 }
-{
-    Ok(OutlineEntry {
-        name: name(alloc, letter, len)?,
-        body: OutlineBody::Inline(Vec::new(alloc)),
-        attributes: Vec::new(alloc),
-    })
-}
-
-// a directory with such a name; it weighs 16 more than its name is long
-fn folder(alloc: Global, letter: u8, len: u16) -> Result<OutlineEntry, AllocError>
-    requires { len < 1023 }
-{
-    Ok(OutlineEntry {
-        name: name(alloc, letter, len)?,
-        body: OutlineBody::Directory(2, 3),
-        attributes: Vec::new(alloc),
-    })
+// the entries of the part that is cut
+fn three_entries(alloc: Global) -> Result<Vec<OutlineEntry>, AllocError> {
+    let mut entries = Vec::new(alloc);
+    for row in &ROWS {
+        entries.push(entry(alloc, row)?)?;
+    }
+    Ok(entries)
 }
 
 // an outline of 64 blocks with these directories, without attributes
@@ -69,17 +63,12 @@ fn outline(alloc: Global, size: u32, directories: Vec<OutlineDirectory>) -> Outl
 }
 
 // a directory of one part, which is set
-fn directory(
-    rt: &impl Abort,
-    alloc: Global,
-    pair: (u32, u32),
-    entries: Vec<OutlineEntry>,
-) -> OutlineDirectory
+fn directory(alloc: Global, pair: (u32, u32), entries: Vec<OutlineEntry>) -> OutlineDirectory
+    requires { length entries.items < 32768 }
     ensures more { result.more ≡ [] }
     ensures pair { result.first.pair ≡ pair }
     ensures few { length result.first.entries < 32768 }
 {
-    assert!(rt; entries.len() < 32_768);
     OutlineDirectory {
         first: OutlinePart {
             pair,
@@ -91,34 +80,42 @@ fn directory(
     }
 }
 
-// an outline of one such directory
+// an outline of one such directory, of few entries
 fn one_part(
-    rt: &impl Abort,
     alloc: Global,
     size: u32,
     pair: (u32, u32),
     entries: Vec<OutlineEntry>,
-) -> Result<Outline, AllocError>
-    ensures size { IfOk result (λ o. o.size ≡ size) }
-    ensures few { IfOk result (λ o. sum_by (λ p. length p.entries) (thread o.directories) < 65536) }
-    ensures once { IfOk result (λ o. HasPairsOnce o) }
-    ensures parts { IfOk result (λ o. length (thread o.directories) ≤ 2) }
+) -> Option<Outline>
+    ensures size { IfSome result (λ o. o.size ≡ size) }
+    ensures few { IfSome result (λ o. sum_by (λ p. length p.entries) (thread o.directories) < 65536) }
+    ensures once { IfSome result (λ o. HasPairsOnce o) }
+    ensures parts { IfSome result (λ o. length (thread o.directories) ≤ 2) }
 {
-    let directories = vec![in alloc; directory(rt, alloc, pair, entries)]?;
-    Ok(outline(alloc, size, directories))
+    if entries.len() >= 32_768 {
+        return None;
+    }
+    match vec![in alloc; directory(alloc, pair, entries)] {
+        Ok(directories) => Some(outline(alloc, size, directories)),
+        Err(_) => None,
+    }
 }
 
 // the blocks that an image uses
-fn used_of(alloc: Global, image: &Image) -> Result<UsedBlocks, Fail> {
+fn used_of(alloc: Global, image: &Image) -> Option<UsedBlocks> {
     outlines_are_sound();
-    let outline = mount(alloc, image)?.into_outline();
-    Ok(outline.used_blocks(alloc)?)
+    match mount(alloc, image) {
+        Ok(mounted) => mounted.into_outline().used_blocks(alloc).ok(),
+        Err(_) => None,
+    }
 }
 
 // the blocks of a new image of 64 blocks, of which all but two are free
-fn used_blocks(alloc: Global) -> Result<UsedBlocks, Fail> {
-    let image = image_of(alloc, 256, 64)?;
-    used_of(alloc, &image)
+fn used_blocks(alloc: Global) -> Option<UsedBlocks> {
+    match image_of(alloc, 256, 64) {
+        Some(image) => used_of(alloc, &image),
+        None => None,
+    }
 }
 
 // how many new blocks the parts of an outline need, or why there is no room
@@ -132,20 +129,20 @@ fn need(outline: &Outline, used: &UsedBlocks) -> Result<u32, Refusal>
 
 // the pairs for the new parts of an outline, which needs as many blocks
 fn rows_of(
-    rt: &impl Abort,
     alloc: Global,
     outline: &Outline,
+    used: &UsedBlocks,
     blocks: &[u32],
-) -> Result<ArrayVec<NewPairs, 2, Global>, Fail>
+) -> Option<ArrayVec<NewPairs, 2, Global>>
     requires size { outline.now.size ≤ 65536 }
     requires few { sum_by (λ p. length p.entries) (thread outline.now.directories) < 65536 }
     requires once { HasPairsOnce outline.now }
     requires parts { length (thread outline.now.directories) ≤ 2 }
 {
-    let used = used_blocks(alloc)?;
-    let need = need(outline, &used)?;
-    assert!(rt; need as usize == blocks.len());
-    Ok(choose(alloc, outline, None, blocks)?)
+    match need(outline, used) {
+        Ok(need) if need as usize == blocks.len() => choose(alloc, outline, None, blocks).ok(),
+        _ => None,
+    }
 }
 
 // whether a part has a pair, and one entry whose name begins with a letter
@@ -177,51 +174,41 @@ fn is_cut(outline: &Outline) -> bool {
     }
 }
 
-// adds an empty file
-fn add_file(
-    entries: &mut Vec<OutlineEntry>,
-    alloc: Global,
-    letter: u8,
-    len: u16,
-) -> Result<(), AllocError>
-    requires { len < 1023 }
+// whether the parts of an outline are cut into blocks, and clean then
+fn cuts(alloc: Global, outline: &mut Outline, rows: &[NewPairs]) -> bool
+    requires { outline.old.size ≤ 65536 }
 {
-    let entry = file(alloc, letter, len)?;
-    entries.push(entry)?;
-    Ok(())
+    if cut(alloc, outline, rows).is_err() {
+        return false;
+    }
+    clean(outline);
+    is_cut(outline)
 }
 
-// adds a directory
-fn add_folder(
-    entries: &mut Vec<OutlineEntry>,
-    alloc: Global,
-    letter: u8,
-    len: u16,
-) -> Result<(), AllocError>
-    requires { len < 1023 }
-{
-    let entry = folder(alloc, letter, len)?;
-    entries.push(entry)?;
-    Ok(())
+// whether the part of these entries is cut into these blocks
+fn is_cut_into(alloc: Global, entries: Vec<OutlineEntry>, blocks: &[u32]) -> bool {
+    let Some(used) = used_blocks(alloc) else {
+        return false;
+    };
+    let Some(mut outline) = one_part(alloc, 256, (0, 1), entries) else {
+        return false;
+    };
+    match rows_of(alloc, &outline, &used, blocks) {
+        Some(rows) => cuts(alloc, &mut outline, &rows),
+        None => false,
+    }
 }
 
-// the entries of that part
-fn three_entries(alloc: Global) -> Result<Vec<OutlineEntry>, AllocError> {
-    let mut entries = Vec::new(alloc);
-    add_file(&mut entries, alloc, b'a', 80)?;
-    add_folder(&mut entries, alloc, b'b', 130)?;
-    add_file(&mut entries, alloc, b'c', 80)?;
-    Ok(entries)
+// whether the part of the three entries is
+fn three_are_cut(alloc: Global) -> bool {
+    match three_entries(alloc) {
+        Ok(entries) => is_cut_into(alloc, entries, &[5, 6, 9, 7]),
+        Err(_) => false,
+    }
 }
 
 // In a room of 216 bytes the runs weigh 128, with the superblock's 40, 146 and 88.
 #[test]
-fn parts_are_cut_into_the_next_blocks(rt: HostRuntime) -> Result<(), Fail> {
-    let alloc = rt.alloc();
-    let mut outline = one_part(&rt, alloc, 256, (0, 1), three_entries(alloc)?)?;
-    let rows = rows_of(&rt, alloc, &outline, &[5, 6, 9, 7])?;
-    cut(alloc, &mut outline, &rows)?;
-    clean(&mut outline);
-    assert!(rt; is_cut(&outline));
-    Ok(())
+fn parts_are_cut_into_the_next_blocks(rt: HostRuntime) {
+    assert!(rt; three_are_cut(rt.alloc()));
 }

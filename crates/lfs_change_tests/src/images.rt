@@ -5,29 +5,31 @@ use lfs_block::{Blocks, Image, geometry_ok};
 use lfs_edit::Command;
 use lfs_journal::{Session, StepFault};
 use std::alloc::Global;
-use std::test::Fail;
 
-/// A new image of so many blocks of this size.
-pub(crate) fn image_of(alloc: Global, size: u32, count: u32) -> Result<Image, Fail> {
+/// A new image of so many blocks of this size; none where no image has them.
+pub(crate) fn image_of(alloc: Global, size: u32, count: u32) -> Option<Image> {
     if !geometry_ok(size, count) {
-        return Err(Fail::new("no image has such blocks"));
+        return None;
     }
-    Ok(new_image_of(alloc, size, count).ok_or("no memory")?)
+    new_image_of(alloc, size, count)
 }
 
 /// A new image of 8 blocks of 512 bytes.
-pub(crate) fn new_image(alloc: Global) -> Result<Image, Fail> {
+pub(crate) fn new_image(alloc: Global) -> Option<Image> {
     image_of(alloc, 512, 8)
 }
 
 /// A session of an image.
-pub(crate) fn fresh(alloc: Global, image: Image) -> Result<Session, Fail> {
-    Ok(Session::fresh(alloc, image).map_err(|unmounted| unmounted.fault)?)
+pub(crate) fn fresh(alloc: Global, image: Image) -> Option<Session> {
+    Session::fresh(alloc, image).ok()
 }
 
 /// A session of a new image.
-pub(crate) fn new_session(alloc: Global) -> Result<Session, Fail> {
-    fresh(alloc, new_image(alloc)?)
+pub(crate) fn new_session(alloc: Global) -> Option<Session> {
+    match new_image(alloc) {
+        Some(image) => fresh(alloc, image),
+        None => None,
+    }
 }
 
 /// Whether a session replies so to a command.

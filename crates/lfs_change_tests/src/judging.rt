@@ -5,8 +5,8 @@ use lfs_block::Image;
 use lfs_command::{Command, Refusal, by_names};
 use lfs_draft::{judge, leading_pair};
 use lfs_fs::{Outline, mount};
+use lfs_journal::Session;
 use std::alloc::Global;
-use std::test::Fail;
 
 // a directory, whose pair is {2,3}, and a file in it
 const MADE: [Command<'static>; 2] = [
@@ -48,22 +48,39 @@ fn is_judged(alloc: Global, outline: &Outline, row: &Judged) -> bool {
     }
 }
 
-// whether the commands are judged so on an image
-fn are_judged(alloc: Global, image: &Image) -> Result<bool, Fail> {
-    let mounted = mount(alloc, image)?;
+// whether the commands are judged so on an outline
+fn all_are_judged(alloc: Global, outline: &Outline) -> bool {
     for row in &ROWS {
-        if !is_judged(alloc, mounted.outline(), row) {
-            return Ok(false);
+        if !is_judged(alloc, outline, row) {
+            return false;
         }
     }
-    Ok(true)
+    true
+}
+
+// whether they are on an image
+fn are_judged(alloc: Global, image: &Image) -> bool {
+    match mount(alloc, image) {
+        Ok(mounted) => all_are_judged(alloc, mounted.outline()),
+        Err(_) => false,
+    }
+}
+
+// whether a session makes the directory and the file
+fn makes(alloc: Global, session: &mut Session) -> bool {
+    carries_out(alloc, session, &MADE)
+}
+
+// whether they are on the image of a session that makes these
+fn are_judged_in_session(alloc: Global) -> bool {
+    match new_session(alloc) {
+        Some(mut session) => makes(alloc, &mut session) && are_judged(alloc, session.image()),
+        None => false,
+    }
 }
 
 // `tests/trees.py` has all causes of all commands, over the program.
 #[test]
-fn commands_are_judged(rt: HostRuntime) -> Result<(), Fail> {
-    let mut session = new_session(rt.alloc())?;
-    assert!(rt; carries_out(rt.alloc(), &mut session, &MADE));
-    assert!(rt; are_judged(rt.alloc(), session.image())?);
-    Ok(())
+fn commands_are_judged(rt: HostRuntime) {
+    assert!(rt; are_judged_in_session(rt.alloc()));
 }

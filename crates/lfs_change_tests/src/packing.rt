@@ -6,8 +6,7 @@ use lfs_fs::{Limits, Mounted, NEW_LIMITS, mount};
 use lfs_listing::send_listing;
 use lfs_pack::{PackRow, least_count, pack, pack_within};
 use lfs_sink::Out;
-use std::alloc::Global;
-use std::test::Fail;
+use std::alloc::{AllocError, Global};
 
 // what the packed image lists
 const LISTING: &str = "d          - /
@@ -17,8 +16,10 @@ f         65 /d/f
 ";
 
 // the attributes of the file that is packed
-fn attributes(alloc: Global) -> Result<[(u8, Vec<u8>); 1], Fail> {
-    Ok([(0x74, Vec::from_slice(alloc, &[1])?)])
+fn attributes(alloc: Global) -> Result<Vec<(u8, Vec<u8>)>, AllocError> {
+    let mut attributes = Vec::new(alloc);
+    attributes.push((0x74, Vec::from_slice(alloc, &[1])?))?;
+    Ok(attributes)
 }
 
 // a directory, and a file that takes one block beside its entry
@@ -49,43 +50,47 @@ fn lists(alloc: Global, mounted: &Mounted, listing: &str) -> bool {
 }
 
 // whether an image has the limits and so many free blocks, and lists this
-fn holds(
-    alloc: Global,
-    image: &Image,
-    limits: Limits,
-    free: u32,
-    listing: &str,
-) -> Result<bool, Fail> {
-    let mounted = mount(alloc, image)?;
-    Ok(
-        mounted.limits() == limits
-            && mounted.free_count() == free
-            && lists(alloc, &mounted, listing),
-    )
+fn holds(alloc: Global, image: &Image, limits: Limits, free: u32, listing: &str) -> bool {
+    match mount(alloc, image) {
+        Ok(mounted) => {
+            mounted.limits() == limits
+                && mounted.free_count() == free
+                && lists(alloc, &mounted, listing)
+        }
+        Err(_) => false,
+    }
 }
 
-// the image of blocks of 512 bytes that has these
-fn image(bytes: Vec<u8>) -> Result<Image, Fail> {
+// whether bytes are those of such an image, in blocks of 512 bytes
+fn are_image(alloc: Global, bytes: Vec<u8>, limits: Limits, free: u32, listing: &str) -> bool {
     match Image::new(bytes, 512) {
-        Ok(image) => Ok(image),
-        Err(_) => Err(Fail::new("no image")),
+        Ok(image) => holds(alloc, &image, limits, free, listing),
+        Err(_) => false,
     }
 }
 
-// the image of so many blocks of 512 bytes into which rows are packed
-fn packed(alloc: Global, count: u32, rows: &[PackRow<'_>]) -> Result<Image, Fail> {
+// whether rows are packed into so many blocks of 512 bytes, and so many are free then
+fn are_packed(alloc: Global, count: u32, rows: &[PackRow<'_>], free: u32, listing: &str) -> bool {
     if !geometry_ok(512, count) {
-        return Err(Fail::new("no image has such blocks"));
+        return false;
     }
-    image(pack(alloc, 512, count, rows)?)
+    match pack(alloc, 512, count, rows) {
+        Ok(bytes) => are_image(alloc, bytes, NEW_LIMITS, free, listing),
+        Err(_) => false,
+    }
+}
+
+// whether the directory and the file are packed
+fn file_is_packed(alloc: Global) -> bool {
+    match attributes(alloc) {
+        Ok(attributes) => are_packed(alloc, 8, &rows(&attributes), 3, LISTING),
+        Err(_) => false,
+    }
 }
 
 #[test]
-fn rows_are_packed_into_an_image(rt: HostRuntime) -> Result<(), Fail> {
-    let attributes = attributes(rt.alloc())?;
-    let image = packed(rt.alloc(), 8, &rows(&attributes))?;
-    assert!(rt; holds(rt.alloc(), &image, NEW_LIMITS, 3, LISTING)?);
-    Ok(())
+fn rows_are_packed_into_an_image(rt: HostRuntime) {
+    assert!(rt; file_is_packed(rt.alloc()));
 }
 
 // the limits of what is packed, which has nothing that is longer
@@ -95,51 +100,69 @@ const LIMITS: Limits = Limits {
     attribute: 1,
 };
 
-#[test]
-fn rows_are_packed_within_limits(rt: HostRuntime) -> Result<(), Fail> {
-    assert!(rt; geometry_ok(512, 8));
-    let attributes = attributes(rt.alloc())?;
-    let image = image(pack_within(rt.alloc(), 512, 8, LIMITS, &rows(&attributes))?)?;
-    assert!(rt; holds(rt.alloc(), &image, LIMITS, 3, LISTING)?);
-    Ok(())
+// whether the directory and the file are packed within the limits
+fn file_is_packed_within(alloc: Global) -> bool {
+    let Ok(attributes) = attributes(alloc) else {
+        return false;
+    };
+    match pack_within(alloc, 512, 8, LIMITS, &rows(&attributes)) {
+        Ok(bytes) => are_image(alloc, bytes, LIMITS, 3, LISTING),
+        Err(_) => false,
+    }
 }
 
 #[test]
-fn longer_files_are_not_packed(rt: HostRuntime) -> Result<(), Fail> {
-    assert!(rt; geometry_ok(512, 8));
+fn rows_are_packed_within_limits(rt: HostRuntime) {
+    assert!(rt; file_is_packed_within(rt.alloc()));
+}
+
+// whether a file that is longer than the limit isn't packed
+fn longer_is_refused(alloc: Global) -> bool {
+    let Ok(attributes) = attributes(alloc) else {
+        return false;
+    };
     let limits = Limits { file: 64, ..LIMITS };
-    let attributes = attributes(rt.alloc())?;
-    let packed = pack_within(rt.alloc(), 512, 8, limits, &rows(&attributes));
-    assert!(rt; matches!(packed, Err(Refusal::FileTooLarge)));
-    Ok(())
+    match pack_within(alloc, 512, 8, limits, &rows(&attributes)) {
+        Ok(_) => false,
+        Err(refusal) => refusal == Refusal::FileTooLarge,
+    }
 }
 
 #[test]
-fn rows_need_as_many_blocks_as_they_use(rt: HostRuntime) -> Result<(), Fail> {
-    assert!(rt; geometry_ok(512, 8));
-    let attributes = attributes(rt.alloc())?;
-    let count = least_count(rt.alloc(), 512, NEW_LIMITS, &rows(&attributes))?;
-    assert!(rt; count == 5);
-    Ok(())
+fn longer_files_are_not_packed(rt: HostRuntime) {
+    assert!(rt; longer_is_refused(rt.alloc()));
+}
+
+// whether the directory and the file need so many blocks
+fn need(alloc: Global, blocks: u32) -> bool {
+    let Ok(attributes) = attributes(alloc) else {
+        return false;
+    };
+    match least_count(alloc, 512, NEW_LIMITS, &rows(&attributes)) {
+        Ok(count) => count == blocks,
+        Err(_) => false,
+    }
 }
 
 #[test]
-fn the_root_gets_attributes(rt: HostRuntime) -> Result<(), Fail> {
-    let attributes = attributes(rt.alloc())?;
+fn rows_need_as_many_blocks_as_they_use(rt: HostRuntime) {
+    assert!(rt; need(rt.alloc(), 5));
+}
+
+// whether the root is packed with attributes
+fn root_is_packed(alloc: Global) -> bool {
+    let Ok(attributes) = attributes(alloc) else {
+        return false;
+    };
     let root = PackRow {
         path: b"/",
         bytes: None,
         attributes: &attributes,
     };
-    let image = packed(rt.alloc(), 2, &[root])?;
-    assert!(rt;
-        holds(
-            rt.alloc(),
-            &image,
-            NEW_LIMITS,
-            0,
-            "d          - /\n@ 74 01\n"
-        )?
-    );
-    Ok(())
+    are_packed(alloc, 2, &[root], 0, "d          - /\n@ 74 01\n")
+}
+
+#[test]
+fn the_root_gets_attributes(rt: HostRuntime) {
+    assert!(rt; root_is_packed(rt.alloc()));
 }

@@ -1,18 +1,14 @@
 //! Commits appended to pairs. Their bytes were put together by a program of their own, tag by tag.
 
-ghost use Rattle.std.specs.Prelude.{◌≡◌, ◌≤◌, length};
-
 use crate::commits::FORMATTED;
 use crate::images::pair_of;
 use crate::samples::block_of;
-use crate::writing::weights;
-use lfs_block::{Blocks, Image, MountFault};
+use crate::writing::small_part;
+use lfs_block::{Blocks, Image};
 use lfs_commit::{Edit, EditData, Forced, Tag, append, change_pair};
-use lfs_meta::{Tail, read_pair};
+use lfs_meta::Tail;
 use lfs_tag::commit_fits;
-use std::alloc::{AllocError, Global};
-use std::process::Abort;
-use std::test::Fail;
+use std::alloc::Global;
 
 /// A commit behind `FORMATTED`: the root's attribute of kind 0x74, two bytes.
 const ATTRIBUTE: [u8; 16] = [
@@ -38,48 +34,68 @@ fn attribute<'a>() -> Edit<'a> {
     }
 }
 
-/// A new image's block with a commit behind it.
-fn longer(alloc: Global, commit: &[u8]) -> Result<Vec<u8>, AllocError> {
-    let mut log = Vec::from_slice(alloc, &FORMATTED)?;
-    log.extend_from_slice(commit)?;
-    block_of(alloc, 256, &log)
+/// Whether a block of 256 bytes is a new image's with a commit behind it.
+fn is_longer(alloc: Global, block: &[u8], commit: &[u8]) -> bool {
+    match block_of(alloc, 192, commit) {
+        Ok(behind) => block.strip_prefix(&FORMATTED) == Some(behind.as_slice()),
+        Err(_) => false,
+    }
+}
+
+/// Whether an attribute is appended to the live block of an image.
+fn is_appended(alloc: Global, image: &Image) -> bool {
+    let _fits_the_limits = image.size();
+    match append(alloc, image, (0, 1), &[attribute()]) {
+        Ok(Some((number, bytes))) => number == 0 && is_longer(alloc, &bytes, &ATTRIBUTE),
+        _ => false,
+    }
+}
+
+/// Whether it is to that of a new one.
+fn attribute_is_appended(alloc: Global) -> bool {
+    match pair_of(alloc, &FORMATTED, b"") {
+        Some(image) => is_appended(alloc, &image),
+        None => false,
+    }
 }
 
 #[test]
-fn a_commit_is_appended_to_the_live_block(rt: HostRuntime) -> Result<(), Fail> {
-    let image = pair_of(rt.alloc(), &FORMATTED, b"")?;
-    let _fits_the_limits = image.size();
-    let found = append(rt.alloc(), &image, (0, 1), &[attribute()])?;
-    let (number, bytes) = found.ok_or("no room")?;
-    assert!(rt; number == 0 && bytes == longer(rt.alloc(), &ATTRIBUTE)?);
-    Ok(())
+fn a_commit_is_appended_to_the_live_block(rt: HostRuntime) {
+    assert!(rt; attribute_is_appended(rt.alloc()));
 }
 
-/// The pair of a new image with a tail, and its superblock's struct written once more.
-fn changed(rt: &impl Abort, alloc: Global, image: &Image) -> Result<(u32, Vec<u8>), MountFault> {
+/// Whether the pair of a new image gets a tail, and its superblock's struct once more.
+fn is_changed(alloc: Global, image: &Image) -> bool {
     let _fits_the_limits = image.size();
-    let part = read_pair(alloc, image, (0, 1))?;
-    let entries = &part.entries;
-    assert!(rt; entries.len() <= 1_000);
-    assert!(rt; weights(entries) <= 216);
-    let forced = Forced::Struct(None);
-    change_pair(
+    let Some(part) = small_part(alloc, image) else {
+        return false;
+    };
+    let (tail, forced) = (Tail::Soft(6, 7), Forced::Struct(None));
+    match change_pair(
         alloc,
         image,
         (0, 1),
-        entries,
-        Tail::Soft(6, 7),
+        &part.entries,
+        tail,
         part.delta,
         forced,
-    )
+    ) {
+        Ok((number, bytes)) => number == 0 && is_longer(alloc, &bytes, &STRUCT_AND_TAIL),
+        Err(_) => false,
+    }
+}
+
+/// Whether that of the new image does.
+fn pair_is_changed(alloc: Global) -> bool {
+    match pair_of(alloc, &FORMATTED, b"") {
+        Some(image) => is_changed(alloc, &image),
+        None => false,
+    }
 }
 
 #[test]
-fn a_pair_is_carried_to_a_part_by_a_commit(rt: HostRuntime) -> Result<(), Fail> {
-    let image = pair_of(rt.alloc(), &FORMATTED, b"")?;
-    let (number, bytes) = changed(&rt, rt.alloc(), &image)?;
-    assert!(rt; number == 0 && bytes == longer(rt.alloc(), &STRUCT_AND_TAIL)?);
-    Ok(())
+fn a_pair_is_carried_to_a_part_by_a_commit(rt: HostRuntime) {
+    assert!(rt; pair_is_changed(rt.alloc()));
 }
 
 #[test]

@@ -1,9 +1,8 @@
 //! Checksums, limits and blocks of images.
 
-use crate::images::image;
+use crate::images::filled_image;
 use lfs_block::{Blocks, Image, crc32, geometry_ok};
-use std::alloc::{AllocError, Global};
-use std::test::Fail;
+use std::alloc::Global;
 
 #[test]
 fn checksum_vectors(rt: HostRuntime) {
@@ -11,14 +10,7 @@ fn checksum_vectors(rt: HostRuntime) {
     assert!(rt; crc32(0xffff_ffff, b"") == 0xffff_ffff);
 }
 
-/// A block of zeros, and one of nines.
-fn two_blocks(alloc: Global) -> Result<Vec<u8>, AllocError> {
-    let mut bytes = vec![in alloc; 0u8; 1_024]?;
-    bytes.resize(2_048, 9)?;
-    Ok(bytes)
-}
-
-/// Whether an image is one of these two blocks.
+/// Whether an image is a block of zeros, and one of nines.
 fn has_two_blocks(image: &Image) -> bool {
     geometry_ok(image.size(), image.count())
         && image.count() == 2
@@ -26,10 +18,16 @@ fn has_two_blocks(image: &Image) -> bool {
         && image.block(1).first() == Some(&9)
 }
 
+/// Whether the image of these two blocks, of 1,024 bytes each, has them, and gives its bytes back.
+fn is_of_two_blocks(alloc: Global) -> bool {
+    let Some(image) = filled_image(alloc, 1_024, &[0, 0, 0, 0, 9, 9, 9, 9]) else {
+        return false;
+    };
+    let has_blocks = has_two_blocks(&image);
+    image.into_bytes().len() == 2_048 && has_blocks
+}
+
 #[test]
-fn block_is_its_slice(rt: HostRuntime) -> Result<(), Fail> {
-    let image = image(two_blocks(rt.alloc())?, 1_024)?;
-    assert!(rt; has_two_blocks(&image));
-    assert!(rt; image.into_bytes().len() == 2_048);
-    Ok(())
+fn block_is_its_slice(rt: HostRuntime) {
+    assert!(rt; is_of_two_blocks(rt.alloc()));
 }

@@ -5,10 +5,9 @@ ghost use Rattle.lfs_block.specs.Geometry.{IsBlockSize};
 ghost use Rattle.lfs_file.specs.Content.{content};
 
 use crate::images::image;
-use lfs_block::Blocks;
+use lfs_block::{Blocks, Image};
 use lfs_file::{blocks_for, chain, lay, read_file};
 use std::alloc::{AllocError, Global};
-use std::test::Fail;
 
 /// The slices of a file, joined.
 fn join<B: Blocks>(
@@ -85,15 +84,44 @@ fn lay_in(alloc: Global, file: &[u8], blocks: &[u32], size: u32) -> Option<Vec<V
     lay(alloc, file, blocks, size)
 }
 
+/// Whether these are the bytes of the file.
+fn are_file(alloc: Global, bytes: &[u8]) -> bool {
+    match file_bytes(alloc) {
+        Ok(file) => bytes == file.as_slice(),
+        Err(_) => false,
+    }
+}
+
+/// Whether an image has the file in these blocks.
+fn has_file(alloc: Global, image: &Image, blocks: &[u32]) -> bool {
+    let Ok(found) = chain(alloc, image, 7, 3_040) else {
+        return false;
+    };
+    match join(alloc, image, &found, 3_040) {
+        Ok(bytes) => found.as_slice() == blocks && are_file(alloc, &bytes),
+        Err(_) => false,
+    }
+}
+
+/// The image.
+fn file_image(alloc: Global) -> Option<Image> {
+    match image_bytes(alloc) {
+        Ok(bytes) => image(bytes, 512),
+        Err(_) => None,
+    }
+}
+
+/// Whether the image has the file.
+fn gives_file(alloc: Global) -> bool {
+    match file_image(alloc) {
+        Some(image) => has_file(alloc, &image, &[2, 3, 4, 5, 6, 7]),
+        None => false,
+    }
+}
+
 #[test]
-fn gives_the_contents(rt: HostRuntime) -> Result<(), Fail> {
-    let alloc = rt.alloc();
-    let image = image(image_bytes(alloc)?, 512)?;
-    let found = chain(alloc, &image, 7, 3_040)?;
-    assert!(rt; found.as_slice() == [2, 3, 4, 5, 6, 7].as_slice());
-    let bytes = join(alloc, &image, &found, 3_040)?;
-    assert!(rt; bytes == file_bytes(alloc)?);
-    Ok(())
+fn gives_the_contents(rt: HostRuntime) {
+    assert!(rt; gives_file(rt.alloc()));
 }
 
 /// A size of blocks, and how many the longest file takes.
@@ -106,19 +134,37 @@ fn takes_the_least_blocks(rt: HostRuntime) {
     }
 }
 
-/// The bytes of an image of two blocks of zeros, and these behind them.
-fn behind_two(alloc: Global, laid: &[Vec<u8>]) -> Result<Vec<u8>, AllocError> {
-    let mut bytes = vec![in alloc; 0u8; 1_024]?;
-    for block in laid {
-        bytes.extend_from_slice(block)?;
+/// Whether blocks are those of the image behind its first two.
+fn are_laid(laid: &[Vec<u8>], image: &Image) -> bool {
+    for n in 2..image.count() {
+        match laid.get(n as usize - 2) {
+            Some(block) if block.as_slice() == image.block(n) => {}
+            _ => return false,
+        }
     }
-    Ok(bytes)
+    laid.len() == 6 && image.count() == 8
+}
+
+/// Whether the file is laid so into these blocks of the image.
+fn is_laid(alloc: Global, image: &Image, blocks: &[u32]) -> bool {
+    let Ok(file) = file_bytes(alloc) else {
+        return false;
+    };
+    match lay_in(alloc, &file, blocks, 512) {
+        Some(laid) => are_laid(&laid, image),
+        None => false,
+    }
+}
+
+/// Whether the image's blocks are laid.
+fn lays_image(alloc: Global) -> bool {
+    match file_image(alloc) {
+        Some(image) => is_laid(alloc, &image, &[2, 3, 4, 5, 6, 7]),
+        None => false,
+    }
 }
 
 #[test]
-fn lays_blocks(rt: HostRuntime) -> Result<(), Fail> {
-    let file = file_bytes(rt.alloc())?;
-    let laid = lay_in(rt.alloc(), &file, &[2, 3, 4, 5, 6, 7], 512).ok_or("not laid")?;
-    assert!(rt; behind_two(rt.alloc(), &laid)? == image_bytes(rt.alloc())?);
-    Ok(())
+fn lays_blocks(rt: HostRuntime) {
+    assert!(rt; lays_image(rt.alloc()));
 }

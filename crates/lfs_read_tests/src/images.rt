@@ -1,36 +1,76 @@
 //! Images that the tests read.
 
-ghost use Rattle.std.specs.Prelude.{◌≡◌, IfOk};
+ghost use Rattle.std.specs.Prelude.{◌≡◌, IfSome};
 
-use crate::samples::block_of;
 use lfs_block::Image;
 use lfs_meta::{Body, Entry, Kind, Part, read_pair};
 use std::alloc::{AllocError, Global};
-use std::test::Fail;
 
-/// The image of these bytes in blocks of this size.
-pub(crate) fn image(bytes: Vec<u8>, size: u32) -> Result<Image, Fail>
-    ensures { IfOk result (λ image. image.disk.size ≡ size) }
+/// The image of these bytes in blocks of this size; none where no image has them.
+pub(crate) fn image(bytes: Vec<u8>, size: u32) -> Option<Image>
+    ensures { IfSome result (λ image. image.disk.size ≡ size) }
 {
-    Ok(Image::new(bytes, size).map_err(|refused| refused.0)?)
+    Image::new(bytes, size).ok()
 }
 
-/// The bytes of two blocks of 256 bytes, erased behind their logs.
-fn pair_bytes(alloc: Global, first: &[u8], second: &[u8]) -> Result<Vec<u8>, AllocError> {
-    let mut bytes = block_of(alloc, 256, first)?;
-    bytes.extend_from_slice(&block_of(alloc, 256, second)?)?;
+/// A log, or other bytes, behind the place at which they stand.
+pub(crate) type Head<'a> = (usize, &'a [u8]);
+
+/// So many bytes, which are erased but for heads, each of which begins behind the end of the one before.
+fn bytes_of(alloc: Global, len: usize, heads: &[Head<'_>]) -> Result<Vec<u8>, AllocError> {
+    let mut bytes = Vec::new(alloc);
+    for (at, head) in heads {
+        bytes.resize(*at, 0xff)?;
+        bytes.extend_from_slice(head)?;
+    }
+    bytes.resize(len, 0xff)?;
     Ok(bytes)
 }
 
-/// The image of these.
-pub(crate) fn pair_of(alloc: Global, first: &[u8], second: &[u8]) -> Result<Image, Fail> {
-    image(pair_bytes(alloc, first, second)?, 256)
+/// An image of so many bytes in blocks of this size, which are erased but for heads.
+pub(crate) fn image_of(alloc: Global, size: u32, len: usize, heads: &[Head<'_>]) -> Option<Image> {
+    match bytes_of(alloc, len, heads) {
+        Ok(bytes) => image(bytes, size),
+        Err(_) => None,
+    }
+}
+
+/// An image of two blocks of 256 bytes, erased behind their logs.
+pub(crate) fn pair_of(alloc: Global, first: &[u8], second: &[u8]) -> Option<Image> {
+    image_of(alloc, 256, 512, &[(0, first), (256, second)])
 }
 
 /// What the pair of such a block and an erased one holds.
-pub(crate) fn part_of(alloc: Global, log: &[u8]) -> Result<Part, Fail> {
-    let image = pair_of(alloc, log, b"")?;
-    Ok(read_pair(alloc, &image, (0, 1))?)
+pub(crate) fn part_of(alloc: Global, log: &[u8]) -> Option<Part> {
+    match pair_of(alloc, log, b"") {
+        Some(image) => read_pair(alloc, &image, (0, 1)).ok(),
+        None => None,
+    }
+}
+
+/// Adds 256 bytes of each of these values.
+pub(crate) fn add_fills(bytes: &mut Vec<u8>, fills: &[u8]) -> Result<(), AllocError> {
+    for fill in fills {
+        bytes.extend_from_slice(&[*fill; 256])?;
+    }
+    Ok(())
+}
+
+/// The bytes of these values.
+fn filled(alloc: Global, fills: &[u8]) -> Result<Vec<u8>, AllocError> {
+    let mut bytes = Vec::new(alloc);
+    add_fills(&mut bytes, fills)?;
+    Ok(bytes)
+}
+
+/// An image in blocks of this size that has 256 bytes of each of these values.
+pub(crate) fn filled_image(alloc: Global, size: u32, fills: &[u8]) -> Option<Image>
+    ensures { IfSome result (λ image. image.disk.size ≡ size) }
+{
+    match filled(alloc, fills) {
+        Ok(bytes) => image(bytes, size),
+        Err(_) => None,
+    }
 }
 
 /// A file without contents.
@@ -41,31 +81,4 @@ pub(crate) fn file(alloc: Global) -> Result<Entry, AllocError> {
         body: Body::Inline(Vec::new(alloc)),
         attributes: Vec::new(alloc),
     })
-}
-
-/// A log, or other bytes, with the block at whose head they stand.
-pub(crate) type Head = (u8, &'static [u8]);
-
-/// The size of a block of an image of heads.
-const SIZE: u32 = 512;
-
-/// Writes bytes over those from a place on.
-fn put(bytes: &mut [u8], at: usize, new: &[u8]) {
-    for (old, new) in bytes.iter_mut().skip(at).zip(new) {
-        *old = *new;
-    }
-}
-
-/// Writes heads into blocks.
-fn put_heads(bytes: &mut [u8], heads: &[Head]) {
-    for (block, head) in heads {
-        put(bytes, usize::from(*block) * SIZE as usize, *head);
-    }
-}
-
-/// An image of so many blocks of 512 bytes, which are erased elsewhere.
-pub(crate) fn image_of(alloc: Global, blocks: u8, heads: &[Head]) -> Result<Image, Fail> {
-    let mut bytes = vec![in alloc; 0xff; SIZE as usize * usize::from(blocks)]?;
-    put_heads(&mut bytes, heads);
-    image(bytes, SIZE)
 }

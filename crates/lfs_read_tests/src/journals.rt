@@ -1,8 +1,8 @@
 //! Journals by example.
 
+use crate::images::add_fills;
 use lfs_book::{Journal, JournalFault, write_journal};
 use std::alloc::{AllocError, Global};
-use std::test::Fail;
 
 /// The journal of an image of 8 blocks of 512 bytes that nothing was done to.
 const FRESH: [u8; 24] = [
@@ -11,19 +11,46 @@ const FRESH: [u8; 24] = [
 ];
 /// The letters `lfsj` as a word.
 const LETTERS: u32 = 0x6a73_666c;
-/// What stands before the changes of `with_changes`, for an image that has 4 blocks of 256 bytes between them.
-const HEAD: [u32; 6] = [LETTERS, 2, 256, 4, 1, 1];
-/// What stands before the changes of `of_version_one`.
-const FIRST_HEAD: [u32; 6] = [LETTERS, 1, 256, 4, 1, 1];
 
-/// What a change of block 0 has in front of it, with its counts before and after: some that a journal may have, and some that none has.
-const RISING: [u32; 9] = [LETTERS, 2, 256, 4, 1, 0, 1, 2, 65_536];
+/// Words, and behind them 256 bytes of each of some values.
+type Piece = (&'static [u32], &'static [u8]);
 
-const FALLING: [u32; 9] = [LETTERS, 2, 256, 4, 1, 0, 1, 4, 3];
+/// Two changes of an image that has 4 blocks of 256 bytes between them: one of block 1 that keeps 4 blocks, and one of the blocks 0
+/// and 5 that makes them 6, of which the fifth is erased before.
+const CHANGES: [Piece; 3] = [
+    (&[LETTERS, 2, 256, 4, 1, 1, 1, 4, 4, 1], &[10, 11]),
+    (&[2, 4, 6, 0], &[20, 21]),
+    (&[5], &[0xff, 31]),
+];
 
-const FROM_ONE: [u32; 9] = [LETTERS, 2, 256, 4, 1, 0, 1, 1, 4];
+/// The same, but that the fifth isn't erased before.
+const NOT_ERASED: [Piece; 3] = [
+    (&[LETTERS, 2, 256, 4, 1, 1, 1, 4, 4, 1], &[10, 11]),
+    (&[2, 4, 6, 0], &[20, 21]),
+    (&[5], &[0xfe, 31]),
+];
 
-const TOO_MANY: [u32; 9] = [LETTERS, 2, 256, 4, 1, 0, 1, 4, 65_537];
+/// The first of these changes, and then one of block 3, without counts.
+const VERSION_ONE: [Piece; 2] = [
+    (&[LETTERS, 1, 256, 4, 1, 1, 1, 1], &[10, 11]),
+    (&[1, 3], &[30, 31]),
+];
+
+/// The same in version 2.
+const VERSION_TWO: [Piece; 2] = [
+    (&[LETTERS, 2, 256, 4, 1, 1, 1, 4, 4, 1], &[10, 11]),
+    (&[1, 4, 4, 3], &[30, 31]),
+];
+
+/// A change of block 0 with its counts before and after, as a journal may have them.
+const RISING: [Piece; 1] = [(&[LETTERS, 2, 256, 4, 1, 0, 1, 2, 65_536, 0], &[20, 21])];
+
+/// Such a change with counts that none has.
+const FALLING: [Piece; 1] = [(&[LETTERS, 2, 256, 4, 1, 0, 1, 4, 3, 0], &[20, 21])];
+
+const FROM_ONE: [Piece; 1] = [(&[LETTERS, 2, 256, 4, 1, 0, 1, 1, 4, 0], &[20, 21])];
+
+const TOO_MANY: [Piece; 1] = [(&[LETTERS, 2, 256, 4, 1, 0, 1, 4, 65_537, 0], &[20, 21])];
 
 /// Adds words of four bytes, the lowest first.
 fn add_words(bytes: &mut Vec<u8>, words: &[u32]) -> Result<(), AllocError> {
@@ -33,60 +60,38 @@ fn add_words(bytes: &mut Vec<u8>, words: &[u32]) -> Result<(), AllocError> {
     Ok(())
 }
 
-/// Adds a block's number, and 256 bytes of one value before and of one after.
-fn add_block(bytes: &mut Vec<u8>, number: u32, old: u8, new: u8) -> Result<(), AllocError> {
-    add_words(bytes, &[number])?;
-    bytes.extend_from_slice(&[old; 256])?;
-    bytes.extend_from_slice(&[new; 256])?;
-    Ok(())
-}
-
-/// Two changes: one of block 1 that keeps 4 blocks, and one of the blocks 0 and 5 that makes them 6, of which the fifth is erased
-/// before.
-fn with_changes(alloc: Global, old: u8) -> Result<Vec<u8>, AllocError> {
+/// The bytes of pieces.
+fn spelled(alloc: Global, pieces: &[Piece]) -> Result<Vec<u8>, AllocError> {
     let mut bytes = Vec::new(alloc);
-    add_words(&mut bytes, &HEAD)?;
-    add_words(&mut bytes, &[1, 4, 4])?;
-    add_block(&mut bytes, 1, 10, 11)?;
-    add_words(&mut bytes, &[2, 4, 6])?;
-    add_block(&mut bytes, 0, 20, 21)?;
-    add_block(&mut bytes, 5, old, 31)?;
+    for (words, fills) in pieces {
+        add_words(&mut bytes, words)?;
+        add_fills(&mut bytes, fills)?;
+    }
     Ok(bytes)
 }
 
-/// The first of these changes, and then one of block 3, without counts.
-fn of_version_one(alloc: Global) -> Result<Vec<u8>, AllocError> {
-    let mut bytes = Vec::new(alloc);
-    add_words(&mut bytes, &FIRST_HEAD)?;
-    add_words(&mut bytes, &[1])?;
-    add_block(&mut bytes, 1, 10, 11)?;
-    add_words(&mut bytes, &[1])?;
-    add_block(&mut bytes, 3, 30, 31)?;
-    Ok(bytes)
+/// The journal of pieces.
+fn journal_of(alloc: Global, pieces: &[Piece]) -> Option<Journal> {
+    match spelled(alloc, pieces) {
+        Ok(bytes) => Journal::read(alloc, &bytes).ok(),
+        Err(_) => None,
+    }
 }
 
-/// The same in version 2.
-fn of_version_two(alloc: Global) -> Result<Vec<u8>, AllocError> {
-    let mut bytes = Vec::new(alloc);
-    add_words(&mut bytes, &HEAD)?;
-    add_words(&mut bytes, &[1, 4, 4])?;
-    add_block(&mut bytes, 1, 10, 11)?;
-    add_words(&mut bytes, &[1, 4, 4])?;
-    add_block(&mut bytes, 3, 30, 31)?;
-    Ok(bytes)
+/// Whether pieces are no journal.
+fn are_none(alloc: Global, pieces: &[Piece]) -> bool {
+    match spelled(alloc, pieces) {
+        Ok(bytes) => Journal::read(alloc, &bytes).err() == Some(JournalFault::JournalFormat),
+        Err(_) => false,
+    }
 }
 
-/// One change of block 0 with its counts.
-fn with_counts(alloc: Global, words: &[u32]) -> Result<Vec<u8>, AllocError> {
-    let mut bytes = Vec::new(alloc);
-    add_words(&mut bytes, words)?;
-    add_block(&mut bytes, 0, 20, 21)?;
-    Ok(bytes)
-}
-
-/// Whether bytes are no journal.
-fn are_none(alloc: Global, bytes: &[u8]) -> bool {
-    Journal::read(alloc, bytes).err() == Some(JournalFault::JournalFormat)
+/// Whether bytes are those of pieces.
+fn are_spelled(alloc: Global, bytes: Option<Vec<u8>>, pieces: &[Piece]) -> bool {
+    match spelled(alloc, pieces) {
+        Ok(wanted) => bytes.as_deref() == Some(wanted.as_slice()),
+        Err(_) => false,
+    }
 }
 
 /// The bytes of a journal's parts.
@@ -105,39 +110,52 @@ fn made_again(journal: Journal) -> Journal {
     Journal::new(size, count, patches, done)
 }
 
-/// Whether a journal is spelled so.
-fn is_spelled(alloc: Global, journal: &Journal, bytes: &[u8]) -> bool {
+/// Whether the journal that nothing was done to is read.
+fn is_fresh(journal: &Journal) -> bool {
+    journal.size() == 512
+        && journal.count() == 8
+        && journal.patches().is_empty()
+        && journal.done() == 0
+}
+
+/// Whether it is written as it is read.
+fn is_written_again(alloc: Global) -> bool {
+    let Ok(journal) = Journal::read(alloc, &FRESH) else {
+        return false;
+    };
     match journal.write(alloc) {
-        Some(written) => written.as_slice() == bytes,
-        None => false,
-    }
-}
-
-/// Whether the parts of a journal are spelled so.
-fn parts_are_spelled(alloc: Global, journal: Journal, bytes: &[u8]) -> bool {
-    match parts_written(alloc, journal) {
-        Some(written) => written.as_slice() == bytes,
+        Some(written) => is_fresh(&journal) && written.as_slice() == FRESH.as_slice(),
         None => false,
     }
 }
 
 #[test]
-fn fresh_journal_is_read_and_written(rt: HostRuntime) -> Result<(), Fail> {
-    let journal = Journal::read(rt.alloc(), &FRESH)?;
-    assert!(rt; journal.size() == 512 && journal.count() == 8);
-    assert!(rt; journal.patches().is_empty() && journal.done() == 0);
-    assert!(rt; is_spelled(rt.alloc(), &journal, &FRESH));
-    Ok(())
+fn fresh_journal_is_read_and_written(rt: HostRuntime) {
+    assert!(rt; is_written_again(rt.alloc()));
+}
+
+/// Whether a journal has so many changes, of which one is made, and is written as they are spelled.
+fn has_both(alloc: Global, journal: &Journal, pieces: &[Piece]) -> bool {
+    journal.patches().len() == 2
+        && journal.done() == 1
+        && are_spelled(alloc, journal.write(alloc), pieces)
+}
+
+/// Whether the parts of the journal of pieces are that journal again.
+fn is_made_again(alloc: Global, pieces: &[Piece]) -> bool {
+    match journal_of(alloc, pieces) {
+        Some(journal) => {
+            let again = made_again(journal);
+            has_both(alloc, &again, pieces)
+                && are_spelled(alloc, parts_written(alloc, again), pieces)
+        }
+        None => false,
+    }
 }
 
 #[test]
-fn parts_are_a_journal_again(rt: HostRuntime) -> Result<(), Fail> {
-    let bytes = with_changes(rt.alloc(), 0xff)?;
-    let journal = made_again(Journal::read(rt.alloc(), &bytes)?);
-    assert!(rt; is_spelled(rt.alloc(), &journal, &bytes));
-    assert!(rt; journal.patches().len() == 2 && journal.done() == 1);
-    assert!(rt; parts_are_spelled(rt.alloc(), journal, &bytes));
-    Ok(())
+fn parts_are_a_journal_again(rt: HostRuntime) {
+    assert!(rt; is_made_again(rt.alloc(), &CHANGES));
 }
 
 /// Whether a journal has two changes, of which the second leads from four blocks to so many.
@@ -153,35 +171,53 @@ fn has_two_changes(journal: &Journal, after: u32) -> bool {
     }
 }
 
-#[test]
-fn changes_have_their_counts(rt: HostRuntime) -> Result<(), Fail> {
-    let journal = Journal::read(rt.alloc(), &with_changes(rt.alloc(), 0xff)?)?;
-    assert!(rt; journal.size() == 256 && journal.count() == 4);
-    assert!(rt; has_two_changes(&journal, 6));
-    Ok(())
-}
-
-#[test]
-fn version_one_is_read_and_version_two_written(rt: HostRuntime) -> Result<(), Fail> {
-    let older = of_version_one(rt.alloc())?;
-    let newer = of_version_two(rt.alloc())?;
-    let journal = Journal::read(rt.alloc(), &older)?;
-    assert!(rt; has_two_changes(&journal, 4) && is_spelled(rt.alloc(), &journal, &newer));
-    Ok(())
-}
-
-#[test]
-fn blocks_behind_the_end_are_erased_before(rt: HostRuntime) -> Result<(), Fail> {
-    assert!(rt; are_none(rt.alloc(), &with_changes(rt.alloc(), 0xfe)?));
-    Ok(())
-}
-
-#[test]
-fn counts_keep_their_limits(rt: HostRuntime) -> Result<(), Fail> {
-    let kept = Journal::read(rt.alloc(), &with_counts(rt.alloc(), &RISING)?)?;
-    assert!(rt; kept.done() == 1);
-    for words in [&FALLING, &FROM_ONE, &TOO_MANY] {
-        assert!(rt; are_none(rt.alloc(), &with_counts(rt.alloc(), words)?));
+/// Whether a journal has the two changes of an image of 4 blocks of 256 bytes.
+fn has_changes(alloc: Global) -> bool {
+    match journal_of(alloc, &CHANGES) {
+        Some(journal) => {
+            journal.size() == 256 && journal.count() == 4 && has_two_changes(&journal, 6)
+        }
+        None => false,
     }
-    Ok(())
+}
+
+#[test]
+fn changes_have_their_counts(rt: HostRuntime) {
+    assert!(rt; has_changes(rt.alloc()));
+}
+
+/// Whether a journal of version 1 is written in version 2.
+fn is_written_anew(alloc: Global) -> bool {
+    match journal_of(alloc, &VERSION_ONE) {
+        Some(journal) => {
+            has_two_changes(&journal, 4) && are_spelled(alloc, journal.write(alloc), &VERSION_TWO)
+        }
+        None => false,
+    }
+}
+
+#[test]
+fn version_one_is_read_and_version_two_written(rt: HostRuntime) {
+    assert!(rt; is_written_anew(rt.alloc()));
+}
+
+#[test]
+fn blocks_behind_the_end_are_erased_before(rt: HostRuntime) {
+    assert!(rt; are_none(rt.alloc(), &NOT_ERASED));
+}
+
+/// Whether a journal's change may have rising counts.
+fn is_rising(alloc: Global) -> bool {
+    match journal_of(alloc, &RISING) {
+        Some(journal) => journal.done() == 1,
+        None => false,
+    }
+}
+
+#[test]
+fn counts_keep_their_limits(rt: HostRuntime) {
+    assert!(rt; is_rising(rt.alloc()));
+    for pieces in [&FALLING, &FROM_ONE, &TOO_MANY] {
+        assert!(rt; are_none(rt.alloc(), pieces));
+    }
 }

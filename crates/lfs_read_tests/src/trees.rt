@@ -3,17 +3,23 @@
 use crate::images::{Head, image_of};
 use crate::logs::{BELOW, TREE};
 use lfs_block::Image;
-use lfs_fs::{Mounted, Path, UsedBlocks, mount, outline_of, outlines_are_sound};
+use lfs_fs::{Mounted, Path, mount, outline_of, outlines_are_sound};
 use std::alloc::Global;
-use std::test::Fail;
 
-// a tree, with a file in blocks 5 and 7
-const TREE_HEADS: [Head; 3] = [(0, TREE), (3, BELOW), (7, b"\x05\x00\x00\x00")];
+// a tree in blocks of 512 bytes, with a file in blocks 5 and 7
+const TREE_HEADS: [Head<'static>; 3] = [(0, TREE), (1_536, BELOW), (3_584, b"\x05\x00\x00\x00")];
+
+// the image of the tree
+fn tree(alloc: Global) -> Option<Image> {
+    image_of(alloc, 512, 4_096, &TREE_HEADS)
+}
 
 // the tree, mounted
-fn mounted_tree(alloc: Global) -> Result<Mounted, Fail> {
-    let image = image_of(alloc, 8, &TREE_HEADS)?;
-    Ok(mount(alloc, &image)?)
+fn mounted_tree(alloc: Global) -> Option<Mounted> {
+    match tree(alloc) {
+        Some(image) => mount(alloc, &image).ok(),
+        None => None,
+    }
 }
 
 /// Whether a mounted image has the tree.
@@ -34,34 +40,41 @@ fn begins_with_a_directory(mounted: &Mounted) -> bool {
     }
 }
 
-#[test]
-fn mounted_image_tells_what_it_has(rt: HostRuntime) -> Result<(), Fail> {
-    let mounted = mounted_tree(rt.alloc())?;
-    assert!(rt; has_tree(&mounted) && begins_with_a_directory(&mounted));
-    Ok(())
-}
-
-/// The least free blocks of an image, two of them.
-fn lowest_free(alloc: Global, mounted: &Mounted) -> Option<Vec<u32>> {
-    if mounted.free_count() < 2 {
-        return None;
-    }
-    mounted.lowest_free(alloc, 2)
-}
-
-/// Whether these are the least free blocks.
-fn frees_two_and_six(alloc: Global, mounted: &Mounted) -> bool {
-    match lowest_free(alloc, mounted) {
-        Some(blocks) => blocks.as_slice() == [2, 6].as_slice(),
+/// Whether the tree tells what it has.
+fn tells_tree(alloc: Global) -> bool {
+    match mounted_tree(alloc) {
+        Some(mounted) => has_tree(&mounted) && begins_with_a_directory(&mounted),
         None => false,
     }
 }
 
 #[test]
-fn mounted_image_tells_free_blocks(rt: HostRuntime) -> Result<(), Fail> {
-    let mounted = mounted_tree(rt.alloc())?;
-    assert!(rt; frees_two_and_six(rt.alloc(), &mounted));
-    Ok(())
+fn mounted_image_tells_what_it_has(rt: HostRuntime) {
+    assert!(rt; tells_tree(rt.alloc()));
+}
+
+/// Whether the least two free blocks of an image are these.
+fn frees(alloc: Global, mounted: &Mounted, blocks: &[u32]) -> bool {
+    if mounted.free_count() < 2 {
+        return false;
+    }
+    match mounted.lowest_free(alloc, 2) {
+        Some(lowest) => lowest.as_slice() == blocks,
+        None => false,
+    }
+}
+
+/// Whether the tree tells its least free blocks.
+fn tells_free_blocks(alloc: Global) -> bool {
+    match mounted_tree(alloc) {
+        Some(mounted) => frees(alloc, &mounted, &[2, 6]),
+        None => false,
+    }
+}
+
+#[test]
+fn mounted_image_tells_free_blocks(rt: HostRuntime) {
+    assert!(rt; tells_free_blocks(rt.alloc()));
 }
 
 /// Whether an image has a directory at the root's path.
@@ -73,38 +86,64 @@ fn finds_root(alloc: Global, mounted: &Mounted) -> bool {
     }
 }
 
-#[test]
-fn mounted_image_finds_its_root(rt: HostRuntime) -> Result<(), Fail> {
-    let mounted = mounted_tree(rt.alloc())?;
-    assert!(rt; finds_root(rt.alloc(), &mounted));
-    Ok(())
+/// Whether the tree has a directory there.
+fn tree_has_root(alloc: Global) -> bool {
+    match mounted_tree(alloc) {
+        Some(mounted) => finds_root(alloc, &mounted),
+        None => false,
+    }
 }
 
-/// The blocks that an image uses.
-fn used_of(alloc: Global, image: &Image) -> Result<UsedBlocks, Fail> {
+#[test]
+fn mounted_image_finds_its_root(rt: HostRuntime) {
+    assert!(rt; tree_has_root(rt.alloc()));
+}
+
+/// Whether the outline of an image that is mounted tells the tree's free blocks.
+fn tells_blocks(alloc: Global, image: &Image) -> bool {
     outlines_are_sound();
-    let outline = mount(alloc, image)?.into_outline();
-    Ok(outline.used_blocks(alloc)?)
+    let Ok(mounted) = mount(alloc, image) else {
+        return false;
+    };
+    match mounted.into_outline().used_blocks(alloc) {
+        Ok(used) => used.free_count() == 2 && used.flags().get(6) == Some(&false),
+        Err(_) => false,
+    }
+}
+
+/// Whether the tree's outline tells them.
+fn outline_tells_blocks(alloc: Global) -> bool {
+    match tree(alloc) {
+        Some(image) => tells_blocks(alloc, &image),
+        None => false,
+    }
 }
 
 #[test]
-fn outline_tells_its_blocks(rt: HostRuntime) -> Result<(), Fail> {
-    let image = image_of(rt.alloc(), 8, &TREE_HEADS)?;
-    let used = used_of(rt.alloc(), &image)?;
-    assert!(rt; used.free_count() == 2 && used.flags().get(6) == Some(&false));
-    Ok(())
+fn outline_tells_its_blocks(rt: HostRuntime) {
+    assert!(rt; outline_tells_blocks(rt.alloc()));
 }
 
 /// How many directories the outline of an image has that is mounted before.
-fn directories_again(alloc: Global, image: &Image) -> Result<usize, Fail> {
-    let _mounted = mount(alloc, image)?;
-    let outline = outline_of(alloc, image)?;
-    Ok(outline.directories.len())
+fn directories_again(alloc: Global, image: &Image) -> Option<usize> {
+    let Ok(_mounted) = mount(alloc, image) else {
+        return None;
+    };
+    match outline_of(alloc, image) {
+        Ok(outline) => Some(outline.directories.len()),
+        Err(_) => None,
+    }
+}
+
+/// Whether the tree's outline is read again, with its two directories.
+fn is_read_again(alloc: Global) -> bool {
+    match tree(alloc) {
+        Some(image) => directories_again(alloc, &image) == Some(2),
+        None => false,
+    }
 }
 
 #[test]
-fn outline_is_read_again(rt: HostRuntime) -> Result<(), Fail> {
-    let image = image_of(rt.alloc(), 8, &TREE_HEADS)?;
-    assert!(rt; directories_again(rt.alloc(), &image)? == 2);
-    Ok(())
+fn outline_is_read_again(rt: HostRuntime) {
+    assert!(rt; is_read_again(rt.alloc()));
 }

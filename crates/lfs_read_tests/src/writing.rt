@@ -1,16 +1,16 @@
 //! Pairs as they are written. The blocks' bytes were put together by a program of their own, tag by tag.
 
-ghost use Rattle.std.specs.Prelude.{◌≡◌, ◌≤◌, length};
+ghost use Rattle.std.specs.Prelude.{◌≡◌, ◌<◌, ◌≤◌, length, IfSome};
+ghost use Rattle.std.specs.List.{AllByRecursion};
 ghost use Rattle.lfs_meta.specs.Weighing.{weights};
+ghost use Rattle.lfs_meta.specs.Whole.{IsWhole};
 
-use crate::images::pair_of;
+use crate::images::{Head, image_of, pair_of};
 use crate::samples::block_of;
-use lfs_block::{Blocks, Image, MountFault};
+use lfs_block::{Blocks, Image};
 use lfs_commit::{first_block, rewrite};
-use lfs_meta::{Entry, Tail, read_pair, weight};
-use std::alloc::{AllocError, Global};
-use std::process::Abort;
-use std::test::Fail;
+use lfs_meta::{Entry, Part, Tail, read_pair, weight};
+use std::alloc::Global;
 
 // Revision 0xffffffff: a file `a` with a skip list and two attributes, a directory, a file `z` with contents.
 pub(crate) const THREE_ENTRIES: &[u8] = b"\
@@ -48,46 +48,79 @@ pub(crate) fn weights(entries: &[Entry]) -> u32
     sum
 }
 
-/// A block of 256 bytes with the three entries and a last byte of 0.
-fn three_entries(alloc: Global) -> Result<Vec<u8>, AllocError> {
-    let mut block = block_of(alloc, 255, THREE_ENTRIES)?;
-    block.push(0)?;
-    Ok(block)
+/// The part of an image's pair, where its entries fit into a block of 256 bytes.
+pub(crate) fn small_part(alloc: Global, image: &Image) -> Option<Part>
+    requires { 1 < image.now.disk.count }
+    ensures whole { IfSome result (λ part. AllByRecursion IsWhole part.1.entries) }
+    ensures few { IfSome result (λ part. length part.1.entries ≤ 1000) }
+    ensures room { IfSome result (λ part. weights part.1.entries ≤ 216) }
+{
+    match read_pair(alloc, image, (0, 1)) {
+        Ok(part) if part.entries.len() <= 1_000 && weights(&part.entries) <= 216 => Some(part),
+        _ => None,
+    }
 }
 
-/// The pair of an image, rewritten with its own entries, a hard tail and a delta.
-fn rewritten(rt: &impl Abort, alloc: Global, image: &Image) -> Result<(u32, Vec<u8>), MountFault> {
+/// Whether a block of 256 bytes begins so, and is erased behind that.
+fn is_block(alloc: Global, block: &[u8], front: &[u8]) -> bool {
+    match block_of(alloc, 256, front) {
+        Ok(wanted) => block == wanted.as_slice(),
+        Err(_) => false,
+    }
+}
+
+/// Whether the pair of an image is rewritten with its own entries, a hard tail and a delta.
+fn is_rewritten(alloc: Global, image: &Image) -> bool {
     let _fits_the_limits = image.size();
-    let part = read_pair(alloc, image, (0, 1))?;
-    let entries = &part.entries;
-    assert!(rt; entries.len() <= 1_000);
-    assert!(rt; weights(entries) <= 216);
-    rewrite(alloc, image, (0, 1), entries, Tail::Hard(6, 7), DELTA)
+    let Some(part) = small_part(alloc, image) else {
+        return false;
+    };
+    match rewrite(alloc, image, (0, 1), &part.entries, Tail::Hard(6, 7), DELTA) {
+        Ok((number, bytes)) => number == 1 && is_block(alloc, &bytes, REWRITTEN),
+        Err(_) => false,
+    }
+}
+
+/// The image of a pair: the three entries and a last byte of 0, and revision 0xfffffffe.
+fn rewritten_pair(alloc: Global) -> Option<Image> {
+    let heads: [Head<'_>; 3] = [(0, THREE_ENTRIES), (255, b"\0"), (256, LAST_BUT_ONE)];
+    image_of(alloc, 256, 512, &heads)
+}
+
+/// Whether this pair is rewritten.
+fn other_block_is_rewritten(alloc: Global) -> bool {
+    match rewritten_pair(alloc) {
+        Some(image) => is_rewritten(alloc, &image),
+        None => false,
+    }
 }
 
 #[test]
-fn rewrites_the_block_that_is_not_live(rt: HostRuntime) -> Result<(), Fail> {
-    let first = three_entries(rt.alloc())?;
-    let image = pair_of(rt.alloc(), &first, LAST_BUT_ONE)?;
-    let (number, bytes) = rewritten(&rt, rt.alloc(), &image)?;
-    assert!(rt; number == 1 && bytes == block_of(rt.alloc(), 256, REWRITTEN)?);
-    Ok(())
+fn rewrites_the_block_that_is_not_live(rt: HostRuntime) {
+    assert!(rt; other_block_is_rewritten(rt.alloc()));
 }
 
-/// The first block of a new pair with the entries of an image's, and a soft tail; none where memory is refused.
-fn first_of(rt: &impl Abort, alloc: Global, image: &Image) -> Result<Option<Vec<u8>>, MountFault> {
+/// Whether the first block of a new pair gets the entries of an image's, and a soft tail.
+fn is_first(alloc: Global, image: &Image) -> bool {
     let _fits_the_limits = image.size();
-    let part = read_pair(alloc, image, (0, 1))?;
-    let entries = &part.entries;
-    assert!(rt; entries.len() <= 1_000);
-    assert!(rt; weights(entries) <= 216);
-    Ok(first_block(alloc, 256, entries, Tail::Soft(6, 7)))
+    let Some(part) = small_part(alloc, image) else {
+        return false;
+    };
+    match first_block(alloc, 256, &part.entries, Tail::Soft(6, 7)) {
+        Some(block) => is_block(alloc, &block, FIRST_BLOCK),
+        None => false,
+    }
+}
+
+/// Whether that of the three entries is.
+fn block_is_first(alloc: Global) -> bool {
+    match pair_of(alloc, THREE_ENTRIES, b"") {
+        Some(image) => is_first(alloc, &image),
+        None => false,
+    }
 }
 
 #[test]
-fn first_block_of_a_new_pair(rt: HostRuntime) -> Result<(), Fail> {
-    let image = pair_of(rt.alloc(), THREE_ENTRIES, b"")?;
-    let block = first_of(&rt, rt.alloc(), &image)?.ok_or("no memory")?;
-    assert!(rt; block == block_of(rt.alloc(), 256, FIRST_BLOCK)?);
-    Ok(())
+fn first_block_of_a_new_pair(rt: HostRuntime) {
+    assert!(rt; block_is_first(rt.alloc()));
 }

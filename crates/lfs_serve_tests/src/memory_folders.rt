@@ -7,7 +7,6 @@ use lfs_fs::mount;
 use lfs_host::{Failing, MadeEntry, MemoryHost};
 use lfs_pack::{PackRow, pack};
 use std::alloc::{AllocError, Global};
-use std::test::Fail;
 
 /// What is expected at a path: a file's bytes, or a folder.
 pub(crate) type Expected = (&'static str, Option<&'static [u8]>);
@@ -80,24 +79,19 @@ fn is_made(made: &MadeEntry, expected: &Expected) -> bool {
     }
 }
 
-/// The image of so many blocks of this size into which rows are packed.
-pub(crate) fn packed(
-    alloc: Global,
-    size: u32,
-    count: u32,
-    rows: &[PackRow<'_>],
-) -> Result<Image, Fail> {
+/// The image of so many blocks of this size into which rows are packed; none where they aren't.
+pub(crate) fn packed(alloc: Global, size: u32, count: u32, rows: &[PackRow<'_>]) -> Option<Image> {
     if !geometry_ok(size, count) {
-        return Err(Fail::new("no image has such blocks"));
+        return None;
     }
-    match Image::new(pack(alloc, size, count, rows)?, size) {
-        Ok(image) => Ok(image),
-        Err(_) => Err(Fail::new("no image")),
+    match pack(alloc, size, count, rows) {
+        Ok(bytes) => Image::new(bytes, size).ok(),
+        Err(_) => None,
     }
 }
 
-/// An image of 8 blocks of 512 bytes with what a folder's rows have.
-fn image_of(alloc: Global, folder: &[FolderRow]) -> Result<Image, Fail> {
+/// What is packed for the rows of a folder.
+fn pack_rows(alloc: Global, folder: &[FolderRow]) -> Result<Vec<PackRow<'_>>, AllocError> {
     let mut rows = Vec::new(alloc);
     for row in folder {
         rows.push(PackRow {
@@ -106,89 +100,137 @@ fn image_of(alloc: Global, folder: &[FolderRow]) -> Result<Image, Fail> {
             attributes: &[],
         })?;
     }
-    packed(alloc, 512, 8, &rows)
+    Ok(rows)
+}
+
+/// An image of 8 blocks of 512 bytes with what a folder's rows have.
+fn image_of(alloc: Global, folder: &[FolderRow]) -> Option<Image> {
+    match pack_rows(alloc, folder) {
+        Ok(rows) => packed(alloc, 512, 8, &rows),
+        Err(_) => None,
+    }
 }
 
 /// The image into which the folder `d` is packed.
-fn image_of_folder(alloc: Global, host: &mut MemoryHost) -> Result<Image, Fail> {
-    let folder = folder_rows(alloc, host, "d").map_err(|_| "a fault")?;
-    image_of(alloc, &folder)
+fn image_of_folder(alloc: Global, host: &mut MemoryHost) -> Option<Image> {
+    match folder_rows(alloc, host, "d") {
+        Ok(folder) => image_of(alloc, &folder),
+        Err(_) => None,
+    }
 }
 
-/// What is answered where an image's folder is made as the folder `out`.
-fn made_of(
-    alloc: Global,
-    image: &Image,
-    host: &mut MemoryHost,
-) -> Result<Result<(), ExtractFault>, Fail> {
-    let mounted = mount(alloc, image)?;
-    Ok(extract_rows(alloc, image, &mounted, "out", host))
+/// What an image's folder is refused for where it is made as the folder `out`.
+fn refusal_of(alloc: Global, image: &Image, host: &mut MemoryHost) -> Option<Option<ExtractFault>> {
+    match mount(alloc, image) {
+        Ok(mounted) => Some(extract_rows(alloc, image, &mounted, "out", host).err()),
+        Err(_) => None,
+    }
 }
 
-/// What is answered where the folder `d` is packed, and made again as the folder `out`, of the same host.
-fn made_again(alloc: Global, host: &mut MemoryHost) -> Result<Result<(), ExtractFault>, Fail> {
-    let image = image_of_folder(alloc, host)?;
-    made_of(alloc, &image, host)
+/// Whether the folder `d` is packed, and made again as the folder `out` of the same host, or refused so.
+fn is_made_again(alloc: Global, host: &mut MemoryHost, refusal: Option<ExtractFault>) -> bool {
+    match image_of_folder(alloc, host) {
+        Some(image) => refusal_of(alloc, &image, host) == Some(refusal),
+        None => false,
+    }
 }
 
 /// Whether just the first of these were made.
-fn are_made(host: &MemoryHost, count: usize) -> bool {
-    for (made, expected) in host.made.iter().zip(&MADE) {
+fn are_first(entries: &[MadeEntry], count: usize, expected: &[Expected]) -> bool {
+    for (made, expected) in entries.iter().zip(expected) {
         if !is_made(made, expected) {
             return false;
         }
     }
-    host.made.len() == count
+    entries.len() == count
+}
+
+/// Whether a host has made just the first of what is expected.
+fn are_made(host: &MemoryHost, count: usize) -> bool {
+    are_first(&host.made, count, &MADE)
+}
+
+/// Whether rows are those of the folder `d`.
+fn are_all_rows(rows: &[FolderRow]) -> bool {
+    are_rows(rows, &ROWS)
+}
+
+/// Whether the folder `d` of a host is read.
+fn is_read(alloc: Global, host: &mut MemoryHost) -> bool {
+    match folder_rows(alloc, host, "d") {
+        Ok(rows) => are_all_rows(&rows),
+        Err(_) => false,
+    }
+}
+
+/// Whether that of the host with these is, and nothing refused.
+fn folder_is_read(alloc: Global) -> bool {
+    match host_with_folders(alloc) {
+        Ok(mut host) => is_read(alloc, &mut host) && !host.has_refused,
+        Err(_) => false,
+    }
 }
 
 #[test]
-fn a_folder_in_memory_is_read(rt: HostRuntime) -> Result<(), Fail> {
-    let mut host = host_with_folders(rt.alloc())?;
-    let rows = folder_rows(rt.alloc(), &mut host, "d").map_err(|_| "a fault")?;
-    assert!(rt; are_rows(&rows, &ROWS));
-    assert!(rt; !host.has_refused);
-    Ok(())
+fn a_folder_in_memory_is_read(rt: HostRuntime) {
+    assert!(rt; folder_is_read(rt.alloc()));
 }
 
 /// Names of this host that are no folder's.
 const NO_FOLDERS: [&str; 4] = ["e", "d/a", "d/", "d/b/c/"];
 
 /// Whether a name is refused as that of a folder.
-fn is_no_folder(alloc: Global, name: &str) -> Result<bool, AllocError> {
-    let mut host = host_with_folders(alloc)?;
-    let fault = folder_rows(alloc, &mut host, name).err();
-    Ok(fault == Some(FolderFault::CannotRead) && host.has_refused)
-}
-
-#[test]
-fn what_is_no_folder_is_refused(rt: HostRuntime) -> Result<(), Fail> {
-    for name in &NO_FOLDERS {
-        assert!(rt; is_no_folder(rt.alloc(), name)?);
+fn is_no_folder(alloc: Global, host: &mut MemoryHost, name: &str) -> bool {
+    match folder_rows(alloc, host, name) {
+        Ok(_) => false,
+        Err(fault) => fault == FolderFault::CannotRead && host.has_refused,
     }
-    Ok(())
+}
+
+/// Whether this host refuses it.
+fn refuses(alloc: Global, name: &str) -> bool {
+    match host_with_folders(alloc) {
+        Ok(mut host) => is_no_folder(alloc, &mut host, name),
+        Err(_) => false,
+    }
 }
 
 #[test]
-fn what_is_packed_is_made_again(rt: HostRuntime) -> Result<(), Fail> {
-    let mut host = host_with_folders(rt.alloc())?;
-    let made = made_again(rt.alloc(), &mut host)?;
-    assert!(rt; made.is_ok() && are_made(&host, 5));
-    assert!(rt; host.files.len() == 5);
-    Ok(())
+fn what_is_no_folder_is_refused(rt: HostRuntime) {
+    for name in &NO_FOLDERS {
+        assert!(rt; refuses(rt.alloc(), name));
+    }
+}
+
+/// Whether the folder of this host is packed and made again, and its files stay.
+fn makes_again(alloc: Global) -> bool {
+    match host_with_folders(alloc) {
+        Ok(mut host) => {
+            is_made_again(alloc, &mut host, None) && are_made(&host, 5) && host.files.len() == 5
+        }
+        Err(_) => false,
+    }
+}
+
+#[test]
+fn what_is_packed_is_made_again(rt: HostRuntime) {
+    assert!(rt; makes_again(rt.alloc()));
 }
 
 /// Whether a host that refuses what stands behind so many others has made just these.
-fn stops_behind(alloc: Global, others: usize) -> Result<bool, Fail> {
-    let mut host = host_with_folders(alloc)?;
+fn stops_behind(alloc: Global, others: usize) -> bool {
+    let Ok(mut host) = host_with_folders(alloc) else {
+        return false;
+    };
     host.failing = Failing::Behind(others);
-    let fault = made_again(alloc, &mut host)?.err();
-    Ok(fault == Some(ExtractFault::CannotWrite) && host.has_refused && are_made(&host, others))
+    is_made_again(alloc, &mut host, Some(ExtractFault::CannotWrite))
+        && host.has_refused
+        && are_made(&host, others)
 }
 
 #[test]
-fn what_was_made_before_a_refusal_is_known(rt: HostRuntime) -> Result<(), Fail> {
+fn what_was_made_before_a_refusal_is_known(rt: HostRuntime) {
     for others in 0..5 {
-        assert!(rt; stops_behind(rt.alloc(), others)?);
+        assert!(rt; stops_behind(rt.alloc(), others));
     }
-    Ok(())
 }

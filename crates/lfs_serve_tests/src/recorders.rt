@@ -7,7 +7,6 @@ use lfs_fs::mount;
 use lfs_host::{HostFault, Known, NewFolder};
 use lfs_pack::PackRow;
 use std::alloc::Global;
-use std::test::Fail;
 
 /// A folder, or a file with its bytes.
 #[derive(Drop)]
@@ -85,7 +84,7 @@ impl NewFolder for Recorder {
 }
 
 /// An image whose root has a file with these bytes, `bytes`.
-fn image_of_a_file(alloc: Global) -> Result<Image, Fail> {
+fn image_of_a_file(alloc: Global) -> Option<Image> {
     let root = PackRow {
         path: b"/",
         bytes: None,
@@ -120,21 +119,35 @@ fn are_made(things: &[Thing], is_made: bool) -> bool {
     }
 }
 
-#[test]
-fn a_file_is_made_whole_or_not_at_all(rt: HostRuntime) -> Result<(), Fail> {
-    let alloc = rt.alloc();
-    let image = image_of_a_file(alloc)?;
-    let mounted = mount(alloc, &image)?;
-    for (room, is_made) in [(4, false), (5, true)] {
-        let mut host = Recorder {
-            alloc,
-            things: Vec::new(alloc),
-            bytes: Vec::new(alloc),
-            room,
-        };
-        let made = extract_rows(alloc, &image, &mounted, "out", &mut host);
-        assert!(rt; made.is_ok() == is_made);
-        assert!(rt; are_made(&host.things, is_made));
+/// A host that has room for so many bytes.
+fn empty(alloc: Global, room: usize) -> Recorder {
+    Recorder {
+        alloc,
+        things: Vec::new(alloc),
+        bytes: Vec::new(alloc),
+        room,
     }
-    Ok(())
+}
+
+/// Whether a host makes the whole file of an image, or nothing of it.
+fn makes(alloc: Global, image: &Image, host: &mut Recorder, is_made: bool) -> bool {
+    let Ok(mounted) = mount(alloc, image) else {
+        return false;
+    };
+    extract_rows(alloc, image, &mounted, "out", host).is_ok() == is_made
+        && are_made(&host.things, is_made)
+}
+
+/// Whether a host does with room for so many bytes.
+fn makes_in(alloc: Global, room: usize, is_made: bool) -> bool {
+    match image_of_a_file(alloc) {
+        Some(image) => makes(alloc, &image, &mut empty(alloc, room), is_made),
+        None => false,
+    }
+}
+
+#[test]
+fn a_file_is_made_whole_or_not_at_all(rt: HostRuntime) {
+    assert!(rt; makes_in(rt.alloc(), 4, false));
+    assert!(rt; makes_in(rt.alloc(), 5, true));
 }

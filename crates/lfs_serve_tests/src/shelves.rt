@@ -96,51 +96,43 @@ fn rows_stand_in_the_order_of_paths(rt: HostRuntime) {
     assert!(rt; is_read(rt.alloc(), &TREE, &ROWS));
 }
 
-/// What a host has, and what its folder `d` is refused for.
-type Unread = ([Item; 2], FolderFault);
+/// A folder, the names in it, a path with what it is, and what the folder `d` of a host that has these is refused for.
+type Unread = (
+    &'static str,
+    &'static [&'static str],
+    &'static str,
+    HostKind,
+    FolderFault,
+);
 
 const UNREAD: [Unread; 5] = [
+    ("d", &["a"], "d/a", HostKind::Other, FolderFault::HostEntry),
     (
-        [
-            Item("d", HostKind::Folder, b"", &["a"]),
-            Item("d/a", HostKind::Other, b"", &[]),
-        ],
-        FolderFault::HostEntry,
-    ),
-    (
-        [
-            Item("d", HostKind::Folder, b"", &["a", ".."]),
-            Item("d/a", HostKind::File, b"", &[]),
-        ],
+        "d",
+        &["a", ".."],
+        "d/a",
+        HostKind::File,
         FolderFault::HostName,
     ),
     (
-        [
-            Item("d", HostKind::Folder, b"", &["a", "a"]),
-            Item("d/a", HostKind::File, b"", &[]),
-        ],
+        "d",
+        &["a", "a"],
+        "d/a",
+        HostKind::File,
         FolderFault::CannotRead,
     ),
-    (
-        [
-            Item("d", HostKind::Folder, b"", &["b"]),
-            Item("d/a", HostKind::File, b"", &[]),
-        ],
-        FolderFault::CannotRead,
-    ),
-    (
-        [
-            Item("e", HostKind::Folder, b"", &["a"]),
-            Item("e/a", HostKind::File, b"", &[]),
-        ],
-        FolderFault::CannotRead,
-    ),
+    ("d", &["b"], "d/a", HostKind::File, FolderFault::CannotRead),
+    ("e", &["a"], "e/a", HostKind::File, FolderFault::CannotRead),
 ];
 
 /// Whether such a folder is refused so.
 fn is_refused(alloc: Global, row: &Unread) -> bool {
-    let (items, fault) = row;
-    folder_rows(alloc, &mut Shelf(items), "d").err() == Some(*fault)
+    let (folder, names, path, kind, fault) = *row;
+    let items = [
+        Item(folder, HostKind::Folder, b"", names),
+        Item(path, kind, b"", &[]),
+    ];
+    folder_rows(alloc, &mut Shelf(&items), "d").err() == Some(fault)
 }
 
 #[test]

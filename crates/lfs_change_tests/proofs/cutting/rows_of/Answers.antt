@@ -7,6 +7,6 @@ use Rattle.lfs_change_tests.proofs.NeedLemmas.{few_pass}
 use Rattle.lfs_change_tests.proofs.cutting.rows_of.Goals as goal
 
 pub choose-requires-clause-few : goal.choose-requires-clause-few
-choose-requires-clause-few g c =
+choose-requires-clause-few c =
     let o = c.args.outline.now in
     omega (arith, c.requires.parts, few_pass (λ p. nat_lt 1 (length (runs o p))) (λ p. p.dirty) (thread o.directories))

@@ -5,7 +5,7 @@ use Rattle.lfs_read_tests.proofs.trees.directories_again.Goals as goal
 pub outline_of-requires : goal.outline_of-requires
 outline_of-requires c = record {
   outline = (
-    c.in_ok-_mounted._mounted.outline,
-    mounted_outline c.args.image.now.disk c.in_ok-_mounted._mounted c.in_ok-_mounted.ensures.mounted,
+    c.in-Ok._mounted.outline,
+    mounted_outline c.args.image.now.disk c.in-Ok._mounted c.in-Ok.ensures.mounted,
   );
 }
