@@ -10,6 +10,7 @@ use crate::host_fault::HostFault;
 use crate::lock::Lock;
 use crate::new_folder::NewFolder;
 use crate::read_fault::ReadFault;
+use lfs_sink::Text;
 use std::alloc::Global;
 use std::fmt::Display;
 
@@ -65,10 +66,10 @@ pub trait Host: Folders + NewFolder {
         ensures noted { Notes (reading_refused result) (Self.known self.old) (Self.known self.new) }
         ensures kept { ((Self.known self.new).files ≡ (Self.known self.old).files) × ((Self.known self.new).printed ≡ (Self.known self.old).printed) };
 
-    /// Makes a file of these bytes, with the rights of the file `like` where there is one; what an earlier run left under
+    /// Makes a file of a text, with the rights of the file `like` where there is one; what an earlier run left under
     /// the name is replaced. Where it is refused nothing is left under the name, or what was there.
-    fn write(&mut self, name: &str, bytes: &[u8], like: &str) -> Result<(), HostFault>
-        ensures files { MatchResult result (λ _. Writes (Self.known self.old).files (Self.known self.new).files name.now bytes.now)
+    fn write<T: Text>(&mut self, name: &str, text: &T, like: &str) -> Result<(), HostFault>
+        ensures files { MatchResult result (λ _. Writes (Self.known self.old).files (Self.known self.new).files name.now (T.bytes text.now))
             (λ _. KeepsOthers (Self.known self.old).files (Self.known self.new).files name.now) }
         ensures noted { Notes (is_err result) (Self.known self.old) (Self.known self.new) }
         ensures kept { KeepsText (Self.known self.old) (Self.known self.new) };

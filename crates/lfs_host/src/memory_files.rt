@@ -5,6 +5,7 @@ ghost use Rattle.lfs_host.specs.Files.{HasRenamed, HasWritten, StaysBut};
 ghost use Rattle.lfs_host.specs.MemoryFiles.{files_of};
 
 use crate::host_fault::HostFault;
+use lfs_sink::{MemorySink, Text};
 use std::alloc::{AllocError, Global};
 use std::collections::BTreeMap;
 
@@ -27,6 +28,23 @@ pub(crate) fn put(
     let bytes = Vec::from_slice(alloc, bytes)?;
     files.insert(key, bytes)?;
     Ok(())
+}
+
+/// Makes or replaces a file of a text. Where memory is refused all stays.
+pub(crate) fn put_text<T: Text>(
+    alloc: Global,
+    files: &mut MemoryFiles,
+    name: &str,
+    text: &T,
+) -> Result<(), AllocError>
+    ensures written { OnOk result (HasWritten name.now (T.bytes text.now) (files_of files.old) (files_of files.new)) }
+    ensures kept { OnErr result (files_of files.new ≡ files_of files.old) }
+{
+    let mut out = MemorySink::new(alloc);
+    if !text.send_to(&mut out) {
+        return Err(AllocError);
+    }
+    put(alloc, files, name, &out.bytes)
 }
 
 /// Takes a file away, where it is there.

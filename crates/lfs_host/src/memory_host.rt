@@ -15,10 +15,11 @@ use crate::known::Known;
 use crate::list_fault::ListFault;
 use crate::lock::Lock;
 use crate::made_entry::MadeEntry;
-use crate::memory_files::{MemoryFiles, move_file, put, take};
+use crate::memory_files::{MemoryFiles, move_file, put, put_text, take};
 use crate::memory_tree::{below, kind_of, names_in};
 use crate::new_folder::NewFolder;
 use crate::read_fault::ReadFault;
+use lfs_sink::Text;
 use std::alloc::{AllocError, Global};
 use std::collections::BTreeMap;
 use std::fmt::{Display, Write};
@@ -280,9 +281,9 @@ impl Host for MemoryHost {
         Vec::from_slice(alloc, beginning(self.typed, most)).map_err(|_| ReadFault::Memory)
     }
 
-    fn write(&mut self, name: &str, bytes: &[u8], _like: &str) -> Result<(), HostFault> {
+    fn write<T: Text>(&mut self, name: &str, text: &T, _like: &str) -> Result<(), HostFault> {
         self.must_work()?;
-        match put(self.alloc, &mut self.files, name, bytes) {
+        match put_text(self.alloc, &mut self.files, name, text) {
             Ok(()) => Ok(()),
             Err(_) => {
                 self.has_refused = true;

@@ -6,6 +6,5 @@ mod lines;
 mod log;
 mod mounting;
 mod telling;
-mod text;
 
 pub use log::log_of;

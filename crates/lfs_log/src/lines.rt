@@ -3,9 +3,8 @@
 ghost use Rattle.std.specs.Prelude.{◌≡◌, ◌++◌, false, not, if◌then◌else◌, nat_le, codes, IsTrue};
 ghost use Rattle.lfs_log.specs.Log.{change_line};
 
-use crate::text::Text;
 use itoa::Buffer;
-use lfs_sink::send;
+use lfs_sink::{MemorySink, send};
 
 /// What a line says of a change where the first `done` are done.
 fn state_of(number: usize, done: usize) -> &'static [u8]
@@ -20,7 +19,7 @@ fn state_of(number: usize, done: usize) -> &'static [u8]
 
 /// Adds the line of a change, and answers whether memory was enough for it. The caller owes that the text has not failed
 /// before.
-pub(crate) fn tell_line(text: &mut Text, number: usize, done: usize) -> bool
+pub(crate) fn tell_line(text: &mut MemorySink, number: usize, done: usize) -> bool
     requires { text.old.has_failed ≡ false }
     ensures line { IsTrue result → text.new.bytes.items ≡ text.old.bytes.items ++ change_line number done }
     ensures failed { text.new.has_failed ≡ not result }

@@ -8,11 +8,11 @@ ghost use Rattle.lfs_log.specs.Log.{IsLog};
 use crate::course::Course;
 use crate::mounting::erased_block;
 use crate::telling::tell_all;
-use crate::text::Text;
 use lfs_block::{Blocks, Image};
 use lfs_fs::mounted_images_have_no_cause;
 use lfs_history::OpenFault;
 use lfs_journal::{Changes, read_changes};
+use lfs_sink::MemorySink;
 use std::alloc::Global;
 
 /// The text of the history that the bytes of a journal denote on an image: for each change, from the oldest on, a line with its
@@ -39,7 +39,7 @@ pub fn log_of(alloc: Global, image: &mut Image, journal: &[u8]) -> Result<Vec<u8
         done,
         erased: &erased,
     };
-    let mut text = Text::new(alloc);
+    let mut text = MemorySink::new(alloc);
     tell_all(alloc, image, &course, done, &mut text)?;
     Ok(text.bytes)
 }

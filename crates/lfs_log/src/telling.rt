@@ -15,7 +15,6 @@ ghost use Rattle.lfs_log.specs.Log.{change_line};
 use crate::course::Course;
 use crate::lines::tell_line;
 use crate::mounting::mount_image;
-use crate::text::Text;
 use lfs_block::{
     Image, MountFault, Overlay, Patch, applied_patches_change_their_blocks, applied_patches_revert,
     reverted_patches_apply_again,
@@ -23,6 +22,7 @@ use lfs_block::{
 use lfs_fs::Mounted;
 use lfs_history::OpenFault;
 use lfs_listing::{MountedImage, send_difference};
+use lfs_sink::MemorySink;
 use std::alloc::Global;
 
 /// Adds the line of a change, and what differs between the image before it and the one after it. The caller owes that the
@@ -34,7 +34,7 @@ fn tell_change(
     first: &MountedImage<'_, Image>,
     second: &MountedImage<'_, Overlay<'_, Image>>,
     patch: &Patch,
-    text: &mut Text,
+    text: &mut MemorySink,
 ) -> Result<(), OpenFault>
     requires works { text.old.has_failed ≡ false }
     requires first { IsMountOf first.now.disk.now.disk first.now.mounted.now }
@@ -62,7 +62,7 @@ fn tell_on(
     mounted: &mut Mounted,
     course: &Course<'_>,
     at: usize,
-    text: &mut Text,
+    text: &mut MemorySink,
 ) -> Result<(), OpenFault>
     requires between { IsBetween image.old.disk course.now.patches.now at }
     requires mounted { IsMountOf image.old.disk mounted.old }
@@ -106,7 +106,7 @@ pub(crate) fn tell_all(
     image: &mut Image,
     course: &Course<'_>,
     at: usize,
-    text: &mut Text,
+    text: &mut MemorySink,
 ) -> Result<(), OpenFault>
     requires between { IsBetween image.old.disk course.now.patches.now at }
     requires room { HasRoom image.old.room course.now.patches.now }

@@ -1,7 +1,10 @@
--- What writes, one after another, send of a text.
-use Rattle.std.proofs.Common.{◌≡◌, ℕ, ◌+◌, List, [], ◌++◌, Option, None, Some, take, drop, sym, ap, subst, ◌∙◌, append_assoc, append-nil}
-use Rattle.std.proofs.Math.Seq.{take-add}
+-- What writes, one after another, send of a text, and what is sent of texts that stand one behind another.
+use Rattle.std.proofs.Common.{◌≡◌, ℕ, ◌+◌, Bool, true, false, List, [], ◌++◌, Option, None, Some, length, take, drop, sym, ap, subst, ◌∙◌, arith}
+use Rattle.std.proofs.Common.{append_assoc, append-nil, length-append}
+use Rattle.std.proofs.Math.Seq.{take-add, take-append-add}
+use Rattle.std.proofs.lemmas.List.{take-append-le}
 use Rattle.std.specs.Io.KnownBytes.{Appends}
+use Rattle.lfs_sink.specs.Send.{Sends, SendsBeginning}
 
 pub appends_none : (a : Option (List ℕ)) → Appends a a []
 appends_none None = tt
@@ -20,3 +23,19 @@ sends_more a b c text rest n k e p q =
     let joined = appends_then a b c (take n text) (take k rest) p q in
     let whole : take n text ++ take k rest ≡ take (n + k) text = ap (λ l. take n text ++ take k l) e ∙ sym (take-add n k text) in
     subst (Appends a c) whole joined
+
+-- a beginning of a text is one of the text with another one behind it
+pub sends_front : (a b : Option (List ℕ)) (first second : List ℕ) → SendsBeginning a b first → SendsBeginning a b (first ++ second)
+sends_front a b first second (n, less, sent) =
+    let longer : length (first ++ second) ≡ length first + length second = length-append first second in
+    let same : take n (first ++ second) ≡ take n first = take-append-le n first second (omega (arith, less)) in
+    (n, omega (arith, less, longer), subst (Appends a b) (sym same) sent)
+
+-- behind a text that went out, another one goes out, or a beginning of it
+pub sends_then : (whole : Bool) (a b c : Option (List ℕ)) (first second : List ℕ) → Appends a b first → Sends whole b c second
+    → Sends whole a c (first ++ second)
+sends_then true a b c first second front sent = appends_then a b c first second front sent
+sends_then false a b c first second front (n, less, sent) =
+    let longer : length (first ++ second) ≡ length first + length second = length-append first second in
+    let same : take (length first + n) (first ++ second) ≡ first ++ take n second = take-append-add first second n in
+    (length first + n, omega (arith, less, longer), subst (Appends a c) (sym same) (appends_then a b c first (take n second) front sent))

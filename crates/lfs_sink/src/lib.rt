@@ -1,10 +1,14 @@
-//! Where text goes: a sink of bytes, one over std's writers, and sending a whole text.
+//! Where text goes: a sink of bytes, one over std's writers and one in memory, what can be sent, and sending a whole text.
 #![tactic(auto)]
 
+mod memory_sink;
 mod sending;
 mod sink;
+mod text;
 mod writer_sink;
 
+pub use memory_sink::MemorySink;
 pub use sending::send;
 pub use sink::Sink;
+pub use text::Text;
 pub use writer_sink::Out;

@@ -1,31 +1,35 @@
 //! A text in memory.
 
-use lfs_sink::Sink;
+use crate::sink::Sink;
 use std::alloc::Global;
 
 /// A text in memory, as a sink: it has failed once a growth was refused.
+///
+/// Source: own.
 #[derive(Drop)]
-pub(crate) struct Text {
-    pub(crate) bytes: Vec<u8>,
-    pub(crate) has_failed: bool,
+pub struct MemorySink {
+    /// The bytes that went out.
+    pub bytes: Vec<u8>,
+    /// Whether a growth was refused.
+    pub has_failed: bool,
 }
 
-impl Text {
+impl MemorySink {
     ghost use Rattle.std.specs.Prelude.{◌≡◌, [], false};
 
     /// An empty text. Takes no memory.
-    pub(crate) fn new(alloc: Global) -> Text
+    pub fn new(alloc: Global) -> MemorySink
         ensures empty { result.bytes.items ≡ [] }
         ensures works { result.has_failed ≡ false }
     {
-        Text {
+        MemorySink {
             bytes: Vec::new(alloc),
             has_failed: false,
         }
     }
 }
 
-impl Sink for Text {
+impl Sink for MemorySink {
     ghost use Rattle.std.specs.Prelude.{Some};
 
     ghost sent = { λ text. Some text.bytes.items };
