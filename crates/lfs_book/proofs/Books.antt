@@ -1,8 +1,7 @@
 -- A book that is read is spelled so, and one that is spelled so is read.
 use Rattle.std.proofs.Common.{◌≡◌, inl, inr, ℕ, ◌+◌, ◌≤◌, true, cond, eqb, List, [], ◌++◌, length, take}
 use Rattle.std.proofs.Common.{drop, Some, None, Result, Ok, Err, refl, sym, ap, subst, ◌∙◌, arith}
-use Rattle.std.specs.Prelude.{codes, IfOk, IfErr}
-use Rattle.std.specs.Int.{w32, to_le_bytes}
+use Rattle.std.specs.Prelude.{IfOk, IfErr}
 use Rattle.std.specs.List.{flat_map, AllByRecursion}
 use Rattle.std.proofs.lemmas.Bool.{eqb-true}
 use Rattle.std.proofs.lemmas.List.{append-nil, nil_from_length, take_at, drop_at, take-append-drop, length-append, length-take, length-drop}
@@ -10,7 +9,7 @@ use Rattle.std.proofs.lemmas.Option.{cond_some, same_Some}
 use Rattle.lfs_block.specs.Bytes.{IsBytes}
 use Rattle.lfs_block.specs.Geometry.{IsGeometry}
 use Rattle.lfs_block.specs.Patch.{ChangeSet}
-use Rattle.lfs_book.specs.Book.{Book, book_of, patch_bytes, patch_bytes_in, bytes_in, journal_bytes, IsPatchOf, KeepsAt, IsVersionOf, IsBook, Spells}
+use Rattle.lfs_book.specs.Book.{Book, book_of, patch_bytes_in, bytes_in, IsPatchOf, KeepsAt, IsVersionOf, IsBook, Spells}
 use Rattle.lfs_book.specs.Reading.{◌>>=◌, patches_at, Head, head_at, read_book}
 use Rattle.lfs_book.specs.declared.journal_fault.JournalFault.{JournalFault}
 use Rattle.lfs_book.specs.declared.journal_fault.JournalFault.TheVariants.{JournalFormat, Memory}
@@ -149,22 +148,6 @@ book_again bytes j spells = ap read_book (sym spells.bytes_are) ∙ again_in spe
 
 pub books_once : BooksAreReadOnce
 books_once bytes i j first second = same_Some i j (sym (book_again bytes i first) ∙ book_again bytes j second)
-
--- bytes, and behind them what stands before the changes
-abbrev pub headed : List ℕ → Head → List ℕ
-headed out h =
-    out ++ codes "lfsj" ++ to_le_bytes w32 2 ++ to_le_bytes w32 h.size ++ to_le_bytes w32 h.count ++ to_le_bytes w32 h.done
-    ++ to_le_bytes w32 h.undone
-
--- what stands before the changes, and the changes behind it
-pub book_of-written : (size count done undone : ℕ) (ps : List ChangeSet) (empty front whole : List ℕ) → length ps ≡ done + undone
-    → empty ≡ []
-    → front ≡ headed empty (head_with 2 size count done undone) → whole ≡ front ++ flat_map patch_bytes ps
-    → whole ≡ journal_bytes (book_of size count ps done)
-book_of-written size count done undone ps empty front whole len none first second =
-    let head : Head = head_with 2 size count done undone in
-    let began : front ≡ head_bytes head = first ∙ ap (λ (x : List ℕ). headed x head) none in
-    second ∙ ap (λ (x : List ℕ). x ++ flat_map patch_bytes ps) began ∙ sym (book_of-spelled 2 size count done undone ps len)
 
 -- ---- what a reader found
 

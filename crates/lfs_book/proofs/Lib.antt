@@ -4,6 +4,7 @@ pub mod Geometries
 pub mod Counts
 pub mod Changes
 pub mod Patches
+pub mod Sent
 pub mod Heads
 pub mod Books
 pub mod Loops

@@ -2,8 +2,9 @@
 
 use crate::journal_fault::JournalFault;
 use crate::reading::{head_at, patches_at};
-use crate::writing::write_journal;
+use crate::writing::{send_journal, write_journal};
 use lfs_block::Patch;
+use lfs_sink::{Sink, Text};
 use std::alloc::Global;
 use std::marker::Model;
 
@@ -131,5 +132,15 @@ impl Journal {
             done,
         } = self;
         (patches, done)
+    }
+}
+
+impl Text for Journal {
+    ghost use Rattle.lfs_book.specs.Book.{journal_bytes};
+
+    ghost bytes = { λ journal. journal_bytes journal };
+
+    fn send_to<S: Sink>(&self, out: &mut S) -> bool {
+        send_journal(out, self.size, self.count, &self.patches, self.done)
     }
 }

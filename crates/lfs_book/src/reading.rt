@@ -13,7 +13,7 @@ use lfs_block::{Patch, Record, geometry_ok, little_word};
 use std::alloc::Global;
 
 /// The first word of a journal: the letters `lfsj`.
-const LETTERS: u32 = 0x6a73_666c;
+pub(crate) const LETTERS: u32 = 0x6a73_666c;
 /// The version of the format that has no counts at its changes.
 const FIRST_VERSION: u32 = 1;
 /// The version of the format that is written.

@@ -1,123 +1,130 @@
 //! Journals as they are written.
 
-ghost use Rattle.std.specs.Prelude.{◌≡◌, ◌<◌, ◌^◌, ◌++◌, length, flat_map, All, IfOk, OnOk, IfSome, codes};
+ghost use Rattle.std.specs.Prelude.{◌≡◌, ◌<◌, ◌^◌, ◌++◌, length, flat_map, false, not, All, IfSome, codes};
 ghost use Rattle.std.specs.Int.{w32, to_le_bytes};
+ghost use Rattle.lfs_sink.specs.Send.{Sends};
 ghost use Rattle.lfs_book.specs.Book.{IsBookOf, book_of, change_bytes, patch_bytes, journal_bytes};
 
-use crate::reading::VERSION;
+use crate::reading::{LETTERS, VERSION};
+use byteorder::{ByteOrder, LittleEndian};
 use lfs_block::{Patch, Record};
-use std::alloc::{AllocError, Global};
+use lfs_sink::{MemorySink, Sink, send};
+use std::alloc::Global;
 
-/// Adds a number of four bytes, the lowest first.
-fn put_word(out: &mut Vec<u8>, word: u32) -> Result<(), AllocError>
-    ensures { OnOk result (out.new.items ≡ out.old.items ++ to_le_bytes w32 word) }
+/// Sends the change of one block.
+fn send_record<S: Sink>(out: &mut S, change: &Record) -> bool
+    requires { S.failed out.old ≡ false }
+    ensures sent { Sends result (S.sent out.old) (S.sent out.new) (change_bytes change.now) }
+    ensures failed { S.failed out.new ≡ not result }
+    ensures kept { S.kept out.new ≡ S.kept out.old }
 {
-    out.extend_from_slice(&word.to_le_bytes())
+    if !send(out, &change.number.to_le_bytes()) {
+        return false;
+    }
+    if !send(out, &change.old) {
+        return false;
+    }
+    send(out, &change.new)
 }
 
-/// Adds the change of one block.
-fn put_record(out: &mut Vec<u8>, change: &Record) -> Result<(), AllocError>
-    ensures { OnOk result (out.new.items ≡ out.old.items ++ change_bytes change.now) }
-{
-    put_word(out, change.number)?;
-    out.extend_from_slice(&change.old)?;
-    out.extend_from_slice(&change.new)
-}
-
-/// Adds the changes of one block each.
-fn put_records(out: &mut Vec<u8>, records: &[Record]) -> Result<(), AllocError>
-    ensures { OnOk result (out.new.items ≡ out.old.items ++ flat_map change_bytes records.now) }
+/// Sends the changes of one block each.
+fn send_records<S: Sink>(out: &mut S, records: &[Record]) -> bool
+    requires { S.failed out.old ≡ false }
+    ensures sent { Sends result (S.sent out.old) (S.sent out.new) (flat_map change_bytes records.now) }
+    ensures failed { S.failed out.new ≡ not result }
+    ensures kept { S.kept out.new ≡ S.kept out.old }
 {
     for record in records {
-        put_record(out, record)?;
+        if !send_record(out, record) {
+            return false;
+        }
     }
-    Ok(())
+    true
 }
 
-/// Adds the numbers of blocks before a change and after it.
-fn put_counts(out: &mut Vec<u8>, patch: &Patch) -> Result<(), AllocError>
-    ensures { OnOk result (out.new.items ≡ out.old.items ++ to_le_bytes w32 patch.now.before ++ to_le_bytes w32 patch.now.after) }
-{
-    put_word(out, patch.before())?;
-    put_word(out, patch.after())
-}
-
-/// Adds a change: the number of its blocks, the counts before and after it, then each of the blocks.
-fn put_patch(out: &mut Vec<u8>, patch: &Patch) -> Result<(), AllocError>
+/// What stands before a change's blocks: their number, and how many blocks the image has before the change and after it.
+fn patch_head(patch: &Patch) -> [u8; 12]
     requires { length patch.now.changes < 2 ^ 32 }
-    ensures { OnOk result (out.new.items ≡ out.old.items ++ patch_bytes patch.now) }
+    ensures { result ≡ to_le_bytes w32 (length patch.now.changes) ++ to_le_bytes w32 patch.now.before ++ to_le_bytes w32 patch.now.after }
 {
-    let records = patch.records();
-    put_word(out, records.len() as u32)?;
-    put_counts(out, patch)?;
-    put_records(out, records)
+    let words = [patch.records().len() as u32, patch.before(), patch.after()];
+    let mut bytes = [0; 12];
+    LittleEndian::write_u32_into(&words, &mut bytes);
+    bytes
 }
 
-/// Adds changes.
-fn put_patches(out: &mut Vec<u8>, patches: &[Patch]) -> Result<(), AllocError>
-    requires { All (λ p. length p.changes < 2 ^ 32) patches.now }
-    ensures { OnOk result (out.new.items ≡ out.old.items ++ flat_map patch_bytes patches.now) }
+/// Sends a change: what stands before its blocks, then each of them.
+fn send_patch<S: Sink>(out: &mut S, patch: &Patch) -> bool
+    requires few { length patch.now.changes < 2 ^ 32 }
+    requires works { S.failed out.old ≡ false }
+    ensures sent { Sends result (S.sent out.old) (S.sent out.new) (patch_bytes patch.now) }
+    ensures failed { S.failed out.new ≡ not result }
+    ensures kept { S.kept out.new ≡ S.kept out.old }
+{
+    send(out, &patch_head(patch)) && send_records(out, patch.records())
+}
+
+/// Sends changes.
+fn send_patches<S: Sink>(out: &mut S, patches: &[Patch]) -> bool
+    requires few { All (λ p. length p.changes < 2 ^ 32) patches.now }
+    requires works { S.failed out.old ≡ false }
+    ensures sent { Sends result (S.sent out.old) (S.sent out.new) (flat_map patch_bytes patches.now) }
+    ensures failed { S.failed out.new ≡ not result }
+    ensures kept { S.kept out.new ≡ S.kept out.old }
 {
     for patch in patches {
-        put_patch(out, patch)?;
+        if !send_patch(out, patch) {
+            return false;
+        }
     }
-    Ok(())
+    true
 }
 
-/// Adds what stands before the changes: the letters and the version, the block size and the number of blocks, how many
-/// changes are done and how many are undone.
-fn put_head(
-    out: &mut Vec<u8>,
-    size: u32,
-    count: u32,
-    done: u32,
-    undone: u32,
-) -> Result<(), AllocError>
-    ensures { OnOk result (out.new.items ≡ out.old.items ++ codes "lfsj" ++ to_le_bytes w32 2 ++ to_le_bytes w32 size
-        ++ to_le_bytes w32 count ++ to_le_bytes w32 done ++ to_le_bytes w32 undone) }
+/// What stands before the changes: the letters and the version, the block size and the number of blocks, how many changes are done and
+/// how many are undone.
+fn head(size: u32, count: u32, done: u32, undone: u32) -> [u8; 24]
+    ensures { result ≡ codes "lfsj" ++ to_le_bytes w32 2 ++ to_le_bytes w32 size ++ to_le_bytes w32 count ++ to_le_bytes w32 done
+        ++ to_le_bytes w32 undone }
 {
-    out.extend_from_slice(b"lfsj")?;
-    put_word(out, VERSION)?;
-    put_word(out, size)?;
-    put_word(out, count)?;
-    put_word(out, done)?;
-    put_word(out, undone)
+    let words = [LETTERS, VERSION, size, count, done, undone];
+    let mut bytes = [0; 24];
+    LittleEndian::write_u32_into(&words, &mut bytes);
+    bytes
 }
 
-/// How many bytes the journal of changes has, in blocks of `size` bytes: room for them is made at once, so that they aren't moved as they
-/// come. More than there can be count as the most.
-fn length_of(size: u32, patches: &[Patch]) -> usize {
-    let record = 4usize.saturating_add((size as usize).saturating_mul(2));
-    let mut length: usize = 24;
-    for patch in patches {
-        let records = patch.records().len().saturating_mul(record);
-        length = length.saturating_add(12).saturating_add(records);
-    }
-    length
+/// Sends a journal's bytes: of its changes, the first `done` are done. The number of blocks of each fits a word.
+fn send_few<S: Sink>(out: &mut S, size: u32, count: u32, patches: &[Patch], done: usize) -> bool
+    requires book { IsBookOf size count patches.now done }
+    requires few { All (λ p. length p.changes < 2 ^ 32) patches.now }
+    requires works { S.failed out.old ≡ false }
+    ensures sent { Sends result (S.sent out.old) (S.sent out.new) (journal_bytes (book_of size count patches.now done)) }
+    ensures failed { S.failed out.new ≡ not result }
+    ensures kept { S.kept out.new ≡ S.kept out.old }
+{
+    let undone = patches.len() - done;
+    send(out, &head(size, count, done as u32, undone as u32)) && send_patches(out, patches)
 }
 
-/// A journal's bytes: of its changes, the first `done` are done. The number of blocks of each fits a word.
-fn bytes_of(
-    alloc: Global,
+/// Sends the bytes of the journal of an image of `count` blocks of `size` bytes, in version 2: of its changes, the first `done` are
+/// done, and the others undone, in the order in which they are made again. They go out as they stand in the changes, and aren't gathered
+/// before. The caller owes that they are a journal, and that the sink has not failed before. Takes no memory.
+pub(crate) fn send_journal<S: Sink>(
+    out: &mut S,
     size: u32,
     count: u32,
     patches: &[Patch],
     done: usize,
-) -> Result<Vec<u8>, AllocError>
+) -> bool
     requires book { IsBookOf size count patches.now done }
-    requires few { All (λ p. length p.changes < 2 ^ 32) patches.now }
-    ensures { IfOk result (λ bytes. bytes.items ≡ journal_bytes (book_of size count patches.now done)) }
+    requires works { S.failed out.old ≡ false }
+    ensures sent { Sends result (S.sent out.old) (S.sent out.new) (journal_bytes (book_of size count patches.now done)) }
+    ensures failed { S.failed out.new ≡ not result }
+    ensures kept { S.kept out.new ≡ S.kept out.old }
 {
-    let mut out = Vec::with_capacity(alloc, length_of(size, patches))?;
-    let undone = patches.len() - done;
-    put_head(&mut out, size, count, done as u32, undone as u32)?;
-    put_patches(&mut out, patches)?;
-    Ok(out)
+    send_few(out, size, count, patches, done)
 }
 
-/// The bytes of the journal of an image of `count` blocks of `size` bytes, in version 2: of its changes, the first `done` are
-/// done, and the others undone, in the order in which they are made again. The caller owes that they are a journal. `None`
-/// where memory is refused.
+/// The bytes of the journal that `send_journal` sends. The caller owes that the changes are a journal. `None` where memory is refused.
 ///
 /// Source: own.
 pub fn write_journal(
@@ -130,5 +137,10 @@ pub fn write_journal(
     requires { IsBookOf size count patches.now done }
     ensures { IfSome result (λ bytes. bytes.items ≡ journal_bytes (book_of size count patches.now done)) }
 {
-    bytes_of(alloc, size, count, patches, done).ok()
+    let mut out = MemorySink::new(alloc);
+    if send_journal(&mut out, size, count, patches, done) {
+        Some(out.bytes)
+    } else {
+        None
+    }
 }

@@ -1,28 +1,24 @@
 -- What a step on an image answers, from what is said of its session, and what it answers on bytes.
 use Rattle.std.proofs.Common.{◌≡◌, ◌≢◌, ◌==◌, ℕ, Bool, false, List, [], ◌∷◌, length, Option, Some, None, inl, inr, refl, sym, subst, ap}
-use Rattle.std.proofs.Common.{◌∙◌, ◌<◌, Result, Ok, Err, OnOk, IfErr, arith}
+use Rattle.std.proofs.Common.{◌∙◌}
 use Rattle.lfs_block.specs.Disk.{Disk, IsDisk}
 use Rattle.lfs_block.specs.declared.mount_fault.MountFault.{MountFault}
 use Rattle.lfs_block.specs.declared.mount_fault.MountFault.TheVariants.{Memory as No_memory}
 use Rattle.lfs_fs.specs.Cause.{HasCause}
-use Rattle.lfs_command.specs.Command.{Asked}
 use Rattle.lfs_history.specs.declared.open_fault.OpenFault.{OpenFault}
 use Rattle.lfs_history.specs.declared.open_fault.OpenFault.TheVariants as opening
 use Rattle.lfs_history.specs.declared.step_fault.StepFault.{StepFault}
 use Rattle.lfs_history.specs.declared.step_fault.StepFault.TheVariants.{Refused as Refused_step, NothingToUndo, NothingToRedo, JournalFull}
 use Rattle.lfs_history.specs.History.{History, IsHistory}
-use Rattle.lfs_history.specs.Moves.{Undoes, Redoes, Repeats, kept_images, but_one}
 use Rattle.lfs_history.specs.Opening.{Opens, RefusesOpening}
-use Rattle.lfs_history.specs.Taking.{Move, Does, Takes}
-use Rattle.lfs_history.proofs.KeptLemmas.{image_kept}
+use Rattle.lfs_history.specs.Taking.{Move, Takes}
 use Rattle.lfs_history.proofs.RefusedLemmas.{refused_keeps}
-use Rattle.lfs_history.proofs.RepeatLemmas.{undone_future, redone_past, undone_and_redone, redone_and_undone}
 use Rattle.lfs_change.specs.declared.fault.Fault.{Fault}
 use Rattle.lfs_change.specs.declared.fault.Fault.TheVariants as fault
 use Rattle.lfs_change.specs.declared.fault.Fault.TheVariants.{Image, Refused}
 use Rattle.lfs_change.specs.Fault.{fault_of_step, fault_of_mount, fault_of_opening}
 use Rattle.lfs_change.specs.declared.outcome.Outcome.{Outcome}
-use Rattle.lfs_change.specs.Change.{DenotesOn, IsChanged, IsSaved, RefusesSaving, RefusesDenoting, RefusesImage, AnswersImage}
+use Rattle.lfs_change.specs.Change.{DenotesOn, IsChanged, RefusesTaking, RefusesDenoting, RefusesImage, AnswersImage}
 use Rattle.lfs_change.specs.Change.{RefusesChange, AnswersChange, journal_read}
 use Rattle.lfs_change.proofs.BytesLemmas.{image_of_disk}
 
@@ -31,39 +27,12 @@ use Rattle.lfs_change.proofs.BytesLemmas.{image_of_disk}
 refused_here : (step : Move) (f : StepFault) (old new : History) → Takes step (Some f) old new → Takes step (Some f) old old
 refused_here step f old new takes = subst (λ (h : History). Takes step (Some f) old h) (refused_keeps step f old new takes) takes
 
-pub refused_saving : (step : Move) (f : StepFault) (old new : History) → Takes step (Some f) old new
-    → RefusesSaving step old (fault_of_step f)
-refused_saving step (Refused_step r) old new takes = inr (refused_here step (Refused_step r) old new takes)
-refused_saving step NothingToUndo old new takes = refused_here step NothingToUndo old new takes
-refused_saving step NothingToRedo old new takes = refused_here step NothingToRedo old new takes
-refused_saving step JournalFull old new takes = refused_here step JournalFull old new takes
-
--- ---- a step that is taken back
-
--- behind a command stands the image before it
-pub does_in_front : (asked : Asked) (keep : Option ℕ) (before mid : History) → Does asked keep before mid
-    → mid.past ≡ before.present ∷ kept_images (but_one keep) before.past
-does_in_front asked keep before mid does = does.pushes.past ∙ image_kept keep before before.present before.past does.room
-
--- behind changes that were taken back so many can be made again, and that leaves the image before
-pub redone_present : (n : ℕ) (before mid new : History) (reply : Result (Unit {0}) StepFault) → Repeats Undoes n before mid
-    → OnOk reply (Repeats Redoes n mid new)
-    → IfErr reply (λ f. (f ≡ NothingToRedo) × (length mid.future < n) × (new ≡ mid)) → new.present ≡ before.present
-redone_present n before mid new (Ok unit) undone again none = ap (λ (h : History). h.present) (undone_and_redone n before mid new undone again)
-redone_present n before mid new (Err f) undone again none =
-    let left = undone_future n before mid undone in
-    let few = none.1 in
-    absurd (omega arith)
-
--- and the other way round
-pub undone_present : (n : ℕ) (before mid new : History) (reply : Result (Unit {0}) StepFault) → Repeats Redoes n before mid
-    → OnOk reply (Repeats Undoes n mid new)
-    → IfErr reply (λ f. (f ≡ NothingToUndo) × (length mid.past < n) × (new ≡ mid)) → new.present ≡ before.present
-undone_present n before mid new (Ok unit) made again none = ap (λ (h : History). h.present) (redone_and_undone n before mid new made again)
-undone_present n before mid new (Err f) made again none =
-    let left = redone_past n before mid made in
-    let few = none.1 in
-    absurd (omega arith)
+pub refused_taking : (step : Move) (f : StepFault) (old new : History) → Takes step (Some f) old new
+    → RefusesTaking step old (fault_of_step f)
+refused_taking step (Refused_step r) old new takes = refused_here step (Refused_step r) old new takes
+refused_taking step NothingToUndo old new takes = refused_here step NothingToUndo old new takes
+refused_taking step NothingToRedo old new takes = refused_here step NothingToRedo old new takes
+refused_taking step JournalFull old new takes = refused_here step JournalFull old new takes
 
 -- ---- what is denoted
 
@@ -93,35 +62,22 @@ opening_refused opening.JournalImage d journal some refuses = (some, refuses)
 
 -- ---- what is answered on an image
 
-pub done_answers : (step : Move) (d : Disk) (journal bytes : List ℕ) (old new : History) (o : Outcome)
-    → DenotesOn d (journal_read step journal) old → IsSaved step old new bytes → o.image.items ≡ new.present.bytes
-    → o.journal.items ≡ bytes → IsChanged step d journal o
-done_answers step d journal bytes old new o denotes saved image same = record {
-  old = old;
-  denotes = denotes;
-  new = new;
-  takes = saved.takes;
-  image_is = image;
-  journal_is = same ∙ saved.journal;
-}
-
-saving_refused : (f : Fault) (step : Move) (d : Disk) (journal : List ℕ) (old : History) → DenotesOn d (journal_read step journal) old
-    → RefusesSaving step old f → RefusesImage step d journal f
-saving_refused (Refused r) step d journal old denotes (inl memory) = inl memory
-saving_refused (Refused r) step d journal old denotes (inr takes) = inr (old, denotes, takes)
-saving_refused (fault.Step (Refused_step r)) step d journal old denotes refuses = absurd refuses
-saving_refused (fault.Step NothingToUndo) step d journal old denotes refuses = (old, denotes, refuses)
-saving_refused (fault.Step NothingToRedo) step d journal old denotes refuses = (old, denotes, refuses)
-saving_refused (fault.Step JournalFull) step d journal old denotes refuses = (old, denotes, refuses)
-saving_refused _ step d journal old denotes refuses = absurd refuses
+taking_refused : (f : Fault) (step : Move) (d : Disk) (journal : List ℕ) (old : History) → DenotesOn d (journal_read step journal) old
+    → RefusesTaking step old f → RefusesImage step d journal f
+taking_refused (Refused r) step d journal old denotes takes = inr (old, denotes, takes)
+taking_refused (fault.Step (Refused_step r)) step d journal old denotes refuses = absurd refuses
+taking_refused (fault.Step NothingToUndo) step d journal old denotes refuses = (old, denotes, refuses)
+taking_refused (fault.Step NothingToRedo) step d journal old denotes refuses = (old, denotes, refuses)
+taking_refused (fault.Step JournalFull) step d journal old denotes refuses = (old, denotes, refuses)
+taking_refused _ step d journal old denotes refuses = absurd refuses
 
 pub fault_answers : (f : Fault) (step : Move) (d : Disk) (journal : List ℕ) (old new : History) (o : Outcome)
-    → DenotesOn d (journal_read step journal) old → RefusesSaving step old f → new.present ≡ old.present
+    → DenotesOn d (journal_read step journal) old → RefusesTaking step old f → new.present ≡ old.present
     → o.image.items ≡ new.present.bytes → o.journal.items ≡ journal → AnswersImage (Some f) step d journal o
 fault_answers f step d journal old new o denotes refuses kept image same = (
   image ∙ ap (λ (e : Disk). e.bytes) (kept ∙ denoted_present d (journal_read step journal) old denotes),
   same,
-  saving_refused f step d journal old denotes refuses,
+  taking_refused f step d journal old denotes refuses,
 )
 
 mount_refused : (f : MountFault) (step : Move) (d : Disk) (journal : List ℕ) → HasCause d f → RefusesImage step d journal (fault_of_mount f)

@@ -88,14 +88,9 @@ AnswersChange None step size image journal outcome = ChangesBytes step size imag
 AnswersChange (Some fault) step size image journal outcome =
     (outcome.image.items ≡ image) × (outcome.journal.items ≡ journal) × RefusesChange step size image journal fault
 
--- what a session does with a step: it takes it, and these are the bytes of the journal that it leaves
-pub record IsSaved (step : Move) (old new : History) (bytes : List ℕ) : Type 0 where
-  pub takes : Takes step None old new
-  pub journal : bytes ≡ journal_bytes (journal_of new)
-
--- why a session doesn't take a step, or can't save it
-abbrev pub RefusesSaving : Move → History → Fault → Type 0
-RefusesSaving step old (Refused refusal) = (refusal ≡ Memory) ⊎ Takes step (Some (Refused_step refusal)) old old
-RefusesSaving step old (fault.Step (Refused_step refusal)) = ⊥
-RefusesSaving step old (fault.Step fault) = Takes step (Some fault) old old
-RefusesSaving step old _ = ⊥
+-- why a session doesn't take a step
+abbrev pub RefusesTaking : Move → History → Fault → Type 0
+RefusesTaking step old (Refused refusal) = Takes step (Some (Refused_step refusal)) old old
+RefusesTaking step old (fault.Step (Refused_step refusal)) = ⊥
+RefusesTaking step old (fault.Step fault) = Takes step (Some fault) old old
+RefusesTaking step old _ = ⊥

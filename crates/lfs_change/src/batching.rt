@@ -13,7 +13,7 @@ ghost use Rattle.lfs_change.specs.Batch.{AnswersAll, AnswersChanges, KeepsPast, 
 ghost use Rattle.lfs_change.specs.Change.{DenotesOn};
 ghost use Rattle.lfs_change.specs.Fault.{blames_output, status_of};
 
-use crate::changing::{image_bytes, opened};
+use crate::changing::{image_bytes, opened, outcome_of};
 use crate::fault::Fault;
 use crate::outcome::Outcome;
 use crate::stop::Stop;
@@ -72,12 +72,11 @@ fn take_back_all(session: &mut Session, many: usize)
     }
 }
 
-/// Takes commands that keep all earlier images, and gives the bytes of the journal that they leave. With a fault the image is as it was.
-fn left_in(alloc: Global, steps: &[Move<'_>], session: &mut Session) -> Result<Vec<u8>, Stop>
+/// Takes commands that keep all earlier images. With a fault the image is as it was.
+fn taken_in(alloc: Global, steps: &[Move<'_>], session: &mut Session) -> Result<(), Stop>
     requires range { AllByRecursion (λ step. KeepsInRange (step_of step)) steps.now }
     requires keep { AllByRecursion (λ step. KeepsPast (step_of step)) steps.now }
     ensures takes { OnOk result (TakesAll (map step_of steps.now) session.old session.new) }
-    ensures journal { IfOk result (λ bytes. bytes.items ≡ journal_bytes (journal_of session.new)) }
     ensures refused { IfErr result (λ stop. (disk : Disk) → (journal : List ℕ) → DenotesOn disk journal session.old
         → RefusesAll (map step_of steps.now) stop.at disk journal stop.fault) }
     ensures failed { IfErr result (λ stop. blames_output (Some stop.fault) ≡ false) }
@@ -87,11 +86,7 @@ fn left_in(alloc: Global, steps: &[Move<'_>], session: &mut Session) -> Result<V
         take_back_all(session, stopped.at);
         return Err(Stop::from(stopped));
     }
-    if let Some(bytes) = session.journal_bytes(alloc) {
-        return Ok(bytes);
-    }
-    take_back_all(session, steps.len());
-    Err(Stop::from(Fault::Refused(Refusal::Memory)))
+    Ok(())
 }
 
 /// Takes commands that keep all earlier images on the history of an image, all of them or none.
@@ -103,8 +98,8 @@ fn session_changed(alloc: Global, steps: &[Move<'_>], session: Session, journal:
     ensures status { result.status ≡ status_of result.fault }
 {
     let mut session = session;
-    match left_in(alloc, steps, &mut session) {
-        Ok(bytes) => Outcome::new(image_bytes(session), bytes, None),
+    match taken_in(alloc, steps, &mut session) {
+        Ok(()) => outcome_of(session),
         Err(stop) => Outcome::stopped(image_bytes(session), journal, stop),
     }
 }
@@ -186,20 +181,16 @@ fn changed_image_by_all(
     ensures status { result.status ≡ status_of result.fault }
 {
     match left_by(alloc, steps, image, &journal) {
-        Ok((image, journal)) => Outcome::new(image, journal, None),
+        Ok(session) => outcome_of(session),
         Err(stop) => Outcome::stopped(kept, journal, stop),
     }
 }
 
-/// The bytes of the image and of the journal that steps leave, all of which are done.
-fn left_by(
-    alloc: Global,
-    steps: &[Move<'_>],
-    image: Image,
-    journal: &[u8],
-) -> Result<(Vec<u8>, Vec<u8>), Stop>
+/// The session that steps leave, all of which are done.
+fn left_by(alloc: Global, steps: &[Move<'_>], image: Image, journal: &[u8]) -> Result<Session, Stop>
     requires { AllByRecursion (λ step. KeepsInRange (step_of step)) steps.now }
-    ensures left { IfOk result (λ both. LeavesBoth (map step_of steps.now) image.disk journal.now both.0.items both.1.items) }
+    ensures left { IfOk result (λ session. LeavesBoth (map step_of steps.now) image.disk journal.now session.present.bytes
+        (journal_bytes (journal_of session))) }
     ensures refused { IfErr result (λ stop. RefusesAll (map step_of steps.now) stop.at image.disk journal.now stop.fault) }
     ensures failed { IfErr result (λ stop. blames_output (Some stop.fault) ≡ false) }
 {
@@ -208,8 +199,5 @@ fn left_by(
         Err(refused) => return Err(Stop::from(Fault::from(refused.fault))),
     };
     session.take_all(alloc, steps)?;
-    match session.journal_bytes(alloc) {
-        Some(bytes) => Ok((image_bytes(session), bytes)),
-        None => Err(Stop::from(Fault::Refused(Refusal::Memory))),
-    }
+    Ok(session)
 }

@@ -1,16 +1,16 @@
 //! One step on the history of an image.
 
-ghost use Rattle.std.specs.Prelude.{◌≡◌, false, Some, None, IfOk, IfErr, OnErr};
-ghost use Rattle.lfs_history.specs.History.{History};
+ghost use Rattle.std.specs.Prelude.{◌≡◌, false, Some, None, IfOk, IfErr, OnErr, OnOk};
+ghost use Rattle.lfs_book.specs.Book.{journal_bytes};
 ghost use Rattle.lfs_history.specs.Meaning.{step_of};
+ghost use Rattle.lfs_history.specs.Opening.{journal_of};
 ghost use Rattle.lfs_history.specs.Taking.{KeepsInRange, Takes};
-ghost use Rattle.lfs_change.specs.Change.{AnswersChange, AnswersImage, DenotesOn, IsSaved, RefusesDenoting, RefusesSaving, journal_read};
+ghost use Rattle.lfs_change.specs.Change.{AnswersChange, AnswersImage, DenotesOn, RefusesDenoting, RefusesTaking, journal_read};
 ghost use Rattle.lfs_change.specs.Fault.{blames_output, status_of};
 
 use crate::fault::Fault;
 use crate::outcome::Outcome;
 use lfs_block::Image;
-use lfs_command::Refusal;
 use lfs_history::{Move, OpenFault};
 use lfs_journal::{Refused, Session};
 use std::alloc::Global;
@@ -47,8 +47,8 @@ fn changed_image(alloc: Global, change: &Move<'_>, image: Image, journal: Vec<u8
     ensures status { result.status ≡ status_of result.fault }
 {
     match opened(alloc, image, read_journal(change, &journal)) {
-        Ok(mut session) => match saved(alloc, change, &mut session) {
-            Ok(bytes) => Outcome::new(image_bytes(session), bytes, None),
+        Ok(mut session) => match taken(alloc, change, &mut session) {
+            Ok(()) => outcome_of(session),
             Err(fault) => Outcome::new(image_bytes(session), journal, Some(fault)),
         },
         Err(Refused { fault, image }) => {
@@ -89,36 +89,31 @@ pub(crate) fn opened(alloc: Global, image: Image, journal: &[u8]) -> Result<Sess
 pub(crate) fn image_bytes(session: Session) -> Vec<u8>
     ensures { result.items ≡ session.present.bytes }
 {
-    let (image, outline) = session.into_parts();
+    let (image, outline, _) = session.into_parts();
     forget(outline);
     image.into_bytes()
 }
 
-/// Takes a step, and gives the bytes of the journal that it leaves. With a fault the image is as it was.
-fn saved(alloc: Global, change: &Move<'_>, session: &mut Session) -> Result<Vec<u8>, Fault>
+/// The outcome that keeps a session's image and its journal. Its outline's memory isn't given back, name by name: the run is at its end.
+pub(crate) fn outcome_of(session: Session) -> Outcome
+    ensures image { result.image.items ≡ session.present.bytes }
+    ensures journal { result.journal.items ≡ journal_bytes (journal_of session) }
+    ensures fault { result.fault ≡ None }
+    ensures status { result.status ≡ 0 }
+{
+    let (image, outline, journal) = session.into_parts();
+    forget(outline);
+    Outcome::done(image.into_bytes(), journal)
+}
+
+/// Takes a step. With a fault the image is as it was.
+fn taken(alloc: Global, change: &Move<'_>, session: &mut Session) -> Result<(), Fault>
     requires { KeepsInRange (step_of change.now) }
-    ensures saved { IfOk result (λ bytes. IsSaved (step_of change.now) session.old session.new bytes.items) }
-    ensures refused { IfErr result (λ fault. RefusesSaving (step_of change.now) session.old fault) }
+    ensures takes { OnOk result (Takes (step_of change.now) None session.old session.new) }
+    ensures refused { IfErr result (λ fault. RefusesTaking (step_of change.now) session.old fault) }
     ensures failed { IfErr result (λ fault. blames_output (Some fault) ≡ false) }
     ensures unchanged { OnErr result (session.new.present ≡ session.old.present) }
 {
     session.step(alloc, change)?;
-    if let Some(bytes) = session.journal_bytes(alloc) {
-        return Ok(bytes);
-    }
-    take_back(change, session);
-    Err(Fault::Refused(Refusal::Memory))
-}
-
-/// Takes a step back that was just taken, so that the image is as it was before. Takes no memory.
-#[tactic(auto, using(crate::proofs::ChangeLemmas::does_in_front))]
-fn take_back(change: &Move<'_>, session: &mut Session)
-    ensures { (before : History) → Takes (step_of change.now) None before session.old → session.new.present ≡ before.present }
-{
-    let _ = match change {
-        Move::Do { .. } => session.undo(),
-        Move::Undo { steps } => session.redo_steps(*steps),
-        Move::Redo { steps } => session.undo_steps(*steps),
-        Move::Forget => Ok(()),
-    };
+    Ok(())
 }

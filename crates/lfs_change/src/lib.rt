@@ -4,6 +4,7 @@
 mod batching;
 mod changing;
 mod fault;
+mod kept_journal;
 mod laws;
 mod other_fault;
 mod outcome;
@@ -12,6 +13,7 @@ mod stop;
 pub use batching::changed_by_all;
 pub use changing::changed;
 pub use fault::Fault;
+pub use kept_journal::KeptJournal;
 pub use laws::{
     batches_are_denoted, changed_bytes_are_denoted, changed_bytes_are_equations,
     journals_of_bytes_grow_by_the_need, runs_of_bytes_are_runs, undone_bytes_stand_again,

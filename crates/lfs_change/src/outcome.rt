@@ -1,7 +1,9 @@
 //! What a run answers.
 
 use crate::fault::Fault;
+use crate::kept_journal::KeptJournal;
 use crate::stop::Stop;
+use lfs_book::Journal;
 
 /// What a run answers: the image and the journal to be kept, why nothing was done where there is a reason, at which of several steps
 /// that is, and the status to end with.
@@ -12,7 +14,7 @@ pub struct Outcome {
     /// The image's bytes.
     pub image: Vec<u8>,
     /// The journal's bytes; none stand for a journal without changes.
-    pub journal: Vec<u8>,
+    pub journal: KeptJournal,
     /// Why nothing was done.
     pub fault: Option<Fault>,
     /// How many of several steps could have been done before the one that is refused; 0 else.
@@ -22,12 +24,13 @@ pub struct Outcome {
 }
 
 impl Outcome {
-    ghost use Rattle.std.specs.Prelude.{◌≡◌, Some};
+    ghost use Rattle.std.specs.Prelude.{◌≡◌, None, Some};
+    ghost use Rattle.lfs_book.specs.Book.{journal_bytes};
     ghost use Rattle.lfs_change.specs.Fault.{status_of};
 
     /// The outcome with this fault, if any, and its status. Takes no memory.
     pub fn new(image: Vec<u8>, journal: Vec<u8>, fault: Option<Fault>) -> Outcome
-        ensures kept { (result.image ≡ image) × (result.journal ≡ journal) }
+        ensures kept { (result.image ≡ image) × (result.journal.items ≡ journal.items) }
         ensures fault { result.fault ≡ fault }
         ensures status { result.status ≡ status_of fault }
     {
@@ -37,16 +40,31 @@ impl Outcome {
         };
         Outcome {
             image,
-            journal,
+            journal: KeptJournal::given(journal),
             fault,
             at: 0,
             status,
         }
     }
 
+    /// The outcome that keeps an image and a journal. Takes no memory.
+    pub(crate) fn done(image: Vec<u8>, journal: Journal) -> Outcome
+        ensures kept { (result.image ≡ image) × (result.journal.items ≡ journal_bytes journal) }
+        ensures fault { result.fault ≡ None }
+        ensures status { result.status ≡ 0 }
+    {
+        Outcome {
+            image,
+            journal: KeptJournal::spelled(journal),
+            fault: None,
+            at: 0,
+            status: 0,
+        }
+    }
+
     /// The outcome of several steps that aren't done. Takes no memory.
     pub(crate) fn stopped(image: Vec<u8>, journal: Vec<u8>, stop: Stop) -> Outcome
-        ensures kept { (result.image ≡ image) × (result.journal ≡ journal) }
+        ensures kept { (result.image ≡ image) × (result.journal.items ≡ journal.items) }
         ensures fault { result.fault ≡ Some stop.fault }
         ensures at { result.at ≡ stop.at }
         ensures status { result.status ≡ status_of (Some stop.fault) }

@@ -10,6 +10,7 @@ ghost use Rattle.lfs_exchange.specs.Storing.{HasNew, HasPlaced, HasPlacedJournal
 use crate::names::{Names, names_of};
 use crate::printing::flush;
 use crate::step_kind::StepKind;
+use lfs_change::KeptJournal;
 use lfs_host::Host;
 use lfs_step::{Fault, Outcome};
 use std::alloc::Global;
@@ -33,7 +34,7 @@ pub fn stored<H: Host>(
         StepKind::Asks | StepKind::Recounts => flush(host),
         StepKind::Forgets => {
             let names = names_of(alloc, name)?;
-            put_journal(host, name, &names, outcome.journal.as_slice())
+            put_journal(host, name, &names, &outcome.journal)
         }
         StepKind::Makes | StepKind::Changes => {
             let names = names_of(alloc, name)?;
@@ -43,16 +44,21 @@ pub fn stored<H: Host>(
 }
 
 /// Puts a new journal in the place of an image's, with the rights of the image. Takes no memory.
-fn put_journal<H: Host>(host: &mut H, name: &str, names: &Names, bytes: &[u8]) -> Result<(), Fault>
+fn put_journal<H: Host>(
+    host: &mut H,
+    name: &str,
+    names: &Names,
+    journal: &KeptJournal,
+) -> Result<(), Fault>
     requires { IsNames names.now name.now }
     ensures files { MatchResult result
-        (λ _. LeavesJournal (H.known host.old).files (H.known host.new).files name.now bytes.now)
+        (λ _. LeavesJournal (H.known host.old).files (H.known host.new).files name.now journal.now.items)
         (λ _. SparesJournal (H.known host.old).files (H.known host.new).files name.now) }
     ensures refused { IfErr result (λ fault. (fault ≡ CannotWrite) × HasRefused (H.known host.new)) }
     ensures kept { (H.known host.new).printed ≡ (H.known host.old).printed }
 {
     let new = names.new_journal.as_str();
-    if host.write(new, bytes, name).is_err() {
+    if host.write(new, journal, name).is_err() {
         return Err(Fault::CannotWrite);
     }
     if host.settle(new, names.journal.as_str()).is_err() {
@@ -98,16 +104,10 @@ fn prepared<H: Host>(
 {
     let new_image = names.new_image.as_str();
     let new_journal = names.new_journal.as_str();
-    if host
-        .write(new_image, outcome.image.as_slice(), name)
-        .is_err()
-    {
+    if host.write(new_image, &outcome.image, name).is_err() {
         return Err(Fault::CannotWrite);
     }
-    if host
-        .write(new_journal, outcome.journal.as_slice(), name)
-        .is_err()
-    {
+    if host.write(new_journal, &outcome.journal, name).is_err() {
         host.remove(new_image);
         return Err(Fault::CannotWrite);
     }

@@ -1,5 +1,5 @@
 -- Steps that are all done go on by the next of a list, or stop at it.
-use Rattle.std.proofs.Common.{◌≡◌, ℕ, ◌+◌, ◌<◌, List, [], ◌∷◌, ◌++◌, length, map, take, drop, get_or, suc, None, Some, refl, sym, ◌∙◌, subst, arith}
+use Rattle.std.proofs.Common.{◌≡◌, ℕ, ◌+◌, ◌<◌, List, [], ◌∷◌, ◌++◌, length, map, take, drop, get_or, suc, None, Some, refl, sym, subst, arith}
 use Rattle.std.proofs.lemmas.List.{get_or-map, length-map, length-take-le, map_more, take-map}
 use Rattle.std.proofs.Math.Seq.{split_at}
 use Rattle.lfs_history.specs.declared.moves.Move.{Move as Written}

@@ -10,7 +10,7 @@ use lfs_block::{
     Blocks, Image, Patch, applied_patches_change_their_blocks, applied_patches_revert,
     reverted_patches_apply_again,
 };
-use lfs_book::{MOST_CHANGES, write_journal};
+use lfs_book::{Journal, MOST_CHANGES, write_journal};
 use lfs_edit::{Command, Refusal};
 use lfs_fs::{Outline, mount};
 use lfs_history::StepFault;
@@ -126,21 +126,24 @@ impl Session {
     pub fn into_image(self) -> Image
         ensures { result.disk ≡ self.present }
     {
-        let (image, _) = self.into_parts();
+        let (image, _, _) = self.into_parts();
         image
     }
 
-    /// The image as it is now, without its changes, and its outline where that is known. Takes no memory.
-    pub fn into_parts(self) -> (Image, Option<Outline>)
-        ensures { result.0.disk ≡ self.present }
+    /// The image as it is now, its outline where that is known, and the journal: of the image's size and count, with the changes that
+    /// are done and those that are undone. Takes no memory.
+    pub fn into_parts(self) -> (Image, Option<Outline>, Journal)
+        ensures image { result.0.disk ≡ self.present }
+        ensures journal { result.2 ≡ journal_of self }
     {
         let Session {
             image,
             outline,
-            patches: _,
-            done: _,
+            patches,
+            done,
         } = self;
-        (image, outline)
+        let journal = Journal::new(image.size(), image.count(), patches, done);
+        (image, outline, journal)
     }
 
     /// Carries a command out, as a change that can be taken back; what was undone is dropped. Any refusal leaves all as it was:

@@ -5,6 +5,8 @@
 
 mod asking;
 #[cfg(test)]
+mod left_journals;
+#[cfg(test)]
 mod memory_folders;
 mod memory_rows;
 #[cfg(test)]

@@ -1,8 +1,10 @@
 //! Files that runs of the program don't take from each other.
 
 use crate::folders::parent;
+use crate::waiting::write_text;
+use lfs_sink::Text;
 use std::fs::{self, File, Metadata, TryLockError};
-use std::io::{self, ErrorKind, Read, Write};
+use std::io::{self, ErrorKind, Read};
 use std::os::unix::fs::{MetadataExt, fchown};
 
 /// How often a file is tried for that other runs replace meanwhile.
@@ -156,7 +158,7 @@ fn give_owner(file: &File, old: &Metadata) -> io::Result<()> {
 
 /// Fills a new file, with owner, group and rights of the file `like` where there is one, and waits until the disk has it. The rights
 /// come behind the owner, since a change of that takes some of them away.
-fn fill(rt: &HostRuntime, file: &mut File, bytes: &[u8], like: &str) -> io::Result<()> {
+fn fill<T: Text>(rt: &HostRuntime, file: &mut File, text: &T, like: &str) -> io::Result<()> {
     match fs::metadata(rt, like) {
         Ok(old) => {
             give_owner(file, &old)?;
@@ -165,14 +167,14 @@ fn fill(rt: &HostRuntime, file: &mut File, bytes: &[u8], like: &str) -> io::Resu
         Err(error) if error.kind() == ErrorKind::NotFound => {}
         Err(error) => return Err(error),
     }
-    file.write_all(bytes)?;
+    write_text(rt.alloc(), text, file)?;
     file.sync_all()
 }
 
-/// A new file of these bytes, whose lock this run holds. Where it can't be filled it is taken away again.
-pub fn written(rt: &HostRuntime, name: &str, bytes: &[u8], like: &str) -> io::Result<File> {
+/// A new file of a text, whose lock this run holds. Where it can't be filled it is taken away again.
+pub fn written<T: Text>(rt: &HostRuntime, name: &str, text: &T, like: &str) -> io::Result<File> {
     let mut file = created(rt, name)?;
-    match fill(rt, &mut file, bytes, like) {
+    match fill(rt, &mut file, text, like) {
         Ok(()) => Ok(file),
         Err(error) => {
             let _ = fs::remove_file(rt, name);

@@ -9,7 +9,7 @@ use crate::standard::{Closed, is_closed};
 use crate::waiting::{write_later, write_rest};
 use lfs_block::MAX_IMAGE_LENGTH;
 use lfs_host::{Folders, Host, HostFault, HostKind, Known, ListFault, Lock, NewFolder, ReadFault};
-use lfs_sink::{Out, Sink};
+use lfs_sink::{Out, Sink, Text};
 use std::alloc::{AllocError, Global};
 use std::fmt::Display;
 use std::fs::{self, File};
@@ -331,9 +331,9 @@ impl Host for Terminal<'_> {
         })
     }
 
-    fn write(&mut self, name: &str, bytes: &[u8], like: &str) -> Result<(), HostFault> {
+    fn write<T: Text>(&mut self, name: &str, text: &T, like: &str) -> Result<(), HostFault> {
         self.subject = subject_of(name, like);
-        match written(self.rt, name, bytes, like) {
+        match written(self.rt, name, text, like) {
             Ok(file) => {
                 self.image_waits = self.image_waits || matches!(self.subject, Subject::Image);
                 self.new_file.get_or_insert(file);

@@ -3,6 +3,8 @@
 ghost use Rattle.std.specs.Prelude.{◌≡◌, [], OnErr, OnOk};
 ghost use Rattle.std.specs.Io.KnownBytes.{Appends, append_known};
 
+use lfs_sink::{Sink, Text};
+use std::alloc::Global;
 use std::io::{self, Write};
 
 /// How many bytes wait at most.
@@ -37,4 +39,50 @@ pub fn write_later<W: Write>(bytes: &[u8], waiting: &mut Vec<u8>, writer: &mut W
     }
     write_rest(waiting, writer)?;
     writer.write_all(bytes)
+}
+
+/// A writer as a sink, before which bytes wait until there are many. It has failed once the writer has.
+#[derive(Drop)]
+struct WaitingSink<'a, W> {
+    waiting: &'a mut Vec<u8>,
+    writer: &'a mut W,
+    /// What the writer said when it failed.
+    said: &'a mut Option<io::Error>,
+}
+
+impl<W: Write> Sink for WaitingSink<'_, W> {
+    ghost use Rattle.std.specs.Prelude.{None, is_some};
+
+    ghost sent = { λ _. None };
+
+    ghost failed = { λ sink. is_some sink.said.now };
+
+    ghost kept = { λ _. tt };
+
+    fn write(&mut self, bytes: &[u8]) -> Option<usize> {
+        match write_later(bytes, self.waiting, self.writer) {
+            Ok(()) => Some(bytes.len()),
+            Err(error) => {
+                *self.said = Some(error);
+                None
+            }
+        }
+    }
+}
+
+/// Writes a text, all of it. Where that fails a beginning of it may be written.
+///
+/// Source: own.
+pub fn write_text<T: Text, W: Write>(alloc: Global, text: &T, writer: &mut W) -> io::Result<()> {
+    let mut waiting = Vec::new(alloc);
+    let mut said = None;
+    text.send_to(&mut WaitingSink {
+        waiting: &mut waiting,
+        writer,
+        said: &mut said,
+    });
+    match said {
+        Some(error) => Err(error),
+        None => write_rest(&mut waiting, writer),
+    }
 }

@@ -19,7 +19,7 @@ returns-in-Ok-Err-clause-answers c =
     let steps = map step_of c.args.steps.now in
     let d = c.in-Ok-Err.image.disk in
     let image : o.image.items ≡ d.bytes = ap (λ v. v.items) c.new-in-Ok-Err.ensures.kept.0 ∙ c.into_bytes.ensures in
-    let same : o.journal.items ≡ c.args.journal.items = ap (λ v. v.items) c.new-in-Ok-Err.ensures.kept.1 in
+    let same : o.journal.items ≡ c.args.journal.items = c.new-in-Ok-Err.ensures.kept.1 in
     let on : AnswersAll (Some (Refused Memory)) steps d c.args.journal.items o = (image, same, inl refl) in
     all_answers steps c.args.size c.args.image.items c.args.journal.items d o c.in-Ok-Err.ensures.disk c.in-Ok-Err.ensures.size
     c.in-Ok-Err.ensures.bytes (subst (λ (f : Option Fault). AnswersAll f steps d c.args.journal.items o) (sym c.new-in-Ok-Err.ensures.fault) on)

@@ -20,17 +20,17 @@ returns-in-Err-clause-answers c =
     subst (λ (x : Option Fault). AnswersImage x step c.args.image.disk c.args.journal.items o) (sym fault)
     (opening_answers why step c.args.image.disk c.args.journal.items o refuses image same)
 
-pub returns-in-Err-saved-clause-answers : goal.returns-in-Err-saved-clause-answers
-returns-in-Err-saved-clause-answers c =
-    let o = c.new-in-Err-saved.result in
+pub returns-in-Err-taken-clause-answers : goal.returns-in-Err-taken-clause-answers
+returns-in-Err-taken-clause-answers c =
+    let o = c.new.result in
     let step = step_of c.args.change.now in
     let d = c.args.image.disk in
     let journal = c.args.journal.items in
     let read : c.read_journal.result.now ≡ journal_read step journal = c.read_journal.ensures ∙ ap (journal_read step) c.deref.ensures.value in
     let denotes = subst (λ (bytes : List ℕ). DenotesOn d bytes c.in-Ok.session) read c.in-Ok.ensures.opened in
-    let image : o.image.items ≡ c.saved.new.session.present.bytes = ap (λ v. v.items) c.new-in-Err-saved.ensures.kept.0
-    ∙ c.image_bytes-in-Err-saved.ensures in
-    let same : o.journal.items ≡ journal = ap (λ v. v.items) c.new-in-Err-saved.ensures.kept.1 in
-    subst (λ (x : Option Fault). AnswersImage x step d journal o) (sym c.new-in-Err-saved.ensures.fault)
-    (fault_answers c.in-Err-saved.fault step d journal c.in-Ok.session c.saved.new.session o denotes c.in-Err-saved.ensures.refused
-    c.in-Err-saved.ensures.unchanged image same)
+    let image : o.image.items ≡ c.taken.new.session.present.bytes = ap (λ v. v.items) c.new.ensures.kept.0
+    ∙ c.image_bytes.ensures in
+    let same : o.journal.items ≡ journal = c.new.ensures.kept.1 in
+    subst (λ (x : Option Fault). AnswersImage x step d journal o) (sym c.new.ensures.fault)
+    (fault_answers c.in-Err-taken.fault step d journal c.in-Ok.session c.taken.new.session o denotes c.in-Err-taken.ensures.refused
+    c.in-Err-taken.ensures.unchanged image same)

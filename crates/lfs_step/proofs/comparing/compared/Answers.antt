@@ -11,7 +11,7 @@ returns-in-Ok-clause-answers g c =
     let o = c.new-in-Ok.result in
     let fault : o.fault ≡ result_err c.compare_bytes.result = c.new-in-Ok.ensures.fault ∙ c.err-fault.ensures.value in
     let image : o.image.items ≡ c.in-Ok.image.disk.bytes = ap (λ v. v.items) c.new-in-Ok.ensures.kept.0 ∙ c.into_bytes.ensures in
-    let journal : o.journal.items ≡ c.args.journal.items = ap (λ v. v.items) c.new-in-Ok.ensures.kept.1 in
+    let journal : o.journal.items ≡ c.args.journal.items = c.new-in-Ok.ensures.kept.1 in
     comparison_answers c.args.size c.args.image.items c.args.journal.items c.args.others.items c.in-Ok.image.disk c.compare_bytes.result o
     c.in-Ok.ensures.size c.in-Ok.ensures.bytes c.compare_bytes.ensures.refused fault image journal
 

@@ -13,7 +13,7 @@ returns-in-Ok-clause-answers g c =
     let fault : o.fault ≡ result_err c.recount.result = c.new-in-Ok.ensures.fault ∙ c.err-fault.ensures.value in
     let image : o.image.items ≡ c.args.image.items =
     ap (λ v. v.items) c.new-in-Ok.ensures.kept.0 ∙ c.into_bytes.ensures ∙ ap (λ e. e.bytes) c.recount.ensures.disk ∙ c.in-Ok.ensures.bytes in
-    let journal : o.journal.items ≡ c.args.journal.items = ap (λ v. v.items) c.new-in-Ok.ensures.kept.1 in
+    let journal : o.journal.items ≡ c.args.journal.items = c.new-in-Ok.ensures.kept.1 in
     let refuses : IfErr c.recount.result (λ f. RefusesRecount d c.args.journal.items f) =
     subst (λ (l : List ℕ). IfErr c.recount.result (λ f. RefusesRecount d l f)) c.deref.ensures.value c.recount.ensures.refused in
     recount_answers c.args.size c.args.image.items c.args.journal.items d c.recount.result o c.in-Ok.ensures.disk c.in-Ok.ensures.size

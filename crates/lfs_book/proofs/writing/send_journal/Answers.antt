@@ -3,10 +3,10 @@ use Rattle.std.specs.List.{AllByRecursion}
 use Rattle.std.proofs.lemmas.List.{take-append-drop}
 use Rattle.lfs_book.specs.Book.{IsPatchOf}
 use Rattle.lfs_book.proofs.Patches.{patches_few}
-use Rattle.lfs_book.proofs.writing.write_journal.Goals as goal
+use Rattle.lfs_book.proofs.writing.send_journal.Goals as goal
 
-pub bytes_of-requires-clause-few : goal.bytes_of-requires-clause-few
-bytes_of-requires-clause-few c =
+pub send_few-requires-clause-few : goal.send_few-requires-clause-few
+send_few-requires-clause-few g c =
     let patches = c.args.patches.now in
     patches_few c.args.size patches
-    (subst (AllByRecursion (IsPatchOf c.args.size)) (take-append-drop c.args.done patches) c.requires.book.each)
+    (subst (AllByRecursion (IsPatchOf c.args.size)) (take-append-drop c.args.done patches) c.requires.book.book.each)
