@@ -1,8 +1,8 @@
 #!/usr/bin/env python3
 """Measures changes by the program on images of 1 MiB and of 64 MiB in blocks of 4,096 bytes: a script of 200 lines in one run beside
 one `put`, by the time until it ends, synced files included; and one edit, an attribute of the root, beside `check` and `cp` of the image
-together, by processor time. Each run begins with the same image and no journal; of each the least of fifteen runs. Ends with 1 where a
-mark is missed."""
+together, by processor time. Each run begins with the same image, which the disk has, and no journal; of each the least of fifteen runs.
+Ends with 1 where a mark is missed."""
 import os
 import pathlib
 import random
@@ -66,12 +66,20 @@ class Images:
         self.paths = [f"/{path.relative_to(self.place)}" for path in sorted(self.place.rglob("*")) if path.is_file()]
         self.script.write_text("".join(f"put {path} {self.host}\n" for path in self.paths[:: len(self.paths) // LINES][:LINES]))
 
+    def begin(self):
+        """Makes a new copy of the image, without a journal, and waits until the disk has it: else a run would wait for what was written
+        before it, once it replaces the copy."""
+        for left in self.copy, self.copy.with_name("copy.img.lfsj"):
+            left.unlink(missing_ok=True)
+        shutil.copyfile(self.image, self.copy)
+        with self.copy.open("rb+") as copy:
+            os.fsync(copy.fileno())
+
     def least(self, command, *words):
         """The least times of some runs of a command on a copy of the image: until it ends, and of the processor."""
         found = []
         for _ in range(ROUNDS):
-            shutil.copyfile(self.image, self.copy)
-            self.copy.with_name("copy.img.lfsj").unlink(missing_ok=True)
+            self.begin()
             found.append(spent([PROGRAM, command, "--block", str(SIZE), *words]))
         return [min(times) for times in zip(*found)]
 
