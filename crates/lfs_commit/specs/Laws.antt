@@ -1,12 +1,9 @@
 -- Laws of what is written.
-use Rattle.std.specs.Prelude.{◌≡◌, ℕ, ◌+◌, ◌%◌, ◌≤◌, length, Some}
+use Rattle.std.specs.Prelude.{◌≡◌, ◌≤◌, length, Some}
 use Rattle.std.specs.List.{AllByRecursion}
-use Rattle.lfs_block.specs.Geometry.{block_size_step}
-use Rattle.lfs_tag.specs.Writing.{committed_end}
 use Rattle.lfs_meta.specs.Fits.{EntryFits, TailFits}
 use Rattle.lfs_meta.specs.Part.{StoredPart}
 use Rattle.lfs_meta.specs.Replay.{replay, replay_from}
-use Rattle.lfs_meta.specs.Weighing.{weights}
 use Rattle.lfs_meta.specs.Whole.{IsWhole, raw_part, whole_part}
 use Rattle.lfs_commit.specs.Difference.{Forced, part_between}
 use Rattle.lfs_commit.specs.Spelling.{part_tags}
@@ -19,11 +16,6 @@ WrittenPartsReplay = (p : StoredPart) → AllByRecursion EntryFits p.entries →
 -- what whole entries are written as is whole
 abbrev pub WrittenPartsAreWhole : Type 0
 WrittenPartsAreWhole = (p : StoredPart) → AllByRecursion IsWhole p.entries → whole_part (raw_part p) ≡ Some p
-
--- what is written for entries whose weights leave 40 bytes of a block fits it
-abbrev pub WeightsFit : Type 0
-WeightsFit = (p : StoredPart) (size : ℕ) → size % block_size_step ≡ 0 → length p.delta ≡ 12 → weights p.entries + 40 ≤ size
-    → committed_end 4 (part_tags p) ≤ size
 
 -- the tags between two parts, replayed behind the first, leave the second. The ids of tags allow 1,023 entries in each.
 abbrev pub PartsBecomeOthers : Type 0

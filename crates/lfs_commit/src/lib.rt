@@ -18,6 +18,6 @@ mod writing;
 pub use appending::append;
 pub use changing::change_pair;
 pub use forced::Forced;
-pub use laws::{parts_become_others, weights_fit, written_parts_replay};
+pub use laws::{parts_become_others, written_parts_replay};
 pub use lfs_tag::{Edit, EditData, Tag};
 pub use writing::{first_block, rewrite};

@@ -1,6 +1,5 @@
 -- Laws of pairs and names.
 use Rattle.std.specs.Prelude.{◌≡◌, ◌↔◌, ℕ, ◌<◌, true, List, Some, None}
-use Rattle.std.specs.List.{AllByRecursion}
 use Rattle.lfs_block.specs.Disk.{Disk, block_of}
 use Rattle.lfs_block.specs.declared.mount_fault.MountFault.{MountFault}
 use Rattle.lfs_meta.specs.Body.{Pair}
@@ -9,11 +8,7 @@ use Rattle.lfs_meta.specs.LiveBlock.{live_block, tags_of, part_of, stored_part_o
 use Rattle.lfs_meta.specs.declared.live_block.LiveBlock.{LiveBlock}
 use Rattle.lfs_meta.specs.declared.live_block.LiveBlock.TheVariants.{First, Second, Neither}
 use Rattle.lfs_meta.specs.Cause.{PairCause}
-use Rattle.lfs_tag.specs.Commit.{Item, IsItem}
 use Rattle.lfs_tag.specs.LogSeen.{log_seen}
-use Rattle.lfs_meta.specs.Fits.{RawPartFits}
-use Rattle.lfs_meta.specs.Part.{RawPart}
-use Rattle.lfs_meta.specs.Replay.{replay}
 
 -- the test of a name says whether it is one
 abbrev pub NamesAreDecided : Type 0
@@ -31,10 +26,6 @@ PartsDependOnTheirBlocks = (d e : Disk) (pair : Pair) → SameBlocks d e pair
 -- a pair that has a cause holds no part
 abbrev pub UnreadPairsHoldNoPart : Type 0
 UnreadPairsHoldNoPart = (fault : MountFault) (d : Disk) (pair : Pair) → PairCause fault d pair → stored_part_of d pair ≡ None
-
--- what tags leave keeps to the lengths of tags, and its attributes rise
-abbrev pub ReplayedPartsFit : Type 0
-ReplayedPartsFit = (tags : List Item) (p : RawPart) → AllByRecursion IsItem tags → replay tags ≡ Some p → RawPartFits p
 
 -- the live block of two has a commit, and its log is what is read of it; where neither is live, neither has one
 abbrev pub IsLive : LiveBlock → List ℕ → List ℕ → Type 0

@@ -1,6 +1,6 @@
 //! Laws of pairs and names: each function does nothing, and its contract is the law.
 
-ghost use Rattle.lfs_meta.specs.Laws.{LiveBlocksAreRead, NamesAreDecided, PartsDependOnTheirBlocks, ReplayedPartsFit, UnreadPairsHoldNoPart};
+ghost use Rattle.lfs_meta.specs.Laws.{LiveBlocksAreRead, NamesAreDecided, PartsDependOnTheirBlocks, UnreadPairsHoldNoPart};
 
 /// The test of a name says whether it is one.
 pub fn names_are_decided()
@@ -15,11 +15,6 @@ pub fn parts_depend_on_their_blocks()
 /// A pair that has a cause holds no part all of whose entries are whole.
 pub fn unread_pairs_hold_no_part()
     ensures { UnreadPairsHoldNoPart }
-{}
-
-/// What the tags of a log leave keeps to the lengths of tags, and its attributes rise strictly by kind.
-pub fn replayed_parts_fit()
-    ensures { ReplayedPartsFit }
 {}
 
 /// The live block of a pair has a commit, and its log is what is read of it in all its fields. Where neither block is

@@ -35,7 +35,7 @@ pub use held_laws::{
 };
 pub use kind::Kind;
 pub use laws::{
-    live_blocks_are_read, names_are_decided, parts_depend_on_their_blocks, replayed_parts_fit,
+    live_blocks_are_read, names_are_decided, parts_depend_on_their_blocks,
     unread_pairs_hold_no_part,
 };
 pub use live_block::{LiveBlock, revision};

@@ -12,7 +12,7 @@ use Rattle.lfs_block.specs.Bytes.{IsBytes}
 use Rattle.lfs_block.proofs.PutLemmas.{IsBytes-take}
 use Rattle.lfs_tag.specs.Tag.{main_kind, len_of, data_len}
 use Rattle.lfs_tag.specs.Commit.{Item, Commit, IsItem, IsCommit, tags_bytes, last_word, covered_bytes, commit_bytes}
-use Rattle.lfs_tag.specs.Reading.{TagFront, tag_at, CommitFront, with_tag, closed, commit_step, commit_within, commit_at}
+use Rattle.lfs_tag.specs.Reading.{TagFront, tag_at, CommitFront, with_tag, closed, commit_step, commit_within, commit_by, is_checksum, commit_at}
 use Rattle.lfs_tag.proofs.Steps.{map_some, commit_at-closed, commit_at-more}
 use Rattle.lfs_tag.proofs.Codec.{IsBytes-front, IsBytes-back, TagTakes, tag_takes, tag_again}
 use Rattle.lfs_tag.proofs.Sums.{crc-append, crc-below}
@@ -137,21 +137,21 @@ step_takes-tag read takes sum prev bytes f r t false k d =
     subst (CommitTakes sum prev bytes) m.2 all
 
 step_takes : (read : Reader) → Takes read → (sum prev : ℕ) (bytes : List ℕ) (r : CommitFront) → IsBytes bytes
-    → (o : Option TagFront) → tag_at prev bytes ≡ o → commit_step read sum o ≡ Some r → CommitTakes sum prev bytes r
+    → (o : Option TagFront) → tag_at prev bytes ≡ o → commit_step is_checksum read sum o ≡ Some r → CommitTakes sum prev bytes r
 step_takes read takes sum prev bytes r h None k d = absurd cc
 step_takes read takes sum prev bytes r h (Some f) k d =
     step_takes-tag read takes sum prev bytes f r (tag_takes prev bytes f h k) (eqb (main_kind f.item.word) 5) refl d
 
-commit_takes-within : (n sum prev : ℕ) (bytes : List ℕ) (r : CommitFront) → IsBytes bytes → commit_within n sum prev bytes ≡ Some r
+commit_takes-within : (n sum prev : ℕ) (bytes : List ℕ) (r : CommitFront) → IsBytes bytes → commit_within is_checksum n sum prev bytes ≡ Some r
     → CommitTakes sum prev bytes r
 unfolding commit_within
 commit_takes-within zero sum prev bytes r h e = absurd cc
 commit_takes-within (suc n) sum prev bytes r h e =
-    step_takes (commit_within n) (λ s p b q k d. commit_takes-within n s p b q k d) sum prev bytes r h (tag_at prev bytes) refl e
+    step_takes (commit_within is_checksum n) (λ s p b q k d. commit_takes-within n s p b q k d) sum prev bytes r h (tag_at prev bytes) refl e
 
 pub commit_takes : (sum prev : ℕ) (bytes : List ℕ) (r : CommitFront) → IsBytes bytes → commit_at sum prev bytes ≡ Some r
     → CommitTakes sum prev bytes r
-unfolding commit_at
+unfolding commit_by
 commit_takes sum prev bytes r h e = commit_takes-within (suc (length bytes)) sum prev bytes r h e
 
 -- ---- what is spelled so is read

@@ -1,19 +1,13 @@
 -- Laws of logs (own).
-use Rattle.std.specs.Prelude.{◌≡◌, ◌≢◌, ◌↔◌, true, ℕ, ◌+◌, ◌*◌, ◌<◌, ◌≤◌, ◌^◌, List, [], ◌∷◌, ◌++◌, length, drop}
+use Rattle.std.specs.Prelude.{◌≡◌, ◌↔◌, true, ℕ, ◌+◌, ◌*◌, ◌≤◌, List, [], ◌∷◌, ◌++◌, length, drop}
 use Rattle.std.specs.List.{AllByRecursion}
 use Rattle.lfs_block.specs.Bytes.{IsBytes}
 use Rattle.lfs_block.specs.Disk.{put_at}
-use Rattle.lfs_tag.specs.Tag.{main_kind}
 use Rattle.lfs_tag.specs.Commit.{Item, Commit, IsItem, IsCommit, commit_bytes}
 use Rattle.lfs_tag.specs.Log.{IsErased, IsLog, final_word, log_tags}
 use Rattle.lfs_tag.specs.LogSeen.{is_erased}
 use Rattle.lfs_tag.specs.Reading.{log_of}
 use Rattle.lfs_tag.specs.Writing.{committed_end, commit_of, lead_at}
-
--- A block of bytes has one log.
-abbrev pub OneLog : Type 0
-OneLog = (block : List ℕ) (first second : List Commit) (rest other : List ℕ) → IsBytes block
-    → IsLog block first rest → IsLog block second other → (first ≡ second) × (rest ≡ other)
 
 -- The log of a block is what is read of it.
 abbrev pub LogIsRead : Type 0
@@ -36,17 +30,6 @@ LogTagsAreFew = (block : List ℕ) → IsBytes block → 4 * length (log_tags (l
 -- The test of erased bytes says whether they are.
 abbrev pub ErasedIsDecided : Type 0
 ErasedIsDecided = (bytes : List ℕ) → (is_erased bytes ≡ true) ↔ IsErased bytes
-
--- Erased bytes hold no commit behind a word whose main type isn't 2: the first word may be a valid tag there, and the next
--- one isn't.
-abbrev pub ErasedHoldsNoCommit : Type 0
-ErasedHoldsNoCommit = (lead rest more : List ℕ) (prev : ℕ) (c : Commit) → IsBytes lead → prev < 2 ^ 32 → main_kind prev ≢ 2
-    → IsErased rest → IsCommit c → rest ≡ commit_bytes lead prev c ++ more → ⊥
-
--- The main type of the word behind commits isn't 2, whichever its top bit is.
-abbrev pub FinalWordKind : Type 0
-FinalWordKind = (block : List ℕ) (commits : List Commit) (rest : List ℕ) → IsLog block commits rest
-    → (final_word 0xffffffff commits < 2 ^ 32) × (main_kind (final_word 0xffffffff commits) ≢ 2)
 
 -- A block that is erased behind its revision has a log with no commit.
 abbrev pub ErasedBlock : Type 0

@@ -1,5 +1,5 @@
 -- Reading: what stands at the front of bytes, as functions that compute. Laws join them to what is spelled so (own).
-use Rattle.std.specs.Prelude.{ℕ, zero, suc, ◌^◌, ◌==◌, ◌&&◌, nat_lt, nat_le, List, [], ◌∷◌, length, take, drop, Option, Some, None}
+use Rattle.std.specs.Prelude.{ℕ, zero, suc, ◌^◌, ◌==◌, ◌&&◌, nat_lt, nat_le, Bool, List, [], ◌∷◌, length, take, drop, Option, Some, None}
 use Rattle.std.specs.Prelude.{option_map, bit_xor, if◌then◌else◌}
 use Rattle.std.specs.Int.{w32, from_be_bytes, from_le_bytes}
 use Rattle.lfs_block.specs.Checksum.{crc}
@@ -46,21 +46,28 @@ closed sum f =
     then Some (record { commit = record { tags = []; closing = f.item.word; padding = drop 4 content }; rest = f.rest })
     else None
 
--- one tag more of a commit, where `more` reads what is behind it
-abbrev pub commit_step : (ℕ → ℕ → List ℕ → Option CommitFront) → ℕ → Option TagFront → Option CommitFront
-commit_step more sum None = None
-commit_step more sum (Some f) =
-    if main_kind f.item.word == 5 then closed (crc sum f.stored) f
+-- one tag more of a commit, where `closes` says by a tag's word whether it closes the commit, and `more` reads what is behind it
+abbrev pub commit_step : (ℕ → Bool) → (ℕ → ℕ → List ℕ → Option CommitFront) → ℕ → Option TagFront → Option CommitFront
+commit_step closes more sum None = None
+commit_step closes more sum (Some f) =
+    if closes f.item.word then closed (crc sum f.stored) f
     else option_map (with_tag f.item) (more (crc (crc sum f.stored) f.item.content) f.item.word f.rest)
 
 -- at most so many tags
-unfoldable pub commit_within : ℕ → ℕ → ℕ → List ℕ → Option CommitFront
-commit_within zero sum prev bytes = None
-commit_within (suc n) sum prev bytes = commit_step (commit_within n) sum (tag_at prev bytes)
+unfoldable pub commit_within : (ℕ → Bool) → ℕ → ℕ → ℕ → List ℕ → Option CommitFront
+commit_within closes zero sum prev bytes = None
+commit_within closes (suc n) sum prev bytes = commit_step closes (commit_within closes n) sum (tag_at prev bytes)
 
 -- the commit at the front of bytes, behind the word `prev`, where `sum` is the checksum of what it covers so far
-unfoldable pub commit_at : ℕ → ℕ → List ℕ → Option CommitFront
-commit_at sum prev bytes = commit_within (suc (length bytes)) sum prev bytes
+unfoldable pub commit_by : (ℕ → Bool) → ℕ → ℕ → List ℕ → Option CommitFront
+commit_by closes sum prev bytes = commit_within closes (suc (length bytes)) sum prev bytes
+
+-- the tag of a word is a checksum's: in version 2.0 each of them closes a commit
+abbrev pub is_checksum : ℕ → Bool
+is_checksum word = main_kind word == 5
+
+abbrev pub commit_at : ℕ → ℕ → List ℕ → Option CommitFront
+commit_at sum prev bytes = commit_by is_checksum sum prev bytes
 
 -- the longest front of commits, the word that the next tag is XORed with, and the bytes behind them
 pub record Front : Type 0 where
@@ -77,13 +84,16 @@ log_step more prev bytes None = record { commits = []; last = prev; rest = bytes
 log_step more prev bytes (Some r) = with_commit r.commit (more 0xffffffff (next_word r.commit) r.rest)
 
 -- at most so many commits
-unfoldable pub log_within : ℕ → ℕ → ℕ → List ℕ → Front
-log_within zero sum prev bytes = record { commits = []; last = prev; rest = bytes }
-log_within (suc n) sum prev bytes = log_step (log_within n) prev bytes (commit_at sum prev bytes)
+unfoldable pub log_within : (ℕ → Bool) → ℕ → ℕ → ℕ → List ℕ → Front
+log_within closes zero sum prev bytes = record { commits = []; last = prev; rest = bytes }
+log_within closes (suc n) sum prev bytes = log_step (log_within closes n) prev bytes (commit_by closes sum prev bytes)
 
 -- the commits at the front of bytes, behind the word `prev`, where `sum` is the checksum of the lead
-unfoldable pub log_from : ℕ → ℕ → List ℕ → Front
-log_from sum prev bytes = log_within (suc (length bytes)) sum prev bytes
+unfoldable pub log_by : (ℕ → Bool) → ℕ → ℕ → List ℕ → Front
+log_by closes sum prev bytes = log_within closes (suc (length bytes)) sum prev bytes
+
+abbrev pub log_from : ℕ → ℕ → List ℕ → Front
+log_from sum prev bytes = log_by is_checksum sum prev bytes
 
 -- the log of a block
 unfoldable pub log_of : List ℕ → Front

@@ -1,13 +1,8 @@
 //! Laws of logs. Each function does nothing: its contract is the law.
 
-ghost use Rattle.lfs_tag.specs.Laws.{OneLog, LogIsRead, BlocksHaveALog, LogTagsAreItems, LogTagsAreFew, ErasedIsDecided, ErasedHoldsNoCommit, FinalWordKind, ErasedBlock, FirstCommit, NextCommit, WrittenLength};
+ghost use Rattle.lfs_tag.specs.Laws.{LogIsRead, BlocksHaveALog, LogTagsAreItems, LogTagsAreFew, ErasedIsDecided, ErasedBlock, FirstCommit, NextCommit, WrittenLength};
 
-/// A block of bytes has one log.
-pub fn one_log()
-    ensures { OneLog }
-{}
-
-/// The log of a block is what is read of it.
+/// The log of a block is what is read of it, and so it has no other one.
 pub fn log_is_read()
     ensures { LogIsRead }
 {}
@@ -30,12 +25,6 @@ pub fn log_tags_are_few()
 /// The test of erased bytes says whether they are.
 pub fn erased_is_decided()
     ensures { ErasedIsDecided }
-{}
-
-/// Erased bytes hold no commit, whichever word of a log stands before them.
-pub fn erased_holds_no_commit()
-    ensures none { ErasedHoldsNoCommit }
-    ensures word { FinalWordKind }
 {}
 
 /// A block that is erased behind its revision has a log with no commit.
