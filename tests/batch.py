@@ -415,7 +415,8 @@ def images_that_are_refused(folder):
     image, saved, _ = batch.files()
     rows = (
         ("another image", (image[:-512], saved), "lfsed: 11 Geometry\nlfsed: a.img: its superblock states 64 blocks of 512 bytes\n"),
-        ("another journal", (image, saved[:-1] + b"\0"), "lfsed: 51 JournalMismatch\n"),
+        ("another journal", (image, saved[:-1] + b"\0"),
+         "lfsed: 51 JournalMismatch\nlfsed: a.img.lfsj belongs to another image; lfsed forget a.img drops it\n"),
         ("no journal", (image, b"lfsx"), "lfsed: 50 JournalFormat\n"),
     )
     for what, files, told in rows:
@@ -427,17 +428,17 @@ def images_that_are_refused(folder):
 
 
 def later_commits(folder):
-    """Commits of a later version are told of, or refused, as with other commands."""
+    """Commits of a later version are refused, or told of, as with other commands."""
     batch = Batch(folder)
     refused = f"lfsed: 31 Exists\nlfsed: steps: line 2: mkdir /old\n{TOLD}"
     for text, status, told in (b"mkdir /made\n", 0, TOLD), (b"# none\n", 0, TOLD), (b"mkdir /made\nmkdir /old\n", 1, refused):
         folder.be(APPENDED, 0)
-        ended = batch.batch(text)
-        folder.check(f"later: {text}", ended == (status, told, b""), ended)
+        ended = batch.batch(text, "--older")
+        folder.check(f"older: {text}", ended == (status, told, b""), ended)
         folder.be(APPENDED, 0)
-        ended = batch.batch(text, "--strict")
-        folder.check(f"strict: {text}", ended == (3, REFUSED, b""), ended)
-        folder.check(f"strict: {text}: files", batch.files() == (APPENDED, None, []))
+        ended = batch.batch(text)
+        folder.check(f"later: {text}", ended == (3, REFUSED, b""), ended)
+        folder.check(f"later: {text}: files", batch.files() == (APPENDED, None, []))
 
 
 def options_of_a_batch(folder):

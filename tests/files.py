@@ -216,6 +216,20 @@ def links_and_rights(files):
     files.check("a new image has the umask's rights", made.stat().st_mode & 0o777 == 0o640, oct(made.stat().st_mode))
 
 
+def write_protected(files):
+    """A file that nobody has the right to write isn't replaced, whoever runs the program; nor is its journal."""
+    files.must(["mkdir", "--block", "512", "a.img", "/kept"])
+    files.image.chmod(0o444)
+    for words in (
+        ["put", "--block", "512", "a.img", "/f"], ["undo", "--block", "512", "a.img"], ["forget", "--block", "512", "a.img"],
+        ["format", "--block", "512", "--count", "8", "a.img"],
+    ):
+        files.refused(f"write-protected: {words[0]}", words, NOT_WRITTEN, "a.img: is write-protected")
+    files.must(["ls", "--block", "512", "a.img"])
+    files.image.chmod(0o644)
+    files.must(["undo", "--block", "512", "a.img"])
+
+
 def owners(files):
     """Who may give files away keeps the owner and the group of an image, and its journal gets them."""
     if os.geteuid() != 0:
@@ -359,6 +373,7 @@ SCENES = (
     an_image_that_another_keeps,
     calls_that_fail,
     links_and_rights,
+    write_protected,
     owners,
     standard_files_that_are_closed,
     images_that_are_new,

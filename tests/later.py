@@ -1,7 +1,7 @@
 #!/usr/bin/env python3
 """Images that a later littlefs has written: commits of disk version 2.1, from a writer apart from the program. Where such stand
-behind what version 2.0 reads, or in the block that a device takes for the live one, each command says so, and `--strict` refuses the
-image. Where they are unfinished, stale or of version 2.0 nothing is said."""
+behind what version 2.0 reads, or in the block that a device takes for the live one, each command refuses the image; with `--older` it
+goes on with the state before them, and says so. Where they are unfinished, stale or of version 2.0 nothing is said."""
 import struct
 import sys
 import zlib
@@ -15,7 +15,9 @@ LATER, FIRST = 0x0002_0001, 0x0002_0000
 FORWARD = 0x5FF
 TOLD = "lfsed: a.img: a later commit of disk version 2.1 stands in it, which is not read\n"
 TOLD_OTHER = TOLD.replace("a.img", "b.img")
-REFUSED = "lfsed: 10 Version\n" + TOLD
+CHANGED_BY_DEVICE = "lfsed: a.img: a device has changed it with disk version 2.1, which is not read; --older goes on with the state before that\n"
+REFUSED = "lfsed: 10 Version\n" + CHANGED_BY_DEVICE
+REFUSED_OTHER = REFUSED.replace("a.img", "b.img")
 SAID = "block 512, count 8, free 6, directories 1, files 1\n"
 
 
@@ -58,7 +60,15 @@ REWRITTEN = image(SIZE, COUNT, {0: first(), 1: anew(2)})
 APPENDED_IN_ONE = image(SIZE, COUNT, {0: Draft(0).add(superblock(SIZE, COUNT)).close_at(16).bytes, 1: written(first(), version(LATER))})
 LATEST = {"appended": APPENDED, "behind several": BEHIND_SEVERAL, "rewritten": REWRITTEN, "in block 1": APPENDED_IN_ONE}
 
-# What is read of those is what version 2.0 wrote.
+# Images that version 2.1 formatted, of which version 2.0 reads no commit; the entry of the second one has a create tag in front.
+CREATED = [(0x401, 0, b""), *superblock(SIZE, COUNT)[:1]]
+FORMATTED = {
+    "formatted": (image(SIZE, COUNT, {0: anew(1)}), "first"),
+    "created": (image(SIZE, COUNT, {0: later(Draft(1), version(LATER, CREATED)).bytes}), "first"),
+    "in block 1": (image(SIZE, COUNT, {0: anew(1), 1: anew(2)}), "second"),
+}
+
+# What is read of the state before is what version 2.0 wrote.
 ASKED = [
     ("check -b 512 a.img", SAID),
     ("cat -b 512 a.img /old", "old"),
@@ -97,15 +107,15 @@ UNSAID = {
 }
 
 
-def each_command_says_so(folder):
+def each_command_goes_on_where_it_is_told_to(folder):
     for name, latest in LATEST.items():
         for words, printed in ASKED:
             folder.be(latest, 0)
-            folder.play([(words, 0, 0, TOLD, printed)])
+            folder.play([(f"{words} --older", 0, 0, TOLD, printed)])
             folder.check(f"{name}: {words}", folder.old() == latest)
         for words, status, complaint in CHANGED:
             folder.be(latest, 0)
-            folder.play([(words, 4, status, complaint + TOLD, "")])
+            folder.play([(f"{words} --older", 4, status, complaint + TOLD, "")])
 
 
 def a_block_that_is_written_anew_ends_it(folder):
@@ -113,56 +123,59 @@ def a_block_that_is_written_anew_ends_it(folder):
         folder.be(latest, 0)
         # What is appended to block 0 leaves block 1 the later one.
         told = TOLD if name == "rewritten" else ""
-        folder.play([("put -b 512 a.img /more", 4, 0, TOLD, ""), ("cat -b 512 a.img /more", 0, 0, told, 4)])
+        folder.play([("put -b 512 --older a.img /more", 4, 0, TOLD, ""), ("cat -b 512 --older a.img /more", 0, 0, told, 4)])
         paths = [path for path, _ in Reader(folder.old(), SIZE).rows()]
         folder.check(f"{name}: what stands there", paths == [b"/", b"/more", b"/old"], paths)
 
 
-def strict_runs_are_refused(folder):
+def each_command_refuses_them(folder):
     for name, latest in LATEST.items():
         for words in [words for words, *_ in ASKED + CHANGED] + ["ls -b 512 a.img"]:
             folder.be(latest, 0)
-            folder.play([(f"{words} --strict", 4, 3, REFUSED, "")])
-            folder.check(f"{name}: strict: {words}", (folder.old(), folder.saved()) == (latest, None))
+            folder.play([(words, 4, 3, REFUSED, "")])
+            folder.check(f"{name}: refused: {words}", (folder.old(), folder.saved()) == (latest, None))
         folder.be(latest, 0)
-        folder.play([("extract -b 512 --strict a.img made", 0, 3, REFUSED, "")])
+        folder.play([("extract -b 512 a.img made", 0, 3, REFUSED, "")])
+        folder.play([("format -b 512 --count 8 a.img", 0, 0, "", "")])
 
 
 def nothing_is_said_of_others(folder):
     for name, quiet in UNSAID.items():
-        for strict in "", " --strict":
+        for older in "", " --older":
             folder.be(quiet, 0)
-            folder.play([(f"check -b 512 a.img{strict}", 0, 0, "", SAID), (f"cat -b 512 a.img /old{strict}", 0, 0, "", "old")])
-            folder.check(f"{name}{strict}", folder.old() == quiet)
+            folder.play([(f"check -b 512 a.img{older}", 0, 0, "", SAID), (f"cat -b 512 a.img /old{older}", 0, 0, "", "old")])
+            folder.check(f"{name}{older}", folder.old() == quiet)
 
 
 def a_later_image_states_its_version(folder):
-    second = "lfsed: 3 NoValidCommit\nlfsed: a.img: its first block states disk version 2.1\n"
-    for strict in "", " --strict":
-        folder.be(image(SIZE, COUNT, {0: anew(1)}), 0)
-        folder.play([(f"check -b 512 a.img{strict}", 0, 3, second, ""), (f"put -b 512 a.img /more{strict}", 4, 3, second, "")])
+    for name, (formatted, place) in FORMATTED.items():
+        second = f"lfsed: 3 NoValidCommit\nlfsed: a.img: its {place} block states disk version 2.1\n"
+        for older in "", " --older":
+            folder.be(formatted, 0)
+            folder.play([(f"check -b 512 a.img{older}", 0, 3, second, ""), (f"put -b 512 a.img /more{older}", 4, 3, second, "")])
+            folder.check(f"{name}{older}", folder.old() == formatted)
 
 
 def images_are_compared(folder):
     other = folder.image.with_name("b.img")
     for left, right, told, refused in [
-        (APPENDED, PLAIN, TOLD, TOLD), (PLAIN, REWRITTEN, TOLD_OTHER, TOLD_OTHER), (APPENDED, REWRITTEN, TOLD + TOLD_OTHER, TOLD),
-        (PLAIN, PLAIN, "", ""),
+        (APPENDED, PLAIN, TOLD, REFUSED), (PLAIN, REWRITTEN, TOLD_OTHER, REFUSED_OTHER),
+        (APPENDED, REWRITTEN, TOLD + TOLD_OTHER, REFUSED), (PLAIN, PLAIN, "", ""),
     ]:
         folder.image.write_bytes(left)
         other.write_bytes(right)
-        ended = folder.run("diff -b 512 a.img b.img")
+        ended = folder.run("diff -b 512 --older a.img b.img")
         folder.check("compared", ended == (0, told, b""), ended)
-        ended = folder.run("diff -b 512 --strict a.img b.img")
-        wanted = (3, "lfsed: 10 Version\n" + refused, b"") if refused else (0, "", b"")
-        folder.check("compared strictly", ended == wanted, ended)
+        ended = folder.run("diff -b 512 a.img b.img")
+        wanted = (3, refused, b"") if refused else (0, "", b"")
+        folder.check("refused", ended == wanted, ended)
         folder.check("both stand", (folder.old(), other.read_bytes()) == (left, right))
     other.unlink()
 
 
 def an_image_is_extracted(folder):
     folder.be(APPENDED, 0)
-    ended = folder.run("extract -b 512 a.img made")
+    ended = folder.run("extract -b 512 --older a.img made")
     made = folder.image.with_name("made")
     folder.check("extracted", ended == (0, TOLD, b""), ended)
     folder.check("what is made", [path.name for path in made.iterdir()] == ["old"])
@@ -170,6 +183,6 @@ def an_image_is_extracted(folder):
 
 if __name__ == "__main__":
     sys.exit(run_scenes([
-        each_command_says_so, a_block_that_is_written_anew_ends_it, strict_runs_are_refused, nothing_is_said_of_others,
+        each_command_goes_on_where_it_is_told_to, a_block_that_is_written_anew_ends_it, each_command_refuses_them, nothing_is_said_of_others,
         a_later_image_states_its_version, images_are_compared, an_image_is_extracted,
     ]))

@@ -4,6 +4,7 @@ many blocks a folder needs, and what stands where it may not. Each row was writt
 import sys
 
 from support.folder import contents, run_scenes
+from later import version
 from support.logs import image, log, superblock
 
 MADE = [
@@ -26,7 +27,11 @@ PATHS = [
     ("rmattr -b 512 a.img /x/y 74", "30 NotFound", "/x: nothing is there"),
     ("mkdir -b 512 a.img /a", "31 Exists", "/a: something is there"),
     ("mkdir -b 512 a.img /a/f", "31 Exists", "/a/f: something is there"),
-    ("mv -b 512 a.img /a /d", "31 Exists", "/d: something is there"),
+    ("mv -b 512 a.img /a /d", "31 Exists", "/d: is a directory: say /d/a"),
+    ("mv -b 512 a.img /a/f /d", "31 Exists", "/d: is a directory: say /d/f"),
+    ("mv -b 512 a.img /a/f /a", "31 Exists", "/a: is a directory: say /a/f"),
+    ("mv -b 512 a.img /a /a", "31 Exists", "/a: something is there"),
+    ("mv -b 512 a.img /d /a/f", "31 Exists", "/a/f: something is there"),
     ("mkdir -b 512 a.img /a/f/x", "32 NotADirectory", "/a/f: is a file"),
     ("cat -b 512 a.img /a/f/x/y", "32 NotADirectory", "/a/f: is a file"),
     ("mv -b 512 a.img /a/f/x /y", "32 NotADirectory", "/a/f: is a file"),
@@ -34,11 +39,15 @@ PATHS = [
     ("cat -b 512 a.img /a", "33 IsADirectory", "/a: is a directory"),
     ("put -b 512 a.img /a", "33 IsADirectory", "/a: is a directory"),
     ("rm -b 512 a.img /a", "34 NotEmpty", "/a: is not empty"),
-    ("cat -b 512 a.img x", "35 BadPath", "x: is no path"),
-    ("mkdir -b 512 a.img /a//x", "35 BadPath", "/a//x: is no path"),
-    ("mkdir -b 512 a.img /a/../x", "35 BadPath", "/a/../x: is no path"),
-    ("mv -b 512 a.img x /y", "35 BadPath", "x: is no path"),
-    ("mv -b 512 a.img /a y", "35 BadPath", "y: is no path"),
+    ("cat -b 512 a.img x", "35 BadPath", "x: a path begins with /: try /x"),
+    ("mkdir -b 512 a.img a/x/", "35 BadPath", "a/x/: a path begins with /: try /a/x/"),
+    ("mkdir -b 512 a.img /a/x/", "35 BadPath", "/a/x/: a path has no slash at its end: try /a/x"),
+    ("put -b 512 a.img /a/", "35 BadPath", "/a/: a path has no slash at its end: try /a"),
+    ("mkdir -b 512 a.img /a//x", "35 BadPath", "/a//x: two slashes stand together"),
+    ("mkdir -b 512 a.img /a/../x", "35 BadPath", "/a/../x: no name of a path is . or .."),
+    ("mkdir -b 512 a.img /./x", "35 BadPath", "/./x: no name of a path is . or .."),
+    ("mv -b 512 a.img x /y", "35 BadPath", "x: a path begins with /: try /x"),
+    ("mv -b 512 a.img /a y", "35 BadPath", "y: a path begins with /: try /y"),
     (f"mkdir -b 512 a.img /{256 * 'n'}", "36 NameTooLong", f"/{256 * 'n'}: its name is longer than 255 bytes"),
     (f"mv -b 512 a.img /d /{256 * 'n'}", "36 NameTooLong", f"/{256 * 'n'}: its name is longer than 255 bytes"),
     (f"setattr -b 512 a.img / 74 {1_023 * '00'}", "38 AttrTooLarge", "/: its attribute is longer than 1022 bytes"),
@@ -49,6 +58,10 @@ PATHS = [
     ("mv -b 512 a.img / /x", "41 IsRoot", "/: is the root"),
     ("mv -b 512 a.img /a /", "41 IsRoot", "/: is the root"),
     (f"setattr -b 512 a.img /a/f 74 {600 * '00'}", "42 EntryTooLarge", "/a/f: takes more than a block has room for"),
+    ("grow -b 512 a.img 32", "46 BadCount", "has 32 blocks; grow only lengthens"),
+    ("grow -b 512 a.img 2", "46 BadCount", "has 32 blocks; grow only lengthens"),
+    ("undo -b 512 --steps 333 a.img", "53 NothingToUndo", "changes that are done: 4, fewer than 333"),
+    ("redo -b 512 --steps 2 a.img", "54 NothingToRedo", "changes that are undone: 0, fewer than 2"),
     ("mkdir -b 512 a.img /\\/x", "30 NotFound", "/\\x5c: nothing is there"),
     ("mkdir -b 512 a.img /\xe4/x", "30 NotFound", "/\\xc3\\xa4: nothing is there"),
 ]
@@ -91,7 +104,7 @@ GEOMETRIES = [
 def is_refused(folder, words, length, first, second):
     """A run that tells these two lines, and nothing else."""
     ended = folder.run(words, length)
-    status = 3 if first.split(" ")[0] in ("1", "2", "3", "9", "10", "11") else 1
+    status = 3 if first.split(" ")[0] in ("1", "2", "3", "9", "10", "11", "51") else 1
     folder.check(words[:80], ended == (status, f"lfsed: {first}\n{second}", b""), ended)
 
 
@@ -117,6 +130,43 @@ def geometries_are_named(folder):
     is_refused(folder, "check -b 512 a.img", 0, "2 BadGeometry", "lfsed: a.img: an image has 2 to 65536 blocks, this one 1 of 512 bytes\n")
     folder.be(b"", 65_537 * 256)
     is_refused(folder, "check -b 256 a.img", 0, "2 BadGeometry", "lfsed: a.img: an image has 2 to 65536 blocks, this one 65537 of 256 bytes\n")
+
+
+def numbers_of_bytes_are_told(folder):
+    folder.image.with_name("config.json").write_bytes(39 * b"x")
+    is_refused(folder, "check config.json", 0, "1 ImageLength", "lfsed: config.json: 39 bytes are no multiple of 4096\n")
+    is_refused(folder, "put -b 512 config.json /x", 3, "1 ImageLength", "lfsed: config.json: 39 bytes are no multiple of 512\n")
+    folder.play([("format -b 512 --count 8 a.img", 0, 0, "", "")])
+    is_refused(folder, "diff -b 512 a.img config.json", 0, "1 ImageLength", "lfsed: config.json: 39 bytes are no multiple of 512\n")
+    folder.image.with_name("config.json").unlink()
+
+
+def versions_are_told(folder):
+    folder.be(image(512, 8, {0: log(1, superblock(512, 8)[:1] + version(0x2_0001))}), 0)
+    is_refused(folder, "check -b 512 a.img", 0, "10 Version", "lfsed: a.img: its superblock states disk version 2.1\n")
+    is_refused(folder, "mkdir -b 512 a.img /d", 0, "10 Version", "lfsed: a.img: its superblock states disk version 2.1\n")
+    folder.be(image(512, 8, {0: log(1, superblock(512, 8)[:1] + version(0x3_0002))}), 0)
+    is_refused(folder, "ls -b 512 a.img", 0, "10 Version", "lfsed: a.img: its superblock states disk version 3.2\n")
+
+
+def journals_of_other_images_are_told(folder):
+    folder.play([("format -b 512 --count 8 a.img", 0, 0, "", ""), ("mkdir -b 512 a.img /d", 0, 0, "", "")])
+    held = folder.old()
+    folder.play([("mkdir -b 512 a.img /e", 0, 0, "", "")])
+    folder.image.write_bytes(held)
+    told = "lfsed: a.img.lfsj belongs to another image; lfsed forget a.img drops it\n"
+    for words in "mkdir -b 512 a.img /f", "undo -b 512 a.img", "log -b 512 a.img":
+        is_refused(folder, words, 0, "51 JournalMismatch", told)
+    folder.play([("forget -b 512 a.img", 0, 0, "", ""), ("mkdir -b 512 a.img /f", 0, 0, "", "")])
+
+
+def undone_changes_are_counted(folder):
+    folder.play([("format -b 512 --count 8 a.img", 0, 0, "", "")])
+    folder.play([(f"mkdir -b 512 a.img /{name}", 0, 0, "", "") for name in "abc"])
+    folder.play([("undo -b 512 --steps 2 a.img", 0, 0, "", "")])
+    is_refused(folder, "undo -b 512 --steps 2 a.img", 0, "53 NothingToUndo", "lfsed: a.img: changes that are done: 1, fewer than 2\n")
+    is_refused(folder, "redo -b 512 --steps 3 a.img", 0, "54 NothingToRedo", "lfsed: a.img: changes that are undone: 2, fewer than 3\n")
+    folder.play([("undo -b 512 a.img", 0, 0, "", ""), ("undo -b 512 a.img", 0, 1, "lfsed: 53 NothingToUndo\n", "")])
 
 
 def the_first_block_is_told(folder):
@@ -179,7 +229,8 @@ def the_image_of_a_journal_is_told(folder):
     folder.image.write_bytes(old)
     first = "lfsed: 51 JournalMismatch\n"
     second = "lfsed: a.img.new: is the image of the journal: renamed to a.img it mends both, which forget would lose\n"
-    for bytes_beside, told in (None, ""), (old, ""), (new[:-512], ""), (new, second):
+    other = "lfsed: a.img.lfsj belongs to another image; lfsed forget a.img drops it\n"
+    for bytes_beside, told in (None, other), (old, other), (new[:-512], other), (new, second):
         if bytes_beside is not None:
             beside.write_bytes(bytes_beside)
         for words in "undo -b 512 a.img", "log -b 512 a.img":
@@ -192,6 +243,7 @@ def the_image_of_a_journal_is_told(folder):
 
 if __name__ == "__main__":
     sys.exit(run_scenes([
-        paths_are_named, limits_are_those_of_the_image, geometries_are_named, the_first_block_is_told, folders_are_named,
+        paths_are_named, limits_are_those_of_the_image, geometries_are_named, numbers_of_bytes_are_told, versions_are_told,
+        journals_of_other_images_are_told, undone_changes_are_counted, the_first_block_is_told, folders_are_named,
         rows_of_folders_are_named, the_image_of_a_journal_is_told,
     ]))

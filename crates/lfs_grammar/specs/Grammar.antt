@@ -88,9 +88,9 @@ script = record (new_rule (codes "script")) { value_names = 1 }
 abbrev pub is_new : Rule
 is_new = flag (codes "new")
 
--- an image is refused in which a commit of a later disk version stands
-abbrev pub strict : Rule
-strict = flag (codes "strict")
+-- the state before commits of a later disk version is gone on with
+abbrev pub older : Rule
+older = flag (codes "older")
 
 -- what stands for an argument
 abbrev pub rule_at : Argument → Rule
@@ -104,7 +104,7 @@ rule_at argument.NameMax = name_max
 rule_at argument.FileMax = file_max
 rule_at argument.AttrMax = attr_max
 rule_at argument.New = is_new
-rule_at argument.Strict = strict
+rule_at argument.Older = older
 rule_at argument.Keep = keep
 rule_at argument.Steps = steps
 rule_at argument.Image = word (codes "image")
@@ -165,9 +165,9 @@ abbrev pub making : Text → List Rule → Shape
 making name rules =
     (command name (new_block ∷ word (codes "image") ∷ rules ++ name_max ∷ file_max ∷ attr_max ∷ is_new ∷ [])).top
 
--- a command that reads one: it takes the block size, the image's file name, these words, and whether a later disk version is refused
+-- a command that reads one: it takes the block size, the image's file name, these words, and whether older states are gone on with
 abbrev pub reading : Text → List Rule → Shape
-reading name rules = (command name (block ∷ word (codes "image") ∷ rules ++ strict ∷ [])).top
+reading name rules = (command name (block ∷ word (codes "image") ∷ rules ++ older ∷ [])).top
 
 -- a command that changes the image: behind it the past may be cut
 abbrev pub changing : Text → List Rule → Shape

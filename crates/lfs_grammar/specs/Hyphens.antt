@@ -27,7 +27,7 @@ names_change_option word = begins_with word (codes "--keep") || begins_with word
 -- an option of an image or a file that is there, by its long name
 abbrev pub names_image_option : Text → Bool
 names_image_option word =
-    begins_with word (codes "--block") || begins_with word (codes "--strict") || begins_with word (codes "--from")
+    begins_with word (codes "--block") || begins_with word (codes "--older") || begins_with word (codes "--from")
 
 -- an option by its long name
 abbrev pub names_long_option : Text → Bool

@@ -31,8 +31,8 @@ pub(crate) enum Argument {
     AttrMax,
     /// That no file is replaced.
     New,
-    /// That an image is refused in which a commit of a later disk version stands.
-    Strict,
+    /// That the state before commits of a later disk version is gone on with.
+    Older,
     /// The number of images of the past that are kept.
     Keep,
     /// The number of changes that are taken back or made again.
@@ -163,11 +163,11 @@ static NEW: ArgumentRow = ArgumentRow {
     help: "Refuse to replace a file that is there",
 };
 
-/// That a later disk version is refused.
-static STRICT: ArgumentRow = ArgumentRow {
-    id: "strict",
+/// That older states are gone on with.
+static OLDER: ArgumentRow = ArgumentRow {
+    id: "older",
     form: Form::Flag,
-    help: "Refuse an image in which a commit of a later disk version stands",
+    help: "Go on with the state before commits of a later disk version, which are not read",
 };
 
 /// The number of images that are kept.
@@ -283,7 +283,7 @@ fn row_of(argument: Argument) -> &'static ArgumentRow
         Argument::FileMax => &FILE_MAX,
         Argument::AttrMax => &ATTR_MAX,
         Argument::New => &NEW,
-        Argument::Strict => &STRICT,
+        Argument::Older => &OLDER,
         Argument::Keep => &KEEP,
         Argument::Steps => &STEPS,
         Argument::Image => &IMAGE,

@@ -83,20 +83,20 @@ static COMMANDS: [CommandRow; 20] = [
             Argument::Block,
             Argument::Image,
             Argument::NewDir,
-            Argument::Strict,
+            Argument::Older,
         ],
     },
     CommandRow {
         name: "check",
         about: "Judge an image; print its geometry, free blocks, directories and files",
         usage: None,
-        arguments: &[Argument::Block, Argument::Image, Argument::Strict],
+        arguments: &[Argument::Block, Argument::Image, Argument::Older],
     },
     CommandRow {
         name: "ls",
         about: "List what stands at each path, with sizes and attributes",
         usage: None,
-        arguments: &[Argument::Block, Argument::Image, Argument::Strict],
+        arguments: &[Argument::Block, Argument::Image, Argument::Older],
     },
     CommandRow {
         name: "cat",
@@ -106,7 +106,7 @@ static COMMANDS: [CommandRow; 20] = [
             Argument::Block,
             Argument::Image,
             Argument::Path,
-            Argument::Strict,
+            Argument::Older,
         ],
     },
     CommandRow {
@@ -117,14 +117,14 @@ static COMMANDS: [CommandRow; 20] = [
             Argument::Block,
             Argument::Image,
             Argument::Other,
-            Argument::Strict,
+            Argument::Older,
         ],
     },
     CommandRow {
         name: "log",
         about: "List the changes that the journal keeps, and what each of them changed",
         usage: None,
-        arguments: &[Argument::Block, Argument::Image, Argument::Strict],
+        arguments: &[Argument::Block, Argument::Image, Argument::Older],
     },
     CommandRow {
         name: "mkdir",
@@ -135,7 +135,7 @@ static COMMANDS: [CommandRow; 20] = [
             Argument::Image,
             Argument::Path,
             Argument::Keep,
-            Argument::Strict,
+            Argument::Older,
         ],
     },
     CommandRow {
@@ -148,7 +148,7 @@ static COMMANDS: [CommandRow; 20] = [
             Argument::Path,
             Argument::Contents,
             Argument::Keep,
-            Argument::Strict,
+            Argument::Older,
         ],
     },
     CommandRow {
@@ -160,7 +160,7 @@ static COMMANDS: [CommandRow; 20] = [
             Argument::Image,
             Argument::Path,
             Argument::Keep,
-            Argument::Strict,
+            Argument::Older,
         ],
     },
     CommandRow {
@@ -173,7 +173,7 @@ static COMMANDS: [CommandRow; 20] = [
             Argument::From,
             Argument::To,
             Argument::Keep,
-            Argument::Strict,
+            Argument::Older,
         ],
     },
     CommandRow {
@@ -187,7 +187,7 @@ static COMMANDS: [CommandRow; 20] = [
             Argument::Kind,
             Argument::Value,
             Argument::Keep,
-            Argument::Strict,
+            Argument::Older,
         ],
     },
     CommandRow {
@@ -200,7 +200,7 @@ static COMMANDS: [CommandRow; 20] = [
             Argument::Path,
             Argument::Kind,
             Argument::Keep,
-            Argument::Strict,
+            Argument::Older,
         ],
     },
     CommandRow {
@@ -213,7 +213,7 @@ static COMMANDS: [CommandRow; 20] = [
             Argument::NewCount,
             Argument::Size,
             Argument::Keep,
-            Argument::Strict,
+            Argument::Older,
         ],
     },
     CommandRow {
@@ -224,7 +224,7 @@ static COMMANDS: [CommandRow; 20] = [
             Argument::Block,
             Argument::Image,
             Argument::Steps,
-            Argument::Strict,
+            Argument::Older,
         ],
     },
     CommandRow {
@@ -235,14 +235,14 @@ static COMMANDS: [CommandRow; 20] = [
             Argument::Block,
             Argument::Image,
             Argument::Steps,
-            Argument::Strict,
+            Argument::Older,
         ],
     },
     CommandRow {
         name: "forget",
         about: "Keep the image alone: its changes can no longer be taken back",
         usage: None,
-        arguments: &[Argument::Block, Argument::Image, Argument::Strict],
+        arguments: &[Argument::Block, Argument::Image, Argument::Older],
     },
     CommandRow {
         name: "batch",
@@ -253,7 +253,7 @@ static COMMANDS: [CommandRow; 20] = [
             Argument::Image,
             Argument::Script,
             Argument::Keep,
-            Argument::Strict,
+            Argument::Older,
         ],
     },
     CommandRow {

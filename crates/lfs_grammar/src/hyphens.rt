@@ -49,7 +49,7 @@ fn names_change_option(word: &str) -> bool
 fn names_image_option(word: &str) -> bool
     ensures { result ≡ names_image_option word.now }
 {
-    word.starts_with("--block") || word.starts_with("--strict") || word.starts_with("--from")
+    word.starts_with("--block") || word.starts_with("--older") || word.starts_with("--from")
 }
 
 /// Whether a word is an option, or asks for help.

@@ -2,11 +2,11 @@
 use Rattle.std.proofs.Common.{◌≡◌, ℕ, ◌<◌, Bool, true, false, List, length, Option, Some, None, option_map, refl, sym, ap, subst, ◌∙◌}
 use Rattle.lfs_block.specs.Checksum.{crc}
 use Rattle.lfs_tag.specs.Reading.{TagFront, tag_at, CommitFront, with_tag, closed}
-use Rattle.lfs_tag.proofs.Steps.{map_some}
+use Rattle.lfs_tag.proofs.Steps.{map_some, commit_by-none, commit_by-closed, commit_by-more, commit_by-shorter}
 use Rattle.lfs_later.specs.Commits.{closes, later_at, commits_from}
 use Rattle.lfs_later.specs.Seen.{commit_seen}
 use Rattle.lfs_later.specs.Version.{stated_by, stated_behind}
-use Rattle.lfs_later.proofs.Steps.{later_at-none, later_at-closed, later_at-more, later_at-shorter, commits_from-none, commits_from-more}
+use Rattle.lfs_later.proofs.Steps.{commits_from-none, commits_from-more}
 
 -- ---- the tags of a commit
 
@@ -27,18 +27,18 @@ tag_more version next_version sum covered next_sum prev word rest f e unclosed c
     ∙ ap (λ (s : ℕ). option_map (commit_seen (stated_by version f.item)) (later_at s word f.rest)) sum_is
     ∙ ap (λ (w : ℕ). option_map (commit_seen (stated_by version f.item)) (later_at behind w f.rest)) word_is
     ∙ seen_with version f (later_at behind f.item.word f.rest)
-    ∙ ap (option_map (commit_seen version)) (sym (later_at-more sum prev rest f e unclosed))
+    ∙ ap (option_map (commit_seen version)) (sym (commit_by-more closes sum prev rest f e unclosed))
 
 pub tag_closes : (version : Option ℕ) (sum covered prev : ℕ) (rest : List ℕ) (f : TagFront) → tag_at prev rest ≡ Some f
     → closes f.item.word ≡ true → covered ≡ crc sum f.stored
     → option_map (commit_seen version) (closed covered f) ≡ option_map (commit_seen version) (later_at sum prev rest)
 tag_closes version sum covered prev rest f e closing covers =
     ap (λ (s : ℕ). option_map (commit_seen version) (closed s f)) covers
-    ∙ ap (option_map (commit_seen version)) (sym (later_at-closed sum prev rest f e closing))
+    ∙ ap (option_map (commit_seen version)) (sym (commit_by-closed closes sum prev rest f e closing))
 
 pub no_tag : (version : Option ℕ) (sum prev : ℕ) (rest : List ℕ) → tag_at prev rest ≡ None
     → None ≡ option_map (commit_seen version) (later_at sum prev rest)
-no_tag version sum prev rest e = ap (option_map (commit_seen version)) (sym (later_at-none sum prev rest e))
+no_tag version sum prev rest e = ap (option_map (commit_seen version)) (sym (commit_by-none closes sum prev rest e))
 
 -- ---- commits
 
@@ -55,7 +55,7 @@ pub commit_shorter : (version : Option ℕ) (sum prev : ℕ) (rest : List ℕ) (
     → Some seen ≡ option_map (commit_seen version) (later_at sum prev rest) → length seen.2 < length rest
 commit_shorter version sum prev rest seen e =
     let m = map_some (commit_seen version) (later_at sum prev rest) seen (sym e) in
-    subst (λ (s : ℕ × Option ℕ × List ℕ). length s.2 < length rest) m.2 (later_at-shorter sum prev rest m.0 m.1)
+    subst (λ (s : ℕ × Option ℕ × List ℕ). length s.2 < length rest) m.2 (commit_by-shorter closes sum prev rest m.0 m.1)
 
 map_none : {A B : Type 0} (f : A → B) (o : Option A) → option_map f o ≡ None → o ≡ None
 map_none f None e = refl

@@ -23,6 +23,8 @@ pub(crate) struct Stated {
 /// A block as both versions read it.
 #[derive(Clone, Copy)]
 pub(crate) struct BlockSeen {
+    /// Its number in its pair.
+    pub(crate) number: u32,
     /// Whether its log has a commit.
     pub(crate) has_log: bool,
     /// What the commits behind that state.
@@ -47,10 +49,10 @@ fn stated_from(mut sum: u32, mut prev: u32, bytes: &[u8]) -> Stated
     Stated { is_there, version }
 }
 
-/// A block, as both versions read it.
-pub(crate) fn block_seen(block: &[u8]) -> BlockSeen
+/// A block of a pair, by its number there, as both versions read it.
+pub(crate) fn block_seen(number: u32, block: &[u8]) -> BlockSeen
     requires { 4 ≤ length block.now }
-    ensures { result ≡ block_seen block.now }
+    ensures { result ≡ block_seen number block.now }
 {
     let log = Log::read(block);
     let (revision, _) = block.split_at(4);
@@ -62,6 +64,7 @@ pub(crate) fn block_seen(block: &[u8]) -> BlockSeen
         crc32(CHECKSUM_START, revision)
     };
     BlockSeen {
+        number,
         has_log,
         unread: stated_from(sum, log.last, behind),
     }

@@ -13,8 +13,8 @@ use byteorder::{BigEndian, ByteOrder};
 use lfs_block::{crc32, little_word};
 use lfs_tag::{CHECKSUM, DELETED, Tag};
 
-/// The lower bits of the type of a tag that closes no commit, though it is a checksum's.
-const FORWARD_CHUNK: u16 = 0xff;
+/// The least lower bits of the types of a checksum's tags that close no commit.
+const LEAST_UNCLOSING: u16 = 0x80;
 
 /// The word of a superblock's struct: one of 24 bytes, of entry 0.
 const SUPERBLOCK_WORD: u32 = 0x2010_0018;
@@ -77,7 +77,7 @@ fn tag_at<'a>(prev: u32, bytes: &'a [u8]) -> Option<Found<'a>>
 fn closes(tag: Tag) -> bool
     ensures { result ≡ closes (word_of tag) }
 {
-    tag.main_kind() == CHECKSUM && tag.chunk() < FORWARD_CHUNK
+    tag.main_kind() == CHECKSUM && tag.chunk() < LEAST_UNCLOSING
 }
 
 /// The word that the tag behind a checksum's tag is XORed with.

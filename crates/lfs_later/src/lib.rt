@@ -3,6 +3,7 @@
 
 mod block;
 mod commit;
+mod pair;
 mod version;
 
-pub use version::later_version;
+pub use version::{StatedVersion, later_version, unread_version};

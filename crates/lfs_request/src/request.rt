@@ -15,8 +15,8 @@ pub struct Request<'a> {
     pub keep: Option<u32>,
     /// Whether a file that is there is not replaced by a new image.
     pub is_new: bool,
-    /// Whether an image is refused in which a commit of a later disk version stands.
-    pub is_strict: bool,
+    /// Whether the state before commits of a later disk version is gone on with, where such stand in an image, which is refused else.
+    pub takes_older: bool,
     /// The image's file name.
     pub image: &'a str,
 }

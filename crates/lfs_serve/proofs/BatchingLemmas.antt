@@ -95,11 +95,11 @@ takes_lines files keep lines read steps moves zips same are =
 -- ---- how they end
 
 -- by another becoming, another cause and the fault that is known
-pub ends_by : (a b : Step → Type 0) (why because : Fault → Type 0) (strict : Bool) (size : ℕ) (keep : Option ℕ) (name : List ℕ) (old new : Scene)
+pub ends_by : (a b : Step → Type 0) (why because : Fault → Type 0) (older : Bool) (size : ℕ) (keep : Option ℕ) (name : List ℕ) (old new : Scene)
     (ended fault : Option Fault) → ended ≡ fault → ((step : Step) → a step → b step) → ((f : Fault) → why f → because f)
-    → EndsAs a why strict size keep name old new fault → EndsAs b because strict size keep name old new ended
-ends_by a b why because strict size keep name old new ended fault is turn cause ends =
-    subst (EndsAs b because strict size keep name old new) (sym is) (
+    → EndsAs a why older size keep name old new fault → EndsAs b because older size keep name old new ended
+ends_by a b why because older size keep name old new ended fault is turn cause ends =
+    subst (EndsAs b because older size keep name old new) (sym is) (
     elim ends [
       | inl did ↦ inl (did.0, turn did.0 did.1, did.2)
       | inr not ↦ inr (not.0, (not.1.0, not.1.1, cause not.1.0 not.1.2))
@@ -107,24 +107,24 @@ ends_by a b why because strict size keep name old new ended fault is turn cause 
     )
 
 -- a batch on the scene behind the reading of its script
-from_mid : (files : Option Files) (keep : Option ℕ) (text : List ℕ) (strict : Bool) (size : ℕ) (name : List ℕ) (mid old new : Scene) (fault : Option Fault)
-    (step : Step) → KeepsScene old mid → TakesText files keep text step → EndsStep step strict size keep name mid new fault
-    → EndsStep step strict size keep name old new fault
-from_mid files keep text strict size name mid old new fault (Batch steps) kept (lines, says, batch) ends =
-    batch_from steps strict size keep name mid old new fault kept ends
-from_mid files keep text strict size name mid old new fault _ kept (lines, says, none) ends = absurd none
+from_mid : (files : Option Files) (keep : Option ℕ) (text : List ℕ) (older : Bool) (size : ℕ) (name : List ℕ) (mid old new : Scene) (fault : Option Fault)
+    (step : Step) → KeepsScene old mid → TakesText files keep text step → EndsStep step older size keep name mid new fault
+    → EndsStep step older size keep name old new fault
+from_mid files keep text older size name mid old new fault (Batch steps) kept (lines, says, batch) ends =
+    batch_from steps older size keep name mid old new fault kept ends
+from_mid files keep text older size name mid old new fault _ kept (lines, says, none) ends = absurd none
 
-pub script_ends : (file : Option (Bor (List ℕ))) (text : List ℕ) (strict : Bool) (size : ℕ) (keep : Option ℕ) (name : List ℕ) (old mid new : Scene)
+pub script_ends : (file : Option (Bor (List ℕ))) (text : List ℕ) (older : Bool) (size : ℕ) (keep : Option ℕ) (name : List ℕ) (old mid new : Scene)
     (ended fault : Option Fault) → ended ≡ fault → ReadsScript file old text → KeepsScene old mid
-    → EndsAs (TakesText mid.files keep text) (λ why. IsUnread new why ⊎ SaysNoSteps text why) strict size keep name mid new fault
-    → EndsTask (task.Batch file) strict size keep name old new ended
-script_ends file text strict size keep name old mid new ended fault is reads kept ends =
-    subst (EndsTask (task.Batch file) strict size keep name old new) (sym is) (
+    → EndsAs (TakesText mid.files keep text) (λ why. IsUnread new why ⊎ SaysNoSteps text why) older size keep name mid new fault
+    → EndsTask (task.Batch file) older size keep name old new ended
+script_ends file text older size keep name old mid new ended fault is reads kept ends =
+    subst (EndsTask (task.Batch file) older size keep name old new) (sym is) (
     elim ends [
       | inl did ↦ inl (
         did.0,
         (text, reads, subst (λ (f : Option Files). TakesText f keep text did.0) kept.0 did.1),
-        from_mid mid.files keep text strict size name mid old new fault did.0 kept did.1 did.2,
+        from_mid mid.files keep text older size name mid old new fault did.0 kept did.1 did.2,
       )
       | inr not ↦ inr (
         (not.0.0 ∙ kept.0, not.0.1 ∙ kept.1),

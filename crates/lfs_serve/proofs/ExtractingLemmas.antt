@@ -72,23 +72,23 @@ bytes_end size bytes d dir tree old new ended fault is size_is bytes_are told en
     subst (EndsBytes size bytes dir tree old new) (sym told) by_bytes
 
 -- what is made of the bytes of the file that a name leads to
-pub file_ends : (strict : Bool) (size : ℕ) (name target dir bytes : List ℕ) (old mid new : Scene) (ended : Option Fault) → IsTarget old.files name target
+pub file_ends : (older : Bool) (size : ℕ) (name target dir bytes : List ℕ) (old mid new : Scene) (ended : Option Fault) → IsTarget old.files name target
     → ReadsFile old.files target most_image bytes → mid.tree ≡ old.tree → mid.made ≡ old.made → KeepsScene old new
-    → refused_by strict (later_alone size bytes) ≡ None → EndsBytes size bytes dir mid.tree mid.made new ended
-    → EndsExtract strict size name dir old new ended
-file_ends strict size name target dir bytes old mid new ended leads reads tree_is made_is keeps none ends =
+    → refused_by older (later_alone size bytes) ≡ None → EndsBytes size bytes dir mid.tree mid.made new ended
+    → EndsExtract older size name dir old new ended
+file_ends older size name target dir bytes old mid new ended leads reads tree_is made_is keeps none ends =
     let by_tree = subst (λ (t : Option HostTree). EndsBytes size bytes dir t mid.made new ended) tree_is ends in
     let by_made = subst (λ (before : Option (List Made)). EndsBytes size bytes dir old.tree before new ended) made_is by_tree in
     (keeps, inr (bytes, reads_target old.files name target bytes most_image leads reads, inr (none, by_made)))
 
 -- nothing is made of an image that is refused for a commit of a later version
-pub file_later : (strict : Bool) (size : ℕ) (name target dir bytes : List ℕ) (old new : Scene) (ended : Option Fault) (fault : Fault) → IsTarget old.files name target
+pub file_later : (older : Bool) (size : ℕ) (name target dir bytes : List ℕ) (old new : Scene) (ended : Option Fault) (fault : Fault) → IsTarget old.files name target
     → ReadsFile old.files target most_image bytes → KeepsScene old new → new.made ≡ old.made → ended ≡ Some fault
-    → refused_by strict (later_alone size bytes) ≡ Some fault → EndsExtract strict size name dir old new ended
-file_later strict size name target dir bytes old new ended fault leads reads keeps made_is is refused =
+    → refused_by older (later_alone size bytes) ≡ Some fault → EndsExtract older size name dir old new ended
+file_later older size name target dir bytes old new ended fault leads reads keeps made_is is refused =
     (keeps, inr (bytes, reads_target old.files name target bytes most_image leads reads, inl (made_is, (fault, is, refused))))
 
 -- nor of a file that isn't read
-pub file_unread : (strict : Bool) (size : ℕ) (name dir : List ℕ) (old new : Scene) (ended : Option Fault) (fault : Fault) → KeepsScene old new
-    → new.made ≡ old.made → ended ≡ Some fault → IsUnread new fault → EndsExtract strict size name dir old new ended
-file_unread strict size name dir old new ended fault keeps made_is is unread = (keeps, inl (made_is, (fault, is, unread)))
+pub file_unread : (older : Bool) (size : ℕ) (name dir : List ℕ) (old new : Scene) (ended : Option Fault) (fault : Fault) → KeepsScene old new
+    → new.made ≡ old.made → ended ≡ Some fault → IsUnread new fault → EndsExtract older size name dir old new ended
+file_unread older size name dir old new ended fault keeps made_is is unread = (keeps, inl (made_is, (fault, is, unread)))

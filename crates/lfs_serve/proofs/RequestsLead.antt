@@ -316,10 +316,10 @@ done_leads laws (step.Batch steps) size keep name scene old new h b outcome good
     takes_all laws steps.now steps refl size keep name scene old new h b outcome denotes handed answers leaves
 
 -- a step that was done
-step_leads : Laws → (s : Step) (strict : Bool) (size : ℕ) (keep : Option ℕ) (name : List ℕ) (scene behind : Scene) (old new : Files) (h : History) → HasGoodRows (deed_of s [] None)
-    → scene.files ≡ Some old → behind.files ≡ Some new → FilesDenote size name old h → EndsStep s strict size keep name scene behind None
+step_leads : Laws → (s : Step) (older : Bool) (size : ℕ) (keep : Option ℕ) (name : List ℕ) (scene behind : Scene) (old new : Files) (h : History) → HasGoodRows (deed_of s [] None)
+    → scene.files ≡ Some old → behind.files ≡ Some new → FilesDenote size name old h → EndsStep s older size keep name scene behind None
     → StepLeads size keep name s scene.files scene.typed new h
-step_leads laws s strict size keep name scene behind old new h good before later denotes (outcome, (b, handed, unrefused, (answers, none, sends), blamed), leaves) =
+step_leads laws s older size keep name scene behind old new h good before later denotes (outcome, (b, handed, unrefused, (answers, none, sends), blamed), leaves) =
     let at : IsHanded s name (with_files scene old) b = handed_from s name scene (with_files scene old) b before refl handed in
     let done = subst (λ (f : Option Fault). AnswersBy f (deed_of s b.input keep) (given size b.image b.journal) outcome) none answers in
     let left : LeavesFiles (kind_of s) (Some old) (Some new) name outcome =
@@ -354,14 +354,14 @@ spared _ Makes size name old new h outcome denotes (inr torn) = inr (torn.others
 spared _ Changes size name old new h outcome denotes (inr torn) = inr (torn.others name (image_not_journal name, image_apart name))
 
 -- the files denote the history still, or the host tore them apart
-stop_leaves : (s : Step) (strict : Bool) (size : ℕ) (keep : Option ℕ) (name : List ℕ) (scene behind : Scene) (fault : Fault) (old new : Files) (h : History)
-    → scene.files ≡ Some old → behind.files ≡ Some new → FilesDenote size name old h → StopsStep s strict size keep name scene behind fault
+stop_leaves : (s : Step) (older : Bool) (size : ℕ) (keep : Option ℕ) (name : List ℕ) (scene behind : Scene) (fault : Fault) (old new : Files) (h : History)
+    → scene.files ≡ Some old → behind.files ≡ Some new → FilesDenote size name old h → StopsStep s older size keep name scene behind fault
     → FilesDenote size name new h ⊎ ((status_of (Some fault) ≡ 4) × (new name ≡ old name))
-stop_leaves s strict size keep name scene behind fault old new h before later denotes (inl (outcome, runs, same)) =
+stop_leaves s older size keep name scene behind fault old new h before later denotes (inl (outcome, runs, same)) =
     inl (same_files size name old new h (sym later ∙ same ∙ before) denotes)
-stop_leaves s strict size keep name scene behind fault old new h before later denotes (inr (inl (not_run, keeps))) =
+stop_leaves s older size keep name scene behind fault old new h before later denotes (inr (inl (not_run, keeps))) =
     inl (same_files size name old new h (sym later ∙ keeps.0 ∙ before) denotes)
-stop_leaves s strict size keep name scene behind fault old new h before later denotes (inr (inr (of_host, (outcome, runs, spares)))) =
+stop_leaves s older size keep name scene behind fault old new h before later denotes (inr (inr (of_host, (outcome, runs, spares)))) =
     let left : SparesFiles fault (kind_of s) (Some old) (Some new) name outcome =
     subst (λ (f : Option Files). SparesFiles fault (kind_of s) (Some old) f name outcome) later
     (subst (λ (f : Option Files). SparesFiles fault (kind_of s) f behind.files name outcome) before spares) in
@@ -408,45 +408,45 @@ name_taken fault size keep name t scene old new h is denotes =
     subst (λ (f : Option Fault). Ends size keep name t scene f old new h) (sym is) (Stored_directory h refl denotes)
 
 -- a task whose words say all of it
-step_ends : Laws → (fault : Option Fault) (s : Step) (strict : Bool) (size : ℕ) (keep : Option ℕ) (name : List ℕ) (scene behind : Scene) (old new : Files) (h : History)
+step_ends : Laws → (fault : Option Fault) (s : Step) (older : Bool) (size : ℕ) (keep : Option ℕ) (name : List ℕ) (scene behind : Scene) (old new : Files) (h : History)
     → HasGoodRows (deed_of s [] None) → scene.files ≡ Some old → behind.files ≡ Some new → FilesDenote size name old h
-    → EndsStep s strict size keep name scene behind fault → Ends size keep name (task.Step s) scene fault old new h
-step_ends laws None s strict size keep name scene behind old new h good before later denotes ends =
-    let leads = step_leads laws s strict size keep name scene behind old new h good before later denotes ends in
+    → EndsStep s older size keep name scene behind fault → Ends size keep name (task.Step s) scene fault old new h
+step_ends laws None s older size keep name scene behind old new h good before later denotes ends =
+    let leads = step_leads laws s older size keep name scene behind old new h good before later denotes ends in
     Stored_directory leads.next leads.goes leads.denotes
-step_ends laws (Some fault) s strict size keep name scene behind old new h good before later denotes ends =
-    stopped size keep name (task.Step s) scene fault old new h (stop_leaves s strict size keep name scene behind fault old new h before later denotes ends)
+step_ends laws (Some fault) s older size keep name scene behind old new h good before later denotes ends =
+    stopped size keep name (task.Step s) scene fault old new h (stop_leaves s older size keep name scene behind fault old new h before later denotes ends)
 
 -- a task for which something is read first
-reading_ends : Laws → (fault : Option Fault) (t : Task) (strict : Bool) (size : ℕ) (keep : Option ℕ) (name : List ℕ) (scene behind : Scene) (old new : Files) (h : History)
+reading_ends : Laws → (fault : Option Fault) (t : Task) (older : Bool) (size : ℕ) (keep : Option ℕ) (name : List ℕ) (scene behind : Scene) (old new : Files) (h : History)
     → ((next : History) → (s : Step) × BecomesStep t keep scene s × StepGoes size keep s scene.files scene.typed h next → TaskGoes size keep t scene h next)
-    → scene.files ≡ Some old → behind.files ≡ Some new → FilesDenote size name old h → EndsReading t strict size keep name scene behind fault
+    → scene.files ≡ Some old → behind.files ≡ Some new → FilesDenote size name old h → EndsReading t older size keep name scene behind fault
     → Ends size keep name t scene fault old new h
-reading_ends laws None t strict size keep name scene behind old new h turn before later denotes (inl (s, becomes, ends)) =
-    let leads = step_leads laws s strict size keep name scene behind old new h (good_step t keep scene s becomes) before later denotes ends in
+reading_ends laws None t older size keep name scene behind old new h turn before later denotes (inl (s, becomes, ends)) =
+    let leads = step_leads laws s older size keep name scene behind old new h (good_step t keep scene s becomes) before later denotes ends in
     Stored_directory leads.next (turn leads.next (s, becomes, leads.goes)) leads.denotes
-reading_ends laws None t strict size keep name scene behind old new h turn before later denotes (inr (keeps, (why, is, no_step))) = absurd cc
-reading_ends laws (Some fault) t strict size keep name scene behind old new h turn before later denotes (inl (s, becomes, ends)) =
-    stopped size keep name t scene fault old new h (stop_leaves s strict size keep name scene behind fault old new h before later denotes ends)
-reading_ends laws (Some fault) t strict size keep name scene behind old new h turn before later denotes (inr (keeps, no_step)) =
+reading_ends laws None t older size keep name scene behind old new h turn before later denotes (inr (keeps, (why, is, no_step))) = absurd cc
+reading_ends laws (Some fault) t older size keep name scene behind old new h turn before later denotes (inl (s, becomes, ends)) =
+    stopped size keep name t scene fault old new h (stop_leaves s older size keep name scene behind fault old new h before later denotes ends)
+reading_ends laws (Some fault) t older size keep name scene behind old new h turn before later denotes (inr (keeps, no_step)) =
     Stored_directory h refl (same_files size name old new h (sym later ∙ keeps.0 ∙ before) denotes)
 
 -- any task
-task_ends : Laws → (fault : Option Fault) (t : Task) (strict : Bool) (size : ℕ) (keep : Option ℕ) (name : List ℕ) (scene behind : Scene) (old new : Files) (h : History)
+task_ends : Laws → (fault : Option Fault) (t : Task) (older : Bool) (size : ℕ) (keep : Option ℕ) (name : List ℕ) (scene behind : Scene) (old new : Files) (h : History)
     → SaysGoodRows t → scene.files ≡ Some old → behind.files ≡ Some new → FilesDenote size name old h
-    → EndsTask t strict size keep name scene behind fault → Ends size keep name t scene fault old new h
-task_ends laws fault (task.Step s) strict size keep name scene behind old new h good before later denotes ends =
-    step_ends laws fault s strict size keep name scene behind old new h good before later denotes ends
-task_ends laws fault (task.Extract dir) strict size keep name scene behind old new h good before later denotes ends =
+    → EndsTask t older size keep name scene behind fault → Ends size keep name t scene fault old new h
+task_ends laws fault (task.Step s) older size keep name scene behind old new h good before later denotes ends =
+    step_ends laws fault s older size keep name scene behind old new h good before later denotes ends
+task_ends laws fault (task.Extract dir) older size keep name scene behind old new h good before later denotes ends =
     Stored_directory h (extracted fault size keep dir scene h) (same_files size name old new h (sym later ∙ ends.0.0 ∙ before) denotes)
-task_ends laws fault (task.Pack extent limits dir) strict size keep name scene behind old new h good before later denotes ends =
-    reading_ends laws fault (task.Pack extent limits dir) strict size keep name scene behind old new h (λ next goes. goes) before later denotes ends
-task_ends laws fault (task.SetAttr path kind value) strict size keep name scene behind old new h good before later denotes ends =
-    reading_ends laws fault (task.SetAttr path kind value) strict size keep name scene behind old new h (λ next goes. goes) before later denotes ends
-task_ends laws fault (task.RmAttr path kind) strict size keep name scene behind old new h good before later denotes ends =
-    reading_ends laws fault (task.RmAttr path kind) strict size keep name scene behind old new h (λ next goes. goes) before later denotes ends
-task_ends laws fault (task.Batch file) strict size keep name scene behind old new h good before later denotes ends =
-    reading_ends laws fault (task.Batch file) strict size keep name scene behind old new h (λ next goes. goes) before later denotes ends
+task_ends laws fault (task.Pack extent limits dir) older size keep name scene behind old new h good before later denotes ends =
+    reading_ends laws fault (task.Pack extent limits dir) older size keep name scene behind old new h (λ next goes. goes) before later denotes ends
+task_ends laws fault (task.SetAttr path kind value) older size keep name scene behind old new h good before later denotes ends =
+    reading_ends laws fault (task.SetAttr path kind value) older size keep name scene behind old new h (λ next goes. goes) before later denotes ends
+task_ends laws fault (task.RmAttr path kind) older size keep name scene behind old new h good before later denotes ends =
+    reading_ends laws fault (task.RmAttr path kind) older size keep name scene behind old new h (λ next goes. goes) before later denotes ends
+task_ends laws fault (task.Batch file) older size keep name scene behind old new h good before later denotes ends =
+    reading_ends laws fault (task.Batch file) older size keep name scene behind old new h (λ next goes. goes) before later denotes ends
 
 -- ---- requests
 
@@ -465,12 +465,12 @@ request_ends : Laws → (size : ℕ) (name : List ℕ) (s : Served) (old new : F
 request_ends laws size name s old new h denotes is =
     let fault = is.ends.0 in
     let t = s.request.task in
-    let strict = s.request.is_strict in
+    let older = s.request.takes_older in
     let keep = s.request.keep in
-    let by_task : EndsTask t strict s.request.size keep s.request.image.now s.old s.new fault → Ends size keep name t s.old fault old new h = λ ends.
-    let by_size = subst (λ (n : ℕ). EndsTask t strict n keep s.request.image.now s.old s.new fault) is.size_is ends in
-    let by_name = subst (λ (n : List ℕ). EndsTask t strict size keep n s.old s.new fault) is.name_is by_size in
-    task_ends laws fault t strict size keep name s.old s.new old new h is.rows is.before is.behind denotes by_name in
+    let by_task : EndsTask t older s.request.size keep s.request.image.now s.old s.new fault → Ends size keep name t s.old fault old new h = λ ends.
+    let by_size = subst (λ (n : ℕ). EndsTask t older n keep s.request.image.now s.old s.new fault) is.size_is ends in
+    let by_name = subst (λ (n : List ℕ). EndsTask t older size keep n s.old s.new fault) is.name_is by_size in
+    task_ends laws fault t older size keep name s.old s.new old new h is.rows is.before is.behind denotes by_name in
     let same : KeepsScene s.old s.new → FilesDenote size name new h = λ keeps.
     same_files size name old new h (sym is.behind ∙ keeps.0 ∙ is.before) denotes in
     by_end size name s fault old new h is.ends.2 (

@@ -150,10 +150,10 @@ blames (Some CannotWrite) failed s is blamed = blamed_has_refused failed s is bl
 blames _ failed s is blamed = tt
 
 -- a step that ran on what it was handed; nothing was printed before it nor behind it
-pub step_ran : (step : Step) (strict : Bool) (size : ℕ) (keep : Option ℕ) (name : List ℕ) (old new : Scene) (h : HandedBytes) (fault : Option Fault)
-    (before after : Option (List ℕ)) (outcome : Outcome) → IsHanded step name old h → refused_by strict (later_handed step size h) ≡ None
-    → RunsOn step size keep h fault before after outcome → before ≡ old.printed → new.printed ≡ after → IsBlamed fault new → RunsStep step strict size keep name old new fault outcome
-step_ran step strict size keep name old new h fault before after outcome is none runs first last blamed = (
+pub step_ran : (step : Step) (older : Bool) (size : ℕ) (keep : Option ℕ) (name : List ℕ) (old new : Scene) (h : HandedBytes) (fault : Option Fault)
+    (before after : Option (List ℕ)) (outcome : Outcome) → IsHanded step name old h → refused_by older (later_handed step size h) ≡ None
+    → RunsOn step size keep h fault before after outcome → before ≡ old.printed → new.printed ≡ after → IsBlamed fault new → RunsStep step older size keep name old new fault outcome
+step_ran step older size keep name old new h fault before after outcome is none runs first last blamed = (
   h,
   is,
   none,
@@ -170,28 +170,28 @@ stopped_at r fault stop is same = ap stopped_by is ∙ ap Some same
 -- ---- commits of a later version
 
 -- what a result is stopped by, of what a step was handed
-pub refused_handed : (strict : Bool) (step : Step) (size : ℕ) (h : HandedBytes) (found : Later) (ended : Option Fault) → found ≡ later_handed step size h
-    → ended ≡ refused_by strict found → refused_by strict (later_handed step size h) ≡ ended
-refused_handed strict step size h found ended is refused = subst (λ (l : Later). refused_by strict l ≡ ended) is (sym refused)
+pub refused_handed : (older : Bool) (step : Step) (size : ℕ) (h : HandedBytes) (found : Later) (ended : Option Fault) → found ≡ later_handed step size h
+    → ended ≡ refused_by older found → refused_by older (later_handed step size h) ≡ ended
+refused_handed older step size h found ended is refused = subst (λ (l : Later). refused_by older l ≡ ended) is (sym refused)
 
 -- ---- how steps end
 
-ends_stopped : (step : Step) (strict : Bool) (size : ℕ) (keep : Option ℕ) (name : List ℕ) (old new : Scene) (ended : Option Fault) (fault : Fault)
-    → ended ≡ Some fault → StopsStep step strict size keep name old new fault → EndsStep step strict size keep name old new ended
-ends_stopped step strict size keep name old new ended fault is stops = subst (EndsStep step strict size keep name old new) (sym is) stops
+ends_stopped : (step : Step) (older : Bool) (size : ℕ) (keep : Option ℕ) (name : List ℕ) (old new : Scene) (ended : Option Fault) (fault : Fault)
+    → ended ≡ Some fault → StopsStep step older size keep name old new fault → EndsStep step older size keep name old new ended
+ends_stopped step older size keep name old new ended fault is stops = subst (EndsStep step older size keep name old new) (sym is) stops
 
 -- what isn't run changes nothing
-pub ends_before : (step : Step) (strict : Bool) (size : ℕ) (keep : Option ℕ) (name : List ℕ) (old new : Scene) (ended : Option Fault) (fault : Fault)
-    → ended ≡ Some fault → IsNotRun step strict size name old new fault → KeepsScene old new → EndsStep step strict size keep name old new ended
-ends_before step strict size keep name old new ended fault is why keeps =
-    ends_stopped step strict size keep name old new ended fault is (inr (inl (why, keeps)))
+pub ends_before : (step : Step) (older : Bool) (size : ℕ) (keep : Option ℕ) (name : List ℕ) (old new : Scene) (ended : Option Fault) (fault : Fault)
+    → ended ≡ Some fault → IsNotRun step older size name old new fault → KeepsScene old new → EndsStep step older size keep name old new ended
+ends_before step older size keep name old new ended fault is why keeps =
+    ends_stopped step older size keep name old new ended fault is (inr (inl (why, keeps)))
 
 -- nor does what is refused for a commit of a later version
-pub ends_later : (step : Step) (strict : Bool) (size : ℕ) (keep : Option ℕ) (name : List ℕ) (old new : Scene) (h : HandedBytes) (ended : Option Fault) (fault : Fault)
-    → ended ≡ Some fault → IsHanded step name old h → refused_by strict (later_handed step size h) ≡ Some fault → KeepsScene old new
-    → EndsStep step strict size keep name old new ended
-ends_later step strict size keep name old new h ended fault is handed refused keeps =
-    ends_before step strict size keep name old new ended fault is (inr (inr (h, handed, refused))) keeps
+pub ends_later : (step : Step) (older : Bool) (size : ℕ) (keep : Option ℕ) (name : List ℕ) (old new : Scene) (h : HandedBytes) (ended : Option Fault) (fault : Fault)
+    → ended ≡ Some fault → IsHanded step name old h → refused_by older (later_handed step size h) ≡ Some fault → KeepsScene old new
+    → EndsStep step older size keep name old new ended
+ends_later step older size keep name old new h ended fault is handed refused keeps =
+    ends_before step older size keep name old new ended fault is (inr (inr (h, handed, refused))) keeps
 
 -- what isn't read
 unread_is_of_host : (new : Scene) (fault : Fault) → IsUnread new fault → IsOfHost new fault
@@ -207,31 +207,31 @@ unread_is_not_aimed Changes new name fault unread = inl (unread_is_of_host new f
 unread_is_not_aimed Forgets new name fault unread = inl (unread_is_of_host new fault unread)
 
 -- what isn't handed
-pub not_handed : (step : Step) (strict : Bool) (size : ℕ) (name : List ℕ) (old new : Scene) (fault : Fault) → IsNotHanded step new fault
-    → IsNotRun step strict size name old new fault
-not_handed step strict size name old new fault (inl unread) = inl (unread_is_not_aimed (kind_of step) new name fault unread)
-not_handed step strict size name old new fault (inr other) = inr (inl other)
+pub not_handed : (step : Step) (older : Bool) (size : ℕ) (name : List ℕ) (old new : Scene) (fault : Fault) → IsNotHanded step new fault
+    → IsNotRun step older size name old new fault
+not_handed step older size name old new fault (inl unread) = inl (unread_is_not_aimed (kind_of step) new name fault unread)
+not_handed step older size name old new fault (inr other) = inr (inl other)
 
 -- a run that is refused changes no file
-pub ends_refused : (step : Step) (strict : Bool) (size : ℕ) (keep : Option ℕ) (name : List ℕ) (old new : Scene) (ended : Option Fault) (fault : Fault) (outcome : Outcome)
-    → ended ≡ Some fault → RunsStep step strict size keep name old new (Some fault) outcome → new.files ≡ old.files
-    → EndsStep step strict size keep name old new ended
-ends_refused step strict size keep name old new ended fault outcome is runs same =
-    ends_stopped step strict size keep name old new ended fault is (inl (outcome, runs, same))
+pub ends_refused : (step : Step) (older : Bool) (size : ℕ) (keep : Option ℕ) (name : List ℕ) (old new : Scene) (ended : Option Fault) (fault : Fault) (outcome : Outcome)
+    → ended ≡ Some fault → RunsStep step older size keep name old new (Some fault) outcome → new.files ≡ old.files
+    → EndsStep step older size keep name old new ended
+ends_refused step older size keep name old new ended fault outcome is runs same =
+    ends_stopped step older size keep name old new ended fault is (inl (outcome, runs, same))
 
 -- what the host refuses behind a run spares the files
-pub ends_behind : (step : Step) (strict : Bool) (size : ℕ) (keep : Option ℕ) (name : List ℕ) (old new : Scene) (ended : Option Fault) (fault : Fault) (outcome : Outcome)
-    → ended ≡ Some fault → IsOfHost new fault → RunsStep step strict size keep name old new None outcome
-    → SparesFiles fault (kind_of step) old.files new.files name outcome → EndsStep step strict size keep name old new ended
-ends_behind step strict size keep name old new ended fault outcome is of_host runs spares =
-    ends_stopped step strict size keep name old new ended fault is (inr (inr (of_host, (outcome, runs, spares))))
+pub ends_behind : (step : Step) (older : Bool) (size : ℕ) (keep : Option ℕ) (name : List ℕ) (old new : Scene) (ended : Option Fault) (fault : Fault) (outcome : Outcome)
+    → ended ≡ Some fault → IsOfHost new fault → RunsStep step older size keep name old new None outcome
+    → SparesFiles fault (kind_of step) old.files new.files name outcome → EndsStep step older size keep name old new ended
+ends_behind step older size keep name old new ended fault outcome is of_host runs spares =
+    ends_stopped step older size keep name old new ended fault is (inr (inr (of_host, (outcome, runs, spares))))
 
 -- ---- a step on a host with the same files and standard output
 
-runs_alike : (step : Step) (strict : Bool) (size : ℕ) (keep : Option ℕ) (name : List ℕ) (mid old new : Scene) (fault : Option Fault) (outcome : Outcome)
-    → mid.files ≡ old.files → HandsAlike step mid old → mid.printed ≡ old.printed → RunsStep step strict size keep name mid new fault outcome
-    → RunsStep step strict size keep name old new fault outcome
-runs_alike step strict size keep name mid old new fault outcome files alike printed (h, is, none, runs, blamed) = (
+runs_alike : (step : Step) (older : Bool) (size : ℕ) (keep : Option ℕ) (name : List ℕ) (mid old new : Scene) (fault : Option Fault) (outcome : Outcome)
+    → mid.files ≡ old.files → HandsAlike step mid old → mid.printed ≡ old.printed → RunsStep step older size keep name mid new fault outcome
+    → RunsStep step older size keep name old new fault outcome
+runs_alike step older size keep name mid old new fault outcome files alike printed (h, is, none, runs, blamed) = (
   h,
   handed_alike step name mid old h files alike is,
   none,
@@ -239,47 +239,47 @@ runs_alike step strict size keep name mid old new fault outcome files alike prin
   blamed,
 )
 
-not_run_alike : (step : Step) (strict : Bool) (size : ℕ) (name : List ℕ) (mid old new : Scene) (fault : Fault)
-    → mid.files ≡ old.files → HandsAlike step mid old → IsNotRun step strict size name mid new fault → IsNotRun step strict size name old new fault
-not_run_alike step strict size name mid old new fault files alike (inl not_aimed) = inl not_aimed
-not_run_alike step strict size name mid old new fault files alike (inr (inl unread)) = inr (inl unread)
-not_run_alike step strict size name mid old new fault files alike (inr (inr (h, is, refused))) =
+not_run_alike : (step : Step) (older : Bool) (size : ℕ) (name : List ℕ) (mid old new : Scene) (fault : Fault)
+    → mid.files ≡ old.files → HandsAlike step mid old → IsNotRun step older size name mid new fault → IsNotRun step older size name old new fault
+not_run_alike step older size name mid old new fault files alike (inl not_aimed) = inl not_aimed
+not_run_alike step older size name mid old new fault files alike (inr (inl unread)) = inr (inl unread)
+not_run_alike step older size name mid old new fault files alike (inr (inr (h, is, refused))) =
     inr (inr (h, handed_alike step name mid old h files alike is, refused))
 
-step_alike : (step : Step) (strict : Bool) (size : ℕ) (keep : Option ℕ) (name : List ℕ) (mid old new : Scene) (ended : Option Fault)
-    → mid.files ≡ old.files → HandsAlike step mid old → mid.printed ≡ old.printed → EndsStep step strict size keep name mid new ended
-    → EndsStep step strict size keep name old new ended
-step_alike step strict size keep name mid old new None files alike printed (outcome, runs, leaves) = (
+step_alike : (step : Step) (older : Bool) (size : ℕ) (keep : Option ℕ) (name : List ℕ) (mid old new : Scene) (ended : Option Fault)
+    → mid.files ≡ old.files → HandsAlike step mid old → mid.printed ≡ old.printed → EndsStep step older size keep name mid new ended
+    → EndsStep step older size keep name old new ended
+step_alike step older size keep name mid old new None files alike printed (outcome, runs, leaves) = (
   outcome,
-  runs_alike step strict size keep name mid old new None outcome files alike printed runs,
+  runs_alike step older size keep name mid old new None outcome files alike printed runs,
   subst (λ (f : Option Files). LeavesFiles (kind_of step) f new.files name outcome) files leaves,
 )
-step_alike step strict size keep name mid old new (Some fault) files alike printed (inl (outcome, runs, same)) =
-    inl (outcome, runs_alike step strict size keep name mid old new (Some fault) outcome files alike printed runs, same ∙ files)
-step_alike step strict size keep name mid old new (Some fault) files alike printed (inr (inl (not_run, keeps))) =
-    inr (inl (not_run_alike step strict size name mid old new fault files alike not_run, (keeps.0 ∙ files, keeps.1 ∙ printed)))
-step_alike step strict size keep name mid old new (Some fault) files alike printed (inr (inr (of_host, (outcome, runs, spares)))) =
+step_alike step older size keep name mid old new (Some fault) files alike printed (inl (outcome, runs, same)) =
+    inl (outcome, runs_alike step older size keep name mid old new (Some fault) outcome files alike printed runs, same ∙ files)
+step_alike step older size keep name mid old new (Some fault) files alike printed (inr (inl (not_run, keeps))) =
+    inr (inl (not_run_alike step older size name mid old new fault files alike not_run, (keeps.0 ∙ files, keeps.1 ∙ printed)))
+step_alike step older size keep name mid old new (Some fault) files alike printed (inr (inr (of_host, (outcome, runs, spares)))) =
     inr (inr (
       of_host,
       (
         outcome,
-        runs_alike step strict size keep name mid old new None outcome files alike printed runs,
+        runs_alike step older size keep name mid old new None outcome files alike printed runs,
         subst (λ (f : Option Files). SparesFiles fault (kind_of step) f new.files name outcome) files spares,
       ),
     ))
 
 -- the same where standard input is the same
-pub step_from : (step : Step) (strict : Bool) (size : ℕ) (keep : Option ℕ) (name : List ℕ) (mid old new : Scene) (ended : Option Fault)
-    → mid.files ≡ old.files → mid.typed ≡ old.typed → mid.printed ≡ old.printed → EndsStep step strict size keep name mid new ended
-    → EndsStep step strict size keep name old new ended
-step_from step strict size keep name mid old new ended files typed printed ends =
-    step_alike step strict size keep name mid old new ended files (alike_from step mid old files typed) printed ends
+pub step_from : (step : Step) (older : Bool) (size : ℕ) (keep : Option ℕ) (name : List ℕ) (mid old new : Scene) (ended : Option Fault)
+    → mid.files ≡ old.files → mid.typed ≡ old.typed → mid.printed ≡ old.printed → EndsStep step older size keep name mid new ended
+    → EndsStep step older size keep name old new ended
+step_from step older size keep name mid old new ended files typed printed ends =
+    step_alike step older size keep name mid old new ended files (alike_from step mid old files typed) printed ends
 
 -- several steps read nothing besides
-pub batch_from : (steps : Bor (List Move)) (strict : Bool) (size : ℕ) (keep : Option ℕ) (name : List ℕ) (mid old new : Scene) (ended : Option Fault)
-    → KeepsScene old mid → EndsStep (Batch steps) strict size keep name mid new ended → EndsStep (Batch steps) strict size keep name old new ended
-batch_from steps strict size keep name mid old new ended kept ends =
-    step_alike (Batch steps) strict size keep name mid old new ended kept.0 (λ input hands. hands) kept.1 ends
+pub batch_from : (steps : Bor (List Move)) (older : Bool) (size : ℕ) (keep : Option ℕ) (name : List ℕ) (mid old new : Scene) (ended : Option Fault)
+    → KeepsScene old mid → EndsStep (Batch steps) older size keep name mid new ended → EndsStep (Batch steps) older size keep name old new ended
+batch_from steps older size keep name mid old new ended kept ends =
+    step_alike (Batch steps) older size keep name mid old new ended kept.0 (λ input hands. hands) kept.1 ends
 
 -- ---- tasks that become no step
 

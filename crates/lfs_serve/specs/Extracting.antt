@@ -76,15 +76,15 @@ EndsBytes size bytes dir tree old new fault = IsDisk (image_of size bytes) × En
 
 -- the same where a commit of a later version may be refused: then nothing is made
 abbrev pub EndsRead : Bool → ℕ → List ℕ → List ℕ → Option HostTree → Option (List Made) → Scene → Option Fault → Type 0
-EndsRead strict size bytes dir tree old new fault =
-    ((new.made ≡ old) × ((why : Fault) × (fault ≡ Some why) × (refused_by strict (later_alone size bytes) ≡ Some why)))
-    ⊎ ((refused_by strict (later_alone size bytes) ≡ None) × EndsBytes size bytes dir tree old new fault)
+EndsRead older size bytes dir tree old new fault =
+    ((new.made ≡ old) × ((why : Fault) × (fault ≡ Some why) × (refused_by older (later_alone size bytes) ≡ Some why)))
+    ⊎ ((refused_by older (later_alone size bytes) ≡ None) × EndsBytes size bytes dir tree old new fault)
 
 -- ---- an image's file
 
 -- what is made of an image's file: nothing where it isn't read, and else as of its bytes; no file changes, and nothing is printed
 abbrev pub EndsExtract : Bool → ℕ → List ℕ → List ℕ → Scene → Scene → Option Fault → Type 0
-EndsExtract strict size name dir old new fault =
+EndsExtract older size name dir old new fault =
     KeepsScene old new
     × (((new.made ≡ old.made) × ((why : Fault) × (fault ≡ Some why) × IsUnread new why))
-    ⊎ ((bytes : List ℕ) × ReadsFile old.files name most_image bytes × EndsRead strict size bytes dir old.tree old.made new fault))
+    ⊎ ((bytes : List ℕ) × ReadsFile old.files name most_image bytes × EndsRead older size bytes dir old.tree old.made new fault))

@@ -1,4 +1,4 @@
--- Commits of later disk versions in what is read as an image, and how they are refused where that is asked for (own).
+-- Commits of later disk versions in what is read as an image, for which it is refused, unless older states are asked for (own).
 use Rattle.std.specs.Prelude.{ℕ, Bool, List, Option, Some, None, if◌then◌else◌}
 use Rattle.lfs_block.specs.declared.mount_fault.MountFault.TheVariants.{Version}
 use Rattle.lfs_change.specs.declared.fault.Fault.{Fault}
@@ -25,6 +25,6 @@ refusal_of (Some version) compared = Some (Mount Version)
 refusal_of None (Some version) = Some (Other (other.Mount Version))
 refusal_of None None = None
 
--- the same where that is asked for
+-- the same, unless the state before them is gone on with
 abbrev pub refused_by : Bool → Later → Option Fault
-refused_by strict later = if strict then refusal_of later.image later.other else None
+refused_by older later = if older then None else refusal_of later.image later.other

@@ -39,39 +39,39 @@ IsBlamed _ s = ⊤
 
 -- the same of a step that was handed what is known of the host, in which nothing was to be refused as later
 abbrev pub RunsStep : Step → Bool → ℕ → Option ℕ → List ℕ → Scene → Scene → Option Fault → Outcome → Type 0
-RunsStep step strict size keep name old new fault outcome =
-    (h : HandedBytes) × IsHanded step name old h × (refused_by strict (later_handed step size h) ≡ None)
+RunsStep step older size keep name old new fault outcome =
+    (h : HandedBytes) × IsHanded step name old h × (refused_by older (later_handed step size h) ≡ None)
     × RunsOn step size keep h fault old.printed new.printed outcome × IsBlamed fault new
 
 -- a step is refused for a commit of a later version in what it was handed
 abbrev pub IsLater : Step → Bool → ℕ → List ℕ → Scene → Fault → Type 0
-IsLater step strict size name old fault =
-    (h : HandedBytes) × IsHanded step name old h × (refused_by strict (later_handed step size h) ≡ Some fault)
+IsLater step older size name old fault =
+    (h : HandedBytes) × IsHanded step name old h × (refused_by older (later_handed step size h) ≡ Some fault)
 
 -- why a step isn't run: its image isn't at hand, the other one isn't read, or a commit of a later version is refused
 abbrev pub IsNotRun : Step → Bool → ℕ → List ℕ → Scene → Scene → Fault → Type 0
-IsNotRun step strict size name old new fault =
-    IsNotAimed (kind_of step) new name fault ⊎ IsOtherUnread step new fault ⊎ IsLater step strict size name old fault
+IsNotRun step older size name old new fault =
+    IsNotAimed (kind_of step) new name fault ⊎ IsOtherUnread step new fault ⊎ IsLater step older size name old fault
 
 -- why a step wasn't done: `run` refused it, or it wasn't run, or the host refused something behind that
 abbrev pub StopsStep : Step → Bool → ℕ → Option ℕ → List ℕ → Scene → Scene → Fault → Type 0
-StopsStep step strict size keep name old new fault =
-    ((outcome : Outcome) × RunsStep step strict size keep name old new (Some fault) outcome × (new.files ≡ old.files))
-    ⊎ (IsNotRun step strict size name old new fault × KeepsScene old new)
+StopsStep step older size keep name old new fault =
+    ((outcome : Outcome) × RunsStep step older size keep name old new (Some fault) outcome × (new.files ≡ old.files))
+    ⊎ (IsNotRun step older size name old new fault × KeepsScene old new)
     ⊎ (IsOfHost new fault × ((outcome : Outcome)
-    × RunsStep step strict size keep name old new None outcome × SparesFiles fault (kind_of step) old.files new.files name outcome))
+    × RunsStep step older size keep name old new None outcome × SparesFiles fault (kind_of step) old.files new.files name outcome))
 
 -- how a step on an image's file ends: done, and the files have the bytes of the outcome; or with a fault
 abbrev pub EndsStep : Step → Bool → ℕ → Option ℕ → List ℕ → Scene → Scene → Option Fault → Type 0
-EndsStep step strict size keep name old new None =
-    (outcome : Outcome) × RunsStep step strict size keep name old new None outcome
+EndsStep step older size keep name old new None =
+    (outcome : Outcome) × RunsStep step older size keep name old new None outcome
     × LeavesFiles (kind_of step) old.files new.files name outcome
-EndsStep step strict size keep name old new (Some fault) = StopsStep step strict size keep name old new fault
+EndsStep step older size keep name old new (Some fault) = StopsStep step older size keep name old new fault
 
 -- how what becomes a step ends: as that step, or with a fault since it becomes none
 abbrev pub EndsAs : (Step → Type 0) → (Fault → Type 0) → Bool → ℕ → Option ℕ → List ℕ → Scene → Scene → Option Fault → Type 0
-EndsAs becomes refused strict size keep name old new fault =
-    ((step : Step) × becomes step × EndsStep step strict size keep name old new fault)
+EndsAs becomes refused older size keep name old new fault =
+    ((step : Step) × becomes step × EndsStep step older size keep name old new fault)
     ⊎ (KeepsScene old new × ((why : Fault) × (fault ≡ Some why) × refused why))
 
 -- the step that a task becomes, with the steps of its script, or with the rows of the folder that it packs
@@ -87,14 +87,14 @@ BecomesNoStep task old new why = NamesNoStep task why
 
 -- how a task ends for which something is read first
 abbrev pub EndsReading : Task → Bool → ℕ → Option ℕ → List ℕ → Scene → Scene → Option Fault → Type 0
-EndsReading task strict size keep name old new fault =
-    EndsAs (BecomesStep task keep old) (BecomesNoStep task old new) strict size keep name old new fault
+EndsReading task older size keep name old new fault =
+    EndsAs (BecomesStep task keep old) (BecomesNoStep task old new) older size keep name old new fault
 
 -- how a task on an image's file ends: as the step that its words say, as a folder that is made, or by what is read first
 abbrev pub EndsTask : Task → Bool → ℕ → Option ℕ → List ℕ → Scene → Scene → Option Fault → Type 0
-EndsTask (task.Step step) strict size keep name old new fault = EndsStep step strict size keep name old new fault
-EndsTask (Extract dir) strict size keep name old new fault = EndsExtract strict size name dir.now old new fault
-EndsTask task strict size keep name old new fault = EndsReading task strict size keep name old new fault
+EndsTask (task.Step step) older size keep name old new fault = EndsStep step older size keep name old new fault
+EndsTask (Extract dir) older size keep name old new fault = EndsExtract older size name dir.now old new fault
+EndsTask task older size keep name old new fault = EndsReading task older size keep name old new fault
 
 -- the fault that a run stopped with, if any
 abbrev pub stopped_by : {T : Type 0} → Result T Stop → Option Fault
@@ -105,11 +105,11 @@ stopped_by (Err stop) = Some stop.fault
 abbrev pub IsSpared : Request → Scene → Type 0
 IsSpared request scene = request.is_new ≡ true → IsMissing scene.files request.image.now
 
--- how what is asked for ends: as its task, which is strict where that is asked for, or since the name of an image that is to be new is
+-- how what is asked for ends: as its task, over older states where they are asked for, or since the name of an image that is to be new is
 -- refused, where nothing is changed
 abbrev pub EndsAsked : Request → Scene → Scene → Option Fault → Type 0
 EndsAsked request old new fault =
-    (IsSpared request old × EndsTask request.task request.is_strict request.size request.keep request.image.now old new fault)
+    (IsSpared request old × EndsTask request.task request.takes_older request.size request.keep request.image.now old new fault)
     ⊎ ((request.is_new ≡ true) × (fault ≡ Some CannotWrite) × HasRefused new × KeepsScene old new)
 
 -- how a request ends

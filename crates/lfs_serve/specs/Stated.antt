@@ -1,23 +1,21 @@
--- The block size that an image's first block states (own).
-use Rattle.std.specs.Prelude.{◌≡◌, ◌⊎◌, ℕ, ◌&&◌, nat_eq, nat_lt, List, Option, length, drop, codes, if◌then◌else◌}
-use Rattle.std.specs.Int.{w32, from_le_bytes}
-use Rattle.std.specs.List.{starts_with}
-use Rattle.lfs_block.specs.Geometry.{is_geometry}
-use Rattle.lfs_host.specs.Files.{Files, ReadsFile}
+-- The block size that an image's file states (own).
+use Rattle.std.specs.Prelude.{◌≡◌, ◌⊎◌, ℕ, List, Option}
+use Rattle.std.specs.Option.{unwrap_or}
+use Rattle.lfs_host.specs.Files.{ReadsFile}
+use Rattle.lfs_host.specs.Scene.{HasRefused, Scene}
+use Rattle.lfs_stated.specs.Size.{IsStated}
 
 -- the block size where none is stated
 abbrev pub usual_size : ℕ
 usual_size = 4096
 
--- what an image's front states, whatever its block size is: the number behind "littlefs" and the version, where images have blocks of
--- so many bytes
-abbrev pub size_stated : List ℕ → ℕ
-size_stated front =
-    if nat_lt (length front) 28 then usual_size
-    else (let size = from_le_bytes w32 (drop 24 front) in
-    if starts_with nat_eq (drop 8 front) (codes "littlefs") && is_geometry size 2 then size else usual_size)
+-- the most bytes of an image's front that are looked at, but for one more
+abbrev pub most_front : ℕ
+most_front = 65568
 
--- this is the block size that an image's file states, or the usual one where it isn't read
-abbrev pub IsStatedSize : Option Files → List ℕ → ℕ → Type 0
-IsStatedSize files name size =
-    ((front : List ℕ) × ReadsFile files name 31 front × (size ≡ size_stated front)) ⊎ (size ≡ usual_size)
+-- this is the block size that an image's file states, or the usual one where it states none, or where the host has refused to read it
+abbrev pub IsStatedSize : Scene → Scene → List ℕ → ℕ → Type 0
+IsStatedSize old new name size =
+    ((front : List ℕ) × ReadsFile old.files name most_front front
+    × ((stated : Option ℕ) × IsStated front stated × (size ≡ unwrap_or stated usual_size)))
+    ⊎ (HasRefused new × (size ≡ usual_size))

@@ -30,7 +30,7 @@ pub fn batched<H: Host>(
     file: Option<&str>,
 ) -> Result<(), Stop>
     requires keep { MayKeep request.now.keep }
-    ensures ended { EndsTask (Batch file.entry) request.now.is_strict request.now.size request.now.keep request.now.image.now
+    ensures ended { EndsTask (Batch file.entry) request.now.takes_older request.now.size request.now.keep request.now.image.now
         (H.known host.old) (H.known host.new) (stopped_by result) }
 {
     let text = script_text(alloc, host, file)?;
@@ -63,7 +63,7 @@ fn text_batched<H: Host>(
     requires keep { MayKeep request.now.keep }
     ensures ended { EndsAs (TakesText (H.known host.old).files request.now.keep text.now)
         (λ why. IsUnread (H.known host.new) why ⊎ SaysNoSteps text.now why)
-        request.now.is_strict request.now.size request.now.keep request.now.image.now (H.known host.old) (H.known host.new) (stopped_by result) }
+        request.now.takes_older request.now.size request.now.keep request.now.image.now (H.known host.old) (H.known host.new) (stopped_by result) }
 {
     match script_lines(alloc, text) {
         Ok(lines) => lines_batched(alloc, host, request, beside, &lines),
@@ -81,7 +81,7 @@ fn lines_batched<H: Host>(
 ) -> Result<(), Stop>
     requires keep { MayKeep request.now.keep }
     ensures ended { EndsAs (TakesLines (H.known host.old).files request.now.keep lines.now) (IsUnread (H.known host.new))
-        request.now.is_strict request.now.size request.now.keep request.now.image.now (H.known host.old) (H.known host.new) (stopped_by result) }
+        request.now.takes_older request.now.size request.now.keep request.now.image.now (H.known host.old) (H.known host.new) (stopped_by result) }
 {
     let read = read_lines(alloc, host, lines)?;
     let moves = moves_of(alloc, &read, request.keep)?;

@@ -33,13 +33,13 @@ pub fn extracted<H: Host>(
     beside: &mut Beside,
     dir: &str,
 ) -> Result<(), Stop>
-    ensures made { EndsExtract request.now.is_strict request.now.size request.now.image.now dir.now (H.known host.old) (H.known host.new) (stopped_by result) }
+    ensures made { EndsExtract request.now.takes_older request.now.size request.now.image.now dir.now (H.known host.old) (H.known host.new) (stopped_by result) }
     ensures kept { KeepsFiles (H.known host.old) (H.known host.new) }
 {
     let target = aimed(alloc, host, StepKind::Asks, request.image)?;
     let bytes = read_image(alloc, host, StepKind::Asks, target.as_str())?;
     let found = later_alone(request.size, bytes.as_slice());
-    must_be_read(request.is_strict, found)?;
+    must_be_read(request.takes_older, found)?;
     beside.later = found;
     extract_bytes(alloc, host, request.size, bytes, dir)
 }

@@ -9,6 +9,8 @@ pub enum Finding {
     Missing,
     /// Something is there.
     Present,
+    /// A directory is there, in whose place something is to be moved.
+    PresentDirectory,
     /// It is a file, and more names stand behind it.
     File,
     /// It is a directory.
@@ -40,7 +42,7 @@ impl Finding {
             Finding::Missing => "nothing is there",
             Finding::Present => "something is there",
             Finding::File => "is a file",
-            Finding::Directory => "is a directory",
+            Finding::Directory | Finding::PresentDirectory => "is a directory",
             Finding::NotEmpty => "is not empty",
             Finding::NoPath => "is no path",
             Finding::LongName(_) => "its name is longer than ",

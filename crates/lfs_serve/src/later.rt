@@ -46,11 +46,11 @@ pub fn later_handed(step: &Step<'_>, size: u32, handed: &Handed) -> Later
     Later { image, other }
 }
 
-/// Refuses them, where that is asked for. Takes no memory.
-pub fn must_be_read(is_strict: bool, later: Later) -> Result<(), Stop>
-    ensures { stopped_by result ≡ refused_by is_strict later }
+/// Refuses them, unless the state before them is gone on with. Takes no memory.
+pub fn must_be_read(takes_older: bool, later: Later) -> Result<(), Stop>
+    ensures { stopped_by result ≡ refused_by takes_older later }
 {
-    if !is_strict {
+    if takes_older {
         return Ok(());
     }
     match (later.image, later.other) {
@@ -96,5 +96,18 @@ pub fn tell_version<H: Host>(host: &mut H, image: &str, version: u32)
         "a later commit of disk version ",
         version,
         " stands in it, which is not read",
+    );
+}
+
+/// Tells that a device has changed the image of this name, for which it is refused. Takes no memory.
+pub fn tell_changed<H: Host>(host: &mut H, image: &str, version: u32)
+    ensures kept { H.known host.new ≡ H.known host.old }
+{
+    say_version(
+        host,
+        image,
+        "a device has changed it with disk version ",
+        version,
+        ", which is not read; --older goes on with the state before that",
     );
 }

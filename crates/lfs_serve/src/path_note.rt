@@ -60,7 +60,7 @@ fn note_below(
     outline: &Outline,
 ) -> Option<PathNote> {
     let paths = StepPaths::of(step)?;
-    let finding = finding_of(step, refusal, limits)?;
+    let finding = present_as(alloc, outline, paths, finding_of(step, refusal, limits)?);
     let front = front_of(alloc, outline, paths, finding)?;
     Some(PathNote { front, finding })
 }
@@ -88,6 +88,39 @@ fn finding_of(step: &Step<'_>, refusal: Refusal, limits: Limits) -> Option<Findi
     }
 }
 
+/// What is said of what is there already: that it is a directory, where something else is to be moved in its place.
+fn present_as(
+    alloc: Global,
+    outline: &Outline,
+    paths: StepPaths<'_>,
+    finding: Finding,
+) -> Finding {
+    match (finding, paths.target) {
+        (Finding::Present, Some(target))
+            if target != paths.path && is_directory(alloc, outline, target) =>
+        {
+            Finding::PresentDirectory
+        }
+        (finding, _) => finding,
+    }
+}
+
+/// Whether a text is the path of a directory.
+fn is_directory(alloc: Global, outline: &Outline, text: &[u8]) -> bool {
+    match names_of(alloc, text) {
+        Ok(names) => leads_to_directory(outline, names.as_slice()),
+        Err(_) => false,
+    }
+}
+
+/// Whether these names lead to a directory.
+fn leads_to_directory(outline: &Outline, names: &[&[u8]]) -> bool {
+    match entry_there(outline, names) {
+        Ok(entry) => entry.target().is_some(),
+        Err(_) => false,
+    }
+}
+
 /// The front of a step's path that a finding is of.
 fn front_of(
     alloc: Global,
@@ -99,7 +132,10 @@ fn front_of(
         Finding::Missing | Finding::File => found_front(alloc, outline, paths, finding),
         Finding::NoPath => bad_front(alloc, paths),
         Finding::Root if paths.path.len() > 1 => Some(paths.last()),
-        Finding::Present | Finding::LongName(_) | Finding::LargeEntry => Some(paths.last()),
+        Finding::Present
+        | Finding::PresentDirectory
+        | Finding::LongName(_)
+        | Finding::LargeEntry => Some(paths.last()),
         _ => Some(paths.first()),
     }
 }

@@ -4,6 +4,7 @@ ghost use Rattle.std.specs.Prelude.{◌≡◌};
 
 use crate::beside::Beside;
 use crate::finding::Finding;
+use crate::last_name::last_name;
 use crate::stated::Statement;
 use crate::stop::Stop;
 use lfs_command::most_inline;
@@ -82,11 +83,6 @@ fn is_of(size: u32, row: &PackRow<'_>, finding: Finding) -> bool {
         (Finding::LargeEntry, bytes) => entry_len(size, name, bytes) > room(size),
         _ => false,
     }
-}
-
-/// The last name of a path.
-fn last_name(path: &[u8]) -> &[u8] {
-    path.rsplit(|&byte| byte == b'/').next().unwrap_or(path)
 }
 
 /// The bytes that the entry of a name takes of a block: those of its tags and of the name, and a file's contents where they stand in it,

@@ -18,7 +18,7 @@ use crate::later::{later_handed, must_be_read, tell_later};
 use crate::least::{counted, with_need};
 use crate::new_image::with_new_image;
 use crate::refused_row::with_row;
-use crate::stated::stated_in;
+use crate::stated::Sight;
 use crate::stop::Stop;
 use crate::stopping::stop_of_run;
 use crate::telling::tell_end;
@@ -32,8 +32,8 @@ use std::alloc::Global;
 
 /// Does what is asked for, and answers the status that the program ends with. The caller owes that what is kept is 1 to 1,000 images,
 /// and limits of a new image that images may state.
-/// A fault is told on standard error, with what is known of it beside; and so are commits of a later disk version in what is read as
-/// an image, which are refused with `Version` where the request is strict. Takes memory.
+/// A fault is told on standard error, with what is known of it beside. Commits of a later disk version in what is read as an image are
+/// refused with `Version`, or told of where the request takes the state before them. Takes memory.
 ///
 /// Source: own.
 pub fn served<H: Host>(alloc: Global, host: &mut H, request: &Request<'_>) -> u8
@@ -73,7 +73,7 @@ fn done<H: Host>(
 ) -> Result<(), Stop>
     requires keep { MayKeep request.now.keep }
     requires range { IsTaskInRange request.now.task }
-    ensures ended { EndsTask request.now.task request.now.is_strict request.now.size request.now.keep request.now.image.now
+    ensures ended { EndsTask request.now.task request.now.takes_older request.now.size request.now.keep request.now.image.now
         (H.known host.old) (H.known host.new) (stopped_by result) }
 {
     match request.task {
@@ -104,7 +104,7 @@ fn packed<H: Host>(
 ) -> Result<(), Stop>
     requires keep { MayKeep request.now.keep }
     requires range { IsLimits limits }
-    ensures ended { EndsTask (Pack extent limits dir.entry) request.now.is_strict request.now.size request.now.keep request.now.image.now
+    ensures ended { EndsTask (Pack extent limits dir.entry) request.now.takes_older request.now.size request.now.keep request.now.image.now
         (H.known host.old) (H.known host.new) (stopped_by result) }
 {
     let folder = folder_of(alloc, host, dir)?;
@@ -136,7 +136,7 @@ fn set<H: Host>(
     value: &str,
 ) -> Result<(), Stop>
     requires { MayKeep request.now.keep }
-    ensures ended { EndsTask (SetAttr path.entry kind.entry value.entry) request.now.is_strict request.now.size request.now.keep request.now.image.now
+    ensures ended { EndsTask (SetAttr path.entry kind.entry value.entry) request.now.takes_older request.now.size request.now.keep request.now.image.now
         (H.known host.old) (H.known host.new) (stopped_by result) }
 {
     let value = value_in(alloc, value)?;
@@ -161,7 +161,7 @@ fn cleared<H: Host>(
     kind: &str,
 ) -> Result<(), Stop>
     requires { MayKeep request.now.keep }
-    ensures ended { EndsTask (RmAttr path.entry kind.entry) request.now.is_strict request.now.size request.now.keep request.now.image.now
+    ensures ended { EndsTask (RmAttr path.entry kind.entry) request.now.takes_older request.now.size request.now.keep request.now.image.now
         (H.known host.old) (H.known host.new) (stopped_by result) }
 {
     let kind = kind_in(kind)?;
@@ -178,14 +178,14 @@ pub fn stepped<H: Host>(
 ) -> Result<(), Stop>
     requires keep { MayKeep request.now.keep }
     requires range { IsStepInRange step.now }
-    ensures ended { EndsStep step.now request.now.is_strict request.now.size request.now.keep request.now.image.now
+    ensures ended { EndsStep step.now request.now.takes_older request.now.size request.now.keep request.now.image.now
         (H.known host.old) (H.known host.new) (stopped_by result) }
 {
     let kind = kind_of(step);
     let target = aimed(alloc, host, kind, request.image)?;
     let handed = hand_over(alloc, host, step, target.as_str())?;
     let found = later_handed(step, request.size, &handed);
-    must_be_read(request.is_strict, found)?;
+    must_be_read(request.takes_older, found)?;
     beside.later = found;
     let outcome = match taken(alloc, host, request.size, request.keep, step, handed) {
         Ok(outcome) => outcome,
@@ -238,10 +238,18 @@ fn taken<H: Host>(
     ensures blamed { IsBlamed (stopped_by result) (H.known host.new) }
     ensures kept { ((H.known host.new).files ≡ (H.known host.old).files) × ((H.known host.new).typed ≡ (H.known host.old).typed) }
 {
-    let other = stated_in(&handed.input);
+    let other = other_sight(size, step, &handed.input);
     let outcome = ran(alloc, host, size, keep, step, handed);
     match outcome.fault {
         None => Ok(outcome),
         Some(fault) => Err(stop_of_run(alloc, size, step, fault, outcome, other)),
+    }
+}
+
+/// What is seen of the image that another is compared with, of which a step reads these bytes.
+fn other_sight(size: u32, step: &Step<'_>, input: &[u8]) -> Sight {
+    match step {
+        Step::Diff { .. } => Sight::of(size, input),
+        _ => Sight::none(),
     }
 }

@@ -1,47 +1,27 @@
-//! The block size that an image's first block states.
+//! The block size that an image's file states.
 
-ghost use Rattle.std.specs.Prelude.{◌≡◌};
+ghost use Rattle.std.specs.Prelude.{◌≡◌, IfOk};
 ghost use Rattle.lfs_host.specs.Scene.{KeepsAll};
-ghost use Rattle.lfs_serve.specs.Stated.{IsStatedSize, size_stated};
+ghost use Rattle.lfs_serve.specs.Stated.{IsStatedSize};
 
-use crate::stated::MAGIC;
-use lfs_block::{geometry_ok, little_word};
-use lfs_host::Host;
-use std::alloc::Global;
+use lfs_host::{Host, ReadFault};
+use lfs_stated::{MOST_FRONT, size_stated};
+use std::alloc::{AllocError, Global};
 
 /// The block size where none is stated, in bytes.
 const USUAL_SIZE: u32 = 4_096;
 
-/// The last byte of an image that is looked at.
-const LAST: u64 = 31;
-
-/// What an image's front states as the size of a block.
-fn size_stated(front: &[u8]) -> u32
-    ensures { result ≡ size_stated front.now }
-{
-    if front.len() < 28 {
-        return USUAL_SIZE;
-    }
-    let (_, magic) = front.split_at(8);
-    let (_, words) = front.split_at(24);
-    let size = little_word(words);
-    if magic.starts_with(MAGIC) && geometry_ok(size, 2) {
-        size
-    } else {
-        USUAL_SIZE
-    }
-}
-
-/// The size of a block, in bytes, that the first block of an image's file states where "littlefs" stands before it, and which images
-/// have; else 4,096, also where the file isn't read. Nothing is changed.
+/// The size of a block, in bytes, that an image's file states in its first block, or else in its second one; 4,096 where neither does,
+/// and where the host refuses to read it. Nothing is changed. Takes memory.
 ///
 /// Source: own.
-pub fn stated_size<H: Host>(alloc: Global, host: &mut H, image: &str) -> u32
-    ensures stated { IsStatedSize (H.known host.old).files image.now result }
+pub fn stated_size<H: Host>(alloc: Global, host: &mut H, image: &str) -> Result<u32, AllocError>
+    ensures stated { IfOk result (IsStatedSize (H.known host.old) (H.known host.new) image.now) }
     ensures kept { KeepsAll (H.known host.old) (H.known host.new) }
 {
-    match host.read(alloc, image, LAST) {
-        Ok(front) => size_stated(&front),
-        Err(_) => USUAL_SIZE,
+    match host.read(alloc, image, MOST_FRONT) {
+        Ok(front) => Ok(size_stated(&front).unwrap_or(USUAL_SIZE)),
+        Err(ReadFault::CannotRead) => Ok(USUAL_SIZE),
+        Err(ReadFault::Memory) => Err(AllocError),
     }
 }

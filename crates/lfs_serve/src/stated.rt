@@ -5,10 +5,9 @@ use crate::path_note::PathNote;
 use byteorder::{ByteOrder, LittleEndian};
 use lfs_block::{ImageFault, MountFault};
 use lfs_change::OtherFault;
+use lfs_later::{StatedVersion, unread_version};
+use lfs_stated::superblock_words;
 use lfs_step::Fault;
-
-/// What stands in front of the superblock's fields.
-pub const MAGIC: &[u8] = b"littlefs";
 
 /// The disk version that is edited.
 const VERSION: u32 = 0x0002_0000;
@@ -24,11 +23,44 @@ pub struct Stated {
     pub count: u32,
 }
 
-/// Where an image states something, and what of that is told.
+/// What is seen of bytes that are read as an image, whatever they are.
+#[derive(Clone, Copy)]
+pub struct Sight {
+    /// How many bytes there are.
+    pub len: usize,
+    /// What their first block states, where it begins as a superblock does.
+    pub stated: Option<Stated>,
+    /// The disk version that is stated where version 2.0 reads no commit.
+    pub unread: Option<StatedVersion>,
+}
+
+impl Sight {
+    /// What is seen of no bytes. Takes no memory.
+    pub fn none() -> Sight {
+        Sight {
+            len: 0,
+            stated: None,
+            unread: None,
+        }
+    }
+
+    /// What is seen of bytes, as of blocks of `size` bytes. Takes no memory.
+    pub fn of(size: u32, bytes: &[u8]) -> Sight {
+        Sight {
+            len: bytes.len(),
+            stated: stated_in(bytes),
+            unread: unread_version(bytes, size),
+        }
+    }
+}
+
+/// Where an image states a geometry or a disk version, and which of the two is told.
 #[derive(Clone, Copy)]
 pub enum Place {
     /// The geometry that the superblock states.
     Superblock,
+    /// The disk version that the superblock states.
+    SuperblockVersion,
     /// The geometry that stands in the first block, which isn't read as a superblock.
     FirstBlock,
     /// The disk version that stands there, which is a later one.
@@ -40,8 +72,12 @@ pub enum Place {
 pub enum Statement {
     /// What an image states somewhere.
     Stated(Place, Stated),
+    /// The disk version that a block states of which version 2.0 reads no commit.
+    Unread(StatedVersion),
     /// The disk version of a later commit, for which the image is refused.
     Later(u32),
+    /// How many bytes there are, which aren't whole blocks.
+    Length(usize),
     /// What is known of the path for which a step is refused.
     Path(PathNote),
     /// What is known of the row for which a folder isn't packed; the text of its path is kept beside.
@@ -52,34 +88,44 @@ pub enum Statement {
     Line(usize),
     /// How many blocks the folder needs that is packed; no image of this block size holds it for `None`.
     Need(Option<u32>),
+    /// How many changes are done, or undone, fewer than are asked for.
+    Changes(usize),
+    /// The journal is another image's.
+    OtherJournal,
     /// What was to become the image is the one that the journal leads to.
     NewImage,
 }
 
-/// What is told of an image behind a fault; `other` is what that of an image states that the first is compared with. Takes no memory.
-pub fn statement_for(fault: Fault, image: &[u8], other: Option<Stated>) -> Option<Statement> {
+/// What is told of an image behind a fault; `other` is what is seen of one that the first is compared with. Takes no memory.
+pub fn statement_for(fault: Fault, image: Sight, other: Sight) -> Option<Statement> {
     match fault {
-        Fault::Image(fault) => statement_of_bytes(fault, stated_in(image)?),
-        Fault::Mount(fault) => statement_of_image(fault, stated_in(image)?),
-        Fault::Other(OtherFault::Image(fault)) => statement_of_bytes(fault, other?),
-        Fault::Other(OtherFault::Mount(fault)) => statement_of_image(fault, other?),
+        Fault::Image(fault) => statement_of_bytes(fault, image),
+        Fault::Mount(fault) => statement_of_image(fault, image),
+        Fault::Other(OtherFault::Image(fault)) => statement_of_bytes(fault, other),
+        Fault::Other(OtherFault::Mount(fault)) => statement_of_image(fault, other),
+        Fault::JournalMismatch => Some(Statement::OtherJournal),
         _ => None,
     }
 }
 
 /// What is told where bytes are no image.
-fn statement_of_bytes(fault: ImageFault, stated: Stated) -> Option<Statement> {
-    match fault {
-        ImageFault::ImageLength | ImageFault::BadGeometry => {
-            Some(Statement::Stated(Place::FirstBlock, stated))
-        }
+fn statement_of_bytes(fault: ImageFault, seen: Sight) -> Option<Statement> {
+    match (fault, seen.stated) {
+        (_, Some(stated)) => Some(Statement::Stated(Place::FirstBlock, stated)),
+        (ImageFault::ImageLength, None) => Some(Statement::Length(seen.len)),
+        (ImageFault::BadGeometry, None) => None,
     }
 }
 
 /// What is told where an image doesn't mount.
-fn statement_of_image(fault: MountFault, stated: Stated) -> Option<Statement> {
+fn statement_of_image(fault: MountFault, seen: Sight) -> Option<Statement> {
+    if let (MountFault::NoValidCommit, Some(version)) = (fault, seen.unread) {
+        return Some(Statement::Unread(version));
+    }
+    let stated = seen.stated?;
     let place = match fault {
         MountFault::Geometry => Place::Superblock,
+        MountFault::Version => Place::SuperblockVersion,
         MountFault::NoValidCommit if stated.version != VERSION => Place::Version,
         MountFault::NoValidCommit | MountFault::NoSuperblock => Place::FirstBlock,
         _ => return None,
@@ -89,11 +135,7 @@ fn statement_of_image(fault: MountFault, stated: Stated) -> Option<Statement> {
 
 /// What the superblock at the front of block 0 states, whatever the size of a block is; nothing where there is none. Takes no memory.
 pub fn stated_in(image: &[u8]) -> Option<Stated> {
-    let front = image.get(8..32)?;
-    if !front.starts_with(MAGIC) {
-        return None;
-    }
-    stated_of(&front[12..])
+    stated_of(superblock_words(image)?)
 }
 
 /// What the first words of a superblock's struct state; nothing where there are too few. Takes no memory.

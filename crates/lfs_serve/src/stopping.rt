@@ -3,11 +3,14 @@
 ghost use Rattle.std.specs.Prelude.{◌≡◌};
 
 use crate::path_note::{PathNote, note_of};
-use crate::stated::{Stated, Statement, statement_for};
+use crate::stated::{Sight, Statement, statement_for};
 use crate::stop::Stop;
 use crate::superblock::superblock_statement;
-use lfs_block::{Image, MountFault};
+use lfs_block::{Blocks, Image, MountFault};
+use lfs_book::Journal;
+use lfs_change::KeptJournal;
 use lfs_edit::Refusal;
+use lfs_history::StepFault;
 use lfs_step::{Fault, Outcome, Step};
 use std::alloc::Global;
 
@@ -17,35 +20,51 @@ pub fn stop_of_image(fault: Fault, size: u32, bytes: &[u8]) -> Stop
 {
     Stop {
         fault,
-        statement: statement_for(fault, bytes, None),
+        statement: statement_for(fault, Sight::of(size, bytes), Sight::none()),
         count: blocks_in(size, bytes),
     }
 }
 
-/// Why a step that was run ended early, with what its image states, or what is known of its path there; `other` is what the image
-/// states that the first is compared with. Takes memory.
+/// Why a step that was run ended early, with what its image states, what is known of its path there, or what its journal has; `other` is
+/// what is seen of the image that the first is compared with. Takes memory.
 pub fn stop_of_run(
     alloc: Global,
     size: u32,
     step: &Step<'_>,
     fault: Fault,
     outcome: Outcome,
-    other: Option<Stated>,
+    other: Sight,
 ) -> Stop
     ensures { result.fault ≡ fault }
 {
     let count = count_of(size, step, &outcome.image);
-    let bytes = outcome.image;
     let statement = match fault {
         fault if is_of_batch(step, fault) => Some(Statement::Step(outcome.at)),
-        Fault::Refused(refusal) => path_statement(note_of(alloc, size, step, refusal, bytes)),
-        Fault::Mount(MountFault::Geometry) => statement_of_bytes(alloc, size, bytes),
-        fault => statement_for(fault, &bytes, other),
+        Fault::Step(fault) => changes_statement(alloc, step, fault, outcome.journal),
+        fault => statement_of_run(alloc, size, step, fault, outcome.image, other),
     };
     Stop {
         fault,
         statement,
         count,
+    }
+}
+
+/// What is known beside a fault of a step on these bytes of an image.
+fn statement_of_run(
+    alloc: Global,
+    size: u32,
+    step: &Step<'_>,
+    fault: Fault,
+    bytes: Vec<u8>,
+    other: Sight,
+) -> Option<Statement> {
+    match fault {
+        Fault::Refused(refusal) => path_statement(note_of(alloc, size, step, refusal, bytes)),
+        Fault::Mount(fault @ (MountFault::Geometry | MountFault::Version)) => {
+            statement_of_bytes(alloc, size, fault, bytes)
+        }
+        fault => statement_for(fault, Sight::of(size, &bytes), other),
     }
 }
 
@@ -63,8 +82,13 @@ pub fn stop_of_extracting(alloc: Global, fault: Fault, image: Image) -> Stop
     ensures { result.fault ≡ fault }
 {
     let statement = match fault {
-        Fault::Mount(MountFault::Geometry) => superblock_statement(alloc, &image),
-        fault => statement_for(fault, &image.into_bytes(), None),
+        Fault::Mount(fault @ (MountFault::Geometry | MountFault::Version)) => {
+            superblock_statement(alloc, fault, &image)
+        }
+        fault => {
+            let size = image.size();
+            statement_for(fault, Sight::of(size, &image.into_bytes()), Sight::none())
+        }
     };
     Stop {
         fault,
@@ -73,12 +97,41 @@ pub fn stop_of_extracting(alloc: Global, fault: Fault, image: Image) -> Stop
     }
 }
 
-/// What the superblock states of bytes that are an image.
-fn statement_of_bytes(alloc: Global, size: u32, bytes: Vec<u8>) -> Option<Statement> {
+/// What the superblock states of bytes that are an image, behind a fault of its geometry or its version.
+fn statement_of_bytes(
+    alloc: Global,
+    size: u32,
+    fault: MountFault,
+    bytes: Vec<u8>,
+) -> Option<Statement> {
     match Image::new(bytes, size) {
-        Ok(image) => superblock_statement(alloc, &image),
+        Ok(image) => superblock_statement(alloc, fault, &image),
         Err(_) => None,
     }
+}
+
+/// How many changes a journal has that are done, or undone, where a step asks for several and there are fewer.
+fn changes_statement(
+    alloc: Global,
+    step: &Step<'_>,
+    fault: StepFault,
+    journal: KeptJournal,
+) -> Option<Statement> {
+    let (Step::Undo { steps: 2.. } | Step::Redo { steps: 2.. }) = *step else {
+        return None;
+    };
+    let bytes = journal.into_bytes(alloc)?;
+    let journal = Journal::read(alloc, &bytes).ok()?;
+    match fault {
+        StepFault::NothingToUndo => Some(Statement::Changes(journal.done())),
+        StepFault::NothingToRedo => Some(Statement::Changes(undone_in(&journal))),
+        _ => None,
+    }
+}
+
+/// How many changes of a journal are undone.
+fn undone_in(journal: &Journal) -> usize {
+    journal.patches().len().saturating_sub(journal.done())
 }
 
 /// What is known of a path, as it is told.

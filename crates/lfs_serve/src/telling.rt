@@ -5,8 +5,10 @@ ghost use Rattle.lfs_change.specs.Fault.{status_of};
 ghost use Rattle.lfs_serve.specs.Program.{stopped_by};
 
 use crate::finding::Finding;
-use crate::later::tell_version;
+use crate::later::tell_changed;
+use crate::last_name::last_name;
 use crate::line::{Piece, say, say_blocks, say_version, say_words};
+use crate::no_path::tell_no_path;
 use crate::path_note::PathNote;
 use crate::stated::{Place, Stated, Statement};
 use crate::step_paths::StepPaths;
@@ -14,7 +16,9 @@ use crate::stop::Stop;
 use lfs_block::{BLOCK_SIZE_STEP, ImageFault, MAX_IMAGE_LENGTH};
 use lfs_change::OtherFault;
 use lfs_exchange::tell_of_image;
+use lfs_edit::Refusal;
 use lfs_host::Host;
+use lfs_later::StatedVersion;
 use lfs_request::{Request, Task};
 use lfs_step::{Fault, Step};
 
@@ -53,6 +57,7 @@ fn tell_of<H: Host>(host: &mut H, request: &Request<'_>, stop: &Stop, text: &[u8
     match stop.fault {
         Fault::Image(ImageFault::BadGeometry) => tell_limit(host, request, stop.count),
         Fault::HostEntry => tell_entry(host, request),
+        Fault::Refused(Refusal::BadCount) => tell_bad_count(host, request, stop.count),
         _ => {}
     }
     if let Some(statement) = stop.statement {
@@ -71,6 +76,28 @@ fn tell_entry<H: Host>(host: &mut H, request: &Request<'_>)
         return;
     };
     say_words(host, dir, "is there already");
+}
+
+/// Tells how many blocks an image has that isn't made longer by as many as are asked for.
+fn tell_bad_count<H: Host>(host: &mut H, request: &Request<'_>, count: Option<usize>)
+    ensures kept { H.known host.new ≡ H.known host.old }
+{
+    let (Task::Step(Step::Grow { count: wanted }), Some(count)) = (request.task, count) else {
+        return;
+    };
+    if wanted as usize > count {
+        tell_count(host, request.image, wanted as usize, request.size);
+        return;
+    }
+    say(
+        host,
+        request.image,
+        &[
+            Piece::Text("has "),
+            Piece::Number(count),
+            Piece::Text(" blocks; grow only lengthens"),
+        ],
+    );
 }
 
 /// Tells which limit of a geometry isn't kept.
@@ -151,6 +178,10 @@ fn tell_note<H: Host>(host: &mut H, request: &Request<'_>, note: PathNote)
         (Finding::IntoItself, Some(target)) => {
             tell_into_itself(host, request.image, path, target);
         }
+        (Finding::PresentDirectory, Some(target)) => {
+            tell_directory(host, request.image, paths.path, target);
+        }
+        (Finding::NoPath, _) => tell_no_path(host, request.image, path),
         (finding, _) => tell_row(host, request.image, path, finding),
     }
 }
@@ -167,6 +198,23 @@ fn tell_into_itself<'a, H: Host>(host: &mut H, image: &str, path: &'a [u8], targ
             Piece::Text(": can't be moved to "),
             Piece::Bytes(target),
             Piece::Text(", which is below it"),
+        ],
+    );
+}
+
+/// Tells that what is at a path would be moved in place of a directory, and how it is moved into that.
+fn tell_directory<'a, H: Host>(host: &mut H, image: &str, path: &'a [u8], target: &'a [u8])
+    ensures kept { H.known host.new ≡ H.known host.old }
+{
+    say(
+        host,
+        image,
+        &[
+            Piece::Bytes(target),
+            Piece::Text(": is a directory: say "),
+            Piece::Bytes(target),
+            Piece::Text("/"),
+            Piece::Bytes(last_name(path)),
         ],
     );
 }
@@ -254,12 +302,16 @@ fn tell_statement<H: Host>(
 {
     match statement {
         Statement::Stated(place, stated) => tell_stated(host, image, place, stated),
-        Statement::Later(version) => tell_version(host, image, version),
+        Statement::Unread(stated) => tell_unread(host, image, stated),
+        Statement::Later(version) => tell_changed(host, image, version),
+        Statement::Length(len) => tell_part(host, image, len, request.size),
         Statement::Path(note) => tell_note(host, request, note),
         Statement::Row(finding) => tell_row(host, image, text, finding),
         Statement::Step(_) => {}
         Statement::Line(number) => tell_line(host, request, text, number),
         Statement::Need(count) => tell_need(host, request, count),
+        Statement::Changes(count) => tell_changes(host, request, count),
+        Statement::OtherJournal => tell_other_journal(host, image),
         Statement::NewImage => tell_new_image(host, image),
     }
 }
@@ -271,6 +323,7 @@ fn tell_stated<H: Host>(host: &mut H, image: &str, place: Place, stated: Stated)
     let blocks = (stated.count as usize, stated.size);
     match place {
         Place::Superblock => say_blocks(host, image, "its superblock states ", blocks, " bytes"),
+        Place::SuperblockVersion => tell_superblock_version(host, image, stated.version),
         Place::FirstBlock => say_blocks(host, image, "its first block states ", blocks, " bytes"),
         Place::Version => tell_stated_version(host, image, stated.version),
     }
@@ -287,6 +340,81 @@ fn tell_stated_version<H: Host>(host: &mut H, image: &str, version: u32)
         version,
         "",
     );
+}
+
+/// Tells the disk version that an image's superblock states.
+fn tell_superblock_version<H: Host>(host: &mut H, image: &str, version: u32)
+    ensures kept { H.known host.new ≡ H.known host.old }
+{
+    say_version(
+        host,
+        image,
+        "its superblock states disk version ",
+        version,
+        "",
+    );
+}
+
+/// Tells the disk version that a block states of which version 2.0 reads no commit.
+fn tell_unread<H: Host>(host: &mut H, image: &str, stated: StatedVersion)
+    ensures kept { H.known host.new ≡ H.known host.old }
+{
+    if stated.block == 0 {
+        tell_stated_version(host, image, stated.version);
+    } else {
+        say_version(
+            host,
+            image,
+            "its second block states disk version ",
+            stated.version,
+            "",
+        );
+    }
+}
+
+/// Tells that so many bytes are no whole blocks.
+fn tell_part<H: Host>(host: &mut H, image: &str, len: usize, size: u32)
+    ensures kept { H.known host.new ≡ H.known host.old }
+{
+    say(
+        host,
+        image,
+        &[
+            Piece::Number(len),
+            Piece::Text(" bytes are no multiple of "),
+            Piece::Number(size as usize),
+        ],
+    );
+}
+
+/// Tells how many changes are done, or undone, where more are to be undone or done again.
+fn tell_changes<H: Host>(host: &mut H, request: &Request<'_>, count: usize)
+    ensures kept { H.known host.new ≡ H.known host.old }
+{
+    let (said, steps) = match request.task {
+        Task::Step(Step::Undo { steps }) => ("changes that are done: ", steps),
+        Task::Step(Step::Redo { steps }) => ("changes that are undone: ", steps),
+        _ => return,
+    };
+    say(
+        host,
+        request.image,
+        &[
+            Piece::Text(said),
+            Piece::Number(count),
+            Piece::Text(", fewer than "),
+            Piece::Number(steps as usize),
+        ],
+    );
+}
+
+/// Tells that the journal beside an image is another image's.
+fn tell_other_journal<H: Host>(host: &mut H, image: &str)
+    ensures kept { H.known host.new ≡ H.known host.old }
+{
+    host.complain(format_args!(
+        "lfsed: {image}.lfsj belongs to another image; lfsed forget {image} drops it\n"
+    ));
 }
 
 /// Tells that what was to become an image is the one that its journal leads to.

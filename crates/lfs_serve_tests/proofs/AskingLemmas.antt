@@ -39,25 +39,25 @@ all_left : (kind : StepKind) (old new : Option Files) (name : List ℕ) (o : Out
 all_left kind old new name o (inl asks) leaves = subst (λ (k : StepKind). LeavesFiles k old new name o) asks leaves
 all_left kind old new name o (inr asks) leaves = subst (λ (k : StepKind). LeavesFiles k old new name o) asks leaves
 
-step_keeps : (fault : Option Fault) (step : Step) (strict : Bool) (size : ℕ) (keep : Option ℕ) (name : List ℕ) (old new : Scene)
-    → (kind_of step ≡ Asks) ⊎ (kind_of step ≡ Recounts) → EndsStep step strict size keep name old new fault → new.files ≡ old.files
-step_keeps None step strict size keep name old new asks (o, runs, leaves) = all_left (kind_of step) old.files new.files name o asks leaves
-step_keeps (Some fault) step strict size keep name old new asks (inl (o, runs, same)) = same
-step_keeps (Some fault) step strict size keep name old new asks (inr (inl (why, keeps))) = keeps.0
-step_keeps (Some fault) step strict size keep name old new asks (inr (inr (of_host, (o, runs, spares)))) =
+step_keeps : (fault : Option Fault) (step : Step) (older : Bool) (size : ℕ) (keep : Option ℕ) (name : List ℕ) (old new : Scene)
+    → (kind_of step ≡ Asks) ⊎ (kind_of step ≡ Recounts) → EndsStep step older size keep name old new fault → new.files ≡ old.files
+step_keeps None step older size keep name old new asks (o, runs, leaves) = all_left (kind_of step) old.files new.files name o asks leaves
+step_keeps (Some fault) step older size keep name old new asks (inl (o, runs, same)) = same
+step_keeps (Some fault) step older size keep name old new asks (inr (inl (why, keeps))) = keeps.0
+step_keeps (Some fault) step older size keep name old new asks (inr (inr (of_host, (o, runs, spares)))) =
     all_spared fault (kind_of step) old.files new.files name o asks spares
 
-task_keeps : (fault : Option Fault) (t : Task) (strict : Bool) (size : ℕ) (keep : Option ℕ) (name : List ℕ) (old new : Scene) → OnlyAsks t
-    → EndsTask t strict size keep name old new fault → new.files ≡ old.files
-task_keeps fault (task.Step step) strict size keep name old new asks ends = step_keeps fault step strict size keep name old new asks ends
-task_keeps fault (task.Extract dir) strict size keep name old new asks ends = ends.0.0
-task_keeps fault _ strict size keep name old new only ends = absurd only
+task_keeps : (fault : Option Fault) (t : Task) (older : Bool) (size : ℕ) (keep : Option ℕ) (name : List ℕ) (old new : Scene) → OnlyAsks t
+    → EndsTask t older size keep name old new fault → new.files ≡ old.files
+task_keeps fault (task.Step step) older size keep name old new asks ends = step_keeps fault step older size keep name old new asks ends
+task_keeps fault (task.Extract dir) older size keep name old new asks ends = ends.0.0
+task_keeps fault _ older size keep name old new only ends = absurd only
 
 -- a request that asks changes no file
 pub asking_keeps : (request : Request) (old new : Scene) (status : ℕ) → OnlyAsks request.task → EndsRequest request old new status
     → new.files ≡ old.files
 asking_keeps request old new status only (fault, inl (spared, ends), told) =
-    task_keeps fault request.task request.is_strict request.size request.keep request.image.now old new only ends
+    task_keeps fault request.task request.takes_older request.size request.keep request.image.now old new only ends
 asking_keeps request old new status only (fault, inr (is_new, is, refused, kept), told) = kept.0
 
 -- what is there is there alike

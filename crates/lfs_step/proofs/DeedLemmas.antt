@@ -24,7 +24,7 @@ deed_in_range (Pack count limits rows) input keep may = tt
 deed_in_range Check input keep may = tt
 deed_in_range Ls input keep may = tt
 deed_in_range (Cat path) input keep may = tt
-deed_in_range (Diff name) input keep may = tt
+deed_in_range (Diff name size) input keep may = tt
 deed_in_range Log input keep may = tt
 deed_in_range (Mkdir path) input keep may = may
 deed_in_range (Put path from) input keep may = may
@@ -45,7 +45,7 @@ kept_in_range step input keep change may is = subst InRange (sym is) (deed_in_ra
 
 -- a step that compares no images is no comparison
 abbrev IsOther : Deed → Type 0
-IsOther (Compare others) = ⊥
+IsOther (Compare size others) = ⊥
 IsOther _ = Unit {0}
 
 deed_is_other : (step : Step) (input : List ℕ) (keep : Option ℕ) → IsNoComparison step → IsOther (deed_of step input keep)
@@ -54,7 +54,7 @@ deed_is_other (Pack count limits rows) input keep other = tt
 deed_is_other Check input keep other = tt
 deed_is_other Ls input keep other = tt
 deed_is_other (Cat path) input keep other = tt
-deed_is_other (Diff name) input keep other = absurd other
+deed_is_other (Diff name size) input keep other = absurd other
 deed_is_other Log input keep other = tt
 deed_is_other (Mkdir path) input keep other = tt
 deed_is_other (Put path from) input keep other = tt
@@ -68,9 +68,9 @@ deed_is_other (Redo steps) input keep other = tt
 deed_is_other Forget input keep other = tt
 deed_is_other (Batch steps) input keep other = tt
 
-pub no_comparison : (step : Step) (input others : List ℕ) (keep : Option ℕ) → IsNoComparison step
-    → Compare others ≡ deed_of step input keep → ⊥
-no_comparison step input others keep other is = subst IsOther (sym is) (deed_is_other step input keep other)
+pub no_comparison : (step : Step) (input : List ℕ) (size : ℕ) (others : List ℕ) (keep : Option ℕ) → IsNoComparison step
+    → Compare size others ≡ deed_of step input keep → ⊥
+no_comparison step input size others keep other is = subst IsOther (sym is) (deed_is_other step input keep other)
 
 -- the limits of an image that is made may be those of an image, and what each of several changes keeps may be kept
 abbrev IsWithin : Deed → Type 0
@@ -93,7 +93,7 @@ deed_is_within (Pack count limits rows) input keep has = has
 deed_is_within Check input keep has = tt
 deed_is_within Ls input keep has = tt
 deed_is_within (Cat path) input keep has = tt
-deed_is_within (Diff name) input keep has = tt
+deed_is_within (Diff name size) input keep has = tt
 deed_is_within Log input keep has = tt
 deed_is_within (Mkdir path) input keep has = tt
 deed_is_within (Put path from) input keep has = tt

@@ -22,7 +22,7 @@ meets_equation law (Change Forget) g outcome changes = tt
 meets_equation law (Make count limits) g outcome answers = tt
 meets_equation law (Pack count limits rows) g outcome answers = tt
 meets_equation law (Ask query) g outcome answers = tt
-meets_equation law (Compare other) g outcome answers = tt
+meets_equation law (Compare size other) g outcome answers = tt
 meets_equation law Recount g outcome answers = tt
 meets_equation law (ChangeAll steps) g outcome answers = tt
 
@@ -41,7 +41,7 @@ meets_need law kept (Change Forget) g outcome changes = tt
 meets_need law kept (Make count limits) g outcome answers = tt
 meets_need law kept (Pack count limits rows) g outcome answers = tt
 meets_need law kept (Ask query) g outcome answers = tt
-meets_need law kept (Compare other) g outcome answers = tt
+meets_need law kept (Compare size other) g outcome answers = tt
 meets_need law kept Recount g outcome answers = tt
 meets_need law kept (ChangeAll steps) g outcome answers = tt
 

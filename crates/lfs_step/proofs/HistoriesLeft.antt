@@ -64,7 +64,7 @@ steps_leave_histories one opens denoted all (Pack count limits rows) g outcome (
     let packs = is packed are in
     begins opens g.size count outcome.image.items outcome.journal.items packs.disk (packs.volume, packs.holds, packs.sound) empty
 steps_leave_histories one opens denoted all (Ask query) g outcome both = λ old denotes. asked_leaves g outcome both old denotes
-steps_leave_histories one opens denoted all (Compare other) g outcome both = λ old denotes. asked_leaves g outcome both old denotes
+steps_leave_histories one opens denoted all (Compare size other) g outcome both = λ old denotes. asked_leaves g outcome both old denotes
 steps_leave_histories one opens denoted all Recount g outcome both = λ old denotes. asked_leaves g outcome both old denotes
 steps_leave_histories one opens denoted all (Change step) g outcome changes = λ old denotes.
     let is = changes.1 in

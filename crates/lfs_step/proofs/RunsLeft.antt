@@ -35,10 +35,10 @@ one_goes leaves runs None (Ask query) g outcome old good denotes answers = recor
   goes = refl;
   leaves = leaves (Ask query) g outcome answers old denotes;
 }
-one_goes leaves runs None (Compare other) g outcome old good denotes answers = record {
+one_goes leaves runs None (Compare size other) g outcome old good denotes answers = record {
   new = old;
   goes = refl;
-  leaves = leaves (Compare other) g outcome answers old denotes;
+  leaves = leaves (Compare size other) g outcome answers old denotes;
 }
 one_goes leaves runs None Recount g outcome old good denotes answers = record {
   new = old;

@@ -31,12 +31,13 @@ RefusesDifference d e CannotWrite = (text : List ℕ) × IsDifference d e text
 RefusesDifference d e _ = ⊥
 
 -- why nothing, or not all, is said of bytes: the first are no image, or the second aren't, or else as for two images
-abbrev pub RefusesCompared : ℕ → List ℕ → List ℕ → Fault → Type 0
-RefusesCompared size bytes others (Image fault) = IsNoImage fault size bytes
-RefusesCompared size bytes others (Other (other.Image fault)) = IsDisk (image_of size bytes) × IsNoImage fault size others
-RefusesCompared size bytes others fault =
-    IsDisk (image_of size bytes) × IsDisk (image_of size others)
-    × RefusesDifference (image_of size bytes) (image_of size others) fault
+abbrev pub RefusesCompared : ℕ → List ℕ → ℕ → List ℕ → Fault → Type 0
+RefusesCompared size bytes other_size others (Image fault) = IsNoImage fault size bytes
+RefusesCompared size bytes other_size others (Other (other.Image fault)) =
+    IsDisk (image_of size bytes) × IsNoImage fault other_size others
+RefusesCompared size bytes other_size others fault =
+    IsDisk (image_of size bytes) × IsDisk (image_of other_size others)
+    × RefusesDifference (image_of size bytes) (image_of other_size others) fault
 
 -- nothing has gone out of what differs between two images, or some of it
 abbrev pub SendsSomeDifference : Disk → Disk → Option (List ℕ) → Option (List ℕ) → Type 0
@@ -52,5 +53,6 @@ SendsDifference d e (Some (Refused refusal)) old new = SendsSomeDifference d e o
 SendsDifference d e (Some fault) old new = Keeps old new
 
 -- the same on bytes
-abbrev pub SendsCompared : ℕ → List ℕ → List ℕ → Option Fault → Option (List ℕ) → Option (List ℕ) → Type 0
-SendsCompared size bytes others fault old new = SendsDifference (image_of size bytes) (image_of size others) fault old new
+abbrev pub SendsCompared : ℕ → List ℕ → ℕ → List ℕ → Option Fault → Option (List ℕ) → Option (List ℕ) → Type 0
+SendsCompared size bytes other_size others fault old new =
+    SendsDifference (image_of size bytes) (image_of other_size others) fault old new

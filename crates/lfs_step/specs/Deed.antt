@@ -18,13 +18,13 @@ use Rattle.lfs_step.specs.declared.step.Step.TheVariants.{Format, Check, Ls, Cat
 use Rattle.lfs_step.specs.declared.step.Step.TheVariants.{Undo, Redo, Forget, Batch}
 
 -- A new image of so many blocks with such limits is made, the root alone or with what rows have at their paths; something is asked of an
--- image, also what another has otherwise, and what the changes in its journal changed; or a step is taken on its history, or several
+-- image, also what another, whose blocks have a size of their own, has otherwise, and what the changes in its journal changed; or a step is taken on its history, or several
 -- are, all of them or none.
 pub data Deed : Type 0 where
   Make : (count : ℕ) → (limits : Limits) → Deed
   Pack : (count : ℕ) → (limits : Limits) → (rows : List PackRow) → Deed
   Ask : (query : Query) → Deed
-  Compare : (other : List ℕ) → Deed
+  Compare : (size : ℕ) → (other : List ℕ) → Deed
   Recount : Deed
   Change : (step : change.Move) → Deed
   ChangeAll : (steps : List change.Move) → Deed
@@ -36,7 +36,7 @@ deed_of (step.Pack count limits rows) input keep = Pack count limits rows.now
 deed_of Check input keep = Ask query.Check
 deed_of Ls input keep = Ask query.Ls
 deed_of (Cat path) input keep = Ask (query.Cat path)
-deed_of (Diff name) input keep = Compare input
+deed_of (Diff name size) input keep = Compare size input
 deed_of Log input keep = Recount
 deed_of (Mkdir path) input keep = Change (Do (asked.Mkdir path.now) keep)
 deed_of (Put path from) input keep = Change (Do (asked.Put path.now input) keep)
@@ -60,7 +60,7 @@ IsStepInRange _ = Unit {0}
 
 -- a step that compares no images
 abbrev pub IsNoComparison : Step → Type 0
-IsNoComparison (Diff name) = ⊥
+IsNoComparison (Diff name size) = ⊥
 IsNoComparison _ = Unit {0}
 
 -- what the code's value stands for, with what the step reads
@@ -68,7 +68,7 @@ abbrev pub deed_held : List ℕ → Written → Deed
 deed_held input (written.Make count limits) = Make count limits
 deed_held input (written.Pack count limits rows) = Pack count limits rows.now
 deed_held input (written.Ask query) = Ask query
-deed_held input written.Compare = Compare input
+deed_held input (written.Compare size) = Compare size input
 deed_held input written.Recount = Recount
 deed_held input (written.Change step) = Change (step_of step)
 deed_held input (written.ChangeAll steps) = ChangeAll (map step_of steps.now)

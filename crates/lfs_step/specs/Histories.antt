@@ -21,7 +21,7 @@ LeavesHistory (Make count limits) g outcome = Leaves g outcome (fresh_history (i
 LeavesHistory (Pack count limits rows) g outcome =
     (packed : List Packed) → AreRowsOf rows packed → Leaves g outcome (fresh_history (image_of g.size outcome.image.items))
 LeavesHistory (Ask query) g outcome = (old : History) → Denotes g.size g.image g.journal old → Leaves g outcome old
-LeavesHistory (Compare other) g outcome = (old : History) → Denotes g.size g.image g.journal old → Leaves g outcome old
+LeavesHistory (Compare size other) g outcome = (old : History) → Denotes g.size g.image g.journal old → Leaves g outcome old
 LeavesHistory Recount g outcome = (old : History) → Denotes g.size g.image g.journal old → Leaves g outcome old
 LeavesHistory (Change step) g outcome =
     (old : History) → Denotes g.size g.image (journal_read step g.journal) old

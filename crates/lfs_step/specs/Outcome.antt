@@ -51,7 +51,7 @@ abbrev pub Refuses : Deed → Given → ℕ → Fault → Type 0
 Refuses (Make count limits) g at fault = RefusesFormat g.size count fault
 Refuses (Pack count limits rows) g at fault = RefusesPacking g.size count limits rows fault
 Refuses (Ask query) g at fault = RefusesQuery query g.size g.image fault
-Refuses (Compare other) g at fault = RefusesCompared g.size g.image other fault
+Refuses (Compare size other) g at fault = RefusesCompared g.size g.image size other fault
 Refuses Recount g at fault = RefusesRecounted g.size g.image g.journal fault
 Refuses (Change step) g at fault = RefusesChange step g.size g.image g.journal fault
 Refuses (ChangeAll steps) g at fault = RefusesChanges steps at g.size g.image g.journal fault
@@ -69,7 +69,7 @@ AnswersDone (Pack count limits rows) g outcome =
     ((packed : List Packed) → AreRowsOf rows packed → IsPacked g.size count limits packed outcome.image.items)
     × (outcome.journal.items ≡ journal_bytes (book_of g.size count [] 0))
 AnswersDone (Ask query) g outcome = KeepsBoth g outcome
-AnswersDone (Compare other) g outcome = KeepsBoth g outcome
+AnswersDone (Compare size other) g outcome = KeepsBoth g outcome
 AnswersDone Recount g outcome = KeepsBoth g outcome
 AnswersDone (Change step) g outcome = ChangesBytes step g.size g.image g.journal outcome
 AnswersDone (ChangeAll steps) g outcome = ChangesBytesByAll steps g.size g.image g.journal outcome
@@ -89,7 +89,7 @@ abbrev pub SendsText : Deed → Given → Option Fault → Option (List ℕ) →
 SendsText (Make count limits) g fault old new = Keeps old new
 SendsText (Pack count limits rows) g fault old new = Keeps old new
 SendsText (Ask query) g fault old new = SendsReport query (image_of g.size g.image) fault old new
-SendsText (Compare other) g fault old new = SendsCompared g.size g.image other fault old new
+SendsText (Compare size other) g fault old new = SendsCompared g.size g.image size other fault old new
 SendsText Recount g fault old new = SendsRecounted g.size g.image g.journal fault old new
 SendsText (Change step) g fault old new = Keeps old new
 SendsText (ChangeAll steps) g fault old new = Keeps old new

@@ -42,7 +42,7 @@ GoesOn size (Pack count limits rows) old new =
     (new ≡ fresh_history new.present)
     × ((packed : List Packed) → AreRowsOf rows packed → IsPacked size count limits packed new.present.bytes)
 GoesOn size (Ask query) old new = new ≡ old
-GoesOn size (Compare other) old new = new ≡ old
+GoesOn size (Compare other_size other) old new = new ≡ old
 GoesOn size Recount old new = new ≡ old
 GoesOn size (Change step) old new = Takes step None old new
 GoesOn size (ChangeAll steps) old new = TakesAll steps old new

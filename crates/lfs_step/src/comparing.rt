@@ -24,8 +24,8 @@ use lfs_sink::Sink;
 use std::alloc::Global;
 use std::mem::forget;
 
-/// Says what the bytes `others` have otherwise than bytes that are an image, both with blocks of `size` bytes; image and journal are
-/// answered as they were handed in. The caller owes that `out` has not failed. The first of these that holds is told: the bytes are no
+/// Says what the bytes `others`, with blocks of `other_size` bytes, have otherwise than bytes that are an image with blocks of `size`
+/// bytes; image and journal are answered as they were handed in. The caller owes that `out` has not failed. The first of these that holds is told: the bytes are no
 /// image, the others are none, the image doesn't mount, the other doesn't. Takes memory.
 ///
 /// Source: own.
@@ -34,19 +34,20 @@ pub fn compared<S: Sink>(
     size: u32,
     image: Vec<u8>,
     journal: Vec<u8>,
+    other_size: u32,
     others: Vec<u8>,
     out: &mut S,
 ) -> Outcome
     requires { S.failed out.old ≡ false }
-    ensures answers { Answers (Compare others.items) (given size image.items journal.items) result }
-    ensures sent { SendsCompared size image.items others.items result.fault (S.sent out.old) (S.sent out.new) }
+    ensures answers { Answers (Compare other_size others.items) (given size image.items journal.items) result }
+    ensures sent { SendsCompared size image.items other_size others.items result.fault (S.sent out.old) (S.sent out.new) }
     ensures failed { S.failed out.new ≡ blames_output result.fault }
     ensures kept { S.kept out.new ≡ S.kept out.old }
     ensures status { result.status ≡ status_of result.fault }
 {
     match Image::new(image, size) {
         Ok(image) => {
-            let fault = compare_bytes(alloc, &image, others, out).err();
+            let fault = compare_bytes(alloc, &image, other_size, others, out).err();
             Outcome::new(image.into_bytes(), journal, fault)
         }
         Err((fault, image)) => Outcome::new(image, journal, Some(Fault::Image(fault))),
@@ -57,16 +58,18 @@ pub fn compared<S: Sink>(
 fn compare_bytes<S: Sink>(
     alloc: Global,
     image: &Image,
+    other_size: u32,
     others: Vec<u8>,
     out: &mut S,
 ) -> Result<(), Fault>
     requires { S.failed out.old ≡ false }
-    ensures refused { IfErr result (λ fault. RefusesCompared image.now.disk.size image.now.disk.bytes others.items fault) }
-    ensures sent { SendsCompared image.now.disk.size image.now.disk.bytes others.items (result_err result) (S.sent out.old) (S.sent out.new) }
+    ensures refused { IfErr result (λ fault. RefusesCompared image.now.disk.size image.now.disk.bytes other_size others.items fault) }
+    ensures sent { SendsCompared image.now.disk.size image.now.disk.bytes other_size others.items (result_err result) (S.sent out.old) (S.sent out.new) }
     ensures failed { S.failed out.new ≡ blames_output (result_err result) }
     ensures kept { S.kept out.new ≡ S.kept out.old }
 {
-    match Image::new(others, image.size()) {
+    let _size = image.size();
+    match Image::new(others, other_size) {
         Ok(other) => compare(alloc, image, &other, out),
         Err((fault, _)) => Err(Fault::Other(OtherFault::Image(fault))),
     }

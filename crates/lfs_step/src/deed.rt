@@ -34,7 +34,10 @@ pub enum Deed<'a> {
     /// Asks something of it.
     Ask(Query<'a>),
     /// Asks what an image that the step reads has otherwise.
-    Compare,
+    Compare {
+        /// The size of its blocks, in bytes.
+        size: u32,
+    },
     /// Asks what the changes in its journal changed.
     Recount,
     /// Changes it, or what is kept of its changes: a step on its history.
@@ -67,7 +70,7 @@ pub fn deed_of<'a>(step: &Step<'a>, input: &'a [u8], keep: Option<u32>) -> Deed<
         Step::Check => return Deed::Ask(Query::Check),
         Step::Ls => return Deed::Ask(Query::Ls),
         Step::Cat { path } => return Deed::Ask(Query::Cat { path }),
-        Step::Diff { .. } => return Deed::Compare,
+        Step::Diff { size, .. } => return Deed::Compare { size },
         Step::Log => return Deed::Recount,
         Step::Undo { steps } => return Deed::Change(Move::Undo { steps }),
         Step::Redo { steps } => return Deed::Change(Move::Redo { steps }),

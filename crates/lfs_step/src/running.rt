@@ -78,7 +78,10 @@ pub fn run<S: Sink>(
     journals_of_bytes_grow_by_the_need();
     steps_leave_histories();
     match step {
-        Step::Diff { .. } => compared(alloc, size, image, journal, input, out),
+        Step::Diff {
+            size: other_size,
+            ..
+        } => compared(alloc, size, image, journal, *other_size, input, out),
         _ => taken(alloc, step, size, image, journal, &input, keep, out),
     }
 }
@@ -112,7 +115,7 @@ fn taken<S: Sink>(
             rows,
         } => packed(alloc, size, count, limits, rows, image, journal),
         Deed::Ask(query) => queried(alloc, &query, size, image, journal, out),
-        Deed::Compare => unreachable!(),
+        Deed::Compare { .. } => unreachable!(),
         Deed::Recount => recounted(alloc, size, image, journal, out),
         Deed::Change(change) => changed(alloc, &change, size, image, journal),
         Deed::ChangeAll(steps) => changed_by_all(alloc, steps, size, image, journal),

@@ -38,6 +38,8 @@ pub enum Step<'a> {
     Diff {
         /// The name of its file.
         other: &'a str,
+        /// The size of its blocks, in bytes.
+        size: u32,
     },
     /// Says what the changes in the journal changed.
     Log,

@@ -7,6 +7,9 @@ use std::fs::{self, File, Metadata, TryLockError};
 use std::io::{self, ErrorKind, Read};
 use std::os::unix::fs::{MetadataExt, fchown};
 
+/// The rights to write of owner, group and others.
+const WRITE_RIGHTS: u32 = 0o222;
+
 /// How often a file is tried for that other runs replace meanwhile.
 const MOST_TRIES: u32 = 1_000;
 
@@ -28,6 +31,11 @@ fn is_folder() -> io::Error {
 /// What is said of a name that is taken.
 fn is_there() -> io::Error {
     io::Error::new(ErrorKind::AlreadyExists, "something is there already")
+}
+
+/// What is said of a file that nobody has the right to write.
+fn is_protected() -> io::Error {
+    io::Error::new(ErrorKind::PermissionDenied, "is write-protected")
 }
 
 /// A file that is read. Only a regular one is opened.
@@ -156,25 +164,39 @@ fn give_owner(file: &File, old: &Metadata) -> io::Result<()> {
     Ok(())
 }
 
-/// Fills a new file, with owner, group and rights of the file `like` where there is one, and waits until the disk has it. The rights
-/// come behind the owner, since a change of that takes some of them away.
-fn fill<T: Text>(rt: &HostRuntime, file: &mut File, text: &T, like: &str) -> io::Result<()> {
-    match fs::metadata(rt, like) {
-        Ok(old) => {
-            give_owner(file, &old)?;
-            file.set_permissions(old.permissions())?;
-        }
-        Err(error) if error.kind() == ErrorKind::NotFound => {}
-        Err(error) => return Err(error),
+/// What the system says of a file that is to be replaced, where it is there. One that nobody has the right to write is refused, also where
+/// the user of this run needs no right.
+fn writable(rt: &HostRuntime, name: &str) -> io::Result<Option<Metadata>> {
+    match fs::metadata(rt, name) {
+        Ok(found) if found.mode() & WRITE_RIGHTS == 0 => Err(is_protected()),
+        Ok(found) => Ok(Some(found)),
+        Err(error) if error.kind() == ErrorKind::NotFound => Ok(None),
+        Err(error) => Err(error),
+    }
+}
+
+/// Fills a new file, with owner, group and rights of the old one where there is one, and waits until the disk has it. The rights come
+/// behind the owner, since a change of that takes some of them away.
+fn fill<T: Text>(
+    rt: &HostRuntime,
+    file: &mut File,
+    text: &T,
+    old: Option<Metadata>,
+) -> io::Result<()> {
+    if let Some(old) = old {
+        give_owner(file, &old)?;
+        file.set_permissions(old.permissions())?;
     }
     write_text(rt.alloc(), text, file)?;
     file.sync_all()
 }
 
-/// A new file of a text, whose lock this run holds. Where it can't be filled it is taken away again.
+/// A new file of a text, whose lock this run holds, with owner, group and rights of the file `like` where there is one. Where it can't be
+/// filled it is taken away again.
 pub fn written<T: Text>(rt: &HostRuntime, name: &str, text: &T, like: &str) -> io::Result<File> {
+    let old = writable(rt, like)?;
     let mut file = created(rt, name)?;
-    match fill(rt, &mut file, text, like) {
+    match fill(rt, &mut file, text, old) {
         Ok(()) => Ok(file),
         Err(error) => {
             let _ = fs::remove_file(rt, name);

@@ -117,7 +117,7 @@ IsRequest request name rows stated =
     × HasText rows (codes "image") request.image.now
     × IsKept request.keep name rows
     × (request.is_new ≡ is_flagged (codes "new") rows)
-    × (request.is_strict ≡ is_flagged (codes "strict") rows)
+    × (request.takes_older ≡ is_flagged (codes "older") rows)
 
 -- what a command and its options ask for
 abbrev pub IsWish : Wish → Text → List Row → ℕ → Type 0

@@ -159,7 +159,7 @@ fn request_of<'a>(
         size,
         keep: keep_of(name, options),
         is_new: said(options, "new"),
-        is_strict: said(options, "strict"),
+        takes_older: said(options, "older"),
         image: text(options, "image")?,
     })
 }

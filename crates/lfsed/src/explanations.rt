@@ -74,9 +74,10 @@ const EXPLANATIONS: [Explanation; 49] = [
     Explanation {
         number: 10,
         name: "Version",
-        text: "The image is of another disk version than 2.0, or, with `--strict`, a later commit of \
-         another one stands in it, as the second line says. Since 2.6 littlefs writes disk \
-         version 2.1, also into an image of 2.0. It keeps 2.0 where it is built with \
+        text: "The image is of another disk version than 2.0, or a device has changed it with one, as \
+         the second line says: `--older` goes on with the state before that change, and what is \
+         written then drops it. Since 2.6 littlefs writes disk version 2.1, also into an image of \
+         2.0. It keeps 2.0 where it is built with \
          LFS_MULTIVERSION and `lfs_config.disk_version` is 0x00020000: build the device so, and \
          write the image again.",
     },

@@ -26,7 +26,7 @@ returns-in-Ok g c =
     let same : text ≡ c.in_ok-text.text.items = search rules in
     let reads = subst (ReadsScript c.args.file old) (sym same) c.in_ok-text.ensures.text in
     record {
-      ended = script_ends c.args.file text request.is_strict request.size request.keep request.image.now old mid new None
+      ended = script_ends c.args.file text request.takes_older request.size request.keep request.image.now old mid new None
           (stopped_by c.text_batched.result) (sym (ap stopped_by c.in-Ok.is)) reads c.script_text.ensures.kept c.text_batched.ensures.ended;
     }
 
@@ -41,7 +41,7 @@ returns g c =
     let reads = subst (ReadsScript c.args.file old) (sym same) c.in_ok-text.ensures.text in
     let fault = c.with_line.result.fault in
     record {
-      ended = script_ends c.args.file text request.is_strict request.size request.keep request.image.now old mid new (Some fault)
+      ended = script_ends c.args.file text request.takes_older request.size request.keep request.image.now old mid new (Some fault)
           (stopped_by c.text_batched.result) (ap Some c.with_line.ensures ∙ sym (ap stopped_by c.in-Err.is)) reads c.script_text.ensures.kept
           c.text_batched.ensures.ended;
     }

@@ -23,7 +23,7 @@ returns-in-Ok g c =
     let fault = stopped_by c.lines_batched.result in
     record {
       ended = ends_by (TakesLines old.files request.keep lines) (TakesText old.files request.keep text) (IsUnread new)
-          (λ (why : Fault). IsUnread new why ⊎ SaysNoSteps text why) request.is_strict request.size request.keep request.image.now old new fault fault
+          (λ (why : Fault). IsUnread new why ⊎ SaysNoSteps text why) request.takes_older request.size request.keep request.image.now old new fault fault
           refl (λ step takes. (lines, says, takes)) (λ why unread. inl unread) c.lines_batched.ensures.ended;
     }
 

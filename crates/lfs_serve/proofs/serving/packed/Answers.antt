@@ -66,8 +66,8 @@ returns-in-Ok g c =
     let rows_is : c.as_slice-rows.result.now ≡ rows = search rules in
     let step = Pack c.in_ok-count.count c.args.limits c.as_slice-rows.result in
     let kept = c.folder_of.ensures.kept.0 in
-    let ended = subst (EndsStep step request.is_strict request.size request.keep request.image.now mid new) (ap stopped_by c.in-Ok.is) c.stepped.ensures.ended in
-    let ends = step_from step request.is_strict request.size request.keep request.image.now mid old new None kept.0 kept.1 kept.2
+    let ended = subst (EndsStep step request.takes_older request.size request.keep request.image.now mid new) (ap stopped_by c.in-Ok.is) c.stepped.ensures.ended in
+    let ends = step_from step request.takes_older request.size request.keep request.image.now mid old new None kept.0 kept.1 kept.2
     ended in
     record { ended = inl (step, (rows, packed, (c.in_ok-count.ensures, refl, rows_is)), ends) }
 
@@ -86,8 +86,8 @@ returns g c =
     let rows_is : c.as_slice-rows.result.now ≡ rows = search rules in
     let step = Pack c.in_ok-count.count c.args.limits c.as_slice-rows.result in
     let kept = c.folder_of.ensures.kept.0 in
-    let ended = subst (EndsStep step request.is_strict request.size request.keep request.image.now mid new)
+    let ended = subst (EndsStep step request.takes_older request.size request.keep request.image.now mid new)
     (ap stopped_by c.in-Err.is ∙ ap Some (sym (c.with_row.ensures ∙ c.with_need-stop.ensures))) c.stepped.ensures.ended in
-    let ends = step_from step request.is_strict request.size request.keep request.image.now mid old new (Some c.with_row.result.fault) kept.0 kept.1 kept.2
+    let ends = step_from step request.takes_older request.size request.keep request.image.now mid old new (Some c.with_row.result.fault) kept.0 kept.1 kept.2
     ended in
     record { ended = inl (step, (rows, packed, (c.in_ok-count.ensures, refl, rows_is)), ends) }

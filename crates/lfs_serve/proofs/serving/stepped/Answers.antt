@@ -10,7 +10,7 @@ use Rattle.lfs_serve.proofs.serving.stepped.Goals as goal
 pub returns-in_err-must_be_read : goal.returns-in_err-must_be_read
 returns-in_err-must_be_read g c =
     let step = c.args.step.now in
-    let strict = c.args.request.now.is_strict in
+    let older = c.args.request.now.takes_older in
     let size = c.args.request.now.size in
     let name = c.args.request.now.image.now in
     let old : Scene = g.H.Known.known c.args.host.now in
@@ -26,18 +26,18 @@ returns-in_err-must_be_read g c =
     let is : IsHanded step name old h = handed_at step name target c.as_str.result.now old by_aimed h c.in_ok-target.ensures.target
     (search rules) aimed.0 aimed.1 c.in_ok-handed.ensures.handed in
     let fault = c.in_err-must_be_read.field-0.0.fault in
-    let refused : refused_by strict (later_handed step size h) ≡ Some fault =
-    refused_handed strict step size h c.later_handed-found.result (Some fault) c.later_handed-found.ensures c.in_err-must_be_read.ensures in
+    let refused : refused_by older (later_handed step size h) ≡ Some fault =
+    refused_handed older step size h c.later_handed-found.result (Some fault) c.later_handed-found.ensures c.in_err-must_be_read.ensures in
     let kept = c.hand_over.ensures.kept in
     record {
-      ended = ends_later step strict size c.args.request.now.keep name old by_handed h _ fault (search rules) is refused
+      ended = ends_later step older size c.args.request.now.keep name old by_handed h _ fault (search rules) is refused
           (kept.0 ∙ aimed.0, kept.1 ∙ aimed.2);
     }
 
 pub returns-in-Err : goal.returns-in-Err
 returns-in-Err g c =
     let step = c.args.step.now in
-    let strict = c.args.request.now.is_strict in
+    let older = c.args.request.now.takes_older in
     let size = c.args.request.now.size in
     let keep = c.args.request.now.keep in
     let name = c.args.request.now.image.now in
@@ -54,22 +54,22 @@ returns-in-Err g c =
     let aimed = c.aimed.ensures.kept.0 in
     let is : IsHanded step name old h = handed_at step name target c.as_str.result.now old by_aimed h c.in_ok-target.ensures.target
     (search rules) aimed.0 aimed.1 c.in_ok-handed.ensures.handed in
-    let none : refused_by strict (later_handed step size h) ≡ None =
-    refused_handed strict step size h c.later_handed-found.result None c.later_handed-found.ensures c.in_ok-must_be_read.ensures in
+    let none : refused_by older (later_handed step size h) ≡ None =
+    refused_handed older step size h c.later_handed-found.result None c.later_handed-found.ensures c.in_ok-must_be_read.ensures in
     let silent = c.hand_over.ensures.kept.1 ∙ aimed.2 in
     let files = c.taken.ensures.kept.0 ∙ c.hand_over.ensures.kept.0 ∙ aimed.0 in
     let fault = c.in-Err.stop.fault in
     let looked = c.with_new_image.ensures.kept.0 in
     let outcome = c.in-Err.ensures.ran.0 in
-    let runs : RunsStep step strict size keep name old by_looked (Some fault) outcome =
-    step_ran step strict size keep name old by_looked h (Some fault)
+    let runs : RunsStep step older size keep name old by_looked (Some fault) outcome =
+    step_ran step older size keep name old by_looked h (Some fault)
     (g.H.Known.known c.hand_over.new.host).printed by_taken.printed outcome is none c.in-Err.ensures.ran.1 silent looked.2 (c.with_new_image.ensures.blamed c.in-Err.ensures.blamed) in
-    record { ended = ends_refused step strict size keep name old by_looked _ fault outcome (ap Some c.with_new_image.ensures.fault) runs (looked.0 ∙ files) }
+    record { ended = ends_refused step older size keep name old by_looked _ fault outcome (ap Some c.with_new_image.ensures.fault) runs (looked.0 ∙ files) }
 
 pub returns-in_err-stored : goal.returns-in_err-stored
 returns-in_err-stored g c =
     let step = c.args.step.now in
-    let strict = c.args.request.now.is_strict in
+    let older = c.args.request.now.takes_older in
     let size = c.args.request.now.size in
     let keep = c.args.request.now.keep in
     let name = c.args.request.now.image.now in
@@ -86,26 +86,26 @@ returns-in_err-stored g c =
     let aimed = c.aimed.ensures.kept.0 in
     let is : IsHanded step name old h = handed_at step name target c.as_str.result.now old by_aimed h c.in_ok-target.ensures.target
     (search rules) aimed.0 aimed.1 c.in_ok-handed.ensures.handed in
-    let none : refused_by strict (later_handed step size h) ≡ None =
-    refused_handed strict step size h c.later_handed-found.result None c.later_handed-found.ensures c.in_ok-must_be_read.ensures in
+    let none : refused_by older (later_handed step size h) ≡ None =
+    refused_handed older step size h c.later_handed-found.result None c.later_handed-found.ensures c.in_ok-must_be_read.ensures in
     let silent = c.hand_over.ensures.kept.1 ∙ aimed.2 in
     let files = c.taken.ensures.kept.0 ∙ c.hand_over.ensures.kept.0 ∙ aimed.0 in
     let outcome = c.in-Ok.ensures.ran.0 in
-    let runs : RunsStep step strict size keep name old by_stored None outcome =
-    step_ran step strict size keep name old by_stored h None
+    let runs : RunsStep step older size keep name old by_stored None outcome =
+    step_ran step older size keep name old by_stored h None
     (g.H.Known.known c.hand_over.new.host).printed by_taken.printed outcome is none c.in-Ok.ensures.ran.1 silent c.stored.ensures.kept tt in
     let spares = spares_at c.in_err-stored.field-0.0 c.kind_of-kind.result (kind_of step) old.files by_taken.files by_stored.files name target c.as_str-2.result.now
     outcome c.in-Ok.outcome c.in_ok-target.ensures.target (search rules) files c.kind_of-kind.ensures
     c.in-Ok.ensures.ran.2 c.in_err-stored.ensures.files in
     record {
-      ended = ends_behind step strict size keep name old by_stored _ c.in_err-stored.field-0.0 outcome (search rules)
+      ended = ends_behind step older size keep name old by_stored _ c.in_err-stored.field-0.0 outcome (search rules)
           c.in_err-stored.ensures.refused runs spares;
     }
 
 pub returns : goal.returns
 returns g c =
     let step = c.args.step.now in
-    let strict = c.args.request.now.is_strict in
+    let older = c.args.request.now.takes_older in
     let size = c.args.request.now.size in
     let keep = c.args.request.now.keep in
     let name = c.args.request.now.image.now in
@@ -122,13 +122,13 @@ returns g c =
     let aimed = c.aimed.ensures.kept.0 in
     let is : IsHanded step name old h = handed_at step name target c.as_str.result.now old by_aimed h c.in_ok-target.ensures.target
     (search rules) aimed.0 aimed.1 c.in_ok-handed.ensures.handed in
-    let none : refused_by strict (later_handed step size h) ≡ None =
-    refused_handed strict step size h c.later_handed-found.result None c.later_handed-found.ensures c.in_ok-must_be_read.ensures in
+    let none : refused_by older (later_handed step size h) ≡ None =
+    refused_handed older step size h c.later_handed-found.result None c.later_handed-found.ensures c.in_ok-must_be_read.ensures in
     let silent = c.hand_over.ensures.kept.1 ∙ aimed.2 in
     let files = c.taken.ensures.kept.0 ∙ c.hand_over.ensures.kept.0 ∙ aimed.0 in
     let outcome = c.in-Ok.ensures.ran.0 in
-    let runs : RunsStep step strict size keep name old by_stored None outcome =
-    step_ran step strict size keep name old by_stored h None
+    let runs : RunsStep step older size keep name old by_stored None outcome =
+    step_ran step older size keep name old by_stored h None
     (g.H.Known.known c.hand_over.new.host).printed by_taken.printed outcome is none c.in-Ok.ensures.ran.1 silent c.stored.ensures.kept tt in
     let leaves = leaves_at c.kind_of-kind.result (kind_of step) old.files by_taken.files by_stored.files name target c.as_str-2.result.now
     outcome c.in-Ok.outcome c.in_ok-target.ensures.target (search rules) files c.kind_of-kind.ensures

@@ -1,8 +1,6 @@
 -- What is said of two images is said of their bytes.
-use Rattle.std.proofs.Common.{ℕ, ◌∙◌, subst}
 use Rattle.std.specs.Result.{result_err}
 use Rattle.std.proofs.lemmas.Result.{IfErr-weaker}
-use Rattle.lfs_block.specs.ImageFault.{IsNoImage}
 use Rattle.lfs_step.proofs.ComparingLemmas.{compared_refused, compared_sent, no_image_refused}
 use Rattle.lfs_step.proofs.comparing.compare_bytes.Goals as goal
 
@@ -12,18 +10,17 @@ returns-in-Ok-clause-refused g c =
     let e = c.in-Ok.other.disk in
     let others = c.args.others.items in
     IfErr-weaker c.compare.result _ _
-    (λ f refuses. compared_refused d e others f c.size.ensures.disk c.in-Ok.ensures.disk (c.in-Ok.ensures.size ∙ c.size.ensures.value)
+    (λ f refuses. compared_refused d e c.args.other_size others f c.size.ensures.disk c.in-Ok.ensures.disk c.in-Ok.ensures.size
     c.in-Ok.ensures.bytes refuses) c.compare.ensures.refused
 
 pub returns-in-Ok-clause-sent : goal.returns-in-Ok-clause-sent
 returns-in-Ok-clause-sent g c =
     let d = c.args.image.now.disk in
     let e = c.in-Ok.other.disk in
-    compared_sent d e c.args.others.items (result_err c.compare.result) (g.S.Sink.sent c.args.out.now) (g.S.Sink.sent c.compare.new.out)
-    c.size.ensures.disk c.in-Ok.ensures.disk (c.in-Ok.ensures.size ∙ c.size.ensures.value) c.in-Ok.ensures.bytes c.compare.ensures.sent
+    compared_sent d e c.args.other_size c.args.others.items (result_err c.compare.result) (g.S.Sink.sent c.args.out.now)
+    (g.S.Sink.sent c.compare.new.out) c.size.ensures.disk c.in-Ok.ensures.disk c.in-Ok.ensures.size c.in-Ok.ensures.bytes
+    c.compare.ensures.sent
 
 pub returns-clause-refused : goal.returns-clause-refused
 returns-clause-refused g c =
-    let others = c.args.others.items in
-    let cause = subst (λ (n : ℕ). IsNoImage c.in-Err.fault n others) c.size.ensures.value c.in-Err.ensures.cause in
-    no_image_refused c.args.image.now.disk others c.in-Err.fault c.size.ensures.disk cause
+    no_image_refused c.args.image.now.disk c.args.other_size c.args.others.items c.in-Err.fault c.size.ensures.disk c.in-Err.ensures.cause
