@@ -1,13 +1,14 @@
 //! A sink over a writer.
 
-ghost use Rattle.std.specs.Prelude.{◌≡◌, true, false, is_some, if◌then◌else◌};
-ghost use Rattle.std.specs.Io.KnownBytes.{Keeps};
+ghost use Rattle.std.specs.Prelude.{◌≡◌, ◌<◌, ◌≤◌, ◌||◌, true, false, is_none, is_some, if◌then◌else◌, length, take, IfSome, MatchOption};
+ghost use Rattle.std.specs.Io.KnownBytes.{Appends, Keeps};
 
 use crate::sink::Sink;
-use std::io::{self, ErrorKind, Write};
+use crate::writing::write_some;
+use std::io::{self, Write};
 
 /// A sink over one of std's writers. A write that is interrupted is tried again. The sink fails where the writer fails
-/// or takes no byte.
+/// or takes no byte, and is told why.
 ///
 /// Source: own.
 #[derive(Drop)]
@@ -39,7 +40,7 @@ impl<W: Write> Out<W> {
         self.has_failed
     }
 
-    /// What the writer said when it failed last, in a write or a flush; nothing where it took no byte. Takes no memory.
+    /// What the writer said when it failed last, in a write or a flush. Takes no memory.
     pub fn error(&self) -> Option<&io::Error>
         ensures { is_some result ≡ ⟦<Out<W> as Sink>⟧.told self.now }
     {
@@ -71,20 +72,23 @@ impl<W: Write> Sink for Out<W> {
 
     ghost kept = { λ _. tt };
 
-    fn write(&mut self, bytes: &[u8]) -> Option<usize> {
-        'tries: for _ in 0..u64::MAX {
-            match self.writer.write(bytes) {
-                Ok(0) => break,
-                Ok(count) => return Some(count),
-                Err(error) => {
-                    if error.kind() != ErrorKind::Interrupted {
-                        self.said = Some(error);
-                        break;
-                    }
-                }
+    fn write(&mut self, bytes: &[u8]) -> Option<usize>
+        requires works { ⟦<Out<W> as Sink>⟧.failed self.old ≡ false }
+        requires some { 0 < length bytes.now }
+        ensures count { IfSome result (λ n. (0 < n) × (n ≤ length bytes.now)) }
+        ensures sent { MatchOption result (Keeps (⟦<Out<W> as Sink>⟧.sent self.old) (⟦<Out<W> as Sink>⟧.sent self.new))
+            (λ n. Appends (⟦<Out<W> as Sink>⟧.sent self.old) (⟦<Out<W> as Sink>⟧.sent self.new) (take n bytes.now)) }
+        ensures failed { ⟦<Out<W> as Sink>⟧.failed self.new ≡ is_none result }
+        ensures kept { ⟦<Out<W> as Sink>⟧.kept self.new ≡ ⟦<Out<W> as Sink>⟧.kept self.old }
+        ensures told { ⟦<Out<W> as Sink>⟧.told self.new ≡ (is_none result || ⟦<Out<W> as Sink>⟧.told self.old) }
+    {
+        match write_some(&mut self.writer, bytes) {
+            Ok(count) => Some(count),
+            Err(error) => {
+                self.said = Some(error);
+                self.has_failed = true;
+                None
             }
         }
-        self.has_failed = true;
-        None
     }
 }
