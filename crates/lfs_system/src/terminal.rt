@@ -248,7 +248,7 @@ impl NewFolder for Terminal<'_> {
             return None;
         };
         match write_later(bytes, &mut self.waiting, file) {
-            Ok(()) => Some(bytes.len()),
+            Ok(count) => Some(count),
             Err(error) => {
                 self.subject = Subject::Making;
                 self.said = Some(error);
