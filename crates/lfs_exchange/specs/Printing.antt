@@ -1,8 +1,21 @@
 -- What goes to standard output (own).
-use Rattle.std.specs.Prelude.{ℕ, ◌⊎◌, List, Option}
+use Rattle.std.specs.Prelude.{ℕ, ◌≡◌, ◌⊎◌, ⊤, List, Option}
 use Rattle.std.specs.Io.KnownBytes.{Appends}
+use Rattle.lfs_exchange.specs.declared.step_kind.StepKind.{StepKind}
+use Rattle.lfs_exchange.specs.declared.step_kind.StepKind.TheVariants.{Asks, Recounts}
+use Rattle.lfs_host.specs.Scene.{Scene}
 use Rattle.lfs_sink.specs.Send.{SendsBeginning}
 
 -- a beginning of the text has gone out, or all of it
 abbrev pub PrintsBeginning : Option (List ℕ) → Option (List ℕ) → List ℕ → Type 0
 PrintsBeginning old new text = SendsBeginning old new text ⊎ Appends old new text
+
+-- all that was printed is handed on
+abbrev pub IsFlushed : Scene → Type 0
+IsFlushed scene = scene.flushed ≡ scene.printed
+
+-- so it is once a question is answered
+abbrev pub HandsOn : StepKind → Scene → Type 0
+HandsOn Asks scene = IsFlushed scene
+HandsOn Recounts scene = IsFlushed scene
+HandsOn _ scene = ⊤

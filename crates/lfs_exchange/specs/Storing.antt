@@ -1,5 +1,5 @@
 -- What a step leaves in the files of an image and its journal (own).
-use Rattle.std.specs.Prelude.{◌≡◌, ◌⊎◌, ℕ, List, [], ◌∷◌, ◌++◌, Option, Some, None, string_bytes, codes}
+use Rattle.std.specs.Prelude.{◌≡◌, ◌⊎◌, ℕ, Bool, List, [], ◌∷◌, ◌++◌, Option, Some, None, string_bytes, codes}
 use Rattle.lfs_change.specs.declared.fault.Fault.{Fault}
 use Rattle.lfs_change.specs.declared.fault.Fault.TheVariants.{Refused}
 use Rattle.lfs_change.specs.declared.outcome.Outcome.{Outcome}
@@ -7,6 +7,7 @@ use Rattle.lfs_exchange.specs.declared.step_kind.StepKind.{StepKind}
 use Rattle.lfs_exchange.specs.declared.step_kind.StepKind.TheVariants.{Asks, Recounts, Forgets}
 use Rattle.lfs_exchange.specs.declared.names.Names.{Names}
 use Rattle.lfs_host.specs.Files.{Files, KeepsOthers, OnKnown, Replaces, StaysBut}
+use Rattle.lfs_host.specs.Scene.{WasRefused}
 
 -- the name of what is to become the file of a name
 abbrev pub new_name : List ℕ → List ℕ
@@ -85,10 +86,14 @@ SparesBoth old new name = OnKnown (StaysBut (new_names name)) old new
 abbrev pub SparesImage : Option Files → Option Files → List ℕ → Outcome → Type 0
 SparesImage old new name outcome = OnKnown (HasJournal name outcome.journal.items) old new
 
--- the files where the host refused something behind a run: all of them stay where that was memory
-abbrev pub SparesFiles : Fault → StepKind → Option Files → Option Files → List ℕ → Outcome → Type 0
-SparesFiles (Refused refusal) kind old new name outcome = new ≡ old
-SparesFiles _ Asks old new name outcome = new ≡ old
-SparesFiles _ Recounts old new name outcome = new ≡ old
-SparesFiles _ Forgets old new name outcome = SparesJournal old new name
-SparesFiles _ _ old new name outcome = SparesBoth old new name ⊎ SparesImage old new name outcome
+-- either of these: the image stays alone only where the host refused a file its place
+abbrev pub SparesEither : Option Bool → Option Files → Option Files → List ℕ → Outcome → Type 0
+SparesEither placed old new name outcome = SparesBoth old new name ⊎ (WasRefused placed × SparesImage old new name outcome)
+
+-- the files where the host refused something behind a run, a file its place or not: all of them stay where that was memory
+abbrev pub SparesFiles : Fault → StepKind → Option Bool → Option Files → Option Files → List ℕ → Outcome → Type 0
+SparesFiles (Refused refusal) kind placed old new name outcome = new ≡ old
+SparesFiles _ Asks placed old new name outcome = new ≡ old
+SparesFiles _ Recounts placed old new name outcome = new ≡ old
+SparesFiles _ Forgets placed old new name outcome = SparesJournal old new name
+SparesFiles _ _ placed old new name outcome = SparesEither placed old new name outcome

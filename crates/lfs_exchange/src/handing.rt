@@ -2,12 +2,14 @@
 
 ghost use Rattle.std.specs.Prelude.{◌≡◌, ◌⊎◌, IfErr, IfOk, OnOk, string_bytes, true};
 ghost use Rattle.lfs_book.specs.Book.{most_journal};
-ghost use Rattle.lfs_change.specs.declared.fault.Fault.TheVariants.{CannotWrite, Other};
+ghost use Rattle.lfs_change.specs.declared.fault.Fault.TheVariants.{CannotRead, CannotWrite, Other};
 ghost use Rattle.lfs_change.specs.declared.other_fault.OtherFault.TheVariants as other;
 ghost use Rattle.lfs_fs.specs.Limits.{most_file};
 ghost use Rattle.lfs_host.specs.Files.{FindsFile, IsMissing, IsTarget, ReadsFile, ReadsInput};
-ghost use Rattle.lfs_host.specs.Scene.{HasRefused, KeepsAll, KeepsScene};
-ghost use Rattle.lfs_exchange.specs.Handing.{HandsImage, HandsInput, HandsJournal, IsHanded, IsNotAimed, IsNotHanded, IsNotLocked, IsOtherUnread, IsUnread, fault_at, fault_of_reading, most_image};
+ghost use Rattle.lfs_host.specs.Scene.{HasClaimed, HasRefused, KeepsAll, KeepsOutput, KeepsSeen};
+ghost use Rattle.lfs_exchange.specs.Handing.{HandsImage, HandsInput, HandsJournal, IsClaimed, IsHanded, IsNotAimed, IsNotHanded, IsNotLocked, IsOtherUnread, IsUnread, LeavesInput, fault_at, fault_of_reading, most_image};
+ghost use Rattle.lfs_exchange.specs.StepKind.{kind_of};
+ghost use Rattle.lfs_exchange.specs.declared.step_kind.StepKind.TheVariants.{Makes};
 ghost use Rattle.lfs_exchange.specs.Storing.{journal_name};
 
 use crate::names::journal_name;
@@ -40,8 +42,9 @@ pub fn aimed<H: Host>(
     name: &str,
 ) -> Result<String, Fault>
     ensures target { IfOk result (λ target. IsTarget (H.known host.old).files name.now (string_bytes target)) }
+    ensures claimed { IfOk result (λ target. IsClaimed kind (H.known host.new) (string_bytes target)) }
     ensures refused { IfErr result (IsNotAimed kind (H.known host.new) name.now) }
-    ensures kept { KeepsAll (H.known host.old) (H.known host.new) }
+    ensures kept { KeepsSeen (H.known host.old) (H.known host.new) }
 {
     let target = match host.target(alloc, name) {
         Ok(target) => target,
@@ -49,20 +52,38 @@ pub fn aimed<H: Host>(
     };
     match kind {
         StepKind::Asks | StepKind::Recounts => {}
-        _ => lock(host, kind, target.as_str())?,
+        StepKind::Makes | StepKind::Changes | StepKind::Forgets => lock(
+            host,
+            kind,
+            target.as_str(),
+        )?,
     }
     Ok(target)
 }
 
-/// Locks an image's file for this run. One that is made need not be there.
+/// Claims the name of an image's file for this run. One that is made need not be there.
 fn lock<H: Host>(host: &mut H, kind: StepKind, name: &str) -> Result<(), Fault>
-    ensures refused { IfErr result (IsNotLocked (H.known host.new) name.now) }
-    ensures kept { KeepsAll (H.known host.old) (H.known host.new) }
+    ensures claimed { OnOk result (HasClaimed (H.known host.new) name.now) }
+    ensures refused { IfErr result (IsNotLocked kind (H.known host.new) name.now) }
+    ensures kept { KeepsSeen (H.known host.old) (H.known host.new) }
 {
-    match (host.lock(name), kind) {
-        (Ok(Lock::Held), _) | (Ok(Lock::NoFile), StepKind::Makes) => Ok(()),
-        (Ok(Lock::HeldByAnother), _) | (Err(_), StepKind::Makes) => Err(Fault::CannotWrite),
-        (Ok(Lock::NoFile), _) | (Err(_), _) => Err(Fault::CannotRead),
+    match host.lock(name) {
+        Ok(Lock::Held) => Ok(()),
+        Ok(Lock::NoFile) => must_be_there(kind),
+        Ok(Lock::HeldByAnother) => Err(Fault::CannotWrite),
+        Err(_) => Err(fault_at(kind, ReadFault::CannotRead)),
+    }
+}
+
+/// Refuses an image that isn't there, unless it is made.
+fn must_be_there(kind: StepKind) -> Result<(), Fault>
+    ensures { IfErr result (λ fault. (fault ≡ CannotRead) × ¬ (kind ≡ Makes)) }
+{
+    match kind {
+        StepKind::Makes => Ok(()),
+        StepKind::Asks | StepKind::Recounts | StepKind::Changes | StepKind::Forgets => {
+            Err(Fault::CannotRead)
+        }
     }
 }
 
@@ -81,17 +102,20 @@ pub fn spare<H: Host>(host: &mut H, is_new: bool, name: &str) -> Result<(), Faul
     Ok(())
 }
 
-/// What a step is handed: the image's file before its journal, and that before what it reads besides.
+/// What a step is handed: the image's file before its journal, and that before what it reads besides. The caller owes that this run has
+/// claimed the name, where a file is to be changed.
 pub fn hand_over<H: Host>(
     alloc: Global,
     host: &mut H,
     step: &Step<'_>,
     name: &str,
 ) -> Result<Handed, Fault>
+    requires claimed { IsClaimed (kind_of step.now) (H.known host.old) name.now }
     ensures handed { IfOk result (λ h. IsHanded step.now name.now (H.known host.old)
         (record { image = h.image.items; journal = h.journal.items; input = h.input.items })) }
     ensures refused { IfErr result (IsNotHanded step.now (H.known host.new)) }
-    ensures kept { KeepsScene (H.known host.old) (H.known host.new) }
+    ensures unread { LeavesInput step.now (H.known host.old) (H.known host.new) }
+    ensures kept { KeepsOutput (H.known host.old) (H.known host.new) }
 {
     let kind = kind_of(step);
     let image = read_image(alloc, host, kind, name)?;
@@ -161,7 +185,8 @@ fn find_journal<H: Host>(alloc: Global, host: &mut H, name: &str) -> Result<Vec<
 fn input_of<H: Host>(alloc: Global, host: &mut H, step: &Step<'_>) -> Result<Vec<u8>, Fault>
     ensures input { IfOk result (λ input. HandsInput step.now (H.known host.old).files (H.known host.old).typed input.items) }
     ensures refused { IfErr result (IsNotHanded step.now (H.known host.new)) }
-    ensures kept { KeepsScene (H.known host.old) (H.known host.new) }
+    ensures unread { LeavesInput step.now (H.known host.old) (H.known host.new) }
+    ensures kept { KeepsOutput (H.known host.old) (H.known host.new) }
 {
     match *step {
         Step::Put { from: None, .. } => read_input(alloc, host),
@@ -194,7 +219,7 @@ pub fn read_contents<H: Host>(alloc: Global, host: &mut H, name: &str) -> Result
 pub fn read_input<H: Host>(alloc: Global, host: &mut H) -> Result<Vec<u8>, Fault>
     ensures input { IfOk result (λ input. ReadsInput (H.known host.old).typed most_file input.items) }
     ensures refused { IfErr result (IsUnread (H.known host.new)) }
-    ensures kept { KeepsScene (H.known host.old) (H.known host.new) }
+    ensures kept { KeepsOutput (H.known host.old) (H.known host.new) }
 {
     match host.input(alloc, u64::from(MOST_FILE)) {
         Ok(bytes) => Ok(bytes),

@@ -6,7 +6,7 @@ use lfs_host::{Host, HostFault};
 use lfs_sink::Sink;
 
 /// A host's standard output as a sink: what went out is what the host printed. No write changes which host it is, its files, what is
-/// left on its standard input, and that it has failed only where the host has refused something.
+/// left on its standard input, what was made, which names are claimed, and that it has failed only where the host has refused something.
 ///
 /// Source: own.
 #[derive(Drop)]
@@ -24,6 +24,8 @@ impl<'a, H: Host> Output<'a, H> {
           host.entry.ghost_name,
           (H.known host.old).files,
           (H.known host.old).typed,
+          (H.known host.old).made,
+          (H.known host.old).claimed,
           true,
         ) }
     {
@@ -38,18 +40,21 @@ impl<H: Host> Sink for Output<'_, H> {
     ghost use Rattle.std.specs.Prelude.{ℕ, Bool, List, Option};
     ghost use base.Fml.{GName};
     ghost use Rattle.lfs_host.specs.Files.{Files};
+    ghost use Rattle.lfs_host.specs.NewFolder.{Made};
     ghost use Rattle.lfs_host.specs.Scene.{is_blamed};
 
     ghost sent = { λ output. (H.known output.host.now).printed };
 
     ghost failed = { λ output. output.has_failed };
 
-    ghost Kept = { GName × Option Files × Option (List ℕ) × Bool };
+    ghost Kept = { GName × Option Files × Option (List ℕ) × Option (List Made) × Option (List (List ℕ)) × Bool };
 
     ghost kept = { λ output. (
       output.host.ghost_name,
       (H.known output.host.now).files,
       (H.known output.host.now).typed,
+      (H.known output.host.now).made,
+      (H.known output.host.now).claimed,
       is_blamed output.has_failed (H.known output.host.now).has_refused,
     ) };
 

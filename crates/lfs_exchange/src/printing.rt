@@ -1,10 +1,10 @@
 //! What goes to standard output.
 
-ghost use Rattle.std.specs.Prelude.{◌≡◌, IfErr, MatchResult};
+ghost use Rattle.std.specs.Prelude.{◌≡◌, IfErr, MatchResult, OnOk};
 ghost use Rattle.std.specs.Io.KnownBytes.{Appends};
 ghost use Rattle.lfs_change.specs.declared.fault.Fault.TheVariants.{CannotWrite};
-ghost use Rattle.lfs_host.specs.Scene.{HasRefused, KeepsAll};
-ghost use Rattle.lfs_exchange.specs.Printing.{PrintsBeginning};
+ghost use Rattle.lfs_host.specs.Scene.{HasRefused, KeepsAll, KeepsInput};
+ghost use Rattle.lfs_exchange.specs.Printing.{IsFlushed, PrintsBeginning};
 
 use crate::output::Output;
 use lfs_host::Host;
@@ -18,8 +18,9 @@ use lfs_step::Fault;
 pub fn print<H: Host>(host: &mut H, text: &str) -> Result<(), Fault>
     ensures printed { MatchResult result (λ _. Appends (H.known host.old).printed (H.known host.new).printed text.now)
         (λ _. PrintsBeginning (H.known host.old).printed (H.known host.new).printed text.now) }
+    ensures flushed { OnOk result (IsFlushed (H.known host.new)) }
     ensures refused { IfErr result (λ fault. (fault ≡ CannotWrite) × HasRefused (H.known host.new)) }
-    ensures kept { ((H.known host.new).files ≡ (H.known host.old).files) × ((H.known host.new).typed ≡ (H.known host.old).typed) }
+    ensures kept { KeepsInput (H.known host.old) (H.known host.new) }
 {
     if !send(&mut Output::new(host), text.as_bytes()) {
         return Err(Fault::CannotWrite);
@@ -31,6 +32,7 @@ pub fn print<H: Host>(host: &mut H, text: &str) -> Result<(), Fault>
 ///
 /// Source: own.
 pub fn flush<H: Host>(host: &mut H) -> Result<(), Fault>
+    ensures flushed { OnOk result (IsFlushed (H.known host.new)) }
     ensures refused { IfErr result (λ fault. (fault ≡ CannotWrite) × HasRefused (H.known host.new)) }
     ensures kept { KeepsAll (H.known host.old) (H.known host.new) }
 {

@@ -1,11 +1,12 @@
 //! What a step leaves in the files of an image and its journal.
 
-ghost use Rattle.std.specs.Prelude.{◌≡◌, ◌⊎◌, IfErr, MatchResult};
+ghost use Rattle.std.specs.Prelude.{◌≡◌, ◌⊎◌, IfErr, MatchResult, OnOk};
 ghost use Rattle.lfs_change.specs.declared.fault.Fault.TheVariants.{CannotWrite};
 ghost use Rattle.lfs_host.specs.Files.{OnKnown};
-ghost use Rattle.lfs_host.specs.Scene.{HasRefused};
-ghost use Rattle.lfs_exchange.specs.Handing.{IsOfHost};
-ghost use Rattle.lfs_exchange.specs.Storing.{HasNew, HasPlaced, HasPlacedJournal, IsNames, LeavesBoth, LeavesFiles, LeavesJournal, SparesBoth, SparesFiles, SparesImage, SparesJournal};
+ghost use Rattle.lfs_host.specs.Scene.{HasClaimed, HasRefused, KeepsText, WasRefused};
+ghost use Rattle.lfs_exchange.specs.Handing.{IsClaimed, IsUnwritten};
+ghost use Rattle.lfs_exchange.specs.Printing.{HandsOn};
+ghost use Rattle.lfs_exchange.specs.Storing.{HasNew, HasPlaced, HasPlacedJournal, IsNames, LeavesBoth, LeavesFiles, LeavesJournal, SparesBoth, SparesEither, SparesFiles, SparesJournal};
 
 use crate::names::{Names, names_of};
 use crate::printing::flush;
@@ -16,7 +17,7 @@ use lfs_step::{Fault, Outcome};
 use std::alloc::Global;
 
 /// Writes what a step leaves; the answer to a question is handed on. What memory it takes is taken before a file is
-/// changed.
+/// changed. The caller owes that this run has claimed the name, where a file is to be changed.
 pub fn stored<H: Host>(
     alloc: Global,
     host: &mut H,
@@ -24,11 +25,13 @@ pub fn stored<H: Host>(
     name: &str,
     outcome: &Outcome,
 ) -> Result<(), Fault>
+    requires claimed { IsClaimed kind (H.known host.old) name.now }
     ensures files { MatchResult result
         (λ _. LeavesFiles kind (H.known host.old).files (H.known host.new).files name.now outcome.now)
-        (λ fault. SparesFiles fault kind (H.known host.old).files (H.known host.new).files name.now outcome.now) }
-    ensures refused { IfErr result (IsOfHost (H.known host.new)) }
-    ensures kept { (H.known host.new).printed ≡ (H.known host.old).printed }
+        (λ fault. SparesFiles fault kind (H.known host.new).has_refused_place (H.known host.old).files (H.known host.new).files name.now outcome.now) }
+    ensures flushed { OnOk result (HandsOn kind (H.known host.new)) }
+    ensures refused { IfErr result (IsUnwritten (H.known host.new)) }
+    ensures kept { KeepsText (H.known host.old) (H.known host.new) }
 {
     match kind {
         StepKind::Asks | StepKind::Recounts => flush(host),
@@ -55,7 +58,7 @@ fn put_journal<H: Host>(
         (λ _. LeavesJournal (H.known host.old).files (H.known host.new).files name.now journal.now.items)
         (λ _. SparesJournal (H.known host.old).files (H.known host.new).files name.now) }
     ensures refused { IfErr result (λ fault. (fault ≡ CannotWrite) × HasRefused (H.known host.new)) }
-    ensures kept { (H.known host.new).printed ≡ (H.known host.old).printed }
+    ensures kept { KeepsText (H.known host.old) (H.known host.new) }
 {
     let new = names.new_journal.as_str();
     if host.write(new, journal, name).is_err() {
@@ -76,12 +79,13 @@ fn put_both<H: Host>(
     names: &Names,
     outcome: &Outcome,
 ) -> Result<(), Fault>
-    requires { IsNames names.now name.now }
+    requires names { IsNames names.now name.now }
+    requires claimed { HasClaimed (H.known host.old) name.now }
     ensures files { MatchResult result
         (λ _. LeavesBoth (H.known host.old).files (H.known host.new).files name.now outcome.now)
-        (λ _. SparesBoth (H.known host.old).files (H.known host.new).files name.now ⊎ SparesImage (H.known host.old).files (H.known host.new).files name.now outcome.now) }
+        (λ _. SparesEither (H.known host.new).has_refused_place (H.known host.old).files (H.known host.new).files name.now outcome.now) }
     ensures refused { IfErr result (λ fault. (fault ≡ CannotWrite) × HasRefused (H.known host.new)) }
-    ensures kept { (H.known host.new).printed ≡ (H.known host.old).printed }
+    ensures kept { KeepsText (H.known host.old) (H.known host.new) }
 {
     prepared(host, name, names, outcome)?;
     placed(host, name, names)
@@ -100,7 +104,7 @@ fn prepared<H: Host>(
         (λ _. OnKnown (HasNew name.now outcome.now.image.items outcome.now.journal.items) (H.known host.old).files (H.known host.new).files)
         (λ _. SparesBoth (H.known host.old).files (H.known host.new).files name.now) }
     ensures refused { IfErr result (λ fault. (fault ≡ CannotWrite) × HasRefused (H.known host.new)) }
-    ensures kept { (H.known host.new).printed ≡ (H.known host.old).printed }
+    ensures kept { KeepsText (H.known host.old) (H.known host.new) }
 {
     let new_image = names.new_image.as_str();
     let new_journal = names.new_journal.as_str();
@@ -116,12 +120,14 @@ fn prepared<H: Host>(
 
 /// Gives the new journal and then the new image their places. Where that fails nothing is left of what has none.
 fn placed<H: Host>(host: &mut H, name: &str, names: &Names) -> Result<(), Fault>
-    requires { IsNames names.now name.now }
+    requires names { IsNames names.now name.now }
+    requires claimed { HasClaimed (H.known host.old) name.now }
     ensures files { MatchResult result
         (λ _. OnKnown (HasPlaced name.now) (H.known host.old).files (H.known host.new).files)
-        (λ _. SparesBoth (H.known host.old).files (H.known host.new).files name.now ⊎ OnKnown (HasPlacedJournal name.now) (H.known host.old).files (H.known host.new).files) }
+        (λ _. SparesBoth (H.known host.old).files (H.known host.new).files name.now
+        ⊎ (WasRefused (H.known host.new).has_refused_place × OnKnown (HasPlacedJournal name.now) (H.known host.old).files (H.known host.new).files)) }
     ensures refused { IfErr result (λ fault. (fault ≡ CannotWrite) × HasRefused (H.known host.new)) }
-    ensures kept { (H.known host.new).printed ≡ (H.known host.old).printed }
+    ensures kept { KeepsText (H.known host.old) (H.known host.new) }
 {
     let new_image = names.new_image.as_str();
     let new_journal = names.new_journal.as_str();

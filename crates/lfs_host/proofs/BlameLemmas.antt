@@ -6,7 +6,7 @@ use Rattle.lfs_host.specs.Scene.{HasRefused, Notes, Scene, is_blamed}
 -- a failure that is noted
 pub noted_is_blamed : (failed : Bool) (old new : Scene) → Notes failed old new → is_blamed failed new.has_refused ≡ true
 noted_is_blamed false old new notes = refl
-noted_is_blamed true old new notes = by new.has_refused notes
+noted_is_blamed true old new notes = by new.has_refused notes.0
   where
     by : (refused : Option Bool) → IfSome refused (λ r. r ≡ true) → is_blamed true refused ≡ true
     by None is = refl

@@ -3,7 +3,7 @@
 ghost use Rattle.std.specs.Prelude.{◌≡◌, ◌<◌, ◌≤◌, length, take, false, is_err, is_none, IfOk, IfSome, MatchOption, MatchResult, OnOk, string_bytes};
 ghost use Rattle.std.specs.Io.KnownBytes.{Appends, Keeps};
 ghost use Rattle.lfs_host.specs.Files.{FindsFile, IsLocked, IsMissing, IsTarget, KeepsOthers, ReadsFile, ReadsInput, Renames, Writes};
-ghost use Rattle.lfs_host.specs.Scene.{KeepsAll, KeepsFiles, KeepsText, Notes, lock_refused, reading_refused};
+ghost use Rattle.lfs_host.specs.Scene.{Claims, HasClaimed, KeepsAll, KeepsInput, KeepsOutput, KeepsSeen, KeepsText, Notes, NotesFile, NotesPlace, reading_refused};
 
 use crate::folders::Folders;
 use crate::host_fault::HostFault;
@@ -23,13 +23,16 @@ pub trait Host: Folders + NewFolder {
     fn target(&mut self, alloc: Global, name: &str) -> Result<String, ReadFault>
         ensures target { IfOk result (λ target. IsTarget (Self.known self.old).files name.now (string_bytes target)) }
         ensures noted { Notes (reading_refused result) (Self.known self.old) (Self.known self.new) }
+        ensures named { NotesFile (reading_refused result) (Self.known self.new) name.now }
         ensures kept { KeepsAll (Self.known self.old) (Self.known self.new) };
 
-    /// Locks a file for this run until it ends, so that no other run holds its lock.
+    /// Locks a file for this run until it ends, so that no other run holds its lock. A name without a file is claimed too.
     fn lock(&mut self, name: &str) -> Result<Lock, HostFault>
         ensures locked { IfOk result (λ lock. IsLocked (Self.known self.old).files name.now lock) }
-        ensures noted { Notes (lock_refused result) (Self.known self.old) (Self.known self.new) }
-        ensures kept { KeepsAll (Self.known self.old) (Self.known self.new) };
+        ensures claimed { IfOk result (Claims (Self.known self.new) name.now) }
+        ensures noted { Notes (is_err result) (Self.known self.old) (Self.known self.new) }
+        ensures named { NotesFile (is_err result) (Self.known self.new) name.now }
+        ensures kept { KeepsSeen (Self.known self.old) (Self.known self.new) };
 
     /// Refuses a name under which something is, a file or a link that leads nowhere.
     fn must_be_new(&mut self, name: &str) -> Result<(), HostFault>
@@ -64,7 +67,7 @@ pub trait Host: Folders + NewFolder {
     fn input(&mut self, alloc: Global, most: u64) -> Result<Vec<u8>, ReadFault>
         ensures read { IfOk result (λ bytes. ReadsInput (Self.known self.old).typed most bytes.items) }
         ensures noted { Notes (reading_refused result) (Self.known self.old) (Self.known self.new) }
-        ensures kept { ((Self.known self.new).files ≡ (Self.known self.old).files) × ((Self.known self.new).printed ≡ (Self.known self.old).printed) };
+        ensures kept { KeepsOutput (Self.known self.old) (Self.known self.new) };
 
     /// Makes a file of a text, with the rights of the file `like` where there is one; what an earlier run left under
     /// the name is replaced. Where it is refused nothing is left under the name, or what was there.
@@ -75,11 +78,12 @@ pub trait Host: Folders + NewFolder {
         ensures kept { KeepsText (Self.known self.old) (Self.known self.new) };
 
     /// Gives a file another name, in place of the file that this run holds the lock of, or where there is none of nothing.
-    /// Where it is refused both names are as they were.
+    /// Where it is refused both names are as they were. The caller owes that this run has claimed the name.
     fn rename(&mut self, from: &str, to: &str) -> Result<(), HostFault>
+        requires claimed { HasClaimed (Self.known self.old) to.now }
         ensures files { MatchResult result (λ _. Renames (Self.known self.old).files (Self.known self.new).files from.now to.now)
             (λ _. (Self.known self.new).files ≡ (Self.known self.old).files) }
-        ensures noted { Notes (is_err result) (Self.known self.old) (Self.known self.new) }
+        ensures noted { NotesPlace (is_err result) (Self.known self.old) (Self.known self.new) }
         ensures kept { KeepsText (Self.known self.old) (Self.known self.new) };
 
     /// Gives a file another name, in place of a file that has it, or where there is none of nothing. Where it is refused
@@ -104,10 +108,11 @@ pub trait Host: Folders + NewFolder {
         ensures printed { MatchOption result (Keeps (Self.known self.old).printed (Self.known self.new).printed)
             (λ n. Appends (Self.known self.old).printed (Self.known self.new).printed (take n bytes.now)) }
         ensures noted { Notes (is_none result) (Self.known self.old) (Self.known self.new) }
-        ensures kept { ((Self.known self.new).files ≡ (Self.known self.old).files) × ((Self.known self.new).typed ≡ (Self.known self.old).typed) };
+        ensures kept { KeepsInput (Self.known self.old) (Self.known self.new) };
 
     /// Hands on what was written to standard output.
     fn flush(&mut self) -> Result<(), HostFault>
+        ensures flushed { OnOk result ((Self.known self.new).flushed ≡ (Self.known self.new).printed) }
         ensures noted { Notes (is_err result) (Self.known self.old) (Self.known self.new) }
         ensures kept { KeepsAll (Self.known self.old) (Self.known self.new) };
 

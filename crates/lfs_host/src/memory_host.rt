@@ -1,6 +1,6 @@
 //! A host in memory.
 
-ghost use Rattle.std.specs.Prelude.{◌≡◌, ◌∷◌, ◌++◌, ℕ, List, [], None, IfOk, MatchResult, OnErr, OnOk, false, true, is_err, is_ok, ◌||◌};
+ghost use Rattle.std.specs.Prelude.{◌≡◌, ◌∷◌, ◌++◌, ℕ, List, [], None, Contains, IfOk, MatchResult, OnErr, OnOk, false, true, is_err, is_ok, map, string_bytes, ◌||◌};
 ghost use Rattle.std.specs.Option.{option_map};
 ghost use Rattle.lfs_host.specs.declared.failing.Failing.TheVariants.{Never};
 ghost use Rattle.lfs_host.specs.Files.{BeginsWith, HasWritten, StaysBut};
@@ -45,10 +45,16 @@ pub struct MemoryHost {
     pub made: Vec<MadeEntry>,
     /// The bytes that were written to the file that is being made there.
     pub filled: Vec<u8>,
+    /// The names that were claimed.
+    pub claimed: Vec<String>,
+    /// How many bytes of what was printed were handed on.
+    pub flushed: usize,
     /// Which call fails.
     pub failing: Failing,
     /// Whether a call was refused.
     pub has_refused: bool,
+    /// Whether a file was refused another name.
+    pub has_refused_place: bool,
 }
 
 impl MemoryHost {
@@ -61,7 +67,9 @@ impl MemoryHost {
         ensures printed { result.printed.items ≡ [] }
         ensures made { result.made.items ≡ [] }
         ensures failing { result.failing ≡ Never }
+        ensures claimed { result.claimed.items ≡ [] }
         ensures refused { result.has_refused ≡ false }
+        ensures placed { result.has_refused_place ≡ false }
     {
         MemoryHost {
             alloc,
@@ -71,8 +79,11 @@ impl MemoryHost {
             complained: String::new(alloc),
             made: Vec::new(alloc),
             filled: Vec::new(alloc),
+            claimed: Vec::new(alloc),
+            flushed: 0,
             failing: Failing::Never,
             has_refused: false,
+            has_refused_place: false,
         }
     }
 
@@ -117,8 +128,17 @@ fn beginning(bytes: &[u8], most: u64) -> &[u8]
     &bytes[..most as usize + 1]
 }
 
+/// Puts a name behind others.
+fn put_name(alloc: Global, names: &mut Vec<String>, name: &str) -> Result<(), AllocError>
+    ensures { OnOk result (Contains (map string_bytes names.new.items) name.now) }
+{
+    let name = String::from_str(alloc, name)?;
+    names.push(name)?;
+    Ok(())
+}
+
 impl Known for MemoryHost {
-    ghost use Rattle.std.specs.Prelude.{Some, map};
+    ghost use Rattle.std.specs.Prelude.{Some, take};
     ghost use Rattle.lfs_host.specs.MadeEntry.{made_as};
     ghost use Rattle.lfs_host.specs.MemoryTree.{tree_of};
 
@@ -126,10 +146,15 @@ impl Known for MemoryHost {
       files = Some (files_of host.files);
       typed = Some host.typed.now;
       printed = Some host.printed.items;
+      flushed = Some (take host.flushed host.printed.items);
       tree = Some (tree_of host.files);
       made = Some (map made_as host.made.items);
       filled = Some host.filled.items;
+      claimed = Some (map string_bytes host.claimed.items);
+      has_withheld = Some false;
       has_refused = Some host.has_refused;
+      has_refused_file = Some (λ _. host.has_refused);
+      has_refused_place = Some host.has_refused_place;
     } };
 }
 
@@ -137,6 +162,8 @@ impl MemoryHost {
     /// Counts a call that can be made to fail, and refuses it where it is the one.
     fn must_work(&mut self) -> Result<(), HostFault>
         ensures noted { self.new.has_refused ≡ is_err result || self.old.has_refused }
+        ensures placed { self.new.has_refused_place ≡ self.old.has_refused_place }
+        ensures claimed { self.new.claimed ≡ self.old.claimed }
         ensures files { self.new.files ≡ self.old.files }
         ensures typed { self.new.typed ≡ self.old.typed }
         ensures printed { self.new.printed ≡ self.old.printed }
@@ -179,6 +206,8 @@ impl MemoryHost {
             (λ _. self.new.made.items ≡ self.old.made.items) }
         ensures done { OnOk result (is_ok made ≡ true) }
         ensures noted { self.new.has_refused ≡ is_err result || self.old.has_refused }
+        ensures placed { self.new.has_refused_place ≡ self.old.has_refused_place }
+        ensures claimed { self.new.claimed ≡ self.old.claimed }
         ensures files { self.new.files ≡ self.old.files }
         ensures typed { self.new.typed ≡ self.old.typed }
         ensures printed { self.new.printed ≡ self.old.printed }
@@ -228,6 +257,10 @@ impl Host for MemoryHost {
     }
 
     fn lock(&mut self, name: &str) -> Result<Lock, HostFault> {
+        if put_name(self.alloc, &mut self.claimed, name).is_err() {
+            self.has_refused = true;
+            return Err(HostFault);
+        }
         if self.files.contains_key(name) {
             Ok(Lock::Held)
         } else {
@@ -293,16 +326,20 @@ impl Host for MemoryHost {
     }
 
     fn rename(&mut self, from: &str, to: &str) -> Result<(), HostFault> {
+        let settled = self.settle(from, to);
+        if settled.is_err() {
+            self.has_refused_place = true;
+        }
+        settled
+    }
+
+    fn settle(&mut self, from: &str, to: &str) -> Result<(), HostFault> {
         self.must_work()?;
         let moved = move_file(self.alloc, &mut self.files, from, to);
         if moved.is_err() {
             self.has_refused = true;
         }
         moved
-    }
-
-    fn settle(&mut self, from: &str, to: &str) -> Result<(), HostFault> {
-        self.rename(from, to)
     }
 
     fn remove(&mut self, name: &str) {
@@ -318,6 +355,7 @@ impl Host for MemoryHost {
     }
 
     fn flush(&mut self) -> Result<(), HostFault> {
+        self.flushed = self.printed.len();
         Ok(())
     }
 
