@@ -184,17 +184,29 @@ TWO_HEAVY_PARTS = {
     4: log(1, file(0, 105 * b"m") + file(1, 95 * b"n") + tail(SOFT, (2, 3))),
 }
 
-# What moves a file between them, the pairs then, and how many entries each part has: the part that the file leaves gets the
-# first new blocks.
-LED = (("mv /a/f /b/f", [ROOT, (4, 5), (8, 9), (2, 3), (6, 7)], [3, 2, 1, 1, 1]),)
+# Directories b, a/r and a, in this order in the thread. The part of a weighs 234, and 217 without its directory r; that of b, which
+# goes on with another tail once r is removed, weighs 225.
+HEAVY_BEFORE_A_DIRECTORY = {
+    0: log(1, superblock(256, 12) + directory(1, b"a", (6, 7)) + directory(2, b"b", (2, 3)) + tail(SOFT, (2, 3))),
+    2: log(1, file(0, 105 * b"m") + file(1, 104 * b"n") + tail(SOFT, (4, 5))),
+    4: log(1, tail(SOFT, (6, 7))),
+    6: log(1, file(0, 100 * b"m") + file(1, 101 * b"n") + directory(2, b"r", (4, 5))),
+}
+
+# What takes an entry out of a part, on which blocks of how many, the pairs then, those of the directories, how many blocks are free,
+# and how many entries each part has: the part that the entry leaves gets the first new blocks.
+LED = (
+    ("mv /a/f /b/f", TWO_HEAVY_PARTS, 10, [ROOT, (4, 5), (8, 9), (2, 3), (6, 7)], [ROOT, (2, 3), (4, 5)], 0, [3, 2, 1, 1, 1]),
+    ("rm /a/r", HEAVY_BEFORE_A_DIRECTORY, 12, [ROOT, (2, 3), (10, 11), (6, 7), (8, 9)], [ROOT, (6, 7), (2, 3)], 2, [3, 1, 1, 1, 1]),
+)
 
 
 def the_part_that_an_entry_leaves_is_cut_first(folder):
-    for line, thread, counts in LED:
+    for line, begun, count, thread, directories, free, counts in LED:
         blocks = Blocks(folder, 256)
-        blocks.be(10, TWO_HEAVY_PARTS)
+        blocks.be(count, begun)
         blocks.do(line)
-        blocks.stand(line, thread, [ROOT, (2, 3), (4, 5)], 0)
+        blocks.stand(line, thread, directories, free)
         found = [len(part.entries) for part in blocks.read().parts]
         folder.check(f"entries behind {line}", found == counts, found)
 

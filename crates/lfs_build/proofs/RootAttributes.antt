@@ -23,7 +23,8 @@ use Rattle.lfs_command.specs.Command.{Command, SetAttr}
 use Rattle.lfs_command.specs.Cut.{HasEnough, cut}
 use Rattle.lfs_command.specs.Edited.{edited}
 use Rattle.lfs_command.specs.Need.{dirty_parts, need}
-use Rattle.lfs_command.specs.Planned.{TakesLeast, CarriesOut}
+use Rattle.lfs_command.specs.Ordered.{TakesInOrder}
+use Rattle.lfs_command.specs.Planned.{CarriesOut}
 use Rattle.lfs_command.specs.Supplies.{nothing}
 use Rattle.lfs_command.specs.Verdict.{first_refusal, is_too_large, refuse_if, room_checks, verdict}
 use Rattle.lfs_law.specs.Laws.{CleansFollow, CutsFollow}
@@ -111,9 +112,9 @@ module _ (d : Disk) (l : Limits) (a : Attributes) (k : ℕ) (value : List ℕ) w
       within = λ b some. absurd (omega arith);
     }
 
-    taken : TakesLeast v c nothing none_chosen
+    ordered : TakesInOrder v c nothing none_chosen
     unfolding runs_after none_chosen
-    taken n = refl
+    ordered = refl
 
     carries : CarriesOut c v w
     carries = record {
@@ -122,7 +123,7 @@ module _ (d : Disk) (l : Limits) (a : Attributes) (k : ℕ) (value : List ℕ) w
       accepted = accepted;
       chosen = none_chosen;
       pairs = chosen;
-      taken = taken;
+      ordered = ordered;
       is = sym left;
     }
 

@@ -18,6 +18,8 @@ pub mod Kept
 pub mod Freed
 pub mod AskedFor
 pub mod PairChanged
+pub mod Leading
+pub mod Ordered
 pub mod Planned
 pub mod PartWritten
 pub mod NamedCommand

@@ -19,6 +19,7 @@ use Rattle.lfs_command.specs.Supplies.{Supplies, supply_uses}
 use Rattle.lfs_command.specs.Edited.{edited}
 use Rattle.lfs_command.specs.Cut.{cut, new_pair_uses}
 use Rattle.lfs_command.specs.Need.{need, data_blocks, is_new_to, changed_parts}
+use Rattle.lfs_command.specs.Ordered.{TakesInOrder}
 use Rattle.lfs_command.specs.Verdict.{verdict}
 use Rattle.lfs_command.specs.Clean.{clean}
 use Rattle.lfs_command.specs.Accepted.{IsAccepted, AreChosen}
@@ -46,14 +47,14 @@ abbrev pub FillsNewPairs : Volume → Volume → Disk → Type 0
 FillsNewPairs v w d = (p : Part) → Contains (thread w.directories) p → p.dirty ≡ true → is_new_to v p.pair ≡ true
     → FirstIsFilled d.size (block_of d p.pair.0) (block_of d p.pair.1)
 
--- An accepted command takes the least free blocks of a volume, and leaves another one.
+-- An accepted command takes the least free blocks of a volume in order, and leaves another one.
 pub record CarriesOut (c : Command) (v w : Volume) : Type 0 where
   pub supplies : Supplies
   pub blocks : length supplies.blocks ≡ data_blocks v c
   pub accepted : IsAccepted v c supplies
   pub chosen : Part → List Pair
   pub pairs : AreChosen v c supplies chosen
-  pub taken : TakesLeast v c supplies chosen
+  pub ordered : TakesInOrder v c supplies chosen
   pub is : w ≡ clean (cut chosen (edited v c supplies))
 
 -- A patch of an image carries out a command that is asked for: the command leads from the volume that the image holds to the one

@@ -1,6 +1,6 @@
 -- Rows for the parts that overflow are enough for them, and use their blocks once.
 use Rattle.std.proofs.Common.{◌≡◌, ℕ, ◌+◌, ◌-◌, ◌*◌, ◌≤◌, ◌&&◌, Bool, true, false, cond, List, [], ◌∷◌, ◌++◌, length, map, refl, ap, sym}
-use Rattle.std.proofs.Common.{◌∙◌, subst, arith, append-nil}
+use Rattle.std.proofs.Common.{◌∙◌, subst, arith, append-nil, Option}
 use Rattle.std.specs.Prelude.{All, Contains, IsPermutation, filter, if◌then◌else◌, flat_map, count_by, sum_by, nat_lt}
 use Rattle.std.proofs.lemmas.Bool.Decides.{nat_tests}
 use Rattle.std.proofs.lemmas.List.Concat.{length-flat_map}
@@ -20,14 +20,16 @@ use Rattle.lfs_fs.proofs.CountLemmas.{element_le}
 use Rattle.lfs_cut.specs.declared.overflow.Overflow.{Overflow}
 use Rattle.lfs_command.specs.Cut.{room, runs, new_pairs, HasEnough, new_pair_uses}
 use Rattle.lfs_command.specs.Need.{dirty_parts, part_blocks}
+use Rattle.lfs_command.specs.Ordered.{leader_first, pair_blocks}
 use Rattle.lfs_law.specs.PartsCut.{runs_by}
 use Rattle.lfs_cut.specs.Overflow.{is_overfull, overflow_of, overflows_of}
-use Rattle.lfs_cut.specs.Chosen.{PairRow, chosen_for, pair_blocks, row_blocks, overflow_for, ArePairRows, HasPairsOnce}
+use Rattle.lfs_cut.specs.Chosen.{PairRow, chosen_for, row_blocks, overflow_for, ArePairRows, HasPairsOnce}
 use Rattle.lfs_law.proofs.Decided.{same_pair_decides}
 use Rattle.lfs_law.proofs.OutlineRoom.{sum_over}
 use Rattle.lfs_law.proofs.NamedBlocks.{sum_zero, times_flat}
 use Rattle.lfs_law.proofs.CommandsWritten.{sum_both}
 use Rattle.lfs_law.proofs.Needs.{sum_set}
+use Rattle.lfs_law.proofs.Leaders.{leader_permutes}
 use Rattle.lfs_cut.proofs.SumLemmas.{sum_same, sum_flat, sum_counted, sum_one}
 
 -- ---- all rows for a pair
@@ -75,7 +77,7 @@ one_overflow : (f : Overflow → ℕ) (g : Overflow) (t : Bool) → sum_by f (if
 one_overflow f g true = omega (arith, sum_by-cons f g [])
 one_overflow f g false = refl
 
-abbrev overflow : ℕ → ℕ → Part → Overflow
+abbrev pub overflow : ℕ → ℕ → Part → Overflow
 overflow bytes superblock p = record { pair = p.pair; len = length (runs_by bytes superblock p) - 1 }
 
 over_parts : (f : Overflow → ℕ) (bytes superblock : ℕ) (ps : List Part) (gs : List Overflow) (rows : List PairRow)
@@ -86,7 +88,7 @@ over_parts f bytes superblock ps gs rows same is =
     ∙ sum_by-IsPermutation f (overflows_of bytes superblock ps) gs same ∙ sum_flat f (overflow_of bytes superblock) ps
 
 -- the rows of a pair are few, as the parts are
-few_rows : (bytes superblock : ℕ) (ps : List Part) (gs : List Overflow) (rows : List PairRow)
+pub few_rows : (bytes superblock : ℕ) (ps : List Part) (gs : List Overflow) (rows : List PairRow)
     → IsPermutation (overflows_of bytes superblock ps) gs
     → map overflow_for rows ≡ gs → (k : Pair)
     → count_by (λ p. same_pair p.pair k) ps ≤ 1 → count_by (λ r. same_pair k r.0) rows ≤ 1
@@ -236,7 +238,7 @@ one_counted g p true true gs qs same = omega (arith, same)
 one_counted g p true false gs qs same = same
 one_counted g p false u gs qs same = same
 
-filter_by : (f : Part → Bool) (p : Part) (t : Bool) (ps : List Part) → filter f
+pub filter_by : (f : Part → Bool) (p : Part) (t : Bool) (ps : List Part) → filter f
     (if t then p ∷ filter (λ q. q.dirty) ps else filter (λ q. q.dirty) ps)
     ≡ (if t then (if f p then p ∷ filter f (filter (λ q. q.dirty) ps) else filter f (filter (λ q. q.dirty) ps)) else filter f
     (filter (λ q. q.dirty) ps))
@@ -283,46 +285,54 @@ overflow_need v bytes superblock gs is weighs same =
     (is_overfull (room v) (superblock_weight v.attributes) p) ∙ one_need p.dirty (length (runs v p)))
     ∙ sym (sum_set (part_blocks v) (thread v.directories))
 
--- rows for the parts of an outline that overflow, in some order
-pub record AreRowsOf (v : Volume) (bytes superblock : ℕ) (blocks : List ℕ) (rows : List PairRow) : Type 0 where
+-- rows for the parts of an outline that overflow, that of the leading pair first
+pub record AreRowsOf (v : Volume) (bytes superblock : ℕ) (leading : Option Pair) (blocks : List ℕ) (rows : List PairRow) : Type 0 where
   pub gs : List Overflow
   pub bytes_is : bytes ≡ room v
   pub superblock_is : superblock ≡ superblock_weight v.attributes
   pub once : HasPairsOnce v
+  pub led : gs ≡ leader_first (λ g. g.pair) leading (overflows_of bytes superblock (thread v.directories))
   pub order : IsPermutation (overflows_of bytes superblock (thread v.directories)) gs
   pub rows_are : ArePairRows gs blocks rows
 
-pub in_order : (v : Volume) (bytes superblock : ℕ) (ds : List Directory) (found ordered gs : List Overflow) → ds ≡ v.directories
-    → found ≡ overflows_of bytes superblock (thread ds)
-    → IsPermutation found ordered → gs ≡ ordered → IsPermutation (overflows_of bytes superblock (thread v.directories)) gs
-in_order v bytes superblock ds found ordered gs all is same put =
-    subst (λ (xs : List Overflow). IsPermutation xs gs) (is ∙ ap (λ (es : List Directory). overflows_of bytes superblock (thread es)) all)
-    (subst (λ (xs : List Overflow). IsPermutation found xs) (sym put) same)
+pub in_order : (v : Volume) (bytes superblock : ℕ) (leading : Option Pair) (ds : List Directory) (found ordered gs : List Overflow)
+    → ds ≡ v.directories → found ≡ overflows_of bytes superblock (thread ds)
+    → ordered ≡ leader_first (λ g. g.pair) leading found → gs ≡ ordered
+    → gs ≡ leader_first (λ g. g.pair) leading (overflows_of bytes superblock (thread v.directories))
+in_order v bytes superblock leading ds found ordered gs all is led put =
+    put ∙ led ∙ ap (leader_first (λ (g : Overflow). g.pair) leading) is
+    ∙ ap (λ (es : List Directory). leader_first (λ (g : Overflow). g.pair) leading (overflows_of bytes superblock (thread es))) all
 
-chosen_all : (v : Volume) (bytes superblock : ℕ) (blocks : List ℕ) (rows : List PairRow) → (of_v : AreRowsOf v bytes superblock blocks rows)
+pub in_some_order : (bytes superblock : ℕ) (leading : Option Pair) (ps : List Part) (gs : List Overflow)
+    → gs ≡ leader_first (λ g. g.pair) leading (overflows_of bytes superblock ps) → IsPermutation (overflows_of bytes superblock ps) gs
+in_some_order bytes superblock leading ps gs led =
+    subst (IsPermutation (overflows_of bytes superblock ps)) (sym led)
+    (leader_permutes (λ (g : Overflow). g.pair) leading (overflows_of bytes superblock ps))
+
+chosen_all : (v : Volume) (bytes superblock : ℕ) (leading : Option Pair) (blocks : List ℕ) (rows : List PairRow) → (of_v : AreRowsOf v bytes superblock leading blocks rows)
     → (p : Part) → chosen_for rows p ≡ all_for rows p.pair
-chosen_all v bytes superblock blocks rows of_v p =
+chosen_all v bytes superblock leading blocks rows of_v p =
     first_is_all p rows (few_rows bytes superblock (thread v.directories) of_v.gs rows of_v.order of_v.rows_are.for_each p.pair
     (of_v.once p.pair))
 
-pub chosen_enough : (v : Volume) (bytes superblock : ℕ) (blocks : List ℕ) (rows : List PairRow) → AreRowsOf v bytes superblock blocks rows
+pub chosen_enough : (v : Volume) (bytes superblock : ℕ) (leading : Option Pair) (blocks : List ℕ) (rows : List PairRow) → AreRowsOf v bytes superblock leading blocks rows
     → All (HasEnough (chosen_for rows) v) (thread v.directories)
-chosen_enough v bytes superblock blocks rows of_v =
+chosen_enough v bytes superblock leading blocks rows of_v =
     All-weaker (Contains (thread v.directories)) (HasEnough (chosen_for rows) v)
     (λ p there set.
-    ap (λ (qs : List Pair). length qs) (chosen_all v bytes superblock blocks rows of_v p)
+    ap (λ (qs : List Pair). length qs) (chosen_all v bytes superblock leading blocks rows of_v p)
     ∙ enough_for bytes superblock (thread v.directories) of_v.gs rows of_v.order of_v.rows_are.for_each p there (of_v.once p.pair) set
     ∙ ap (λ (n : ℕ). length (runs_by n superblock p) - 1) of_v.bytes_is
     ∙ ap (λ (n : ℕ). length (runs_by (room v) n p) - 1) of_v.superblock_is
     ∙ sym (later_length (runs v p)))
     (thread v.directories) (All-contains_itself (thread v.directories))
 
-pub chosen_uses : (v : Volume) (bytes superblock : ℕ) (blocks : List ℕ) (rows : List PairRow) → AreRowsOf v bytes superblock blocks rows
+pub chosen_uses : (v : Volume) (bytes superblock : ℕ) (leading : Option Pair) (blocks : List ℕ) (rows : List PairRow) → AreRowsOf v bytes superblock leading blocks rows
     → (b : ℕ)
     → new_pair_uses (chosen_for rows) v b ≡ times b blocks
-chosen_uses v bytes superblock blocks rows of_v b =
+chosen_uses v bytes superblock leading blocks rows of_v b =
     let ps : List Part = thread v.directories in
     sum_same (λ (p : Part). pairs_use b (new_pairs (chosen_for rows) p)) (set_use b rows) ps
-    (λ p. ap (λ (qs : List Pair). pairs_use b (if p.dirty then qs else [])) (chosen_all v bytes superblock blocks rows of_v p))
+    (λ p. ap (λ (qs : List Pair). pairs_use b (if p.dirty then qs else [])) (chosen_all v bytes superblock leading blocks rows of_v p))
     ∙ all_use b ps rows (for_one bytes superblock ps of_v.gs rows of_v.order of_v.rows_are.for_each of_v.once)
     ∙ row_uses b blocks rows of_v.rows_are.in_order

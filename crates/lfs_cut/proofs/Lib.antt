@@ -3,4 +3,5 @@ pub mod SetPartLemmas
 pub mod OverflowLemmas
 pub mod SumLemmas
 pub mod ChosenPairs
+pub mod InOrder
 pub mod CutPartLemmas

@@ -4,6 +4,7 @@ use Rattle.lfs_meta.specs.Body.{Pair}
 use Rattle.lfs_fs.specs.Pair.{same_pair}
 use Rattle.lfs_fs.specs.Directory.{Part, thread}
 use Rattle.lfs_fs.specs.Volume.{Volume}
+use Rattle.lfs_command.specs.Ordered.{blocks_of_pairs}
 use Rattle.lfs_cut.specs.declared.overflow.Overflow.{Overflow}
 
 -- a part's pair, and those of its new parts
@@ -15,13 +16,9 @@ abbrev pub chosen_for : List PairRow → Part → List Pair
 chosen_for [] p = []
 chosen_for (r ∷ rows) p = if same_pair p.pair r.0 then r.1 else chosen_for rows p
 
--- both blocks of a pair
-abbrev pub pair_blocks : Pair → List ℕ
-pair_blocks q = q.0 ∷ q.1 ∷ []
-
 -- the blocks of a row in order
 abbrev pub row_blocks : PairRow → List ℕ
-row_blocks r = flat_map pair_blocks r.1
+row_blocks r = blocks_of_pairs r.1
 
 -- what a row is for
 abbrev pub overflow_for : PairRow → Overflow

@@ -7,6 +7,7 @@ ghost use Rattle.lfs_fs.specs.Uses.{times};
 ghost use Rattle.lfs_cut.specs.Chosen.{ArePairRows, HasPairsOnce, chosen_for};
 ghost use Rattle.lfs_command.specs.Cut.{HasEnough, new_pair_uses, runs};
 ghost use Rattle.lfs_command.specs.Need.{dirty_parts, part_blocks};
+ghost use Rattle.lfs_command.specs.Ordered.{blocks_chosen, overflowing, overflowing_led};
 
 use crate::block_room::block_room;
 use crate::new_pairs::{NewPairs, pairs_of};
@@ -56,6 +57,7 @@ pub fn choose(
     requires once { HasPairsOnce outline.now }
     requires few { length (filter (λ p. nat_lt 1 (length (runs outline.now p))) (dirty_parts outline.now)) ≤ 2 }
     ensures enough { IfOk result (λ rows. All (HasEnough (chosen_for rows.items) outline.now) (thread outline.now.directories)) }
+    ensures ordered { IfOk result (λ rows. blocks_chosen (chosen_for rows.items) (overflowing_led leading outline.now) ≡ blocks.now) }
     ensures uses { IfOk result (λ rows. (b : ℕ) → new_pair_uses (chosen_for rows.items) outline.now b ≡ times b blocks.now) }
 {
     let room = block_room(outline);

@@ -1,7 +1,7 @@
 //! Pairs for the new parts of a part.
 
 ghost use Rattle.std.specs.Prelude.{◌≡◌, ◌*◌, length, flat_map, IfOk};
-ghost use Rattle.lfs_cut.specs.Chosen.{pair_blocks};
+ghost use Rattle.lfs_command.specs.Ordered.{pair_blocks};
 
 use std::alloc::{AllocError, Global};
 use std::default::MadeWith;

@@ -1,9 +1,9 @@
 //! Which parts of an outline take more room than a block has.
 
 ghost use Rattle.std.specs.Prelude.{◌≡◌, ◌+◌, ◌≤◌, ◌++◌, length};
-ghost use Rattle.std.specs.Prelude.{IsPermutation};
 ghost use Rattle.arrayvec.specs.ArrayVec.{array_vec_len};
 ghost use Rattle.lfs_fs.specs.Directory.{parts, thread};
+ghost use Rattle.lfs_command.specs.Ordered.{leader_first};
 ghost use Rattle.lfs_cut.specs.Overflow.{overflow_of, overflows_of};
 
 use crate::block_room::BlockRoom;
@@ -75,9 +75,9 @@ pub(crate) fn overflows_of(
     overflows
 }
 
-/// Puts the part of the pair `leading` first. Takes no memory.
+/// Of two parts puts that of the pair `leading` first. Takes no memory.
 pub(crate) fn put_first(overflows: &mut ArrayVec<Overflow, 2>, leading: Option<(u32, u32)>)
-    ensures { IsPermutation overflows.old.items overflows.new.items }
+    ensures { overflows.new.items ≡ leader_first (λ g. g.pair) leading overflows.old.items }
 {
     let Some(leading) = leading else {
         return;

@@ -1,4 +1,3 @@
 pub mod LeastSupplies
 pub mod EntryChange
 pub mod Editable
-pub mod Leading

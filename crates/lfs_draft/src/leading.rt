@@ -5,7 +5,7 @@ ghost use Rattle.std.specs.Option.{option_map};
 ghost use Rattle.lfs_fs.specs.Directory.{parts};
 ghost use Rattle.lfs_command.specs.DirectoryEdit.{has_name};
 ghost use Rattle.lfs_command.specs.NamedCommand.{named_command};
-ghost use Rattle.lfs_draft.specs.Leading.{leading_pair, pair_in, path_of};
+ghost use Rattle.lfs_command.specs.Leading.{leading_pair, pair_in, path_of};
 
 use crate::directory_edit::has_name;
 use crate::home::home_of;

@@ -1,6 +1,6 @@
 -- A patch that writes what a command leaves of an outline carries the command out.
-use Rattle.std.proofs.Common.{◌≡◌, ◌+◌, ◌<◌, ◌≤◌, ℕ, Bool, List, [], ◌∷◌, length, map, take, drop, refl, ap, sym, ◌∙◌, subst}
-use Rattle.std.proofs.Common.{arith}
+use Rattle.std.proofs.Common.{◌≡◌, ◌+◌, ◌<◌, ◌≤◌, ℕ, Bool, List, [], ◌∷◌, ◌++◌, length, map, take, drop, refl, ap, sym, ◌∙◌, subst}
+use Rattle.std.proofs.Common.{arith, Option}
 use Rattle.std.proofs.lemmas.List.{length-take-le, take-take}
 use Rattle.std.proofs.lemmas.List.Sums.{sum_by-take-drop}
 use Rattle.lfs_block.specs.Disk.{Disk, resized}
@@ -29,6 +29,7 @@ use Rattle.lfs_command.specs.DirectoryEdit.{each_part}
 use Rattle.lfs_command.specs.Edited.{edited}
 use Rattle.lfs_command.specs.Growth.{count_after, grown}
 use Rattle.lfs_command.specs.Need.{data_blocks, is_new_to, need}
+use Rattle.lfs_command.specs.Ordered.{TakesInOrder, blocks_chosen, leader, overflowing_led}
 use Rattle.lfs_law.specs.Lengthened.{HoldsParts}
 use Rattle.lfs_law.specs.OutlineCarried.{IsCarried}
 use Rattle.lfs_law.specs.OutlineLaws.{WritesOutline}
@@ -40,6 +41,7 @@ use Rattle.lfs_command.specs.Supplies.{AreFree, Supplies, supply_uses}
 use Rattle.lfs_law.specs.SuperblockBytes.{volume_bytes}
 use Rattle.lfs_law.specs.WrittenLinks.{AreWritten, ChangesLinks, changed_blocks}
 use Rattle.lfs_law.proofs.FrugalPlans.{enough_free}
+use Rattle.lfs_edit.proofs.OrderLemmas.{chosen_outlined, front_and_back, made_first}
 use Rattle.lfs_edit.proofs.Supplied.{supplies_taken}
 
 -- ---- marks are taken off an outline as off its volume
@@ -81,8 +83,9 @@ pub same_bytes : (w : Volume) → volume_bytes (outlined w) ≡ volume_bytes w
 unfolding volume_bytes
 same_bytes w = refl
 
--- A command that is ready takes the least free blocks, and is accepted; the outline is that of what it leaves, cut.
+-- A command that is ready takes the least free blocks in order, and is accepted; the outline is that of what it leaves, cut.
 pub record IsTaken (v : Volume) (c : Command) (chosen : Part → List Pair) (w : Volume) : Type 0 where
+  pub ordered : TakesInOrder v c (supplies_of v c) chosen
   pub taken : TakesLeast v c (supplies_of v c) chosen
   pub accepted : IsAccepted v c (supplies_of v c)
   pub pairs : AreChosen v c (supplies_of v c) chosen
@@ -90,8 +93,10 @@ pub record IsTaken (v : Volume) (c : Command) (chosen : Part → List Pair) (w :
 
 pub taken_of : (laws : CarryingLaws) (d : Disk) (c : Command) (used : List Bool) (blocks : List ℕ) (o w : Volume)
     (ready : IsReady d c used blocks o)
-    (cuts : IsCutOver o (drop (made_blocks ready.volume c) blocks) w) → IsTaken ready.volume c (for_parts cuts.chosen) w
+    (cuts : IsCutOver (leader ready.volume c (supplies_of ready.volume c)) o (drop (made_blocks ready.volume c) blocks) w)
+    → IsTaken ready.volume c (for_parts cuts.chosen) w
 taken_of laws d c used blocks o w ready cuts = record {
+  ordered = ordered;
   taken = taken;
   accepted = accepted;
   pairs = pairs;
@@ -112,6 +117,19 @@ taken_of laws d c used blocks o w ready cuts = record {
 
     enough : need v c ≤ length (free_blocks (grown c v))
     enough = enough_free v c ready.unrefused
+
+    ordered : TakesInOrder v c s chosen
+    ordered =
+        let free : List ℕ = free_blocks (grown c v) in
+        let leading : Option Pair = leader v c s in
+        let behind : blocks_chosen chosen (overflowing_led leading (edited v c s)) ≡ drop (made_blocks v c) (take (need v c) free) =
+        chosen_outlined cuts.chosen leading (edited v c s)
+        ∙ ap (λ (x : Volume). blocks_chosen cuts.chosen (overflowing_led leading x)) (laws.outlines v c s ∙ sym ready.outline)
+        ∙ cuts.are.ordered ∙ ap (drop (made_blocks v c)) ready.least in
+        ap (λ (bs : List ℕ). bs ++ blocks_chosen chosen (overflowing_led leading (edited v c s)))
+        (made_first v c free (omega (arith, within_need v c, enough)))
+        ∙ ap (λ (bs : List ℕ). take (made_blocks v c) free ++ bs) behind
+        ∙ front_and_back (made_blocks v c) (need v c) free (within_need v c)
 
     taken : TakesLeast v c s chosen
     taken n =
@@ -143,7 +161,8 @@ pub record IsLong (d : Disk) (v : Volume) (c : Command) (p : ChangeSet) : Type 0
   pub same : applied (kept p) (resized p.after d) ≡ applied p d
 
 pub finish : (laws : CarryingLaws) (d : Disk) (c : Command) (used : List Bool) (blocks : List ℕ) (o w : Volume) (p : ChangeSet)
-    → (ready : IsReady d c used blocks o) → IsCutOver o (drop (made_blocks ready.volume c) blocks) w
+    → (ready : IsReady d c used blocks o)
+    → IsCutOver (leader ready.volume c (supplies_of ready.volume c)) o (drop (made_blocks ready.volume c) blocks) w
     → IsLong d ready.volume c p → SaysVolume w (volume_bytes w)
     → WritesOver (resized p.after d) ready.volume c used w (kept p) → IsFinished d c p (clean w)
 finish laws d c used blocks o w p ready cuts long says writes = record { plans = plans; outline = outline }
@@ -236,7 +255,7 @@ finish laws d c used blocks o w p ready cuts long says writes = record { plans =
       accepted = accepted;
       chosen = chosen;
       pairs = pairs;
-      taken = taken;
+      ordered = all.ordered;
       is = refl;
     }
 

@@ -1,11 +1,13 @@
 -- A command that no check refuses, those on room aside: it can be edited, and then is refused for want of room, or ready to be cut.
 use Rattle.std.proofs.Common.{◌≡◌, ◌+◌, ◌<◌, ◌^◌, ◌&&◌, ℕ, Bool, false, List, [], ◌∷◌, length, map, take, refl, ap, sym, ◌∙◌, subst}
-use Rattle.std.proofs.Common.{arith, inl, inr, Some, None}
+use Rattle.std.proofs.Common.{arith, inl, inr, Option, Some, None}
 use Rattle.std.specs.Prelude.{◌⊎◌, Contains, is_none, nat_lt, sum_by}
+use Rattle.std.specs.Option.{option_or}
 use Rattle.std.proofs.lemmas.Bool.Decides.{nat_tests}
 use Rattle.std.proofs.lemmas.List.{take_all}
 use Rattle.lfs_block.specs.Disk.{Disk, IsDisk}
 use Rattle.lfs_block.specs.Geometry.{IsGeometry}
+use Rattle.lfs_meta.specs.Body.{Pair}
 use Rattle.lfs_fs.specs.Free.{free_blocks}
 use Rattle.lfs_fs.specs.Holds.{Holds}
 use Rattle.lfs_fs.specs.Mounted.{IsOutlineOf}
@@ -32,15 +34,17 @@ use Rattle.lfs_command.specs.declared.refusal.Refusal.TheVariants.{EntryTooLarge
 use Rattle.lfs_command.specs.declared.refusal.Refusal.TheVariants.{NoSpace}
 use Rattle.lfs_draft.specs.LeastSupplies.{least_pair, least_supplies, made_blocks}
 use Rattle.lfs_cut.specs.RoomChecks.{room_checks_on}
-use Rattle.lfs_edit.specs.Carried.{IsJudged, IsReady, IsRefusedBy, IsUnweighed, supplies_of}
+use Rattle.lfs_edit.specs.Carried.{IsJudged, IsLed, IsReady, IsRefusedBy, IsUnweighed, supplies_of}
 use Rattle.lfs_edit.specs.CarryingLaws.{CarryingLaws}
 use Rattle.lfs_command.specs.Command.{Asked, Command, Grow, Mkdir, Mv, Put, Rm, RmAttr, SetAttr, Spells}
 use Rattle.lfs_draft.specs.Editable.{IsEditable}
 use Rattle.lfs_command.specs.Edited.{edited}
 use Rattle.lfs_law.specs.EditedOutline.{edited_outline}
 use Rattle.lfs_command.specs.Growth.{grown}
+use Rattle.lfs_command.specs.Leading.{leading_pair}
 use Rattle.lfs_command.specs.NamedCommand.{contents_len, named_command}
 use Rattle.lfs_command.specs.Need.{data_blocks, dirty_parts, need, part_blocks}
+use Rattle.lfs_command.specs.Ordered.{leader}
 use Rattle.lfs_law.specs.CountsGrow.{CountsGrow}
 use Rattle.lfs_law.specs.NeedsSmall.{HeldHaveFewEntries, NeedsAreSmall}
 use Rattle.lfs_law.specs.OutlineCarried.{IsCarried, has_too_large}
@@ -51,6 +55,7 @@ use Rattle.lfs_command.specs.Verdict.{checks, first_refusal, is_directory, is_ro
 use Rattle.lfs_command.specs.Verdict.{walk_refusal}
 use Rattle.lfs_draft.proofs.EditableLemmas.{begin_once, each_named_once}
 use Rattle.lfs_edit.proofs.EditedSizes.{edited_size}
+use Rattle.lfs_edit.proofs.OrderLemmas.{leading_outlined}
 use Rattle.lfs_law.proofs.FreeBlocks.{taken_unused}
 use Rattle.lfs_law.proofs.GrowFollows.{grown_sound}
 use Rattle.lfs_law.proofs.Homes.{first_passes, test_passes}
@@ -178,6 +183,21 @@ unweighed laws d c o new used judged marks free edits = record {
     unused_is : unused used ≡ free_blocks (grown c v)
     unused_is = free ∙ ap (λ (x : Volume). free_blocks (grown c x)) is ∙ outlined_free (grown c v)
 
+-- the part that had the entry before leads, else the one that has it then
+pub unweighed_leads : (laws : CarryingLaws) (d : Disk) (c : Command) (o new : Volume) (used : List Bool) (judged : IsJudged d c o)
+    (marks : Marks used (λ b. uses b o)) (free : unused used ≡ free_blocks (grown c o))
+    (edits : new ≡ edited_outline o c (least_supplies o c (unused used))) (before leading : Option Pair)
+    → before ≡ leading_pair o c → leading ≡ option_or before (leading_pair new c)
+    → (let u = unweighed laws d c o new used judged marks free edits in leading ≡ leader u.volume c (supplies_of u.volume c))
+unfolding unweighed
+unweighed_leads laws d c o new used judged marks free edits before leading first leads =
+    let u = unweighed laws d c o new used judged marks free edits in
+    leads ∙ ap (λ (k : Option Pair). option_or k (leading_pair new c))
+    (first ∙ ap (λ (x : Volume). leading_pair x c) judged.outline.outline ∙ leading_outlined u.volume c)
+    ∙ ap (option_or (leading_pair u.volume c))
+    (ap (λ (x : Volume). leading_pair x c) (u.outline ∙ sym (laws.outlines u.volume c (supplies_of u.volume c)))
+    ∙ leading_outlined (edited u.volume c (supplies_of u.volume c)) c)
+
 -- ---- behind the edit
 
 -- the least two free blocks are no pair of the root
@@ -251,7 +271,7 @@ refused_by d c used o u r known refused asked spells =
       refused = sym known.judged ∙ refused;
     })
 
-pub ready : (d : Disk) (c : Command) (used : List Bool) (o : Volume) (u : IsUnweighed d c used o) (blocks : List ℕ) → IsWeighed d c used o u
+ready : (d : Disk) (c : Command) (used : List Bool) (o : Volume) (u : IsUnweighed d c used o) (blocks : List ℕ) → IsWeighed d c used o u
     → first_refusal (room_checks_on o (made_blocks u.volume c) (unused used)) ≡ None
     → blocks ≡ take (made_blocks u.volume c + sum_by (part_blocks o) (dirty_parts o)) (unused used) → IsReady d c used blocks o
 ready d c used o u blocks known passes least = record {
@@ -264,3 +284,11 @@ ready d c used o u blocks known passes least = record {
   outline = u.outline;
   least = least ∙ ap (λ (n : ℕ). take n (unused used)) known.needed ∙ ap (take (need u.volume c)) u.free;
 }
+
+pub led : (d : Disk) (c : Command) (used : List Bool) (o : Volume) (u : IsUnweighed d c used o) (blocks : List ℕ) (leading : Option Pair)
+    → IsWeighed d c used o u
+    → first_refusal (room_checks_on o (made_blocks u.volume c) (unused used)) ≡ None
+    → blocks ≡ take (made_blocks u.volume c + sum_by (part_blocks o) (dirty_parts o)) (unused used)
+    → leading ≡ leader u.volume c (supplies_of u.volume c) → IsLed d c used blocks o leading
+unfolding ready
+led d c used o u blocks leading known passes least leads = record { ready = ready d c used o u blocks known passes least; leads = leads }

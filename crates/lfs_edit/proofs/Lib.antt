@@ -2,6 +2,7 @@ pub mod FormatLemmas
 pub mod Verdicts
 pub mod VerdictKinds
 pub mod Supplied
+pub mod OrderLemmas
 pub mod CarryingLemmas
 pub mod PairsOnce
 pub mod WritingLemmas

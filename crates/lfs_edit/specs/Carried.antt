@@ -1,5 +1,5 @@
 -- How a command is carried out on the outline of an image (own).
-use Rattle.std.specs.Prelude.{ℕ, ◌≡◌, Bool, List, None, All, drop, take}
+use Rattle.std.specs.Prelude.{ℕ, ◌≡◌, Bool, List, Option, None, All, drop, take}
 use Rattle.lfs_block.specs.Change.{Change}
 use Rattle.lfs_block.specs.Disk.{Disk}
 use Rattle.lfs_block.specs.Patch.{ChangeSet, IsPatch, AgreesOld, applied}
@@ -23,6 +23,7 @@ use Rattle.lfs_command.specs.Supplies.{Supplies}
 use Rattle.lfs_law.specs.EditedOutline.{edited_outline}
 use Rattle.lfs_command.specs.Cut.{cut, HasEnough, new_pair_uses}
 use Rattle.lfs_command.specs.Need.{need}
+use Rattle.lfs_command.specs.Ordered.{blocks_chosen, leader, overflowing_led}
 use Rattle.lfs_command.specs.Verdict.{checks, first_refusal, verdict}
 use Rattle.lfs_draft.specs.LeastSupplies.{least_supplies, made_blocks}
 use Rattle.lfs_command.specs.PairChanged.{forced_by}
@@ -67,22 +68,29 @@ pub record IsReady (d : Disk) (c : Command) (used : List Bool) (blocks : List �
 abbrev pub supplies_of : Volume → Command → Supplies
 supplies_of v c = least_supplies v c (free_blocks (grown c v))
 
--- Pairs are chosen for the parts of an outline that take more than a block: as many as each needs, of these blocks.
-pub record AreChosenOf (o : Volume) (chosen : Part → List Pair) (blocks : List ℕ) : Type 0 where
+-- an outline that is ready, and the pair that leads
+pub record IsLed (d : Disk) (c : Command) (used : List Bool) (blocks : List ℕ) (o : Volume) (leading : Option Pair) : Type 0 where
+  pub ready : IsReady d c used blocks o
+  pub leads : leading ≡ leader ready.volume c (supplies_of ready.volume c)
+
+-- Pairs are chosen for the parts of an outline that take more than a block: as many as each needs, of these blocks two by two in order,
+-- for the part of the leading pair first.
+pub record AreChosenOf (leading : Option Pair) (o : Volume) (chosen : Part → List Pair) (blocks : List ℕ) : Type 0 where
   pub enough : All (HasEnough chosen o) (thread o.directories)
+  pub ordered : blocks_chosen chosen (overflowing_led leading o) ≡ blocks
   pub uses : (b : ℕ) → new_pair_uses chosen o b ≡ times b blocks
 
 -- An outline is cut, with pairs of these blocks.
-pub record IsCutOver (old : Volume) (blocks : List ℕ) (new : Volume) : Type 0 where
+pub record IsCutOver (leading : Option Pair) (old : Volume) (blocks : List ℕ) (new : Volume) : Type 0 where
   pub chosen : Part → List Pair
-  pub are : AreChosenOf old chosen blocks
+  pub are : AreChosenOf leading old chosen blocks
   pub is : new ≡ cut chosen old
 
 -- An outline that is ready is cut.
 pub record IsCutReady (d : Disk) (c : Command) (used : List Bool) (blocks : List ℕ) (o : Volume) : Type 0 where
   pub before : Volume
   pub ready : IsReady d c used blocks before
-  pub cuts : IsCutOver before (drop (made_blocks ready.volume c) blocks) o
+  pub cuts : IsCutOver (leader ready.volume c (supplies_of ready.volume c)) before (drop (made_blocks ready.volume c) blocks) o
 
 -- A patch, which keeps the count, writes an outline over the volume of an image that is lengthened already: blocks of a file's new
 -- contents, and the links that are set.

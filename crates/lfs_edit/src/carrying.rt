@@ -2,6 +2,7 @@
 
 ghost use Rattle.std.specs.Prelude.{◌≡◌, ◌+◌, ◌<◌, ◌≤◌, ◌^◌, ◌⊎◌, None, Some, nat_lt, length, take, sum_by, IfOk, IfErr, OnOk};
 ghost use Rattle.std.specs.List.{filter};
+ghost use Rattle.std.specs.Option.{option_or};
 ghost use Rattle.lfs_block.specs.Disk.{erased_block};
 ghost use Rattle.lfs_block.specs.Geometry.{IsBlockSize};
 ghost use Rattle.lfs_block.specs.Patch.{applied};
@@ -16,13 +17,14 @@ ghost use Rattle.lfs_command.specs.declared.refusal.Refusal.TheVariants.{Memory}
 ghost use Rattle.lfs_command.specs.AskedFor.{asked_for};
 ghost use Rattle.lfs_draft.specs.LeastSupplies.{least_supplies};
 ghost use Rattle.lfs_cut.specs.RoomChecks.{room_checks_on};
-ghost use Rattle.lfs_edit.specs.Carried.{IsCutOver, IsCutReady, IsFinished, IsJudged, IsReady, IsRefusedBy};
+ghost use Rattle.lfs_edit.specs.Carried.{IsCutOver, IsCutReady, IsFinished, IsJudged, IsLed, IsRefusedBy};
 ghost use Rattle.lfs_cut.specs.Chosen.{HasPairsOnce};
 ghost use Rattle.lfs_command.specs.Clean.{clean};
 ghost use Rattle.lfs_command.specs.Cut.{runs};
 ghost use Rattle.lfs_draft.specs.Editable.{IsEditable};
 ghost use Rattle.lfs_law.specs.EditedOutline.{edited_outline};
 ghost use Rattle.lfs_law.specs.Lengthened.{with_count};
+ghost use Rattle.lfs_command.specs.Leading.{leading_pair};
 ghost use Rattle.lfs_command.specs.NamedCommand.{contents_len, named_command};
 ghost use Rattle.lfs_command.specs.Need.{data_blocks, dirty_parts, part_blocks};
 ghost use Rattle.lfs_command.specs.Planned.{Plans, RefusesPlan};
@@ -106,7 +108,7 @@ fn cut_over(
     requires needed { length blocks.now ≡ sum_by (part_blocks outline.old) (dirty_parts outline.old) }
     requires once { HasPairsOnce outline.old }
     requires few { length (filter (λ p. nat_lt 1 (length (runs outline.old p))) (dirty_parts outline.old)) ≤ 2 }
-    ensures { OnOk result (IsCutOver outline.old blocks.now outline.new) }
+    ensures { OnOk result (IsCutOver leading outline.old blocks.now outline.new) }
 {
     let rows = choose(alloc, outline, leading, blocks)?;
     cut(alloc, outline, &rows)?;
@@ -160,7 +162,7 @@ fn carry_ready(
     blocks: &[u32],
     leading: Option<(u32, u32)>,
 ) -> Result<Patch, AllocError>
-    requires ready { IsReady image.now.disk (named_command command.now) used.now blocks.now outline.old }
+    requires led { IsLed image.now.disk (named_command command.now) used.now blocks.now outline.old leading }
     requires len { contents_len command.now < 2 ^ 32 }
     ensures { IfOk result (λ patch. IsFinished image.now.disk (named_command command.now) patch outline.new) }
 {
@@ -173,6 +175,21 @@ fn carry_ready(
     let patch = written(alloc, image, outline, command, used, blocks)?;
     clean(outline);
     Ok(patch)
+}
+
+/// The pair that leads: that of the part that had the entry at the command's path before, else of the one that has it in the edited
+/// outline. Takes no memory.
+fn leader(
+    before: Option<(u32, u32)>,
+    outline: &Outline,
+    command: &NamedCommand<'_>,
+) -> Option<(u32, u32)>
+    ensures { result ≡ option_or before (leading_pair outline.now (named_command command.now)) }
+{
+    match before {
+        Some(pair) => Some(pair),
+        None => leading_pair(outline, command),
+    }
 }
 
 /// Carries out a command on an outline on which no check refuses it, those on room aside: `EntryTooLarge` where some part that it sets
@@ -199,7 +216,7 @@ pub(crate) fn carry_judged(
     let used = used_of(alloc, outline, count)?;
     let before = leading_pair(outline, command);
     edit_least(alloc, outline, command, &used)?;
-    let leading = before.or_else(|| leading_pair(outline, command));
+    let leading = leader(before, outline, command);
     let made = data_blocks(size, command) + directory_blocks(command);
     let blocks = needed_blocks(alloc, outline, made, &used)?;
     Ok(carry_ready(alloc, image, outline, command, &used, &blocks, leading)?)

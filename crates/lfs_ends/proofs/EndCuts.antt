@@ -1,8 +1,8 @@
 -- How a directory whose last part has got one more entry is cut.
 use Rattle.std.proofs.Common.{◌≡◌, ℕ, ◌+◌, ◌-◌, ◌*◌, ◌≤◌, ◌||◌, ◌&&◌, nat_lt, Bool, true, false, List, [], ◌∷◌, ◌++◌, length, refl, ap, sym, ◌∙◌, subst}
-use Rattle.std.proofs.Common.{arith, map}
+use Rattle.std.proofs.Common.{arith, map, Option, Some, None}
 use Rattle.std.specs.Prelude.{if◌then◌else◌, All, flat_map, sum_by}
-use Rattle.std.specs.List.{list_any}
+use Rattle.std.specs.List.{filter, list_any}
 use Rattle.std.proofs.lemmas.Bool.Decides.{nat_tests}
 use Rattle.std.proofs.lemmas.List.{map-append}
 use Rattle.std.proofs.lemmas.List.Elements.{All-cons, All-head, All-nil, All-tail, All-weaker}
@@ -23,6 +23,7 @@ use Rattle.lfs_command.specs.Cut.{runs}
 use Rattle.lfs_command.specs.DirectoryEdit.{behind, each_part}
 use Rattle.lfs_command.specs.Edited.{with_directories}
 use Rattle.lfs_command.specs.Need.{part_blocks}
+use Rattle.lfs_command.specs.Ordered.{blocks_chosen, blocks_of_pairs, leader_first, overflowing_led}
 use Rattle.lfs_command.specs.Verdict.{is_too_large}
 use Rattle.lfs_law.proofs.Cuts.{All-left, All-right, cut_parts}
 use Rattle.lfs_law.proofs.Decided.{same_pair_decides}
@@ -265,6 +266,24 @@ new_enough chosen o (pair ∷ pairs) none =
     ∙ ap (λ (rs : List (List Entry)). length (later_runs rs)) (sym (none_is_cut o (new_part pair) refl)))
     (All-nil (HasEnough chosen o))
 
+-- ---- the order of their blocks
+
+-- a new part doesn't overflow
+none_more : (o : Volume) (new : List Pair) → filter (λ p. nat_lt 1 (length (runs o p))) (new_parts new) ≡ []
+none_more o [] = refl
+none_more o (pair ∷ pairs) =
+    ap (λ (rs : List (List Entry)). if nat_lt 1 (length rs) then new_part pair ∷ [] else []) (none_is_cut o (new_part pair) refl)
+
+-- a part that overflows alone leads
+alone_led : (chosen : Part → List Pair) (leading : Option Pair) (p : Part) (takes : Bool) (es : List Entry) (e : Entry) (pair : Pair)
+    → chosen p ≡ pairs_by takes pair
+    → blocks_chosen chosen (leader_first (λ q. q.pair) leading (if nat_lt 1 (length (end_runs takes es e)) then p ∷ [] else []))
+    ≡ blocks_of_pairs (pairs_by takes pair)
+alone_led chosen None p true es e pair choice = refl
+alone_led chosen (Some k) p true es e pair choice = refl
+alone_led chosen None p false es e pair choice = ap (λ (qs : List Pair). blocks_of_pairs qs ++ []) choice
+alone_led chosen (Some k) p false es e pair choice = ap (λ (qs : List Pair). blocks_of_pairs qs ++ []) choice
+
 -- how often pairs use a block
 abbrev pairs_use : ℕ → List Pair → ℕ
 pairs_use b pairs = sum_by (λ (q : Pair). times b (q.0 ∷ q.1 ∷ [])) pairs
@@ -305,6 +324,7 @@ takes_more o before d after es e new pair can = record {
       (λ is. ap (λ (ps : List Pair). length ps) here ∙ later_length (takes_entry o last es e) es e pair
       ∙ ap (λ (rs : List (List Entry)). length (later_runs rs)) (sym (end_is_cut o last es e can.fit)))
       (new_enough chosen o new none)));
+  ordered = ordered;
   uses = λ b. sum_marked (λ (p : Part). pairs_use b (new_pairs chosen p)) (unmarked_use chosen b) (thread set)
       ∙ ap (sum_by (λ (p : Part). pairs_use b (new_pairs chosen p))) are
       ∙ sum_by-cons (λ (p : Part). pairs_use b (new_pairs chosen p)) (with_entries true (es ++ e ∷ []) last) (new_parts new)
@@ -331,6 +351,16 @@ takes_more o before d after es e new pair can = record {
 
     none : All (λ pair. chosen (new_part pair) ≡ []) new
     none = none_chosen last.pair (new_part_pairs o es e pair d) new can.apart
+
+    ordered : (leading : Option Pair) → blocks_chosen chosen (overflowing_led leading (with_directories o set))
+        ≡ blocks_of_pairs (new_part_pairs o es e pair d)
+    ordered leading =
+        let p : Part = with_entries true (es ++ e ∷ []) last in
+        let led : List Part → List ℕ = λ ps. blocks_chosen chosen (leader_first (λ (q : Part). q.pair) leading ps) in
+        ap (λ (ps : List Part). led (filter (λ (q : Part). nat_lt 1 (length (runs o q))) ps)) are
+        ∙ ap (λ (ps : List Part). led (if nat_lt 1 (length (runs o p)) then p ∷ ps else ps)) (none_more o new)
+        ∙ ap (λ (rs : List (List Entry)). led (if nat_lt 1 (length rs) then p ∷ [] else [])) (end_is_cut o last es e can.fit)
+        ∙ alone_led chosen leading p (takes_entry o last es e) es e pair here
 
     alone : (b : ℕ) → pairs_use b (chosen (with_entries true (es ++ e ∷ []) last))
         + sum_by (λ (p : Part). pairs_use b (new_pairs chosen p)) (new_parts new)

@@ -1,7 +1,7 @@
 -- A command that puts one more entry at the end of a directory is carried out with the blocks behind those in use, or refused.
 use Rattle.std.proofs.Common.{◌≡◌, ◌+◌, ◌-◌, ◌*◌, ◌<◌, ◌≤◌, ◌==◌, ℕ, suc, zero, Bool, true, false, List, [], ◌∷◌, ◌++◌, length, take}
-use Rattle.std.proofs.Common.{refl, ap, sym, ◌∙◌, subst, arith, cond}
-use Rattle.std.proofs.Common.{Some, None}
+use Rattle.std.proofs.Common.{refl, ap, sym, ◌∙◌, subst, arith, cond, append-nil}
+use Rattle.std.proofs.Common.{Option, Some, None}
 use Rattle.std.specs.Prelude.{◌||◌, All, map, nat_le, nat_lt, sum_by}
 use Rattle.std.specs.List.{range_with_len}
 use Rattle.std.proofs.lemmas.Bool.Decides.{nat_tests}
@@ -26,6 +26,7 @@ use Rattle.lfs_command.specs.Growth.{count_after, grown}
 use Rattle.lfs_command.specs.Cut.{cut, new_pair_uses, room}
 use Rattle.lfs_command.specs.Edited.{edited, with_directories}
 use Rattle.lfs_command.specs.Need.{data_blocks, need}
+use Rattle.lfs_command.specs.Ordered.{TakesInOrder, blocks_chosen, blocks_of_pairs, leader, overflowing_led, pair_blocks}
 use Rattle.lfs_command.specs.Planned.{TakesLeast, CarriesOut}
 use Rattle.lfs_command.specs.Supplies.{AreFree, Supplies, nothing, supply_uses}
 use Rattle.lfs_command.specs.Verdict.{checks, first_refusal, refuse_if, room_checks, verdict}
@@ -38,7 +39,10 @@ use Rattle.lfs_law.specs.OutlineCarried.{IsCarried, OutlinesAreCarried, has_too_
 use Rattle.lfs_law.specs.PlansHold.{LeastAreFree}
 use Rattle.lfs_law.proofs.Cleans.{clean_uses_all}
 use Rattle.lfs_law.proofs.LinksAdded.{times_append}
+use Rattle.lfs_law.proofs.NamedBlocks.{times_flat}
+use Rattle.lfs_law.proofs.OutlinesFollow.{outlines_follow}
 use Rattle.lfs_edit.proofs.CarryingLemmas.{outlined_clean}
+use Rattle.lfs_edit.proofs.OrderLemmas.{chosen_outlined, made_first}
 use Rattle.lfs_edit.proofs.Supplied.{supplies_taken}
 use Rattle.lfs_edit.proofs.Verdicts.{passed_first}
 use Rattle.lfs_ends.specs.Ending.{with_more, last_part, new_part_pairs, takes_entry}
@@ -77,34 +81,26 @@ free_behind b next more n free once all = by (nat_le next b) (nat_le (next + mor
 
 -- ---- the blocks that are taken
 
--- the blocks of pairs
-abbrev pairs_name : ℕ → List Pair → ℕ
-pairs_name n pairs = sum_by (λ (q : Pair). times n (q.0 ∷ q.1 ∷ [])) pairs
-
 -- none, or a pair behind what is made
-none_behind : (next more count n : ℕ) → times n (take more (range_with_len next count)) + pairs_name n []
-    ≡ times n (take (more + 2 * length {A = Pair} []) (range_with_len next count))
-none_behind next more count n =
+none_after : (next more count : ℕ)
+    → take more (range_with_len next count) ++ [] ≡ take (more + 2 * length {A = Pair} []) (range_with_len next count)
+none_after next more count =
     let same : more + 2 * length {A = Pair} [] ≡ more = omega arith in
-    rw same (omega arith)
+    rw same (append-nil (take more (range_with_len next count)))
 
-one_behind : (next more count n : ℕ) (q : Pair) → q ≡ (next + more, next + more + 1) → more + 2 ≤ count
-    → times n (take more (range_with_len next count)) + pairs_name n (q ∷ [])
-    ≡ times n (take (more + 2 * length (q ∷ [])) (range_with_len next count))
-one_behind next more count n q is many =
-    let same : more + 2 * length (q ∷ []) ≡ more + 2 = omega arith in
-    let first = ap (times n) (take_range next count more (omega (arith, many))) in
-    let all = ap (times n) (take_range next count (more + 2) many ∙ two_behind next more) in
-    let joined = times_append n (range_with_len next more) ((next + more) ∷ (next + more + 1) ∷ []) in
-    rw (same, is) (omega (arith, first, all, joined))
+one_after : (next more count : ℕ) → more + 2 ≤ count
+    → take more (range_with_len next count) ++ (next + more) ∷ (next + more + 1) ∷ []
+    ≡ take (more + 2 * 1) (range_with_len next count)
+one_after next more count many =
+    ap (λ (l : List ℕ). l ++ (next + more) ∷ (next + more + 1) ∷ []) (take_range next count more (omega (arith, many)))
+    ∙ sym (take_range next count (more + 2) many ∙ two_behind next more)
 
-pair_behind : (free : List ℕ) (next more count n : ℕ) (t : Bool) → free ≡ range_with_len next count
+pair_after : (free : List ℕ) (next more count : ℕ) (t : Bool) → free ≡ range_with_len next count
     → more + 2 * length (cond {A = List Pair} t [] ((next + more, next + more + 1) ∷ [])) ≤ count
-    → times n (take more free) + pairs_name n (cond {A = List Pair} t [] ((next + more, next + more + 1) ∷ []))
-    ≡ times n (take (more + 2 * length (cond {A = List Pair} t [] ((next + more, next + more + 1) ∷ []))) free)
-pair_behind free next more count n true is enough = rw is (none_behind next more count n)
-pair_behind free next more count n false is enough =
-    rw is (one_behind next more count n (next + more, next + more + 1) refl (omega (arith, enough)))
+    → take more free ++ blocks_of_pairs (cond {A = List Pair} t [] ((next + more, next + more + 1) ∷ []))
+    ≡ take (more + 2 * length (cond {A = List Pair} t [] ((next + more, next + more + 1) ∷ []))) free
+pair_after free next more count true is enough = rw is (none_after next more count)
+pair_after free next more count false is enough = rw is (one_after next more count (omega (arith, enough)))
 
 -- ---- the laws that it stands on
 
@@ -244,21 +240,38 @@ module _ (laws : OneMoreLaws) (v : Volume) (c : Command) (next : ℕ) (before : 
   enough_free : next + count ≤ v.count → count ≤ length (free_blocks v)
   enough_free within = omega (arith, free_many, within)
 
+  -- what is made, then the pair of the new part, are the first of them
+  all_taken : next + count ≤ v.count
+      → take (made_blocks v c) (free_blocks v) ++ blocks_of_pairs pairs ≡ take (need v c) (free_blocks (grown c v))
+  all_taken within =
+      pair_after (free_blocks v) next (made_blocks v c) (v.count - next) (takes_entry o (last_part d) es e) free_is (omega (arith, within))
+      ∙ ap (λ (k : ℕ). take k (free_blocks v)) (sym needed) ∙ ap (take (need v c)) (sym free_grown)
+
+  ordered : next + count ≤ v.count → TakesInOrder v c s (for_parts choice)
+  ordered within =
+      let leading : Option Pair = leader v c s in
+      let behind : blocks_chosen (for_parts choice) (overflowing_led leading (edited v c s)) ≡ blocks_of_pairs pairs =
+      chosen_outlined choice leading (edited v c s)
+      ∙ ap (λ (x : Volume). blocks_chosen choice (overflowing_led leading x)) (outlines_follow v c s ∙ puts.edited)
+      ∙ takes_more.ordered leading in
+      ap (λ (bs : List ℕ). bs ++ blocks_chosen (for_parts choice) (overflowing_led leading (edited v c s)))
+      (made_first v c (free_blocks v) (omega (arith, enough_free within)))
+      ∙ ap (λ (bs : List ℕ). take (made_blocks v c) (free_blocks v) ++ bs) behind
+      ∙ all_taken within
+
   taken : next + count ≤ v.count → TakesLeast v c s (for_parts choice)
   taken within n =
-      let many = enough_free within in
       let made_here : supply_uses v c s n ≡ times n (take (made_blocks v c) (free_blocks v)) =
-      supplies_taken v c (free_blocks v) n (omega (arith, many)) in
-      let behind : new_pair_uses (for_parts choice) (edited v c s) n ≡ sum_by (λ (q : Pair). times n (q.0 ∷ q.1 ∷ [])) pairs =
+      supplies_taken v c (free_blocks v) n (omega (arith, enough_free within)) in
+      let behind : new_pair_uses (for_parts choice) (edited v c s) n ≡ sum_by (λ (q : Pair). times n (pair_blocks q)) pairs =
       sym (carried.pairs n) ∙ takes_more.uses n in
-      let both = pair_behind (free_blocks v) next (made_blocks v c) (v.count - next) n (takes_entry o (last_part d) es e) free_is (omega (arith, within)) in
       omega (
         arith,
         made_here,
         behind,
-        both,
-        ap (λ (k : ℕ). times n (take k (free_blocks v))) needed,
-        ap (λ (l : List ℕ). times n (take (need v c) l)) free_grown,
+        times_flat n pair_blocks pairs,
+        times_append n (take (made_blocks v c) (free_blocks v)) (blocks_of_pairs pairs),
+        ap (times n) (all_taken within),
       )
 
   free_all : next + count ≤ v.count
@@ -288,7 +301,7 @@ module _ (laws : OneMoreLaws) (v : Volume) (c : Command) (next : ℕ) (before : 
     accepted = accepted le within;
     chosen = for_parts choice;
     pairs = chosen within;
-    taken = taken within;
+    ordered = ordered within;
     is = refl;
   }
 

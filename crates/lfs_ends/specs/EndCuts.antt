@@ -1,5 +1,5 @@
 -- How a directory whose last part has got one more entry is cut (own).
-use Rattle.std.specs.Prelude.{ℕ, ◌≡◌, ◌≤◌, ◌*◌, false, List, [], ◌∷◌, ◌++◌, All, if◌then◌else◌, length, nat_lt, sum_by}
+use Rattle.std.specs.Prelude.{ℕ, ◌≡◌, ◌≤◌, ◌*◌, false, List, [], ◌∷◌, ◌++◌, Option, All, if◌then◌else◌, length, nat_lt, sum_by}
 use Rattle.lfs_meta.specs.Body.{Pair}
 use Rattle.lfs_fs.specs.Directory.{Part, Directory, thread}
 use Rattle.lfs_fs.specs.Entry.{Entry}
@@ -12,6 +12,7 @@ use Rattle.lfs_command.specs.Cut.{HasEnough, cut, new_pair_uses, room}
 use Rattle.lfs_command.specs.DirectoryEdit.{each_part}
 use Rattle.lfs_command.specs.Edited.{empty_directory, with_directories}
 use Rattle.lfs_command.specs.Need.{dirty_parts, part_blocks}
+use Rattle.lfs_command.specs.Ordered.{blocks_chosen, blocks_of_pairs, overflowing_led}
 use Rattle.lfs_law.specs.OutlineCarried.{has_too_large}
 use Rattle.lfs_ends.specs.Ending.{FitBlock, with_more, last_part, new_part_pairs}
 use Rattle.lfs_ends.specs.EndEdits.{set_at}
@@ -35,7 +36,8 @@ pub record CanTakeMore (o : Volume) (before : List Directory) (d : Directory) (a
   pub apart : All (λ pair. same_pair pair (last_part d).pair ≡ false) new
   pub below : All (λ pair. same_pair pair root ≡ false) new
 
--- What is cut where one more entry is set behind the others: nothing, or that entry, alone in a new part.
+-- What is cut where one more entry is set behind the others: nothing, or that entry, alone in a new part. Whatever leads, no other part
+-- gets a pair.
 pub record TakesOneMore (o w : Volume) (before : List Directory) (d : Directory) (after : List Directory) (es : List Entry) (e : Entry)
     (new : List Pair) (pair : Pair) : Type 0 where
   pub large : has_too_large w ≡ nat_lt (room o) (weight e)
@@ -43,6 +45,9 @@ pub record TakesOneMore (o w : Volume) (before : List Directory) (d : Directory)
   pub cut : clean (cut (chosen_for_last (last_part d).pair (new_part_pairs o es e pair d)) w)
       ≡ with_directories o (before ++ with_more o es e pair d ∷ (made new ++ after))
   pub enough : All (HasEnough (chosen_for_last (last_part d).pair (new_part_pairs o es e pair d)) w) (thread w.directories)
+  pub ordered : (leading : Option Pair)
+      → blocks_chosen (chosen_for_last (last_part d).pair (new_part_pairs o es e pair d)) (overflowing_led leading w)
+      ≡ blocks_of_pairs (new_part_pairs o es e pair d)
   pub uses : (b : ℕ) → new_pair_uses (chosen_for_last (last_part d).pair (new_part_pairs o es e pair d)) w b
       ≡ sum_by (λ (q : Pair). times b (q.0 ∷ q.1 ∷ [])) (new_part_pairs o es e pair d)
 

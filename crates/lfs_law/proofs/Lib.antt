@@ -68,6 +68,7 @@ pub mod CommandsWritten
 pub mod LeastBlocks
 pub mod LaidContents
 pub mod LargeParts
+pub mod Leaders
 pub mod OutlinesCarried
 pub mod TablesTell
 pub mod FreeAfterHeld

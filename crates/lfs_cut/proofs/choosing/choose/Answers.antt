@@ -3,7 +3,8 @@ use Rattle.std.proofs.Common.{◌≡◌, List, length, ap, sym, ◌∙◌, arith
 use Rattle.lfs_fs.specs.Directory.{Directory, thread}
 use Rattle.lfs_fs.specs.Volume.{Volume}
 use Rattle.lfs_cut.specs.Overflow.{overflows_of}
-use Rattle.lfs_cut.proofs.ChosenPairs.{AreRowsOf, in_order, overflow_count, overflow_need, chosen_enough, chosen_uses}
+use Rattle.lfs_cut.proofs.ChosenPairs.{AreRowsOf, in_order, in_some_order, overflow_count, overflow_need, chosen_enough, chosen_uses}
+use Rattle.lfs_cut.proofs.InOrder.{chosen_in_order}
 use Rattle.lfs_cut.proofs.choosing.choose.Goals as goal
 
 pub overflows_of-overflows-requires : goal.overflows_of-overflows-requires
@@ -22,35 +23,45 @@ overflows_of-overflows-requires c =
 
 pub rows_of-requires-clause-enough : goal.rows_of-requires-clause-enough
 rows_of-requires-clause-enough c =
-    let order = in_order c.args.outline.now c.block_room-room.result.bytes c.block_room-room.result.superblock c.deref.result.now
-    c.overflows_of-overflows.result.items
-    c.put_first.new.overflows.items c.deref-2.result.now
+    let led = in_order c.args.outline.now c.block_room-room.result.bytes c.block_room-room.result.superblock c.args.leading
+    c.deref.result.now c.overflows_of-overflows.result.items c.put_first.new.overflows.items c.deref-2.result.now
     (c.deref.ensures.value ∙ ap (λ (v : Volume). v.directories) c.outline.view_is) c.overflows_of-overflows.ensures
     c.put_first.ensures c.deref-2.ensures.0 in
     overflow_need c.args.outline.now c.block_room-room.result.bytes c.block_room-room.result.superblock c.deref-2.result.now
-    c.block_room-room.ensures.bytes c.block_room-room.ensures.superblock order
+    c.block_room-room.ensures.bytes c.block_room-room.ensures.superblock
+    (in_some_order c.block_room-room.result.bytes c.block_room-room.result.superblock c.args.leading
+    (thread c.args.outline.now.directories) c.deref-2.result.now led)
     ∙ sym c.requires.needed
 
 rows_made : (c : goal.In_ok-rows) → AreRowsOf c.args.outline.now c.block_room-room.result.bytes c.block_room-room.result.superblock
-    c.args.blocks.now c.in_ok-rows.rows.items
-rows_made c = record {
-  gs = c.deref-2.result.now;
-  bytes_is = c.block_room-room.ensures.bytes;
-  superblock_is = c.block_room-room.ensures.superblock;
-  once = c.requires.once;
-  order = in_order c.args.outline.now c.block_room-room.result.bytes c.block_room-room.result.superblock c.deref.result.now
-      c.overflows_of-overflows.result.items c.put_first.new.overflows.items
-      c.deref-2.result.now (c.deref.ensures.value ∙ ap (λ (v : Volume). v.directories) c.outline.view_is) c.overflows_of-overflows.ensures
-      c.put_first.ensures c.deref-2.ensures.0;
-  rows_are = c.in_ok-rows.ensures;
-}
+    c.args.leading c.args.blocks.now c.in_ok-rows.rows.items
+rows_made c =
+    let led = in_order c.args.outline.now c.block_room-room.result.bytes c.block_room-room.result.superblock c.args.leading
+    c.deref.result.now c.overflows_of-overflows.result.items c.put_first.new.overflows.items c.deref-2.result.now
+    (c.deref.ensures.value ∙ ap (λ (v : Volume). v.directories) c.outline.view_is) c.overflows_of-overflows.ensures
+    c.put_first.ensures c.deref-2.ensures.0 in
+    record {
+      gs = c.deref-2.result.now;
+      bytes_is = c.block_room-room.ensures.bytes;
+      superblock_is = c.block_room-room.ensures.superblock;
+      once = c.requires.once;
+      led = led;
+      order = in_some_order c.block_room-room.result.bytes c.block_room-room.result.superblock c.args.leading
+          (thread c.args.outline.now.directories) c.deref-2.result.now led;
+      rows_are = c.in_ok-rows.ensures;
+    }
 
 pub returns-clause-enough : goal.returns-clause-enough
 returns-clause-enough c =
-    chosen_enough c.args.outline.now c.block_room-room.result.bytes c.block_room-room.result.superblock c.args.blocks.now
+    chosen_enough c.args.outline.now c.block_room-room.result.bytes c.block_room-room.result.superblock c.args.leading c.args.blocks.now
+    c.in_ok-rows.rows.items (rows_made c)
+
+pub returns-clause-ordered : goal.returns-clause-ordered
+returns-clause-ordered c =
+    chosen_in_order c.args.outline.now c.block_room-room.result.bytes c.block_room-room.result.superblock c.args.leading c.args.blocks.now
     c.in_ok-rows.rows.items (rows_made c)
 
 pub returns-clause-uses : goal.returns-clause-uses
 returns-clause-uses c =
-    chosen_uses c.args.outline.now c.block_room-room.result.bytes c.block_room-room.result.superblock c.args.blocks.now
+    chosen_uses c.args.outline.now c.block_room-room.result.bytes c.block_room-room.result.superblock c.args.leading c.args.blocks.now
     c.in_ok-rows.rows.items (rows_made c)

@@ -10,12 +10,13 @@ use Rattle.lfs_draft.specs.Editable.{IsEditable}
 use Rattle.lfs_draft.specs.LeastSupplies.{least_supplies, made_blocks}
 use Rattle.lfs_cut.specs.RoomChecks.{room_checks_on}
 use Rattle.lfs_command.specs.Growth.{count_after}
+use Rattle.lfs_command.specs.Leading.{leading_pair}
 use Rattle.lfs_command.specs.NamedCommand.{named_command}
 use Rattle.lfs_law.specs.EditedOutline.{edited_outline}
 use Rattle.lfs_law.specs.Lengthened.{with_count}
 use Rattle.lfs_command.specs.Need.{dirty_parts, part_blocks}
 use Rattle.lfs_command.specs.Verdict.{first_refusal}
-use Rattle.lfs_edit.proofs.JudgedLemmas.{contents_short, editable, long_sound, ready, refused_by, unweighed, weighed}
+use Rattle.lfs_edit.proofs.JudgedLemmas.{contents_short, editable, led, long_sound, refused_by, unweighed, unweighed_leads, weighed}
 use Rattle.lfs_edit.proofs.carrying.carry_judged.Goals as goal
 
 pub used_of-requires : goal.used_of-requires
@@ -126,8 +127,8 @@ returns-in_err-blocks-clause-refused c =
           (ap (λ (n : ℕ). first_refusal (room_checks_on o n (unused used))) (sym made) ∙ refused))
     ])
 
-pub carry_ready-requires-clause-ready : goal.carry_ready-requires-clause-ready
-carry_ready-requires-clause-ready c =
+pub carry_ready-requires-clause-led : goal.carry_ready-requires-clause-led
+carry_ready-requires-clause-led c =
     let d = c.args.image.now.disk in
     let command = named_command c.args.command.now in
     let used = c.in_ok-used.used in
@@ -142,10 +143,13 @@ carry_ready-requires-clause-ready c =
     c.size-size.ensures.disk u in
     let made : c.data_blocks.result + c.directory_blocks.result ≡ made_blocks u.volume command =
     omega (arith, c.data_blocks.ensures u.volume (known.size ∙ sym c.size-size.ensures.value), c.directory_blocks.ensures) in
-    ready d command used o u c.deref.result.now known
+    led d command used o u c.deref.result.now c.leader-leading.result known
     (ap (λ (n : ℕ). first_refusal (room_checks_on o n (unused used))) (sym made) ∙ c.in_ok-blocks.ensures.unrefused)
     (c.deref.ensures.value ∙ c.in_ok-blocks.ensures.blocks ∙ ap (λ (n : ℕ). take (n + sum_by (part_blocks o) (dirty_parts o)) (unused used))
     made)
+    (unweighed_leads c.carrying_laws.ensures d command before o used c.requires.judged c.in_ok-used.ensures.marks free edits
+    c.leading_pair-before.result c.leader-leading.result
+    (c.leading_pair-before.ensures ∙ ap (λ (x : Volume). leading_pair x command) c.in_ok-used.ensures.same) c.leader-leading.ensures)
 
 pub carry_ready-requires-clause-len : goal.carry_ready-requires-clause-len
 carry_ready-requires-clause-len c =
