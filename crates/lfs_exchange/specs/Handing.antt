@@ -43,7 +43,7 @@ HandsJournal _ files name journal = journal ≡ []
 abbrev pub HandsInput : Step → Option Files → Option (List ℕ) → List ℕ → Type 0
 HandsInput (Put path None) files typed input = ReadsInput typed most_file input
 HandsInput (Put path (Some name)) files typed input = ReadsFile files name.now most_file input
-HandsInput (Diff name) files typed input = ReadsFile files name.now most_image input
+HandsInput (Diff name other_size) files typed input = ReadsFile files name.now most_image input
 HandsInput _ files typed input = input ≡ []
 
 -- whether a step reads standard input
@@ -83,7 +83,7 @@ IsUnwritten scene _ = ⊥
 
 -- the host has refused to read the image that another is compared with
 abbrev pub IsOtherUnread : Step → Scene → Fault → Type 0
-IsOtherUnread (Diff name) scene fault = (fault ≡ Other other.CannotRead) × HasRefused scene
+IsOtherUnread (Diff name other_size) scene fault = (fault ≡ Other other.CannotRead) × HasRefused scene
 IsOtherUnread _ scene fault = ⊥
 
 -- why a step isn't handed what it needs

@@ -194,7 +194,7 @@ fn input_of<H: Host>(alloc: Global, host: &mut H, step: &Step<'_>) -> Result<Vec
             from: Some(name),
             ..
         } => read_contents(alloc, host, name),
-        Step::Diff { other } => read_other(alloc, host, other),
+        Step::Diff { other, .. } => read_other(alloc, host, other),
         _ => Ok(Vec::new(alloc)),
     }
 }

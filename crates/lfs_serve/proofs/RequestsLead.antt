@@ -279,8 +279,8 @@ done_leads laws step.Ls size keep name scene old new h b outcome good denotes ha
     asks (Ask query.Ls) step.Ls size keep name scene.typed old new h b refl refl denotes handed.input leaves
 done_leads laws (step.Cat path) size keep name scene old new h b outcome good denotes handed answers leaves =
     asks (Ask (query.Cat path)) (step.Cat path) size keep name scene.typed old new h b refl refl denotes handed.input leaves
-done_leads laws (step.Diff other) size keep name scene old new h b outcome good denotes handed answers leaves =
-    asks (Compare b.input) (step.Diff other) size keep name scene.typed old new h b refl refl denotes handed.input leaves
+done_leads laws (step.Diff other other_size) size keep name scene old new h b outcome good denotes handed answers leaves =
+    asks (Compare other_size b.input) (step.Diff other other_size) size keep name scene.typed old new h b refl refl denotes handed.input leaves
 done_leads laws step.Log size keep name scene old new h b outcome good denotes handed answers leaves =
     asks Recount step.Log size keep name scene.typed old new h b refl refl denotes handed.input leaves
 done_leads laws (step.Mkdir path) size keep name scene old new h b outcome good denotes handed answers leaves =

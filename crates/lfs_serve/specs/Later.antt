@@ -16,7 +16,7 @@ later_alone size bytes = record { image = later_version bytes size; other = None
 
 -- those in what a step is handed: in the image, and in the one that it is compared with
 abbrev pub later_handed : Step → ℕ → HandedBytes → Later
-later_handed (Diff name) size h = record { image = later_version h.image size; other = later_version h.input size }
+later_handed (Diff name other_size) size h = record { image = later_version h.image size; other = later_version h.input other_size }
 later_handed step size h = later_alone size h.image
 
 -- what they are refused with, by the versions of those in the image and in the other one

@@ -40,7 +40,10 @@ pub fn later_handed(step: &Step<'_>, size: u32, handed: &Handed) -> Later
 {
     let image = later_version(handed.image.as_slice(), size);
     let other = match *step {
-        Step::Diff { .. } => later_version(handed.input.as_slice(), size),
+        Step::Diff {
+            size: other_size,
+            ..
+        } => later_version(handed.input.as_slice(), other_size),
         _ => None,
     };
     Later { image, other }
@@ -81,7 +84,7 @@ pub fn tell_later<H: Host>(host: &mut H, request: &Request<'_>, later: Later)
     if let Some(version) = later.image {
         tell_version(host, request.image, version);
     }
-    if let (Some(version), Task::Step(Step::Diff { other })) = (later.other, request.task) {
+    if let (Some(version), Task::Step(Step::Diff { other, .. })) = (later.other, request.task) {
         tell_version(host, other, version);
     }
 }

@@ -238,7 +238,7 @@ fn taken<H: Host>(
     ensures blamed { IsBlamed (stopped_by result) (H.known host.new) }
     ensures kept { ((H.known host.new).files ≡ (H.known host.old).files) × ((H.known host.new).typed ≡ (H.known host.old).typed) }
 {
-    let other = other_sight(size, step, &handed.input);
+    let other = other_sight(step, &handed.input);
     let outcome = ran(alloc, host, size, keep, step, handed);
     match outcome.fault {
         None => Ok(outcome),
@@ -247,9 +247,9 @@ fn taken<H: Host>(
 }
 
 /// What is seen of the image that another is compared with, of which a step reads these bytes.
-fn other_sight(size: u32, step: &Step<'_>, input: &[u8]) -> Sight {
-    match step {
-        Step::Diff { .. } => Sight::of(size, input),
+fn other_sight(step: &Step<'_>, input: &[u8]) -> Sight {
+    match *step {
+        Step::Diff { size, .. } => Sight::of(size, input),
         _ => Sight::none(),
     }
 }

@@ -26,6 +26,8 @@ pub struct Stated {
 /// What is seen of bytes that are read as an image, whatever they are.
 #[derive(Clone, Copy)]
 pub struct Sight {
+    /// The size of a block, in bytes.
+    pub size: u32,
     /// How many bytes there are.
     pub len: usize,
     /// What their first block states, where it begins as a superblock does.
@@ -38,6 +40,7 @@ impl Sight {
     /// What is seen of no bytes. Takes no memory.
     pub fn none() -> Sight {
         Sight {
+            size: 0,
             len: 0,
             stated: None,
             unread: None,
@@ -47,6 +50,7 @@ impl Sight {
     /// What is seen of bytes, as of blocks of `size` bytes. Takes no memory.
     pub fn of(size: u32, bytes: &[u8]) -> Sight {
         Sight {
+            size,
             len: bytes.len(),
             stated: stated_in(bytes),
             unread: unread_version(bytes, size),
@@ -76,8 +80,8 @@ pub enum Statement {
     Unread(StatedVersion),
     /// The disk version of a later commit, for which the image is refused.
     Later(u32),
-    /// How many bytes there are, which aren't whole blocks.
-    Length(usize),
+    /// How many bytes there are, which are no whole blocks of this size.
+    Length(usize, u32),
     /// What is known of the path for which a step is refused.
     Path(PathNote),
     /// What is known of the row for which a folder isn't packed; the text of its path is kept beside.
@@ -112,7 +116,7 @@ pub fn statement_for(fault: Fault, image: Sight, other: Sight) -> Option<Stateme
 fn statement_of_bytes(fault: ImageFault, seen: Sight) -> Option<Statement> {
     match (fault, seen.stated) {
         (_, Some(stated)) => Some(Statement::Stated(Place::FirstBlock, stated)),
-        (ImageFault::ImageLength, None) => Some(Statement::Length(seen.len)),
+        (ImageFault::ImageLength, None) => Some(Statement::Length(seen.len, seen.size)),
         (ImageFault::BadGeometry, None) => None,
     }
 }

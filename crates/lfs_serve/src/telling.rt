@@ -304,7 +304,7 @@ fn tell_statement<H: Host>(
         Statement::Stated(place, stated) => tell_stated(host, image, place, stated),
         Statement::Unread(stated) => tell_unread(host, image, stated),
         Statement::Later(version) => tell_changed(host, image, version),
-        Statement::Length(len) => tell_part(host, image, len, request.size),
+        Statement::Length(len, size) => tell_part(host, image, len, size),
         Statement::Path(note) => tell_note(host, request, note),
         Statement::Row(finding) => tell_row(host, image, text, finding),
         Statement::Step(_) => {}
@@ -429,7 +429,7 @@ fn tell_new_image<H: Host>(host: &mut H, image: &str)
 /// The name of the image that a fault is of.
 fn told_of<'a>(request: &Request<'a>, fault: Fault) -> &'a str {
     match request.task {
-        Task::Step(Step::Diff { other }) if is_of_other(fault) => other,
+        Task::Step(Step::Diff { other, .. }) if is_of_other(fault) => other,
         _ => request.image,
     }
 }
