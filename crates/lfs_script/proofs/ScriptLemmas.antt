@@ -2,9 +2,10 @@
 use Rattle.std.proofs.Common.{◌≡◌, ◌∙◌, ℕ, suc, ◌+◌, Bool, true, false, not, cond, List, [], ◌∷◌, ◌++◌, length, sym, ap, subst, arith}
 use Rattle.std.proofs.Common.{inl, inr, append_assoc, append-nil, zero-add}
 use Rattle.std.specs.List.{AllZip}
+use Rattle.lfs_script.specs.Flaws.{known_flaw}
 use Rattle.lfs_script.specs.Lines.{IsLineFault, is_passed_over}
 use Rattle.lfs_script.specs.Script.{IsFirstFault, Numbered, SaysLine, TakesLine, asking_from, asking_lines, lines_in}
-use Rattle.lfs_script.specs.declared.line_fault.LineFault.{LineFault}
+use Rattle.lfs_script.specs.declared.script_fault.ScriptFault.{ScriptFault}
 use Rattle.lfs_script.specs.declared.script_line.ScriptLine.{ScriptLine}
 
 -- so many lines of a text were read, with what they ask for, and these are left
@@ -73,17 +74,19 @@ line_read text number left rest line old new read is (inr asks) = record {
 }
 
 -- a line that says no step is the first
-pub first_fault : (text : List ℕ) (number : ℕ) (left rest : List (List ℕ)) (line : List ℕ) (said : List ScriptLine) (fault : LineFault)
-    → HasRead text number left said → left ≡ line ∷ rest → is_passed_over line ≡ false → IsLineFault line fault
-    → IsFirstFault text record { number = number + 1; fault = fault }
-first_fault text number left rest line said fault read is asks refused = record {
+pub first_fault : (text : List ℕ) (number : ℕ) (left rest : List (List ℕ)) (line : List ℕ) (said : List ScriptLine) (fault : ScriptFault)
+    → HasRead text number left said → left ≡ line ∷ rest → is_passed_over line ≡ false → IsLineFault line fault.fault
+    → fault.number ≡ number + 1 → fault.flaw ≡ known_flaw line fault.fault → IsFirstFault text fault
+first_fault text number left rest line said fault read is asks refused at known = record {
   line = line;
   before = read.before;
   behind = asking_from (number + 1 + 1) rest;
   said = said;
-  asked = asked_at text number left rest line said read is asks;
+  asked = asked_at text number left rest line said read is asks
+      ∙ ap (λ (n : ℕ). read.before ++ (n, line) ∷ asking_from (number + 1 + 1) rest) (sym at);
   says = read.says;
   refused = refused;
+  known = known;
 }
 
 -- all were read where none is left

@@ -1,4 +1,6 @@
 pub mod Words
+pub mod Verbs
+pub mod Flaws
 pub mod Steps
 pub mod Lines
 pub mod Script

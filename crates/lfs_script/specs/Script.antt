@@ -2,6 +2,7 @@
 use Rattle.std.specs.Prelude.{◌≡◌, ◌⊎◌, ◌-◌, ◌==◌, ℕ, true, false, not, if◌then◌else◌, Option, None, List, [], ◌∷◌, ◌++◌, filter, map, slice_get}
 use Rattle.std.specs.List.{AllZip, enumerate_from}
 use Rattle.bstr.specs.Text.{lines_of, without_terminator}
+use Rattle.lfs_script.specs.Flaws.{known_flaw}
 use Rattle.lfs_script.specs.Lines.{IsLineFault, LineSays, is_passed_over}
 use Rattle.lfs_script.specs.declared.script_line.ScriptLine.{ScriptLine}
 use Rattle.lfs_script.specs.declared.script_fault.ScriptFault.{ScriptFault}
@@ -36,7 +37,7 @@ TakesLine line old new =
     ((is_passed_over line.1 ≡ true) × (new ≡ old))
     ⊎ ((is_passed_over line.1 ≡ false) × ((said : ScriptLine) × SaysLine line said × (new ≡ old ++ said ∷ [])))
 
--- the first line of a text that says no step, behind others that each say one; or want of memory there
+-- the first line of a text that says no step, behind others that each say one, with what is wrong in it; or want of memory there
 pub record IsFirstFault (text : List ℕ) (fault : ScriptFault) : Type 0 where
   pub line : List ℕ
   pub before : List Numbered
@@ -45,3 +46,4 @@ pub record IsFirstFault (text : List ℕ) (fault : ScriptFault) : Type 0 where
   pub asked : asking_lines text ≡ before ++ (fault.number, line) ∷ behind
   pub says : AllZip SaysLine before said
   pub refused : IsLineFault line fault.fault
+  pub known : fault.flaw ≡ known_flaw line fault.fault

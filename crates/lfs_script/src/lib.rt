@@ -2,18 +2,26 @@
 #![tactic(auto)]
 
 mod escapes;
+mod flaw;
+mod flaws;
 mod line_fault;
 mod lines;
 mod number;
+mod reason;
 mod script;
 mod script_fault;
 mod script_line;
 mod script_step;
 mod steps;
+mod verb;
 mod words;
+mod wrong_word;
 
+pub use flaw::Flaw;
 pub use line_fault::LineFault;
+pub use reason::Reason;
 pub use script::{line_at, script_lines};
 pub use script_fault::ScriptFault;
 pub use script_line::ScriptLine;
 pub use script_step::ScriptStep;
+pub use verb::Verb;

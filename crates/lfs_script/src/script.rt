@@ -3,9 +3,11 @@
 ghost use Rattle.std.specs.Prelude.{◌≡◌, IfErr, IfOk, OnOk, false};
 ghost use Rattle.std.specs.List.{AllZip};
 ghost use Rattle.std.specs.Option.{option_map};
+ghost use Rattle.lfs_script.specs.Flaws.{known_flaw};
 ghost use Rattle.lfs_script.specs.Lines.{IsLineFault, is_passed_over};
 ghost use Rattle.lfs_script.specs.Script.{IsFirstFault, SaysLine, TakesLine, asking_lines, line_of};
 
+use crate::flaws::flaw_of;
 use crate::line_fault::LineFault;
 use crate::lines::{is_passed_over, step_of};
 use crate::script_fault::ScriptFault;
@@ -32,9 +34,37 @@ fn take_line(
     Ok(())
 }
 
+/// Where a line of this number says no step, and what is wrong in it. `Memory` too where a growth was refused.
+fn fault_at(alloc: Global, number: usize, line: &[u8], fault: LineFault) -> ScriptFault
+    requires { IsLineFault line.now fault }
+    ensures number { result.number ≡ number }
+    ensures refused { IsLineFault line.now result.fault }
+    ensures flaw { result.flaw ≡ known_flaw line.now result.fault }
+{
+    if fault == LineFault::Memory {
+        return ScriptFault {
+            number,
+            fault,
+            flaw: None,
+        };
+    }
+    match flaw_of(alloc, line) {
+        Ok(flaw) => ScriptFault {
+            number,
+            fault,
+            flaw: Some(flaw),
+        },
+        Err(_) => ScriptFault {
+            number,
+            fault: LineFault::Memory,
+            flaw: None,
+        },
+    }
+}
+
 /// What the lines of a script ask for, in their order, and none of those that are empty or begin with `#`. A fault at the
-/// first that says no step: `BadHex` where only the digits of an attribute's kind or value spell nothing, `BadLine`
-/// otherwise; `Memory` says only that a growth was refused.
+/// first that says no step, with what is wrong in it and at which column: `BadHex` where only the digits of an attribute's kind
+/// or value spell nothing, `BadLine` otherwise; `Memory` says only that a growth was refused.
 ///
 /// Source: own.
 pub fn script_lines(alloc: Global, text: &[u8]) -> Result<Vec<ScriptLine>, ScriptFault>
@@ -46,7 +76,7 @@ pub fn script_lines(alloc: Global, text: &[u8]) -> Result<Vec<ScriptLine>, Scrip
     for line in text.lines() {
         number += 1;
         if let Err(fault) = take_line(alloc, number, line, &mut said) {
-            return Err(ScriptFault { number, fault });
+            return Err(fault_at(alloc, number, line, fault));
         }
     }
     Ok(said)

@@ -1,5 +1,6 @@
 //! Where a script asks for no step.
 
+use crate::flaw::Flaw;
 use crate::line_fault::LineFault;
 
 /// The first line of a script that asks for no step, and why.
@@ -11,4 +12,6 @@ pub struct ScriptFault {
     pub number: usize,
     /// Why it asks for none.
     pub fault: LineFault,
+    /// What is wrong in it, but for want of memory.
+    pub flaw: Option<Flaw>,
 }

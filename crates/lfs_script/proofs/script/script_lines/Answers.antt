@@ -17,7 +17,8 @@ loop-line-preserved c =
 pub returns-in-Err-clause-refused : goal.returns-in-Err-clause-refused
 returns-in-Err-clause-refused c =
     first_fault c.args.text.now c.loop-line.number c.loop-line.line-iterator c.next.new.self c.in-Some.line.now c.loop-line.said.items
-    c.in-Err.fault c.loop-line.invariant c.in-Some.ensures.steps c.in-Err.ensures.asks c.in-Err.ensures.refused
+    c.fault_at.result c.loop-line.invariant c.in-Some.ensures.steps c.in-Err.ensures.asks c.fault_at.ensures.refused
+    c.fault_at.ensures.number c.fault_at.ensures.flaw
 
 pub returns-clause-lines : goal.returns-clause-lines
 returns-clause-lines c =
