@@ -1,5 +1,5 @@
 -- The program's command line as data: its commands, in their order, and the words that each takes (own).
-use Rattle.std.specs.Prelude.{ℕ, ℤ, ◌<◌, ◌^◌, ◌≡◌, ◌⊎◌, ◌||◌, Bool, not, Option, List, [], ◌∷◌, ◌++◌, Some, None, true, false, codes, fold, map, pos}
+use Rattle.std.specs.Prelude.{ℕ, ℤ, ◌<◌, ◌^◌, ◌≡◌, ◌⊎◌, ◌||◌, Bool, not, Option, List, [], ◌∷◌, ◌++◌, Some, None, true, false, codes, fold, map, max, pos}
 use Rattle.std.specs.List.{All, Contains}
 use Rattle.std.specs.Str.{bytes_eq}
 use Rattle.clap.specs.Takes.{value_passes}
@@ -7,6 +7,7 @@ use Rattle.clap.specs.Walk.{is_empty, reading_by}
 use Rattle.clap.specs.Words.{App, Row, Rule, Shape, Text, fault_of, first_of, new_app, new_rule, one_of, read_as, subcommand_of}
 use Rattle.clap.specs.Words.{subcommand_rows_of, with_rule, with_subcommand}
 use Rattle.clap.specs.declared.parser.matches.ArgMatches.{ArgMatches}
+use Rattle.clap.specs.declared.builder.range.ValueRange.{ValueRange}
 use Rattle.clap.specs.declared.builder.action.ArgAction.TheVariants.{SetTrue}
 use Rattle.clap.specs.declared.builder.value_parser.ValueParser.TheVariants as vp
 use Rattle.clap.specs.declared.builder.value_parser.ValueParser.TheVariants.{Signed}
@@ -92,6 +93,15 @@ is_new = flag (codes "new")
 abbrev pub older : Rule
 older = flag (codes "older")
 
+-- up to so many words that needn't be said
+abbrev pub spare_words : Text → ℕ → Rule
+spare_words id most =
+    record (new_rule id) { value_names = 1; range = Some (record { start_inclusive = 1; end_inclusive = max most 1 }) }
+
+-- the faults that are explained: up to 64 words, which needn't be said
+abbrev pub faults : Rule
+faults = spare_words (codes "fault") 64
+
 -- what stands for an argument
 abbrev pub rule_at : Argument → Rule
 rule_at argument.Block = block
@@ -118,7 +128,7 @@ rule_at argument.From = word (codes "from")
 rule_at argument.To = word (codes "to")
 rule_at argument.Kind = word (codes "kind")
 rule_at argument.Value = word (codes "hex")
-rule_at argument.Fault = word (codes "fault")
+rule_at argument.Faults = faults
 
 -- a word that needn't be there
 abbrev pub spare_word : Text → Rule
@@ -136,6 +146,7 @@ block_option id = record block { id = id }
 abbrev pub form_rule : Form → Text → Rule
 form_rule (form.Word name) id = word id
 form_rule (form.SpareWord name) id = spare_word id
+form_rule (form.SpareWords name most) id = spare_words id most
 form_rule (form.SpareNumber name least most) id = record (spare_word id) { parser = Some (Signed least most) }
 form_rule (form.Option name long) id = record (option id) { long = Some long.now }
 form_rule (form.Number name least most) id = number_within id least most
@@ -202,7 +213,7 @@ commands =
     ∷ reading (codes "redo") (steps ∷ [])
     ∷ reading (codes "forget") []
     ∷ changing (codes "batch") (script ∷ [])
-    ∷ (command (codes "explain") (word (codes "fault") ∷ [])).top
+    ∷ (command (codes "explain") (faults ∷ [])).top
     ∷ []
 
 -- the program with its commands

@@ -59,8 +59,8 @@ pub(crate) enum Argument {
     Kind,
     /// An attribute's value.
     Value,
-    /// A fault's number or name.
-    Fault,
+    /// Numbers or names of faults.
+    Faults,
 }
 
 /// How an argument is said. The name is what the help calls its value.
@@ -70,6 +70,8 @@ enum Form {
     Word(&'static str),
     /// By a word that needn't be there.
     SpareWord(&'static str),
+    /// By words that needn't be there, at most so many of them.
+    SpareWords(&'static str, usize),
     /// By a word that needn't be there, a whole number from the first to the second.
     SpareNumber(&'static str, i64, i64),
     /// By an option of this long name, which needn't be there.
@@ -261,11 +263,11 @@ static VALUE: ArgumentRow = ArgumentRow {
     help: "Value of the attribute, in two hexadecimal digits for each byte; may be empty",
 };
 
-/// A fault's number or name.
-static FAULT: ArgumentRow = ArgumentRow {
+/// Numbers or names of faults.
+static FAULTS: ArgumentRow = ArgumentRow {
     id: "fault",
-    form: Form::Word("FAULT"),
-    help: "Number or name of the fault",
+    form: Form::SpareWords("FAULT", 64),
+    help: "Number or name of a fault, or both as they are told; all faults are listed where none is said",
 };
 
 /// What an argument takes.
@@ -297,7 +299,7 @@ fn row_of(argument: Argument) -> &'static ArgumentRow
         Argument::To => &TO,
         Argument::Kind => &KIND,
         Argument::Value => &VALUE,
-        Argument::Fault => &FAULT,
+        Argument::Faults => &FAULTS,
     }
 }
 
@@ -317,6 +319,7 @@ fn formed<'a>(alloc: Global, row: &ArgumentRow) -> Arg<'a>
     match row.form {
         Form::Word(name) => named(alloc, row, name).required(true),
         Form::SpareWord(name) => named(alloc, row, name),
+        Form::SpareWords(name, most) => named(alloc, row, name).num_args(1..=most),
         Form::SpareNumber(name, least, most) => {
             named(alloc, row, name).value_parser(ValueParser::Signed(least, most))
         }

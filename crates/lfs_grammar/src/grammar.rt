@@ -258,9 +258,9 @@ static COMMANDS: [CommandRow; 20] = [
     },
     CommandRow {
         name: "explain",
-        about: "Say what a fault means, and what to do",
+        about: "Say what faults mean, and what to do",
         usage: None,
-        arguments: &[Argument::Fault],
+        arguments: &[Argument::Faults],
     },
 ];
 

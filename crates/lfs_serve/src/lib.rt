@@ -27,6 +27,8 @@ mod stop;
 mod stopping;
 mod superblock;
 mod telling;
+mod told_digits;
+mod told_line;
 mod within;
 
 pub use laws::requests_lead_on;

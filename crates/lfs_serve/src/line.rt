@@ -5,6 +5,7 @@ ghost use Rattle.std.specs.Prelude.{◌≡◌};
 use crate::finding::Finding;
 use crate::shown::Shown;
 use lfs_host::Host;
+use lfs_script::Reason;
 use std::fmt;
 
 /// A piece of a line.
@@ -12,12 +13,14 @@ use std::fmt;
 pub enum Piece<'a> {
     /// Words.
     Text(&'a str),
-    /// Bytes of a path or of a script.
+    /// Bytes of a path or of a word.
     Bytes(&'a [u8]),
     /// A number.
     Number(usize),
     /// What is said of a path.
     Finding(Finding),
+    /// What is wrong with a word.
+    Reason(Reason),
 }
 
 impl fmt::Display for Piece<'_> {
@@ -27,6 +30,7 @@ impl fmt::Display for Piece<'_> {
             Piece::Bytes(bytes) => Shown { bytes }.fmt(f),
             Piece::Number(number) => number.fmt(f),
             Piece::Finding(finding) => finding.fmt(f),
+            Piece::Reason(reason) => reason.fmt(f),
         }
     }
 }

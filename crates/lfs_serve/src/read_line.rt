@@ -37,7 +37,7 @@ fn contents_of<H: Host>(alloc: Global, host: &mut H, line: &ScriptLine) -> Resul
     };
     match read_contents(alloc, host, file.as_str()) {
         Ok(contents) => Ok(contents),
-        Err(fault) => Err(stop_at(line.number, fault)),
+        Err(fault) => Err(stop_at(line.number, fault, None)),
     }
 }
 

@@ -2,12 +2,13 @@
 
 ghost use Rattle.std.specs.Prelude.{◌≡◌};
 ghost use Rattle.lfs_serve.specs.Batching.{fault_of_line};
+ghost use Rattle.lfs_serve.specs.RefusedLine.{line_refused, numbered};
 
 use crate::beside::Beside;
 use crate::stated::Statement;
 use crate::stop::Stop;
 use lfs_edit::Refusal;
-use lfs_script::{LineFault, ScriptFault, ScriptLine, line_at};
+use lfs_script::{Flaw, LineFault, ScriptFault, ScriptLine, line_at};
 use lfs_step::Fault;
 use std::alloc::Global;
 
@@ -22,13 +23,14 @@ fn fault_of_line(fault: LineFault) -> Fault
     }
 }
 
-/// Why the line of a number is refused; want of memory is of no line. Takes no memory.
-pub fn stop_at(number: usize, fault: Fault) -> Stop
-    ensures { result.fault ≡ fault }
+/// Why the line of a number is refused, with what is wrong in it; want of memory is of no line. Takes no memory.
+pub fn stop_at(number: usize, fault: Fault, flaw: Option<Flaw>) -> Stop
+    ensures fault { result.fault ≡ fault }
+    ensures line { result.statement ≡ line_refused number fault flaw }
 {
     let statement = match fault {
         Fault::Refused(Refusal::Memory) => None,
-        _ => Some(Statement::Line(number)),
+        _ => Some(Statement::Line(number, flaw)),
     };
     Stop {
         fault,
@@ -39,14 +41,16 @@ pub fn stop_at(number: usize, fault: Fault) -> Stop
 
 /// Why a line says no step. Takes no memory.
 pub fn stop_of_line(first: ScriptFault) -> Stop
-    ensures { result.fault ≡ fault_of_line first.fault }
+    ensures fault { result.fault ≡ fault_of_line first.fault }
+    ensures line { result.statement ≡ line_refused first.number (fault_of_line first.fault) first.flaw }
 {
-    stop_at(first.number, fault_of_line(first.fault))
+    stop_at(first.number, fault_of_line(first.fault), first.flaw)
 }
 
 /// Why steps of lines are refused; where one is, with the number of its line. Takes no memory.
 pub fn with_number(lines: &[ScriptLine], stop: Stop) -> Stop
-    ensures { result.fault ≡ stop.fault }
+    ensures fault { result.fault ≡ stop.fault }
+    ensures line { result.statement ≡ numbered lines.now stop.statement }
 {
     let Some(Statement::Step(at)) = stop.statement else {
         return stop;
@@ -56,7 +60,7 @@ pub fn with_number(lines: &[ScriptLine], stop: Stop) -> Stop
     };
     Stop {
         fault: stop.fault,
-        statement: Some(Statement::Line(line.number)),
+        statement: Some(Statement::Line(line.number, None)),
         count: stop.count,
     }
 }
@@ -65,7 +69,7 @@ pub fn with_number(lines: &[ScriptLine], stop: Stop) -> Stop
 pub fn with_line(alloc: Global, text: &[u8], beside: &mut Beside, stop: Stop) -> Stop
     ensures { result.fault ≡ stop.fault }
 {
-    let Some(Statement::Line(number)) = stop.statement else {
+    let Some(Statement::Line(number, _)) = stop.statement else {
         return stop;
     };
     if let Some(line) = copied_line(alloc, text, number) {

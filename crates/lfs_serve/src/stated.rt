@@ -6,6 +6,7 @@ use byteorder::{ByteOrder, LittleEndian};
 use lfs_block::{ImageFault, MountFault};
 use lfs_change::OtherFault;
 use lfs_later::{StatedVersion, unread_version};
+use lfs_script::Flaw;
 use lfs_stated::superblock_words;
 use lfs_step::Fault;
 
@@ -88,8 +89,8 @@ pub enum Statement {
     Row(Finding),
     /// How many of several steps were done before the one that is refused.
     Step(usize),
-    /// The number of the line of a script that is refused; its text is kept beside.
-    Line(usize),
+    /// The number of the line of a script that is refused, and what is wrong in it where it says no step; its text is kept beside.
+    Line(usize, Option<Flaw>),
     /// How many blocks the folder needs that is packed; no image of this block size holds it for `None`.
     Need(Option<u32>),
     /// How many changes are done, or undone, fewer than are asked for.

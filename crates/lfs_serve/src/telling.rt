@@ -13,6 +13,8 @@ use crate::path_note::PathNote;
 use crate::stated::{Place, Stated, Statement};
 use crate::step_paths::StepPaths;
 use crate::stop::Stop;
+use crate::told_digits::tell_digits;
+use crate::told_line::ToldLine;
 use lfs_block::{BLOCK_SIZE_STEP, ImageFault, MAX_IMAGE_LENGTH};
 use lfs_change::OtherFault;
 use lfs_exchange::tell_of_image;
@@ -20,6 +22,7 @@ use lfs_edit::Refusal;
 use lfs_host::Host;
 use lfs_later::StatedVersion;
 use lfs_request::{Request, Task};
+use lfs_script::Flaw;
 use lfs_step::{Fault, Step};
 
 /// The least number of blocks of an image.
@@ -58,6 +61,7 @@ fn tell_of<H: Host>(host: &mut H, request: &Request<'_>, stop: &Stop, text: &[u8
         Fault::Image(ImageFault::BadGeometry) => tell_limit(host, request, stop.count),
         Fault::HostEntry => tell_entry(host, request),
         Fault::Refused(Refusal::BadCount) => tell_bad_count(host, request, stop.count),
+        Fault::BadHex => tell_digits(host, &request.task),
         _ => {}
     }
     if let Some(statement) = stop.statement {
@@ -234,29 +238,24 @@ fn tell_row<H: Host>(host: &mut H, image: &str, path: &[u8], finding: Finding)
     );
 }
 
-/// Tells which line of a script is refused.
-fn tell_line<H: Host>(host: &mut H, request: &Request<'_>, text: &[u8], number: usize)
+/// Tells which line of a script is refused, and what is wrong in it.
+fn tell_line<H: Host>(
+    host: &mut H,
+    request: &Request<'_>,
+    text: &[u8],
+    number: usize,
+    flaw: Option<Flaw>,
+)
     ensures kept { H.known host.new ≡ H.known host.old }
 {
     if let Task::Batch { file } = request.task {
-        tell_line_of(host, file.unwrap_or("standard input"), text, number);
+        host.complain(ToldLine {
+            script: file.unwrap_or("standard input"),
+            number,
+            flaw,
+            text,
+        });
     }
-}
-
-/// Tells which line of a script of this name is refused.
-fn tell_line_of<H: Host>(host: &mut H, script: &str, text: &[u8], number: usize)
-    ensures kept { H.known host.new ≡ H.known host.old }
-{
-    say(
-        host,
-        script,
-        &[
-            Piece::Text("line "),
-            Piece::Number(number),
-            Piece::Text(": "),
-            Piece::Bytes(text),
-        ],
-    );
 }
 
 /// Tells how many blocks a folder needs, or that none are enough.
@@ -308,7 +307,7 @@ fn tell_statement<H: Host>(
         Statement::Path(note) => tell_note(host, request, note),
         Statement::Row(finding) => tell_row(host, image, text, finding),
         Statement::Step(_) => {}
-        Statement::Line(number) => tell_line(host, request, text, number),
+        Statement::Line(number, flaw) => tell_line(host, request, text, number, flaw),
         Statement::Need(count) => tell_need(host, request, count),
         Statement::Changes(count) => tell_changes(host, request, count),
         Statement::OtherJournal => tell_other_journal(host, image),

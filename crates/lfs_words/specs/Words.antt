@@ -1,10 +1,11 @@
 -- What the words of a command line ask for (own).
-use Rattle.std.specs.Prelude.{ℕ, Bool, true, false, ◌≡◌, ◌⊎◌, ⊤, List, [], ◌∷◌, Option, None, Some, codes, option_map}
+use Rattle.std.specs.Prelude.{ℕ, Bool, true, false, ◌≡◌, ◌⊎◌, ⊤, List, [], ◌∷◌, Option, None, Some, codes, map, option_map}
+use Rattle.std.specs.Borrow.{Bor}
 use Rattle.std.specs.List.{list_any}
 use Rattle.std.specs.Option.{option_map_or}
 use Rattle.std.specs.Str.{bytes_eq}
 use Rattle.std.specs.Str.Parse.{digits_value, without_leading_plus}
-use Rattle.clap.specs.Words.{Row, Text, first_of, one_of}
+use Rattle.clap.specs.Words.{Row, Text, all_of, first_of, one_of}
 use Rattle.lfs_grammar.specs.Grammar.{IsSaid, is_change, keep}
 use Rattle.lfs_fs.specs.declared.limits.Limits.{Limits}
 use Rattle.lfs_history.specs.Taking.{MayKeep}
@@ -27,6 +28,10 @@ use Rattle.lfs_step.specs.declared.step.Step.TheVariants.{Undo, Redo, Forget}
 -- an option's text
 abbrev pub HasText : List Row → Text → Text → Type 0
 HasText rows id text = first_of id rows ≡ Some text
+
+-- the texts of an argument that takes several, where any are said
+abbrev pub HasTexts : List Row → Text → Option (Bor (List (Bor Text))) → Type 0
+HasTexts rows id texts = option_map (λ said. map (λ text. text.now) said.now) texts ≡ all_of id rows
 
 -- an option's number, in decimal digits
 abbrev pub HasNumber : List Row → Text → ℕ → Type 0
@@ -121,7 +126,7 @@ IsRequest request name rows stated =
 
 -- what a command and its options ask for
 abbrev pub IsWish : Wish → Text → List Row → ℕ → Type 0
-IsWish (wish.Explanation fault) name rows stated = (name ≡ codes "explain") × HasText rows (codes "fault") fault.now
+IsWish (wish.Explanation faults) name rows stated = (name ≡ codes "explain") × HasTexts rows (codes "fault") faults
 IsWish (wish.Request request) name rows stated = IsRequest request name rows stated
 
 -- a command whose step isn't said in full, or that asks for none
@@ -191,5 +196,5 @@ IsInRange request = MayKeep request.keep × IsTaskInRange request.task
 
 -- the same of what is asked for
 abbrev pub StaysInRange : Wish → Type 0
-StaysInRange (wish.Explanation fault) = ⊤
+StaysInRange (wish.Explanation faults) = ⊤
 StaysInRange (wish.Request request) = IsInRange request

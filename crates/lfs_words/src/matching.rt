@@ -169,7 +169,10 @@ fn request_of<'a>(
 /// for nothing: `Unsaid` only where they name no such command. Takes no memory.
 ///
 /// Source: own.
-pub fn wished<'a>(matches: &ArgMatches<'a>, stated: u32) -> Result<Wish<'a>, Misuse<'a>>
+pub fn wished<'m, 'a>(
+    matches: &'m ArgMatches<'a>,
+    stated: u32,
+) -> Result<Wish<'m, 'a>, Misuse<'a>>
     ensures some { IfOk result (λ wish. AsksFor (subcommand_rows_of matches.now) stated wish) }
     ensures within { IfOk result (λ wish. NamesCommand (subcommand_rows_of matches.now) → StaysInRange wish) }
     ensures refused { IfErr result (λ misuse. (misuse ≡ Unsaid) ⊎ IsMissaid (subcommand_rows_of matches.now) stated misuse) }
@@ -180,7 +183,7 @@ pub fn wished<'a>(matches: &ArgMatches<'a>, stated: u32) -> Result<Wish<'a>, Mis
     };
     if name == "explain" {
         return Ok(Wish::Explanation {
-            fault: text(options, "fault")?,
+            faults: options.get_strs("fault"),
         });
     }
     Ok(Wish::Request(request_of(name, options, stated)?))

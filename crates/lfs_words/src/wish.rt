@@ -6,11 +6,11 @@ use lfs_request::Request;
 ///
 /// Source: own.
 #[derive(Drop)]
-pub enum Wish<'a> {
-    /// What the fault of a number or a name means.
+pub enum Wish<'m, 'a> {
+    /// What faults mean.
     Explanation {
-        /// The number or the name.
-        fault: &'a str,
+        /// Their numbers and names; all faults for `None`.
+        faults: Option<&'m [&'a str]>,
     },
     /// What is asked for on an image.
     Request(Request<'a>),

@@ -70,7 +70,7 @@ returns g c =
     let taken = takes_lines old.files request.keep c.args.lines.now c.in_ok-read.read.items steps c.in_ok-moves.moves.items c.in_ok-read.ensures.read meant are in
     let kept = c.read_lines.ensures.kept.0 in
     let ended = subst (EndsStep (Batch steps) request.takes_older request.size request.keep request.image.now mid new)
-    (ap stopped_by c.in-Err.is ∙ ap Some (sym c.with_number.ensures)) c.stepped.ensures.ended in
+    (ap stopped_by c.in-Err.is ∙ ap Some (sym c.with_number.ensures.fault)) c.stepped.ensures.ended in
     let ends = step_from (Batch steps) request.takes_older request.size request.keep request.image.now mid old new (Some c.with_number.result.fault)
     kept.0 kept.1 kept.2 ended in
     record { ended = inl (Batch steps, taken, ends) }

@@ -30,5 +30,5 @@ returns-in-Ok g c =
 pub returns-in-Err : goal.returns-in-Err
 returns-in-Err g c =
     record {
-      ended = inr ((refl, refl), (c.stop_of_line.result.fault, refl, inr (c.in-Err.first, c.in-Err.ensures.refused, c.stop_of_line.ensures)));
+      ended = inr ((refl, refl), (c.stop_of_line.result.fault, refl, inr (c.in-Err.first, c.in-Err.ensures.refused, c.stop_of_line.ensures.fault)));
     }

@@ -8,20 +8,6 @@ use Rattle.lfs_grammar.proofs.WordLemmas.{names_command}
 use Rattle.lfs_words.proofs.Handed.{handed_on}
 use Rattle.lfs_words.proofs.matching.wished.Goals as goal
 
-pub returns-in_err-text-clause-unsaid : goal.returns-in_err-text-clause-unsaid
-returns-in_err-text-clause-unsaid c =
-    let on = c.from_residual in
-    handed_on on.result c.in_err-text.field-0.0 _ on.ensures.1
-    (λ unsaid names.
-    let m = c.args.matches.now in
-    let rows = rows_of (found_of c.in-Some.options.now) in
-    let name : subcommand_name_of m ≡ Some (codes "explain") = search rules in
-    let has : option_map (λ p. p.1) (subcommand_rows_of m) ≡ Some rows = search rules in
-    let is = names_command m (codes "explain") rows name has in
-    let named = subst NamesCommand is names in
-    let said = said_of (codes "explain") (codes "explain") rows refl named in
-    absurd (c.in_err-text.ensures.none.1 (word (codes "fault")) refl (said.0 refl)))
-
 pub returns-in_err-request_of-clause-refused : goal.returns-in_err-request_of-clause-refused
 returns-in_err-request_of-clause-refused c =
     let m = c.args.matches.now in
