@@ -11,7 +11,7 @@ from support.folder import PROGRAM, contents, run_scenes
 from support.journal import journal, word
 from support.littlefs import Reader
 from support.scripts import alone, script
-from support.texts import shown
+from support.texts import typed
 
 NOT_FOUND, NO_UNDO, NO_REDO = "30 NotFound", "53 NothingToUndo", "54 NothingToRedo"
 BAD_HEX, BAD_LINE, NOT_READ = "64 BadHex", "65 BadLine", "60 CannotRead"
@@ -63,15 +63,15 @@ class Batch:
         left = [name for name in os.listdir(self.room) if name.endswith(".new")]
         return self.folder.old(), self.folder.saved(), left
 
-    def refuses(self, lines, number, status, first, *more, options=()):
+    def refuses(self, lines, number, status, first, *more, options=(), flaw=""):
         """Runs a script that is refused at a line, from a file and from standard input, and compares both files with what they were.
-        What more is told stands in front of the line."""
+        What more is told stands in front of the line, and what is wrong in it behind its number."""
         text = lines if isinstance(lines, bytes) else script(lines)
         line = text.split(b"\n")[number - 1].removesuffix(b"\r")
         for name, is_typed in ("steps", False), ("standard input", True):
-            before, what = self.files(), f"{shown(line)[:60]}, line {number} of {name}"
+            before, what = self.files(), f"{typed(line)[:60]}, line {number} of {name}"
             ended = self.batch(text, *options, is_typed=is_typed)
-            told = "".join(f"lfsed: {each}\n" for each in [first, *more, f"{name}: line {number}: {shown(line)}"])
+            told = "".join(f"lfsed: {each}\n" for each in [first, *more, f"{name}: line {number}{flaw}: {typed(line)}"])
             self.folder.check(what, ended == (status, told, b""), ended)
             self.folder.check(f"{what}: files", self.files() == before)
 
@@ -371,32 +371,66 @@ def scripts_without_steps(folder):
         folder.check(f"no image: {text}", ended == (4, f"lfsed: {NOT_READ}\nlfsed: a.img: {NOTHING_THERE}\n", b""), ended)
 
 
-# Lines that say no step, and what is told of each.
+# What may be wrong in a line.
+FRONT = "a space stands in front of the first word"
+TWO = "two spaces stand between words, not one"
+BEHIND = "a space stands behind the last word"
+ESCAPE = "no x and two hexadecimal digits stand behind a backslash"
+TAB = "a tab parts no words, one space does"
+QUOTE = "quotes hold no words together, \\x20 is a space in a word"
+UNKNOWN = "no step begins so, 'lfsed explain 65' says which there are"
+FEW, MANY = "too few words for ", "too many words for "
+NUMBER = "COUNT is no number from 0 to 4294967295"
+FILE = "FILE is no UTF-8"
+KIND = "KIND isn't two digits, 0 to 9 or a to f"
+HEX = "HEX isn't two digits for each byte, 0 to 9 or a to f"
+
+# Lines that say no step: the column at which something is wrong, and what.
 BAD_LINES = (
-    *((line, BAD_LINE) for line in (
-        b"make /a", b"MKDIR /a", b"mkdir", b"mkdir /a /b", b"mkdir  /a", b" mkdir /a", b"mkdir /a ", b"mkdir\t/a", b" ", b" # a",
+    *((line, BAD_LINE, 1, UNKNOWN) for line in (
+        b"make /a", b"MKDIR /a", b"ls", b"check", b"format 8", b"cat /a", b"batch steps", b"lfsed mkdir /a", b"mk\\x64", b"/a",
+    )),
+    *((line, BAD_LINE, 8, ESCAPE) for line in (
         b"mkdir /\\", b"mkdir /\\x", b"mkdir /\\x2", b"mkdir /\\x2g", b"mkdir /\\n", b"mkdir /\\\\", b"mkdir /\\X20",
-        b"put /a", b"put /a h0 h1", b"put /a \\xff", b"put /a \xff", b"put /a --from h0",
-        b"rm", b"rm /a /b", b"mv /a", b"mv /a /b /c", b"setattr /", b"setattr / 74 01 02", b"rmattr /", b"rmattr / 74 01",
-        b"grow", b"grow x", b"grow -1", b"grow 4294967296", b"grow 9 10", b"grow --size 8k", b"grow 0x10",
-        b"undo 2", b"redo 2", b"forget /", b"ls", b"check", b"format 8", b"cat /a", b"batch steps", b"lfsed mkdir /a", b"mkdir a.img /a",
+        b"mkdir /\\x2 0", b"mkdir /\\ /b",
     )),
-    *((line, BAD_HEX) for line in (
-        b"setattr / 7 01", b"setattr / 744 01", b"setattr / 7g 01", b"setattr / 74 0", b"setattr / 74 0g", b"setattr / 74 0x01",
-        b"rmattr / 7", b"rmattr / zz", b"setattr / kind",
+    *((line, BAD_LINE, 6, NUMBER) for line in (b"grow x", b"grow -1", b"grow 4294967296", b"grow 0x10", b"grow 9\t", b"grow \"9\"")),
+    *((line, BAD_LINE, column, wrong) for line, column, wrong in (
+        (b" mkdir /a", 1, FRONT), (b" ", 1, FRONT), (b" # a", 1, FRONT), (b"  ", 1, FRONT),
+        (b"mkdir  /a", 7, TWO), (b"mkdir /a  ", 10, TWO), (b"mv /a  /\\", 7, TWO),
+        (b"mkdir /a ", 9, BEHIND), (b"undo ", 5, BEHIND), (b"mkdir\t/a ", 9, BEHIND),
+        (b"mkdir\t/a", 6, TAB), (b"undo\t", 5, TAB), (b"put /a\th0", 7, TAB), (b"mkdir /a\tb /c", 9, TAB),
+        (b"put \"/a b\" h0", 5, QUOTE), (b"'mkdir' /a", 1, QUOTE), (b"rm '/a b' /c", 4, QUOTE),
+        (b"mkdir", 6, FEW + "mkdir PATH"), (b"put /a", 7, FEW + "put PATH FILE"), (b"rm", 3, FEW + "rm PATH"),
+        (b"mv /a", 6, FEW + "mv FROM TO"), (b"setattr /", 10, FEW + "setattr PATH KIND HEX"),
+        (b"rmattr /", 9, FEW + "rmattr PATH KIND"), (b"grow", 5, FEW + "grow COUNT"), (b"\\x72m", 6, FEW + "rm PATH"),
+        (b"mk\\x64ir", 9, FEW + "mkdir PATH"),
+        (b"mkdir /a /b", 10, MANY + "mkdir PATH"), (b"mkdir a.img /a", 13, MANY + "mkdir PATH"),
+        (b"put /a h0 h1", 11, MANY + "put PATH FILE"), (b"put /a --from h0", 15, MANY + "put PATH FILE"),
+        (b"rm /a /b", 7, MANY + "rm PATH"), (b"mv /it's /b /c", 13, MANY + "mv FROM TO"),
+        (b"setattr / 74 01 02", 17, MANY + "setattr PATH KIND HEX"), (b"rmattr / 74 01", 13, MANY + "rmattr PATH KIND"),
+        (b"grow 9 10", 8, MANY + "grow COUNT"), (b"grow --size 8k", 13, MANY + "grow COUNT"),
+        (b"undo 2", 6, MANY + "undo"), (b"redo 2", 6, MANY + "redo"), (b"forget /", 8, MANY + "forget"),
+        (b"put /a \\xff", 8, FILE), (b"put /a \xff", 8, FILE),
     )),
+    *((line, BAD_HEX, 11, KIND) for line in (
+        b"setattr / 7 01", b"setattr / 744 01", b"setattr / 7g 01", b"setattr / kind", b"setattr / \"7 01", b"setattr / x zz",
+    )),
+    *((line, BAD_HEX, 14, HEX) for line in (b"setattr / 74 0", b"setattr / 74 0g", b"setattr / 74 0x01")),
+    *((line, BAD_HEX, 10, KIND) for line in (b"rmattr / 7", b"rmattr / zz")),
 )
 
 
 def lines_that_say_no_step(folder):
     """The first such line is told, before a file of the host or the image is looked at; no step is taken."""
     batch = Batch(folder)
-    for line, first in BAD_LINES:
-        batch.refuses(line + b"\n", 1, 2, first)
-        batch.refuses(b"mkdir /ok\r\n# more\n\nput /none none\n" + line + b"\nmake /b\nsetattr / 7\n", 5, 2, first)
+    for line, first, column, wrong in BAD_LINES:
+        flaw = f", column {column}: {wrong}"
+        batch.refuses(line + b"\n", 1, 2, first, flaw=flaw)
+        batch.refuses(b"mkdir /ok\r\n# more\n\nput /none none\n" + line + b"\nmake /b\nsetattr / 7\n", 5, 2, first, flaw=flaw)
     folder.image.unlink()
-    for line, first in BAD_LINES:
-        batch.refuses(b"mkdir /ok\n" + line, 2, 2, first)
+    for line, first, column, wrong in BAD_LINES:
+        batch.refuses(b"mkdir /ok\n" + line, 2, 2, first, flaw=f", column {column}: {wrong}")
 
 
 def ends_of_lines(folder):

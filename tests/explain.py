@@ -14,10 +14,28 @@ def table(name):
     return {int(number): (fault, text) for number, fault, text in rows}
 
 
-def explained(fault):
-    """What the program prints for a number or a name, and its status."""
-    ended = subprocess.run([HOME / "bin/lfsed", "explain", fault], stdout=subprocess.PIPE, stderr=subprocess.PIPE, text=True)
+def explained(*faults):
+    """What the program prints for numbers and names, and its status."""
+    ended = subprocess.run([HOME / "bin/lfsed", "explain", *faults], stdout=subprocess.PIPE, stderr=subprocess.PIPE, text=True)
     return ended.returncode, ended.stdout
+
+
+def gist(text):
+    """The first thing that a text says, without a stop behind it."""
+    return re.split(r"[.;:] ", text)[0].removesuffix(".")
+
+
+def together(faults, pages):
+    """Explanations of several faults: what is asked for, and what is wanted."""
+    number, name = next((number, name) for number, (name, _) in faults.items() if name == "NoSpace")
+    page = pages[str(number)]
+    yield [], (0, "".join(f"{number} {name}: {gist(text)}\n" for number, (name, text) in faults.items()))
+    for same in [f"{number} {name}"], [str(number), name], [f"{number} {name.lower()}"], [str(number)] * 2, [name.upper()]:
+        yield same, (0, page)
+    yield ["1", "nospace", "65"], (0, "\n".join([pages["1"], page, pages["65"]]))
+    yield [str(number), "1", name], (0, "\n".join([page, pages["1"], page]))
+    for none in [f"{number} Exists"], [name, "Exist"], [f"{name} {number}"], [f"{number}  {name}"], [f"{number} "], ["1", ""]:
+        yield none, (2, "")
 
 
 def main():
@@ -25,7 +43,12 @@ def main():
     pages = {}
     for number, (name, text) in faults.items():
         pages[str(number)] = pages[name] = f"{number} {name}\n{text}\n"
-    others = ["", "0", "256", "-1", "isroot", "IsRoot ", "Memor", "é"]
+    others = ["", "0", "256", "-1", "IsRoot ", "Memor", "é"]
+    for words, wanted in together(faults, pages):
+        ran, is_wrong = ran + 1, explained(*words) != wanted
+        wrong += is_wrong
+        if is_wrong:
+            print(f"{words}: wanted {wanted}, found {explained(*words)}")
     for fault in [*map(str, range(1, 256)), *(name for name, _ in faults.values()), *others]:
         wanted = (0, pages[fault]) if fault in pages else (2, "")
         ran, is_wrong = ran + 1, explained(fault) != wanted

@@ -316,16 +316,16 @@ NOT_MOVED = [
 
 # Digits that are none are refused before files are read.
 BAD_DIGITS = [
-    ("setattr a.img / 74 0", 0, 2, "lfsed: 64 BadHex\n", ""),
-    ("setattr a.img / 74 0g", 0, 2, "lfsed: 64 BadHex\n", ""),
-    ("setattr a.img / 74 -1", 0, 2, "lfsed: 64 BadHex\n", ""),
-    ("setattr a.img / 7 00", 0, 2, "lfsed: 64 BadHex\n", ""),
-    ("setattr a.img / 7x 00", 0, 2, "lfsed: 64 BadHex\n", ""),
-    ("setattr a.img /  ", 0, 2, "lfsed: 64 BadHex\n", ""),
-    ("rmattr a.img / 7", 0, 2, "lfsed: 64 BadHex\n", ""),
-    ("rmattr a.img / x7", 0, 2, "lfsed: 64 BadHex\n", ""),
-    ("rmattr a.img / 0x74", 0, 2, "lfsed: 64 BadHex\n", ""),
-    ("rmattr a.img / -7", 0, 2, "lfsed: 64 BadHex\n", ""),
+    ("setattr a.img / 74 0", 0, 2, "lfsed: 64 BadHex\nlfsed: setattr: HEX isn't two digits for each byte, 0 to 9 or a to f: 0\n", ""),
+    ("setattr a.img / 74 0g", 0, 2, "lfsed: 64 BadHex\nlfsed: setattr: HEX isn't two digits for each byte, 0 to 9 or a to f: 0g\n", ""),
+    ("setattr a.img / 74 -1", 0, 2, "lfsed: 64 BadHex\nlfsed: setattr: HEX isn't two digits for each byte, 0 to 9 or a to f: -1\n", ""),
+    ("setattr a.img / 7 00", 0, 2, "lfsed: 64 BadHex\nlfsed: setattr: KIND isn't two digits, 0 to 9 or a to f: 7\n", ""),
+    ("setattr a.img / 7x 00", 0, 2, "lfsed: 64 BadHex\nlfsed: setattr: KIND isn't two digits, 0 to 9 or a to f: 7x\n", ""),
+    ("setattr a.img /  ", 0, 2, "lfsed: 64 BadHex\nlfsed: setattr: KIND isn't two digits, 0 to 9 or a to f: \n", ""),
+    ("rmattr a.img / 7", 0, 2, "lfsed: 64 BadHex\nlfsed: rmattr: KIND isn't two digits, 0 to 9 or a to f: 7\n", ""),
+    ("rmattr a.img / x7", 0, 2, "lfsed: 64 BadHex\nlfsed: rmattr: KIND isn't two digits, 0 to 9 or a to f: x7\n", ""),
+    ("rmattr a.img / 0x74", 0, 2, "lfsed: 64 BadHex\nlfsed: rmattr: KIND isn't two digits, 0 to 9 or a to f: 0x74\n", ""),
+    ("rmattr a.img / -7", 0, 2, "lfsed: 64 BadHex\nlfsed: rmattr: KIND isn't two digits, 0 to 9 or a to f: -7\n", ""),
 ]
 
 # Good digits and any path, where there is no image.
@@ -367,11 +367,13 @@ GROW_USAGE = "Usage: lfsed grow [OPTIONS] <IMAGE> <COUNT|--size <BYTES>>"
 
 # Command lines that are refused, and how what is complained begins.
 USAGE = [
-    ("explain 22", "error: invalid value '22' for '<FAULT>': no fault has this number or name\n\nFor more information, try '--help'.\n"),
-    ("explain nospace", "error: invalid value 'nospace' for '<FAULT>': no fault has this number or name\n\nFor more information, try '--help'.\n"),
+    ("explain 22", "error: invalid value '22' for '[FAULT]...': no fault has this number or name\n\nFor more information, try '--help'.\n"),
+    ("explain 41 nospaces", "error: invalid value 'nospaces' for '[FAULT]...': no fault has this number or name\n\nFor more information, try '--help'.\n"),
+    ("chekc a.img", "error: unrecognized subcommand 'chekc'\n\n  tip: a similar subcommand exists: 'check'\n\nUsage: lfsed <COMMAND>\n\nFor more information, try '--help'.\n"),
+    ("check --json a.img", "error: unexpected argument '--json' found\n\nUsage: lfsed check [OPTIONS] <IMAGE>\n\nFor more information, try '--help'.\n"),
     ("", "error: 'lfsed' requires a subcommand but one was not provided\n"),
     ("frob", "error: unrecognized subcommand 'frob'\n"),
-    ("create a.img", "error: unrecognized subcommand 'create'\n\nUsage: lfsed <COMMAND>\n\nFor more information, try '--help'.\n"),
+    ("create a.img", "error: unrecognized subcommand 'create'\n\n  tip: a similar subcommand exists: 'cat'\n\nUsage: lfsed <COMMAND>\n\nFor more information, try '--help'.\n"),
     ("format a.img", f"{NOT_SAID}  <--count <N>|--size <BYTES>>\n\n{FORMAT_USAGE}{MORE}"),
     ("format --count 8 --size 32k a.img", f"error: the argument '--count <N>' cannot be used with '--size <BYTES>'\n\n{FORMAT_USAGE}{MORE}"),
     ("format --size 100 a.img", f"{NO_SIZE % '100'}100 is no multiple of the block size, 4096{MORE}"),
@@ -413,7 +415,7 @@ USAGE = [
     ("check --block 70000000000 a.img", "error: invalid value '70000000000' for '--block <BYTES>': 70000000000 is not in 256..=65536\n"),
     ("check --block Auto a.img", "error: invalid value 'Auto' for '--block <BYTES>': invalid digit found in string\n"),
     ("check --new a.img", "error: unexpected argument '--new' found\n"),
-    ("check --stric a.img", "error: unexpected argument '--stric' found\n\nUsage: lfsed check "),
+    ("check --stric a.img", "error: unexpected argument '--stric' found\n\n  tip: a similar argument exists: '--strict'\n\nUsage: lfsed check "),
     ("put a.img /x notes", f"error: unexpected argument 'notes' found\n\n{CONTENTS_TIP}\n\nUsage: lfsed put [OPTIONS] <IMAGE> <PATH>{MORE}"),
     ("put a.img /x --from", "error: a value is required for '--from <FILE>' but none was supplied\n"),
     ("put a.img /x --from -x", "error: unexpected argument '-x' found\n"),
@@ -429,7 +431,7 @@ USAGE = [
     ("batch --keep 0 a.img steps", "error: invalid value '0' for '--keep <K>': 0 is not in 1..=1000\n"),
     ("batch --size 32k a.img steps", "error: unexpected argument '--size' found\n"),
     ("batch", "error: the following required arguments were not provided:\n  <IMAGE>\n"),
-    ("explain -5", "error: invalid value '-5' for '<FAULT>': no fault has this number or name\n"),
+    ("explain -5", "error: invalid value '-5' for '[FAULT]...': no fault has this number or name\n"),
     ("mv a.img /a", "error: the following required arguments were not provided:\n  <TO>\n"),
     ("setattr a.img / 74", "error: the following required arguments were not provided:\n  <HEX>\n"),
     ("rmattr a.img /", "error: the following required arguments were not provided:\n  <KIND>\n"),
@@ -461,8 +463,11 @@ USAGE = [
 HELPS = [
     ("explain 41", 0, 0, "", "41 IsRoot\nThe root can't be made, put, moved or removed.\n"),
     ("explain IsRoot", 0, 0, "", "41 IsRoot\nThe root can't be made, put, moved or removed.\n"),
-    ("--help", 0, 0, "", "Edit littlefs images of disk version 2.0\n\nUsage: lfsed <COMMAND>\n\nCommands:\n  format   Write a new image, in place of a file of this name\n  pack     Write a new image with what is in a folder, in place of a file of this name\n  extract  Make a new folder with what is in an image; attributes are left behind\n  check    Judge an image; print its geometry, free blocks, directories and files\n  ls       List what stands at each path, with sizes and attributes\n  cat      Print the contents of a file\n  diff     List what another image has otherwise, row by row, as ls prints it\n  log      List the changes that the journal keeps, and what each of them changed\n  mkdir    Make a directory\n  put      Put a file, in place of one of this path; its contents are read from standard input\n  rm       Remove a file or an empty directory\n  mv       Move a file, or a directory with all that is below it\n  setattr  Set an attribute of a file or a directory\n  rmattr   Remove an attribute of a file or a directory\n  grow     Lengthen an image by erased blocks; what it holds stays\n  undo     Take the latest change back, byte for byte\n  redo     Make the latest change again that was taken back\n  forget   Keep the image alone: its changes can no longer be taken back\n  batch    Carry out the steps of a script, a line each: all of them or none\n  explain  Say what a fault means, and what to do\n  help     Print this message or the help of the given subcommand(s)\n\nOptions:\n  -h, --help     Print help\n  -V, --version  Print version\n\nStatus: 0 done; 1 the change is refused; 2 the command line is refused;\n3 the image or its journal is refused; 4 out of memory, or a file is not read or written.\n"),
-    ("help", 0, 0, "", "Edit littlefs images of disk version 2.0\n\nUsage: lfsed <COMMAND>\n\nCommands:\n  format   Write a new image, in place of a file of this name\n  pack     Write a new image with what is in a folder, in place of a file of this name\n  extract  Make a new folder with what is in an image; attributes are left behind\n  check    Judge an image; print its geometry, free blocks, directories and files\n  ls       List what stands at each path, with sizes and attributes\n  cat      Print the contents of a file\n  diff     List what another image has otherwise, row by row, as ls prints it\n  log      List the changes that the journal keeps, and what each of them changed\n  mkdir    Make a directory\n  put      Put a file, in place of one of this path; its contents are read from standard input\n  rm       Remove a file or an empty directory\n  mv       Move a file, or a directory with all that is below it\n  setattr  Set an attribute of a file or a directory\n  rmattr   Remove an attribute of a file or a directory\n  grow     Lengthen an image by erased blocks; what it holds stays\n  undo     Take the latest change back, byte for byte\n  redo     Make the latest change again that was taken back\n  forget   Keep the image alone: its changes can no longer be taken back\n  batch    Carry out the steps of a script, a line each: all of them or none\n  explain  Say what a fault means, and what to do\n  help     Print this message or the help of the given subcommand(s)\n\nOptions:\n  -h, --help     Print help\n  -V, --version  Print version\n\nStatus: 0 done; 1 the change is refused; 2 the command line is refused;\n3 the image or its journal is refused; 4 out of memory, or a file is not read or written.\n"),
+    ("explain isROOT", 0, 0, "", "41 IsRoot\nThe root can't be made, put, moved or removed.\n"),
+    ("explain 41 IsRoot", 0, 0, "", "41 IsRoot\nThe root can't be made, put, moved or removed.\n"),
+    ("explain noattr 41", 0, 0, "", "39 NoAttr\nThere is no attribute of that kind to be removed.\n\n41 IsRoot\nThe root can't be made, put, moved or removed.\n"),
+    ("--help", 0, 0, "", "Edit littlefs images of disk version 2.0\n\nUsage: lfsed <COMMAND>\n\nCommands:\n  format   Write a new image, in place of a file of this name\n  pack     Write a new image with what is in a folder, in place of a file of this name\n  extract  Make a new folder with what is in an image; attributes are left behind\n  check    Judge an image; print its geometry, free blocks, directories and files\n  ls       List what stands at each path, with sizes and attributes\n  cat      Print the contents of a file\n  diff     List what another image has otherwise, row by row, as ls prints it\n  log      List the changes that the journal keeps, and what each of them changed\n  mkdir    Make a directory\n  put      Put a file, in place of one of this path; its contents are read from standard input\n  rm       Remove a file or an empty directory\n  mv       Move a file, or a directory with all that is below it\n  setattr  Set an attribute of a file or a directory\n  rmattr   Remove an attribute of a file or a directory\n  grow     Lengthen an image by erased blocks; what it holds stays\n  undo     Take the latest change back, byte for byte\n  redo     Make the latest change again that was taken back\n  forget   Keep the image alone: its changes can no longer be taken back\n  batch    Carry out the steps of a script, a line each: all of them or none\n  explain  Say what faults mean, and what to do\n  help     Print this message or the help of the given subcommand(s)\n\nOptions:\n  -h, --help     Print help\n  -V, --version  Print version\n\nStatus: 0 done; 1 the change is refused; 2 the command line is refused;\n3 the image or its journal is refused; 4 out of memory, or a file is not read or written.\n"),
+    ("help", 0, 0, "", "Edit littlefs images of disk version 2.0\n\nUsage: lfsed <COMMAND>\n\nCommands:\n  format   Write a new image, in place of a file of this name\n  pack     Write a new image with what is in a folder, in place of a file of this name\n  extract  Make a new folder with what is in an image; attributes are left behind\n  check    Judge an image; print its geometry, free blocks, directories and files\n  ls       List what stands at each path, with sizes and attributes\n  cat      Print the contents of a file\n  diff     List what another image has otherwise, row by row, as ls prints it\n  log      List the changes that the journal keeps, and what each of them changed\n  mkdir    Make a directory\n  put      Put a file, in place of one of this path; its contents are read from standard input\n  rm       Remove a file or an empty directory\n  mv       Move a file, or a directory with all that is below it\n  setattr  Set an attribute of a file or a directory\n  rmattr   Remove an attribute of a file or a directory\n  grow     Lengthen an image by erased blocks; what it holds stays\n  undo     Take the latest change back, byte for byte\n  redo     Make the latest change again that was taken back\n  forget   Keep the image alone: its changes can no longer be taken back\n  batch    Carry out the steps of a script, a line each: all of them or none\n  explain  Say what faults mean, and what to do\n  help     Print this message or the help of the given subcommand(s)\n\nOptions:\n  -h, --help     Print help\n  -V, --version  Print version\n\nStatus: 0 done; 1 the change is refused; 2 the command line is refused;\n3 the image or its journal is refused; 4 out of memory, or a file is not read or written.\n"),
     ("help mv", 0, 0, "", "Move a file, or a directory with all that is below it\n\nUsage: lfsed mv [OPTIONS] <IMAGE> <FROM> <TO>\n\nArguments:\n  <IMAGE>  File of the image\n  <FROM>   Path of what is moved, from / on\n  <TO>     Path that it gets, from / on; nothing may be there\n\nOptions:\n  -b, --block <BYTES>  Size of a block, a multiple of 16 from 256 to 65536, or auto [default: 4096]\n      --keep <K>       Number of the latest changes that are kept, from 1 to 1000; all where it is not said\n      --older          Go on with the state before commits of a later disk version, which are not read\n  -h, --help           Print help\n"),
     ("--version", 0, 0, "", "lfsed 0.1.0\n"),
     ("-V", 0, 0, "", "lfsed 0.1.0\n"),

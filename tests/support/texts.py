@@ -7,6 +7,11 @@ def shown(path):
     return "".join(chr(b) if 0x20 <= b <= 0x7E and b != 0x5C else f"\\x{b:02x}" for b in path)
 
 
+def typed(line):
+    """A line of a script as it was typed, but for control bytes and those that aren't ASCII."""
+    return "".join(chr(b) if 0x20 <= b <= 0x7E else f"\\x{b:02x}" for b in line)
+
+
 def lines_of(path, size, attributes):
     """The lines of what stands at a path; a directory has no size."""
     first = f"{'d' if size is None else 'f'} {'-' if size is None else size:>10} {shown(path)}\n"

@@ -169,10 +169,7 @@ fn request_of<'a>(
 /// for nothing: `Unsaid` only where they name no such command. Takes no memory.
 ///
 /// Source: own.
-pub fn wished<'m, 'a>(
-    matches: &'m ArgMatches<'a>,
-    stated: u32,
-) -> Result<Wish<'m, 'a>, Misuse<'a>>
+pub fn wished<'m, 'a>(matches: &'m ArgMatches<'a>, stated: u32) -> Result<Wish<'m, 'a>, Misuse<'a>>
     ensures some { IfOk result (λ wish. AsksFor (subcommand_rows_of matches.now) stated wish) }
     ensures within { IfOk result (λ wish. NamesCommand (subcommand_rows_of matches.now) → StaysInRange wish) }
     ensures refused { IfErr result (λ misuse. (misuse ≡ Unsaid) ⊎ IsMissaid (subcommand_rows_of matches.now) stated misuse) }

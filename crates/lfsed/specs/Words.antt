@@ -1,12 +1,13 @@
 -- How the words of a command line end (own).
 use Rattle.std.specs.Prelude.{ℕ, ◌≡◌, ◌⊎◌, List, Option, Result, Ok, Err, Some}
 use Rattle.std.specs.Borrow.{Bor}
+use Rattle.std.specs.Io.KnownBytes.{Appends}
 use Rattle.clap.specs.Words.{IsAmong, Row, Text, fault_of, subcommand_of}
 use Rattle.clap.specs.declared.error.kind.ErrorKind.{ErrorKind}
 use Rattle.clap.specs.declared.error.kind.ErrorKind.TheVariants.{DisplayHelp, DisplayVersion}
 use Rattle.lfs_command.specs.declared.refusal.Refusal.TheVariants.{Memory}
 use Rattle.lfs_change.specs.declared.fault.Fault.{Fault}
-use Rattle.lfs_change.specs.declared.fault.Fault.TheVariants.{Refused}
+use Rattle.lfs_change.specs.declared.fault.Fault.TheVariants.{CannotWrite, Refused}
 use Rattle.lfs_change.specs.Fault.{status_of}
 use Rattle.lfs_request.specs.declared.request.Request.{Request}
 use Rattle.lfs_words.specs.declared.wish.Wish.TheVariants as wish
@@ -14,6 +15,7 @@ use Rattle.lfs_grammar.specs.Grammar.{grammar}
 use Rattle.lfs_grammar.specs.Hyphens.{IsRead}
 use Rattle.lfs_words.specs.Words.{AsksFor, IsMissaid, SaysAuto}
 use Rattle.lfs_words.specs.declared.misuse.Misuse.{Misuse}
+use Rattle.lfs_exchange.specs.Printing.{PrintsBeginning}
 use Rattle.lfs_host.specs.Scene.{KeepsAll, KeepsScene, Scene}
 use Rattle.lfs_serve.specs.Program.{EndsRequest}
 use Rattle.lfs_serve.specs.Stated.{IsStatedSize}
@@ -39,32 +41,52 @@ CallsForHelp kind = (kind ≡ DisplayHelp) ⊎ (kind ≡ DisplayVersion)
 abbrev pub EndsForMemory : Scene → Scene → ℕ → Type 0
 EndsForMemory old new status = KeepsScene old new × (status ≡ status_of (Some (Refused Memory)))
 
+-- the words are refused with nothing printed and no file changed: what is wrong is told on standard error
+abbrev pub EndsMisused : Scene → Scene → ℕ → Type 0
+EndsMisused old new status = KeepsScene old new × (status ≡ usage)
+
+-- a text is printed, and no file is changed; or a beginning of it, where the host refuses the rest
+abbrev pub EndsPrinting : Scene → Scene → ℕ → Type 0
+EndsPrinting old new status =
+    (new.files ≡ old.files)
+    × ((text : List ℕ)
+    × (((status ≡ 0) × Appends old.printed new.printed text)
+    ⊎ ((status ≡ status_of (Some CannotWrite)) × PrintsBeginning old.printed new.printed text)))
+
+-- faults are explained; or a word is none of them; or there is no memory for what is said
+abbrev pub EndsExplained : Scene → Scene → ℕ → Type 0
+EndsExplained old new status = EndsPrinting old new status ⊎ EndsMisused old new status ⊎ EndsForMemory old new status
+
+-- how words end that the grammar takes in no way: they are refused, unless their kind of error says that they call for help, which is
+-- printed then; or there is no memory for what is said
+abbrev pub EndsError : ErrorKind → Scene → Scene → ℕ → Type 0
+EndsError kind old new status =
+    EndsMisused old new status ⊎ (CallsForHelp kind × EndsPrinting old new status) ⊎ EndsForMemory old new status
+
 -- a block size stands for `auto`: what the first block of the image's file states, or any where the words don't say so
 abbrev pub IsStated : Option (Text × List Row) → Scene → ℕ → Type 0
 IsStated named old stated =
     ((image : Text) × SaysAuto named image × IsStatedSize old.files image stated)
     ⊎ ((image : Text) → ¬ SaysAuto named image)
 
--- how a command that is named with its options ends, once that is known: as the request that it asks for; by saying what the fault of
--- the number or the name means that it asks for; or, where it says no request, with the status of a refused command line. No file is
--- changed but by a request
+-- how a command that is named with its options ends, once that is known: as the request that it asks for; by saying what the faults
+-- mean that it asks for; or, where it says no request, refused. No file is changed but by a request, and nothing is printed of words
+-- that are refused
 abbrev pub EndsStated : Option (Text × List Row) → ℕ → Scene → Scene → ℕ → Type 0
 EndsStated named stated old new status =
     ((request : Request) × AsksFor named stated (wish.Request request) × EndsRequest request old new status)
-    ⊎ ((fault : Bor Text) × AsksFor named stated (wish.Explanation fault) × (new.files ≡ old.files))
-    ⊎ ((misuse : Misuse) × IsMissaid named stated misuse × (new.files ≡ old.files) × (status ≡ usage))
+    ⊎ ((faults : Option (Bor (List (Bor Text)))) × AsksFor named stated (wish.Explanation faults) × EndsExplained old new status)
+    ⊎ ((misuse : Misuse) × IsMissaid named stated misuse × EndsMisused old new status)
 
 -- how it ends: so, behind a look at the image's file, which changes nothing
 abbrev pub EndsNamed : Option (Text × List Row) → Scene → Scene → ℕ → Type 0
 EndsNamed named old new status =
     (stated : ℕ) × (looked : Scene) × IsStated named old stated × KeepsAll old looked × EndsStated named stated looked new status
 
--- how refused words end: with no file changed, and with the status of a refused command line, unless they call for help
+-- how refused words end: as an error of one of the kinds that the grammar finds with them
 abbrev pub EndsRefused : List Text → Scene → Scene → ℕ → Type 0
 EndsRefused words old new status =
-    IsRefused words
-    × (new.files ≡ old.files)
-    × ((status ≡ usage) ⊎ ((kind : ErrorKind) × IsAmong kind (fault_of grammar words) × CallsForHelp kind))
+    IsRefused words × ((kind : ErrorKind) × IsAmong kind (fault_of grammar words) × EndsError kind old new status)
 
 -- how a command line ends: as its words are read; refused; or for want of memory
 abbrev pub EndsWords : List Text → Scene → Scene → ℕ → Type 0

@@ -1,13 +1,13 @@
 //! The program, over a host.
 
-ghost use Rattle.std.specs.Prelude.{◌≡◌, ◌≢◌, ◌⊎◌, Ok, map};
+ghost use Rattle.std.specs.Prelude.{◌≡◌, ◌≢◌, map};
 ghost use Rattle.clap.specs.Words.{HasKind, fault_of, kind_of, subcommand_rows_of};
 ghost use Rattle.lfs_grammar.specs.Grammar.{IsTaken, NamesCommand, grammar};
 ghost use Rattle.lfs_grammar.specs.Hyphens.{IsRead};
 ghost use Rattle.lfs_host.specs.Scene.{KeepsAll};
-ghost use Rattle.lfsed.specs.Words.{CallsForHelp, EndsNamed, EndsWords, IsStated, ended_with, usage};
+ghost use Rattle.lfsed.specs.Words.{EndsError, EndsExplained, EndsNamed, EndsPrinting, EndsWords, IsStated, ended_with};
 
-use crate::explanations::explained;
+use crate::explanations::{explained, explanations};
 use crate::tips::retold;
 use clap::error::ErrorKind;
 use clap::{ArgMatches, Error};
@@ -18,8 +18,9 @@ use lfs_host::Host;
 use lfs_serve::{served, stated_size};
 use lfs_step::Fault;
 use lfs_words::{Misuse, Wish, auto_image, wished};
-use std::alloc::Global;
+use std::alloc::{AllocError, Global};
 use std::convert::AsStr;
+use std::fmt::Write;
 
 /// The status of a command line that is refused.
 pub const USAGE: u8 = 2;
@@ -81,7 +82,7 @@ fn carried<H: Host>(alloc: Global, host: &mut H, matches: &ArgMatches<'_>) -> Re
 {
     let stated = stated_for(alloc, host, matches);
     match wished(matches, stated) {
-        Ok(Wish::Explanation { fault }) => explain(alloc, host, fault),
+        Ok(Wish::Explanation { faults }) => explain(alloc, host, faults),
         Ok(Wish::Request(request)) => Ok(served(alloc, host, &request)),
         Err(Misuse::Unsaid) => unreachable!(),
         Err(misuse) => {
@@ -102,26 +103,61 @@ fn stated_for<H: Host>(alloc: Global, host: &mut H, matches: &ArgMatches<'_>) ->
     }
 }
 
-/// Says what the fault of a number or a name means. What is neither is refused.
-fn explain<H: Host>(alloc: Global, host: &mut H, fault: &str) -> Result<u8, Fault>
-    ensures kept { (H.known host.new).files ≡ (H.known host.old).files }
+/// Says what faults mean, each by a page; lists all of them where none is said. Where one of the words is no fault, it is refused.
+fn explain<H: Host>(alloc: Global, host: &mut H, faults: Option<&[&str]>) -> Result<u8, Fault>
+    ensures ended { EndsExplained (H.known host.old) (H.known host.new) (ended_with result) }
 {
-    let Some(found) = explained(fault) else {
-        host.complain(format_args!(
-            "error: invalid value '{fault}' for '<FAULT>': no fault has this number or name{MORE}"
-        ));
-        return Ok(USAGE);
+    let Some(faults) = faults else {
+        return printed(host, list(alloc)?.as_str());
     };
-    let (number, name, text) = (found.number, found.name, found.text);
-    let page = format!(in alloc; "{number} {name}\n{text}\n")?;
-    print(host, page.as_str())?;
+    for fault in faults {
+        if explained(fault).is_none() {
+            host.complain(format_args!(
+                "error: invalid value '{fault}' for '[FAULT]...': no fault has this number or name{MORE}"
+            ));
+            return Ok(USAGE);
+        }
+    }
+    printed(host, pages(alloc, faults)?.as_str())
+}
+
+/// The pages of faults, with an empty line between them. One that is said twice in a row, as by its number and its name, has one page.
+fn pages(alloc: Global, faults: &[&str]) -> Result<String, AllocError> {
+    let mut pages = String::new(alloc);
+    let mut last = None;
+    for found in faults.iter().filter_map(|fault| explained(fault)) {
+        if last == Some(found.number) {
+            continue;
+        }
+        if last.is_some() {
+            pages.push_str("\n")?;
+        }
+        last = Some(found.number);
+        write!(pages, "{} {}\n{}\n", found.number, found.name, found.text)?;
+    }
+    Ok(pages)
+}
+
+/// All faults, a line each.
+fn list(alloc: Global) -> Result<String, AllocError> {
+    let mut list = String::new(alloc);
+    for known in explanations() {
+        write!(list, "{} {}: {}\n", known.number, known.name, known.gist())?;
+    }
+    Ok(list)
+}
+
+/// Prints a text, and answers the status of a run that went well.
+fn printed<H: Host>(host: &mut H, text: &str) -> Result<u8, Fault>
+    ensures ended { EndsPrinting (H.known host.old) (H.known host.new) (ended_with result) }
+{
+    print(host, text)?;
     Ok(0)
 }
 
 /// Tells what is wrong with the words, or the help that they ask for.
 fn refused<H: Host>(alloc: Global, host: &mut H, error: Error) -> Result<u8, Fault>
-    ensures kept { (H.known host.new).files ≡ (H.known host.old).files }
-    ensures status { (result ≡ Ok usage) ⊎ CallsForHelp (kind_of error) }
+    ensures ended { EndsError (kind_of error) (H.known host.old) (H.known host.new) (ended_with result) }
 {
     if error.use_stderr() {
         match retold(alloc, &error) {
@@ -130,7 +166,5 @@ fn refused<H: Host>(alloc: Global, host: &mut H, error: Error) -> Result<u8, Fau
         }
         return Ok(USAGE);
     }
-    let help = error.to_string(alloc)?;
-    print(host, help.as_str())?;
-    Ok(0)
+    printed(host, error.to_string(alloc)?.as_str())
 }

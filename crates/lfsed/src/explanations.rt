@@ -119,20 +119,24 @@ const EXPLANATIONS: [Explanation; 49] = [
         number: 17,
         name: "Orphan",
         text: "A directory can't be reached from the root: a device lost its power while it made or removed \
-         it. Mount the image once with littlefs itself, for writing, which mends it.",
+         it. What mends it is a mount for writing and a change by a littlefs that keeps disk version 2.0: one \
+         before 2.6, or one that is built with LFS_MULTIVERSION and has 0x00020000 as \
+         `lfs_config.disk_version`. Any other makes the image one of version 2.1, which isn't read (10).",
     },
     Explanation {
         number: 18,
         name: "UnfinishedMove",
-        text: "A device lost its power while it moved something. Mount the image once with littlefs itself, \
-         for writing, which ends the move.",
+        text: "A device lost its power while it moved something. What ends the move is a mount for writing and a \
+         change by a littlefs that keeps disk version 2.0: one before 2.6, or one that is built with \
+         LFS_MULTIVERSION and has 0x00020000 as `lfs_config.disk_version`. Any other makes the image one of \
+         version 2.1, which isn't read (10).",
     },
     Explanation {
         number: 19,
         name: "SuperblockElsewhere",
         text: "A superblock stands behind the first one: a device makes such a chain where its root is \
-         changed very often. The image need not be damaged, but a chain of superblocks isn't edited: \
-         put its files into a new image.",
+         changed very often and `lfs_config.block_cycles` isn't -1. The image need not be damaged, but a chain \
+         of superblocks isn't edited: read its files with littlefs, and `pack` them into a new image.",
     },
     Explanation {
         number: 20,
@@ -303,29 +307,64 @@ const EXPLANATIONS: [Explanation; 49] = [
     Explanation {
         number: 64,
         name: "BadHex",
-        text: "A kind isn't two hexadecimal digits, or a value isn't two for each byte.",
+        text: "A kind isn't two hexadecimal digits, or a value isn't two for each byte. The second line says which.",
     },
     Explanation {
         number: 65,
         name: "BadLine",
-        text: "A line of a script says no step, and the second line says which one. The steps are `mkdir PATH`, \
-         `put PATH FILE`, `rm PATH`, `mv FROM TO`, `setattr PATH KIND HEX`, `rmattr PATH KIND`, `grow COUNT`, `undo`, \
-         `redo` and `forget`, with one space between words. In a word `\\x` and two hexadecimal digits stand for a \
-         byte, and each byte but a backslash for itself. No step was taken.",
+        text: "A line of a script says no step. The second line says which one, at which of its bytes, from 1 on, \
+         and what is wrong there. The steps are `mkdir PATH`, `put PATH FILE`, `rm PATH`, `mv FROM TO`, \
+         `setattr PATH KIND HEX`, `rmattr PATH KIND`, `grow COUNT`, `undo`, `redo` and `forget`, with one space \
+         between words. In a word `\\x` and two hexadecimal digits stand for a byte, and each byte but a \
+         backslash for itself. No step was taken.",
     },
 ];
 
-/// The one of some explanations whose fault has a number, in decimal digits, or a name.
+/// The one of some explanations whose fault has a number, in decimal digits, or a name in any case.
 fn found(explanations: &'static [Explanation], fault: &str) -> Option<&'static Explanation> {
     match fault.parse::<u8>() {
         Ok(number) => explanations.iter().find(|known| known.number == number),
-        Err(_) => explanations.iter().find(|known| known.name == fault),
+        Err(_) => explanations
+            .iter()
+            .find(|known| known.name.eq_ignore_ascii_case(fault)),
     }
 }
 
-/// What the fault of a number, in decimal digits, or of a name means; nothing where no fault has it. Takes no memory.
+/// What a fault means that is said by its number, in decimal digits, by its name in any case, or by both with a space between, as it is
+/// told; nothing where no fault is said so. Takes no memory.
 ///
 /// Source: own.
 pub fn explained(fault: &str) -> Option<&'static Explanation> {
-    found(&EXPLANATIONS, fault)
+    let Some((number, name)) = fault.split_once(" ") else {
+        return found(&EXPLANATIONS, fault);
+    };
+    let known = found(&EXPLANATIONS, number)?;
+    if known.name.eq_ignore_ascii_case(name) {
+        Some(known)
+    } else {
+        None
+    }
+}
+
+/// All faults, in the order of their numbers.
+///
+/// Source: own.
+pub fn explanations() -> &'static [Explanation] {
+    &EXPLANATIONS
+}
+
+/// What stands in a text before a mark; all of it where the mark isn't there.
+fn before<'a>(text: &'a str, mark: &str) -> &'a str {
+    match text.split_once(mark) {
+        Some((front, _)) => front,
+        None => text,
+    }
+}
+
+impl Explanation {
+    /// The first thing that is said of the fault, without a stop behind it.
+    pub fn gist(self) -> &'static str {
+        let first = before(before(before(self.text, ". "), "; "), ": ");
+        first.strip_suffix(".").unwrap_or(first)
+    }
 }

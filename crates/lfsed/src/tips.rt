@@ -10,8 +10,8 @@ const UNEXPECTED: &str = "error: unexpected argument '";
 const CONTENTS: &str =
     "  tip: the contents are read from standard input, or from a file with '--from FILE'\n\n";
 
-/// The text of an error, without tips that name another command or option. Where a word stands behind the path of `put`, it says
-/// where contents come from. Takes memory.
+/// The text of an error, without tips that lead to another command's option or put `--` before a word: no option is the path of
+/// anything. Where a word stands behind the path of `put`, it says where contents come from. Takes memory.
 ///
 /// Source: own.
 pub fn retold(alloc: Global, error: &Error) -> Result<String, AllocError> {
@@ -34,11 +34,9 @@ pub fn retold(alloc: Global, error: &Error) -> Result<String, AllocError> {
     Ok(told)
 }
 
-/// Whether a line is a tip that names another command or option.
+/// Whether a line is a tip that leads to another command's option, or puts `--` before a word.
 fn is_misleading(line: &str) -> bool {
-    line.starts_with("  tip: a similar")
-        || line.starts_with("  tip: some similar")
-        || line.starts_with("  tip: '")
+    line.starts_with("  tip: '") || line.starts_with("  tip: to pass '")
 }
 
 /// Whether an error says that a word stands behind the path of `put` that begins with no hyphen.
