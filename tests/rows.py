@@ -415,7 +415,7 @@ USAGE = [
     ("check --block 70000000000 a.img", "error: invalid value '70000000000' for '--block <BYTES>': 70000000000 is not in 256..=65536\n"),
     ("check --block Auto a.img", "error: invalid value 'Auto' for '--block <BYTES>': invalid digit found in string\n"),
     ("check --new a.img", "error: unexpected argument '--new' found\n"),
-    ("check --stric a.img", "error: unexpected argument '--stric' found\n\n  tip: a similar argument exists: '--strict'\n\nUsage: lfsed check "),
+    ("check --olde a.img", "error: unexpected argument '--olde' found\n\n  tip: a similar argument exists: '--older'\n\nUsage: lfsed check "),
     ("put a.img /x notes", f"error: unexpected argument 'notes' found\n\n{CONTENTS_TIP}\n\nUsage: lfsed put [OPTIONS] <IMAGE> <PATH>{MORE}"),
     ("put a.img /x --from", "error: a value is required for '--from <FILE>' but none was supplied\n"),
     ("put a.img /x --from -x", "error: unexpected argument '-x' found\n"),
