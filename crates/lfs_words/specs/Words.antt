@@ -14,6 +14,7 @@ use Rattle.lfs_request.specs.declared.extent.Extent.{Extent}
 use Rattle.lfs_request.specs.declared.extent.Extent.TheVariants.{Count, Least}
 use Rattle.lfs_request.specs.declared.request.Request.{Request}
 use Rattle.lfs_sizes.specs.Sizes.{IsSizeFault, SaysBlock, SaysBlocks, SaysNoBlock}
+use Rattle.lfs_words.specs.declared.auto_sizes.AutoSizes.{AutoSizes}
 use Rattle.lfs_words.specs.declared.misuse.Misuse.{Misuse}
 use Rattle.lfs_words.specs.declared.misuse.Misuse.TheVariants.{Block, NoCount, TwoCounts, Size}
 use Rattle.lfs_words.specs.declared.wish.Wish.{Wish}
@@ -72,60 +73,61 @@ SaysLimits rows limits =
     × HasNumber rows (codes "file-max") limits.file
     × HasNumber rows (codes "attr-max") limits.attribute
 
--- the step that a command and its options say on an image of this block size
-abbrev pub IsStep : Step → Text → List Row → ℕ → Type 0
-IsStep (Format count limits) name rows block = (name ≡ codes "format") × SaysCount rows block count × SaysLimits rows limits
-IsStep Check name rows block = name ≡ codes "check"
-IsStep Ls name rows block = name ≡ codes "ls"
-IsStep (Diff other) name rows block = (name ≡ codes "diff") × HasText rows (codes "other") other.now
-IsStep Log name rows block = name ≡ codes "log"
-IsStep (Undo steps) name rows block = (name ≡ codes "undo") × HasNumber rows (codes "steps") steps
-IsStep (Redo steps) name rows block = (name ≡ codes "redo") × HasNumber rows (codes "steps") steps
-IsStep Forget name rows block = name ≡ codes "forget"
-IsStep (Cat path) name rows block = (name ≡ codes "cat") × HasText rows (codes "path") path.now
-IsStep (Mkdir path) name rows block = (name ≡ codes "mkdir") × HasText rows (codes "path") path.now
-IsStep (Put path from) name rows block =
+-- the step that a command and its options say on an image of this block size, where another image has blocks of the second one
+abbrev pub IsStep : Step → Text → List Row → ℕ → ℕ → Type 0
+IsStep (Format count limits) name rows block other = (name ≡ codes "format") × SaysCount rows block count × SaysLimits rows limits
+IsStep Check name rows block other = name ≡ codes "check"
+IsStep Ls name rows block other = name ≡ codes "ls"
+IsStep (Diff name_of_other size) name rows block other =
+    (name ≡ codes "diff") × HasText rows (codes "other") name_of_other.now × (size ≡ other)
+IsStep Log name rows block other = name ≡ codes "log"
+IsStep (Undo steps) name rows block other = (name ≡ codes "undo") × HasNumber rows (codes "steps") steps
+IsStep (Redo steps) name rows block other = (name ≡ codes "redo") × HasNumber rows (codes "steps") steps
+IsStep Forget name rows block other = name ≡ codes "forget"
+IsStep (Cat path) name rows block other = (name ≡ codes "cat") × HasText rows (codes "path") path.now
+IsStep (Mkdir path) name rows block other = (name ≡ codes "mkdir") × HasText rows (codes "path") path.now
+IsStep (Put path from) name rows block other =
     (name ≡ codes "put")
     × HasText rows (codes "path") path.now
     × (option_map (λ file. file.now) from ≡ first_of (codes "contents") rows)
-IsStep (Rm path) name rows block = (name ≡ codes "rm") × HasText rows (codes "path") path.now
-IsStep (Mv from to) name rows block =
+IsStep (Rm path) name rows block other = (name ≡ codes "rm") × HasText rows (codes "path") path.now
+IsStep (Mv from to) name rows block other =
     (name ≡ codes "mv") × HasText rows (codes "from") from.now × HasText rows (codes "to") to.now
-IsStep (Grow count) name rows block = (name ≡ codes "grow") × SaysCount rows block count
-IsStep _ name rows block = ⊥
+IsStep (Grow count) name rows block other = (name ≡ codes "grow") × SaysCount rows block count
+IsStep _ name rows block other = ⊥
 
--- the task that a command and its options ask for on an image of this block size
-abbrev pub IsTask : Task → Text → List Row → ℕ → Type 0
-IsTask (task.Step step) name rows block = IsStep step name rows block
-IsTask (Pack extent limits dir) name rows block =
+-- the task that a command and its options ask for on an image of this block size, where another image has blocks of the second one
+abbrev pub IsTask : Task → Text → List Row → ℕ → ℕ → Type 0
+IsTask (task.Step step) name rows block other = IsStep step name rows block other
+IsTask (Pack extent limits dir) name rows block other =
     (name ≡ codes "pack") × SaysExtent rows block extent × SaysLimits rows limits × HasText rows (codes "dir") dir.now
-IsTask (Extract dir) name rows block = (name ≡ codes "extract") × HasText rows (codes "dir") dir.now
-IsTask (SetAttr path kind value) name rows block =
+IsTask (Extract dir) name rows block other = (name ≡ codes "extract") × HasText rows (codes "dir") dir.now
+IsTask (SetAttr path kind value) name rows block other =
     (name ≡ codes "setattr")
     × HasText rows (codes "path") path.now
     × HasText rows (codes "kind") kind.now
     × HasText rows (codes "hex") value.now
-IsTask (RmAttr path kind) name rows block =
+IsTask (RmAttr path kind) name rows block other =
     (name ≡ codes "rmattr") × HasText rows (codes "path") path.now × HasText rows (codes "kind") kind.now
-IsTask (Batch file) name rows block = (name ≡ codes "batch") × (option_map (λ f. f.now) file ≡ first_of (codes "script") rows)
+IsTask (Batch file) name rows block other = (name ≡ codes "batch") × (option_map (λ f. f.now) file ≡ first_of (codes "script") rows)
 
 -- how many images of the past are kept: as many as a command says that changes an image, or all where it says no number
 abbrev pub IsKept : Option ℕ → Text → List Row → Type 0
 IsKept (Some number) name rows = (is_change name ≡ true) × HasNumber rows (codes "keep") number
 IsKept None name rows = is_change name ≡ true → IsSaid keep rows → ⊥
 
--- the request that a command and its options ask for, where `auto` stands for this block size
-abbrev pub IsRequest : Request → Text → List Row → ℕ → Type 0
+-- the request that a command and its options ask for, where `auto` stands for these block sizes
+abbrev pub IsRequest : Request → Text → List Row → AutoSizes → Type 0
 IsRequest request name rows stated =
-    IsTask request.task name rows request.size
-    × HasBlock rows stated request.size
+    ((other : ℕ) × HasBlock rows stated.other other × IsTask request.task name rows request.size other)
+    × HasBlock rows stated.image request.size
     × HasText rows (codes "image") request.image.now
     × IsKept request.keep name rows
     × (request.is_new ≡ is_flagged (codes "new") rows)
     × (request.takes_older ≡ is_flagged (codes "older") rows)
 
 -- what a command and its options ask for
-abbrev pub IsWish : Wish → Text → List Row → ℕ → Type 0
+abbrev pub IsWish : Wish → Text → List Row → AutoSizes → Type 0
 IsWish (wish.Explanation faults) name rows stated = (name ≡ codes "explain") × HasTexts rows (codes "fault") faults
 IsWish (wish.Request request) name rows stated = IsRequest request name rows stated
 
@@ -140,15 +142,15 @@ abbrev pub is_question : Text → Bool
 is_question name =
     list_any (λ other. bytes_eq other name) (codes "check" ∷ codes "ls" ∷ codes "cat" ∷ codes "diff" ∷ codes "log" ∷ [])
 
--- what is asked for, by the command that is named with its options, where `auto` stands for this block size
-abbrev pub AsksFor : Option (Text × List Row) → ℕ → Wish → Type 0
+-- what is asked for, by the command that is named with its options, where `auto` stands for these block sizes
+abbrev pub AsksFor : Option (Text × List Row) → AutoSizes → Wish → Type 0
 AsksFor named stated wish = (name : Text) × (rows : List Row) × (named ≡ Some (name, rows)) × IsWish wish name rows stated
 
--- `auto` is said for the block size of the image in this file
-abbrev pub SaysAuto : Option (Text × List Row) → Text → Type 0
-SaysAuto named image =
+-- `auto` is said for the block size, and this file is named by an argument
+abbrev pub SaysAuto : Text → Option (Text × List Row) → Text → Type 0
+SaysAuto id named file =
     (name : Text) × (rows : List Row) × (named ≡ Some (name, rows))
-    × HasText rows (codes "block") (codes "auto") × HasText rows (codes "image") image
+    × HasText rows (codes "block") (codes "auto") × HasText rows id file
 
 -- why there is no block size: the text is no size
 abbrev pub IsBlockMisuse : Misuse → List Row → ℕ → Type 0
@@ -180,14 +182,15 @@ IsSizeMisuse misuse name rows block =
     (((name ≡ codes "format") ⊎ (name ≡ codes "grow")) × IsCountMisuse misuse rows block)
     ⊎ ((name ≡ codes "pack") × IsExtentMisuse misuse rows block)
 
--- why a command and its options say no request: no block size, or no number of blocks
-abbrev pub IsMisuse : Misuse → Text → List Row → ℕ → Type 0
+-- why a command and its options say no request: no block size, of the one image or of the other, or no number of blocks
+abbrev pub IsMisuse : Misuse → Text → List Row → AutoSizes → Type 0
 IsMisuse misuse name rows stated =
-    IsBlockMisuse misuse rows stated
-    ⊎ ((block : ℕ) × HasBlock rows stated block × IsSizeMisuse misuse name rows block)
+    IsBlockMisuse misuse rows stated.image
+    ⊎ IsBlockMisuse misuse rows stated.other
+    ⊎ ((block : ℕ) × HasBlock rows stated.image block × IsSizeMisuse misuse name rows block)
 
 -- the same of the command that is named with its options
-abbrev pub IsMissaid : Option (Text × List Row) → ℕ → Misuse → Type 0
+abbrev pub IsMissaid : Option (Text × List Row) → AutoSizes → Misuse → Type 0
 IsMissaid named stated misuse = (name : Text) × (rows : List Row) × (named ≡ Some (name, rows)) × IsMisuse misuse name rows stated
 
 -- what a request keeps may be kept, and the limits of an image that it makes are such that an image may have

@@ -10,6 +10,7 @@ ghost use Rattle.lfs_words.specs.Words.{AsksFor, IsInRange, IsKept, IsMissaid, I
 ghost use Rattle.lfs_words.specs.Words.{SaysAuto, StaysInRange, is_other, is_question};
 ghost use Rattle.lfs_words.specs.declared.misuse.Misuse.TheVariants.{Unsaid};
 
+use crate::auto_sizes::AutoSizes;
 use crate::counting::{block_of, count_of, extent_of, limits_of};
 use crate::misuse::{FORMAT, GROW, Misuse};
 use crate::options::{bytes, number, number_if_said, said, text};
@@ -18,9 +19,13 @@ use clap::ArgMatches;
 use lfs_request::{Request, Task};
 use lfs_step::Step;
 
-/// The question that a command's words say.
-fn question_of<'a>(name: &str, options: &ArgMatches<'a>) -> Result<Step<'a>, Misuse<'a>>
-    ensures some { IfOk result (λ step. (block : _) → IsStep step name.now (rows_of (found_of options.now)) block) }
+/// The question that a command's words say, where another image has blocks of this size.
+fn question_of<'a>(
+    name: &str,
+    options: &ArgMatches<'a>,
+    other: u32,
+) -> Result<Step<'a>, Misuse<'a>>
+    ensures some { IfOk result (λ step. (block : _) → IsStep step name.now (rows_of (found_of options.now)) block other) }
     ensures within { IfOk result (λ step. IsStepInRange step) }
     ensures refused { IfErr result (λ misuse. misuse ≡ Unsaid) }
     ensures unsaid { IfErr result (λ misuse. NamesCommand (Some (name.now, rows_of (found_of options.now))) → is_question name.now ≡ false) }
@@ -33,16 +38,22 @@ fn question_of<'a>(name: &str, options: &ArgMatches<'a>) -> Result<Step<'a>, Mis
         }),
         "diff" => Ok(Step::Diff {
             other: text(options, "other")?,
+            size: other,
         }),
         "log" => Ok(Step::Log),
         _ => Err(Misuse::Unsaid),
     }
 }
 
-/// The step that a command's words say, on an image of this block size.
-fn step_of<'a>(name: &str, options: &ArgMatches<'a>, block: u32) -> Result<Step<'a>, Misuse<'a>>
+/// The step that a command's words say, on an image of this block size; another image has blocks of the second one.
+fn step_of<'a>(
+    name: &str,
+    options: &ArgMatches<'a>,
+    block: u32,
+    other: u32,
+) -> Result<Step<'a>, Misuse<'a>>
     requires { 0 < block }
-    ensures some { IfOk result (λ step. IsStep step name.now (rows_of (found_of options.now)) block) }
+    ensures some { IfOk result (λ step. IsStep step name.now (rows_of (found_of options.now)) block other) }
     ensures within { IfOk result (λ step. NamesCommand (Some (name.now, rows_of (found_of options.now))) → IsStepInRange step) }
     ensures refused { IfErr result (λ misuse. (misuse ≡ Unsaid) ⊎ IsSizeMisuse misuse name.now (rows_of (found_of options.now)) block) }
     ensures unsaid { IfErr result (λ misuse. misuse ≡ Unsaid → NamesCommand (Some (name.now, rows_of (found_of options.now)))
@@ -77,14 +88,19 @@ fn step_of<'a>(name: &str, options: &ArgMatches<'a>, block: u32) -> Result<Step<
             steps: number(options, "steps")?,
         }),
         "forget" => Ok(Step::Forget),
-        _ => question_of(name, options),
+        _ => question_of(name, options, other),
     }
 }
 
-/// What a command's words ask to be done, on an image of this block size.
-fn task_of<'a>(name: &str, options: &ArgMatches<'a>, block: u32) -> Result<Task<'a>, Misuse<'a>>
+/// What a command's words ask to be done, on an image of this block size; another image has blocks of the second one.
+fn task_of<'a>(
+    name: &str,
+    options: &ArgMatches<'a>,
+    block: u32,
+    other: u32,
+) -> Result<Task<'a>, Misuse<'a>>
     requires { 0 < block }
-    ensures some { IfOk result (λ task. IsTask task name.now (rows_of (found_of options.now)) block) }
+    ensures some { IfOk result (λ task. IsTask task name.now (rows_of (found_of options.now)) block other) }
     ensures within { IfOk result (λ task. NamesCommand (Some (name.now, rows_of (found_of options.now))) → IsTaskInRange task) }
     ensures refused { IfErr result (λ misuse. (misuse ≡ Unsaid) ⊎ IsSizeMisuse misuse name.now (rows_of (found_of options.now)) block) }
     ensures unsaid { IfErr result (λ misuse. misuse ≡ Unsaid → NamesCommand (Some (name.now, rows_of (found_of options.now)))
@@ -111,7 +127,7 @@ fn task_of<'a>(name: &str, options: &ArgMatches<'a>, block: u32) -> Result<Task<
         "batch" => Ok(Task::Batch {
             file: options.get_str("script"),
         }),
-        _ => Ok(Task::Step(step_of(name, options, block)?)),
+        _ => Ok(Task::Step(step_of(name, options, block, other)?)),
     }
 }
 
@@ -141,11 +157,11 @@ fn keep_of(name: &str, options: &ArgMatches<'_>) -> Option<u32>
     }
 }
 
-/// The request that a command's words say, where `auto` stands for this block size.
+/// The request that a command's words say, where `auto` stands for these block sizes.
 fn request_of<'a>(
     name: &str,
     options: &ArgMatches<'a>,
-    stated: u32,
+    stated: AutoSizes,
 ) -> Result<Request<'a>, Misuse<'a>>
     ensures some { IfOk result (λ request. IsRequest request name.now (rows_of (found_of options.now)) stated) }
     ensures within { IfOk result (λ request. NamesCommand (Some (name.now, rows_of (found_of options.now))) → IsInRange request) }
@@ -153,9 +169,10 @@ fn request_of<'a>(
     ensures unsaid { IfErr result (λ misuse. misuse ≡ Unsaid → NamesCommand (Some (name.now, rows_of (found_of options.now)))
         → name.now ≡ codes "explain") }
 {
-    let size = block_of(options, stated)?;
+    let size = block_of(options, stated.image)?;
+    let other = block_of(options, stated.other)?;
     Ok(Request {
-        task: task_of(name, options, size)?,
+        task: task_of(name, options, size, other)?,
         size,
         keep: keep_of(name, options),
         is_new: said(options, "new"),
@@ -164,12 +181,15 @@ fn request_of<'a>(
     })
 }
 
-/// What the words that were matched ask for, where `auto` stands for a block of so many bytes; what is kept is 1 to 1,000 images,
+/// What the words that were matched ask for, where `auto` stands for blocks of so many bytes; what is kept is 1 to 1,000 images,
 /// and the limits of a new image are such that images may state, where they name a command with all that it takes. Else why they ask
 /// for nothing: `Unsaid` only where they name no such command. Takes no memory.
 ///
 /// Source: own.
-pub fn wished<'m, 'a>(matches: &'m ArgMatches<'a>, stated: u32) -> Result<Wish<'m, 'a>, Misuse<'a>>
+pub fn wished<'m, 'a>(
+    matches: &'m ArgMatches<'a>,
+    stated: AutoSizes,
+) -> Result<Wish<'m, 'a>, Misuse<'a>>
     ensures some { IfOk result (λ wish. AsksFor (subcommand_rows_of matches.now) stated wish) }
     ensures within { IfOk result (λ wish. NamesCommand (subcommand_rows_of matches.now) → StaysInRange wish) }
     ensures refused { IfErr result (λ misuse. (misuse ≡ Unsaid) ⊎ IsMissaid (subcommand_rows_of matches.now) stated misuse) }
@@ -186,16 +206,34 @@ pub fn wished<'m, 'a>(matches: &'m ArgMatches<'a>, stated: u32) -> Result<Wish<'
     Ok(Wish::Request(request_of(name, options, stated)?))
 }
 
-/// The file of the image whose first block states the block size, where the words that were matched say `auto` for it. Takes no memory.
+/// The file of the image that states its block size, where the words that were matched say `auto` for it. Takes no memory.
 ///
 /// Source: own.
 pub fn auto_image<'a>(matches: &ArgMatches<'a>) -> Option<&'a str>
-    ensures some { IfSome result (λ image. SaysAuto (subcommand_rows_of matches.now) image.now) }
-    ensures none { IsNone result → (image : Text) → SaysAuto (subcommand_rows_of matches.now) image → ⊥ }
+    ensures some { IfSome result (λ image. SaysAuto (codes "image") (subcommand_rows_of matches.now) image.now) }
+    ensures none { IsNone result → (image : Text) → SaysAuto (codes "image") (subcommand_rows_of matches.now) image → ⊥ }
+{
+    auto_file(matches, "image")
+}
+
+/// The file of the image that it is compared with, where the words say `auto` for the block size. Takes no memory.
+///
+/// Source: own.
+pub fn auto_other<'a>(matches: &ArgMatches<'a>) -> Option<&'a str>
+    ensures some { IfSome result (λ other. SaysAuto (codes "other") (subcommand_rows_of matches.now) other.now) }
+    ensures none { IsNone result → (other : Text) → SaysAuto (codes "other") (subcommand_rows_of matches.now) other → ⊥ }
+{
+    auto_file(matches, "other")
+}
+
+/// The file that is named by an argument, where the words say `auto` for the block size.
+fn auto_file<'a>(matches: &ArgMatches<'a>, id: &str) -> Option<&'a str>
+    ensures some { IfSome result (λ file. SaysAuto id.now (subcommand_rows_of matches.now) file.now) }
+    ensures none { IsNone result → (file : Text) → SaysAuto id.now (subcommand_rows_of matches.now) file → ⊥ }
 {
     let (_, options) = matches.subcommand()?;
     if options.get_str("block")? == "auto" {
-        options.get_str("image")
+        options.get_str(id)
     } else {
         None
     }

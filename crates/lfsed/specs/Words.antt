@@ -10,6 +10,7 @@ use Rattle.lfs_change.specs.declared.fault.Fault.{Fault}
 use Rattle.lfs_change.specs.declared.fault.Fault.TheVariants.{CannotWrite, Refused}
 use Rattle.lfs_change.specs.Fault.{status_of}
 use Rattle.lfs_request.specs.declared.request.Request.{Request}
+use Rattle.lfs_words.specs.declared.auto_sizes.AutoSizes.{AutoSizes}
 use Rattle.lfs_words.specs.declared.wish.Wish.TheVariants as wish
 use Rattle.lfs_grammar.specs.Grammar.{grammar}
 use Rattle.lfs_grammar.specs.Hyphens.{IsRead}
@@ -63,25 +64,32 @@ abbrev pub EndsError : ErrorKind → Scene → Scene → ℕ → Type 0
 EndsError kind old new status =
     EndsMisused old new status ⊎ (CallsForHelp kind × EndsPrinting old new status) ⊎ EndsForMemory old new status
 
--- a block size stands for `auto`: what the first block of the image's file states, or any where the words don't say so
-abbrev pub IsStated : Option (Text × List Row) → Scene → ℕ → Type 0
-IsStated named old stated =
-    ((image : Text) × SaysAuto named image × IsStatedSize old.files image stated)
-    ⊎ ((image : Text) → ¬ SaysAuto named image)
+-- a look at the image's file that an argument names, which changes nothing: its block size stands for `auto`, or any where the words don't
+-- say so, or name no such file
+abbrev pub Looks : Text → Option (Text × List Row) → Scene → Scene → ℕ → Type 0
+Looks id named old new size =
+    KeepsAll old new
+    × (((file : Text) × SaysAuto id named file × IsStatedSize old new file size) ⊎ ((file : Text) → ¬ SaysAuto id named file))
+
+-- block sizes stand for `auto`: those of the image, and of the one that it is compared with
+abbrev pub AreStated : Option (Text × List Row) → Scene → Scene → AutoSizes → Type 0
+AreStated named old new stated =
+    (looked : Scene) × Looks (codes "image") named old looked stated.image × Looks (codes "other") named looked new stated.other
 
 -- how a command that is named with its options ends, once that is known: as the request that it asks for; by saying what the faults
 -- mean that it asks for; or, where it says no request, refused. No file is changed but by a request, and nothing is printed of words
 -- that are refused
-abbrev pub EndsStated : Option (Text × List Row) → ℕ → Scene → Scene → ℕ → Type 0
+abbrev pub EndsStated : Option (Text × List Row) → AutoSizes → Scene → Scene → ℕ → Type 0
 EndsStated named stated old new status =
     ((request : Request) × AsksFor named stated (wish.Request request) × EndsRequest request old new status)
     ⊎ ((faults : Option (Bor (List (Bor Text)))) × AsksFor named stated (wish.Explanation faults) × EndsExplained old new status)
     ⊎ ((misuse : Misuse) × IsMissaid named stated misuse × EndsMisused old new status)
 
--- how it ends: so, behind a look at the image's file, which changes nothing
+-- how it ends: so, behind a look at the files of the images, or for want of memory
 abbrev pub EndsNamed : Option (Text × List Row) → Scene → Scene → ℕ → Type 0
 EndsNamed named old new status =
-    (stated : ℕ) × (looked : Scene) × IsStated named old stated × KeepsAll old looked × EndsStated named stated looked new status
+    ((stated : AutoSizes) × (looked : Scene) × AreStated named old looked stated × EndsStated named stated looked new status)
+    ⊎ EndsForMemory old new status
 
 -- how refused words end: as an error of one of the kinds that the grammar finds with them
 abbrev pub EndsRefused : List Text → Scene → Scene → ℕ → Type 0

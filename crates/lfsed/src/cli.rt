@@ -1,11 +1,12 @@
 //! The program, over a host.
 
-ghost use Rattle.std.specs.Prelude.{◌≡◌, ◌≢◌, map};
+ghost use Rattle.std.specs.Prelude.{◌≡◌, ◌≢◌, IfOk, IfSome, map};
 ghost use Rattle.clap.specs.Words.{HasKind, fault_of, kind_of, subcommand_rows_of};
 ghost use Rattle.lfs_grammar.specs.Grammar.{IsTaken, NamesCommand, grammar};
 ghost use Rattle.lfs_grammar.specs.Hyphens.{IsRead};
 ghost use Rattle.lfs_host.specs.Scene.{KeepsAll};
-ghost use Rattle.lfsed.specs.Words.{EndsError, EndsExplained, EndsNamed, EndsPrinting, EndsWords, IsStated, ended_with};
+ghost use Rattle.lfs_serve.specs.Stated.{IsStatedSize};
+ghost use Rattle.lfsed.specs.Words.{EndsError, EndsExplained, EndsNamed, EndsPrinting, EndsWords, AreStated, ended_with};
 
 use crate::explanations::{explained, explanations};
 use crate::tips::retold;
@@ -17,7 +18,7 @@ use lfs_grammar::{dashed, matched, names_files_plainly};
 use lfs_host::Host;
 use lfs_serve::{served, stated_size};
 use lfs_step::Fault;
-use lfs_words::{Misuse, Wish, auto_image, wished};
+use lfs_words::{AutoSizes, Misuse, Wish, auto_image, auto_other, wished};
 use std::alloc::{AllocError, Global};
 use std::convert::AsStr;
 use std::fmt::Write;
@@ -80,7 +81,7 @@ fn carried<H: Host>(alloc: Global, host: &mut H, matches: &ArgMatches<'_>) -> Re
     requires { NamesCommand (subcommand_rows_of matches.now) }
     ensures ended { EndsNamed (subcommand_rows_of matches.now) (H.known host.old) (H.known host.new) (ended_with result) }
 {
-    let stated = stated_for(alloc, host, matches);
+    let stated = stated_for(alloc, host, matches)?;
     match wished(matches, stated) {
         Ok(Wish::Explanation { faults }) => explain(alloc, host, faults),
         Ok(Wish::Request(request)) => Ok(served(alloc, host, &request)),
@@ -92,14 +93,33 @@ fn carried<H: Host>(alloc: Global, host: &mut H, matches: &ArgMatches<'_>) -> Re
     }
 }
 
-/// What the first block of the image states as its block size, where the words say `auto` for it.
-fn stated_for<H: Host>(alloc: Global, host: &mut H, matches: &ArgMatches<'_>) -> u32
-    ensures stated { IsStated (subcommand_rows_of matches.now) (H.known host.old) result }
+/// What the image states as its block size, and the one that it is compared with, where the words say `auto` for it.
+fn stated_for<H: Host>(
+    alloc: Global,
+    host: &mut H,
+    matches: &ArgMatches<'_>,
+) -> Result<AutoSizes, AllocError>
+    ensures stated { IfOk result (AreStated (subcommand_rows_of matches.now) (H.known host.old) (H.known host.new)) }
     ensures kept { KeepsAll (H.known host.old) (H.known host.new) }
 {
-    match auto_image(matches) {
-        Some(image) => stated_size(alloc, host, image),
-        None => 0,
+    let image = size_in(alloc, host, auto_image(matches), 0)?;
+    let other = size_in(alloc, host, auto_other(matches), image)?;
+    Ok(AutoSizes { image, other })
+}
+
+/// What the image in a file states as its block size; this one where there is no file.
+fn size_in<H: Host>(
+    alloc: Global,
+    host: &mut H,
+    file: Option<&str>,
+    size: u32,
+) -> Result<u32, AllocError>
+    ensures stated { IfOk result (λ stated. IfSome file.entry (λ name. IsStatedSize (H.known host.old) (H.known host.new) name.now stated)) }
+    ensures kept { KeepsAll (H.known host.old) (H.known host.new) }
+{
+    match file {
+        Some(name) => stated_size(alloc, host, name),
+        None => Ok(size),
     }
 }
 

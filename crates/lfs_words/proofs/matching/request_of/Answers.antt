@@ -24,6 +24,25 @@ returns-in_err-size-clause-unsaid c =
       | inr says ↦ absurd (c.in_err-size.ensures.unsaid is says.0.0 says.0.1 says.0.2)
     ])
 
+pub returns-in_err-other-clause-refused : goal.returns-in_err-other-clause-refused
+returns-in_err-other-clause-refused c =
+    let on = c.from_residual-in_err-other in
+    handed_on on.result c.in_err-other.field-0.0 _ on.ensures.1
+    (elim c.in_err-other.ensures.refused [
+      | inl unsaid ↦ inl unsaid
+      | inr misuse ↦ inr (inr (inl misuse))
+    ])
+
+pub returns-in_err-other-clause-unsaid : goal.returns-in_err-other-clause-unsaid
+returns-in_err-other-clause-unsaid c =
+    let on = c.from_residual-in_err-other in
+    handed_on on.result c.in_err-other.field-0.0 _ on.ensures.1
+    (λ is names.
+    elim (image_said c.args.name.now (rows_of (found_of c.args.options.now)) names) [
+      | inl explains ↦ explains
+      | inr says ↦ absurd (c.in_err-other.ensures.unsaid is says.0.0 says.0.1 says.0.2)
+    ])
+
 pub returns-in_err-text-clause-unsaid : goal.returns-in_err-text-clause-unsaid
 returns-in_err-text-clause-unsaid c =
     let on = c.from_residual-in_err-text in

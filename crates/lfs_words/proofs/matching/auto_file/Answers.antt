@@ -8,7 +8,7 @@ use Rattle.lfs_grammar.proofs.WordLemmas.{names_command}
 use Rattle.lfs_words.proofs.AutoLemmas.{auto_rows}
 use Rattle.lfs_words.proofs.Handed.{none_there, some_weaker}
 use Rattle.lfs_words.proofs.OptionLemmas.{text_read}
-use Rattle.lfs_words.proofs.matching.auto_image.Goals as goal
+use Rattle.lfs_words.proofs.matching.auto_file.Goals as goal
 
 pub returns-in_err-get_str-clause-none : goal.returns-in_err-get_str-clause-none
 returns-in_err-get_str-clause-none c = λ none image says.
@@ -20,7 +20,7 @@ returns-in_err-get_str-clause-none c = λ none image says.
     let has : option_map (λ p. p.1) (subcommand_rows_of m) ≡ Some rows = search rules in
     let is = names_command m called rows name has in
     let gone : None ≡ first_of (codes "block") rows = c.in_err-get_str.ensures ∙ first_value-rows options (codes "block") in
-    none-some (codes "auto") (gone ∙ (auto_rows (subcommand_rows_of m) called rows image is says).0)
+    none-some (codes "auto") (gone ∙ (auto_rows c.args.id.now (subcommand_rows_of m) called rows image is says).0)
 
 pub returns-then-eq-clause-some : goal.returns-then-eq-clause-some
 returns-then-eq-clause-some c =
@@ -35,7 +35,7 @@ returns-then-eq-clause-some c =
     let block : first_of (codes "block") rows ≡ Some (codes "auto") =
     sym (c.in_ok-get_str.ensures ∙ first_value-rows options (codes "block")) ∙ ap (λ (t : Text). Some t) auto in
     some_weaker c.get_str-then-eq.result _ _ (λ image text. (called, rows, is, block, text))
-    (text_read options (codes "image") c.get_str-then-eq.result c.get_str-then-eq.ensures)
+    (text_read options c.args.id.now c.get_str-then-eq.result c.get_str-then-eq.ensures)
 
 pub returns-then-eq-clause-none : goal.returns-then-eq-clause-none
 returns-then-eq-clause-none c = λ none image says.
@@ -46,9 +46,9 @@ returns-then-eq-clause-none c = λ none image says.
     let name : subcommand_name_of m ≡ Some called = search rules in
     let has : option_map (λ p. p.1) (subcommand_rows_of m) ≡ Some rows = search rules in
     let is = names_command m called rows name has in
-    let gone : None ≡ first_of (codes "image") rows =
-    none_there options (codes "image") c.get_str-then-eq.result c.get_str-then-eq.ensures none in
-    none-some image (gone ∙ (auto_rows (subcommand_rows_of m) called rows image is says).1)
+    let gone : None ≡ first_of c.args.id.now rows =
+    none_there options c.args.id.now c.get_str-then-eq.result c.get_str-then-eq.ensures none in
+    none-some image (gone ∙ (auto_rows c.args.id.now (subcommand_rows_of m) called rows image is says).1)
 
 pub returns-else-eq-clause-none : goal.returns-else-eq-clause-none
 returns-else-eq-clause-none c = λ none image says.
@@ -60,7 +60,7 @@ returns-else-eq-clause-none c = λ none image says.
     let has : option_map (λ p. p.1) (subcommand_rows_of m) ≡ Some rows = search rules in
     let is = names_command m called rows name has in
     let block : Some c.in_ok-get_str.field-0.now ≡ Some (codes "auto") =
-    c.in_ok-get_str.ensures ∙ first_value-rows options (codes "block") ∙ (auto_rows (subcommand_rows_of m) called rows image is says).0 in
+    c.in_ok-get_str.ensures ∙ first_value-rows options (codes "block") ∙ (auto_rows c.args.id.now (subcommand_rows_of m) called rows image is says).0 in
     let auto : c.in_ok-get_str.field-0.now ≡ codes "auto" = ap (λ (o : Option Text). unwrap_or o (codes "auto")) block in
     let other : c.in_ok-get_str.field-0.now ≡ codes "auto" → ⊥ = search rules in
     other auto
