@@ -124,6 +124,30 @@ def refused(folder):
         folder.check(f"{name} is missing", ended == (4, missing.format(name), b""), ended)
 
 
+def block_sizes(folder):
+    """Each of two images is read with the block size that it states itself, where that is asked for."""
+    def of(size, items):
+        return image(size, 16, {0: log(1, superblock(size, 16) + items)})
+
+    small, large, differing = of(256, file(1, b"f", b"abc")), of(1_024, file(1, b"f", b"abc")), of(512, file(1, b"f", b"xyz") + file(2, b"e"))
+    for old, new, printed in (
+        (small, large, ""), (large, small, ""), (small, differing, "+ f          0 /e\n- f          3 /f\n+ f          3 /f\n"),
+        (differing, large, "- f          0 /e\n- f          3 /f\n+ f          3 /f\n"),
+    ):
+        folder.be(old, 0)
+        other(folder).write_bytes(new)
+        ended = folder.run("diff -b auto a.img b.img")
+        folder.check(f"block sizes: {printed}", ended == (0, "", printed.encode()), ended)
+    other(folder).write_bytes(large[:-1])
+    ended = folder.run("diff -b auto a.img b.img")
+    told = "lfsed: 1 ImageLength\nlfsed: b.img: its first block states 16 blocks of 1024 bytes\n"
+    folder.check("block sizes: another length", ended == (3, told, b""), ended)
+    other(folder).write_bytes(4_097 * b"x")
+    ended = folder.run("diff -b auto a.img b.img")
+    told = "lfsed: 1 ImageLength\nlfsed: b.img: 4097 bytes are no multiple of 4096\n"
+    folder.check("block sizes: none is stated", ended == (3, told, b""), ended)
+
+
 def told(folder):
     """A history, some of whose changes are undone; its image without a journal; and what is no journal."""
     b = "-b 512"
@@ -227,6 +251,6 @@ def random_histories(folder):
         differs(folder, f"pair {n}", 256, old, new)
 
 
-SCENES = [worked_differences, held_elsewhere, refused, told, not_taken, random_histories]
+SCENES = [worked_differences, held_elsewhere, refused, block_sizes, told, not_taken, random_histories]
 
 sys.exit(run_scenes(SCENES))

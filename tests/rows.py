@@ -7,6 +7,7 @@ import sys
 
 from support.folder import run_scenes
 from support.littlefs import IN_BLOCKS, ROOT, Reader
+from support.logs import created, file, image, log, superblock
 
 # The first bytes of a new image of 8 blocks of 512 bytes, computed by another program, as those below.
 NEW = bytes.fromhex(
@@ -356,6 +357,18 @@ AUTO = [
     ("check a.img", 0, 3, "lfsed: 11 Geometry\nlfsed: a.img: its superblock states 16 blocks of 512 bytes\n", ""),
 ]
 
+# Images that state their block size elsewhere than in front of block 0, each with one file: in block 1 alone, with blocks of several
+# sizes, and behind a tag that creates the superblock's entry; and how `check` describes them.
+def stated_elsewhere():
+    """Images and what `check --block auto` prints of them."""
+    for size in 256, 272, 4_080, 8_192, 65_536:
+        second = image(size, 4, {0: bytes(4), 1: log(1, superblock(size, 4) + file(1, b"f"))})
+        yield second, f"block {size}, count 4, free 2, directories 1, files 1\n"
+    made = [*created(0), *superblock(512, 4), *created(1), *file(1, b"f")]
+    yield image(512, 4, {0: log(1, made)}), "block 512, count 4, free 2, directories 1, files 1\n"
+    yield image(512, 4, {0: bytes(512), 1: log(1, made)}), "block 512, count 4, free 2, directories 1, files 1\n"
+
+
 MORE = "\n\nFor more information, try '--help'.\n"
 NOT_SAID = "error: the following required arguments were not provided:\n"
 NO_SIZE = "error: invalid value '%s' for '--size <BYTES>': "
@@ -577,6 +590,9 @@ def sizes(folder):
         folder.play([(f"grow -b 512 a.img {said}", 0, 0, "", ""), GROWN_CHECK])
     folder.be(NEW, 4_096)
     folder.play(AUTO)
+    for bytes_of_image, printed in stated_elsewhere():
+        folder.be(bytes_of_image, 0)
+        folder.play([("check -b auto a.img", 0, 0, "", printed)])
     folder.image.unlink()
     ended = folder.run("check -b auto a.img")
     folder.check("no image", ended[0] == 4 and ended[1].startswith("lfsed: 60 CannotRead\n"), ended)
