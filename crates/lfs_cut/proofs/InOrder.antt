@@ -1,6 +1,6 @@
 -- The blocks of the rows, in the order of the parts that they are for, are all blocks in order.
-use Rattle.std.proofs.Common.{◌≡◌, ℕ, ◌+◌, ◌-◌, ◌≤◌, ◌&&◌, Bool, true, false, cond, List, [], ◌∷◌, ◌++◌, length, map, refl, ap, sym}
-use Rattle.std.proofs.Common.{◌∙◌, subst, arith, inl, inr, Option}
+use Rattle.std.proofs.Common.{◌≡◌, ℕ, ◌≤◌, ◌&&◌, Bool, true, false, cond, List, [], ◌∷◌, ◌++◌, length, map, refl, ap, sym}
+use Rattle.std.proofs.Common.{◌∙◌, arith, inl, inr, Option}
 use Rattle.std.specs.Prelude.{All, Contains, if◌then◌else◌, filter, flat_map, count_by, nat_lt}
 use Rattle.std.proofs.lemmas.List.Elements.{All-head, All-tail, All-weaker, All-contains_itself}
 use Rattle.std.proofs.lemmas.List.Sums.{sum_by-cons}
@@ -19,7 +19,7 @@ use Rattle.lfs_cut.specs.declared.overflow.Overflow.{Overflow}
 use Rattle.lfs_cut.specs.Chosen.{PairRow, chosen_for, overflow_for, row_blocks}
 use Rattle.lfs_cut.specs.Overflow.{overflows_of}
 use Rattle.lfs_cut.proofs.ChosenPairs.{AreRowsOf, few_rows, filter_by, overflow}
-use Rattle.lfs_law.proofs.Leaders.{leader_maps, leader_permutes}
+use Rattle.lfs_law.proofs.Leaders.{leader_maps}
 
 -- ---- the parts that overflow
 

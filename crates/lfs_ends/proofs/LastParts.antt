@@ -1,5 +1,5 @@
 -- The last part of a directory, edited.
-use Rattle.std.proofs.Common.{◌≡◌, ℕ, ◌+◌, ◌≤◌, ◌||◌, Bool, true, false, cond, List, [], ◌∷◌, ◌++◌, None, refl, ap, sym, ◌∙◌, subst}
+use Rattle.std.proofs.Common.{◌≡◌, ℕ, ◌≤◌, ◌||◌, Bool, true, false, cond, List, [], ◌∷◌, ◌++◌, None, refl, ap, sym, ◌∙◌, subst}
 use Rattle.std.proofs.Common.{arith, map}
 use Rattle.std.specs.Prelude.{if◌then◌else◌, All, count_by, find}
 use Rattle.std.specs.List.{list_any}

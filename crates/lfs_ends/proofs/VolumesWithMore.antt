@@ -2,7 +2,7 @@
 use Rattle.std.proofs.Common.{◌≡◌, ◌+◌, ◌-◌, ◌*◌, ◌<◌, ◌≤◌, ◌==◌, ℕ, suc, zero, Bool, true, false, List, [], ◌∷◌, ◌++◌, length, take}
 use Rattle.std.proofs.Common.{refl, ap, sym, ◌∙◌, subst, arith, cond, append-nil}
 use Rattle.std.proofs.Common.{Option, Some, None}
-use Rattle.std.specs.Prelude.{◌||◌, All, map, nat_le, nat_lt, sum_by}
+use Rattle.std.specs.Prelude.{◌||◌, All, map, nat_le, nat_lt}
 use Rattle.std.specs.List.{range_with_len}
 use Rattle.std.proofs.lemmas.Bool.Decides.{nat_tests}
 use Rattle.std.proofs.lemmas.List.{length-take-le}
@@ -26,7 +26,7 @@ use Rattle.lfs_command.specs.Growth.{count_after, grown}
 use Rattle.lfs_command.specs.Cut.{cut, new_pair_uses, room}
 use Rattle.lfs_command.specs.Edited.{edited, with_directories}
 use Rattle.lfs_command.specs.Need.{data_blocks, need}
-use Rattle.lfs_command.specs.Ordered.{TakesInOrder, blocks_chosen, blocks_of_pairs, leader, overflowing_led, pair_blocks}
+use Rattle.lfs_command.specs.Ordered.{TakesInOrder, blocks_chosen, blocks_of_pairs, leader, overflowing_led}
 use Rattle.lfs_command.specs.Planned.{TakesLeast, CarriesOut}
 use Rattle.lfs_command.specs.Supplies.{AreFree, Supplies, nothing, supply_uses}
 use Rattle.lfs_command.specs.Verdict.{checks, first_refusal, refuse_if, room_checks, verdict}
@@ -38,12 +38,10 @@ use Rattle.lfs_law.specs.Lengthened.{with_count}
 use Rattle.lfs_law.specs.OutlineCarried.{IsCarried, OutlinesAreCarried, has_too_large}
 use Rattle.lfs_law.specs.PlansHold.{LeastAreFree}
 use Rattle.lfs_law.proofs.Cleans.{clean_uses_all}
-use Rattle.lfs_law.proofs.LinksAdded.{times_append}
-use Rattle.lfs_law.proofs.NamedBlocks.{times_flat}
+use Rattle.lfs_law.proofs.LeastTaken.{least_taken}
 use Rattle.lfs_law.proofs.OutlinesFollow.{outlines_follow}
 use Rattle.lfs_edit.proofs.CarryingLemmas.{outlined_clean}
 use Rattle.lfs_edit.proofs.OrderLemmas.{chosen_outlined, made_first}
-use Rattle.lfs_edit.proofs.Supplied.{supplies_taken}
 use Rattle.lfs_edit.proofs.Verdicts.{passed_first}
 use Rattle.lfs_ends.specs.Ending.{with_more, last_part, new_part_pairs, takes_entry}
 use Rattle.lfs_ends.specs.EndCuts.{PartsTakeOneMore, TakesOneMore, chosen_for_last, made}
@@ -260,19 +258,7 @@ module _ (laws : OneMoreLaws) (v : Volume) (c : Command) (next : ℕ) (before : 
       ∙ all_taken within
 
   taken : next + count ≤ v.count → TakesLeast v c s (for_parts choice)
-  taken within n =
-      let made_here : supply_uses v c s n ≡ times n (take (made_blocks v c) (free_blocks v)) =
-      supplies_taken v c (free_blocks v) n (omega (arith, enough_free within)) in
-      let behind : new_pair_uses (for_parts choice) (edited v c s) n ≡ sum_by (λ (q : Pair). times n (pair_blocks q)) pairs =
-      sym (carried.pairs n) ∙ takes_more.uses n in
-      omega (
-        arith,
-        made_here,
-        behind,
-        times_flat n pair_blocks pairs,
-        times_append n (take (made_blocks v c) (free_blocks v)) (blocks_of_pairs pairs),
-        ap (times n) (all_taken within),
-      )
+  taken within = least_taken v c s (for_parts choice) (carried.enough takes_more.enough) (ordered within)
 
   free_all : next + count ≤ v.count
       → AreFree v c s × ((b : ℕ) → uses b v + supply_uses v c s b + new_pair_uses (for_parts choice) (edited v c s) b ≤ 1)

@@ -69,6 +69,8 @@ pub mod LeastBlocks
 pub mod LaidContents
 pub mod LargeParts
 pub mod Leaders
+pub mod OneWay
+pub mod LeastTaken
 pub mod OutlinesCarried
 pub mod TablesTell
 pub mod FreeAfterHeld

@@ -13,6 +13,7 @@ use Rattle.lfs_command.specs.Clean.{clean, IsClean}
 use Rattle.lfs_command.specs.Need.{need, data_blocks, directory_blocks, part_blocks, dirty_parts, changed_parts}
 use Rattle.lfs_command.specs.Accepted.{IsAccepted, AreChosen, Follows}
 use Rattle.lfs_command.specs.Kept.{KeepLinks}
+use Rattle.lfs_command.specs.Planned.{CarriesOut}
 use Rattle.lfs_command.specs.Freed.{freed_uses, free_after}
 
 -- an accepted command leaves a sound volume, whose tree is its equation
@@ -66,3 +67,7 @@ FreeAfter = (v : Volume) (c : Command) (s : Supplies) (chosen : Part → List Pa
 abbrev pub FreeAfterHeld : Type 0
 FreeAfterHeld = (v : Volume) (c : Command) (s : Supplies) (chosen : Part → List Pair) → IsAccepted v c s → AreChosen v c s chosen
     → free_blocks (clean (cut chosen (edited v c s))) ≡ free_after v c s chosen
+
+-- where an accepted command leads to: there is one volume that it leaves
+abbrev pub CommandsLeadOneWay : Type 0
+CommandsLeadOneWay = (v : Volume) (c : Command) (w u : Volume) → CarriesOut c v w → CarriesOut c v u → u ≡ w

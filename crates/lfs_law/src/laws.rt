@@ -2,7 +2,7 @@
 
 ghost use Rattle.lfs_law.specs.CommandsSet.{CommandsSetAPart};
 ghost use Rattle.lfs_law.specs.CountsGrow.{CountsGrow};
-ghost use Rattle.lfs_law.specs.Laws.{CleansFollow, CommandsAreFrugal, CommandsFollow, CutsAreFrugal, CutsFollow, FewPartsChange, FreeAfter, FreeAfterHeld, NeedIsExact, NeedIsTheSame, UsesAfter};
+ghost use Rattle.lfs_law.specs.Laws.{CleansFollow, CommandsAreFrugal, CommandsFollow, CommandsLeadOneWay, CutsAreFrugal, CutsFollow, FewPartsChange, FreeAfter, FreeAfterHeld, NeedIsExact, NeedIsTheSame, UsesAfter};
 ghost use Rattle.lfs_law.specs.NeedsSmall.{HeldHaveFewEntries, NeedsAreSmall};
 ghost use Rattle.lfs_law.specs.Written.{HeldAreClean, WrittenAreHeld};
 
@@ -71,6 +71,13 @@ pub fn commands_set_a_part()
 {
     names_are_ordered();
 }
+
+/// A law: there is one volume that an accepted command leaves, since it takes its blocks in order. Takes no memory.
+///
+/// Source: own.
+pub fn commands_lead_one_way()
+    ensures { CommandsLeadOneWay }
+{}
 
 /// A law: what a command needs that no check refuses, those on room aside, is a number of 32 bits, where the volume is without
 /// marks and no part of it has more than 65,536 entries. Takes no memory.
