@@ -1,18 +1,14 @@
 -- What a new volume that is built stands for (own).
 use Rattle.std.specs.Prelude.{ℕ, ◌≡◌, ◌≤◌, ◌⊎◌, true, false, List, [], ◌∷◌, ◌++◌, None, Some, All, map, reverse}
-use Rattle.lfs_block.specs.Disk.{Disk}
 use Rattle.lfs_meta.specs.Body.{Pair}
 use Rattle.lfs_meta.specs.Fits.{RiseFrom}
 use Rattle.lfs_meta.specs.Name.{Name, IsName}
 use Rattle.lfs_fs.specs.Directory.{Directory}
 use Rattle.lfs_fs.specs.Entry.{Entry, target}
-use Rattle.lfs_fs.specs.Holds.{Holds}
 use Rattle.lfs_fs.specs.Outlined.{outlined}
 use Rattle.lfs_fs.specs.Pair.{root, same_pair, unordered}
 use Rattle.lfs_fs.specs.Path.{Path}
-use Rattle.lfs_fs.specs.Reading.{reading_of}
 use Rattle.lfs_fs.specs.Row.{path_precedes}
-use Rattle.lfs_fs.specs.Sound.{IsSound}
 use Rattle.lfs_fs.specs.Volume.{Volume}
 use Rattle.lfs_command.specs.declared.refusal.Refusal.{Refusal}
 use Rattle.lfs_command.specs.declared.refusal.Refusal.TheVariants.{Memory}
@@ -113,10 +109,3 @@ SetsRootAttribute k value t u = (v : Volume) → IsBare t v → (w : Volume) × 
 -- or not, or memory is refused
 abbrev pub RefusesRootAttribute : ℕ → List ℕ → NewVolume → Refusal → Type 0
 RefusesRootAttribute k value t r = (r ≡ Memory) ⊎ ((v : Volume) → IsBare t v → verdict v (SetAttr [] k value) ≡ Some r)
-
--- an image holds the volume
-pub record IsNewImageOf (v : Volume) (d : Disk) : Type 0 where
-  pub holds : Holds (reading_of d) v
-  pub sound : IsSound v
-  pub size : v.size ≡ d.size
-  pub count : v.count ≡ d.count

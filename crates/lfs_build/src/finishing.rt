@@ -12,7 +12,8 @@ impl NewVolume {
     ghost use Rattle.lfs_fs.specs.Outlined.{outlined};
     ghost use Rattle.lfs_fs.specs.Path.{Path};
     ghost use Rattle.lfs_fs.specs.Volume.{Volume};
-    ghost use Rattle.lfs_build.specs.NewVolumes.{IsAt, IsNewImageOf};
+    ghost use Rattle.lfs_build.specs.Finished.{IsNewImageOf};
+    ghost use Rattle.lfs_build.specs.NewVolumes.{IsAt};
 
     /// The image, with its outline.
     fn into_outline(mut self) -> Result<(Image, Outline), AllocError>
@@ -43,7 +44,8 @@ impl NewVolume {
         Ok((image, outline))
     }
 
-    /// The image that holds the volume: each part is written once, into the first block of its pair, the second one of which stays erased.
+    /// The image that holds the volume: each part is written once, alone into the first block of its pair, the second one of which stays
+    /// erased, as each block does that the volume doesn't use.
     ///
     /// Source: own.
     pub fn finish(self, alloc: Global) -> Result<Image, AllocError>

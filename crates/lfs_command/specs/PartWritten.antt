@@ -1,11 +1,12 @@
 -- What is written of an image: changes of its blocks (own).
-use Rattle.std.specs.Prelude.{◌≡◌, ℕ, nat_lt, List, [], ◌∷◌, if◌then◌else◌, map, replicate}
+use Rattle.std.specs.Prelude.{◌≡◌, ℕ, nat_lt, List, [], ◌∷◌, Some, if◌then◌else◌, map, replicate}
 use Rattle.lfs_block.specs.Change.{Change}
 use Rattle.lfs_block.specs.Disk.{Disk, block_of}
 use Rattle.lfs_block.specs.Patch.{ChangeSet}
 use Rattle.lfs_meta.specs.Body.{Pair}
-use Rattle.lfs_meta.specs.LiveBlock.{revision}
 use Rattle.lfs_meta.specs.Part.{StoredPart}
+use Rattle.lfs_commit.specs.Spelling.{part_tags}
+use Rattle.lfs_commit.specs.Writing.{log_written, part_in}
 
 -- a pair with what it holds
 abbrev pub Found : Type 0
@@ -30,7 +31,10 @@ with_change c (e ∷ es) = if nat_lt e.number c.number then e ∷ with_change c 
 abbrev pub numbers_of : ChangeSet → List ℕ
 numbers_of p = map (λ c. c.number) p.changes
 
--- the two blocks of a pair that is filled for the first time: the first one has revision 1, and the second one is erased
+-- The two blocks of a pair that is filled for the first time: they hold a part, of which the first one has revision 1 and one commit
+-- and is erased behind it, and the second one is erased.
 pub record FirstIsFilled (size : ℕ) (first second : List ℕ) : Type 0 where
-  pub revised : revision first ≡ 1
+  pub part : StoredPart
+  pub holds : part_in first second ≡ Some part
+  pub written : first ≡ log_written 1 (part_tags part) (replicate size 0xff)
   pub erased : second ≡ replicate size 0xff

@@ -1,8 +1,7 @@
 -- A patch that writes what a command leaves of an outline carries the command out.
 use Rattle.std.proofs.Common.{◌≡◌, ◌+◌, ◌<◌, ◌≤◌, ℕ, Bool, List, [], ◌∷◌, ◌++◌, length, map, take, drop, refl, ap, sym, ◌∙◌, subst}
 use Rattle.std.proofs.Common.{arith, Option}
-use Rattle.std.proofs.lemmas.List.{length-take-le, take-take}
-use Rattle.std.proofs.lemmas.List.Sums.{sum_by-take-drop}
+use Rattle.std.proofs.lemmas.List.{length-take-le}
 use Rattle.lfs_block.specs.Disk.{Disk, resized}
 use Rattle.lfs_block.specs.Patch.{AgreesOld, ChangeSet, IsGrowth, applied}
 use Rattle.lfs_block.specs.PatchLaws.{IsDiskOf, kept}
@@ -15,7 +14,7 @@ use Rattle.lfs_fs.specs.Reading.{reading_of}
 use Rattle.lfs_fs.specs.Holds.{Holds}
 use Rattle.lfs_fs.specs.Stored.{SaysVolume}
 use Rattle.lfs_fs.specs.Thread.{links}
-use Rattle.lfs_fs.specs.Uses.{times, uses}
+use Rattle.lfs_fs.specs.Uses.{uses}
 use Rattle.lfs_fs.specs.Volume.{Volume}
 use Rattle.lfs_command.specs.Accepted.{AreChosen, Follows, IsAccepted}
 use Rattle.lfs_draft.specs.LeastSupplies.{made_blocks}
@@ -33,16 +32,16 @@ use Rattle.lfs_command.specs.Ordered.{TakesInOrder, blocks_chosen, leader, overf
 use Rattle.lfs_law.specs.Lengthened.{HoldsParts}
 use Rattle.lfs_law.specs.OutlineCarried.{IsCarried}
 use Rattle.lfs_law.specs.OutlineLaws.{WritesOutline}
-use Rattle.lfs_command.specs.Planned.{CarriesOut, FillsNewPairs, IsFrugal, Plans, TakesLeast}
+use Rattle.lfs_command.specs.Planned.{CarriesOut, FillsNewPairs, HasLaid, IsFrugal, Plans, TakesLeast}
 use Rattle.lfs_command.specs.PairChanged.{ChangesPairs, forced_by}
 use Rattle.lfs_law.specs.PlansHold.{is_unmarked}
-use Rattle.lfs_law.specs.PlansWritten.{WritesCommand}
+use Rattle.lfs_law.specs.PlansWritten.{NewIsThere, WritesCommand}
 use Rattle.lfs_command.specs.Supplies.{AreFree, Supplies, supply_uses}
 use Rattle.lfs_law.specs.SuperblockBytes.{volume_bytes}
 use Rattle.lfs_law.specs.WrittenLinks.{AreWritten, ChangesLinks, changed_blocks}
 use Rattle.lfs_law.proofs.FrugalPlans.{enough_free}
+use Rattle.lfs_law.proofs.LeastTaken.{least_taken}
 use Rattle.lfs_edit.proofs.OrderLemmas.{chosen_outlined, front_and_back, made_first}
-use Rattle.lfs_edit.proofs.Supplied.{supplies_taken}
 
 -- ---- marks are taken off an outline as off its volume
 
@@ -66,12 +65,6 @@ outlined_clean w =
     (directories_cleaned w.directories)
 
 -- ---- the blocks that a command takes
-
-parted : (free : List ℕ) (made n all : ℕ) → made ≤ all → times n (take made free) + times n (drop made (take all free))
-    ≡ times n (take all free)
-parted free made n all few =
-    ap (λ (xs : List ℕ). times n xs + times n (drop made (take all free))) (sym (take-take made all free few))
-    ∙ sum_by-take-drop _ (take all free) made
 
 pub within_need : (v : Volume) (c : Command) → made_blocks v c ≤ need v c
 within_need v c = omega arith
@@ -132,12 +125,7 @@ taken_of laws d c used blocks o w ready cuts = record {
         ∙ front_and_back (made_blocks v c) (need v c) free (within_need v c)
 
     taken : TakesLeast v c s chosen
-    taken n =
-        let made : supply_uses v c s n ≡ times n (take (made_blocks v c) (free_blocks (grown c v))) =
-        supplies_taken v c (free_blocks (grown c v)) n (omega (arith, within_need v c, enough)) in
-        let new : new_pair_uses chosen (edited v c s) n ≡ times n (drop (made_blocks v c) (take (need v c) (free_blocks (grown c v)))) =
-        sym (carried.pairs n) ∙ cuts.are.uses n ∙ ap (λ (xs : List ℕ). times n (drop (made_blocks v c) xs)) ready.least in
-        omega (arith, made, new, parted (free_blocks (grown c v)) (made_blocks v c) n (need v c) (within_need v c))
+    taken = least_taken v c s chosen (carried.enough cuts.are.enough) ordered
 
     free
         : AreFree v c s
@@ -225,6 +213,11 @@ finish laws d c used blocks o w p ready cuts long says writes = record { plans =
         laws.tell_changed v used ready.marks e (forced_by c) (links (outlined after).directories) p.changes
         (subst (λ (x : Volume). ChangesLinks e (is_unmarked used) (forced_by c) (links x.directories) p.changes) (sym same) writes.changed)
 
+    laid : NewIsThere (reading_of (applied (kept p) e)) v c s × HasLaid v c s (applied (kept p) e)
+    laid =
+        laws.laid e v c s chosen new (is_new_to v) writes.base (kept p) long.is writes.patch writes.stands writes.keeps accepted.free
+        writes.contents writes.lays written
+
     command : WritesCommand e v c s chosen new (is_new_to v) writes.base (kept p)
     command = record {
       disk = long.is.disk;
@@ -233,8 +226,7 @@ finish laws d c used blocks o w p ready cuts long says writes = record { plans =
       keeps = writes.keeps;
       contents = writes.contents;
       written = written;
-      there = laws.laid e v c s chosen new (is_new_to v) writes.base (kept p) long.is writes.patch writes.stands writes.keeps accepted.free
-          writes.contents writes.lays written;
+      there = laid.0;
     }
 
     volume : WritesOutline e (grown c v) after (volume_bytes v) new (is_new_to v) writes.base (kept p)
@@ -271,6 +263,7 @@ finish laws d c used blocks o w p ready cuts long says writes = record { plans =
       stands = long.stands;
       count = long.count;
       after = holds;
+      laid = subst (HasLaid v c s) long.same laid.1;
       filled = subst (FillsNewPairs v after) long.same (laws.filled e (grown c v) after (volume_bytes v) new writes.base (kept p) volume);
       changed = subst (ChangesPairs (forced_by c) v after e) long.same
           (laws.changed e (grown c v) after (volume_bytes v) new writes.base (kept p) (forced_by c) volume changed);

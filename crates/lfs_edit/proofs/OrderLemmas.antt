@@ -1,7 +1,7 @@
 -- In which order a command takes its blocks, on an outline as on its volume.
-use Rattle.std.proofs.Common.{◌≡◌, ◌≤◌, ℕ, Bool, true, false, List, [], ◌∷◌, ◌++◌, length, map, take, drop, refl, ap, sym, ◌∙◌, subst, arith}
+use Rattle.std.proofs.Common.{◌≡◌, ◌≤◌, ℕ, Bool, true, false, List, [], ◌∷◌, ◌++◌, length, take, drop, refl, ap, sym, ◌∙◌, arith}
 use Rattle.std.proofs.Common.{Option, Some, None, nat_lt}
-use Rattle.std.specs.Prelude.{if◌then◌else◌, find, flat_map, nat_le}
+use Rattle.std.specs.Prelude.{if◌then◌else◌, find, nat_le}
 use Rattle.std.specs.List.{filter}
 use Rattle.std.specs.Option.{option_and_then, option_map}
 use Rattle.std.proofs.lemmas.List.{length-map, take-append-drop, take-take}
@@ -9,7 +9,6 @@ use Rattle.lfs_meta.specs.Body.{Pair}
 use Rattle.lfs_meta.specs.Name.{Name}
 use Rattle.lfs_file.specs.Capacity.{least_blocks}
 use Rattle.lfs_fs.specs.Directory.{Directory, Part, begins_at, parts}
-use Rattle.lfs_fs.specs.Entry.{Entry}
 use Rattle.lfs_fs.specs.Outlined.{outlined, outlined_directories, outlined_directory, outlined_part}
 use Rattle.lfs_fs.specs.Pair.{same_pair}
 use Rattle.lfs_fs.specs.Volume.{Volume}

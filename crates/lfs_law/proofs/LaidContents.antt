@@ -57,32 +57,42 @@ body_by d e bytes blocks false there = there refl
 
 pub laid_are_there : LaidIsFound → LaidIsContent → KeptIsDisk → KeptBlocks → LaidAreThere
 laid_are_there found content kept_disk kept_blocks d v (Mkdir path) s chosen new is_new base p disk patch stands keeps free named
-    lays written = tt
+    lays written = (tt, tt)
 laid_are_there found content kept_disk kept_blocks d v (Rm path) s chosen new is_new base p disk patch stands keeps free named
-    lays written = tt
+    lays written = (tt, tt)
 laid_are_there found content kept_disk kept_blocks d v (Mv from to) s chosen new is_new base p disk patch stands keeps free named
-    lays written = tt
+    lays written = (tt, tt)
 laid_are_there found content kept_disk kept_blocks d v (SetAttr path k value) s chosen new is_new base p disk patch stands keeps free named
-    lays written = tt
+    lays written = (tt, tt)
 laid_are_there found content kept_disk kept_blocks d v (RmAttr path k) s chosen new is_new base p disk patch stands keeps free named
-    lays written = tt
+    lays written = (tt, tt)
 laid_are_there found content kept_disk kept_blocks d v (Grow n) s chosen new is_new base p disk patch stands keeps free named
-    lays written = tt
+    lays written = (tt, tt)
 laid_are_there found content kept_disk kept_blocks d v (Put path bytes) s chosen new is_new base p disk patch stands keeps free named
     lays written =
-    let after = kept_disk p d disk.disk patch stands keeps in
-    body_by d (applied p d) bytes s.blocks (nat_le (length bytes) (most_inline v.size))
-    (λ chain.
-    let blocks_are : content_blocks v (Put path bytes) s ≡ s.blocks = ap (λ (t : Bool). if t then [] else s.blocks) chain in
-    let some : (n : ℕ) → Contains s.blocks n → 0 < times n (changed_blocks base) =
-    λ n there. omega (arith, times_there n s.blocks there, ap (times n) (named ∙ blocks_are)) in
-    laid_there found content d (applied p d) bytes s.blocks base after.disk after.size (lays chain)
-    (λ n there.
-    let taken : 0 < supply_uses v (Put path bytes) s n = omega (
-      arith,
-      supplies_once v (Put path bytes) s n,
-      times_there n s.blocks there,
-      ap (times n) blocks_are,
-    ) in
-    omega (arith, free.within n taken, after.count, disk.count))
-    (λ n there. kept_blocks p d n disk.disk patch stands keeps ∙ written.kept n (some n there)))
+    let after = kept_disk p d disk.disk patch stands keeps in (
+      body_by d (applied p d) bytes s.blocks (nat_le (length bytes) (most_inline v.size))
+          (λ chain.
+          laid_there found content d (applied p d) bytes s.blocks base after.disk after.size (lays chain)
+          (λ n there.
+          let taken : 0 < supply_uses v (Put path bytes) s n = omega (
+            arith,
+            supplies_once v (Put path bytes) s n,
+            times_there n s.blocks there,
+            ap (times n) (blocks_are chain),
+          ) in
+          omega (arith, free.within n taken, after.count, disk.count))
+          (stays chain)),
+      λ chain. map_on (block_of (applied p d)) (block_after d base) s.blocks (stays chain) ∙ (lays chain).same
+          ∙ ap (λ (n : ℕ). laid n bytes s.blocks) (sym after.size),
+    )
+  where
+    blocks_are : nat_le (length bytes) (most_inline v.size) ≡ false → content_blocks v (Put path bytes) s ≡ s.blocks
+    blocks_are chain = ap (λ (t : Bool). if t then [] else s.blocks) chain
+
+    stays : nat_le (length bytes) (most_inline v.size) ≡ false → (n : ℕ) → Contains s.blocks n
+        → block_of (applied p d) n ≡ block_after d base n
+    stays chain n there =
+        let some : 0 < times n (changed_blocks base) = omega
+        (arith, times_there n s.blocks there, ap (times n) (named ∙ blocks_are chain)) in
+        kept_blocks p d n disk.disk patch stands keeps ∙ written.kept n some

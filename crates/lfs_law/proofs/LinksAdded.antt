@@ -9,7 +9,7 @@ use Rattle.std.proofs.lemmas.List.Sums.{sum_by-cons, sum_by-append}
 use Rattle.lfs_block.specs.Change.{Change}
 use Rattle.lfs_block.specs.Disk.{Disk}
 use Rattle.lfs_meta.specs.Body.{Pair}
-use Rattle.lfs_meta.specs.LiveBlock.{revision}
+use Rattle.lfs_command.specs.PartWritten.{FirstIsFilled}
 use Rattle.lfs_meta.specs.Part.{StoredPart}
 use Rattle.lfs_commit.specs.Writing.{part_in}
 use Rattle.lfs_fs.specs.Directory.{Part}
@@ -105,7 +105,9 @@ pair_stays d pair old new part first second holds =
 
 pub first_stays : (d : Disk) (pair : Pair) (old new : List Change) → block_after d new pair.0 ≡ block_after d old pair.0
     → block_after d new pair.1 ≡ block_after d old pair.1 → FillsFirst d old pair → FillsFirst d new pair
-first_stays d pair old new first second filled = record { revised = ap revision first ∙ filled.revised; erased = second ∙ filled.erased }
+first_stays d pair old new first second filled =
+    subst (λ (b : List ℕ). FirstIsFilled d.size b (block_after d new pair.1)) (sym first)
+    (subst (FirstIsFilled d.size (block_after d old pair.0)) (sym second) filled)
 
 -- where changes name the first blocks of the pairs of links as often, they name the same blocks of them
 same_number : (old new : List Change) (pair : Pair) → times pair.0 (changed_blocks new) ≡ times pair.0 (changed_blocks old)

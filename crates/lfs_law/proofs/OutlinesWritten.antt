@@ -1,7 +1,7 @@
 -- Where the links of an outline are written, its volume is.
 use Rattle.std.proofs.Common.{◌≡◌, ◌≢◌, ℕ, ◌==◌, Bool, true, false, cond, List, [], ◌∷◌, ◌++◌, length, refl, ap, sym, ◌∙◌, subst, arith}
 use Rattle.std.proofs.Common.{map, Some}
-use Rattle.std.specs.Prelude.{All, Contains, replicate}
+use Rattle.std.specs.Prelude.{All, Contains}
 use Rattle.std.specs.List.{AllZip, AllByRecursion}
 use Rattle.std.proofs.lemmas.Bool.Decides.{nat_tests}
 use Rattle.std.proofs.lemmas.List.{length-replicate, map-append}
@@ -15,7 +15,7 @@ use Rattle.lfs_block.specs.PatchLaws.{KeptBlocks, KeptIsDisk}
 use Rattle.lfs_meta.specs.declared.kind.Kind.TheVariants.{Super}
 use Rattle.lfs_meta.specs.declared.tail.Tail.{Tail}
 use Rattle.lfs_meta.specs.Body.{Pair}
-use Rattle.lfs_meta.specs.LiveBlock.{revision, stored_part_of}
+use Rattle.lfs_meta.specs.LiveBlock.{stored_part_of}
 use Rattle.lfs_commit.specs.Writing.{part_in}
 use Rattle.lfs_fs.specs.AsStored.{head_of, stored_kind, stored_body, stored_entry}
 use Rattle.lfs_fs.specs.Entry.{Body, Inline, Chain, Directory_at, Entry}
@@ -209,11 +209,12 @@ new_pairs_are_filled disk blocks d v w old new base p writes q there = All-conta
         let made : MakesLink d new w.attributes (is_new_to v) p.changes (outlined_link l) =
         writes.written.makes (outlined_link l) (outline_there w l inside) set in
         let first : FillsFirst d p.changes l.part.pair = made.filled is_new in
-        record {
-          revised = ap revision (blocks p d l.part.pair.0 writes.disk writes.patch writes.stands writes.keeps) ∙ first.revised;
-          erased = blocks p d l.part.pair.1 writes.disk writes.patch writes.stands writes.keeps ∙ first.erased
-              ∙ ap (λ (n : ℕ). replicate n 0xff) (sym (disk p d writes.disk writes.patch writes.stands writes.keeps).size);
-        }
+        let at : (n : ℕ) → block_of (applied p d) n ≡ block_after d p.changes n =
+        λ n. blocks p d n writes.disk writes.patch writes.stands writes.keeps in
+        subst (λ (n : ℕ). FirstIsFilled n (block_of (applied p d) l.part.pair.0) (block_of (applied p d) l.part.pair.1))
+        (sym (disk p d writes.disk writes.patch writes.stands writes.keeps).size)
+        (subst (λ (b : List ℕ). FirstIsFilled d.size b (block_of (applied p d) l.part.pair.1)) (sym (at l.part.pair.0))
+        (subst (FirstIsFilled d.size (block_after d p.changes l.part.pair.0)) (sym (at l.part.pair.1)) first))
 
 pub pairs_are_changed : KeptBlocks → PairsAreChanged
 pairs_are_changed blocks d v w old new base p forced writes changed l there set stands =

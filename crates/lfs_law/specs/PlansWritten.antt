@@ -18,6 +18,7 @@ use Rattle.lfs_command.specs.Supplies.{Supplies, AreFree, most_inline, new_body}
 use Rattle.lfs_command.specs.Edited.{edited}
 use Rattle.lfs_command.specs.Cut.{cut}
 use Rattle.lfs_command.specs.Accepted.{IsAccepted, AreChosen}
+use Rattle.lfs_command.specs.Planned.{HasLaid}
 use Rattle.lfs_law.specs.WrittenLinks.{changed_blocks, block_after, AreWritten}
 use Rattle.lfs_law.specs.Lengthened.{HoldsParts}
 use Rattle.lfs_law.specs.OutlineLaws.{IsThere, WritesOutline}
@@ -71,7 +72,7 @@ LaysNew d v (SetAttr p k value) s base = Unit {0}
 LaysNew d v (RmAttr p k) s base = Unit {0}
 LaysNew d v (Grow n) s base = Unit {0}
 
--- the law: contents that are laid are there when the links are written
+-- the law: contents that are laid are there when the links are written, all erased behind them
 abbrev pub LaidAreThere : Type 0
 LaidAreThere = (d : Disk) (v : Volume) (c : Command) (s : Supplies)
     (chosen : Part → List Pair) (new : List ℕ) (is_new : Pair → Bool) (base : List Change) (p : ChangeSet)
@@ -79,4 +80,4 @@ LaidAreThere = (d : Disk) (v : Volume) (c : Command) (s : Supplies)
     → changed_blocks base ≡ content_blocks v c s → LaysNew d v c s base
     → AreWritten d new (cut chosen (edited v c s)).attributes is_new base
     (links (outlined (cut chosen (edited v c s))).directories) p.changes
-    → NewIsThere (reading_of (applied p d)) v c s
+    → NewIsThere (reading_of (applied p d)) v c s × HasLaid v c s (applied p d)

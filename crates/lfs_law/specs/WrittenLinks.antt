@@ -42,7 +42,7 @@ block_after d cs n = overlaid cs n (block_of d n)
 abbrev pub part_after : Disk → List Change → Pair → Option StoredPart
 part_after d cs pair = part_in (block_after d cs pair.0) (block_after d cs pair.1)
 
--- the first block of a pair then has revision 1, and the second one is erased
+-- the first block of a pair then has the part that it holds, alone, and the second one is erased
 abbrev pub FillsFirst : Disk → List Change → Pair → Type 0
 FillsFirst d cs pair = FirstIsFilled d.size (block_after d cs pair.0) (block_after d cs pair.1)
 

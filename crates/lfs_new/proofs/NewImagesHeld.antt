@@ -1,24 +1,22 @@
 -- An image with the chains of a volume, and its outline written, holds the volume.
-use Rattle.std.proofs.Common.{◌≡◌, false, ℕ, ◌+◌, ◌<◌, ◌≤◌, ◌^◌, List, [], ◌∷◌, length, refl, ap, sym, ◌∙◌, subst, arith, inl, inr, map}
-use Rattle.std.specs.Prelude.{Contains, replicate, sum_by}
-use Rattle.std.proofs.lemmas.List.Elements.{All-contains, All-contains_itself, All-weaker}
+use Rattle.std.proofs.Common.{◌≡◌, false, ℕ, ◌+◌, ◌<◌, ◌≤◌, List, [], ◌∷◌, length, refl, ap, sym, ◌∙◌, subst, arith, inl, inr, map}
+use Rattle.std.specs.Prelude.{All, Contains, replicate, sum_by}
+use Rattle.std.proofs.lemmas.List.Elements.{All-contains, All-contains_itself, All-map, All-weaker}
 use Rattle.std.proofs.lemmas.List.Sums.{sum_by-cons}
-use Rattle.std.proofs.lemmas.Nat.{from_le_bytes-to_le_bytes_4}
 use Rattle.lfs_block.specs.Disk.{Disk, block_of}
 use Rattle.lfs_file.specs.Laws.{ContentStays, FoundStay}
 use Rattle.lfs_fs.specs.AsStored.{head_of, stored_entry}
-use Rattle.lfs_fs.specs.declared.limits.Limits.{Limits}
 use Rattle.lfs_fs.specs.Directory.{Directory, Part, thread}
 use Rattle.lfs_fs.specs.Entry.{Body, Inline, Chain, Directory_at, Entry}
 use Rattle.lfs_fs.specs.Outlined.{outlined}
 use Rattle.lfs_fs.specs.Reading.{reading_of}
 use Rattle.lfs_fs.specs.Stored.{HeldByLinksAreHeld, HoldsLinks, IsStored, SaysVolume}
-use Rattle.lfs_fs.specs.Superblock.{IsLimits, header_of, word_at}
 use Rattle.lfs_fs.specs.Thread.{Link, links}
-use Rattle.lfs_fs.specs.Uses.{body_uses, entry_uses, pair_uses, times}
+use Rattle.lfs_fs.specs.Uses.{body_uses, entry_uses, pair_uses, times, uses}
 use Rattle.lfs_fs.specs.Volume.{Volume}
 use Rattle.lfs_fs.proofs.ContainsLemmas.{contains_cases}
 use Rattle.lfs_fs.proofs.CountLemmas.{element_le}
+use Rattle.lfs_command.specs.PartWritten.{FirstIsFilled}
 use Rattle.lfs_law.specs.OutlineLaws.{IsThere}
 use Rattle.lfs_law.specs.SuperblockBytes.{volume_bytes}
 use Rattle.lfs_law.specs.WrittenLinks.{link_part}
@@ -66,6 +64,29 @@ names_of_parts n (l ∷ ls) =
 firsts_outlined : (ls : List Link) → first_blocks (map outlined_link ls) ≡ first_blocks ls
 firsts_outlined [] = refl
 firsts_outlined (l ∷ ls) = ap (λ (ns : List ℕ). l.part.pair.0 ∷ ns) (firsts_outlined ls)
+
+-- the first blocks of the pairs of an outline's links are used by the volume
+firsts_used : (n : ℕ) (v : Volume) → times n (first_blocks (links (outlined v).directories)) ≤ uses n v
+firsts_used n v =
+    let ds : List Directory = v.directories in
+    omega (
+      arith,
+      pairs_only n (thread ds),
+      sum_thread n ds,
+      ap (sum_by (pair_uses n)) (parts_of_links ds),
+      names_of_parts n (links ds),
+      firsts_within n (links ds),
+      ap (times n) (ap first_blocks (links_outlined ds) ∙ firsts_outlined (links ds)),
+    )
+
+-- what holds of the parts of links holds of parts
+of_links : (P : Part → Type 0) (ds : List Directory) → ((l : Link) → Contains (links ds) l → P l.part)
+    → (p : Part) → Contains (thread ds) p → P p
+of_links P ds each p there =
+    All-contains P (thread ds) p
+    (subst (All P) (parts_of_links ds)
+    (All-map P (λ (l : Link). l.part) (links ds)
+    (All-weaker (Contains (links ds)) (λ (l : Link). P l.part) each (links ds) (All-contains_itself (links ds))))) there
 
 module _ (found : FoundStay) (content : ContentStays) (d e : Disk) (v : Volume) (takes : TakesVolume d e v) where
   -- a block of a chain is the first one of no pair
@@ -137,4 +158,9 @@ module _ (found : FoundStay) (content : ContentStays) (d e : Disk) (v : Volume) 
       }
 
 pub new_images_hold : FoundStay → ContentStays → HeldByLinksAreHeld → NewImagesHold
-new_images_hold found content by_links d e v takes = by_links (reading_of e) v takes.sound (volume_held found content d e v takes)
+new_images_hold found content by_links d e v takes = record {
+  holds = by_links (reading_of e) v takes.sound (volume_held found content d e v takes);
+  filled = of_links (λ (p : Part). FirstIsFilled e.size (block_of e p.pair.0) (block_of e p.pair.1)) v.directories
+      (λ l there. (takes.outline.each (outlined_link l) (outline_there v l there)).filled);
+  others = λ b none. takes.outline.but.others b (omega (arith, none, firsts_used b v));
+}

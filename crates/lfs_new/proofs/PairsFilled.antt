@@ -1,5 +1,5 @@
 -- Pairs of an image filled, those of some links behind those of others.
-use Rattle.std.proofs.Common.{◌≡◌, ◌≢◌, ℕ, ◌+◌, ◌<◌, ◌≤◌, ◌==◌, cond, List, [], ◌∷◌, ◌++◌, ap, sym, ◌∙◌, subst, arith, inl, inr, refl}
+use Rattle.std.proofs.Common.{◌≡◌, ◌≢◌, ℕ, ◌+◌, ◌<◌, ◌≤◌, ◌==◌, cond, List, [], ◌∷◌, ◌++◌, ap, sym, ◌∙◌, subst, arith, inl, inr, refl, Some}
 use Rattle.std.specs.Prelude.{Contains, replicate}
 use Rattle.std.proofs.lemmas.Bool.Decides.{nat_tests}
 use Rattle.std.proofs.lemmas.List.{map-append}
@@ -10,7 +10,10 @@ use Rattle.lfs_block.specs.PatchLaws.{BlockPut, BlockPutOther, IsDiskAs}
 use Rattle.lfs_meta.specs.Attribute.{Attributes}
 use Rattle.lfs_meta.specs.Entry.{StoredEntry}
 use Rattle.lfs_meta.specs.Weighing.{weights}
-use Rattle.lfs_commit.specs.Writing.{IsFirstBlock, part_in, stored_part}
+use Rattle.lfs_meta.specs.LiveBlock.{stored_part_of}
+use Rattle.lfs_commit.specs.Spelling.{part_tags}
+use Rattle.lfs_commit.specs.Writing.{IsFirstBlock, log_written, part_in, stored_part}
+use Rattle.lfs_command.specs.PartWritten.{FirstIsFilled}
 use Rattle.lfs_fs.specs.Thread.{Link}
 use Rattle.lfs_fs.specs.Uses.{times, pair_uses}
 use Rattle.lfs_fs.proofs.ContainsLemmas.{contains_first}
@@ -130,12 +133,15 @@ module _ (bytes : List ℕ) (attributes : Attributes) where
 
   -- ---- what is written
 
-  still_fills : (m e : Disk) (l : Link) → block_of e l.part.pair.0 ≡ block_of m l.part.pair.0
+  still_fills : (m e : Disk) (l : Link) → e.size ≡ m.size → block_of e l.part.pair.0 ≡ block_of m l.part.pair.0
       → block_of e l.part.pair.1 ≡ block_of m l.part.pair.1
       → FillsPair m bytes attributes l → FillsPair e bytes attributes l
-  still_fills m e l first second fills = record {
+  still_fills m e l size first second fills = record {
     none = fills.none;
     part = ap (λ (b : List ℕ). part_in b (block_of e l.part.pair.1)) first ∙ ap (part_in (block_of m l.part.pair.0)) second ∙ fills.part;
+    filled = subst (λ (n : ℕ). FirstIsFilled n (block_of e l.part.pair.0) (block_of e l.part.pair.1)) (sym size)
+        (subst (λ (b : List ℕ). FirstIsFilled m.size b (block_of e l.part.pair.1)) (sym first)
+        (subst (FirstIsFilled m.size (block_of m l.part.pair.0)) (sym second) fills.filled));
   }
 
   both_filled : (d m e : Disk) (ls ms : List Link) → CanFillPairs d bytes attributes (ls ++ ms) → FillPairs d m bytes attributes ls
@@ -146,7 +152,7 @@ module _ (bytes : List ℕ) (attributes : Attributes) where
     each = λ l there. elim (Contains-append_cases ls ms l there) [
       | inl before ↦
           (let stays = λ (n : ℕ) (used : 1 ≤ name_of n l). later.but.others n (no_later_first n ls ms l (can.once n) before used) in
-          still_fills m e l (stays l.part.pair.0 (first_used l.part.pair)) (stays l.part.pair.1 (second_used l.part.pair))
+          still_fills m e l later.but.disk.size (stays l.part.pair.0 (first_used l.part.pair)) (stays l.part.pair.1 (second_used l.part.pair))
           (first.each l before))
       | inr behind ↦ later.each l behind
     ];
@@ -176,13 +182,27 @@ module _ (bytes : List ℕ) (attributes : Attributes) where
     };
     each = λ m there. subst (FillsPair (put l.part.pair.0 block d) bytes attributes) (sym (contains_one l m there)) (record {
       none = can.none;
-      part = ap (λ (b : List ℕ). part_in b (block_of (put l.part.pair.0 block d) l.part.pair.1))
-          (here d l.part.pair.0 block disk can.may.first first.len)
-          ∙ ap (part_in block) (other d l.part.pair.0 l.part.pair.1 block disk can.may.first (λ is. can.may.apart (sym is)) first.len
-          ∙ can.erased)
-          ∙ first.before_erased;
+      part = held;
+      filled = record {
+        part = link_part bytes attributes l (replicate 12 0);
+        holds = held;
+        written = front ∙ first.bytes ∙ ap (λ (n : ℕ). log_written 1 (part_tags (link_part bytes attributes l (replicate 12 0)))
+            (replicate n 0xff)) (sym same.size);
+        erased = behind ∙ ap (λ (n : ℕ). replicate n 0xff) (sym same.size);
+      };
     });
   }
+    where
+      front : block_of (put l.part.pair.0 block d) l.part.pair.0 ≡ block
+      front = here d l.part.pair.0 block disk can.may.first first.len
+
+      behind : block_of (put l.part.pair.0 block d) l.part.pair.1 ≡ replicate d.size 0xff
+      behind = other d l.part.pair.0 l.part.pair.1 block disk can.may.first (λ is. can.may.apart (sym is)) first.len ∙ can.erased
+
+      held : stored_part_of (put l.part.pair.0 block d) l.part.pair ≡ Some (link_part bytes attributes l (replicate 12 0))
+      held =
+          ap (λ (b : List ℕ). part_in b (block_of (put l.part.pair.0 block d) l.part.pair.1)) front
+          ∙ ap (part_in block) behind ∙ first.before_erased
 
   -- the same, as it is written
   pub pair_filled : BlockPut → BlockPutOther → (d e : Disk) (l : Link) (n size : ℕ) (es : List StoredEntry) (block : List ℕ) → IsDisk d

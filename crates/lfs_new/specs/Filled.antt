@@ -7,6 +7,7 @@ use Rattle.lfs_fs.specs.Sound.{AreAttributes}
 use Rattle.lfs_fs.specs.Thread.{Link, links}
 use Rattle.lfs_fs.specs.Uses.{pair_uses}
 use Rattle.lfs_fs.specs.Volume.{Volume}
+use Rattle.lfs_command.specs.PartWritten.{FirstIsFilled}
 use Rattle.lfs_law.specs.SuperblockBytes.{volume_bytes}
 use Rattle.lfs_law.specs.WrittenLinks.{CanBeWritten, link_part}
 use Rattle.lfs_new.specs.DiskBut.{IsDiskBut}
@@ -39,10 +40,11 @@ pub record CanTakeOutline (d : Disk) (o : Volume) : Type 0 where
 
 -- ---- what is written
 
--- a link's pair holds it, without a share of the global state
+-- a link's pair holds it, alone in its first block, without a share of the global state
 pub record FillsPair (e : Disk) (bytes : List ℕ) (attributes : Attributes) (l : Link) : Type 0 where
   pub none : l.part.delta ≡ 0
   pub part : stored_part_of e l.part.pair ≡ Some (link_part bytes attributes l (replicate 12 0))
+  pub filled : FirstIsFilled e.size (block_of e l.part.pair.0) (block_of e l.part.pair.1)
 
 -- disk e is d but for the first blocks of the links' pairs, and each of these pairs holds its link
 pub record FillPairs (d e : Disk) (bytes : List ℕ) (attributes : Attributes) (ls : List Link) : Type 0 where

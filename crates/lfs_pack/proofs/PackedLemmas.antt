@@ -14,11 +14,13 @@ use Rattle.lfs_command.specs.declared.refusal.Refusal.TheVariants.{Memory}
 use Rattle.lfs_command.specs.Command.{Command}
 use Rattle.lfs_law.proofs.CarriedFollow.{CarriedFollow}
 use Rattle.lfs_edit.specs.Formatted.{disk_with}
+use Rattle.lfs_new.specs.NewImages.{AreFilled}
 use Rattle.lfs_ends.specs.Lead.{Lead}
 use Rattle.lfs_build.specs.declared.new_volume.NewVolume.{NewVolume}
 use Rattle.lfs_pack.specs.declared.pack_row.PackRow.{PackRow}
 use Rattle.lfs_pack.specs.Laws.{LedToTheirMap}
-use Rattle.lfs_build.specs.NewVolumes.{IsAt, IsBare, IsNewImageOf}
+use Rattle.lfs_build.specs.Finished.{AreErasedBeside, IsNewImageOf}
+use Rattle.lfs_build.specs.NewVolumes.{IsAt, IsBare}
 use Rattle.lfs_pack.specs.Packed.{AreRowsOf, IsRowOf, Packed, attribute_of, commands, making, setting}
 use Rattle.lfs_pack.specs.Packing.{IsNotPacked, IsPacked, RefusesPack}
 use Rattle.lfs_pack.specs.RowsAdded.{AddsRows, AreStopped, IsBareAt, PacksVolume, RefusesAll, RefusesRows, SetsAll}
@@ -158,4 +160,6 @@ packed follow map_of size count limits rows t d packs disk finished what are =
       limited = keeps.2;
       led = to.1;
       at = map_of size count limits what to.0 are.packable to.1;
+      filled = subst (λ (x : Disk). AreFilled x to.0) same done.filled;
+      erased = subst (AreErasedBeside to.0) same done.erased;
     }

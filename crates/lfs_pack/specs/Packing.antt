@@ -14,11 +14,13 @@ use Rattle.lfs_command.specs.declared.refusal.Refusal.TheVariants.{Memory}
 use Rattle.lfs_command.specs.Command.{Command}
 use Rattle.lfs_command.specs.Verdict.{verdict}
 use Rattle.lfs_edit.specs.Formatted.{disk_with}
+use Rattle.lfs_new.specs.NewImages.{AreFilled}
+use Rattle.lfs_build.specs.Finished.{AreErasedBeside}
 use Rattle.lfs_pack.specs.Packed.{Packed, commands, packed_at}
 use Rattle.lfs_ends.specs.Lead.{Lead}
 
 -- The bytes are an image with these limits, whose tree is the map of the rows. The volume is the one that the commands of the rows lead to
--- from a new one.
+-- from a new one: each of its parts stands alone in the first block of its pair, and all that it doesn't use is erased.
 pub record IsPacked (size count : ℕ) (limits : Limits) (rows : List Packed) (bytes : List ℕ) : Type 0 where
   pub disk : IsDisk (disk_with size count bytes)
   pub volume : Volume
@@ -27,6 +29,8 @@ pub record IsPacked (size count : ℕ) (limits : Limits) (rows : List Packed) (b
   pub limited : volume.limits ≡ limits
   pub led : Lead (commands rows) (empty_volume size count limits []) volume
   pub at : (p : Path) → tree volume p ≡ packed_at rows p
+  pub filled : AreFilled (disk_with size count bytes) volume
+  pub erased : AreErasedBeside volume (disk_with size count bytes)
 
 -- The next command of the rows is refused on a volume to which those before it lead from a new one.
 pub record IsNotPacked (size count : ℕ) (limits : Limits) (rows : List Packed) (r : Refusal) : Type 0 where

@@ -9,11 +9,10 @@ use Rattle.lfs_block.specs.Bytes.{IsBytes}
 use Rattle.lfs_block.specs.Change.{Change, IsRising, overlaid}
 use Rattle.lfs_block.specs.Disk.{Disk, IsDisk, block_of, put}
 use Rattle.lfs_block.specs.PatchLaws.{BlockPut, BlockPutOther}
-use Rattle.lfs_tag.specs.Commit.{Item}
 use Rattle.lfs_meta.specs.Attribute.{Attributes}
 use Rattle.lfs_meta.specs.Body.{Pair}
 use Rattle.lfs_meta.specs.Entry.{StoredEntry}
-use Rattle.lfs_meta.specs.LiveBlock.{revision, stored_part_of}
+use Rattle.lfs_meta.specs.LiveBlock.{stored_part_of}
 use Rattle.lfs_meta.specs.Part.{StoredPart}
 use Rattle.lfs_commit.specs.Spelling.{part_tags}
 use Rattle.lfs_commit.specs.Writing.{IsFirstBlock, log_written, part_in, stored_part}
@@ -212,18 +211,19 @@ pair_filled d pair first second part old mid cs apart one two back = record {
   back = ap (λ (b : List ℕ). part_in b (block_after d cs pair.1)) (two.others pair.0 apart ∙ one.here) ∙ ap (part_in first) two.here ∙ back;
 }
 
--- revision 1 is read back
-log_first : (tags : List Item) (block : List ℕ) → revision (log_written 1 tags block) ≡ 1
-log_first tags block = refl
-
 pub first_filled : (d : Disk) (pair : Pair) (size : ℕ) (part : StoredPart) (first second : List ℕ) (old mid cs : List Change)
     → pair.0 ≢ pair.1 → size ≡ d.size → IsFirstBlock size part first → second ≡ replicate size 0xff
     → AddsChange d (change_at d pair.0 first) old mid → AddsChange d (change_at d pair.1 second) mid cs
     → FillsFirst d cs pair
-first_filled d pair size part first second old mid cs apart same is erased one two = record {
-  revised = ap revision (two.others pair.0 apart ∙ one.here ∙ is.bytes) ∙ log_first (part_tags part) (replicate size 0xff);
-  erased = two.here ∙ erased ∙ ap (λ (n : ℕ). replicate n 0xff) same;
-}
+first_filled d pair size part first second old mid cs apart same is erased one two =
+    let front : block_after d cs pair.0 ≡ first = two.others pair.0 apart ∙ one.here in
+    let behind : block_after d cs pair.1 ≡ replicate size 0xff = two.here ∙ erased in
+    record {
+      part = part;
+      holds = ap (λ (b : List ℕ). part_in b (block_after d cs pair.1)) front ∙ ap (part_in first) behind ∙ is.before_erased;
+      written = front ∙ is.bytes ∙ ap (λ (n : ℕ). log_written 1 (part_tags part) (replicate n 0xff)) same;
+      erased = behind ∙ ap (λ (n : ℕ). replicate n 0xff) same;
+    }
 
 -- ---- a link
 

@@ -1,5 +1,5 @@
 -- The outline can be written, and the image then holds the volume.
-use Rattle.std.proofs.Common.{sym, ◌∙◌, subst}
+use Rattle.std.proofs.Common.{sym, subst}
 use Rattle.lfs_block.specs.Medium.{Medium}
 use Rattle.lfs_fs.specs.Volume.{Volume}
 use Rattle.lfs_new.specs.Filled.{CanTakeOutline, TakesOutline}
@@ -19,10 +19,5 @@ returns c q v at =
     let image = c.in_ok-image.ensures.image in
     let taken : TakesOutline c.args.self.image.disk c.write_outline.new.image.disk _ =
     subst (λ (i : Medium). TakesOutline i.disk c.write_outline.new.image.disk c.in_ok-image.outline) image c.in_ok-write_outline.ensures.taken in
-    record {
-      holds = can.holds c.write_outline.new.image.disk (subst (λ (o : Volume). TakesOutline c.args.self.image.disk c.write_outline.new.image.disk o)
-          (c.in_ok-image.ensures.outline q v at) taken);
-      sound = at.taking.built.sound;
-      size = at.taking.built.size ∙ sym taken.but.disk.size;
-      count = at.taking.built.count ∙ sym taken.but.disk.count;
-    }
+    can.finished c.write_outline.new.image.disk (subst (λ (o : Volume). TakesOutline c.args.self.image.disk c.write_outline.new.image.disk o)
+    (c.in_ok-image.ensures.outline q v at) taken)
