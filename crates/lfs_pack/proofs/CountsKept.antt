@@ -11,7 +11,7 @@ use Rattle.lfs_ends.specs.Lead.{Lead}
 use Rattle.lfs_pack.specs.Packed.{Packed, commands, making, row_commands, setting}
 
 -- a command leaves as many blocks as there are
-pub KeepsCount : Command → Type 0
+unfoldable pub KeepsCount : Command → Type 0
 KeepsCount c = (n : ℕ) → count_after c n ≡ n
 
 both_keep : (cs ds : List Command) → AllByRecursion KeepsCount cs → AllByRecursion KeepsCount ds → AllByRecursion KeepsCount (cs ++ ds)

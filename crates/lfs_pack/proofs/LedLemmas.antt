@@ -114,7 +114,7 @@ set_all follow p bytes done (a ∷ more) v w old before rise is (u, does, led) q
 -- ---- one row
 
 -- a row's path is new; the root is there, as a directory without attributes
-abbrev CanStand : (Path → Option Node) → Path → Option (List ℕ) → Type 0
+abbrev pub CanStand : (Path → Option Node) → Path → Option (List ℕ) → Type 0
 CanStand old [] bytes = (bytes ≡ None) × (old [] ≡ Some (Dir []))
 CanStand old (n ∷ p) bytes = old (n ∷ p) ≡ None
 
@@ -150,7 +150,7 @@ all_before_none [] = All-nil (Before [])
 all_before_none (a ∷ more) = All-cons (Before []) a more (All-nil (λ (b : ℕ × List ℕ). b.0 < a.0)) (all_before_none more)
 
 -- the map with what a row has
-abbrev with_row : Packed → (Path → Option Node) → Path → Option Node
+abbrev pub with_row : Packed → (Path → Option Node) → Path → Option Node
 with_row r old = put_at_path r.path (Some (packed_node r.bytes r.attributes)) old
 
 -- ---- all rows
@@ -170,7 +170,7 @@ if_not true x y h = absurd (h refl)
 if_not false x y h = refl
 
 -- none of the rows has the path
-abbrev Lack : Path → List Packed → Type 0
+abbrev pub Lack : Path → List Packed → Type 0
 Lack q rs = All (λ (s : Packed). s.path ≡ q → ⊥) rs
 
 over_none : (rs : List Packed) (old : Path → Option Node) (q : Path) → Lack q rs → over rs old q ≡ old q
@@ -198,7 +198,7 @@ false_true h = cc
 apart : PathsAreOrdered → (p q : Path) → path_precedes p q ≡ true → q ≡ p → ⊥
 apart order p q first same = false_true (sym (order.irreflexive p) ∙ subst (λ (x : Path). path_precedes p x ≡ true) same first)
 
-lacking : PathsAreOrdered → (p : Path) (rs : List Packed) → All (λ (s : Packed). path_precedes p s.path ≡ true) rs → Lack p rs
+pub lacking : PathsAreOrdered → (p : Path) (rs : List Packed) → All (λ (s : Packed). path_precedes p s.path ≡ true) rs → Lack p rs
 lacking order p [] first = All-nil (λ (s : Packed). s.path ≡ p → ⊥)
 lacking order p (s ∷ rs) first =
     All-cons (λ (t : Packed). t.path ≡ p → ⊥) s rs
@@ -206,7 +206,7 @@ lacking order p (s ∷ rs) first =
     (lacking order p rs (All-tail (λ (t : Packed). path_precedes p t.path ≡ true) s rs first))
 
 -- rows that can stand on a map
-abbrev AllCanStand : (Path → Option Node) → List Packed → Type 0
+abbrev pub AllCanStand : (Path → Option Node) → List Packed → Type 0
 AllCanStand old rs = All (λ (s : Packed). CanStand old s.path s.bytes) rs
 
 can_stand_like : (old new : Path → Option Node) (p : Path) (bytes : Option (List ℕ)) → new p ≡ old p → CanStand old p bytes
@@ -214,7 +214,7 @@ can_stand_like : (old new : Path → Option Node) (p : Path) (bytes : Option (Li
 can_stand_like old new [] bytes same can = (can.0, same ∙ can.1)
 can_stand_like old new (n ∷ p) bytes same can = same ∙ can
 
-others_stand : (r : Packed) (rs : List Packed) (old : Path → Option Node) → Lack r.path rs → AllCanStand old rs
+pub others_stand : (r : Packed) (rs : List Packed) (old : Path → Option Node) → Lack r.path rs → AllCanStand old rs
     → AllCanStand (with_row r old) rs
 others_stand r [] old lack can = All-nil (λ (s : Packed). CanStand (with_row r old) s.path s.bytes)
 others_stand r (s ∷ rs) old lack can =
@@ -227,18 +227,18 @@ others_stand r (s ∷ rs) old lack can =
     (All-tail (λ (t : Packed). CanStand old t.path t.bytes) s rs can))
 
 -- commands behind others lead on from where these lead to
-record IsLedBy (cs ds : List Command) (v w : Volume) : Type 0 where
-  middle : Volume
-  first : Lead cs v middle
-  rest : Lead ds middle w
+pub record IsLedBy (cs ds : List Command) (v w : Volume) : Type 0 where
+  pub middle : Volume
+  pub first : Lead cs v middle
+  pub rest : Lead ds middle w
 
-split_led : (cs ds : List Command) (v w : Volume) → Lead (cs ++ ds) v w → IsLedBy cs ds v w
+pub split_led : (cs ds : List Command) (v w : Volume) → Lead (cs ++ ds) v w → IsLedBy cs ds v w
 split_led [] ds v w led = record { middle = v; first = refl; rest = led }
 split_led (c ∷ cs) ds v w (u, does, led) =
     let rest = split_led cs ds u w led in
     record { middle = rest.middle; first = (u, does, rest.first); rest = rest.rest }
 
-row_led : CarriedFollow → (r : Packed) (v w : Volume) (old : Path → Option Node) → CanStand old r.path r.bytes
+pub row_led : CarriedFollow → (r : Packed) (v w : Volume) (old : Path → Option Node) → CanStand old r.path r.bytes
     → KindsRise r.attributes → ((q : Path) → tree v q ≡ old q) → Lead (row_commands r) v w → (q : Path) → tree w q ≡ with_row r old q
 row_led follow r v w old can kinds is led =
     let made = make_one follow r.path r.bytes (setting r.path r.attributes) v w old can is led in
@@ -270,7 +270,7 @@ new_stands : (size count : ℕ) (limits : Limits) (p : Path) (bytes : Option (Li
 new_stands size count limits [] bytes first = absurd (false_true first)
 new_stands size count limits (n ∷ p) bytes first = new_tree size count limits n p
 
-all_new_stand : (size count : ℕ) (limits : Limits) (rs : List Packed) → All (λ (s : Packed). path_precedes [] s.path ≡ true) rs
+pub all_new_stand : (size count : ℕ) (limits : Limits) (rs : List Packed) → All (λ (s : Packed). path_precedes [] s.path ≡ true) rs
     → AllCanStand (tree (empty_volume size count limits [])) rs
 all_new_stand size count limits [] first = All-nil (λ (s : Packed). CanStand (tree (empty_volume size count limits [])) s.path s.bytes)
 all_new_stand size count limits (s ∷ rs) first =
@@ -292,7 +292,7 @@ over_formatted size count limits r rs [] root =
     ∙ sym (if_true (same_path r.path []) (Some (packed_node r.bytes r.attributes)) (packed_at rs []) ((same_path_decides r.path []).1 root))
 over_formatted size count limits r rs (n ∷ q) root = over_new (r ∷ rs) (tree (empty_volume size count limits [])) (n ∷ q) (new_tree size count limits n q)
 
-root_stands : (size count : ℕ) (limits : Limits) (p : Path) (bytes : Option (List ℕ)) → p ≡ [] → bytes ≡ None
+pub root_stands : (size count : ℕ) (limits : Limits) (p : Path) (bytes : Option (List ℕ)) → p ≡ [] → bytes ≡ None
     → CanStand (tree (empty_volume size count limits [])) p bytes
 root_stands size count limits [] bytes root none = (none, refl)
 root_stands size count limits (n ∷ p) bytes root none = absurd (cc)

@@ -10,3 +10,6 @@ pub mod BareIsAt
 pub mod CountsKept
 pub mod PackedLemmas
 pub mod LeastCounts
+pub mod NoneFreed
+pub mod Counted
+pub mod LeastIsLeast
