@@ -19,7 +19,9 @@ use std::alloc::Global;
 const MOST_BLOCKS: u64 = 65_536;
 
 /// How many blocks an image of blocks of `size` bytes has at most. The caller owes a block size that images have. Takes no memory.
-fn most_count(size: u32) -> u32
+///
+/// Source: own.
+pub fn most_count(size: u32) -> u32
     requires { IsBlockSize size }
     ensures value { result ≡ most_count size }
     ensures geometry { IsGeometry size result }

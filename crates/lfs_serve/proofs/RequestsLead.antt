@@ -373,17 +373,17 @@ stop_leaves s older size keep name scene behind fault old new h before later den
 -- ---- tasks
 
 -- rows of a folder are good, and no other step has any
-good_step : (t : Task) (keep : Option ℕ) (scene : Scene) (s : Step) → BecomesStep t keep scene s → HasGoodRows (deed_of s [] None)
-good_step (task.Pack extent limits dir) keep scene (step.Pack count stated packed) (rows, folder, asks) =
+good_step : (t : Task) (size : ℕ) (keep : Option ℕ) (scene : Scene) (s : Step) → BecomesStep t size keep scene s → HasGoodRows (deed_of s [] None)
+good_step (task.Pack extent limits dir) size keep scene (step.Pack count stated packed) (rows, folder, asks) =
     (map packed_of folder.shown, subst (λ (rs : List PackRow). AreRowsOf rs (map packed_of folder.shown)) (sym asks.2) folder.packed)
-good_step (task.Pack extent limits dir) keep scene _ (rows, folder, asks) = absurd asks
-good_step (task.SetAttr path kind value) keep scene (step.SetAttr at of to) becomes = tt
-good_step (task.SetAttr path kind value) keep scene _ (rows, folder, asks) = absurd asks
-good_step (task.RmAttr path kind) keep scene (step.RmAttr at of) becomes = tt
-good_step (task.RmAttr path kind) keep scene _ (rows, folder, asks) = absurd asks
-good_step (task.Batch file) keep scene (step.Batch steps) becomes = tt
-good_step (task.Batch file) keep scene _ (text, reads, (lines, says, takes)) = absurd takes
-good_step _ keep scene s (rows, folder, asks) = absurd asks
+good_step (task.Pack extent limits dir) size keep scene _ (rows, folder, asks) = absurd asks
+good_step (task.SetAttr path kind value) size keep scene (step.SetAttr at of to) becomes = tt
+good_step (task.SetAttr path kind value) size keep scene _ (rows, folder, asks) = absurd asks
+good_step (task.RmAttr path kind) size keep scene (step.RmAttr at of) becomes = tt
+good_step (task.RmAttr path kind) size keep scene _ (rows, folder, asks) = absurd asks
+good_step (task.Batch file) size keep scene (step.Batch steps) becomes = tt
+good_step (task.Batch file) size keep scene _ (text, reads, (lines, says, takes)) = absurd takes
+good_step _ size keep scene s (rows, folder, asks) = absurd asks
 
 -- where a request leads, or that it is torn
 data Ends (size : ℕ) (keep : Option ℕ) (name : List ℕ) (t : Task) (scene : Scene) (fault : Option Fault) (old new : Files) (h : History) : Type 0 where
@@ -419,11 +419,11 @@ step_ends laws (Some fault) s older size keep name scene behind old new h good b
 
 -- a task for which something is read first
 reading_ends : Laws → (fault : Option Fault) (t : Task) (older : Bool) (size : ℕ) (keep : Option ℕ) (name : List ℕ) (scene behind : Scene) (old new : Files) (h : History)
-    → ((next : History) → (s : Step) × BecomesStep t keep scene s × StepGoes size keep s scene.files scene.typed h next → TaskGoes size keep t scene h next)
+    → ((next : History) → (s : Step) × BecomesStep t size keep scene s × StepGoes size keep s scene.files scene.typed h next → TaskGoes size keep t scene h next)
     → scene.files ≡ Some old → behind.files ≡ Some new → FilesDenote size name old h → EndsReading t older size keep name scene behind fault
     → Ends size keep name t scene fault old new h
 reading_ends laws None t older size keep name scene behind old new h turn before later denotes (inl (s, becomes, ends)) =
-    let leads = step_leads laws s older size keep name scene behind old new h (good_step t keep scene s becomes) before later denotes ends in
+    let leads = step_leads laws s older size keep name scene behind old new h (good_step t size keep scene s becomes) before later denotes ends in
     Stored_directory leads.next (turn leads.next (s, becomes, leads.goes)) leads.denotes
 reading_ends laws None t older size keep name scene behind old new h turn before later denotes (inr (keeps, (why, is, no_step))) = absurd cc
 reading_ends laws (Some fault) t older size keep name scene behind old new h turn before later denotes (inl (s, becomes, ends)) =

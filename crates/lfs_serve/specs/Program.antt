@@ -75,9 +75,9 @@ EndsAs becomes refused older size keep name old new fault =
     ⊎ (KeepsScene old new × ((why : Fault) × (fault ≡ Some why) × refused why))
 
 -- the step that a task becomes, with the steps of its script, or with the rows of the folder that it packs
-abbrev pub BecomesStep : Task → Option ℕ → Scene → Step → Type 0
-BecomesStep (Batch file) keep scene step = BecomesBatch file keep scene step
-BecomesStep task keep scene step = (rows : List PackRow) × PacksRows task scene.tree rows × AsksFor task rows step
+abbrev pub BecomesStep : Task → ℕ → Option ℕ → Scene → Step → Type 0
+BecomesStep (Batch file) size keep scene step = BecomesBatch file keep scene step
+BecomesStep task size keep scene step = (rows : List PackRow) × PacksRows task scene.tree rows × AsksFor task size rows step
 
 -- why it becomes none: its folder isn't read, or its script, or it names none
 abbrev pub BecomesNoStep : Task → Scene → Scene → Fault → Type 0
@@ -88,7 +88,7 @@ BecomesNoStep task old new why = NamesNoStep task why
 -- how a task ends for which something is read first
 abbrev pub EndsReading : Task → Bool → ℕ → Option ℕ → List ℕ → Scene → Scene → Option Fault → Type 0
 EndsReading task older size keep name old new fault =
-    EndsAs (BecomesStep task keep old) (BecomesNoStep task old new) older size keep name old new fault
+    EndsAs (BecomesStep task size keep old) (BecomesNoStep task old new) older size keep name old new fault
 
 -- how a task on an image's file ends: as the step that its words say, as a folder that is made, or by what is read first
 abbrev pub EndsTask : Task → Bool → ℕ → Option ℕ → List ℕ → Scene → Scene → Option Fault → Type 0

@@ -61,7 +61,7 @@ StepGoes size keep step files typed old new =
 abbrev pub TaskGoes : ℕ → Option ℕ → Task → Scene → History → History → Type 0
 TaskGoes size keep (task.Step step) s old new = StepGoes size keep step s.files s.typed old new
 TaskGoes size keep (Extract dir) s old new = new ≡ old
-TaskGoes size keep t s old new = (step : Step) × BecomesStep t keep s step × StepGoes size keep step s.files s.typed old new
+TaskGoes size keep t s old new = (step : Step) × BecomesStep t size keep s step × StepGoes size keep step s.files s.typed old new
 
 -- one that wasn't done leaves the history
 abbrev pub TaskGoesBy : Option Fault → ℕ → Option ℕ → Task → Scene → History → History → Type 0

@@ -3,22 +3,20 @@
 ghost use Rattle.std.specs.Prelude.{◌≡◌, IfOk};
 ghost use Rattle.lfs_fs.specs.Superblock.{IsLimits};
 ghost use Rattle.lfs_request.specs.Asking.{IsExtent};
+ghost use Rattle.lfs_request.specs.declared.extent.Extent.TheVariants.{Least};
 
 use crate::stated::Statement;
 use crate::stop::Stop;
-use lfs_block::{MAX_IMAGE_LENGTH, geometry_ok};
+use lfs_block::geometry_ok;
 use lfs_edit::Refusal;
 use lfs_fs::Limits;
-use lfs_pack::{PackRow, least_count};
+use lfs_pack::{PackRow, least_count, most_count};
 use lfs_request::Extent;
 use lfs_step::Fault;
 use std::alloc::{AllocError, Global};
 
 /// The least number of blocks of an image.
 const MIN_BLOCK_COUNT: u32 = 2;
-
-/// The most blocks that an image has.
-const MAX_BLOCK_COUNT: u64 = 65_536;
 
 /// How many blocks a packed image gets; where none holds its rows, as many as an image of this block size has at most, in which
 /// packing them says why. The caller owes limits that images may state. Takes memory.
@@ -30,26 +28,31 @@ pub fn counted(
     rows: &[PackRow<'_>],
 ) -> Result<u32, AllocError>
     requires { IsLimits limits }
-    ensures { IfOk result (IsExtent extent) }
+    ensures { IfOk result (IsExtent size limits rows.now extent) }
 {
     match extent {
         Extent::Count(count) => Ok(count),
-        Extent::Least => match needed(alloc, size, limits, rows) {
-            Ok(count) => Ok(count),
-            Err(Refusal::Memory) => Err(AllocError),
-            Err(_) => Ok(most_count(size)),
-        },
+        Extent::Least => least(alloc, size, limits, rows),
     }
 }
 
-/// How many blocks rows need; of a size that no block has, as few as an image has. Takes memory.
-fn needed(alloc: Global, size: u32, limits: Limits, rows: &[PackRow<'_>]) -> Result<u32, Refusal>
+/// The least number of blocks that holds rows; of a size that no block has, as few as an image has.
+fn least(
+    alloc: Global,
+    size: u32,
+    limits: Limits,
+    rows: &[PackRow<'_>],
+) -> Result<u32, AllocError>
     requires { IsLimits limits }
+    ensures { IfOk result (IsExtent size limits rows.now Least) }
 {
-    if geometry_ok(size, MIN_BLOCK_COUNT) {
-        least_count(alloc, size, limits, rows)
-    } else {
-        Ok(MIN_BLOCK_COUNT)
+    if !geometry_ok(size, MIN_BLOCK_COUNT) {
+        return Ok(MIN_BLOCK_COUNT);
+    }
+    match least_count(alloc, size, limits, rows) {
+        Ok(count) => Ok(count),
+        Err(Refusal::Memory) => Err(AllocError),
+        Err(_) => Ok(most_count(size)),
     }
 }
 
@@ -73,17 +76,12 @@ pub fn with_need(alloc: Global, size: u32, limits: Limits, rows: &[PackRow<'_>],
 fn need_of(alloc: Global, size: u32, limits: Limits, rows: &[PackRow<'_>]) -> Option<Statement>
     requires { IsLimits limits }
 {
-    match needed(alloc, size, limits, rows) {
+    if !geometry_ok(size, MIN_BLOCK_COUNT) {
+        return None;
+    }
+    match least_count(alloc, size, limits, rows) {
         Ok(count) => Some(Statement::Need(Some(count))),
         Err(Refusal::NoSpace { .. }) => Some(Statement::Need(None)),
         Err(_) => None,
     }
-}
-
-/// The most blocks that an image of this block size has.
-fn most_count(size: u32) -> u32 {
-    MAX_IMAGE_LENGTH
-        .checked_div(u64::from(size))
-        .unwrap_or(0)
-        .min(MAX_BLOCK_COUNT) as u32
 }
