@@ -390,13 +390,14 @@ def full_journals_are_cut(folder):
     journal.refuses("undo", 1, NO_UNDO)
 
 
-def a_call_fails(journal, call, at, library):
-    """Puts a file of 5 bytes into the directory, where the call of a name with this number fails, which the run tells."""
+def a_call_fails(journal, call, at, library, words="put /a/x"):
+    """Puts a file of 5 bytes into the directory, or runs other words, where the call of a name with this number fails, which the run
+    tells."""
     refusing = Refusing(pathlib.Path(library))
-    status, complained, _ = journal.ended("put /a/x", 5, env=refusing.env(at, call))
+    status, complained, _ = journal.ended(words, 5, env=refusing.env(at, call))
     journal.folder.check(f"{call} {at} fails", refusing.was_hit())
     is_told_so = status == 4 and complained.startswith("lfsed: 61 CannotWrite\n")
-    journal.folder.check(f"{call} {at}: put", is_told_so, (status, complained))
+    journal.folder.check(f"{call} {at}: {words}", is_told_so, (status, complained))
 
 
 def files_stay_until_the_journal_has_its_name(folder):
@@ -440,6 +441,18 @@ def a_run_that_stopped_between_the_files(folder):
     journal.is_image("forget", middle)
 
 
+def a_new_image_that_gets_no_place(folder):
+    """The old image stands beside the journal of the new one, which has no changes: it fits where both have as many blocks."""
+    journal = Journal(folder)
+    journal.two_commands()
+    for count, status, complaint in (8, 1, NO_UNDO), (16, 3, NO_MATCH):
+        with tempfile.TemporaryDirectory() as library:
+            a_call_fails(journal, "rename", 2, library, f"format --count {count}")
+        journal.is_image("format", journal.later)
+        folder.check("the new journal", journal.now() == changed(FRESH, 12, word(count)))
+        journal.refuses("undo", status, complaint)
+
+
 if __name__ == "__main__":
     sys.exit(run_scenes([
         changes_are_taken_back_and_made_again,
@@ -462,4 +475,5 @@ if __name__ == "__main__":
         files_stay_until_the_journal_has_its_name,
         leftovers_are_replaced,
         a_run_that_stopped_between_the_files,
+        a_new_image_that_gets_no_place,
     ]))

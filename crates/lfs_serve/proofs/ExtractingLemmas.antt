@@ -16,7 +16,7 @@ use Rattle.lfs_host.specs.Scene.{HasRefused, KeepsScene, Notes, Scene, refuses_r
 use Rattle.lfs_host.specs.declared.read_fault.ReadFault.{ReadFault}
 use Rattle.lfs_host.specs.declared.read_fault.ReadFault.TheVariants as reading
 use Rattle.lfs_step.specs.Query.{HasMount}
-use Rattle.lfs_exchange.specs.Handing.{IsUnread, fault_of_reading, most_image}
+use Rattle.lfs_exchange.specs.Handing.{IsUnfound, IsUnread, fault_of_reading, most_image}
 use Rattle.lfs_serve.proofs.StepLemmas.{reads_target}
 use Rattle.lfs_serve.specs.Later.{later_alone, refused_by}
 use Rattle.lfs_serve.specs.Extracting.{EndsBytes, EndsExtract, EndsMaking, FindsFolder, MakesRows, StopsMaking, fault_of_extracting}
@@ -24,7 +24,7 @@ use Rattle.lfs_serve.specs.Extracting.{EndsBytes, EndsExtract, EndsMaking, Finds
 -- what the host refuses to read
 pub unread : (fault : ReadFault) (old new : Scene) → Notes (refuses_reading fault) old new → IsUnread new (fault_of_reading fault)
 unread reading.Memory old new notes = refl
-unread reading.CannotRead old new notes = notes
+unread reading.CannotRead old new notes = notes.0
 
 -- what isn't read ends it, and nothing is made
 unread_ends : (d : Disk) (dir : List ℕ) (tree : Option HostTree) (old : Option (List Made)) (new : Scene) (fault : Fault) → IsUnread new fault
@@ -87,6 +87,12 @@ pub file_later : (older : Bool) (size : ℕ) (name target dir bytes : List ℕ) 
     → refused_by older (later_alone size bytes) ≡ Some fault → EndsExtract older size name dir old new ended
 file_later older size name target dir bytes old new ended fault leads reads keeps made_is is refused =
     (keeps, inr (bytes, reads_target old.files name target bytes most_image leads reads, inl (made_is, (fault, is, refused))))
+
+-- a file that isn't found isn't read
+pub unfound_unread : (new : Scene) (name : List ℕ) (fault : Fault) → IsUnfound new name fault → IsUnread new fault
+unfound_unread new name CannotRead unfound = unfound.0
+unfound_unread new name (Refused refusal) unfound = unfound
+unfound_unread new name _ unfound = absurd unfound
 
 -- nor of a file that isn't read
 pub file_unread : (older : Bool) (size : ℕ) (name dir : List ℕ) (old new : Scene) (ended : Option Fault) (fault : Fault) → KeepsScene old new

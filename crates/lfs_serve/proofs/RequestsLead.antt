@@ -35,11 +35,11 @@ use Rattle.lfs_step.proofs.HistoriesLeft.{fresh_is}
 use Rattle.lfs_step.proofs.RunsLeft.{one_goes}
 use Rattle.lfs_exchange.specs.declared.step_kind.StepKind.{StepKind}
 use Rattle.lfs_exchange.specs.declared.step_kind.StepKind.TheVariants.{Makes, Asks, Recounts, Changes, Forgets}
-use Rattle.lfs_exchange.specs.Handing.{HandedBytes, HandsImage, HandsInput, HandsJournal, IsHanded, IsOfHost, most_image}
+use Rattle.lfs_exchange.specs.Handing.{HandedBytes, HandsImage, HandsInput, HandsJournal, IsHanded, IsUnwritten, most_image}
 use Rattle.lfs_exchange.specs.StepKind.{kind_of, kind_of_steps}
 use Rattle.lfs_exchange.specs.Storing.{HasBoth, LeavesFiles, SparesFiles, journal_name, new_name, new_names}
 use Rattle.lfs_host.specs.Files.{Apart, BeginsWith, Files, FindsFile, HasReplaced, ReadsFile, bytes_there}
-use Rattle.lfs_host.specs.Scene.{KeepsScene, Scene}
+use Rattle.lfs_host.specs.Scene.{KeepsScene, Scene, WasRefused}
 use Rattle.lfs_request.specs.declared.task.Task.{Task}
 use Rattle.lfs_request.specs.declared.task.Task.TheVariants as task
 use Rattle.lfs_serve.specs.HostFolder.{packed_of}
@@ -319,7 +319,7 @@ done_leads laws (step.Batch steps) size keep name scene old new h b outcome good
 step_leads : Laws → (s : Step) (older : Bool) (size : ℕ) (keep : Option ℕ) (name : List ℕ) (scene behind : Scene) (old new : Files) (h : History) → HasGoodRows (deed_of s [] None)
     → scene.files ≡ Some old → behind.files ≡ Some new → FilesDenote size name old h → EndsStep s older size keep name scene behind None
     → StepLeads size keep name s scene.files scene.typed new h
-step_leads laws s older size keep name scene behind old new h good before later denotes (outcome, (b, handed, unrefused, (answers, none, sends), blamed), leaves) =
+step_leads laws s older size keep name scene behind old new h good before later denotes (outcome, (b, handed, unrefused, (answers, none, sends), blamed), leaves, flushed) =
     let at : IsHanded s name (with_files scene old) b = handed_from s name scene (with_files scene old) b before refl handed in
     let done = subst (λ (f : Option Fault). AnswersBy f (deed_of s b.input keep) (given size b.image b.journal) outcome) none answers in
     let left : LeavesFiles (kind_of s) (Some old) (Some new) name outcome =
@@ -330,44 +330,50 @@ step_leads laws s older size keep name scene behind old new h good before later 
 
 -- ---- what a step leaves that wasn't done
 
--- the status of what the host refuses
-host_status : (scene : Scene) (fault : Fault) → IsOfHost scene fault → status_of (Some fault) ≡ 4
-host_status scene CannotRead of_host = refl
-host_status scene CannotWrite of_host = refl
-host_status scene (Refused refusal) of_host = subst (λ (r : Refusal). status_of (Some (Refused r)) ≡ 4) (sym of_host) refl
-host_status scene _ of_host = absurd of_host
+-- the status of what the host refuses to write
+host_status : (scene : Scene) (fault : Fault) → IsUnwritten scene fault → status_of (Some fault) ≡ 4
+host_status scene CannotWrite unwritten = refl
+host_status scene (Refused refusal) unwritten = subst (λ (r : Refusal). status_of (Some (Refused r)) ≡ 4) (sym unwritten) refl
+host_status scene _ unwritten = absurd unwritten
 
--- image and journal stay, or the image does
-spared : (fault : Fault) (kind : StepKind) (size : ℕ) (name : List ℕ) (old new : Files) (h : History) (outcome : Outcome)
-    → FilesDenote size name old h → SparesFiles fault kind (Some old) (Some new) name outcome
-    → FilesDenote size name new h ⊎ (new name ≡ old name)
-spared (Refused refusal) kind size name old new h outcome denotes same = inl (same_files size name old new h same denotes)
-spared _ Asks size name old new h outcome denotes same = inl (same_files size name old new h same denotes)
-spared _ Recounts size name old new h outcome denotes same = inl (same_files size name old new h same denotes)
-spared _ Forgets size name old new h outcome denotes kept =
+-- image and journal stay, or the image does, since the host refused a file its place
+spared : (fault : Fault) (kind : StepKind) (placed : Option Bool) (size : ℕ) (name : List ℕ) (old new : Files) (h : History) (outcome : Outcome)
+    → FilesDenote size name old h → SparesFiles fault kind placed (Some old) (Some new) name outcome
+    → FilesDenote size name new h ⊎ (WasRefused placed × (new name ≡ old name))
+spared (Refused refusal) kind placed size name old new h outcome denotes same = inl (same_files size name old new h same denotes)
+spared _ Asks placed size name old new h outcome denotes same = inl (same_files size name old new h same denotes)
+spared _ Recounts placed size name old new h outcome denotes same = inl (same_files size name old new h same denotes)
+spared _ Forgets placed size name old new h outcome denotes kept =
     inl (stays size name old new h (kept name (apart_at name).0) (kept (journal_name name) (apart_at name).1) denotes)
-spared _ Makes size name old new h outcome denotes (inl kept) =
+spared _ Makes placed size name old new h outcome denotes (inl kept) =
     inl (stays size name old new h (kept name (image_apart name)) (kept (journal_name name) (journal_apart name)) denotes)
-spared _ Changes size name old new h outcome denotes (inl kept) =
+spared _ Changes placed size name old new h outcome denotes (inl kept) =
     inl (stays size name old new h (kept name (image_apart name)) (kept (journal_name name) (journal_apart name)) denotes)
-spared _ Makes size name old new h outcome denotes (inr torn) = inr (torn.others name (image_not_journal name, image_apart name))
-spared _ Changes size name old new h outcome denotes (inr torn) = inr (torn.others name (image_not_journal name, image_apart name))
+spared _ Makes placed size name old new h outcome denotes (inr (place, torn)) =
+    inr (place, torn.others name (image_not_journal name, image_apart name))
+spared _ Changes placed size name old new h outcome denotes (inr (place, torn)) =
+    inr (place, torn.others name (image_not_journal name, image_apart name))
+
+-- the host tore image and journal apart
+abbrev IsTornBy : Scene → ℕ → List ℕ → Files → Files → Type 0
+IsTornBy behind status name old new = WasRefused behind.has_refused_place × (status ≡ 4) × (new name ≡ old name)
 
 -- the files denote the history still, or the host tore them apart
 stop_leaves : (s : Step) (older : Bool) (size : ℕ) (keep : Option ℕ) (name : List ℕ) (scene behind : Scene) (fault : Fault) (old new : Files) (h : History)
     → scene.files ≡ Some old → behind.files ≡ Some new → FilesDenote size name old h → StopsStep s older size keep name scene behind fault
-    → FilesDenote size name new h ⊎ ((status_of (Some fault) ≡ 4) × (new name ≡ old name))
+    → FilesDenote size name new h ⊎ IsTornBy behind (status_of (Some fault)) name old new
 stop_leaves s older size keep name scene behind fault old new h before later denotes (inl (outcome, runs, same)) =
     inl (same_files size name old new h (sym later ∙ same ∙ before) denotes)
 stop_leaves s older size keep name scene behind fault old new h before later denotes (inr (inl (not_run, keeps))) =
     inl (same_files size name old new h (sym later ∙ keeps.0 ∙ before) denotes)
-stop_leaves s older size keep name scene behind fault old new h before later denotes (inr (inr (of_host, (outcome, runs, spares)))) =
-    let left : SparesFiles fault (kind_of s) (Some old) (Some new) name outcome =
-    subst (λ (f : Option Files). SparesFiles fault (kind_of s) (Some old) f name outcome) later
-    (subst (λ (f : Option Files). SparesFiles fault (kind_of s) f behind.files name outcome) before spares) in
-    elim (spared fault (kind_of s) size name old new h outcome denotes left) [
+stop_leaves s older size keep name scene behind fault old new h before later denotes (inr (inr (unwritten, (outcome, runs, spares)))) =
+    let placed = behind.has_refused_place in
+    let left : SparesFiles fault (kind_of s) placed (Some old) (Some new) name outcome =
+    subst (λ (f : Option Files). SparesFiles fault (kind_of s) placed (Some old) f name outcome) later
+    (subst (λ (f : Option Files). SparesFiles fault (kind_of s) placed f behind.files name outcome) before spares) in
+    elim (spared fault (kind_of s) placed size name old new h outcome denotes left) [
       | inl kept ↦ inl kept
-      | inr image ↦ inr (host_status behind fault of_host, image)
+      | inr (place, image) ↦ inr (place, host_status behind fault unwritten, image)
     ]
 
 -- ---- tasks
@@ -386,15 +392,15 @@ good_step (task.Batch file) size keep scene _ (text, reads, (lines, says, takes)
 good_step _ size keep scene s (rows, folder, asks) = absurd asks
 
 -- where a request leads, or that it is torn
-data Ends (size : ℕ) (keep : Option ℕ) (name : List ℕ) (t : Task) (scene : Scene) (fault : Option Fault) (old new : Files) (h : History) : Type 0 where
-  Stored_directory : (next : History) → TaskGoesBy fault size keep t scene h next → FilesDenote size name new next → Ends size keep name t scene fault old new h
-  Tears : status_of fault ≡ 4 → new name ≡ old name → Ends size keep name t scene fault old new h
+data Ends (size : ℕ) (keep : Option ℕ) (name : List ℕ) (t : Task) (scene behind : Scene) (fault : Option Fault) (old new : Files) (h : History) : Type 0 where
+  Stored_directory : (next : History) → TaskGoesBy fault size keep t scene h next → FilesDenote size name new next → Ends size keep name t scene behind fault old new h
+  Tears : IsTornBy behind (status_of fault) name old new → Ends size keep name t scene behind fault old new h
 
 -- what wasn't done leaves the history, or tears
-stopped : (size : ℕ) (keep : Option ℕ) (name : List ℕ) (t : Task) (scene : Scene) (fault : Fault) (old new : Files) (h : History)
-    → FilesDenote size name new h ⊎ ((status_of (Some fault) ≡ 4) × (new name ≡ old name)) → Ends size keep name t scene (Some fault) old new h
-stopped size keep name t scene fault old new h (inl denotes) = Stored_directory h refl denotes
-stopped size keep name t scene fault old new h (inr (status, image)) = Tears status image
+stopped : (size : ℕ) (keep : Option ℕ) (name : List ℕ) (t : Task) (scene behind : Scene) (fault : Fault) (old new : Files) (h : History)
+    → FilesDenote size name new h ⊎ IsTornBy behind (status_of (Some fault)) name old new → Ends size keep name t scene behind (Some fault) old new h
+stopped size keep name t scene behind fault old new h (inl denotes) = Stored_directory h refl denotes
+stopped size keep name t scene behind fault old new h (inr torn) = Tears torn
 
 -- a folder that is made leaves the history
 extracted : (fault : Option Fault) (size : ℕ) (keep : Option ℕ) (dir : Bor (List ℕ)) (scene : Scene) (h : History) → TaskGoesBy fault size keep (task.Extract dir) scene h h
@@ -402,39 +408,39 @@ extracted None size keep dir scene h = refl
 extracted (Some fault) size keep dir scene h = refl
 
 -- the name of an image that is to be new is taken: nothing is done
-name_taken : (fault : Option Fault) (size : ℕ) (keep : Option ℕ) (name : List ℕ) (t : Task) (scene : Scene) (old new : Files) (h : History)
-    → fault ≡ Some CannotWrite → FilesDenote size name new h → Ends size keep name t scene fault old new h
-name_taken fault size keep name t scene old new h is denotes =
-    subst (λ (f : Option Fault). Ends size keep name t scene f old new h) (sym is) (Stored_directory h refl denotes)
+name_taken : (fault : Option Fault) (size : ℕ) (keep : Option ℕ) (name : List ℕ) (t : Task) (scene behind : Scene) (old new : Files) (h : History)
+    → fault ≡ Some CannotWrite → FilesDenote size name new h → Ends size keep name t scene behind fault old new h
+name_taken fault size keep name t scene behind old new h is denotes =
+    subst (λ (f : Option Fault). Ends size keep name t scene behind f old new h) (sym is) (Stored_directory h refl denotes)
 
 -- a task whose words say all of it
 step_ends : Laws → (fault : Option Fault) (s : Step) (older : Bool) (size : ℕ) (keep : Option ℕ) (name : List ℕ) (scene behind : Scene) (old new : Files) (h : History)
     → HasGoodRows (deed_of s [] None) → scene.files ≡ Some old → behind.files ≡ Some new → FilesDenote size name old h
-    → EndsStep s older size keep name scene behind fault → Ends size keep name (task.Step s) scene fault old new h
+    → EndsStep s older size keep name scene behind fault → Ends size keep name (task.Step s) scene behind fault old new h
 step_ends laws None s older size keep name scene behind old new h good before later denotes ends =
     let leads = step_leads laws s older size keep name scene behind old new h good before later denotes ends in
     Stored_directory leads.next leads.goes leads.denotes
 step_ends laws (Some fault) s older size keep name scene behind old new h good before later denotes ends =
-    stopped size keep name (task.Step s) scene fault old new h (stop_leaves s older size keep name scene behind fault old new h before later denotes ends)
+    stopped size keep name (task.Step s) scene behind fault old new h (stop_leaves s older size keep name scene behind fault old new h before later denotes ends)
 
 -- a task for which something is read first
 reading_ends : Laws → (fault : Option Fault) (t : Task) (older : Bool) (size : ℕ) (keep : Option ℕ) (name : List ℕ) (scene behind : Scene) (old new : Files) (h : History)
     → ((next : History) → (s : Step) × BecomesStep t size keep scene s × StepGoes size keep s scene.files scene.typed h next → TaskGoes size keep t scene h next)
     → scene.files ≡ Some old → behind.files ≡ Some new → FilesDenote size name old h → EndsReading t older size keep name scene behind fault
-    → Ends size keep name t scene fault old new h
+    → Ends size keep name t scene behind fault old new h
 reading_ends laws None t older size keep name scene behind old new h turn before later denotes (inl (s, becomes, ends)) =
     let leads = step_leads laws s older size keep name scene behind old new h (good_step t size keep scene s becomes) before later denotes ends in
     Stored_directory leads.next (turn leads.next (s, becomes, leads.goes)) leads.denotes
 reading_ends laws None t older size keep name scene behind old new h turn before later denotes (inr (keeps, (why, is, no_step))) = absurd cc
 reading_ends laws (Some fault) t older size keep name scene behind old new h turn before later denotes (inl (s, becomes, ends)) =
-    stopped size keep name t scene fault old new h (stop_leaves s older size keep name scene behind fault old new h before later denotes ends)
+    stopped size keep name t scene behind fault old new h (stop_leaves s older size keep name scene behind fault old new h before later denotes ends)
 reading_ends laws (Some fault) t older size keep name scene behind old new h turn before later denotes (inr (keeps, no_step)) =
     Stored_directory h refl (same_files size name old new h (sym later ∙ keeps.0 ∙ before) denotes)
 
 -- any task
 task_ends : Laws → (fault : Option Fault) (t : Task) (older : Bool) (size : ℕ) (keep : Option ℕ) (name : List ℕ) (scene behind : Scene) (old new : Files) (h : History)
     → SaysGoodRows t → scene.files ≡ Some old → behind.files ≡ Some new → FilesDenote size name old h
-    → EndsTask t older size keep name scene behind fault → Ends size keep name t scene fault old new h
+    → EndsTask t older size keep name scene behind fault → Ends size keep name t scene behind fault old new h
 task_ends laws fault (task.Step s) older size keep name scene behind old new h good before later denotes ends =
     step_ends laws fault s older size keep name scene behind old new h good before later denotes ends
 task_ends laws fault (task.Extract dir) older size keep name scene behind old new h good before later denotes ends =
@@ -456,9 +462,10 @@ GoesOrTears size name s old new h =
     IsTorn name s old new ⊎ ((next : History) × RequestGoes size s h next × FilesDenote size name new next)
 
 by_end : (size : ℕ) (name : List ℕ) (s : Served) (fault : Option Fault) (old new : Files) (h : History) → s.status ≡ status_of fault
-    → Ends size s.request.keep name s.request.task s.old fault old new h → GoesOrTears size name s old new h
+    → Ends size s.request.keep name s.request.task s.old s.new fault old new h → GoesOrTears size name s old new h
 by_end size name s fault old new h status (Stored_directory next goes denotes) = inr (next, (fault, status, goes), denotes)
-by_end size name s fault old new h status (Tears four image) = inl (record { status = status ∙ four; image = image })
+by_end size name s fault old new h status (Tears (place, four, image)) =
+    inl (record { status = status ∙ four; place = place; image = image })
 
 request_ends : Laws → (size : ℕ) (name : List ℕ) (s : Served) (old new : Files) (h : History) → FilesDenote size name old h
     → IsServedOn size name s old new → GoesOrTears size name s old new h
@@ -467,7 +474,7 @@ request_ends laws size name s old new h denotes is =
     let t = s.request.task in
     let older = s.request.takes_older in
     let keep = s.request.keep in
-    let by_task : EndsTask t older s.request.size keep s.request.image.now s.old s.new fault → Ends size keep name t s.old fault old new h = λ ends.
+    let by_task : EndsTask t older s.request.size keep s.request.image.now s.old s.new fault → Ends size keep name t s.old s.new fault old new h = λ ends.
     let by_size = subst (λ (n : ℕ). EndsTask t older n keep s.request.image.now s.old s.new fault) is.size_is ends in
     let by_name = subst (λ (n : List ℕ). EndsTask t older size keep n s.old s.new fault) is.name_is by_size in
     task_ends laws fault t older size keep name s.old s.new old new h is.rows is.before is.behind denotes by_name in
@@ -476,7 +483,7 @@ request_ends laws size name s old new h denotes is =
     by_end size name s fault old new h is.ends.2 (
     elim is.ends.1 [
       | inl task ↦ by_task task.1
-      | inr taken ↦ name_taken fault size keep name t s.old old new h taken.1 (same taken.3)
+      | inr taken ↦ name_taken fault size keep name t s.old s.new old new h taken.1 (same taken.3)
     ]
     )
 

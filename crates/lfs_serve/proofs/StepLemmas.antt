@@ -1,5 +1,6 @@
 -- How steps end, by what was handed, run and written.
 use Rattle.std.proofs.Common.{◌≡◌, ℕ, Bor, Bool, true, List, Option, Some, None, Result, Err, ◌⊎◌, refl, sym, ap, subst, ◌∙◌, inl, inr}
+use Rattle.std.specs.Prelude.{Contains, IfSome}
 use Rattle.lfs_change.specs.declared.fault.Fault.{Fault}
 use Rattle.lfs_change.specs.declared.fault.Fault.TheVariants.{Refused, CannotRead, CannotWrite, BadHex}
 use Rattle.lfs_command.specs.declared.refusal.Refusal.TheVariants.{Memory}
@@ -19,10 +20,10 @@ use Rattle.lfs_serve.specs.declared.stop.Stop.{Stop}
 use Rattle.lfs_host.specs.Files.{Files, FindsFile, IsTarget, ReadsFile}
 use Rattle.lfs_exchange.specs.StepKind.{kind_of}
 use Rattle.lfs_exchange.specs.Storing.{LeavesFiles, SparesFiles, journal_name}
-use Rattle.lfs_host.specs.Scene.{KeepsScene, Scene, is_blamed}
+use Rattle.lfs_host.specs.Scene.{HasClaimed, KeepsScene, Scene, is_blamed}
 use Rattle.lfs_host.proofs.BlameLemmas.{blamed_has_refused}
 use Rattle.lfs_change.specs.Fault.{blames_output}
-use Rattle.lfs_exchange.specs.Handing.{HandedBytes, HandsImage, HandsInput, HandsJournal, IsHanded, IsNotAimed, IsNotHanded, IsOfHost, IsUnread, most_image}
+use Rattle.lfs_exchange.specs.Handing.{HandedBytes, HandsImage, HandsInput, HandsJournal, IsClaimed, IsHanded, IsNotHanded, IsUnwritten, most_image}
 use Rattle.lfs_book.specs.Book.{most_journal}
 use Rattle.lfs_serve.specs.Later.{later_handed, refused_by}
 use Rattle.lfs_serve.specs.Program.{EndsStep, IsBlamed, IsNotRun, Runs, RunsOn, RunsStep, StopsStep, stopped_by}
@@ -76,16 +77,16 @@ leaves_target Makes None new name target o leads leaves = tt
 leaves_target Changes None new name target o leads leaves = tt
 
 -- and what is spared of it
-spares_target : (fault : Fault) (kind : StepKind) (old new : Option Files) (name target : List ℕ) (o : Outcome) → IsTarget old name target
-    → SparesFiles fault kind old new target o → SparesFiles fault kind old new name o
-spares_target fault kind (Some old) new name target o leads spares =
-    subst (λ (at : List ℕ). SparesFiles fault kind (Some old) new at o) leads spares
-spares_target (Refused refusal) kind None new name target o leads spares = spares
-spares_target _ Asks None new name target o leads spares = spares
-spares_target _ Recounts None new name target o leads spares = spares
-spares_target _ Forgets None new name target o leads spares = tt
-spares_target _ Makes None new name target o leads spares = inl tt
-spares_target _ Changes None new name target o leads spares = inl tt
+spares_target : (fault : Fault) (kind : StepKind) (placed : Option Bool) (old new : Option Files) (name target : List ℕ) (o : Outcome)
+    → IsTarget old name target → SparesFiles fault kind placed old new target o → SparesFiles fault kind placed old new name o
+spares_target fault kind placed (Some old) new name target o leads spares =
+    subst (λ (at : List ℕ). SparesFiles fault kind placed (Some old) new at o) leads spares
+spares_target (Refused refusal) kind placed None new name target o leads spares = spares
+spares_target _ Asks placed None new name target o leads spares = spares
+spares_target _ Recounts placed None new name target o leads spares = spares
+spares_target _ Forgets placed None new name target o leads spares = tt
+spares_target _ Makes placed None new name target o leads spares = inl tt
+spares_target _ Changes placed None new name target o leads spares = inl tt
 
 -- what a step reads besides of one host it reads of another
 abbrev HandsAlike : Step → Scene → Scene → Type 0
@@ -126,14 +127,31 @@ leaves_at kind other old mid new name target at o left leads at_is mid_is kind_i
     (subst (λ (f : Option Files). LeavesFiles kind f new target o) mid_is
     (subst (λ (a : List ℕ). LeavesFiles kind mid new a o) at_is (subst (LeavesFiles kind mid new at) left_is leaves))))
 
-pub spares_at : (fault : Fault) (kind other : StepKind) (old mid new : Option Files) (name target at : List ℕ) (o left : Outcome) → IsTarget old name target
-    → at ≡ target → mid ≡ old → kind ≡ other → left ≡ o → SparesFiles fault kind mid new at left
-    → SparesFiles fault other old new name o
-spares_at fault kind other old mid new name target at o left leads at_is mid_is kind_is left_is spares =
-    spares_target fault other old new name target o leads
-    (subst (λ (k : StepKind). SparesFiles fault k old new target o) kind_is
-    (subst (λ (f : Option Files). SparesFiles fault kind f new target o) mid_is
-    (subst (λ (a : List ℕ). SparesFiles fault kind mid new a o) at_is (subst (SparesFiles fault kind mid new at) left_is spares))))
+pub spares_at : (fault : Fault) (kind other : StepKind) (placed : Option Bool) (old mid new : Option Files) (name target at : List ℕ)
+    (o left : Outcome) → IsTarget old name target → at ≡ target → mid ≡ old → kind ≡ other → left ≡ o
+    → SparesFiles fault kind placed mid new at left → SparesFiles fault other placed old new name o
+spares_at fault kind other placed old mid new name target at o left leads at_is mid_is kind_is left_is spares =
+    spares_target fault other placed old new name target o leads
+    (subst (λ (k : StepKind). SparesFiles fault k placed old new target o) kind_is
+    (subst (λ (f : Option Files). SparesFiles fault kind placed f new target o) mid_is
+    (subst (λ (a : List ℕ). SparesFiles fault kind placed mid new a o) at_is
+    (subst (SparesFiles fault kind placed mid new at) left_is spares))))
+
+-- ---- names that are claimed
+
+has_claimed : (mid new : Scene) (target at : List ℕ) → at ≡ target → new.claimed ≡ mid.claimed → HasClaimed mid target → HasClaimed new at
+has_claimed mid new target at is same has =
+    subst (λ (a : List ℕ). HasClaimed new a) (sym is)
+    (subst (λ (claimed : Option (List (List ℕ))). IfSome claimed (λ names. Contains names target)) (sym same) has)
+
+-- a name that was claimed is so under another spelling, and behind calls that keep what is claimed
+pub claimed_at : (kind : StepKind) (mid new : Scene) (target at : List ℕ) → at ≡ target → new.claimed ≡ mid.claimed
+    → IsClaimed kind mid target → IsClaimed kind new at
+claimed_at Asks mid new target at is same has = tt
+claimed_at Recounts mid new target at is same has = tt
+claimed_at Makes mid new target at is same has = has_claimed mid new target at is same has
+claimed_at Changes mid new target at is same has = has_claimed mid new target at is same has
+claimed_at Forgets mid new target at is same has = has_claimed mid new target at is same has
 
 -- ---- runs
 
@@ -193,24 +211,10 @@ pub ends_later : (step : Step) (older : Bool) (size : ℕ) (keep : Option ℕ) (
 ends_later step older size keep name old new h ended fault is handed refused keeps =
     ends_before step older size keep name old new ended fault is (inr (inr (h, handed, refused))) keeps
 
--- what isn't read
-unread_is_of_host : (new : Scene) (fault : Fault) → IsUnread new fault → IsOfHost new fault
-unread_is_of_host new CannotRead unread = unread
-unread_is_of_host new (Refused refusal) unread = unread
-unread_is_of_host new _ unread = absurd unread
-
-pub unread_is_not_aimed : (kind : StepKind) (new : Scene) (name : List ℕ) (fault : Fault) → IsUnread new fault → IsNotAimed kind new name fault
-unread_is_not_aimed Asks new name fault unread = unread
-unread_is_not_aimed Recounts new name fault unread = unread
-unread_is_not_aimed Makes new name fault unread = inl (unread_is_of_host new fault unread)
-unread_is_not_aimed Changes new name fault unread = inl (unread_is_of_host new fault unread)
-unread_is_not_aimed Forgets new name fault unread = inl (unread_is_of_host new fault unread)
-
 -- what isn't handed
 pub not_handed : (step : Step) (older : Bool) (size : ℕ) (name : List ℕ) (old new : Scene) (fault : Fault) → IsNotHanded step new fault
     → IsNotRun step older size name old new fault
-not_handed step older size name old new fault (inl unread) = inl (unread_is_not_aimed (kind_of step) new name fault unread)
-not_handed step older size name old new fault (inr other) = inr (inl other)
+not_handed step older size name old new fault not = inr (inl not)
 
 -- a run that is refused changes no file
 pub ends_refused : (step : Step) (older : Bool) (size : ℕ) (keep : Option ℕ) (name : List ℕ) (old new : Scene) (ended : Option Fault) (fault : Fault) (outcome : Outcome)
@@ -221,10 +225,10 @@ ends_refused step older size keep name old new ended fault outcome is runs same 
 
 -- what the host refuses behind a run spares the files
 pub ends_behind : (step : Step) (older : Bool) (size : ℕ) (keep : Option ℕ) (name : List ℕ) (old new : Scene) (ended : Option Fault) (fault : Fault) (outcome : Outcome)
-    → ended ≡ Some fault → IsOfHost new fault → RunsStep step older size keep name old new None outcome
-    → SparesFiles fault (kind_of step) old.files new.files name outcome → EndsStep step older size keep name old new ended
-ends_behind step older size keep name old new ended fault outcome is of_host runs spares =
-    ends_stopped step older size keep name old new ended fault is (inr (inr (of_host, (outcome, runs, spares))))
+    → ended ≡ Some fault → IsUnwritten new fault → RunsStep step older size keep name old new None outcome
+    → SparesFiles fault (kind_of step) new.has_refused_place old.files new.files name outcome → EndsStep step older size keep name old new ended
+ends_behind step older size keep name old new ended fault outcome is unwritten runs spares =
+    ends_stopped step older size keep name old new ended fault is (inr (inr (unwritten, (outcome, runs, spares))))
 
 -- ---- a step on a host with the same files and standard output
 
@@ -249,22 +253,23 @@ not_run_alike step older size name mid old new fault files alike (inr (inr (h, i
 step_alike : (step : Step) (older : Bool) (size : ℕ) (keep : Option ℕ) (name : List ℕ) (mid old new : Scene) (ended : Option Fault)
     → mid.files ≡ old.files → HandsAlike step mid old → mid.printed ≡ old.printed → EndsStep step older size keep name mid new ended
     → EndsStep step older size keep name old new ended
-step_alike step older size keep name mid old new None files alike printed (outcome, runs, leaves) = (
+step_alike step older size keep name mid old new None files alike printed (outcome, runs, leaves, flushed) = (
   outcome,
   runs_alike step older size keep name mid old new None outcome files alike printed runs,
   subst (λ (f : Option Files). LeavesFiles (kind_of step) f new.files name outcome) files leaves,
+  flushed,
 )
 step_alike step older size keep name mid old new (Some fault) files alike printed (inl (outcome, runs, same)) =
     inl (outcome, runs_alike step older size keep name mid old new (Some fault) outcome files alike printed runs, same ∙ files)
 step_alike step older size keep name mid old new (Some fault) files alike printed (inr (inl (not_run, keeps))) =
     inr (inl (not_run_alike step older size name mid old new fault files alike not_run, (keeps.0 ∙ files, keeps.1 ∙ printed)))
-step_alike step older size keep name mid old new (Some fault) files alike printed (inr (inr (of_host, (outcome, runs, spares)))) =
+step_alike step older size keep name mid old new (Some fault) files alike printed (inr (inr (unwritten, (outcome, runs, spares)))) =
     inr (inr (
-      of_host,
+      unwritten,
       (
         outcome,
         runs_alike step older size keep name mid old new None outcome files alike printed runs,
-        subst (λ (f : Option Files). SparesFiles fault (kind_of step) f new.files name outcome) files spares,
+        subst (λ (f : Option Files). SparesFiles fault (kind_of step) new.has_refused_place f new.files name outcome) files spares,
       ),
     ))
 

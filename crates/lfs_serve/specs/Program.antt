@@ -1,5 +1,5 @@
 -- What the program does with the files of a host (own).
-use Rattle.std.specs.Prelude.{ℕ, ◌≡◌, ◌⊎◌, ⊤, Bool, true, List, Option, Some, None, Result, Ok, Err}
+use Rattle.std.specs.Prelude.{ℕ, ◌≡◌, ◌⊎◌, ⊤, Bool, true, false, List, Option, Some, None, Result, Ok, Err}
 use Rattle.lfs_change.specs.declared.fault.Fault.{Fault}
 use Rattle.lfs_change.specs.declared.fault.Fault.TheVariants.{CannotWrite}
 use Rattle.lfs_change.specs.declared.outcome.Outcome.{Outcome}
@@ -14,7 +14,8 @@ use Rattle.lfs_change.specs.Fault.{status_of}
 use Rattle.lfs_host.specs.Files.{IsMissing}
 use Rattle.lfs_pack.specs.declared.pack_row.PackRow.{PackRow}
 use Rattle.lfs_host.specs.Scene.{HasRefused, KeepsScene, Scene}
-use Rattle.lfs_exchange.specs.Handing.{HandedBytes, IsHanded, IsNotAimed, IsOfHost, IsOtherUnread}
+use Rattle.lfs_exchange.specs.Handing.{HandedBytes, IsHanded, IsNotAimed, IsNotHanded, IsUnwritten, LeavesInput, reads_input}
+use Rattle.lfs_exchange.specs.Printing.{HandsOn}
 use Rattle.lfs_serve.specs.Batching.{BecomesBatch, BecomesNoBatch}
 use Rattle.lfs_serve.specs.Extracting.{EndsExtract}
 use Rattle.lfs_serve.specs.HostFolder.{PacksRows, ReadsNoFolder}
@@ -48,24 +49,24 @@ abbrev pub IsLater : Step → Bool → ℕ → List ℕ → Scene → Fault → 
 IsLater step older size name old fault =
     (h : HandedBytes) × IsHanded step name old h × (refused_by older (later_handed step size h) ≡ Some fault)
 
--- why a step isn't run: its image isn't at hand, the other one isn't read, or a commit of a later version is refused
+-- why a step isn't run: its image isn't at hand, it isn't handed what it needs, or a commit of a later version is refused
 abbrev pub IsNotRun : Step → Bool → ℕ → List ℕ → Scene → Scene → Fault → Type 0
 IsNotRun step older size name old new fault =
-    IsNotAimed (kind_of step) new name fault ⊎ IsOtherUnread step new fault ⊎ IsLater step older size name old fault
+    IsNotAimed (kind_of step) new name fault ⊎ IsNotHanded step new fault ⊎ IsLater step older size name old fault
 
 -- why a step wasn't done: `run` refused it, or it wasn't run, or the host refused something behind that
 abbrev pub StopsStep : Step → Bool → ℕ → Option ℕ → List ℕ → Scene → Scene → Fault → Type 0
 StopsStep step older size keep name old new fault =
     ((outcome : Outcome) × RunsStep step older size keep name old new (Some fault) outcome × (new.files ≡ old.files))
     ⊎ (IsNotRun step older size name old new fault × KeepsScene old new)
-    ⊎ (IsOfHost new fault × ((outcome : Outcome)
-    × RunsStep step older size keep name old new None outcome × SparesFiles fault (kind_of step) old.files new.files name outcome))
+    ⊎ (IsUnwritten new fault × ((outcome : Outcome)
+    × RunsStep step older size keep name old new None outcome × SparesFiles fault (kind_of step) new.has_refused_place old.files new.files name outcome))
 
--- how a step on an image's file ends: done, and the files have the bytes of the outcome; or with a fault
+-- how a step on an image's file ends: done, the files have the bytes of the outcome, and an answer is handed on; or with a fault
 abbrev pub EndsStep : Step → Bool → ℕ → Option ℕ → List ℕ → Scene → Scene → Option Fault → Type 0
 EndsStep step older size keep name old new None =
     (outcome : Outcome) × RunsStep step older size keep name old new None outcome
-    × LeavesFiles (kind_of step) old.files new.files name outcome
+    × LeavesFiles (kind_of step) old.files new.files name outcome × HandsOn (kind_of step) new
 EndsStep step older size keep name old new (Some fault) = StopsStep step older size keep name old new fault
 
 -- how what becomes a step ends: as that step, or with a fault since it becomes none
@@ -112,7 +113,35 @@ EndsAsked request old new fault =
     (IsSpared request old × EndsTask request.task request.takes_older request.size request.keep request.image.now old new fault)
     ⊎ ((request.is_new ≡ true) × (fault ≡ Some CannotWrite) × HasRefused new × KeepsScene old new)
 
--- how a request ends
+-- ---- what is left besides
+
+-- what is left on standard input, and what was made in new folders, is as it was
+abbrev pub LeavesRest : Scene → Scene → Type 0
+LeavesRest old new = (new.typed ≡ old.typed) × (new.made ≡ old.made)
+
+-- so it is behind a step, but for standard input where the step reads it
+abbrev pub StepLeavesRest : Step → Scene → Scene → Type 0
+StepLeavesRest step old new = LeavesInput step old new × (new.made ≡ old.made)
+
+-- whether a task reads standard input: a file that is put from there, or a script that comes there
+abbrev pub task_reads_input : Task → Bool
+task_reads_input (task.Step step) = reads_input step
+task_reads_input (Batch None) = true
+task_reads_input _ = false
+
+-- whether a task makes a folder
+abbrev pub makes_folder : Task → Bool
+makes_folder (Extract dir) = true
+makes_folder _ = false
+
+-- so it is behind a task, but for standard input where the task reads it, and for what is made where it makes a folder
+abbrev pub TaskLeavesRest : Task → Scene → Scene → Type 0
+TaskLeavesRest task old new =
+    (task_reads_input task ≡ false → new.typed ≡ old.typed) × (makes_folder task ≡ false → new.made ≡ old.made)
+
+-- ---- requests
+
+-- how a request ends, and what it leaves besides
 abbrev pub EndsRequest : Request → Scene → Scene → ℕ → Type 0
 EndsRequest request old new status =
-    (fault : Option Fault) × EndsAsked request old new fault × (status ≡ status_of fault)
+    (fault : Option Fault) × EndsAsked request old new fault × (status ≡ status_of fault) × TaskLeavesRest request.task old new

@@ -7,7 +7,7 @@ use Rattle.lfs_exchange.specs.Handing.{HandsInput}
 use Rattle.lfs_exchange.specs.Storing.{journal_name}
 use Rattle.lfs_history.specs.History.{History}
 use Rattle.lfs_host.specs.Files.{Files, bytes_there}
-use Rattle.lfs_host.specs.Scene.{Scene}
+use Rattle.lfs_host.specs.Scene.{Scene, WasRefused}
 use Rattle.lfs_request.specs.declared.request.Request.{Request}
 use Rattle.lfs_request.specs.declared.task.Task.{Task}
 use Rattle.lfs_request.specs.declared.task.Task.TheVariants as task
@@ -74,9 +74,11 @@ RequestGoes size s old new =
     (fault : Option Fault) × (s.status ≡ status_of fault) × TaskGoesBy fault size s.request.keep s.request.task s.old old new
 
 -- The host refused the new image its place, where the new journal had got its own: the image is the one that was there. The next
--- request is told so, and `forget` keeps that image.
+-- request that reads the journal is told so, and `forget` keeps that image. Only where a new image was to replace it, with as many
+-- blocks of its size, nobody is told: that journal is without changes, and counts as one of an image that nothing was done to.
 pub record IsTorn (name : List ℕ) (s : Served) (old new : Files) : Type 0 where
   pub status : s.status ≡ 4
+  pub place : WasRefused s.new.has_refused_place
   pub image : new name ≡ old name
 
 -- From a history that the files denote each request leads to one that the files denote which it leaves, up to the last, or up to

@@ -1,12 +1,12 @@
 //! The steps of a script, taken on an image's file.
 
-ghost use Rattle.std.specs.Prelude.{◌⊎◌, IfErr, IfOk};
+ghost use Rattle.std.specs.Prelude.{◌≡◌, ◌⊎◌, false, IfErr, IfOk};
 ghost use Rattle.lfs_exchange.specs.Handing.{IsUnread};
 ghost use Rattle.lfs_history.specs.Taking.{MayKeep};
-ghost use Rattle.lfs_host.specs.Scene.{KeepsScene};
+ghost use Rattle.lfs_host.specs.Scene.{KeepsOutput};
 ghost use Rattle.lfs_request.specs.declared.task.Task.TheVariants.{Batch};
 ghost use Rattle.lfs_serve.specs.Batching.{ReadsScript, SaysNoSteps, TakesLines, TakesText};
-ghost use Rattle.lfs_serve.specs.Program.{EndsAs, EndsTask, stopped_by};
+ghost use Rattle.lfs_serve.specs.Program.{EndsAs, EndsTask, LeavesRest, TaskLeavesRest, stopped_by, task_reads_input};
 
 use crate::beside::Beside;
 use crate::read_line::{moves_of, read_lines};
@@ -32,6 +32,7 @@ pub fn batched<H: Host>(
     requires keep { MayKeep request.now.keep }
     ensures ended { EndsTask (Batch file.entry) request.now.takes_older request.now.size request.now.keep request.now.image.now
         (H.known host.old) (H.known host.new) (stopped_by result) }
+    ensures rest { TaskLeavesRest (Batch file.entry) (H.known host.old) (H.known host.new) }
 {
     let text = script_text(alloc, host, file)?;
     match text_batched(alloc, host, request, beside, &text) {
@@ -44,7 +45,8 @@ pub fn batched<H: Host>(
 fn script_text<H: Host>(alloc: Global, host: &mut H, file: Option<&str>) -> Result<Vec<u8>, Fault>
     ensures text { IfOk result (λ text. ReadsScript file.entry (H.known host.old) text.items) }
     ensures refused { IfErr result (IsUnread (H.known host.new)) }
-    ensures kept { KeepsScene (H.known host.old) (H.known host.new) }
+    ensures unread { task_reads_input (Batch file.entry) ≡ false → (H.known host.new).typed ≡ (H.known host.old).typed }
+    ensures kept { KeepsOutput (H.known host.old) (H.known host.new) }
 {
     match file {
         Some(name) => read_contents(alloc, host, name),
@@ -64,6 +66,7 @@ fn text_batched<H: Host>(
     ensures ended { EndsAs (TakesText (H.known host.old).files request.now.keep text.now)
         (λ why. IsUnread (H.known host.new) why ⊎ SaysNoSteps text.now why)
         request.now.takes_older request.now.size request.now.keep request.now.image.now (H.known host.old) (H.known host.new) (stopped_by result) }
+    ensures rest { LeavesRest (H.known host.old) (H.known host.new) }
 {
     match script_lines(alloc, text) {
         Ok(lines) => lines_batched(alloc, host, request, beside, &lines),
@@ -82,6 +85,7 @@ fn lines_batched<H: Host>(
     requires keep { MayKeep request.now.keep }
     ensures ended { EndsAs (TakesLines (H.known host.old).files request.now.keep lines.now) (IsUnread (H.known host.new))
         request.now.takes_older request.now.size request.now.keep request.now.image.now (H.known host.old) (H.known host.new) (stopped_by result) }
+    ensures rest { LeavesRest (H.known host.old) (H.known host.new) }
 {
     let read = read_lines(alloc, host, lines)?;
     let moves = moves_of(alloc, &read, request.keep)?;

@@ -7,7 +7,8 @@ ghost use Rattle.lfs_fs.specs.Superblock.{IsLimits};
 ghost use Rattle.lfs_request.specs.Asking.{IsTaskInRange};
 ghost use Rattle.lfs_step.specs.Deed.{IsStepInRange, deed_of};
 ghost use Rattle.lfs_step.specs.Outcome.{Answers, SendsText, given};
-ghost use Rattle.lfs_serve.specs.Program.{EndsAsked, EndsRequest, EndsStep, EndsTask, IsBlamed, RunsOn, stopped_by};
+ghost use Rattle.lfs_host.specs.Scene.{KeepsInput};
+ghost use Rattle.lfs_serve.specs.Program.{EndsAsked, EndsRequest, EndsStep, EndsTask, IsBlamed, RunsOn, StepLeavesRest, TaskLeavesRest, stopped_by};
 
 use crate::batching::batched;
 use crate::beside::Beside;
@@ -59,6 +60,7 @@ fn asked<H: Host>(
     requires keep { MayKeep request.now.keep }
     requires range { IsTaskInRange request.now.task }
     ensures ended { EndsAsked request.now (H.known host.old) (H.known host.new) (stopped_by result) }
+    ensures rest { TaskLeavesRest request.now.task (H.known host.old) (H.known host.new) }
 {
     spare(host, request.is_new, request.image)?;
     done(alloc, host, request, beside)
@@ -75,6 +77,7 @@ fn done<H: Host>(
     requires range { IsTaskInRange request.now.task }
     ensures ended { EndsTask request.now.task request.now.takes_older request.now.size request.now.keep request.now.image.now
         (H.known host.old) (H.known host.new) (stopped_by result) }
+    ensures rest { TaskLeavesRest request.now.task (H.known host.old) (H.known host.new) }
 {
     match request.task {
         Task::Step(ref step) => stepped(alloc, host, request, beside, step),
@@ -106,6 +109,7 @@ fn packed<H: Host>(
     requires range { IsLimits limits }
     ensures ended { EndsTask (Pack extent limits dir.entry) request.now.takes_older request.now.size request.now.keep request.now.image.now
         (H.known host.old) (H.known host.new) (stopped_by result) }
+    ensures rest { TaskLeavesRest (Pack extent limits dir.entry) (H.known host.old) (H.known host.new) }
 {
     let folder = folder_of(alloc, host, dir)?;
     let rows = pack_rows(alloc, &folder)?;
@@ -138,6 +142,7 @@ fn set<H: Host>(
     requires { MayKeep request.now.keep }
     ensures ended { EndsTask (SetAttr path.entry kind.entry value.entry) request.now.takes_older request.now.size request.now.keep request.now.image.now
         (H.known host.old) (H.known host.new) (stopped_by result) }
+    ensures rest { TaskLeavesRest (SetAttr path.entry kind.entry value.entry) (H.known host.old) (H.known host.new) }
 {
     let value = value_in(alloc, value)?;
     let kind = kind_in(kind)?;
@@ -163,6 +168,7 @@ fn cleared<H: Host>(
     requires { MayKeep request.now.keep }
     ensures ended { EndsTask (RmAttr path.entry kind.entry) request.now.takes_older request.now.size request.now.keep request.now.image.now
         (H.known host.old) (H.known host.new) (stopped_by result) }
+    ensures rest { TaskLeavesRest (RmAttr path.entry kind.entry) (H.known host.old) (H.known host.new) }
 {
     let kind = kind_in(kind)?;
     stepped(alloc, host, request, beside, &Step::RmAttr { path, kind })
@@ -180,6 +186,7 @@ pub fn stepped<H: Host>(
     requires range { IsStepInRange step.now }
     ensures ended { EndsStep step.now request.now.takes_older request.now.size request.now.keep request.now.image.now
         (H.known host.old) (H.known host.new) (stopped_by result) }
+    ensures rest { StepLeavesRest step.now (H.known host.old) (H.known host.new) }
 {
     let kind = kind_of(step);
     let target = aimed(alloc, host, kind, request.image)?;
@@ -211,7 +218,7 @@ fn ran<H: Host>(
     ensures answers { Answers (deed_of step.now handed.input.items keep) (given size handed.image.items handed.journal.items) result }
     ensures sent { SendsText (deed_of step.now handed.input.items keep) (given size handed.image.items handed.journal.items) result.fault (H.known host.old).printed (H.known host.new).printed }
     ensures blamed { IsBlamed result.fault (H.known host.new) }
-    ensures kept { ((H.known host.new).files ≡ (H.known host.old).files) × ((H.known host.new).typed ≡ (H.known host.old).typed) }
+    ensures kept { KeepsInput (H.known host.old) (H.known host.new) }
 {
     let Handed {
         image,
@@ -236,7 +243,7 @@ fn taken<H: Host>(
     ensures ran { (outcome : Outcome) × RunsOn step.now size keep (record { image = handed.image.items; journal = handed.journal.items; input = handed.input.items })
         (stopped_by result) (H.known host.old).printed (H.known host.new).printed outcome × IfOk result (λ left. left ≡ outcome) }
     ensures blamed { IsBlamed (stopped_by result) (H.known host.new) }
-    ensures kept { ((H.known host.new).files ≡ (H.known host.old).files) × ((H.known host.new).typed ≡ (H.known host.old).typed) }
+    ensures kept { KeepsInput (H.known host.old) (H.known host.new) }
 {
     let other = other_sight(step, &handed.input);
     let outcome = ran(alloc, host, size, keep, step, handed);

@@ -17,19 +17,19 @@ use Rattle.lfs_host.specs.Scene.{Scene}
 use Rattle.lfs_serve.specs.Program.{EndsRequest, EndsStep, EndsTask}
 
 -- where the host refused something behind what asks, all files stay
-all_spared : (fault : Fault) (kind : StepKind) (old new : Option Files) (name : List ℕ) (o : Outcome) → (kind ≡ Asks) ⊎ (kind ≡ Recounts)
-    → SparesFiles fault kind old new name o → new ≡ old
-all_spared (Refused refusal) kind old new name o asks same = same
-all_spared fault kind old new name o (inl asks) spares =
-    by_fault fault (subst (λ (k : StepKind). SparesFiles fault k old new name o) asks spares)
+all_spared : (fault : Fault) (kind : StepKind) (placed : Option Bool) (old new : Option Files) (name : List ℕ) (o : Outcome) → (kind ≡ Asks) ⊎ (kind ≡ Recounts)
+    → SparesFiles fault kind placed old new name o → new ≡ old
+all_spared (Refused refusal) kind placed old new name o asks same = same
+all_spared fault kind placed old new name o (inl asks) spares =
+    by_fault fault (subst (λ (k : StepKind). SparesFiles fault k placed old new name o) asks spares)
   where
-    by_fault : (f : Fault) → SparesFiles f Asks old new name o → new ≡ old
+    by_fault : (f : Fault) → SparesFiles f Asks placed old new name o → new ≡ old
     by_fault (Refused refusal) same = same
     by_fault _ same = same
-all_spared fault kind old new name o (inr asks) spares =
-    by_fault fault (subst (λ (k : StepKind). SparesFiles fault k old new name o) asks spares)
+all_spared fault kind placed old new name o (inr asks) spares =
+    by_fault fault (subst (λ (k : StepKind). SparesFiles fault k placed old new name o) asks spares)
   where
-    by_fault : (f : Fault) → SparesFiles f Recounts old new name o → new ≡ old
+    by_fault : (f : Fault) → SparesFiles f Recounts placed old new name o → new ≡ old
     by_fault (Refused refusal) same = same
     by_fault _ same = same
 
@@ -41,11 +41,11 @@ all_left kind old new name o (inr asks) leaves = subst (λ (k : StepKind). Leave
 
 step_keeps : (fault : Option Fault) (step : Step) (older : Bool) (size : ℕ) (keep : Option ℕ) (name : List ℕ) (old new : Scene)
     → (kind_of step ≡ Asks) ⊎ (kind_of step ≡ Recounts) → EndsStep step older size keep name old new fault → new.files ≡ old.files
-step_keeps None step older size keep name old new asks (o, runs, leaves) = all_left (kind_of step) old.files new.files name o asks leaves
+step_keeps None step older size keep name old new asks (o, runs, leaves, flushed) = all_left (kind_of step) old.files new.files name o asks leaves
 step_keeps (Some fault) step older size keep name old new asks (inl (o, runs, same)) = same
 step_keeps (Some fault) step older size keep name old new asks (inr (inl (why, keeps))) = keeps.0
-step_keeps (Some fault) step older size keep name old new asks (inr (inr (of_host, (o, runs, spares)))) =
-    all_spared fault (kind_of step) old.files new.files name o asks spares
+step_keeps (Some fault) step older size keep name old new asks (inr (inr (unwritten, (o, runs, spares)))) =
+    all_spared fault (kind_of step) new.has_refused_place old.files new.files name o asks spares
 
 task_keeps : (fault : Option Fault) (t : Task) (older : Bool) (size : ℕ) (keep : Option ℕ) (name : List ℕ) (old new : Scene) → OnlyAsks t
     → EndsTask t older size keep name old new fault → new.files ≡ old.files
@@ -56,9 +56,9 @@ task_keeps fault _ older size keep name old new only ends = absurd only
 -- a request that asks changes no file
 pub asking_keeps : (request : Request) (old new : Scene) (status : ℕ) → OnlyAsks request.task → EndsRequest request old new status
     → new.files ≡ old.files
-asking_keeps request old new status only (fault, inl (spared, ends), told) =
+asking_keeps request old new status only (fault, inl (spared, ends), told, rest) =
     task_keeps fault request.task request.takes_older request.size request.keep request.image.now old new only ends
-asking_keeps request old new status only (fault, inr (is_new, is, refused, kept), told) = kept.0
+asking_keeps request old new status only (fault, inr (is_new, is, refused, kept), told, rest) = kept.0
 
 -- what is there is there alike
 pub some_same : {X : Type 0} (x y : X) → Some x ≡ Some y → x ≡ y

@@ -1,5 +1,5 @@
 -- What is below a folder of a host in memory.
-use Rattle.std.proofs.Common.{◌≡◌, ◌≢◌, ℕ, true, List, [], ◌∷◌, ◌++◌, Option, Some, None, refl, sym, subst, inl, inr, append_assoc, map}
+use Rattle.std.proofs.Common.{◌≡◌, ◌≢◌, ℕ, true, false, List, [], ◌∷◌, ◌++◌, Option, Some, None, refl, sym, subst, inl, inr, append_assoc, map, take, string_bytes}
 use Rattle.std.specs.Prelude.{flat_map, IfErr, Result, Ok, Err}
 use Rattle.std.proofs.lemmas.List.{append-nil}
 use Rattle.lfs_fs.specs.Path.{Path}
@@ -21,10 +21,15 @@ scene_of host = record {
   files = Some (files_of host.files);
   typed = Some host.typed.now;
   printed = Some host.printed.items;
+  flushed = Some (take host.flushed host.printed.items);
   tree = Some (tree_of host.files);
   made = Some (map made_as host.made.items);
   filled = Some host.filled.items;
+  claimed = Some (map string_bytes host.claimed.items);
+  has_withheld = Some false;
   has_refused = Some host.has_refused;
+  has_refused_file = Some (λ _. host.has_refused);
+  has_refused_place = Some host.has_refused_place;
 }
 
 -- a file or a folder isn't something else

@@ -33,10 +33,15 @@ impl Known for Recorder {
       files = None;
       typed = None;
       printed = None;
+      flushed = None;
       tree = None;
       made = Some (map (λ t. if t.is_folder then FolderMade (string_bytes t.name) else FileMade (string_bytes t.name) t.bytes.items) r.things.items);
       filled = Some r.bytes.items;
+      claimed = None;
+      has_withheld = None;
       has_refused = None;
+      has_refused_file = None;
+      has_refused_place = None;
     } };
 }
 

@@ -1,47 +1,43 @@
 -- A script isn't read, or its text is taken.
 use Rattle.std.proofs.Common.{rules, ◌≡◌, Some, None, ap, subst, sym, ◌∙◌, inl, inr}
 use Rattle.std.proofs.lemmas.Result.{err_from_is_err_and}
-use Rattle.lfs_host.specs.Scene.{Scene}
+use Rattle.lfs_host.specs.Scene.{KeepsScene, Scene}
 use Rattle.lfs_serve.specs.Batching.{ReadsScript}
 use Rattle.lfs_serve.specs.Program.{stopped_by}
 use Rattle.lfs_serve.proofs.BatchingLemmas.{script_ends}
 use Rattle.lfs_serve.proofs.StepLemmas.{stopped_at}
 use Rattle.lfs_serve.proofs.batching.batched.Goals as goal
 
-pub returns-in_err-text : goal.returns-in_err-text
-returns-in_err-text g c =
+pub returns-in_err-text-clause-ended : goal.returns-in_err-text-clause-ended
+returns-in_err-text-clause-ended g c =
     let fault = c.in_err-text.field-0.0 in
     let p = err_from_is_err_and c.from_residual.result c.from_residual.ensures.1 in
-    record {
-      ended = inr (c.script_text.ensures.kept, (fault, stopped_at c.from_residual.result fault p.0 p.1 p.2, inl c.in_err-text.ensures.refused));
-    }
+    inr ((c.script_text.ensures.kept.0, c.script_text.ensures.kept.1), (fault, stopped_at c.from_residual.result fault p.0 p.1 p.2, inl c.in_err-text.ensures.refused))
 
-pub returns-in-Ok : goal.returns-in-Ok
-returns-in-Ok g c =
+pub returns-in-Ok-clause-ended : goal.returns-in-Ok-clause-ended
+returns-in-Ok-clause-ended g c =
     let old : Scene = g.H.Known.known c.args.host.now in
     let mid : Scene = g.H.Known.known c.script_text.new.host in
     let new : Scene = g.H.Known.known c.text_batched.new.host in
     let request = c.args.request.now in
     let text = c.deref.result.now in
+    let kept : KeepsScene old mid = (c.script_text.ensures.kept.0, c.script_text.ensures.kept.1) in
     let same : text ≡ c.in_ok-text.text.items = search rules in
     let reads = subst (ReadsScript c.args.file old) (sym same) c.in_ok-text.ensures.text in
-    record {
-      ended = script_ends c.args.file text request.takes_older request.size request.keep request.image.now old mid new None
-          (stopped_by c.text_batched.result) (sym (ap stopped_by c.in-Ok.is)) reads c.script_text.ensures.kept c.text_batched.ensures.ended;
-    }
+    script_ends c.args.file text request.takes_older request.size request.keep request.image.now old mid new None
+          (stopped_by c.text_batched.result) (sym (ap stopped_by c.in-Ok.is)) reads kept c.text_batched.ensures.ended
 
-pub returns : goal.returns
-returns g c =
+pub returns-clause-ended : goal.returns-clause-ended
+returns-clause-ended g c =
     let old : Scene = g.H.Known.known c.args.host.now in
     let mid : Scene = g.H.Known.known c.script_text.new.host in
     let new : Scene = g.H.Known.known c.text_batched.new.host in
     let request = c.args.request.now in
     let text = c.deref.result.now in
+    let kept : KeepsScene old mid = (c.script_text.ensures.kept.0, c.script_text.ensures.kept.1) in
     let same : text ≡ c.in_ok-text.text.items = search rules in
     let reads = subst (ReadsScript c.args.file old) (sym same) c.in_ok-text.ensures.text in
     let fault = c.with_line.result.fault in
-    record {
-      ended = script_ends c.args.file text request.takes_older request.size request.keep request.image.now old mid new (Some fault)
-          (stopped_by c.text_batched.result) (ap Some c.with_line.ensures ∙ sym (ap stopped_by c.in-Err.is)) reads c.script_text.ensures.kept
-          c.text_batched.ensures.ended;
-    }
+    script_ends c.args.file text request.takes_older request.size request.keep request.image.now old mid new (Some fault)
+          (stopped_by c.text_batched.result) (ap Some c.with_line.ensures ∙ sym (ap stopped_by c.in-Err.is)) reads kept
+          c.text_batched.ensures.ended

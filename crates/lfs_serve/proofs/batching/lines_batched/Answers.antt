@@ -24,22 +24,20 @@ stepped-requires-clause-range g c =
     subst (λ (ms : List Move). AllByRecursion (λ m. KeepsInRange (step_of m)) ms) (sym are)
     (all_in_range keep c.in_ok-moves.moves.items c.deref.result.now c.requires.keep c.in_ok-moves.ensures)
 
-pub returns-in_err-read : goal.returns-in_err-read
-returns-in_err-read g c =
+pub returns-in_err-read-clause-ended : goal.returns-in_err-read-clause-ended
+returns-in_err-read-clause-ended g c =
     let stop = c.in_err-read.field-0.0 in
     let kept = c.read_lines.ensures.kept.0 in
-    record { ended = inr ((kept.0, kept.2), (stop.fault, search rules, c.in_err-read.ensures.refused)) }
+    inr ((kept.0, kept.2), (stop.fault, search rules, c.in_err-read.ensures.refused))
 
-pub returns-in_err-moves : goal.returns-in_err-moves
-returns-in_err-moves g c =
+pub returns-in_err-moves-clause-ended : goal.returns-in_err-moves-clause-ended
+returns-in_err-moves-clause-ended g c =
     let p = err_from_is_err_and c.from_residual-in_err-moves.result c.from_residual-in_err-moves.ensures.1 in
     let kept = c.read_lines.ensures.kept.0 in
-    record {
-      ended = inr ((kept.0, kept.2), (Refused No_memory, stopped_at c.from_residual-in_err-moves.result (Refused No_memory) p.0 p.1 p.2, refl));
-    }
+    inr ((kept.0, kept.2), (Refused No_memory, stopped_at c.from_residual-in_err-moves.result (Refused No_memory) p.0 p.1 p.2, refl))
 
-pub returns-in-Ok : goal.returns-in-Ok
-returns-in-Ok g c =
+pub returns-in-Ok-clause-ended : goal.returns-in-Ok-clause-ended
+returns-in-Ok-clause-ended g c =
     let old : Scene = g.H.Known.known c.args.host.now in
     let mid : Scene = g.H.Known.known c.read_lines.new.host in
     let new : Scene = g.H.Known.known c.stepped.new.host in
@@ -54,10 +52,10 @@ returns-in-Ok g c =
     let ended = subst (EndsStep (Batch steps) request.takes_older request.size request.keep request.image.now mid new) (ap stopped_by c.in-Ok.is)
     c.stepped.ensures.ended in
     let ends = step_from (Batch steps) request.takes_older request.size request.keep request.image.now mid old new None kept.0 kept.1 kept.2 ended in
-    record { ended = inl (Batch steps, taken, ends) }
+    inl (Batch steps, taken, ends)
 
-pub returns : goal.returns
-returns g c =
+pub returns-clause-ended : goal.returns-clause-ended
+returns-clause-ended g c =
     let old : Scene = g.H.Known.known c.args.host.now in
     let mid : Scene = g.H.Known.known c.read_lines.new.host in
     let new : Scene = g.H.Known.known c.stepped.new.host in
@@ -73,4 +71,4 @@ returns g c =
     (ap stopped_by c.in-Err.is ∙ ap Some (sym c.with_number.ensures.fault)) c.stepped.ensures.ended in
     let ends = step_from (Batch steps) request.takes_older request.size request.keep request.image.now mid old new (Some c.with_number.result.fault)
     kept.0 kept.1 kept.2 ended in
-    record { ended = inl (Batch steps, taken, ends) }
+    inl (Batch steps, taken, ends)

@@ -11,8 +11,8 @@ use Rattle.lfs_serve.specs.Program.{stopped_by}
 use Rattle.lfs_serve.proofs.BatchingLemmas.{ends_by}
 use Rattle.lfs_serve.proofs.batching.text_batched.Goals as goal
 
-pub returns-in-Ok : goal.returns-in-Ok
-returns-in-Ok g c =
+pub returns-in-Ok-clause-ended : goal.returns-in-Ok-clause-ended
+returns-in-Ok-clause-ended g c =
     let old : Scene = g.H.Known.known c.args.host.now in
     let new : Scene = g.H.Known.known c.lines_batched.new.host in
     let request = c.args.request.now in
@@ -21,14 +21,10 @@ returns-in-Ok g c =
     let same : lines ≡ c.in-Ok.lines.items = search rules in
     let says = subst (AllZip SaysLine (asking_lines text)) (sym same) c.in-Ok.ensures.lines in
     let fault = stopped_by c.lines_batched.result in
-    record {
-      ended = ends_by (TakesLines old.files request.keep lines) (TakesText old.files request.keep text) (IsUnread new)
+    ends_by (TakesLines old.files request.keep lines) (TakesText old.files request.keep text) (IsUnread new)
           (λ (why : Fault). IsUnread new why ⊎ SaysNoSteps text why) request.takes_older request.size request.keep request.image.now old new fault fault
-          refl (λ step takes. (lines, says, takes)) (λ why unread. inl unread) c.lines_batched.ensures.ended;
-    }
+          refl (λ step takes. (lines, says, takes)) (λ why unread. inl unread) c.lines_batched.ensures.ended
 
-pub returns-in-Err : goal.returns-in-Err
-returns-in-Err g c =
-    record {
-      ended = inr ((refl, refl), (c.stop_of_line.result.fault, refl, inr (c.in-Err.first, c.in-Err.ensures.refused, c.stop_of_line.ensures.fault)));
-    }
+pub returns-in-Err-clause-ended : goal.returns-in-Err-clause-ended
+returns-in-Err-clause-ended g c =
+    inr ((refl, refl), (c.stop_of_line.result.fault, refl, inr (c.in-Err.first, c.in-Err.ensures.refused, c.stop_of_line.ensures.fault)))

@@ -4,10 +4,10 @@ use Rattle.lfs_host.specs.Scene.{Scene}
 use Rattle.lfs_serve.specs.Program.{EndsTask, stopped_by}
 use Rattle.lfs_serve.proofs.serving.asked.Goals as goal
 
-pub returns : goal.returns
-returns g c =
+pub returns-clause-ended : goal.returns-clause-ended
+returns-clause-ended g c =
     let request = c.args.request.now in
     let new : Scene = g.H.Known.known c.done.new.host in
     let ends = subst (λ (old : Scene). EndsTask request.task request.takes_older request.size request.keep request.image.now old new (stopped_by c.done.result))
     c.in_ok-spare.ensures.same c.done.ensures.ended in
-    record { ended = inl (c.in_ok-spare.ensures.missing, ends) }
+    inl (c.in_ok-spare.ensures.missing, ends)

@@ -12,47 +12,41 @@ use Rattle.lfs_serve.proofs.HostFolderLemmas.{packs, wants_memory}
 use Rattle.lfs_serve.proofs.StepLemmas.{step_from, stopped_at}
 use Rattle.lfs_serve.proofs.serving.packed.Goals as goal
 
-pub returns-in_err-folder : goal.returns-in_err-folder
-returns-in_err-folder g c =
+pub returns-in_err-folder-clause-ended : goal.returns-in_err-folder-clause-ended
+returns-in_err-folder-clause-ended g c =
     let fault = c.in_err-folder.field-0.0 in
     let p = err_from_is_err_and c.from_residual.result c.from_residual.ensures.1 in
     let kept = c.folder_of.ensures.kept in
-    record {
-      ended = inr ((kept.0.0, kept.0.2), (fault, stopped_at c.from_residual.result fault p.0 p.1 p.2, c.in_err-folder.ensures.refused));
-    }
+    inr ((kept.0.0, kept.0.2), (fault, stopped_at c.from_residual.result fault p.0 p.1 p.2, c.in_err-folder.ensures.refused))
 
-pub returns-in_err-rows : goal.returns-in_err-rows
-returns-in_err-rows g c =
+pub returns-in_err-rows-clause-ended : goal.returns-in_err-rows-clause-ended
+returns-in_err-rows-clause-ended g c =
     let p = err_from_is_err_and c.from_residual-in_err-rows.result c.from_residual-in_err-rows.ensures.1 in
     let kept = c.folder_of.ensures.kept in
-    record {
-      ended = inr (
+    inr (
         (kept.0.0, kept.0.2),
         (
           Refused No_memory,
           stopped_at c.from_residual-in_err-rows.result (Refused No_memory) p.0 p.1 p.2,
           wants_memory (g.H.Known.known c.args.host.now).tree c.args.dir.now (g.H.Known.known c.folder_of.new.host),
         ),
-      );
-    }
+      )
 
-pub returns-in_err-count : goal.returns-in_err-count
-returns-in_err-count g c =
+pub returns-in_err-count-clause-ended : goal.returns-in_err-count-clause-ended
+returns-in_err-count-clause-ended g c =
     let p = err_from_is_err_and c.from_residual-in_err-count.result c.from_residual-in_err-count.ensures.1 in
     let kept = c.folder_of.ensures.kept in
-    record {
-      ended = inr (
+    inr (
         (kept.0.0, kept.0.2),
         (
           Refused No_memory,
           stopped_at c.from_residual-in_err-count.result (Refused No_memory) p.0 p.1 p.2,
           wants_memory (g.H.Known.known c.args.host.now).tree c.args.dir.now (g.H.Known.known c.folder_of.new.host),
         ),
-      );
-    }
+      )
 
-pub returns-in-Ok : goal.returns-in-Ok
-returns-in-Ok g c =
+pub returns-in-Ok-clause-ended : goal.returns-in-Ok-clause-ended
+returns-in-Ok-clause-ended g c =
     let old : Scene = g.H.Known.known c.args.host.now in
     let mid : Scene = g.H.Known.known c.folder_of.new.host in
     let new : Scene = g.H.Known.known c.stepped.new.host in
@@ -69,10 +63,10 @@ returns-in-Ok g c =
     let ended = subst (EndsStep step request.takes_older request.size request.keep request.image.now mid new) (ap stopped_by c.in-Ok.is) c.stepped.ensures.ended in
     let ends = step_from step request.takes_older request.size request.keep request.image.now mid old new None kept.0 kept.1 kept.2
     ended in
-    record { ended = inl (step, (rows, packed, (c.in_ok-count.ensures, refl, rows_is)), ends) }
+    inl (step, (rows, packed, (c.in_ok-count.ensures, refl, rows_is)), ends)
 
-pub returns : goal.returns
-returns g c =
+pub returns-clause-ended : goal.returns-clause-ended
+returns-clause-ended g c =
     let old : Scene = g.H.Known.known c.args.host.now in
     let mid : Scene = g.H.Known.known c.folder_of.new.host in
     let new : Scene = g.H.Known.known c.stepped.new.host in
@@ -90,4 +84,4 @@ returns g c =
     (ap stopped_by c.in-Err.is ∙ ap Some (sym (c.with_row.ensures ∙ c.with_need-stop.ensures))) c.stepped.ensures.ended in
     let ends = step_from step request.takes_older request.size request.keep request.image.now mid old new (Some c.with_row.result.fault) kept.0 kept.1 kept.2
     ended in
-    record { ended = inl (step, (rows, packed, (c.in_ok-count.ensures, refl, rows_is)), ends) }
+    inl (step, (rows, packed, (c.in_ok-count.ensures, refl, rows_is)), ends)

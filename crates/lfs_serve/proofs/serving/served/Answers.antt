@@ -1,6 +1,6 @@
 use Rattle.std.proofs.Common.{sym, subst, ◌∙◌}
 use Rattle.lfs_host.specs.Scene.{Scene}
-use Rattle.lfs_serve.specs.Program.{EndsAsked, stopped_by}
+use Rattle.lfs_serve.specs.Program.{EndsAsked, TaskLeavesRest, stopped_by}
 use Rattle.lfs_serve.proofs.serving.served.Goals as goal
 
 pub returns : goal.returns
@@ -8,6 +8,8 @@ returns g c =
     let request = c.args.request.now in
     let fault = stopped_by c.asked-end.result in
     let old : Scene = g.H.Known.known c.args.host.now in
+    let told = sym (c.tell_within.ensures.kept ∙ c.tell_later.ensures.kept ∙ c.tell_end-status.ensures.kept) in
     let ends = subst (λ (new : Scene). EndsAsked request old new fault)
-    (sym (c.tell_within.ensures.kept ∙ c.tell_later.ensures.kept ∙ c.tell_end-status.ensures.kept)) c.asked-end.ensures.ended in
-    record { ended = (fault, ends, c.tell_end-status.ensures.status) }
+    told c.asked-end.ensures.ended in
+    let rest = subst (λ (new : Scene). TaskLeavesRest request.task old new) told c.asked-end.ensures.rest in
+    record { ended = (fault, ends, c.tell_end-status.ensures.status, rest) }
