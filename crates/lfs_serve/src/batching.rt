@@ -22,7 +22,7 @@ use std::alloc::Global;
 
 /// Takes the steps of a script on an image's file, all of them or none, and writes what they leave once: the script is read first, and
 /// then each file of the host that its lines put. Takes memory.
-pub fn batched<H: Host>(
+pub(crate) fn batched<H: Host>(
     alloc: Global,
     host: &mut H,
     request: &Request<'_>,

@@ -14,7 +14,7 @@ pub struct Beside {
 
 impl Beside {
     /// Nothing yet. Takes no memory.
-    pub fn new(alloc: Global) -> Beside {
+    pub(crate) fn new(alloc: Global) -> Beside {
         Beside {
             later: Later {
                 image: None,

@@ -26,7 +26,7 @@ use lfs_step::Fault;
 use std::alloc::Global;
 
 /// Makes a folder of the host out of an image's file. What commits of a later version stand in it is put into `beside`. Takes memory.
-pub fn extracted<H: Host>(
+pub(crate) fn extracted<H: Host>(
     alloc: Global,
     host: &mut H,
     request: &Request<'_>,

@@ -14,7 +14,11 @@ use lfs_step::Fault;
 use std::alloc::{AllocError, Global};
 
 /// What is below a folder, the folder itself first.
-pub fn folder_of<H: Host>(alloc: Global, host: &mut H, dir: &str) -> Result<Vec<FolderRow>, Fault>
+pub(crate) fn folder_of<H: Host>(
+    alloc: Global,
+    host: &mut H,
+    dir: &str,
+) -> Result<Vec<FolderRow>, Fault>
     ensures read { IfOk result (λ folder. IsFolder most_file (H.known host.old).tree dir.now folder.items) }
     ensures refused { IfErr result (ReadsNoFolder (H.known host.old).tree dir.now (H.known host.new)) }
     ensures kept { KeepsAll (H.known host.old) (H.known host.new) }
@@ -49,7 +53,7 @@ fn pack_row(row: &FolderRow) -> PackRow<'_>
 }
 
 /// A folder's rows, as they are packed.
-pub fn pack_rows(alloc: Global, folder: &[FolderRow]) -> Result<Vec<PackRow<'_>>, AllocError>
+pub(crate) fn pack_rows(alloc: Global, folder: &[FolderRow]) -> Result<Vec<PackRow<'_>>, AllocError>
     ensures { IfOk result (λ rows. map pack_text rows.items ≡ map folder_text folder.now) }
 {
     let mut rows = Vec::new(alloc);

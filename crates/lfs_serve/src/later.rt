@@ -25,7 +25,7 @@ pub struct Later {
 }
 
 /// Those in an image alone, of blocks of `size` bytes. Takes no memory.
-pub fn later_alone(size: u32, bytes: &[u8]) -> Later
+pub(crate) fn later_alone(size: u32, bytes: &[u8]) -> Later
     ensures { result ≡ later_alone size bytes.now }
 {
     Later {
@@ -35,7 +35,7 @@ pub fn later_alone(size: u32, bytes: &[u8]) -> Later
 }
 
 /// Those in what a step is handed. Takes no memory.
-pub fn later_handed(step: &Step<'_>, size: u32, handed: &Handed) -> Later
+pub(crate) fn later_handed(step: &Step<'_>, size: u32, handed: &Handed) -> Later
     ensures { result ≡ later_handed step.now size (record { image = handed.now.image.items; journal = handed.now.journal.items; input = handed.now.input.items }) }
 {
     let image = later_version(handed.image.as_slice(), size);
@@ -50,7 +50,7 @@ pub fn later_handed(step: &Step<'_>, size: u32, handed: &Handed) -> Later
 }
 
 /// Refuses them, unless the state before them is gone on with. Takes no memory.
-pub fn must_be_read(takes_older: bool, later: Later) -> Result<(), Stop>
+pub(crate) fn must_be_read(takes_older: bool, later: Later) -> Result<(), Stop>
     ensures { stopped_by result ≡ refused_by takes_older later }
 {
     if takes_older {
@@ -78,7 +78,7 @@ fn stop_of(fault: Fault, version: u32) -> Stop
 }
 
 /// Tells of them on standard error. Takes no memory.
-pub fn tell_later<H: Host>(host: &mut H, request: &Request<'_>, later: Later)
+pub(crate) fn tell_later<H: Host>(host: &mut H, request: &Request<'_>, later: Later)
     ensures kept { H.known host.new ≡ H.known host.old }
 {
     if let Some(version) = later.image {
@@ -90,7 +90,7 @@ pub fn tell_later<H: Host>(host: &mut H, request: &Request<'_>, later: Later)
 }
 
 /// Tells of those in the image of this name.
-pub fn tell_version<H: Host>(host: &mut H, image: &str, version: u32)
+pub(crate) fn tell_version<H: Host>(host: &mut H, image: &str, version: u32)
     ensures kept { H.known host.new ≡ H.known host.old }
 {
     say_version(
@@ -103,7 +103,7 @@ pub fn tell_version<H: Host>(host: &mut H, image: &str, version: u32)
 }
 
 /// Tells that a device has changed the image of this name, for which it is refused. Takes no memory.
-pub fn tell_changed<H: Host>(host: &mut H, image: &str, version: u32)
+pub(crate) fn tell_changed<H: Host>(host: &mut H, image: &str, version: u32)
     ensures kept { H.known host.new ≡ H.known host.old }
 {
     say_version(

@@ -20,7 +20,7 @@ const MIN_BLOCK_COUNT: u32 = 2;
 
 /// How many blocks a packed image gets; where none holds its rows, as many as an image of this block size has at most, in which
 /// packing them says why. The caller owes limits that images may state. Takes memory.
-pub fn counted(
+pub(crate) fn counted(
     alloc: Global,
     size: u32,
     extent: Extent,
@@ -58,7 +58,13 @@ fn least(
 
 /// Why packing a folder ended early; where it has no room, with how many blocks it needs. The caller owes limits that images may state.
 /// Takes memory.
-pub fn with_need(alloc: Global, size: u32, limits: Limits, rows: &[PackRow<'_>], stop: Stop) -> Stop
+pub(crate) fn with_need(
+    alloc: Global,
+    size: u32,
+    limits: Limits,
+    rows: &[PackRow<'_>],
+    stop: Stop,
+) -> Stop
     requires { IsLimits limits }
     ensures { result.fault ≡ stop.fault }
 {

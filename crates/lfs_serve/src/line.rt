@@ -55,21 +55,21 @@ impl fmt::Display for Line<'_, '_, '_> {
 }
 
 /// Tells a line on standard error: what it is of, and these pieces. Takes no memory.
-pub fn say<H: Host>(host: &mut H, name: &str, pieces: &[Piece<'_>])
+pub(crate) fn say<H: Host>(host: &mut H, name: &str, pieces: &[Piece<'_>])
     ensures kept { H.known host.new ≡ H.known host.old }
 {
     host.complain(Line { name, pieces });
 }
 
 /// Tells a line of words alone. Takes no memory.
-pub fn say_words<H: Host>(host: &mut H, name: &str, words: &str)
+pub(crate) fn say_words<H: Host>(host: &mut H, name: &str, words: &str)
     ensures kept { H.known host.new ≡ H.known host.old }
 {
     say(host, name, &[Piece::Text(words)]);
 }
 
 /// Tells a line with a disk version, and words in front of it and behind it. Takes no memory.
-pub fn say_version<'a, H: Host>(
+pub(crate) fn say_version<'a, H: Host>(
     host: &mut H,
     name: &str,
     front: &'a str,
@@ -92,7 +92,7 @@ pub fn say_version<'a, H: Host>(
 }
 
 /// Tells a line with a number of blocks of a size, and words in front of them and behind them. Takes no memory.
-pub fn say_blocks<'a, H: Host>(
+pub(crate) fn say_blocks<'a, H: Host>(
     host: &mut H,
     name: &str,
     front: &'a str,

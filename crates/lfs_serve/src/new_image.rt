@@ -16,7 +16,7 @@ use std::alloc::Global;
 
 /// Why a step on an image of this name ended early; where its journal is another image's, with whether that is the one beside it. Takes
 /// memory.
-pub fn with_new_image<H: Host>(
+pub(crate) fn with_new_image<H: Host>(
     alloc: Global,
     host: &mut H,
     size: u32,

@@ -6,7 +6,7 @@ use crate::line::{Piece, say};
 use lfs_host::Host;
 
 /// Tells why a text is no path, and which one may be meant. Takes no memory.
-pub fn tell_no_path<H: Host>(host: &mut H, image: &str, text: &[u8])
+pub(crate) fn tell_no_path<H: Host>(host: &mut H, image: &str, text: &[u8])
     ensures kept { H.known host.new ≡ H.known host.old }
 {
     if !text.starts_with(b"/") {
@@ -14,7 +14,11 @@ pub fn tell_no_path<H: Host>(host: &mut H, image: &str, text: &[u8])
     } else if text.ends_with(b"/") {
         tell_closing(host, image, text);
     } else {
-        say(host, image, &[Piece::Bytes(text), Piece::Text(flaw_of(text))]);
+        say(
+            host,
+            image,
+            &[Piece::Bytes(text), Piece::Text(flaw_of(text))],
+        );
     }
 }
 
@@ -62,5 +66,7 @@ fn flaw_of(text: &[u8]) -> &'static str {
 
 /// Whether this stands between two slashes of a text, or behind its last one.
 fn has_name(text: &[u8], name: &[u8]) -> bool {
-    text.split(|&byte| byte == b'/').skip(1).any(|piece| piece == name)
+    text.split(|&byte| byte == b'/')
+        .skip(1)
+        .any(|piece| piece == name)
 }

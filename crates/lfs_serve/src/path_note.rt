@@ -30,7 +30,7 @@ pub struct PathNote {
 
 /// What is told of the path for which a step on an image of blocks of `size` bytes is refused, where the refusal is of a path.
 /// Takes memory.
-pub fn note_of(
+pub(crate) fn note_of(
     alloc: Global,
     size: u32,
     step: &Step<'_>,
@@ -89,16 +89,10 @@ fn finding_of(step: &Step<'_>, refusal: Refusal, limits: Limits) -> Option<Findi
 }
 
 /// What is said of what is there already: that it is a directory, where something else is to be moved in its place.
-fn present_as(
-    alloc: Global,
-    outline: &Outline,
-    paths: StepPaths<'_>,
-    finding: Finding,
-) -> Finding {
+fn present_as(alloc: Global, outline: &Outline, paths: StepPaths<'_>, finding: Finding) -> Finding {
     match (finding, paths.target) {
         (Finding::Present, Some(target))
-            if target != paths.path && is_directory(alloc, outline, target) =>
-        {
+            if target != paths.path && is_directory(alloc, outline, target) => {
             Finding::PresentDirectory
         }
         (finding, _) => finding,
@@ -132,10 +126,8 @@ fn front_of(
         Finding::Missing | Finding::File => found_front(alloc, outline, paths, finding),
         Finding::NoPath => bad_front(alloc, paths),
         Finding::Root if paths.path.len() > 1 => Some(paths.last()),
-        Finding::Present
-        | Finding::PresentDirectory
-        | Finding::LongName(_)
-        | Finding::LargeEntry => Some(paths.last()),
+        Finding::Present | Finding::PresentDirectory | Finding::LongName(_) | Finding::LargeEntry =>
+            Some(paths.last()),
         _ => Some(paths.first()),
     }
 }

@@ -42,7 +42,7 @@ fn contents_of<H: Host>(alloc: Global, host: &mut H, line: &ScriptLine) -> Resul
 }
 
 /// Lines with the contents that they put, which are read in turn. Takes memory.
-pub fn read_lines<'a, H: Host>(
+pub(crate) fn read_lines<'a, H: Host>(
     alloc: Global,
     host: &mut H,
     lines: &'a [ScriptLine],
@@ -89,7 +89,7 @@ fn move_of<'a>(line: &'a ReadLine<'a>, keep: Option<u32>) -> Move<'a>
 }
 
 /// The steps on a history that lines mean, in their order. Takes memory.
-pub fn moves_of<'a>(
+pub(crate) fn moves_of<'a>(
     alloc: Global,
     lines: &'a [ReadLine<'a>],
     keep: Option<u32>,

@@ -24,7 +24,7 @@ fn fault_of_line(fault: LineFault) -> Fault
 }
 
 /// Why the line of a number is refused, with what is wrong in it; want of memory is of no line. Takes no memory.
-pub fn stop_at(number: usize, fault: Fault, flaw: Option<Flaw>) -> Stop
+pub(crate) fn stop_at(number: usize, fault: Fault, flaw: Option<Flaw>) -> Stop
     ensures fault { result.fault ≡ fault }
     ensures line { result.statement ≡ line_refused number fault flaw }
 {
@@ -40,7 +40,7 @@ pub fn stop_at(number: usize, fault: Fault, flaw: Option<Flaw>) -> Stop
 }
 
 /// Why a line says no step. Takes no memory.
-pub fn stop_of_line(first: ScriptFault) -> Stop
+pub(crate) fn stop_of_line(first: ScriptFault) -> Stop
     ensures fault { result.fault ≡ fault_of_line first.fault }
     ensures line { result.statement ≡ line_refused first.number (fault_of_line first.fault) first.flaw }
 {
@@ -48,7 +48,7 @@ pub fn stop_of_line(first: ScriptFault) -> Stop
 }
 
 /// Why steps of lines are refused; where one is, with the number of its line. Takes no memory.
-pub fn with_number(lines: &[ScriptLine], stop: Stop) -> Stop
+pub(crate) fn with_number(lines: &[ScriptLine], stop: Stop) -> Stop
     ensures fault { result.fault ≡ stop.fault }
     ensures line { result.statement ≡ numbered lines.now stop.statement }
 {
@@ -66,7 +66,7 @@ pub fn with_number(lines: &[ScriptLine], stop: Stop) -> Stop
 }
 
 /// Why a script is refused; where a line of its text is, with that in `beside`. Takes memory, and tells of no line where there is none.
-pub fn with_line(alloc: Global, text: &[u8], beside: &mut Beside, stop: Stop) -> Stop
+pub(crate) fn with_line(alloc: Global, text: &[u8], beside: &mut Beside, stop: Stop) -> Stop
     ensures { result.fault ≡ stop.fault }
 {
     let Some(Statement::Line(number, _)) = stop.statement else {

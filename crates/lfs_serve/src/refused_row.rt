@@ -25,7 +25,7 @@ const WORDS_LEN: usize = 8;
 
 /// Why packing a folder ended early; where that is for one of its rows, with what is said of it, and with the text of its path in `beside`.
 /// Takes memory.
-pub fn with_row(
+pub(crate) fn with_row(
     alloc: Global,
     size: u32,
     limits: Limits,

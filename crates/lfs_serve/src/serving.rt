@@ -175,7 +175,7 @@ fn cleared<H: Host>(
 }
 
 /// Takes a step on an image's file, and writes what it leaves. Takes memory.
-pub fn stepped<H: Host>(
+pub(crate) fn stepped<H: Host>(
     alloc: Global,
     host: &mut H,
     request: &Request<'_>,

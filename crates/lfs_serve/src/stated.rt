@@ -39,7 +39,7 @@ pub struct Sight {
 
 impl Sight {
     /// What is seen of no bytes. Takes no memory.
-    pub fn none() -> Sight {
+    pub(crate) fn none() -> Sight {
         Sight {
             size: 0,
             len: 0,
@@ -49,7 +49,7 @@ impl Sight {
     }
 
     /// What is seen of bytes, as of blocks of `size` bytes. Takes no memory.
-    pub fn of(size: u32, bytes: &[u8]) -> Sight {
+    pub(crate) fn of(size: u32, bytes: &[u8]) -> Sight {
         Sight {
             size,
             len: bytes.len(),
@@ -102,7 +102,7 @@ pub enum Statement {
 }
 
 /// What is told of an image behind a fault; `other` is what is seen of one that the first is compared with. Takes no memory.
-pub fn statement_for(fault: Fault, image: Sight, other: Sight) -> Option<Statement> {
+pub(crate) fn statement_for(fault: Fault, image: Sight, other: Sight) -> Option<Statement> {
     match fault {
         Fault::Image(fault) => statement_of_bytes(fault, image),
         Fault::Mount(fault) => statement_of_image(fault, image),
@@ -139,12 +139,12 @@ fn statement_of_image(fault: MountFault, seen: Sight) -> Option<Statement> {
 }
 
 /// What the superblock at the front of block 0 states, whatever the size of a block is; nothing where there is none. Takes no memory.
-pub fn stated_in(image: &[u8]) -> Option<Stated> {
+pub(crate) fn stated_in(image: &[u8]) -> Option<Stated> {
     stated_of(superblock_words(image)?)
 }
 
 /// What the first words of a superblock's struct state; nothing where there are too few. Takes no memory.
-pub fn stated_of(words: &[u8]) -> Option<Stated> {
+pub(crate) fn stated_of(words: &[u8]) -> Option<Stated> {
     let words = words.get(..12)?;
     Some(Stated {
         version: LittleEndian::read_u32(&words[..4]),

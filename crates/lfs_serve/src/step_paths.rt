@@ -15,7 +15,7 @@ pub struct StepPaths<'a> {
 
 impl<'a> StepPaths<'a> {
     /// The paths of a step, where it has any. Takes no memory.
-    pub fn of(step: &Step<'a>) -> Option<StepPaths<'a>> {
+    pub(crate) fn of(step: &Step<'a>) -> Option<StepPaths<'a>> {
         match *step {
             Step::Mv { from, to } => Some(StepPaths {
                 path: from,
@@ -32,7 +32,7 @@ impl<'a> StepPaths<'a> {
     }
 
     /// The paths of a task, where it has any. Takes no memory.
-    pub fn of_task(task: &Task<'a>) -> Option<StepPaths<'a>> {
+    pub(crate) fn of_task(task: &Task<'a>) -> Option<StepPaths<'a>> {
         match *task {
             Task::Step(ref step) => StepPaths::of(step),
             Task::SetAttr { path, .. } | Task::RmAttr { path, .. } => Some(StepPaths::alone(path)),
@@ -46,7 +46,7 @@ impl<'a> StepPaths<'a> {
     }
 
     /// The text of a front. Takes no memory.
-    pub fn text(self, front: Front) -> &'a [u8] {
+    pub(crate) fn text(self, front: Front) -> &'a [u8] {
         let path = match self.target {
             Some(target) if front.is_of_target => target,
             _ => self.path,
@@ -55,7 +55,7 @@ impl<'a> StepPaths<'a> {
     }
 
     /// The whole of the first path. Takes no memory.
-    pub fn first(self) -> Front {
+    pub(crate) fn first(self) -> Front {
         Front {
             is_of_target: false,
             len: self.path.len(),
@@ -63,7 +63,7 @@ impl<'a> StepPaths<'a> {
     }
 
     /// The whole of the path that something is moved to, or of the only one. Takes no memory.
-    pub fn last(self) -> Front {
+    pub(crate) fn last(self) -> Front {
         match self.target {
             Some(target) => Front {
                 is_of_target: true,

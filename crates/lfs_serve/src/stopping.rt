@@ -15,7 +15,7 @@ use lfs_step::{Fault, Outcome, Step};
 use std::alloc::Global;
 
 /// Why an image was refused, with what it states. Takes no memory.
-pub fn stop_of_image(fault: Fault, size: u32, bytes: &[u8]) -> Stop
+pub(crate) fn stop_of_image(fault: Fault, size: u32, bytes: &[u8]) -> Stop
     ensures { result.fault ≡ fault }
 {
     Stop {
@@ -27,7 +27,7 @@ pub fn stop_of_image(fault: Fault, size: u32, bytes: &[u8]) -> Stop
 
 /// Why a step that was run ended early, with what its image states, what is known of its path there, or what its journal has; `other` is
 /// what is seen of the image that the first is compared with. Takes memory.
-pub fn stop_of_run(
+pub(crate) fn stop_of_run(
     alloc: Global,
     size: u32,
     step: &Step<'_>,
@@ -78,7 +78,7 @@ fn is_of_batch(step: &Step<'_>, fault: Fault) -> bool {
 }
 
 /// Why a folder wasn't made of an image, with what that states. Takes memory.
-pub fn stop_of_extracting(alloc: Global, fault: Fault, image: Image) -> Stop
+pub(crate) fn stop_of_extracting(alloc: Global, fault: Fault, image: Image) -> Stop
     ensures { result.fault ≡ fault }
 {
     let statement = match fault {

@@ -7,7 +7,7 @@ use std::alloc::Global;
 
 /// What the superblock of an image states, as its last commit says, behind a fault of its geometry or its version; nothing where it isn't
 /// read. Takes memory.
-pub fn superblock_statement(
+pub(crate) fn superblock_statement(
     alloc: Global,
     fault: MountFault,
     image: &Image,

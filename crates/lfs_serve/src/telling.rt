@@ -5,8 +5,8 @@ ghost use Rattle.lfs_change.specs.Fault.{status_of};
 ghost use Rattle.lfs_serve.specs.Program.{stopped_by};
 
 use crate::finding::Finding;
-use crate::later::tell_changed;
 use crate::last_name::last_name;
+use crate::later::tell_changed;
 use crate::line::{Piece, say, say_blocks, say_version, say_words};
 use crate::no_path::tell_no_path;
 use crate::path_note::PathNote;
@@ -17,8 +17,8 @@ use crate::told_digits::tell_digits;
 use crate::told_line::ToldLine;
 use lfs_block::{BLOCK_SIZE_STEP, ImageFault, MAX_IMAGE_LENGTH};
 use lfs_change::OtherFault;
-use lfs_exchange::tell_of_image;
 use lfs_edit::Refusal;
+use lfs_exchange::tell_of_image;
 use lfs_host::Host;
 use lfs_later::StatedVersion;
 use lfs_request::{Request, Task};
@@ -35,7 +35,7 @@ const MAX_BLOCK_COUNT: usize = 65_536;
 const COUNT_LIMITS: &str = "an image has 2 to 65536 blocks, this one ";
 
 /// Tells how a request ended, and answers the status; `text` is what a statement speaks of.
-pub fn tell_end<H: Host>(
+pub(crate) fn tell_end<H: Host>(
     host: &mut H,
     request: &Request<'_>,
     end: &Result<(), Stop>,

@@ -9,7 +9,7 @@ use lfs_request::Task;
 use lfs_script::Reason;
 
 /// Tells which word isn't the digits of an attribute's kind or value.
-pub fn tell_digits<H: Host>(host: &mut H, task: &Task<'_>)
+pub(crate) fn tell_digits<H: Host>(host: &mut H, task: &Task<'_>)
     ensures kept { H.known host.new ≡ H.known host.old }
 {
     match *task {

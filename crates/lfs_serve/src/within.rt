@@ -7,7 +7,7 @@ use lfs_host::Host;
 use lfs_request::{Request, Task};
 
 /// Tells of an image that stands in the folder that is packed into it. Takes no memory.
-pub fn tell_within<H: Host>(host: &mut H, request: &Request<'_>)
+pub(crate) fn tell_within<H: Host>(host: &mut H, request: &Request<'_>)
     ensures kept { H.known host.new ≡ H.known host.old }
 {
     let Task::Pack { dir, .. } = request.task else {

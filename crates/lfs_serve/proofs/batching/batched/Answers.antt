@@ -25,7 +25,7 @@ returns-in-Ok-clause-ended g c =
     let same : text ≡ c.in_ok-text.text.items = search rules in
     let reads = subst (ReadsScript c.args.file old) (sym same) c.in_ok-text.ensures.text in
     script_ends c.args.file text request.takes_older request.size request.keep request.image.now old mid new None
-          (stopped_by c.text_batched.result) (sym (ap stopped_by c.in-Ok.is)) reads kept c.text_batched.ensures.ended
+    (stopped_by c.text_batched.result) (sym (ap stopped_by c.in-Ok.is)) reads kept c.text_batched.ensures.ended
 
 pub returns-clause-ended : goal.returns-clause-ended
 returns-clause-ended g c =
@@ -39,5 +39,5 @@ returns-clause-ended g c =
     let reads = subst (ReadsScript c.args.file old) (sym same) c.in_ok-text.ensures.text in
     let fault = c.with_line.result.fault in
     script_ends c.args.file text request.takes_older request.size request.keep request.image.now old mid new (Some fault)
-          (stopped_by c.text_batched.result) (ap Some c.with_line.ensures ∙ sym (ap stopped_by c.in-Err.is)) reads kept
-          c.text_batched.ensures.ended
+    (stopped_by c.text_batched.result) (ap Some c.with_line.ensures ∙ sym (ap stopped_by c.in-Err.is)) reads kept
+    c.text_batched.ensures.ended

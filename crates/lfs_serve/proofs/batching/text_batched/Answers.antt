@@ -22,8 +22,8 @@ returns-in-Ok-clause-ended g c =
     let says = subst (AllZip SaysLine (asking_lines text)) (sym same) c.in-Ok.ensures.lines in
     let fault = stopped_by c.lines_batched.result in
     ends_by (TakesLines old.files request.keep lines) (TakesText old.files request.keep text) (IsUnread new)
-          (λ (why : Fault). IsUnread new why ⊎ SaysNoSteps text why) request.takes_older request.size request.keep request.image.now old new fault fault
-          refl (λ step takes. (lines, says, takes)) (λ why unread. inl unread) c.lines_batched.ensures.ended
+    (λ (why : Fault). IsUnread new why ⊎ SaysNoSteps text why) request.takes_older request.size request.keep request.image.now old new fault fault
+    refl (λ step takes. (lines, says, takes)) (λ why unread. inl unread) c.lines_batched.ensures.ended
 
 pub returns-in-Err-clause-ended : goal.returns-in-Err-clause-ended
 returns-in-Err-clause-ended g c =

@@ -24,26 +24,26 @@ returns-in_err-rows-clause-ended g c =
     let p = err_from_is_err_and c.from_residual-in_err-rows.result c.from_residual-in_err-rows.ensures.1 in
     let kept = c.folder_of.ensures.kept in
     inr (
-        (kept.0.0, kept.0.2),
-        (
-          Refused No_memory,
-          stopped_at c.from_residual-in_err-rows.result (Refused No_memory) p.0 p.1 p.2,
-          wants_memory (g.H.Known.known c.args.host.now).tree c.args.dir.now (g.H.Known.known c.folder_of.new.host),
-        ),
-      )
+      (kept.0.0, kept.0.2),
+      (
+        Refused No_memory,
+        stopped_at c.from_residual-in_err-rows.result (Refused No_memory) p.0 p.1 p.2,
+        wants_memory (g.H.Known.known c.args.host.now).tree c.args.dir.now (g.H.Known.known c.folder_of.new.host),
+      ),
+    )
 
 pub returns-in_err-count-clause-ended : goal.returns-in_err-count-clause-ended
 returns-in_err-count-clause-ended g c =
     let p = err_from_is_err_and c.from_residual-in_err-count.result c.from_residual-in_err-count.ensures.1 in
     let kept = c.folder_of.ensures.kept in
     inr (
-        (kept.0.0, kept.0.2),
-        (
-          Refused No_memory,
-          stopped_at c.from_residual-in_err-count.result (Refused No_memory) p.0 p.1 p.2,
-          wants_memory (g.H.Known.known c.args.host.now).tree c.args.dir.now (g.H.Known.known c.folder_of.new.host),
-        ),
-      )
+      (kept.0.0, kept.0.2),
+      (
+        Refused No_memory,
+        stopped_at c.from_residual-in_err-count.result (Refused No_memory) p.0 p.1 p.2,
+        wants_memory (g.H.Known.known c.args.host.now).tree c.args.dir.now (g.H.Known.known c.folder_of.new.host),
+      ),
+    )
 
 pub returns-in-Ok-clause-ended : goal.returns-in-Ok-clause-ended
 returns-in-Ok-clause-ended g c =

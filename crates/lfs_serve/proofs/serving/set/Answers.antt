@@ -24,7 +24,7 @@ returns-clause-ended g c =
     let same : c.as_slice-value.result.now ≡ c.in_ok-value.value.items = search rules in
     let spells = subst (λ (bytes : List ℕ). SpellsBytes c.args.value.now bytes) (sym same) c.in_ok-value.ensures.value in
     inl (
-        SetAttr c.args.path c.in_ok-kind.kind c.as_slice-value.result,
-        ([], tt, (refl, c.in_ok-kind.ensures.kind, spells)),
-        c.stepped.ensures.ended,
-      )
+      SetAttr c.args.path c.in_ok-kind.kind c.as_slice-value.result,
+      ([], tt, (refl, c.in_ok-kind.ensures.kind, spells)),
+      c.stepped.ensures.ended,
+    )

@@ -50,7 +50,7 @@ returns-in_err-must_be_read-clause-ended g c =
     refused_handed older step size h c.later_handed-found.result (Some fault) c.later_handed-found.ensures c.in_err-must_be_read.ensures in
     let kept = c.hand_over.ensures.kept in
     ends_later step older size c.args.request.now.keep name old by_handed h _ fault (search rules) is refused
-          (kept.0 ∙ aimed.0, kept.1 ∙ aimed.2)
+    (kept.0 ∙ aimed.0, kept.1 ∙ aimed.2)
 
 pub returns-in-Err-clause-ended : goal.returns-in-Err-clause-ended
 returns-in-Err-clause-ended g c =
@@ -116,7 +116,7 @@ returns-in_err-stored-clause-ended g c =
     outcome c.in-Ok.outcome c.in_ok-target.ensures.target (search rules) files c.kind_of-kind.ensures
     c.in-Ok.ensures.ran.2 c.in_err-stored.ensures.files in
     ends_behind step older size keep name old by_stored _ c.in_err-stored.field-0.0 outcome (search rules)
-          c.in_err-stored.ensures.refused runs spares
+    c.in_err-stored.ensures.refused runs spares
 
 pub returns-clause-ended : goal.returns-clause-ended
 returns-clause-ended g c =
