@@ -3,6 +3,7 @@
 import fcntl
 import os
 import pathlib
+import pty
 import resource
 import shutil
 import signal
@@ -116,6 +117,26 @@ CUT = (
     (1_000, ["cat", "--block", "512", "a.img", "/large"], 1_000 * b"7"),
     (20, ["ls", "--block", "512", "a.img"], b"d          - /\nf    "),
 )
+
+
+def input_that_is_typed(files):
+    """Who types contents or a script is told that they are read, and nobody else."""
+    told = ["lfsed: reads from standard input, up to its end (Ctrl-D)"]
+    for words, typed in (["put", "--block", "512", "a.img", "/typed"], b"typed\n"), (["batch", "--block", "512", "a.img"], b"mkdir /new\n"):
+        ours, theirs = pty.openpty()
+        os.write(ours, typed + b"\x04")
+        ended = files.run(words, stdin=theirs)
+        files.check(f"{words[0]} on a terminal", ended == (0, told), ended)
+        for name in ours, theirs:
+            os.close(name)
+    listed = subprocess.run([files.program, "ls", "--block", "512", "a.img"], cwd=files.folder, capture_output=True, timeout=60).stdout
+    files.check("what was typed", listed == b"d          - /\nd          - /new\nf          6 /typed\n", listed)
+    ours, theirs = pty.openpty()
+    ended = files.run(["put", "--block", "512", "--from", "a.img", "a.img", "/from"], stdin=theirs)
+    files.check("a file on a terminal", ended == (0, []), ended)
+    for name in ours, theirs:
+        os.close(name)
+    files.check("a pipe", files.put("/piped") == (0, []))
 
 
 def output_that_is_cut(files):
@@ -369,6 +390,7 @@ def pairs_of_runs(files):
 SCENES = (
     what_is_no_image,
     output_that_nobody_reads,
+    input_that_is_typed,
     output_that_is_cut,
     an_image_that_another_keeps,
     calls_that_fail,

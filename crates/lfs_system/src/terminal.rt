@@ -13,7 +13,7 @@ use lfs_sink::{Out, Sink, Text};
 use std::alloc::{AllocError, Global};
 use std::fmt::Display;
 use std::fs::{self, File};
-use std::io::{self, ErrorKind, Printer, Read};
+use std::io::{self, ErrorKind, IsTerminal, Printer, Read};
 
 /// What the system refused.
 #[derive(Clone, Copy)]
@@ -172,6 +172,13 @@ fn contents_of(rt: &HostRuntime, alloc: Global, name: &str, most: u64) -> io::Re
     bytes_in(alloc, file, len, most)
 }
 
+/// Tells that standard input is read where somebody types there, who may not know it.
+fn tell_of_typing(rt: &HostRuntime) {
+    if rt.stdin().is_terminal() {
+        let _ = rt.eprint("lfsed: reads from standard input, up to its end (Ctrl-D)\n");
+    }
+}
+
 /// The bytes of standard input, `most` of them and one more at most.
 fn input_of(rt: &HostRuntime, alloc: Global, most: u64) -> io::Result<Vec<u8>> {
     let mut bytes = Vec::new(alloc);
@@ -323,6 +330,7 @@ impl Host for Terminal<'_> {
         let read = if self.closed.is_input() {
             Err(is_closed())
         } else {
+            tell_of_typing(self.rt);
             input_of(self.rt, alloc, most)
         };
         read.map_err(|error| {
