@@ -1,8 +1,8 @@
 pub mod FormatLemmas
 pub mod Verdicts
 pub mod VerdictKinds
-pub mod Supplied
 pub mod OrderLemmas
+pub mod Supplied
 pub mod CarryingLemmas
 pub mod PairsOnce
 pub mod WritingLemmas

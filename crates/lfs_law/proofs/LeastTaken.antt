@@ -41,7 +41,7 @@ body_used : (n : ℕ) (bytes blocks : List ℕ) (t : Bool) → body_uses n (if t
 body_used n bytes blocks true = refl
 body_used n bytes blocks false = refl
 
-made_used : (v : Volume) (c : Command) (s : Supplies) (n : ℕ) → supply_uses v c s n ≡ times n (blocks_made v c s)
+pub made_used : (v : Volume) (c : Command) (s : Supplies) (n : ℕ) → supply_uses v c s n ≡ times n (blocks_made v c s)
 made_used v (Mkdir p) s n = refl
 made_used v (Put p bytes) s n = body_used n bytes s.blocks (nat_le (length bytes) (most_inline v.size))
 made_used v (Rm p) s n = refl
