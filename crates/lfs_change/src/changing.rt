@@ -14,7 +14,6 @@ use lfs_block::Image;
 use lfs_history::{Move, OpenFault};
 use lfs_journal::{Refused, Session};
 use std::alloc::Global;
-use std::mem::forget;
 
 /// Takes a step on the history of bytes that are an image, with blocks of `size` bytes, and of its journal, which is spelled in
 /// version 2 then, whichever version it was read in. The caller owes that what the step keeps is 1 to 1,000 images. With a fault the
@@ -85,24 +84,22 @@ pub(crate) fn opened(alloc: Global, image: Image, journal: &[u8]) -> Result<Sess
     }
 }
 
-/// The bytes of a session's image. Its outline's memory isn't given back, name by name: the run is at its end.
+/// The bytes of a session's image.
 pub(crate) fn image_bytes(session: Session) -> Vec<u8>
     ensures { result.items ≡ session.present.bytes }
 {
-    let (image, outline, _) = session.into_parts();
-    forget(outline);
+    let (image, _) = session.into_parts();
     image.into_bytes()
 }
 
-/// The outcome that keeps a session's image and its journal. Its outline's memory isn't given back, name by name: the run is at its end.
+/// The outcome that keeps a session's image and its journal.
 pub(crate) fn outcome_of(session: Session) -> Outcome
     ensures image { result.image.items ≡ session.present.bytes }
     ensures journal { result.journal.items ≡ journal_bytes (journal_of session) }
     ensures fault { result.fault ≡ None }
     ensures status { result.status ≡ 0 }
 {
-    let (image, outline, journal) = session.into_parts();
-    forget(outline);
+    let (image, journal) = session.into_parts();
     Outcome::done(image.into_bytes(), journal)
 }
 

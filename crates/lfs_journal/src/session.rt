@@ -17,6 +17,7 @@ use lfs_history::StepFault;
 use lfs_law::cuts_follow;
 use std::alloc::Global;
 use std::marker::Model;
+use std::mem::forget;
 
 /// An image with its changes, up to 1,000, each of which can be taken back exactly, and made again. Its meaning is a
 /// `History`: each image that was and can be again, all of which mount. Between commands it keeps the image's outline, which
@@ -126,15 +127,15 @@ impl Session {
     pub fn into_image(self) -> Image
         ensures { result.disk ≡ self.present }
     {
-        let (image, _, _) = self.into_parts();
+        let (image, _) = self.into_parts();
         image
     }
 
-    /// The image as it is now, its outline where that is known, and the journal: of the image's size and count, with the changes that
-    /// are done and those that are undone. Takes no memory.
-    pub fn into_parts(self) -> (Image, Option<Outline>, Journal)
+    /// The image as it is now, and the journal: of the image's size and count, with the changes that are done and those that are undone.
+    /// The memory of an outline isn't given back, name by name: a run is at its end. Takes no memory.
+    pub fn into_parts(self) -> (Image, Journal)
         ensures image { result.0.disk ≡ self.present }
-        ensures journal { result.2 ≡ journal_of self }
+        ensures journal { result.1 ≡ journal_of self }
     {
         let Session {
             image,
@@ -143,7 +144,8 @@ impl Session {
             done,
         } = self;
         let journal = Journal::new(image.size(), image.count(), patches, done);
-        (image, outline, journal)
+        forget(outline);
+        (image, journal)
     }
 
     /// Carries a command out, as a change that can be taken back; what was undone is dropped. Any refusal leaves all as it was:
