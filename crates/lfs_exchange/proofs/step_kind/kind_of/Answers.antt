@@ -12,7 +12,7 @@ returns-in-Check c =
             | inr rest ↦
                 elim rest [
                   | inl cat ↦ rw cat.1 refl
-                  | inr diff ↦ rw diff.1 refl
+                  | inr diff ↦ rw diff.2 refl
                 ]
           ]
     ]
