@@ -130,13 +130,11 @@ fn explain<H: Host>(alloc: Global, host: &mut H, faults: Option<&[&str]>) -> Res
     let Some(faults) = faults else {
         return printed(host, list(alloc)?.as_str());
     };
-    for fault in faults {
-        if explained(fault).is_none() {
-            host.complain(format_args!(
-                "error: invalid value '{fault}' for '[FAULT]...': no fault has this number or name{MORE}"
-            ));
-            return Ok(USAGE);
-        }
+    if let Some(fault) = faults.iter().find(|fault| explained(fault).is_none()) {
+        host.complain(format_args!(
+            "error: invalid value '{fault}' for '[FAULT]...': no fault has this number or name{MORE}"
+        ));
+        return Ok(USAGE);
     }
     printed(host, pages(alloc, faults)?.as_str())
 }
