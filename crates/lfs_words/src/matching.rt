@@ -20,11 +20,7 @@ use lfs_request::{Request, Task};
 use lfs_step::Step;
 
 /// The question that a command's words say, where another image has blocks of this size.
-fn question_of<'a>(
-    name: &str,
-    options: &ArgMatches<'a>,
-    other: u32,
-) -> Result<Step<'a>, Misuse<'a>>
+fn question_of<'a>(name: &str, options: &ArgMatches<'a>, other: u32) -> Result<Step<'a>, Misuse<'a>>
     ensures some { IfOk result (λ step. (block : _) → IsStep step name.now (rows_of (found_of options.now)) block other) }
     ensures within { IfOk result (λ step. IsStepInRange step) }
     ensures refused { IfErr result (λ misuse. misuse ≡ Unsaid) }

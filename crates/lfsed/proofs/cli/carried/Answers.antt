@@ -7,11 +7,11 @@ returns-in-Ok-Request g c =
     let asks = rw c.in-Ok-Request.field-0-is at c.in-Ok-Request.ensures.some in
     record {
       ended = inl (
-          c.in_ok-stated.stated,
-          g.H.Known.known c.stated_for.new.host,
-          c.in_ok-stated.ensures.stated,
-          inl (c.in-Ok-Request.request, asks, c.served.ensures.ended),
-        );
+        c.in_ok-stated.stated,
+        g.H.Known.known c.stated_for.new.host,
+        c.in_ok-stated.ensures.stated,
+        inl (c.in-Ok-Request.request, asks, c.served.ensures.ended),
+      );
     }
 
 pub returns-in-Ok-Explanation : goal.returns-in-Ok-Explanation
@@ -19,9 +19,9 @@ returns-in-Ok-Explanation g c =
     let asks = rw c.in-Ok-Explanation.field-0-is at c.in-Ok-Explanation.ensures.some in
     record {
       ended = inl (
-          c.in_ok-stated.stated,
-          g.H.Known.known c.stated_for.new.host,
-          c.in_ok-stated.ensures.stated,
-          inr (inl (c.in-Ok-Explanation.faults, asks, c.explain.ensures.ended)),
-        );
+        c.in_ok-stated.stated,
+        g.H.Known.known c.stated_for.new.host,
+        c.in_ok-stated.ensures.stated,
+        inr (inl (c.in-Ok-Explanation.faults, asks, c.explain.ensures.ended)),
+      );
     }
