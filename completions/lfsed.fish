@@ -54,7 +54,7 @@ complete -c lfsed -n __fish_use_subcommand -a undo -d 'Take the latest change ba
 complete -c lfsed -n __fish_use_subcommand -a redo -d 'Make the latest change again that was taken back'
 complete -c lfsed -n __fish_use_subcommand -a forget -d 'Keep the image alone: its changes can no longer be taken back'
 complete -c lfsed -n __fish_use_subcommand -a batch -d 'Carry out the steps of a script, a line each: all of them or none'
-complete -c lfsed -n __fish_use_subcommand -a explain -d 'Say what a fault means, and what to do'
+complete -c lfsed -n __fish_use_subcommand -a explain -d 'Say what faults mean, and what to do'
 complete -c lfsed -n '__lfsed_at help 0' -a 'format pack extract check ls cat diff log mkdir put rm mv setattr rmattr grow undo redo forget batch explain'
 complete -c lfsed -n '__lfsed_at format 0' -F
 complete -c lfsed -n '__fish_seen_subcommand_from format' -s b -l block -x -d 'Size of a block, a multiple of 16 from 256 to 65536 [default: 4096]'
