@@ -391,8 +391,8 @@ fn tell_changes<H: Host>(host: &mut H, request: &Request<'_>, count: usize)
     ensures kept { H.known host.new ≡ H.known host.old }
 {
     let (said, steps) = match request.task {
-        Task::Step(Step::Undo { steps }) => ("changes that are done: ", steps),
-        Task::Step(Step::Redo { steps }) => ("changes that are undone: ", steps),
+        Task::Step(Step::Undo { steps }) => ("changes that are done: ", steps as usize),
+        Task::Step(Step::Redo { steps }) => ("changes that are undone: ", steps as usize),
         _ => return,
     };
     say(
@@ -402,7 +402,7 @@ fn tell_changes<H: Host>(host: &mut H, request: &Request<'_>, count: usize)
             Piece::Text(said),
             Piece::Number(count),
             Piece::Text(", fewer than "),
-            Piece::Number(steps as usize),
+            Piece::Number(steps),
         ],
     );
 }

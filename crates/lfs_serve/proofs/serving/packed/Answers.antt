@@ -5,6 +5,8 @@ use Rattle.lfs_change.specs.declared.fault.Fault.TheVariants.{Refused}
 use Rattle.lfs_folder.specs.declared.folder_row.FolderRow.{FolderRow}
 use Rattle.lfs_folder.specs.FolderRows.{IsFolder}
 use Rattle.lfs_host.specs.Scene.{Scene}
+use Rattle.lfs_pack.specs.declared.pack_row.PackRow.{PackRow}
+use Rattle.lfs_request.specs.Asking.{IsExtent}
 use Rattle.lfs_step.specs.declared.step.Step.TheVariants.{Pack}
 use Rattle.lfs_fs.specs.Limits.{most_file}
 use Rattle.lfs_serve.specs.Program.{EndsStep, stopped_by}
@@ -58,12 +60,14 @@ returns-in-Ok-clause-ended g c =
     let read = subst (λ (rs : List FolderRow). IsFolder most_file old.tree dir rs) (sym folder_is) c.in_ok-folder.ensures.read in
     let packed = packs old.tree dir folder rows read c.in_ok-rows.ensures in
     let rows_is : c.as_slice-rows.result.now ≡ rows = search rules in
+    let counts = subst (λ (rs : List PackRow). IsExtent request.size c.args.limits rs c.args.extent c.in_ok-count.count) rows_is
+    c.in_ok-count.ensures in
     let step = Pack c.in_ok-count.count c.args.limits c.as_slice-rows.result in
     let kept = c.folder_of.ensures.kept.0 in
     let ended = subst (EndsStep step request.takes_older request.size request.keep request.image.now mid new) (ap stopped_by c.in-Ok.is) c.stepped.ensures.ended in
     let ends = step_from step request.takes_older request.size request.keep request.image.now mid old new None kept.0 kept.1 kept.2
     ended in
-    inl (step, (rows, packed, (c.in_ok-count.ensures, refl, rows_is)), ends)
+    inl (step, (rows, packed, (counts, refl, rows_is)), ends)
 
 pub returns-clause-ended : goal.returns-clause-ended
 returns-clause-ended g c =
@@ -78,10 +82,12 @@ returns-clause-ended g c =
     let read = subst (λ (rs : List FolderRow). IsFolder most_file old.tree dir rs) (sym folder_is) c.in_ok-folder.ensures.read in
     let packed = packs old.tree dir folder rows read c.in_ok-rows.ensures in
     let rows_is : c.as_slice-rows.result.now ≡ rows = search rules in
+    let counts = subst (λ (rs : List PackRow). IsExtent request.size c.args.limits rs c.args.extent c.in_ok-count.count) rows_is
+    c.in_ok-count.ensures in
     let step = Pack c.in_ok-count.count c.args.limits c.as_slice-rows.result in
     let kept = c.folder_of.ensures.kept.0 in
     let ended = subst (EndsStep step request.takes_older request.size request.keep request.image.now mid new)
     (ap stopped_by c.in-Err.is ∙ ap Some (sym (c.with_row.ensures ∙ c.with_need-stop.ensures))) c.stepped.ensures.ended in
     let ends = step_from step request.takes_older request.size request.keep request.image.now mid old new (Some c.with_row.result.fault) kept.0 kept.1 kept.2
     ended in
-    inl (step, (rows, packed, (c.in_ok-count.ensures, refl, rows_is)), ends)
+    inl (step, (rows, packed, (counts, refl, rows_is)), ends)
