@@ -16,7 +16,7 @@ use Rattle.lfs_command.specs.Command as asked
 use Rattle.lfs_step.specs.declared.query.Query.TheVariants as query
 use Rattle.lfs_serve.proofs.StepLemmas.{handed_from}
 use Rattle.lfs_change.specs.declared.fault.Fault.{Fault}
-use Rattle.lfs_change.specs.declared.fault.Fault.TheVariants.{Refused, CannotRead, CannotWrite}
+use Rattle.lfs_change.specs.declared.fault.Fault.TheVariants.{Refused, CannotWrite}
 use Rattle.lfs_change.specs.declared.outcome.Outcome.{Outcome}
 use Rattle.lfs_change.specs.Bytes.{image_of}
 use Rattle.lfs_change.specs.Change.{Denotes, DenotesOn}

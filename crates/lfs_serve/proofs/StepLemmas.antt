@@ -2,7 +2,7 @@
 use Rattle.std.proofs.Common.{◌≡◌, ℕ, Bor, Bool, true, List, Option, Some, None, Result, Err, ◌⊎◌, refl, sym, ap, subst, ◌∙◌, inl, inr}
 use Rattle.std.specs.Prelude.{Contains, IfSome}
 use Rattle.lfs_change.specs.declared.fault.Fault.{Fault}
-use Rattle.lfs_change.specs.declared.fault.Fault.TheVariants.{Refused, CannotRead, CannotWrite, BadHex}
+use Rattle.lfs_change.specs.declared.fault.Fault.TheVariants.{Refused, CannotWrite, BadHex}
 use Rattle.lfs_command.specs.declared.refusal.Refusal.TheVariants.{Memory}
 use Rattle.lfs_request.specs.declared.task.Task.TheVariants.{SetAttr, RmAttr}
 use Rattle.lfs_digits.specs.Digits.{SpellsNoByte, SpellsNoBytes}

@@ -1,5 +1,5 @@
 -- The line of a script for which none of its steps are done (own).
-use Rattle.std.specs.Prelude.{◌∷◌, ℕ, List, Option, Some, None, option_map, slice_get}
+use Rattle.std.specs.Prelude.{ℕ, List, Option, Some, None, slice_get}
 use Rattle.lfs_command.specs.declared.refusal.Refusal.TheVariants.{Memory}
 use Rattle.lfs_change.specs.declared.fault.Fault.{Fault}
 use Rattle.lfs_change.specs.declared.fault.Fault.TheVariants.{Refused}

@@ -37,12 +37,7 @@ pub(crate) fn counted(
 }
 
 /// The least number of blocks that holds rows; of a size that no block has, as few as an image has.
-fn least(
-    alloc: Global,
-    size: u32,
-    limits: Limits,
-    rows: &[PackRow<'_>],
-) -> Result<u32, AllocError>
+fn least(alloc: Global, size: u32, limits: Limits, rows: &[PackRow<'_>]) -> Result<u32, AllocError>
     requires { IsLimits limits }
     ensures { IfOk result (IsExtent size limits rows.now Least) }
 {
