@@ -1,13 +1,16 @@
 -- How words end that are read as they are, and with `--` before the first stray one.
-use Rattle.std.proofs.Common.{◌≡◌, ◌∙◌, ℕ, List, Option, inl, inr, refl, sym, ap, subst, true}
+use Rattle.std.proofs.Common.{◌≡◌, ◌∙◌, ℕ, List, Option, Some, None, IfSome, IsNone, inl, inr, refl, sym, ap, subst, true}
+use Rattle.std.specs.Borrow.{Bor}
 use Rattle.clap.specs.Words.{HasKind, IsAmong, Kinds, Row, Text, fault_of, kind_of, subcommand_rows_of}
 use Rattle.clap.specs.declared.error.Error.{Error}
 use Rattle.clap.specs.declared.error.kind.ErrorKind.TheVariants.{OutOfMemory}
 use Rattle.clap.specs.declared.parser.matches.ArgMatches.{ArgMatches}
-use Rattle.lfs_host.specs.Scene.{Scene}
+use Rattle.lfs_host.specs.Scene.{KeepsAll, Scene}
 use Rattle.lfs_grammar.specs.Grammar.{IsMatched, IsTaken, grammar}
 use Rattle.lfs_grammar.specs.Hyphens.{dashed, names_files_plainly}
-use Rattle.lfsed.specs.Words.{EndsNamed, EndsWords}
+use Rattle.lfs_serve.specs.Stated.{IsStatedSize}
+use Rattle.lfs_words.specs.Words.{SaysAuto}
+use Rattle.lfsed.specs.Words.{EndsNamed, EndsWords, Looks}
 
 -- words that are refused with an error other than want of memory aren't taken
 pub not_taken : (words : List Text) (e : Error) → HasKind (fault_of grammar words) e → (kind_of e ≡ OutOfMemory → ⊥) → IsTaken words → ⊥
@@ -28,3 +31,10 @@ ends_as_dashed words read m old new status refused is matched plain ends =
       inr (refused, is, matched.taken, ap names_files_plainly (sym matched.named) ∙ plain),
       subst (λ (named : Option (Text × List Row)). EndsNamed named old new status) matched.named ends,
     )
+
+-- a look at the file that is named, or at none
+pub looks : (id : Text) (named : Option (Text × List Row)) (file : Option (Bor Text)) (old new : Scene) (size : ℕ)
+    → IfSome file (λ f. SaysAuto id named f.now) → (IsNone file → (text : Text) → SaysAuto id named text → ⊥) → KeepsAll old new
+    → IfSome file (λ f. IsStatedSize old new f.now size) → Looks id named old new size
+looks id named (Some f) old new size says none keeps stated = (keeps, inl (f.now, says, stated))
+looks id named None old new size says none keeps stated = (keeps, inr (none refl))

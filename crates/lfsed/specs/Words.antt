@@ -1,5 +1,5 @@
 -- How the words of a command line end (own).
-use Rattle.std.specs.Prelude.{ℕ, ◌≡◌, ◌⊎◌, List, Option, Result, Ok, Err, Some}
+use Rattle.std.specs.Prelude.{codes, ℕ, ◌≡◌, ◌⊎◌, List, Option, Result, Ok, Err, Some}
 use Rattle.std.specs.Borrow.{Bor}
 use Rattle.std.specs.Io.KnownBytes.{Appends}
 use Rattle.clap.specs.Words.{IsAmong, Row, Text, fault_of, subcommand_of}
@@ -17,7 +17,7 @@ use Rattle.lfs_grammar.specs.Hyphens.{IsRead}
 use Rattle.lfs_words.specs.Words.{AsksFor, IsMissaid, SaysAuto}
 use Rattle.lfs_words.specs.declared.misuse.Misuse.{Misuse}
 use Rattle.lfs_exchange.specs.Printing.{PrintsBeginning}
-use Rattle.lfs_host.specs.Scene.{KeepsAll, KeepsScene, Scene}
+use Rattle.lfs_host.specs.Scene.{KeepsAll, KeepsInput, Scene}
 use Rattle.lfs_serve.specs.Program.{EndsRequest}
 use Rattle.lfs_serve.specs.Stated.{IsStatedSize}
 
@@ -38,18 +38,18 @@ IsRefused words = (read : List Text) → IsRead words read → ⊥
 abbrev pub CallsForHelp : ErrorKind → Type 0
 CallsForHelp kind = (kind ≡ DisplayHelp) ⊎ (kind ≡ DisplayVersion)
 
--- want of memory ends the run, with nothing changed
+-- want of memory ends the run, with nothing changed, made or printed
 abbrev pub EndsForMemory : Scene → Scene → ℕ → Type 0
-EndsForMemory old new status = KeepsScene old new × (status ≡ status_of (Some (Refused Memory)))
+EndsForMemory old new status = KeepsAll old new × (status ≡ status_of (Some (Refused Memory)))
 
--- the words are refused with nothing printed and no file changed: what is wrong is told on standard error
+-- the words are refused, with nothing changed, made or printed: what is wrong is told on standard error
 abbrev pub EndsMisused : Scene → Scene → ℕ → Type 0
-EndsMisused old new status = KeepsScene old new × (status ≡ usage)
+EndsMisused old new status = (new ≡ old) × (status ≡ usage)
 
--- a text is printed, and no file is changed; or a beginning of it, where the host refuses the rest
+-- a text is printed, and nothing else is changed or made; or a beginning of it, where the host refuses the rest
 abbrev pub EndsPrinting : Scene → Scene → ℕ → Type 0
 EndsPrinting old new status =
-    (new.files ≡ old.files)
+    KeepsInput old new
     × ((text : List ℕ)
     × (((status ≡ 0) × Appends old.printed new.printed text)
     ⊎ ((status ≡ status_of (Some CannotWrite)) × PrintsBeginning old.printed new.printed text)))
