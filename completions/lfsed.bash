@@ -46,71 +46,71 @@ _lfsed() {
       words='IMAGE DIR'
       ;;
     extract)
-      options='-b --block --strict -h --help'
+      options='-b --block --older -h --help'
       words='IMAGE DIR'
       ;;
     check)
-      options='-b --block --strict -h --help'
+      options='-b --block --older -h --help'
       words='IMAGE'
       ;;
     ls)
-      options='-b --block --strict -h --help'
+      options='-b --block --older -h --help'
       words='IMAGE'
       ;;
     cat)
-      options='-b --block --strict -h --help'
+      options='-b --block --older -h --help'
       words='IMAGE PATH'
       ;;
     diff)
-      options='-b --block --strict -h --help'
+      options='-b --block --older -h --help'
       words='IMAGE OTHER'
       ;;
     log)
-      options='-b --block --strict -h --help'
+      options='-b --block --older -h --help'
       words='IMAGE'
       ;;
     mkdir)
-      options='-b --block --keep --strict -h --help'
+      options='-b --block --keep --older -h --help'
       words='IMAGE PATH'
       ;;
     put)
-      options='-b --block --from --keep --strict -h --help'
+      options='-b --block --from --keep --older -h --help'
       words='IMAGE PATH'
       ;;
     rm)
-      options='-b --block --keep --strict -h --help'
+      options='-b --block --keep --older -h --help'
       words='IMAGE PATH'
       ;;
     mv)
-      options='-b --block --keep --strict -h --help'
+      options='-b --block --keep --older -h --help'
       words='IMAGE FROM TO'
       ;;
     setattr)
-      options='-b --block --keep --strict -h --help'
+      options='-b --block --keep --older -h --help'
       words='IMAGE PATH KIND HEX'
       ;;
     rmattr)
-      options='-b --block --keep --strict -h --help'
+      options='-b --block --keep --older -h --help'
       words='IMAGE PATH KIND'
       ;;
     grow)
-      options='-b --block --size --keep --strict -h --help'
+      options='-b --block --size --keep --older -h --help'
       words='IMAGE COUNT'
       ;;
     undo)
-      options='-b --block --steps --strict -h --help'
+      options='-b --block --steps --older -h --help'
       words='IMAGE'
       ;;
     redo)
-      options='-b --block --steps --strict -h --help'
+      options='-b --block --steps --older -h --help'
       words='IMAGE'
       ;;
     forget)
-      options='-b --block --strict -h --help'
+      options='-b --block --older -h --help'
       words='IMAGE'
       ;;
     batch)
-      options='-b --block --keep --strict -h --help'
+      options='-b --block --keep --older -h --help'
       words='IMAGE FILE'
       ;;
     explain)

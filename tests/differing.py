@@ -129,7 +129,7 @@ def block_sizes(folder):
     def of(size, items):
         return image(size, 16, {0: log(1, superblock(size, 16) + items)})
 
-    small, large, differing = of(256, file(1, b"f", b"abc")), of(1_024, file(1, b"f", b"abc")), of(512, file(1, b"f", b"xyz") + file(2, b"e"))
+    small, large, differing = of(256, file(1, b"f", b"abc")), of(1_024, file(1, b"f", b"abc")), of(512, file(1, b"e") + file(2, b"f", b"xyz"))
     for old, new, printed in (
         (small, large, ""), (large, small, ""), (small, differing, "+ f          0 /e\n- f          3 /f\n+ f          3 /f\n"),
         (differing, large, "- f          0 /e\n- f          3 /f\n+ f          3 /f\n"),

@@ -46,7 +46,7 @@ def worked_folder(folder):
 def what_is_refused(folder):
     is_refused(folder, "no image", 4, "lfsed: 60 CannotRead\nlfsed: a.img: No such file or directory (os error 2)\n")
     folder.be(b"", 4_095)
-    is_refused(folder, "another length", 3, "lfsed: 1 ImageLength\n")
+    is_refused(folder, "another length", 3, "lfsed: 1 ImageLength\nlfsed: a.img: 4095 bytes are no multiple of 512\n")
     folder.be(b"", 4_096)
     is_refused(folder, "no superblock", 3, "lfsed: 3 NoValidCommit\n")
     for name in b"\xff", b"a\0b":

@@ -131,8 +131,9 @@ def input_that_is_typed(files):
             os.close(name)
     listed = subprocess.run([files.program, "ls", "--block", "512", "a.img"], cwd=files.folder, capture_output=True, timeout=60).stdout
     files.check("what was typed", listed == b"d          - /\nd          - /new\nf          6 /typed\n", listed)
+    (files.folder / "small").write_bytes(b"small")
     ours, theirs = pty.openpty()
-    ended = files.run(["put", "--block", "512", "--from", "a.img", "a.img", "/from"], stdin=theirs)
+    ended = files.run(["put", "--block", "512", "--from", "small", "a.img", "/from"], stdin=theirs)
     files.check("a file on a terminal", ended == (0, []), ended)
     for name in ours, theirs:
         os.close(name)

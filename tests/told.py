@@ -133,10 +133,10 @@ def geometries_are_named(folder):
 
 
 def numbers_of_bytes_are_told(folder):
+    folder.play([("format -b 512 --count 8 a.img", 0, 0, "", "")])
     folder.image.with_name("config.json").write_bytes(39 * b"x")
     is_refused(folder, "check config.json", 0, "1 ImageLength", "lfsed: config.json: 39 bytes are no multiple of 4096\n")
     is_refused(folder, "put -b 512 config.json /x", 3, "1 ImageLength", "lfsed: config.json: 39 bytes are no multiple of 512\n")
-    folder.play([("format -b 512 --count 8 a.img", 0, 0, "", "")])
     is_refused(folder, "diff -b 512 a.img config.json", 0, "1 ImageLength", "lfsed: config.json: 39 bytes are no multiple of 512\n")
     folder.image.with_name("config.json").unlink()
 
