@@ -3,6 +3,7 @@
 ghost use Rattle.std.specs.Prelude.{◌≡◌};
 ghost use Rattle.lfs_block.specs.Faults.{mount_fault_number};
 
+use std::alloc::AllocError;
 use std::fmt;
 use thiserror::Error;
 
@@ -106,6 +107,16 @@ impl MountFault {
             MountFault::UnknownState => "UnknownState",
             MountFault::Memory => "Memory",
         }
+    }
+}
+
+impl From<AllocError> for MountFault {
+    ghost use Rattle.lfs_block.specs.declared.mount_fault.MountFault.TheVariants.{Memory};
+
+    ghost from_gives = { λ error fault. fault ≡ Memory };
+
+    fn from(_error: AllocError) -> MountFault {
+        MountFault::Memory
     }
 }
 

@@ -2,12 +2,12 @@
 
 use crate::images::new_image;
 use lfs_block::{Image, Patch};
-use lfs_edit::{Command, plan};
+use lfs_edit::{Asked, Command, plan};
 use lfs_fs::mount;
 use std::alloc::Global;
 
 // a file that takes one block beside its entry
-const PUT: Command<'static> = Command::Put {
+const PUT: Asked<'static> = Command::Put {
     path: b"/a",
     bytes: &[7; 65],
 };
@@ -23,7 +23,7 @@ fn writes(patch: &Patch, numbers: &[u32]) -> bool {
 }
 
 // whether the plan of a command on an image writes just these blocks
-fn is_planned(alloc: Global, image: &Image, command: &Command<'_>, numbers: &[u32]) -> bool {
+fn is_planned(alloc: Global, image: &Image, command: &Asked<'_>, numbers: &[u32]) -> bool {
     let Ok(mounted) = mount(alloc, image) else {
         return false;
     };

@@ -1,21 +1,21 @@
 //! How many blocks commands take for what they make, and how many they leave.
 
 ghost use Rattle.std.specs.Prelude.{◌<◌, ◌≤◌, ◌^◌};
-ghost use Rattle.lfs_command.specs.NamedCommand.{contents_len};
+ghost use Rattle.lfs_command.specs.AskedFor.{contents_len};
 
 use lfs_block::geometry_ok;
-use lfs_command::{NamedCommand, count_after, data_blocks, directory_blocks, most_inline};
+use lfs_command::{Command, Named, count_after, data_blocks, directory_blocks, most_inline};
 use std::alloc::Global;
 
 // more bytes than stand in any entry
 const BYTES: [u8; 1_024] = [7; 1_024];
 
 // the command that puts so many bytes
-fn put(alloc: Global, len: usize) -> NamedCommand<'static>
+fn put(alloc: Global, len: usize) -> Named<'static>
     requires { len ≤ 1024 }
     ensures { contents_len result < 2 ^ 32 }
 {
-    NamedCommand::Put {
+    Command::Put {
         path: Vec::new(alloc),
         bytes: &BYTES[..len],
     }
@@ -49,12 +49,12 @@ fn inline_limit(rt: HostRuntime) {
 #[test]
 fn directories_take_a_pair(rt: HostRuntime) {
     let path = Vec::new(rt.alloc());
-    assert!(rt; directory_blocks(&NamedCommand::Mkdir { path }) == 2);
+    assert!(rt; directory_blocks(&Command::Mkdir { path }) == 2);
     assert!(rt; directory_blocks(&put(rt.alloc(), 513)) == 0);
 }
 
 #[test]
 fn one_command_lengthens(rt: HostRuntime) {
-    assert!(rt; count_after(&NamedCommand::Grow { count: 16 }, 8) == 16);
+    assert!(rt; count_after(&Command::Grow { count: 16 }, 8) == 16);
     assert!(rt; count_after(&put(rt.alloc(), 513), 8) == 8);
 }

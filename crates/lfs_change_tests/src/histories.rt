@@ -6,7 +6,7 @@ ghost use Rattle.lfs_history.specs.Taking.{KeepsInRange};
 
 use crate::images::{fresh, has_image, new_image, new_session, replies};
 use lfs_block::Image;
-use lfs_edit::{Command, Refusal};
+use lfs_edit::{Asked, Command, Refusal};
 use lfs_journal::{Move, Session, StepFault, Stopped, run_steps};
 use std::alloc::Global;
 
@@ -124,7 +124,7 @@ fn steps_are_taken_up_to_one_that_is_refused(rt: HostRuntime) {
 }
 
 // commands, of which one is refused
-const LIST: [Command<'static>; 7] = [
+const LIST: [Asked<'static>; 7] = [
     Command::Mkdir { path: b"/a" },
     Command::Put {
         path: b"/a/x",
@@ -151,7 +151,7 @@ const LIST: [Command<'static>; 7] = [
 fn next_image(
     alloc: Global,
     image: Image,
-    command: &Command<'_>,
+    command: &Asked<'_>,
     reply: &Result<(), StepFault>,
 ) -> Option<Image> {
     let mut session = fresh(alloc, image)?;
@@ -166,7 +166,7 @@ fn next_of_both(
     alloc: Global,
     session: &mut Session,
     image: Image,
-    command: &Command<'_>,
+    command: &Asked<'_>,
 ) -> Option<Image> {
     let reply = session.command(alloc, command);
     match next_image(alloc, image, command, &reply) {

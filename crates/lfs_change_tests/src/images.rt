@@ -2,7 +2,7 @@
 
 use crate::new_images::new_image_of;
 use lfs_block::{Blocks, Image, geometry_ok};
-use lfs_edit::Command;
+use lfs_edit::Asked;
 use lfs_journal::{Session, StepFault};
 use std::alloc::Global;
 
@@ -36,14 +36,14 @@ pub(crate) fn new_session(alloc: Global) -> Option<Session> {
 pub(crate) fn replies(
     alloc: Global,
     session: &mut Session,
-    command: &Command<'_>,
+    command: &Asked<'_>,
     reply: &Result<(), StepFault>,
 ) -> bool {
     session.command(alloc, command) == *reply
 }
 
 /// Whether a session carries commands out.
-pub(crate) fn carries_out(alloc: Global, session: &mut Session, commands: &[Command<'_>]) -> bool {
+pub(crate) fn carries_out(alloc: Global, session: &mut Session, commands: &[Asked<'_>]) -> bool {
     for command in commands {
         if session.command(alloc, command).is_err() {
             return false;

@@ -2,14 +2,14 @@
 
 use crate::images::{carries_out, new_session};
 use lfs_block::Image;
-use lfs_command::{Command, Refusal, by_names};
+use lfs_command::{Asked, Command, Refusal, by_names};
 use lfs_draft::{judge, leading_pair};
 use lfs_fs::{Outline, mount};
 use lfs_journal::Session;
 use std::alloc::Global;
 
 // a directory, whose pair is {2,3}, and a file in it
-const MADE: [Command<'static>; 2] = [
+const MADE: [Asked<'static>; 2] = [
     Command::Mkdir { path: b"/a" },
     Command::Put {
         path: b"/a/x",
@@ -18,7 +18,7 @@ const MADE: [Command<'static>; 2] = [
 ];
 
 // a command, what it is refused for, and the pair of the part that has the entry at its path
-type Judged = (Command<'static>, Option<Refusal>, Option<(u32, u32)>);
+type Judged = (Asked<'static>, Option<Refusal>, Option<(u32, u32)>);
 
 const ROWS: [Judged; 6] = [
     (

@@ -1,13 +1,39 @@
--- What a command of the code asks for (own).
-use Rattle.lfs_command.specs.Command.{Asked, Mkdir, Put, Rm, Mv, SetAttr, RmAttr, Grow}
-use Rattle.lfs_command.specs.declared.command.Command.{Command}
+-- What a command of the code asks for, over texts or over names (own).
+use Rattle.std.specs.Prelude.{ℕ, List, length, map}
+use Rattle.std.specs.Borrow.{Bor}
+use Rattle.std.specs.Global.{Vec}
+use Rattle.lfs_command.specs.Command.{CommandOn, Asked, Command, Mkdir, Put, Rm, Mv, SetAttr, RmAttr, Grow}
+use Rattle.lfs_command.specs.declared.command.Command.{Command as Written}
 use Rattle.lfs_command.specs.declared.command.Command.TheVariants as case
 
-abbrev pub asked_for : Command → Asked
-asked_for (case.Mkdir path) = Mkdir path.now
-asked_for (case.Put path bytes) = Put path.now bytes.now
-asked_for (case.Rm path) = Rm path.now
-asked_for (case.Mv from to) = Mv from.now to.now
-asked_for (case.SetAttr path kind value) = SetAttr path.now kind value.now
-asked_for (case.RmAttr path kind) = RmAttr path.now kind
-asked_for (case.Grow count) = Grow count
+-- the command that is written, its paths and its bytes read by two maps
+abbrev pub command_by : {P B Q : Type 0} → (P → Q) → (B → List ℕ) → Written P B → CommandOn Q
+command_by f g (case.Mkdir path) = Mkdir (f path)
+command_by f g (case.Put path bytes) = Put (f path) (g bytes)
+command_by f g (case.Rm path) = Rm (f path)
+command_by f g (case.Mv from to) = Mv (f from) (f to)
+command_by f g (case.SetAttr path kind value) = SetAttr (f path) kind (g value)
+command_by f g (case.RmAttr path kind) = RmAttr (f path) kind
+command_by f g (case.Grow count) = Grow count
+
+-- a command of the code over texts, with its bytes in hand
+abbrev pub OnTexts : Type 0
+OnTexts = Written (Bor (List ℕ)) (Bor (List ℕ))
+
+-- what it asks for
+abbrev pub asked_for : OnTexts → Asked
+asked_for command = command_by (λ (text : Bor (List ℕ)). text.now) (λ (bytes : Bor (List ℕ)). bytes.now) command
+
+-- a command of the code over names, with its bytes in hand
+abbrev pub OnNames : Type 0
+OnNames = Written (Vec (Bor (List ℕ))) (Bor (List ℕ))
+
+-- the command that it is
+abbrev pub named_command : OnNames → Command
+named_command command =
+    command_by (λ (path : Vec (Bor (List ℕ))). map (λ n. n.now) path.items) (λ (bytes : Bor (List ℕ)). bytes.now) command
+
+-- the length of the contents that are put
+abbrev pub contents_len : OnNames → ℕ
+contents_len (case.Put path bytes) = length bytes.now
+contents_len command = 0

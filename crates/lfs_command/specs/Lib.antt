@@ -22,4 +22,3 @@ pub mod Leading
 pub mod Ordered
 pub mod Planned
 pub mod PartWritten
-pub mod NamedCommand

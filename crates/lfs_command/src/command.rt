@@ -1,47 +1,47 @@
-//! Commands, as they are asked for.
+//! Commands, as they are asked for and as they are carried out.
 
-/// A change of an image that is asked for, its paths as texts.
+/// A change of an image, over paths as texts or as names (`P`) and over contents and values, which may have to be read first (`B`).
 ///
 /// Source: own.
-#[derive(Clone, Copy)]
-pub enum Command<'a> {
+#[derive(Clone, Copy, Drop)]
+pub enum Command<P, B> {
     /// Makes a directory.
     Mkdir {
-        /// The text of the path.
-        path: &'a [u8],
+        /// The path.
+        path: P,
     },
     /// Puts a file's contents: a new file, or other contents of one that is there, which keeps its attributes.
     Put {
-        /// The text of the path.
-        path: &'a [u8],
+        /// The path.
+        path: P,
         /// The contents.
-        bytes: &'a [u8],
+        bytes: B,
     },
     /// Removes a file or an empty directory.
     Rm {
-        /// The text of the path.
-        path: &'a [u8],
+        /// The path.
+        path: P,
     },
     /// Moves what is at a path, with all that is below it.
     Mv {
-        /// The text of its path.
-        from: &'a [u8],
-        /// The text of the path that it gets.
-        to: &'a [u8],
+        /// Its path.
+        from: P,
+        /// The path that it gets.
+        to: P,
     },
     /// Sets an attribute of what is at a path.
     SetAttr {
-        /// The text of the path.
-        path: &'a [u8],
+        /// The path.
+        path: P,
         /// The attribute's kind.
         kind: u8,
         /// The attribute's value.
-        value: &'a [u8],
+        value: B,
     },
     /// Removes an attribute of what is at a path.
     RmAttr {
-        /// The text of the path.
-        path: &'a [u8],
+        /// The path.
+        path: P,
         /// The attribute's kind.
         kind: u8,
     },
@@ -51,3 +51,13 @@ pub enum Command<'a> {
         count: u32,
     },
 }
+
+/// A command as it is asked for, its paths as texts.
+///
+/// Source: own.
+pub type Asked<'a> = Command<&'a [u8], &'a [u8]>;
+
+/// A command as it is carried out, its paths as the names from the root on.
+///
+/// Source: own.
+pub type Named<'a> = Command<Vec<&'a [u8]>, &'a [u8]>;

@@ -7,17 +7,15 @@ mod contents_blocks;
 mod forcing;
 mod growth;
 mod made_blocks;
-mod named_command;
 mod naming;
 mod paths;
 mod refusal;
 
-pub use command::Command;
+pub use command::{Asked, Command, Named};
 pub use contents_blocks::most_inline;
 pub use forcing::forced_by;
 pub use growth::count_after;
 pub use made_blocks::{data_blocks, directory_blocks};
-pub use named_command::NamedCommand;
 pub use naming::by_names;
 pub use paths::{last_of, names_of};
 pub use refusal::Refusal;

@@ -3,23 +3,23 @@
 ghost use Rattle.std.specs.Prelude.{◌≡◌, ◌<◌, ◌^◌};
 ghost use Rattle.lfs_block.specs.Geometry.{IsBlockSize};
 ghost use Rattle.lfs_fs.specs.Volume.{Volume};
-ghost use Rattle.lfs_command.specs.NamedCommand.{contents_len, named_command};
+ghost use Rattle.lfs_command.specs.AskedFor.{contents_len, named_command};
 ghost use Rattle.lfs_command.specs.Need.{data_blocks, directory_blocks};
 
+use crate::command::{Command, Named};
 use crate::contents_blocks::data_count;
-use crate::named_command::NamedCommand;
 
 /// The blocks of the contents, where they don't stand in the entry, in blocks of this size. The caller owes a block size that images
 /// have, and fewer than 2^32 bytes. Takes no memory.
 ///
 /// Source: own.
-pub fn data_blocks(size: u32, command: &NamedCommand<'_>) -> u32
+pub fn data_blocks(size: u32, command: &Named<'_>) -> u32
     requires size { IsBlockSize size }
     requires len { contents_len command.now < 2 ^ 32 }
     ensures { (v : Volume) → v.size ≡ size → result ≡ data_blocks v (named_command command.now) }
 {
     match command {
-        NamedCommand::Put { bytes, .. } => data_count(size, bytes.len()),
+        Command::Put { bytes, .. } => data_count(size, bytes.len()),
         _ => 0,
     }
 }
@@ -27,11 +27,11 @@ pub fn data_blocks(size: u32, command: &NamedCommand<'_>) -> u32
 /// The blocks of a new directory: two. Takes no memory.
 ///
 /// Source: own.
-pub fn directory_blocks(command: &NamedCommand<'_>) -> u32
+pub fn directory_blocks(command: &Named<'_>) -> u32
     ensures { result ≡ directory_blocks (named_command command.now) }
 {
     match command {
-        NamedCommand::Mkdir { .. } => 2,
+        Command::Mkdir { .. } => 2,
         _ => 0,
     }
 }

@@ -1,6 +1,6 @@
 //! Commits appended to a pair's live block.
 
-ghost use Rattle.std.specs.Prelude.{◌≡◌, ◌≢◌, ◌<◌, ◌≤◌, ◌++◌, true, false, length, option_map, option_and_then, IfOk, IfErr, IfSome, IfNone};
+ghost use Rattle.std.specs.Prelude.{◌≡◌, ◌≢◌, ◌<◌, ◌≤◌, ◌++◌, true, false, length, option_map, option_and_then, IfOk, IfSome, IfNone};
 ghost use Rattle.lfs_block.specs.Disk.{put};
 ghost use Rattle.lfs_tag.specs.Log.{IsLog};
 ghost use Rattle.lfs_tag.specs.LogSeen.{log_seen};
@@ -10,7 +10,7 @@ ghost use Rattle.lfs_meta.specs.LiveBlock.{live_block, live_log, part_of, tags_o
 ghost use Rattle.lfs_meta.specs.Replay.{replay};
 ghost use Rattle.lfs_commit.specs.Appending.{IsAppended, IsLiveLonger, IsLonger, IsNumberedLonger, can_append, has_room, some_room};
 
-use lfs_block::{Blocks, MountFault, put_blocks_stand};
+use lfs_block::{Blocks, put_blocks_stand};
 use lfs_meta::{LiveBlock, live_blocks_are_read};
 use lfs_tag::laws::{
     blocks_have_a_log, erased_is_decided, log_is_read, next_commit, written_length,
@@ -106,7 +106,7 @@ fn live_longer(
 /// A commit of tags appended to a pair: the number of its live block, and that block's bytes with the commit behind its log.
 /// In the image with that block the pair's tags are the ones before and these, and its part is what they leave one after
 /// another. `None` where neither block is live, a byte behind the log is not 0xff, or the commit with its padding does not
-/// fit into the block. The only refusal is `Memory`. The caller owes two different numbers below the block count.
+/// fit into the block. Takes memory. The caller owes two different numbers below the block count.
 ///
 /// Source: SPEC.md, "Metadata pairs"; how far a commit is padded: own.
 pub fn append<B: Blocks>(
@@ -114,7 +114,7 @@ pub fn append<B: Blocks>(
     blocks: &B,
     pair: (u32, u32),
     edits: &[Edit],
-) -> Result<Option<(u32, Vec<u8>)>, MountFault>
+) -> Result<Option<(u32, Vec<u8>)>, AllocError>
     requires apart { pair.0 ≢ pair.1 }
     requires first { pair.0 < (B.disk blocks.now).count }
     requires second { pair.1 < (B.disk blocks.now).count }
@@ -122,14 +122,10 @@ pub fn append<B: Blocks>(
     ensures part { IfOk result (λ found. IfSome found (λ new. part_of (put new.0 new.1.items (B.disk blocks.now)) pair
         ≡ option_and_then replay (option_map (λ old. old ++ items edits.now) (tags_of (B.disk blocks.now) pair)))) }
     ensures full { IfOk result (λ found. IfNone found (can_append (B.disk blocks.now) pair (items edits.now) ≡ false)) }
-    ensures refused { IfErr result (λ fault. fault ≡ MountFault.Memory) }
 {
     put_blocks_stand();
     let _fits_the_limits = blocks.size();
     let first = blocks.block(pair.0);
     let second = blocks.block(pair.1);
-    let Ok(found) = live_longer(alloc, pair, first, second, edits) else {
-        return Err(MountFault::Memory);
-    };
-    Ok(found)
+    live_longer(alloc, pair, first, second, edits)
 }

@@ -1,6 +1,6 @@
 //! A pair carried to another part.
 
-ghost use Rattle.std.specs.Prelude.{◌≡◌, ◌≢◌, ◌+◌, ◌<◌, ◌≤◌, length, Some, None, option_map, All, IfOk, IfErr, IfSome, IfNone};
+ghost use Rattle.std.specs.Prelude.{◌≡◌, ◌≢◌, ◌+◌, ◌<◌, ◌≤◌, length, Some, None, option_map, All, IfOk, IfSome, IfNone};
 ghost use Rattle.std.specs.List.{AllByRecursion};
 ghost use Rattle.lfs_meta.specs.Fits.{EntryFits, TailFits};
 ghost use Rattle.lfs_meta.specs.LiveBlock.{stored_part_of};
@@ -55,7 +55,7 @@ fn append_difference<B: Blocks>(
     tail: Tail,
     delta: &[u8; 12],
     forced: Forced<'_>,
-) -> Result<Option<(u32, Vec<u8>)>, MountFault>
+) -> Result<Option<(u32, Vec<u8>)>, AllocError>
     requires apart { pair.0 ≢ pair.1 }
     requires first { pair.0 < (B.disk blocks.now).count }
     requires second { pair.1 < (B.disk blocks.now).count }
@@ -68,16 +68,13 @@ fn append_difference<B: Blocks>(
         IsPartAppended (B.disk blocks.now) pair (forced_seen forced.entry) (stored_part entries.now tail delta.now) new.0 new.1.items)) }
     ensures full { IfOk result (λ found. IfNone found
         (appended_tags (B.disk blocks.now) pair (forced_seen forced.entry) (stored_part entries.now tail delta.now) ≡ None)) }
-    ensures refused { IfErr result (λ fault. fault ≡ MountFault.Memory) }
 {
     parts_become_others();
     written_parts_replay();
     if old.entries.len() > MOST_NAMED {
         return Ok(None);
     }
-    let Ok(edits) = part_between(alloc, forced, old, entries, tail, delta) else {
-        return Err(MountFault::Memory);
-    };
+    let edits = part_between(alloc, forced, old, entries, tail, delta)?;
     append(alloc, blocks, pair, &edits)
 }
 
@@ -90,7 +87,7 @@ fn append_part<B: Blocks>(
     tail: Tail,
     delta: &[u8; 12],
     forced: Forced<'_>,
-) -> Result<Option<(u32, Vec<u8>)>, MountFault>
+) -> Result<Option<(u32, Vec<u8>)>, AllocError>
     requires apart { pair.0 ≢ pair.1 }
     requires first { pair.0 < (B.disk blocks.now).count }
     requires second { pair.1 < (B.disk blocks.now).count }
@@ -101,12 +98,8 @@ fn append_part<B: Blocks>(
         IsPartAppended (B.disk blocks.now) pair (forced_seen forced.entry) (stored_part entries.now tail delta.now) new.0 new.1.items)) }
     ensures full { IfOk result (λ found. IfNone found
         (appended_tags (B.disk blocks.now) pair (forced_seen forced.entry) (stored_part entries.now tail delta.now) ≡ None)) }
-    ensures refused { IfErr result (λ fault. fault ≡ MountFault.Memory) }
 {
-    let Ok(held) = held_part(alloc, blocks, pair) else {
-        return Err(MountFault::Memory);
-    };
-    match held {
+    match held_part(alloc, blocks, pair)? {
         Some(old) => append_difference(alloc, blocks, pair, &old, entries, tail, delta, forced),
         None => Ok(None),
     }
@@ -115,7 +108,7 @@ fn append_part<B: Blocks>(
 /// A pair carried to a part: the number of the block that is written, and that block's new bytes. Where the pair holds a
 /// part of at most 1,023 entries, and the tags between that part and the new one fit behind the log of the live block, they
 /// are appended to it as a commit. Else the block that isn't live is written as `rewrite` does. In the image with that block
-/// the pair holds the new part. `forced` is written even where it stays the same. The only refusal is `Memory`. The caller
+/// the pair holds the new part. `forced` is written even where it stays the same. Takes memory. The caller
 /// owes two different numbers below the block count, at most 1,000 entries, each with a struct and a name that its kind
 /// takes, whose weights leave 40 bytes of a block, and a tail of which not both numbers are null.
 ///
@@ -128,7 +121,7 @@ pub fn change_pair<B: Blocks>(
     tail: Tail,
     delta: [u8; 12],
     forced: Forced<'_>,
-) -> Result<(u32, Vec<u8>), MountFault>
+) -> Result<(u32, Vec<u8>), AllocError>
     requires apart { pair.0 ≢ pair.1 }
     requires first { pair.0 < (B.disk blocks.now).count }
     requires second { pair.1 < (B.disk blocks.now).count }
@@ -136,8 +129,7 @@ pub fn change_pair<B: Blocks>(
     requires few { length entries.now ≤ most_entries }
     requires room { weights entries.now + 40 ≤ (B.disk blocks.now).size }
     requires tail { TailFits tail }
-    ensures new { IfOk result (λ new. IsChanged (B.disk blocks.now) pair (forced_seen forced.entry) (stored_part entries.now tail delta) new.0 new.1.items) }
-    ensures refused { IfErr result (λ fault. fault ≡ MountFault.Memory) }
+    ensures { IfOk result (λ new. IsChanged (B.disk blocks.now) pair (forced_seen forced.entry) (stored_part entries.now tail delta) new.0 new.1.items) }
 {
     match append_part(alloc, blocks, pair, entries, tail, &delta, forced)? {
         Some(new) => Ok(new),

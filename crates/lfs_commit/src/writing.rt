@@ -1,6 +1,6 @@
 //! Blocks of pairs, as they are written.
 
-ghost use Rattle.std.specs.Prelude.{◌≡◌, ◌≢◌, ◌+◌, ◌%◌, ◌<◌, ◌≤◌, ◌^◌, ◌⊎◌, length, replicate, Some, All, IfOk, IfErr, IfSome, IsSome};
+ghost use Rattle.std.specs.Prelude.{◌≡◌, ◌≢◌, ◌+◌, ◌%◌, ◌<◌, ◌≤◌, ◌^◌, ◌⊎◌, length, replicate, Some, All, IfOk, IfSome, IsSome};
 ghost use Rattle.std.specs.List.{AllByRecursion};
 ghost use Rattle.lfs_block.specs.Bytes.{IsBytes};
 ghost use Rattle.lfs_block.specs.Disk.{put};
@@ -19,7 +19,7 @@ ghost use Rattle.lfs_meta.specs.Runs.{most_entries};
 use crate::edits::part_edits;
 use crate::laws::written_parts_replay;
 use byteorder::{ByteOrder, LittleEndian};
-use lfs_block::{Blocks, MountFault, put_blocks_stand};
+use lfs_block::{Blocks, put_blocks_stand};
 use lfs_meta::{Entry, LiveBlock, Tail, revision};
 use lfs_tag::laws::{first_commit, log_is_read, written_length};
 use lfs_tag::{Edit, FIRST_WORD, write_commit};
@@ -111,7 +111,7 @@ pub fn first_block(alloc: Global, size: u32, entries: &[Entry], tail: Tail) -> O
 
 /// A pair rewritten: the number of its block that isn't live, and that block's new bytes, a revision one more than the
 /// live block's modulo 2^32 and one commit of entries, a tail and a delta, all else 0xff. In the image with that block the
-/// pair holds them. The only refusal is `Memory`. The caller owes two different numbers below the block count, at most
+/// pair holds them. Takes memory. The caller owes two different numbers below the block count, at most
 /// 1,000 entries, each with a struct and a name that its kind takes, whose weights leave 40 bytes of a block, and a tail
 /// of which not both numbers are null.
 ///
@@ -123,7 +123,7 @@ pub fn rewrite<B: Blocks>(
     entries: &[Entry],
     tail: Tail,
     delta: [u8; 12],
-) -> Result<(u32, Vec<u8>), MountFault>
+) -> Result<(u32, Vec<u8>), AllocError>
     requires apart { pair.0 ≢ pair.1 }
     requires first { pair.0 < (B.disk blocks.now).count }
     requires second { pair.1 < (B.disk blocks.now).count }
@@ -131,15 +131,12 @@ pub fn rewrite<B: Blocks>(
     requires few { length entries.now ≤ most_entries }
     requires room { weights entries.now + 40 ≤ (B.disk blocks.now).size }
     requires tail { TailFits tail }
-    ensures new { IfOk result (λ new. IsRewritten (B.disk blocks.now) pair (stored_part entries.now tail delta) new.0 new.1.items) }
-    ensures refused { IfErr result (λ fault. fault ≡ MountFault.Memory) }
+    ensures { IfOk result (λ new. IsRewritten (B.disk blocks.now) pair (stored_part entries.now tail delta) new.0 new.1.items) }
 {
     put_blocks_stand();
     written_parts_replay();
     let size = blocks.size();
     let (number, live) = other_block(blocks, pair);
-    let Ok(bytes) = written(alloc, size, live.wrapping_add(1), entries, tail, &delta) else {
-        return Err(MountFault::Memory);
-    };
+    let bytes = written(alloc, size, live.wrapping_add(1), entries, tail, &delta)?;
     Ok((number, bytes))
 }

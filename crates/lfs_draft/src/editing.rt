@@ -7,12 +7,12 @@ ghost use Rattle.lfs_fs.specs.OutlineHeld.{outline_body_held};
 ghost use Rattle.lfs_fs.specs.Outlined.{outlined_body};
 ghost use Rattle.lfs_fs.specs.Tree.{entry_at, entry_in};
 ghost use Rattle.lfs_fs.specs.Volume.{Volume};
+ghost use Rattle.lfs_command.specs.AskedFor.{named_command};
 ghost use Rattle.lfs_command.specs.Command.{Grow, Mkdir, Mv, Put, Rm, RmAttr, SetAttr};
 ghost use Rattle.lfs_draft.specs.Editable.{IsEditable};
 ghost use Rattle.lfs_law.specs.EditedOutline.{edited_outline};
 ghost use Rattle.lfs_command.specs.Home.{home_of};
 ghost use Rattle.lfs_law.specs.HomeChecks.{home_checks};
-ghost use Rattle.lfs_command.specs.NamedCommand.{named_command};
 ghost use Rattle.lfs_command.specs.Supplies.{new_body, nothing};
 ghost use Rattle.lfs_command.specs.Verdict.{first_refusal, last_length};
 
@@ -21,7 +21,7 @@ use crate::home::{Home, home_of};
 use crate::supplies::Supplies;
 use crate::thread_changes::{make_directory, move_entry, put_file, remove, target_of};
 use crate::thread_edit::{change, touch_first};
-use lfs_command::{NamedCommand, most_inline};
+use lfs_command::{Command, Named, most_inline};
 use lfs_fs::{Outline, OutlineBody};
 use lfs_meta::{remove_attribute, set_attribute};
 use std::alloc::{AllocError, Global};
@@ -178,25 +178,25 @@ fn grow(outline: &mut Outline, count: u32)
 pub fn edit(
     alloc: Global,
     outline: &mut Outline,
-    command: &NamedCommand<'_>,
+    command: &Named<'_>,
     supplies: Supplies,
 ) -> Result<(), AllocError>
     requires { IsEditable outline.old (named_command command.now) }
     ensures { OnOk result (outline.new ≡ edited_outline outline.old (named_command command.now) supplies) }
 {
     match command {
-        NamedCommand::Mkdir { path } => mkdir(alloc, outline, path, supplies),
-        NamedCommand::Put { path, bytes } => put(alloc, outline, path, bytes, supplies),
-        NamedCommand::Rm { path } => {
+        Command::Mkdir { path } => mkdir(alloc, outline, path, supplies),
+        Command::Put { path, bytes } => put(alloc, outline, path, bytes, supplies),
+        Command::Rm { path } => {
             rm(outline, path);
             Ok(())
         }
-        NamedCommand::Mv { from, to } => mv(alloc, outline, from, to),
-        NamedCommand::SetAttr { path, kind, value } => {
+        Command::Mv { from, to } => mv(alloc, outline, from, to),
+        Command::SetAttr { path, kind, value } => {
             set_attr(alloc, outline, path, *kind, value)
         }
-        NamedCommand::RmAttr { path, kind } => rm_attr(alloc, outline, path, *kind),
-        NamedCommand::Grow { count } => {
+        Command::RmAttr { path, kind } => rm_attr(alloc, outline, path, *kind),
+        Command::Grow { count } => {
             grow(outline, *count);
             Ok(())
         }

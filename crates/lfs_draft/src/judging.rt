@@ -4,14 +4,14 @@ ghost use Rattle.std.specs.Prelude.{◌≡◌, ◌==◌, ℕ, None, Some, map, I
 ghost use Rattle.std.specs.List.{list_any};
 ghost use Rattle.std.specs.Option.{option_map};
 ghost use Rattle.lfs_fs.specs.Tree.{node};
+ghost use Rattle.lfs_command.specs.AskedFor.{named_command};
 ghost use Rattle.lfs_command.specs.Command.{Grow, Mkdir, Mv, Put, Rm, RmAttr, SetAttr};
-ghost use Rattle.lfs_command.specs.NamedCommand.{named_command};
 ghost use Rattle.lfs_command.specs.Verdict.{checks, first_refusal, is_directory, lies_below};
 
 use crate::bare::is_bare;
 use crate::standing::{attributes_at, entry_at, entry_there, last_length};
 use lfs_block::geometry_ok;
-use lfs_command::{NamedCommand, Refusal};
+use lfs_command::{Command, Named, Refusal};
 use lfs_fs::{Outline, OutlineEntry};
 use lfs_meta::Attribute;
 
@@ -146,18 +146,18 @@ fn judge_grow(outline: &Outline, count: u32) -> Result<(), Refusal>
 /// Takes no memory.
 ///
 /// Source: own.
-pub fn judge(outline: &Outline, command: &NamedCommand<'_>) -> Result<(), Refusal>
+pub fn judge(outline: &Outline, command: &Named<'_>) -> Result<(), Refusal>
     ensures unrefused { OnOk result (first_refusal (checks outline.now (named_command command.now)) ≡ None) }
     ensures refused { IfErr result (λ r. first_refusal (checks outline.now (named_command command.now)) ≡ Some r) }
 {
     match command {
-        NamedCommand::Mkdir { path } => judge_new(outline, path)?,
-        NamedCommand::Put { path, bytes } => judge_put(outline, path, bytes)?,
-        NamedCommand::Rm { path } => judge_rm(outline, path)?,
-        NamedCommand::Mv { from, to } => judge_mv(outline, from, to)?,
-        NamedCommand::SetAttr { path, value, .. } => judge_set_attr(outline, path, value)?,
-        NamedCommand::RmAttr { path, kind } => judge_rm_attr(outline, path, *kind)?,
-        NamedCommand::Grow { count } => judge_grow(outline, *count)?,
+        Command::Mkdir { path } => judge_new(outline, path)?,
+        Command::Put { path, bytes } => judge_put(outline, path, bytes)?,
+        Command::Rm { path } => judge_rm(outline, path)?,
+        Command::Mv { from, to } => judge_mv(outline, from, to)?,
+        Command::SetAttr { path, value, .. } => judge_set_attr(outline, path, value)?,
+        Command::RmAttr { path, kind } => judge_rm_attr(outline, path, *kind)?,
+        Command::Grow { count } => judge_grow(outline, *count)?,
     }
     Ok(())
 }

@@ -3,13 +3,13 @@
 ghost use Rattle.std.specs.Prelude.{◌≡◌, find, map};
 ghost use Rattle.std.specs.Option.{option_map};
 ghost use Rattle.lfs_fs.specs.Directory.{parts};
+ghost use Rattle.lfs_command.specs.AskedFor.{named_command};
 ghost use Rattle.lfs_command.specs.DirectoryEdit.{has_name};
-ghost use Rattle.lfs_command.specs.NamedCommand.{named_command};
 ghost use Rattle.lfs_command.specs.Leading.{leading_pair, pair_in, path_of};
 
 use crate::directory_edit::has_name;
 use crate::home::home_of;
-use lfs_command::NamedCommand;
+use lfs_command::{Command, Named};
 use lfs_fs::{Outline, OutlineDirectory, OutlinePart, directory_at};
 
 /// The first of these parts that has an entry of a name. Takes no memory.
@@ -39,24 +39,24 @@ fn pair_in(directory: &OutlineDirectory, name: &[u8]) -> Option<(u32, u32)>
 }
 
 /// The path of a command; of a move the one from which; where there is none, the root's.
-fn path_of<'b, 'a>(command: &'b NamedCommand<'a>) -> &'b [&'a [u8]]
+fn path_of<'b, 'a>(command: &'b Named<'a>) -> &'b [&'a [u8]]
     ensures { map (λ n. n.now) result.now ≡ path_of (named_command command.now) }
 {
     match command {
-        NamedCommand::Mkdir { path }
-        | NamedCommand::Put { path, .. }
-        | NamedCommand::Rm { path }
-        | NamedCommand::SetAttr { path, .. }
-        | NamedCommand::RmAttr { path, .. } => path,
-        NamedCommand::Mv { from, .. } => from,
-        NamedCommand::Grow { .. } => &[],
+        Command::Mkdir { path }
+        | Command::Put { path, .. }
+        | Command::Rm { path }
+        | Command::SetAttr { path, .. }
+        | Command::RmAttr { path, .. } => path,
+        Command::Mv { from, .. } => from,
+        Command::Grow { .. } => &[],
     }
 }
 
 /// The pair of the part that has the entry at a command's path; none where nothing is there. Takes no memory.
 ///
 /// Source: own.
-pub fn leading_pair(outline: &Outline, command: &NamedCommand<'_>) -> Option<(u32, u32)>
+pub fn leading_pair(outline: &Outline, command: &Named<'_>) -> Option<(u32, u32)>
     ensures { result ≡ leading_pair outline.now (named_command command.now) }
 {
     let home = home_of(outline, path_of(command)).ok()?;

@@ -27,8 +27,8 @@ use Rattle.lfs_fs.specs.Uses.{uses}
 use Rattle.lfs_fs.specs.Volume.{Volume}
 use Rattle.lfs_fs.proofs.ContainsLemmas.{contains_first}
 use Rattle.lfs_fs.proofs.OutlinedLemmas.{outlined_uses, outlined_free}
-use Rattle.lfs_command.specs.declared.named_command.NamedCommand.{NamedCommand}
-use Rattle.lfs_command.specs.declared.named_command.NamedCommand.TheVariants as case
+use Rattle.lfs_command.specs.AskedFor.{OnNames, contents_len, named_command}
+use Rattle.lfs_command.specs.declared.command.Command.TheVariants as case
 use Rattle.lfs_command.specs.declared.refusal.Refusal.{Refusal}
 use Rattle.lfs_command.specs.declared.refusal.Refusal.TheVariants.{EntryTooLarge, FileTooLarge, IsADirectory, IsRoot, Memory, NameTooLong}
 use Rattle.lfs_command.specs.declared.refusal.Refusal.TheVariants.{NoSpace}
@@ -42,7 +42,6 @@ use Rattle.lfs_command.specs.Edited.{edited}
 use Rattle.lfs_law.specs.EditedOutline.{edited_outline}
 use Rattle.lfs_command.specs.Growth.{grown}
 use Rattle.lfs_command.specs.Leading.{leading_pair}
-use Rattle.lfs_command.specs.NamedCommand.{contents_len, named_command}
 use Rattle.lfs_command.specs.Need.{data_blocks, dirty_parts, need, part_blocks}
 use Rattle.lfs_command.specs.Ordered.{leader}
 use Rattle.lfs_law.specs.CountsGrow.{CountsGrow}
@@ -134,7 +133,7 @@ put_short o p bytes limits passes =
     let limit = limits.file.1 in
     grind (arith, nat_tests)
 
-pub contents_short : (o : Volume) (c : NamedCommand) → IsEditable o (named_command c) → contents_len c < 2 ^ 32
+pub contents_short : (o : Volume) (c : OnNames) → IsEditable o (named_command c) → contents_len c < 2 ^ 32
 contents_short o (case.Mkdir path) editable = omega arith
 contents_short o (case.Put path bytes) editable = put_short o (map (λ n. n.now) path.items) bytes.now editable.limits editable.unrefused
 contents_short o (case.Rm path) editable = omega arith

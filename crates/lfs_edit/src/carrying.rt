@@ -13,8 +13,8 @@ ghost use Rattle.lfs_fs.specs.Unused.{unused};
 ghost use Rattle.lfs_fs.specs.Used.{Marks};
 ghost use Rattle.lfs_fs.specs.Uses.{uses};
 ghost use Rattle.lfs_fs.specs.Volume.{Volume};
+ghost use Rattle.lfs_command.specs.AskedFor.{asked_for, contents_len, named_command};
 ghost use Rattle.lfs_command.specs.declared.refusal.Refusal.TheVariants.{Memory};
-ghost use Rattle.lfs_command.specs.AskedFor.{asked_for};
 ghost use Rattle.lfs_draft.specs.LeastSupplies.{least_supplies};
 ghost use Rattle.lfs_cut.specs.RoomChecks.{room_checks_on};
 ghost use Rattle.lfs_edit.specs.Carried.{IsCutOver, IsCutReady, IsFinished, IsJudged, IsLed, IsRefusedBy};
@@ -25,14 +25,13 @@ ghost use Rattle.lfs_draft.specs.Editable.{IsEditable};
 ghost use Rattle.lfs_law.specs.EditedOutline.{edited_outline};
 ghost use Rattle.lfs_law.specs.Lengthened.{with_count};
 ghost use Rattle.lfs_command.specs.Leading.{leading_pair};
-ghost use Rattle.lfs_command.specs.NamedCommand.{contents_len, named_command};
 ghost use Rattle.lfs_command.specs.Need.{data_blocks, dirty_parts, part_blocks};
 ghost use Rattle.lfs_command.specs.Planned.{Plans, RefusesPlan};
 ghost use Rattle.lfs_command.specs.Verdict.{first_refusal};
 
 use crate::carrying_laws::{carrying_laws, writing_laws};
 use lfs_block::{Blocks, Image, Lengthened, Patch};
-use lfs_command::{NamedCommand, Refusal, count_after, data_blocks, directory_blocks, forced_by};
+use lfs_command::{Named, Refusal, count_after, data_blocks, directory_blocks, forced_by};
 use lfs_cut::{choose, clean, cut, needed};
 use lfs_draft::{edit, leading_pair, least_supplies};
 use lfs_fs::{Outline, UsedBlocks, names_are_ordered, outlines_are_sound};
@@ -63,7 +62,7 @@ fn used_of(alloc: Global, outline: &mut Outline, count: u32) -> Result<UsedBlock
 fn edit_least(
     alloc: Global,
     outline: &mut Outline,
-    command: &NamedCommand<'_>,
+    command: &Named<'_>,
     used: &UsedBlocks,
 ) -> Result<(), AllocError>
     requires editable { IsEditable outline.old (named_command command.now) }
@@ -128,7 +127,7 @@ fn written(
     alloc: Global,
     image: &Image,
     outline: &Outline,
-    command: &NamedCommand<'_>,
+    command: &Named<'_>,
     used: &UsedBlocks,
     blocks: &[u32],
 ) -> Result<Patch, AllocError>
@@ -157,7 +156,7 @@ fn carry_ready(
     alloc: Global,
     image: &Image,
     outline: &mut Outline,
-    command: &NamedCommand<'_>,
+    command: &Named<'_>,
     used: &UsedBlocks,
     blocks: &[u32],
     leading: Option<(u32, u32)>,
@@ -182,7 +181,7 @@ fn carry_ready(
 fn leader(
     before: Option<(u32, u32)>,
     outline: &Outline,
-    command: &NamedCommand<'_>,
+    command: &Named<'_>,
 ) -> Option<(u32, u32)>
     ensures { result ≡ option_or before (leading_pair outline.now (named_command command.now)) }
 {
@@ -199,7 +198,7 @@ pub(crate) fn carry_judged(
     alloc: Global,
     image: &Image,
     outline: &mut Outline,
-    command: &NamedCommand<'_>,
+    command: &Named<'_>,
 ) -> Result<Patch, Refusal>
     requires judged { IsJudged image.now.disk (named_command command.now) outline.old }
     ensures finished { IfOk result (λ patch. IsFinished image.now.disk (named_command command.now) patch outline.new) }

@@ -3,15 +3,14 @@
 ghost use Rattle.std.specs.Prelude.{◌≡◌, ◌⊎◌, IfOk, IfErr};
 ghost use Rattle.lfs_block.specs.Patch.{applied};
 ghost use Rattle.lfs_fs.specs.Mounted.{IsOutlineOf};
+ghost use Rattle.lfs_command.specs.AskedFor.{asked_for, named_command};
 ghost use Rattle.lfs_command.specs.declared.refusal.Refusal.TheVariants.{Memory};
-ghost use Rattle.lfs_command.specs.AskedFor.{asked_for};
 ghost use Rattle.lfs_edit.specs.Carried.{IsFinished, IsJudged, IsRefusedBy};
-ghost use Rattle.lfs_command.specs.NamedCommand.{named_command};
 ghost use Rattle.lfs_command.specs.Planned.{Plans, RefusesPlan};
 
 use crate::carrying::carry_judged;
 use lfs_block::{Image, Patch};
-use lfs_command::{Command, NamedCommand, Refusal, by_names};
+use lfs_command::{Asked, Named, Refusal, by_names};
 use lfs_draft::judge;
 use lfs_fs::{Outline, outline_of};
 use lfs_law::outlines_are_judged_alike;
@@ -23,7 +22,7 @@ fn carry_or_restore(
     alloc: Global,
     image: &Image,
     outline: &mut Outline,
-    command: &NamedCommand<'_>,
+    command: &Named<'_>,
 ) -> Result<Patch, Refusal>
     requires judged { IsJudged image.now.disk (named_command command.now) outline.old }
     ensures finished { IfOk result (λ patch. IsFinished image.now.disk (named_command command.now) patch outline.new) }
@@ -66,7 +65,7 @@ pub fn carry_out(
     alloc: Global,
     image: &Image,
     outline: &mut Outline,
-    command: &Command<'_>,
+    command: &Asked<'_>,
 ) -> Result<Patch, Refusal>
     requires outline { IsOutlineOf image.now.disk outline.old }
     ensures planned { IfOk result (λ patch. Plans image.now.disk (asked_for command.now) patch) }

@@ -9,5 +9,5 @@ mod planning;
 
 pub use carrying_out::carry_out;
 pub use formatting::{format, format_within};
-pub use lfs_command::{Command, Refusal};
+pub use lfs_command::{Asked, Command, Refusal};
 pub use planning::plan;

@@ -7,7 +7,7 @@ ghost use Rattle.lfs_command.specs.Planned.{Plans, RefusesPlan};
 
 use crate::carrying::carry_judged;
 use lfs_block::{Image, Patch};
-use lfs_command::{Command, Refusal, by_names};
+use lfs_command::{Asked, Refusal, by_names};
 use lfs_draft::judge;
 use lfs_fs::{Mounted, outline_of};
 use lfs_law::outlines_are_judged_alike;
@@ -21,7 +21,7 @@ pub fn plan(
     alloc: Global,
     image: &Image,
     mounted: &Mounted,
-    command: &Command<'_>,
+    command: &Asked<'_>,
 ) -> Result<Patch, Refusal>
     requires mounted { IsMountOf image.now.disk mounted.now }
     ensures planned { IfOk result (λ patch. Plans image.now.disk (asked_for command.now) patch) }

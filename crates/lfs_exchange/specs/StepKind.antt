@@ -2,12 +2,12 @@
 use Rattle.std.specs.Prelude.{List, [], ◌∷◌}
 use Rattle.lfs_exchange.specs.declared.step_kind.StepKind.{StepKind}
 use Rattle.lfs_exchange.specs.declared.step_kind.StepKind.TheVariants.{Makes, Asks, Recounts, Changes, Forgets}
-use Rattle.lfs_history.specs.declared.moves.Move.{Move}
+use Rattle.lfs_history.specs.Meaning.{OnBytes}
 use Rattle.lfs_step.specs.declared.step.Step.{Step}
 use Rattle.lfs_step.specs.declared.step.Step.TheVariants.{Format, Pack, Check, Ls, Cat, Diff, Log, Forget, Batch}
 
 -- several steps change both; none at all ask whether there is an image
-abbrev pub kind_of_steps : List Move → StepKind
+abbrev pub kind_of_steps : List OnBytes → StepKind
 kind_of_steps [] = Asks
 kind_of_steps (step ∷ steps) = Changes
 

@@ -42,7 +42,7 @@ pub(crate) fn gather<B: Blocks>(alloc: Global, blocks: &B) -> Result<Gathered, M
 {
     let size = blocks.size();
     let count = blocks.count();
-    let mut used = vec![in alloc; false; count as usize].map_err(|_| MountFault::Memory)?;
+    let mut used = vec![in alloc; false; count as usize]?;
     let table = used.as_mut_slice();
     let mut root = read_root(alloc, blocks, table)?;
     let Some(superblock) = take_first(&mut root) else {

@@ -1,7 +1,6 @@
 //! Directories as their parts are joined.
 
-ghost use Rattle.std.specs.Prelude.{◌≡◌, ◌++◌, OnOk, IfErr};
-ghost use Rattle.lfs_block.specs.declared.mount_fault.MountFault.TheVariants as MountFault;
+ghost use Rattle.std.specs.Prelude.{◌≡◌, ◌++◌, OnOk};
 ghost use Rattle.lfs_fs.specs.Gathering.{as_directory};
 ghost use Rattle.lfs_fs.specs.Thread.{is_hard};
 
@@ -13,7 +12,7 @@ use crate::outline_part::OutlinePart;
 use crate::pushing::push;
 use lfs_block::{Blocks, MountFault};
 use lfs_meta::{Part, Tail};
-use std::alloc::Global;
+use std::alloc::{AllocError, Global};
 use std::mem::replace;
 
 /// What is kept of the parts so far: the directories that have ended, the parts of the one that goes on, and the exclusive or of the
@@ -35,13 +34,12 @@ fn is_hard(tail: Tail) -> bool
     matches!(tail, Tail::Hard(..))
 }
 
-/// Puts parts behind the others as one directory, if there are any.
+/// Puts parts behind the others as one directory, if there are any. Takes memory.
 fn push_directory(
     directories: &mut Vec<OutlineDirectory>,
     mut parts: Vec<OutlinePart>,
-) -> Result<(), MountFault>
+) -> Result<(), AllocError>
     ensures pushed { OnOk result (directories.new.items ≡ directories.old.items ++ as_directory parts.items) }
-    ensures refused { IfErr result (λ fault. fault ≡ MountFault.Memory) }
 {
     if parts.is_empty() {
         return Ok(());
@@ -55,7 +53,6 @@ impl Joined {
     ghost use Rattle.std.specs.Prelude.{◌≡◌, ◌++◌, [], IfOk, IfErr, OnOk, length};
     ghost use Rattle.std.specs.List.{AllByRecursion};
     ghost use Rattle.lfs_block.specs.Disk.{IsDisk};
-    ghost use Rattle.lfs_block.specs.declared.mount_fault.MountFault.TheVariants as MountFault;
     ghost use Rattle.lfs_meta.specs.Whole.{IsWhole};
     ghost use Rattle.lfs_fs.specs.Gathering.{EntriesCause, KeepsNext, as_directory, part_entries};
     ghost use Rattle.lfs_fs.specs.Reading.{reading_of};
@@ -103,11 +100,10 @@ impl Joined {
         Ok(())
     }
 
-    /// The directories, the one that goes on as the last of them.
-    pub(crate) fn into_directories(self) -> Result<Vec<OutlineDirectory>, MountFault>
+    /// The directories, the one that goes on as the last of them. Takes memory.
+    pub(crate) fn into_directories(self) -> Result<Vec<OutlineDirectory>, AllocError>
         ensures directories { IfOk result (λ all. all.items ≡ self.directories.items ++ as_directory self.parts.items) }
-        ensures refused { IfErr result (λ fault. fault ≡ MountFault.Memory) }
-    {
+        {
         let Joined {
             mut directories,
             parts,

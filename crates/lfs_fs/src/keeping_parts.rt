@@ -37,7 +37,7 @@ fn kept_entries<B: Blocks>(
     ensures rise { IfOk result (λ kept. Rise (part_entries before.now ++ kept.items)) }
     ensures refused { IfErr result (λ fault. EntriesCause fault (reading_of (B.disk blocks.now)) limits used.old (part_entries before.now) entries.items) }
 {
-    let mut kept = Vec::with_capacity(alloc, entries.len()).map_err(|_| MountFault::Memory)?;
+    let mut kept = Vec::with_capacity(alloc, entries.len())?;
     'each: for entry in entries {
         let next = kept_entry(alloc, blocks, limits, used, entry)?;
         if !comes_last(before, &kept, &next.name) {

@@ -39,9 +39,7 @@ pub(crate) fn order_of(alloc: Global, outline: &Outline) -> Result<Vec<Place>, M
     ensures places { IfOk result (λ order. ArePlaces outline.now order.items) }
     ensures refused { IfErr result (λ fault. WalkCause outline.now fault) }
 {
-    let Ok(mut walk) = start(alloc, outline) else {
-        return Err(MountFault::Memory);
-    };
+    let mut walk = start(alloc, outline)?;
     while let Some(place) = walk.waiting.take_next()? {
         walk.list(outline, place)?;
     }

@@ -60,7 +60,8 @@ impl Walk {
         ensures refused { IfErr result (λ fault. (fault ≡ MountFault.Memory) ⊎ NotOpened self.old.table.entries pair self.old.opened.items fault) }
     {
         let index = open(&self.table, &mut self.opened, pair)?;
-        push_directory(&mut self.waiting, depth, index, &outline.directories[index])
+        push_directory(&mut self.waiting, depth, index, &outline.directories[index])?;
+        Ok(())
     }
 
     /// Lists a place, and lets what stands below it wait.
@@ -75,6 +76,7 @@ impl Walk {
         if let Some(pair) = target_of(outline, place) {
             self.enter(outline, usize::from(place.depth) + 1, pair)?;
         }
-        push(&mut self.order, place)
+        push(&mut self.order, place)?;
+        Ok(())
     }
 }

@@ -1,8 +1,7 @@
 //! Places of entries, looked up and listed.
 
-ghost use Rattle.std.specs.Prelude.{◌≡◌, ◌++◌, OnOk, IfOk, IfErr, IfSome, length, slice_get};
+ghost use Rattle.std.specs.Prelude.{◌≡◌, ◌++◌, OnOk, IfOk, IfSome, length, slice_get};
 ghost use Rattle.std.specs.Option.{option_map};
-ghost use Rattle.lfs_block.specs.declared.mount_fault.MountFault.TheVariants as MountFault;
 ghost use Rattle.lfs_fs.specs.Entry.{target};
 ghost use Rattle.lfs_fs.specs.Directory.{parts};
 ghost use Rattle.lfs_fs.specs.Placed.{entry_in_directories, listed_at, places_in};
@@ -13,7 +12,7 @@ use crate::outline_entry::OutlineEntry;
 use crate::place::Place;
 use crate::thread_reading::ROOT;
 use crate::waiting::Waiting;
-use lfs_block::MountFault;
+use std::alloc::AllocError;
 
 /// The entry at a place of directories.
 pub(crate) fn entry_in_directories<'a>(
@@ -38,18 +37,16 @@ pub(crate) fn target_of(outline: &Outline, place: Place) -> Option<(u32, u32)>
     entry_in_directories(&outline.directories, place)?.target()
 }
 
-/// A number of a place: `Memory` where a place has no room for it.
-fn number(value: usize) -> Result<u16, MountFault>
-    ensures number { IfOk result (λ number. number ≡ value) }
-    ensures refused { IfErr result (λ fault. fault ≡ MountFault.Memory) }
+/// A number of a place, which counts as want of memory where a place has no room for it.
+fn number(value: usize) -> Result<u16, AllocError>
+    ensures { IfOk result (λ number. number ≡ value) }
 {
-    u16::try_from(value).map_err(|_| MountFault::Memory)
+    u16::try_from(value).map_err(|_| AllocError)
 }
 
-/// The number of entries of a directory's part; none where there is no such part. `Memory` where a place has no room for it.
-fn part_len(directory: &OutlineDirectory, part: u16) -> Result<u16, MountFault>
-    ensures len { IfOk result (λ len. IfSome (slice_get (parts directory.now) part) (λ p. len ≡ length p.entries)) }
-    ensures refused { IfErr result (λ fault. fault ≡ MountFault.Memory) }
+/// The number of entries of a directory's part; none where there is no such part. It counts as want of memory where a place has no room for it.
+fn part_len(directory: &OutlineDirectory, part: u16) -> Result<u16, AllocError>
+    ensures { IfOk result (λ len. IfSome (slice_get (parts directory.now) part) (λ p. len ≡ length p.entries)) }
 {
     match directory.part(usize::from(part)) {
         Some(part) => number(part.len()),
@@ -57,16 +54,15 @@ fn part_len(directory: &OutlineDirectory, part: u16) -> Result<u16, MountFault>
     }
 }
 
-/// Puts the places of a directory's entries before those that wait: `Memory` where the growth is refused, or a place has
+/// Puts the places of a directory's entries before those that wait. Takes memory; it counts as want of it where a place has
 /// no room for a number.
 fn push_parts(
     waiting: &mut Waiting,
     depth: u16,
     index: u16,
     directory: &OutlineDirectory,
-) -> Result<(), MountFault>
-    ensures pushed { OnOk result (waiting.new ≡ places_in depth index 0 (parts directory.now) ++ waiting.old) }
-    ensures refused { IfErr result (λ fault. fault ≡ MountFault.Memory) }
+) -> Result<(), AllocError>
+    ensures { OnOk result (waiting.new ≡ places_in depth index 0 (parts directory.now) ++ waiting.old) }
 {
     let mut part = number(directory.len())?;
     while part > 0 {
@@ -77,16 +73,15 @@ fn push_parts(
     Ok(())
 }
 
-/// Puts the places of a directory's entries before those that wait: `Memory` where the growth is refused, or a place has
+/// Puts the places of a directory's entries before those that wait. Takes memory; it counts as want of it where a place has
 /// no room for a number.
 pub(crate) fn push_directory(
     waiting: &mut Waiting,
     depth: usize,
     index: usize,
     directory: &OutlineDirectory,
-) -> Result<(), MountFault>
-    ensures pushed { OnOk result (waiting.new ≡ places_in depth index 0 (parts directory.now) ++ waiting.old) }
-    ensures refused { IfErr result (λ fault. fault ≡ MountFault.Memory) }
+) -> Result<(), AllocError>
+    ensures { OnOk result (waiting.new ≡ places_in depth index 0 (parts directory.now) ++ waiting.old) }
 {
     push_parts(waiting, number(depth)?, number(index)?, directory)
 }

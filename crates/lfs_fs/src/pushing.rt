@@ -1,14 +1,14 @@
 //! Lists that grow while an image is mounted.
 
-ghost use Rattle.std.specs.Prelude.{◌≡◌, ◌++◌, [], ◌∷◌, OnOk, OnErr, IfErr};
+ghost use Rattle.std.specs.Prelude.{◌≡◌, ◌++◌, [], ◌∷◌, OnOk, OnErr};
 
-use lfs_block::MountFault;
+use std::alloc::AllocError;
 
-/// Puts an item behind the others: `Memory` where the growth is refused, which leaves them as they were.
-pub(crate) fn push<T: Drop>(items: &mut Vec<T>, item: T) -> Result<(), MountFault>
+/// Puts an item behind the others; want of memory leaves them as they were.
+pub(crate) fn push<T: Drop>(items: &mut Vec<T>, item: T) -> Result<(), AllocError>
     ensures pushed { OnOk result (items.new.items ≡ items.old.items ++ item ∷ []) }
-    ensures refused { IfErr result (λ fault. fault ≡ MountFault.Memory) }
     ensures unchanged { OnErr result (items.new.items ≡ items.old.items) }
 {
-    items.push(item).map_err(|_| MountFault::Memory)
+    items.push(item)?;
+    Ok(())
 }

@@ -3,7 +3,6 @@
 use crate::place::Place;
 use crate::pushing::push;
 use crate::waiting_entries::WaitingEntries;
-use lfs_block::MountFault;
 use std::alloc::{AllocError, Global};
 use std::marker::Model;
 
@@ -29,8 +28,7 @@ impl Model for Waiting {
 }
 
 impl Waiting {
-    ghost use Rattle.std.specs.Prelude.{◌≡◌, ◌++◌, ◌∷◌, [], IfOk, IfErr, OnOk};
-    ghost use Rattle.lfs_block.specs.declared.mount_fault.MountFault.TheVariants as MountFault;
+    ghost use Rattle.std.specs.Prelude.{◌≡◌, ◌++◌, ◌∷◌, [], IfOk, OnOk};
     ghost use Rattle.lfs_fs.specs.Placed.{places_from};
     ghost use Rattle.lfs_fs.specs.Waiting.{TakesNext};
 
@@ -50,10 +48,9 @@ impl Waiting {
         })
     }
 
-    /// Takes the next place, if one waits: `Memory` where a growth is refused.
-    pub(crate) fn take_next(&mut self) -> Result<Option<Place>, MountFault>
+    /// Takes the next place, if one waits. Takes memory.
+    pub(crate) fn take_next(&mut self) -> Result<Option<Place>, AllocError>
         ensures taken { IfOk result (λ place. TakesNext place self.old self.new) }
-        ensures refused { IfErr result (λ fault. fault ≡ MountFault.Memory) }
     {
         let Some(entries) = self.entries.pop() else {
             return Ok(None);
@@ -64,16 +61,15 @@ impl Waiting {
         Ok(Some(entries.place()))
     }
 
-    /// Puts the places of a part's entries before the others: `Memory` where the growth is refused.
+    /// Puts the places of a part's entries before the others. Takes memory.
     pub(crate) fn push_part(
         &mut self,
         depth: u16,
         directory: u16,
         part: u16,
         len: u16,
-    ) -> Result<(), MountFault>
+    ) -> Result<(), AllocError>
         ensures pushed { OnOk result (self.new ≡ places_from depth directory part 0 len ++ self.old) }
-        ensures refused { IfErr result (λ fault. fault ≡ MountFault.Memory) }
     {
         if len == 0 {
             return Ok(());

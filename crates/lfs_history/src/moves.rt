@@ -2,15 +2,15 @@
 
 use lfs_command::Command;
 
-/// A move of a session: a step on its history.
+/// A move of a session: a step on its history, whose command has its contents or its value in hand, or says where they come from (`B`).
 ///
 /// Source: own.
-#[derive(Clone, Copy)]
-pub enum Move<'a> {
+#[derive(Clone, Copy, Drop)]
+pub enum Move<'a, B = &'a [u8]> {
     /// Carries a command out.
     Do {
         /// The command.
-        command: Command<'a>,
+        command: Command<&'a [u8], B>,
         /// How many images of the past are kept once the command is done, 1 to 1,000; all of them for `None`.
         keep: Option<u32>,
     },

@@ -2,11 +2,10 @@
 use Rattle.std.proofs.Common.{◌≡◌, ℕ, ◌+◌, ◌<◌, List, [], ◌∷◌, ◌++◌, length, map, take, drop, get_or, suc, None, Some, refl, sym, subst, arith}
 use Rattle.std.proofs.lemmas.List.{get_or-map, length-map, length-take-le, map_more, take-map}
 use Rattle.std.proofs.Math.Seq.{split_at}
-use Rattle.lfs_history.specs.declared.moves.Move.{Move as Written}
 use Rattle.lfs_history.specs.declared.step_fault.StepFault.{StepFault}
 use Rattle.lfs_history.specs.Batch.{StopsAt, TakesAll}
 use Rattle.lfs_history.specs.History.{History}
-use Rattle.lfs_history.specs.Meaning.{step_of}
+use Rattle.lfs_history.specs.Meaning.{OnBytes, step_of}
 use Rattle.lfs_history.specs.Taking.{Move, Takes}
 use Rattle.lfs_history.proofs.RefusedLemmas.{refused_keeps}
 
@@ -17,7 +16,7 @@ takes_on [] step old mid new is next = (new, subst (λ (h : History). Takes step
 takes_on (s ∷ steps) step old mid new (after, first, rest) next = (after, first, takes_on steps step after mid new rest next)
 
 -- so they do by the next step of a list
-pub takes_more : (steps : List Written) (i : ℕ) (d : Written) (old mid new : History) → i < length steps
+pub takes_more : (steps : List OnBytes) (i : ℕ) (d : OnBytes) (old mid new : History) → i < length steps
     → TakesAll (map step_of (take i steps)) old mid → Takes (step_of (get_or steps i d)) None mid new
     → TakesAll (map step_of (take (i + 1) steps)) old new
 takes_more steps i d old mid new within all next =
@@ -25,7 +24,7 @@ takes_more steps i d old mid new within all next =
     (takes_on (map step_of (take i steps)) (step_of (get_or steps i d)) old mid new all next)
 
 -- where the next one is refused they stop there
-pub stops_at : (steps : List Written) (i : ℕ) (d : Written) (fault : StepFault) (old mid new : History) → i < length steps
+pub stops_at : (steps : List OnBytes) (i : ℕ) (d : OnBytes) (fault : StepFault) (old mid new : History) → i < length steps
     → TakesAll (map step_of (take i steps)) old mid → Takes (step_of (get_or steps i d)) (Some fault) mid new
     → StopsAt (map step_of steps) i fault old new
 stops_at steps i d fault old mid new within all next =

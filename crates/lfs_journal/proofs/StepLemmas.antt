@@ -3,11 +3,10 @@ use Rattle.std.proofs.Common.{◌≡◌, ℕ, ◌+◌, ◌<◌, List, [], ◌∷
 use Rattle.std.proofs.Common.{Result}
 use Rattle.std.specs.Result.{result_err}
 use Rattle.std.proofs.lemmas.List.{map_more, map_push}
-use Rattle.lfs_history.specs.declared.moves.Move.{Move as Written}
 use Rattle.lfs_history.specs.declared.step_fault.StepFault.{StepFault}
 use Rattle.lfs_history.specs.History.{History}
 use Rattle.lfs_history.specs.Taking.{Move, Reply, Takes, Run}
-use Rattle.lfs_history.specs.Meaning.{step_of}
+use Rattle.lfs_history.specs.Meaning.{OnBytes, step_of}
 
 -- a run goes on by one step
 pub run_on : (steps : List Move) (replies : List Reply) (step : Move) (reply : Reply) (old mid new : History) → Run steps replies old mid
@@ -20,7 +19,7 @@ run_on [] (r ∷ replies) step reply old mid new run next = absurd run
 run_on (s ∷ steps) [] step reply old mid new run next = absurd run
 
 -- so it does with the next step of a list
-pub run_more : (steps : List Written) (i : ℕ) (d : Written) (before after : List (Result (Unit {0}) StepFault))
+pub run_more : (steps : List OnBytes) (i : ℕ) (d : OnBytes) (before after : List (Result (Unit {0}) StepFault))
     (r : Result (Unit {0}) StepFault) (old mid new : History) → i < length steps
     → after ≡ before ++ r ∷ [] → Run (map step_of (take i steps)) (map result_err before) old mid
     → Takes (step_of (get_or steps i d)) (result_err r) mid new

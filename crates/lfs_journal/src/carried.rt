@@ -9,7 +9,7 @@ ghost use Rattle.lfs_history.specs.History.{IsMounted};
 ghost use Rattle.lfs_journal.specs.Known.{IsKnown};
 
 use lfs_block::{Image, Patch};
-use lfs_edit::{Command, Refusal, carry_out};
+use lfs_edit::{Asked, Refusal, carry_out};
 use lfs_fs::{Outline, outline_of};
 use std::alloc::Global;
 
@@ -26,7 +26,7 @@ pub(crate) fn carried_out(
     alloc: Global,
     image: &Image,
     outline: &mut Option<Outline>,
-    command: &Command<'_>,
+    command: &Asked<'_>,
 ) -> Result<Carried, Refusal>
     requires mounts { IsMounted image.now.disk }
     requires known { IsKnown image.now.disk outline.old }

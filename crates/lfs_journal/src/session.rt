@@ -11,7 +11,7 @@ use lfs_block::{
     reverted_patches_apply_again,
 };
 use lfs_book::{Journal, MOST_CHANGES, write_journal};
-use lfs_edit::{Command, Refusal};
+use lfs_edit::{Asked, Refusal};
 use lfs_fs::{Outline, mount};
 use lfs_history::StepFault;
 use lfs_law::cuts_follow;
@@ -150,7 +150,7 @@ impl Session {
 
     /// Carries a command out, as a change that can be taken back; what was undone is dropped. Any refusal leaves all as it was:
     /// `JournalFull` where 1,000 changes were made, then what `carry_out` refuses, or `Memory`.
-    pub fn command(&mut self, alloc: Global, command: &Command<'_>) -> Result<(), StepFault>
+    pub fn command(&mut self, alloc: Global, command: &Asked<'_>) -> Result<(), StepFault>
         ensures done { OnOk result (Does (asked_for command.now) None self.old self.new) }
         ensures refused { IfErr result (λ fault. Takes (Do (asked_for command.now) None) (Some fault) self.old self.new) }
         ensures unchanged { OnErr result (self.new ≡ self.old) }
@@ -167,7 +167,7 @@ impl Session {
     pub fn command_keep(
         &mut self,
         alloc: Global,
-        command: &Command<'_>,
+        command: &Asked<'_>,
         keep: u32,
     ) -> Result<(), StepFault>
         requires { MayKeep (Some keep) }
@@ -183,7 +183,7 @@ impl Session {
     fn push(
         &mut self,
         alloc: Global,
-        command: &Command<'_>,
+        command: &Asked<'_>,
         keep: Option<u32>,
     ) -> Result<(), StepFault>
         requires { HasPlace keep self.old }

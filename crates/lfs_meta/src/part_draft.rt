@@ -76,7 +76,8 @@ impl<'a> PartDraft<'a> {
         if action.is_bad(tag, bytes, self.entries.len()) {
             return Err(MountFault::BadTag);
         }
-        act(self, alloc, action, tag, bytes).map_err(|_| MountFault::Memory)
+        act(self, alloc, action, tag, bytes)?;
+        Ok(())
     }
 }
 

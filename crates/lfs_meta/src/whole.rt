@@ -132,15 +132,15 @@ fn whole(alloc: Global, draft: &EntryDraft<'_>) -> Result<Entry, MountFault>
     if !kind_takes_name(kind, name) {
         return Err(MountFault::BadName);
     }
-    entry_of(alloc, kind, name, body, &draft.attributes).map_err(|_| MountFault::Memory)
+    Ok(entry_of(alloc, kind, name, body, &draft.attributes)?)
 }
 
 /// Adds an entry.
-fn keep(entries: &mut Vec<Entry>, entry: Entry) -> Result<(), MountFault>
+fn keep(entries: &mut Vec<Entry>, entry: Entry) -> Result<(), AllocError>
     ensures kept { OnOk result (entries.new.items ≡ entries.old.items ++ entry ∷ []) }
-    ensures refused { IfErr result (λ fault. fault ≡ MountFault.Memory) }
 {
-    entries.push(entry).map_err(|_| MountFault::Memory)
+    entries.push(entry)?;
+    Ok(())
 }
 
 /// All entries made whole, or the fault of one that isn't.
@@ -151,7 +151,7 @@ pub(crate) fn all_whole(alloc: Global, drafts: &[EntryDraft<'_>]) -> Result<Vec<
     ensures fit { IfOk result (λ entries. All EntryFits entries.items) }
     ensures refused { IfErr result (λ fault. EntriesCause fault drafts.now) }
 {
-    let mut entries = Vec::with_capacity(alloc, drafts.len()).map_err(|_| MountFault::Memory)?;
+    let mut entries = Vec::with_capacity(alloc, drafts.len())?;
     for draft in drafts {
         let entry = whole(alloc, draft)?;
         keep(&mut entries, entry)?;

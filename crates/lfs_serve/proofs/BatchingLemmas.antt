@@ -2,8 +2,7 @@
 use Rattle.std.proofs.Common.{◌≡◌, ◌⊎◌, ℕ, Bor, Bool, List, [], ◌∷◌, ◌++◌, Option, drop, get_or, length, map, sym, ap, subst, ◌∙◌, arith, inl, inr}
 use Rattle.std.proofs.lemmas.List.{append-nil, append_assoc}
 use Rattle.std.specs.List.{AllByRecursion, AllZip}
-use Rattle.lfs_history.specs.declared.moves.Move.{Move as Written}
-use Rattle.lfs_history.specs.Meaning.{step_of}
+use Rattle.lfs_history.specs.Meaning.{OnBytes, step_of}
 use Rattle.lfs_history.specs.Taking.{KeepsInRange, MayKeep}
 use Rattle.lfs_change.specs.declared.fault.Fault.{Fault}
 use Rattle.lfs_host.specs.Files.{Files}
@@ -75,7 +74,7 @@ meant_in_range Undo contents keep may = tt
 meant_in_range Redo contents keep may = tt
 meant_in_range Forget contents keep may = tt
 
-pub all_in_range : (keep : Option ℕ) (moves : List Written) (read : List ReadLine) → MayKeep keep
+pub all_in_range : (keep : Option ℕ) (moves : List OnBytes) (read : List ReadLine) → MayKeep keep
     → map step_of moves ≡ map (move_of_line keep) read → AllByRecursion (λ m. KeepsInRange (step_of m)) moves
 all_in_range keep [] read may same = tt
 all_in_range keep (m ∷ moves) [] may same = absurd (omega (arith, ap length same))
@@ -86,7 +85,7 @@ all_in_range keep (m ∷ moves) (one ∷ read) may same = (
 )
 
 -- the steps that are taken are those of the lines
-pub takes_lines : (files : Option Files) (keep : Option ℕ) (lines : List ScriptLine) (read : List ReadLine) (steps : Bor (List Written)) (moves : List Written)
+pub takes_lines : (files : Option Files) (keep : Option ℕ) (lines : List ScriptLine) (read : List ReadLine) (steps : Bor (List OnBytes)) (moves : List OnBytes)
     → AllZip (IsReadAs files) lines read → map step_of moves ≡ map (move_of_line keep) read → steps.now ≡ moves
     → TakesLines files keep lines (Batch steps)
 takes_lines files keep lines read steps moves zips same are =

@@ -9,8 +9,7 @@ use Rattle.lfs_fs.specs.declared.limits.Limits.{Limits}
 use Rattle.lfs_command.specs.declared.refusal.Refusal.{Refusal}
 use Rattle.lfs_history.specs.History.{History, IsMounted, fresh_history}
 use Rattle.lfs_history.specs.Batch.{TakesAll}
-use Rattle.lfs_history.specs.declared.moves.Move.{Move as Written}
-use Rattle.lfs_history.specs.Meaning.{step_of}
+use Rattle.lfs_history.specs.Meaning.{OnBytes, step_of}
 use Rattle.lfs_history.specs.Taking.{Do, Undo, Redo, Forget}
 use Rattle.lfs_command.specs.Command as asked
 use Rattle.lfs_step.specs.declared.query.Query.TheVariants as query
@@ -247,14 +246,14 @@ abbrev with_files : Scene → Files → Scene
 with_files scene files = record scene { files = Some files }
 
 -- several steps; none at all leave the history
-takes_all : Laws → (written : List Written) (steps : Bor (List Written)) → written ≡ steps.now → (size : ℕ) (keep : Option ℕ) (name : List ℕ)
+takes_all : Laws → (written : List OnBytes) (steps : Bor (List OnBytes)) → written ≡ steps.now → (size : ℕ) (keep : Option ℕ) (name : List ℕ)
     (scene : Scene) (old new : Files) (h : History) (b : HandedBytes) (outcome : Outcome) → FilesDenote size name old h
     → IsHanded (step.Batch steps) name (with_files scene old) b
     → AnswersDone (ChangeAll (map step_of steps.now)) (given size b.image b.journal) outcome
     → LeavesFiles (kind_of_steps steps.now) (Some old) (Some new) name outcome → StepLeads size keep name (step.Batch steps) (Some old) scene.typed new h
 takes_all laws [] steps are size keep name scene old new h b outcome denotes handed answers leaves =
     let same : Some new ≡ Some old = subst (λ (k : StepKind). LeavesFiles k (Some old) (Some new) name outcome) (sym (ap kind_of_steps are)) leaves in
-    let goes : TakesAll (map step_of steps.now) h h = subst (λ (ms : List Written). TakesAll (map step_of ms) h h) are refl in
+    let goes : TakesAll (map step_of steps.now) h h = subst (λ (ms : List OnBytes). TakesAll (map step_of ms) h h) are refl in
     asks (ChangeAll (map step_of steps.now)) (step.Batch steps) size keep name scene.typed old new h b goes refl denotes handed.input same
 takes_all laws (m ∷ ms) steps are size keep name scene old new h b outcome denotes handed answers leaves =
     let kind : kind_of_steps steps.now ≡ Changes = sym (ap kind_of_steps are) in

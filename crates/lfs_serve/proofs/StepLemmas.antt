@@ -8,7 +8,7 @@ use Rattle.lfs_request.specs.declared.task.Task.TheVariants.{SetAttr, RmAttr}
 use Rattle.lfs_digits.specs.Digits.{SpellsNoByte, SpellsNoBytes}
 use Rattle.lfs_request.specs.Asking.{NamesNoStep}
 use Rattle.lfs_change.specs.declared.outcome.Outcome.{Outcome}
-use Rattle.lfs_history.specs.declared.moves.Move.{Move}
+use Rattle.lfs_history.specs.Meaning.{OnBytes}
 use Rattle.lfs_step.specs.declared.step.Step.{Step}
 use Rattle.lfs_step.specs.declared.step.Step.TheVariants.{Batch}
 use Rattle.lfs_step.specs.Deed.{Deed}
@@ -281,7 +281,7 @@ step_from step older size keep name mid old new ended files typed printed ends =
     step_alike step older size keep name mid old new ended files (alike_from step mid old files typed) printed ends
 
 -- several steps read nothing besides
-pub batch_from : (steps : Bor (List Move)) (older : Bool) (size : ℕ) (keep : Option ℕ) (name : List ℕ) (mid old new : Scene) (ended : Option Fault)
+pub batch_from : (steps : Bor (List OnBytes)) (older : Bool) (size : ℕ) (keep : Option ℕ) (name : List ℕ) (mid old new : Scene) (ended : Option Fault)
     → KeepsScene old mid → EndsStep (Batch steps) older size keep name mid new ended → EndsStep (Batch steps) older size keep name old new ended
 batch_from steps older size keep name mid old new ended kept ends =
     step_alike (Batch steps) older size keep name mid old new ended kept.0 (λ input hands. hands) kept.1 ends

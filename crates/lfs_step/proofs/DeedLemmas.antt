@@ -3,8 +3,7 @@ use Rattle.std.proofs.Common.{◌≡◌, ℕ, List, [], ◌∷◌, Option, map, 
 use Rattle.std.specs.List.{AllByRecursion}
 use Rattle.lfs_fs.specs.declared.limits.Limits.{Limits}
 use Rattle.lfs_fs.specs.Superblock.{IsLimits}
-use Rattle.lfs_history.specs.declared.moves.Move.{Move as Written}
-use Rattle.lfs_history.specs.Meaning.{step_of}
+use Rattle.lfs_history.specs.Meaning.{OnBytes, step_of}
 use Rattle.lfs_history.specs.Taking.{Move, KeepsInRange, MayKeep}
 use Rattle.lfs_pack.specs.declared.pack_row.PackRow.{PackRow}
 use Rattle.lfs_step.specs.declared.step.Step.{Step}
@@ -79,11 +78,11 @@ IsWithin (deed.Pack count limits rows) = IsLimits limits
 IsWithin (deed.ChangeAll steps) = AllByRecursion KeepsInRange steps
 IsWithin _ = Unit {0}
 
-all_meant : (steps : List Written) → AllByRecursion (λ step. KeepsInRange (step_of step)) steps → AllByRecursion KeepsInRange (map step_of steps)
+all_meant : (steps : List OnBytes) → AllByRecursion (λ step. KeepsInRange (step_of step)) steps → AllByRecursion KeepsInRange (map step_of steps)
 all_meant [] all = tt
 all_meant (step ∷ steps) (first, others) = (first, all_meant steps others)
 
-all_written : (steps : List Written) → AllByRecursion KeepsInRange (map step_of steps) → AllByRecursion (λ step. KeepsInRange (step_of step)) steps
+all_written : (steps : List OnBytes) → AllByRecursion KeepsInRange (map step_of steps) → AllByRecursion (λ step. KeepsInRange (step_of step)) steps
 all_written [] all = tt
 all_written (step ∷ steps) (first, others) = (first, all_written steps others)
 
@@ -115,6 +114,6 @@ pub packed_within : (step : Step) (input : List ℕ) (keep : Option ℕ) (count 
     → deed.Pack count limits rows ≡ deed_of step input keep → IsLimits limits
 packed_within step input keep count limits rows has is = subst IsWithin (sym is) (deed_is_within step input keep has)
 
-pub steps_within : (step : Step) (input : List ℕ) (keep : Option ℕ) (steps : List Written) → IsStepInRange step
+pub steps_within : (step : Step) (input : List ℕ) (keep : Option ℕ) (steps : List OnBytes) → IsStepInRange step
     → deed.ChangeAll (map step_of steps) ≡ deed_of step input keep → AllByRecursion (λ step. KeepsInRange (step_of step)) steps
 steps_within step input keep steps has is = all_written steps (subst IsWithin (sym is) (deed_is_within step input keep has))

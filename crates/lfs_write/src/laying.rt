@@ -4,13 +4,13 @@ ghost use Rattle.std.specs.Prelude.{◌≡◌, ◌<◌, ◌^◌, All, AllPairs, 
 ghost use Rattle.lfs_file.specs.Capacity.{least_blocks};
 ghost use Rattle.lfs_fs.specs.Volume.{Volume};
 ghost use Rattle.lfs_write.specs.Laid.{AreLaid, AreLaidFor};
-ghost use Rattle.lfs_command.specs.NamedCommand.{named_command};
+ghost use Rattle.lfs_command.specs.AskedFor.{named_command};
 ghost use Rattle.lfs_command.specs.Need.{data_blocks};
 ghost use Rattle.lfs_command.specs.Supplies.{Supplies};
 
 use crate::writing::changes_of;
 use lfs_block::{Blocks, Record};
-use lfs_command::{NamedCommand, most_inline};
+use lfs_command::{Command, Named, most_inline};
 use lfs_file::{laid_blocks_are_whole, lay};
 use std::alloc::{AllocError, Global};
 
@@ -44,7 +44,7 @@ pub fn laid<B: Blocks>(
 pub fn laid_for<B: Blocks>(
     alloc: Global,
     image: &B,
-    command: &NamedCommand<'_>,
+    command: &Named<'_>,
     blocks: &[u32],
 ) -> Result<Vec<Record>, AllocError>
     requires rising { AllPairs ◌<◌ blocks.now }
@@ -55,7 +55,7 @@ pub fn laid_for<B: Blocks>(
         → AreLaidFor (B.disk image.now) v (named_command command.now) s changes.items) }
 {
     match command {
-        NamedCommand::Put { bytes, .. } if bytes.len() > most_inline(image.size()) as usize => {
+        Command::Put { bytes, .. } if bytes.len() > most_inline(image.size()) as usize => {
             laid(alloc, image, bytes, blocks)
         }
         _ => Ok(Vec::new(alloc)),

@@ -52,17 +52,14 @@ fn rewritten<B: Blocks>(alloc: Global, image: &B, part: &Part) -> Result<(u32, V
     requires { FitsPair (B.disk image.now) part.now }
     ensures { IfOk result (λ new. IsRewritten (B.disk image.now) part.now.0 part.now.1 new.0 new.1.items) }
 {
-    let Ok(new) = rewrite(
+    rewrite(
         alloc,
         image,
         part.pair,
         &part.entries,
         part.tail,
         part.delta,
-    ) else {
-        return Err(AllocError);
-    };
-    Ok(new)
+    )
 }
 
 /// The block of a pair that a commit is appended to, or else that is rewritten, so that the pair holds a part, and its number. The caller
@@ -76,7 +73,7 @@ fn changed<B: Blocks>(
     requires { FitsPair (B.disk image.now) part.now }
     ensures { IfOk result (λ new. IsChanged (B.disk image.now) part.now.0 (forced_seen forced.entry) part.now.1 new.0 new.1.items) }
 {
-    let Ok(new) = change_pair(
+    change_pair(
         alloc,
         image,
         part.pair,
@@ -84,10 +81,7 @@ fn changed<B: Blocks>(
         part.tail,
         part.delta,
         forced,
-    ) else {
-        return Err(AllocError);
-    };
-    Ok(new)
+    )
 }
 
 /// The block that carries a pair to a part, and its number: where the part was cut, the one that isn't live, rewritten; else the live one

@@ -1,8 +1,7 @@
 use Rattle.std.proofs.Common.{ℕ, ap, length, sym, ◌∙◌}
 use Rattle.std.specs.Prelude.{nat_le, if◌then◌else◌}
 use Rattle.lfs_file.specs.Capacity.{least_blocks}
-use Rattle.lfs_command.specs.declared.named_command.NamedCommand.{NamedCommand}
-use Rattle.lfs_command.specs.NamedCommand.{named_command}
+use Rattle.lfs_command.specs.AskedFor.{OnNames, named_command}
 use Rattle.lfs_command.specs.Need.{data_blocks}
 use Rattle.lfs_command.specs.Supplies.{most_inline}
 use Rattle.lfs_command.proofs.made_blocks.data_blocks.Goals as goal
@@ -12,4 +11,4 @@ returns-in-Put c = λ v size.
     let len = length c.in-Put.bytes.now in
     c.data_count.ensures
     ∙ ap (λ (n : ℕ). if nat_le len (most_inline n) then 0 else least_blocks n len) (sym size)
-    ∙ ap (λ (command : NamedCommand). data_blocks v (named_command command)) (sym c.in-Put.is)
+    ∙ ap (λ (command : OnNames). data_blocks v (named_command command)) (sym c.in-Put.is)

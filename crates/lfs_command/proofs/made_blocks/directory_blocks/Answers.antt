@@ -1,8 +1,7 @@
 use Rattle.std.proofs.Common.{ap, sym}
-use Rattle.lfs_command.specs.declared.named_command.NamedCommand.{NamedCommand}
-use Rattle.lfs_command.specs.NamedCommand.{named_command}
+use Rattle.lfs_command.specs.AskedFor.{OnNames, named_command}
 use Rattle.lfs_command.specs.Need.{directory_blocks}
 use Rattle.lfs_command.proofs.made_blocks.directory_blocks.Goals as goal
 
 pub returns-in-Mkdir : goal.returns-in-Mkdir
-returns-in-Mkdir c = ap (λ (command : NamedCommand). directory_blocks (named_command command)) (sym c.in-Mkdir.is)
+returns-in-Mkdir c = ap (λ (command : OnNames). directory_blocks (named_command command)) (sym c.in-Mkdir.is)

@@ -23,10 +23,10 @@ returns-clause-appended g c =
     let q : StoredPart = stored_part c.args.entries.now c.args.tail c.args.delta.now in
     let few : length p.entries ≤ 1023 = search rules in
     let twelve : length q.delta ≡ 12 = search rules in
-    let tags : items c.deref.result.now ≡ part_between forced p q = ap items c.deref.ensures.value ∙ c.in-Ok.ensures.tags in
+    let tags : items c.deref.result.now ≡ part_between forced p q = ap items c.deref.ensures.value ∙ c.in_ok-edits.ensures.tags in
     IfOk-weaker c.append.result _ _ (λ found some'. IfSome_then found some' (λ new is.
     part-appended c.parts_become_others.ensures c.written_parts_replay.ensures.whole d c.args.pair forced p q new.0 new.1.items
     c.requires.held (recursion_from_All EntryFits p.entries c.requires.fit)
-    (recursion_from_All EntryFits q.entries c.in-Ok.ensures.fits) few (omega (arith, c.requires.few)) c.requires.tail twelve
+    (recursion_from_All EntryFits q.entries c.in_ok-edits.ensures.fits) few (omega (arith, c.requires.few)) c.requires.tail twelve
     c.requires.whole (subst (λ (ts : List Item). IsAppended d c.args.pair ts new.0 new.1.items) tags is)))
     c.append.ensures.appended

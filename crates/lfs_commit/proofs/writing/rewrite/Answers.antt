@@ -8,11 +8,11 @@ use Rattle.lfs_commit.specs.Writing.{stored_part, other_number}
 use Rattle.lfs_commit.proofs.LiveAfter.{rewritten-tags, read-back}
 use Rattle.lfs_commit.proofs.writing.rewrite.Goals as goal
 
-pub returns-clause-new : goal.returns-clause-new
-returns-clause-new g c =
+pub returns : goal.returns
+returns g c =
     let d : Disk = g.B.Blocks.disk c.args.blocks.now in
     let p : StoredPart = stored_part c.args.entries.now c.args.tail c.args.delta in
-    let new : List ℕ = c.in-Ok.bytes.items in
+    let new : List ℕ = c.in_ok-bytes.bytes.items in
     let at : ℕ = c.other_block-number.result.0 in
     let live : ℕ = c.other_block-number.result.1 in
     let twelve : length c.args.delta ≡ 12 = search rules in
@@ -20,17 +20,17 @@ returns-clause-new g c =
     let tags : tags_of (put (other_number d c.args.pair) new d) c.args.pair ≡ Some (part_tags p) =
     rewritten-tags c.put_blocks_stand.ensures.block c.put_blocks_stand.ensures.others d c.args.pair new
     (part_tags p) live c.size-size.ensures.disk c.requires.apart c.requires.first c.requires.second
-    (c.in-Ok.ensures.written.len ∙ c.size-size.ensures.value) c.in-Ok.ensures.written.held small
-    (sym c.other_block-number.ensures.revision) c.in-Ok.ensures.written.numbered in
+    (c.in_ok-bytes.ensures.written.len ∙ c.size-size.ensures.value) c.in_ok-bytes.ensures.written.held small
+    (sym c.other_block-number.ensures.revision) c.in_ok-bytes.ensures.written.numbered in
     let size = c.size-size.ensures.value in
     record {
       number = c.other_block-number.ensures.number;
       bytes = search rules;
-      len = c.in-Ok.ensures.written.len ∙ size;
+      len = c.in_ok-bytes.ensures.written.len ∙ size;
       reads_back =
           subst (λ (n : ℕ). stored_part_of (put n new d) c.args.pair ≡ Some p) (sym c.other_block-number.ensures.number)
           (read-back c.written_parts_replay.ensures.replay c.written_parts_replay.ensures.whole p
           (block_of (put (other_number d c.args.pair) new d) c.args.pair.0)
           (block_of (put (other_number d c.args.pair) new d) c.args.pair.1)
-          c.in-Ok.ensures.fits c.requires.few c.requires.tail twelve c.requires.whole tags);
+          c.in_ok-bytes.ensures.fits c.requires.few c.requires.tail twelve c.requires.whole tags);
     }

@@ -11,7 +11,7 @@ use Rattle.lfs_draft.specs.LeastSupplies.{least_supplies, made_blocks}
 use Rattle.lfs_cut.specs.RoomChecks.{room_checks_on}
 use Rattle.lfs_command.specs.Growth.{count_after}
 use Rattle.lfs_command.specs.Leading.{leading_pair}
-use Rattle.lfs_command.specs.NamedCommand.{named_command}
+use Rattle.lfs_command.specs.AskedFor.{named_command}
 use Rattle.lfs_law.specs.EditedOutline.{edited_outline}
 use Rattle.lfs_law.specs.Lengthened.{with_count}
 use Rattle.lfs_command.specs.Need.{dirty_parts, part_blocks}

@@ -3,7 +3,7 @@ use Rattle.std.proofs.Common.{◌≡◌, ◌+◌, ℕ, List, Option, drop, ap, s
 use Rattle.lfs_meta.specs.Body.{Pair}
 use Rattle.lfs_draft.specs.LeastSupplies.{made_blocks}
 use Rattle.lfs_edit.specs.Carried.{IsCutOver}
-use Rattle.lfs_command.specs.NamedCommand.{named_command}
+use Rattle.lfs_command.specs.AskedFor.{named_command}
 use Rattle.lfs_edit.proofs.ReadyLemmas.{known_ready}
 use Rattle.lfs_edit.proofs.carrying.carry_ready.Goals as goal
 

@@ -10,7 +10,7 @@ use Rattle.lfs_command.specs.Clean.{clean}
 use Rattle.lfs_command.specs.Growth.{count_after}
 use Rattle.lfs_law.specs.SuperblockBytes.{volume_bytes}
 use Rattle.lfs_law.specs.WrittenLinks.{AreWritten, ChangesLinks}
-use Rattle.lfs_command.specs.NamedCommand.{named_command}
+use Rattle.lfs_command.specs.AskedFor.{named_command}
 use Rattle.lfs_command.specs.PairChanged.{forced_by}
 use Rattle.lfs_law.specs.PairWritten.{CanBeAdded}
 use Rattle.lfs_law.specs.PlansHold.{is_unmarked}

@@ -1,6 +1,6 @@
 -- A command that is refused for want of room leaves an outline that is read again, which is the one that was.
 use Rattle.std.proofs.Common.{inr}
-use Rattle.lfs_command.specs.NamedCommand.{named_command}
+use Rattle.lfs_command.specs.AskedFor.{named_command}
 use Rattle.lfs_edit.proofs.JudgedLemmas.{may_be_refused}
 use Rattle.lfs_edit.proofs.carrying_out.carry_or_restore.Goals as goal
 

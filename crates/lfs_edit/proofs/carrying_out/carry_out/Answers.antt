@@ -1,7 +1,6 @@
 -- A command that is asked for is the one that is judged and carried out.
 use Rattle.std.proofs.lemmas.Result.{IfOk-weaker, IfErr-weaker, err_from_is_err_and}
-use Rattle.lfs_command.specs.AskedFor.{asked_for}
-use Rattle.lfs_command.specs.NamedCommand.{named_command}
+use Rattle.lfs_command.specs.AskedFor.{asked_for, named_command}
 use Rattle.lfs_edit.proofs.JudgedLemmas.{refused_on}
 use Rattle.lfs_edit.proofs.carrying_out.carry_out.Goals as goal
 

@@ -3,9 +3,8 @@ use Rattle.std.proofs.Common.{subst, sym, ◌∙◌}
 use Rattle.std.proofs.lemmas.Result.{IfOk-weaker, IfErr-weaker, err_from_is_err_and}
 use Rattle.lfs_block.specs.Disk.{Disk}
 use Rattle.lfs_fs.specs.Mounted.{IsMountOf, IsOutlineOf, MountedValue}
-use Rattle.lfs_command.specs.AskedFor.{asked_for}
+use Rattle.lfs_command.specs.AskedFor.{asked_for, named_command}
 use Rattle.lfs_edit.specs.Carried.{IsJudged}
-use Rattle.lfs_command.specs.NamedCommand.{named_command}
 use Rattle.lfs_edit.proofs.JudgedLemmas.{may_be_refused, refused_on}
 use Rattle.lfs_edit.proofs.planning.plan.Goals as goal
 

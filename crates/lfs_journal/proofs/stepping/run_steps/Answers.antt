@@ -1,15 +1,14 @@
 -- One step more goes on with the run; what it keeps may be kept.
 use Rattle.std.proofs.Common.{arith, rules}
 use Rattle.std.proofs.lemmas.List.Elements.{All-from_recursion}
-use Rattle.lfs_history.specs.declared.moves.Move.{Move as Written}
-use Rattle.lfs_history.specs.Meaning.{step_of}
+use Rattle.lfs_history.specs.Meaning.{OnBytes, step_of}
 use Rattle.lfs_history.specs.Taking.{KeepsInRange}
 use Rattle.lfs_journal.proofs.StepLemmas.{run_more}
 use Rattle.lfs_journal.proofs.stepping.run_steps.Goals as goal
 
 pub step-requires : goal.step-requires
 step-requires c =
-    All-from_recursion (λ (step : Written). KeepsInRange (step_of step)) c.args.steps.now c.requires c.loop-step.step-index _ (omega arith)
+    All-from_recursion (λ (step : OnBytes). KeepsInRange (step_of step)) c.args.steps.now c.requires c.loop-step.step-index _ (omega arith)
 
 pub loop-step-preserved : goal.loop-step-preserved
 loop-step-preserved c = record {

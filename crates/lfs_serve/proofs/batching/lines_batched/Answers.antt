@@ -4,8 +4,7 @@ use Rattle.std.proofs.lemmas.Result.{err_from_is_err_and}
 use Rattle.std.specs.List.{AllByRecursion}
 use Rattle.lfs_command.specs.declared.refusal.Refusal.TheVariants.{Memory as No_memory}
 use Rattle.lfs_change.specs.declared.fault.Fault.TheVariants.{Refused}
-use Rattle.lfs_history.specs.declared.moves.Move.{Move}
-use Rattle.lfs_history.specs.Meaning.{step_of}
+use Rattle.lfs_history.specs.Meaning.{OnBytes, step_of}
 use Rattle.lfs_history.specs.Taking.{KeepsInRange}
 use Rattle.lfs_host.specs.Scene.{Scene}
 use Rattle.lfs_step.specs.declared.step.Step.TheVariants.{Batch}
@@ -21,7 +20,7 @@ stepped-requires-clause-range g c =
     let keep = c.args.request.now.keep in
     let steps = c.as_slice-steps.result.now in
     let are : steps ≡ c.in_ok-moves.moves.items = search rules in
-    subst (λ (ms : List Move). AllByRecursion (λ m. KeepsInRange (step_of m)) ms) (sym are)
+    subst (λ (ms : List OnBytes). AllByRecursion (λ m. KeepsInRange (step_of m)) ms) (sym are)
     (all_in_range keep c.in_ok-moves.moves.items c.deref.result.now c.requires.keep c.in_ok-moves.ensures)
 
 pub returns-in_err-read-clause-ended : goal.returns-in_err-read-clause-ended

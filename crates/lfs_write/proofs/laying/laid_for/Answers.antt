@@ -4,8 +4,7 @@ use Rattle.std.specs.Prelude.{nat_le, if◌then◌else◌}
 use Rattle.std.proofs.lemmas.Bool.Decides.{nat_tests}
 use Rattle.lfs_file.specs.Capacity.{least_blocks}
 use Rattle.lfs_fs.specs.Volume.{Volume}
-use Rattle.lfs_command.specs.declared.named_command.NamedCommand.{NamedCommand}
-use Rattle.lfs_command.specs.NamedCommand.{named_command}
+use Rattle.lfs_command.specs.AskedFor.{OnNames, named_command}
 use Rattle.lfs_command.specs.Need.{data_blocks}
 use Rattle.lfs_command.specs.Supplies.{most_inline}
 use Rattle.lfs_write.proofs.laying.laid_for.Goals as goal
@@ -22,7 +21,7 @@ laid-requires-clause-many g c =
     } in
     let len = length c.in-Put.bytes.now in
     let many : length c.args.blocks.now ≡ (if nat_le len (most_inline size) then 0 else least_blocks size len) =
-    subst (λ (command : NamedCommand). length c.args.blocks.now ≡ data_blocks v (named_command command)) c.in-Put.is
+    subst (λ (command : OnNames). length c.args.blocks.now ≡ data_blocks v (named_command command)) c.in-Put.is
     (c.requires.many v refl) in
     let same : most_inline c.size.result ≡ most_inline size = ap most_inline c.size.ensures.value in
     let more : most_inline size < len = omega (arith, c.if-bytes-most_inline.true, c.most_inline.ensures, same) in

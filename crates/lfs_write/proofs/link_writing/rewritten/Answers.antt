@@ -1,4 +1,5 @@
 -- The part is told by its view.
+use Rattle.std.proofs.lemmas.Result.{IfOk-weaker}
 use Rattle.lfs_commit.specs.Writing.{IsRewritten}
 use Rattle.lfs_write.proofs.PairWrites.{by_view}
 use Rattle.lfs_write.proofs.link_writing.rewritten.Goals as goal
@@ -6,6 +7,6 @@ use Rattle.lfs_write.proofs.link_writing.rewritten.Goals as goal
 pub returns : goal.returns
 returns g c =
     let d = g.B.Blocks.disk c.args.image.now in
-    let new = c.in-Ok.new in
-    by_view (λ pair q. IsRewritten d pair q new.0 new.1.items) _ c.args.part.now c.deref.result.now c.part.view_is
-    c.deref.ensures.value c.in-Ok.ensures.new
+    IfOk-weaker c.rewrite.result _ _
+    (λ new. by_view (λ pair q. IsRewritten d pair q new.0 new.1.items) _ c.args.part.now c.deref.result.now
+    c.part.view_is c.deref.ensures.value) c.rewrite.ensures
