@@ -1,5 +1,5 @@
 -- What a command of the code asks for, over texts or over names (own).
-use Rattle.std.specs.Prelude.{ℕ, List, length, map}
+use Rattle.std.specs.Prelude.{ℕ, Option, Some, None, List, length, map}
 use Rattle.std.specs.Borrow.{Bor}
 use Rattle.std.specs.Global.{Vec}
 use Rattle.lfs_command.specs.Command.{CommandOn, Asked, Command, Mkdir, Put, Rm, Mv, SetAttr, RmAttr, Grow}
@@ -15,6 +15,21 @@ command_by f g (case.Mv from to) = Mv (f from) (f to)
 command_by f g (case.SetAttr path kind value) = SetAttr (f path) kind (g value)
 command_by f g (case.RmAttr path kind) = RmAttr (f path) kind
 command_by f g (case.Grow count) = Grow count
+
+-- the path that it is about, of a move the one that is left
+abbrev pub path_said : {P B : Type 0} → Written P B → Option P
+path_said (case.Mkdir path) = Some path
+path_said (case.Put path bytes) = Some path
+path_said (case.Rm path) = Some path
+path_said (case.Mv from to) = Some from
+path_said (case.SetAttr path kind value) = Some path
+path_said (case.RmAttr path kind) = Some path
+path_said (case.Grow count) = None
+
+-- the path that a move leads to
+abbrev pub target_said : {P B : Type 0} → Written P B → Option P
+target_said (case.Mv from to) = Some to
+target_said _ = None
 
 -- a command of the code over texts, with its bytes in hand
 abbrev pub OnTexts : Type 0

@@ -61,3 +61,34 @@ pub type Asked<'a> = Command<&'a [u8], &'a [u8]>;
 ///
 /// Source: own.
 pub type Named<'a> = Command<Vec<&'a [u8]>, &'a [u8]>;
+
+impl<P, B> Command<P, B> {
+    ghost use Rattle.std.specs.Prelude.{◌≡◌};
+    ghost use Rattle.std.specs.Option.{option_map};
+    ghost use Rattle.lfs_command.specs.AskedFor.{path_said, target_said};
+
+    /// The path that it is about; of a move the one that is left. Takes no memory.
+    pub fn path(&self) -> Option<&P>
+        ensures { option_map (λ path. path.now) result ≡ path_said self.now }
+    {
+        match self {
+            Command::Mkdir { path }
+            | Command::Put { path, .. }
+            | Command::Rm { path }
+            | Command::SetAttr { path, .. }
+            | Command::RmAttr { path, .. } => Some(path),
+            Command::Mv { from, .. } => Some(from),
+            Command::Grow { .. } => None,
+        }
+    }
+
+    /// The path that a move leads to. Takes no memory.
+    pub fn target(&self) -> Option<&P>
+        ensures { option_map (λ path. path.now) result ≡ target_said self.now }
+    {
+        match self {
+            Command::Mv { to, .. } => Some(to),
+            _ => None,
+        }
+    }
+}

@@ -7,3 +7,4 @@ pub mod Meaning
 pub mod Laws
 pub mod Opening
 pub mod OpeningLaws
+pub mod Filling

@@ -2,11 +2,14 @@
 //! another, and the journals that denote them.
 #![tactic(auto)]
 
+mod filling;
 mod laws;
 mod moves;
 mod open_fault;
+mod source;
 mod step_fault;
 
+pub use filling::filled;
 pub use laws::{
     commands_are_equations, commands_push_equations, histories_are_books,
     journals_grow_by_the_need, redo_is_exact, runs_keep_histories, saved_histories_open,
@@ -14,4 +17,5 @@ pub use laws::{
 };
 pub use moves::Move;
 pub use open_fault::OpenFault;
+pub use source::Source;
 pub use step_fault::StepFault;

@@ -47,6 +47,7 @@ impl Model for Session {
 impl Session {
     ghost use Rattle.std.specs.Prelude.{◌≡◌, [], length, None, Some, IfOk, IfErr, IfSome, OnOk, OnErr};
     ghost use Rattle.lfs_fs.specs.Cause.{HasCause};
+    ghost use Rattle.lfs_fs.specs.Mounted.{IsOutlineOf};
     ghost use Rattle.lfs_book.specs.Book.{journal_bytes};
     ghost use Rattle.lfs_command.specs.AskedFor.{asked_for};
     ghost use Rattle.lfs_history.specs.declared.step_fault.StepFault.TheVariants.{NothingToUndo, NothingToRedo};
@@ -121,6 +122,14 @@ impl Session {
         ensures history { IsHistory self.now }
     {
         &self.image
+    }
+
+    /// The outline of the image as it is now, where it is known: behind a mount, a command, or a refusal that isn't want of memory.
+    /// Takes no memory.
+    pub fn outline(&self) -> Option<&Outline>
+        ensures { IfSome result (λ outline. IsOutlineOf self.now.present outline.now) }
+    {
+        self.outline.as_ref()
     }
 
     /// The image as it is now, without its changes. Takes no memory.

@@ -52,12 +52,6 @@ returns-in_err-settled-clause-first g c =
     let p = err_from_is_err_and c.from_residual-in_err-settled.result c.from_residual-in_err-settled.ensures.1 in
     rw (p.1, p.2) (good_blames d c.in_err-settled.field-0.0 c.in_ok-root.ensures.good)
 
-pub returns-in_err-directories-clause-first : goal.returns-in_err-directories-clause-first
-returns-in_err-directories-clause-first g c =
-    let d = g.B.Blocks.disk c.args.blocks.now in
-    let p = err_from_is_err_and c.from_residual-in_err-directories.result c.from_residual-in_err-directories.ensures.1 in
-    rw (p.1, p.2) (good_blames d c.in_err-directories.field-0.0 c.in_ok-root.ensures.good)
-
 pub returns-clause-gathered : goal.returns-clause-gathered
 returns-clause-gathered g c =
     let d = g.B.Blocks.disk c.args.blocks.now in

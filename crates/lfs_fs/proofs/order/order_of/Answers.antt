@@ -11,7 +11,7 @@ pub returns-then-contains-clause-refused : goal.returns-then-contains-clause-ref
 returns-then-contains-clause-refused c =
     let o = c.args.outline.now in
     let old = c.loop-walk.walk in
-    let empty = none_waits c.in_ok-place.field-0 old.waiting c.take_next.new.self c.in_default-2.not-Some c.in_ok-place.ensures.taken in
+    let empty = none_waits c.in_ok-place.field-0 old.waiting c.take_next.new.self c.in_default.not-Some c.in_ok-place.ensures.taken in
     let walking : IsWalking o old.table.entries old.order.items [] old.opened.items =
     subst (λ (xs : List Place). IsWalking o old.table.entries old.order.items xs old.opened.items) empty c.loop-walk.invariant in
     let one = some_unset _ old.opened.items refl (ap (list_any _) (sym c.deref.ensures.value) ∙ sym c.contains.ensures.value
@@ -22,7 +22,7 @@ pub returns-clause-listed : goal.returns-clause-listed
 returns-clause-listed c =
     let o = c.args.outline.now in
     let old = c.loop-walk.walk in
-    let empty = none_waits c.in_ok-place.field-0 old.waiting c.take_next.new.self c.in_default-2.not-Some c.in_ok-place.ensures.taken in
+    let empty = none_waits c.in_ok-place.field-0 old.waiting c.take_next.new.self c.in_default.not-Some c.in_ok-place.ensures.taken in
     let walking : IsWalking o old.table.entries old.order.items [] old.opened.items =
     subst (λ (xs : List Place). IsWalking o old.table.entries old.order.items xs old.opened.items) empty c.loop-walk.invariant in
     let all : All (λ b. b ≡ true) old.opened.items = all_set _ old.opened.items refl
@@ -33,7 +33,7 @@ pub returns-clause-counted : goal.returns-clause-counted
 returns-clause-counted c =
     let o = c.args.outline.now in
     let old = c.loop-walk.walk in
-    let empty = none_waits c.in_ok-place.field-0 old.waiting c.take_next.new.self c.in_default-2.not-Some c.in_ok-place.ensures.taken in
+    let empty = none_waits c.in_ok-place.field-0 old.waiting c.take_next.new.self c.in_default.not-Some c.in_ok-place.ensures.taken in
     let walking : IsWalking o old.table.entries old.order.items [] old.opened.items =
     subst (λ (xs : List Place). IsWalking o old.table.entries old.order.items xs old.opened.items) empty c.loop-walk.invariant in
     let all : All (λ b. b ≡ true) old.opened.items = all_set _ old.opened.items refl

@@ -1,5 +1,5 @@
 use Rattle.std.proofs.Common.{◌≡◌, ◌+◌, ◌∷◌, ◌++◌, [], ℕ, arith, subst, sym, ◌∙◌}
-use Rattle.std.proofs.lemmas.Result.{err_from_is_err_and, on_ok_weaker}
+use Rattle.std.proofs.lemmas.Result.{err_from_is_err_and}
 use Rattle.lfs_fs.specs.Ordered.{Enters}
 use Rattle.lfs_fs.proofs.WalkingLemmas.{walking_file, walking_directory, walking_fault, work_less}
 use Rattle.lfs_fs.proofs.ordering.Walk.list.Goals as goal
@@ -26,13 +26,11 @@ returns-clause-listed c =
           let step = walking_directory o old.table.entries old.order.items x
           old.waiting old.opened.items w.enter.new.self.opened.items w.in-Some.pair w.enter.new.self.waiting
           (sym c.target_of.ensures ∙ w.in-Some.is) entered c.requires.walking in
-          on_ok_weaker c.push.result (λ (pushed : c.push.new.items.items ≡ c.match-target_of.self.order.items ++ x ∷ []). rw
-          (pushed, w.self-is, w.in_ok-enter.ensures.order, w.in_ok-enter.ensures.table) step) c.push.ensures.pushed
+          rw (c.in_ok-push.ensures.pushed, w.self-is, w.in_ok-enter.ensures.order, w.in_ok-enter.ensures.table) step
       | in_default w ↦
           let step = walking_file o old.table.entries old.order.items x old.waiting old.opened.items
           (sym c.target_of.ensures ∙ w.in_default.is) c.requires.walking in
-          on_ok_weaker c.push.result (λ (pushed : c.push.new.items.items ≡ c.match-target_of.self.order.items ++ x ∷ []). rw
-          (pushed, w.self-is) step) c.push.ensures.pushed
+          rw (c.in_ok-push.ensures.pushed, w.self-is) step
     ]
 
 pub returns-clause-less : goal.returns-clause-less
@@ -44,7 +42,7 @@ returns-clause-less c =
           let entered = subst (λ (n : ℕ). Enters o.directories old.table.entries w.in-Some.pair
           (n + 1) old.opened.items w.enter.new.self.opened.items
           old.waiting w.enter.new.self.waiting) w.from.ensures w.in_ok-enter.ensures.entered in
-          on_ok_weaker c.push.result (λ _. rw w.self-is (work_less o old.table.entries c.args.place old.opened.items
-          w.enter.new.self.opened.items w.in-Some.pair old.waiting w.enter.new.self.waiting entered)) c.push.ensures.pushed
-      | in_default w ↦ on_ok_weaker c.push.result (λ _. rw w.self-is (omega arith)) c.push.ensures.pushed
+          rw w.self-is (work_less o old.table.entries c.args.place old.opened.items
+          w.enter.new.self.opened.items w.in-Some.pair old.waiting w.enter.new.self.waiting entered)
+      | in_default w ↦ rw w.self-is (omega arith)
     ]
