@@ -10,3 +10,4 @@ pub mod EditableLemmas
 pub mod BareDirectories
 pub mod PathsBelow
 pub mod NoHome
+pub mod ReachSteps

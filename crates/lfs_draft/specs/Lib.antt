@@ -1,3 +1,4 @@
 pub mod LeastSupplies
 pub mod EntryChange
 pub mod Editable
+pub mod Reaches
