@@ -1,5 +1,7 @@
 -- What the code's rows lead to, as an image.
 use Rattle.std.proofs.Common.{◌≡◌, ℕ, true, List, [], ◌∷◌, ◌++◌, Option, refl, ap, sym, ◌∙◌, subst, inl, inr, All, map, length, arith}
+use Rattle.std.proofs.lemmas.Grind.{flat_map-append}
+use Rattle.std.proofs.lemmas.List.Concat.{flat_map-cons}
 use Rattle.lfs_block.specs.Disk.{Disk, IsDisk}
 use Rattle.lfs_meta.specs.Attribute.{Attributes}
 use Rattle.lfs_fs.specs.declared.limits.Limits.{Limits}
@@ -21,12 +23,13 @@ use Rattle.lfs_pack.specs.declared.pack_row.PackRow.{PackRow}
 use Rattle.lfs_pack.specs.Laws.{LedToTheirMap}
 use Rattle.lfs_build.specs.Finished.{AreErasedBeside, IsNewImageOf}
 use Rattle.lfs_build.specs.NewVolumes.{IsAt, IsBare}
-use Rattle.lfs_pack.specs.Packed.{AreRowsOf, IsRowOf, Packed, attribute_of, commands, making, setting}
-use Rattle.lfs_pack.specs.Packing.{IsNotPacked, IsPacked, RefusesPack}
-use Rattle.lfs_pack.specs.RowsAdded.{AddsRows, AreStopped, IsBareAt, PacksVolume, RefusesAll, RefusesRows, SetsAll}
+use Rattle.lfs_pack.specs.Packed.{AreRowsOf, IsRowOf, Packed, attribute_of, commands, making, row_commands, setting}
+use Rattle.lfs_pack.specs.Packing.{IsNotPacked, IsPacked, RefusesPack, RefusesRow}
+use Rattle.lfs_pack.specs.RowsAdded.{AddsRows, AreStopped, IsBareAt, IsRowStopped, PacksVolume, RefusesAll, RefusesRows, SetsAll}
 use Rattle.lfs_pack.proofs.BareIsAt.{bare_is_at}
 use Rattle.lfs_pack.proofs.CountsKept.{kept, rows_keep}
 use Rattle.lfs_pack.proofs.LedOn.{led_on, stopped_first, stopped_then}
+use Rattle.lfs_pack.proofs.RowsInTurn.{from_first, stopped_behind}
 use Rattle.lfs_pack.proofs.RowsSpelled.{same_rows}
 
 -- ---- the root's row
@@ -35,17 +38,25 @@ root_commands : (p : Path) (bytes : Option (List ℕ)) (a : Attributes) → p �
 root_commands [] bytes a root = refl
 root_commands (n ∷ p) bytes a root = absurd (cc)
 
--- its attributes are set, and then the other rows added
+-- its attributes are set
+row_sets : (row : PackRow) (r : Packed) → IsRowOf row r → r.path ≡ [] → row_commands r ≡ setting [] (map attribute_of row.attributes.now)
+row_sets row r is root = root_commands r.path r.bytes r.attributes root ∙ ap (setting []) (sym is.attributes)
+
+-- and then the other rows added
 rows_commands : (row : PackRow) (r : Packed) (rs : List Packed) → IsRowOf row r → r.path ≡ []
     → commands (r ∷ rs) ≡ setting [] (map attribute_of row.attributes.now) ++ commands rs
-rows_commands row r rs is root =
-    ap (λ (cs : List Command). cs ++ commands rs)
-    (root_commands r.path r.bytes r.attributes root ∙ ap (setting []) (sym is.attributes))
+rows_commands row r rs is root = ap (λ (cs : List Command). cs ++ commands rs) (row_sets row r is root)
 
 -- ---- refusals
 
-pub memory_refused : (size count : ℕ) (limits : Limits) (what : List Packed) (r : Refusal) → r ≡ Memory → RefusesPack size count limits what r
-memory_refused size count limits what r is = subst (λ (x : Refusal). RefusesPack size count limits what x) (sym is) tt
+memory_refused : (size count : ℕ) (limits : Limits) (what : List Packed) (at : ℕ) (r : Refusal) → r ≡ Memory
+    → RefusesRow size count limits what at r
+memory_refused size count limits what at r is = subst (λ (x : Refusal). RefusesRow size count limits what at x) (sym is) tt
+
+refuses_row : (size count : ℕ) (limits : Limits) (what : List Packed) (at : ℕ) (r : Refusal)
+    → IsRowStopped what (empty_volume size count limits []) at r → RefusesRow size count limits what at r
+refuses_row size count limits what at Memory stop = tt
+refuses_row size count limits what at _ stop = stop
 
 refuses_pack : (size count : ℕ) (limits : Limits) (what : List Packed) (r : Refusal) → IsNotPacked size count limits what r → RefusesPack size count limits what r
 refuses_pack size count limits what Memory stop = tt
@@ -62,6 +73,23 @@ stopped size count limits what r stop = refuses_pack size count limits what r (r
   led = stop.led;
   refused = stop.refused;
 })
+
+-- a row is refused by one of its commands, behind those of the rows before it
+row_stopped : (rows : List Packed) (v : Volume) (at : ℕ) (r : Refusal) → IsRowStopped rows v at r → AreStopped (commands rows) v r
+row_stopped rows v at r stop =
+    let all : commands rows ≡ commands stop.before ++ (row_commands stop.row ++ commands stop.later) =
+    ap commands stop.are ∙ flat_map-append row_commands stop.before (stop.row ∷ stop.later)
+    ∙ ap (λ (cs : List Command). commands stop.before ++ cs) (flat_map-cons row_commands stop.row stop.later) in
+    subst (λ (cs : List Command). AreStopped cs v r) (sym all)
+    (stopped_then (commands stop.before) (row_commands stop.row ++ commands stop.later) v stop.volume r stop.led
+    (stopped_first (row_commands stop.row) (commands stop.later) stop.volume r stop.stopped))
+
+-- where a row is refused, the rows aren't packed
+pub not_packed : (size count : ℕ) (limits : Limits) (what : List Packed) (at : ℕ) (r : Refusal) → RefusesRow size count limits what at r
+    → RefusesPack size count limits what r
+not_packed size count limits what at Memory stop = tt
+not_packed size count limits what at r stop =
+    stopped size count limits what r (row_stopped what (empty_volume size count limits []) at r stop)
 
 -- ---- rows are added to a new volume
 
@@ -114,29 +142,35 @@ module _ (texts : TextsSpellOnePath) (size count : ℕ) (limits : Limits) (row :
           )
 
   pub root_refused : (r : Refusal) → RefusesAll IsBareAt (map attribute_of row.attributes.now) t r
-      → (what : List Packed) → AreRowsOf (row ∷ rows) what → RefusesPack size count limits what r
-  root_refused r (inl memory) what are = memory_refused size count limits what r memory
+      → (what : List Packed) → AreRowsOf (row ∷ rows) what → RefusesRow size count limits what 0 r
+  root_refused r (inl memory) what are = memory_refused size count limits what 0 r memory
   root_refused r (inr refuses) [] are = absurd are.packable.root
-  root_refused r (inr refuses) (p ∷ ps) are =
-      stopped size count limits (p ∷ ps) r
-      (subst (λ (cs : List Command). AreStopped cs (empty_volume size count limits []) r)
-      (sym (rows_commands row p ps are.each.0 are.packable.root.0))
-      (stopped_first (setting [] (map attribute_of row.attributes.now)) (commands ps) (empty_volume size count limits []) r
-      (refuses [] (empty_volume size count limits []) at_root)))
+  root_refused r (inr refuses) (p ∷ ps) are = refuses_row size count limits (p ∷ ps) 0 r (record {
+    before = [];
+    row = p;
+    later = ps;
+    are = refl;
+    many = refl;
+    volume = empty_volume size count limits [];
+    led = refl;
+    stopped = subst (λ (cs : List Command). AreStopped cs (empty_volume size count limits []) r)
+        (sym (row_sets row p are.each.0 are.packable.root.0)) (refuses [] (empty_volume size count limits []) at_root);
+  })
 
-  pub rows_refused : (a : NewVolume) (r : Refusal) → SetsAll IsBareAt (map attribute_of row.attributes.now) t a → RefusesRows rows a r
-      → (what : List Packed) → AreRowsOf (row ∷ rows) what → RefusesPack size count limits what r
-  rows_refused a r sets (inl memory) what are = memory_refused size count limits what r memory
-  rows_refused a r sets (inr refuses) [] are = absurd are.packable.root
-  rows_refused a r sets (inr refuses) (p ∷ ps) are =
+  pub rows_refused : (a : NewVolume) (at : ℕ) (r : Refusal) → SetsAll IsBareAt (map attribute_of row.attributes.now) t a
+      → RefusesRows rows a 1 at r → (what : List Packed) → AreRowsOf (row ∷ rows) what → RefusesRow size count limits what at r
+  rows_refused a at r sets (inl memory) what are = memory_refused size count limits what at r memory
+  rows_refused a at r sets (inr refuses) [] are = absurd are.packable.root
+  rows_refused a at r sets (inr refuses) (p ∷ ps) are =
       let one = sets [] (empty_volume size count limits []) at_root in
       let behind : All (λ (s : Packed). path_precedes [] s.path ≡ true) ps =
       subst (λ (x : Path). All (λ (s : Packed). path_precedes x s.path ≡ true) ps) are.packable.root.0 are.packable.rise.0 in
-      stopped size count limits (p ∷ ps) r
-      (subst (λ (cs : List Command). AreStopped cs (empty_volume size count limits []) r)
-      (sym (rows_commands row p ps are.each.0 are.packable.root.0))
-      (stopped_then (setting [] (map attribute_of row.attributes.now)) (commands ps) (empty_volume size count limits []) one.0 r one.1
-      (refuses [] one.0 ps (bare_is_at a one.0 one.2.bare) are.each.1 behind are.packable.rise.1)))
+      let led : Lead (row_commands p) (empty_volume size count limits []) one.0 =
+      subst (λ (cs : List Command). Lead cs (empty_volume size count limits []) one.0)
+      (sym (row_sets row p are.each.0 are.packable.root.0)) one.1 in
+      let stop = stopped_behind p ps (empty_volume size count limits []) one.0 0 at r led
+      (refuses [] one.0 ps (bare_is_at a one.0 one.2.bare) are.each.1 behind are.packable.rise.1) in
+      refuses_row size count limits (p ∷ ps) at r (from_first (p ∷ ps) (empty_volume size count limits []) at r stop)
 
 -- ---- the image
 

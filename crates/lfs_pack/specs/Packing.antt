@@ -18,6 +18,7 @@ use Rattle.lfs_new.specs.NewImages.{AreFilled}
 use Rattle.lfs_build.specs.Finished.{AreErasedBeside}
 use Rattle.lfs_pack.specs.Packed.{Packed, commands, packed_at}
 use Rattle.lfs_ends.specs.Lead.{Lead}
+use Rattle.lfs_pack.specs.RowsAdded.{IsRowStopped}
 
 -- The bytes are an image with these limits, whose tree is the map of the rows. The volume is the one that the commands of the rows lead to
 -- from a new one: each of its parts stands alone in the first block of its pair, and all that it doesn't use is erased.
@@ -46,3 +47,8 @@ pub record IsNotPacked (size count : ℕ) (limits : Limits) (rows : List Packed)
 abbrev pub RefusesPack : ℕ → ℕ → Limits → List Packed → Refusal → Type 0
 RefusesPack size count limits rows Memory = Unit {0}
 RefusesPack size count limits rows r = IsNotPacked size count limits rows r
+
+-- which row no image is made for: the one behind so many; of want of memory it isn't said
+abbrev pub RefusesRow : ℕ → ℕ → Limits → List Packed → ℕ → Refusal → Type 0
+RefusesRow size count limits rows at Memory = Unit {0}
+RefusesRow size count limits rows at r = IsRowStopped rows (empty_volume size count limits []) at r

@@ -1,5 +1,5 @@
 -- What becomes of a new volume to which rows are added (own).
-use Rattle.std.specs.Prelude.{◌≡◌, ◌⊎◌, ℕ, true, Option, Some, List, [], ◌∷◌, ◌++◌, All}
+use Rattle.std.specs.Prelude.{◌≡◌, ◌⊎◌, ℕ, ◌+◌, true, Option, Some, List, [], ◌∷◌, ◌++◌, All, length}
 use Rattle.std.specs.List.{AllZip}
 use Rattle.lfs_meta.specs.Attribute.{Attributes}
 use Rattle.lfs_fs.specs.declared.limits.Limits.{Limits}
@@ -26,6 +26,17 @@ pub record AreStopped (cs : List Command) (v : Volume) (r : Refusal) : Type 0 wh
   pub volume : Volume
   pub led : Lead done v volume
   pub refused : verdict volume next ≡ Some r
+
+-- The row behind so many is refused: the rows before it lead to a volume, and from there on one of its commands is refused.
+pub record IsRowStopped (rows : List Packed) (v : Volume) (at : ℕ) (r : Refusal) : Type 0 where
+  pub before : List Packed
+  pub row : Packed
+  pub later : List Packed
+  pub are : rows ≡ before ++ row ∷ later
+  pub many : length before ≡ at
+  pub volume : Volume
+  pub led : Lead (commands before) v volume
+  pub stopped : AreStopped (row_commands row) volume r
 
 -- ---- attributes, one after another
 
@@ -69,11 +80,12 @@ abbrev pub AddsRows : List PackRow → NewVolume → NewVolume → Type 0
 AddsRows rows t u = (q : Path) (v : Volume) → IsAt t q v
     → (packed : List Packed) × AllZip IsRowOf rows packed × (w : Volume) × Lead (commands packed) v w × (p : Path) × IsAt u p w
 
--- or not, where they rise behind the last one, or memory is refused
-abbrev pub RefusesRows : List PackRow → NewVolume → Refusal → Type 0
-RefusesRows rows t r = (r ≡ Memory) ⊎ ((q : Path) (v : Volume) (packed : List Packed)
+-- Or not, where they rise behind the last one, or memory is refused. So many rows stand before them, and so many before the one that is
+-- refused.
+abbrev pub RefusesRows : List PackRow → NewVolume → ℕ → ℕ → Refusal → Type 0
+RefusesRows rows t from at r = (r ≡ Memory) ⊎ ((q : Path) (v : Volume) (packed : List Packed)
     → IsAt t q v → AllZip IsRowOf rows packed → All (λ p. path_precedes q p.path ≡ true) packed → PackedRise packed
-    → AreStopped (commands packed) v r)
+    → (i : ℕ) × (at ≡ from + i) × IsRowStopped packed v i r)
 
 -- All rows are added to a new volume, of which the first is the root's.
 pub record PacksVolume (size count : ℕ) (limits : Limits) (rows : List PackRow) (t : NewVolume) : Type 0 where

@@ -50,6 +50,7 @@ pub fn least_count(
 {
     packing_laws();
     let most = most_count(size);
-    let volume = packed_volume(alloc, size, most, limits, rows)?;
+    let mut at = 0;
+    let volume = packed_volume(alloc, size, most, limits, rows, &mut at)?;
     Ok(volume.used())
 }

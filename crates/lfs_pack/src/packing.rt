@@ -1,6 +1,6 @@
 //! Packing rows of paths into a new image.
 
-ghost use Rattle.std.specs.Prelude.{IfErr, IfOk, List, OnOk, map};
+ghost use Rattle.std.specs.Prelude.{◌+◌, ◌<◌, ◌^◌, IfErr, IfOk, List, OnOk, length, map};
 ghost use Rattle.lfs_block.specs.Geometry.{IsGeometry};
 ghost use Rattle.lfs_fs.specs.Limits.{new_limits};
 ghost use Rattle.lfs_fs.specs.Path.{Path};
@@ -10,7 +10,7 @@ ghost use Rattle.lfs_build.specs.NewVolumes.{HasEntry, IsAt, IsBare};
 ghost use Rattle.lfs_pack.specs.RowsAdded.{AddsRow, AddsRows, IsBareAt, PacksVolume, Places, SetsAll};
 ghost use Rattle.lfs_pack.specs.RowsAdded.{RefusesAdding, RefusesAll, RefusesPlace, RefusesRows};
 ghost use Rattle.lfs_pack.specs.Packed.{AreRowsOf, Packed, attribute_of, row_bytes};
-ghost use Rattle.lfs_pack.specs.Packing.{IsPacked, RefusesPack};
+ghost use Rattle.lfs_pack.specs.Packing.{IsPacked, RefusesPack, RefusesRow};
 
 use crate::pack_row::PackRow;
 use crate::packing_laws::packing_laws;
@@ -79,39 +79,51 @@ fn add_row(alloc: Global, volume: &mut NewVolume, row: &PackRow<'_>) -> Result<(
     Ok(())
 }
 
-/// Adds rows, one after another.
-fn add_rows(alloc: Global, volume: &mut NewVolume, rows: &[PackRow<'_>]) -> Result<(), Refusal>
-    requires { (q : Path) × (v : Volume) × IsAt volume.old q v }
+/// Adds rows, one after another, and counts them in `at`.
+fn add_rows(
+    alloc: Global,
+    volume: &mut NewVolume,
+    rows: &[PackRow<'_>],
+    at: &mut usize,
+) -> Result<(), Refusal>
+    requires volume { (q : Path) × (v : Volume) × IsAt volume.old q v }
+    requires few { at.old + length rows.now < 2 ^ 64 }
     ensures added { OnOk result (AddsRows rows.now volume.old volume.new) }
-    ensures refused { IfErr result (λ r. RefusesRows rows.now volume.old r) }
+    ensures refused { IfErr result (λ r. RefusesRows rows.now volume.old at.old at.new r) }
 {
     packing_laws();
     'each: for row in rows {
         add_row(alloc, volume, row)?;
+        *at += 1;
     }
     Ok(())
 }
 
-/// A new volume with all rows, the first of which is the root's: it is there, and gets its attributes.
+/// A new volume with all rows, the first of which is the root's: it is there, and gets its attributes. How many of them are added is put
+/// into `at`.
 pub(crate) fn packed_volume(
     alloc: Global,
     size: u32,
     count: u32,
     limits: Limits,
     rows: &[PackRow<'_>],
+    at: &mut usize,
 ) -> Result<NewVolume, Refusal>
     requires geometry { IsGeometry size count }
     requires limits { IsLimits limits }
     ensures packed { IfOk result (λ t. PacksVolume size count limits rows.now t) }
     ensures refused { IfErr result (λ r. (packed : List Packed) → AreRowsOf rows.now packed → RefusesPack size count limits packed r) }
+    ensures row { IfErr result (λ r. (packed : List Packed) → AreRowsOf rows.now packed → RefusesRow size count limits packed at.new r) }
 {
     packing_laws();
+    *at = 0;
     let mut volume = NewVolume::new(alloc, size, count, limits)?;
     let Some((root, others)) = rows.split_first() else {
         return Ok(volume);
     };
     set_root_attributes(alloc, &mut volume, root.attributes)?;
-    add_rows(alloc, &mut volume, others)?;
+    *at = 1;
+    add_rows(alloc, &mut volume, others, at)?;
     Ok(volume)
 }
 
@@ -124,7 +136,8 @@ pub fn pack(alloc: Global, size: u32, count: u32, rows: &[PackRow<'_>]) -> Resul
     ensures packed { IfOk result (λ bytes. (packed : List Packed) → AreRowsOf rows.now packed → IsPacked size count new_limits packed bytes.items) }
     ensures refused { IfErr result (λ r. (packed : List Packed) → AreRowsOf rows.now packed → RefusesPack size count new_limits packed r) }
 {
-    pack_within(alloc, size, count, NEW_LIMITS, rows)
+    let mut at = 0;
+    pack_within(alloc, size, count, NEW_LIMITS, rows, &mut at)
 }
 
 /// A new image of `count` blocks of `size` bytes with what the rows have at their paths: one with these limits that mounts to exactly the
@@ -134,7 +147,8 @@ pub fn pack(alloc: Global, size: u32, count: u32, rows: &[PackRow<'_>]) -> Resul
 /// bytes, that the texts spell paths, each of which comes before all later ones in the order of a mounted image's rows, and that the kinds of
 /// each row's attributes rise strictly. A refusal is what the next of these commands is refused with, with its numbers, once those before it
 /// are carried out: for each row but the root's, to make the directory or to put the file; then to set its attributes, one after another.
-/// `Memory` says only that a growth was refused.
+/// `Memory` says only that a growth was refused. How many rows are added is put into `at`: for any other refusal that is the index of the
+/// row that is refused.
 ///
 /// Source: own.
 pub fn pack_within(
@@ -143,14 +157,16 @@ pub fn pack_within(
     count: u32,
     limits: Limits,
     rows: &[PackRow<'_>],
+    at: &mut usize,
 ) -> Result<Vec<u8>, Refusal>
     requires geometry { IsGeometry size count }
     requires limits { IsLimits limits }
     ensures packed { IfOk result (λ bytes. (packed : List Packed) → AreRowsOf rows.now packed → IsPacked size count limits packed bytes.items) }
     ensures refused { IfErr result (λ r. (packed : List Packed) → AreRowsOf rows.now packed → RefusesPack size count limits packed r) }
+    ensures row { IfErr result (λ r. (packed : List Packed) → AreRowsOf rows.now packed → RefusesRow size count limits packed at.new r) }
 {
     packing_laws();
-    let volume = packed_volume(alloc, size, count, limits, rows)?;
+    let volume = packed_volume(alloc, size, count, limits, rows, at)?;
     let image = volume.finish(alloc)?;
     let _size = image.size();
     Ok(image.into_bytes())

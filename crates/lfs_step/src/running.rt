@@ -208,5 +208,7 @@ fn packed_image(
         return Err(Fault::Image(ImageFault::BadGeometry));
     }
     let journal = empty_journal(alloc, size, count)?;
-    Ok((pack_within(alloc, size, count, limits, rows)?, journal))
+    let mut at = 0;
+    let bytes = pack_within(alloc, size, count, limits, rows, &mut at)?;
+    Ok((bytes, journal))
 }

@@ -4,4 +4,4 @@ use Rattle.lfs_pack.proofs.RowsInTurn.{AreBeingAdded}
 use Rattle.lfs_pack.proofs.packing.add_rows.Given as goal
 
 abbrev pub invariant-each : goal.invariant-each
-invariant-each l = AreBeingAdded l.rows (drop l.row-index l.rows) l.fn.volume l.volume
+invariant-each l = AreBeingAdded l.rows (drop l.row-index l.rows) l.fn.volume l.volume l.fn.at l.at
