@@ -281,8 +281,8 @@ word-bytes : (w : ℕ) (bytes : List ℕ) → length bytes ≡ 8 → ((i : ℕ) 
     × (w / 72057594037927936 % 256 ≡ slice_index_or bytes 7 0)
 word-bytes w bytes len each is =
     let told : w ≡ from_le_bytes w64 (slice_index_or bytes 0 0 ∷ slice_index_or bytes 1 0 ∷ slice_index_or bytes 2 0
-        ∷ slice_index_or bytes 3 0 ∷ slice_index_or bytes 4 0 ∷ slice_index_or bytes 5 0 ∷ slice_index_or bytes 6 0
-        ∷ slice_index_or bytes 7 0 ∷ []) = is ∙ ap (from_le_bytes w64) (eight-are bytes len) in (
+    ∷ slice_index_or bytes 3 0 ∷ slice_index_or bytes 4 0 ∷ slice_index_or bytes 5 0 ∷ slice_index_or bytes 6 0
+    ∷ slice_index_or bytes 7 0 ∷ []) = is ∙ ap (from_le_bytes w64) (eight-are bytes len) in (
       omega (arith, told, each 0, each 1, each 2, each 3, each 4, each 5, each 6, each 7),
       omega (arith, told, each 0, each 1, each 2, each 3, each 4, each 5, each 6, each 7),
       omega (arith, told, each 0, each 1, each 2, each 3, each 4, each 5, each 6, each 7),
@@ -301,8 +301,8 @@ met-behind c w k none = met-byte c w k ∙ ap (λ (x : ℕ). bit_xor (x % 2 ^ 8)
 pub eight-shifted : (k c w : ℕ) (met bytes : List ℕ) (w0 w1 w2 w3 w4 w5 w6 w7 : ℕ) → c < 2 ^ 32 → length bytes ≡ 8
     → ((i : ℕ) → slice_index_or bytes i 0 < 256) → w ≡ from_le_bytes w64 bytes
     → met ≡ bit_xor c w % 256 ∷ bit_xor c w / 256 % 256 ∷ bit_xor c w / 65536 % 256 ∷ bit_xor c w / 16777216 % 256
-        ∷ bit_xor c w / 4294967296 % 256 ∷ bit_xor c w / 1099511627776 % 256 ∷ bit_xor c w / 281474976710656 % 256
-        ∷ bit_xor c w / 72057594037927936 % 256 ∷ []
+    ∷ bit_xor c w / 4294967296 % 256 ∷ bit_xor c w / 1099511627776 % 256 ∷ bit_xor c w / 281474976710656 % 256
+    ∷ bit_xor c w / 72057594037927936 % 256 ∷ []
     → w0 ≡ crc_shifted (k + 7 + 1) (slice_index_or met 0 0)
     → w1 ≡ crc_shifted (k + 6 + 1) (slice_index_or met 1 0)
     → w2 ≡ crc_shifted (k + 5 + 1) (slice_index_or met 2 0)

@@ -192,9 +192,7 @@ pub fn edit(
             Ok(())
         }
         Command::Mv { from, to } => mv(alloc, outline, from, to),
-        Command::SetAttr { path, kind, value } => {
-            set_attr(alloc, outline, path, *kind, value)
-        }
+        Command::SetAttr { path, kind, value } => { set_attr(alloc, outline, path, *kind, value) }
         Command::RmAttr { path, kind } => rm_attr(alloc, outline, path, *kind),
         Command::Grow { count } => {
             grow(outline, *count);

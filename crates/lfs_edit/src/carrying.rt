@@ -178,11 +178,7 @@ fn carry_ready(
 
 /// The pair that leads: that of the part that had the entry at the command's path before, else of the one that has it in the edited
 /// outline. Takes no memory.
-fn leader(
-    before: Option<(u32, u32)>,
-    outline: &Outline,
-    command: &Named<'_>,
-) -> Option<(u32, u32)>
+fn leader(before: Option<(u32, u32)>, outline: &Outline, command: &Named<'_>) -> Option<(u32, u32)>
     ensures { result ≡ option_or before (leading_pair outline.now (named_command command.now)) }
 {
     match before {

@@ -103,7 +103,7 @@ impl Joined {
     /// The directories, the one that goes on as the last of them. Takes memory.
     pub(crate) fn into_directories(self) -> Result<Vec<OutlineDirectory>, AllocError>
         ensures directories { IfOk result (λ all. all.items ≡ self.directories.items ++ as_directory self.parts.items) }
-        {
+    {
         let Joined {
             mut directories,
             parts,
