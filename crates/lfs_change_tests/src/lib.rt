@@ -19,6 +19,8 @@ mod new_images;
 #[cfg(test)]
 mod packing;
 #[cfg(test)]
+mod reaching;
+#[cfg(test)]
 mod weighing;
 #[cfg(test)]
 mod writers;

@@ -22,8 +22,8 @@ fn attributes(alloc: Global) -> Result<Vec<(u8, Vec<u8>)>, AllocError> {
     Ok(attributes)
 }
 
-// a directory, and a file that takes one block beside its entry
-fn rows(attributes: &[(u8, Vec<u8>)]) -> [PackRow<'_>; 3] {
+/// A directory `/d`, and a file `/d/f` that takes one block beside its entry.
+pub(crate) fn rows(attributes: &[(u8, Vec<u8>)]) -> [PackRow<'_>; 3] {
     let root = PackRow {
         path: b"/",
         bytes: None,
@@ -105,7 +105,8 @@ fn file_is_packed_within(alloc: Global) -> bool {
     let Ok(attributes) = attributes(alloc) else {
         return false;
     };
-    match pack_within(alloc, 512, 8, LIMITS, &rows(&attributes)) {
+    let mut at = 0;
+    match pack_within(alloc, 512, 8, LIMITS, &rows(&attributes), &mut at) {
         Ok(bytes) => are_image(alloc, bytes, LIMITS, 3, LISTING),
         Err(_) => false,
     }
@@ -116,15 +117,16 @@ fn rows_are_packed_within_limits(rt: HostRuntime) {
     assert!(rt; file_is_packed_within(rt.alloc()));
 }
 
-// whether a file that is longer than the limit isn't packed
+// whether a file that is longer than the limit isn't packed, and its row is told
 fn longer_is_refused(alloc: Global) -> bool {
     let Ok(attributes) = attributes(alloc) else {
         return false;
     };
     let limits = Limits { file: 64, ..LIMITS };
-    match pack_within(alloc, 512, 8, limits, &rows(&attributes)) {
+    let mut at = 0;
+    match pack_within(alloc, 512, 8, limits, &rows(&attributes), &mut at) {
         Ok(_) => false,
-        Err(refusal) => refusal == Refusal::FileTooLarge,
+        Err(refusal) => refusal == Refusal::FileTooLarge && at == 2,
     }
 }
 
