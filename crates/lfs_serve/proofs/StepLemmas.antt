@@ -15,8 +15,9 @@ use Rattle.lfs_step.specs.Deed.{Deed}
 use Rattle.lfs_step.specs.Outcome.{Answers, Given, SendsText}
 use Rattle.lfs_exchange.specs.declared.step_kind.StepKind.{StepKind}
 use Rattle.lfs_exchange.specs.declared.step_kind.StepKind.TheVariants.{Makes, Asks, Recounts, Changes, Forgets}
-use Rattle.lfs_serve.specs.declared.later.Later.{Later}
-use Rattle.lfs_serve.specs.declared.stop.Stop.{Stop}
+use Rattle.lfs_report.specs.Stop.{stopped_by}
+use Rattle.lfs_report.specs.declared.later.Later.{Later}
+use Rattle.lfs_report.specs.declared.stop.Stop.{Stop}
 use Rattle.lfs_host.specs.Files.{Files, FindsFile, IsTarget, ReadsFile}
 use Rattle.lfs_exchange.specs.StepKind.{kind_of}
 use Rattle.lfs_exchange.specs.Storing.{LeavesFiles, SparesFiles, journal_name}
@@ -26,7 +27,7 @@ use Rattle.lfs_change.specs.Fault.{blames_output}
 use Rattle.lfs_exchange.specs.Handing.{HandedBytes, HandsImage, HandsInput, HandsJournal, IsClaimed, IsHanded, IsNotHanded, IsUnwritten, most_image}
 use Rattle.lfs_book.specs.Book.{most_journal}
 use Rattle.lfs_serve.specs.Later.{later_handed, refused_by}
-use Rattle.lfs_serve.specs.Program.{EndsStep, IsBlamed, IsNotRun, Runs, RunsOn, RunsStep, StopsStep, stopped_by}
+use Rattle.lfs_serve.specs.Program.{EndsStep, IsBlamed, IsNotRun, Runs, RunsOn, RunsStep, StopsStep}
 
 -- ---- the file that a name leads to
 

@@ -4,20 +4,17 @@ use Rattle.std.specs.Prelude.{◌≡◌, ◌⊎◌, ℕ, List, [], Option, Some,
 use Rattle.std.specs.List.{AllZip}
 use Rattle.lfs_fs.specs.Limits.{most_file}
 use Rattle.lfs_command.specs.Command as asked
-use Rattle.lfs_command.specs.declared.refusal.Refusal.TheVariants as refusal
 use Rattle.lfs_history.specs.Meaning.{step_of}
 use Rattle.lfs_history.specs.Taking as change
 use Rattle.lfs_history.specs.Taking.{Do}
 use Rattle.lfs_change.specs.declared.fault.Fault.{Fault}
-use Rattle.lfs_change.specs.declared.fault.Fault.TheVariants as fault
 use Rattle.lfs_step.specs.declared.step.Step.{Step}
 use Rattle.lfs_step.specs.declared.step.Step.TheVariants.{Batch}
 use Rattle.lfs_host.specs.Files.{Files, ReadsFile, ReadsInput}
 use Rattle.lfs_host.specs.Scene.{Scene}
 use Rattle.lfs_exchange.specs.Handing.{IsUnread}
+use Rattle.lfs_report.specs.RefusedLine.{fault_of_line}
 use Rattle.lfs_script.specs.Script.{IsFirstFault, SaysLine, asking_lines}
-use Rattle.lfs_script.specs.declared.line_fault.LineFault.{LineFault}
-use Rattle.lfs_script.specs.declared.line_fault.LineFault.TheVariants.{Memory, BadHex, BadLine}
 use Rattle.lfs_script.specs.declared.script_fault.ScriptFault.{ScriptFault}
 use Rattle.lfs_script.specs.declared.script_line.ScriptLine.{ScriptLine}
 use Rattle.lfs_script.specs.declared.script_step.ScriptStep.{ScriptStep}
@@ -71,12 +68,6 @@ abbrev pub BecomesBatch : Option (Bor (List ℕ)) → Option ℕ → Scene → S
 BecomesBatch file keep scene step = (text : List ℕ) × ReadsScript file scene text × TakesText scene.files keep text step
 
 -- ---- a script that becomes no step
-
--- what a fault of a line is told as
-abbrev pub fault_of_line : LineFault → Fault
-fault_of_line Memory = fault.Refused refusal.Memory
-fault_of_line BadHex = fault.BadHex
-fault_of_line BadLine = fault.BadLine
 
 -- a line of a text says no step: the first that doesn't
 abbrev pub SaysNoSteps : List ℕ → Fault → Type 0

@@ -8,7 +8,7 @@ use Rattle.lfs_exchange.specs.Handing.{HandedBytes}
 use Rattle.lfs_later.specs.Version.{later_version}
 use Rattle.lfs_step.specs.declared.step.Step.{Step}
 use Rattle.lfs_step.specs.declared.step.Step.TheVariants.{Diff}
-use Rattle.lfs_serve.specs.declared.later.Later.{Later}
+use Rattle.lfs_report.specs.declared.later.Later.{Later}
 
 -- those in an image alone
 abbrev pub later_alone : ℕ → List ℕ → Later

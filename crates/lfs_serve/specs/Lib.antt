@@ -1,7 +1,6 @@
 pub mod Later
 pub mod Batching
 pub mod ReadLine
-pub mod RefusedLine
 pub mod Program
 pub mod Extracting
 pub mod HostFolder

@@ -1,11 +1,10 @@
 -- What the program does with the files of a host (own).
-use Rattle.std.specs.Prelude.{ℕ, ◌≡◌, ◌⊎◌, ⊤, Bool, true, false, List, Option, Some, None, Result, Ok, Err}
+use Rattle.std.specs.Prelude.{ℕ, ◌≡◌, ◌⊎◌, ⊤, Bool, true, false, List, Option, Some, None}
 use Rattle.lfs_change.specs.declared.fault.Fault.{Fault}
 use Rattle.lfs_change.specs.declared.fault.Fault.TheVariants.{CannotWrite}
 use Rattle.lfs_change.specs.declared.outcome.Outcome.{Outcome}
 use Rattle.lfs_request.specs.declared.request.Request.{Request}
 use Rattle.lfs_step.specs.declared.step.Step.{Step}
-use Rattle.lfs_serve.specs.declared.stop.Stop.{Stop}
 use Rattle.lfs_request.specs.declared.task.Task.{Task}
 use Rattle.lfs_request.specs.declared.task.Task.TheVariants as task
 use Rattle.lfs_request.specs.declared.task.Task.TheVariants.{Extract, Pack, Batch}
@@ -96,11 +95,6 @@ abbrev pub EndsTask : Task → Bool → ℕ → Option ℕ → List ℕ → Scen
 EndsTask (task.Step step) older size keep name old new fault = EndsStep step older size keep name old new fault
 EndsTask (Extract dir) older size keep name old new fault = EndsExtract older size name dir.now old new fault
 EndsTask task older size keep name old new fault = EndsReading task older size keep name old new fault
-
--- the fault that a run stopped with, if any
-abbrev pub stopped_by : {T : Type 0} → Result T Stop → Option Fault
-stopped_by (Ok value) = None
-stopped_by (Err stop) = Some stop.fault
 
 -- nothing is under the name of an image that is to be new
 abbrev pub IsSpared : Request → Scene → Type 0

@@ -1,28 +1,15 @@
 //! Commits of later disk versions in what is read as an image.
 
 ghost use Rattle.std.specs.Prelude.{◌≡◌};
+ghost use Rattle.lfs_report.specs.Stop.{stopped_by};
 ghost use Rattle.lfs_serve.specs.Later.{later_alone, later_handed, refused_by};
-ghost use Rattle.lfs_serve.specs.Program.{stopped_by};
 
-use crate::line::say_version;
-use crate::stated::Statement;
-use crate::stop::Stop;
 use lfs_block::MountFault;
 use lfs_change::OtherFault;
 use lfs_exchange::Handed;
-use lfs_host::Host;
 use lfs_later::later_version;
-use lfs_request::{Request, Task};
+use lfs_report::{Later, Statement, Stop};
 use lfs_step::{Fault, Step};
-
-/// The disk versions of commits that aren't read, where such stand in an image, and in the one that it is compared with.
-#[derive(Clone, Copy)]
-pub struct Later {
-    /// In the image.
-    pub image: Option<u32>,
-    /// In the other one.
-    pub other: Option<u32>,
-}
 
 /// Those in an image alone, of blocks of `size` bytes. Takes no memory.
 pub(crate) fn later_alone(size: u32, bytes: &[u8]) -> Later
@@ -75,42 +62,4 @@ fn stop_of(fault: Fault, version: u32) -> Stop
         statement: Some(Statement::Later(version)),
         count: None,
     }
-}
-
-/// Tells of them on standard error. Takes no memory.
-pub(crate) fn tell_later<H: Host>(host: &mut H, request: &Request<'_>, later: Later)
-    ensures kept { H.known host.new ≡ H.known host.old }
-{
-    if let Some(version) = later.image {
-        tell_version(host, request.image, version);
-    }
-    if let (Some(version), Task::Step(Step::Diff { other, .. })) = (later.other, request.task) {
-        tell_version(host, other, version);
-    }
-}
-
-/// Tells of those in the image of this name.
-pub(crate) fn tell_version<H: Host>(host: &mut H, image: &str, version: u32)
-    ensures kept { H.known host.new ≡ H.known host.old }
-{
-    say_version(
-        host,
-        image,
-        "a later commit of disk version ",
-        version,
-        " stands in it, which is not read",
-    );
-}
-
-/// Tells that a device has changed the image of this name, for which it is refused. Takes no memory.
-pub(crate) fn tell_changed<H: Host>(host: &mut H, image: &str, version: u32)
-    ensures kept { H.known host.new ≡ H.known host.old }
-{
-    say_version(
-        host,
-        image,
-        "a device has changed it with disk version ",
-        version,
-        ", which is not read; --older goes on with the state before that",
-    );
 }

@@ -1,18 +1,15 @@
 //! How many blocks a packed image gets.
 
-ghost use Rattle.std.specs.Prelude.{◌≡◌, IfOk};
+ghost use Rattle.std.specs.Prelude.{IfOk};
 ghost use Rattle.lfs_fs.specs.Superblock.{IsLimits};
 ghost use Rattle.lfs_request.specs.Asking.{IsExtent};
 ghost use Rattle.lfs_request.specs.declared.extent.Extent.TheVariants.{Least};
 
-use crate::stated::Statement;
-use crate::stop::Stop;
 use lfs_block::geometry_ok;
 use lfs_edit::Refusal;
 use lfs_fs::Limits;
 use lfs_pack::{PackRow, least_count, most_count};
 use lfs_request::Extent;
-use lfs_step::Fault;
 use std::alloc::{AllocError, Global};
 
 /// The least number of blocks of an image.
@@ -48,41 +45,5 @@ fn least(alloc: Global, size: u32, limits: Limits, rows: &[PackRow<'_>]) -> Resu
         Ok(count) => Ok(count),
         Err(Refusal::Memory) => Err(AllocError),
         Err(_) => Ok(most_count(size)),
-    }
-}
-
-/// Why packing a folder ended early; where it has no room, with how many blocks it needs. The caller owes limits that images may state.
-/// Takes memory.
-pub(crate) fn with_need(
-    alloc: Global,
-    size: u32,
-    limits: Limits,
-    rows: &[PackRow<'_>],
-    stop: Stop,
-) -> Stop
-    requires { IsLimits limits }
-    ensures { result.fault ≡ stop.fault }
-{
-    let Fault::Refused(Refusal::NoSpace { .. }) = stop.fault else {
-        return stop;
-    };
-    Stop {
-        fault: stop.fault,
-        statement: need_of(alloc, size, limits, rows),
-        count: stop.count,
-    }
-}
-
-/// How many blocks rows need, as it is told.
-fn need_of(alloc: Global, size: u32, limits: Limits, rows: &[PackRow<'_>]) -> Option<Statement>
-    requires { IsLimits limits }
-{
-    if !geometry_ok(size, MIN_BLOCK_COUNT) {
-        return None;
-    }
-    match least_count(alloc, size, limits, rows) {
-        Ok(count) => Some(Statement::Need(Some(count))),
-        Err(Refusal::NoSpace { .. }) => Some(Statement::Need(None)),
-        Err(_) => None,
     }
 }

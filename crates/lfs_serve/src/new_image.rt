@@ -4,13 +4,12 @@ ghost use Rattle.std.specs.Prelude.{◌≡◌, Some};
 ghost use Rattle.lfs_host.specs.Scene.{KeepsAll};
 ghost use Rattle.lfs_serve.specs.Program.{IsBlamed};
 
-use crate::stated::Statement;
-use crate::stop::Stop;
 use lfs_block::{Image, MAX_IMAGE_LENGTH};
 use lfs_book::MAX_JOURNAL_LENGTH;
 use lfs_exchange::names_of;
 use lfs_host::Host;
 use lfs_journal::Session;
+use lfs_report::{Statement, Stop};
 use lfs_step::Fault;
 use std::alloc::Global;
 

@@ -8,12 +8,11 @@ ghost use Rattle.lfs_host.specs.Scene.{KeepsAll};
 ghost use Rattle.lfs_serve.specs.Batching.{HandsContents};
 ghost use Rattle.lfs_serve.specs.ReadLine.{IsReadAs, move_of_line};
 
-use crate::refused_line::stop_at;
-use crate::stop::Stop;
 use lfs_command::Command;
 use lfs_exchange::read_contents;
 use lfs_history::Move;
 use lfs_host::Host;
+use lfs_report::{Stop, stop_at};
 use lfs_script::{ScriptLine, ScriptStep};
 use std::alloc::{AllocError, Global};
 

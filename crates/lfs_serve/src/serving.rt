@@ -8,25 +8,22 @@ ghost use Rattle.lfs_request.specs.Asking.{IsTaskInRange};
 ghost use Rattle.lfs_step.specs.Deed.{IsStepInRange, deed_of};
 ghost use Rattle.lfs_step.specs.Outcome.{Answers, SendsText, given};
 ghost use Rattle.lfs_host.specs.Scene.{KeepsInput};
-ghost use Rattle.lfs_serve.specs.Program.{EndsAsked, EndsRequest, EndsStep, EndsTask, IsBlamed, RunsOn, StepLeavesRest, TaskLeavesRest, stopped_by};
+ghost use Rattle.lfs_report.specs.Stop.{stopped_by};
+ghost use Rattle.lfs_serve.specs.Program.{EndsAsked, EndsRequest, EndsStep, EndsTask, IsBlamed, RunsOn, StepLeavesRest, TaskLeavesRest};
 
 use crate::batching::batched;
-use crate::beside::Beside;
 use crate::digits::{kind_in, value_in};
 use crate::extracting::extracted;
 use crate::host_folder::{folder_of, pack_rows};
-use crate::later::{later_handed, must_be_read, tell_later};
-use crate::least::{counted, with_need};
+use crate::later::{later_handed, must_be_read};
+use crate::least::counted;
 use crate::new_image::with_new_image;
-use crate::refused_row::with_row;
-use crate::stated::Sight;
-use crate::stop::Stop;
-use crate::stopping::stop_of_run;
-use crate::telling::tell_end;
-use crate::within::tell_within;
 use lfs_exchange::{Handed, Output, aimed, hand_over, kind_of, spare, stored};
 use lfs_fs::Limits;
 use lfs_host::Host;
+use lfs_report::{
+    Beside, Stop, other_sight, stop_of_run, tell_end, tell_later, tell_within, with_need, with_row,
+};
 use lfs_request::{Extent, Request, Task};
 use lfs_step::{Outcome, Step, run};
 use std::alloc::Global;
@@ -250,13 +247,5 @@ fn taken<H: Host>(
     match outcome.fault {
         None => Ok(outcome),
         Some(fault) => Err(stop_of_run(alloc, size, step, fault, outcome, other)),
-    }
-}
-
-/// What is seen of the image that another is compared with, of which a step reads these bytes.
-fn other_sight(step: &Step<'_>, input: &[u8]) -> Sight {
-    match *step {
-        Step::Diff { size, .. } => Sight::of(size, input),
-        _ => Sight::none(),
     }
 }

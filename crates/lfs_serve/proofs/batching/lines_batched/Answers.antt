@@ -8,7 +8,8 @@ use Rattle.lfs_history.specs.Meaning.{OnBytes, step_of}
 use Rattle.lfs_history.specs.Taking.{KeepsInRange}
 use Rattle.lfs_host.specs.Scene.{Scene}
 use Rattle.lfs_step.specs.declared.step.Step.TheVariants.{Batch}
-use Rattle.lfs_serve.specs.Program.{EndsStep, stopped_by}
+use Rattle.lfs_report.specs.Stop.{stopped_by}
+use Rattle.lfs_serve.specs.Program.{EndsStep}
 use Rattle.lfs_serve.specs.ReadLine.{move_of_line}
 use Rattle.lfs_serve.specs.declared.read_line.ReadLine.{ReadLine}
 use Rattle.lfs_serve.proofs.BatchingLemmas.{all_in_range, takes_lines}

@@ -7,7 +7,7 @@ use Rattle.lfs_host.specs.Scene.{Scene}
 use Rattle.lfs_script.specs.Script.{SaysLine, asking_lines}
 use Rattle.lfs_script.specs.declared.script_line.ScriptLine.{ScriptLine}
 use Rattle.lfs_serve.specs.Batching.{SaysNoSteps, TakesLines, TakesText}
-use Rattle.lfs_serve.specs.Program.{stopped_by}
+use Rattle.lfs_report.specs.Stop.{stopped_by}
 use Rattle.lfs_serve.proofs.BatchingLemmas.{ends_by}
 use Rattle.lfs_serve.proofs.batching.text_batched.Goals as goal
 

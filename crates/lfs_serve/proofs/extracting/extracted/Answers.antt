@@ -1,7 +1,7 @@
 -- Nothing is made where the image's file isn't found.
 use Rattle.std.proofs.lemmas.Result.{err_from_is_err_and}
 use Rattle.lfs_host.specs.Scene.{Scene}
-use Rattle.lfs_serve.specs.Program.{stopped_by}
+use Rattle.lfs_report.specs.Stop.{stopped_by}
 use Rattle.lfs_serve.proofs.ExtractingLemmas.{file_unread, unfound_unread}
 use Rattle.lfs_serve.proofs.StepLemmas.{stopped_at}
 use Rattle.lfs_serve.proofs.extracting.extracted.Goals as goal

@@ -1,7 +1,8 @@
 -- The name of an image that is to be new is taken, or the task is done.
 use Rattle.std.proofs.Common.{subst, inl}
 use Rattle.lfs_host.specs.Scene.{Scene}
-use Rattle.lfs_serve.specs.Program.{EndsTask, stopped_by}
+use Rattle.lfs_report.specs.Stop.{stopped_by}
+use Rattle.lfs_serve.specs.Program.{EndsTask}
 use Rattle.lfs_serve.proofs.serving.asked.Goals as goal
 
 pub returns-clause-ended : goal.returns-clause-ended

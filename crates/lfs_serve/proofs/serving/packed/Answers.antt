@@ -9,7 +9,8 @@ use Rattle.lfs_pack.specs.declared.pack_row.PackRow.{PackRow}
 use Rattle.lfs_request.specs.Asking.{IsExtent}
 use Rattle.lfs_step.specs.declared.step.Step.TheVariants.{Pack}
 use Rattle.lfs_fs.specs.Limits.{most_file}
-use Rattle.lfs_serve.specs.Program.{EndsStep, stopped_by}
+use Rattle.lfs_report.specs.Stop.{stopped_by}
+use Rattle.lfs_serve.specs.Program.{EndsStep}
 use Rattle.lfs_serve.proofs.HostFolderLemmas.{packs, wants_memory}
 use Rattle.lfs_serve.proofs.StepLemmas.{step_from, stopped_at}
 use Rattle.lfs_serve.proofs.serving.packed.Goals as goal

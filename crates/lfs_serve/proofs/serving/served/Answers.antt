@@ -1,6 +1,7 @@
 use Rattle.std.proofs.Common.{sym, subst, ◌∙◌}
 use Rattle.lfs_host.specs.Scene.{Scene}
-use Rattle.lfs_serve.specs.Program.{EndsAsked, TaskLeavesRest, stopped_by}
+use Rattle.lfs_report.specs.Stop.{stopped_by}
+use Rattle.lfs_serve.specs.Program.{EndsAsked, TaskLeavesRest}
 use Rattle.lfs_serve.proofs.serving.served.Goals as goal
 
 pub returns : goal.returns

@@ -112,7 +112,8 @@ returns-in_err-stored-clause-ended g c =
     let runs : RunsStep step older size keep name old by_stored None outcome =
     step_ran step older size keep name old by_stored h None
     (g.H.Known.known c.hand_over.new.host).printed by_taken.printed outcome is none c.in-Ok.ensures.ran.1 silent c.stored.ensures.kept.1 tt in
-    let spares = spares_at c.in_err-stored.field-0.0 c.kind_of-kind.result (kind_of step) by_stored.has_refused_place old.files by_taken.files by_stored.files name target c.as_str-2.result.now
+    let spares = spares_at c.in_err-stored.field-0.0 c.kind_of-kind.result (kind_of step) by_stored.has_refused_place old.files
+    by_taken.files by_stored.files name target c.as_str-2.result.now
     outcome c.in-Ok.outcome c.in_ok-target.ensures.target (search rules) files c.kind_of-kind.ensures
     c.in-Ok.ensures.ran.2 c.in_err-stored.ensures.files in
     ends_behind step older size keep name old by_stored _ c.in_err-stored.field-0.0 outcome (search rules)

@@ -2,7 +2,7 @@
 
 ghost use Rattle.std.specs.Prelude.{◌≡◌, Some};
 ghost use Rattle.lfs_change.specs.Fault.{status_of};
-ghost use Rattle.lfs_serve.specs.Program.{stopped_by};
+ghost use Rattle.lfs_report.specs.Stop.{stopped_by};
 
 use crate::finding::Finding;
 use crate::last_name::last_name;
@@ -34,8 +34,11 @@ const MAX_BLOCK_COUNT: usize = 65_536;
 /// What is told of the two limits.
 const COUNT_LIMITS: &str = "an image has 2 to 65536 blocks, this one ";
 
-/// Tells how a request ended, and answers the status; `text` is what a statement speaks of.
-pub(crate) fn tell_end<H: Host>(
+/// Tells on standard error how a request ended, and answers the status of that end; `text` is what its statement speaks of. Takes no
+/// memory.
+///
+/// Source: own.
+pub fn tell_end<H: Host>(
     host: &mut H,
     request: &Request<'_>,
     end: &Result<(), Stop>,

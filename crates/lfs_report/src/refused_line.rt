@@ -1,8 +1,7 @@
 //! The line of a script for which none of its steps are done.
 
 ghost use Rattle.std.specs.Prelude.{◌≡◌};
-ghost use Rattle.lfs_serve.specs.Batching.{fault_of_line};
-ghost use Rattle.lfs_serve.specs.RefusedLine.{line_refused, numbered};
+ghost use Rattle.lfs_report.specs.RefusedLine.{fault_of_line, line_refused, numbered};
 
 use crate::beside::Beside;
 use crate::stated::Statement;
@@ -24,7 +23,9 @@ fn fault_of_line(fault: LineFault) -> Fault
 }
 
 /// Why the line of a number is refused, with what is wrong in it; want of memory is of no line. Takes no memory.
-pub(crate) fn stop_at(number: usize, fault: Fault, flaw: Option<Flaw>) -> Stop
+///
+/// Source: own.
+pub fn stop_at(number: usize, fault: Fault, flaw: Option<Flaw>) -> Stop
     ensures fault { result.fault ≡ fault }
     ensures line { result.statement ≡ line_refused number fault flaw }
 {
@@ -40,7 +41,9 @@ pub(crate) fn stop_at(number: usize, fault: Fault, flaw: Option<Flaw>) -> Stop
 }
 
 /// Why a line says no step. Takes no memory.
-pub(crate) fn stop_of_line(first: ScriptFault) -> Stop
+///
+/// Source: own.
+pub fn stop_of_line(first: ScriptFault) -> Stop
     ensures fault { result.fault ≡ fault_of_line first.fault }
     ensures line { result.statement ≡ line_refused first.number (fault_of_line first.fault) first.flaw }
 {
@@ -48,7 +51,9 @@ pub(crate) fn stop_of_line(first: ScriptFault) -> Stop
 }
 
 /// Why steps of lines are refused; where one is, with the number of its line. Takes no memory.
-pub(crate) fn with_number(lines: &[ScriptLine], stop: Stop) -> Stop
+///
+/// Source: own.
+pub fn with_number(lines: &[ScriptLine], stop: Stop) -> Stop
     ensures fault { result.fault ≡ stop.fault }
     ensures line { result.statement ≡ numbered lines.now stop.statement }
 {
@@ -66,7 +71,9 @@ pub(crate) fn with_number(lines: &[ScriptLine], stop: Stop) -> Stop
 }
 
 /// Why a script is refused; where a line of its text is, with that in `beside`. Takes memory, and tells of no line where there is none.
-pub(crate) fn with_line(alloc: Global, text: &[u8], beside: &mut Beside, stop: Stop) -> Stop
+///
+/// Source: own.
+pub fn with_line(alloc: Global, text: &[u8], beside: &mut Beside, stop: Stop) -> Stop
     ensures { result.fault ≡ stop.fault }
 {
     let Some(Statement::Line(number, _)) = stop.statement else {

@@ -6,8 +6,10 @@ use crate::line::say_words;
 use lfs_host::Host;
 use lfs_request::{Request, Task};
 
-/// Tells of an image that stands in the folder that is packed into it. Takes no memory.
-pub(crate) fn tell_within<H: Host>(host: &mut H, request: &Request<'_>)
+/// Tells on standard error of an image that stands in the folder that is packed into it. Takes no memory.
+///
+/// Source: own.
+pub fn tell_within<H: Host>(host: &mut H, request: &Request<'_>)
     ensures kept { H.known host.new ≡ H.known host.old }
 {
     let Task::Pack { dir, .. } = request.task else {

@@ -4,6 +4,8 @@ use crate::later::Later;
 use std::alloc::Global;
 
 /// What is kept beside the end of a run.
+///
+/// Source: own.
 #[derive(Drop)]
 pub struct Beside {
     /// Commits of later disk versions in what was read as an image.
@@ -14,7 +16,9 @@ pub struct Beside {
 
 impl Beside {
     /// Nothing yet. Takes no memory.
-    pub(crate) fn new(alloc: Global) -> Beside {
+    ///
+    /// Source: own.
+    pub fn new(alloc: Global) -> Beside {
         Beside {
             later: Later {
                 image: None,

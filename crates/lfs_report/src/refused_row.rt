@@ -23,9 +23,11 @@ const TAGS_LEN: usize = 8;
 /// The bytes of a struct of two words.
 const WORDS_LEN: usize = 8;
 
-/// Why packing a folder ended early; where that is for one of its rows, with what is said of it, and with the text of its path in `beside`.
-/// Takes memory.
-pub(crate) fn with_row(
+/// Why packing a folder into blocks of `size` bytes ended early; where that is for one of its rows, with what is said of it, and with the
+/// text of its path in `beside`. Takes memory, and tells of no row where it is refused.
+///
+/// Source: own.
+pub fn with_row(
     alloc: Global,
     size: u32,
     limits: Limits,

@@ -14,8 +14,10 @@ use lfs_history::StepFault;
 use lfs_step::{Fault, Outcome, Step};
 use std::alloc::Global;
 
-/// Why an image was refused, with what it states. Takes no memory.
-pub(crate) fn stop_of_image(fault: Fault, size: u32, bytes: &[u8]) -> Stop
+/// Why bytes were refused as an image of blocks of `size` bytes, with what they state. Takes no memory.
+///
+/// Source: own.
+pub fn stop_of_image(fault: Fault, size: u32, bytes: &[u8]) -> Stop
     ensures { result.fault ≡ fault }
 {
     Stop {
@@ -25,9 +27,12 @@ pub(crate) fn stop_of_image(fault: Fault, size: u32, bytes: &[u8]) -> Stop
     }
 }
 
-/// Why a step that was run ended early, with what its image states, what is known of its path there, or what its journal has; `other` is
-/// what is seen of the image that the first is compared with. Takes memory.
-pub(crate) fn stop_of_run(
+/// Why a step that was run on blocks of `size` bytes ended early, with what its image states, what is known of its path there, or what its
+/// journal has; `other` is what is seen of the image that the first is compared with. Takes memory, and tells of nothing more where it is
+/// refused.
+///
+/// Source: own.
+pub fn stop_of_run(
     alloc: Global,
     size: u32,
     step: &Step<'_>,
@@ -47,6 +52,16 @@ pub(crate) fn stop_of_run(
         fault,
         statement,
         count,
+    }
+}
+
+/// What is seen of the image that another is compared with, of which a step reads these bytes. Takes no memory.
+///
+/// Source: own.
+pub fn other_sight(step: &Step<'_>, input: &[u8]) -> Sight {
+    match *step {
+        Step::Diff { size, .. } => Sight::of(size, input),
+        _ => Sight::none(),
     }
 }
 
@@ -77,8 +92,10 @@ fn is_of_batch(step: &Step<'_>, fault: Fault) -> bool {
     }
 }
 
-/// Why a folder wasn't made of an image, with what that states. Takes memory.
-pub(crate) fn stop_of_extracting(alloc: Global, fault: Fault, image: Image) -> Stop
+/// Why a folder wasn't made of an image, with what that states. Takes memory, and tells of nothing more where it is refused.
+///
+/// Source: own.
+pub fn stop_of_extracting(alloc: Global, fault: Fault, image: Image) -> Stop
     ensures { result.fault ≡ fault }
 {
     let statement = match fault {

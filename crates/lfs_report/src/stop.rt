@@ -5,6 +5,8 @@ use lfs_step::Fault;
 use std::alloc::{AllocError, AllocFailed};
 
 /// Why a run ends without having done what it was asked for, with what is told of it beside.
+///
+/// Source: own.
 #[derive(Clone, Copy)]
 pub struct Stop {
     /// The fault.

@@ -25,6 +25,8 @@ pub struct Stated {
 }
 
 /// What is seen of bytes that are read as an image, whatever they are.
+///
+/// Source: own.
 #[derive(Clone, Copy)]
 pub struct Sight {
     /// The size of a block, in bytes.
@@ -73,6 +75,8 @@ pub enum Place {
 }
 
 /// What is told behind a fault.
+///
+/// Source: own.
 #[derive(Clone, Copy)]
 pub enum Statement {
     /// What an image states somewhere.

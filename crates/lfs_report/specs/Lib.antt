@@ -1,0 +1,2 @@
+pub mod RefusedLine
+pub mod Stop

@@ -1,0 +1,34 @@
+//! How a request's end is told: its status, the fault with its number, and lines of what more is known of it.
+#![tactic(auto)]
+
+mod beside;
+mod finding;
+mod last_name;
+mod later;
+mod line;
+mod need;
+mod no_path;
+mod path_note;
+mod refused_line;
+mod refused_row;
+mod shown;
+mod stated;
+mod step_paths;
+mod stop;
+mod stopping;
+mod superblock;
+mod telling;
+mod told_digits;
+mod told_line;
+mod within;
+
+pub use beside::Beside;
+pub use later::{Later, tell_later};
+pub use need::with_need;
+pub use refused_line::{stop_at, stop_of_line, with_line, with_number};
+pub use refused_row::with_row;
+pub use stated::{Sight, Statement};
+pub use stop::Stop;
+pub use stopping::{other_sight, stop_of_extracting, stop_of_image, stop_of_run};
+pub use telling::tell_end;
+pub use within::tell_within;
