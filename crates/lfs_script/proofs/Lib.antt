@@ -2,3 +2,4 @@ pub mod NumberLemmas
 pub mod StepLemmas
 pub mod WordLemmas
 pub mod ScriptLemmas
+pub mod SaidLemmas

@@ -1,8 +1,9 @@
 -- The step that a line says (own).
 use Rattle.std.specs.Prelude.{◌≡◌, ◌==◌, ⊤, ℕ, Bool, true, Some, List, [], ◌∷◌}
+use Rattle.lfs_history.specs.declared.moves.Move.{Move}
+use Rattle.lfs_history.specs.declared.source.Source.{Source}
 use Rattle.lfs_script.specs.Words.{words_of}
 use Rattle.lfs_script.specs.Steps.{HaveBadDigits, Says}
-use Rattle.lfs_script.specs.declared.script_step.ScriptStep.{ScriptStep}
 use Rattle.lfs_script.specs.declared.line_fault.LineFault.{LineFault}
 use Rattle.lfs_script.specs.declared.line_fault.LineFault.TheVariants.{Memory, BadHex, BadLine}
 
@@ -12,12 +13,12 @@ is_passed_over [] = true
 is_passed_over (first ∷ rest) = first == 35
 
 -- a line says a step, by its words
-abbrev pub LineSays : List ℕ → ScriptStep → Type 0
+abbrev pub LineSays : List ℕ → Move Source → Type 0
 LineSays line step = (words : List (List ℕ)) × (words_of line ≡ Some words) × Says words step
 
 -- a line says no step
 abbrev pub LineSaysNone : List ℕ → Type 0
-LineSaysNone line = (step : ScriptStep) → LineSays line step → ⊥
+LineSaysNone line = (step : Move Source) → LineSays line step → ⊥
 
 -- the words of a line are those of an attribute's step, but for digits that spell nothing
 abbrev pub LineHasBadDigits : List ℕ → Type 0

@@ -1,41 +1,71 @@
-//! The steps that a script asks for.
+//! Scripts, their lines taken apart into words.
 
-ghost use Rattle.std.specs.Prelude.{◌≡◌, IfErr, IfOk, OnOk, false};
-ghost use Rattle.std.specs.List.{AllZip};
+ghost use Rattle.std.specs.Prelude.{◌≡◌, IfErr, OnErr, OnOk, false};
 ghost use Rattle.std.specs.Option.{option_map};
 ghost use Rattle.lfs_script.specs.Flaws.{known_flaw};
 ghost use Rattle.lfs_script.specs.Lines.{IsLineFault, is_passed_over};
-ghost use Rattle.lfs_script.specs.Script.{IsFirstFault, SaysLine, TakesLine, asking_lines, line_of};
+ghost use Rattle.lfs_script.specs.Script.{SplitsLine, line_of};
 
 use crate::flaws::flaw_of;
 use crate::line_fault::LineFault;
-use crate::lines::{is_passed_over, step_of};
+use crate::line_words::LineWords;
+use crate::lines::is_passed_over;
 use crate::script_fault::ScriptFault;
-use crate::script_line::ScriptLine;
+use crate::words::words_of;
 use bstr::ByteSlice;
 use std::alloc::Global;
+use std::marker::Model;
 
-/// Puts what a line of this number asks for behind the rest, if it isn't passed over.
-fn take_line(
+/// A script, its lines taken apart into words. Its meaning is its text.
+///
+/// Source: own.
+#[derive(Drop)]
+pub struct Script<'a> {
+    /// The text.
+    text: &'a [u8],
+    /// The lines that aren't passed over, up to the first whose bytes are no words.
+    pub(crate) lines: Vec<LineWords<'a>>,
+    /// That line, and what is wrong in it.
+    pub(crate) fault: Option<ScriptFault>,
+}
+
+impl<'a> Model for Script<'a> {
+    ghost use Rattle.std.specs.Prelude.{ℕ, List};
+    ghost use Rattle.lfs_script.specs.Script.{AreSplit};
+
+    ghost Value = { List ℕ };
+
+    ghost view = { λ s. s.text.now };
+
+    ghost invariant = { λ s. AreSplit s.text.now s.lines.items s.fault };
+}
+
+/// Puts a line of this number with its words behind the rest, if it isn't passed over.
+fn take_line<'a>(
     alloc: Global,
     number: usize,
-    line: &[u8],
-    said: &mut Vec<ScriptLine>,
+    line: &'a [u8],
+    lines: &mut Vec<LineWords<'a>>,
 ) -> Result<(), LineFault>
-    ensures taken { OnOk result (TakesLine (number, line.now) said.old.items said.new.items) }
+    ensures taken { OnOk result (SplitsLine (number, line.now) lines.old.items lines.new.items) }
     ensures asks { IfErr result (λ _. is_passed_over line.now ≡ false) }
     ensures refused { IfErr result (λ fault. IsLineFault line.now fault) }
+    ensures unchanged { OnErr result (lines.new.items ≡ lines.old.items) }
 {
     if is_passed_over(line) {
         return Ok(());
     }
-    let step = step_of(alloc, line)?;
-    said.push(ScriptLine { number, step })?;
+    let words = words_of(alloc, line)?;
+    lines.push(LineWords {
+        number,
+        line,
+        words,
+    })?;
     Ok(())
 }
 
 /// Where a line of this number says no step, and what is wrong in it. `Memory` too where a growth was refused.
-fn fault_at(alloc: Global, number: usize, line: &[u8], fault: LineFault) -> ScriptFault
+pub(crate) fn fault_at(alloc: Global, number: usize, line: &[u8], fault: LineFault) -> ScriptFault
     requires { IsLineFault line.now fault }
     ensures number { result.number ≡ number }
     ensures refused { IsLineFault line.now result.fault }
@@ -62,24 +92,26 @@ fn fault_at(alloc: Global, number: usize, line: &[u8], fault: LineFault) -> Scri
     }
 }
 
-/// What the lines of a script ask for, in their order, and none of those that are empty or begin with `#`. A fault at the
-/// first that says no step, with what is wrong in it and at which column: `BadHex` where only the digits of an attribute's kind
-/// or value spell nothing, `BadLine` otherwise; `Memory` says only that a growth was refused.
+/// A text as a script. Takes memory, for the words of its lines; that it was refused is told where the steps are asked for.
 ///
 /// Source: own.
-pub fn script_lines(alloc: Global, text: &[u8]) -> Result<Vec<ScriptLine>, ScriptFault>
-    ensures lines { IfOk result (λ lines. AllZip SaysLine (asking_lines text.now) lines.items) }
-    ensures refused { IfErr result (λ fault. IsFirstFault text.now fault) }
+pub fn script_of<'a>(alloc: Global, text: &'a [u8]) -> Script<'a>
+    ensures { result ≡ text.now }
 {
-    let mut said = Vec::new(alloc);
+    let mut lines = Vec::new(alloc);
     let mut number = 0;
     for line in text.lines() {
         number += 1;
-        if let Err(fault) = take_line(alloc, number, line, &mut said) {
-            return Err(fault_at(alloc, number, line, fault));
+        if let Err(fault) = take_line(alloc, number, line, &mut lines) {
+            let fault = Some(fault_at(alloc, number, line, fault));
+            return Script { text, lines, fault };
         }
     }
-    Ok(said)
+    Script {
+        text,
+        lines,
+        fault: None,
+    }
 }
 
 /// The line of a text that has this number, from 1 on, without what ends it; `None` where there is none. Takes no memory.

@@ -1,14 +1,14 @@
 //! A line of a script.
 
-use crate::script_step::ScriptStep;
+use lfs_history::{Move, Source};
 
 /// A line of a script that asks for a step.
 ///
 /// Source: own.
 #[derive(Drop)]
-pub struct ScriptLine {
+pub struct ScriptLine<'a> {
     /// The line's number, from 1 on.
     pub number: usize,
     /// The step that it asks for.
-    pub step: ScriptStep,
+    pub step: Move<'a, Source<'a>>,
 }

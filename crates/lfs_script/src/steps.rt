@@ -1,13 +1,15 @@
 //! The step that words say.
 
-ghost use Rattle.std.specs.Prelude.{◌≡◌, ◌↔◌, ◌∷◌, [], IfErr, IfOk, IsTrue, map};
-ghost use Rattle.lfs_script.specs.Steps.{IsFault, Says};
+ghost use Rattle.std.specs.Prelude.{◌≡◌, ◌↔◌, ◌∷◌, [], ℕ, Option, IfErr, IfOk, IsTrue, map};
+ghost use Rattle.lfs_script.specs.Steps.{IsFault, Keeps, Says, SaysCommand};
 
 use crate::line_fault::LineFault;
 use crate::number::number_of;
-use crate::script_step::ScriptStep;
+use lfs_command::Command;
 use lfs_digits::{byte_of, bytes_of};
+use lfs_history::{Move, Source};
 use std::alloc::Global;
+use std::str::from_utf8;
 
 /// Whether a word is this one.
 fn is_word(word: &[u8], other: &str) -> bool
@@ -17,33 +19,34 @@ fn is_word(word: &[u8], other: &str) -> bool
 }
 
 /// The step that a verb alone says.
-fn verb_alone(verb: &[u8]) -> Result<ScriptStep, LineFault>
+fn verb_alone<'a>(verb: &[u8]) -> Result<Move<'a, Source<'a>>, LineFault>
     ensures says { IfOk result (λ step. Says (verb.now ∷ []) step) }
+    ensures keep { IfOk result (λ step. (keep : Option ℕ) → Keeps keep step) }
     ensures refused { IfErr result (λ fault. IsFault (verb.now ∷ []) fault) }
 {
     if is_word(verb, "undo") {
-        Ok(ScriptStep::Undo)
+        Ok(Move::Undo { steps: 1 })
     } else if is_word(verb, "redo") {
-        Ok(ScriptStep::Redo)
+        Ok(Move::Redo { steps: 1 })
     } else if is_word(verb, "forget") {
-        Ok(ScriptStep::Forget)
+        Ok(Move::Forget)
     } else {
         Err(LineFault::BadLine)
     }
 }
 
-/// The step that a verb says with one word behind it.
-fn with_one(verb: &[u8], first: Vec<u8>) -> Result<ScriptStep, LineFault>
-    ensures says { IfOk result (λ step. Says (verb.now ∷ first.items ∷ []) step) }
-    ensures refused { IfErr result (λ fault. IsFault (verb.now ∷ first.items ∷ []) fault) }
+/// The command that a verb says with one word behind it.
+fn with_one<'a>(verb: &[u8], first: &'a [u8]) -> Result<Command<&'a [u8], Source<'a>>, LineFault>
+    ensures says { IfOk result (λ command. SaysCommand (verb.now ∷ first.now ∷ []) command) }
+    ensures refused { IfErr result (λ fault. IsFault (verb.now ∷ first.now ∷ []) fault) }
 {
     if is_word(verb, "mkdir") {
-        Ok(ScriptStep::Mkdir { path: first })
+        Ok(Command::Mkdir { path: first })
     } else if is_word(verb, "rm") {
-        Ok(ScriptStep::Rm { path: first })
+        Ok(Command::Rm { path: first })
     } else if is_word(verb, "grow") {
-        match number_of(first.as_slice()) {
-            Some(count) => Ok(ScriptStep::Grow { count }),
+        match number_of(first) {
+            Some(count) => Ok(Command::Grow { count }),
             None => Err(LineFault::BadLine),
         }
     } else {
@@ -51,38 +54,41 @@ fn with_one(verb: &[u8], first: Vec<u8>) -> Result<ScriptStep, LineFault>
     }
 }
 
-/// The step that a verb says with two words behind it.
-fn with_two(
+/// The command that a verb says with two words behind it.
+fn with_two<'a>(
     alloc: Global,
     verb: &[u8],
-    first: Vec<u8>,
-    second: Vec<u8>,
-) -> Result<ScriptStep, LineFault>
-    ensures says { IfOk result (λ step. Says (verb.now ∷ first.items ∷ second.items ∷ []) step) }
-    ensures refused { IfErr result (λ fault. IsFault (verb.now ∷ first.items ∷ second.items ∷ []) fault) }
+    first: &'a [u8],
+    second: &'a [u8],
+) -> Result<Command<&'a [u8], Source<'a>>, LineFault>
+    ensures says { IfOk result (λ command. SaysCommand (verb.now ∷ first.now ∷ second.now ∷ []) command) }
+    ensures refused { IfErr result (λ fault. IsFault (verb.now ∷ first.now ∷ second.now ∷ []) fault) }
 {
     if is_word(verb, "put") {
-        match String::from_utf8(second) {
-            Ok(file) => Ok(ScriptStep::Put { path: first, file }),
+        match from_utf8(second) {
+            Ok(file) => Ok(Command::Put {
+                path: first,
+                bytes: Source::File(file),
+            }),
             Err(_) => Err(LineFault::BadLine),
         }
     } else if is_word(verb, "mv") {
-        Ok(ScriptStep::Mv {
+        Ok(Command::Mv {
             from: first,
             to: second,
         })
     } else if is_word(verb, "setattr") {
-        match byte_of(second.as_slice()) {
-            Some(kind) => Ok(ScriptStep::SetAttr {
+        match byte_of(second) {
+            Some(kind) => Ok(Command::SetAttr {
                 path: first,
                 kind,
-                value: Vec::new(alloc),
+                value: Source::Said(Vec::new(alloc)),
             }),
             None => Err(LineFault::BadHex),
         }
     } else if is_word(verb, "rmattr") {
-        match byte_of(second.as_slice()) {
-            Some(kind) => Ok(ScriptStep::RmAttr { path: first, kind }),
+        match byte_of(second) {
+            Some(kind) => Ok(Command::RmAttr { path: first, kind }),
             None => Err(LineFault::BadHex),
         }
     } else {
@@ -90,16 +96,16 @@ fn with_two(
     }
 }
 
-/// The step that a verb says with three words behind it.
-fn with_three(
+/// The command that a verb says with three words behind it.
+fn with_three<'a>(
     alloc: Global,
     verb: &[u8],
-    first: Vec<u8>,
+    first: &'a [u8],
     second: &[u8],
     third: &[u8],
-) -> Result<ScriptStep, LineFault>
-    ensures says { IfOk result (λ step. Says (verb.now ∷ first.items ∷ second.now ∷ third.now ∷ []) step) }
-    ensures refused { IfErr result (λ fault. IsFault (verb.now ∷ first.items ∷ second.now ∷ third.now ∷ []) fault) }
+) -> Result<Command<&'a [u8], Source<'a>>, LineFault>
+    ensures says { IfOk result (λ command. SaysCommand (verb.now ∷ first.now ∷ second.now ∷ third.now ∷ []) command) }
+    ensures refused { IfErr result (λ fault. IsFault (verb.now ∷ first.now ∷ second.now ∷ third.now ∷ []) fault) }
 {
     if !is_word(verb, "setattr") {
         return Err(LineFault::BadLine);
@@ -108,42 +114,33 @@ fn with_three(
         return Err(LineFault::BadHex);
     };
     match bytes_of(alloc, third)? {
-        Some(value) => Ok(ScriptStep::SetAttr {
+        Some(value) => Ok(Command::SetAttr {
             path: first,
             kind,
-            value,
+            value: Source::Said(value),
         }),
         None => Err(LineFault::BadHex),
     }
 }
 
-/// The step that words say. A fault where they say none: `BadHex` where only the digits of an attribute's kind or value
-/// spell nothing, `BadLine` otherwise; `Memory` says only that a growth was refused.
-pub(crate) fn step_said(alloc: Global, words: Vec<Vec<u8>>) -> Result<ScriptStep, LineFault>
-    ensures says { IfOk result (λ step. Says (map (λ w. w.items) words.items) step) }
-    ensures refused { IfErr result (λ fault. IsFault (map (λ w. w.items) words.items) fault) }
+/// The step that words say; behind a command `keep` images of the past are kept. A fault where they say none: `BadHex` where only
+/// the digits of an attribute's kind or value spell nothing, `BadLine` otherwise; `Memory` says only that a growth was refused.
+pub(crate) fn step_said<'a>(
+    alloc: Global,
+    words: &'a [Vec<u8>],
+    keep: Option<u32>,
+) -> Result<Move<'a, Source<'a>>, LineFault>
+    ensures says { IfOk result (λ step. Says (map (λ w. w.items) words.now) step) }
+    ensures keep { IfOk result (λ step. Keeps keep step) }
+    ensures refused { IfErr result (λ fault. IsFault (map (λ w. w.items) words.now) fault) }
 {
-    let mut left = words.into_iter();
-    let Some(verb) = left.next() else {
-        return Err(LineFault::BadLine);
+    let command = match words {
+        [] => return Err(LineFault::BadLine),
+        [verb] => return verb_alone(verb),
+        [verb, first] => with_one(verb, first)?,
+        [verb, first, second] => with_two(alloc, verb, first, second)?,
+        [verb, first, second, third] => with_three(alloc, verb, first, second, third)?,
+        [_, _, _, _, _, ..] => return Err(LineFault::BadLine),
     };
-    let Some(first) = left.next() else {
-        return verb_alone(verb.as_slice());
-    };
-    let Some(second) = left.next() else {
-        return with_one(verb.as_slice(), first);
-    };
-    let Some(third) = left.next() else {
-        return with_two(alloc, verb.as_slice(), first, second);
-    };
-    match left.next() {
-        None => with_three(
-            alloc,
-            verb.as_slice(),
-            first,
-            second.as_slice(),
-            third.as_slice(),
-        ),
-        Some(_) => Err(LineFault::BadLine),
-    }
+    Ok(Move::Do { command, keep })
 }

@@ -1,52 +1,25 @@
--- The words that were taken are all that there are.
-use Rattle.std.proofs.Common.{◌≡◌, ◌∙◌, ◌∷◌, [], List, ℕ, IfOk, ap, map, sym, subst}
-use Rattle.lfs_script.specs.Steps.{Says}
-use Rattle.lfs_script.proofs.StepLemmas.{no_more}
+-- Four words are all that there are.
+use Rattle.std.proofs.Common.{◌≡◌, ◌∙◌, ◌∷◌, [], List, ℕ, ap, map, sym, subst, arith}
+use Rattle.std.proofs.lemmas.Result.{err_from_is_err_and}
+use Rattle.lfs_script.specs.Steps.{IsFault}
+use Rattle.lfs_script.proofs.StepLemmas.{four_items}
 use Rattle.lfs_script.proofs.steps.step_said.Goals as goal
 
-pub returns-in_default-next-2-clause-says : goal.returns-in_default-next-2-clause-says
-returns-in_default-next-2-clause-says c =
-    let verb = c.in-Some.verb in
-    let first = c.in-Some-next.first in
-    let left = c.next-2.new.self.rest in
-    let none : left.items ≡ [] = no_more left.items left.len left.ok.0 c.in_default-next-2.ensures.cases.0 in
-    let all : c.args.words.items ≡ verb ∷ first ∷ [] =
-    sym c.into_iter-left.ensures.rest ∙ c.in-Some.ensures.items
-    ∙ ap (λ xs. verb ∷ xs) c.in-Some-next.ensures.items ∙ ap (λ xs. verb ∷ first ∷ xs) none in
-    let texts = ap (λ (text : List ℕ). text ∷ first.items ∷ []) c.as_slice-in_default-next-2.ensures.value
+pub returns-in_err-command-in-len4-clause-refused : goal.returns-in_err-command-in-len4-clause-refused
+returns-in_err-command-in-len4-clause-refused c =
+    let verb = c.verb-item-then-words-lt5.result in
+    let first = c.first-item-then-words-lt5.result in
+    let second = c.second-item-then-words-lt5.result in
+    let third = c.third-item.result in
+    let fault = c.in_err-command-in-len4.field-0.0 in
+    let p = err_from_is_err_and c.from_residual-in_err-command-in-len4.result c.from_residual-in_err-command-in-len4.ensures.1 in
+    let all : c.args.words.now ≡ verb ∷ first ∷ second ∷ third ∷ [] =
+    four_items c.args.words.now verb first second third (omega (arith, c.in-len4.len_at_least, c.in-len4.len_below))
+    c.verb-item-then-words-lt5.is c.first-item-then-words-lt5.is c.second-item-then-words-lt5.is c.third-item.is in
+    let texts = ap (λ (text : List ℕ). text ∷ c.deref-in-len4-2.result.now ∷ c.deref-in-len4-3.result.now ∷ c.deref-in-len4-4.result.now ∷ [])
+    c.deref-in-len4.ensures.value
+    ∙ ap (λ (text : List ℕ). verb.items ∷ text ∷ c.deref-in-len4-3.result.now ∷ c.deref-in-len4-4.result.now ∷ []) c.deref-in-len4-2.ensures.value
+    ∙ ap (λ (text : List ℕ). verb.items ∷ first.items ∷ text ∷ c.deref-in-len4-4.result.now ∷ []) c.deref-in-len4-3.ensures.value
+    ∙ ap (λ (text : List ℕ). verb.items ∷ first.items ∷ second.items ∷ text ∷ []) c.deref-in-len4-4.ensures.value
     ∙ ap (map (λ w. w.items)) (sym all) in
-    subst (λ (words : List (List ℕ)). IfOk c.with_one.result (λ step. Says words step)) texts c.with_one.ensures.says
-
-pub returns-in_default-next-3-clause-says : goal.returns-in_default-next-3-clause-says
-returns-in_default-next-3-clause-says c =
-    let verb = c.in-Some.verb in
-    let first = c.in-Some-next.first in
-    let second = c.in-Some-next-2.second in
-    let left = c.next-3.new.self.rest in
-    let none : left.items ≡ [] = no_more left.items left.len left.ok.0 c.in_default-next-3.ensures.cases.0 in
-    let all : c.args.words.items ≡ verb ∷ first ∷ second ∷ [] =
-    sym c.into_iter-left.ensures.rest ∙ c.in-Some.ensures.items
-    ∙ ap (λ xs. verb ∷ xs) c.in-Some-next.ensures.items ∙ ap (λ xs. verb ∷ first ∷ xs) c.in-Some-next-2.ensures.items
-    ∙ ap (λ xs. verb ∷ first ∷ second ∷ xs) none in
-    let texts = ap (λ (text : List ℕ). text ∷ first.items ∷ second.items ∷ []) c.as_slice-in_default-next-3.ensures.value
-    ∙ ap (map (λ w. w.items)) (sym all) in
-    subst (λ (words : List (List ℕ)). IfOk c.with_two.result (λ step. Says words step)) texts c.with_two.ensures.says
-
-pub returns-in-None-clause-says : goal.returns-in-None-clause-says
-returns-in-None-clause-says c =
-    let verb = c.in-Some.verb in
-    let first = c.in-Some-next.first in
-    let second = c.in-Some-next-2.second in
-    let third = c.in-Some-next-3.third in
-    let left = c.next-4.new.self.rest in
-    let none : left.items ≡ [] = no_more left.items left.len left.ok.0 c.in-None.ensures.cases.0 in
-    let all : c.args.words.items ≡ verb ∷ first ∷ second ∷ third ∷ [] =
-    sym c.into_iter-left.ensures.rest ∙ c.in-Some.ensures.items
-    ∙ ap (λ xs. verb ∷ xs) c.in-Some-next.ensures.items ∙ ap (λ xs. verb ∷ first ∷ xs) c.in-Some-next-2.ensures.items
-    ∙ ap (λ xs. verb ∷ first ∷ second ∷ xs) c.in-Some-next-3.ensures.items ∙ ap (λ xs. verb ∷ first ∷ second ∷ third ∷ xs) none in
-    let texts = ap (λ (text : List ℕ). text ∷ first.items ∷ c.as_slice-in-None-2.result.now ∷ c.as_slice-in-None-3.result.now ∷ [])
-    c.as_slice-in-None.ensures.value
-    ∙ ap (λ (text : List ℕ). verb.items ∷ first.items ∷ text ∷ c.as_slice-in-None-3.result.now ∷ []) c.as_slice-in-None-2.ensures.value
-    ∙ ap (λ (text : List ℕ). verb.items ∷ first.items ∷ second.items ∷ text ∷ []) c.as_slice-in-None-3.ensures.value
-    ∙ ap (map (λ w. w.items)) (sym all) in
-    subst (λ (words : List (List ℕ)). IfOk c.with_three.result (λ step. Says words step)) texts c.with_three.ensures.says
+    rw (p.1, p.2) (subst (λ (words : List (List ℕ)). IsFault words fault) texts c.in_err-command-in-len4.ensures.refused)

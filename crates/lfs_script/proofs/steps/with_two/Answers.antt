@@ -7,9 +7,9 @@ use Rattle.lfs_script.proofs.steps.with_two.Goals as goal
 
 pub returns-in-Err-clause-refused : goal.returns-in-Err-clause-refused
 returns-in-Err-clause-refused c =
-    let path : List ℕ = c.args.first.items in
-    let file : List ℕ = c.args.second.items in
+    let path : List ℕ = c.args.first.now in
+    let file : List ℕ = c.args.second.now in
     let put : c.args.verb.now ≡ codes "put" = c.if-is_word.ensures.0 refl in
-    let none : IsUtf8 file → ⊥ = λ text. let is = c.in-Err.ensures.succeeds text in cc in
+    let none : IsUtf8 file → ⊥ = c.in-Err.ensures.cases.0 in
     let says_none = subst (λ (verb : List ℕ). SaysNone (verb ∷ path ∷ file ∷ [])) (sym put) (put_says_none path file none) in
     (says_none, λ bad. elim bad.0 [ inl set ↦ absurd (cc) | inr remove ↦ absurd (cc) ])
