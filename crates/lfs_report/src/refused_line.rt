@@ -53,7 +53,7 @@ pub fn stop_of_line(first: ScriptFault) -> Stop
 /// Why steps of lines are refused; where one is, with the number of its line. Takes no memory.
 ///
 /// Source: own.
-pub fn with_number(lines: &[ScriptLine], stop: Stop) -> Stop
+pub fn with_number(lines: &[ScriptLine<'_>], stop: Stop) -> Stop
     ensures fault { result.fault ≡ stop.fault }
     ensures line { result.statement ≡ numbered lines.now stop.statement }
 {

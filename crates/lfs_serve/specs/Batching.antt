@@ -1,12 +1,17 @@
 -- The steps of a script, which are taken all or not at all (own).
 use Rattle.std.specs.Borrow.{Bor}
-use Rattle.std.specs.Prelude.{◌≡◌, ◌⊎◌, ℕ, List, [], Option, Some, None, map, string_bytes}
-use Rattle.std.specs.List.{AllZip}
+use Rattle.std.specs.Global.{Vec}
+use Rattle.std.specs.Prelude.{◌≡◌, ◌⊎◌, ℕ, List, [], ◌∷◌, Option, Some, None, map}
+use Rattle.std.specs.List.{AllByRecursion, AllZip}
 use Rattle.lfs_fs.specs.Limits.{most_file}
-use Rattle.lfs_command.specs.Command as asked
-use Rattle.lfs_history.specs.Meaning.{step_of}
+use Rattle.lfs_command.specs.declared.command.Command.TheVariants.{Put}
+use Rattle.lfs_history.specs.declared.moves.Move.{Move}
+use Rattle.lfs_history.specs.declared.moves.Move.TheVariants.{Do}
+use Rattle.lfs_history.specs.declared.source.Source.{Source}
+use Rattle.lfs_history.specs.declared.source.Source.TheVariants.{File}
+use Rattle.lfs_history.specs.Filling.{bytes_given}
+use Rattle.lfs_history.specs.Meaning.{step_by, step_of}
 use Rattle.lfs_history.specs.Taking as change
-use Rattle.lfs_history.specs.Taking.{Do}
 use Rattle.lfs_change.specs.declared.fault.Fault.{Fault}
 use Rattle.lfs_step.specs.declared.step.Step.{Step}
 use Rattle.lfs_step.specs.declared.step.Step.TheVariants.{Batch}
@@ -15,48 +20,49 @@ use Rattle.lfs_host.specs.Scene.{Scene}
 use Rattle.lfs_exchange.specs.Handing.{IsUnread}
 use Rattle.lfs_report.specs.RefusedLine.{fault_of_line}
 use Rattle.lfs_script.specs.Script.{IsFirstFault, SaysLine, asking_lines}
+use Rattle.lfs_script.specs.Steps.{Keeps}
 use Rattle.lfs_script.specs.declared.script_fault.ScriptFault.{ScriptFault}
 use Rattle.lfs_script.specs.declared.script_line.ScriptLine.{ScriptLine}
-use Rattle.lfs_script.specs.declared.script_step.ScriptStep.{ScriptStep}
-use Rattle.lfs_script.specs.declared.script_step.ScriptStep.TheVariants.{Mkdir, Put, Rm, Mv, SetAttr, RmAttr, Grow, Undo, Redo, Forget}
 
 -- ---- what a line means
 
--- the step on a history that a step of a script is, with the contents that it puts, and with how many images of the past are kept behind
--- a command; one change is taken back, or made again
-abbrev pub move_meant : ScriptStep → List ℕ → Option ℕ → change.Move
-move_meant (Mkdir path) contents keep = Do (asked.Mkdir path.items) keep
-move_meant (Put path file) contents keep = Do (asked.Put path.items contents) keep
-move_meant (Rm path) contents keep = Do (asked.Rm path.items) keep
-move_meant (Mv from to) contents keep = Do (asked.Mv from.items to.items) keep
-move_meant (SetAttr path kind value) contents keep = Do (asked.SetAttr path.items kind value.items) keep
-move_meant (RmAttr path kind) contents keep = Do (asked.RmAttr path.items kind) keep
-move_meant (Grow count) contents keep = Do (asked.Grow count) keep
-move_meant Undo contents keep = change.Undo 1
-move_meant Redo contents keep = change.Redo 1
-move_meant Forget contents keep = change.Forget
-
 -- the contents that a step of a script puts: those of a file of the host
-abbrev pub HandsContents : ScriptStep → Option Files → List ℕ → Type 0
-HandsContents (Put path file) files contents = ReadsFile files (string_bytes file) most_file contents
+abbrev pub HandsContents : Move Source → Option Files → List ℕ → Type 0
+HandsContents (Do (Put path (File name)) keep) files contents = ReadsFile files name.now most_file contents
 HandsContents _ files contents = contents ≡ []
 
+-- so much was read for a line
+abbrev pub HandsLine : Option Files → ScriptLine → Vec ℕ → Type 0
+HandsLine files line read = HandsContents line.step files read.items
+
+-- the step on a history that a line says, with the contents that were read for it
+abbrev pub move_said : ScriptLine → List ℕ → change.Move
+move_said line read = step_by (bytes_given read) line.step
+
+-- those of lines, with what was read for each
+abbrev pub moves_said : List ScriptLine → List (Vec ℕ) → List change.Move
+moves_said (line ∷ lines) (bytes ∷ read) = move_said line bytes.items ∷ moves_said lines read
+moves_said _ _ = []
+
 -- what a line means
-abbrev pub MeansMove : Option Files → Option ℕ → ScriptLine → change.Move → Type 0
-MeansMove files keep line move =
-    (contents : List ℕ) × HandsContents line.step files contents × (move ≡ move_meant line.step contents keep)
+abbrev pub MeansMove : Option Files → ScriptLine → change.Move → Type 0
+MeansMove files line move = (read : List ℕ) × HandsContents line.step files read × (move ≡ move_said line read)
 
 -- ---- a script
 
 -- a step takes the steps that lines mean, in their order
-abbrev pub TakesLines : Option Files → Option ℕ → List ScriptLine → Step → Type 0
-TakesLines files keep lines (Batch steps) = AllZip (MeansMove files keep) lines (map step_of steps.now)
-TakesLines files keep lines _ = ⊥
+abbrev pub TakesLines : Option Files → List ScriptLine → Step → Type 0
+TakesLines files lines (Batch steps) = AllZip (MeansMove files) lines (map step_of steps.now)
+TakesLines files lines _ = ⊥
+
+-- so many images of the past are kept behind each command of lines
+abbrev pub LinesKeep : Option ℕ → List ScriptLine → Type 0
+LinesKeep keep lines = AllByRecursion (λ line. Keeps keep line.step) lines
 
 -- it takes those that the lines of a text say
 abbrev pub TakesText : Option Files → Option ℕ → List ℕ → Step → Type 0
 TakesText files keep text step =
-    (lines : List ScriptLine) × AllZip SaysLine (asking_lines text) lines × TakesLines files keep lines step
+    (lines : List ScriptLine) × AllZip SaysLine (asking_lines text) lines × LinesKeep keep lines × TakesLines files lines step
 
 -- the text of a script: that of a file of the host, or what comes on standard input
 abbrev pub ReadsScript : Option (Bor (List ℕ)) → Scene → List ℕ → Type 0

@@ -1,6 +1,5 @@
 pub mod Later
 pub mod Batching
-pub mod ReadLine
 pub mod Program
 pub mod Extracting
 pub mod HostFolder

@@ -6,16 +6,16 @@ ghost use Rattle.lfs_history.specs.Taking.{MayKeep};
 ghost use Rattle.lfs_host.specs.Scene.{KeepsOutput};
 ghost use Rattle.lfs_report.specs.Stop.{stopped_by};
 ghost use Rattle.lfs_request.specs.declared.task.Task.TheVariants.{Batch};
-ghost use Rattle.lfs_serve.specs.Batching.{ReadsScript, SaysNoSteps, TakesLines, TakesText};
+ghost use Rattle.lfs_serve.specs.Batching.{LinesKeep, ReadsScript, SaysNoSteps, TakesLines, TakesText};
 ghost use Rattle.lfs_serve.specs.Program.{EndsAs, EndsTask, LeavesRest, TaskLeavesRest, task_reads_input};
 
-use crate::read_line::{moves_of, read_lines};
+use crate::line_moves::{moves_of, read_lines};
 use crate::serving::stepped;
 use lfs_exchange::{read_contents, read_input};
 use lfs_host::Host;
 use lfs_report::{Beside, Stop, stop_of_line, with_line, with_number};
 use lfs_request::Request;
-use lfs_script::{ScriptLine, script_lines};
+use lfs_script::{ScriptLine, script_lines, script_of};
 use lfs_step::{Fault, Step};
 use std::alloc::Global;
 
@@ -67,7 +67,8 @@ fn text_batched<H: Host>(
         request.now.takes_older request.now.size request.now.keep request.now.image.now (H.known host.old) (H.known host.new) (stopped_by result) }
     ensures rest { LeavesRest (H.known host.old) (H.known host.new) }
 {
-    match script_lines(alloc, text) {
+    let script = script_of(alloc, text);
+    match script_lines(alloc, &script, request.keep) {
         Ok(lines) => lines_batched(alloc, host, request, beside, &lines),
         Err(first) => Err(stop_of_line(first)),
     }
@@ -79,15 +80,16 @@ fn lines_batched<H: Host>(
     host: &mut H,
     request: &Request<'_>,
     beside: &mut Beside,
-    lines: &[ScriptLine],
+    lines: &[ScriptLine<'_>],
 ) -> Result<(), Stop>
     requires keep { MayKeep request.now.keep }
-    ensures ended { EndsAs (TakesLines (H.known host.old).files request.now.keep lines.now) (IsUnread (H.known host.new))
+    requires lines { LinesKeep request.now.keep lines.now }
+    ensures ended { EndsAs (TakesLines (H.known host.old).files lines.now) (IsUnread (H.known host.new))
         request.now.takes_older request.now.size request.now.keep request.now.image.now (H.known host.old) (H.known host.new) (stopped_by result) }
     ensures rest { LeavesRest (H.known host.old) (H.known host.new) }
 {
     let read = read_lines(alloc, host, lines)?;
-    let moves = moves_of(alloc, &read, request.keep)?;
+    let moves = moves_of(alloc, lines, &read)?;
     let steps = moves.as_slice();
     match stepped(alloc, host, request, beside, &Step::Batch { steps }) {
         Ok(()) => Ok(()),

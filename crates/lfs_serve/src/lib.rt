@@ -8,8 +8,8 @@ mod host_folder;
 mod later;
 mod laws;
 mod least;
+mod line_moves;
 mod new_image;
-mod read_line;
 mod serving;
 mod sizing;
 

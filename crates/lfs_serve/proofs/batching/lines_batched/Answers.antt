@@ -1,6 +1,7 @@
 -- A file that a line puts isn't read, or the steps of the lines are taken.
-use Rattle.std.proofs.Common.{rules, ◌≡◌, List, Some, None, refl, sym, ap, subst, ◌∙◌, inl, inr, map}
+use Rattle.std.proofs.Common.{rules, ◌≡◌, ℕ, List, Some, None, refl, sym, ap, subst, ◌∙◌, inl, inr, map}
 use Rattle.std.proofs.lemmas.Result.{err_from_is_err_and}
+use Rattle.std.specs.Global.{Vec}
 use Rattle.std.specs.List.{AllByRecursion}
 use Rattle.lfs_command.specs.declared.refusal.Refusal.TheVariants.{Memory as No_memory}
 use Rattle.lfs_change.specs.declared.fault.Fault.TheVariants.{Refused}
@@ -10,8 +11,7 @@ use Rattle.lfs_host.specs.Scene.{Scene}
 use Rattle.lfs_step.specs.declared.step.Step.TheVariants.{Batch}
 use Rattle.lfs_report.specs.Stop.{stopped_by}
 use Rattle.lfs_serve.specs.Program.{EndsStep}
-use Rattle.lfs_serve.specs.ReadLine.{move_of_line}
-use Rattle.lfs_serve.specs.declared.read_line.ReadLine.{ReadLine}
+use Rattle.lfs_serve.specs.Batching.{moves_said}
 use Rattle.lfs_serve.proofs.BatchingLemmas.{all_in_range, takes_lines}
 use Rattle.lfs_serve.proofs.StepLemmas.{step_from, stopped_at}
 use Rattle.lfs_serve.proofs.batching.lines_batched.Goals as goal
@@ -22,7 +22,7 @@ stepped-requires-clause-range g c =
     let steps = c.as_slice-steps.result.now in
     let are : steps ≡ c.in_ok-moves.moves.items = search rules in
     subst (λ (ms : List OnBytes). AllByRecursion (λ m. KeepsInRange (step_of m)) ms) (sym are)
-    (all_in_range keep c.in_ok-moves.moves.items c.deref.result.now c.requires.keep c.in_ok-moves.ensures)
+    (all_in_range keep c.args.lines.now c.deref.result.now c.in_ok-moves.moves.items c.requires.keep c.requires.lines c.in_ok-moves.ensures)
 
 pub returns-in_err-read-clause-ended : goal.returns-in_err-read-clause-ended
 returns-in_err-read-clause-ended g c =
@@ -44,10 +44,10 @@ returns-in-Ok-clause-ended g c =
     let request = c.args.request.now in
     let steps = c.as_slice-steps.result in
     let are : steps.now ≡ c.in_ok-moves.moves.items = search rules in
-    let read : List ReadLine = c.deref.result.now in
+    let read : List (Vec ℕ) = c.deref.result.now in
     let read_is : read ≡ c.in_ok-read.read.items = search rules in
-    let meant = subst (λ (rs : List ReadLine). map step_of c.in_ok-moves.moves.items ≡ map (move_of_line request.keep) rs) read_is c.in_ok-moves.ensures in
-    let taken = takes_lines old.files request.keep c.args.lines.now c.in_ok-read.read.items steps c.in_ok-moves.moves.items c.in_ok-read.ensures.read meant are in
+    let said = subst (λ (rs : List (Vec ℕ)). map step_of c.in_ok-moves.moves.items ≡ moves_said c.args.lines.now rs) read_is c.in_ok-moves.ensures in
+    let taken = takes_lines old.files c.args.lines.now c.in_ok-read.read.items steps c.in_ok-moves.moves.items c.in_ok-read.ensures.read said are in
     let kept = c.read_lines.ensures.kept.0 in
     let ended = subst (EndsStep (Batch steps) request.takes_older request.size request.keep request.image.now mid new) (ap stopped_by c.in-Ok.is)
     c.stepped.ensures.ended in
@@ -62,10 +62,10 @@ returns-clause-ended g c =
     let request = c.args.request.now in
     let steps = c.as_slice-steps.result in
     let are : steps.now ≡ c.in_ok-moves.moves.items = search rules in
-    let read : List ReadLine = c.deref.result.now in
+    let read : List (Vec ℕ) = c.deref.result.now in
     let read_is : read ≡ c.in_ok-read.read.items = search rules in
-    let meant = subst (λ (rs : List ReadLine). map step_of c.in_ok-moves.moves.items ≡ map (move_of_line request.keep) rs) read_is c.in_ok-moves.ensures in
-    let taken = takes_lines old.files request.keep c.args.lines.now c.in_ok-read.read.items steps c.in_ok-moves.moves.items c.in_ok-read.ensures.read meant are in
+    let said = subst (λ (rs : List (Vec ℕ)). map step_of c.in_ok-moves.moves.items ≡ moves_said c.args.lines.now rs) read_is c.in_ok-moves.ensures in
+    let taken = takes_lines old.files c.args.lines.now c.in_ok-read.read.items steps c.in_ok-moves.moves.items c.in_ok-read.ensures.read said are in
     let kept = c.read_lines.ensures.kept.0 in
     let ended = subst (EndsStep (Batch steps) request.takes_older request.size request.keep request.image.now mid new)
     (ap stopped_by c.in-Err.is ∙ ap Some (sym c.with_number.ensures.fault)) c.stepped.ensures.ended in

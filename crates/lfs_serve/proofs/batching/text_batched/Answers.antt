@@ -6,7 +6,7 @@ use Rattle.lfs_exchange.specs.Handing.{IsUnread}
 use Rattle.lfs_host.specs.Scene.{Scene}
 use Rattle.lfs_script.specs.Script.{SaysLine, asking_lines}
 use Rattle.lfs_script.specs.declared.script_line.ScriptLine.{ScriptLine}
-use Rattle.lfs_serve.specs.Batching.{SaysNoSteps, TakesLines, TakesText}
+use Rattle.lfs_serve.specs.Batching.{LinesKeep, SaysNoSteps, TakesLines, TakesText}
 use Rattle.lfs_report.specs.Stop.{stopped_by}
 use Rattle.lfs_serve.proofs.BatchingLemmas.{ends_by}
 use Rattle.lfs_serve.proofs.batching.text_batched.Goals as goal
@@ -19,11 +19,12 @@ returns-in-Ok-clause-ended g c =
     let text = c.args.text.now in
     let lines : List ScriptLine = c.deref.result.now in
     let same : lines ≡ c.in-Ok.lines.items = search rules in
-    let says = subst (AllZip SaysLine (asking_lines text)) (sym same) c.in-Ok.ensures.lines in
+    let says = subst (λ (ls : List ScriptLine). AllZip SaysLine (asking_lines text) ls) (sym same) c.in-Ok.ensures.lines in
+    let keeps = subst (LinesKeep request.keep) (sym same) c.in-Ok.ensures.keep in
     let fault = stopped_by c.lines_batched.result in
-    ends_by (TakesLines old.files request.keep lines) (TakesText old.files request.keep text) (IsUnread new)
+    ends_by (TakesLines old.files lines) (TakesText old.files request.keep text) (IsUnread new)
     (λ (why : Fault). IsUnread new why ⊎ SaysNoSteps text why) request.takes_older request.size request.keep request.image.now old new fault fault
-    refl (λ step takes. (lines, says, takes)) (λ why unread. inl unread) c.lines_batched.ensures.ended
+    refl (λ step takes. (lines, says, keeps, takes)) (λ why unread. inl unread) c.lines_batched.ensures.ended
 
 pub returns-in-Err-clause-ended : goal.returns-in-Err-clause-ended
 returns-in-Err-clause-ended g c =

@@ -2,7 +2,7 @@
 use Rattle.std.proofs.Common.{drop}
 use Rattle.lfs_host.specs.Scene.{KeepsAll}
 use Rattle.lfs_serve.proofs.BatchingLemmas.{AreReadTo}
-use Rattle.lfs_serve.proofs.read_line.read_lines.Given as goal
+use Rattle.lfs_serve.proofs.line_moves.read_lines.Given as goal
 
 abbrev pub invariant-each : goal.invariant-each
 invariant-each g l = record {

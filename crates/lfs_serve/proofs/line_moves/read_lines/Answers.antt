@@ -2,7 +2,7 @@
 use Rattle.std.proofs.Common.{drop, arith}
 use Rattle.std.proofs.Math.ListN.{drop_of_length-le}
 use Rattle.lfs_serve.proofs.BatchingLemmas.{all_read}
-use Rattle.lfs_serve.proofs.read_line.read_lines.Goals as goal
+use Rattle.lfs_serve.proofs.line_moves.read_lines.Goals as goal
 
 pub returns-clause-read : goal.returns-clause-read
 returns-clause-read g c =

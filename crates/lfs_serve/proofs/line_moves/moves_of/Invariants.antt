@@ -1,0 +1,8 @@
+-- What the lines so far say.
+use Rattle.std.proofs.Common.{◌≡◌, map, take}
+use Rattle.lfs_history.specs.Meaning.{step_of}
+use Rattle.lfs_serve.specs.Batching.{moves_said}
+use Rattle.lfs_serve.proofs.line_moves.moves_of.Given as goal
+
+abbrev pub invariant-each : goal.invariant-each
+invariant-each l = ?
