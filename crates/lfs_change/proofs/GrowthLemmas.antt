@@ -11,10 +11,11 @@ use Rattle.lfs_command.specs.Need.{need}
 use Rattle.lfs_history.specs.History.{History}
 use Rattle.lfs_history.specs.Opening.{journal_of, kept_journal}
 use Rattle.lfs_history.specs.OpeningLaws.{JournalsGrowByTheNeed, KeptJournalsGrowByTheNeed}
+use Rattle.lfs_history.specs.Taking.{Do}
 use Rattle.lfs_change.specs.Bytes.{image_of}
 use Rattle.lfs_change.specs.Change.{DenotesOn}
 use Rattle.lfs_change.specs.Laws.{JournalsOfBytesGrowByTheNeed, JournalsOfBytesGrowOnTheKept, journal_length, version_of, done_of}
-use Rattle.lfs_change.proofs.ChangeLemmas.{denoted_present}
+use Rattle.lfs_change.proofs.ChangeLemmas.{denoted_present, one_taken}
 
 -- ---- the numbers that stand in a journal
 
@@ -77,11 +78,12 @@ denoted_length d (byte ∷ bytes) h denotes =
 pub bytes_grow : JournalsGrowByTheNeed → JournalsOfBytesGrowByTheNeed
 bytes_grow grow asked keep size image journal o changes =
     let is = changes.1 in
-    let plans = is.takes.plans in
+    let does = one_taken (Do asked keep) is.old is.new is.takes in
+    let plans = does.plans in
     let present = denoted_present (image_of size image) journal is.old is.denotes in
     let blocks = need plans.volume plans.command + 2 in
     let before = denoted_length (image_of size image) journal is.old is.denotes in
-    let longer = grow asked keep is.old is.new before.version is.takes in
+    let longer = grow asked keep is.old is.new before.version does in
     let len = before.len in
     let more = before.more in
     let after : length o.journal.items ≡ length (journal_bytes (journal_of is.new)) = ap length is.journal_is in
@@ -100,11 +102,12 @@ bytes_grow grow asked keep size image journal o changes =
 pub bytes_grow_on_the_kept : KeptJournalsGrowByTheNeed → JournalsOfBytesGrowOnTheKept
 bytes_grow_on_the_kept grow asked keep size image journal o changes =
     let is = changes.1 in
-    let plans = is.takes.plans in
+    let does = one_taken (Do asked keep) is.old is.new is.takes in
+    let plans = does.plans in
     let present = denoted_present (image_of size image) journal is.old is.denotes in
     let blocks = need plans.volume plans.command + 2 in
     let kept = kept_journal keep is.old in
-    let longer = grow asked keep is.old is.new 2 is.takes in
+    let longer = grow asked keep is.old is.new 2 does in
     let after : length o.journal.items ≡ length (journal_bytes (journal_of is.new)) = ap length is.journal_is in
     let sized : length o.journal.items ≤ length (journal_bytes kept) + 12 + blocks * (2 * is.old.present.size + 4) =
     omega (arith, longer, after) in

@@ -1,6 +1,6 @@
 pub mod BytesLemmas
 pub mod ChangeLemmas
-pub mod BatchLemmas
+pub mod ForgettingLemmas
 pub mod LawLemmas
 pub mod GrowthLemmas
 pub mod TakenBackLemmas

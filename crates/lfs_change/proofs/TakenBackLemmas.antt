@@ -9,7 +9,7 @@ use Rattle.lfs_journal.proofs.CountLemmas.{past_left}
 use Rattle.lfs_history.specs.History.{History}
 use Rattle.lfs_history.specs.Moves.{Undoes, Repeats}
 use Rattle.lfs_history.specs.Taking.{Move, Do, Undo, Redo, Forget, Takes}
-use Rattle.lfs_change.specs.Batch.{KeepsPast}
+use Rattle.lfs_change.specs.KeptPast.{AllButLast, KeepsPast}
 
 -- the present image and those before it
 abbrev pub images : History → List Disk
@@ -69,28 +69,30 @@ enough (step ∷ steps) old mid keep takes = more (length (step ∷ steps)) mid.
 
 -- ---- the steps in front of one that is refused
 
-pub front_keeps : (before behind : List Move) → KeepPast (before ++ behind) → KeepPast before
-front_keeps [] behind keep = tt
-front_keeps (step ∷ before) behind keep = (keep.0, front_keeps before behind keep.1)
+-- all but the last keep all earlier images, so those in front of one do
+pub fronts_keep : (before : List Move) (step : Move) (behind : List Move) → AllButLast (before ++ step ∷ behind) → KeepPast before
+fronts_keep [] step behind keep = tt
+fronts_keep (first ∷ []) step behind keep = (keep.0, tt)
+fronts_keep (first ∷ next ∷ before) step behind keep = (keep.0, fronts_keep (next ∷ before) step behind keep.1)
 
-pub steps_keep : {X : Type 0} (step_of : X → Move) (steps : List X) → AllByRecursion (λ step. KeepsPast (step_of step)) steps
-    → KeepPast (map step_of steps)
-steps_keep step_of [] keep = tt
-steps_keep step_of (step ∷ steps) keep = (keep.0, steps_keep step_of steps keep.1)
+-- steps in front of a last one
+pub all_but_last : {X : Type 0} (step_of : X → Move) (fronts : List X) (last : X) → AllByRecursion (λ step. KeepsPast (step_of step)) fronts
+    → AllButLast (map step_of (fronts ++ last ∷ []))
+all_but_last step_of [] last keep = tt
+all_but_last step_of (first ∷ []) last keep = (keep.0, tt)
+all_but_last step_of (first ∷ next ∷ fronts) last keep = (keep.0, all_but_last step_of (next ∷ fronts) last keep.1)
 
 -- where a step is refused, as many undos as are done lead back
-pub stopped_back : (steps : List Move) (at : ℕ) (fault : StepFault) (old mid new : History) → KeepPast steps
+pub stopped_back : (steps : List Move) (at : ℕ) (fault : StepFault) (old mid new : History) → AllButLast steps
     → StopsAt steps at fault old mid → Repeats Undoes at mid new → new.present ≡ old.present
 stopped_back steps at fault old mid new keep stops undone =
-    let all = subst KeepPast stops.are keep in
-    let front = front_keeps stops.before (stops.step ∷ stops.behind) all in
+    let front = fronts_keep stops.before stops.step stops.behind (subst AllButLast stops.are keep) in
     taken_back stops.before old mid new front stops.led (subst (λ (n : ℕ). Repeats Undoes n mid new) (sym stops.place) undone)
 
-pub stopped_enough : (steps : List Move) (at : ℕ) (fault : StepFault) (old mid : History) → KeepPast steps
+pub stopped_enough : (steps : List Move) (at : ℕ) (fault : StepFault) (old mid : History) → AllButLast steps
     → StopsAt steps at fault old mid → at ≤ length mid.past
 stopped_enough steps at fault old mid keep stops =
-    let all = subst KeepPast stops.are keep in
-    let front = front_keeps stops.before (stops.step ∷ stops.behind) all in
+    let front = fronts_keep stops.before stops.step stops.behind (subst AllButLast stops.are keep) in
     subst (λ (n : ℕ). n ≤ length mid.past) stops.place (enough stops.before old mid front stops.led)
 
 -- ---- one undo more

@@ -1,4 +1,4 @@
--- The outcome of a step on an image's history (own).
+-- The outcome of steps on an image's history, all of which are done or none (own).
 use Rattle.std.specs.Prelude.{◌≡◌, ◌≢◌, ◌⊎◌, ℕ, List, [], ◌∷◌, Option, Some, None}
 use Rattle.lfs_block.specs.Disk.{Disk, IsDisk}
 use Rattle.lfs_block.specs.ImageFault.{IsNoImage}
@@ -9,9 +9,10 @@ use Rattle.lfs_history.specs.declared.open_fault.OpenFault.{OpenFault}
 use Rattle.lfs_history.specs.declared.open_fault.OpenFault.TheVariants as opening
 use Rattle.lfs_history.specs.declared.step_fault.StepFault.{StepFault}
 use Rattle.lfs_history.specs.declared.step_fault.StepFault.TheVariants.{Refused as Refused_step}
+use Rattle.lfs_history.specs.Batch.{StopsAt, TakesAll}
 use Rattle.lfs_history.specs.History.{History, IsHistory, fresh_history}
 use Rattle.lfs_history.specs.Opening.{Opens, RefusesOpening, journal_of}
-use Rattle.lfs_history.specs.Taking.{Move, Forget, Takes}
+use Rattle.lfs_history.specs.Taking.{Move}
 use Rattle.lfs_change.specs.declared.fault.Fault.{Fault}
 use Rattle.lfs_change.specs.declared.fault.Fault.TheVariants as fault
 use Rattle.lfs_change.specs.declared.fault.Fault.TheVariants.{Image, Mount, Refused, JournalFormat, JournalMismatch, JournalImage}
@@ -27,18 +28,13 @@ DenotesOn d (byte ∷ bytes) h = Opens d (byte ∷ bytes) h
 abbrev pub Denotes : ℕ → List ℕ → List ℕ → History → Type 0
 Denotes size image journal h = IsDisk (image_of size image) × DenotesOn (image_of size image) journal h
 
--- the journal that a step reads: to forget reads none
-abbrev pub journal_read : Move → List ℕ → List ℕ
-journal_read Forget journal = []
-journal_read _ journal = journal
-
--- The step is taken on the history that the image and the journal denote. The outcome is the image and the journal of the
--- history that it leaves.
-pub record IsChanged (step : Move) (disk : Disk) (journal : List ℕ) (outcome : Outcome) : Type 0 where
+-- The steps are taken on the history that the image and the journal denote, all of them. The outcome is the image and the journal of the
+-- history that they leave.
+pub record IsChanged (steps : List Move) (disk : Disk) (journal : List ℕ) (outcome : Outcome) : Type 0 where
   pub old : History
-  pub denotes : DenotesOn disk (journal_read step journal) old
+  pub denotes : DenotesOn disk journal old
   pub new : History
-  pub takes : Takes step None old new
+  pub takes : TakesAll steps old new
   pub image_is : outcome.image.items ≡ new.present.bytes
   pub journal_is : outcome.journal.items ≡ journal_bytes (journal_of new)
 
@@ -51,46 +47,41 @@ abbrev pub RefusesDenoting : OpenFault → Disk → List ℕ → Type 0
 RefusesDenoting (opening.Mount fault) disk journal = HasCause disk fault
 RefusesDenoting fault disk journal = RefusesJournal fault disk journal
 
--- the step is refused on the history that the image and the journal denote
-abbrev pub RefusesStep : Move → Disk → List ℕ → StepFault → Type 0
-RefusesStep step disk journal fault =
-    (old : History) × DenotesOn disk (journal_read step journal) old × Takes step (Some fault) old old
+-- behind so many of the steps one is refused, on the history to which these lead from the one that the image and the journal denote
+pub record RefusesStep (steps : List Move) (at : ℕ) (disk : Disk) (journal : List ℕ) (why : StepFault) : Type 0 where
+  pub old : History
+  pub denotes : DenotesOn disk journal old
+  pub mid : History
+  pub stops : StopsAt steps at why old mid
 
--- why an image isn't changed: a cause that it has, then what its journal is refused for, then what the step is; or want of memory
-abbrev pub RefusesImage : Move → Disk → List ℕ → Fault → Type 0
-RefusesImage step disk journal (Mount fault) = HasCause disk fault
-RefusesImage step disk journal (Refused refusal) = (refusal ≡ Memory) ⊎ RefusesStep step disk journal (Refused_step refusal)
-RefusesImage step disk journal (fault.Step (Refused_step refusal)) = ⊥
-RefusesImage step disk journal (fault.Step fault) = RefusesStep step disk journal fault
-RefusesImage step disk journal JournalFormat = RefusesJournal opening.JournalFormat disk (journal_read step journal)
-RefusesImage step disk journal JournalMismatch = RefusesJournal opening.JournalMismatch disk (journal_read step journal)
-RefusesImage step disk journal JournalImage = RefusesJournal opening.JournalImage disk (journal_read step journal)
-RefusesImage step disk journal _ = ⊥
+-- why an image isn't changed: a cause that it has, then what its journal is refused for, then what a step is; or want of memory
+abbrev pub RefusesImage : List Move → ℕ → Disk → List ℕ → Fault → Type 0
+RefusesImage steps at disk journal (Mount fault) = HasCause disk fault
+RefusesImage steps at disk journal (Refused refusal) = (refusal ≡ Memory) ⊎ RefusesStep steps at disk journal (Refused_step refusal)
+RefusesImage steps at disk journal (fault.Step (Refused_step refusal)) = ⊥
+RefusesImage steps at disk journal (fault.Step fault) = RefusesStep steps at disk journal fault
+RefusesImage steps at disk journal JournalFormat = RefusesJournal opening.JournalFormat disk journal
+RefusesImage steps at disk journal JournalMismatch = RefusesJournal opening.JournalMismatch disk journal
+RefusesImage steps at disk journal JournalImage = RefusesJournal opening.JournalImage disk journal
+RefusesImage steps at disk journal _ = ⊥
 
--- what a step on an image answers; with a fault, image and journal are those that were handed in
-abbrev pub AnswersImage : Option Fault → Move → Disk → List ℕ → Outcome → Type 0
-AnswersImage None step disk journal outcome = IsChanged step disk journal outcome
-AnswersImage (Some fault) step disk journal outcome =
-    (outcome.image.items ≡ disk.bytes) × (outcome.journal.items ≡ journal) × RefusesImage step disk journal fault
+-- what steps on an image answer; with a fault, image and journal are those that were handed in
+abbrev pub AnswersImage : Option Fault → List Move → Disk → List ℕ → Outcome → Type 0
+AnswersImage None steps disk journal outcome = IsChanged steps disk journal outcome
+AnswersImage (Some fault) steps disk journal outcome =
+    (outcome.image.items ≡ disk.bytes) × (outcome.journal.items ≡ journal) × RefusesImage steps outcome.at disk journal fault
 
--- a step is taken on bytes that are an image
-abbrev pub ChangesBytes : Move → ℕ → List ℕ → List ℕ → Outcome → Type 0
-ChangesBytes step size image journal outcome = IsDisk (image_of size image) × IsChanged step (image_of size image) journal outcome
+-- steps are taken on bytes that are an image
+abbrev pub ChangesBytes : List Move → ℕ → List ℕ → List ℕ → Outcome → Type 0
+ChangesBytes steps size image journal outcome = IsDisk (image_of size image) × IsChanged steps (image_of size image) journal outcome
 
 -- why bytes aren't changed: they are no image, or else as for an image
-abbrev pub RefusesChange : Move → ℕ → List ℕ → List ℕ → Fault → Type 0
-RefusesChange step size image journal (Image fault) = IsNoImage fault size image
-RefusesChange step size image journal fault = IsDisk (image_of size image) × RefusesImage step (image_of size image) journal fault
+abbrev pub RefusesChange : List Move → ℕ → ℕ → List ℕ → List ℕ → Fault → Type 0
+RefusesChange steps at size image journal (Image fault) = IsNoImage fault size image
+RefusesChange steps at size image journal fault = IsDisk (image_of size image) × RefusesImage steps at (image_of size image) journal fault
 
--- what a step on bytes answers; with a fault, image and journal are those that were handed in
-abbrev pub AnswersChange : Option Fault → Move → ℕ → List ℕ → List ℕ → Outcome → Type 0
-AnswersChange None step size image journal outcome = ChangesBytes step size image journal outcome
-AnswersChange (Some fault) step size image journal outcome =
-    (outcome.image.items ≡ image) × (outcome.journal.items ≡ journal) × RefusesChange step size image journal fault
-
--- why a session doesn't take a step
-abbrev pub RefusesTaking : Move → History → Fault → Type 0
-RefusesTaking step old (Refused refusal) = Takes step (Some (Refused_step refusal)) old old
-RefusesTaking step old (fault.Step (Refused_step refusal)) = ⊥
-RefusesTaking step old (fault.Step fault) = Takes step (Some fault) old old
-RefusesTaking step old _ = ⊥
+-- what steps on bytes answer; with a fault, image and journal are those that were handed in
+abbrev pub AnswersChange : Option Fault → List Move → ℕ → List ℕ → List ℕ → Outcome → Type 0
+AnswersChange None steps size image journal outcome = ChangesBytes steps size image journal outcome
+AnswersChange (Some fault) steps size image journal outcome =
+    (outcome.image.items ≡ image) × (outcome.journal.items ≡ journal) × RefusesChange steps outcome.at size image journal fault

@@ -1,5 +1,5 @@
 -- Laws of bytes on which steps are taken (own).
-use Rattle.std.specs.Prelude.{◌≡◌, ◌≤◌, ◌+◌, ◌*◌, ℕ, List, [], ◌∷◌, length, take, drop, map, Option, Some, None}
+use Rattle.std.specs.Prelude.{◌≡◌, ◌≤◌, ◌+◌, ◌*◌, ℕ, List, [], ◌∷◌, length, take, drop, Option}
 use Rattle.std.specs.Int.{w32, from_le_bytes}
 use Rattle.lfs_fs.specs.Path.{Path}
 use Rattle.lfs_fs.specs.Volume.{Volume}
@@ -12,24 +12,16 @@ use Rattle.lfs_command.specs.Command.{Asked, Command, Spells}
 use Rattle.lfs_command.specs.Need.{need}
 use Rattle.lfs_history.specs.History.{History}
 use Rattle.lfs_history.specs.Opening.{kept_journal}
-use Rattle.lfs_history.specs.Taking.{Move, Do, Undo, Run}
+use Rattle.lfs_history.specs.Taking.{Move, Do, Undo}
 use Rattle.lfs_history.specs.Laws.{IsCarriedOut}
-use Rattle.lfs_change.specs.declared.fault.Fault.{Fault}
 use Rattle.lfs_change.specs.declared.outcome.Outcome.{Outcome}
-use Rattle.lfs_change.specs.Batch.{ChangesBytesByAll}
 use Rattle.lfs_change.specs.Bytes.{image_of}
-use Rattle.lfs_change.specs.Change.{Denotes, DenotesOn, ChangesBytes, AnswersChange}
+use Rattle.lfs_change.specs.Change.{Denotes, DenotesOn, ChangesBytes}
 
--- the image and the journal that a step leaves denote the history that it leaves
+-- the image and the journal that steps leave denote the history that they leave
 abbrev pub ChangedBytesAreDenoted : Type 0
-ChangedBytesAreDenoted = (step : Move) (size : ℕ) (image journal : List ℕ) (outcome : Outcome)
-    (changes : ChangesBytes step size image journal outcome)
-    → Denotes size outcome.image.items outcome.journal.items changes.1.new
-
--- so do those that several steps leave
-abbrev pub BatchesAreDenoted : Type 0
-BatchesAreDenoted = (steps : List Move) (size : ℕ) (image journal : List ℕ) (outcome : Outcome)
-    (changes : ChangesBytesByAll steps size image journal outcome)
+ChangedBytesAreDenoted = (steps : List Move) (size : ℕ) (image journal : List ℕ) (outcome : Outcome)
+    (changes : ChangesBytes steps size image journal outcome)
     → Denotes size outcome.image.items outcome.journal.items changes.1.new
 
 -- Bytes that a command changed are an image that mounts to the command's equation of the tree of the image before, with the same
@@ -37,14 +29,14 @@ BatchesAreDenoted = (steps : List Move) (size : ℕ) (image journal : List ℕ) 
 abbrev pub ChangedBytesAreEquations : Type 0
 ChangedBytesAreEquations = (asked : Asked) (keep : Option ℕ) (size : ℕ) (image journal : List ℕ) (outcome : Outcome)
     (v : Volume) (t : Path → Option Node)
-    → ChangesBytes (Do asked keep) size image journal outcome → Holds (reading_of (image_of size image)) v
+    → ChangesBytes (Do asked keep ∷ []) size image journal outcome → Holds (reading_of (image_of size image)) v
     → Mounts (image_of size image) t → IsCarriedOut asked (image_of size outcome.image.items) v t
 
 -- what a command did is undone byte for byte, by the journal that it left, however much of the past it keeps
 abbrev pub UndoneBytesStandAgain : Type 0
 UndoneBytesStandAgain = (asked : Asked) (keep : Option ℕ) (size : ℕ) (image journal : List ℕ) (done undone : Outcome)
-    → ChangesBytes (Do asked keep) size image journal done
-    → ChangesBytes (Undo 1) size done.image.items done.journal.items undone → undone.image.items ≡ image
+    → ChangesBytes (Do asked keep ∷ []) size image journal done
+    → ChangesBytes (Undo 1 ∷ []) size done.image.items done.journal.items undone → undone.image.items ≡ image
 
 -- the length of a journal; of one without bytes, that of a journal without changes
 abbrev pub journal_length : List ℕ → ℕ
@@ -73,7 +65,7 @@ pub record GrowsByTheNeed (asked : Asked) (size : ℕ) (image journal : List ℕ
 -- the journal of bytes that a command changed grows by no more than the need
 abbrev pub JournalsOfBytesGrowByTheNeed : Type 0
 JournalsOfBytesGrowByTheNeed = (asked : Asked) (keep : Option ℕ) (size : ℕ) (image journal : List ℕ) (outcome : Outcome)
-    → ChangesBytes (Do asked keep) size image journal outcome → GrowsByTheNeed asked size image journal outcome
+    → ChangesBytes (Do asked keep ∷ []) size image journal outcome → GrowsByTheNeed asked size image journal outcome
 
 -- On the volume that the image holds the command needs some blocks, and the new journal is longer by no more than that even than the
 -- journal that has nothing but those of the changes that are kept.
@@ -90,42 +82,4 @@ pub record GrowsOnTheKept (asked : Asked) (keep : Option ℕ) (size : ℕ) (imag
 -- the journal of bytes that a command changed is bounded by what it keeps
 abbrev pub JournalsOfBytesGrowOnTheKept : Type 0
 JournalsOfBytesGrowOnTheKept = (asked : Asked) (keep : Option ℕ) (size : ℕ) (image journal : List ℕ) (outcome : Outcome)
-    → ChangesBytes (Do asked keep) size image journal outcome → GrowsOnTheKept asked keep size image journal outcome
-
--- the bytes of an image and of its journal
-pub record BothFiles : Type 0 where
-  pub image : List ℕ
-  pub journal : List ℕ
-
--- a step, and its fault where it was refused
-pub record Taken : Type 0 where
-  pub step : Move
-  pub fault : Option Fault
-
--- steps on bytes, each handed the bytes that the one before left
-abbrev pub RunsInTurn : ℕ → List Taken → BothFiles → BothFiles → Type 0
-RunsInTurn size [] old new = new ≡ old
-RunsInTurn size (t ∷ ts) old new =
-    (outcome : Outcome) × AnswersChange t.fault t.step size old.image old.journal outcome
-    × RunsInTurn size ts (record { image = outcome.image.items; journal = outcome.journal.items }) new
-
--- a step before others, unless it was refused
-abbrev pub accepted_before : Option Fault → Move → List Move → List Move
-accepted_before None step steps = step ∷ steps
-accepted_before (Some fault) step steps = steps
-
--- those of the steps that were not refused
-abbrev pub accepted : List Taken → List Move
-accepted [] = []
-accepted (t ∷ ts) = accepted_before t.fault t.step (accepted ts)
-
--- a list of runs leads from what the first bytes denote, by the steps that were not refused, to what the last denote
-pub record IsRunOf (size : ℕ) (ts : List Taken) (files : BothFiles) (old : History) : Type 0 where
-  pub new : History
-  pub denotes : Denotes size files.image files.journal new
-  pub run : Run (accepted ts) (map (λ _. None) (accepted ts)) old new
-
--- a list of runs, each handed the bytes of the one before, is a run of the steps that were not refused
-abbrev pub RunsOfBytesAreRuns : Type 0
-RunsOfBytesAreRuns = (size : ℕ) (ts : List Taken) (first last : BothFiles) (old : History) → Denotes size first.image first.journal old
-    → RunsInTurn size ts first last → IsRunOf size ts last old
+    → ChangesBytes (Do asked keep ∷ []) size image journal outcome → GrowsOnTheKept asked keep size image journal outcome

@@ -1,6 +1,7 @@
 pub mod Bytes
 pub mod Fault
 pub mod KeptJournal
+pub mod KeptPast
 pub mod Change
-pub mod Batch
+pub mod Forgetting
 pub mod Laws

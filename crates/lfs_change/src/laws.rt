@@ -1,28 +1,17 @@
 //! Laws of bytes on which steps are taken: each function does nothing but call laws, and its contract is the law.
 
-ghost use Rattle.lfs_change.specs.Laws.{BatchesAreDenoted, ChangedBytesAreDenoted, ChangedBytesAreEquations, JournalsOfBytesGrowByTheNeed, JournalsOfBytesGrowOnTheKept, RunsOfBytesAreRuns, UndoneBytesStandAgain};
+ghost use Rattle.lfs_change.specs.Laws.{ChangedBytesAreDenoted, ChangedBytesAreEquations, JournalsOfBytesGrowByTheNeed, JournalsOfBytesGrowOnTheKept, UndoneBytesStandAgain};
 
 use lfs_history::{
     commands_push_equations, journals_grow_by_the_need, runs_keep_histories, saved_histories_open,
     steps_keep_size, undo_is_exact,
 };
 
-/// A law: the image and the journal that a step leaves denote the history that it leaves. Takes no memory.
+/// A law: the image and the journal that steps leave denote the history that they leave. Takes no memory.
 ///
 /// Source: own.
 pub fn changed_bytes_are_denoted()
     ensures { ChangedBytesAreDenoted }
-{
-    runs_keep_histories();
-    saved_histories_open();
-    steps_keep_size();
-}
-
-/// A law: the image and the journal that several steps leave denote the history that they leave. Takes no memory.
-///
-/// Source: own.
-pub fn batches_are_denoted()
-    ensures { BatchesAreDenoted }
 {
     runs_keep_histories();
     saved_histories_open();
@@ -50,17 +39,6 @@ pub fn undone_bytes_stand_again()
     changed_bytes_are_denoted();
     saved_histories_open();
     undo_is_exact();
-}
-
-/// A law: a list of runs, each handed the image and the journal that the one before left, is a run of its steps that were not
-/// refused: the last bytes denote the history to which these lead from the one that the first denote. Takes no memory.
-///
-/// Source: own.
-pub fn runs_of_bytes_are_runs()
-    ensures { RunsOfBytesAreRuns }
-{
-    changed_bytes_are_denoted();
-    saved_histories_open();
 }
 
 /// A law: the journal that a command leaves is longer than the one before it by no more than three numbers and, for each block that

@@ -2,8 +2,8 @@
 
 use crate::fault::Fault;
 use crate::kept_journal::KeptJournal;
-use crate::stop::Stop;
 use lfs_book::Journal;
+use lfs_journal::Stopped;
 
 /// What a run answers: the image and the journal to be kept, why nothing was done where there is a reason, at which of several steps
 /// that is, and the status to end with.
@@ -24,9 +24,9 @@ pub struct Outcome {
 }
 
 impl Outcome {
-    ghost use Rattle.std.specs.Prelude.{◌≡◌, None, Some};
+    ghost use Rattle.std.specs.Prelude.{◌≡◌, None, Some, false};
     ghost use Rattle.lfs_book.specs.Book.{journal_bytes};
-    ghost use Rattle.lfs_change.specs.Fault.{status_of};
+    ghost use Rattle.lfs_change.specs.Fault.{blames_output, fault_of_step, status_of};
 
     /// The outcome with this fault, if any, and its status. Takes no memory.
     pub fn new(image: Vec<u8>, journal: Vec<u8>, fault: Option<Fault>) -> Outcome
@@ -63,14 +63,15 @@ impl Outcome {
     }
 
     /// The outcome of several steps that aren't done. Takes no memory.
-    pub(crate) fn stopped(image: Vec<u8>, journal: Vec<u8>, stop: Stop) -> Outcome
+    pub(crate) fn stopped(image: Vec<u8>, journal: Vec<u8>, stopped: Stopped) -> Outcome
         ensures kept { (result.image ≡ image) × (result.journal.items ≡ journal.items) }
-        ensures fault { result.fault ≡ Some stop.fault }
-        ensures at { result.at ≡ stop.at }
-        ensures status { result.status ≡ status_of (Some stop.fault) }
+        ensures fault { result.fault ≡ Some (fault_of_step stopped.fault) }
+        ensures at { result.at ≡ stopped.at }
+        ensures failed { blames_output result.fault ≡ false }
+        ensures status { result.status ≡ status_of result.fault }
     {
-        let mut outcome = Outcome::new(image, journal, Some(stop.fault));
-        outcome.at = stop.at;
+        let mut outcome = Outcome::new(image, journal, Some(Fault::from(stopped.fault)));
+        outcome.at = stopped.at;
         outcome
     }
 }
