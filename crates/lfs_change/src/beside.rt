@@ -79,6 +79,6 @@ fn session_changed(
     let mut session = session;
     match session.take_all(alloc, steps) {
         Ok(()) => outcome_of(session),
-        Err(stopped) => Outcome::stopped(kept, journal, stopped),
+        Err(stopped) => Outcome::stopped(kept, journal, stopped, None),
     }
 }

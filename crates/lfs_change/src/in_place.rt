@@ -14,6 +14,7 @@ ghost use Rattle.lfs_change.specs.KeptPast.{AllButLast};
 use crate::fault::Fault;
 use crate::opening::{image_bytes, opened, outcome_of};
 use crate::outcome::Outcome;
+use crate::place::Place;
 use lfs_block::Image;
 use lfs_history::Move;
 use lfs_journal::{Refused, Session, Stopped};
@@ -67,8 +68,24 @@ fn session_changed(alloc: Global, steps: &[Move<'_>], session: Session, journal:
     let mut session = session;
     match taken_in(alloc, steps, &mut session) {
         Ok(()) => outcome_of(session),
-        Err(stopped) => Outcome::stopped(image_bytes(session), journal, stopped),
+        Err(stopped) => {
+            let place = place_of(alloc, steps, &session);
+            Outcome::stopped(image_bytes(session), journal, stopped, place)
+        }
     }
+}
+
+/// Where on its path the first of some steps is refused in a session that still knows its outline, as it does where that one is.
+fn place_of(alloc: Global, steps: &[Move<'_>], session: &Session) -> Option<Place> {
+    let Move::Do { command, .. } = steps.first()? else {
+        return None;
+    };
+    Place::of(
+        alloc,
+        session.outline()?,
+        command.path()?,
+        command.target().copied(),
+    )
 }
 
 /// Takes such steps: where one is refused, those before it are taken back, so that the image is as it was.

@@ -12,6 +12,7 @@ mod laws;
 mod opening;
 mod other_fault;
 mod outcome;
+mod place;
 
 pub use changing::changed;
 pub use fault::Fault;
@@ -23,3 +24,4 @@ pub use laws::{
 };
 pub use other_fault::OtherFault;
 pub use outcome::Outcome;
+pub use place::Place;

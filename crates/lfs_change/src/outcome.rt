@@ -2,6 +2,7 @@
 
 use crate::fault::Fault;
 use crate::kept_journal::KeptJournal;
+use crate::place::Place;
 use lfs_book::Journal;
 use lfs_journal::Stopped;
 
@@ -19,6 +20,8 @@ pub struct Outcome {
     pub fault: Option<Fault>,
     /// How many of several steps could have been done before the one that is refused; 0 else.
     pub at: usize,
+    /// Where on its path the step is refused, as far as that is known.
+    pub place: Option<Place>,
     /// The status that the program ends with.
     pub status: u8,
 }
@@ -43,6 +46,7 @@ impl Outcome {
             journal: KeptJournal::given(journal),
             fault,
             at: 0,
+            place: None,
             status,
         }
     }
@@ -58,12 +62,18 @@ impl Outcome {
             journal: KeptJournal::spelled(journal),
             fault: None,
             at: 0,
+            place: None,
             status: 0,
         }
     }
 
     /// The outcome of several steps that aren't done. Takes no memory.
-    pub(crate) fn stopped(image: Vec<u8>, journal: Vec<u8>, stopped: Stopped) -> Outcome
+    pub(crate) fn stopped(
+        image: Vec<u8>,
+        journal: Vec<u8>,
+        stopped: Stopped,
+        place: Option<Place>,
+    ) -> Outcome
         ensures kept { (result.image ≡ image) × (result.journal.items ≡ journal.items) }
         ensures fault { result.fault ≡ Some (fault_of_step stopped.fault) }
         ensures at { result.at ≡ stopped.at }
@@ -72,6 +82,7 @@ impl Outcome {
     {
         let mut outcome = Outcome::new(image, journal, Some(Fault::from(stopped.fault)));
         outcome.at = stopped.at;
+        outcome.place = place;
         outcome
     }
 }

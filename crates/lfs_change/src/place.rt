@@ -1,0 +1,56 @@
+//! Where on its path a step is refused.
+
+use lfs_command::names_of;
+use lfs_draft::{entry_there, reach};
+use lfs_fs::{Limits, Outline};
+use std::alloc::Global;
+
+/// Where on its path a step is refused, for what is told of it.
+///
+/// Source: own.
+#[derive(Clone, Copy)]
+pub struct Place {
+    /// Whether it is on the path that something is moved to.
+    pub is_of_target: bool,
+    /// How many names of that path lead to something, from the root on.
+    pub names: usize,
+    /// Whether the path that something is moved to, or the only one, is that of a directory.
+    pub is_directory: bool,
+    /// The limits of the image.
+    pub limits: Limits,
+}
+
+impl Place {
+    /// Where a path is refused in an image of this outline, or `target`, to which something is moved from there, where the whole of the
+    /// path leads to something. `None` where one of the texts is no path, or memory is wanting.
+    ///
+    /// Source: own.
+    pub fn of(alloc: Global, outline: &Outline, path: &[u8], target: Option<&[u8]>) -> Option<Place> {
+        let path = names_of(alloc, path).ok()?;
+        let reached = reach(outline, &path);
+        let Some(target) = target else {
+            return Some(Place {
+                is_of_target: false,
+                names: reached,
+                is_directory: is_directory(outline, &path),
+                limits: outline.limits,
+            });
+        };
+        let target = names_of(alloc, target).ok()?;
+        let is_of_target = reached == path.len();
+        Some(Place {
+            is_of_target,
+            names: if is_of_target { reach(outline, &target) } else { reached },
+            is_directory: is_directory(outline, &target),
+            limits: outline.limits,
+        })
+    }
+}
+
+/// Whether names lead to a directory.
+fn is_directory(outline: &Outline, names: &[&[u8]]) -> bool {
+    match entry_there(outline, names) {
+        Ok(entry) => entry.target().is_some(),
+        Err(_) => false,
+    }
+}
