@@ -75,7 +75,7 @@ fn session_changed(alloc: Global, steps: &[Move<'_>], session: Session, journal:
     }
 }
 
-/// Where on its path the first of some steps is refused in a session that still knows its outline, as it does where that one is.
+/// Where on its path the first of some steps is refused; behind others that were taken back the session knows no outline, and so no place.
 fn place_of(alloc: Global, steps: &[Move<'_>], session: &Session) -> Option<Place> {
     let Move::Do { command, .. } = steps.first()? else {
         return None;

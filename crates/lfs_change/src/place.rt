@@ -25,7 +25,12 @@ impl Place {
     /// path leads to something. `None` where one of the texts is no path, or memory is wanting.
     ///
     /// Source: own.
-    pub fn of(alloc: Global, outline: &Outline, path: &[u8], target: Option<&[u8]>) -> Option<Place> {
+    pub fn of(
+        alloc: Global,
+        outline: &Outline,
+        path: &[u8],
+        target: Option<&[u8]>,
+    ) -> Option<Place> {
         let path = names_of(alloc, path).ok()?;
         let reached = reach(outline, &path);
         let Some(target) = target else {
@@ -40,7 +45,11 @@ impl Place {
         let is_of_target = reached == path.len();
         Some(Place {
             is_of_target,
-            names: if is_of_target { reach(outline, &target) } else { reached },
+            names: if is_of_target {
+                reach(outline, &target)
+            } else {
+                reached
+            },
             is_directory: is_directory(outline, &target),
             limits: outline.limits,
         })

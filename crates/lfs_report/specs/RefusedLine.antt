@@ -1,5 +1,5 @@
 -- The line of a script for which none of its steps are done (own).
-use Rattle.std.specs.Prelude.{ℕ, List, Option, Some, None, slice_get}
+use Rattle.std.specs.Prelude.{ℕ, Bool, true, false, if◌then◌else◌, List, Option, Some, None, slice_get}
 use Rattle.lfs_command.specs.declared.refusal.Refusal.TheVariants as refusal
 use Rattle.lfs_change.specs.declared.fault.Fault.{Fault}
 use Rattle.lfs_change.specs.declared.fault.Fault.TheVariants as fault
@@ -8,7 +8,8 @@ use Rattle.lfs_script.specs.declared.line_fault.LineFault.{LineFault}
 use Rattle.lfs_script.specs.declared.line_fault.LineFault.TheVariants.{Memory, BadHex, BadLine}
 use Rattle.lfs_script.specs.declared.script_line.ScriptLine.{ScriptLine}
 use Rattle.lfs_report.specs.declared.stated.Statement.{Statement}
-use Rattle.lfs_report.specs.declared.stated.Statement.TheVariants.{Line, Step}
+use Rattle.lfs_report.specs.declared.stated.Statement.TheVariants.{Line}
+use Rattle.lfs_report.specs.declared.stop.Stop.{Stop}
 
 -- what a fault of a line is told as
 abbrev pub fault_of_line : LineFault → Fault
@@ -21,12 +22,18 @@ abbrev pub line_refused : ℕ → Fault → Option Flaw → Option Statement
 line_refused number (fault.Refused refusal.Memory) flaw = None
 line_refused number _ flaw = Some (Line number flaw)
 
--- what is told where the step at this place is refused: the number of the line at that place among those that say steps
-abbrev pub line_stated : Option ScriptLine → ℕ → Option Statement
-line_stated None at = Some (Step at)
-line_stated (Some line) at = Some (Line line.number None)
+-- a fault is of a step, and neither of the image and its journal nor want of memory
+abbrev pub is_of_step : Fault → Bool
+is_of_step (fault.Refused refusal.Memory) = false
+is_of_step (fault.Refused _) = true
+is_of_step (fault.Step _) = true
+is_of_step _ = false
 
--- the same of what is told of a step among others; every other statement stays
-abbrev pub numbered : List ScriptLine → Option Statement → Option Statement
-numbered lines (Some (Step at)) = line_stated (slice_get lines at) at
-numbered lines statement = statement
+-- what is told where the step of a line is refused: the line's number
+abbrev pub line_stated : Option ScriptLine → Option Statement → Option Statement
+line_stated None statement = statement
+line_stated (Some line) statement = Some (Line line.number None)
+
+-- where a step is refused the line is told at its place among those that say steps; every other statement stays
+abbrev pub numbered : List ScriptLine → Stop → Option Statement
+numbered lines stop = if is_of_step stop.fault then line_stated (slice_get lines stop.at) stop.statement else stop.statement

@@ -26,11 +26,7 @@ pub fn with_need(alloc: Global, size: u32, limits: Limits, rows: &[PackRow<'_>],
     let Fault::Refused(Refusal::NoSpace { .. }) = stop.fault else {
         return stop;
     };
-    Stop {
-        fault: stop.fault,
-        statement: need_of(alloc, size, limits, rows),
-        count: stop.count,
-    }
+    stop.with(need_of(alloc, size, limits, rows))
 }
 
 /// How many blocks rows need, as it is told.

@@ -2,11 +2,10 @@
 
 use crate::finding::Finding;
 use crate::step_paths::StepPaths;
-use lfs_block::Image;
+use lfs_change::Place;
 use lfs_command::names_of;
-use lfs_draft::entry_there;
 use lfs_edit::Refusal;
-use lfs_fs::{Limits, Outline, mount};
+use lfs_fs::Limits;
 use lfs_step::Step;
 use std::alloc::Global;
 
@@ -28,41 +27,35 @@ pub struct PathNote {
     pub finding: Finding,
 }
 
-/// What is told of the path for which a step on an image of blocks of `size` bytes is refused, where the refusal is of a path.
-/// Takes memory.
+/// What is told of the path for which a step is refused at a place, where the refusal is of a path. Takes memory.
 pub(crate) fn note_of(
     alloc: Global,
-    size: u32,
     step: &Step<'_>,
     refusal: Refusal,
-    bytes: Vec<u8>,
-) -> Option<PathNote> {
-    match Image::new(bytes, size) {
-        Ok(image) => note_in(alloc, step, refusal, &image),
-        Err(_) => None,
-    }
-}
-
-/// What is told of it, in an image.
-fn note_in(alloc: Global, step: &Step<'_>, refusal: Refusal, image: &Image) -> Option<PathNote> {
-    match mount(alloc, image) {
-        Ok(mounted) => note_below(alloc, step, refusal, mounted.limits(), mounted.outline()),
-        Err(_) => None,
-    }
-}
-
-/// What is told of it, below a root.
-fn note_below(
-    alloc: Global,
-    step: &Step<'_>,
-    refusal: Refusal,
-    limits: Limits,
-    outline: &Outline,
+    place: Option<Place>,
 ) -> Option<PathNote> {
     let paths = StepPaths::of(step)?;
-    let finding = present_as(alloc, outline, paths, finding_of(step, refusal, limits)?);
-    let front = front_of(alloc, outline, paths, finding)?;
-    Some(PathNote { front, finding })
+    match refusal {
+        Refusal::BadPath => Some(PathNote {
+            front: bad_front(alloc, paths)?,
+            finding: Finding::NoPath,
+        }),
+        refusal => note_at(step, paths, refusal, place?),
+    }
+}
+
+/// What is told of it, where its texts are paths.
+fn note_at(
+    step: &Step<'_>,
+    paths: StepPaths<'_>,
+    refusal: Refusal,
+    place: Place,
+) -> Option<PathNote> {
+    let finding = present_as(paths, place, finding_of(step, refusal, place.limits)?);
+    Some(PathNote {
+        front: front_of(paths, place, finding),
+        finding,
+    })
 }
 
 /// What a refusal says of a path.
@@ -73,7 +66,6 @@ fn finding_of(step: &Step<'_>, refusal: Refusal, limits: Limits) -> Option<Findi
         Refusal::NotADirectory => Some(Finding::File),
         Refusal::IsADirectory => Some(Finding::Directory),
         Refusal::NotEmpty => Some(Finding::NotEmpty),
-        Refusal::BadPath => Some(Finding::NoPath),
         Refusal::NameTooLong => Some(Finding::LongName(limits.name)),
         Refusal::FileTooLarge => Some(Finding::LongFile(limits.file)),
         Refusal::AttrTooLarge => Some(Finding::LongValue(limits.attribute)),
@@ -84,51 +76,29 @@ fn finding_of(step: &Step<'_>, refusal: Refusal, limits: Limits) -> Option<Findi
         Refusal::IntoItself => Some(Finding::IntoItself),
         Refusal::IsRoot => Some(Finding::Root),
         Refusal::EntryTooLarge => Some(Finding::LargeEntry),
-        Refusal::NoSpace { .. } | Refusal::Memory | Refusal::BadCount => None,
+        Refusal::NoSpace { .. } | Refusal::Memory | Refusal::BadCount | Refusal::BadPath => None,
     }
 }
 
 /// What is said of what is there already: that it is a directory, where something else is to be moved in its place.
-fn present_as(alloc: Global, outline: &Outline, paths: StepPaths<'_>, finding: Finding) -> Finding {
+fn present_as(paths: StepPaths<'_>, place: Place, finding: Finding) -> Finding {
     match (finding, paths.target) {
-        (Finding::Present, Some(target))
-            if target != paths.path && is_directory(alloc, outline, target) => {
+        (Finding::Present, Some(target)) if target != paths.path && place.is_directory => {
             Finding::PresentDirectory
         }
         (finding, _) => finding,
     }
 }
 
-/// Whether a text is the path of a directory.
-fn is_directory(alloc: Global, outline: &Outline, text: &[u8]) -> bool {
-    match names_of(alloc, text) {
-        Ok(names) => leads_to_directory(outline, names.as_slice()),
-        Err(_) => false,
-    }
-}
-
-/// Whether these names lead to a directory.
-fn leads_to_directory(outline: &Outline, names: &[&[u8]]) -> bool {
-    match entry_there(outline, names) {
-        Ok(entry) => entry.target().is_some(),
-        Err(_) => false,
-    }
-}
-
 /// The front of a step's path that a finding is of.
-fn front_of(
-    alloc: Global,
-    outline: &Outline,
-    paths: StepPaths<'_>,
-    finding: Finding,
-) -> Option<Front> {
+fn front_of(paths: StepPaths<'_>, place: Place, finding: Finding) -> Front {
     match finding {
-        Finding::Missing | Finding::File => found_front(alloc, outline, paths, finding),
-        Finding::NoPath => bad_front(alloc, paths),
-        Finding::Root if paths.path.len() > 1 => Some(paths.last()),
+        Finding::Missing => paths.front(place.is_of_target, place.names.saturating_add(1)),
+        Finding::File => paths.front(place.is_of_target, place.names),
+        Finding::Root if paths.path.len() > 1 => paths.last(),
         Finding::Present | Finding::PresentDirectory | Finding::LongName(_) | Finding::LargeEntry =>
-            Some(paths.last()),
-        _ => Some(paths.first()),
+            paths.last(),
+        _ => paths.first(),
     }
 }
 
@@ -138,61 +108,5 @@ fn bad_front(alloc: Global, paths: StepPaths<'_>) -> Option<Front> {
         Ok(_) => Some(paths.last()),
         Err(Refusal::BadPath) => Some(paths.first()),
         Err(_) => None,
-    }
-}
-
-/// The shortest front of a step's path that isn't there, or is a file with more names behind it: of the first path where it
-/// has one.
-fn found_front(
-    alloc: Global,
-    outline: &Outline,
-    paths: StepPaths<'_>,
-    finding: Finding,
-) -> Option<Front> {
-    if let Some(len) = front_with(alloc, outline, paths.path, finding) {
-        return Some(Front {
-            is_of_target: false,
-            len,
-        });
-    }
-    let len = front_with(alloc, outline, paths.target?, finding)?;
-    Some(Front {
-        is_of_target: true,
-        len,
-    })
-}
-
-/// The length of the shortest front of a path that isn't there, or is a file with more names behind it.
-fn front_with(alloc: Global, outline: &Outline, text: &[u8], finding: Finding) -> Option<usize> {
-    match names_of(alloc, text) {
-        Ok(names) => front_among(outline, names.as_slice(), text.len(), finding),
-        Err(_) => None,
-    }
-}
-
-/// The length of the shortest front of a path of these names, whose text has `whole` bytes.
-fn front_among(
-    outline: &Outline,
-    names: &[&[u8]],
-    whole: usize,
-    finding: Finding,
-) -> Option<usize> {
-    let mut len: usize = 0;
-    for (at, name) in names.iter().enumerate() {
-        let (front, _) = names.split_at(at + 1);
-        len = len.saturating_add(1).saturating_add(name.len());
-        if is_found(outline, front, len < whole, finding) {
-            return Some(len);
-        }
-    }
-    None
-}
-
-/// Whether a front of a path isn't there, or is a file with more names behind it.
-fn is_found(outline: &Outline, front: &[&[u8]], has_more: bool, finding: Finding) -> bool {
-    match (entry_there(outline, front), finding) {
-        (Err(Refusal::NotFound), Finding::Missing) => true,
-        (Ok(entry), Finding::File) => has_more && entry.target().is_none(),
-        _ => false,
     }
 }

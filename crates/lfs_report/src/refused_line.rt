@@ -1,7 +1,7 @@
 //! The line of a script for which none of its steps are done.
 
 ghost use Rattle.std.specs.Prelude.{◌≡◌};
-ghost use Rattle.lfs_report.specs.RefusedLine.{fault_of_line, line_refused, numbered};
+ghost use Rattle.lfs_report.specs.RefusedLine.{fault_of_line, is_of_step, line_refused, numbered};
 
 use crate::beside::Beside;
 use crate::stated::Statement;
@@ -37,6 +37,7 @@ pub fn stop_at(number: usize, fault: Fault, flaw: Option<Flaw>) -> Stop
         fault,
         statement,
         count: None,
+        at: 0,
     }
 }
 
@@ -55,18 +56,25 @@ pub fn stop_of_line(first: ScriptFault) -> Stop
 /// Source: own.
 pub fn with_number(lines: &[ScriptLine<'_>], stop: Stop) -> Stop
     ensures fault { result.fault ≡ stop.fault }
-    ensures line { result.statement ≡ numbered lines.now stop.statement }
+    ensures line { result.statement ≡ numbered lines.now stop }
 {
-    let Some(Statement::Step(at)) = stop.statement else {
+    if !is_of_step(stop.fault) {
+        return stop;
+    }
+    let Some(line) = lines.get(stop.at) else {
         return stop;
     };
-    let Some(line) = lines.get(at) else {
-        return stop;
-    };
-    Stop {
-        fault: stop.fault,
-        statement: Some(Statement::Line(line.number, None)),
-        count: stop.count,
+    stop.with(Some(Statement::Line(line.number, None)))
+}
+
+/// Whether a fault is of a step, and neither of the image and its journal nor want of memory.
+fn is_of_step(fault: Fault) -> bool
+    ensures { result ≡ is_of_step fault }
+{
+    match fault {
+        Fault::Refused(Refusal::Memory) => false,
+        Fault::Refused(_) | Fault::Step(_) => true,
+        _ => false,
     }
 }
 
@@ -83,11 +91,7 @@ pub fn with_line(alloc: Global, text: &[u8], beside: &mut Beside, stop: Stop) ->
         beside.text = line;
         return stop;
     }
-    Stop {
-        fault: stop.fault,
-        statement: None,
-        count: stop.count,
-    }
+    stop.with(None)
 }
 
 /// A copy of the line of a text that has this number.

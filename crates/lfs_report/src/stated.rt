@@ -63,7 +63,7 @@ impl Sight {
 
 /// Where an image states a geometry or a disk version, and which of the two is told.
 #[derive(Clone, Copy)]
-pub enum Place {
+pub enum StatedPlace {
     /// The geometry that the superblock states.
     Superblock,
     /// The disk version that the superblock states.
@@ -80,7 +80,7 @@ pub enum Place {
 #[derive(Clone, Copy)]
 pub enum Statement {
     /// What an image states somewhere.
-    Stated(Place, Stated),
+    Stated(StatedPlace, Stated),
     /// The disk version that a block states of which version 2.0 reads no commit.
     Unread(StatedVersion),
     /// The disk version of a later commit, for which the image is refused.
@@ -91,8 +91,6 @@ pub enum Statement {
     Path(PathNote),
     /// What is known of the row for which a folder isn't packed; the text of its path is kept beside.
     Row(Finding),
-    /// How many of several steps were done before the one that is refused.
-    Step(usize),
     /// The number of the line of a script that is refused, and what is wrong in it where it says no step; its text is kept beside.
     Line(usize, Option<Flaw>),
     /// How many blocks the folder needs that is packed; no image of this block size holds it for `None`.
@@ -120,7 +118,7 @@ pub(crate) fn statement_for(fault: Fault, image: Sight, other: Sight) -> Option<
 /// What is told where bytes are no image.
 fn statement_of_bytes(fault: ImageFault, seen: Sight) -> Option<Statement> {
     match (fault, seen.stated) {
-        (_, Some(stated)) => Some(Statement::Stated(Place::FirstBlock, stated)),
+        (_, Some(stated)) => Some(Statement::Stated(StatedPlace::FirstBlock, stated)),
         (ImageFault::ImageLength, None) => Some(Statement::Length(seen.len, seen.size)),
         (ImageFault::BadGeometry, None) => None,
     }
@@ -133,10 +131,10 @@ fn statement_of_image(fault: MountFault, seen: Sight) -> Option<Statement> {
     }
     let stated = seen.stated?;
     let place = match fault {
-        MountFault::Geometry => Place::Superblock,
-        MountFault::Version => Place::SuperblockVersion,
-        MountFault::NoValidCommit if stated.version != VERSION => Place::Version,
-        MountFault::NoValidCommit | MountFault::NoSuperblock => Place::FirstBlock,
+        MountFault::Geometry => StatedPlace::Superblock,
+        MountFault::Version => StatedPlace::SuperblockVersion,
+        MountFault::NoValidCommit if stated.version != VERSION => StatedPlace::Version,
+        MountFault::NoValidCommit | MountFault::NoSuperblock => StatedPlace::FirstBlock,
         _ => return None,
     };
     Some(Statement::Stated(place, stated))

@@ -54,6 +54,19 @@ impl<'a> StepPaths<'a> {
         path.get(..front.len).unwrap_or(path)
     }
 
+    /// The front of so many names of the first path, or of the one that something is moved to. Takes no memory.
+    pub(crate) fn front(self, is_of_target: bool, names: usize) -> Front {
+        let front = if is_of_target {
+            self.last()
+        } else {
+            self.first()
+        };
+        Front {
+            is_of_target: front.is_of_target,
+            len: front_len(self.text(front), names),
+        }
+    }
+
     /// The whole of the first path. Takes no memory.
     pub(crate) fn first(self) -> Front {
         Front {
@@ -72,4 +85,18 @@ impl<'a> StepPaths<'a> {
             None => self.first(),
         }
     }
+}
+
+/// How many bytes of a path's text so many of its names take, with the slashes before them; the whole where it has no more.
+fn front_len(text: &[u8], names: usize) -> usize {
+    let mut left = names;
+    for (at, byte) in text.iter().enumerate() {
+        if *byte == b'/' {
+            if left == 0 {
+                return at;
+            }
+            left -= 1;
+        }
+    }
+    text.len()
 }

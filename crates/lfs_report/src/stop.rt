@@ -15,6 +15,27 @@ pub struct Stop {
     pub statement: Option<Statement>,
     /// How many blocks the image has or would get.
     pub count: Option<usize>,
+    /// How many of several steps, or rows, could have been done before the one that is refused; 0 else.
+    pub at: usize,
+}
+
+impl Stop {
+    ghost use Rattle.std.specs.Prelude.{◌≡◌};
+
+    /// The same with another statement. Takes no memory.
+    ///
+    /// Source: own.
+    pub fn with(self, statement: Option<Statement>) -> Stop
+        ensures fault { result.fault ≡ self.fault }
+        ensures statement { result.statement ≡ statement }
+    {
+        Stop {
+            fault: self.fault,
+            statement,
+            count: self.count,
+            at: self.at,
+        }
+    }
 }
 
 impl From<Fault> for Stop {
@@ -27,6 +48,7 @@ impl From<Fault> for Stop {
             fault,
             statement: None,
             count: None,
+            at: 0,
         }
     }
 }

@@ -9,7 +9,6 @@ use crate::superblock::superblock_statement;
 use lfs_block::{Blocks, Image, MountFault};
 use lfs_book::Journal;
 use lfs_change::KeptJournal;
-use lfs_edit::Refusal;
 use lfs_history::StepFault;
 use lfs_step::{Fault, Outcome, Step};
 use std::alloc::Global;
@@ -24,6 +23,7 @@ pub fn stop_of_image(fault: Fault, size: u32, bytes: &[u8]) -> Stop
         fault,
         statement: statement_for(fault, Sight::of(size, bytes), Sight::none()),
         count: blocks_in(size, bytes),
+        at: 0,
     }
 }
 
@@ -40,18 +40,21 @@ pub fn stop_of_run(
     outcome: Outcome,
     other: Sight,
 ) -> Stop
-    ensures { result.fault ≡ fault }
+    ensures fault { result.fault ≡ fault }
+    ensures at { result.at ≡ outcome.at }
 {
     let count = count_of(size, step, &outcome.image);
+    let at = outcome.at;
     let statement = match fault {
-        fault if is_of_batch(step, fault) => Some(Statement::Step(outcome.at)),
         Fault::Step(fault) => changes_statement(alloc, step, fault, outcome.journal),
-        fault => statement_of_run(alloc, size, step, fault, outcome.image, other),
+        Fault::Refused(refusal) => path_statement(note_of(alloc, step, refusal, outcome.place)),
+        fault => statement_of_run(alloc, size, fault, outcome.image, other),
     };
     Stop {
         fault,
         statement,
         count,
+        at,
     }
 }
 
@@ -65,30 +68,19 @@ pub fn other_sight(step: &Step<'_>, input: &[u8]) -> Sight {
     }
 }
 
-/// What is known beside a fault of a step on these bytes of an image.
+/// What is known beside a fault of these bytes of an image, or of the one that it is compared with.
 fn statement_of_run(
     alloc: Global,
     size: u32,
-    step: &Step<'_>,
     fault: Fault,
     bytes: Vec<u8>,
     other: Sight,
 ) -> Option<Statement> {
     match fault {
-        Fault::Refused(refusal) => path_statement(note_of(alloc, size, step, refusal, bytes)),
         Fault::Mount(fault @ (MountFault::Geometry | MountFault::Version)) => {
             statement_of_bytes(alloc, size, fault, bytes)
         }
         fault => statement_for(fault, Sight::of(size, &bytes), other),
-    }
-}
-
-/// Whether a fault is of one of several steps, and neither of the image and its journal nor want of memory.
-fn is_of_batch(step: &Step<'_>, fault: Fault) -> bool {
-    match (step, fault) {
-        (Step::Batch { .. }, Fault::Refused(Refusal::Memory)) => false,
-        (Step::Batch { .. }, Fault::Refused(_) | Fault::Step(_)) => true,
-        _ => false,
     }
 }
 
@@ -111,6 +103,7 @@ pub fn stop_of_extracting(alloc: Global, fault: Fault, image: Image) -> Stop
         fault,
         statement,
         count: None,
+        at: 0,
     }
 }
 

@@ -1,6 +1,6 @@
 //! What an image's superblock states, where its geometry or its version is refused.
 
-use crate::stated::{Place, Statement, stated_of};
+use crate::stated::{StatedPlace, Statement, stated_of};
 use lfs_block::{Blocks, Image, MountFault};
 use lfs_meta::{Body, Entry, read_pair};
 use std::alloc::Global;
@@ -22,8 +22,8 @@ pub(crate) fn superblock_statement(
 /// What the first of these entries states.
 fn statement_in(fault: MountFault, entries: &[Entry]) -> Option<Statement> {
     let place = match fault {
-        MountFault::Version => Place::SuperblockVersion,
-        _ => Place::Superblock,
+        MountFault::Version => StatedPlace::SuperblockVersion,
+        _ => StatedPlace::Superblock,
     };
     match &entries.first()?.body {
         Body::Inline(words) => Some(Statement::Stated(place, stated_of(words)?)),

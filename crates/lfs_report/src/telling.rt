@@ -10,7 +10,7 @@ use crate::later::tell_changed;
 use crate::line::{Piece, say, say_blocks, say_version, say_words};
 use crate::no_path::tell_no_path;
 use crate::path_note::PathNote;
-use crate::stated::{Place, Stated, Statement};
+use crate::stated::{Stated, StatedPlace, Statement};
 use crate::step_paths::StepPaths;
 use crate::stop::Stop;
 use crate::told_digits::tell_digits;
@@ -309,7 +309,6 @@ fn tell_statement<H: Host>(
         Statement::Length(len, size) => tell_part(host, image, len, size),
         Statement::Path(note) => tell_note(host, request, note),
         Statement::Row(finding) => tell_row(host, image, text, finding),
-        Statement::Step(_) => {}
         Statement::Line(number, flaw) => tell_line(host, request, text, number, flaw),
         Statement::Need(count) => tell_need(host, request, count),
         Statement::Changes(count) => tell_changes(host, request, count),
@@ -319,15 +318,27 @@ fn tell_statement<H: Host>(
 }
 
 /// Tells what is stated somewhere in an image.
-fn tell_stated<H: Host>(host: &mut H, image: &str, place: Place, stated: Stated)
+fn tell_stated<H: Host>(host: &mut H, image: &str, place: StatedPlace, stated: Stated)
     ensures kept { H.known host.new ≡ H.known host.old }
 {
     let blocks = (stated.count as usize, stated.size);
     match place {
-        Place::Superblock => say_blocks(host, image, "its superblock states ", blocks, " bytes"),
-        Place::SuperblockVersion => tell_superblock_version(host, image, stated.version),
-        Place::FirstBlock => say_blocks(host, image, "its first block states ", blocks, " bytes"),
-        Place::Version => tell_stated_version(host, image, stated.version),
+        StatedPlace::Superblock => say_blocks(
+            host,
+            image,
+            "its superblock states ",
+            blocks,
+            " bytes",
+        ),
+        StatedPlace::SuperblockVersion => tell_superblock_version(host, image, stated.version),
+        StatedPlace::FirstBlock => say_blocks(
+            host,
+            image,
+            "its first block states ",
+            blocks,
+            " bytes",
+        ),
+        StatedPlace::Version => tell_stated_version(host, image, stated.version),
     }
 }
 

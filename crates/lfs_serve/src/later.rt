@@ -61,5 +61,6 @@ fn stop_of(fault: Fault, version: u32) -> Stop
         fault,
         statement: Some(Statement::Later(version)),
         count: None,
+        at: 0,
     }
 }

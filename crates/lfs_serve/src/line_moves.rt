@@ -16,11 +16,7 @@ use lfs_script::ScriptLine;
 use std::alloc::{AllocError, Global};
 
 /// The contents that a line puts: those of a file of the host.
-fn contents_of<H: Host>(
-    alloc: Global,
-    host: &mut H,
-    line: &ScriptLine<'_>,
-) -> Result<Vec<u8>, Stop>
+fn contents_of<H: Host>(alloc: Global, host: &mut H, line: &ScriptLine<'_>) -> Result<Vec<u8>, Stop>
     ensures read { IfOk result (λ contents. HandsContents line.now.step (H.known host.old).files contents.items) }
     ensures refused { IfErr result (λ stop. IsUnread (H.known host.new) stop.fault) }
     ensures kept { KeepsAll (H.known host.old) (H.known host.new) }
@@ -31,7 +27,8 @@ fn contents_of<H: Host>(
             ..
         },
         ..
-    } = &line.step else {
+    } = &line.step
+    else {
         return Ok(Vec::new(alloc));
     };
     match read_contents(alloc, host, file) {

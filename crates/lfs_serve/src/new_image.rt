@@ -32,11 +32,7 @@ pub(crate) fn with_new_image<H: Host>(
     if !leads_to_new(alloc, host, size, name) {
         return stop;
     }
-    Stop {
-        fault: stop.fault,
-        statement: Some(Statement::NewImage),
-        count: stop.count,
-    }
+    stop.with(Some(Statement::NewImage))
 }
 
 /// Whether the journal of an image leads to what was to become it.

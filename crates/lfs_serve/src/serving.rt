@@ -121,7 +121,7 @@ fn packed<H: Host>(
         Ok(()) => Ok(()),
         Err(stop) => {
             let stop = with_need(alloc, request.size, limits, rows, stop);
-            Err(with_row(alloc, request.size, limits, rows, beside, stop))
+            Err(with_row(alloc, limits, rows, beside, stop))
         }
     }
 }
