@@ -18,7 +18,7 @@ pub struct Outcome {
     pub journal: KeptJournal,
     /// Why nothing was done.
     pub fault: Option<Fault>,
-    /// How many of several steps could have been done before the one that is refused; 0 else.
+    /// How many of several steps, or rows, could have been done before the one that is refused; 0 else.
     pub at: usize,
     /// Where on its path the step is refused, as far as that is known.
     pub place: Option<Place>,
@@ -37,6 +37,23 @@ impl Outcome {
         ensures fault { result.fault ≡ fault }
         ensures status { result.status ≡ status_of fault }
     {
+        Outcome::placed(image, journal, fault, 0, None)
+    }
+
+    /// The outcome with this fault, if any, which is met behind so many steps or rows, at a place of its path where that is known.
+    /// Takes no memory.
+    pub fn placed(
+        image: Vec<u8>,
+        journal: Vec<u8>,
+        fault: Option<Fault>,
+        at: usize,
+        place: Option<Place>,
+    ) -> Outcome
+        ensures kept { (result.image ≡ image) × (result.journal.items ≡ journal.items) }
+        ensures fault { result.fault ≡ fault }
+        ensures at { result.at ≡ at }
+        ensures status { result.status ≡ status_of fault }
+    {
         let status = match fault {
             None => 0,
             Some(fault) => fault.status(),
@@ -45,8 +62,8 @@ impl Outcome {
             image,
             journal: KeptJournal::given(journal),
             fault,
-            at: 0,
-            place: None,
+            at,
+            place,
             status,
         }
     }
@@ -80,9 +97,7 @@ impl Outcome {
         ensures failed { blames_output result.fault ≡ false }
         ensures status { result.status ≡ status_of result.fault }
     {
-        let mut outcome = Outcome::new(image, journal, Some(Fault::from(stopped.fault)));
-        outcome.at = stopped.at;
-        outcome.place = place;
-        outcome
+        let fault = Some(Fault::from(stopped.fault));
+        Outcome::placed(image, journal, fault, stopped.at, place)
     }
 }

@@ -11,7 +11,7 @@ use crate::query::Query;
 use crate::sending::{fault_of_listing, sent_whole};
 use crate::summary::summary;
 use lfs_block::Image;
-use lfs_change::{Fault, Outcome};
+use lfs_change::{Fault, Outcome, Place};
 use lfs_contents::send_file;
 use lfs_fs::{Mounted, mount};
 use lfs_listing::send_listing;
@@ -40,8 +40,9 @@ pub fn queried<S: Sink>(
 {
     match Image::new(image, size) {
         Ok(image) => {
-            let fault = report(alloc, query, &image, out).err();
-            Outcome::new(image.into_bytes(), journal, fault)
+            let mut place = None;
+            let fault = report(alloc, query, &image, &mut place, out).err();
+            Outcome::placed(image.into_bytes(), journal, fault, 0, place)
         }
         Err((fault, image)) => Outcome::new(image, journal, Some(Fault::Image(fault))),
     }
@@ -85,12 +86,14 @@ fn say_listing<S: Sink>(
     }
 }
 
-/// Says the answer to a query of an image that is mounted: a file's contents go out slice by slice.
+/// Says the answer to a query of an image that is mounted: a file's contents go out slice by slice. Where its path is refused
+/// the place is left.
 fn say<S: Sink>(
     alloc: Global,
     query: &Query<'_>,
     image: &Image,
     mounted: &Mounted,
+    place: &mut Option<Place>,
     out: &mut S,
 ) -> Result<(), Fault>
     requires mounted { IsMountOf image.now.disk mounted.now }
@@ -105,7 +108,10 @@ fn say<S: Sink>(
         Query::Ls => say_listing(alloc, image, mounted, out),
         Query::Cat { path } => match send_file(alloc, image, mounted, path, out) {
             Ok(whole) => sent_whole(whole),
-            Err(refusal) => Err(Fault::Refused(refusal)),
+            Err(refusal) => {
+                *place = Place::of(alloc, mounted.outline(), path, None);
+                Err(Fault::Refused(refusal))
+            }
         },
     }
 }
@@ -116,6 +122,7 @@ fn report<S: Sink>(
     alloc: Global,
     query: &Query<'_>,
     image: &Image,
+    place: &mut Option<Place>,
     out: &mut S,
 ) -> Result<(), Fault>
     requires { S.failed out.old ≡ false }
@@ -125,7 +132,7 @@ fn report<S: Sink>(
     ensures kept { S.kept out.new ≡ S.kept out.old }
 {
     let mounted = mount(alloc, image)?;
-    let said = say(alloc, query, image, &mounted, out);
+    let said = say(alloc, query, image, &mounted, place, out);
     forget(mounted);
     said
 }
