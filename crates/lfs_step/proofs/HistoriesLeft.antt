@@ -6,16 +6,17 @@ use Rattle.lfs_edit.specs.Formatted.{disk_with}
 use Rattle.lfs_history.specs.Batch.{TakesAll}
 use Rattle.lfs_history.specs.History.{History, IsHistory, IsMounted, fresh_history}
 use Rattle.lfs_history.specs.OpeningLaws.{JournalsDenoteOneHistory, SavedHistoriesOpen}
-use Rattle.lfs_history.specs.Taking.{Takes}
+use Rattle.lfs_history.specs.Opening.{journal_of}
 use Rattle.lfs_change.specs.declared.fault.Fault.{Fault}
 use Rattle.lfs_change.specs.declared.outcome.Outcome.{Outcome}
 use Rattle.lfs_change.specs.Bytes.{image_of}
-use Rattle.lfs_change.specs.Change.{Denotes, DenotesOn, journal_read}
-use Rattle.lfs_change.specs.Laws.{BatchesAreDenoted, ChangedBytesAreDenoted}
+use Rattle.lfs_change.specs.Change.{Denotes, DenotesOn}
+use Rattle.lfs_change.specs.Forgetting.{IsForgotten}
+use Rattle.lfs_change.specs.Laws.{ChangedBytesAreDenoted}
 use Rattle.lfs_change.proofs.BytesLemmas.{image_of_disk}
 use Rattle.lfs_change.proofs.ChangeLemmas.{opened_denotes}
 use Rattle.lfs_change.proofs.LawLemmas.{one_denoted, some_bytes}
-use Rattle.lfs_step.specs.Deed.{Deed, Make, Pack, Ask, Compare, Recount, Change, ChangeAll}
+use Rattle.lfs_step.specs.Deed.{Deed, Make, Pack, Ask, Compare, Recount, Forget, Change}
 use Rattle.lfs_step.specs.Histories.{KeepsHistories, StepsLeaveHistories}
 use Rattle.lfs_step.specs.Outcome.{Answers, AnswersBy, Given, KeepsBoth}
 
@@ -54,32 +55,38 @@ asked_leaves g outcome (image, journal) old denotes =
     subst (λ (l : List ℕ). Denotes g.size l outcome.journal.items old) (sym image)
     (subst (λ (l : List ℕ). Denotes g.size g.image l old) (sym journal) denotes)
 
+-- ---- where all else is forgotten
+
+-- the image mounts, whatever its journal was
+forgets : SavedHistoriesOpen → (g : Given) (outcome : Outcome) → IsForgotten g.size g.image outcome
+    → Denotes g.size outcome.image.items outcome.journal.items (fresh_history (image_of g.size g.image))
+forgets opens g outcome is =
+    let d = image_of g.size g.image in
+    let h = fresh_history d in
+    let bytes = journal_bytes (journal_of h) in
+    let opened : DenotesOn d bytes h = opened_denotes d bytes h (some_bytes (journal_of h)) (opens h is.denotes.1.1) in
+    subst (λ (l : List ℕ). Denotes g.size l outcome.journal.items h) (sym is.image_is)
+    (subst (λ (l : List ℕ). Denotes g.size g.image l h) (sym is.journal_is) (is.denotes.0, opened))
+
 -- ---- any step
 
-pub steps_leave_histories : JournalsDenoteOneHistory → SavedHistoriesOpen → ChangedBytesAreDenoted → BatchesAreDenoted → StepsLeaveHistories
-steps_leave_histories one opens denoted all (Make count limits) g outcome (formatted, empty) =
+pub steps_leave_histories : JournalsDenoteOneHistory → SavedHistoriesOpen → ChangedBytesAreDenoted → StepsLeaveHistories
+steps_leave_histories one opens denoted (Make count limits) g outcome (formatted, empty) =
     let mount = formatted.mount in
     begins opens g.size count outcome.image.items outcome.journal.items formatted.disk (mount.volume, mount.holds, mount.sound) empty
-steps_leave_histories one opens denoted all (Pack count limits rows) g outcome (is, empty) = λ packed are.
+steps_leave_histories one opens denoted (Pack count limits rows) g outcome (is, empty) = λ packed are.
     let packs = is packed are in
     begins opens g.size count outcome.image.items outcome.journal.items packs.disk (packs.volume, packs.holds, packs.sound) empty
-steps_leave_histories one opens denoted all (Ask query) g outcome both = λ old denotes. asked_leaves g outcome both old denotes
-steps_leave_histories one opens denoted all (Compare size other) g outcome both = λ old denotes. asked_leaves g outcome both old denotes
-steps_leave_histories one opens denoted all Recount g outcome both = λ old denotes. asked_leaves g outcome both old denotes
-steps_leave_histories one opens denoted all (Change step) g outcome changes = λ old denotes.
-    let is = changes.1 in
-    let d = image_of g.size g.image in
-    let same = one_denoted one d (journal_read step g.journal) is.old old is.denotes denotes.1 in (
-      is.new,
-      subst (λ (h : History). Takes step None h is.new) same is.takes,
-      denoted step g.size g.image g.journal outcome changes,
-    )
-steps_leave_histories one opens denoted all (ChangeAll steps) g outcome changes = λ old denotes.
+steps_leave_histories one opens denoted (Ask query) g outcome both = λ old denotes. asked_leaves g outcome both old denotes
+steps_leave_histories one opens denoted (Compare size other) g outcome both = λ old denotes. asked_leaves g outcome both old denotes
+steps_leave_histories one opens denoted Recount g outcome both = λ old denotes. asked_leaves g outcome both old denotes
+steps_leave_histories one opens denoted Forget g outcome forgotten = forgets opens g outcome forgotten
+steps_leave_histories one opens denoted (Change steps) g outcome changes = λ old denotes.
     let is = changes.1 in
     let same = one_denoted one (image_of g.size g.image) g.journal is.old old is.denotes denotes.1 in (
       is.new,
       subst (λ (h : History). TakesAll steps h is.new) same is.takes,
-      all steps g.size g.image g.journal outcome changes,
+      denoted steps g.size g.image g.journal outcome changes,
     )
 
 pub keeps : StepsLeaveHistories → (deed : Deed) (g : Given) (outcome : Outcome) → Answers deed g outcome → KeepsHistories deed g outcome

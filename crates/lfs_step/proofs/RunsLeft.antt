@@ -1,16 +1,15 @@
 -- Where lists of runs lead.
-use Rattle.std.proofs.Common.{ℕ, List, [], ◌∷◌, Option, Some, None, refl, sym, subst}
+use Rattle.std.proofs.Common.{ℕ, List, [], ◌∷◌, Option, Some, None, ap, refl, sym, subst}
 use Rattle.lfs_history.specs.History.{History, fresh_history}
-use Rattle.lfs_history.specs.Taking.{Takes}
 use Rattle.lfs_change.specs.declared.fault.Fault.{Fault}
 use Rattle.lfs_change.specs.declared.outcome.Outcome.{Outcome}
 use Rattle.lfs_change.specs.Bytes.{image_of}
 use Rattle.lfs_change.specs.Change.{Denotes}
-use Rattle.lfs_change.specs.Laws.{BothFiles, RunsOfBytesAreRuns, Taken}
-use Rattle.lfs_step.specs.Deed.{Deed, Make, Pack, Ask, Compare, Recount, Change, ChangeAll}
+use Rattle.lfs_change.proofs.ChangeLemmas.{denoted_present}
+use Rattle.lfs_step.specs.Deed.{Deed, Make, Pack, Ask, Compare, Recount, Forget, Change}
 use Rattle.lfs_step.specs.Histories.{Leaves, StepsLeaveHistories}
 use Rattle.lfs_step.specs.Outcome.{AnswersBy, Given, given}
-use Rattle.lfs_step.specs.Runs.{GoesBy, HasGoodRows, RunsGoOn, left_files}
+use Rattle.lfs_step.specs.Runs.{BothFiles, GoesBy, HasGoodRows, RunsGoOn, left_files}
 
 -- the history to which one run leads
 pub record Goes (fault : Option Fault) (deed : Deed) (g : Given) (outcome : Outcome) (old : History) : Type 0 where
@@ -18,43 +17,42 @@ pub record Goes (fault : Option Fault) (deed : Deed) (g : Given) (outcome : Outc
   pub goes : GoesBy fault outcome.at deed g old new
   pub leaves : Leaves g outcome new
 
-pub one_goes : StepsLeaveHistories → RunsOfBytesAreRuns → (fault : Option Fault) (deed : Deed) (g : Given) (outcome : Outcome) (old : History)
+pub one_goes : StepsLeaveHistories → (fault : Option Fault) (deed : Deed) (g : Given) (outcome : Outcome) (old : History)
     → HasGoodRows deed → Denotes g.size g.image g.journal old → AnswersBy fault deed g outcome → Goes fault deed g outcome old
-one_goes leaves runs None (Make count limits) g outcome old good denotes answers = record {
+one_goes leaves None (Make count limits) g outcome old good denotes answers = record {
   new = fresh_history (image_of g.size outcome.image.items);
   goes = (refl, answers.0);
   leaves = leaves (Make count limits) g outcome answers;
 }
-one_goes leaves runs None (Pack count limits rows) g outcome old (packed, are) denotes answers = record {
+one_goes leaves None (Pack count limits rows) g outcome old (packed, are) denotes answers = record {
   new = fresh_history (image_of g.size outcome.image.items);
   goes = (refl, answers.0);
   leaves = leaves (Pack count limits rows) g outcome answers packed are;
 }
-one_goes leaves runs None (Ask query) g outcome old good denotes answers = record {
+one_goes leaves None (Ask query) g outcome old good denotes answers = record {
   new = old;
   goes = refl;
   leaves = leaves (Ask query) g outcome answers old denotes;
 }
-one_goes leaves runs None (Compare size other) g outcome old good denotes answers = record {
+one_goes leaves None (Compare size other) g outcome old good denotes answers = record {
   new = old;
   goes = refl;
   leaves = leaves (Compare size other) g outcome answers old denotes;
 }
-one_goes leaves runs None Recount g outcome old good denotes answers = record {
+one_goes leaves None Recount g outcome old good denotes answers = record {
   new = old;
   goes = refl;
   leaves = leaves Recount g outcome answers old denotes;
 }
-one_goes leaves runs None (Change step) g outcome old good denotes answers =
-    let first : BothFiles = record { image = g.image; journal = g.journal } in
-    let taken : Taken = record { step = step; fault = None } in
-    let run = runs g.size (taken ∷ []) first (left_files outcome) old denotes (outcome, answers, refl) in
-    let (mid, takes, same) = run.run in
-    record { new = run.new; goes = subst (Takes step None old) (sym same) takes; leaves = run.denotes }
-one_goes leaves runs None (ChangeAll steps) g outcome old good denotes answers =
-    let (new, takes, to) = leaves (ChangeAll steps) g outcome answers old denotes in
+one_goes leaves None Forget g outcome old good denotes answers = record {
+  new = fresh_history (image_of g.size g.image);
+  goes = ap fresh_history (sym (denoted_present (image_of g.size g.image) g.journal old denotes.1));
+  leaves = leaves Forget g outcome answers;
+}
+one_goes leaves None (Change steps) g outcome old good denotes answers =
+    let (new, takes, to) = leaves (Change steps) g outcome answers old denotes in
     record { new = new; goes = takes; leaves = to }
-one_goes leaves runs (Some fault) deed g outcome old good denotes answers = record {
+one_goes leaves (Some fault) deed g outcome old good denotes answers = record {
   new = old;
   goes = (refl, answers.2);
   leaves =
@@ -62,14 +60,14 @@ one_goes leaves runs (Some fault) deed g outcome old good denotes answers = reco
       (subst (λ (l : List ℕ). Denotes g.size g.image l old) (sym answers.1) denotes);
 }
 
-pub runs_go_on : StepsLeaveHistories → RunsOfBytesAreRuns → RunsGoOn
-runs_go_on leaves runs size [] first last old good denotes same = record {
+pub runs_go_on : StepsLeaveHistories → RunsGoOn
+runs_go_on leaves size [] first last old good denotes same = record {
   new = old;
   denotes = subst (λ (f : BothFiles). Denotes size f.image f.journal old) (sym same) denotes;
   goes = refl;
 }
-runs_go_on leaves runs size (r ∷ rs) first last old good denotes (answers, later) =
+runs_go_on leaves size (r ∷ rs) first last old good denotes (answers, later) =
     let g = given size first.image first.journal in
-    let one = one_goes leaves runs r.outcome.fault r.deed g r.outcome old good.0 denotes answers in
-    let to = runs_go_on leaves runs size rs (left_files r.outcome) last one.new good.1 one.leaves later in
+    let one = one_goes leaves r.outcome.fault r.deed g r.outcome old good.0 denotes answers in
+    let to = runs_go_on leaves size rs (left_files r.outcome) last one.new good.1 one.leaves later in
     record { new = to.new; denotes = to.denotes; goes = (one.new, one.goes, one.leaves, to.goes) }

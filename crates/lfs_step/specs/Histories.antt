@@ -2,20 +2,19 @@
 use Rattle.std.specs.Prelude.{◌≡◌, List, None}
 use Rattle.lfs_history.specs.Batch.{TakesAll}
 use Rattle.lfs_history.specs.History.{History, fresh_history}
-use Rattle.lfs_history.specs.Taking.{Takes}
 use Rattle.lfs_change.specs.declared.outcome.Outcome.{Outcome}
 use Rattle.lfs_change.specs.Bytes.{image_of}
-use Rattle.lfs_change.specs.Change.{Denotes, journal_read}
+use Rattle.lfs_change.specs.Change.{Denotes}
 use Rattle.lfs_pack.specs.Packed.{AreRowsOf, Packed}
-use Rattle.lfs_step.specs.Deed.{Deed, Make, Pack, Ask, Compare, Recount, Change, ChangeAll}
+use Rattle.lfs_step.specs.Deed.{Deed, Make, Pack, Ask, Compare, Recount, Forget, Change}
 use Rattle.lfs_step.specs.Outcome.{AnswersDone, Given}
 
 -- the image and the journal that are left denote this history
 abbrev pub Leaves : Given → Outcome → History → Type 0
 Leaves g outcome h = Denotes g.size outcome.image.items outcome.journal.items h
 
--- A new image, empty or of rows, begins a history. A question leaves the history that image and journal denoted, and a change
--- leaves the one to which it leads from there, or several steps do; where all is forgotten, whatever the journal was.
+-- A new image, empty or of rows, begins a history, and so does one of which all else is forgotten, whatever the journal was. A question
+-- leaves the history that image and journal denoted, and a change leaves the one to which its steps lead from there.
 abbrev pub LeavesHistory : Deed → Given → Outcome → Type 0
 LeavesHistory (Make count limits) g outcome = Leaves g outcome (fresh_history (image_of g.size outcome.image.items))
 LeavesHistory (Pack count limits rows) g outcome =
@@ -23,10 +22,8 @@ LeavesHistory (Pack count limits rows) g outcome =
 LeavesHistory (Ask query) g outcome = (old : History) → Denotes g.size g.image g.journal old → Leaves g outcome old
 LeavesHistory (Compare size other) g outcome = (old : History) → Denotes g.size g.image g.journal old → Leaves g outcome old
 LeavesHistory Recount g outcome = (old : History) → Denotes g.size g.image g.journal old → Leaves g outcome old
-LeavesHistory (Change step) g outcome =
-    (old : History) → Denotes g.size g.image (journal_read step g.journal) old
-    → (new : History) × Takes step None old new × Leaves g outcome new
-LeavesHistory (ChangeAll steps) g outcome =
+LeavesHistory Forget g outcome = Leaves g outcome (fresh_history (image_of g.size g.image))
+LeavesHistory (Change steps) g outcome =
     (old : History) → Denotes g.size g.image g.journal old → (new : History) × TakesAll steps old new × Leaves g outcome new
 
 -- the law: what a step that is done answers denotes such a history

@@ -11,16 +11,16 @@ use Rattle.lfs_edit.specs.Formatted.{IsFormatted}
 use Rattle.lfs_change.specs.declared.fault.Fault.{Fault}
 use Rattle.lfs_change.specs.declared.fault.Fault.TheVariants.{Image, Refused}
 use Rattle.lfs_change.specs.declared.outcome.Outcome.{Outcome}
-use Rattle.lfs_change.specs.Batch.{ChangesBytesByAll, RefusesChanges}
 use Rattle.lfs_change.specs.Bytes.{image_of}
 use Rattle.lfs_change.specs.Change.{ChangesBytes, RefusesChange}
+use Rattle.lfs_change.specs.Forgetting.{IsForgotten, RefusesForgetting}
 use Rattle.lfs_step.specs.Comparing.{RefusesCompared, SendsCompared}
 use Rattle.lfs_step.specs.Query.{RefusesQuery, SendsReport}
 use Rattle.lfs_step.specs.Recounting.{RefusesRecounted, SendsRecounted}
 use Rattle.lfs_pack.specs.declared.pack_row.PackRow.{PackRow}
 use Rattle.lfs_pack.specs.Packed.{AreRowsOf, Packed}
 use Rattle.lfs_pack.specs.Packing.{IsPacked, RefusesPack}
-use Rattle.lfs_step.specs.Deed.{Deed, Make, Pack, Ask, Compare, Recount, Change, ChangeAll}
+use Rattle.lfs_step.specs.Deed.{Deed, Make, Pack, Ask, Compare, Recount, Forget, Change}
 
 -- what a step is given, beside what it reads: the size of a block, the bytes of the image and of the journal
 pub record Given : Type 0 where
@@ -53,15 +53,15 @@ Refuses (Pack count limits rows) g at fault = RefusesPacking g.size count limits
 Refuses (Ask query) g at fault = RefusesQuery query g.size g.image fault
 Refuses (Compare size other) g at fault = RefusesCompared g.size g.image size other fault
 Refuses Recount g at fault = RefusesRecounted g.size g.image g.journal fault
-Refuses (Change step) g at fault = RefusesChange step g.size g.image g.journal fault
-Refuses (ChangeAll steps) g at fault = RefusesChanges steps at g.size g.image g.journal fault
+Refuses Forget g at fault = RefusesForgetting g.size g.image fault
+Refuses (Change steps) g at fault = RefusesChange steps at g.size g.image g.journal fault
 
 -- image and journal are those that the step was given
 abbrev pub KeepsBoth : Given → Outcome → Type 0
 KeepsBoth g outcome = (outcome.image.items ≡ g.image) × (outcome.journal.items ≡ g.journal)
 
--- the image and the journal once a deed is done: a new image and a journal without changes, those that were given, or those of
--- the history that a step leaves, or several do
+-- the image and the journal once a deed is done: a new image and a journal without changes, those that were given, the image that was
+-- given and a journal without changes, or those of the history that steps leave
 abbrev pub AnswersDone : Deed → Given → Outcome → Type 0
 AnswersDone (Make count limits) g outcome =
     IsFormatted g.size count limits outcome.image.items × (outcome.journal.items ≡ journal_bytes (book_of g.size count [] 0))
@@ -71,8 +71,8 @@ AnswersDone (Pack count limits rows) g outcome =
 AnswersDone (Ask query) g outcome = KeepsBoth g outcome
 AnswersDone (Compare size other) g outcome = KeepsBoth g outcome
 AnswersDone Recount g outcome = KeepsBoth g outcome
-AnswersDone (Change step) g outcome = ChangesBytes step g.size g.image g.journal outcome
-AnswersDone (ChangeAll steps) g outcome = ChangesBytesByAll steps g.size g.image g.journal outcome
+AnswersDone Forget g outcome = IsForgotten g.size g.image outcome
+AnswersDone (Change steps) g outcome = ChangesBytes steps g.size g.image g.journal outcome
 
 -- what is answered; with a fault, image and journal are those that were given
 abbrev pub AnswersBy : Option Fault → Deed → Given → Outcome → Type 0
@@ -91,5 +91,5 @@ SendsText (Pack count limits rows) g fault old new = Keeps old new
 SendsText (Ask query) g fault old new = SendsReport query (image_of g.size g.image) fault old new
 SendsText (Compare size other) g fault old new = SendsCompared g.size g.image size other fault old new
 SendsText Recount g fault old new = SendsRecounted g.size g.image g.journal fault old new
-SendsText (Change step) g fault old new = Keeps old new
-SendsText (ChangeAll steps) g fault old new = Keeps old new
+SendsText Forget g fault old new = Keeps old new
+SendsText (Change steps) g fault old new = Keeps old new

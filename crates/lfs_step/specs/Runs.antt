@@ -4,15 +4,19 @@ use Rattle.std.specs.List.{AllByRecursion}
 use Rattle.lfs_edit.specs.Formatted.{IsFormatted}
 use Rattle.lfs_history.specs.Batch.{TakesAll}
 use Rattle.lfs_history.specs.History.{History, fresh_history}
-use Rattle.lfs_history.specs.Taking.{Takes}
+use Rattle.lfs_history.specs.Moves.{Forgets}
 use Rattle.lfs_change.specs.declared.fault.Fault.{Fault}
 use Rattle.lfs_change.specs.declared.outcome.Outcome.{Outcome}
 use Rattle.lfs_change.specs.Change.{Denotes}
-use Rattle.lfs_change.specs.Laws.{BothFiles}
 use Rattle.lfs_pack.specs.Packed.{AreRowsOf, Packed}
 use Rattle.lfs_pack.specs.Packing.{IsPacked}
-use Rattle.lfs_step.specs.Deed.{Deed, Make, Pack, Ask, Compare, Recount, Change, ChangeAll}
+use Rattle.lfs_step.specs.Deed.{Deed, Make, Pack, Ask, Compare, Recount, Forget, Change}
 use Rattle.lfs_step.specs.Outcome.{Answers, Given, Refuses, given}
+
+-- the bytes of an image and of its journal
+pub record BothFiles : Type 0 where
+  pub image : List ℕ
+  pub journal : List ℕ
 
 -- a deed, and what was answered to it
 pub record Ran : Type 0 where
@@ -34,8 +38,8 @@ abbrev pub HasGoodRows : Deed → Type 0
 HasGoodRows (Pack count limits rows) = (packed : List Packed) × AreRowsOf rows packed
 HasGoodRows _ = Unit {0}
 
--- a new image begins a history, and has the root alone, or the map of its rows; a question leaves the history that was there, and
--- a change is a step of it, or several are
+-- a new image begins a history, and has the root alone, or the map of its rows; a question leaves the history that was there, of which
+-- all but the image may be forgotten; and a change is steps of it
 abbrev pub GoesOn : ℕ → Deed → History → History → Type 0
 GoesOn size (Make count limits) old new = (new ≡ fresh_history new.present) × IsFormatted size count limits new.present.bytes
 GoesOn size (Pack count limits rows) old new =
@@ -44,8 +48,8 @@ GoesOn size (Pack count limits rows) old new =
 GoesOn size (Ask query) old new = new ≡ old
 GoesOn size (Compare other_size other) old new = new ≡ old
 GoesOn size Recount old new = new ≡ old
-GoesOn size (Change step) old new = Takes step None old new
-GoesOn size (ChangeAll steps) old new = TakesAll steps old new
+GoesOn size Forget old new = Forgets old new
+GoesOn size (Change steps) old new = TakesAll steps old new
 
 -- a deed that is refused leaves the history, and the cause holds of what it was given
 abbrev pub GoesBy : Option Fault → ℕ → Deed → Given → History → History → Type 0

@@ -12,7 +12,7 @@ mod sending;
 mod step;
 mod summary;
 
-pub use deed::{Deed, deed_of};
+pub use deed::{Deed, deed_of, move_of};
 pub use laws::{packed_images_list_their_rows, runs_go_on, steps_leave_histories};
 pub use lfs_change::{Fault, Outcome};
 pub use query::Query;

@@ -17,7 +17,7 @@ ghost use Rattle.lfs_pack.specs.Packing.{IsPacked};
 ghost use Rattle.lfs_step.specs.Deed.{IsStepInRange, IsNoComparison, Make, Pack, deed_of};
 
 use crate::comparing::compared;
-use crate::deed::{Deed, deed_of};
+use crate::deed::{Deed, deed_of, move_of};
 use crate::laws::steps_leave_histories;
 use crate::querying::queried;
 use crate::recounting::recounted;
@@ -25,7 +25,7 @@ use crate::step::Step;
 use lfs_block::{ImageFault, geometry_ok};
 use lfs_book::write_journal;
 use lfs_change::{
-    Fault, Outcome, changed, changed_by_all, changed_bytes_are_equations,
+    Fault, Outcome, changed, changed_bytes_are_equations, forgotten,
     journals_of_bytes_grow_by_the_need,
 };
 use lfs_edit::{Refusal, format_within};
@@ -107,7 +107,8 @@ fn taken<S: Sink>(
     ensures kept { S.kept out.new ≡ S.kept out.old }
     ensures status { result.status ≡ status_of result.fault }
 {
-    match deed_of(step, input, keep) {
+    let own = move_of(step, input, keep);
+    match deed_of(step, own.as_slice()) {
         Deed::Make { count, limits } => formatted(alloc, size, count, limits, image, journal),
         Deed::Pack {
             count,
@@ -117,8 +118,8 @@ fn taken<S: Sink>(
         Deed::Ask(query) => queried(alloc, &query, size, image, journal, out),
         Deed::Compare { .. } => unreachable!(),
         Deed::Recount => recounted(alloc, size, image, journal, out),
-        Deed::Change(change) => changed(alloc, &change, size, image, journal),
-        Deed::ChangeAll(steps) => changed_by_all(alloc, steps, size, image, journal),
+        Deed::Forget => forgotten(alloc, size, image, journal),
+        Deed::Change(steps) => changed(alloc, steps, size, image, journal),
     }
 }
 

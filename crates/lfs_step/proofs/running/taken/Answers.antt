@@ -1,21 +1,24 @@
-use Rattle.std.proofs.Common.{rules}
+-- What is done is the step's deed.
+use Rattle.std.proofs.Common.{map}
 use Rattle.lfs_history.specs.Meaning.{step_of}
-use Rattle.lfs_step.proofs.DeedLemmas.{kept_in_range, made_within, packed_within, steps_within}
+use Rattle.lfs_step.proofs.DeedLemmas.{deed_is, made_within, packed_within, steps_within}
 use Rattle.lfs_step.proofs.running.taken.Goals as goal
 
 pub changed-requires : goal.changed-requires
 changed-requires g c =
-    kept_in_range c.args.step.now c.args.input.now c.args.keep (step_of c.in-Change.change) c.requires.keep (search rules)
+    steps_within c.args.step.now c.args.input.now c.args.keep c.in-Change.steps.now c.requires.keep c.requires.range
+    (deed_is c.args.step.now c.args.input.now c.args.keep c.move_of-own.result c.as_slice.result.now c.deed_of.result _ c.move_of-own.ensures
+    c.as_slice.ensures c.deed_of.ensures c.in-Change.is)
 
 pub formatted-requires : goal.formatted-requires
 formatted-requires g c =
-    made_within c.args.step.now c.args.input.now c.args.keep c.in-Make.count c.in-Make.limits c.requires.range (search rules)
+    made_within c.args.step.now c.args.input.now c.args.keep c.in-Make.count c.in-Make.limits c.requires.keep c.requires.range
+    (deed_is c.args.step.now c.args.input.now c.args.keep c.move_of-own.result c.as_slice.result.now c.deed_of.result _ c.move_of-own.ensures
+    c.as_slice.ensures c.deed_of.ensures c.in-Make.is)
 
 pub packed-requires : goal.packed-requires
 packed-requires g c =
-    packed_within c.args.step.now c.args.input.now c.args.keep c.in-Pack.count c.in-Pack.limits c.in-Pack.rows.now c.requires.range
-    (search rules)
-
-pub changed_by_all-requires : goal.changed_by_all-requires
-changed_by_all-requires g c =
-    steps_within c.args.step.now c.args.input.now c.args.keep c.in-ChangeAll.steps.now c.requires.range (search rules)
+    packed_within c.args.step.now c.args.input.now c.args.keep c.in-Pack.count c.in-Pack.limits c.in-Pack.rows.now c.requires.keep
+    c.requires.range
+    (deed_is c.args.step.now c.args.input.now c.args.keep c.move_of-own.result c.as_slice.result.now c.deed_of.result _ c.move_of-own.ensures
+    c.as_slice.ensures c.deed_of.ensures c.in-Pack.is)
