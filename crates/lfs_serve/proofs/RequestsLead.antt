@@ -7,10 +7,10 @@ use Rattle.lfs_book.specs.Book.{most_journal}
 use Rattle.lfs_book.specs.Laws.{JournalsAreShort}
 use Rattle.lfs_fs.specs.declared.limits.Limits.{Limits}
 use Rattle.lfs_command.specs.declared.refusal.Refusal.{Refusal}
-use Rattle.lfs_history.specs.History.{History, IsMounted, fresh_history}
+use Rattle.lfs_history.specs.History.{History, fresh_history}
 use Rattle.lfs_history.specs.Batch.{TakesAll}
 use Rattle.lfs_history.specs.Meaning.{OnBytes, step_of}
-use Rattle.lfs_history.specs.Taking.{Do, Undo, Redo, Forget}
+use Rattle.lfs_history.specs.Taking.{Do, Undo, Redo}
 use Rattle.lfs_command.specs.Command as asked
 use Rattle.lfs_step.specs.declared.query.Query.TheVariants as query
 use Rattle.lfs_serve.proofs.StepLemmas.{handed_from}
@@ -20,17 +20,15 @@ use Rattle.lfs_change.specs.declared.outcome.Outcome.{Outcome}
 use Rattle.lfs_change.specs.Bytes.{image_of}
 use Rattle.lfs_change.specs.Change.{Denotes, DenotesOn}
 use Rattle.lfs_change.specs.Fault.{status_of}
-use Rattle.lfs_change.specs.Laws.{RunsOfBytesAreRuns}
-use Rattle.lfs_change.proofs.ChangeLemmas.{denoted_history, denoted_present}
+use Rattle.lfs_change.proofs.ChangeLemmas.{denoted_present}
 use Rattle.lfs_pack.specs.declared.pack_row.PackRow.{PackRow}
 use Rattle.lfs_pack.specs.Packed.{AreRowsOf}
 use Rattle.lfs_step.specs.declared.step.Step.{Step}
 use Rattle.lfs_step.specs.declared.step.Step.TheVariants as step
-use Rattle.lfs_step.specs.Deed.{Deed, Make, Pack, Ask, Compare, Recount, Change, ChangeAll, deed_of}
+use Rattle.lfs_step.specs.Deed.{Deed, Make, Pack, Ask, Compare, Recount, Forget, Change, deed_of}
 use Rattle.lfs_step.specs.Histories.{StepsLeaveHistories}
 use Rattle.lfs_step.specs.Outcome.{AnswersBy, AnswersDone, given}
 use Rattle.lfs_step.specs.Runs.{GoesOn, HasGoodRows}
-use Rattle.lfs_step.proofs.HistoriesLeft.{fresh_is}
 use Rattle.lfs_step.proofs.RunsLeft.{one_goes}
 use Rattle.lfs_exchange.specs.declared.step_kind.StepKind.{StepKind}
 use Rattle.lfs_exchange.specs.declared.step_kind.StepKind.TheVariants.{Makes, Asks, Recounts, Changes, Forgets}
@@ -150,9 +148,8 @@ handed_change short size name files h b denotes image journal =
 record Laws : Type 0 where
   short : JournalsAreShort
   leaves : StepsLeaveHistories
-  runs : RunsOfBytesAreRuns
 
--- a step on a history, or several
+-- steps on a history
 changes : Laws → (d : Deed) (s : Step) (size : ℕ) (keep : Option ℕ) (name : List ℕ) (typed : Option (List ℕ)) (old new : Files) (h : History)
     (b : HandedBytes) (outcome : Outcome) → HasGoodRows d → deed_of s b.input keep ≡ d → FilesDenote size name old h
     → ReadsFile (Some old) name most_image b.image → FindsFile (Some old) (journal_name name) most_journal b.journal
@@ -160,7 +157,7 @@ changes : Laws → (d : Deed) (s : Step) (size : ℕ) (keep : Option ℕ) (name 
     → HasBoth name outcome.image.items outcome.journal.items old new → StepLeads size keep name s (Some old) typed new h
 changes laws d s size keep name typed old new h b outcome good is denotes image journal input answers both =
     let handed = handed_change laws.short size name old h b denotes image journal in
-    let one = one_goes laws.leaves laws.runs None d (given size b.image b.journal) outcome h good handed answers in
+    let one = one_goes laws.leaves None d (given size b.image b.journal) outcome h good handed answers in
     record {
       next = one.new;
       goes = (b.input, input, subst (λ (e : Deed). GoesOn size e h one.new) (sym is) one.goes);
@@ -179,36 +176,29 @@ asks q s size keep name typed old new h b goes is denotes input same = record {
 
 -- all but the image is forgotten
 forgets : Laws → (size : ℕ) (keep : Option ℕ) (name : List ℕ) (typed : Option (List ℕ)) (old new : Files) (h : History) (b : HandedBytes) (outcome : Outcome)
-    → FilesDenote size name old h → ReadsFile (Some old) name most_image b.image → b.journal ≡ [] → HandsInput step.Forget (Some old) typed b.input
-    → AnswersDone (Change Forget) (given size b.image b.journal) outcome
+    → FilesDenote size name old h → ReadsFile (Some old) name most_image b.image → HandsInput step.Forget (Some old) typed b.input
+    → AnswersDone Forget (given size b.image b.journal) outcome
     → HasReplaced (journal_name name) (new_name (journal_name name)) outcome.journal.items old new
     → StepLeads size keep name step.Forget (Some old) typed new h
-forgets laws size keep name typed old new h b outcome denotes image none input answers replaced =
+forgets laws size keep name typed old new h b outcome denotes image input answers replaced =
     let d = image_of size b.image in
     let read = image_read size name b.image old h denotes image in
     let journal = bytes_there (old (journal_name name)) in
     let on : Denotes size b.image journal h = subst (λ (i : List ℕ). Denotes size i journal h) (sym read) denotes.2 in
     let present : h.present ≡ d = denoted_present d journal h on.1 in
-    let is = denoted_history d journal h on.1 in
-    let fresh = fresh_is d on.0 (subst (λ (e : Disk). IsMounted e) present is.mounts) in
-    let handed : Denotes size b.image b.journal (fresh_history d) =
-    subst (λ (j : List ℕ). Denotes size b.image j (fresh_history d)) (sym none) (on.0, (refl, fresh)) in
-    let one = one_goes laws.leaves laws.runs None (Change Forget) (given size b.image b.journal) outcome (fresh_history d) tt handed answers in
-    let goes : one.new ≡ fresh_history h.present = one.goes ∙ ap fresh_history (sym present) in
-    let kept : outcome.image.items ≡ b.image = ap (λ (e : Disk). e.bytes) (sym (denoted_present (image_of size outcome.image.items)
-    outcome.journal.items one.new one.leaves.1) ∙ ap (λ (k : History). k.present) one.goes) in
+    let leaves = laws.leaves Forget (given size b.image b.journal) outcome answers in
     let there : new name ≡ Some b.image = replaced.2 name (
       λ same. omega (arith, ap length same, length-append name (codes ".lfsj"), length-append (journal_name name) (codes ".new")),
       (image_not_journal name, tt),
     ) ∙ denotes.1 ∙ ap Some (sym read) in
     record {
-      next = one.new;
-      goes = (b.input, input, goes);
+      next = fresh_history d;
+      goes = (b.input, input, ap fresh_history (sym present));
       denotes = (
         b.image,
         there,
-        subst (λ (j : Option (List ℕ)). Denotes size b.image (bytes_there j) one.new) (sym replaced.0)
-            (subst (λ (i : List ℕ). Denotes size i outcome.journal.items one.new) kept one.leaves),
+        subst (λ (j : Option (List ℕ)). Denotes size b.image (bytes_there j) (fresh_history d)) (sym replaced.0)
+            (subst (λ (i : List ℕ). Denotes size i outcome.journal.items (fresh_history d)) answers.image_is leaves),
       );
     }
 
@@ -249,18 +239,18 @@ with_files scene files = record scene { files = Some files }
 takes_all : Laws → (written : List OnBytes) (steps : Bor (List OnBytes)) → written ≡ steps.now → (size : ℕ) (keep : Option ℕ) (name : List ℕ)
     (scene : Scene) (old new : Files) (h : History) (b : HandedBytes) (outcome : Outcome) → FilesDenote size name old h
     → IsHanded (step.Batch steps) name (with_files scene old) b
-    → AnswersDone (ChangeAll (map step_of steps.now)) (given size b.image b.journal) outcome
+    → AnswersDone (Change (map step_of steps.now)) (given size b.image b.journal) outcome
     → LeavesFiles (kind_of_steps steps.now) (Some old) (Some new) name outcome → StepLeads size keep name (step.Batch steps) (Some old) scene.typed new h
 takes_all laws [] steps are size keep name scene old new h b outcome denotes handed answers leaves =
     let same : Some new ≡ Some old = subst (λ (k : StepKind). LeavesFiles k (Some old) (Some new) name outcome) (sym (ap kind_of_steps are)) leaves in
     let goes : TakesAll (map step_of steps.now) h h = subst (λ (ms : List OnBytes). TakesAll (map step_of ms) h h) are refl in
-    asks (ChangeAll (map step_of steps.now)) (step.Batch steps) size keep name scene.typed old new h b goes refl denotes handed.input same
+    asks (Change (map step_of steps.now)) (step.Batch steps) size keep name scene.typed old new h b goes refl denotes handed.input same
 takes_all laws (m ∷ ms) steps are size keep name scene old new h b outcome denotes handed answers leaves =
     let kind : kind_of_steps steps.now ≡ Changes = sym (ap kind_of_steps are) in
     let image = subst (λ (k : StepKind). HandsImage k (Some old) name b.image) kind handed.image in
     let journal = subst (λ (k : StepKind). HandsJournal k (Some old) name b.journal) kind handed.journal in
     let both = subst (λ (k : StepKind). LeavesFiles k (Some old) (Some new) name outcome) kind leaves in
-    changes laws (ChangeAll (map step_of steps.now)) (step.Batch steps) size keep name scene.typed old new h b outcome tt refl denotes image journal
+    changes laws (Change (map step_of steps.now)) (step.Batch steps) size keep name scene.typed old new h b outcome tt refl denotes image journal
     handed.input answers both
 
 -- any step
@@ -283,34 +273,34 @@ done_leads laws (step.Diff other other_size) size keep name scene old new h b ou
 done_leads laws step.Log size keep name scene old new h b outcome good denotes handed answers leaves =
     asks Recount step.Log size keep name scene.typed old new h b refl refl denotes handed.input leaves
 done_leads laws (step.Mkdir path) size keep name scene old new h b outcome good denotes handed answers leaves =
-    changes laws (Change (Do (asked.Mkdir path.now) keep)) (step.Mkdir path) size keep name scene.typed old new h b outcome tt refl denotes handed.image
+    changes laws (Change (Do (asked.Mkdir path.now) keep ∷ [])) (step.Mkdir path) size keep name scene.typed old new h b outcome tt refl denotes handed.image
     handed.journal handed.input answers leaves
 done_leads laws (step.Put path from) size keep name scene old new h b outcome good denotes handed answers leaves =
-    changes laws (Change (Do (asked.Put path.now b.input) keep)) (step.Put path from) size keep name scene.typed old new h b outcome tt refl denotes handed.image
+    changes laws (Change (Do (asked.Put path.now b.input) keep ∷ [])) (step.Put path from) size keep name scene.typed old new h b outcome tt refl denotes handed.image
     handed.journal handed.input answers leaves
 done_leads laws (step.Rm path) size keep name scene old new h b outcome good denotes handed answers leaves =
-    changes laws (Change (Do (asked.Rm path.now) keep)) (step.Rm path) size keep name scene.typed old new h b outcome tt refl denotes handed.image
+    changes laws (Change (Do (asked.Rm path.now) keep ∷ [])) (step.Rm path) size keep name scene.typed old new h b outcome tt refl denotes handed.image
     handed.journal handed.input answers leaves
 done_leads laws (step.Mv from to) size keep name scene old new h b outcome good denotes handed answers leaves =
-    changes laws (Change (Do (asked.Mv from.now to.now) keep)) (step.Mv from to) size keep name scene.typed old new h b outcome tt refl denotes handed.image
+    changes laws (Change (Do (asked.Mv from.now to.now) keep ∷ [])) (step.Mv from to) size keep name scene.typed old new h b outcome tt refl denotes handed.image
     handed.journal handed.input answers leaves
 done_leads laws (step.SetAttr path kind value) size keep name scene old new h b outcome good denotes handed answers leaves =
-    changes laws (Change (Do (asked.SetAttr path.now kind value.now) keep)) (step.SetAttr path kind value) size keep name scene.typed old new h b outcome tt refl denotes handed.image
+    changes laws (Change (Do (asked.SetAttr path.now kind value.now) keep ∷ [])) (step.SetAttr path kind value) size keep name scene.typed old new h b outcome tt refl denotes handed.image
     handed.journal handed.input answers leaves
 done_leads laws (step.RmAttr path kind) size keep name scene old new h b outcome good denotes handed answers leaves =
-    changes laws (Change (Do (asked.RmAttr path.now kind) keep)) (step.RmAttr path kind) size keep name scene.typed old new h b outcome tt refl denotes handed.image
+    changes laws (Change (Do (asked.RmAttr path.now kind) keep ∷ [])) (step.RmAttr path kind) size keep name scene.typed old new h b outcome tt refl denotes handed.image
     handed.journal handed.input answers leaves
 done_leads laws (step.Grow count) size keep name scene old new h b outcome good denotes handed answers leaves =
-    changes laws (Change (Do (asked.Grow count) keep)) (step.Grow count) size keep name scene.typed old new h b outcome tt refl denotes handed.image
+    changes laws (Change (Do (asked.Grow count) keep ∷ [])) (step.Grow count) size keep name scene.typed old new h b outcome tt refl denotes handed.image
     handed.journal handed.input answers leaves
 done_leads laws (step.Undo steps) size keep name scene old new h b outcome good denotes handed answers leaves =
-    changes laws (Change (Undo steps)) (step.Undo steps) size keep name scene.typed old new h b outcome tt refl denotes handed.image
+    changes laws (Change (Undo steps ∷ [])) (step.Undo steps) size keep name scene.typed old new h b outcome tt refl denotes handed.image
     handed.journal handed.input answers leaves
 done_leads laws (step.Redo steps) size keep name scene old new h b outcome good denotes handed answers leaves =
-    changes laws (Change (Redo steps)) (step.Redo steps) size keep name scene.typed old new h b outcome tt refl denotes handed.image
+    changes laws (Change (Redo steps ∷ [])) (step.Redo steps) size keep name scene.typed old new h b outcome tt refl denotes handed.image
     handed.journal handed.input answers leaves
 done_leads laws step.Forget size keep name scene old new h b outcome good denotes handed answers leaves =
-    forgets laws size keep name scene.typed old new h b outcome denotes handed.image handed.journal handed.input answers leaves
+    forgets laws size keep name scene.typed old new h b outcome denotes handed.image handed.input answers leaves
 done_leads laws (step.Batch steps) size keep name scene old new h b outcome good denotes handed answers leaves =
     takes_all laws steps.now steps refl size keep name scene old new h b outcome denotes handed answers leaves
 
@@ -497,5 +487,5 @@ lead_on laws size name (s ∷ ss) old last h denotes (mid, is, later) = (
   ],
 )
 
-pub requests_lead_on : JournalsAreShort → StepsLeaveHistories → RunsOfBytesAreRuns → RequestsLeadOn
-requests_lead_on short leaves runs = lead_on (record { short = short; leaves = leaves; runs = runs })
+pub requests_lead_on : JournalsAreShort → StepsLeaveHistories → RequestsLeadOn
+requests_lead_on short leaves = lead_on (record { short = short; leaves = leaves })

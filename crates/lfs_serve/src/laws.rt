@@ -3,7 +3,6 @@
 ghost use Rattle.lfs_serve.specs.Requests.{RequestsLeadOn};
 
 use lfs_book::journals_are_short;
-use lfs_change::runs_of_bytes_are_runs;
 use lfs_step::steps_leave_histories;
 
 /// A law: a list of requests on one image's files, each of which finds them as the one before left them, leads from the history
@@ -16,6 +15,5 @@ pub fn requests_lead_on()
     ensures { RequestsLeadOn }
 {
     journals_are_short();
-    runs_of_bytes_are_runs();
     steps_leave_histories();
 }
