@@ -186,19 +186,21 @@ fn packed(
     ensures failed { blames_output result.fault ≡ false }
     ensures status { result.status ≡ status_of result.fault }
 {
-    match packed_image(alloc, size, count, limits, rows) {
+    let mut at = 0;
+    match packed_image(alloc, size, count, limits, rows, &mut at) {
         Ok((filled, empty)) => Outcome::new(filled, empty, None),
-        Err(refused) => Outcome::new(image, journal, Some(refused)),
+        Err(refused) => Outcome::placed(image, journal, Some(refused), at, None),
     }
 }
 
-/// The bytes of a new image of rows, and of a journal without changes.
+/// The bytes of a new image of rows, and of a journal without changes; `at` is left at the row that is refused.
 fn packed_image(
     alloc: Global,
     size: u32,
     count: u32,
     limits: Limits,
     rows: &[PackRow<'_>],
+    at: &mut usize,
 ) -> Result<(Vec<u8>, Vec<u8>), Fault>
     requires { IsLimits limits }
     ensures made { IfOk result (λ new. (packed : List Packed) → AreRowsOf rows.now packed → IsPacked size count limits packed new.0.items) }
@@ -209,7 +211,6 @@ fn packed_image(
         return Err(Fault::Image(ImageFault::BadGeometry));
     }
     let journal = empty_journal(alloc, size, count)?;
-    let mut at = 0;
-    let bytes = pack_within(alloc, size, count, limits, rows, &mut at)?;
+    let bytes = pack_within(alloc, size, count, limits, rows, at)?;
     Ok((bytes, journal))
 }
