@@ -3,10 +3,10 @@ use Rattle.std.specs.Prelude.{ℕ, Bool, true, false, if◌then◌else◌, List,
 use Rattle.lfs_command.specs.declared.refusal.Refusal.TheVariants as refusal
 use Rattle.lfs_change.specs.declared.fault.Fault.{Fault}
 use Rattle.lfs_change.specs.declared.fault.Fault.TheVariants as fault
-use Rattle.lfs_script.specs.declared.flaw.Flaw.{Flaw}
-use Rattle.lfs_script.specs.declared.line_fault.LineFault.{LineFault}
-use Rattle.lfs_script.specs.declared.line_fault.LineFault.TheVariants.{Memory, BadHex, BadLine}
-use Rattle.lfs_script.specs.declared.script_line.ScriptLine.{ScriptLine}
+use Rattle.lfs_texts.specs.declared.flaw.Flaw.{Flaw}
+use Rattle.lfs_texts.specs.declared.line_fault.LineFault.{LineFault}
+use Rattle.lfs_texts.specs.declared.line_fault.LineFault.TheVariants.{Memory, BadHex, BadLine}
+use Rattle.lfs_texts.specs.declared.script_line.ScriptLine.{ScriptLine}
 use Rattle.lfs_report.specs.declared.stated.Statement.{Statement}
 use Rattle.lfs_report.specs.declared.stated.Statement.TheVariants.{Line}
 use Rattle.lfs_report.specs.declared.stop.Stop.{Stop}

@@ -5,7 +5,7 @@ ghost use Rattle.std.specs.Prelude.{◌≡◌};
 use crate::finding::Finding;
 use crate::shown::Shown;
 use lfs_host::Host;
-use lfs_script::Reason;
+use lfs_texts::Reason;
 use std::fmt;
 
 /// A piece of a line.

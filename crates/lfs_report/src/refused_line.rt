@@ -7,8 +7,8 @@ use crate::beside::Beside;
 use crate::stated::Statement;
 use crate::stop::Stop;
 use lfs_edit::Refusal;
-use lfs_script::{Flaw, LineFault, ScriptFault, ScriptLine, line_at};
 use lfs_step::Fault;
+use lfs_texts::{Flaw, LineFault, ScriptFault, ScriptLine, line_at};
 use std::alloc::Global;
 
 /// What a fault of a line is told as.

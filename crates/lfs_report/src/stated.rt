@@ -6,9 +6,9 @@ use byteorder::{ByteOrder, LittleEndian};
 use lfs_block::{ImageFault, MountFault};
 use lfs_change::OtherFault;
 use lfs_later::{StatedVersion, unread_version};
-use lfs_script::Flaw;
 use lfs_stated::superblock_words;
 use lfs_step::Fault;
+use lfs_texts::Flaw;
 
 /// The disk version that is edited.
 const VERSION: u32 = 0x0002_0000;

@@ -22,8 +22,8 @@ use lfs_exchange::tell_of_image;
 use lfs_host::Host;
 use lfs_later::StatedVersion;
 use lfs_request::{Request, Task};
-use lfs_script::Flaw;
 use lfs_step::{Fault, Step};
+use lfs_texts::Flaw;
 
 /// The least number of blocks of an image.
 const MIN_BLOCK_COUNT: usize = 2;

@@ -3,10 +3,9 @@
 ghost use Rattle.std.specs.Prelude.{◌≡◌};
 
 use crate::line::{Piece, say};
-use lfs_digits::byte_of;
 use lfs_host::Host;
 use lfs_request::Task;
-use lfs_script::Reason;
+use lfs_texts::{Reason, byte_of};
 
 /// Tells which word isn't the digits of an attribute's kind or value.
 pub(crate) fn tell_digits<H: Host>(host: &mut H, task: &Task<'_>)

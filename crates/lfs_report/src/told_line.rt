@@ -1,6 +1,6 @@
 //! A line of a script, as it is told.
 
-use lfs_script::Flaw;
+use lfs_texts::Flaw;
 use std::fmt;
 
 /// A line of a script that is refused, as it is told on standard error.

@@ -1,6 +1,6 @@
 -- The step that a task asks for, whose kinds and values are hexadecimal digits, and whose rows are those of a folder (own).
 use Rattle.std.specs.Prelude.{◌≡◌, ◌⊎◌, ⊤, ℕ, List}
-use Rattle.lfs_digits.specs.Digits.{SpellsByte, SpellsBytes, SpellsNoByte, SpellsNoBytes}
+use Rattle.lfs_texts.specs.Digits.{SpellsByte, SpellsBytes, SpellsNoByte, SpellsNoBytes}
 use Rattle.lfs_block.specs.Geometry.{IsBlockSize}
 use Rattle.lfs_command.specs.declared.refusal.Refusal.{Refusal}
 use Rattle.lfs_command.specs.declared.refusal.Refusal.TheVariants.{Memory}

@@ -13,8 +13,8 @@ use Rattle.lfs_change.specs.declared.fault.Fault.{Fault}
 use Rattle.lfs_host.specs.Files.{Files}
 use Rattle.lfs_host.specs.Scene.{KeepsScene, Scene}
 use Rattle.lfs_exchange.specs.Handing.{IsUnread}
-use Rattle.lfs_script.specs.Steps.{Keeps}
-use Rattle.lfs_script.specs.declared.script_line.ScriptLine.{ScriptLine}
+use Rattle.lfs_texts.specs.Steps.{Keeps}
+use Rattle.lfs_texts.specs.declared.script_line.ScriptLine.{ScriptLine}
 use Rattle.lfs_request.specs.declared.task.Task.TheVariants as task
 use Rattle.lfs_step.specs.declared.step.Step.{Step}
 use Rattle.lfs_step.specs.declared.step.Step.TheVariants.{Batch}

@@ -5,7 +5,7 @@ use Rattle.lfs_change.specs.declared.fault.Fault.{Fault}
 use Rattle.lfs_change.specs.declared.fault.Fault.TheVariants.{Refused, CannotWrite, BadHex}
 use Rattle.lfs_command.specs.declared.refusal.Refusal.TheVariants.{Memory}
 use Rattle.lfs_request.specs.declared.task.Task.TheVariants.{SetAttr, RmAttr}
-use Rattle.lfs_digits.specs.Digits.{SpellsNoByte, SpellsNoBytes}
+use Rattle.lfs_texts.specs.Digits.{SpellsNoByte, SpellsNoBytes}
 use Rattle.lfs_request.specs.Asking.{NamesNoStep}
 use Rattle.lfs_change.specs.declared.outcome.Outcome.{Outcome}
 use Rattle.lfs_history.specs.Meaning.{OnBytes}

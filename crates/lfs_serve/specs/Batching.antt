@@ -19,10 +19,10 @@ use Rattle.lfs_host.specs.Files.{Files, ReadsFile, ReadsInput}
 use Rattle.lfs_host.specs.Scene.{Scene}
 use Rattle.lfs_exchange.specs.Handing.{IsUnread}
 use Rattle.lfs_report.specs.RefusedLine.{fault_of_line}
-use Rattle.lfs_script.specs.Script.{IsFirstFault, SaysLine, asking_lines}
-use Rattle.lfs_script.specs.Steps.{Keeps}
-use Rattle.lfs_script.specs.declared.script_fault.ScriptFault.{ScriptFault}
-use Rattle.lfs_script.specs.declared.script_line.ScriptLine.{ScriptLine}
+use Rattle.lfs_texts.specs.Script.{IsFirstFault, SaysLine, asking_lines}
+use Rattle.lfs_texts.specs.Steps.{Keeps}
+use Rattle.lfs_texts.specs.declared.script_fault.ScriptFault.{ScriptFault}
+use Rattle.lfs_texts.specs.declared.script_line.ScriptLine.{ScriptLine}
 
 -- ---- what a line means
 

@@ -15,8 +15,8 @@ use lfs_exchange::{read_contents, read_input};
 use lfs_host::Host;
 use lfs_report::{Beside, Stop, stop_of_line, with_line, with_number};
 use lfs_request::Request;
-use lfs_script::{ScriptLine, script_lines, script_of};
 use lfs_step::{Fault, Step};
+use lfs_texts::{ScriptLine, script_lines, script_of};
 use std::alloc::Global;
 
 /// Takes the steps of a script on an image's file, all of them or none, and writes what they leave once: the script is read first, and

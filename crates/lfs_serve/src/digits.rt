@@ -3,10 +3,10 @@
 ghost use Rattle.std.specs.Prelude.{◌≡◌, ◌⊎◌, IfErr, IfOk};
 ghost use Rattle.lfs_command.specs.declared.refusal.Refusal.TheVariants.{Memory};
 ghost use Rattle.lfs_change.specs.declared.fault.Fault.TheVariants.{BadHex, Refused};
-ghost use Rattle.lfs_digits.specs.Digits.{SpellsByte, SpellsBytes, SpellsNoByte, SpellsNoBytes};
+ghost use Rattle.lfs_texts.specs.Digits.{SpellsByte, SpellsBytes, SpellsNoByte, SpellsNoBytes};
 
-use lfs_digits::{byte_of, bytes_of};
 use lfs_step::Fault;
+use lfs_texts::{byte_of, bytes_of};
 use std::alloc::Global;
 
 /// The kind that two digits are. `BadHex` for every other text. Takes no memory.

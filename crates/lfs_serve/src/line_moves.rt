@@ -12,7 +12,7 @@ use lfs_exchange::read_contents;
 use lfs_history::{Move, Source, filled};
 use lfs_host::Host;
 use lfs_report::{Stop, stop_at};
-use lfs_script::ScriptLine;
+use lfs_texts::ScriptLine;
 use std::alloc::{AllocError, Global};
 
 /// The contents that a line puts: those of a file of the host.

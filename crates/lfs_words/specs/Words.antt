@@ -13,7 +13,7 @@ use Rattle.lfs_request.specs.Asking.{IsTaskInRange}
 use Rattle.lfs_request.specs.declared.extent.Extent.{Extent}
 use Rattle.lfs_request.specs.declared.extent.Extent.TheVariants.{Count, Least}
 use Rattle.lfs_request.specs.declared.request.Request.{Request}
-use Rattle.lfs_sizes.specs.Sizes.{IsSizeFault, SaysBlock, SaysBlocks, SaysNoBlock}
+use Rattle.lfs_texts.specs.Sizes.{IsSizeFault, SaysBlock, SaysBlocks, SaysNoBlock}
 use Rattle.lfs_words.specs.declared.auto_sizes.AutoSizes.{AutoSizes}
 use Rattle.lfs_words.specs.declared.misuse.Misuse.{Misuse}
 use Rattle.lfs_words.specs.declared.misuse.Misuse.TheVariants.{Block, NoCount, TwoCounts, Size}

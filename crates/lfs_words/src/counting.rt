@@ -12,7 +12,7 @@ use crate::options::{number, said, text};
 use clap::ArgMatches;
 use lfs_fs::Limits;
 use lfs_request::Extent;
-use lfs_sizes::{block_said, blocks_said};
+use lfs_texts::{block_said, blocks_said};
 
 /// The block size that the words say, where `auto` stands for this one.
 pub(crate) fn block_of<'a>(options: &ArgMatches<'a>, stated: u32) -> Result<u32, Misuse<'a>>

@@ -1,7 +1,7 @@
 //! Why the words of a command say no request.
 
 use lfs_grammar::{FORMAT_USAGE, GROW_USAGE, PACK_USAGE};
-use lfs_sizes::SizeFault;
+use lfs_texts::SizeFault;
 use std::fmt;
 
 /// How a command says the number of blocks that an image gets.

@@ -4,8 +4,8 @@ use Rattle.std.specs.List.{AllZip}
 use Rattle.lfs_change.specs.declared.fault.Fault.{Fault}
 use Rattle.lfs_exchange.specs.Handing.{IsUnread}
 use Rattle.lfs_host.specs.Scene.{Scene}
-use Rattle.lfs_script.specs.Script.{SaysLine, asking_lines}
-use Rattle.lfs_script.specs.declared.script_line.ScriptLine.{ScriptLine}
+use Rattle.lfs_texts.specs.Script.{SaysLine, asking_lines}
+use Rattle.lfs_texts.specs.declared.script_line.ScriptLine.{ScriptLine}
 use Rattle.lfs_serve.specs.Batching.{LinesKeep, SaysNoSteps, TakesLines, TakesText}
 use Rattle.lfs_report.specs.Stop.{stopped_by}
 use Rattle.lfs_serve.proofs.BatchingLemmas.{ends_by}

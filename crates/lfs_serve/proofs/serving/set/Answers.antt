@@ -1,6 +1,6 @@
 use Rattle.std.proofs.Common.{rules, ◌≡◌, ℕ, List, [], refl, sym, subst, inl, inr}
 use Rattle.std.proofs.lemmas.Result.{err_from_is_err_and}
-use Rattle.lfs_digits.specs.Digits.{SpellsBytes}
+use Rattle.lfs_texts.specs.Digits.{SpellsBytes}
 use Rattle.lfs_step.specs.declared.step.Step.TheVariants.{SetAttr}
 use Rattle.lfs_serve.proofs.StepLemmas.{no_bytes, no_kind, stopped_at}
 use Rattle.lfs_serve.proofs.serving.set.Goals as goal

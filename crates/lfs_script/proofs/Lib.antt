@@ -1,5 +1,0 @@
-pub mod NumberLemmas
-pub mod StepLemmas
-pub mod WordLemmas
-pub mod ScriptLemmas
-pub mod SaidLemmas

@@ -1,8 +1,0 @@
--- Lines are read one after the other, up to the first that has no words.
-use Rattle.lfs_script.proofs.ScriptLemmas.{line_read}
-use Rattle.lfs_script.proofs.script.script_of.Goals as goal
-
-pub loop-line-preserved : goal.loop-line-preserved
-loop-line-preserved c =
-    line_read c.args.text.now c.loop-line.number c.loop-line.line-iterator c.next.new.self c.in-Some.line.now c.loop-line.lines.items
-    c.take_line.new.lines.items c.loop-line.invariant c.in-Some.ensures.steps c.in_default.ensures.taken

@@ -1,6 +1,0 @@
-pub mod Words
-pub mod Verbs
-pub mod Flaws
-pub mod Steps
-pub mod Lines
-pub mod Script

@@ -1,0 +1,6 @@
+pub mod SizeLemmas
+pub mod NumberLemmas
+pub mod StepLemmas
+pub mod WordLemmas
+pub mod ScriptLemmas
+pub mod SaidLemmas
