@@ -1,6 +1,6 @@
 -- The steps of a script, and how they end.
-use Rattle.std.proofs.Common.{◌≡◌, ◌⊎◌, ℕ, Bor, Bool, List, [], ◌∷◌, ◌++◌, Option, map, refl, sym, ap, subst, ◌∙◌, inl, inr}
-use Rattle.std.proofs.lemmas.List.{append-nil, append_assoc}
+use Rattle.std.proofs.Common.{◌≡◌, ◌⊎◌, ◌<◌, ◌+◌, ℕ, Bor, Bool, List, [], ◌∷◌, ◌++◌, Option, get_or, length, map, take, refl, sym, ap, ap₂, subst, ◌∙◌, arith, inl, inr}
+use Rattle.std.proofs.lemmas.List.{append-nil, append_assoc, length-take-le, map-append, take_more}
 use Rattle.std.specs.Global.{Vec}
 use Rattle.std.specs.List.{AllByRecursion, AllZip}
 use Rattle.lfs_history.specs.declared.moves.Move.{Move}
@@ -8,6 +8,7 @@ use Rattle.lfs_history.specs.declared.moves.Move.TheVariants.{Do, Undo, Redo, Fo
 use Rattle.lfs_history.specs.declared.source.Source.{Source}
 use Rattle.lfs_history.specs.Filling.{bytes_given}
 use Rattle.lfs_history.specs.Meaning.{OnBytes, step_by, step_of}
+use Rattle.lfs_history.specs.Taking as change
 use Rattle.lfs_history.specs.Taking.{KeepsInRange, MayKeep}
 use Rattle.lfs_change.specs.declared.fault.Fault.{Fault}
 use Rattle.lfs_host.specs.Files.{Files}
@@ -18,7 +19,7 @@ use Rattle.lfs_texts.specs.declared.script_line.ScriptLine.{ScriptLine}
 use Rattle.lfs_request.specs.declared.task.Task.TheVariants as task
 use Rattle.lfs_step.specs.declared.step.Step.{Step}
 use Rattle.lfs_step.specs.declared.step.Step.TheVariants.{Batch}
-use Rattle.lfs_serve.specs.Batching.{BecomesNoBatch, HandsLine, LinesKeep, MeansMove, ReadsScript, SaysNoSteps, TakesLines, TakesText, moves_said}
+use Rattle.lfs_serve.specs.Batching.{BecomesNoBatch, HandsLine, LinesKeep, MeansMove, ReadsScript, SaysNoSteps, TakesLines, TakesText, move_said, moves_said}
 use Rattle.lfs_serve.specs.Program.{EndsAs, EndsStep, EndsTask}
 use Rattle.lfs_serve.proofs.StepLemmas.{batch_from}
 
@@ -51,6 +52,30 @@ all_mean files [] [] zips = tt
 all_mean files [] (one ∷ read) zips = absurd zips
 all_mean files (line ∷ lines) [] zips = absurd zips
 all_mean files (line ∷ lines) (one ∷ read) zips = ((one.items, zips.0, refl), all_mean files lines read zips.1)
+
+-- what lines say behind others
+said_behind : (front behind : List ScriptLine) (read more : List (Vec ℕ)) → length read ≡ length front
+    → moves_said (front ++ behind) (read ++ more) ≡ moves_said front read ++ moves_said behind more
+said_behind [] behind [] more same = refl
+said_behind [] behind (one ∷ read) more same = absurd (omega (arith, same))
+said_behind (line ∷ front) behind [] more same = absurd (omega (arith, same))
+said_behind (line ∷ front) behind (one ∷ read) more same =
+    ap (λ (ms : List change.Move). move_said line one.items ∷ ms) (said_behind front behind read more (omega (arith, same)))
+
+-- what one line more says
+pub said_more : (lines : List ScriptLine) (read : List (Vec ℕ)) (i : ℕ) (d : ScriptLine) (e : Vec ℕ) (old new : List OnBytes) (move : OnBytes)
+    → length read ≡ length lines → i < length lines → map step_of old ≡ moves_said (take i lines) (take i read) → new ≡ old ++ move ∷ []
+    → step_of move ≡ move_said (get_or lines i d) (get_or read i e).items
+    → map step_of new ≡ moves_said (take (i + 1) lines) (take (i + 1) read)
+said_more lines read i d e old new move same within so_far is said =
+    let many : length (take i read) ≡ length (take i lines) =
+    length-take-le i read (omega (arith, within, same)) ∙ sym (length-take-le i lines (omega (arith, within))) in
+    ap (map step_of) is
+    ∙ map-append step_of old (move ∷ [])
+    ∙ ap (λ (ms : List change.Move). ms ++ step_of move ∷ []) so_far
+    ∙ ap (λ (m : change.Move). moves_said (take i lines) (take i read) ++ m ∷ []) said
+    ∙ sym (said_behind (take i lines) (get_or lines i d ∷ []) (take i read) (get_or read i e ∷ []) many)
+    ∙ ap₂ moves_said (sym (take_more lines i d within)) (sym (take_more read i e (omega (arith, within, same))))
 
 -- what a step keeps may be kept
 said_in_range : (step : Move Source) (read : List ℕ) (keep : Option ℕ) → MayKeep keep → Keeps keep step

@@ -1,6 +1,6 @@
 //! What the lines of a script put, and the moves that they say.
 
-ghost use Rattle.std.specs.Prelude.{◌≡◌, IfErr, IfOk, map};
+ghost use Rattle.std.specs.Prelude.{◌≡◌, IfErr, IfOk, length, map};
 ghost use Rattle.std.specs.List.{AllZip};
 ghost use Rattle.lfs_exchange.specs.Handing.{IsUnread};
 ghost use Rattle.lfs_history.specs.Meaning.{step_of};
@@ -55,17 +55,18 @@ pub(crate) fn read_lines<H: Host>(
     Ok(read)
 }
 
-/// The moves that lines say, in their order, with the contents that they put. Takes memory.
+/// The moves that lines say, in their order, with the contents that they put, of which the caller owes some for each line. Takes memory.
 pub(crate) fn moves_of<'a>(
     alloc: Global,
     lines: &'a [ScriptLine<'a>],
     read: &'a [Vec<u8>],
 ) -> Result<Vec<Move<'a>>, AllocError>
+    requires { length read.now ≡ length lines.now }
     ensures { IfOk result (λ moves. map step_of moves.items ≡ moves_said lines.now read.now) }
 {
     let mut moves = Vec::new(alloc);
-    'each: for (line, contents) in lines.iter().zip(read) {
-        moves.push(filled(&line.step, contents))?;
+    'each: for (at, line) in lines.iter().enumerate() {
+        moves.push(filled(&line.step, &read[at]))?;
     }
     Ok(moves)
 }

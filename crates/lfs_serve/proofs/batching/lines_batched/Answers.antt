@@ -1,6 +1,7 @@
 -- A file that a line puts isn't read, or the steps of the lines are taken.
-use Rattle.std.proofs.Common.{rules, ◌≡◌, ℕ, List, Some, None, refl, sym, ap, subst, ◌∙◌, inl, inr, map}
+use Rattle.std.proofs.Common.{rules, ◌≡◌, ℕ, List, length, Some, None, refl, sym, ap, subst, ◌∙◌, inl, inr, map}
 use Rattle.std.proofs.lemmas.Result.{err_from_is_err_and}
+use Rattle.std.proofs.lemmas.Slice.Zip.{AllZip-long}
 use Rattle.std.specs.Global.{Vec}
 use Rattle.std.specs.List.{AllByRecursion}
 use Rattle.lfs_command.specs.declared.refusal.Refusal.TheVariants.{Memory as No_memory}
@@ -11,10 +12,17 @@ use Rattle.lfs_host.specs.Scene.{Scene}
 use Rattle.lfs_step.specs.declared.step.Step.TheVariants.{Batch}
 use Rattle.lfs_report.specs.Stop.{stopped_by}
 use Rattle.lfs_serve.specs.Program.{EndsStep}
-use Rattle.lfs_serve.specs.Batching.{moves_said}
+use Rattle.lfs_serve.specs.Batching.{HandsLine, moves_said}
 use Rattle.lfs_serve.proofs.BatchingLemmas.{all_in_range, takes_lines}
 use Rattle.lfs_serve.proofs.StepLemmas.{step_from, stopped_at}
 use Rattle.lfs_serve.proofs.batching.lines_batched.Goals as goal
+
+pub moves_of-requires : goal.moves_of-requires
+moves_of-requires g c =
+    let files = (g.H.Known.known c.args.host.now).files in
+    let read : List (Vec ℕ) = c.deref.result.now in
+    let read_is : read ≡ c.in_ok-read.read.items = search rules in
+    ap length read_is ∙ AllZip-long (HandsLine files) c.args.lines.now c.in_ok-read.read.items c.in_ok-read.ensures.read
 
 pub stepped-requires-clause-range : goal.stepped-requires-clause-range
 stepped-requires-clause-range g c =

@@ -11,6 +11,12 @@ use Rattle.lfs_report.specs.Stop.{stopped_by}
 use Rattle.lfs_serve.proofs.BatchingLemmas.{ends_by}
 use Rattle.lfs_serve.proofs.batching.text_batched.Goals as goal
 
+pub lines_batched-requires-clause-lines : goal.lines_batched-requires-clause-lines
+lines_batched-requires-clause-lines g c =
+    let lines : List ScriptLine = c.deref.result.now in
+    let same : lines ≡ c.in-Ok.lines.items = search rules in
+    subst (LinesKeep c.args.request.now.keep) (sym same) c.in-Ok.ensures.keep
+
 pub returns-in-Ok-clause-ended : goal.returns-in-Ok-clause-ended
 returns-in-Ok-clause-ended g c =
     let old : Scene = g.H.Known.known c.args.host.now in
