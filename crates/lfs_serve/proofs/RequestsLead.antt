@@ -377,7 +377,7 @@ good_step (task.SetAttr path kind value) size keep scene _ (rows, folder, asks) 
 good_step (task.RmAttr path kind) size keep scene (step.RmAttr at of) becomes = tt
 good_step (task.RmAttr path kind) size keep scene _ (rows, folder, asks) = absurd asks
 good_step (task.Batch file) size keep scene (step.Batch steps) becomes = tt
-good_step (task.Batch file) size keep scene _ (text, reads, (lines, says, takes)) = absurd takes
+good_step (task.Batch file) size keep scene _ (text, reads, (lines, says, keeps, takes)) = absurd takes
 good_step _ size keep scene s (rows, folder, asks) = absurd asks
 
 -- where a request leads, or that it is torn

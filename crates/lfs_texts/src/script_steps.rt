@@ -17,7 +17,7 @@ use std::alloc::Global;
 /// Puts what a line asks for behind the rest.
 fn take_step<'a>(
     alloc: Global,
-    line: &'a LineWords<'a>,
+    line: &'a LineWords<'_>,
     keep: Option<u32>,
     said: &mut Vec<ScriptLine<'a>>,
 ) -> Result<(), LineFault>
@@ -36,7 +36,7 @@ fn take_step<'a>(
 /// What lines ask for, in their order, or the first that says no step.
 fn lines_said<'a>(
     alloc: Global,
-    lines: &'a [LineWords<'a>],
+    lines: &'a [LineWords<'_>],
     keep: Option<u32>,
 ) -> Result<Vec<ScriptLine<'a>>, ScriptFault>
     requires { AllByRecursion HasItsWords lines.now }
@@ -61,7 +61,7 @@ fn lines_said<'a>(
 /// Source: own.
 pub fn script_lines<'a>(
     alloc: Global,
-    script: &'a Script<'a>,
+    script: &'a Script<'_>,
     keep: Option<u32>,
 ) -> Result<Vec<ScriptLine<'a>>, ScriptFault>
     ensures lines { IfOk result (λ lines. AllZip SaysLine (asking_lines script.now) lines.items) }

@@ -1,5 +1,5 @@
 -- A line of a text says no step, or its lines are taken.
-use Rattle.std.proofs.Common.{rules, ◌≡◌, ◌⊎◌, List, refl, sym, subst, inl, inr}
+use Rattle.std.proofs.Common.{rules, ◌≡◌, ◌⊎◌, ℕ, List, refl, sym, subst, inl, inr}
 use Rattle.std.specs.List.{AllZip}
 use Rattle.lfs_change.specs.declared.fault.Fault.{Fault}
 use Rattle.lfs_exchange.specs.Handing.{IsUnread}
@@ -25,13 +25,10 @@ returns-in-Ok-clause-ended g c =
     let text = c.args.text.now in
     let lines : List ScriptLine = c.deref.result.now in
     let same : lines ≡ c.in-Ok.lines.items = search rules in
-    let says = subst (λ (ls : List ScriptLine). AllZip SaysLine (asking_lines text) ls) (sym same) c.in-Ok.ensures.lines in
+    let asked = subst (λ (t : List ℕ). AllZip SaysLine (asking_lines t) c.in-Ok.lines.items) c.script_of-script.ensures c.in-Ok.ensures.lines in
+    let says = subst (λ (ls : List ScriptLine). AllZip SaysLine (asking_lines text) ls) (sym same) asked in
     let keeps = subst (LinesKeep request.keep) (sym same) c.in-Ok.ensures.keep in
     let fault = stopped_by c.lines_batched.result in
     ends_by (TakesLines old.files lines) (TakesText old.files request.keep text) (IsUnread new)
     (λ (why : Fault). IsUnread new why ⊎ SaysNoSteps text why) request.takes_older request.size request.keep request.image.now old new fault fault
     refl (λ step takes. (lines, says, keeps, takes)) (λ why unread. inl unread) c.lines_batched.ensures.ended
-
-pub returns-in-Err-clause-ended : goal.returns-in-Err-clause-ended
-returns-in-Err-clause-ended g c =
-    inr ((refl, refl), (c.stop_of_line.result.fault, refl, inr (c.in-Err.first, c.in-Err.ensures.refused, c.stop_of_line.ensures.fault)))

@@ -5,4 +5,4 @@ use Rattle.lfs_serve.specs.Batching.{moves_said}
 use Rattle.lfs_serve.proofs.line_moves.moves_of.Given as goal
 
 abbrev pub invariant-each : goal.invariant-each
-invariant-each l = map step_of l.moves.items ≡ moves_said (take l.line-index l.lines) (take l.line-index l.read)
+invariant-each l = map step_of l.moves.items ≡ moves_said (take l.at l.lines) (take l.at l.read)

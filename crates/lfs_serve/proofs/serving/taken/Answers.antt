@@ -22,6 +22,6 @@ returns-in-Some-clause-ran g c =
       runs_with (deed_of c.args.step.now c.args.handed.input.items c.args.keep)
           (given c.args.size c.args.handed.image.items c.args.handed.journal.items) (Some c.stop_of_run.result.fault)
           (g.H.Known.known c.args.host.now).printed (g.H.Known.known c.ran-outcome.new.host).printed o c.ran-outcome.ensures.answers
-          c.ran-outcome.ensures.sent (c.in-Some.is ∙ ap Some (sym c.stop_of_run.ensures)),
+          c.ran-outcome.ensures.sent (c.in-Some.is ∙ ap Some (sym c.stop_of_run.ensures.fault)),
       tt,
     )
