@@ -16,7 +16,7 @@ use Rattle.lfs_change.specs.declared.fault.Fault.{Fault}
 use Rattle.lfs_change.specs.declared.fault.Fault.TheVariants.{Image}
 use Rattle.lfs_change.specs.Fault.{blames_output, fault_of_step, fault_of_mount, fault_of_opening}
 use Rattle.lfs_change.specs.declared.outcome.Outcome.{Outcome}
-use Rattle.lfs_change.specs.Change.{AnswersChange, AnswersImage, DenotesOn, IsChanged, RefusesChange, RefusesDenoting, RefusesImage, RefusesStep}
+use Rattle.lfs_change.specs.Change.{AnswersChange, AnswersImage, DenotesOn, RefusesChange, RefusesDenoting, RefusesImage, RefusesStep}
 use Rattle.lfs_change.proofs.BytesLemmas.{image_of_disk}
 
 -- ---- what is denoted
@@ -97,7 +97,14 @@ change_at : (f : Option Fault) (steps : List Move) (d : Disk) (journal : List �
     → AnswersChange f steps d.size d.bytes journal o
 change_at None steps d journal o is changed =
     let same = sym (image_of_disk d is) in
-    (subst IsDisk same is, subst (λ (e : Disk). IsChanged steps e journal o) same changed)
+    record {
+      old = changed.old;
+      denotes = (subst IsDisk same is, subst (λ (e : Disk). DenotesOn e journal changed.old) same changed.denotes);
+      new = changed.new;
+      takes = changed.takes;
+      image_is = changed.image_is;
+      journal_is = changed.journal_is;
+    }
 change_at (Some f) steps d journal o is answers = (answers.0, answers.1, bytes_refuse steps o.at d journal f is answers.2)
 
 pub change_answers : (steps : List Move) (size : ℕ) (bytes journal : List ℕ) (d : Disk) (o : Outcome) → IsDisk d → d.size ≡ size

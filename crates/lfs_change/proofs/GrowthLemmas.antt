@@ -77,12 +77,12 @@ denoted_length d (byte ∷ bytes) h denotes =
 
 pub bytes_grow : JournalsGrowByTheNeed → JournalsOfBytesGrowByTheNeed
 bytes_grow grow asked keep size image journal o changes =
-    let is = changes.1 in
+    let is = changes in
     let does = one_taken (Do asked keep) is.old is.new is.takes in
     let plans = does.plans in
-    let present = denoted_present (image_of size image) journal is.old is.denotes in
+    let present = denoted_present (image_of size image) journal is.old is.denotes.1 in
     let blocks = need plans.volume plans.command + 2 in
-    let before = denoted_length (image_of size image) journal is.old is.denotes in
+    let before = denoted_length (image_of size image) journal is.old is.denotes.1 in
     let longer = grow asked keep is.old is.new before.version does in
     let len = before.len in
     let more = before.more in
@@ -101,10 +101,10 @@ bytes_grow grow asked keep size image journal o changes =
 
 pub bytes_grow_on_the_kept : KeptJournalsGrowByTheNeed → JournalsOfBytesGrowOnTheKept
 bytes_grow_on_the_kept grow asked keep size image journal o changes =
-    let is = changes.1 in
+    let is = changes in
     let does = one_taken (Do asked keep) is.old is.new is.takes in
     let plans = does.plans in
-    let present = denoted_present (image_of size image) journal is.old is.denotes in
+    let present = denoted_present (image_of size image) journal is.old is.denotes.1 in
     let blocks = need plans.volume plans.command + 2 in
     let kept = kept_journal keep is.old in
     let longer = grow asked keep is.old is.new 2 does in
@@ -113,7 +113,7 @@ bytes_grow_on_the_kept grow asked keep size image journal o changes =
     omega (arith, longer, after) in
     record {
       old = is.old;
-      denotes = is.denotes;
+      denotes = is.denotes.1;
       volume = plans.volume;
       holds = subst (λ (d : Disk). Holds (reading_of d) plans.volume) present plans.holds;
       command = plans.command;

@@ -15,7 +15,7 @@ use Rattle.lfs_history.specs.OpeningLaws.{JournalsDenoteOneHistory, SavedHistori
 use Rattle.lfs_history.specs.Taking.{Move, Do, Undo, Run}
 use Rattle.lfs_change.specs.declared.outcome.Outcome.{Outcome}
 use Rattle.lfs_change.specs.Bytes.{image_of}
-use Rattle.lfs_change.specs.Change.{ChangesBytes, Denotes, DenotesOn}
+use Rattle.lfs_change.specs.Change.{Denotes, DenotesOn, IsChanged}
 use Rattle.lfs_change.specs.Laws.{ChangedBytesAreDenoted, ChangedBytesAreEquations, UndoneBytesStandAgain}
 use Rattle.lfs_change.proofs.BytesLemmas.{image_of_disk}
 use Rattle.lfs_change.proofs.ChangeLemmas.{denoted_present, denoted_history, one_taken, opened_denotes}
@@ -41,10 +41,10 @@ size_kept keep keep_size (step ∷ steps) old new (mid, takes, later) is =
     size_kept keep keep_size steps mid new later on ∙ keep_size step None old mid is takes
 
 steps_left : RunsKeepHistories → StepsKeepSize → (steps : List Move) (size : ℕ) (image journal : List ℕ) (o : Outcome)
-    → (changes : ChangesBytes steps size image journal o) → IsLeft size changes.1.new
-steps_left keep keep_size steps size image journal o (disk, is) =
-    let old = denoted_history (image_of size image) journal is.old is.denotes in
-    let present = denoted_present (image_of size image) journal is.old is.denotes in
+    → (changes : IsChanged steps (Denotes size image journal) o) → IsLeft size changes.new
+steps_left keep keep_size steps size image journal o is =
+    let old = denoted_history (image_of size image) journal is.old is.denotes.1 in
+    let present = denoted_present (image_of size image) journal is.old is.denotes.1 in
     record {
       history = keep steps (map (λ _. None) steps) is.old is.new is.takes old;
       size_is = size_kept keep keep_size steps is.old is.new is.takes old ∙ ap (λ (d : Disk). d.size) present;
@@ -70,14 +70,14 @@ left_denotes opens size h image journal is image_is journal_is =
 pub bytes_are_denoted : RunsKeepHistories → StepsKeepSize → SavedHistoriesOpen → ChangedBytesAreDenoted
 bytes_are_denoted keep keep_size opens steps size image journal o changes =
     let is = steps_left keep keep_size steps size image journal o changes in
-    left_denotes opens size changes.1.new o.image.items o.journal.items is changes.1.image_is changes.1.journal_is
+    left_denotes opens size changes.new o.image.items o.journal.items is changes.image_is changes.journal_is
 
 -- ---- what a command leaves
 
 pub bytes_are_equations : ChangedBytesAreDenoted → CommandsPushEquations → ChangedBytesAreEquations
 bytes_are_equations denoted push asked keep size image journal o v t changes holds mounts =
-    let is = changes.1 in
-    let old = denoted_present (image_of size image) journal is.old is.denotes in
+    let is = changes in
+    let old = denoted_present (image_of size image) journal is.old is.denotes.1 in
     let new = denoted_present (image_of size o.image.items) o.journal.items is.new
     (denoted (Do asked keep ∷ []) size image journal o changes).1 in
     let does = one_taken (Do asked keep) is.old is.new is.takes in
@@ -101,10 +101,10 @@ image_again all kept asked (Some keep) old new run = (kept asked keep old new ru
 pub bytes_stand_again : ChangedBytesAreDenoted → JournalsDenoteOneHistory → UndoIsExact → UndoIsExactAsFarAsKept → UndoneBytesStandAgain
 bytes_stand_again denoted one all kept asked keep size image journal done undone first second =
     let mid = (denoted (Do asked keep ∷ []) size image journal done first).1 in
-    let same : second.1.old ≡ first.1.new = one_denoted one (image_of size done.image.items) done.journal.items second.1.old first.1.new
-    second.1.denotes mid in
-    let takes : TakesAll (Undo 1 ∷ []) first.1.new second.1.new = subst (λ (h : History). TakesAll (Undo 1 ∷ []) h second.1.new) same second.1.takes in
-    let does = one_taken (Do asked keep) first.1.old first.1.new first.1.takes in
-    let run : Run (Do asked keep ∷ Undo 1 ∷ []) (None ∷ None ∷ []) first.1.old second.1.new = (first.1.new, does, takes) in
-    let back = image_again all kept asked keep first.1.old second.1.new run in
-    second.1.image_is ∙ ap (λ (d : Disk). d.bytes) (back ∙ denoted_present (image_of size image) journal first.1.old first.1.denotes)
+    let same : second.old ≡ first.new = one_denoted one (image_of size done.image.items) done.journal.items second.old first.new
+    second.denotes.1 mid in
+    let takes : TakesAll (Undo 1 ∷ []) first.new second.new = subst (λ (h : History). TakesAll (Undo 1 ∷ []) h second.new) same second.takes in
+    let does = one_taken (Do asked keep) first.old first.new first.takes in
+    let run : Run (Do asked keep ∷ Undo 1 ∷ []) (None ∷ None ∷ []) first.old second.new = (first.new, does, takes) in
+    let back = image_again all kept asked keep first.old second.new run in
+    second.image_is ∙ ap (λ (d : Disk). d.bytes) (back ∙ denoted_present (image_of size image) journal first.old first.denotes.1)

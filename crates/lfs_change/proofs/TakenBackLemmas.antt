@@ -1,5 +1,6 @@
 -- What commands have done that keep all earlier images is taken back by as many undos.
-use Rattle.std.proofs.Common.{◌≡◌, ◌∙◌, ℕ, zero, suc, ◌+◌, ◌≤◌, ◌<◌, List, [], ◌∷◌, ◌++◌, length, drop, map, None, Some, Result, Ok, Err, OnOk, IfErr, refl, sym, ap, subst, arith}
+use Rattle.std.proofs.Common.{◌≡◌, ◌∙◌, ℕ, zero, suc, ◌+◌, ◌≤◌, ◌<◌, List, [], ◌∷◌, ◌++◌, length, drop, map}
+use Rattle.std.proofs.Common.{None, Some, Result, Ok, Err, OnOk, IfErr, refl, sym, ap, subst, arith}
 use Rattle.lfs_block.specs.Disk.{Disk}
 use Rattle.std.specs.List.{AllByRecursion}
 use Rattle.lfs_history.specs.Batch.{StopsAt, TakesAll}

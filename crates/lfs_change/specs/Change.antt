@@ -28,11 +28,10 @@ DenotesOn d (byte ∷ bytes) h = Opens d (byte ∷ bytes) h
 abbrev pub Denotes : ℕ → List ℕ → List ℕ → History → Type 0
 Denotes size image journal h = IsDisk (image_of size image) × DenotesOn (image_of size image) journal h
 
--- The steps are taken on the history that the image and the journal denote, all of them. The outcome is the image and the journal of the
--- history that they leave.
-pub record IsChanged (steps : List Move) (disk : Disk) (journal : List ℕ) (outcome : Outcome) : Type 0 where
+-- The steps are taken, all of them, on a history that is denoted. The outcome is the image and the journal of the history that they leave.
+pub record IsChanged (steps : List Move) (Denoted : History → Type 0) (outcome : Outcome) : Type 0 where
   pub old : History
-  pub denotes : DenotesOn disk journal old
+  pub denotes : Denoted old
   pub new : History
   pub takes : TakesAll steps old new
   pub image_is : outcome.image.items ≡ new.present.bytes
@@ -67,13 +66,9 @@ RefusesImage steps at disk journal _ = ⊥
 
 -- what steps on an image answer; with a fault, image and journal are those that were handed in
 abbrev pub AnswersImage : Option Fault → List Move → Disk → List ℕ → Outcome → Type 0
-AnswersImage None steps disk journal outcome = IsChanged steps disk journal outcome
+AnswersImage None steps disk journal outcome = IsChanged steps (DenotesOn disk journal) outcome
 AnswersImage (Some fault) steps disk journal outcome =
     (outcome.image.items ≡ disk.bytes) × (outcome.journal.items ≡ journal) × RefusesImage steps outcome.at disk journal fault
-
--- steps are taken on bytes that are an image
-abbrev pub ChangesBytes : List Move → ℕ → List ℕ → List ℕ → Outcome → Type 0
-ChangesBytes steps size image journal outcome = IsDisk (image_of size image) × IsChanged steps (image_of size image) journal outcome
 
 -- why bytes aren't changed: they are no image, or else as for an image
 abbrev pub RefusesChange : List Move → ℕ → ℕ → List ℕ → List ℕ → Fault → Type 0
@@ -82,6 +77,6 @@ RefusesChange steps at size image journal fault = IsDisk (image_of size image) �
 
 -- what steps on bytes answer; with a fault, image and journal are those that were handed in
 abbrev pub AnswersChange : Option Fault → List Move → ℕ → List ℕ → List ℕ → Outcome → Type 0
-AnswersChange None steps size image journal outcome = ChangesBytes steps size image journal outcome
+AnswersChange None steps size image journal outcome = IsChanged steps (Denotes size image journal) outcome
 AnswersChange (Some fault) steps size image journal outcome =
     (outcome.image.items ≡ image) × (outcome.journal.items ≡ journal) × RefusesChange steps outcome.at size image journal fault

@@ -16,27 +16,27 @@ use Rattle.lfs_history.specs.Taking.{Move, Do, Undo}
 use Rattle.lfs_history.specs.Laws.{IsCarriedOut}
 use Rattle.lfs_change.specs.declared.outcome.Outcome.{Outcome}
 use Rattle.lfs_change.specs.Bytes.{image_of}
-use Rattle.lfs_change.specs.Change.{Denotes, DenotesOn, ChangesBytes}
+use Rattle.lfs_change.specs.Change.{Denotes, DenotesOn, IsChanged}
 
 -- the image and the journal that steps leave denote the history that they leave
 abbrev pub ChangedBytesAreDenoted : Type 0
 ChangedBytesAreDenoted = (steps : List Move) (size : ℕ) (image journal : List ℕ) (outcome : Outcome)
-    (changes : ChangesBytes steps size image journal outcome)
-    → Denotes size outcome.image.items outcome.journal.items changes.1.new
+    (changes : IsChanged steps (Denotes size image journal) outcome)
+    → Denotes size outcome.image.items outcome.journal.items changes.new
 
 -- Bytes that a command changed are an image that mounts to the command's equation of the tree of the image before, with the same
 -- size and limits, and with as many blocks as the command leaves.
 abbrev pub ChangedBytesAreEquations : Type 0
 ChangedBytesAreEquations = (asked : Asked) (keep : Option ℕ) (size : ℕ) (image journal : List ℕ) (outcome : Outcome)
     (v : Volume) (t : Path → Option Node)
-    → ChangesBytes (Do asked keep ∷ []) size image journal outcome → Holds (reading_of (image_of size image)) v
+    → IsChanged (Do asked keep ∷ []) (Denotes size image journal) outcome → Holds (reading_of (image_of size image)) v
     → Mounts (image_of size image) t → IsCarriedOut asked (image_of size outcome.image.items) v t
 
 -- what a command did is undone byte for byte, by the journal that it left, however much of the past it keeps
 abbrev pub UndoneBytesStandAgain : Type 0
 UndoneBytesStandAgain = (asked : Asked) (keep : Option ℕ) (size : ℕ) (image journal : List ℕ) (done undone : Outcome)
-    → ChangesBytes (Do asked keep ∷ []) size image journal done
-    → ChangesBytes (Undo 1 ∷ []) size done.image.items done.journal.items undone → undone.image.items ≡ image
+    → IsChanged (Do asked keep ∷ []) (Denotes size image journal) done
+    → IsChanged (Undo 1 ∷ []) (Denotes size done.image.items done.journal.items) undone → undone.image.items ≡ image
 
 -- the length of a journal; of one without bytes, that of a journal without changes
 abbrev pub journal_length : List ℕ → ℕ
@@ -65,7 +65,7 @@ pub record GrowsByTheNeed (asked : Asked) (size : ℕ) (image journal : List ℕ
 -- the journal of bytes that a command changed grows by no more than the need
 abbrev pub JournalsOfBytesGrowByTheNeed : Type 0
 JournalsOfBytesGrowByTheNeed = (asked : Asked) (keep : Option ℕ) (size : ℕ) (image journal : List ℕ) (outcome : Outcome)
-    → ChangesBytes (Do asked keep ∷ []) size image journal outcome → GrowsByTheNeed asked size image journal outcome
+    → IsChanged (Do asked keep ∷ []) (Denotes size image journal) outcome → GrowsByTheNeed asked size image journal outcome
 
 -- On the volume that the image holds the command needs some blocks, and the new journal is longer by no more than that even than the
 -- journal that has nothing but those of the changes that are kept.
@@ -82,4 +82,4 @@ pub record GrowsOnTheKept (asked : Asked) (keep : Option ℕ) (size : ℕ) (imag
 -- the journal of bytes that a command changed is bounded by what it keeps
 abbrev pub JournalsOfBytesGrowOnTheKept : Type 0
 JournalsOfBytesGrowOnTheKept = (asked : Asked) (keep : Option ℕ) (size : ℕ) (image journal : List ℕ) (outcome : Outcome)
-    → ChangesBytes (Do asked keep ∷ []) size image journal outcome → GrowsOnTheKept asked keep size image journal outcome
+    → IsChanged (Do asked keep ∷ []) (Denotes size image journal) outcome → GrowsOnTheKept asked keep size image journal outcome

@@ -21,16 +21,17 @@ pub struct Place {
 }
 
 impl Place {
+    ghost use Rattle.std.specs.Prelude.{◌≡◌, IfSome};
+    ghost use Rattle.lfs_change.specs.Place.{IsPlaceOn};
+
     /// Where a path is refused in an image of this outline, or `target`, to which something is moved from there, where the whole of the
     /// path leads to something. `None` where one of the texts is no path, or memory is wanting.
     ///
     /// Source: own.
-    pub fn of(
-        alloc: Global,
-        outline: &Outline,
-        path: &[u8],
-        target: Option<&[u8]>,
-    ) -> Option<Place> {
+    pub fn of(alloc: Global, outline: &Outline, path: &[u8], target: Option<&[u8]>) -> Option<Place>
+        ensures on { IfSome result (IsPlaceOn outline.now path.now target.entry) }
+        ensures limits { IfSome result (λ place. place.limits ≡ outline.now.limits) }
+    {
         let path = names_of(alloc, path).ok()?;
         let reached = reach(outline, &path);
         let Some(target) = target else {
@@ -42,14 +43,17 @@ impl Place {
             });
         };
         let target = names_of(alloc, target).ok()?;
-        let is_of_target = reached == path.len();
+        if reached < path.len() {
+            return Some(Place {
+                is_of_target: false,
+                names: reached,
+                is_directory: is_directory(outline, &target),
+                limits: outline.limits,
+            });
+        }
         Some(Place {
-            is_of_target,
-            names: if is_of_target {
-                reach(outline, &target)
-            } else {
-                reached
-            },
+            is_of_target: true,
+            names: reach(outline, &target),
             is_directory: is_directory(outline, &target),
             limits: outline.limits,
         })
