@@ -87,6 +87,10 @@ FilesAreAdded = (n : Name) (bytes : List ℕ) (d : Disk) (next : ℕ) (above : L
 
 -- ---- a directory
 
+-- the command that makes it
+abbrev pub making : Path → Command
+making p = Mkdir p
+
 -- A name that is too long is refused; else the directory is added, or there is no room.
 pub record AddsDirectory (n : Name) (d : Disk) (next : ℕ) (above : List Directory) (deepest : Directory) (closed : List Directory)
     (names : Path) (v : Volume) : Type 0 where

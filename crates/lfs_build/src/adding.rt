@@ -51,7 +51,8 @@ impl NewVolume {
     ghost use Rattle.lfs_meta.specs.Name.{Name, IsName};
     ghost use Rattle.lfs_fs.specs.Path.{Path};
     ghost use Rattle.lfs_fs.specs.Volume.{Volume};
-    ghost use Rattle.lfs_command.specs.Command.{Mkdir, Put};
+    ghost use Rattle.lfs_command.specs.Command.{Put};
+    ghost use Rattle.lfs_build.specs.Adding.{making};
     ghost use Rattle.lfs_build.specs.AtHome.{IsWithoutLast, PutsName, RefusesName};
     ghost use Rattle.lfs_build.specs.Pushed.{IsWithClosed};
     ghost use Rattle.lfs_build.specs.Rooted.{bare_directory};
@@ -105,8 +106,8 @@ impl NewVolume {
     /// Makes a directory under a name of the deepest directory, which isn't entered yet.
     fn make_named(&mut self, alloc: Global, name: &[u8]) -> Result<(), Refusal>
         requires { (home : Path) × (v : Volume) × IsHome self.old home name.now v }
-        ensures made { OnOk result (PutsName (λ p. Mkdir p) name.now self.old self.new) }
-        ensures refused { IfErr result (λ r. RefusesName (λ p. Mkdir p) name.now self.old r) }
+        ensures made { OnOk result (PutsName making name.now self.old self.new) }
+        ensures refused { IfErr result (λ r. RefusesName making name.now self.old r) }
     {
         entries_are_added();
         ways_lead_to_ends();
@@ -143,8 +144,8 @@ impl NewVolume {
     pub fn make_directory(&mut self, alloc: Global, path: &[&[u8]]) -> Result<(), Refusal>
         requires there { (q : Path) × (v : Volume) × IsAt self.old q v }
         requires names { All IsName (map (λ n. n.now) path.now) }
-        ensures made { OnOk result (PutsRow (Mkdir (map (λ n. n.now) path.now)) (map (λ n. n.now) path.now) self.old self.new) }
-        ensures refused { IfErr result (λ r. RefusesRow (Mkdir (map (λ n. n.now) path.now)) (map (λ n. n.now) path.now) self.old r) }
+        ensures made { OnOk result (PutsRow (making (map (λ n. n.now) path.now)) (map (λ n. n.now) path.now) self.old self.new) }
+        ensures refused { IfErr result (λ r. RefusesRow (making (map (λ n. n.now) path.now)) (map (λ n. n.now) path.now) self.old r) }
     {
         let name = self.seek(path)?;
         self.make_named(alloc, name)?;
