@@ -1,56 +1,58 @@
 -- What steps that aren't refused make of the image and of the journal.
-use Rattle.std.proofs.Common.{◌≡◌, [], ◌∷◌, Option, None, Some, subst}
+use Rattle.std.proofs.Common.{◌≡◌, List, [], ◌∷◌, Option, None, Some, map, subst}
+use Rattle.lfs_history.specs.Meaning.{step_of}
 use Rattle.lfs_history.specs.Taking as move
-use Rattle.lfs_history.specs.Taking.{Do, Undo, Redo}
+use Rattle.lfs_history.specs.Taking.{Move, Do, Undo, Redo}
 use Rattle.lfs_change.specs.declared.fault.Fault.{Fault}
 use Rattle.lfs_change.specs.declared.outcome.Outcome.{Outcome}
+use Rattle.lfs_change.specs.Change.{Denotes, IsChanged}
 use Rattle.lfs_change.specs.Laws.{ChangedBytesAreEquations, JournalsOfBytesGrowByTheNeed, JournalsOfBytesGrowOnTheKept}
-use Rattle.lfs_step.specs.Deed.{Deed, Make, Pack, Ask, Compare, Recount, Forget, Change}
-use Rattle.lfs_step.specs.Equations.{KeepsEquations, KeepsNeeds, MeetsEquation, MeetsNeed}
-use Rattle.lfs_step.specs.Outcome.{Answers, AnswersBy, AnswersDone, Given}
+use Rattle.lfs_step.specs.declared.step.Step.{Step}
+use Rattle.lfs_step.specs.declared.step.Step.TheVariants.{Change}
+use Rattle.lfs_step.specs.Equations.{KeepsEquations, KeepsNeeds, MeetsEquation, MeetsNeed, MovesMeetEquation, MovesMeetNeed}
+use Rattle.lfs_step.specs.Outcome.{Answers, AnswersDone, Given}
+use Rattle.lfs_step.proofs.OutcomeLemmas.{AnswersBy}
 
--- a deed that is answered without a fault is done
-done : (deed : Deed) (g : Given) (outcome : Outcome) → Answers deed g outcome → outcome.fault ≡ None → AnswersDone deed g outcome
-done deed g outcome answers none = subst (λ (f : Option Fault). AnswersBy f deed g outcome) none answers
+-- a step that is answered without a fault is done
+done : (step : Step) (g : Given) (outcome : Outcome) → Answers step g outcome → outcome.fault ≡ None → AnswersDone step g outcome
+done step g outcome answers none = subst (λ (f : Option Fault). AnswersBy f step g outcome) none answers
 
-meets_equation : ChangedBytesAreEquations → (deed : Deed) (g : Given) (outcome : Outcome) → AnswersDone deed g outcome
-    → MeetsEquation deed g outcome
-meets_equation law (Change (Do asked keep ∷ [])) g outcome changes =
+moves_meet_equation : ChangedBytesAreEquations → (moves : List Move) (g : Given) (outcome : Outcome)
+    → IsChanged moves (Denotes g.size g.image g.journal) outcome → MovesMeetEquation moves g outcome
+moves_meet_equation law (Do asked keep ∷ []) g outcome changes =
     λ v tree holds mounts. law asked keep g.size g.image g.journal outcome v tree changes holds mounts
-meets_equation law (Change (Do asked keep ∷ next ∷ steps)) g outcome changes = tt
-meets_equation law (Change (Undo many ∷ steps)) g outcome changes = tt
-meets_equation law (Change (Redo many ∷ steps)) g outcome changes = tt
-meets_equation law (Change (move.Forget ∷ steps)) g outcome changes = tt
-meets_equation law (Change []) g outcome changes = tt
-meets_equation law (Make count limits) g outcome answers = tt
-meets_equation law (Pack count limits rows) g outcome answers = tt
-meets_equation law (Ask query) g outcome answers = tt
-meets_equation law (Compare size other) g outcome answers = tt
-meets_equation law Recount g outcome answers = tt
-meets_equation law Forget g outcome answers = tt
+moves_meet_equation law (Do asked keep ∷ next ∷ moves) g outcome changes = tt
+moves_meet_equation law (Undo many ∷ moves) g outcome changes = tt
+moves_meet_equation law (Redo many ∷ moves) g outcome changes = tt
+moves_meet_equation law (move.Forget ∷ moves) g outcome changes = tt
+moves_meet_equation law [] g outcome changes = tt
 
-pub keeps_equations : ChangedBytesAreEquations → (deed : Deed) (g : Given) (outcome : Outcome) → Answers deed g outcome
-    → KeepsEquations deed g outcome
-keeps_equations law deed g outcome answers none = meets_equation law deed g outcome (done deed g outcome answers none)
+meets_equation : ChangedBytesAreEquations → (step : Step) (g : Given) (outcome : Outcome) → AnswersDone step g outcome
+    → MeetsEquation step g outcome
+meets_equation law (Change steps) g outcome changes = moves_meet_equation law (map step_of steps.now) g outcome changes
+meets_equation law _ g outcome answers = tt
 
-meets_need : JournalsOfBytesGrowByTheNeed → JournalsOfBytesGrowOnTheKept → (deed : Deed) (g : Given) (outcome : Outcome)
-    → AnswersDone deed g outcome → MeetsNeed deed g outcome
-meets_need law kept (Change (Do asked None ∷ [])) g outcome changes = law asked None g.size g.image g.journal outcome changes
-meets_need law kept (Change (Do asked (Some keep) ∷ [])) g outcome changes =
+pub keeps_equations : ChangedBytesAreEquations → (step : Step) (g : Given) (outcome : Outcome) → Answers step g outcome
+    → KeepsEquations step g outcome
+keeps_equations law step g outcome answers none = meets_equation law step g outcome (done step g outcome answers none)
+
+moves_meet_need : JournalsOfBytesGrowByTheNeed → JournalsOfBytesGrowOnTheKept → (moves : List Move) (g : Given) (outcome : Outcome)
+    → IsChanged moves (Denotes g.size g.image g.journal) outcome → MovesMeetNeed moves g outcome
+moves_meet_need law kept (Do asked None ∷ []) g outcome changes = law asked None g.size g.image g.journal outcome changes
+moves_meet_need law kept (Do asked (Some keep) ∷ []) g outcome changes =
     (law asked (Some keep) g.size g.image g.journal outcome changes, kept asked (Some keep) g.size g.image g.journal outcome changes)
-meets_need law kept (Change (Do asked None ∷ next ∷ steps)) g outcome changes = tt
-meets_need law kept (Change (Do asked (Some keep) ∷ next ∷ steps)) g outcome changes = tt
-meets_need law kept (Change (Undo many ∷ steps)) g outcome changes = tt
-meets_need law kept (Change (Redo many ∷ steps)) g outcome changes = tt
-meets_need law kept (Change (move.Forget ∷ steps)) g outcome changes = tt
-meets_need law kept (Change []) g outcome changes = tt
-meets_need law kept (Make count limits) g outcome answers = tt
-meets_need law kept (Pack count limits rows) g outcome answers = tt
-meets_need law kept (Ask query) g outcome answers = tt
-meets_need law kept (Compare size other) g outcome answers = tt
-meets_need law kept Recount g outcome answers = tt
-meets_need law kept Forget g outcome answers = tt
+moves_meet_need law kept (Do asked None ∷ next ∷ moves) g outcome changes = tt
+moves_meet_need law kept (Do asked (Some keep) ∷ next ∷ moves) g outcome changes = tt
+moves_meet_need law kept (Undo many ∷ moves) g outcome changes = tt
+moves_meet_need law kept (Redo many ∷ moves) g outcome changes = tt
+moves_meet_need law kept (move.Forget ∷ moves) g outcome changes = tt
+moves_meet_need law kept [] g outcome changes = tt
 
-pub keeps_needs : JournalsOfBytesGrowByTheNeed → JournalsOfBytesGrowOnTheKept → (deed : Deed) (g : Given) (outcome : Outcome)
-    → Answers deed g outcome → KeepsNeeds deed g outcome
-keeps_needs law kept deed g outcome answers none = meets_need law kept deed g outcome (done deed g outcome answers none)
+meets_need : JournalsOfBytesGrowByTheNeed → JournalsOfBytesGrowOnTheKept → (step : Step) (g : Given) (outcome : Outcome)
+    → AnswersDone step g outcome → MeetsNeed step g outcome
+meets_need law kept (Change steps) g outcome changes = moves_meet_need law kept (map step_of steps.now) g outcome changes
+meets_need law kept _ g outcome answers = tt
+
+pub keeps_needs : JournalsOfBytesGrowByTheNeed → JournalsOfBytesGrowOnTheKept → (step : Step) (g : Given) (outcome : Outcome)
+    → Answers step g outcome → KeepsNeeds step g outcome
+keeps_needs law kept step g outcome answers none = meets_need law kept step g outcome (done step g outcome answers none)

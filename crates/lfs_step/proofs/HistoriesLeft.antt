@@ -1,10 +1,11 @@
 -- What a step leaves denotes the history to which it leads.
-use Rattle.std.proofs.Common.{◌≡◌, ℕ, List, [], Option, None, refl, sym, subst, arith}
+use Rattle.std.proofs.Common.{◌≡◌, ℕ, List, [], Option, map, refl, sym, subst, arith}
 use Rattle.lfs_block.specs.Disk.{Disk, IsDisk}
 use Rattle.lfs_book.specs.Book.{book_of, journal_bytes}
 use Rattle.lfs_edit.specs.Formatted.{disk_with}
 use Rattle.lfs_history.specs.Batch.{TakesAll}
 use Rattle.lfs_history.specs.History.{History, IsHistory, IsMounted, fresh_history}
+use Rattle.lfs_history.specs.Meaning.{step_of}
 use Rattle.lfs_history.specs.OpeningLaws.{JournalsDenoteOneHistory, SavedHistoriesOpen}
 use Rattle.lfs_history.specs.Opening.{journal_of}
 use Rattle.lfs_change.specs.declared.fault.Fault.{Fault}
@@ -16,9 +17,11 @@ use Rattle.lfs_change.specs.Laws.{ChangedBytesAreDenoted}
 use Rattle.lfs_change.proofs.BytesLemmas.{image_of_disk}
 use Rattle.lfs_change.proofs.ChangeLemmas.{opened_denotes}
 use Rattle.lfs_change.proofs.LawLemmas.{one_denoted, some_bytes}
-use Rattle.lfs_step.specs.Deed.{Deed, Make, Pack, Ask, Compare, Recount, Forget, Change}
+use Rattle.lfs_step.specs.declared.step.Step.{Step}
+use Rattle.lfs_step.specs.declared.step.Step.TheVariants.{Format, Pack, Ask, Forget, Change}
 use Rattle.lfs_step.specs.Histories.{KeepsHistories, StepsLeaveHistories}
-use Rattle.lfs_step.specs.Outcome.{Answers, AnswersBy, Given, KeepsBoth}
+use Rattle.lfs_step.specs.Outcome.{Answers, Given, KeepsBoth}
+use Rattle.lfs_step.proofs.OutcomeLemmas.{AnswersBy}
 
 -- ---- a new image
 
@@ -71,24 +74,22 @@ forgets opens g outcome is =
 -- ---- any step
 
 pub steps_leave_histories : JournalsDenoteOneHistory → SavedHistoriesOpen → ChangedBytesAreDenoted → StepsLeaveHistories
-steps_leave_histories one opens denoted (Make count limits) g outcome (formatted, empty) =
+steps_leave_histories one opens denoted (Format count limits) g outcome (formatted, empty) =
     let mount = formatted.mount in
     begins opens g.size count outcome.image.items outcome.journal.items formatted.disk (mount.volume, mount.holds, mount.sound) empty
 steps_leave_histories one opens denoted (Pack count limits rows) g outcome (is, empty) = λ packed are.
     let packs = is packed are in
     begins opens g.size count outcome.image.items outcome.journal.items packs.disk (packs.volume, packs.holds, packs.sound) empty
 steps_leave_histories one opens denoted (Ask query) g outcome both = λ old denotes. asked_leaves g outcome both old denotes
-steps_leave_histories one opens denoted (Compare size other) g outcome both = λ old denotes. asked_leaves g outcome both old denotes
-steps_leave_histories one opens denoted Recount g outcome both = λ old denotes. asked_leaves g outcome both old denotes
 steps_leave_histories one opens denoted Forget g outcome forgotten = forgets opens g outcome forgotten
 steps_leave_histories one opens denoted (Change steps) g outcome changes = λ old denotes.
-    let is = changes.1 in
-    let same = one_denoted one (image_of g.size g.image) g.journal is.old old is.denotes denotes.1 in (
-      is.new,
-      subst (λ (h : History). TakesAll steps h is.new) same is.takes,
-      denoted steps g.size g.image g.journal outcome changes,
+    let moves = map step_of steps.now in
+    let same = one_denoted one (image_of g.size g.image) g.journal changes.old old changes.denotes.1 denotes.1 in (
+      changes.new,
+      subst (λ (h : History). TakesAll moves h changes.new) same changes.takes,
+      denoted moves g.size g.image g.journal outcome changes,
     )
 
-pub keeps : StepsLeaveHistories → (deed : Deed) (g : Given) (outcome : Outcome) → Answers deed g outcome → KeepsHistories deed g outcome
-keeps leaves deed g outcome answers none =
-    leaves deed g outcome (subst (λ (f : Option Fault). AnswersBy f deed g outcome) none answers)
+pub keeps : StepsLeaveHistories → (step : Step) (g : Given) (outcome : Outcome) → Answers step g outcome → KeepsHistories step g outcome
+keeps leaves step g outcome answers none =
+    leaves step g outcome (subst (λ (f : Option Fault). AnswersBy f step g outcome) none answers)

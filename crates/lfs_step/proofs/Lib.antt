@@ -1,5 +1,5 @@
-pub mod DeedLemmas
 pub mod OutcomeLemmas
+pub mod SayingLemmas
 pub mod ListingLemmas
 pub mod HistoriesLeft
 pub mod RunsLeft

@@ -1,41 +1,60 @@
 -- What a query answers, from what is said of its image.
-use Rattle.std.proofs.Common.{◌≡◌, ℕ, List, Option, Result, Ok, Err, IfErr, sym, subst}
+use Rattle.std.proofs.Common.{◌≡◌, ℕ, List, Option, Result, Ok, Err, IfErr, ap₂, sym, subst, ◌∙◌}
+use Rattle.std.specs.Prelude.{MatchOption}
 use Rattle.std.specs.Result.{result_err}
 use Rattle.lfs_block.specs.Disk.{Disk, IsDisk}
 use Rattle.lfs_change.specs.declared.fault.Fault.{Fault}
 use Rattle.lfs_change.specs.declared.fault.Fault.TheVariants.{Image}
 use Rattle.lfs_change.specs.declared.outcome.Outcome.{Outcome}
-use Rattle.lfs_step.specs.declared.query.Query.{Query}
-use Rattle.lfs_step.specs.Query.{RefusesReport, RefusesQuery, AnswersQuery, SendsReport, SendsQuery}
 use Rattle.lfs_change.specs.Bytes.{image_of}
 use Rattle.lfs_change.proofs.BytesLemmas.{image_of_disk}
+use Rattle.lfs_step.specs.declared.query.Query.TheVariants.{Check, Ls, Cat, Diff, Log}
+use Rattle.lfs_step.specs.declared.step.Step.{Step}
+use Rattle.lfs_step.specs.declared.step.Step.TheVariants.{Ask}
+use Rattle.lfs_step.specs.Asking.{RefusesAsked, RefusesQuery, SendsAsked}
+use Rattle.lfs_step.specs.Outcome.{Answers, AnswersDone, Given, KeepsBoth, Refuses, given}
+use Rattle.lfs_step.specs.Query.{Question}
 
-refused_bytes : (q : Query) (d : Disk) (fault : Fault) → IsDisk d → RefusesReport q d fault → RefusesQuery q d.size d.bytes fault
-refused_bytes q d (Image fault) is refuses = absurd refuses
-refused_bytes q d fault is refuses =
-    let same = sym (image_of_disk d is) in
-    (subst IsDisk same is, subst (λ (e : Disk). RefusesReport q e fault) same refuses)
+-- what is answered by a fault, or none
+abbrev pub AnswersBy : Option Fault → Step → Given → Outcome → Type 0
+AnswersBy fault step g outcome =
+    MatchOption fault (AnswersDone step g outcome) (λ why. KeepsBoth g outcome × Refuses step g outcome.at why)
 
-answers_at : {T : Type 0} (q : Query) (d : Disk) (journal : List ℕ) (reported : Result T Fault) (o : Outcome) → IsDisk d
-    → IfErr reported (λ fault. RefusesReport q d fault)
-    → o.image.items ≡ d.bytes → o.journal.items ≡ journal → AnswersQuery (result_err reported) q d.size d.bytes journal o
-answers_at q d journal (Ok x) o is refuses image same = (image, same)
-answers_at q d journal (Err fault) o is refuses image same = (image, same, refused_bytes q d fault is refuses)
+-- the same of the image that bytes are
+at_bytes : (d : Disk) (size : ℕ) (bytes : List ℕ) (P : Disk → Type 0) → IsDisk d → d.size ≡ size → d.bytes ≡ bytes → P d → P (image_of size bytes)
+at_bytes d size bytes P is sizes same holds = subst P (sym (image_of_disk d is) ∙ ap₂ image_of sizes same) holds
 
-pub query_answers : {T : Type 0} (q : Query) (size : ℕ) (bytes journal : List ℕ) (d : Disk) (reported : Result T Fault) (o : Outcome)
-    → IsDisk d → d.size ≡ size → d.bytes ≡ bytes
-    → IfErr reported (λ fault. RefusesReport q d fault) → o.fault ≡ result_err reported → o.image.items ≡ d.bytes
-    → o.journal.items ≡ journal → AnswersQuery o.fault q size bytes journal o
-query_answers q size bytes journal d reported o is e f refuses fault image same =
-    let at = answers_at q d journal reported o is refuses image same in
-    let by_fault = subst (λ (x : Option Fault). AnswersQuery x q d.size d.bytes journal o) (sym fault) at in
-    let by_size = subst (λ (n : ℕ). AnswersQuery o.fault q n d.bytes journal o) e by_fault in
-    subst (λ (l : List ℕ). AnswersQuery o.fault q size l journal o) f by_size
+-- an image isn't refused as bytes are
+no_image : (q : Question) (d : Disk) (journal : List ℕ) (f : _) → RefusesAsked q d journal (Image f) → ⊥
+no_image Check d journal f refuses = refuses
+no_image Ls d journal f refuses = refuses
+no_image (Cat path) d journal f refuses = refuses
+no_image (Diff other size) d journal f refuses = refuses.1
+no_image Log d journal f refuses = refuses
 
-pub query_sends : (q : Query) (size : ℕ) (bytes : List ℕ) (d : Disk) (fault : Option Fault) (old new : Option (List ℕ)) → IsDisk d
-    → d.size ≡ size → d.bytes ≡ bytes
-    → SendsReport q d fault old new → SendsQuery q size bytes fault old new
-query_sends q size bytes d fault old new is e f sends =
-    let at = subst (λ (disk : Disk). SendsReport q disk fault old new) (sym (image_of_disk d is)) sends in
-    let by_size = subst (λ (n : ℕ). SendsReport q (image_of n d.bytes) fault old new) e at in
-    subst (λ (l : List ℕ). SendsReport q (image_of size l) fault old new) f by_size
+refused_bytes : (q : Question) (size : ℕ) (bytes journal : List ℕ) (fault : Fault)
+    → IsDisk (image_of size bytes) × RefusesAsked q (image_of size bytes) journal fault → RefusesQuery q size bytes journal fault
+refused_bytes q size bytes journal (Image fault) refuses = absurd (no_image q (image_of size bytes) journal fault refuses.1)
+refused_bytes q size bytes journal fault refuses = refuses
+
+answered : {T : Type 0} (q : Question) (d : Disk) (size : ℕ) (bytes journal : List ℕ) (reported : Result T Fault) (o : Outcome) → IsDisk d
+    → d.size ≡ size → d.bytes ≡ bytes → IfErr reported (λ f. RefusesAsked q d journal f) → o.image.items ≡ bytes → o.journal.items ≡ journal
+    → AnswersBy (result_err reported) (Ask q) (given size bytes journal) o
+answered q d size bytes journal (Ok x) o is sizes same refuses image kept = (image, kept)
+answered q d size bytes journal (Err f) o is sizes same refuses image kept = (
+  (image, kept),
+  refused_bytes q size bytes journal f
+      (at_bytes d size bytes (λ x. IsDisk x × RefusesAsked q x journal f) is sizes same (is, refuses)),
+)
+
+pub query_answers : {T : Type 0} (q : Question) (size : ℕ) (bytes journal : List ℕ) (d : Disk) (reported : Result T Fault) (o : Outcome)
+    → IsDisk d → d.size ≡ size → d.bytes ≡ bytes → IfErr reported (λ f. RefusesAsked q d journal f) → o.fault ≡ result_err reported
+    → o.image.items ≡ bytes → o.journal.items ≡ journal → Answers (Ask q) (given size bytes journal) o
+query_answers q size bytes journal d reported o is sizes same refuses fault_is image kept =
+    subst (λ (x : Option Fault). AnswersBy x (Ask q) (given size bytes journal) o) (sym fault_is)
+    (answered q d size bytes journal reported o is sizes same refuses image kept)
+
+pub query_sends : (q : Question) (size : ℕ) (bytes journal : List ℕ) (d : Disk) (f : Option Fault) (old new : Option (List ℕ)) → IsDisk d
+    → d.size ≡ size → d.bytes ≡ bytes → SendsAsked q d journal f old new → SendsAsked q (image_of size bytes) journal f old new
+query_sends q size bytes journal d f old new is sizes same sends =
+    at_bytes d size bytes (λ x. SendsAsked q x journal f old new) is sizes same sends

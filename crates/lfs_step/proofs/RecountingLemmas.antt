@@ -1,5 +1,5 @@
 -- What is answered of the changes in a journal.
-use Rattle.std.proofs.Common.{◌≡◌, ◌≢◌, ℕ, List, [], ◌∷◌, Option, Result, Ok, Err, IfErr, IfOk, Bool, true, false, None, Some, length, refl, sym, ap, ap₂, subst, ◌∙◌}
+use Rattle.std.proofs.Common.{◌≡◌, ◌≢◌, ℕ, List, [], ◌∷◌, Option, Result, Ok, Err, IfErr, IfOk, Bool, true, false, None, Some, length, refl, sym, ap, subst, ◌∙◌}
 use Rattle.std.proofs.Common.{arith}
 use Rattle.std.proofs.lemmas.Bool.{eqb-true}
 use Rattle.std.specs.Prelude.{◌==◌, if◌then◌else◌, unwrap_or}
@@ -13,46 +13,9 @@ use Rattle.lfs_history.specs.Opening.{Opens}
 use Rattle.lfs_log.specs.Log.{IsLog}
 use Rattle.lfs_change.specs.declared.fault.Fault.{Fault}
 use Rattle.lfs_change.specs.declared.fault.Fault.TheVariants as fault
-use Rattle.lfs_change.specs.declared.outcome.Outcome.{Outcome}
-use Rattle.lfs_change.specs.Bytes.{image_of}
-use Rattle.lfs_change.proofs.BytesLemmas.{image_of_disk}
 use Rattle.lfs_change.proofs.ChangeLemmas.{opened_denotes}
-use Rattle.lfs_step.specs.Deed.{Recount}
-use Rattle.lfs_step.specs.Outcome.{Answers, AnswersBy, given}
 use Rattle.lfs_step.proofs.HistoriesLeft.{fresh_is}
-use Rattle.lfs_step.specs.Recounting.{IsRecount, RefusesRecount, RefusesRecounted, SendsRecount, SendsRecounted}
-
--- what is refused of an image is refused of its bytes
-bytes_refused : (size : ℕ) (bytes journal : List ℕ) (f : Fault) → IsDisk (image_of size bytes) × RefusesRecount (image_of size bytes) journal f
-    → RefusesRecounted size bytes journal f
-bytes_refused size bytes journal (fault.Image f) refuses = absurd refuses.1
-bytes_refused size bytes journal f refuses = refuses
-
-at_bytes : (d : Disk) (size : ℕ) (bytes : List ℕ) (P : Disk → Type 0) → IsDisk d → d.size ≡ size → d.bytes ≡ bytes → P d → P (image_of size bytes)
-at_bytes d size bytes P is sizes same holds = subst P (sym (image_of_disk d is) ∙ ap₂ image_of sizes same) holds
-
-answered : {T : Type 0} (d : Disk) (size : ℕ) (bytes journal : List ℕ) (reported : Result T Fault) (o : Outcome) → IsDisk d → d.size ≡ size
-    → d.bytes ≡ bytes → IfErr reported (λ f. RefusesRecount d journal f) → o.image.items ≡ bytes → o.journal.items ≡ journal
-    → AnswersBy (result_err reported) Recount (given size bytes journal) o
-answered d size bytes journal (Ok x) o is sizes same refuses image kept = (image, kept)
-answered d size bytes journal (Err f) o is sizes same refuses image kept = (
-  image,
-  kept,
-  bytes_refused size bytes journal f
-      (at_bytes d size bytes (λ x. IsDisk x × RefusesRecount x journal f) is sizes same (is, refuses)),
-)
-
-pub recount_answers : {T : Type 0} (size : ℕ) (bytes journal : List ℕ) (d : Disk) (reported : Result T Fault) (o : Outcome) → IsDisk d
-    → d.size ≡ size → d.bytes ≡ bytes → IfErr reported (λ f. RefusesRecount d journal f) → o.fault ≡ result_err reported
-    → o.image.items ≡ bytes → o.journal.items ≡ journal → Answers Recount (given size bytes journal) o
-recount_answers size bytes journal d reported o is sizes same refuses fault_is image kept =
-    subst (λ (x : Option Fault). AnswersBy x Recount (given size bytes journal) o) (sym fault_is)
-    (answered d size bytes journal reported o is sizes same refuses image kept)
-
-pub recount_sends : (size : ℕ) (bytes journal : List ℕ) (d : Disk) (f : Option Fault) (old new : Option (List ℕ)) → IsDisk d → d.size ≡ size
-    → d.bytes ≡ bytes → SendsRecount d journal f old new → SendsRecounted size bytes journal f old new
-recount_sends size bytes journal d f old new is sizes same sends =
-    at_bytes d size bytes (λ x. SendsRecount x journal f old new) is sizes same sends
+use Rattle.lfs_step.specs.Recounting.{IsRecount, RefusesRecount}
 
 -- ---- the text
 

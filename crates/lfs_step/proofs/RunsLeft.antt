@@ -6,23 +6,25 @@ use Rattle.lfs_change.specs.declared.outcome.Outcome.{Outcome}
 use Rattle.lfs_change.specs.Bytes.{image_of}
 use Rattle.lfs_change.specs.Change.{Denotes}
 use Rattle.lfs_change.proofs.ChangeLemmas.{denoted_present}
-use Rattle.lfs_step.specs.Deed.{Deed, Make, Pack, Ask, Compare, Recount, Forget, Change}
+use Rattle.lfs_step.specs.declared.step.Step.{Step}
+use Rattle.lfs_step.specs.declared.step.Step.TheVariants.{Format, Pack, Ask, Forget, Change}
 use Rattle.lfs_step.specs.Histories.{Leaves, StepsLeaveHistories}
-use Rattle.lfs_step.specs.Outcome.{AnswersBy, Given, given}
+use Rattle.lfs_step.specs.Outcome.{Given, given}
+use Rattle.lfs_step.proofs.OutcomeLemmas.{AnswersBy}
 use Rattle.lfs_step.specs.Runs.{BothFiles, GoesBy, HasGoodRows, RunsGoOn, left_files}
 
 -- the history to which one run leads
-pub record Goes (fault : Option Fault) (deed : Deed) (g : Given) (outcome : Outcome) (old : History) : Type 0 where
+pub record Goes (fault : Option Fault) (step : Step) (g : Given) (outcome : Outcome) (old : History) : Type 0 where
   pub new : History
-  pub goes : GoesBy fault outcome.at deed g old new
+  pub goes : GoesBy fault outcome.at step g old new
   pub leaves : Leaves g outcome new
 
-pub one_goes : StepsLeaveHistories → (fault : Option Fault) (deed : Deed) (g : Given) (outcome : Outcome) (old : History)
-    → HasGoodRows deed → Denotes g.size g.image g.journal old → AnswersBy fault deed g outcome → Goes fault deed g outcome old
-one_goes leaves None (Make count limits) g outcome old good denotes answers = record {
+pub one_goes : StepsLeaveHistories → (fault : Option Fault) (step : Step) (g : Given) (outcome : Outcome) (old : History)
+    → HasGoodRows step → Denotes g.size g.image g.journal old → AnswersBy fault step g outcome → Goes fault step g outcome old
+one_goes leaves None (Format count limits) g outcome old good denotes answers = record {
   new = fresh_history (image_of g.size outcome.image.items);
   goes = (refl, answers.0);
-  leaves = leaves (Make count limits) g outcome answers;
+  leaves = leaves (Format count limits) g outcome answers;
 }
 one_goes leaves None (Pack count limits rows) g outcome old (packed, are) denotes answers = record {
   new = fresh_history (image_of g.size outcome.image.items);
@@ -34,16 +36,6 @@ one_goes leaves None (Ask query) g outcome old good denotes answers = record {
   goes = refl;
   leaves = leaves (Ask query) g outcome answers old denotes;
 }
-one_goes leaves None (Compare size other) g outcome old good denotes answers = record {
-  new = old;
-  goes = refl;
-  leaves = leaves (Compare size other) g outcome answers old denotes;
-}
-one_goes leaves None Recount g outcome old good denotes answers = record {
-  new = old;
-  goes = refl;
-  leaves = leaves Recount g outcome answers old denotes;
-}
 one_goes leaves None Forget g outcome old good denotes answers = record {
   new = fresh_history (image_of g.size g.image);
   goes = ap fresh_history (sym (denoted_present (image_of g.size g.image) g.journal old denotes.1));
@@ -52,12 +44,12 @@ one_goes leaves None Forget g outcome old good denotes answers = record {
 one_goes leaves None (Change steps) g outcome old good denotes answers =
     let (new, takes, to) = leaves (Change steps) g outcome answers old denotes in
     record { new = new; goes = takes; leaves = to }
-one_goes leaves (Some fault) deed g outcome old good denotes answers = record {
+one_goes leaves (Some fault) step g outcome old good denotes answers = record {
   new = old;
-  goes = (refl, answers.2);
+  goes = (refl, answers.1);
   leaves =
-      subst (λ (l : List ℕ). Denotes g.size l outcome.journal.items old) (sym answers.0)
-      (subst (λ (l : List ℕ). Denotes g.size g.image l old) (sym answers.1) denotes);
+      subst (λ (l : List ℕ). Denotes g.size l outcome.journal.items old) (sym answers.0.0)
+      (subst (λ (l : List ℕ). Denotes g.size g.image l old) (sym answers.0.1) denotes);
 }
 
 pub runs_go_on : StepsLeaveHistories → RunsGoOn
@@ -68,6 +60,6 @@ runs_go_on leaves size [] first last old good denotes same = record {
 }
 runs_go_on leaves size (r ∷ rs) first last old good denotes (answers, later) =
     let g = given size first.image first.journal in
-    let one = one_goes leaves r.outcome.fault r.deed g r.outcome old good.0 denotes answers in
+    let one = one_goes leaves r.outcome.fault r.step g r.outcome old good.0 denotes answers in
     let to = runs_go_on leaves size rs (left_files r.outcome) last one.new good.1 one.leaves later in
     record { new = to.new; denotes = to.denotes; goes = (one.new, one.goes, one.leaves, to.goes) }

@@ -8,7 +8,7 @@ use Rattle.lfs_fs.specs.Mounted.{MountedValue, IsMountOf}
 use Rattle.lfs_command.specs.declared.refusal.Refusal.TheVariants.{Memory}
 use Rattle.lfs_listing.specs.Difference.{difference}
 use Rattle.lfs_change.specs.declared.fault.Fault.{Fault}
-use Rattle.lfs_change.specs.declared.fault.Fault.TheVariants.{Image, Mount, Refused, CannotWrite, Other}
+use Rattle.lfs_change.specs.declared.fault.Fault.TheVariants.{Mount, Refused, CannotWrite, Other}
 use Rattle.lfs_change.specs.declared.other_fault.OtherFault.TheVariants as other
 use Rattle.lfs_change.specs.Bytes.{image_of}
 use Rattle.lfs_sink.specs.Send.{SendsBeginning}
@@ -30,14 +30,10 @@ RefusesDifference d e (Refused refusal) = refusal ≡ Memory
 RefusesDifference d e CannotWrite = (text : List ℕ) × IsDifference d e text
 RefusesDifference d e _ = ⊥
 
--- why nothing, or not all, is said of bytes: the first are no image, or the second aren't, or else as for two images
-abbrev pub RefusesCompared : ℕ → List ℕ → ℕ → List ℕ → Fault → Type 0
-RefusesCompared size bytes other_size others (Image fault) = IsNoImage fault size bytes
-RefusesCompared size bytes other_size others (Other (other.Image fault)) =
-    IsDisk (image_of size bytes) × IsNoImage fault other_size others
-RefusesCompared size bytes other_size others fault =
-    IsDisk (image_of size bytes) × IsDisk (image_of other_size others)
-    × RefusesDifference (image_of size bytes) (image_of other_size others) fault
+-- why nothing, or not all, is said of an image and of bytes: these are no image, or else as for two images
+abbrev pub RefusesCompared : Disk → ℕ → List ℕ → Fault → Type 0
+RefusesCompared d size others (Other (other.Image fault)) = IsNoImage fault size others
+RefusesCompared d size others fault = IsDisk (image_of size others) × RefusesDifference d (image_of size others) fault
 
 -- nothing has gone out of what differs between two images, or some of it
 abbrev pub SendsSomeDifference : Disk → Disk → Option (List ℕ) → Option (List ℕ) → Type 0
@@ -52,7 +48,6 @@ SendsDifference d e (Some CannotWrite) old new = (text : List ℕ) × IsDifferen
 SendsDifference d e (Some (Refused refusal)) old new = SendsSomeDifference d e old new
 SendsDifference d e (Some fault) old new = Keeps old new
 
--- the same on bytes
-abbrev pub SendsCompared : ℕ → List ℕ → ℕ → List ℕ → Option Fault → Option (List ℕ) → Option (List ℕ) → Type 0
-SendsCompared size bytes other_size others fault old new =
-    SendsDifference (image_of size bytes) (image_of other_size others) fault old new
+-- the same on an image and bytes
+abbrev pub SendsCompared : Disk → ℕ → List ℕ → Option Fault → Option (List ℕ) → Option (List ℕ) → Type 0
+SendsCompared d size others fault old new = SendsDifference d (image_of size others) fault old new

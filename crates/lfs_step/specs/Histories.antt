@@ -1,12 +1,14 @@
 -- Which history the bytes denote that a step leaves (own).
-use Rattle.std.specs.Prelude.{◌≡◌, List, None}
+use Rattle.std.specs.Prelude.{◌≡◌, List, None, map}
 use Rattle.lfs_history.specs.Batch.{TakesAll}
 use Rattle.lfs_history.specs.History.{History, fresh_history}
+use Rattle.lfs_history.specs.Meaning.{step_of}
 use Rattle.lfs_change.specs.declared.outcome.Outcome.{Outcome}
 use Rattle.lfs_change.specs.Bytes.{image_of}
 use Rattle.lfs_change.specs.Change.{Denotes}
 use Rattle.lfs_pack.specs.Packed.{AreRowsOf, Packed}
-use Rattle.lfs_step.specs.Deed.{Deed, Make, Pack, Ask, Compare, Recount, Forget, Change}
+use Rattle.lfs_step.specs.declared.step.Step.{Step}
+use Rattle.lfs_step.specs.declared.step.Step.TheVariants.{Format, Pack, Ask, Forget, Change}
 use Rattle.lfs_step.specs.Outcome.{AnswersDone, Given}
 
 -- the image and the journal that are left denote this history
@@ -15,21 +17,20 @@ Leaves g outcome h = Denotes g.size outcome.image.items outcome.journal.items h
 
 -- A new image, empty or of rows, begins a history, and so does one of which all else is forgotten, whatever the journal was. A question
 -- leaves the history that image and journal denoted, and a change leaves the one to which its steps lead from there.
-abbrev pub LeavesHistory : Deed → Given → Outcome → Type 0
-LeavesHistory (Make count limits) g outcome = Leaves g outcome (fresh_history (image_of g.size outcome.image.items))
+abbrev pub LeavesHistory : Step → Given → Outcome → Type 0
+LeavesHistory (Format count limits) g outcome = Leaves g outcome (fresh_history (image_of g.size outcome.image.items))
 LeavesHistory (Pack count limits rows) g outcome =
-    (packed : List Packed) → AreRowsOf rows packed → Leaves g outcome (fresh_history (image_of g.size outcome.image.items))
+    (packed : List Packed) → AreRowsOf rows.now packed → Leaves g outcome (fresh_history (image_of g.size outcome.image.items))
 LeavesHistory (Ask query) g outcome = (old : History) → Denotes g.size g.image g.journal old → Leaves g outcome old
-LeavesHistory (Compare size other) g outcome = (old : History) → Denotes g.size g.image g.journal old → Leaves g outcome old
-LeavesHistory Recount g outcome = (old : History) → Denotes g.size g.image g.journal old → Leaves g outcome old
 LeavesHistory Forget g outcome = Leaves g outcome (fresh_history (image_of g.size g.image))
 LeavesHistory (Change steps) g outcome =
-    (old : History) → Denotes g.size g.image g.journal old → (new : History) × TakesAll steps old new × Leaves g outcome new
+    (old : History) → Denotes g.size g.image g.journal old
+    → (new : History) × TakesAll (map step_of steps.now) old new × Leaves g outcome new
 
 -- the law: what a step that is done answers denotes such a history
 abbrev pub StepsLeaveHistories : Type 0
-StepsLeaveHistories = (deed : Deed) (g : Given) (outcome : Outcome) → AnswersDone deed g outcome → LeavesHistory deed g outcome
+StepsLeaveHistories = (step : Step) (g : Given) (outcome : Outcome) → AnswersDone step g outcome → LeavesHistory step g outcome
 
 -- a step that isn't refused leaves bytes that denote it
-abbrev pub KeepsHistories : Deed → Given → Outcome → Type 0
-KeepsHistories deed g outcome = outcome.fault ≡ None → LeavesHistory deed g outcome
+abbrev pub KeepsHistories : Step → Given → Outcome → Type 0
+KeepsHistories step g outcome = outcome.fault ≡ None → LeavesHistory step g outcome

@@ -1,8 +1,9 @@
-pub mod Deed
+pub mod Step
 pub mod Outcome
 pub mod Query
 pub mod Comparing
 pub mod Recounting
+pub mod Asking
 pub mod Summary
 pub mod Histories
 pub mod Runs

@@ -1,5 +1,5 @@
 -- The outcome of a run (own).
-use Rattle.std.specs.Prelude.{ℕ, ◌≡◌, List, [], Option, Some, None}
+use Rattle.std.specs.Prelude.{ℕ, ◌≡◌, List, [], Option, map, MatchOption}
 use Rattle.std.specs.Io.KnownBytes.{Keeps}
 use Rattle.lfs_block.specs.Geometry.{IsGeometry}
 use Rattle.lfs_block.specs.declared.image_fault.ImageFault.TheVariants.{BadGeometry}
@@ -12,17 +12,17 @@ use Rattle.lfs_change.specs.declared.fault.Fault.{Fault}
 use Rattle.lfs_change.specs.declared.fault.Fault.TheVariants.{Image, Refused}
 use Rattle.lfs_change.specs.declared.outcome.Outcome.{Outcome}
 use Rattle.lfs_change.specs.Bytes.{image_of}
-use Rattle.lfs_change.specs.Change.{ChangesBytes, RefusesChange}
+use Rattle.lfs_change.specs.Change.{Denotes, IsChanged, RefusesChange}
 use Rattle.lfs_change.specs.Forgetting.{IsForgotten, RefusesForgetting}
-use Rattle.lfs_step.specs.Comparing.{RefusesCompared, SendsCompared}
-use Rattle.lfs_step.specs.Query.{RefusesQuery, SendsReport}
-use Rattle.lfs_step.specs.Recounting.{RefusesRecounted, SendsRecounted}
+use Rattle.lfs_history.specs.Meaning.{step_of}
+use Rattle.lfs_step.specs.Asking.{RefusesQuery, SendsAsked}
 use Rattle.lfs_pack.specs.declared.pack_row.PackRow.{PackRow}
 use Rattle.lfs_pack.specs.Packed.{AreRowsOf, Packed}
 use Rattle.lfs_pack.specs.Packing.{IsPacked, RefusesPack}
-use Rattle.lfs_step.specs.Deed.{Deed, Make, Pack, Ask, Compare, Recount, Forget, Change}
+use Rattle.lfs_step.specs.declared.step.Step.{Step}
+use Rattle.lfs_step.specs.declared.step.Step.TheVariants.{Format, Pack, Ask, Forget, Change}
 
--- what a step is given, beside what it reads: the size of a block, the bytes of the image and of the journal
+-- what a step is done on: the size of a block, the bytes of the image and of the journal
 pub record Given : Type 0 where
   pub size : ℕ
   pub image : List ℕ
@@ -46,50 +46,36 @@ RefusesPacking size count limits rows (Refused refusal) =
     IsGeometry size count × ((packed : List Packed) → AreRowsOf rows packed → RefusesPack size count limits packed refusal)
 RefusesPacking size count limits rows _ = ⊥
 
--- the first fault of a deed that holds, of several steps that of the one behind so many, or want of memory
-abbrev pub Refuses : Deed → Given → ℕ → Fault → Type 0
-Refuses (Make count limits) g at fault = RefusesFormat g.size count fault
-Refuses (Pack count limits rows) g at fault = RefusesPacking g.size count limits rows fault
-Refuses (Ask query) g at fault = RefusesQuery query g.size g.image fault
-Refuses (Compare size other) g at fault = RefusesCompared g.size g.image size other fault
-Refuses Recount g at fault = RefusesRecounted g.size g.image g.journal fault
+-- the first fault of a step that holds, of several steps on a history that of the one behind so many, or want of memory
+abbrev pub Refuses : Step → Given → ℕ → Fault → Type 0
+Refuses (Format count limits) g at fault = RefusesFormat g.size count fault
+Refuses (Pack count limits rows) g at fault = RefusesPacking g.size count limits rows.now fault
+Refuses (Ask query) g at fault = RefusesQuery query g.size g.image g.journal fault
 Refuses Forget g at fault = RefusesForgetting g.size g.image fault
-Refuses (Change steps) g at fault = RefusesChange steps at g.size g.image g.journal fault
+Refuses (Change steps) g at fault = RefusesChange (map step_of steps.now) at g.size g.image g.journal fault
 
 -- image and journal are those that the step was given
 abbrev pub KeepsBoth : Given → Outcome → Type 0
 KeepsBoth g outcome = (outcome.image.items ≡ g.image) × (outcome.journal.items ≡ g.journal)
 
--- the image and the journal once a deed is done: a new image and a journal without changes, those that were given, the image that was
+-- the image and the journal once a step is done: a new image and a journal without changes, those that were given, the image that was
 -- given and a journal without changes, or those of the history that steps leave
-abbrev pub AnswersDone : Deed → Given → Outcome → Type 0
-AnswersDone (Make count limits) g outcome =
+abbrev pub AnswersDone : Step → Given → Outcome → Type 0
+AnswersDone (Format count limits) g outcome =
     IsFormatted g.size count limits outcome.image.items × (outcome.journal.items ≡ journal_bytes (book_of g.size count [] 0))
 AnswersDone (Pack count limits rows) g outcome =
-    ((packed : List Packed) → AreRowsOf rows packed → IsPacked g.size count limits packed outcome.image.items)
+    ((packed : List Packed) → AreRowsOf rows.now packed → IsPacked g.size count limits packed outcome.image.items)
     × (outcome.journal.items ≡ journal_bytes (book_of g.size count [] 0))
 AnswersDone (Ask query) g outcome = KeepsBoth g outcome
-AnswersDone (Compare size other) g outcome = KeepsBoth g outcome
-AnswersDone Recount g outcome = KeepsBoth g outcome
 AnswersDone Forget g outcome = IsForgotten g.size g.image outcome
-AnswersDone (Change steps) g outcome = ChangesBytes steps g.size g.image g.journal outcome
+AnswersDone (Change steps) g outcome = IsChanged (map step_of steps.now) (Denotes g.size g.image g.journal) outcome
 
 -- what is answered; with a fault, image and journal are those that were given
-abbrev pub AnswersBy : Option Fault → Deed → Given → Outcome → Type 0
-AnswersBy None deed g outcome = AnswersDone deed g outcome
-AnswersBy (Some fault) deed g outcome =
-    (outcome.image.items ≡ g.image) × (outcome.journal.items ≡ g.journal) × Refuses deed g outcome.at fault
+abbrev pub Answers : Step → Given → Outcome → Type 0
+Answers step g outcome =
+    MatchOption outcome.fault (AnswersDone step g outcome) (λ fault. KeepsBoth g outcome × Refuses step g outcome.at fault)
 
--- the same by the outcome's own fault
-abbrev pub Answers : Deed → Given → Outcome → Type 0
-Answers deed g outcome = AnswersBy outcome.fault deed g outcome
-
--- what goes out of a deed's text; only what is asked has one
-abbrev pub SendsText : Deed → Given → Option Fault → Option (List ℕ) → Option (List ℕ) → Type 0
-SendsText (Make count limits) g fault old new = Keeps old new
-SendsText (Pack count limits rows) g fault old new = Keeps old new
-SendsText (Ask query) g fault old new = SendsReport query (image_of g.size g.image) fault old new
-SendsText (Compare size other) g fault old new = SendsCompared g.size g.image size other fault old new
-SendsText Recount g fault old new = SendsRecounted g.size g.image g.journal fault old new
-SendsText Forget g fault old new = Keeps old new
-SendsText (Change steps) g fault old new = Keeps old new
+-- what goes out of a step's text; only what is asked has one
+abbrev pub SendsText : Step → Given → Option Fault → Option (List ℕ) → Option (List ℕ) → Type 0
+SendsText (Ask query) g fault old new = SendsAsked query (image_of g.size g.image) g.journal fault old new
+SendsText _ g fault old new = Keeps old new

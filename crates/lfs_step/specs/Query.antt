@@ -1,8 +1,8 @@
--- What is answered to a query, and why nothing is (own).
+-- What is answered to a query of an image alone, and why nothing is (own).
 use Rattle.std.specs.Prelude.{ℕ, ◌≡◌, ◌⊎◌, ◌≤◌, List, Option, Some, None, length, take}
+use Rattle.std.specs.Global.{Vec}
 use Rattle.std.specs.Io.KnownBytes.{Appends, Keeps}
-use Rattle.lfs_block.specs.Disk.{Disk, IsDisk}
-use Rattle.lfs_block.specs.ImageFault.{IsNoImage}
+use Rattle.lfs_block.specs.Disk.{Disk}
 use Rattle.lfs_fs.specs.Cause.{HasCause}
 use Rattle.lfs_fs.specs.Mounted.{MountedValue, IsMountOf}
 use Rattle.lfs_command.specs.declared.refusal.Refusal.{Refusal}
@@ -12,64 +12,52 @@ use Rattle.lfs_listing.specs.Listing.{listing}
 use Rattle.lfs_listing.specs.declared.unsent.Unsent.{Unsent}
 use Rattle.lfs_listing.specs.declared.unsent.Unsent.TheVariants as unsent
 use Rattle.lfs_change.specs.declared.fault.Fault.{Fault}
-use Rattle.lfs_change.specs.declared.fault.Fault.TheVariants.{Image, Mount, Refused, CannotWrite}
-use Rattle.lfs_change.specs.declared.outcome.Outcome.{Outcome}
+use Rattle.lfs_change.specs.declared.fault.Fault.TheVariants.{Mount, Refused, CannotWrite}
 use Rattle.lfs_step.specs.declared.query.Query.{Query}
 use Rattle.lfs_step.specs.declared.query.Query.TheVariants.{Check, Ls, Cat}
-use Rattle.lfs_change.specs.Bytes.{image_of}
 use Rattle.lfs_sink.specs.Send.{SendsBeginning}
 use Rattle.lfs_step.specs.Summary.{summary}
 
--- the text that answers a query of an image that mounts
-abbrev pub IsAnswer : Query → Disk → List ℕ → Type 0
+-- a query, with the bytes of the other image in hand
+abbrev pub Question : Type 0
+Question = Query (Vec ℕ)
+
+-- the text that answers a query of an image alone, which mounts
+abbrev pub IsAnswer : Question → Disk → List ℕ → Type 0
 IsAnswer Check disk text = (mounted : MountedValue) × IsMountOf disk mounted × (text ≡ summary disk mounted)
 IsAnswer Ls disk text = (mounted : MountedValue) × IsMountOf disk mounted × (text ≡ listing mounted.rows)
 IsAnswer (Cat path) disk text = IsContents disk path.now text
+IsAnswer _ disk text = ⊥
 
 -- an image mounts
 abbrev pub HasMount : Disk → Type 0
 HasMount disk = (mounted : MountedValue) × IsMountOf disk mounted
 
 -- why there is none: want of memory, or that the image mounts and has no file to be read
-abbrev pub RefusesAnswer : Query → Disk → Refusal → Type 0
+abbrev pub RefusesAnswer : Question → Disk → Refusal → Type 0
 RefusesAnswer query disk Memory = Unit {0}
 RefusesAnswer (Cat path) disk refusal = HasMount disk × RefusesContents disk path.now refusal
 RefusesAnswer _ disk refusal = ⊥
 
 -- why nothing, or not all, is said of an image: a cause that it has, no answer, or standard output
-abbrev pub RefusesReport : Query → Disk → Fault → Type 0
+abbrev pub RefusesReport : Question → Disk → Fault → Type 0
 RefusesReport query disk (Mount fault) = HasCause disk fault
 RefusesReport query disk (Refused refusal) = RefusesAnswer query disk refusal
 RefusesReport query disk CannotWrite = (text : List ℕ) × IsAnswer query disk text
 RefusesReport query disk _ = ⊥
 
--- why nothing, or not all, is said of bytes: they are no image, or else as for an image
-abbrev pub RefusesQuery : Query → ℕ → List ℕ → Fault → Type 0
-RefusesQuery query size bytes (Image fault) = IsNoImage fault size bytes
-RefusesQuery query size bytes fault = IsDisk (image_of size bytes) × RefusesReport query (image_of size bytes) fault
-
--- what a query answers: image and journal are those that were handed in
-abbrev pub AnswersQuery : Option Fault → Query → ℕ → List ℕ → List ℕ → Outcome → Type 0
-AnswersQuery None query size image journal outcome = (outcome.image.items ≡ image) × (outcome.journal.items ≡ journal)
-AnswersQuery (Some fault) query size image journal outcome =
-    (outcome.image.items ≡ image) × (outcome.journal.items ≡ journal) × RefusesQuery query size image fault
-
 -- nothing has gone out of the text that answers a query, or some of it
-abbrev pub SendsSome : Query → Disk → Option (List ℕ) → Option (List ℕ) → Type 0
+abbrev pub SendsSome : Question → Disk → Option (List ℕ) → Option (List ℕ) → Type 0
 SendsSome query disk old new =
     Keeps old new ⊎ ((text : List ℕ) × IsAnswer query disk text × (n : ℕ) × (n ≤ length text) × Appends old new (take n text))
 
 -- what goes out on an image: the whole text, a beginning of it where standard output failed, else nothing; of a listing, which is
 -- written row by row, some where memory was refused
-abbrev pub SendsReport : Query → Disk → Option Fault → Option (List ℕ) → Option (List ℕ) → Type 0
+abbrev pub SendsReport : Question → Disk → Option Fault → Option (List ℕ) → Option (List ℕ) → Type 0
 SendsReport query disk None old new = (text : List ℕ) × IsAnswer query disk text × Appends old new text
 SendsReport query disk (Some CannotWrite) old new = (text : List ℕ) × IsAnswer query disk text × SendsBeginning old new text
 SendsReport Ls disk (Some (Refused refusal)) old new = SendsSome Ls disk old new
 SendsReport query disk (Some fault) old new = Keeps old new
-
--- the same on bytes
-abbrev pub SendsQuery : Query → ℕ → List ℕ → Option Fault → Option (List ℕ) → Option (List ℕ) → Type 0
-SendsQuery query size bytes fault old new = SendsReport query (image_of size bytes) fault old new
 
 -- a listing that didn't go out as a whole is told as want of memory, or as standard output that failed
 abbrev pub fault_of_unsent : Unsent → Fault

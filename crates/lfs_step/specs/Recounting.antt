@@ -1,16 +1,14 @@
 -- What is told of the changes in a journal, and why nothing is (own).
 use Rattle.std.specs.Prelude.{ℕ, ◌≡◌, List, Option, Some, None}
 use Rattle.std.specs.Io.KnownBytes.{Appends, Keeps}
-use Rattle.lfs_block.specs.Disk.{Disk, IsDisk}
-use Rattle.lfs_block.specs.ImageFault.{IsNoImage}
+use Rattle.lfs_block.specs.Disk.{Disk}
 use Rattle.lfs_fs.specs.Cause.{HasCause}
 use Rattle.lfs_command.specs.declared.refusal.Refusal.TheVariants.{Memory}
 use Rattle.lfs_history.specs.History.{History}
 use Rattle.lfs_history.specs.declared.open_fault.OpenFault.TheVariants as opening
 use Rattle.lfs_log.specs.Log.{IsLog}
 use Rattle.lfs_change.specs.declared.fault.Fault.{Fault}
-use Rattle.lfs_change.specs.declared.fault.Fault.TheVariants.{Image, Mount, Refused, JournalFormat, JournalMismatch, JournalImage, CannotWrite}
-use Rattle.lfs_change.specs.Bytes.{image_of}
+use Rattle.lfs_change.specs.declared.fault.Fault.TheVariants.{Mount, Refused, JournalFormat, JournalMismatch, JournalImage, CannotWrite}
 use Rattle.lfs_change.specs.Change.{DenotesOn, RefusesJournal}
 use Rattle.lfs_sink.specs.Send.{SendsBeginning}
 
@@ -31,17 +29,8 @@ RefusesRecount d journal JournalImage = RefusesJournal opening.JournalImage d jo
 RefusesRecount d journal CannotWrite = (text : List ℕ) × IsRecount d journal text
 RefusesRecount d journal _ = ⊥
 
--- why nothing, or not all, is told of bytes: they are no image, or else as for an image
-abbrev pub RefusesRecounted : ℕ → List ℕ → List ℕ → Fault → Type 0
-RefusesRecounted size bytes journal (Image fault) = IsNoImage fault size bytes
-RefusesRecounted size bytes journal fault = IsDisk (image_of size bytes) × RefusesRecount (image_of size bytes) journal fault
-
 -- what goes out on an image: the whole text, a beginning of it where standard output failed, else nothing
 abbrev pub SendsRecount : Disk → List ℕ → Option Fault → Option (List ℕ) → Option (List ℕ) → Type 0
 SendsRecount d journal None old new = (text : List ℕ) × IsRecount d journal text × Appends old new text
 SendsRecount d journal (Some CannotWrite) old new = (text : List ℕ) × IsRecount d journal text × SendsBeginning old new text
 SendsRecount d journal (Some fault) old new = Keeps old new
-
--- the same on bytes
-abbrev pub SendsRecounted : ℕ → List ℕ → List ℕ → Option Fault → Option (List ℕ) → Option (List ℕ) → Type 0
-SendsRecounted size bytes journal fault old new = SendsRecount (image_of size bytes) journal fault old new

@@ -1,16 +1,18 @@
 -- Lists of runs of any steps, each of which is handed the bytes that the one before left (own).
-use Rattle.std.specs.Prelude.{◌≡◌, ℕ, List, [], ◌∷◌, Option, Some, None}
+use Rattle.std.specs.Prelude.{◌≡◌, ℕ, List, [], ◌∷◌, Option, Some, None, map}
 use Rattle.std.specs.List.{AllByRecursion}
 use Rattle.lfs_edit.specs.Formatted.{IsFormatted}
 use Rattle.lfs_history.specs.Batch.{TakesAll}
 use Rattle.lfs_history.specs.History.{History, fresh_history}
+use Rattle.lfs_history.specs.Meaning.{step_of}
 use Rattle.lfs_history.specs.Moves.{Forgets}
 use Rattle.lfs_change.specs.declared.fault.Fault.{Fault}
 use Rattle.lfs_change.specs.declared.outcome.Outcome.{Outcome}
 use Rattle.lfs_change.specs.Change.{Denotes}
 use Rattle.lfs_pack.specs.Packed.{AreRowsOf, Packed}
 use Rattle.lfs_pack.specs.Packing.{IsPacked}
-use Rattle.lfs_step.specs.Deed.{Deed, Make, Pack, Ask, Compare, Recount, Forget, Change}
+use Rattle.lfs_step.specs.declared.step.Step.{Step}
+use Rattle.lfs_step.specs.declared.step.Step.TheVariants.{Format, Pack, Ask, Forget, Change}
 use Rattle.lfs_step.specs.Outcome.{Answers, Given, Refuses, given}
 
 -- the bytes of an image and of its journal
@@ -18,9 +20,9 @@ pub record BothFiles : Type 0 where
   pub image : List ℕ
   pub journal : List ℕ
 
--- a deed, and what was answered to it
+-- a step, and what was answered to it
 pub record Ran : Type 0 where
-  pub deed : Deed
+  pub step : Step
   pub outcome : Outcome
 
 -- the image and the journal of an outcome
@@ -31,37 +33,35 @@ left_files outcome = record { image = outcome.image.items; journal = outcome.jou
 abbrev pub AreRuns : ℕ → List Ran → BothFiles → BothFiles → Type 0
 AreRuns size [] old new = new ≡ old
 AreRuns size (r ∷ rs) old new =
-    Answers r.deed (given size old.image old.journal) r.outcome × AreRuns size rs (left_files r.outcome) new
+    Answers r.step (given size old.image old.journal) r.outcome × AreRuns size rs (left_files r.outcome) new
 
 -- rows that are packed say what is packed, as it is taken
-abbrev pub HasGoodRows : Deed → Type 0
-HasGoodRows (Pack count limits rows) = (packed : List Packed) × AreRowsOf rows packed
+abbrev pub HasGoodRows : Step → Type 0
+HasGoodRows (Pack count limits rows) = (packed : List Packed) × AreRowsOf rows.now packed
 HasGoodRows _ = Unit {0}
 
 -- a new image begins a history, and has the root alone, or the map of its rows; a question leaves the history that was there, of which
 -- all but the image may be forgotten; and a change is steps of it
-abbrev pub GoesOn : ℕ → Deed → History → History → Type 0
-GoesOn size (Make count limits) old new = (new ≡ fresh_history new.present) × IsFormatted size count limits new.present.bytes
+abbrev pub GoesOn : ℕ → Step → History → History → Type 0
+GoesOn size (Format count limits) old new = (new ≡ fresh_history new.present) × IsFormatted size count limits new.present.bytes
 GoesOn size (Pack count limits rows) old new =
     (new ≡ fresh_history new.present)
-    × ((packed : List Packed) → AreRowsOf rows packed → IsPacked size count limits packed new.present.bytes)
+    × ((packed : List Packed) → AreRowsOf rows.now packed → IsPacked size count limits packed new.present.bytes)
 GoesOn size (Ask query) old new = new ≡ old
-GoesOn size (Compare other_size other) old new = new ≡ old
-GoesOn size Recount old new = new ≡ old
 GoesOn size Forget old new = Forgets old new
-GoesOn size (Change steps) old new = TakesAll steps old new
+GoesOn size (Change steps) old new = TakesAll (map step_of steps.now) old new
 
--- a deed that is refused leaves the history, and the cause holds of what it was given
-abbrev pub GoesBy : Option Fault → ℕ → Deed → Given → History → History → Type 0
-GoesBy None at deed g old new = GoesOn g.size deed old new
-GoesBy (Some fault) at deed g old new = (new ≡ old) × Refuses deed g at fault
+-- a step that is refused leaves the history, and the cause holds of what it was given
+abbrev pub GoesBy : Option Fault → ℕ → Step → Given → History → History → Type 0
+GoesBy None at step g old new = GoesOn g.size step old new
+GoesBy (Some fault) at step g old new = (new ≡ old) × Refuses step g at fault
 
 -- one after another; what each leaves denotes the history to which it leads
 abbrev pub GoOn : ℕ → List Ran → BothFiles → History → History → Type 0
 GoOn size [] files old new = new ≡ old
 GoOn size (r ∷ rs) files old new =
     (mid : History)
-    × GoesBy r.outcome.fault r.outcome.at r.deed (given size files.image files.journal) old mid
+    × GoesBy r.outcome.fault r.outcome.at r.step (given size files.image files.journal) old mid
     × Denotes size r.outcome.image.items r.outcome.journal.items mid
     × GoOn size rs (left_files r.outcome) mid new
 
@@ -73,5 +73,5 @@ pub record LeadTo (size : ℕ) (rs : List Ran) (first last : BothFiles) (old : H
 
 -- the law: a list of runs leads from the history that the first image and journal denote to the one that the last denote
 abbrev pub RunsGoOn : Type 0
-RunsGoOn = (size : ℕ) (rs : List Ran) (first last : BothFiles) (old : History) → AllByRecursion (λ r. HasGoodRows r.deed) rs
+RunsGoOn = (size : ℕ) (rs : List Ran) (first last : BothFiles) (old : History) → AllByRecursion (λ r. HasGoodRows r.step) rs
     → Denotes size first.image first.journal old → AreRuns size rs first last → LeadTo size rs first last old

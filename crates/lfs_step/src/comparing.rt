@@ -6,17 +6,14 @@ ghost use Rattle.lfs_block.specs.declared.mount_fault.MountFault.{MountFault};
 ghost use Rattle.lfs_fs.specs.Cause.{HasCause};
 ghost use Rattle.lfs_fs.specs.Mounted.{IsMountOf};
 ghost use Rattle.lfs_command.specs.declared.refusal.Refusal.TheVariants.{Memory};
-ghost use Rattle.lfs_change.specs.Bytes.{image_of};
-ghost use Rattle.lfs_change.specs.Fault.{blames_output, status_of};
+ghost use Rattle.lfs_change.specs.Fault.{blames_output};
 ghost use Rattle.lfs_change.specs.declared.fault.Fault.TheVariants.{Other, Refused};
 ghost use Rattle.lfs_change.specs.declared.other_fault.OtherFault.TheVariants as other_fault;
 ghost use Rattle.lfs_step.specs.Comparing.{RefusesCompared, RefusesDifference, SendsCompared, SendsDifference};
-ghost use Rattle.lfs_step.specs.Deed.{Compare};
-ghost use Rattle.lfs_step.specs.Outcome.{Answers, given};
 
 use crate::sending::fault_of_listing;
-use lfs_block::{Blocks, Image, MountFault};
-use lfs_change::{Fault, OtherFault, Outcome};
+use lfs_block::{Image, MountFault};
+use lfs_change::{Fault, OtherFault};
 use lfs_edit::Refusal;
 use lfs_fs::{Mounted, mount};
 use lfs_listing::{MountedImage, send_difference};
@@ -24,52 +21,22 @@ use lfs_sink::Sink;
 use std::alloc::Global;
 use std::mem::forget;
 
-/// Says what the bytes `others`, with blocks of `other_size` bytes, have otherwise than bytes that are an image with blocks of `size`
-/// bytes; image and journal are answered as they were handed in. The caller owes that `out` has not failed. The first of these that holds is told: the bytes are no
-/// image, the others are none, the image doesn't mount, the other doesn't. Takes memory.
-///
-/// Source: own.
-pub fn compared<S: Sink>(
-    alloc: Global,
-    size: u32,
-    image: Vec<u8>,
-    journal: Vec<u8>,
-    other_size: u32,
-    others: Vec<u8>,
-    out: &mut S,
-) -> Outcome
-    requires { S.failed out.old ≡ false }
-    ensures answers { Answers (Compare other_size others.items) (given size image.items journal.items) result }
-    ensures sent { SendsCompared size image.items other_size others.items result.fault (S.sent out.old) (S.sent out.new) }
-    ensures failed { S.failed out.new ≡ blames_output result.fault }
-    ensures kept { S.kept out.new ≡ S.kept out.old }
-    ensures status { result.status ≡ status_of result.fault }
-{
-    match Image::new(image, size) {
-        Ok(image) => {
-            let fault = compare_bytes(alloc, &image, other_size, others, out).err();
-            Outcome::new(image.into_bytes(), journal, fault)
-        }
-        Err((fault, image)) => Outcome::new(image, journal, Some(Fault::Image(fault))),
-    }
-}
-
-/// Says what bytes have otherwise than an image.
-fn compare_bytes<S: Sink>(
+/// Says what the bytes `others`, with blocks of `size` bytes, have otherwise than an image. The first of these that holds is told: the
+/// bytes are no image, the first image doesn't mount, the other doesn't.
+pub(crate) fn compare_bytes<S: Sink>(
     alloc: Global,
     image: &Image,
-    other_size: u32,
+    size: u32,
     others: Vec<u8>,
     out: &mut S,
 ) -> Result<(), Fault>
     requires { S.failed out.old ≡ false }
-    ensures refused { IfErr result (λ fault. RefusesCompared image.now.disk.size image.now.disk.bytes other_size others.items fault) }
-    ensures sent { SendsCompared image.now.disk.size image.now.disk.bytes other_size others.items (result_err result) (S.sent out.old) (S.sent out.new) }
+    ensures refused { IfErr result (λ fault. RefusesCompared image.now.disk size others.items fault) }
+    ensures sent { SendsCompared image.now.disk size others.items (result_err result) (S.sent out.old) (S.sent out.new) }
     ensures failed { S.failed out.new ≡ blames_output (result_err result) }
     ensures kept { S.kept out.new ≡ S.kept out.old }
 {
-    let _size = image.size();
-    match Image::new(others, other_size) {
+    match Image::new(others, size) {
         Ok(other) => compare(alloc, image, &other, out),
         Err((fault, _)) => Err(Fault::Other(OtherFault::Image(fault))),
     }

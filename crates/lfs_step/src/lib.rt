@@ -2,7 +2,6 @@
 #![tactic(auto)]
 
 mod comparing;
-mod deed;
 mod laws;
 mod query;
 mod querying;
@@ -12,7 +11,6 @@ mod sending;
 mod step;
 mod summary;
 
-pub use deed::{Deed, deed_of, move_of};
 pub use laws::{packed_images_list_their_rows, runs_go_on, steps_leave_histories};
 pub use lfs_change::{Fault, Outcome};
 pub use query::Query;

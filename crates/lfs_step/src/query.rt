@@ -1,10 +1,10 @@
 //! What is asked of an image.
 
-/// What is asked of an image, which it leaves as it is.
+/// What is asked of an image and its journal, which it leaves as they are; another image is there by its name, or by its bytes (`O`).
 ///
 /// Source: own.
-#[derive(Clone, Copy)]
-pub enum Query<'a> {
+#[derive(Clone, Copy, Drop)]
+pub enum Query<'a, O> {
     /// Whether it mounts, and what it holds in numbers.
     Check,
     /// What stands at each path.
@@ -14,4 +14,13 @@ pub enum Query<'a> {
         /// The text of the file's path.
         path: &'a [u8],
     },
+    /// What another image has otherwise.
+    Diff {
+        /// The other image.
+        other: O,
+        /// The size of its blocks, in bytes.
+        size: u32,
+    },
+    /// What the changes in the journal changed.
+    Log,
 }

@@ -1,13 +1,18 @@
-//! One query of an image.
+//! What is asked of an image and its journal.
 
 ghost use Rattle.std.specs.Prelude.{◌≡◌, false, IfErr};
 ghost use Rattle.std.specs.Result.{result_err};
 ghost use Rattle.lfs_fs.specs.Mounted.{IsMountOf};
 ghost use Rattle.lfs_change.specs.Fault.{blames_output, status_of};
-ghost use Rattle.lfs_step.specs.declared.query.Query.TheVariants.{Check, Ls};
-ghost use Rattle.lfs_step.specs.Query.{AnswersQuery, RefusesReport, SendsQuery, SendsReport};
+ghost use Rattle.lfs_step.specs.Asking.{RefusesAsked, SendsAsked};
+ghost use Rattle.lfs_step.specs.Outcome.{Answers, SendsText, given};
+ghost use Rattle.lfs_step.specs.Query.{RefusesReport, SendsReport};
+ghost use Rattle.lfs_step.specs.declared.query.Query.TheVariants.{Cat, Check, Ls};
+ghost use Rattle.lfs_step.specs.declared.step.Step.TheVariants.{Ask};
 
+use crate::comparing::compare_bytes;
 use crate::query::Query;
+use crate::recounting::recount;
 use crate::sending::{fault_of_listing, sent_whole};
 use crate::summary::summary;
 use lfs_block::Image;
@@ -19,120 +24,134 @@ use lfs_sink::{Sink, send};
 use std::alloc::Global;
 use std::mem::forget;
 
-/// Answers a query of bytes that are an image, with blocks of `size` bytes; image and journal are answered as they
-/// were handed in. The caller owes that `out` has not failed. Takes memory.
+/// Answers a query of bytes that are an image, with blocks of `size` bytes, and of its journal; both are answered as they were handed in.
+/// The caller owes that `out` has not failed. Takes memory.
 ///
 /// Source: own.
 pub fn queried<S: Sink>(
     alloc: Global,
-    query: &Query<'_>,
+    query: Query<'_, Vec<u8>>,
     size: u32,
     image: Vec<u8>,
     journal: Vec<u8>,
     out: &mut S,
 ) -> Outcome
     requires { S.failed out.old ≡ false }
-    ensures answers { AnswersQuery result.fault query.now size image.items journal.items result }
-    ensures sent { SendsQuery query.now size image.items result.fault (S.sent out.old) (S.sent out.new) }
+    ensures answers { Answers (Ask query.entry) (given size image.items journal.items) result }
+    ensures sent { SendsText (Ask query.entry) (given size image.items journal.items) result.fault (S.sent out.old) (S.sent out.new) }
     ensures failed { S.failed out.new ≡ blames_output result.fault }
     ensures kept { S.kept out.new ≡ S.kept out.old }
     ensures status { result.status ≡ status_of result.fault }
 {
     match Image::new(image, size) {
-        Ok(image) => {
+        Ok(mut image) => {
             let mut place = None;
-            let fault = report(alloc, query, &image, &mut place, out).err();
+            let fault = report(alloc, query, &mut image, &journal, &mut place, out).err();
             Outcome::placed(image.into_bytes(), journal, fault, 0, place)
         }
         Err((fault, image)) => Outcome::new(image, journal, Some(Fault::Image(fault))),
     }
 }
 
-/// Says what an image that is mounted holds, in one line.
-fn say_summary<S: Sink>(
+/// Says the answer to a query of an image, which stands again as it was, and its journal. Where the path of a file is refused the place
+/// is left.
+fn report<S: Sink>(
     alloc: Global,
-    image: &Image,
-    mounted: &Mounted,
+    query: Query<'_, Vec<u8>>,
+    image: &mut Image,
+    journal: &[u8],
+    place: &mut Option<Place>,
     out: &mut S,
 ) -> Result<(), Fault>
-    requires mounted { IsMountOf image.now.disk mounted.now }
-    requires works { S.failed out.old ≡ false }
+    requires { S.failed out.old ≡ false }
+    ensures refused { IfErr result (λ fault. RefusesAsked query.entry image.old.disk journal.now fault) }
+    ensures sent { SendsAsked query.entry image.old.disk journal.now (result_err result) (S.sent out.old) (S.sent out.new) }
+    ensures failed { S.failed out.new ≡ blames_output (result_err result) }
+    ensures kept { S.kept out.new ≡ S.kept out.old }
+    ensures disk { image.new.disk ≡ image.old.disk }
+{
+    match query {
+        Query::Check => say_summary(alloc, image, out),
+        Query::Ls => say_listing(alloc, image, out),
+        Query::Cat { path } => say_contents(alloc, image, path, place, out),
+        Query::Diff { other, size } => compare_bytes(alloc, image, size, other, out),
+        Query::Log => recount(alloc, image, journal, out),
+    }
+}
+
+/// Says what an image holds, in one line. What was mounted isn't given back to the allocator, since the program ends behind its answer:
+/// to give names back one by one takes a tenth of the time of a check.
+fn say_summary<S: Sink>(alloc: Global, image: &Image, out: &mut S) -> Result<(), Fault>
+    requires { S.failed out.old ≡ false }
     ensures refused { IfErr result (λ fault. RefusesReport Check image.now.disk fault) }
     ensures sent { SendsReport Check image.now.disk (result_err result) (S.sent out.old) (S.sent out.new) }
     ensures failed { S.failed out.new ≡ blames_output (result_err result) }
     ensures kept { S.kept out.new ≡ S.kept out.old }
 {
-    let line = summary(alloc, image, mounted)?;
+    let mounted = mount(alloc, image)?;
+    let line = summary(alloc, image, &mounted)?;
+    forget(mounted);
     sent_whole(send(out, line.as_bytes()))
 }
 
-/// Says what stands at each path of an image that is mounted, row by row.
-fn say_listing<S: Sink>(
-    alloc: Global,
-    image: &Image,
-    mounted: &Mounted,
-    out: &mut S,
-) -> Result<(), Fault>
-    requires mounted { IsMountOf image.now.disk mounted.now }
-    requires works { S.failed out.old ≡ false }
+/// Says what stands at each path of an image, row by row.
+fn say_listing<S: Sink>(alloc: Global, image: &Image, out: &mut S) -> Result<(), Fault>
+    requires { S.failed out.old ≡ false }
     ensures refused { IfErr result (λ fault. RefusesReport Ls image.now.disk fault) }
     ensures sent { SendsReport Ls image.now.disk (result_err result) (S.sent out.old) (S.sent out.new) }
     ensures failed { S.failed out.new ≡ blames_output (result_err result) }
     ensures kept { S.kept out.new ≡ S.kept out.old }
 {
-    match send_listing(alloc, mounted.rows(), out) {
+    let mounted = mount(alloc, image)?;
+    let sent = send_listing(alloc, mounted.rows(), out);
+    forget(mounted);
+    match sent {
         Ok(()) => Ok(()),
         Err(unsent) => Err(fault_of_listing(unsent)),
     }
 }
 
-/// Says the answer to a query of an image that is mounted: a file's contents go out slice by slice. Where its path is refused
-/// the place is left.
-fn say<S: Sink>(
+/// Says the contents of a file, which go out slice by slice. Where its path is refused the place is left.
+fn say_contents<S: Sink>(
     alloc: Global,
-    query: &Query<'_>,
+    image: &Image,
+    path: &[u8],
+    place: &mut Option<Place>,
+    out: &mut S,
+) -> Result<(), Fault>
+    requires { S.failed out.old ≡ false }
+    ensures refused { IfErr result (λ fault. RefusesReport (Cat path.entry) image.now.disk fault) }
+    ensures sent { SendsReport (Cat path.entry) image.now.disk (result_err result) (S.sent out.old) (S.sent out.new) }
+    ensures failed { S.failed out.new ≡ blames_output (result_err result) }
+    ensures kept { S.kept out.new ≡ S.kept out.old }
+{
+    let mounted = mount(alloc, image)?;
+    let said = say_file(alloc, image, &mounted, path, place, out);
+    forget(mounted);
+    said
+}
+
+/// Says the contents of a file of an image that is mounted.
+fn say_file<S: Sink>(
+    alloc: Global,
     image: &Image,
     mounted: &Mounted,
+    path: &[u8],
     place: &mut Option<Place>,
     out: &mut S,
 ) -> Result<(), Fault>
     requires mounted { IsMountOf image.now.disk mounted.now }
     requires works { S.failed out.old ≡ false }
-    ensures refused { IfErr result (λ fault. RefusesReport query.now image.now.disk fault) }
-    ensures sent { SendsReport query.now image.now.disk (result_err result) (S.sent out.old) (S.sent out.new) }
+    ensures refused { IfErr result (λ fault. RefusesReport (Cat path.entry) image.now.disk fault) }
+    ensures sent { SendsReport (Cat path.entry) image.now.disk (result_err result) (S.sent out.old) (S.sent out.new) }
     ensures failed { S.failed out.new ≡ blames_output (result_err result) }
     ensures kept { S.kept out.new ≡ S.kept out.old }
 {
-    match *query {
-        Query::Check => say_summary(alloc, image, mounted, out),
-        Query::Ls => say_listing(alloc, image, mounted, out),
-        Query::Cat { path } => match send_file(alloc, image, mounted, path, out) {
-            Ok(whole) => sent_whole(whole),
-            Err(refusal) => {
-                *place = Place::of(alloc, mounted.outline(), path, None);
-                Err(Fault::Refused(refusal))
-            }
-        },
+    match send_file(alloc, image, mounted, path, out) {
+        Ok(whole) => sent_whole(whole),
+        Err(refusal) => {
+            *place = Place::of(alloc, mounted.outline(), path, None);
+            Err(Fault::Refused(refusal))
+        }
     }
-}
-
-/// Says the answer to a query of an image. What was mounted isn't given back to the allocator, since the program ends behind
-/// its answer: to give names back one by one takes a tenth of the time of a check.
-fn report<S: Sink>(
-    alloc: Global,
-    query: &Query<'_>,
-    image: &Image,
-    place: &mut Option<Place>,
-    out: &mut S,
-) -> Result<(), Fault>
-    requires { S.failed out.old ≡ false }
-    ensures refused { IfErr result (λ fault. RefusesReport query.now image.now.disk fault) }
-    ensures sent { SendsReport query.now image.now.disk (result_err result) (S.sent out.old) (S.sent out.new) }
-    ensures failed { S.failed out.new ≡ blames_output (result_err result) }
-    ensures kept { S.kept out.new ≡ S.kept out.old }
-{
-    let mounted = mount(alloc, image)?;
-    let said = say(alloc, query, image, &mounted, place, out);
-    forget(mounted);
-    said
 }

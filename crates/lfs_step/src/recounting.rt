@@ -3,50 +3,21 @@
 ghost use Rattle.std.specs.Prelude.{◌≡◌, false, IfErr, IfOk};
 ghost use Rattle.std.specs.Result.{result_err};
 ghost use Rattle.lfs_change.specs.Change.{RefusesDenoting};
-ghost use Rattle.lfs_change.specs.Fault.{blames_output, status_of};
-ghost use Rattle.lfs_step.specs.Deed.{Recount};
-ghost use Rattle.lfs_step.specs.Outcome.{Answers, given};
-ghost use Rattle.lfs_step.specs.Recounting.{IsRecount, RefusesRecount, SendsRecount, SendsRecounted};
+ghost use Rattle.lfs_change.specs.Fault.{blames_output};
+ghost use Rattle.lfs_step.specs.Recounting.{IsRecount, RefusesRecount, SendsRecount};
 
 use crate::sending::sent_whole;
 use lfs_block::{Blocks, Image};
-use lfs_change::{Fault, Outcome};
+use lfs_change::Fault;
 use lfs_fs::mount;
 use lfs_history::OpenFault;
 use lfs_log::log_of;
 use lfs_sink::{Sink, send};
 use std::alloc::Global;
 
-/// Tells what the changes in a journal changed of bytes that are an image, with blocks of `size` bytes; image and journal are answered
-/// as they were handed in. An empty journal is one without changes. The caller owes that `out` has not failed. The journal is judged as
-/// where a change is taken back, before anything goes out. Takes memory.
-///
-/// Source: own.
-pub fn recounted<S: Sink>(
-    alloc: Global,
-    size: u32,
-    image: Vec<u8>,
-    journal: Vec<u8>,
-    out: &mut S,
-) -> Outcome
-    requires { S.failed out.old ≡ false }
-    ensures answers { Answers Recount (given size image.items journal.items) result }
-    ensures sent { SendsRecounted size image.items journal.items result.fault (S.sent out.old) (S.sent out.new) }
-    ensures failed { S.failed out.new ≡ blames_output result.fault }
-    ensures kept { S.kept out.new ≡ S.kept out.old }
-    ensures status { result.status ≡ status_of result.fault }
-{
-    match Image::new(image, size) {
-        Ok(mut image) => {
-            let fault = recount(alloc, &mut image, &journal, out).err();
-            Outcome::new(image.into_bytes(), journal, fault)
-        }
-        Err((fault, image)) => Outcome::new(image, journal, Some(Fault::Image(fault))),
-    }
-}
-
-/// Tells what the changes in a journal changed of an image, which stands again as it was.
-fn recount<S: Sink>(
+/// Tells what the changes in a journal changed of an image, which stands again as it was. An empty journal is one without changes; the
+/// journal is judged as where a change is taken back, before anything goes out.
+pub(crate) fn recount<S: Sink>(
     alloc: Global,
     image: &mut Image,
     journal: &[u8],

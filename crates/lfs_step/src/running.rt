@@ -6,7 +6,6 @@ ghost use Rattle.lfs_book.specs.Book.{book_of, journal_bytes};
 ghost use Rattle.lfs_command.specs.declared.refusal.Refusal.TheVariants.{Memory};
 ghost use Rattle.lfs_fs.specs.Superblock.{IsLimits};
 ghost use Rattle.lfs_edit.specs.Formatted.{IsFormatted};
-ghost use Rattle.lfs_history.specs.Taking.{MayKeep};
 ghost use Rattle.lfs_change.specs.Fault.{blames_output, status_of};
 ghost use Rattle.lfs_change.specs.declared.fault.Fault.TheVariants.{Refused};
 ghost use Rattle.lfs_step.specs.Equations.{KeepsEquations, KeepsNeeds};
@@ -14,13 +13,11 @@ ghost use Rattle.lfs_step.specs.Histories.{KeepsHistories};
 ghost use Rattle.lfs_step.specs.Outcome.{Answers, RefusesFormat, RefusesPacking, SendsText, given};
 ghost use Rattle.lfs_pack.specs.Packed.{AreRowsOf, Packed};
 ghost use Rattle.lfs_pack.specs.Packing.{IsPacked};
-ghost use Rattle.lfs_step.specs.Deed.{IsStepInRange, IsNoComparison, Make, Pack, deed_of};
+ghost use Rattle.lfs_step.specs.Step.{IsStepInRange};
+ghost use Rattle.lfs_step.specs.declared.step.Step.TheVariants.{Format, Pack};
 
-use crate::comparing::compared;
-use crate::deed::{Deed, deed_of, move_of};
 use crate::laws::steps_leave_histories;
 use crate::querying::queried;
-use crate::recounting::recounted;
 use crate::step::Step;
 use lfs_block::{ImageFault, geometry_ok};
 use lfs_book::write_journal;
@@ -34,19 +31,17 @@ use lfs_pack::{PackRow, pack_within};
 use lfs_sink::Sink;
 use std::alloc::Global;
 
-/// Takes one step on an image and its journal, with blocks of `size` bytes. `input` is what the step reads: the contents of a file that
-/// is put, or an image that the first is compared with. What it says goes to `out`, and the caller owes that this has not failed. With a
-/// fault the image and the journal are those that were handed in, and nothing goes out but where `out` itself failed. An empty journal is
-/// that of an image that nothing was done to.
+/// Takes one step on an image and its journal, with blocks of `size` bytes. What it says goes to `out`, and the caller owes that this has
+/// not failed. With a fault the image and the journal are those that were handed in, and nothing goes out but where `out` itself failed.
+/// An empty journal is that of an image that nothing was done to.
 ///
-/// A step that changes the image is one on the history that image and journal denote, and answers those of the history that it leaves;
-/// a batch is several of them, all of which are done or none, and its outcome says at which it is refused. A new image gets a journal
-/// without changes. What is asked leaves both files as they are; of such steps only the recount of changes reads the journal. New images
-/// read none, and forgetting none either.
+/// A step that changes the image is a list of steps on the history that image and journal denote, all of which are done or none; it
+/// answers those of the history that these leave, and the outcome says at which of them it is refused. A new image gets a journal without
+/// changes. What is asked leaves both files as they are; of such steps only the recount of changes reads the journal. New images read
+/// none, and forgetting none either.
 ///
-/// Behind a command `keep` images of the past are kept, or all of them; the caller owes that it is 1 to 1,000, and other steps don't look
-/// at it: each step of a batch has its own, of which the caller owes the same. Where the step makes a new image the caller owes limits
-/// that an image may have.
+/// Where the step makes a new image the caller owes limits that an image may have; and where it keeps a number of images of the past
+/// behind a command, that this is 1 to 1,000.
 ///
 /// A step that is done leaves an image and a journal that denote the history to which it leads; a command, an image that mounts to the
 /// command's equation, and a journal that has grown by no more than the command's need. Takes memory.
@@ -54,22 +49,19 @@ use std::alloc::Global;
 /// Source: own.
 pub fn run<S: Sink>(
     alloc: Global,
-    step: &Step<'_>,
+    step: Step<'_>,
     size: u32,
     image: Vec<u8>,
     journal: Vec<u8>,
-    input: Vec<u8>,
-    keep: Option<u32>,
     out: &mut S,
 ) -> Outcome
     requires works { S.failed out.old ≡ false }
-    requires keep { MayKeep keep }
-    requires range { IsStepInRange step.now }
-    ensures answers { Answers (deed_of step.now input.items keep) (given size image.items journal.items) result }
-    ensures history { KeepsHistories (deed_of step.now input.items keep) (given size image.items journal.items) result }
-    ensures equation { KeepsEquations (deed_of step.now input.items keep) (given size image.items journal.items) result }
-    ensures growth { KeepsNeeds (deed_of step.now input.items keep) (given size image.items journal.items) result }
-    ensures sent { SendsText (deed_of step.now input.items keep) (given size image.items journal.items) result.fault (S.sent out.old) (S.sent out.new) }
+    requires range { IsStepInRange step }
+    ensures answers { Answers step.entry (given size image.items journal.items) result }
+    ensures history { KeepsHistories step.entry (given size image.items journal.items) result }
+    ensures equation { KeepsEquations step.entry (given size image.items journal.items) result }
+    ensures growth { KeepsNeeds step.entry (given size image.items journal.items) result }
+    ensures sent { SendsText step.entry (given size image.items journal.items) result.fault (S.sent out.old) (S.sent out.new) }
     ensures failed { S.failed out.new ≡ blames_output result.fault }
     ensures kept { S.kept out.new ≡ S.kept out.old }
     ensures status { result.status ≡ status_of result.fault }
@@ -77,49 +69,36 @@ pub fn run<S: Sink>(
     changed_bytes_are_equations();
     journals_of_bytes_grow_by_the_need();
     steps_leave_histories();
-    match step {
-        Step::Diff {
-            size: other_size,
-            ..
-        } => compared(alloc, size, image, journal, *other_size, input, out),
-        _ => taken(alloc, step, size, image, journal, &input, keep, out),
-    }
+    taken(alloc, step, size, image, journal, out)
 }
 
-/// Takes a step that compares no images.
+/// Takes a step.
 fn taken<S: Sink>(
     alloc: Global,
-    step: &Step<'_>,
+    step: Step<'_>,
     size: u32,
     image: Vec<u8>,
     journal: Vec<u8>,
-    input: &[u8],
-    keep: Option<u32>,
     out: &mut S,
 ) -> Outcome
-    requires other { IsNoComparison step.now }
     requires works { S.failed out.old ≡ false }
-    requires keep { MayKeep keep }
-    requires range { IsStepInRange step.now }
-    ensures answers { Answers (deed_of step.now input.now keep) (given size image.items journal.items) result }
-    ensures sent { SendsText (deed_of step.now input.now keep) (given size image.items journal.items) result.fault (S.sent out.old) (S.sent out.new) }
+    requires range { IsStepInRange step }
+    ensures answers { Answers step.entry (given size image.items journal.items) result }
+    ensures sent { SendsText step.entry (given size image.items journal.items) result.fault (S.sent out.old) (S.sent out.new) }
     ensures failed { S.failed out.new ≡ blames_output result.fault }
     ensures kept { S.kept out.new ≡ S.kept out.old }
     ensures status { result.status ≡ status_of result.fault }
 {
-    let own = move_of(step, input, keep);
-    match deed_of(step, own.as_slice()) {
-        Deed::Make { count, limits } => formatted(alloc, size, count, limits, image, journal),
-        Deed::Pack {
+    match step {
+        Step::Format { count, limits } => formatted(alloc, size, count, limits, image, journal),
+        Step::Pack {
             count,
             limits,
             rows,
         } => packed(alloc, size, count, limits, rows, image, journal),
-        Deed::Ask(query) => queried(alloc, &query, size, image, journal, out),
-        Deed::Compare { .. } => unreachable!(),
-        Deed::Recount => recounted(alloc, size, image, journal, out),
-        Deed::Forget => forgotten(alloc, size, image, journal),
-        Deed::Change(steps) => changed(alloc, steps, size, image, journal),
+        Step::Ask(query) => queried(alloc, query, size, image, journal, out),
+        Step::Forget => forgotten(alloc, size, image, journal),
+        Step::Change(steps) => changed(alloc, steps, size, image, journal),
     }
 }
 
@@ -133,7 +112,7 @@ fn formatted(
     journal: Vec<u8>,
 ) -> Outcome
     requires { IsLimits limits }
-    ensures answers { Answers (Make count limits) (given size image.items journal.items) result }
+    ensures answers { Answers (Format count limits) (given size image.items journal.items) result }
     ensures failed { blames_output result.fault ≡ false }
     ensures status { result.status ≡ status_of result.fault }
 {
@@ -182,7 +161,7 @@ fn packed(
     journal: Vec<u8>,
 ) -> Outcome
     requires { IsLimits limits }
-    ensures answers { Answers (Pack count limits rows.now) (given size image.items journal.items) result }
+    ensures answers { Answers (Pack count limits rows.entry) (given size image.items journal.items) result }
     ensures failed { blames_output result.fault ≡ false }
     ensures status { result.status ≡ status_of result.fault }
 {

@@ -1,26 +1,19 @@
--- What is said of two images is said of their bytes.
+-- What is said of two images is said of the bytes that the other is.
 use Rattle.std.specs.Result.{result_err}
 use Rattle.std.proofs.lemmas.Result.{IfErr-weaker}
-use Rattle.lfs_step.proofs.ComparingLemmas.{compared_refused, compared_sent, no_image_refused}
+use Rattle.lfs_step.proofs.ComparingLemmas.{compared_refused, compared_sent}
 use Rattle.lfs_step.proofs.comparing.compare_bytes.Goals as goal
 
 pub returns-in-Ok-clause-refused : goal.returns-in-Ok-clause-refused
 returns-in-Ok-clause-refused g c =
     let d = c.args.image.now.disk in
     let e = c.in-Ok.other.disk in
-    let others = c.args.others.items in
     IfErr-weaker c.compare.result _ _
-    (λ f refuses. compared_refused d e c.args.other_size others f c.size-size.ensures.disk c.in-Ok.ensures.disk c.in-Ok.ensures.size
-    c.in-Ok.ensures.bytes refuses) c.compare.ensures.refused
+    (λ f refuses. compared_refused d e c.args.size c.args.others.items f c.in-Ok.ensures.disk c.in-Ok.ensures.size c.in-Ok.ensures.bytes refuses)
+    c.compare.ensures.refused
 
 pub returns-in-Ok-clause-sent : goal.returns-in-Ok-clause-sent
 returns-in-Ok-clause-sent g c =
-    let d = c.args.image.now.disk in
-    let e = c.in-Ok.other.disk in
-    compared_sent d e c.args.other_size c.args.others.items (result_err c.compare.result) (g.S.Sink.sent c.args.out.now)
-    (g.S.Sink.sent c.compare.new.out) c.size-size.ensures.disk c.in-Ok.ensures.disk c.in-Ok.ensures.size c.in-Ok.ensures.bytes
+    compared_sent c.args.image.now.disk c.in-Ok.other.disk c.args.size c.args.others.items (result_err c.compare.result)
+    (g.S.Sink.sent c.args.out.now) (g.S.Sink.sent c.compare.new.out) c.in-Ok.ensures.disk c.in-Ok.ensures.size c.in-Ok.ensures.bytes
     c.compare.ensures.sent
-
-pub returns-clause-refused : goal.returns-clause-refused
-returns-clause-refused g c =
-    no_image_refused c.args.image.now.disk c.args.other_size c.args.others.items c.in-Err.fault c.size-size.ensures.disk c.in-Err.ensures.cause
