@@ -1,5 +1,6 @@
 -- What a step is handed of a host, and which faults the host gives rise to (own).
-use Rattle.std.specs.Prelude.{ℕ, ◌≡◌, ◌⊎◌, ⊤, Bool, true, false, List, [], Option, None, Some}
+use Rattle.std.specs.Prelude.{ℕ, ◌≡◌, ◌⊎◌, ⊤, Bool, true, false, List, [], Option}
+use Rattle.std.specs.Borrow.{Bor}
 use Rattle.lfs_book.specs.Book.{most_journal}
 use Rattle.lfs_fs.specs.Limits.{most_file}
 use Rattle.lfs_command.specs.declared.refusal.Refusal.TheVariants.{Memory}
@@ -8,13 +9,18 @@ use Rattle.lfs_change.specs.declared.fault.Fault.TheVariants.{Refused, CannotRea
 use Rattle.lfs_change.specs.declared.other_fault.OtherFault.TheVariants as other
 use Rattle.lfs_exchange.specs.declared.step_kind.StepKind.{StepKind}
 use Rattle.lfs_exchange.specs.declared.step_kind.StepKind.TheVariants.{Makes, Asks, Recounts, Changes}
-use Rattle.lfs_step.specs.declared.step.Step.{Step}
-use Rattle.lfs_step.specs.declared.step.Step.TheVariants.{Diff, Put}
+use Rattle.lfs_command.specs.declared.command.Command.TheVariants.{Put}
+use Rattle.lfs_history.specs.declared.moves.Move.{Move}
+use Rattle.lfs_history.specs.declared.moves.Move.TheVariants.{Do}
+use Rattle.lfs_history.specs.declared.source.Source.{Source}
+use Rattle.lfs_history.specs.declared.source.Source.TheVariants.{File, Input}
+use Rattle.lfs_step.specs.declared.query.Query.{Query}
+use Rattle.lfs_step.specs.declared.query.Query.TheVariants.{Check, Ls, Cat, Diff, Log}
+use Rattle.lfs_step.specs.Query.{Question}
 use Rattle.lfs_host.specs.declared.read_fault.ReadFault.{ReadFault}
 use Rattle.lfs_host.specs.declared.read_fault.ReadFault.TheVariants as reading
 use Rattle.lfs_host.specs.Files.{Files, FindsFile, IsMissing, IsTarget, ReadsFile, ReadsInput}
 use Rattle.lfs_host.specs.Scene.{HasClaimed, HasRefused, HasRefusedFile, HasWithheld, Scene}
-use Rattle.lfs_exchange.specs.StepKind.{kind_of}
 use Rattle.lfs_exchange.specs.Storing.{journal_name}
 
 -- the most bytes that an image has
@@ -38,34 +44,39 @@ HandsJournal Changes files name journal = FindsFile files (journal_name name) mo
 HandsJournal Recounts files name journal = FindsFile files (journal_name name) most_journal journal
 HandsJournal _ files name journal = journal ≡ []
 
--- what a step reads besides: the contents of a file that is put, of a file of the host or on standard input; the file of an image
--- that the first is compared with
-abbrev pub HandsInput : Step → Option Files → Option (List ℕ) → List ℕ → Type 0
-HandsInput (Put path None) files typed input = ReadsInput typed most_file input
-HandsInput (Put path (Some name)) files typed input = ReadsFile files name.now most_file input
-HandsInput (Diff name other_size) files typed input = ReadsFile files name.now most_image input
+-- what is read for a step on a history: the contents that it puts, of a file of the host or on standard input
+abbrev pub HandsInput : Move Source → Option Files → Option (List ℕ) → List ℕ → Type 0
+HandsInput (Do (Put path Input) keep) files typed input = ReadsInput typed most_file input
+HandsInput (Do (Put path (File name)) keep) files typed input = ReadsFile files name.now most_file input
 HandsInput _ files typed input = input ≡ []
 
 -- whether a step reads standard input
-abbrev pub reads_input : Step → Bool
-reads_input (Put path None) = true
+abbrev pub reads_input : Move Source → Bool
+reads_input (Do (Put path Input) keep) = true
 reads_input _ = false
 
 -- a step that doesn't leaves it as it was
-abbrev pub LeavesInput : Step → Scene → Scene → Type 0
+abbrev pub LeavesInput : Move Source → Scene → Scene → Type 0
 LeavesInput step old new = reads_input step ≡ false → new.typed ≡ old.typed
 
--- what a step is handed
+-- a query with its other image in hand: the bytes of the file of that name
+abbrev pub HandsQuestion : Option Files → Query (Bor (List ℕ)) → Question → Type 0
+HandsQuestion files Check Check = ⊤
+HandsQuestion files Ls Ls = ⊤
+HandsQuestion files (Cat path) (Cat text) = text ≡ path
+HandsQuestion files (Diff name size) (Diff other other_size) = ReadsFile files name.now most_image other.items × (other_size ≡ size)
+HandsQuestion files Log Log = ⊤
+HandsQuestion files _ _ = ⊥
+
+-- what a step of a kind is handed of an image's files
 pub record HandedBytes : Type 0 where
   pub image : List ℕ
   pub journal : List ℕ
-  pub input : List ℕ
 
 -- it is handed this of what is known of a host
-pub record IsHanded (step : Step) (name : List ℕ) (s : Scene) (h : HandedBytes) : Type 0 where
-  pub image : HandsImage (kind_of step) s.files name h.image
-  pub journal : HandsJournal (kind_of step) s.files name h.journal
-  pub input : HandsInput step s.files s.typed h.input
+pub record IsHanded (kind : StepKind) (name : List ℕ) (s : Scene) (h : HandedBytes) : Type 0 where
+  pub image : HandsImage kind s.files name h.image
+  pub journal : HandsJournal kind s.files name h.journal
 
 -- ---- faults of the host
 
@@ -81,14 +92,9 @@ IsUnwritten scene CannotWrite = HasRefused scene
 IsUnwritten scene (Refused refusal) = refusal ≡ Memory
 IsUnwritten scene _ = ⊥
 
--- the host has refused to read the image that another is compared with
-abbrev pub IsOtherUnread : Step → Scene → Fault → Type 0
-IsOtherUnread (Diff name other_size) scene fault = (fault ≡ Other other.CannotRead) × HasRefused scene
-IsOtherUnread _ scene fault = ⊥
-
--- why a step isn't handed what it needs
-abbrev pub IsNotHanded : Step → Scene → Fault → Type 0
-IsNotHanded step scene fault = IsUnread scene fault ⊎ IsOtherUnread step scene fault
+-- the same of the image that another is compared with
+abbrev pub IsOtherUnread : Scene → Fault → Type 0
+IsOtherUnread scene fault = IsUnread scene fault ⊎ ((fault ≡ Other other.CannotRead) × HasRefused scene)
 
 -- the lock of a file is withheld
 abbrev pub IsWithheld : Scene → Fault → Type 0
@@ -124,6 +130,10 @@ abbrev pub IsNotAimed : StepKind → Scene → List ℕ → Fault → Type 0
 IsNotAimed Asks scene name fault = IsUnfound scene name fault
 IsNotAimed Recounts scene name fault = IsUnfound scene name fault
 IsNotAimed kind scene name fault = IsNotLocked kind scene name fault
+
+-- why nothing is handed of its files
+abbrev pub IsNotTakenUp : StepKind → Scene → List ℕ → Fault → Type 0
+IsNotTakenUp kind scene name fault = IsNotAimed kind scene name fault ⊎ IsUnread scene fault
 
 -- what a fault of reading is told as
 abbrev pub fault_of_reading : ReadFault → Fault

@@ -7,40 +7,66 @@ ghost use Rattle.lfs_change.specs.declared.other_fault.OtherFault.TheVariants as
 ghost use Rattle.lfs_fs.specs.Limits.{most_file};
 ghost use Rattle.lfs_host.specs.Files.{FindsFile, IsMissing, IsTarget, ReadsFile, ReadsInput};
 ghost use Rattle.lfs_host.specs.Scene.{HasClaimed, HasRefused, KeepsAll, KeepsOutput, KeepsSeen};
-ghost use Rattle.lfs_exchange.specs.Handing.{HandsImage, HandsInput, HandsJournal, IsClaimed, IsHanded, IsNotAimed, IsNotHanded, IsNotLocked, IsOtherUnread, IsUnread, LeavesInput, fault_at, fault_of_reading, most_image};
-ghost use Rattle.lfs_exchange.specs.StepKind.{kind_of};
+ghost use Rattle.lfs_exchange.specs.Handing.{HandsImage, HandsInput, HandsJournal, HandsQuestion, IsClaimed, IsHanded, IsNotAimed, IsNotLocked, IsNotTakenUp, IsOtherUnread, IsUnread, LeavesInput, fault_at, fault_of_reading, most_image};
 ghost use Rattle.lfs_exchange.specs.declared.step_kind.StepKind.TheVariants.{Makes};
 ghost use Rattle.lfs_exchange.specs.Storing.{journal_name};
 
 use crate::names::journal_name;
-use crate::step_kind::{StepKind, kind_of};
+use crate::step_kind::StepKind;
 use lfs_block::MAX_IMAGE_LENGTH;
 use lfs_book::MAX_JOURNAL_LENGTH;
 use lfs_change::OtherFault;
+use lfs_command::Command;
 use lfs_edit::Refusal;
 use lfs_fs::MOST_FILE;
+use lfs_history::{Move, Source};
 use lfs_host::{Host, Lock, ReadFault};
-use lfs_step::{Fault, Step};
+use lfs_step::{Fault, Query};
 use std::alloc::Global;
 
-/// What a step is handed.
+/// An image's files, as a step is handed them.
 #[derive(Drop)]
 pub struct Handed {
+    /// What the step is to them.
+    pub kind: StepKind,
+    /// The name of the file that the image's name leads to.
+    pub target: String,
     /// The image's bytes.
     pub image: Vec<u8>,
     /// The journal's bytes.
     pub journal: Vec<u8>,
-    /// What the step reads.
-    pub input: Vec<u8>,
 }
 
-/// The file that a name leads to, locked for this run where it is to be changed or replaced.
-pub fn aimed<H: Host>(
+/// What a step of a kind is handed of the files of the image of this name, which is locked for this run where it is to be changed or
+/// replaced: the image's file before its journal. Takes memory.
+///
+/// Source: own.
+pub fn taken_up<H: Host>(
     alloc: Global,
     host: &mut H,
     kind: StepKind,
     name: &str,
-) -> Result<String, Fault>
+) -> Result<Handed, Fault>
+    ensures kind { IfOk result (λ h. h.kind ≡ kind) }
+    ensures target { IfOk result (λ h. IsTarget (H.known host.new).files name.now (string_bytes h.target)) }
+    ensures claimed { IfOk result (λ h. IsClaimed h.kind (H.known host.new) (string_bytes h.target)) }
+    ensures handed { IfOk result (λ h. IsHanded h.kind name.now (H.known host.new) (record { image = h.image.items; journal = h.journal.items })) }
+    ensures refused { IfErr result (IsNotTakenUp kind (H.known host.new) name.now) }
+    ensures kept { KeepsSeen (H.known host.old) (H.known host.new) }
+{
+    let target = aimed(alloc, host, kind, name)?;
+    let image = read_image(alloc, host, kind, target.as_str())?;
+    let journal = journal_of(alloc, host, kind, target.as_str())?;
+    Ok(Handed {
+        kind,
+        target,
+        image,
+        journal,
+    })
+}
+
+/// The file that a name leads to, locked for this run where it is to be changed or replaced.
+fn aimed<H: Host>(alloc: Global, host: &mut H, kind: StepKind, name: &str) -> Result<String, Fault>
     ensures target { IfOk result (λ target. IsTarget (H.known host.old).files name.now (string_bytes target)) }
     ensures claimed { IfOk result (λ target. IsClaimed kind (H.known host.new) (string_bytes target)) }
     ensures refused { IfErr result (IsNotAimed kind (H.known host.new) name.now) }
@@ -102,32 +128,6 @@ pub fn spare<H: Host>(host: &mut H, is_new: bool, name: &str) -> Result<(), Faul
     Ok(())
 }
 
-/// What a step is handed: the image's file before its journal, and that before what it reads besides. The caller owes that this run has
-/// claimed the name, where a file is to be changed.
-pub fn hand_over<H: Host>(
-    alloc: Global,
-    host: &mut H,
-    step: &Step<'_>,
-    name: &str,
-) -> Result<Handed, Fault>
-    requires claimed { IsClaimed (kind_of step.now) (H.known host.old) name.now }
-    ensures handed { IfOk result (λ h. IsHanded step.now name.now (H.known host.old)
-        (record { image = h.image.items; journal = h.journal.items; input = h.input.items })) }
-    ensures refused { IfErr result (IsNotHanded step.now (H.known host.new)) }
-    ensures unread { LeavesInput step.now (H.known host.old) (H.known host.new) }
-    ensures kept { KeepsOutput (H.known host.old) (H.known host.new) }
-{
-    let kind = kind_of(step);
-    let image = read_image(alloc, host, kind, name)?;
-    let journal = journal_of(alloc, host, kind, name)?;
-    let input = input_of(alloc, host, step)?;
-    Ok(Handed {
-        image,
-        journal,
-        input,
-    })
-}
-
 /// The bytes of an image's file, and one more than an image has where there are more; none where the image is made. Takes
 /// memory.
 ///
@@ -181,21 +181,54 @@ fn find_journal<H: Host>(alloc: Global, host: &mut H, name: &str) -> Result<Vec<
     }
 }
 
-/// What a step reads besides: the contents of a file that is put, or an image that the first is compared with.
-fn input_of<H: Host>(alloc: Global, host: &mut H, step: &Step<'_>) -> Result<Vec<u8>, Fault>
+/// What is read for a step on a history: the contents that it puts, of a file of the host or on standard input. Takes memory.
+///
+/// Source: own.
+pub fn input_of<H: Host>(
+    alloc: Global,
+    host: &mut H,
+    step: &Move<'_, Source<'_>>,
+) -> Result<Vec<u8>, Fault>
     ensures input { IfOk result (λ input. HandsInput step.now (H.known host.old).files (H.known host.old).typed input.items) }
-    ensures refused { IfErr result (IsNotHanded step.now (H.known host.new)) }
+    ensures refused { IfErr result (IsUnread (H.known host.new)) }
     ensures unread { LeavesInput step.now (H.known host.old) (H.known host.new) }
     ensures kept { KeepsOutput (H.known host.old) (H.known host.new) }
 {
-    match *step {
-        Step::Put { from: None, .. } => read_input(alloc, host),
-        Step::Put {
-            from: Some(name),
-            ..
-        } => read_contents(alloc, host, name),
-        Step::Diff { other, .. } => read_other(alloc, host, other),
-        _ => Ok(Vec::new(alloc)),
+    let Move::Do {
+        command: Command::Put { bytes, .. },
+        ..
+    } = step
+    else {
+        return Ok(Vec::new(alloc));
+    };
+    match bytes {
+        Source::Input => read_input(alloc, host),
+        Source::File(name) => read_contents(alloc, host, name),
+        Source::Said(_) => Ok(Vec::new(alloc)),
+    }
+}
+
+/// A query with its other image in hand, whose file is read. Takes memory.
+///
+/// Source: own.
+pub fn question_of<'a, H: Host>(
+    alloc: Global,
+    host: &mut H,
+    query: &Query<'a, &'a str>,
+) -> Result<Query<'a, Vec<u8>>, Fault>
+    ensures question { IfOk result (HandsQuestion (H.known host.old).files query.now) }
+    ensures refused { IfErr result (IsOtherUnread (H.known host.new)) }
+    ensures kept { KeepsAll (H.known host.old) (H.known host.new) }
+{
+    match *query {
+        Query::Check => Ok(Query::Check),
+        Query::Ls => Ok(Query::Ls),
+        Query::Cat { path } => Ok(Query::Cat { path }),
+        Query::Diff { other, size } => Ok(Query::Diff {
+            other: read_other(alloc, host, other)?,
+            size,
+        }),
+        Query::Log => Ok(Query::Log),
     }
 }
 
@@ -230,8 +263,7 @@ pub fn read_input<H: Host>(alloc: Global, host: &mut H) -> Result<Vec<u8>, Fault
 /// The bytes of the file of an image that another is compared with, and one more than an image has where there are more.
 fn read_other<H: Host>(alloc: Global, host: &mut H, name: &str) -> Result<Vec<u8>, Fault>
     ensures bytes { IfOk result (λ bytes. ReadsFile (H.known host.old).files name.now most_image bytes.items) }
-    ensures refused { IfErr result (λ fault. IsUnread (H.known host.new) fault
-        ⊎ ((fault ≡ Other other.CannotRead) × HasRefused (H.known host.new))) }
+    ensures refused { IfErr result (IsOtherUnread (H.known host.new)) }
     ensures kept { KeepsAll (H.known host.old) (H.known host.new) }
 {
     match host.read(alloc, name, MAX_IMAGE_LENGTH) {

@@ -11,11 +11,11 @@ mod storing;
 mod telling;
 
 pub use handing::{
-    Handed, aimed, fault_of_reading, hand_over, read_contents, read_image, read_input, spare,
+    Handed, fault_of_reading, input_of, question_of, read_contents, read_input, spare, taken_up,
 };
 pub use names::{Names, names_of};
 pub use output::Output;
 pub use printing::{flush, print};
-pub use step_kind::{StepKind, kind_of};
+pub use step_kind::{StepKind, kind_of_query, kind_of_steps};
 pub use storing::stored;
 pub use telling::{MORE, tell, tell_of_image};

@@ -1,9 +1,10 @@
 //! What a step is to an image and its journal.
 
 ghost use Rattle.std.specs.Prelude.{◌≡◌};
-ghost use Rattle.lfs_exchange.specs.StepKind.{kind_of};
+ghost use Rattle.lfs_exchange.specs.StepKind.{kind_of_query, kind_of_steps};
 
-use lfs_step::Step;
+use lfs_history::Move;
+use lfs_step::Query;
 
 /// What a step is to an image and its journal.
 ///
@@ -22,18 +23,26 @@ pub enum StepKind {
     Forgets,
 }
 
-/// The kind of a step. Several steps change both files; none at all ask whether there is an image. Takes no memory.
+/// The kind of what is asked. Takes no memory.
 ///
 /// Source: own.
-pub fn kind_of(step: &Step<'_>) -> StepKind
-    ensures { result ≡ kind_of step.now }
+pub fn kind_of_query<O>(query: &Query<'_, O>) -> StepKind
+    ensures { result ≡ kind_of_query query.now }
 {
-    match *step {
-        Step::Format { .. } | Step::Pack { .. } => StepKind::Makes,
-        Step::Check | Step::Ls | Step::Cat { .. } | Step::Diff { .. } => StepKind::Asks,
-        Step::Log => StepKind::Recounts,
-        Step::Forget => StepKind::Forgets,
-        Step::Batch { steps } if steps.is_empty() => StepKind::Asks,
-        _ => StepKind::Changes,
+    match query {
+        Query::Log => StepKind::Recounts,
+        Query::Check | Query::Ls | Query::Cat { .. } | Query::Diff { .. } => StepKind::Asks,
+    }
+}
+
+/// The kind of steps on a history: they change both files; none at all ask whether there is an image. Takes no memory.
+///
+/// Source: own.
+pub fn kind_of_steps(steps: &[Move<'_>]) -> StepKind
+    ensures { result ≡ kind_of_steps steps.now }
+{
+    match steps {
+        [] => StepKind::Asks,
+        [_, ..] => StepKind::Changes,
     }
 }

@@ -11,8 +11,6 @@ pub struct Request<'a> {
     pub task: Task<'a>,
     /// The block size, in bytes.
     pub size: u32,
-    /// How many images of the past are kept behind a command, 1 to 1,000; all of them for `None`. Nothing else looks at it.
-    pub keep: Option<u32>,
     /// Whether a file that is there is not replaced by a new image.
     pub is_new: bool,
     /// Whether the state before commits of a later disk version is gone on with, where such stand in an image, which is refused else.

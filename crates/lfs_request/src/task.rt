@@ -2,16 +2,21 @@
 
 use crate::extent::Extent;
 use lfs_fs::Limits;
-use lfs_step::Step;
+use lfs_history::{Move, Source};
+use lfs_step::Query;
 
-/// What is asked for on an image: a step, where the words say all of it; else what becomes one once digits or a folder of
-/// the host are read, or a folder that is made.
+/// What is asked for on an image, by the names of what is to be read for it.
 ///
 /// Source: own.
-#[derive(Clone, Copy)]
+#[derive(Drop)]
 pub enum Task<'a> {
-    /// A step.
-    Step(Step<'a>),
+    /// A new image of this many blocks with these limits.
+    Format {
+        /// The number of blocks.
+        count: u32,
+        /// The greatest lengths of a name, a file and an attribute.
+        limits: Limits,
+    },
     /// A new image with what is below a folder of the host.
     Pack {
         /// How many blocks it gets.
@@ -26,25 +31,17 @@ pub enum Task<'a> {
         /// The folder's name.
         dir: &'a str,
     },
-    /// An attribute of what is at a path.
-    SetAttr {
-        /// The text of the path.
-        path: &'a [u8],
-        /// The hexadecimal digits of the attribute's kind.
-        kind: &'a str,
-        /// The hexadecimal digits of the attribute's value.
-        value: &'a str,
-    },
-    /// No attribute of a kind of what is at a path.
-    RmAttr {
-        /// The text of the path.
-        path: &'a [u8],
-        /// The hexadecimal digits of the attribute's kind.
-        kind: &'a str,
-    },
+    /// What is asked of the image; another image is there by the name of its file.
+    Ask(Query<'a, &'a str>),
+    /// The image alone, and no change that led to it or was taken back.
+    Forget,
+    /// A step on the image's history.
+    Change(Move<'a, Source<'a>>),
     /// The steps of a script, one after another: all of them or none.
     Batch {
         /// The name of the script's file; standard input where there is none.
         file: Option<&'a str>,
+        /// How many images of the past are kept behind each command, 1 to 1,000; all of them for `None`.
+        keep: Option<u32>,
     },
 }

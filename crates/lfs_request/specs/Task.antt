@@ -1,0 +1,16 @@
+-- What a task asks for that its caller owes (own).
+use Rattle.std.specs.Prelude.{⊤}
+use Rattle.lfs_fs.specs.Superblock.{IsLimits}
+use Rattle.lfs_history.specs.Taking.{MayKeep}
+use Rattle.lfs_history.specs.declared.moves.Move.TheVariants.{Do}
+use Rattle.lfs_request.specs.declared.task.Task.{Task}
+use Rattle.lfs_request.specs.declared.task.Task.TheVariants.{Format, Pack, Change, Batch}
+
+-- what a task asks for is in range: the limits of an image that it makes are such that an image may have, and what it keeps behind a
+-- command may be kept
+abbrev pub IsTaskInRange : Task → Type 0
+IsTaskInRange (Format count limits) = IsLimits limits
+IsTaskInRange (Pack extent limits dir) = IsLimits limits
+IsTaskInRange (Change (Do command keep)) = MayKeep keep
+IsTaskInRange (Batch file keep) = MayKeep keep
+IsTaskInRange _ = ⊤
