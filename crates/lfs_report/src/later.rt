@@ -5,7 +5,7 @@ ghost use Rattle.std.specs.Prelude.{◌≡◌};
 use crate::line::say_version;
 use lfs_host::Host;
 use lfs_request::{Request, Task};
-use lfs_step::Step;
+use lfs_step::Query;
 
 /// The disk versions of commits that aren't read, where such stand in an image, and in the one that it is compared with.
 ///
@@ -27,8 +27,8 @@ pub fn tell_later<H: Host>(host: &mut H, request: &Request<'_>, later: Later)
     if let Some(version) = later.image {
         tell_version(host, request.image, version);
     }
-    if let (Some(version), Task::Step(Step::Diff { other, .. })) = (later.other, request.task) {
-        tell_version(host, other, version);
+    if let (Some(version), Task::Ask(Query::Diff { other, .. })) = (later.other, &request.task) {
+        tell_version(host, *other, version);
     }
 }
 

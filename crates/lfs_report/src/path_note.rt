@@ -1,15 +1,16 @@
-//! What is told of the path for which a step is refused.
+//! What is told of the path for which a task is refused.
 
 use crate::finding::Finding;
-use crate::step_paths::StepPaths;
+use crate::task_paths::TaskPaths;
 use lfs_change::Place;
-use lfs_command::names_of;
+use lfs_command::{Command, names_of};
 use lfs_edit::Refusal;
 use lfs_fs::Limits;
-use lfs_step::Step;
+use lfs_history::Move;
+use lfs_request::Task;
 use std::alloc::Global;
 
-/// A front of a step's path, by the length of its text.
+/// A front of a task's path, by the length of its text.
 #[derive(Clone, Copy)]
 pub struct Front {
     /// Whether it is of the path that something is moved to.
@@ -18,7 +19,7 @@ pub struct Front {
     pub len: usize,
 }
 
-/// What is told of a front of a step's path.
+/// What is told of a front of a task's path.
 #[derive(Clone, Copy)]
 pub struct PathNote {
     /// The front.
@@ -27,31 +28,31 @@ pub struct PathNote {
     pub finding: Finding,
 }
 
-/// What is told of the path for which a step is refused at a place, where the refusal is of a path. Takes memory.
+/// What is told of the path for which a task is refused at a place, where the refusal is of a path. Takes memory.
 pub(crate) fn note_of(
     alloc: Global,
-    step: &Step<'_>,
+    task: &Task<'_>,
     refusal: Refusal,
     place: Option<Place>,
 ) -> Option<PathNote> {
-    let paths = StepPaths::of(step)?;
+    let paths = TaskPaths::of(task)?;
     match refusal {
         Refusal::BadPath => Some(PathNote {
             front: bad_front(alloc, paths)?,
             finding: Finding::NoPath,
         }),
-        refusal => note_at(step, paths, refusal, place?),
+        refusal => note_at(task, paths, refusal, place?),
     }
 }
 
 /// What is told of it, where its texts are paths.
 fn note_at(
-    step: &Step<'_>,
-    paths: StepPaths<'_>,
+    task: &Task<'_>,
+    paths: TaskPaths<'_>,
     refusal: Refusal,
     place: Place,
 ) -> Option<PathNote> {
-    let finding = present_as(paths, place, finding_of(step, refusal, place.limits)?);
+    let finding = present_as(paths, place, finding_of(task, refusal, place.limits)?);
     Some(PathNote {
         front: front_of(paths, place, finding),
         finding,
@@ -59,7 +60,7 @@ fn note_at(
 }
 
 /// What a refusal says of a path.
-fn finding_of(step: &Step<'_>, refusal: Refusal, limits: Limits) -> Option<Finding> {
+fn finding_of(task: &Task<'_>, refusal: Refusal, limits: Limits) -> Option<Finding> {
     match refusal {
         Refusal::NotFound => Some(Finding::Missing),
         Refusal::Exists => Some(Finding::Present),
@@ -69,8 +70,13 @@ fn finding_of(step: &Step<'_>, refusal: Refusal, limits: Limits) -> Option<Findi
         Refusal::NameTooLong => Some(Finding::LongName(limits.name)),
         Refusal::FileTooLarge => Some(Finding::LongFile(limits.file)),
         Refusal::AttrTooLarge => Some(Finding::LongValue(limits.attribute)),
-        Refusal::NoAttr => match *step {
-            Step::RmAttr { kind, .. } => Some(Finding::NoAttribute(kind)),
+        Refusal::NoAttr => match task {
+            Task::Change(
+                Move::Do {
+                    command: Command::RmAttr { kind, .. },
+                    ..
+                },
+            ) => Some(Finding::NoAttribute(*kind)),
             _ => None,
         },
         Refusal::IntoItself => Some(Finding::IntoItself),
@@ -81,7 +87,7 @@ fn finding_of(step: &Step<'_>, refusal: Refusal, limits: Limits) -> Option<Findi
 }
 
 /// What is said of what is there already: that it is a directory, where something else is to be moved in its place.
-fn present_as(paths: StepPaths<'_>, place: Place, finding: Finding) -> Finding {
+fn present_as(paths: TaskPaths<'_>, place: Place, finding: Finding) -> Finding {
     match (finding, paths.target) {
         (Finding::Present, Some(target)) if target != paths.path && place.is_directory => {
             Finding::PresentDirectory
@@ -90,8 +96,8 @@ fn present_as(paths: StepPaths<'_>, place: Place, finding: Finding) -> Finding {
     }
 }
 
-/// The front of a step's path that a finding is of.
-fn front_of(paths: StepPaths<'_>, place: Place, finding: Finding) -> Front {
+/// The front of a task's path that a finding is of.
+fn front_of(paths: TaskPaths<'_>, place: Place, finding: Finding) -> Front {
     match finding {
         Finding::Missing => paths.front(place.is_of_target, place.names.saturating_add(1)),
         Finding::File => paths.front(place.is_of_target, place.names),
@@ -102,8 +108,8 @@ fn front_of(paths: StepPaths<'_>, place: Place, finding: Finding) -> Front {
     }
 }
 
-/// The text of a step that is no path: the first one, where it isn't one.
-fn bad_front(alloc: Global, paths: StepPaths<'_>) -> Option<Front> {
+/// The text of a task that is no path: the first one, where it isn't one.
+fn bad_front(alloc: Global, paths: TaskPaths<'_>) -> Option<Front> {
     match names_of(alloc, paths.path) {
         Ok(_) => Some(paths.last()),
         Err(Refusal::BadPath) => Some(paths.first()),

@@ -3,14 +3,16 @@
 ghost use Rattle.std.specs.Prelude.{◌≡◌};
 
 use crate::path_note::{PathNote, note_of};
+use crate::seen::Seen;
 use crate::stated::{Sight, Statement, statement_for};
 use crate::stop::Stop;
 use crate::superblock::superblock_statement;
 use lfs_block::{Blocks, Image, MountFault};
 use lfs_book::Journal;
 use lfs_change::KeptJournal;
-use lfs_history::StepFault;
-use lfs_step::{Fault, Outcome, Step};
+use lfs_history::{Move, StepFault};
+use lfs_request::{Request, Task};
+use lfs_step::{Fault, Outcome};
 use std::alloc::Global;
 
 /// Why bytes were refused as an image of blocks of `size` bytes, with what they state. Takes no memory.
@@ -27,44 +29,38 @@ pub fn stop_of_image(fault: Fault, size: u32, bytes: &[u8]) -> Stop
     }
 }
 
-/// Why a step that was run on blocks of `size` bytes ended early, with what its image states, what is known of its path there, or what its
-/// journal has; `other` is what is seen of the image that the first is compared with. Takes memory, and tells of nothing more where it is
-/// refused.
+/// Why a step that was run for a request ended early, with what its image states, what is known of its path there, or what its journal
+/// has; `seen` is what was seen of the step before. Takes memory, and tells of nothing more where it is refused.
 ///
 /// Source: own.
 pub fn stop_of_run(
     alloc: Global,
-    size: u32,
-    step: &Step<'_>,
+    request: &Request<'_>,
     fault: Fault,
     outcome: Outcome,
-    other: Sight,
+    seen: Seen,
 ) -> Stop
     ensures fault { result.fault ≡ fault }
     ensures at { result.at ≡ outcome.at }
 {
-    let count = count_of(size, step, &outcome.image);
+    let size = request.size;
+    let count = seen.count.or(blocks_in(size, &outcome.image));
     let at = outcome.at;
     let statement = match fault {
-        Fault::Step(fault) => changes_statement(alloc, step, fault, outcome.journal),
-        Fault::Refused(refusal) => path_statement(note_of(alloc, step, refusal, outcome.place)),
-        fault => statement_of_run(alloc, size, fault, outcome.image, other),
+        Fault::Step(fault) => changes_statement(alloc, &request.task, fault, outcome.journal),
+        Fault::Refused(refusal) => path_statement(note_of(
+            alloc,
+            &request.task,
+            refusal,
+            outcome.place,
+        )),
+        fault => statement_of_run(alloc, size, fault, outcome.image, seen.other),
     };
     Stop {
         fault,
         statement,
         count,
         at,
-    }
-}
-
-/// What is seen of the image that another is compared with, of which a step reads these bytes. Takes no memory.
-///
-/// Source: own.
-pub fn other_sight(step: &Step<'_>, input: &[u8]) -> Sight {
-    match *step {
-        Step::Diff { size, .. } => Sight::of(size, input),
-        _ => Sight::none(),
     }
 }
 
@@ -120,14 +116,14 @@ fn statement_of_bytes(
     }
 }
 
-/// How many changes a journal has that are done, or undone, where a step asks for several and there are fewer.
+/// How many changes a journal has that are done, or undone, where a task asks for several and there are fewer.
 fn changes_statement(
     alloc: Global,
-    step: &Step<'_>,
+    task: &Task<'_>,
     fault: StepFault,
     journal: KeptJournal,
 ) -> Option<Statement> {
-    let (Step::Undo { steps: 2.. } | Step::Redo { steps: 2.. }) = *step else {
+    let Task::Change(Move::Undo { steps: 2.. } | Move::Redo { steps: 2.. }) = task else {
         return None;
     };
     let bytes = journal.into_bytes(alloc)?;
@@ -149,14 +145,6 @@ fn path_statement(note: Option<PathNote>) -> Option<Statement> {
     match note {
         Some(note) => Some(Statement::Path(note)),
         None => None,
-    }
-}
-
-/// How many blocks an image has or would get.
-fn count_of(size: u32, step: &Step<'_>, bytes: &[u8]) -> Option<usize> {
-    match *step {
-        Step::Format { count, .. } | Step::Pack { count, .. } => Some(count as usize),
-        _ => blocks_in(size, bytes),
     }
 }
 

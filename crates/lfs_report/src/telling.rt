@@ -11,18 +11,19 @@ use crate::line::{Piece, say, say_blocks, say_version, say_words};
 use crate::no_path::tell_no_path;
 use crate::path_note::PathNote;
 use crate::stated::{Stated, StatedPlace, Statement};
-use crate::step_paths::StepPaths;
 use crate::stop::Stop;
-use crate::told_digits::tell_digits;
+use crate::task_paths::TaskPaths;
 use crate::told_line::ToldLine;
 use lfs_block::{BLOCK_SIZE_STEP, ImageFault, MAX_IMAGE_LENGTH};
 use lfs_change::OtherFault;
+use lfs_command::Command;
 use lfs_edit::Refusal;
 use lfs_exchange::tell_of_image;
+use lfs_history::Move;
 use lfs_host::Host;
 use lfs_later::StatedVersion;
 use lfs_request::{Request, Task};
-use lfs_step::{Fault, Step};
+use lfs_step::{Fault, Query};
 use lfs_texts::Flaw;
 
 /// The least number of blocks of an image.
@@ -64,7 +65,6 @@ fn tell_of<H: Host>(host: &mut H, request: &Request<'_>, stop: &Stop, text: &[u8
         Fault::Image(ImageFault::BadGeometry) => tell_limit(host, request, stop.count),
         Fault::HostEntry => tell_entry(host, request),
         Fault::Refused(Refusal::BadCount) => tell_bad_count(host, request, stop.count),
-        Fault::BadHex => tell_digits(host, &request.task),
         _ => {}
     }
     if let Some(statement) = stop.statement {
@@ -89,11 +89,11 @@ fn tell_entry<H: Host>(host: &mut H, request: &Request<'_>)
 fn tell_bad_count<H: Host>(host: &mut H, request: &Request<'_>, count: Option<usize>)
     ensures kept { H.known host.new ≡ H.known host.old }
 {
-    let (Task::Step(Step::Grow { count: wanted }), Some(count)) = (request.task, count) else {
+    let (Some(wanted), Some(count)) = (wanted_by(&request.task), count) else {
         return;
     };
-    if wanted as usize > count {
-        tell_count(host, request.image, wanted as usize, request.size);
+    if wanted > count {
+        tell_count(host, request.image, wanted, request.size);
         return;
     }
     say(
@@ -105,6 +105,19 @@ fn tell_bad_count<H: Host>(host: &mut H, request: &Request<'_>, count: Option<us
             Piece::Text(" blocks; grow only lengthens"),
         ],
     );
+}
+
+/// How many blocks a task asks for that lengthens an image.
+fn wanted_by(task: &Task<'_>) -> Option<usize> {
+    match task {
+        Task::Change(
+            Move::Do {
+                command: Command::Grow { count },
+                ..
+            },
+        ) => Some(*count as usize),
+        _ => None,
+    }
 }
 
 /// Tells which limit of a geometry isn't kept.
@@ -173,11 +186,11 @@ fn tell_wrong_count<H: Host>(host: &mut H, image: &str, count: usize, size: u32)
     );
 }
 
-/// Tells what is known of a step's path.
+/// Tells what is known of a task's path.
 fn tell_note<H: Host>(host: &mut H, request: &Request<'_>, note: PathNote)
     ensures kept { H.known host.new ≡ H.known host.old }
 {
-    let Some(paths) = StepPaths::of_task(&request.task) else {
+    let Some(paths) = TaskPaths::of(&request.task) else {
         return;
     };
     let path = paths.text(note.front);
@@ -251,7 +264,7 @@ fn tell_line<H: Host>(
 )
     ensures kept { H.known host.new ≡ H.known host.old }
 {
-    if let Task::Batch { file } = request.task {
+    if let Task::Batch { file, .. } = request.task {
         host.complain(ToldLine {
             script: file.unwrap_or("standard input"),
             number,
@@ -405,8 +418,8 @@ fn tell_changes<H: Host>(host: &mut H, request: &Request<'_>, count: usize)
     ensures kept { H.known host.new ≡ H.known host.old }
 {
     let (said, steps) = match request.task {
-        Task::Step(Step::Undo { steps }) => ("changes that are done: ", steps as usize),
-        Task::Step(Step::Redo { steps }) => ("changes that are undone: ", steps as usize),
+        Task::Change(Move::Undo { steps }) => ("changes that are done: ", steps as usize),
+        Task::Change(Move::Redo { steps }) => ("changes that are undone: ", steps as usize),
         _ => return,
     };
     say(
@@ -442,7 +455,7 @@ fn tell_new_image<H: Host>(host: &mut H, image: &str)
 /// The name of the image that a fault is of.
 fn told_of<'a>(request: &Request<'a>, fault: Fault) -> &'a str {
     match request.task {
-        Task::Step(Step::Diff { other, .. }) if is_of_other(fault) => other,
+        Task::Ask(Query::Diff { other, .. }) if is_of_other(fault) => other,
         _ => request.image,
     }
 }
@@ -454,7 +467,7 @@ fn is_of_other(fault: Fault) -> bool {
 
 /// Whether two images are compared.
 fn compares(request: &Request<'_>) -> bool {
-    matches!(request.task, Task::Step(Step::Diff { .. }))
+    matches!(request.task, Task::Ask(Query::Diff { .. }))
 }
 
 /// Whether a fault is of an image, and not of the host.

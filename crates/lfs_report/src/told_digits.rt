@@ -1,30 +1,24 @@
 //! What is told of digits that spell nothing.
 
-ghost use Rattle.std.specs.Prelude.{◌≡◌};
+ghost use Rattle.std.specs.Prelude.{◌≡◌, Some};
+ghost use Rattle.lfs_change.specs.Fault.{status_of};
+ghost use Rattle.lfs_change.specs.declared.fault.Fault.TheVariants.{BadHex};
 
 use crate::line::{Piece, say};
+use lfs_exchange::tell;
 use lfs_host::Host;
-use lfs_request::Task;
-use lfs_texts::{Reason, byte_of};
+use lfs_step::Fault;
+use lfs_texts::Reason;
 
-/// Tells which word isn't the digits of an attribute's kind or value.
-pub(crate) fn tell_digits<H: Host>(host: &mut H, task: &Task<'_>)
+/// Tells that the digits of an attribute's kind or value spell nothing, and which word of a command they are; answers the status. Takes
+/// no memory.
+///
+/// Source: own.
+pub fn tell_digits<'a, H: Host>(host: &mut H, command: &str, reason: Reason, word: &'a str) -> u8
+    ensures status { result ≡ status_of (Some BadHex) }
     ensures kept { H.known host.new ≡ H.known host.old }
 {
-    match *task {
-        Task::RmAttr { kind, .. } => tell_word(host, "rmattr", Reason::BadKind, kind),
-        Task::SetAttr { kind, .. } if byte_of(kind.as_bytes()).is_none() => {
-            tell_word(host, "setattr", Reason::BadKind, kind);
-        }
-        Task::SetAttr { value, .. } => tell_word(host, "setattr", Reason::BadValue, value),
-        _ => {}
-    }
-}
-
-/// Tells what is wrong with a word of a command.
-fn tell_word<'a, H: Host>(host: &mut H, command: &str, reason: Reason, word: &'a str)
-    ensures kept { H.known host.new ≡ H.known host.old }
-{
+    let status = tell(host, Fault::BadHex);
     say(
         host,
         command,
@@ -34,4 +28,5 @@ fn tell_word<'a, H: Host>(host: &mut H, command: &str, reason: Reason, word: &'a
             Piece::Bytes(word.as_bytes()),
         ],
     );
+    status
 }

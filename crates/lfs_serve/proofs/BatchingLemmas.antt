@@ -1,5 +1,6 @@
 -- The steps of a script, and how they end.
-use Rattle.std.proofs.Common.{◌≡◌, ◌⊎◌, ◌<◌, ◌+◌, ℕ, Bor, Bool, List, [], ◌∷◌, ◌++◌, Option, get_or, length, map, take, refl, sym, ap, ap₂, subst, ◌∙◌, arith, inl, inr}
+use Rattle.std.proofs.Common.{◌≡◌, ◌⊎◌, ◌<◌, ◌+◌, ℕ, Bor, Bool, List, [], ◌∷◌, ◌++◌, Option}
+use Rattle.std.proofs.Common.{get_or, length, map, take, refl, sym, ap, ap₂, subst, ◌∙◌, arith, inl, inr}
 use Rattle.std.proofs.lemmas.List.{append-nil, append_assoc, length-take-le, map-append, take_more}
 use Rattle.std.specs.Global.{Vec}
 use Rattle.std.specs.List.{AllByRecursion, AllZip}
@@ -17,11 +18,12 @@ use Rattle.lfs_exchange.specs.Handing.{IsUnread}
 use Rattle.lfs_texts.specs.Steps.{Keeps}
 use Rattle.lfs_texts.specs.declared.script_line.ScriptLine.{ScriptLine}
 use Rattle.lfs_request.specs.declared.task.Task.TheVariants as task
-use Rattle.lfs_step.specs.declared.step.Step.{Step}
-use Rattle.lfs_step.specs.declared.step.Step.TheVariants.{Batch}
-use Rattle.lfs_serve.specs.Batching.{BecomesNoBatch, HandsLine, LinesKeep, MeansMove, ReadsScript, SaysNoSteps, TakesLines, TakesText, move_said, moves_said}
-use Rattle.lfs_serve.specs.Program.{EndsAs, EndsStep, EndsTask}
-use Rattle.lfs_serve.proofs.StepLemmas.{batch_from}
+use Rattle.lfs_step.specs.declared.step.Step.TheVariants.{Change}
+use Rattle.lfs_exchange.specs.StepKind.{kind_of_steps}
+use Rattle.lfs_serve.specs.Batching.{BecomesBatch, BecomesNoBatch, HandsLine, KeepInRange, LinesKeep, MeansMove, ReadsScript, SaysNoSteps, TakesLines, TakesText, move_said, moves_said}
+use Rattle.lfs_serve.specs.Lines.{EndsLines}
+use Rattle.lfs_serve.specs.Program.{EndsTask}
+use Rattle.lfs_serve.proofs.StepLemmas.{step_from}
 
 -- ---- lines that are read
 
@@ -85,70 +87,96 @@ said_in_range (Undo steps) read keep may is = tt
 said_in_range (Redo steps) read keep may is = tt
 said_in_range Forget read keep may is = tt
 
-all_said_in_range : (keep : Option ℕ) (lines : List ScriptLine) (read : List (Vec ℕ)) → MayKeep keep → LinesKeep keep lines
-    → AllByRecursion KeepsInRange (moves_said lines read)
-all_said_in_range keep [] read may keeps = tt
-all_said_in_range keep (line ∷ lines) [] may keeps = tt
-all_said_in_range keep (line ∷ lines) (one ∷ read) may keeps =
-    (said_in_range line.step one.items keep may keeps.0, all_said_in_range keep lines read may keeps.1)
+pub lines_in_range : (keep : Option ℕ) (lines : List ScriptLine) → MayKeep keep → LinesKeep keep lines → KeepInRange lines
+lines_in_range keep [] may keeps = tt
+lines_in_range keep (line ∷ lines) may keeps =
+    (λ read. said_in_range line.step read keep may keeps.0, lines_in_range keep lines may keeps.1)
+
+all_said_in_range : (lines : List ScriptLine) (read : List (Vec ℕ)) → KeepInRange lines → AllByRecursion KeepsInRange (moves_said lines read)
+all_said_in_range [] read keeps = tt
+all_said_in_range (line ∷ lines) [] keeps = tt
+all_said_in_range (line ∷ lines) (one ∷ read) keeps = (keeps.0 one.items, all_said_in_range lines read keeps.1)
 
 in_range_of : (moves : List OnBytes) → AllByRecursion KeepsInRange (map step_of moves) → AllByRecursion (λ m. KeepsInRange (step_of m)) moves
 in_range_of [] all = tt
 in_range_of (m ∷ moves) all = (all.0, in_range_of moves all.1)
 
-pub all_in_range : (keep : Option ℕ) (lines : List ScriptLine) (read : List (Vec ℕ)) (moves : List OnBytes) → MayKeep keep
-    → LinesKeep keep lines → map step_of moves ≡ moves_said lines read → AllByRecursion (λ m. KeepsInRange (step_of m)) moves
-all_in_range keep lines read moves may keeps same =
-    in_range_of moves (subst (AllByRecursion KeepsInRange) (sym same) (all_said_in_range keep lines read may keeps))
+pub all_in_range : (lines : List ScriptLine) (read : List (Vec ℕ)) (moves : List OnBytes) → KeepInRange lines
+    → map step_of moves ≡ moves_said lines read → AllByRecursion (λ m. KeepsInRange (step_of m)) moves
+all_in_range lines read moves keeps same =
+    in_range_of moves (subst (AllByRecursion KeepsInRange) (sym same) (all_said_in_range lines read keeps))
 
 -- the steps that are taken are those of the lines
-pub takes_lines : (files : Option Files) (lines : List ScriptLine) (read : List (Vec ℕ)) (steps : Bor (List OnBytes)) (moves : List OnBytes)
-    → AllZip (HandsLine files) lines read → map step_of moves ≡ moves_said lines read → steps.now ≡ moves → TakesLines files lines (Batch steps)
+pub takes_lines : (files : Option Files) (lines : List ScriptLine) (read : List (Vec ℕ)) (steps moves : List OnBytes)
+    → AllZip (HandsLine files) lines read → map step_of moves ≡ moves_said lines read → steps ≡ moves
+    → TakesLines files lines (map step_of steps)
 takes_lines files lines read steps moves zips same are =
     subst (AllZip (MeansMove files) lines) (sym (ap (map step_of) are ∙ same)) (all_mean files lines read zips)
+
+-- their kind is that of what they ask for
+pub same_kind : (steps : List OnBytes) → kind_of_steps steps ≡ kind_of_steps (map step_of steps)
+same_kind [] = refl
+same_kind (step ∷ steps) = refl
 
 -- ---- how they end
 
 -- by another becoming, another cause and the fault that is known
-pub ends_by : (a b : Step → Type 0) (why because : Fault → Type 0) (older : Bool) (size : ℕ) (keep : Option ℕ) (name : List ℕ) (old new : Scene)
-    (ended fault : Option Fault) → ended ≡ fault → ((step : Step) → a step → b step) → ((f : Fault) → why f → because f)
-    → EndsAs a why older size keep name old new fault → EndsAs b because older size keep name old new ended
-ends_by a b why because older size keep name old new ended fault is turn cause ends =
-    subst (EndsAs b because older size keep name old new) (sym is) (
+pub ends_by : (a b : List change.Move → Type 0) (why because : Fault → Type 0) (older : Bool) (size : ℕ) (name : List ℕ) (old new : Scene)
+    (ended fault : Option Fault) → ended ≡ fault → ((moves : List change.Move) → a moves → b moves) → ((f : Fault) → why f → because f)
+    → EndsLines a why older size name old new fault → EndsLines b because older size name old new ended
+ends_by a b why because older size name old new ended fault is turn cause ends =
+    subst (EndsLines b because older size name old new) (sym is) (
     elim ends [
-      | inl did ↦ inl (did.0, turn did.0 did.1, did.2)
-      | inr not ↦ inr (not.0, (not.1.0, not.1.1, cause not.1.0 not.1.2))
+      | inl did ↦ inl (did.0, turn (map step_of did.0.now) did.1, did.2)
+      | inr not ↦
+          inr (
+            not.0,
+            (
+              not.1.0,
+              not.1.1,
+              elim not.1.2 [
+                | inl none ↦ inl (cause not.1.0 none)
+                | inr apart ↦ inr (apart.0, turn apart.0 apart.1, apart.2)
+              ],
+            ),
+          )
     ]
     )
 
--- a batch on the scene behind the reading of its script
-from_mid : (files : Option Files) (keep : Option ℕ) (text : List ℕ) (older : Bool) (size : ℕ) (name : List ℕ) (mid old new : Scene) (fault : Option Fault)
-    (step : Step) → KeepsScene old mid → TakesText files keep text step → EndsStep step older size keep name mid new fault
-    → EndsStep step older size keep name old new fault
-from_mid files keep text older size name mid old new fault (Batch steps) kept (lines, says, keeps, batch) ends =
-    batch_from steps older size keep name mid old new fault kept ends
-from_mid files keep text older size name mid old new fault _ kept (lines, says, keeps, none) ends = absurd none
+-- why a script becomes no steps
+no_batch : (file : Option (Bor (List ℕ))) (text : List ℕ) (old new : Scene) (why : Fault) → ReadsScript file old text
+    → IsUnread new why ⊎ SaysNoSteps text why → BecomesNoBatch file old new why
+no_batch file text old new why reads (inl unread) = inl unread
+no_batch file text old new why reads (inr says) = inr (text, reads, says)
 
-pub script_ends : (file : Option (Bor (List ℕ))) (text : List ℕ) (older : Bool) (size : ℕ) (keep : Option ℕ) (name : List ℕ) (old mid new : Scene)
+-- the steps that a text says on the scene behind its reading
+from_mid : (file : Option (Bor (List ℕ))) (text : List ℕ) (keep : Option ℕ) (old mid : Scene) (moves : List change.Move) → ReadsScript file old text
+    → mid.files ≡ old.files → TakesText mid.files keep text moves → BecomesBatch file keep old moves
+from_mid file text keep old mid moves reads files takes = (text, reads, subst (λ (f : Option Files). TakesText f keep text moves) files takes)
+
+pub script_ends : (file : Option (Bor (List ℕ))) (text : List ℕ) (keep : Option ℕ) (older : Bool) (size : ℕ) (name : List ℕ) (old mid new : Scene)
     (ended fault : Option Fault) → ended ≡ fault → ReadsScript file old text → KeepsScene old mid
-    → EndsAs (TakesText mid.files keep text) (λ why. IsUnread new why ⊎ SaysNoSteps text why) older size keep name mid new fault
-    → EndsTask (task.Batch file) older size keep name old new ended
-script_ends file text older size keep name old mid new ended fault is reads kept ends =
-    subst (EndsTask (task.Batch file) older size keep name old new) (sym is) (
+    → EndsLines (TakesText mid.files keep text) (λ why. IsUnread new why ⊎ SaysNoSteps text why) older size name mid new fault
+    → EndsTask (task.Batch file keep) older size name old new ended
+script_ends file text keep older size name old mid new ended fault is reads kept ends =
+    subst (EndsTask (task.Batch file keep) older size name old new) (sym is) (
     elim ends [
       | inl did ↦ inl (
-        did.0,
-        (text, reads, subst (λ (f : Option Files). TakesText f keep text did.0) kept.0 did.1),
-        from_mid mid.files keep text older size name mid old new fault did.0 kept did.1 did.2,
+        Change did.0,
+        from_mid file text keep old mid (map step_of did.0.now) reads kept.0 did.1,
+        step_from (Change did.0) older size name mid old new fault kept.0 kept.1 did.2,
       )
-      | inr not ↦ inr (
-        (not.0.0 ∙ kept.0, not.0.1 ∙ kept.1),
-        (not.1.0, not.1.1, no_batch file text old new not.1.0 reads not.1.2),
-      )
+      | inr not ↦
+          inr (
+            (not.0.0 ∙ kept.0, not.0.1 ∙ kept.1),
+            (
+              not.1.0,
+              not.1.1,
+              elim not.1.2 [
+                | inl none ↦ inl (no_batch file text old new not.1.0 reads none)
+                | inr apart ↦ inr (kind_of_steps apart.0, (apart.0, from_mid file text keep old mid apart.0 reads kept.0 apart.1, refl), apart.2)
+              ],
+            ),
+          )
     ]
     )
-  where
-    no_batch : (file : Option (Bor (List ℕ))) (text : List ℕ) (old new : Scene) (why : Fault) → ReadsScript file old text
-        → IsUnread new why ⊎ SaysNoSteps text why → BecomesNoBatch file old new why
-    no_batch file text old new why reads (inl unread) = inl unread
-    no_batch file text old new why reads (inr says) = inr (text, reads, says)

@@ -9,15 +9,16 @@ use Rattle.lfs_change.specs.declared.fault.Fault.{Fault}
 use Rattle.lfs_change.specs.declared.fault.Fault.TheVariants.{Image, Refused, CannotRead, HostEntry}
 use Rattle.lfs_extract.specs.declared.extract_fault.ExtractFault.{ExtractFault}
 use Rattle.lfs_extract.specs.declared.extract_fault.ExtractFault.TheVariants.{Memory, HostName, CannotWrite}
-use Rattle.lfs_host.specs.Files.{IsTarget, ReadsFile}
+use Rattle.lfs_host.specs.Files.{Files, ReadsFile}
 use Rattle.lfs_host.specs.HostTree.{HostTree}
 use Rattle.lfs_host.specs.NewFolder.{Made}
 use Rattle.lfs_host.specs.Scene.{HasRefused, KeepsScene, Notes, Scene, refuses_reading}
 use Rattle.lfs_host.specs.declared.read_fault.ReadFault.{ReadFault}
 use Rattle.lfs_host.specs.declared.read_fault.ReadFault.TheVariants as reading
 use Rattle.lfs_step.specs.Query.{HasMount}
-use Rattle.lfs_exchange.specs.Handing.{IsUnfound, IsUnread, fault_of_reading, most_image}
-use Rattle.lfs_serve.proofs.StepLemmas.{reads_target}
+use Rattle.lfs_exchange.specs.declared.step_kind.StepKind.{StepKind}
+use Rattle.lfs_exchange.specs.declared.step_kind.StepKind.TheVariants.{Asks}
+use Rattle.lfs_exchange.specs.Handing.{HandsImage, IsNotTakenUp, IsUnfound, IsUnread, fault_of_reading, most_image}
 use Rattle.lfs_serve.specs.Later.{later_alone, refused_by}
 use Rattle.lfs_serve.specs.Extracting.{EndsBytes, EndsExtract, EndsMaking, FindsFolder, MakesRows, StopsMaking, fault_of_extracting}
 
@@ -71,28 +72,38 @@ bytes_end size bytes d dir tree old new ended fault is size_is bytes_are told en
     let by_bytes = subst (λ (bs : List ℕ). EndsBytes size bs dir tree old new fault) bytes_are by_size in
     subst (EndsBytes size bytes dir tree old new) (sym told) by_bytes
 
--- what is made of the bytes of the file that a name leads to
-pub file_ends : (older : Bool) (size : ℕ) (name target dir bytes : List ℕ) (old mid new : Scene) (ended : Option Fault) → IsTarget old.files name target
-    → ReadsFile old.files target most_image bytes → mid.tree ≡ old.tree → mid.made ≡ old.made → KeepsScene old new
+-- what is made of the bytes of a file
+pub file_ends : (older : Bool) (size : ℕ) (name dir bytes : List ℕ) (old mid new : Scene) (ended : Option Fault)
+    → ReadsFile old.files name most_image bytes → mid.tree ≡ old.tree → mid.made ≡ old.made → KeepsScene old new
     → refused_by older (later_alone size bytes) ≡ None → EndsBytes size bytes dir mid.tree mid.made new ended
     → EndsExtract older size name dir old new ended
-file_ends older size name target dir bytes old mid new ended leads reads tree_is made_is keeps none ends =
+file_ends older size name dir bytes old mid new ended reads tree_is made_is keeps none ends =
     let by_tree = subst (λ (t : Option HostTree). EndsBytes size bytes dir t mid.made new ended) tree_is ends in
     let by_made = subst (λ (before : Option (List Made)). EndsBytes size bytes dir old.tree before new ended) made_is by_tree in
-    (keeps, inr (bytes, reads_target old.files name target bytes most_image leads reads, inr (none, by_made)))
+    (keeps, inr (bytes, reads, inr (none, by_made)))
 
 -- nothing is made of an image that is refused for a commit of a later version
-pub file_later : (older : Bool) (size : ℕ) (name target dir bytes : List ℕ) (old new : Scene) (ended : Option Fault) (fault : Fault) → IsTarget old.files name target
-    → ReadsFile old.files target most_image bytes → KeepsScene old new → new.made ≡ old.made → ended ≡ Some fault
+pub file_later : (older : Bool) (size : ℕ) (name dir bytes : List ℕ) (old new : Scene) (ended : Option Fault) (fault : Fault)
+    → ReadsFile old.files name most_image bytes → KeepsScene old new → new.made ≡ old.made → ended ≡ Some fault
     → refused_by older (later_alone size bytes) ≡ Some fault → EndsExtract older size name dir old new ended
-file_later older size name target dir bytes old new ended fault leads reads keeps made_is is refused =
-    (keeps, inr (bytes, reads_target old.files name target bytes most_image leads reads, inl (made_is, (fault, is, refused))))
+file_later older size name dir bytes old new ended fault reads keeps made_is is refused =
+    (keeps, inr (bytes, reads, inl (made_is, (fault, is, refused))))
 
--- a file that isn't found isn't read
-pub unfound_unread : (new : Scene) (name : List ℕ) (fault : Fault) → IsUnfound new name fault → IsUnread new fault
+-- what is handed of a file that is asked is what is read of it
+pub asked_read : (kind : StepKind) (files old : Option Files) (name image : List ℕ) → kind ≡ Asks → files ≡ old → HandsImage kind files name image
+    → ReadsFile old name most_image image
+asked_read kind files old name image is same hands =
+    subst (λ (f : Option Files). ReadsFile f name most_image image) same (subst (λ (k : StepKind). HandsImage k files name image) is hands)
+
+-- a file that isn't taken up isn't read
+unfound_unread : (new : Scene) (name : List ℕ) (fault : Fault) → IsUnfound new name fault → IsUnread new fault
 unfound_unread new name CannotRead unfound = unfound.0
 unfound_unread new name (Refused refusal) unfound = unfound
 unfound_unread new name _ unfound = absurd unfound
+
+pub not_taken_unread : (new : Scene) (name : List ℕ) (fault : Fault) → IsNotTakenUp Asks new name fault → IsUnread new fault
+not_taken_unread new name fault (inl unfound) = unfound_unread new name fault unfound
+not_taken_unread new name fault (inr unread) = unread
 
 -- nor of a file that isn't read
 pub file_unread : (older : Bool) (size : ℕ) (name dir : List ℕ) (old new : Scene) (ended : Option Fault) (fault : Fault) → KeepsScene old new

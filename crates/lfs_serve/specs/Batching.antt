@@ -1,7 +1,7 @@
 -- The steps of a script, which are taken all or not at all (own).
 use Rattle.std.specs.Borrow.{Bor}
 use Rattle.std.specs.Global.{Vec}
-use Rattle.std.specs.Prelude.{◌≡◌, ◌⊎◌, ℕ, List, [], ◌∷◌, Option, Some, None, map}
+use Rattle.std.specs.Prelude.{◌≡◌, ◌⊎◌, ℕ, List, [], ◌∷◌, Option, Some, None}
 use Rattle.std.specs.List.{AllByRecursion, AllZip}
 use Rattle.lfs_fs.specs.Limits.{most_file}
 use Rattle.lfs_command.specs.declared.command.Command.TheVariants.{Put}
@@ -10,11 +10,10 @@ use Rattle.lfs_history.specs.declared.moves.Move.TheVariants.{Do}
 use Rattle.lfs_history.specs.declared.source.Source.{Source}
 use Rattle.lfs_history.specs.declared.source.Source.TheVariants.{File}
 use Rattle.lfs_history.specs.Filling.{bytes_given}
-use Rattle.lfs_history.specs.Meaning.{step_by, step_of}
+use Rattle.lfs_history.specs.Meaning.{step_by}
 use Rattle.lfs_history.specs.Taking as change
+use Rattle.lfs_history.specs.Taking.{KeepsInRange}
 use Rattle.lfs_change.specs.declared.fault.Fault.{Fault}
-use Rattle.lfs_step.specs.declared.step.Step.{Step}
-use Rattle.lfs_step.specs.declared.step.Step.TheVariants.{Batch}
 use Rattle.lfs_host.specs.Files.{Files, ReadsFile, ReadsInput}
 use Rattle.lfs_host.specs.Scene.{Scene}
 use Rattle.lfs_exchange.specs.Handing.{IsUnread}
@@ -50,30 +49,33 @@ MeansMove files line move = (read : List ℕ) × HandsContents line.step files r
 
 -- ---- a script
 
--- a step takes the steps that lines mean, in their order
-abbrev pub TakesLines : Option Files → List ScriptLine → Step → Type 0
-TakesLines files lines (Batch steps) = AllZip (MeansMove files) lines (map step_of steps.now)
-TakesLines files lines _ = ⊥
+-- the steps on a history that lines mean, in their order
+abbrev pub TakesLines : Option Files → List ScriptLine → List change.Move → Type 0
+TakesLines files lines moves = AllZip (MeansMove files) lines moves
 
 -- so many images of the past are kept behind each command of lines
 abbrev pub LinesKeep : Option ℕ → List ScriptLine → Type 0
 LinesKeep keep lines = AllByRecursion (λ line. Keeps keep line.step) lines
 
--- it takes those that the lines of a text say
-abbrev pub TakesText : Option Files → Option ℕ → List ℕ → Step → Type 0
-TakesText files keep text step =
-    (lines : List ScriptLine) × AllZip SaysLine (asking_lines text) lines × LinesKeep keep lines × TakesLines files lines step
+-- what they keep may be kept
+abbrev pub KeepInRange : List ScriptLine → Type 0
+KeepInRange lines = AllByRecursion (λ line. (read : List ℕ) → KeepsInRange (move_said line read)) lines
+
+-- those that the lines of a text say
+abbrev pub TakesText : Option Files → Option ℕ → List ℕ → List change.Move → Type 0
+TakesText files keep text moves =
+    (lines : List ScriptLine) × AllZip SaysLine (asking_lines text) lines × LinesKeep keep lines × TakesLines files lines moves
 
 -- the text of a script: that of a file of the host, or what comes on standard input
 abbrev pub ReadsScript : Option (Bor (List ℕ)) → Scene → List ℕ → Type 0
 ReadsScript (Some name) scene text = ReadsFile scene.files name.now most_file text
 ReadsScript None scene text = ReadsInput scene.typed most_file text
 
--- the step that a script becomes
-abbrev pub BecomesBatch : Option (Bor (List ℕ)) → Option ℕ → Scene → Step → Type 0
-BecomesBatch file keep scene step = (text : List ℕ) × ReadsScript file scene text × TakesText scene.files keep text step
+-- the steps that a script becomes
+abbrev pub BecomesBatch : Option (Bor (List ℕ)) → Option ℕ → Scene → List change.Move → Type 0
+BecomesBatch file keep scene moves = (text : List ℕ) × ReadsScript file scene text × TakesText scene.files keep text moves
 
--- ---- a script that becomes no step
+-- ---- a script that becomes no steps
 
 -- a line of a text says no step: the first that doesn't
 abbrev pub SaysNoSteps : List ℕ → Fault → Type 0

@@ -1,5 +1,5 @@
 -- What is read of a host's folder, and what is packed of it (own).
-use Rattle.std.specs.Prelude.{◌≡◌, ℕ, ⊤, List, [], Option, IfSome, map}
+use Rattle.std.specs.Prelude.{◌≡◌, ℕ, List, [], Option, IfSome, map}
 use Rattle.std.specs.Option.{option_map}
 use Rattle.lfs_meta.specs.Attribute.{Attributes}
 use Rattle.lfs_command.specs.declared.refusal.Refusal.TheVariants as refusal
@@ -14,8 +14,6 @@ use Rattle.lfs_host.specs.HostTree.{HostTree}
 use Rattle.lfs_host.specs.Scene.{Scene}
 use Rattle.lfs_pack.specs.declared.pack_row.PackRow.{PackRow}
 use Rattle.lfs_pack.specs.Packed.{AreRowsOf, Packed, attribute_of, row_bytes}
-use Rattle.lfs_request.specs.declared.task.Task.{Task}
-use Rattle.lfs_request.specs.declared.task.Task.TheVariants.{Pack}
 
 -- ---- what is read
 
@@ -43,11 +41,6 @@ pub record PacksFolder (tree : Option HostTree) (dir : List ℕ) (rows : List Pa
   pub ordered : AreFolderRows shown
   pub all : IfSome tree (λ t. AreAllBelow most_file t dir shown)
   pub packed : AreRowsOf rows (map packed_of shown)
-
--- the rows that a task packs are those of its folder
-abbrev pub PacksRows : Task → Option HostTree → List PackRow → Type 0
-PacksRows (Pack extent limits dir) tree rows = PacksFolder tree dir.now rows
-PacksRows _ tree rows = ⊤
 
 -- ---- rows, as the code has them
 

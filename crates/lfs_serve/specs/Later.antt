@@ -4,20 +4,21 @@ use Rattle.lfs_block.specs.declared.mount_fault.MountFault.TheVariants.{Version}
 use Rattle.lfs_change.specs.declared.fault.Fault.{Fault}
 use Rattle.lfs_change.specs.declared.fault.Fault.TheVariants.{Mount, Other}
 use Rattle.lfs_change.specs.declared.other_fault.OtherFault.TheVariants as other
-use Rattle.lfs_exchange.specs.Handing.{HandedBytes}
 use Rattle.lfs_later.specs.Version.{later_version}
 use Rattle.lfs_step.specs.declared.step.Step.{Step}
-use Rattle.lfs_step.specs.declared.step.Step.TheVariants.{Diff}
+use Rattle.lfs_step.specs.declared.query.Query.TheVariants.{Diff}
+use Rattle.lfs_step.specs.declared.step.Step.TheVariants.{Ask}
 use Rattle.lfs_report.specs.declared.later.Later.{Later}
 
 -- those in an image alone
 abbrev pub later_alone : ℕ → List ℕ → Later
 later_alone size bytes = record { image = later_version bytes size; other = None }
 
--- those in what a step is handed: in the image, and in the one that it is compared with
-abbrev pub later_handed : Step → ℕ → HandedBytes → Later
-later_handed (Diff name other_size) size h = record { image = later_version h.image size; other = later_version h.input other_size }
-later_handed step size h = later_alone size h.image
+-- those in what a step is done on: in the image, and in the one that it is compared with
+abbrev pub later_read : Step → ℕ → List ℕ → Later
+later_read (Ask (Diff other other_size)) size image =
+    record { image = later_version image size; other = later_version other.items other_size }
+later_read step size image = later_alone size image
 
 -- what they are refused with, by the versions of those in the image and in the other one
 abbrev pub refusal_of : Option ℕ → Option ℕ → Option Fault

@@ -3,18 +3,15 @@ use Rattle.std.specs.Prelude.{◌≡◌, ◌⊎◌, ℕ, List, [], ◌∷◌, Op
 use Rattle.lfs_change.specs.declared.fault.Fault.{Fault}
 use Rattle.lfs_change.specs.Change.{Denotes}
 use Rattle.lfs_change.specs.Fault.{status_of}
-use Rattle.lfs_exchange.specs.Handing.{HandsInput}
 use Rattle.lfs_exchange.specs.Storing.{journal_name}
 use Rattle.lfs_history.specs.History.{History}
 use Rattle.lfs_host.specs.Files.{Files, bytes_there}
 use Rattle.lfs_host.specs.Scene.{Scene, WasRefused}
 use Rattle.lfs_request.specs.declared.request.Request.{Request}
 use Rattle.lfs_request.specs.declared.task.Task.{Task}
-use Rattle.lfs_request.specs.declared.task.Task.TheVariants as task
 use Rattle.lfs_request.specs.declared.task.Task.TheVariants.{Extract}
 use Rattle.lfs_step.specs.declared.step.Step.{Step}
-use Rattle.lfs_step.specs.Deed.{deed_of}
-use Rattle.lfs_step.specs.Runs.{GoesOn, HasGoodRows}
+use Rattle.lfs_step.specs.Runs.{GoesOn}
 use Rattle.lfs_serve.specs.Program.{BecomesStep, EndsRequest}
 
 -- the files of a name denote a history: an image, and a journal, which counts as one without bytes where it isn't there
@@ -31,16 +28,10 @@ pub record Served : Type 0 where
   pub new : Scene
   pub status : ℕ
 
--- rows that a step has say what is packed, as it is taken; those of a folder always do
-abbrev pub SaysGoodRows : Task → Type 0
-SaysGoodRows (task.Step step) = HasGoodRows (deed_of step [] None)
-SaysGoodRows _ = Unit {0}
-
 -- it was one on the image of this name, with blocks of this size, and it ended as it does, on files that are known
 pub record IsServedOn (size : ℕ) (name : List ℕ) (s : Served) (old new : Files) : Type 0 where
   pub size_is : s.request.size ≡ size
   pub name_is : s.request.image.now ≡ name
-  pub rows : SaysGoodRows s.request.task
   pub before : s.old.files ≡ Some old
   pub behind : s.new.files ≡ Some new
   pub ends : EndsRequest s.request s.old s.new s.status
@@ -52,26 +43,20 @@ AreServed size name (s ∷ ss) old new = (mid : Files) × IsServedOn size name s
 
 -- ---- where they lead
 
--- where a step leads that was done, with what it was handed of other files and of standard input
-abbrev pub StepGoes : ℕ → Option ℕ → Step → Option Files → Option (List ℕ) → History → History → Type 0
-StepGoes size keep step files typed old new =
-    (input : List ℕ) × HandsInput step files typed input × GoesOn size (deed_of step input keep) old new
-
--- where a task leads that was done: as the step that it says, or that it becomes; a folder that is made leaves the history
-abbrev pub TaskGoes : ℕ → Option ℕ → Task → Scene → History → History → Type 0
-TaskGoes size keep (task.Step step) s old new = StepGoes size keep step s.files s.typed old new
-TaskGoes size keep (Extract dir) s old new = new ≡ old
-TaskGoes size keep t s old new = (step : Step) × BecomesStep t size keep s step × StepGoes size keep step s.files s.typed old new
+-- where a task leads that was done: as the step that it becomes; a folder that is made leaves the history
+abbrev pub TaskGoes : ℕ → Task → Scene → History → History → Type 0
+TaskGoes size (Extract dir) s old new = new ≡ old
+TaskGoes size task s old new = (step : Step) × BecomesStep task size s step × GoesOn size step old new
 
 -- one that wasn't done leaves the history
-abbrev pub TaskGoesBy : Option Fault → ℕ → Option ℕ → Task → Scene → History → History → Type 0
-TaskGoesBy None size keep t s old new = TaskGoes size keep t s old new
-TaskGoesBy (Some fault) size keep t s old new = new ≡ old
+abbrev pub TaskGoesBy : Option Fault → ℕ → Task → Scene → History → History → Type 0
+TaskGoesBy None size task s old new = TaskGoes size task s old new
+TaskGoesBy (Some fault) size task s old new = new ≡ old
 
 -- where a request leads, by the fault that its status tells
 abbrev pub RequestGoes : ℕ → Served → History → History → Type 0
 RequestGoes size s old new =
-    (fault : Option Fault) × (s.status ≡ status_of fault) × TaskGoesBy fault size s.request.keep s.request.task s.old old new
+    (fault : Option Fault) × (s.status ≡ status_of fault) × TaskGoesBy fault size s.request.task s.old old new
 
 -- The host refused the new image its place, where the new journal had got its own: the image is the one that was there. The next
 -- request that reads the journal is told so, and `forget` keeps that image. Only where a new image was to replace it, with as many

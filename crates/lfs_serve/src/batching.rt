@@ -1,17 +1,18 @@
 //! The steps of a script, taken on an image's file.
 
-ghost use Rattle.std.specs.Prelude.{◌≡◌, ◌⊎◌, false, IfErr, IfOk};
+ghost use Rattle.std.specs.Prelude.{◌≡◌, ◌⊎◌, ℕ, Option, false, IfErr, IfOk};
 ghost use Rattle.lfs_exchange.specs.Handing.{IsUnread};
 ghost use Rattle.lfs_history.specs.Taking.{MayKeep};
 ghost use Rattle.lfs_host.specs.Scene.{KeepsOutput};
 ghost use Rattle.lfs_report.specs.Stop.{stopped_by};
 ghost use Rattle.lfs_request.specs.declared.task.Task.TheVariants.{Batch};
-ghost use Rattle.lfs_serve.specs.Batching.{LinesKeep, ReadsScript, SaysNoSteps, TakesLines, TakesText};
-ghost use Rattle.lfs_serve.specs.Program.{EndsAs, EndsTask, LeavesRest, TaskLeavesRest, task_reads_input};
+ghost use Rattle.lfs_serve.specs.Batching.{KeepInRange, ReadsScript, SaysNoSteps, TakesLines, TakesText};
+ghost use Rattle.lfs_serve.specs.Lines.{EndsLines};
+ghost use Rattle.lfs_serve.specs.Program.{EndsTask, TaskLeavesRest, task_reads_input};
 
 use crate::line_moves::{moves_of, read_lines};
-use crate::serving::stepped;
-use lfs_exchange::{read_contents, read_input};
+use crate::stepping::stepped;
+use lfs_exchange::{kind_of_steps, read_contents, read_input, taken_up};
 use lfs_host::Host;
 use lfs_report::{Beside, Stop, stop_of_line, with_line, with_number};
 use lfs_request::Request;
@@ -27,14 +28,15 @@ pub(crate) fn batched<H: Host>(
     request: &Request<'_>,
     beside: &mut Beside,
     file: Option<&str>,
+    keep: Option<u32>,
 ) -> Result<(), Stop>
-    requires keep { MayKeep request.now.keep }
-    ensures ended { EndsTask (Batch file.entry) request.now.takes_older request.now.size request.now.keep request.now.image.now
+    requires { MayKeep keep }
+    ensures ended { EndsTask (Batch file.entry keep) request.now.takes_older request.now.size request.now.image.now
         (H.known host.old) (H.known host.new) (stopped_by result) }
-    ensures rest { TaskLeavesRest (Batch file.entry) (H.known host.old) (H.known host.new) }
+    ensures rest { TaskLeavesRest (Batch file.entry keep) (H.known host.old) (H.known host.new) }
 {
     let text = script_text(alloc, host, file)?;
-    match text_batched(alloc, host, request, beside, &text) {
+    match text_batched(alloc, host, request, beside, &text, keep) {
         Ok(()) => Ok(()),
         Err(stop) => Err(with_line(alloc, &text, beside, stop)),
     }
@@ -44,7 +46,7 @@ pub(crate) fn batched<H: Host>(
 fn script_text<H: Host>(alloc: Global, host: &mut H, file: Option<&str>) -> Result<Vec<u8>, Fault>
     ensures text { IfOk result (λ text. ReadsScript file.entry (H.known host.old) text.items) }
     ensures refused { IfErr result (IsUnread (H.known host.new)) }
-    ensures unread { task_reads_input (Batch file.entry) ≡ false → (H.known host.new).typed ≡ (H.known host.old).typed }
+    ensures unread { (keep : Option ℕ) → task_reads_input (Batch file.entry keep) ≡ false → (H.known host.new).typed ≡ (H.known host.old).typed }
     ensures kept { KeepsOutput (H.known host.old) (H.known host.new) }
 {
     match file {
@@ -60,15 +62,17 @@ fn text_batched<H: Host>(
     request: &Request<'_>,
     beside: &mut Beside,
     text: &[u8],
+    keep: Option<u32>,
 ) -> Result<(), Stop>
-    requires keep { MayKeep request.now.keep }
-    ensures ended { EndsAs (TakesText (H.known host.old).files request.now.keep text.now)
+    requires { MayKeep keep }
+    ensures ended { EndsLines (TakesText (H.known host.old).files keep text.now)
         (λ why. IsUnread (H.known host.new) why ⊎ SaysNoSteps text.now why)
-        request.now.takes_older request.now.size request.now.keep request.now.image.now (H.known host.old) (H.known host.new) (stopped_by result) }
-    ensures rest { LeavesRest (H.known host.old) (H.known host.new) }
+        request.now.takes_older request.now.size request.now.image.now (H.known host.old) (H.known host.new) (stopped_by result) }
+    ensures typed { (H.known host.new).typed ≡ (H.known host.old).typed }
+    ensures made { (H.known host.new).made ≡ (H.known host.old).made }
 {
     let script = script_of(alloc, text);
-    match script_lines(alloc, &script, request.keep) {
+    match script_lines(alloc, &script, keep) {
         Ok(lines) => lines_batched(alloc, host, request, beside, &lines),
         Err(first) => Err(stop_of_line(first)),
     }
@@ -82,16 +86,17 @@ fn lines_batched<H: Host>(
     beside: &mut Beside,
     lines: &[ScriptLine<'_>],
 ) -> Result<(), Stop>
-    requires keep { MayKeep request.now.keep }
-    requires lines { LinesKeep request.now.keep lines.now }
-    ensures ended { EndsAs (TakesLines (H.known host.old).files lines.now) (IsUnread (H.known host.new))
-        request.now.takes_older request.now.size request.now.keep request.now.image.now (H.known host.old) (H.known host.new) (stopped_by result) }
-    ensures rest { LeavesRest (H.known host.old) (H.known host.new) }
+    requires { KeepInRange lines.now }
+    ensures ended { EndsLines (TakesLines (H.known host.old).files lines.now) (IsUnread (H.known host.new))
+        request.now.takes_older request.now.size request.now.image.now (H.known host.old) (H.known host.new) (stopped_by result) }
+    ensures typed { (H.known host.new).typed ≡ (H.known host.old).typed }
+    ensures made { (H.known host.new).made ≡ (H.known host.old).made }
 {
     let read = read_lines(alloc, host, lines)?;
     let moves = moves_of(alloc, lines, &read)?;
     let steps = moves.as_slice();
-    match stepped(alloc, host, request, beside, &Step::Batch { steps }) {
+    let handed = taken_up(alloc, host, kind_of_steps(steps), request.image)?;
+    match stepped(alloc, host, request, beside, handed, Step::Change(steps)) {
         Ok(()) => Ok(()),
         Err(stop) => Err(with_number(lines, stop)),
     }

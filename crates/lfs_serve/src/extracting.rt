@@ -14,7 +14,7 @@ ghost use Rattle.lfs_serve.specs.Extracting.{EndsBytes, EndsExtract, EndsMaking,
 use crate::later::{later_alone, must_be_read};
 use lfs_block::Image;
 use lfs_edit::Refusal;
-use lfs_exchange::{StepKind, aimed, fault_of_reading, read_image};
+use lfs_exchange::{StepKind, fault_of_reading, taken_up};
 use lfs_extract::{ExtractFault, extract_rows};
 use lfs_fs::mount;
 use lfs_host::{Host, HostKind};
@@ -34,12 +34,11 @@ pub(crate) fn extracted<H: Host>(
     ensures made { EndsExtract request.now.takes_older request.now.size request.now.image.now dir.now (H.known host.old) (H.known host.new) (stopped_by result) }
     ensures kept { KeepsFiles (H.known host.old) (H.known host.new) }
 {
-    let target = aimed(alloc, host, StepKind::Asks, request.image)?;
-    let bytes = read_image(alloc, host, StepKind::Asks, target.as_str())?;
-    let found = later_alone(request.size, bytes.as_slice());
+    let handed = taken_up(alloc, host, StepKind::Asks, request.image)?;
+    let found = later_alone(request.size, &handed.image);
     must_be_read(request.takes_older, found)?;
     beside.later = found;
-    extract_bytes(alloc, host, request.size, bytes, dir)
+    extract_bytes(alloc, host, request.size, handed.image, dir)
 }
 
 /// Makes a folder out of bytes that are an image.

@@ -2,14 +2,13 @@
 
 ghost use Rattle.std.specs.Prelude.{◌≡◌};
 ghost use Rattle.lfs_report.specs.Stop.{stopped_by};
-ghost use Rattle.lfs_serve.specs.Later.{later_alone, later_handed, refused_by};
+ghost use Rattle.lfs_serve.specs.Later.{later_alone, later_read, refused_by};
 
 use lfs_block::MountFault;
 use lfs_change::OtherFault;
-use lfs_exchange::Handed;
 use lfs_later::later_version;
 use lfs_report::{Later, Statement, Stop};
-use lfs_step::{Fault, Step};
+use lfs_step::{Fault, Query, Step};
 
 /// Those in an image alone, of blocks of `size` bytes. Takes no memory.
 pub(crate) fn later_alone(size: u32, bytes: &[u8]) -> Later
@@ -21,19 +20,23 @@ pub(crate) fn later_alone(size: u32, bytes: &[u8]) -> Later
     }
 }
 
-/// Those in what a step is handed. Takes no memory.
-pub(crate) fn later_handed(step: &Step<'_>, size: u32, handed: &Handed) -> Later
-    ensures { result ≡ later_handed step.now size (record { image = handed.now.image.items; journal = handed.now.journal.items; input = handed.now.input.items }) }
+/// Those in what a step is done on: an image of these bytes, and the one that it is compared with. Takes no memory.
+pub(crate) fn later_read(step: &Step<'_>, size: u32, image: &[u8]) -> Later
+    ensures { result ≡ later_read step.now size image.now }
 {
-    let image = later_version(handed.image.as_slice(), size);
-    let other = match *step {
-        Step::Diff {
-            size: other_size,
-            ..
-        } => later_version(handed.input.as_slice(), other_size),
+    let other = match step {
+        Step::Ask(
+            Query::Diff {
+                other,
+                size: other_size,
+            },
+        ) => later_version(other, *other_size),
         _ => None,
     };
-    Later { image, other }
+    Later {
+        image: later_version(image, size),
+        other,
+    }
 }
 
 /// Refuses them, unless the state before them is gone on with. Takes no memory.

@@ -2,7 +2,7 @@
 
 ghost use Rattle.std.specs.Prelude.{IfOk};
 ghost use Rattle.lfs_fs.specs.Superblock.{IsLimits};
-ghost use Rattle.lfs_request.specs.Asking.{IsExtent};
+ghost use Rattle.lfs_request.specs.Extent.{IsExtent};
 ghost use Rattle.lfs_request.specs.declared.extent.Extent.TheVariants.{Least};
 
 use lfs_block::geometry_ok;

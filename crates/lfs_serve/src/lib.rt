@@ -2,7 +2,6 @@
 #![tactic(auto)]
 
 mod batching;
-mod digits;
 mod extracting;
 mod host_folder;
 mod later;
@@ -10,8 +9,11 @@ mod laws;
 mod least;
 mod line_moves;
 mod new_image;
+mod packing;
+mod plain_tasks;
 mod serving;
 mod sizing;
+mod stepping;
 
 pub use laws::requests_lead_on;
 pub use serving::served;

@@ -1,9 +1,13 @@
 -- What asks changes no file, however it ends.
-use Rattle.std.proofs.Common.{◌≡◌, ◌⊎◌, ℕ, Bool, List, Option, Some, None, ap, subst, inl, inr}
+use Rattle.std.proofs.Common.{◌≡◌, ◌⊎◌, ℕ, Bool, List, Option, Some, None, refl, ap, subst, inl, inr}
 use Rattle.lfs_change.specs.declared.fault.Fault.{Fault}
 use Rattle.lfs_change.specs.declared.fault.Fault.TheVariants.{Refused}
 use Rattle.lfs_change.specs.declared.outcome.Outcome.{Outcome}
+use Rattle.lfs_step.specs.declared.query.Query.TheVariants as query
 use Rattle.lfs_step.specs.declared.step.Step.{Step}
+use Rattle.lfs_step.specs.declared.step.Step.TheVariants.{Ask}
+use Rattle.lfs_step.specs.Query.{Question}
+use Rattle.lfs_request.specs.Task.{IsTaskInRange}
 use Rattle.lfs_request.specs.declared.request.Request.{Request}
 use Rattle.lfs_request.specs.declared.task.Task.{Task}
 use Rattle.lfs_request.specs.declared.task.Task.TheVariants as task
@@ -39,26 +43,45 @@ all_left : (kind : StepKind) (old new : Option Files) (name : List ℕ) (o : Out
 all_left kind old new name o (inl asks) leaves = subst (λ (k : StepKind). LeavesFiles k old new name o) asks leaves
 all_left kind old new name o (inr asks) leaves = subst (λ (k : StepKind). LeavesFiles k old new name o) asks leaves
 
-step_keeps : (fault : Option Fault) (step : Step) (older : Bool) (size : ℕ) (keep : Option ℕ) (name : List ℕ) (old new : Scene)
-    → (kind_of step ≡ Asks) ⊎ (kind_of step ≡ Recounts) → EndsStep step older size keep name old new fault → new.files ≡ old.files
-step_keeps None step older size keep name old new asks (o, runs, leaves, flushed) = all_left (kind_of step) old.files new.files name o asks leaves
-step_keeps (Some fault) step older size keep name old new asks (inl (o, runs, same)) = same
-step_keeps (Some fault) step older size keep name old new asks (inr (inl (why, keeps))) = keeps.0
-step_keeps (Some fault) step older size keep name old new asks (inr (inr (unwritten, (o, runs, spares)))) =
+-- what asks is of one of two kinds
+asks_of : (q : Question) → (kind_of (Ask q) ≡ Asks) ⊎ (kind_of (Ask q) ≡ Recounts)
+asks_of query.Check = inl refl
+asks_of query.Ls = inl refl
+asks_of (query.Cat path) = inl refl
+asks_of (query.Diff other size) = inl refl
+asks_of query.Log = inr refl
+
+step_keeps : (fault : Option Fault) (step : Step) (older : Bool) (size : ℕ) (name : List ℕ) (old new : Scene)
+    → (kind_of step ≡ Asks) ⊎ (kind_of step ≡ Recounts) → EndsStep step older size name old new fault → new.files ≡ old.files
+step_keeps None step older size name old new asks (o, runs, leaves, flushed) = all_left (kind_of step) old.files new.files name o asks leaves
+step_keeps (Some fault) step older size name old new asks (inl (o, runs, same)) = same
+step_keeps (Some fault) step older size name old new asks (inr (inl (why, keeps))) = keeps.0
+step_keeps (Some fault) step older size name old new asks (inr (inr (unwritten, (o, runs, spares)))) =
     all_spared fault (kind_of step) new.has_refused_place old.files new.files name o asks spares
 
-task_keeps : (fault : Option Fault) (t : Task) (older : Bool) (size : ℕ) (keep : Option ℕ) (name : List ℕ) (old new : Scene) → OnlyAsks t
-    → EndsTask t older size keep name old new fault → new.files ≡ old.files
-task_keeps fault (task.Step step) older size keep name old new asks ends = step_keeps fault step older size keep name old new asks ends
-task_keeps fault (task.Extract dir) older size keep name old new asks ends = ends.0.0
-task_keeps fault _ older size keep name old new only ends = absurd only
+task_keeps : (fault : Option Fault) (t : Task) (older : Bool) (size : ℕ) (name : List ℕ) (old new : Scene) → OnlyAsks t
+    → EndsTask t older size name old new fault → new.files ≡ old.files
+task_keeps fault (task.Ask query) older size name old new asks (inl (Ask question, becomes, ends)) =
+    step_keeps fault (Ask question) older size name old new (asks_of question) ends
+task_keeps fault (task.Ask query) older size name old new asks (inl (_, becomes, ends)) = absurd becomes
+task_keeps fault (task.Ask query) older size name old new asks (inr (keeps, why)) = keeps.0
+task_keeps fault (task.Extract dir) older size name old new asks ends = ends.0.0
+task_keeps fault _ older size name old new only ends = absurd only
 
 -- a request that asks changes no file
 pub asking_keeps : (request : Request) (old new : Scene) (status : ℕ) → OnlyAsks request.task → EndsRequest request old new status
     → new.files ≡ old.files
-asking_keeps request old new status only (fault, inl (spared, ends), told, rest) =
-    task_keeps fault request.task request.takes_older request.size request.keep request.image.now old new only ends
-asking_keeps request old new status only (fault, inr (is_new, is, refused, kept), told, rest) = kept.0
+asking_keeps request old new status only is =
+    elim is.ends [
+      | inl (spared, ends) ↦ task_keeps is.fault request.task request.takes_older request.size request.image.now old new only ends
+      | inr taken ↦ taken.3.0
+    ]
+
+-- and its caller owes nothing more
+pub asking_in_range : (t : Task) → OnlyAsks t → IsTaskInRange t
+asking_in_range (task.Ask query) only = tt
+asking_in_range (task.Extract dir) only = tt
+asking_in_range _ only = absurd only
 
 -- what is there is there alike
 pub some_same : {X : Type 0} (x y : X) → Some x ≡ Some y → x ≡ y

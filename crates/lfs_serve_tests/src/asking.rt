@@ -1,8 +1,6 @@
 //! Requests that ask.
 
 ghost use Rattle.std.specs.Prelude.{◌≡◌};
-ghost use Rattle.lfs_history.specs.Taking.{MayKeep};
-ghost use Rattle.lfs_request.specs.Asking.{IsTaskInRange};
 ghost use Rattle.lfs_host.specs.MemoryFiles.{files_of};
 ghost use Rattle.lfs_serve_tests.specs.Asking.{OnlyAsks};
 
@@ -12,14 +10,11 @@ use lfs_serve::served;
 use std::alloc::Global;
 
 /// Asks something of an image in memory, and answers the status. However it ends, no file changes: a law of requests on
-/// files that are known. The caller owes a task that asks: `Check`, `Ls`, `Cat`, `Diff`, `Log` or `Extract`, and that what is kept
-/// is 1 to 1,000 images. Takes memory.
+/// files that are known. The caller owes a task that asks, or makes a folder. Takes memory.
 ///
 /// Source: own.
 pub fn ask_in_memory(alloc: Global, host: &mut MemoryHost, request: &Request<'_>) -> u8
-    requires asks { OnlyAsks request.now.task }
-    requires keep { MayKeep request.now.keep }
-    requires range { IsTaskInRange request.now.task }
+    requires { OnlyAsks request.now.task }
     ensures kept { files_of host.new.files ≡ files_of host.old.files }
 {
     served(alloc, host, request)

@@ -1,7 +1,9 @@
 //! Journals that runs leave.
 
 use lfs_block::geometry_ok;
+use lfs_command::Command;
 use lfs_edit::format;
+use lfs_history::Move;
 use lfs_sink::MemorySink;
 use lfs_step::{Step, run};
 use std::alloc::Global;
@@ -16,11 +18,15 @@ const THREE_BLOCKS: usize = 24 + 12 + 3 * (4 + 256 + 256);
 /// The journal that is left where an image of blocks of 256 bytes gets a directory: of the root's pair changes one block, and of the
 /// directory's both.
 fn left_journal(alloc: Global, image: Vec<u8>) -> Option<Vec<u8>> {
-    let step = Step::Mkdir { path: b"/a" };
+    let path: &[u8] = b"/a";
+    let command = Command::Mkdir { path };
+    let steps = [Move::Do {
+        command,
+        keep: None,
+    }];
     let journal = Vec::new(alloc);
-    let input = Vec::new(alloc);
     let mut out = MemorySink::new(alloc);
-    let outcome = run(alloc, &step, 256, image, journal, input, None, &mut out);
+    let outcome = run(alloc, Step::Change(&steps), 256, image, journal, &mut out);
     outcome.journal.into_bytes(alloc)
 }
 

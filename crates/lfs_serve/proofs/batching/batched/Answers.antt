@@ -12,7 +12,7 @@ pub returns-in_err-text-clause-ended : goal.returns-in_err-text-clause-ended
 returns-in_err-text-clause-ended g c =
     let fault = c.in_err-text.field-0.0 in
     let p = err_from_is_err_and c.from_residual.result c.from_residual.ensures.1 in
-    inr ((c.script_text.ensures.kept.0, c.script_text.ensures.kept.1), (fault, stopped_at c.from_residual.result fault p.0 p.1 p.2, inl c.in_err-text.ensures.refused))
+    inr ((c.script_text.ensures.kept.0, c.script_text.ensures.kept.1), (fault, stopped_at c.from_residual.result fault p.0 p.1 p.2, inl (inl c.in_err-text.ensures.refused)))
 
 pub returns-in-Ok-clause-ended : goal.returns-in-Ok-clause-ended
 returns-in-Ok-clause-ended g c =
@@ -24,7 +24,7 @@ returns-in-Ok-clause-ended g c =
     let kept : KeepsScene old mid = (c.script_text.ensures.kept.0, c.script_text.ensures.kept.1) in
     let same : text ≡ c.in_ok-text.text.items = search rules in
     let reads = subst (ReadsScript c.args.file old) (sym same) c.in_ok-text.ensures.text in
-    script_ends c.args.file text request.takes_older request.size request.keep request.image.now old mid new None
+    script_ends c.args.file text c.args.keep request.takes_older request.size request.image.now old mid new None
     (stopped_by c.text_batched.result) (sym (ap stopped_by c.in-Ok.is)) reads kept c.text_batched.ensures.ended
 
 pub returns-clause-ended : goal.returns-clause-ended
@@ -38,6 +38,6 @@ returns-clause-ended g c =
     let same : text ≡ c.in_ok-text.text.items = search rules in
     let reads = subst (ReadsScript c.args.file old) (sym same) c.in_ok-text.ensures.text in
     let fault = c.with_line.result.fault in
-    script_ends c.args.file text request.takes_older request.size request.keep request.image.now old mid new (Some fault)
+    script_ends c.args.file text c.args.keep request.takes_older request.size request.image.now old mid new (Some fault)
     (stopped_by c.text_batched.result) (ap Some c.with_line.ensures ∙ sym (ap stopped_by c.in-Err.is)) reads kept
     c.text_batched.ensures.ended

@@ -9,12 +9,13 @@ use Rattle.lfs_change.specs.declared.fault.Fault.TheVariants.{Refused}
 use Rattle.lfs_history.specs.Meaning.{OnBytes, step_of}
 use Rattle.lfs_history.specs.Taking.{KeepsInRange}
 use Rattle.lfs_host.specs.Scene.{Scene}
-use Rattle.lfs_step.specs.declared.step.Step.TheVariants.{Batch}
+use Rattle.lfs_step.specs.declared.step.Step.TheVariants.{Change}
+use Rattle.lfs_exchange.specs.declared.step_kind.StepKind.{StepKind}
+use Rattle.lfs_exchange.specs.Handing.{IsNotTakenUp}
 use Rattle.lfs_report.specs.Stop.{stopped_by}
-use Rattle.lfs_serve.specs.Program.{EndsStep}
 use Rattle.lfs_serve.specs.Batching.{HandsLine, moves_said}
-use Rattle.lfs_serve.proofs.BatchingLemmas.{all_in_range, takes_lines}
-use Rattle.lfs_serve.proofs.StepLemmas.{step_from, stopped_at}
+use Rattle.lfs_serve.proofs.BatchingLemmas.{all_in_range, same_kind, takes_lines}
+use Rattle.lfs_serve.proofs.StepLemmas.{step_at, stopped_at}
 use Rattle.lfs_serve.proofs.batching.lines_batched.Goals as goal
 
 pub moves_of-requires : goal.moves_of-requires
@@ -26,28 +27,49 @@ moves_of-requires g c =
 
 pub stepped-requires-clause-range : goal.stepped-requires-clause-range
 stepped-requires-clause-range g c =
-    let keep = c.args.request.now.keep in
     let steps = c.as_slice-steps.result.now in
     let are : steps ≡ c.in_ok-moves.moves.items = search rules in
     subst (λ (ms : List OnBytes). AllByRecursion (λ m. KeepsInRange (step_of m)) ms) (sym are)
-    (all_in_range keep c.args.lines.now c.deref.result.now c.in_ok-moves.moves.items c.requires.keep c.requires.lines c.in_ok-moves.ensures)
+    (all_in_range c.args.lines.now c.deref.result.now c.in_ok-moves.moves.items c.requires c.in_ok-moves.ensures)
 
 pub returns-in_err-read-clause-ended : goal.returns-in_err-read-clause-ended
 returns-in_err-read-clause-ended g c =
     let stop = c.in_err-read.field-0.0 in
     let kept = c.read_lines.ensures.kept.0 in
-    inr ((kept.0, kept.2), (stop.fault, search rules, c.in_err-read.ensures.refused))
+    inr ((kept.0, kept.2), (stop.fault, search rules, inl c.in_err-read.ensures.refused))
 
 pub returns-in_err-moves-clause-ended : goal.returns-in_err-moves-clause-ended
 returns-in_err-moves-clause-ended g c =
     let p = err_from_is_err_and c.from_residual-in_err-moves.result c.from_residual-in_err-moves.ensures.1 in
     let kept = c.read_lines.ensures.kept.0 in
-    inr ((kept.0, kept.2), (Refused No_memory, stopped_at c.from_residual-in_err-moves.result (Refused No_memory) p.0 p.1 p.2, refl))
+    inr ((kept.0, kept.2), (Refused No_memory, stopped_at c.from_residual-in_err-moves.result (Refused No_memory) p.0 p.1 p.2, inl refl))
+
+pub returns-in_err-handed-clause-ended : goal.returns-in_err-handed-clause-ended
+returns-in_err-handed-clause-ended g c =
+    let old : Scene = g.H.Known.known c.args.host.now in
+    let new : Scene = g.H.Known.known c.taken_up.new.host in
+    let name = c.args.request.now.image.now in
+    let steps = c.as_slice-steps.result.now in
+    let are : steps ≡ c.in_ok-moves.moves.items = search rules in
+    let read : List (Vec ℕ) = c.deref.result.now in
+    let read_is : read ≡ c.in_ok-read.read.items = search rules in
+    let said = subst (λ (rs : List (Vec ℕ)). map step_of c.in_ok-moves.moves.items ≡ moves_said c.args.lines.now rs) read_is c.in_ok-moves.ensures in
+    let takes = takes_lines old.files c.args.lines.now c.in_ok-read.read.items steps c.in_ok-moves.moves.items c.in_ok-read.ensures.read said are in
+    let fault = c.in_err-handed.field-0.0 in
+    let on = c.from_residual-in_err-handed in
+    let p = err_from_is_err_and on.result on.ensures.1 in
+    let first = c.read_lines.ensures.kept.0 in
+    let then = c.taken_up.ensures.kept.0 in
+    let not = subst (λ (kind : StepKind). IsNotTakenUp kind new name fault) (c.kind_of_steps.ensures ∙ same_kind steps) c.in_err-handed.ensures.refused in
+    inr (
+      (then.0 ∙ first.0, then.2 ∙ first.2),
+      (fault, stopped_at on.result fault p.0 p.1 p.2, inr (map step_of steps, takes, not)),
+    )
 
 pub returns-in-Ok-clause-ended : goal.returns-in-Ok-clause-ended
 returns-in-Ok-clause-ended g c =
     let old : Scene = g.H.Known.known c.args.host.now in
-    let mid : Scene = g.H.Known.known c.read_lines.new.host in
+    let mid : Scene = g.H.Known.known c.taken_up.new.host in
     let new : Scene = g.H.Known.known c.stepped.new.host in
     let request = c.args.request.now in
     let steps = c.as_slice-steps.result in
@@ -55,17 +77,17 @@ returns-in-Ok-clause-ended g c =
     let read : List (Vec ℕ) = c.deref.result.now in
     let read_is : read ≡ c.in_ok-read.read.items = search rules in
     let said = subst (λ (rs : List (Vec ℕ)). map step_of c.in_ok-moves.moves.items ≡ moves_said c.args.lines.now rs) read_is c.in_ok-moves.ensures in
-    let taken = takes_lines old.files c.args.lines.now c.in_ok-read.read.items steps c.in_ok-moves.moves.items c.in_ok-read.ensures.read said are in
-    let kept = c.read_lines.ensures.kept.0 in
-    let ended = subst (EndsStep (Batch steps) request.takes_older request.size request.keep request.image.now mid new) (ap stopped_by c.in-Ok.is)
-    c.stepped.ensures.ended in
-    let ends = step_from (Batch steps) request.takes_older request.size request.keep request.image.now mid old new None kept.0 kept.1 kept.2 ended in
-    inl (Batch steps, taken, ends)
+    let takes = takes_lines old.files c.args.lines.now c.in_ok-read.read.items steps.now c.in_ok-moves.moves.items c.in_ok-read.ensures.read said are in
+    let first = c.read_lines.ensures.kept.0 in
+    let then = c.taken_up.ensures.kept.0 in
+    let ends = step_at (Change steps) request.takes_older request.size request.image.now mid old new None (stopped_by c.stepped.result)
+    (then.0 ∙ first.0) (then.2 ∙ first.2) (sym (ap stopped_by c.in-Ok.is)) c.stepped.ensures.ended in
+    inl (steps, takes, ends)
 
 pub returns-clause-ended : goal.returns-clause-ended
 returns-clause-ended g c =
     let old : Scene = g.H.Known.known c.args.host.now in
-    let mid : Scene = g.H.Known.known c.read_lines.new.host in
+    let mid : Scene = g.H.Known.known c.taken_up.new.host in
     let new : Scene = g.H.Known.known c.stepped.new.host in
     let request = c.args.request.now in
     let steps = c.as_slice-steps.result in
@@ -73,10 +95,10 @@ returns-clause-ended g c =
     let read : List (Vec ℕ) = c.deref.result.now in
     let read_is : read ≡ c.in_ok-read.read.items = search rules in
     let said = subst (λ (rs : List (Vec ℕ)). map step_of c.in_ok-moves.moves.items ≡ moves_said c.args.lines.now rs) read_is c.in_ok-moves.ensures in
-    let taken = takes_lines old.files c.args.lines.now c.in_ok-read.read.items steps c.in_ok-moves.moves.items c.in_ok-read.ensures.read said are in
-    let kept = c.read_lines.ensures.kept.0 in
-    let ended = subst (EndsStep (Batch steps) request.takes_older request.size request.keep request.image.now mid new)
-    (ap stopped_by c.in-Err.is ∙ ap Some (sym c.with_number.ensures.fault)) c.stepped.ensures.ended in
-    let ends = step_from (Batch steps) request.takes_older request.size request.keep request.image.now mid old new (Some c.with_number.result.fault)
-    kept.0 kept.1 kept.2 ended in
-    inl (Batch steps, taken, ends)
+    let takes = takes_lines old.files c.args.lines.now c.in_ok-read.read.items steps.now c.in_ok-moves.moves.items c.in_ok-read.ensures.read said are in
+    let first = c.read_lines.ensures.kept.0 in
+    let then = c.taken_up.ensures.kept.0 in
+    let told = ap Some c.with_number.ensures.fault ∙ sym (ap stopped_by c.in-Err.is) in
+    let ends = step_at (Change steps) request.takes_older request.size request.image.now mid old new (Some c.with_number.result.fault)
+    (stopped_by c.stepped.result) (then.0 ∙ first.0) (then.2 ∙ first.2) told c.stepped.ensures.ended in
+    inl (steps, takes, ends)

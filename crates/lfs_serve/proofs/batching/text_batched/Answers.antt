@@ -1,5 +1,5 @@
 -- A line of a text says no step, or its lines are taken.
-use Rattle.std.proofs.Common.{rules, ◌≡◌, ◌⊎◌, ℕ, List, refl, sym, subst, inl, inr}
+use Rattle.std.proofs.Common.{rules, ◌≡◌, ◌⊎◌, ℕ, List, refl, sym, subst, inl}
 use Rattle.std.specs.List.{AllZip}
 use Rattle.lfs_change.specs.declared.fault.Fault.{Fault}
 use Rattle.lfs_exchange.specs.Handing.{IsUnread}
@@ -8,14 +8,14 @@ use Rattle.lfs_texts.specs.Script.{SaysLine, asking_lines}
 use Rattle.lfs_texts.specs.declared.script_line.ScriptLine.{ScriptLine}
 use Rattle.lfs_serve.specs.Batching.{LinesKeep, SaysNoSteps, TakesLines, TakesText}
 use Rattle.lfs_report.specs.Stop.{stopped_by}
-use Rattle.lfs_serve.proofs.BatchingLemmas.{ends_by}
+use Rattle.lfs_serve.proofs.BatchingLemmas.{ends_by, lines_in_range}
 use Rattle.lfs_serve.proofs.batching.text_batched.Goals as goal
 
-pub lines_batched-requires-clause-lines : goal.lines_batched-requires-clause-lines
-lines_batched-requires-clause-lines g c =
+pub lines_batched-requires : goal.lines_batched-requires
+lines_batched-requires g c =
     let lines : List ScriptLine = c.deref.result.now in
     let same : lines ≡ c.in-Ok.lines.items = search rules in
-    subst (LinesKeep c.args.request.now.keep) (sym same) c.in-Ok.ensures.keep
+    lines_in_range c.args.keep lines c.requires (subst (LinesKeep c.args.keep) (sym same) c.in-Ok.ensures.keep)
 
 pub returns-in-Ok-clause-ended : goal.returns-in-Ok-clause-ended
 returns-in-Ok-clause-ended g c =
@@ -27,8 +27,8 @@ returns-in-Ok-clause-ended g c =
     let same : lines ≡ c.in-Ok.lines.items = search rules in
     let asked = subst (λ (t : List ℕ). AllZip SaysLine (asking_lines t) c.in-Ok.lines.items) c.script_of-script.ensures c.in-Ok.ensures.lines in
     let says = subst (λ (ls : List ScriptLine). AllZip SaysLine (asking_lines text) ls) (sym same) asked in
-    let keeps = subst (LinesKeep request.keep) (sym same) c.in-Ok.ensures.keep in
+    let keeps = subst (LinesKeep c.args.keep) (sym same) c.in-Ok.ensures.keep in
     let fault = stopped_by c.lines_batched.result in
-    ends_by (TakesLines old.files lines) (TakesText old.files request.keep text) (IsUnread new)
-    (λ (why : Fault). IsUnread new why ⊎ SaysNoSteps text why) request.takes_older request.size request.keep request.image.now old new fault fault
-    refl (λ step takes. (lines, says, keeps, takes)) (λ why unread. inl unread) c.lines_batched.ensures.ended
+    ends_by (TakesLines old.files lines) (TakesText old.files c.args.keep text) (IsUnread new)
+    (λ (why : Fault). IsUnread new why ⊎ SaysNoSteps text why) request.takes_older request.size request.image.now old new fault fault
+    refl (λ moves takes. (lines, says, keeps, takes)) (λ why unread. inl unread) c.lines_batched.ensures.ended

@@ -9,6 +9,6 @@ pub returns-clause-ended : goal.returns-clause-ended
 returns-clause-ended g c =
     let request = c.args.request.now in
     let new : Scene = g.H.Known.known c.done.new.host in
-    let ends = subst (λ (old : Scene). EndsTask request.task request.takes_older request.size request.keep request.image.now old new (stopped_by c.done.result))
+    let ends = subst (λ (old : Scene). EndsTask request.task request.takes_older request.size request.image.now old new (stopped_by c.done.result))
     c.in_ok-spare.ensures.same c.done.ensures.ended in
     inl (c.in_ok-spare.ensures.missing, ends)

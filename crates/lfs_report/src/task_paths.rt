@@ -1,48 +1,33 @@
-//! The paths of a step.
+//! The paths of a task.
 
 use crate::path_note::Front;
+use lfs_history::Move;
 use lfs_request::Task;
-use lfs_step::Step;
+use lfs_step::Query;
 
-/// The paths of a step.
+/// The paths of a task.
 #[derive(Clone, Copy)]
-pub struct StepPaths<'a> {
+pub struct TaskPaths<'a> {
     /// The path that it is about.
     pub path: &'a [u8],
     /// The one that what is there is moved to.
     pub target: Option<&'a [u8]>,
 }
 
-impl<'a> StepPaths<'a> {
-    /// The paths of a step, where it has any. Takes no memory.
-    pub(crate) fn of(step: &Step<'a>) -> Option<StepPaths<'a>> {
-        match *step {
-            Step::Mv { from, to } => Some(StepPaths {
-                path: from,
-                target: Some(to),
-            }),
-            Step::Cat { path } | Step::Mkdir { path } | Step::Rm { path } => Some(StepPaths::alone(
-                path,
-            )),
-            Step::Put { path, .. } | Step::SetAttr { path, .. } | Step::RmAttr { path, .. } => {
-                Some(StepPaths::alone(path))
-            }
-            _ => None,
-        }
-    }
-
+impl<'a> TaskPaths<'a> {
     /// The paths of a task, where it has any. Takes no memory.
-    pub(crate) fn of_task(task: &Task<'a>) -> Option<StepPaths<'a>> {
-        match *task {
-            Task::Step(ref step) => StepPaths::of(step),
-            Task::SetAttr { path, .. } | Task::RmAttr { path, .. } => Some(StepPaths::alone(path)),
+    pub(crate) fn of(task: &Task<'a>) -> Option<TaskPaths<'a>> {
+        match task {
+            Task::Ask(Query::Cat { path }) => Some(TaskPaths {
+                path: *path,
+                target: None,
+            }),
+            Task::Change(Move::Do { command, .. }) => Some(TaskPaths {
+                path: *command.path()?,
+                target: command.target().copied(),
+            }),
             _ => None,
         }
-    }
-
-    /// One path.
-    fn alone(path: &'a [u8]) -> StepPaths<'a> {
-        StepPaths { path, target: None }
     }
 
     /// The text of a front. Takes no memory.

@@ -1,26 +1,27 @@
+-- A folder isn't read, or the image's file isn't at hand, or the folder is packed.
 use Rattle.std.proofs.Common.{rules, ◌≡◌, List, Some, None, refl, sym, ap, subst, ◌∙◌, inl, inr}
 use Rattle.std.proofs.lemmas.Result.{err_from_is_err_and}
 use Rattle.lfs_command.specs.declared.refusal.Refusal.TheVariants.{Memory as No_memory}
 use Rattle.lfs_change.specs.declared.fault.Fault.TheVariants.{Refused}
+use Rattle.lfs_exchange.specs.declared.step_kind.StepKind.TheVariants.{Makes}
 use Rattle.lfs_folder.specs.declared.folder_row.FolderRow.{FolderRow}
 use Rattle.lfs_folder.specs.FolderRows.{IsFolder}
+use Rattle.lfs_fs.specs.Limits.{most_file}
 use Rattle.lfs_host.specs.Scene.{Scene}
 use Rattle.lfs_pack.specs.declared.pack_row.PackRow.{PackRow}
-use Rattle.lfs_request.specs.Asking.{IsExtent}
-use Rattle.lfs_step.specs.declared.step.Step.TheVariants.{Pack}
-use Rattle.lfs_fs.specs.Limits.{most_file}
 use Rattle.lfs_report.specs.Stop.{stopped_by}
-use Rattle.lfs_serve.specs.Program.{EndsStep}
+use Rattle.lfs_step.specs.declared.step.Step.TheVariants.{Pack}
+use Rattle.lfs_serve.specs.HostFolder.{PacksFolder}
 use Rattle.lfs_serve.proofs.HostFolderLemmas.{packs, wants_memory}
-use Rattle.lfs_serve.proofs.StepLemmas.{step_from, stopped_at}
-use Rattle.lfs_serve.proofs.serving.packed.Goals as goal
+use Rattle.lfs_serve.proofs.StepLemmas.{step_at, stopped_at}
+use Rattle.lfs_serve.proofs.packing.packed.Goals as goal
 
 pub returns-in_err-folder-clause-ended : goal.returns-in_err-folder-clause-ended
 returns-in_err-folder-clause-ended g c =
     let fault = c.in_err-folder.field-0.0 in
     let p = err_from_is_err_and c.from_residual.result c.from_residual.ensures.1 in
     let kept = c.folder_of.ensures.kept in
-    inr ((kept.0.0, kept.0.2), (fault, stopped_at c.from_residual.result fault p.0 p.1 p.2, c.in_err-folder.ensures.refused))
+    inr ((kept.0.0, kept.0.2), (fault, stopped_at c.from_residual.result fault p.0 p.1 p.2, inl c.in_err-folder.ensures.refused))
 
 pub returns-in_err-rows-clause-ended : goal.returns-in_err-rows-clause-ended
 returns-in_err-rows-clause-ended g c =
@@ -31,7 +32,7 @@ returns-in_err-rows-clause-ended g c =
       (
         Refused No_memory,
         stopped_at c.from_residual-in_err-rows.result (Refused No_memory) p.0 p.1 p.2,
-        wants_memory (g.H.Known.known c.args.host.now).tree c.args.dir.now (g.H.Known.known c.folder_of.new.host),
+        inl (wants_memory (g.H.Known.known c.args.host.now).tree c.args.dir.now (g.H.Known.known c.folder_of.new.host)),
       ),
     )
 
@@ -44,14 +45,32 @@ returns-in_err-count-clause-ended g c =
       (
         Refused No_memory,
         stopped_at c.from_residual-in_err-count.result (Refused No_memory) p.0 p.1 p.2,
-        wants_memory (g.H.Known.known c.args.host.now).tree c.args.dir.now (g.H.Known.known c.folder_of.new.host),
+        inl (wants_memory (g.H.Known.known c.args.host.now).tree c.args.dir.now (g.H.Known.known c.folder_of.new.host)),
       ),
+    )
+
+pub returns-in_err-handed-clause-ended : goal.returns-in_err-handed-clause-ended
+returns-in_err-handed-clause-ended g c =
+    let old : Scene = g.H.Known.known c.args.host.now in
+    let rows = c.in_ok-rows.rows.items in
+    let folder = c.deref.result.now in
+    let folder_is : folder ≡ c.in_ok-folder.folder.items = search rules in
+    let read = subst (λ (rs : List FolderRow). IsFolder most_file old.tree c.args.dir.now rs) (sym folder_is) c.in_ok-folder.ensures.read in
+    let packed = packs old.tree c.args.dir.now folder rows read c.in_ok-rows.ensures in
+    let fault = c.in_err-handed.field-0.0 in
+    let on = c.from_residual-in_err-handed in
+    let p = err_from_is_err_and on.result on.ensures.1 in
+    let first = c.folder_of.ensures.kept.0 in
+    let then = c.taken_up.ensures.kept.0 in
+    inr (
+      (then.0 ∙ first.0, then.2 ∙ first.2),
+      (fault, stopped_at on.result fault p.0 p.1 p.2, inr (Makes, (refl, (rows, packed)), c.in_err-handed.ensures.refused)),
     )
 
 pub returns-in-Ok-clause-ended : goal.returns-in-Ok-clause-ended
 returns-in-Ok-clause-ended g c =
     let old : Scene = g.H.Known.known c.args.host.now in
-    let mid : Scene = g.H.Known.known c.folder_of.new.host in
+    let mid : Scene = g.H.Known.known c.taken_up.new.host in
     let new : Scene = g.H.Known.known c.stepped.new.host in
     let request = c.args.request.now in
     let dir = c.args.dir.now in
@@ -59,21 +78,19 @@ returns-in-Ok-clause-ended g c =
     let folder = c.deref.result.now in
     let folder_is : folder ≡ c.in_ok-folder.folder.items = search rules in
     let read = subst (λ (rs : List FolderRow). IsFolder most_file old.tree dir rs) (sym folder_is) c.in_ok-folder.ensures.read in
-    let packed = packs old.tree dir folder rows read c.in_ok-rows.ensures in
     let rows_is : c.as_slice-rows.result.now ≡ rows = search rules in
-    let counts = subst (λ (rs : List PackRow). IsExtent request.size c.args.limits rs c.args.extent c.in_ok-count.count) rows_is
-    c.in_ok-count.ensures in
+    let packed = subst (λ (rs : List PackRow). PacksFolder old.tree dir rs) (sym rows_is) (packs old.tree dir folder rows read c.in_ok-rows.ensures) in
     let step = Pack c.in_ok-count.count c.args.limits c.as_slice-rows.result in
-    let kept = c.folder_of.ensures.kept.0 in
-    let ended = subst (EndsStep step request.takes_older request.size request.keep request.image.now mid new) (ap stopped_by c.in-Ok.is) c.stepped.ensures.ended in
-    let ends = step_from step request.takes_older request.size request.keep request.image.now mid old new None kept.0 kept.1 kept.2
-    ended in
-    inl (step, (rows, packed, (counts, refl, rows_is)), ends)
+    let first = c.folder_of.ensures.kept.0 in
+    let then = c.taken_up.ensures.kept.0 in
+    let ends = step_at step request.takes_older request.size request.image.now mid old new None (stopped_by c.stepped.result)
+    (then.0 ∙ first.0) (then.2 ∙ first.2) (sym (ap stopped_by c.in-Ok.is)) c.stepped.ensures.ended in
+    inl (step, (packed, c.in_ok-count.ensures, refl), ends)
 
 pub returns-clause-ended : goal.returns-clause-ended
 returns-clause-ended g c =
     let old : Scene = g.H.Known.known c.args.host.now in
-    let mid : Scene = g.H.Known.known c.folder_of.new.host in
+    let mid : Scene = g.H.Known.known c.taken_up.new.host in
     let new : Scene = g.H.Known.known c.stepped.new.host in
     let request = c.args.request.now in
     let dir = c.args.dir.now in
@@ -81,14 +98,12 @@ returns-clause-ended g c =
     let folder = c.deref.result.now in
     let folder_is : folder ≡ c.in_ok-folder.folder.items = search rules in
     let read = subst (λ (rs : List FolderRow). IsFolder most_file old.tree dir rs) (sym folder_is) c.in_ok-folder.ensures.read in
-    let packed = packs old.tree dir folder rows read c.in_ok-rows.ensures in
     let rows_is : c.as_slice-rows.result.now ≡ rows = search rules in
-    let counts = subst (λ (rs : List PackRow). IsExtent request.size c.args.limits rs c.args.extent c.in_ok-count.count) rows_is
-    c.in_ok-count.ensures in
+    let packed = subst (λ (rs : List PackRow). PacksFolder old.tree dir rs) (sym rows_is) (packs old.tree dir folder rows read c.in_ok-rows.ensures) in
     let step = Pack c.in_ok-count.count c.args.limits c.as_slice-rows.result in
-    let kept = c.folder_of.ensures.kept.0 in
-    let ended = subst (EndsStep step request.takes_older request.size request.keep request.image.now mid new)
-    (ap stopped_by c.in-Err.is ∙ ap Some (sym (c.with_row.ensures ∙ c.with_need-stop.ensures))) c.stepped.ensures.ended in
-    let ends = step_from step request.takes_older request.size request.keep request.image.now mid old new (Some c.with_row.result.fault) kept.0 kept.1 kept.2
-    ended in
-    inl (step, (rows, packed, (counts, refl, rows_is)), ends)
+    let first = c.folder_of.ensures.kept.0 in
+    let then = c.taken_up.ensures.kept.0 in
+    let told = ap Some (c.with_row.ensures ∙ c.with_need-stop.ensures) ∙ sym (ap stopped_by c.in-Err.is) in
+    let ends = step_at step request.takes_older request.size request.image.now mid old new (Some c.with_row.result.fault) (stopped_by c.stepped.result)
+    (then.0 ∙ first.0) (then.2 ∙ first.2) told c.stepped.ensures.ended in
+    inl (step, (packed, c.in_ok-count.ensures, refl), ends)

@@ -1,0 +1,51 @@
+//! What is below a folder of the host, packed into a new image.
+
+ghost use Rattle.lfs_fs.specs.Superblock.{IsLimits};
+ghost use Rattle.lfs_report.specs.Stop.{stopped_by};
+ghost use Rattle.lfs_request.specs.declared.task.Task.TheVariants.{Pack};
+ghost use Rattle.lfs_serve.specs.Program.{EndsTask, TaskLeavesRest};
+
+use crate::host_folder::{folder_of, pack_rows};
+use crate::least::counted;
+use crate::stepping::stepped;
+use lfs_exchange::{StepKind, taken_up};
+use lfs_fs::Limits;
+use lfs_host::Host;
+use lfs_report::{Beside, Stop, with_need, with_row};
+use lfs_request::{Extent, Request};
+use lfs_step::Step;
+use std::alloc::Global;
+
+/// Packs what is below a folder of the host: the folder is read first. Takes memory.
+pub(crate) fn packed<H: Host>(
+    alloc: Global,
+    host: &mut H,
+    request: &Request<'_>,
+    beside: &mut Beside,
+    extent: Extent,
+    limits: Limits,
+    dir: &str,
+) -> Result<(), Stop>
+    requires { IsLimits limits }
+    ensures ended { EndsTask (Pack extent limits dir.entry) request.now.takes_older request.now.size request.now.image.now
+        (H.known host.old) (H.known host.new) (stopped_by result) }
+    ensures rest { TaskLeavesRest (Pack extent limits dir.entry) (H.known host.old) (H.known host.new) }
+{
+    let folder = folder_of(alloc, host, dir)?;
+    let rows = pack_rows(alloc, &folder)?;
+    let rows = rows.as_slice();
+    let count = counted(alloc, request.size, extent, limits, rows)?;
+    let handed = taken_up(alloc, host, StepKind::Makes, request.image)?;
+    let step = Step::Pack {
+        count,
+        limits,
+        rows,
+    };
+    match stepped(alloc, host, request, beside, handed, step) {
+        Ok(()) => Ok(()),
+        Err(stop) => {
+            let stop = with_need(alloc, request.size, limits, rows, stop);
+            Err(with_row(alloc, limits, rows, beside, stop))
+        }
+    }
+}

@@ -1,0 +1,87 @@
+//! Tasks whose words say all of a step but for bytes that are read once the image is.
+
+ghost use Rattle.lfs_fs.specs.Superblock.{IsLimits};
+ghost use Rattle.lfs_report.specs.Stop.{stopped_by};
+ghost use Rattle.lfs_request.specs.Task.{IsTaskInRange};
+ghost use Rattle.lfs_request.specs.declared.task.Task.TheVariants.{Ask, Change, Forget, Format};
+ghost use Rattle.lfs_serve.specs.Program.{EndsTask, TaskLeavesRest};
+
+use crate::stepping::stepped;
+use lfs_exchange::{StepKind, input_of, kind_of_query, question_of, taken_up};
+use lfs_fs::Limits;
+use lfs_history::{Move, Source, filled};
+use lfs_host::Host;
+use lfs_report::{Beside, Stop};
+use lfs_request::Request;
+use lfs_step::{Query, Step};
+use std::alloc::Global;
+
+/// Makes a new image. Takes memory.
+pub(crate) fn formatted<H: Host>(
+    alloc: Global,
+    host: &mut H,
+    request: &Request<'_>,
+    beside: &mut Beside,
+    count: u32,
+    limits: Limits,
+) -> Result<(), Stop>
+    requires { IsLimits limits }
+    ensures ended { EndsTask (Format count limits) request.now.takes_older request.now.size request.now.image.now
+        (H.known host.old) (H.known host.new) (stopped_by result) }
+    ensures rest { TaskLeavesRest (Format count limits) (H.known host.old) (H.known host.new) }
+{
+    let handed = taken_up(alloc, host, StepKind::Makes, request.image)?;
+    let step = Step::Format { count, limits };
+    stepped(alloc, host, request, beside, handed, step)
+}
+
+/// Asks something of an image: another image is read last. Takes memory.
+pub(crate) fn queried<H: Host>(
+    alloc: Global,
+    host: &mut H,
+    request: &Request<'_>,
+    beside: &mut Beside,
+    query: &Query<'_, &str>,
+) -> Result<(), Stop>
+    ensures ended { EndsTask (Ask query.now) request.now.takes_older request.now.size request.now.image.now
+        (H.known host.old) (H.known host.new) (stopped_by result) }
+    ensures rest { TaskLeavesRest (Ask query.now) (H.known host.old) (H.known host.new) }
+{
+    let handed = taken_up(alloc, host, kind_of_query(query), request.image)?;
+    let question = question_of(alloc, host, query)?;
+    stepped(alloc, host, request, beside, handed, Step::Ask(question))
+}
+
+/// Forgets all but an image. Takes memory.
+pub(crate) fn forgotten<H: Host>(
+    alloc: Global,
+    host: &mut H,
+    request: &Request<'_>,
+    beside: &mut Beside,
+) -> Result<(), Stop>
+    ensures ended { EndsTask Forget request.now.takes_older request.now.size request.now.image.now
+        (H.known host.old) (H.known host.new) (stopped_by result) }
+    ensures rest { TaskLeavesRest Forget (H.known host.old) (H.known host.new) }
+{
+    let handed = taken_up(alloc, host, StepKind::Forgets, request.image)?;
+    stepped(alloc, host, request, beside, handed, Step::Forget)
+}
+
+/// Takes a step on an image's history: the contents that it puts are read last. Takes memory.
+pub(crate) fn changed<H: Host>(
+    alloc: Global,
+    host: &mut H,
+    request: &Request<'_>,
+    beside: &mut Beside,
+    step: &Move<'_, Source<'_>>,
+) -> Result<(), Stop>
+    requires { IsTaskInRange (Change step.now) }
+    ensures ended { EndsTask (Change step.now) request.now.takes_older request.now.size request.now.image.now
+        (H.known host.old) (H.known host.new) (stopped_by result) }
+    ensures rest { TaskLeavesRest (Change step.now) (H.known host.old) (H.known host.new) }
+{
+    let handed = taken_up(alloc, host, StepKind::Changes, request.image)?;
+    let input = input_of(alloc, host, step)?;
+    let steps = [filled(step, &input)];
+    stepped(alloc, host, request, beside, handed, Step::Change(&steps))
+}

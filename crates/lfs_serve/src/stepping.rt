@@ -1,0 +1,103 @@
+//! A step on an image's file.
+
+ghost use Rattle.std.specs.Prelude.{◌≡◌, IfOk, string_bytes};
+ghost use Rattle.lfs_exchange.specs.Handing.{IsClaimed, IsHanded};
+ghost use Rattle.lfs_exchange.specs.StepKind.{kind_of};
+ghost use Rattle.lfs_host.specs.Files.{IsTarget};
+ghost use Rattle.lfs_host.specs.Scene.{KeepsInput};
+ghost use Rattle.lfs_report.specs.Stop.{stopped_by};
+ghost use Rattle.lfs_step.specs.Outcome.{Answers, SendsText, given};
+ghost use Rattle.lfs_step.specs.Step.{IsStepInRange};
+ghost use Rattle.lfs_serve.specs.Program.{EndsStep, IsBlamed};
+
+use crate::later::{later_read, must_be_read};
+use crate::new_image::with_new_image;
+use lfs_exchange::{Handed, Output, stored};
+use lfs_host::Host;
+use lfs_report::{Beside, Seen, Stop, stop_of_run};
+use lfs_request::Request;
+use lfs_step::{Outcome, Step, run};
+use std::alloc::Global;
+
+/// Takes a step on the files of an image that were taken up for it, and writes what it leaves. The caller owes that they are those of the
+/// request's image, as they are known, and that this run has claimed the name, where a file is to be changed. Takes memory.
+pub(crate) fn stepped<H: Host>(
+    alloc: Global,
+    host: &mut H,
+    request: &Request<'_>,
+    beside: &mut Beside,
+    handed: Handed,
+    step: Step<'_>,
+) -> Result<(), Stop>
+    requires kind { handed.kind ≡ kind_of step }
+    requires range { IsStepInRange step }
+    requires target { IsTarget (H.known host.old).files request.now.image.now (string_bytes handed.target) }
+    requires claimed { IsClaimed handed.kind (H.known host.old) (string_bytes handed.target) }
+    requires handed { IsHanded handed.kind request.now.image.now (H.known host.old)
+        (record { image = handed.image.items; journal = handed.journal.items }) }
+    ensures ended { EndsStep step.entry request.now.takes_older request.now.size request.now.image.now
+        (H.known host.old) (H.known host.new) (stopped_by result) }
+    ensures typed { (H.known host.new).typed ≡ (H.known host.old).typed }
+    ensures made { (H.known host.new).made ≡ (H.known host.old).made }
+{
+    let found = later_read(&step, request.size, &handed.image);
+    must_be_read(request.takes_older, found)?;
+    beside.later = found;
+    let Handed {
+        kind,
+        target,
+        image,
+        journal,
+    } = handed;
+    match taken(alloc, host, request, step, image, journal) {
+        Ok(outcome) => Ok(stored(alloc, host, kind, target.as_str(), &outcome)?),
+        Err(stop) => {
+            let name = target.as_str();
+            Err(with_new_image(alloc, host, request.size, name, stop))
+        }
+    }
+}
+
+/// Takes a step on what it is handed, and answers what it leaves.
+fn taken<H: Host>(
+    alloc: Global,
+    host: &mut H,
+    request: &Request<'_>,
+    step: Step<'_>,
+    image: Vec<u8>,
+    journal: Vec<u8>,
+) -> Result<Outcome, Stop>
+    requires { IsStepInRange step }
+    ensures ran { (outcome : Outcome) × Answers step.entry (given request.now.size image.items journal.items) outcome
+        × (outcome.fault ≡ stopped_by result)
+        × SendsText step.entry (given request.now.size image.items journal.items) (stopped_by result) (H.known host.old).printed (H.known host.new).printed
+        × IfOk result (λ left. left ≡ outcome) }
+    ensures blamed { IsBlamed (stopped_by result) (H.known host.new) }
+    ensures kept { KeepsInput (H.known host.old) (H.known host.new) }
+{
+    let seen = Seen::of(&step);
+    let outcome = ran(alloc, host, request.size, step, image, journal);
+    match outcome.fault {
+        None => Ok(outcome),
+        Some(fault) => Err(stop_of_run(alloc, request, fault, outcome, seen)),
+    }
+}
+
+/// Runs a step on what it is handed.
+fn ran<H: Host>(
+    alloc: Global,
+    host: &mut H,
+    size: u32,
+    step: Step<'_>,
+    image: Vec<u8>,
+    journal: Vec<u8>,
+) -> Outcome
+    requires { IsStepInRange step }
+    ensures answers { Answers step.entry (given size image.items journal.items) result }
+    ensures sent { SendsText step.entry (given size image.items journal.items) result.fault (H.known host.old).printed (H.known host.new).printed }
+    ensures blamed { IsBlamed result.fault (H.known host.new) }
+    ensures kept { KeepsInput (H.known host.old) (H.known host.new) }
+{
+    let out = &mut Output::new(host);
+    run(alloc, step, size, image, journal, out)
+}
