@@ -94,10 +94,10 @@ number_within E G f id (Some n) only some = λ rule is number said.
 
 -- ---- how many images are kept
 
-pub kept_as_said : (r : Option ℕ) (name : Text) (rows : List Row) → is_change name ≡ true
-    → IfSome r (λ n. HasNumber rows (codes "keep") n) → (IsNone r → IsSaid keep rows → ⊥) → IsKept r name rows
-kept_as_said None name rows changes has none = λ again said. none refl said
-kept_as_said (Some n) name rows changes has none = (changes, has)
+pub kept_as_said : (r : Option ℕ) (rows : List Row) → IfSome r (λ n. HasNumber rows (codes "keep") n)
+    → (IsNone r → IsSaid keep rows → ⊥) → IsKept r rows
+kept_as_said None rows has none = none refl
+kept_as_said (Some n) rows has none = has
 
 pub kept_within : (r : Option ℕ) (name : Text) (rows : List Row) → is_change name ≡ true
     → IfSome r (λ n. HasNumber rows (codes "keep") n)

@@ -1,30 +1,33 @@
 -- What the words of a command line ask for (own).
-use Rattle.std.specs.Prelude.{ℕ, Bool, true, false, ◌≡◌, ◌⊎◌, ⊤, List, [], ◌∷◌, Option, None, Some, codes, map, option_map}
+use Rattle.std.specs.Prelude.{ℕ, Bool, true, false, ◌≡◌, ◌⊎◌, ◌||◌, ⊤, List, [], ◌∷◌, Option, None, Some, codes, map, option_map}
 use Rattle.std.specs.Borrow.{Bor}
 use Rattle.std.specs.List.{list_any}
 use Rattle.std.specs.Option.{option_map_or}
 use Rattle.std.specs.Str.{bytes_eq}
 use Rattle.std.specs.Str.Parse.{digits_value, without_leading_plus}
 use Rattle.clap.specs.Words.{Row, Text, all_of, first_of, one_of}
-use Rattle.lfs_grammar.specs.Grammar.{IsSaid, is_change, keep}
+use Rattle.lfs_grammar.specs.Grammar.{IsSaid, keep}
+use Rattle.lfs_command.specs.declared.command.Command.{Command}
+use Rattle.lfs_command.specs.declared.command.Command.TheVariants.{Mkdir, Put, Rm, Mv, SetAttr, RmAttr, Grow}
 use Rattle.lfs_fs.specs.declared.limits.Limits.{Limits}
-use Rattle.lfs_history.specs.Taking.{MayKeep}
-use Rattle.lfs_request.specs.Asking.{IsTaskInRange}
+use Rattle.lfs_history.specs.declared.moves.Move.TheVariants as move
+use Rattle.lfs_history.specs.declared.moves.Move.TheVariants.{Do, Undo, Redo}
+use Rattle.lfs_history.specs.declared.source.Source.{Source}
+use Rattle.lfs_history.specs.declared.source.Source.TheVariants.{Input, File, Said}
 use Rattle.lfs_request.specs.declared.extent.Extent.{Extent}
 use Rattle.lfs_request.specs.declared.extent.Extent.TheVariants.{Count, Least}
 use Rattle.lfs_request.specs.declared.request.Request.{Request}
-use Rattle.lfs_texts.specs.Sizes.{IsSizeFault, SaysBlock, SaysBlocks, SaysNoBlock}
-use Rattle.lfs_words.specs.declared.auto_sizes.AutoSizes.{AutoSizes}
-use Rattle.lfs_words.specs.declared.misuse.Misuse.{Misuse}
-use Rattle.lfs_words.specs.declared.misuse.Misuse.TheVariants.{Block, NoCount, TwoCounts, Size}
-use Rattle.lfs_words.specs.declared.wish.Wish.{Wish}
-use Rattle.lfs_words.specs.declared.wish.Wish.TheVariants as wish
 use Rattle.lfs_request.specs.declared.task.Task.{Task}
 use Rattle.lfs_request.specs.declared.task.Task.TheVariants as task
-use Rattle.lfs_request.specs.declared.task.Task.TheVariants.{Pack, Extract, SetAttr, RmAttr, Batch}
-use Rattle.lfs_step.specs.declared.step.Step.{Step}
-use Rattle.lfs_step.specs.declared.step.Step.TheVariants.{Format, Check, Ls, Cat, Diff, Log, Mkdir, Put, Rm, Mv, Grow}
-use Rattle.lfs_step.specs.declared.step.Step.TheVariants.{Undo, Redo, Forget}
+use Rattle.lfs_request.specs.declared.task.Task.TheVariants.{Format, Pack, Extract, Ask, Change, Batch}
+use Rattle.lfs_step.specs.declared.query.Query.{Query}
+use Rattle.lfs_step.specs.declared.query.Query.TheVariants.{Check, Ls, Cat, Diff, Log}
+use Rattle.lfs_texts.specs.Digits.{SpellsByte, SpellsBytes, SpellsNoByte, SpellsNoBytes}
+use Rattle.lfs_texts.specs.Sizes.{IsSizeFault, SaysBlock, SaysBlocks, SaysNoBlock}
+use Rattle.lfs_texts.specs.declared.reason.Reason.TheVariants.{BadKind, BadValue}
+use Rattle.lfs_words.specs.declared.auto_sizes.AutoSizes.{AutoSizes}
+use Rattle.lfs_words.specs.declared.misuse.Misuse.{Misuse}
+use Rattle.lfs_words.specs.declared.misuse.Misuse.TheVariants.{Block, NoCount, TwoCounts, Size, Hex}
 
 -- an option's text
 abbrev pub HasText : List Row → Text → Text → Type 0
@@ -73,48 +76,65 @@ SaysLimits rows limits =
     × HasNumber rows (codes "file-max") limits.file
     × HasNumber rows (codes "attr-max") limits.attribute
 
--- the step that a command and its options say on an image of this block size, where another image has blocks of the second one
-abbrev pub IsStep : Step → Text → List Row → ℕ → ℕ → Type 0
-IsStep (Format count limits) name rows block other = (name ≡ codes "format") × SaysCount rows block count × SaysLimits rows limits
-IsStep Check name rows block other = name ≡ codes "check"
-IsStep Ls name rows block other = name ≡ codes "ls"
-IsStep (Diff name_of_other size) name rows block other =
-    (name ≡ codes "diff") × HasText rows (codes "other") name_of_other.now × (size ≡ other)
-IsStep Log name rows block other = name ≡ codes "log"
-IsStep (Undo steps) name rows block other = (name ≡ codes "undo") × HasNumber rows (codes "steps") steps
-IsStep (Redo steps) name rows block other = (name ≡ codes "redo") × HasNumber rows (codes "steps") steps
-IsStep Forget name rows block other = name ≡ codes "forget"
-IsStep (Cat path) name rows block other = (name ≡ codes "cat") × HasText rows (codes "path") path.now
-IsStep (Mkdir path) name rows block other = (name ≡ codes "mkdir") × HasText rows (codes "path") path.now
-IsStep (Put path from) name rows block other =
-    (name ≡ codes "put")
-    × HasText rows (codes "path") path.now
-    × (option_map (λ file. file.now) from ≡ first_of (codes "contents") rows)
-IsStep (Rm path) name rows block other = (name ≡ codes "rm") × HasText rows (codes "path") path.now
-IsStep (Mv from to) name rows block other =
-    (name ≡ codes "mv") × HasText rows (codes "from") from.now × HasText rows (codes "to") to.now
-IsStep (Grow count) name rows block other = (name ≡ codes "grow") × SaysCount rows block count
-IsStep _ name rows block other = ⊥
+-- where the contents of a file that is put come from: a file of the host, or standard input where none is said
+abbrev pub HasContents : List Row → Source → Type 0
+HasContents rows (File name) = HasText rows (codes "contents") name.now
+HasContents rows Input = HasNone rows (codes "contents")
+HasContents rows (Said bytes) = ⊥
 
--- the task that a command and its options ask for on an image of this block size, where another image has blocks of the second one
+-- the byte, or the bytes, whose hexadecimal digits an option's text is
+abbrev pub HasByte : List Row → Text → ℕ → Type 0
+HasByte rows id byte = (digits : Text) × HasText rows id digits × SpellsByte digits byte
+
+abbrev pub HasBytes : List Row → Text → List ℕ → Type 0
+HasBytes rows id bytes = (digits : Text) × HasText rows id digits × SpellsBytes digits bytes
+
+-- the command that a name and its options say on an image of this block size
+abbrev pub IsCommand : Command (Bor (List ℕ)) Source → Text → List Row → ℕ → Type 0
+IsCommand (Mkdir path) name rows block = (name ≡ codes "mkdir") × HasText rows (codes "path") path.now
+IsCommand (Put path source) name rows block =
+    (name ≡ codes "put") × HasText rows (codes "path") path.now × HasContents rows source
+IsCommand (Rm path) name rows block = (name ≡ codes "rm") × HasText rows (codes "path") path.now
+IsCommand (Mv from to) name rows block =
+    (name ≡ codes "mv") × HasText rows (codes "from") from.now × HasText rows (codes "to") to.now
+IsCommand (SetAttr path kind (Said value)) name rows block =
+    (name ≡ codes "setattr")
+    × HasText rows (codes "path") path.now
+    × HasByte rows (codes "kind") kind
+    × HasBytes rows (codes "hex") value.items
+IsCommand (RmAttr path kind) name rows block =
+    (name ≡ codes "rmattr") × HasText rows (codes "path") path.now × HasByte rows (codes "kind") kind
+IsCommand (Grow count) name rows block = (name ≡ codes "grow") × SaysCount rows block count
+IsCommand _ name rows block = ⊥
+
+-- how many images of the past are kept behind a command: so many as are said, or all
+abbrev pub IsKept : Option ℕ → List Row → Type 0
+IsKept (Some number) rows = HasNumber rows (codes "keep") number
+IsKept None rows = IsSaid keep rows → ⊥
+
+-- the query that a name and its options say, where another image has blocks of this size
+abbrev pub IsQuery : Query (Bor (List ℕ)) → Text → List Row → ℕ → Type 0
+IsQuery Check name rows other = name ≡ codes "check"
+IsQuery Ls name rows other = name ≡ codes "ls"
+IsQuery (Cat path) name rows other = (name ≡ codes "cat") × HasText rows (codes "path") path.now
+IsQuery (Diff name_of_other size) name rows other =
+    (name ≡ codes "diff") × HasText rows (codes "other") name_of_other.now × (size ≡ other)
+IsQuery Log name rows other = name ≡ codes "log"
+
+-- the task that a name and its options ask for on an image of this block size, where another image has blocks of the second one
 abbrev pub IsTask : Task → Text → List Row → ℕ → ℕ → Type 0
-IsTask (task.Step step) name rows block other = IsStep step name rows block other
+IsTask (Format count limits) name rows block other = (name ≡ codes "format") × SaysCount rows block count × SaysLimits rows limits
 IsTask (Pack extent limits dir) name rows block other =
     (name ≡ codes "pack") × SaysExtent rows block extent × SaysLimits rows limits × HasText rows (codes "dir") dir.now
 IsTask (Extract dir) name rows block other = (name ≡ codes "extract") × HasText rows (codes "dir") dir.now
-IsTask (SetAttr path kind value) name rows block other =
-    (name ≡ codes "setattr")
-    × HasText rows (codes "path") path.now
-    × HasText rows (codes "kind") kind.now
-    × HasText rows (codes "hex") value.now
-IsTask (RmAttr path kind) name rows block other =
-    (name ≡ codes "rmattr") × HasText rows (codes "path") path.now × HasText rows (codes "kind") kind.now
-IsTask (Batch file) name rows block other = (name ≡ codes "batch") × (option_map (λ f. f.now) file ≡ first_of (codes "script") rows)
-
--- how many images of the past are kept: as many as a command says that changes an image, or all where it says no number
-abbrev pub IsKept : Option ℕ → Text → List Row → Type 0
-IsKept (Some number) name rows = (is_change name ≡ true) × HasNumber rows (codes "keep") number
-IsKept None name rows = is_change name ≡ true → IsSaid keep rows → ⊥
+IsTask (Ask query) name rows block other = IsQuery query name rows other
+IsTask task.Forget name rows block other = name ≡ codes "forget"
+IsTask (Change (Do command kept)) name rows block other = IsCommand command name rows block × IsKept kept rows
+IsTask (Change (Undo steps)) name rows block other = (name ≡ codes "undo") × HasNumber rows (codes "steps") steps
+IsTask (Change (Redo steps)) name rows block other = (name ≡ codes "redo") × HasNumber rows (codes "steps") steps
+IsTask (Change move.Forget) name rows block other = ⊥
+IsTask (Batch file kept) name rows block other =
+    (name ≡ codes "batch") × (option_map (λ f. f.now) file ≡ first_of (codes "script") rows) × IsKept kept rows
 
 -- the request that a command and its options ask for, where `auto` stands for these block sizes
 abbrev pub IsRequest : Request → Text → List Row → AutoSizes → Type 0
@@ -122,29 +142,37 @@ IsRequest request name rows stated =
     ((other : ℕ) × HasBlock rows stated.other other × IsTask request.task name rows request.size other)
     × HasBlock rows stated.image request.size
     × HasText rows (codes "image") request.image.now
-    × IsKept request.keep name rows
     × (request.is_new ≡ is_flagged (codes "new") rows)
     × (request.takes_older ≡ is_flagged (codes "older") rows)
 
--- what a command and its options ask for
-abbrev pub IsWish : Wish → Text → List Row → AutoSizes → Type 0
-IsWish (wish.Explanation faults) name rows stated = (name ≡ codes "explain") × HasTexts rows (codes "fault") faults
-IsWish (wish.Request request) name rows stated = IsRequest request name rows stated
+-- what is asked for, by the command that is named with its options, where `auto` stands for these block sizes
+abbrev pub AsksFor : Option (Text × List Row) → AutoSizes → Request → Type 0
+AsksFor named stated request =
+    (name : Text) × (rows : List Row) × (named ≡ Some (name, rows)) × IsRequest request name rows stated
 
--- a command whose step isn't said in full, or that asks for none
+-- it is asked what faults mean
+abbrev pub NamesExplain : Option (Text × List Row) → Type 0
+NamesExplain named = (rows : List Row) × (named ≡ Some (codes "explain", rows))
+
+-- what these faults mean, or all of them
+abbrev pub Explains : Option (Text × List Row) → Option (Bor (List (Bor Text))) → Type 0
+Explains named faults =
+    (rows : List Row) × (named ≡ Some (codes "explain", rows)) × HasTexts rows (codes "fault") faults
+
+-- a command on an image's tree, or its length
+abbrev pub is_command : Text → Bool
+is_command name =
+    list_any (λ command. bytes_eq command name)
+    (codes "mkdir" ∷ codes "put" ∷ codes "rm" ∷ codes "mv" ∷ codes "setattr" ∷ codes "rmattr" ∷ codes "grow" ∷ [])
+
+-- one of these, or the command that explains
 abbrev pub is_other : Text → Bool
-is_other name =
-    list_any (λ other. bytes_eq other name)
-    (codes "pack" ∷ codes "extract" ∷ codes "setattr" ∷ codes "rmattr" ∷ codes "batch" ∷ codes "explain" ∷ [])
+is_other name = is_command name || bytes_eq (codes "explain") name
 
 -- a command that asks something of an image
 abbrev pub is_question : Text → Bool
 is_question name =
     list_any (λ other. bytes_eq other name) (codes "check" ∷ codes "ls" ∷ codes "cat" ∷ codes "diff" ∷ codes "log" ∷ [])
-
--- what is asked for, by the command that is named with its options, where `auto` stands for these block sizes
-abbrev pub AsksFor : Option (Text × List Row) → AutoSizes → Wish → Type 0
-AsksFor named stated wish = (name : Text) × (rows : List Row) × (named ≡ Some (name, rows)) × IsWish wish name rows stated
 
 -- `auto` is said for the block size, and this file is named by an argument
 abbrev pub SaysAuto : Text → Option (Text × List Row) → Text → Type 0
@@ -182,22 +210,37 @@ IsSizeMisuse misuse name rows block =
     (((name ≡ codes "format") ⊎ (name ≡ codes "grow")) × IsCountMisuse misuse rows block)
     ⊎ ((name ≡ codes "pack") × IsExtentMisuse misuse rows block)
 
--- why a command and its options say no request: no block size, of the one image or of the other, or no number of blocks
+-- the digits of a kind spell nothing
+abbrev pub IsKindMisuse : Misuse → Text → List Row → Type 0
+IsKindMisuse (Hex command BadKind digits) name rows =
+    (command.now ≡ name) × HasText rows (codes "kind") digits.now × SpellsNoByte digits.now
+IsKindMisuse _ name rows = ⊥
+
+-- those of a value
+abbrev pub IsValueMisuse : Misuse → Text → List Row → Type 0
+IsValueMisuse (Hex command BadValue digits) name rows =
+    (command.now ≡ name) × HasText rows (codes "hex") digits.now × SpellsNoBytes digits.now
+IsValueMisuse _ name rows = ⊥
+
+-- those of either, the value's only where the kind's spell a byte
+abbrev pub IsHexMisuse : Misuse → Text → List Row → Type 0
+IsHexMisuse misuse name rows =
+    IsKindMisuse misuse name rows ⊎ (((kind : ℕ) × HasByte rows (codes "kind") kind) × IsValueMisuse misuse name rows)
+
+-- why a command says nothing to be done on blocks of this size: no number of them, or digits that spell nothing
+abbrev pub IsCommandMisuse : Misuse → Text → List Row → ℕ → Type 0
+IsCommandMisuse misuse name rows block =
+    IsSizeMisuse misuse name rows block
+    ⊎ ((name ≡ codes "setattr") × IsHexMisuse misuse name rows)
+    ⊎ ((name ≡ codes "rmattr") × IsKindMisuse misuse name rows)
+
+-- why a command and its options say no request: no block size, of the one image or of the other, or nothing to be done
 abbrev pub IsMisuse : Misuse → Text → List Row → AutoSizes → Type 0
 IsMisuse misuse name rows stated =
     IsBlockMisuse misuse rows stated.image
     ⊎ IsBlockMisuse misuse rows stated.other
-    ⊎ ((block : ℕ) × HasBlock rows stated.image block × IsSizeMisuse misuse name rows block)
+    ⊎ ((block : ℕ) × HasBlock rows stated.image block × IsCommandMisuse misuse name rows block)
 
 -- the same of the command that is named with its options
 abbrev pub IsMissaid : Option (Text × List Row) → AutoSizes → Misuse → Type 0
 IsMissaid named stated misuse = (name : Text) × (rows : List Row) × (named ≡ Some (name, rows)) × IsMisuse misuse name rows stated
-
--- what a request keeps may be kept, and the limits of an image that it makes are such that an image may have
-abbrev pub IsInRange : Request → Type 0
-IsInRange request = MayKeep request.keep × IsTaskInRange request.task
-
--- the same of what is asked for
-abbrev pub StaysInRange : Wish → Type 0
-StaysInRange (wish.Explanation faults) = ⊤
-StaysInRange (wish.Request request) = IsInRange request

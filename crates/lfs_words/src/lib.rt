@@ -6,9 +6,9 @@ mod counting;
 mod matching;
 mod misuse;
 mod options;
-mod wish;
+mod spelling;
+mod tasks;
 
 pub use auto_sizes::AutoSizes;
-pub use matching::{auto_image, auto_other, wished};
+pub use matching::{auto_image, auto_other, faults_asked, request_said};
 pub use misuse::{Misuse, Ways};
-pub use wish::Wish;

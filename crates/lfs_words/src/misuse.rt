@@ -1,7 +1,8 @@
 //! Why the words of a command say no request.
 
 use lfs_grammar::{FORMAT_USAGE, GROW_USAGE, PACK_USAGE};
-use lfs_texts::SizeFault;
+use lfs_texts::{Reason, SizeFault};
+use std::alloc::AllocError;
 use std::fmt;
 
 /// How a command says the number of blocks that an image gets.
@@ -65,6 +66,28 @@ pub enum Misuse<'a> {
         /// What is wrong with it.
         fault: SizeFault,
     },
+    /// The digits of an attribute's kind or value spell nothing.
+    Hex {
+        /// The command's name.
+        command: &'static str,
+        /// What is wrong with them.
+        reason: Reason,
+        /// The digits.
+        digits: &'a str,
+    },
+    /// A growth of memory was refused.
+    Memory,
+}
+
+impl From<AllocError> for Misuse<'_> {
+    ghost use Rattle.std.specs.Prelude.{◌≡◌};
+    ghost use Rattle.lfs_words.specs.declared.misuse.Misuse.TheVariants.{Memory};
+
+    ghost from_gives = { λ error misuse. misuse ≡ Memory };
+
+    fn from(_error: AllocError) -> Self {
+        Misuse::Memory
+    }
 }
 
 impl<'a> fmt::Display for Misuse<'a> {
@@ -85,6 +108,8 @@ impl<'a> fmt::Display for Misuse<'a> {
             Misuse::Size { text, fault } => {
                 write!(f, "invalid value '{text}' for '--size <BYTES>': {fault}")
             }
+            Misuse::Hex { reason, digits, .. } => write!(f, "{reason}: {digits}"),
+            Misuse::Memory => f.write_str("memory is wanting"),
         }
     }
 }

@@ -11,7 +11,7 @@ returns-in_err-size-clause-refused c =
     handed_on on.result c.in_err-size.field-0.0 _ on.ensures.1
     (elim c.in_err-size.ensures.refused [
       | inl unsaid ↦ inl unsaid
-      | inr misuse ↦ inr (inl misuse)
+      | inr misuse ↦ inr (inr (inl misuse))
     ])
 
 pub returns-in_err-size-clause-unsaid : goal.returns-in_err-size-clause-unsaid
@@ -30,7 +30,7 @@ returns-in_err-other-clause-refused c =
     handed_on on.result c.in_err-other.field-0.0 _ on.ensures.1
     (elim c.in_err-other.ensures.refused [
       | inl unsaid ↦ inl unsaid
-      | inr misuse ↦ inr (inr (inl misuse))
+      | inr misuse ↦ inr (inr (inr (inl misuse)))
     ])
 
 pub returns-in_err-other-clause-unsaid : goal.returns-in_err-other-clause-unsaid
@@ -59,5 +59,6 @@ returns-in_err-task_of-clause-refused c =
     handed_on on.result c.in_err-task_of.field-0.0 _ on.ensures.1
     (elim c.in_err-task_of.ensures.refused [
       | inl unsaid ↦ inl unsaid
-      | inr misuse ↦ inr (inr (inr (c.in_ok-size.size, c.in_ok-size.ensures.block.0, misuse)))
+      | inr (inl memory) ↦ inr (inl memory)
+      | inr (inr misuse) ↦ inr (inr (inr (inr (c.in_ok-size.size, c.in_ok-size.ensures.block.0, misuse))))
     ])

@@ -3,7 +3,7 @@ use Rattle.clap.specs.Words.{found_of, rows_of}
 use Rattle.lfs_grammar.specs.Grammar.{word}
 use Rattle.lfs_grammar.proofs.CommandLemmas.{said_of}
 use Rattle.lfs_words.proofs.Handed.{handed_on}
-use Rattle.lfs_words.proofs.matching.question_of.Goals as goal
+use Rattle.lfs_words.proofs.tasks.question_of.Goals as goal
 
 pub returns-in_err-bytes-in-cat-clause-unsaid : goal.returns-in_err-bytes-in-cat-clause-unsaid
 returns-in_err-bytes-in-cat-clause-unsaid c =

@@ -1,0 +1,124 @@
+use Rattle.std.proofs.Common.{codes, inl, inr, refl, subst, sym}
+use Rattle.clap.specs.Words.{Text, found_of, rows_of}
+use Rattle.lfs_grammar.specs.Grammar.{new_count, word}
+use Rattle.lfs_grammar.proofs.CommandLemmas.{new_count_is, said_of, says_of}
+use Rattle.lfs_words.specs.Words.{IsHexMisuse, IsKindMisuse}
+use Rattle.lfs_words.proofs.Handed.{handed_on}
+use Rattle.lfs_words.proofs.tasks.command_of.Goals as goal
+
+pub returns-in_err-bytes-in-mkdir-clause-unsaid : goal.returns-in_err-bytes-in-mkdir-clause-unsaid
+returns-in_err-bytes-in-mkdir-clause-unsaid c =
+    let on = c.from_residual in
+    handed_on on.result c.in_err-bytes-in-mkdir.field-0.0 _ on.ensures.1
+    (λ is names.
+    let said = said_of c.args.name.now (codes "mkdir") (rows_of (found_of c.args.options.now)) c.in-mkdir.is names in
+    absurd (c.in_err-bytes-in-mkdir.ensures.none.1 (word (codes "path")) refl (said.1.1.0 refl)))
+
+pub returns-in_err-bytes-in-put-clause-unsaid : goal.returns-in_err-bytes-in-put-clause-unsaid
+returns-in_err-bytes-in-put-clause-unsaid c =
+    let on = c.from_residual-in_err-bytes-in-put in
+    handed_on on.result c.in_err-bytes-in-put.field-0.0 _ on.ensures.1
+    (λ is names.
+    let said = said_of c.args.name.now (codes "put") (rows_of (found_of c.args.options.now)) c.in-put.is names in
+    absurd (c.in_err-bytes-in-put.ensures.none.1 (word (codes "path")) refl (said.1.1.0 refl)))
+
+pub returns-in_err-bytes-in-rm-clause-unsaid : goal.returns-in_err-bytes-in-rm-clause-unsaid
+returns-in_err-bytes-in-rm-clause-unsaid c =
+    let on = c.from_residual-in_err-bytes-in-rm in
+    handed_on on.result c.in_err-bytes-in-rm.field-0.0 _ on.ensures.1
+    (λ is names.
+    let said = said_of c.args.name.now (codes "rm") (rows_of (found_of c.args.options.now)) c.in-rm.is names in
+    absurd (c.in_err-bytes-in-rm.ensures.none.1 (word (codes "path")) refl (said.1.1.0 refl)))
+
+pub returns-in_err-bytes-in-mv-clause-unsaid : goal.returns-in_err-bytes-in-mv-clause-unsaid
+returns-in_err-bytes-in-mv-clause-unsaid c =
+    let on = c.from_residual-in_err-bytes-in-mv in
+    handed_on on.result c.in_err-bytes-in-mv.field-0.0 _ on.ensures.1
+    (λ is names.
+    let said = said_of c.args.name.now (codes "mv") (rows_of (found_of c.args.options.now)) c.in-mv.is names in
+    absurd (c.in_err-bytes-in-mv.ensures.none.1 (word (codes "from")) refl (said.1.1.0 refl)))
+
+pub returns-in_err-bytes-in-mv-2-clause-unsaid : goal.returns-in_err-bytes-in-mv-2-clause-unsaid
+returns-in_err-bytes-in-mv-2-clause-unsaid c =
+    let on = c.from_residual-in_err-bytes-in-mv-2 in
+    handed_on on.result c.in_err-bytes-in-mv-2.field-0.0 _ on.ensures.1
+    (λ is names.
+    let said = said_of c.args.name.now (codes "mv") (rows_of (found_of c.args.options.now)) c.in-mv.is names in
+    absurd (c.in_err-bytes-in-mv-2.ensures.none.1 (word (codes "to")) refl (said.1.1.1.0 refl)))
+
+pub returns-in_err-path-in-setattr-clause-unsaid : goal.returns-in_err-path-in-setattr-clause-unsaid
+returns-in_err-path-in-setattr-clause-unsaid c =
+    let on = c.from_residual-in_err-path-in-setattr in
+    handed_on on.result c.in_err-path-in-setattr.field-0.0 _ on.ensures.1
+    (λ is names.
+    let said = said_of c.args.name.now (codes "setattr") (rows_of (found_of c.args.options.now)) c.in-setattr.is names in
+    absurd (c.in_err-path-in-setattr.ensures.none.1 (word (codes "path")) refl (said.1.1.0 refl)))
+
+pub returns-in_err-kind-in-setattr-clause-refused : goal.returns-in_err-kind-in-setattr-clause-refused
+returns-in_err-kind-in-setattr-clause-refused c =
+    let on = c.from_residual-in_err-kind-in-setattr in
+    handed_on on.result c.in_err-kind-in-setattr.field-0.0 _ on.ensures.1
+    (elim c.in_err-kind-in-setattr.ensures.refused [
+      | inl unsaid ↦ inl unsaid
+      | inr (inl memory) ↦ inr (inl memory)
+      | inr (inr misuse) ↦
+          let named = subst (λ (name : Text). IsHexMisuse c.in_err-kind-in-setattr.field-0.0 name (rows_of (found_of c.args.options.now)))
+          (sym c.in-setattr.is) misuse in
+          inr (inr (inr (inl (c.in-setattr.is, named))))
+    ])
+
+pub returns-in_err-kind-in-setattr-clause-unsaid : goal.returns-in_err-kind-in-setattr-clause-unsaid
+returns-in_err-kind-in-setattr-clause-unsaid c =
+    let on = c.from_residual-in_err-kind-in-setattr in
+    handed_on on.result c.in_err-kind-in-setattr.field-0.0 _ on.ensures.1
+    (λ is names.
+    let said = said_of c.args.name.now (codes "setattr") (rows_of (found_of c.args.options.now)) c.in-setattr.is names in
+    elim (c.in_err-kind-in-setattr.ensures.unsaid is) [
+      | inl no_value ↦ absurd (no_value (word (codes "hex")) refl (said.1.1.1.1.0 refl))
+      | inr no_kind ↦ absurd (no_kind (word (codes "kind")) refl (said.1.1.1.0 refl))
+    ])
+
+pub returns-in_err-bytes-in-rmattr-clause-unsaid : goal.returns-in_err-bytes-in-rmattr-clause-unsaid
+returns-in_err-bytes-in-rmattr-clause-unsaid c =
+    let on = c.from_residual-in_err-bytes-in-rmattr in
+    handed_on on.result c.in_err-bytes-in-rmattr.field-0.0 _ on.ensures.1
+    (λ is names.
+    let said = said_of c.args.name.now (codes "rmattr") (rows_of (found_of c.args.options.now)) c.in-rmattr.is names in
+    absurd (c.in_err-bytes-in-rmattr.ensures.none.1 (word (codes "path")) refl (said.1.1.0 refl)))
+
+pub returns-in_err-kind_of-in-rmattr-clause-refused : goal.returns-in_err-kind_of-in-rmattr-clause-refused
+returns-in_err-kind_of-in-rmattr-clause-refused c =
+    let on = c.from_residual-in_err-kind_of-in-rmattr in
+    handed_on on.result c.in_err-kind_of-in-rmattr.field-0.0 _ on.ensures.1
+    (elim c.in_err-kind_of-in-rmattr.ensures.refused [
+      | inl unsaid ↦ inl unsaid
+      | inr misuse ↦
+          let named = subst (λ (name : Text). IsKindMisuse c.in_err-kind_of-in-rmattr.field-0.0 name (rows_of (found_of c.args.options.now)))
+          (sym c.in-rmattr.is) misuse in
+          inr (inr (inr (inr (c.in-rmattr.is, named))))
+    ])
+
+pub returns-in_err-kind_of-in-rmattr-clause-unsaid : goal.returns-in_err-kind_of-in-rmattr-clause-unsaid
+returns-in_err-kind_of-in-rmattr-clause-unsaid c =
+    let on = c.from_residual-in_err-kind_of-in-rmattr in
+    handed_on on.result c.in_err-kind_of-in-rmattr.field-0.0 _ on.ensures.1
+    (λ is names.
+    let said = said_of c.args.name.now (codes "rmattr") (rows_of (found_of c.args.options.now)) c.in-rmattr.is names in
+    absurd (c.in_err-kind_of-in-rmattr.ensures.unsaid is (word (codes "kind")) refl (said.1.1.1.0 refl)))
+
+pub returns-in_err-count_of-in-grow-clause-refused : goal.returns-in_err-count_of-in-grow-clause-refused
+returns-in_err-count_of-in-grow-clause-refused c =
+    let on = c.from_residual-in_err-count_of-in-grow in
+    handed_on on.result c.in_err-count_of-in-grow.field-0.0 _ on.ensures.1
+    (elim c.in_err-count_of-in-grow.ensures.refused [
+      | inl unsaid ↦ inl unsaid
+      | inr misuse ↦ inr (inr (inl (inl (inr c.in-grow.is, misuse))))
+    ])
+
+pub returns-in_err-count_of-in-grow-clause-unsaid : goal.returns-in_err-count_of-in-grow-clause-unsaid
+returns-in_err-count_of-in-grow-clause-unsaid c =
+    let on = c.from_residual-in_err-count_of-in-grow in
+    handed_on on.result c.in_err-count_of-in-grow.field-0.0 _ on.ensures.1
+    (λ is names.
+    let says = says_of c.args.name.now (codes "grow") (rows_of (found_of c.args.options.now)) c.in-grow.is names in
+    absurd (c.in_err-count_of-in-grow.ensures.unsaid is new_count refl new_count_is says.1.1.0))

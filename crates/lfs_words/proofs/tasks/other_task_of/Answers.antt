@@ -1,0 +1,115 @@
+use Rattle.std.proofs.Common.{◌≡◌, ◌∙◌, ap, codes, inl, inr, refl, true}
+use Rattle.clap.specs.Words.{found_of, rows_of}
+use Rattle.clap.proofs.WalkLemmas.{first_value-rows}
+use Rattle.lfs_grammar.specs.Grammar.{count, is_change, steps, word}
+use Rattle.lfs_grammar.proofs.CommandLemmas.{count_is, said_of, says_of, steps_is}
+use Rattle.lfs_words.proofs.Handed.{handed_on}
+use Rattle.lfs_words.proofs.tasks.other_task_of.Goals as goal
+
+pub returns-in_err-count_of-in-format-clause-refused : goal.returns-in_err-count_of-in-format-clause-refused
+returns-in_err-count_of-in-format-clause-refused c =
+    let on = c.from_residual in
+    handed_on on.result c.in_err-count_of-in-format.field-0.0 _ on.ensures.1
+    (elim c.in_err-count_of-in-format.ensures.refused [
+      | inl unsaid ↦ inl unsaid
+      | inr misuse ↦ inr (inl (inl c.in-format.is, misuse))
+    ])
+
+pub returns-in_err-count_of-in-format-clause-unsaid : goal.returns-in_err-count_of-in-format-clause-unsaid
+returns-in_err-count_of-in-format-clause-unsaid c =
+    let on = c.from_residual in
+    handed_on on.result c.in_err-count_of-in-format.field-0.0 _ on.ensures.1
+    (λ is names.
+    let says = says_of c.args.name.now (codes "format") (rows_of (found_of c.args.options.now)) c.in-format.is names in
+    absurd (c.in_err-count_of-in-format.ensures.unsaid is count refl count_is says.1.1.0))
+
+pub returns-in_err-limits_of-in-format-clause-unsaid : goal.returns-in_err-limits_of-in-format-clause-unsaid
+returns-in_err-limits_of-in-format-clause-unsaid c =
+    let on = c.from_residual-in_err-limits_of-in-format in
+    handed_on on.result c.in_err-limits_of-in-format.field-0.0 _ on.ensures.1
+    (λ is names.
+    let said = said_of c.args.name.now (codes "format") (rows_of (found_of c.args.options.now)) c.in-format.is names in
+    let limits = said.1.1.1.1 in
+    absurd (c.in_err-limits_of-in-format.ensures.unsaid.1 (limits.0 refl) (limits.1.0 refl) (limits.1.1.0 refl)))
+
+pub returns-in_ok-limits_of-in-format-clause-within : goal.returns-in_ok-limits_of-in-format-clause-within
+returns-in_ok-limits_of-in-format-clause-within c = λ names.
+    let said = said_of c.args.name.now (codes "format") (rows_of (found_of c.args.options.now)) c.in-format.is names in
+    let limits = said.1.1.1.1 in
+    c.in_ok-limits_of-in-format.ensures.within (limits.0 refl) (limits.1.0 refl) (limits.1.1.0 refl)
+
+pub returns-in_err-extent_of-in-pack-clause-refused : goal.returns-in_err-extent_of-in-pack-clause-refused
+returns-in_err-extent_of-in-pack-clause-refused c =
+    let on = c.from_residual-in_err-extent_of-in-pack in
+    handed_on on.result c.in_err-extent_of-in-pack.field-0.0 _ on.ensures.1
+    (elim c.in_err-extent_of-in-pack.ensures.refused [
+      | inl unsaid ↦ inl unsaid
+      | inr misuse ↦ inr (inr (c.in-pack.is, misuse))
+    ])
+
+pub returns-in_err-extent_of-in-pack-clause-unsaid : goal.returns-in_err-extent_of-in-pack-clause-unsaid
+returns-in_err-extent_of-in-pack-clause-unsaid c =
+    let on = c.from_residual-in_err-extent_of-in-pack in
+    handed_on on.result c.in_err-extent_of-in-pack.field-0.0 _ on.ensures.1
+    (λ is names.
+    let says = says_of c.args.name.now (codes "pack") (rows_of (found_of c.args.options.now)) c.in-pack.is names in
+    absurd (c.in_err-extent_of-in-pack.ensures.unsaid is count refl count_is says.1.1.1.0))
+
+pub returns-in_err-limits_of-in-pack-clause-unsaid : goal.returns-in_err-limits_of-in-pack-clause-unsaid
+returns-in_err-limits_of-in-pack-clause-unsaid c =
+    let on = c.from_residual-in_err-limits_of-in-pack in
+    handed_on on.result c.in_err-limits_of-in-pack.field-0.0 _ on.ensures.1
+    (λ is names.
+    let said = said_of c.args.name.now (codes "pack") (rows_of (found_of c.args.options.now)) c.in-pack.is names in
+    let limits = said.1.1.1.1.1.1 in
+    absurd (c.in_err-limits_of-in-pack.ensures.unsaid.1 (limits.0 refl) (limits.1.0 refl) (limits.1.1.0 refl)))
+
+pub returns-in_err-text-in-pack-clause-unsaid : goal.returns-in_err-text-in-pack-clause-unsaid
+returns-in_err-text-in-pack-clause-unsaid c =
+    let on = c.from_residual-in_err-text-in-pack in
+    handed_on on.result c.in_err-text-in-pack.field-0.0 _ on.ensures.1
+    (λ is names.
+    let said = said_of c.args.name.now (codes "pack") (rows_of (found_of c.args.options.now)) c.in-pack.is names in
+    absurd (c.in_err-text-in-pack.ensures.none.1 (word (codes "dir")) refl (said.1.1.0 refl)))
+
+pub returns-in_ok-text-in-pack-clause-within : goal.returns-in_ok-text-in-pack-clause-within
+returns-in_ok-text-in-pack-clause-within c = λ names.
+    let said = said_of c.args.name.now (codes "pack") (rows_of (found_of c.args.options.now)) c.in-pack.is names in
+    let limits = said.1.1.1.1.1.1 in
+    c.in_ok-limits_of-in-pack.ensures.within (limits.0 refl) (limits.1.0 refl) (limits.1.1.0 refl)
+
+pub returns-in_err-text-in-extract-clause-unsaid : goal.returns-in_err-text-in-extract-clause-unsaid
+returns-in_err-text-in-extract-clause-unsaid c =
+    let on = c.from_residual-in_err-text-in-extract in
+    handed_on on.result c.in_err-text-in-extract.field-0.0 _ on.ensures.1
+    (λ is names.
+    let said = said_of c.args.name.now (codes "extract") (rows_of (found_of c.args.options.now)) c.in-extract.is names in
+    absurd (c.in_err-text-in-extract.ensures.none.1 (word (codes "dir")) refl (said.1.1.0 refl)))
+
+pub returns-in_err-number-in-undo-clause-unsaid : goal.returns-in_err-number-in-undo-clause-unsaid
+returns-in_err-number-in-undo-clause-unsaid c =
+    let on = c.from_residual-in_err-number-in-undo in
+    handed_on on.result c.in_err-number-in-undo.field-0.0 _ on.ensures.1
+    (λ is names.
+    let said = said_of c.args.name.now (codes "undo") (rows_of (found_of c.args.options.now)) c.in-undo.is names in
+    absurd (c.in_err-number-in-undo.ensures.none.1 steps refl steps_is (said.1.1.0 refl)))
+
+pub returns-in_err-number-in-redo-clause-unsaid : goal.returns-in_err-number-in-redo-clause-unsaid
+returns-in_err-number-in-redo-clause-unsaid c =
+    let on = c.from_residual-in_err-number-in-redo in
+    handed_on on.result c.in_err-number-in-redo.field-0.0 _ on.ensures.1
+    (λ is names.
+    let said = said_of c.args.name.now (codes "redo") (rows_of (found_of c.args.options.now)) c.in-redo.is names in
+    absurd (c.in_err-number-in-redo.ensures.none.1 steps refl steps_is (said.1.1.0 refl)))
+
+pub returns-in-batch-clause-some : goal.returns-in-batch-clause-some
+returns-in-batch-clause-some c = (
+  c.in-batch.is,
+  c.get_str.ensures ∙ first_value-rows (found_of c.args.options.now) (codes "script"),
+  c.keep_of.ensures.kept,
+)
+
+pub returns-in-batch-clause-within : goal.returns-in-batch-clause-within
+returns-in-batch-clause-within c = λ names.
+    let changes : is_change c.args.name.now ≡ true = ap is_change c.in-batch.is in
+    c.keep_of.ensures.within c.args.name.now changes names

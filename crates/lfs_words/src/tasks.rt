@@ -1,0 +1,193 @@
+//! The tasks that the words of a command say.
+
+ghost use Rattle.std.specs.Prelude.{◌≡◌, ◌<◌, ◌⊎◌, IfErr, IfOk, Some, codes, false, true};
+ghost use Rattle.clap.specs.Words.{Text, found_of, rows_of};
+ghost use Rattle.lfs_grammar.specs.Grammar.{NamesCommand, is_change};
+ghost use Rattle.lfs_history.specs.Taking.{MayKeep};
+ghost use Rattle.lfs_request.specs.Task.{IsTaskInRange};
+ghost use Rattle.lfs_words.specs.Words.{HasContents, IsCommand, IsCommandMisuse, IsKept, IsQuery, IsSizeMisuse, IsTask, is_command, is_other, is_question};
+ghost use Rattle.lfs_words.specs.declared.misuse.Misuse.TheVariants.{Memory, Unsaid};
+
+use crate::counting::{count_of, extent_of, limits_of};
+use crate::misuse::{FORMAT, GROW, Misuse};
+use crate::options::{bytes, number, number_if_said, text};
+use crate::spelling::{attribute_of, kind_of};
+use clap::ArgMatches;
+use lfs_command::Command;
+use lfs_history::{Move, Source};
+use lfs_request::Task;
+use lfs_step::Query;
+use std::alloc::Global;
+
+/// The question that a command's words say, where another image has blocks of this size.
+fn question_of<'a>(
+    name: &str,
+    options: &ArgMatches<'a>,
+    other: u32,
+) -> Result<Query<'a, &'a str>, Misuse<'a>>
+    ensures some { IfOk result (λ query. IsQuery query name.now (rows_of (found_of options.now)) other) }
+    ensures refused { IfErr result (λ misuse. misuse ≡ Unsaid) }
+    ensures unsaid { IfErr result (λ misuse. NamesCommand (Some (name.now, rows_of (found_of options.now))) → is_question name.now ≡ false) }
+{
+    match name {
+        "check" => Ok(Query::Check),
+        "ls" => Ok(Query::Ls),
+        "cat" => Ok(Query::Cat {
+            path: bytes(options, "path")?,
+        }),
+        "diff" => Ok(Query::Diff {
+            other: text(options, "other")?,
+            size: other,
+        }),
+        "log" => Ok(Query::Log),
+        _ => Err(Misuse::Unsaid),
+    }
+}
+
+/// Where the contents of a file that is put come from.
+fn contents_of<'a>(options: &ArgMatches<'a>) -> Source<'a>
+    ensures { HasContents (rows_of (found_of options.now)) result }
+{
+    match options.get_str("contents") {
+        Some(file) => Source::File(file),
+        None => Source::Input,
+    }
+}
+
+/// The command that words say, on an image of this block size.
+fn command_of<'a>(
+    alloc: Global,
+    name: &str,
+    options: &ArgMatches<'a>,
+    block: u32,
+) -> Result<Command<&'a [u8], Source<'a>>, Misuse<'a>>
+    requires { 0 < block }
+    ensures some { IfOk result (λ command. IsCommand command name.now (rows_of (found_of options.now)) block) }
+    ensures refused { IfErr result (λ misuse. (misuse ≡ Unsaid) ⊎ (misuse ≡ Memory)
+        ⊎ IsCommandMisuse misuse name.now (rows_of (found_of options.now)) block) }
+    ensures unsaid { IfErr result (λ misuse. misuse ≡ Unsaid → NamesCommand (Some (name.now, rows_of (found_of options.now)))
+        → is_command name.now ≡ false) }
+{
+    match name {
+        "mkdir" => Ok(Command::Mkdir {
+            path: bytes(options, "path")?,
+        }),
+        "put" => Ok(Command::Put {
+            path: bytes(options, "path")?,
+            bytes: contents_of(options),
+        }),
+        "rm" => Ok(Command::Rm {
+            path: bytes(options, "path")?,
+        }),
+        "mv" => Ok(Command::Mv {
+            from: bytes(options, "from")?,
+            to: bytes(options, "to")?,
+        }),
+        "setattr" => {
+            let path = bytes(options, "path")?;
+            let (kind, value) = attribute_of(alloc, options)?;
+            Ok(Command::SetAttr {
+                path,
+                kind,
+                value: Source::Said(value),
+            })
+        }
+        "rmattr" => Ok(Command::RmAttr {
+            path: bytes(options, "path")?,
+            kind: kind_of("rmattr", options)?,
+        }),
+        "grow" => Ok(Command::Grow {
+            count: count_of(options, block, GROW)?,
+        }),
+        _ => Err(Misuse::Unsaid),
+    }
+}
+
+/// Whether a command of this name changes an image.
+fn is_change(name: &str) -> bool
+    ensures { result ≡ is_change name.now }
+{
+    name == "mkdir"
+        || name == "put"
+        || name == "rm"
+        || name == "mv"
+        || name == "setattr"
+        || name == "rmattr"
+        || name == "grow"
+        || name == "batch"
+}
+
+/// How many images of the past are kept behind a command; all of them for `None`.
+fn keep_of(options: &ArgMatches<'_>) -> Option<u32>
+    ensures kept { IsKept result (rows_of (found_of options.now)) }
+    ensures within { (name : Text) → is_change name ≡ true → NamesCommand (Some (name, rows_of (found_of options.now))) → MayKeep result }
+{
+    number_if_said(options, "keep")
+}
+
+/// What a command's words ask to be done that is no command on an image's tree; another image has blocks of the second size.
+fn other_task_of<'a>(
+    name: &str,
+    options: &ArgMatches<'a>,
+    block: u32,
+    other: u32,
+) -> Result<Task<'a>, Misuse<'a>>
+    requires { 0 < block }
+    ensures some { IfOk result (λ task. IsTask task name.now (rows_of (found_of options.now)) block other) }
+    ensures within { IfOk result (λ task. NamesCommand (Some (name.now, rows_of (found_of options.now))) → IsTaskInRange task) }
+    ensures refused { IfErr result (λ misuse. (misuse ≡ Unsaid) ⊎ IsSizeMisuse misuse name.now (rows_of (found_of options.now)) block) }
+    ensures unsaid { IfErr result (λ misuse. misuse ≡ Unsaid → NamesCommand (Some (name.now, rows_of (found_of options.now)))
+        → is_other name.now ≡ true) }
+{
+    match name {
+        "format" => Ok(Task::Format {
+            count: count_of(options, block, FORMAT)?,
+            limits: limits_of(options)?,
+        }),
+        "pack" => Ok(Task::Pack {
+            extent: extent_of(options, block)?,
+            limits: limits_of(options)?,
+            dir: text(options, "dir")?,
+        }),
+        "extract" => Ok(Task::Extract {
+            dir: text(options, "dir")?,
+        }),
+        "undo" => Ok(Task::Change(Move::Undo {
+            steps: number(options, "steps")?,
+        })),
+        "redo" => Ok(Task::Change(Move::Redo {
+            steps: number(options, "steps")?,
+        })),
+        "forget" => Ok(Task::Forget),
+        "batch" => Ok(Task::Batch {
+            file: options.get_str("script"),
+            keep: keep_of(options),
+        }),
+        _ => Ok(Task::Ask(question_of(name, options, other)?)),
+    }
+}
+
+/// What a command's words ask to be done, on an image of this block size; another image has blocks of the second one.
+pub(crate) fn task_of<'a>(
+    alloc: Global,
+    name: &str,
+    options: &ArgMatches<'a>,
+    block: u32,
+    other: u32,
+) -> Result<Task<'a>, Misuse<'a>>
+    requires { 0 < block }
+    ensures some { IfOk result (λ task. IsTask task name.now (rows_of (found_of options.now)) block other) }
+    ensures within { IfOk result (λ task. NamesCommand (Some (name.now, rows_of (found_of options.now))) → IsTaskInRange task) }
+    ensures refused { IfErr result (λ misuse. (misuse ≡ Unsaid) ⊎ (misuse ≡ Memory) ⊎ IsCommandMisuse misuse name.now (rows_of (found_of options.now)) block) }
+    ensures unsaid { IfErr result (λ misuse. misuse ≡ Unsaid → NamesCommand (Some (name.now, rows_of (found_of options.now)))
+        → name.now ≡ codes "explain") }
+{
+    if !is_change(name) || name == "batch" {
+        return other_task_of(name, options, block, other);
+    }
+    let command = command_of(alloc, name, options, block)?;
+    Ok(Task::Change(Move::Do {
+        command,
+        keep: keep_of(options),
+    }))
+}
