@@ -11,10 +11,9 @@ use Rattle.lfs_change.specs.declared.fault.Fault.TheVariants.{CannotWrite, Refus
 use Rattle.lfs_change.specs.Fault.{status_of}
 use Rattle.lfs_request.specs.declared.request.Request.{Request}
 use Rattle.lfs_words.specs.declared.auto_sizes.AutoSizes.{AutoSizes}
-use Rattle.lfs_words.specs.declared.wish.Wish.TheVariants as wish
 use Rattle.lfs_grammar.specs.Grammar.{grammar}
 use Rattle.lfs_grammar.specs.Hyphens.{IsRead}
-use Rattle.lfs_words.specs.Words.{AsksFor, IsMissaid, SaysAuto}
+use Rattle.lfs_words.specs.Words.{AsksFor, Explains, IsMissaid, SaysAuto}
 use Rattle.lfs_words.specs.declared.misuse.Misuse.{Misuse}
 use Rattle.lfs_exchange.specs.Printing.{PrintsBeginning}
 use Rattle.lfs_host.specs.Scene.{KeepsAll, KeepsInput, Scene}
@@ -76,19 +75,15 @@ abbrev pub AreStated : Option (Text × List Row) → Scene → Scene → AutoSiz
 AreStated named old new stated =
     (looked : Scene) × Looks (codes "image") named old looked stated.image × Looks (codes "other") named looked new stated.other
 
--- how a command that is named with its options ends, once that is known: as the request that it asks for; by saying what the faults
--- mean that it asks for; or, where it says no request, refused. No file is changed but by a request, and nothing is printed of words
--- that are refused
-abbrev pub EndsStated : Option (Text × List Row) → AutoSizes → Scene → Scene → ℕ → Type 0
-EndsStated named stated old new status =
-    ((request : Request) × AsksFor named stated (wish.Request request) × EndsRequest request old new status)
-    ⊎ ((faults : Option (Bor (List (Bor Text)))) × AsksFor named stated (wish.Explanation faults) × EndsExplained old new status)
-    ⊎ ((misuse : Misuse) × IsMissaid named stated misuse × EndsMisused old new status)
-
--- how it ends: so, behind a look at the files of the images, or for want of memory
+-- how a command that is named with its options ends: by saying what the faults mean that it asks for; behind a look at the files of the
+-- images, as the request that it asks for, or refused where it says none; or for want of memory. No file is changed but by a request, and
+-- nothing is printed of words that are refused
 abbrev pub EndsNamed : Option (Text × List Row) → Scene → Scene → ℕ → Type 0
 EndsNamed named old new status =
-    ((stated : AutoSizes) × (looked : Scene) × AreStated named old looked stated × EndsStated named stated looked new status)
+    ((faults : Option (Bor (List (Bor Text)))) × Explains named faults × EndsExplained old new status)
+    ⊎ ((stated : AutoSizes) × (looked : Scene) × AreStated named old looked stated
+    × (((request : Request) × AsksFor named stated request × EndsRequest request looked new status)
+    ⊎ ((misuse : Misuse) × IsMissaid named stated misuse × EndsMisused looked new status)))
     ⊎ EndsForMemory old new status
 
 -- how refused words end: as an error of one of the kinds that the grammar finds with them

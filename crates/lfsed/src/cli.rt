@@ -1,12 +1,16 @@
 //! The program, over a host.
 
-ghost use Rattle.std.specs.Prelude.{◌≡◌, ◌≢◌, IfOk, IfSome, map};
+ghost use Rattle.std.specs.Prelude.{◌≡◌, ◌≢◌, IfOk, IfSome, Some, map};
 ghost use Rattle.clap.specs.Words.{HasKind, fault_of, kind_of, subcommand_rows_of};
 ghost use Rattle.lfs_grammar.specs.Grammar.{IsTaken, NamesCommand, grammar};
 ghost use Rattle.lfs_grammar.specs.Hyphens.{IsRead};
 ghost use Rattle.lfs_host.specs.Scene.{KeepsAll};
+ghost use Rattle.lfs_change.specs.Fault.{status_of};
+ghost use Rattle.lfs_change.specs.declared.fault.Fault.TheVariants.{Refused};
+ghost use Rattle.lfs_command.specs.declared.refusal.Refusal.TheVariants.{Memory as No_memory};
 ghost use Rattle.lfs_serve.specs.Stated.{IsStatedSize};
-ghost use Rattle.lfsed.specs.Words.{EndsError, EndsExplained, EndsNamed, EndsPrinting, EndsWords, AreStated, ended_with};
+ghost use Rattle.lfs_words.specs.declared.misuse.Misuse.TheVariants.{Memory};
+ghost use Rattle.lfsed.specs.Words.{EndsError, EndsExplained, EndsMisused, EndsNamed, EndsPrinting, EndsWords, AreStated, ended_with};
 
 use crate::explanations::{explained, explanations};
 use crate::tips::retold;
@@ -16,9 +20,10 @@ use lfs_edit::Refusal;
 use lfs_exchange::{MORE, print, tell_of_image};
 use lfs_grammar::{dashed, matched, names_files_plainly};
 use lfs_host::Host;
+use lfs_report::tell_digits;
 use lfs_serve::{served, stated_size};
 use lfs_step::Fault;
-use lfs_words::{AutoSizes, Misuse, Wish, auto_image, auto_other, wished};
+use lfs_words::{AutoSizes, Misuse, auto_image, auto_other, faults_asked, request_said};
 use std::alloc::{AllocError, Global};
 use std::convert::AsStr;
 use std::fmt::Write;
@@ -81,16 +86,34 @@ fn carried<H: Host>(alloc: Global, host: &mut H, matches: &ArgMatches<'_>) -> Re
     requires { NamesCommand (subcommand_rows_of matches.now) }
     ensures ended { EndsNamed (subcommand_rows_of matches.now) (H.known host.old) (H.known host.new) (ended_with result) }
 {
-    let stated = stated_for(alloc, host, matches)?;
-    match wished(matches, stated) {
-        Ok(Wish::Explanation { faults }) => explain(alloc, host, faults),
-        Ok(Wish::Request(request)) => Ok(served(alloc, host, &request)),
-        Err(Misuse::Unsaid) => unreachable!(),
-        Err(misuse) => {
-            host.complain(format_args!("error: {misuse}{MORE}"));
-            Ok(USAGE)
-        }
+    if let Some(faults) = faults_asked(matches) {
+        return explain(alloc, host, faults);
     }
+    let stated = stated_for(alloc, host, matches)?;
+    match request_said(alloc, matches, stated) {
+        Ok(request) => Ok(served(alloc, host, &request)),
+        Err(misuse) => misused(host, misuse),
+    }
+}
+
+/// Tells why the words of a command say no request, or answers that memory was wanting.
+fn misused<H: Host>(host: &mut H, misuse: Misuse<'_>) -> Result<u8, Fault>
+    ensures memory { misuse.entry ≡ Memory → (H.known host.new ≡ H.known host.old) × (ended_with result ≡ status_of (Some (Refused No_memory))) }
+    ensures told { (misuse.entry ≡ Memory → ⊥) → EndsMisused (H.known host.old) (H.known host.new) (ended_with result) }
+{
+    if let Misuse::Memory = misuse {
+        return Err(Fault::Refused(Refusal::Memory));
+    }
+    if let Misuse::Hex {
+        command,
+        reason,
+        digits,
+    } = misuse
+    {
+        return Ok(tell_digits(host, command, reason, digits));
+    }
+    host.complain(format_args!("error: {misuse}{MORE}"));
+    Ok(USAGE)
 }
 
 /// What the image states as its block size, and the one that it is compared with, where the words say `auto` for it.

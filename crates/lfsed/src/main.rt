@@ -4,6 +4,7 @@
 mod cli;
 mod explanations;
 mod tips;
+mod way;
 
 use crate::cli::{USAGE, cli as run_words};
 use lfs_edit::Refusal;

@@ -1,40 +1,33 @@
--- A request ends as it is served, and an explanation as it is printed, behind a look at the images' files.
-use Rattle.std.proofs.Common.{inl, inr, refl}
+-- An explanation ends as it is printed. Behind a look at the images' files a request ends as it is served, and words that say none as they
+-- are refused, or for want of memory.
+use Rattle.std.proofs.Common.{rules, inl, inr, sym, subst}
+use Rattle.clap.specs.Words.{subcommand_rows_of}
+use Rattle.lfs_host.specs.Scene.{KeepsAll, Scene}
+use Rattle.lfsed.proofs.MisuseLemmas.{not_for_memory}
 use Rattle.lfsed.proofs.cli.carried.Goals as goal
 
-pub returns-in-Ok-Request : goal.returns-in-Ok-Request
-returns-in-Ok-Request g c =
-    let asks = rw c.in-Ok-Request.field-0-is at c.in-Ok-Request.ensures.some in
-    record {
-      ended = inl (
-        c.in_ok-stated.stated,
-        g.H.Known.known c.stated_for.new.host,
-        c.in_ok-stated.ensures.stated,
-        inl (c.in-Ok-Request.request, asks, c.served.ensures.ended),
-      );
-    }
+pub returns-in-Some : goal.returns-in-Some
+returns-in-Some g c = record { ended = inl (c.in-Some.faults, c.in-Some.ensures.some, c.explain.ensures.ended) }
 
-pub returns-in-Ok-Explanation : goal.returns-in-Ok-Explanation
-returns-in-Ok-Explanation g c =
-    let asks = rw c.in-Ok-Explanation.field-0-is at c.in-Ok-Explanation.ensures.some in
-    record {
-      ended = inl (
-        c.in_ok-stated.stated,
-        g.H.Known.known c.stated_for.new.host,
-        c.in_ok-stated.ensures.stated,
-        inr (inl (c.in-Ok-Explanation.faults, asks, c.explain.ensures.ended)),
-      );
-    }
+pub returns-in-Ok : goal.returns-in-Ok
+returns-in-Ok g c =
+    let looked = g.H.Known.known c.stated_for.new.host in
+    let served = inl (c.in-Ok.request, c.in-Ok.ensures.some, c.served.ensures.ended) in
+    record { ended = inr (inl (c.in_ok-stated.stated, looked, c.in_ok-stated.ensures.stated, served)) }
 
 pub returns-in-Err : goal.returns-in-Err
-returns-in-Err g c = elim c.in-Err.ensures.refused [
-  | inl unsaid ↦ absurd (c.in-Err.ensures.unsaid unsaid c.requires)
-  | inr missaid ↦ record {
-    ended = inl (
-      c.in_ok-stated.stated,
-      g.H.Known.known c.stated_for.new.host,
-      c.in_ok-stated.ensures.stated,
-      inr (inr (c.in-Err.misuse, missaid, (c.complain.ensures.kept, refl))),
-    );
-  }
-]
+returns-in-Err g c =
+    let named = subcommand_rows_of c.args.matches.now in
+    let old : Scene = g.H.Known.known c.args.host.now in
+    let looked : Scene = g.H.Known.known c.stated_for.new.host in
+    let new : Scene = g.H.Known.known c.misused.new.host in
+    let stated = c.in_ok-stated.stated in
+    elim c.in-Err.ensures.refused [
+      | inl unsaid ↦ absurd (c.in_default.ensures.none (search rules) (c.in-Err.ensures.unsaid unsaid c.requires))
+      | inr (inl memory) ↦
+          let told = c.misused.ensures.memory memory in
+          record { ended = inr (inr (subst (KeepsAll old) (sym told.0) c.stated_for.ensures.kept, told.1)) }
+      | inr (inr missaid) ↦
+          let told = c.misused.ensures.told (not_for_memory named stated c.in-Err.misuse missaid) in
+          record { ended = inr (inl (stated, looked, c.in_ok-stated.ensures.stated, inr (c.in-Err.misuse, missaid, told))) }
+    ]

@@ -1,0 +1,34 @@
+-- Why words say no request: never for want of memory.
+use Rattle.std.proofs.Common.{◌≡◌, ◌⊎◌, ℕ, List, Option, inl, inr, subst}
+use Rattle.clap.specs.Words.{Row, Text}
+use Rattle.lfs_words.specs.declared.auto_sizes.AutoSizes.{AutoSizes}
+use Rattle.lfs_words.specs.declared.misuse.Misuse.{Misuse}
+use Rattle.lfs_words.specs.declared.misuse.Misuse.TheVariants.{Memory}
+use Rattle.lfs_words.specs.Words.{IsCommandMisuse, IsExtentMisuse, IsHexMisuse, IsMissaid, IsMisuse, IsSizeMisuse}
+
+no_extent : (rows : List Row) (block : ℕ) → IsExtentMisuse Memory rows block → ⊥
+no_extent rows block (inl (not, none)) = none
+no_extent rows block (inr (is, none, said)) = none
+
+no_size : (name : Text) (rows : List Row) (block : ℕ) → IsSizeMisuse Memory name rows block → ⊥
+no_size name rows block (inl (is, none)) = none
+no_size name rows block (inr (is, extent)) = no_extent rows block extent
+
+no_hex : (name : Text) (rows : List Row) → IsHexMisuse Memory name rows → ⊥
+no_hex name rows (inl none) = none
+no_hex name rows (inr (kind, none)) = none
+
+no_command : (name : Text) (rows : List Row) (block : ℕ) → IsCommandMisuse Memory name rows block → ⊥
+no_command name rows block (inl size) = no_size name rows block size
+no_command name rows block (inr (inl (is, hex))) = no_hex name rows hex
+no_command name rows block (inr (inr (is, none))) = none
+
+no_misuse : (name : Text) (rows : List Row) (stated : AutoSizes) → IsMisuse Memory name rows stated → ⊥
+no_misuse name rows stated (inl none) = none
+no_misuse name rows stated (inr (inl none)) = none
+no_misuse name rows stated (inr (inr (block, has, command))) = no_command name rows block command
+
+pub not_for_memory : (named : Option (Text × List Row)) (stated : AutoSizes) (misuse : Misuse) → IsMissaid named stated misuse
+    → misuse ≡ Memory → ⊥
+not_for_memory named stated misuse (name, rows, is, why) memory =
+    no_misuse name rows stated (subst (λ (m : Misuse). IsMisuse m name rows stated) memory why)
