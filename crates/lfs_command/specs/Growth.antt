@@ -1,17 +1,12 @@
 -- How many blocks an image has once a command is carried out (own).
 use Rattle.std.specs.Prelude.{ℕ}
 use Rattle.lfs_fs.specs.Volume.{Volume}
-use Rattle.lfs_command.specs.Command.{Command, Mkdir, Put, Rm, Mv, SetAttr, RmAttr, Grow}
+use Rattle.lfs_command.specs.Command.{Command, Grow}
 
 -- the number of blocks after a command
 abbrev pub count_after : Command → ℕ → ℕ
-count_after (Mkdir p) count = count
-count_after (Put p bytes) count = count
-count_after (Rm p) count = count
-count_after (Mv p q) count = count
-count_after (SetAttr p k value) count = count
-count_after (RmAttr p k) count = count
 count_after (Grow n) count = n
+count_after _ count = count
 
 -- The volume that a command is carried out on: with as many blocks as there are then, of which nothing uses the added ones.
 abbrev pub grown : Command → Volume → Volume

@@ -14,7 +14,7 @@ use Rattle.lfs_fs.specs.Reading.{reading_of}
 use Rattle.lfs_fs.specs.Holds.{Holds}
 use Rattle.lfs_command.specs.declared.refusal.Refusal.{Refusal}
 use Rattle.lfs_command.specs.declared.refusal.Refusal.TheVariants.{BadPath, Memory}
-use Rattle.lfs_command.specs.Command.{Command, Asked, Spells, SpellsNone, Mkdir, Put, Rm, Mv, SetAttr, RmAttr, Grow}
+use Rattle.lfs_command.specs.Command.{Command, Asked, Spells, SpellsNone, Put}
 use Rattle.lfs_command.specs.Growth.{count_after, grown}
 use Rattle.lfs_command.specs.Supplies.{Supplies, most_inline, supply_uses}
 use Rattle.lfs_command.specs.Edited.{edited}
@@ -50,13 +50,8 @@ FillsNewPairs v w d = (p : Part) → Contains (thread w.directories) p → p.dir
 
 -- where a command puts a file's contents into blocks, an image has in these what is laid there: all is erased behind the contents
 abbrev pub HasLaid : Volume → Command → Supplies → Disk → Type 0
-HasLaid v (Mkdir p) s d = Unit {0}
 HasLaid v (Put p bytes) s d = nat_le (length bytes) (most_inline v.size) ≡ false → map (block_of d) s.blocks ≡ laid d.size bytes s.blocks
-HasLaid v (Rm p) s d = Unit {0}
-HasLaid v (Mv p q) s d = Unit {0}
-HasLaid v (SetAttr p k value) s d = Unit {0}
-HasLaid v (RmAttr p k) s d = Unit {0}
-HasLaid v (Grow n) s d = Unit {0}
+HasLaid v _ s d = Unit {0}
 
 -- An accepted command takes the least free blocks of a volume in order, and leaves another one.
 pub record CarriesOut (c : Command) (v w : Volume) : Type 0 where
