@@ -107,7 +107,7 @@ IsCommand (RmAttr path kind) name rows block =
 IsCommand (Grow count) name rows block = (name ≡ codes "grow") × SaysCount rows block count
 IsCommand _ name rows block = ⊥
 
--- how many images of the past are kept behind a command: so many as are said, or all
+-- how many images of the past are kept behind a command: as many as are said, or all where no number is
 abbrev pub IsKept : Option ℕ → List Row → Type 0
 IsKept (Some number) rows = HasNumber rows (codes "keep") number
 IsKept None rows = IsSaid keep rows → ⊥
@@ -154,12 +154,12 @@ AsksFor named stated request =
 abbrev pub NamesExplain : Option (Text × List Row) → Type 0
 NamesExplain named = (rows : List Row) × (named ≡ Some (codes "explain", rows))
 
--- what these faults mean, or all of them
+-- it is asked what these faults mean, or what all of them do where none is said
 abbrev pub Explains : Option (Text × List Row) → Option (Bor (List (Bor Text))) → Type 0
 Explains named faults =
     (rows : List Row) × (named ≡ Some (codes "explain", rows)) × HasTexts rows (codes "fault") faults
 
--- a command on an image's tree, or its length
+-- a command on an image's tree, or on its length
 abbrev pub is_command : Text → Bool
 is_command name =
     list_any (λ command. bytes_eq command name)
