@@ -1,5 +1,5 @@
 -- Why words say no request: never for want of memory.
-use Rattle.std.proofs.Common.{◌≡◌, ◌⊎◌, ℕ, List, Option, inl, inr, subst}
+use Rattle.std.proofs.Common.{◌≡◌, ℕ, List, Option, inl, inr, subst}
 use Rattle.clap.specs.Words.{Row, Text}
 use Rattle.lfs_words.specs.declared.auto_sizes.AutoSizes.{AutoSizes}
 use Rattle.lfs_words.specs.declared.misuse.Misuse.{Misuse}

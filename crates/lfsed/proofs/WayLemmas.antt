@@ -1,13 +1,14 @@
 -- Where lists of runs lead.
-use Rattle.std.proofs.Common.{◌≡◌, ◌⊎◌, ◌∙◌, ℕ, List, [], ◌∷◌, Option, Some, None, refl, sym, ap, subst, inl, inr}
+use Rattle.std.proofs.Common.{◌≡◌, ◌⊎◌, ◌∙◌, ℕ, List, [], ◌∷◌, Option, Some, None, IfSome, MatchOption, refl, sym, ap, subst, inl, inr}
+use Rattle.std.proofs.lemmas.Option.{same_Some}
+use Rattle.clap.specs.Words.{Row, Text}
 use Rattle.lfs_history.specs.History.{History}
 use Rattle.lfs_host.specs.Files.{Files}
 use Rattle.lfs_host.specs.Scene.{Scene}
-use Rattle.lfs_request.specs.declared.request.Request.{Request}
 use Rattle.lfs_serve.specs.Program.{EndsRequest}
 use Rattle.lfs_serve.specs.Requests.{FilesDenote, IsServedOn, RequestsLeadOn, Served}
-use Rattle.lfsed.specs.Way.{AsksIn, IsRunOn, IsTornIn, Run, RunGoes, RunsLeadOn}
-use Rattle.lfsed.specs.Words.{AreStated, EndsError, EndsExplained, EndsForMemory, EndsMisused, EndsPrinting}
+use Rattle.lfsed.specs.Way.{Asked, AskedGoes, IsAskedOn, IsTornIn, Run, RunsLeadOn, asked_named, asked_words}
+use Rattle.lfsed.specs.Words.{AreStated, EndsError, EndsExplained, EndsForMemory, EndsMisused, EndsNamed, EndsPrinting, EndsWords}
 
 -- ---- what asks for nothing changes no file
 
@@ -36,39 +37,42 @@ looked_stays named old looked stated (mid, first, then) = then.0.0.0 ∙ first.0
 
 -- ---- where one run leads
 
-abbrev GoesOrTears : ℕ → List ℕ → Run → Files → Files → History → Type 0
-GoesOrTears size name r old mid h = IsTornIn name r old mid ⊎ ((next : History) × RunGoes size r h next × FilesDenote size name mid next)
+-- what a request, if there is one, leads to
+abbrev Goes : ℕ → ℕ → Option Asked → History → History → Type 0
+Goes size status asked old new = MatchOption asked (new ≡ old) (λ it. AskedGoes size status it old new)
 
-some_is : {X : Type 0} (x y : X) → Some x ≡ Some y → x ≡ y
-some_is {X} x y same = ap (get_some x) same
-  where
-    get_some : X → Option X → X
-    get_some d None = d
-    get_some d (Some z) = z
+abbrev GoesOrTears : ℕ → List ℕ → Run → Files → Files → Option Asked → History → Type 0
+GoesOrTears size name r old mid asked h =
+    IsTornIn name r old mid ⊎ ((next : History) × Goes size r.status asked h next × FilesDenote size name mid next)
+
+-- the files before a run and behind it
+record OnFiles (r : Run) (old mid : Files) : Type 0 where
+  before : r.old.files ≡ Some old
+  behind : r.new.files ≡ Some mid
 
 -- one that changes no file
-stays : (size : ℕ) (name : List ℕ) (r : Run) (old mid : Files) (h : History) → FilesDenote size name old h → r.old.files ≡ Some old
-    → r.new.files ≡ Some mid → r.new.files ≡ r.old.files → GoesOrTears size name r old mid h
-stays size name r old mid h denotes before behind same =
-    let is : mid ≡ old = some_is mid old (sym behind ∙ same ∙ before) in
-    inr (h, inr refl, subst (λ (f : Files). FilesDenote size name f h) (sym is) denotes)
+stays : (size : ℕ) (name : List ℕ) (r : Run) (old mid : Files) (h : History) → FilesDenote size name old h → OnFiles r old mid
+    → r.new.files ≡ r.old.files → GoesOrTears size name r old mid None h
+stays size name r old mid h denotes on same =
+    let is : mid ≡ old = same_Some mid old (sym on.behind ∙ same ∙ on.before) in
+    inr (h, refl, subst (λ (f : Files). FilesDenote size name f h) (sym is) denotes)
 
--- one that asks for a request
-asked : RequestsLeadOn → (size : ℕ) (name : List ℕ) (r : Run) (old mid : Files) (h : History) → FilesDenote size name old h
-    → (is : IsRunOn size name r old mid) (looked : Scene) (request : Request) → AsksIn r looked request → looked.files ≡ r.old.files
-    → EndsRequest request looked r.new r.status → GoesOrTears size name r old mid h
-asked law size name r old mid h denotes is looked request asks same ends =
-    let s : Served = record { request = request; old = looked; new = r.new; status = r.status } in
-    let on = is.on looked request asks in
+-- one that ended as a request
+goes_asked : RequestsLeadOn → (size : ℕ) (name : List ℕ) (r : Run) (old mid : Files) (h : History) → FilesDenote size name old h
+    → OnFiles r old mid → (asked : Asked) → IsAskedOn size name asked
+    → asked.looked.files ≡ r.old.files → EndsRequest asked.request asked.looked r.new r.status
+    → GoesOrTears size name r old mid (Some asked) h
+goes_asked law size name r old mid h denotes on asked is same ends =
+    let s : Served = record { request = asked.request; old = asked.looked; new = r.new; status = r.status } in
     let served : IsServedOn size name s old mid = record {
-      size_is = on.0;
-      name_is = on.1;
-      before = same ∙ is.before;
-      behind = is.behind;
+      size_is = is.0;
+      name_is = is.1;
+      before = same ∙ on.before;
+      behind = on.behind;
       ends = ends;
     } in
     let leads = law size name (s ∷ []) old mid h denotes (mid, served, refl) in
-    let there : leads.0 ≡ mid = some_is leads.0 mid (sym leads.1 ∙ is.behind) in
+    let there : leads.0 ≡ mid = same_Some leads.0 mid (sym leads.1 ∙ on.behind) in
     elim leads.2 [
       | inl torn ↦
           inl (record {
@@ -76,51 +80,46 @@ asked law size name r old mid h denotes is looked request asks same ends =
             place = torn.place;
             image = subst (λ (f : Files). f name ≡ old name) there torn.image;
           })
-      | inr goes ↦
-          inr (
-            goes.0,
-            inl (record {
-              looked = looked;
-              request = request;
-              asked = asks;
-              fault = goes.1.0;
-              status_is = goes.1.1;
-              goes = goes.1.2;
-            }),
-            subst (λ (f : Files). FilesDenote size name f goes.0) there goes.2,
-          )
+      | inr goes ↦ inr (goes.0, goes.1, subst (λ (f : Files). FilesDenote size name f goes.0) there goes.2)
     ]
 
-run_goes : RequestsLeadOn → (size : ℕ) (name : List ℕ) (r : Run) (old mid : Files) (h : History) → FilesDenote size name old h
-    → IsRunOn size name r old mid → GoesOrTears size name r old mid h
-run_goes law size name r old mid h denotes is =
-    let unchanged : r.new.files ≡ r.old.files → GoesOrTears size name r old mid h = λ same.
-    stays size name r old mid h denotes is.before is.behind same in
-    elim is.ends [
-      | inl (read, is_read, named) ↦
-          elim named [
-            | inl explains ↦ unchanged (explained_stays r.old r.new r.status explains.2)
-            | inr (inl (stated, looked, are, inl (request, asks, ends))) ↦
-                asked law size name r old mid h denotes is looked request
-                (record { read = read; is_read = is_read; stated = stated; are_stated = are; asks = asks })
-                (looked_stays _ r.old looked stated are) ends
-            | inr (inl (stated, looked, are, inr (misuse, missaid, misused))) ↦
-                unchanged (misused_stays looked r.new r.status misused ∙ looked_stays _ r.old looked stated are)
-            | inr (inr memory) ↦ unchanged (memory_stays r.old r.new r.status memory)
-          ]
-      | inr (inl (not_read, (kind, among, ends))) ↦ unchanged (error_stays kind r.old r.new r.status ends)
-      | inr (inr memory) ↦ unchanged (memory_stays r.old r.new r.status memory)
-    ]
+-- one whose words name a command
+goes_named : RequestsLeadOn → (size : ℕ) (name : List ℕ) (r : Run) (old mid : Files) (h : History) → FilesDenote size name old h
+    → OnFiles r old mid → (named : Option (Text × List Row)) (ends : EndsNamed named r.old r.new r.status)
+    → IfSome (asked_named named r.old r.new r.status ends) (IsAskedOn size name)
+    → GoesOrTears size name r old mid (asked_named named r.old r.new r.status ends) h
+goes_named law size name r old mid h denotes on named (inl explains) is =
+    stays size name r old mid h denotes on (explained_stays r.old r.new r.status explains.2)
+goes_named law size name r old mid h denotes on named (inr (inl (stated, looked, are, inl (request, asks, ends)))) is =
+    goes_asked law size name r old mid h denotes on (record { request = request; looked = looked }) is
+    (looked_stays named r.old looked stated are) ends
+goes_named law size name r old mid h denotes on named (inr (inl (stated, looked, are, inr (misuse, missaid, misused)))) is =
+    stays size name r old mid h denotes on
+    (misused_stays looked r.new r.status misused ∙ looked_stays named r.old looked stated are)
+goes_named law size name r old mid h denotes on named (inr (inr memory)) is =
+    stays size name r old mid h denotes on (memory_stays r.old r.new r.status memory)
+
+goes_words : RequestsLeadOn → (size : ℕ) (name : List ℕ) (r : Run) (old mid : Files) (h : History) → FilesDenote size name old h
+    → OnFiles r old mid → (ends : EndsWords r.words r.old r.new r.status)
+    → IfSome (asked_words r.words r.old r.new r.status ends) (IsAskedOn size name)
+    → GoesOrTears size name r old mid (asked_words r.words r.old r.new r.status ends) h
+goes_words law size name r old mid h denotes on (inl (read, is_read, named)) is = goes_named law size name r old mid h denotes on _ named is
+goes_words law size name r old mid h denotes on (inr (inl (not_read, (kind, among, ends)))) is =
+    stays size name r old mid h denotes on (error_stays kind r.old r.new r.status ends)
+goes_words law size name r old mid h denotes on (inr (inr memory)) is =
+    stays size name r old mid h denotes on (memory_stays r.old r.new r.status memory)
 
 -- ---- where lists of runs lead
 
 pub runs_lead_on : RequestsLeadOn → RunsLeadOn
 runs_lead_on law size name [] old last h denotes same = subst (λ (f : Files). FilesDenote size name f h) (sym same) denotes
-runs_lead_on law size name (r ∷ rs) old last h denotes (mid, is, later) = (
-  mid,
-  is.behind,
-  elim (run_goes law size name r old mid h denotes is) [
-    | inl torn ↦ inl torn
-    | inr goes ↦ inr (goes.0, goes.1, goes.2, runs_lead_on law size name rs mid last goes.0 goes.2 later)
-  ],
-)
+runs_lead_on law size name (r ∷ rs) old last h denotes (mid, is, later) =
+    let on : OnFiles r old mid = record { before = is.before; behind = is.behind } in
+    (
+      mid,
+      is.behind,
+      elim (goes_words law size name r old mid h denotes on r.ends is.on) [
+        | inl torn ↦ inl torn
+        | inr goes ↦ inr (goes.0, goes.1, goes.2, runs_lead_on law size name rs mid last goes.0 goes.2 later)
+      ],
+    )

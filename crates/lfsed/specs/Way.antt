@@ -16,45 +16,57 @@
 --  13  Plans         the patch carries the command out on the image                                           lfs_command/specs/Planned.antt
 --
 -- Where they lead is said at the end: the headline.
-use Rattle.std.specs.Prelude.{◌≡◌, ◌⊎◌, ℕ, List, [], ◌∷◌, Option, Some}
-use Rattle.clap.specs.Words.{Text, subcommand_of}
+use mathlib.Core.Logic.{inl, inr}
+use Rattle.std.specs.Prelude.{◌≡◌, ◌⊎◌, ℕ, List, [], ◌∷◌, Option, Some, None, IfSome, MatchOption}
+use Rattle.clap.specs.Words.{Row, Text}
 use Rattle.lfs_change.specs.declared.fault.Fault.{Fault}
 use Rattle.lfs_change.specs.Fault.{status_of}
-use Rattle.lfs_grammar.specs.Grammar.{grammar}
-use Rattle.lfs_grammar.specs.Hyphens.{IsRead}
 use Rattle.lfs_history.specs.History.{History}
 use Rattle.lfs_host.specs.Files.{Files}
 use Rattle.lfs_host.specs.Scene.{Scene, WasRefused}
 use Rattle.lfs_request.specs.declared.request.Request.{Request}
 use Rattle.lfs_serve.specs.Requests.{FilesDenote, TaskGoesBy}
-use Rattle.lfs_words.specs.declared.auto_sizes.AutoSizes.{AutoSizes}
-use Rattle.lfs_words.specs.Words.{AsksFor}
-use Rattle.lfsed.specs.Words.{AreStated, EndsWords}
+use Rattle.lfsed.specs.Words.{EndsNamed, EndsWords}
 
 -- ---- runs
 
--- the words of a run, what was known of the host before and behind it, and the status that it ended with
+-- a run: its words, what was known of the host before and behind it, and the status that it ended with, as its words end
 pub record Run : Type 0 where
   pub words : List Text
   pub old : Scene
   pub new : Scene
   pub status : ℕ
+  pub ends : EndsWords words old new status
 
--- the words of a run ask for a request, behind a look at the files of the images
-pub record AsksIn (r : Run) (looked : Scene) (request : Request) : Type 0 where
-  pub read : List Text
-  pub is_read : IsRead r.words read
-  pub stated : AutoSizes
-  pub are_stated : AreStated (subcommand_of grammar read) r.old looked stated
-  pub asks : AsksFor (subcommand_of grammar read) stated request
+-- a request, and what was known of the host when it was taken up
+pub record Asked : Type 0 where
+  pub request : Request
+  pub looked : Scene
 
--- a run ended as its words end, on files that are known; what it asks for, if anything, is on the image of this name, with blocks of
--- this size
+-- the request as which a command that is named ended, if it did
+abbrev pub asked_named : (named : Option (Text × List Row)) (old new : Scene) (status : ℕ) → EndsNamed named old new status → Option Asked
+asked_named named old new status (inr (inl (stated, looked, are, inl (request, asks, ends)))) =
+    Some (record { request = request; looked = looked })
+asked_named named old new status _ = None
+
+-- the request as which words ended, if they did
+abbrev pub asked_words : (words : List Text) (old new : Scene) (status : ℕ) → EndsWords words old new status → Option Asked
+asked_words words old new status (inl (read, is_read, named)) = asked_named _ old new status named
+asked_words words old new status _ = None
+
+-- the request as which a run ended, if it did
+abbrev pub asked_of : Run → Option Asked
+asked_of r = asked_words r.words r.old r.new r.status r.ends
+
+-- a request is on the image of this name, with blocks of this size
+abbrev pub IsAskedOn : ℕ → List ℕ → Asked → Type 0
+IsAskedOn size name asked = (asked.request.size ≡ size) × (asked.request.image.now ≡ name)
+
+-- a run on files that are known; if it ended as a request, then as one on that image
 pub record IsRunOn (size : ℕ) (name : List ℕ) (r : Run) (old new : Files) : Type 0 where
   pub before : r.old.files ≡ Some old
   pub behind : r.new.files ≡ Some new
-  pub ends : EndsWords r.words r.old r.new r.status
-  pub on : (looked : Scene) (request : Request) → AsksIn r looked request → (request.size ≡ size) × (request.image.now ≡ name)
+  pub on : IfSome (asked_of r) (IsAskedOn size name)
 
 -- one after another, each on the files that the one before left
 abbrev pub AreRunsOn : ℕ → List ℕ → List Run → Files → Files → Type 0
@@ -63,18 +75,14 @@ AreRunsOn size name (r ∷ rs) old new = (mid : Files) × IsRunOn size name r ol
 
 -- ---- where they lead
 
--- a request of the run leads there, by the fault that the status tells
-pub record AskedGoes (size : ℕ) (r : Run) (old new : History) : Type 0 where
-  pub looked : Scene
-  pub request : Request
-  pub asked : AsksIn r looked request
-  pub fault : Option Fault
-  pub status_is : r.status ≡ status_of fault
-  pub goes : TaskGoesBy fault size request.task looked old new
+-- a request leads there, by the fault that the status tells
+abbrev pub AskedGoes : ℕ → ℕ → Asked → History → History → Type 0
+AskedGoes size status asked old new =
+    (fault : Option Fault) × (status ≡ status_of fault) × TaskGoesBy fault size asked.request.task asked.looked old new
 
--- so a run does; one without a request leaves the history
+-- so does a run that ended as a request; any other leaves the history
 abbrev pub RunGoes : ℕ → Run → History → History → Type 0
-RunGoes size r old new = AskedGoes size r old new ⊎ (new ≡ old)
+RunGoes size r old new = MatchOption (asked_of r) (new ≡ old) (λ asked. AskedGoes size r.status asked old new)
 
 -- the host refused the new image its place, where the new journal had got its own: the image is the one that was there
 pub record IsTornIn (name : List ℕ) (r : Run) (old new : Files) : Type 0 where
