@@ -131,9 +131,14 @@ IsNotAimed Asks scene name fault = IsUnfound scene name fault
 IsNotAimed Recounts scene name fault = IsUnfound scene name fault
 IsNotAimed kind scene name fault = IsNotLocked kind scene name fault
 
+-- why a step of a kind can't read its files: none is read of an image that is made
+abbrev pub IsUnreadFor : StepKind → Scene → Fault → Type 0
+IsUnreadFor Makes scene fault = ⊥
+IsUnreadFor kind scene fault = IsUnread scene fault
+
 -- why nothing is handed of its files
 abbrev pub IsNotTakenUp : StepKind → Scene → List ℕ → Fault → Type 0
-IsNotTakenUp kind scene name fault = IsNotAimed kind scene name fault ⊎ IsUnread scene fault
+IsNotTakenUp kind scene name fault = IsNotAimed kind scene name fault ⊎ IsUnreadFor kind scene fault
 
 -- what a fault of reading is told as
 abbrev pub fault_of_reading : ReadFault → Fault

@@ -7,7 +7,7 @@ ghost use Rattle.lfs_change.specs.declared.other_fault.OtherFault.TheVariants as
 ghost use Rattle.lfs_fs.specs.Limits.{most_file};
 ghost use Rattle.lfs_host.specs.Files.{FindsFile, IsMissing, IsTarget, ReadsFile, ReadsInput};
 ghost use Rattle.lfs_host.specs.Scene.{HasClaimed, HasRefused, KeepsAll, KeepsOutput, KeepsSeen};
-ghost use Rattle.lfs_exchange.specs.Handing.{HandsImage, HandsInput, HandsJournal, HandsQuestion, IsClaimed, IsHanded, IsNotAimed, IsNotLocked, IsNotTakenUp, IsOtherUnread, IsUnread, LeavesInput, fault_at, fault_of_reading, most_image};
+ghost use Rattle.lfs_exchange.specs.Handing.{HandsImage, HandsInput, HandsJournal, HandsQuestion, IsClaimed, IsHanded, IsNotAimed, IsNotLocked, IsNotTakenUp, IsOtherUnread, IsUnread, IsUnreadFor, LeavesInput, fault_at, fault_of_reading, most_image};
 ghost use Rattle.lfs_exchange.specs.declared.step_kind.StepKind.TheVariants.{Makes};
 ghost use Rattle.lfs_exchange.specs.Storing.{journal_name};
 
@@ -128,18 +128,15 @@ pub fn spare<H: Host>(host: &mut H, is_new: bool, name: &str) -> Result<(), Faul
     Ok(())
 }
 
-/// The bytes of an image's file, and one more than an image has where there are more; none where the image is made. Takes
-/// memory.
-///
-/// Source: own.
-pub fn read_image<H: Host>(
+/// The bytes of an image's file, and one more than an image has where there are more; none where the image is made.
+fn read_image<H: Host>(
     alloc: Global,
     host: &mut H,
     kind: StepKind,
     name: &str,
 ) -> Result<Vec<u8>, Fault>
     ensures image { IfOk result (λ bytes. HandsImage kind (H.known host.old).files name.now bytes.items) }
-    ensures refused { IfErr result (IsUnread (H.known host.new)) }
+    ensures refused { IfErr result (IsUnreadFor kind (H.known host.new)) }
     ensures kept { KeepsAll (H.known host.old) (H.known host.new) }
 {
     if let StepKind::Makes = kind {
@@ -159,7 +156,7 @@ fn journal_of<H: Host>(
     name: &str,
 ) -> Result<Vec<u8>, Fault>
     ensures journal { IfOk result (λ bytes. HandsJournal kind (H.known host.old).files name.now bytes.items) }
-    ensures refused { IfErr result (IsUnread (H.known host.new)) }
+    ensures refused { IfErr result (IsUnreadFor kind (H.known host.new)) }
     ensures kept { KeepsAll (H.known host.old) (H.known host.new) }
 {
     match kind {

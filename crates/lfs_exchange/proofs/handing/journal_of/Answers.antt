@@ -8,3 +8,10 @@ returns-in-Changes-clause-journal g c =
       | inl changes ↦ rw changes c.find_journal.ensures.journal
       | inr recounts ↦ rw recounts c.find_journal.ensures.journal
     ]
+
+pub returns-in-Changes-clause-refused : goal.returns-in-Changes-clause-refused
+returns-in-Changes-clause-refused g c =
+    elim c.in-Changes.is [
+      | inl changes ↦ rw changes c.find_journal.ensures.refused
+      | inr recounts ↦ rw recounts c.find_journal.ensures.refused
+    ]
