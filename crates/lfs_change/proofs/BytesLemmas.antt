@@ -1,5 +1,5 @@
 -- Images, and the bytes that they are.
-use Rattle.std.proofs.Common.{◌≡◌, ◌*◌, ◌/◌, ◌<◌, add-zero, length, sym, ap, ◌∙◌, arith}
+use Rattle.std.proofs.Common.{◌≡◌, ◌*◌, ◌/◌, ◌<◌, ℕ, List, add-zero, length, sym, ap, ap₂, subst, ◌∙◌, arith}
 use Rattle.std.proofs.lemmas.Nat.{div-mul-add}
 use Rattle.lfs_block.specs.Disk.{Disk, IsDisk}
 use Rattle.lfs_change.specs.Bytes.{image_of}
@@ -11,3 +11,8 @@ image_of_disk d is =
     let count : length d.bytes / d.size ≡ d.count = ap (λ n. n / d.size) is.len ∙ ap (λ n. n / d.size) (sym (add-zero (d.count * d.size)))
     ∙ div-mul-add d.count d.size 0 positive in
     ap (λ n. let disk : Disk = record { size = d.size; count = n; bytes = d.bytes } in disk) count
+
+-- what holds of it holds of the image that its bytes are
+pub at_bytes : (d : Disk) (size : ℕ) (bytes : List ℕ) (P : Disk → Type 0) → IsDisk d → d.size ≡ size → d.bytes ≡ bytes → P d
+    → P (image_of size bytes)
+at_bytes d size bytes P is sizes same holds = subst P (sym (image_of_disk d is) ∙ ap₂ image_of sizes same) holds

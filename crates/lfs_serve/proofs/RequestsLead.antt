@@ -3,6 +3,7 @@ use Rattle.std.proofs.Common.{◌≡◌, ◌⊎◌, ◌<◌, ◌≤◌, ◌+◌,
 use Rattle.std.proofs.Common.{None, length, refl, sym, ap, subst, ◌∙◌, arith, inl, inr, length-append}
 use Rattle.std.specs.Prelude.{codes, map}
 use Rattle.std.proofs.lemmas.List.{take_all}
+use Rattle.std.proofs.lemmas.Option.{same_Some}
 use Rattle.lfs_block.specs.Disk.{Disk, IsDisk}
 use Rattle.lfs_book.specs.Book.{most_journal}
 use Rattle.lfs_book.specs.Laws.{JournalsAreShort}
@@ -38,13 +39,6 @@ use Rattle.lfs_serve.specs.HostFolder.{packed_of}
 use Rattle.lfs_serve.specs.Program.{BecomesStep, EndsStep, EndsTask, IsNotBegun, StopsStep}
 use Rattle.lfs_serve.specs.Requests.{FilesDenote, IsServedOn, IsTorn, RequestGoes, RequestsLeadOn, Served, TaskGoes, TaskGoesBy}
 use Rattle.lfs_serve.proofs.StepLemmas.{handed_from}
-
-some_is : {X : Type 0} (x y : X) → Some x ≡ Some y → x ≡ y
-some_is {X} x y same = ap (get_some x) same
-  where
-    get_some : X → Option X → X
-    get_some d None = d
-    get_some d (Some z) = z
 
 -- ---- names
 
@@ -92,7 +86,7 @@ journal_short short d (byte ∷ bytes) h denotes =
 image_read : (size : ℕ) (name read : List ℕ) (files : Files) (h : History) (denotes : FilesDenote size name files h)
     → ReadsFile (Some files) name most_image read → read ≡ denotes.0
 image_read size name read files h (image, is, denotes) (whole, there, begins) =
-    let same : whole ≡ image = some_is whole image (sym there ∙ is) in
+    let same : whole ≡ image = same_Some whole image (sym there ∙ is) in
     whole_read most_image image read (image_short size image denotes.0)
     (subst (λ (w : List ℕ). BeginsWith most_image w read) same begins)
 
@@ -113,7 +107,7 @@ stays size name old new h image journal (bytes, is, denotes) =
 -- where all files stay
 same_files : (size : ℕ) (name : List ℕ) (old new : Files) (h : History) → Some new ≡ Some old → FilesDenote size name old h
     → FilesDenote size name new h
-same_files size name old new h same denotes = subst (λ (f : Files). FilesDenote size name f h) (sym (some_is new old same)) denotes
+same_files size name old new h same denotes = subst (λ (f : Files). FilesDenote size name f h) (sym (same_Some new old same)) denotes
 
 -- where an outcome's image and journal are written
 written : (size : ℕ) (name : List ℕ) (old new : Files) (outcome : Outcome) (h : History)

@@ -1,5 +1,5 @@
 -- What asks changes no file, however it ends.
-use Rattle.std.proofs.Common.{◌≡◌, ◌⊎◌, ℕ, Bool, List, Option, Some, None, refl, ap, subst, inl, inr}
+use Rattle.std.proofs.Common.{◌≡◌, ◌⊎◌, ℕ, Bool, List, Option, Some, None, refl, subst, inl, inr}
 use Rattle.lfs_change.specs.declared.fault.Fault.{Fault}
 use Rattle.lfs_change.specs.declared.fault.Fault.TheVariants.{Refused}
 use Rattle.lfs_change.specs.declared.outcome.Outcome.{Outcome}
@@ -82,11 +82,3 @@ pub asking_in_range : (t : Task) → OnlyAsks t → IsTaskInRange t
 asking_in_range (task.Ask query) only = tt
 asking_in_range (task.Extract dir) only = tt
 asking_in_range _ only = absurd only
-
--- what is there is there alike
-pub some_same : {X : Type 0} (x y : X) → Some x ≡ Some y → x ≡ y
-some_same x y same = ap (get_some x) same
-  where
-    get_some : {X : Type 0} → X → Option X → X
-    get_some d None = d
-    get_some d (Some z) = z

@@ -1,5 +1,5 @@
 -- What is answered of two images that are compared.
-use Rattle.std.proofs.Common.{◌≡◌, ◌⊎◌, ℕ, List, Option, None, Some, true, false, rules, refl, sym, ap₂, subst, ◌∙◌}
+use Rattle.std.proofs.Common.{◌≡◌, ◌⊎◌, ℕ, List, Option, None, Some, true, false, rules, refl, sym, subst}
 use Rattle.std.specs.Io.KnownBytes.{Keeps}
 use mathlib.Core.Logic.{inl, inr}
 use Rattle.lfs_block.specs.Disk.{Disk, IsDisk}
@@ -17,7 +17,7 @@ use Rattle.lfs_change.specs.declared.other_fault.OtherFault.TheVariants as other
 use Rattle.lfs_change.specs.Bytes.{image_of}
 use Rattle.lfs_change.specs.Fault.{blames_output, fault_of_mount}
 use Rattle.lfs_block.specs.declared.mount_fault.MountFault.TheVariants.{Memory as No_memory}
-use Rattle.lfs_change.proofs.BytesLemmas.{image_of_disk}
+use Rattle.lfs_change.proofs.BytesLemmas.{at_bytes}
 use Rattle.lfs_step.specs.Comparing.{IsDifference, RefusesCompared, RefusesDifference, SendsCompared, SendsDifference}
 use Rattle.lfs_step.specs.Query.{fault_of_unsent}
 
@@ -83,11 +83,6 @@ second_silent d e f o (inl memory) = subst (λ (x : Fault). SendsDifference d e 
 second_silent d e f o (inr (cause, is, has)) = subst (λ (x : Fault). SendsDifference d e (Some x) o o) (sym is) (same_kept o)
 
 -- ---- bytes
-
--- the same of the image that bytes are
-at_bytes : (e : Disk) (size : ℕ) (others : List ℕ) (P : Disk → Type 0) → IsDisk e → e.size ≡ size → e.bytes ≡ others → P e
-    → P (image_of size others)
-at_bytes e size others P is sizes same holds = subst P (sym (image_of_disk e is) ∙ ap₂ image_of sizes same) holds
 
 both_refused : (d : Disk) (size : ℕ) (others : List ℕ) (f : Fault)
     → IsDisk (image_of size others) × RefusesDifference d (image_of size others) f → RefusesCompared d size others f

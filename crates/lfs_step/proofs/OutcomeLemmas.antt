@@ -1,5 +1,5 @@
 -- What a query answers, from what is said of its image.
-use Rattle.std.proofs.Common.{◌≡◌, ℕ, List, Option, Result, Ok, Err, IfErr, ap₂, sym, subst, ◌∙◌}
+use Rattle.std.proofs.Common.{◌≡◌, ℕ, List, Option, Result, Ok, Err, IfErr, sym, subst}
 use Rattle.std.specs.Prelude.{MatchOption}
 use Rattle.std.specs.Result.{result_err}
 use Rattle.lfs_block.specs.Disk.{Disk, IsDisk}
@@ -7,7 +7,7 @@ use Rattle.lfs_change.specs.declared.fault.Fault.{Fault}
 use Rattle.lfs_change.specs.declared.fault.Fault.TheVariants.{Image}
 use Rattle.lfs_change.specs.declared.outcome.Outcome.{Outcome}
 use Rattle.lfs_change.specs.Bytes.{image_of}
-use Rattle.lfs_change.proofs.BytesLemmas.{image_of_disk}
+use Rattle.lfs_change.proofs.BytesLemmas.{at_bytes}
 use Rattle.lfs_step.specs.declared.query.Query.TheVariants.{Check, Ls, Cat, Diff, Log}
 use Rattle.lfs_step.specs.declared.step.Step.{Step}
 use Rattle.lfs_step.specs.declared.step.Step.TheVariants.{Ask}
@@ -19,10 +19,6 @@ use Rattle.lfs_step.specs.Query.{Question}
 abbrev pub AnswersBy : Option Fault → Step → Given → Outcome → Type 0
 AnswersBy fault step g outcome =
     MatchOption fault (AnswersDone step g outcome) (λ why. KeepsBoth g outcome × Refuses step g outcome.at why)
-
--- the same of the image that bytes are
-at_bytes : (d : Disk) (size : ℕ) (bytes : List ℕ) (P : Disk → Type 0) → IsDisk d → d.size ≡ size → d.bytes ≡ bytes → P d → P (image_of size bytes)
-at_bytes d size bytes P is sizes same holds = subst P (sym (image_of_disk d is) ∙ ap₂ image_of sizes same) holds
 
 -- an image isn't refused as bytes are
 no_image : (q : Question) (d : Disk) (journal : List ℕ) (f : _) → RefusesAsked q d journal (Image f) → ⊥

@@ -1,7 +1,7 @@
 -- What is read of an argument that is said.
 use Rattle.std.proofs.Common.{◌≡◌, ◌≤◌, ◌∙◌, ℕ, List, Option, Some, None, sym, ap, subst, refl, true, inl, inr, codes, arith}
-use Rattle.std.specs.Prelude.{IfSome, IsNone, Ok, Result, option_map, pos, unwrap_or}
-use Rattle.std.proofs.lemmas.Option.{none-some}
+use Rattle.std.specs.Prelude.{IfSome, IsNone, Ok, Result, option_map, pos}
+use Rattle.std.proofs.lemmas.Option.{none-some, same_Some}
 use Rattle.std.specs.Borrow.{Bor}
 use Rattle.std.specs.Str.Parse.{ParsesUnsigned}
 use Rattle.clap.specs.Lexer.{without_minus}
@@ -19,9 +19,6 @@ use Rattle.lfs_grammar.specs.Grammar.{IsNumber, IsSaid, NamesCommand, is_change,
 use Rattle.lfs_grammar.proofs.CommandLemmas.{keep_says}
 use Rattle.lfs_history.specs.Taking.{MayKeep}
 use Rattle.lfs_words.specs.Words.{HasNumber, HasText, IsKept}
-
-some_is : {X : Type 0} (x y : X) → Some x ≡ Some y → x ≡ y
-some_is {X} x y same = ap (λ (o : Option X). unwrap_or o x) same
 
 none_is : {X : Type 0} (r : Option X) → IsNone r → r ≡ None
 none_is None none = refl
@@ -89,7 +86,7 @@ pub number_within : (E : Type 0) (G : Text → Result ℕ E → Type 0) (f : Fou
 number_within E G f id None only some = tt
 number_within E G f id (Some n) only some = λ rule is number said.
     let got = said_read E G f id (Some n) rule only some is number said in
-    let same : got.0 ≡ n = some_is got.0 n (sym got.1) in
+    let same : got.0 ≡ n = same_Some got.0 n (sym got.1) in
     (subst (λ (m : ℕ). number.0 ≤ m) same got.2, subst (λ (m : ℕ). m ≤ number.1) same got.3)
 
 -- ---- how many images are kept

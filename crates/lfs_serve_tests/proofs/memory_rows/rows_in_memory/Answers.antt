@@ -1,6 +1,6 @@
 use Rattle.lfs_host.specs.MemoryFiles.{files_of}
 use Rattle.lfs_host.specs.MemoryTree.{names_of, names_through, tree_of}
-use Rattle.lfs_serve_tests.proofs.AskingLemmas.{some_same}
+use Rattle.std.proofs.lemmas.Option.{same_Some}
 use Rattle.lfs_serve_tests.proofs.MemoryRowLemmas.{node_is_known, refuses_in_memory, scene_of}
 use Rattle.lfs_serve_tests.proofs.memory_rows.rows_in_memory.Goals as goal
 
@@ -12,4 +12,4 @@ returns-clause-refused c =
     c.folder_rows.ensures.refused c.folder_rows.ensures.blamed
 
 pub returns-clause-kept : goal.returns-clause-kept
-returns-clause-kept c = some_same (files_of c.folder_rows.new.host.files) (files_of c.args.host.now.files) c.folder_rows.ensures.kept.0.0
+returns-clause-kept c = same_Some (files_of c.folder_rows.new.host.files) (files_of c.args.host.now.files) c.folder_rows.ensures.kept.0.0
