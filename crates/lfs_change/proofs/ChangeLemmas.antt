@@ -12,10 +12,10 @@ use Rattle.lfs_history.specs.Batch.{StopsAt, TakesAll}
 use Rattle.lfs_history.specs.History.{History, IsHistory}
 use Rattle.lfs_history.specs.Opening.{Opens, RefusesOpening}
 use Rattle.lfs_history.specs.Taking.{Move, Takes}
-use Rattle.lfs_change.specs.declared.fault.Fault.{Fault}
-use Rattle.lfs_change.specs.declared.fault.Fault.TheVariants.{Image}
-use Rattle.lfs_change.specs.Fault.{blames_output, fault_of_step, fault_of_mount, fault_of_opening}
-use Rattle.lfs_change.specs.declared.outcome.Outcome.{Outcome}
+use Rattle.lfs_request.specs.declared.fault.Fault.{Fault}
+use Rattle.lfs_request.specs.declared.fault.Fault.TheVariants.{Image}
+use Rattle.lfs_request.specs.Fault.{blames_output, fault_of_step, fault_of_mount, fault_of_opening}
+use Rattle.lfs_request.specs.declared.outcome.Outcome.{Outcome}
 use Rattle.lfs_change.specs.Change.{AnswersChange, AnswersImage, DenotesOn, RefusesChange, RefusesDenoting, RefusesImage, RefusesStep}
 use Rattle.lfs_change.proofs.BytesLemmas.{image_of_disk}
 

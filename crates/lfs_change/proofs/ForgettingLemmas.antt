@@ -7,9 +7,9 @@ use Rattle.lfs_book.specs.Book.{journal_bytes}
 use Rattle.lfs_fs.specs.Cause.{HasCause}
 use Rattle.lfs_history.specs.History.{History, IsHistory, fresh_history}
 use Rattle.lfs_history.specs.Opening.{journal_of}
-use Rattle.lfs_change.specs.declared.outcome.Outcome.{Outcome}
+use Rattle.lfs_request.specs.declared.outcome.Outcome.{Outcome}
 use Rattle.lfs_change.specs.Change.{DenotesOn}
-use Rattle.lfs_change.specs.Fault.{fault_of_mount}
+use Rattle.lfs_request.specs.Fault.{fault_of_mount}
 use Rattle.lfs_change.specs.Forgetting.{AnswersForgetting, IsForgotten, RefusesForgetting}
 use Rattle.lfs_change.proofs.BytesLemmas.{image_of_disk}
 

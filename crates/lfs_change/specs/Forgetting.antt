@@ -7,9 +7,9 @@ use Rattle.lfs_command.specs.declared.refusal.Refusal.TheVariants.{Memory}
 use Rattle.lfs_book.specs.Book.{journal_bytes}
 use Rattle.lfs_history.specs.History.{fresh_history}
 use Rattle.lfs_history.specs.Opening.{journal_of}
-use Rattle.lfs_change.specs.declared.fault.Fault.{Fault}
-use Rattle.lfs_change.specs.declared.fault.Fault.TheVariants.{Image, Mount, Refused}
-use Rattle.lfs_change.specs.declared.outcome.Outcome.{Outcome}
+use Rattle.lfs_request.specs.declared.fault.Fault.{Fault}
+use Rattle.lfs_request.specs.declared.fault.Fault.TheVariants.{Image, Mount, Refused}
+use Rattle.lfs_request.specs.declared.outcome.Outcome.{Outcome}
 use Rattle.lfs_change.specs.Bytes.{image_of}
 use Rattle.lfs_change.specs.Change.{Denotes}
 

@@ -14,7 +14,7 @@ use Rattle.lfs_history.specs.History.{History}
 use Rattle.lfs_history.specs.Opening.{kept_journal}
 use Rattle.lfs_history.specs.Taking.{Move, Do, Undo}
 use Rattle.lfs_history.specs.Laws.{IsCarriedOut}
-use Rattle.lfs_change.specs.declared.outcome.Outcome.{Outcome}
+use Rattle.lfs_request.specs.declared.outcome.Outcome.{Outcome}
 use Rattle.lfs_change.specs.Bytes.{image_of}
 use Rattle.lfs_change.specs.Change.{Denotes, DenotesOn, IsChanged}
 

@@ -6,15 +6,15 @@ ghost use Rattle.lfs_block.specs.Disk.{Disk};
 ghost use Rattle.lfs_history.specs.Meaning.{step_of};
 ghost use Rattle.lfs_history.specs.Taking.{KeepsInRange};
 ghost use Rattle.lfs_change.specs.Change.{AnswersChange, AnswersImage, DenotesOn};
-ghost use Rattle.lfs_change.specs.Fault.{blames_output, status_of};
+ghost use Rattle.lfs_request.specs.Fault.{blames_output, status_of};
 
-use crate::fault::Fault;
-use crate::opening::{opened, outcome_of};
-use crate::outcome::Outcome;
+use crate::opening::opened;
+use crate::outcomes::{outcome_of, outcome_of_stop};
 use lfs_block::Image;
 use lfs_command::Refusal;
 use lfs_history::Move;
 use lfs_journal::Session;
+use lfs_request::{Fault, Outcome};
 use std::alloc::Global;
 
 /// Takes steps, as `changed` does, beside a copy of the image.
@@ -79,6 +79,6 @@ fn session_changed(
     let mut session = session;
     match session.take_all(alloc, steps) {
         Ok(()) => outcome_of(session),
-        Err(stopped) => Outcome::stopped(kept, journal, stopped, None),
+        Err(stopped) => outcome_of_stop(kept, journal, stopped, None),
     }
 }

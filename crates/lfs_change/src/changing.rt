@@ -5,13 +5,13 @@ ghost use Rattle.std.specs.List.{AllByRecursion};
 ghost use Rattle.lfs_history.specs.Meaning.{step_of};
 ghost use Rattle.lfs_history.specs.Taking.{KeepsInRange};
 ghost use Rattle.lfs_change.specs.Change.{AnswersChange};
-ghost use Rattle.lfs_change.specs.Fault.{blames_output, status_of};
+ghost use Rattle.lfs_request.specs.Fault.{blames_output, status_of};
 
 use crate::beside::changed_beside;
 use crate::in_place::changed_in_place;
 use crate::kept_past::fronts_keep_past;
-use crate::outcome::Outcome;
 use lfs_history::Move;
+use lfs_request::Outcome;
 use std::alloc::Global;
 
 /// Takes steps, one after another, on the history of bytes that are an image, with blocks of `size` bytes, and of its journal: all of

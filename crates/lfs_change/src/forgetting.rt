@@ -2,14 +2,13 @@
 
 ghost use Rattle.std.specs.Prelude.{◌≡◌, false};
 ghost use Rattle.lfs_block.specs.Disk.{IsDisk};
-ghost use Rattle.lfs_change.specs.Fault.{blames_output, status_of};
+ghost use Rattle.lfs_request.specs.Fault.{blames_output, status_of};
 ghost use Rattle.lfs_change.specs.Forgetting.{AnswersForgetting};
 
-use crate::fault::Fault;
-use crate::opening::outcome_of;
-use crate::outcome::Outcome;
+use crate::outcomes::outcome_of;
 use lfs_block::Image;
 use lfs_journal::{Session, Unmounted};
+use lfs_request::{Fault, Outcome};
 use std::alloc::Global;
 
 /// Forgets all but bytes that are an image, with blocks of `size` bytes: where it mounts it gets a journal without changes. The journal

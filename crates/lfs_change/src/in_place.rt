@@ -8,16 +8,15 @@ ghost use Rattle.lfs_history.specs.Meaning.{step_of};
 ghost use Rattle.lfs_history.specs.Moves.{Repeats, Undoes};
 ghost use Rattle.lfs_history.specs.Taking.{KeepsInRange};
 ghost use Rattle.lfs_change.specs.Change.{AnswersChange, AnswersImage, DenotesOn, RefusesImage};
-ghost use Rattle.lfs_change.specs.Fault.{blames_output, fault_of_step, status_of};
+ghost use Rattle.lfs_request.specs.Fault.{blames_output, fault_of_step, status_of};
 ghost use Rattle.lfs_change.specs.KeptPast.{AllButLast};
 
-use crate::fault::Fault;
-use crate::opening::{image_bytes, opened, outcome_of};
-use crate::outcome::Outcome;
-use crate::place::Place;
+use crate::opening::opened;
+use crate::outcomes::{image_bytes, outcome_of, outcome_of_stop};
 use lfs_block::Image;
 use lfs_history::Move;
 use lfs_journal::{Refused, Session, Stopped};
+use lfs_request::{Fault, Outcome, Place};
 use std::alloc::Global;
 
 /// Takes steps, as `changed` does, in the image that is handed in. The caller owes that all but the last are commands that keep all
@@ -70,7 +69,7 @@ fn session_changed(alloc: Global, steps: &[Move<'_>], session: Session, journal:
         Ok(()) => outcome_of(session),
         Err(stopped) => {
             let place = place_of(alloc, steps, &session);
-            Outcome::stopped(image_bytes(session), journal, stopped, place)
+            outcome_of_stop(image_bytes(session), journal, stopped, place)
         }
     }
 }

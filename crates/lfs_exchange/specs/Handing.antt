@@ -4,9 +4,9 @@ use Rattle.std.specs.Borrow.{Bor}
 use Rattle.lfs_book.specs.Book.{most_journal}
 use Rattle.lfs_fs.specs.Limits.{most_file}
 use Rattle.lfs_command.specs.declared.refusal.Refusal.TheVariants.{Memory}
-use Rattle.lfs_change.specs.declared.fault.Fault.{Fault}
-use Rattle.lfs_change.specs.declared.fault.Fault.TheVariants.{Refused, CannotRead, CannotWrite, Other}
-use Rattle.lfs_change.specs.declared.other_fault.OtherFault.TheVariants as other
+use Rattle.lfs_request.specs.declared.fault.Fault.{Fault}
+use Rattle.lfs_request.specs.declared.fault.Fault.TheVariants.{Refused, CannotRead, CannotWrite, Other}
+use Rattle.lfs_request.specs.declared.other_fault.OtherFault.TheVariants as other
 use Rattle.lfs_exchange.specs.declared.step_kind.StepKind.{StepKind}
 use Rattle.lfs_exchange.specs.declared.step_kind.StepKind.TheVariants.{Makes, Asks, Recounts, Changes}
 use Rattle.lfs_command.specs.declared.command.Command.TheVariants.{Put}
@@ -14,9 +14,9 @@ use Rattle.lfs_history.specs.declared.moves.Move.{Move}
 use Rattle.lfs_history.specs.declared.moves.Move.TheVariants.{Do}
 use Rattle.lfs_history.specs.declared.source.Source.{Source}
 use Rattle.lfs_history.specs.declared.source.Source.TheVariants.{File, Input}
-use Rattle.lfs_step.specs.declared.query.Query.{Query}
-use Rattle.lfs_step.specs.declared.query.Query.TheVariants.{Check, Ls, Cat, Diff, Log}
-use Rattle.lfs_step.specs.Query.{Question}
+use Rattle.lfs_request.specs.declared.query.Query.{Query}
+use Rattle.lfs_request.specs.declared.query.Query.TheVariants.{Check, Ls, Cat, Diff, Log}
+use Rattle.lfs_request.specs.Query.{Question}
 use Rattle.lfs_host.specs.declared.read_fault.ReadFault.{ReadFault}
 use Rattle.lfs_host.specs.declared.read_fault.ReadFault.TheVariants as reading
 use Rattle.lfs_host.specs.Files.{Files, FindsFile, IsMissing, IsTarget, ReadsFile, ReadsInput}

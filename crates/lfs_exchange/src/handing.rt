@@ -2,8 +2,8 @@
 
 ghost use Rattle.std.specs.Prelude.{◌≡◌, ◌⊎◌, IfErr, IfOk, OnOk, string_bytes, true};
 ghost use Rattle.lfs_book.specs.Book.{most_journal};
-ghost use Rattle.lfs_change.specs.declared.fault.Fault.TheVariants.{CannotRead, CannotWrite, Other};
-ghost use Rattle.lfs_change.specs.declared.other_fault.OtherFault.TheVariants as other;
+ghost use Rattle.lfs_request.specs.declared.fault.Fault.TheVariants.{CannotRead, CannotWrite, Other};
+ghost use Rattle.lfs_request.specs.declared.other_fault.OtherFault.TheVariants as other;
 ghost use Rattle.lfs_fs.specs.Limits.{most_file};
 ghost use Rattle.lfs_host.specs.Files.{FindsFile, IsMissing, IsTarget, ReadsFile, ReadsInput};
 ghost use Rattle.lfs_host.specs.Scene.{HasClaimed, HasRefused, KeepsAll, KeepsOutput, KeepsSeen};
@@ -15,13 +15,11 @@ use crate::names::journal_name;
 use crate::step_kind::StepKind;
 use lfs_block::MAX_IMAGE_LENGTH;
 use lfs_book::MAX_JOURNAL_LENGTH;
-use lfs_change::OtherFault;
-use lfs_command::Command;
-use lfs_edit::Refusal;
+use lfs_command::{Command, Refusal};
 use lfs_fs::MOST_FILE;
 use lfs_history::{Move, Source};
 use lfs_host::{Host, Lock, ReadFault};
-use lfs_step::{Fault, Query};
+use lfs_request::{Fault, OtherFault, Query};
 use std::alloc::Global;
 
 /// An image's files, as a step is handed them.

@@ -2,14 +2,14 @@
 
 ghost use Rattle.std.specs.Prelude.{◌≡◌, IfErr, MatchResult, OnOk};
 ghost use Rattle.std.specs.Io.KnownBytes.{Appends};
-ghost use Rattle.lfs_change.specs.declared.fault.Fault.TheVariants.{CannotWrite};
+ghost use Rattle.lfs_request.specs.declared.fault.Fault.TheVariants.{CannotWrite};
 ghost use Rattle.lfs_host.specs.Scene.{HasRefused, KeepsAll, KeepsInput};
 ghost use Rattle.lfs_exchange.specs.Printing.{IsFlushed, PrintsBeginning};
 
 use crate::output::Output;
 use lfs_host::Host;
+use lfs_request::Fault;
 use lfs_sink::send;
-use lfs_step::Fault;
 
 /// Writes a text to standard output, and hands it on. Where that is refused, a beginning of it went out, or all of it that
 /// wasn't handed on.

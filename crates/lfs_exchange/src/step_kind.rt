@@ -4,7 +4,7 @@ ghost use Rattle.std.specs.Prelude.{◌≡◌};
 ghost use Rattle.lfs_exchange.specs.StepKind.{kind_of_query, kind_of_steps};
 
 use lfs_history::Move;
-use lfs_step::Query;
+use lfs_request::Query;
 
 /// What a step is to an image and its journal.
 ///

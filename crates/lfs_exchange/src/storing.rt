@@ -1,7 +1,7 @@
 //! What a step leaves in the files of an image and its journal.
 
 ghost use Rattle.std.specs.Prelude.{◌≡◌, ◌⊎◌, IfErr, MatchResult, OnOk};
-ghost use Rattle.lfs_change.specs.declared.fault.Fault.TheVariants.{CannotWrite};
+ghost use Rattle.lfs_request.specs.declared.fault.Fault.TheVariants.{CannotWrite};
 ghost use Rattle.lfs_host.specs.Files.{OnKnown};
 ghost use Rattle.lfs_host.specs.Scene.{HasClaimed, HasRefused, KeepsText, WasRefused};
 ghost use Rattle.lfs_exchange.specs.Handing.{IsClaimed, IsUnwritten};
@@ -11,9 +11,8 @@ ghost use Rattle.lfs_exchange.specs.Storing.{HasNew, HasPlaced, HasPlacedJournal
 use crate::names::{Names, names_of};
 use crate::printing::flush;
 use crate::step_kind::StepKind;
-use lfs_change::KeptJournal;
 use lfs_host::Host;
-use lfs_step::{Fault, Outcome};
+use lfs_request::{Fault, KeptJournal, Outcome};
 use std::alloc::Global;
 
 /// Writes what a step leaves; the answer to a question is handed on. What memory it takes is taken before a file is

@@ -1,11 +1,10 @@
 //! What is told on standard error.
 
 ghost use Rattle.std.specs.Prelude.{◌≡◌, Some};
-ghost use Rattle.lfs_change.specs.Fault.{status_of};
+ghost use Rattle.lfs_request.specs.Fault.{status_of};
 
-use lfs_change::OtherFault;
 use lfs_host::Host;
-use lfs_step::Fault;
+use lfs_request::{Fault, OtherFault};
 
 /// What ends the text on a command line that is refused.
 pub const MORE: &str = "\n\nFor more information, try '--help'.\n";

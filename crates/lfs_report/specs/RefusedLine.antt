@@ -1,8 +1,8 @@
 -- The line of a script for which none of its steps are done (own).
 use Rattle.std.specs.Prelude.{ℕ, Bool, true, false, if◌then◌else◌, List, Option, Some, None, slice_get}
 use Rattle.lfs_command.specs.declared.refusal.Refusal.TheVariants as refusal
-use Rattle.lfs_change.specs.declared.fault.Fault.{Fault}
-use Rattle.lfs_change.specs.declared.fault.Fault.TheVariants as fault
+use Rattle.lfs_request.specs.declared.fault.Fault.{Fault}
+use Rattle.lfs_request.specs.declared.fault.Fault.TheVariants as fault
 use Rattle.lfs_texts.specs.declared.flaw.Flaw.{Flaw}
 use Rattle.lfs_texts.specs.declared.line_fault.LineFault.{LineFault}
 use Rattle.lfs_texts.specs.declared.line_fault.LineFault.TheVariants.{Memory, BadHex, BadLine}

@@ -1,6 +1,6 @@
 -- The fault that a run ends early with (own).
 use Rattle.std.specs.Prelude.{Option, Some, None, Result, Ok, Err}
-use Rattle.lfs_change.specs.declared.fault.Fault.{Fault}
+use Rattle.lfs_request.specs.declared.fault.Fault.{Fault}
 use Rattle.lfs_report.specs.declared.stop.Stop.{Stop}
 
 -- the fault that a run stopped with, if any

@@ -4,8 +4,7 @@ ghost use Rattle.std.specs.Prelude.{◌≡◌};
 
 use crate::line::say_version;
 use lfs_host::Host;
-use lfs_request::{Request, Task};
-use lfs_step::Query;
+use lfs_request::{Query, Request, Task};
 
 /// The disk versions of commits that aren't read, where such stand in an image, and in the one that it is compared with.
 ///

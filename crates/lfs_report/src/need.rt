@@ -6,10 +6,10 @@ ghost use Rattle.lfs_fs.specs.Superblock.{IsLimits};
 use crate::stated::Statement;
 use crate::stop::Stop;
 use lfs_block::geometry_ok;
-use lfs_edit::Refusal;
+use lfs_command::Refusal;
 use lfs_fs::Limits;
 use lfs_pack::{PackRow, least_count};
-use lfs_step::Fault;
+use lfs_request::Fault;
 use std::alloc::Global;
 
 /// The least number of blocks of an image.

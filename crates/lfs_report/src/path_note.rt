@@ -2,12 +2,10 @@
 
 use crate::finding::Finding;
 use crate::task_paths::TaskPaths;
-use lfs_change::Place;
-use lfs_command::{Command, names_of};
-use lfs_edit::Refusal;
+use lfs_command::{Command, Refusal, names_of};
 use lfs_fs::Limits;
 use lfs_history::Move;
-use lfs_request::Task;
+use lfs_request::{Place, Task};
 use std::alloc::Global;
 
 /// A front of a task's path, by the length of its text.

@@ -6,8 +6,8 @@ ghost use Rattle.lfs_report.specs.RefusedLine.{fault_of_line, is_of_step, line_r
 use crate::beside::Beside;
 use crate::stated::Statement;
 use crate::stop::Stop;
-use lfs_edit::Refusal;
-use lfs_step::Fault;
+use lfs_command::Refusal;
+use lfs_request::Fault;
 use lfs_texts::{Flaw, LineFault, ScriptFault, ScriptLine, line_at};
 use std::alloc::Global;
 

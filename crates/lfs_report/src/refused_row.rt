@@ -6,10 +6,10 @@ use crate::beside::Beside;
 use crate::finding::Finding;
 use crate::stated::Statement;
 use crate::stop::Stop;
-use lfs_edit::Refusal;
+use lfs_command::Refusal;
 use lfs_fs::Limits;
 use lfs_pack::PackRow;
-use lfs_step::Fault;
+use lfs_request::Fault;
 use std::alloc::Global;
 
 /// Why packing a folder ended early; where that is for one of its rows, with what is said of it, and with the text of its path in

@@ -4,10 +4,9 @@ use crate::finding::Finding;
 use crate::path_note::PathNote;
 use byteorder::{ByteOrder, LittleEndian};
 use lfs_block::{ImageFault, MountFault};
-use lfs_change::OtherFault;
 use lfs_later::{StatedVersion, unread_version};
+use lfs_request::{Fault, OtherFault};
 use lfs_stated::superblock_words;
-use lfs_step::Fault;
 use lfs_texts::Flaw;
 
 /// The disk version that is edited.
@@ -41,7 +40,7 @@ pub struct Sight {
 
 impl Sight {
     /// What is seen of no bytes. Takes no memory.
-    pub(crate) fn none() -> Sight {
+    pub fn none() -> Sight {
         Sight {
             size: 0,
             len: 0,
@@ -51,7 +50,7 @@ impl Sight {
     }
 
     /// What is seen of bytes, as of blocks of `size` bytes. Takes no memory.
-    pub(crate) fn of(size: u32, bytes: &[u8]) -> Sight {
+    pub fn of(size: u32, bytes: &[u8]) -> Sight {
         Sight {
             size,
             len: bytes.len(),

@@ -1,7 +1,7 @@
 //! Why a run ends early, and what is told of it.
 
 use crate::stated::Statement;
-use lfs_step::Fault;
+use lfs_request::Fault;
 use std::alloc::{AllocError, AllocFailed};
 
 /// Why a run ends without having done what it was asked for, with what is told of it beside.
@@ -56,7 +56,7 @@ impl From<Fault> for Stop {
 impl From<AllocError> for Stop {
     ghost use Rattle.std.specs.Prelude.{◌≡◌};
     ghost use Rattle.lfs_command.specs.declared.refusal.Refusal.TheVariants.{Memory};
-    ghost use Rattle.lfs_change.specs.declared.fault.Fault.TheVariants.{Refused};
+    ghost use Rattle.lfs_request.specs.declared.fault.Fault.TheVariants.{Refused};
 
     ghost from_gives = { λ error stop. stop.fault ≡ Refused Memory };
 
@@ -68,7 +68,7 @@ impl From<AllocError> for Stop {
 impl<T: Drop> From<AllocFailed<T>> for Stop {
     ghost use Rattle.std.specs.Prelude.{◌≡◌};
     ghost use Rattle.lfs_command.specs.declared.refusal.Refusal.TheVariants.{Memory};
-    ghost use Rattle.lfs_change.specs.declared.fault.Fault.TheVariants.{Refused};
+    ghost use Rattle.lfs_request.specs.declared.fault.Fault.TheVariants.{Refused};
 
     ghost from_gives = { λ failed stop. stop.fault ≡ Refused Memory };
 

@@ -9,10 +9,8 @@ use crate::stop::Stop;
 use crate::superblock::superblock_statement;
 use lfs_block::{Blocks, Image, MountFault};
 use lfs_book::Journal;
-use lfs_change::KeptJournal;
 use lfs_history::{Move, StepFault};
-use lfs_request::{Request, Task};
-use lfs_step::{Fault, Outcome};
+use lfs_request::{Fault, KeptJournal, Outcome, Request, Task};
 use std::alloc::Global;
 
 /// Why bytes were refused as an image of blocks of `size` bytes, with what they state. Takes no memory.

@@ -2,8 +2,7 @@
 
 use crate::path_note::Front;
 use lfs_history::Move;
-use lfs_request::Task;
-use lfs_step::Query;
+use lfs_request::{Query, Task};
 
 /// The paths of a task.
 #[derive(Clone, Copy)]

@@ -1,7 +1,7 @@
 //! What is told on standard error of how a request ended.
 
 ghost use Rattle.std.specs.Prelude.{◌≡◌, Some};
-ghost use Rattle.lfs_change.specs.Fault.{status_of};
+ghost use Rattle.lfs_request.specs.Fault.{status_of};
 ghost use Rattle.lfs_report.specs.Stop.{stopped_by};
 
 use crate::finding::Finding;
@@ -15,15 +15,12 @@ use crate::stop::Stop;
 use crate::task_paths::TaskPaths;
 use crate::told_line::ToldLine;
 use lfs_block::{BLOCK_SIZE_STEP, ImageFault, MAX_IMAGE_LENGTH};
-use lfs_change::OtherFault;
-use lfs_command::Command;
-use lfs_edit::Refusal;
+use lfs_command::{Command, Refusal};
 use lfs_exchange::tell_of_image;
 use lfs_history::Move;
 use lfs_host::Host;
 use lfs_later::StatedVersion;
-use lfs_request::{Request, Task};
-use lfs_step::{Fault, Query};
+use lfs_request::{Fault, OtherFault, Query, Request, Task};
 use lfs_texts::Flaw;
 
 /// The least number of blocks of an image.

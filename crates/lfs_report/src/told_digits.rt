@@ -1,13 +1,13 @@
 //! What is told of digits that spell nothing.
 
 ghost use Rattle.std.specs.Prelude.{◌≡◌, Some};
-ghost use Rattle.lfs_change.specs.Fault.{status_of};
-ghost use Rattle.lfs_change.specs.declared.fault.Fault.TheVariants.{BadHex};
+ghost use Rattle.lfs_request.specs.Fault.{status_of};
+ghost use Rattle.lfs_request.specs.declared.fault.Fault.TheVariants.{BadHex};
 
 use crate::line::{Piece, say};
 use lfs_exchange::tell;
 use lfs_host::Host;
-use lfs_step::Fault;
+use lfs_request::Fault;
 use lfs_texts::Reason;
 
 /// Tells that the digits of an attribute's kind or value spell nothing, and which word of a command they are; answers the status. Takes

@@ -1,2 +1,5 @@
-pub mod Extent
+pub mod Fault
+pub mod KeptJournal
+pub mod Place
+pub mod Query
 pub mod Task

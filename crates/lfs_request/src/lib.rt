@@ -1,10 +1,22 @@
-//! What is asked for on an image: a task, on an image's file.
+//! What is asked for on an image, a task on an image's file, and what comes of it: an outcome, or a fault.
 #![tactic(auto)]
 
 mod extent;
+mod fault;
+mod kept_journal;
+mod other_fault;
+mod outcome;
+mod place;
+mod query;
 mod request;
 mod task;
 
 pub use extent::Extent;
+pub use fault::Fault;
+pub use kept_journal::KeptJournal;
+pub use other_fault::OtherFault;
+pub use outcome::Outcome;
+pub use place::Place;
+pub use query::Query;
 pub use request::Request;
 pub use task::Task;

@@ -1,9 +1,9 @@
 //! What is asked for on an image.
 
 use crate::extent::Extent;
+use crate::query::Query;
 use lfs_fs::Limits;
 use lfs_history::{Move, Source};
-use lfs_step::Query;
 
 /// What is asked for on an image, by the names of what is to be read for it.
 ///

@@ -11,7 +11,7 @@ use Rattle.lfs_history.specs.Filling.{bytes_given}
 use Rattle.lfs_history.specs.Meaning.{OnBytes, step_by, step_of}
 use Rattle.lfs_history.specs.Taking as change
 use Rattle.lfs_history.specs.Taking.{KeepsInRange, MayKeep}
-use Rattle.lfs_change.specs.declared.fault.Fault.{Fault}
+use Rattle.lfs_request.specs.declared.fault.Fault.{Fault}
 use Rattle.lfs_host.specs.Files.{Files}
 use Rattle.lfs_host.specs.Scene.{KeepsScene, Scene}
 use Rattle.lfs_exchange.specs.Handing.{IsUnread}

@@ -9,7 +9,7 @@ use Rattle.lfs_fs.specs.Limits.{most_file}
 use Rattle.lfs_fs.specs.Ordered.{PathsRise}
 use Rattle.lfs_fs.specs.Row.{path_precedes}
 use Rattle.lfs_command.specs.declared.refusal.Refusal.TheVariants.{Memory as No_memory}
-use Rattle.lfs_change.specs.declared.fault.Fault.TheVariants.{Refused}
+use Rattle.lfs_request.specs.declared.fault.Fault.TheVariants.{Refused}
 use Rattle.lfs_folder.specs.declared.folder_fault.FolderFault.TheVariants.{Memory}
 use Rattle.lfs_folder.specs.declared.folder_row.FolderRow.{FolderRow}
 use Rattle.lfs_folder.specs.FolderRows.{AreFolderRows, AreSpelled, IsFolder, IsRow, PathRow, paths_of}

@@ -11,25 +11,26 @@ use Rattle.lfs_command.specs.declared.refusal.Refusal.{Refusal}
 use Rattle.lfs_history.specs.History.{History, fresh_history}
 use Rattle.lfs_history.specs.Batch.{TakesAll}
 use Rattle.lfs_history.specs.Meaning.{OnBytes, step_of}
-use Rattle.lfs_change.specs.declared.fault.Fault.{Fault}
-use Rattle.lfs_change.specs.declared.fault.Fault.TheVariants.{Refused, CannotWrite}
-use Rattle.lfs_change.specs.declared.outcome.Outcome.{Outcome}
+use Rattle.lfs_request.specs.declared.fault.Fault.{Fault}
+use Rattle.lfs_request.specs.declared.fault.Fault.TheVariants.{Refused, CannotWrite}
+use Rattle.lfs_request.specs.declared.outcome.Outcome.{Outcome}
 use Rattle.lfs_change.specs.Bytes.{image_of}
 use Rattle.lfs_change.specs.Change.{Denotes, DenotesOn}
-use Rattle.lfs_change.specs.Fault.{status_of}
+use Rattle.lfs_request.specs.Fault.{status_of}
 use Rattle.lfs_change.proofs.ChangeLemmas.{denoted_present}
-use Rattle.lfs_step.specs.declared.query.Query.TheVariants as query
+use Rattle.lfs_request.specs.declared.query.Query.TheVariants as query
 use Rattle.lfs_step.specs.declared.step.Step.{Step}
 use Rattle.lfs_step.specs.declared.step.Step.TheVariants.{Format, Pack, Ask, Forget, Change}
 use Rattle.lfs_step.specs.Histories.{StepsLeaveHistories}
 use Rattle.lfs_step.specs.Outcome.{AnswersDone, given}
 use Rattle.lfs_step.proofs.OutcomeLemmas.{AnswersBy}
-use Rattle.lfs_step.specs.Query.{Question}
+use Rattle.lfs_request.specs.Query.{Question}
 use Rattle.lfs_step.specs.Runs.{GoesOn, HasGoodRows}
 use Rattle.lfs_exchange.specs.declared.step_kind.StepKind.{StepKind}
 use Rattle.lfs_exchange.specs.declared.step_kind.StepKind.TheVariants.{Makes, Asks, Recounts, Changes, Forgets}
 use Rattle.lfs_exchange.specs.Handing.{HandedBytes, IsHanded, IsUnwritten, most_image}
-use Rattle.lfs_exchange.specs.StepKind.{kind_of, kind_of_steps}
+use Rattle.lfs_exchange.specs.StepKind.{kind_of_steps}
+use Rattle.lfs_serve.specs.StepKind.{kind_of}
 use Rattle.lfs_exchange.specs.Storing.{HasBoth, LeavesFiles, SparesFiles, journal_name, new_name, new_names}
 use Rattle.lfs_host.specs.Files.{Apart, BeginsWith, Files, FindsFile, ReadsFile, bytes_there}
 use Rattle.lfs_host.specs.Scene.{KeepsScene, Scene, WasRefused, unknown}

@@ -1,16 +1,16 @@
 -- How steps end, by what was handed, run and written.
 use Rattle.std.proofs.Common.{◌≡◌, ℕ, Bool, true, List, Option, Some, None, Result, Err, sym, ap, subst, ◌∙◌, inl, inr}
 use Rattle.std.specs.Prelude.{Contains, IfSome}
-use Rattle.lfs_change.specs.declared.fault.Fault.{Fault}
-use Rattle.lfs_change.specs.declared.fault.Fault.TheVariants.{Refused, CannotWrite}
-use Rattle.lfs_change.specs.declared.outcome.Outcome.{Outcome}
-use Rattle.lfs_change.specs.Fault.{blames_output}
+use Rattle.lfs_request.specs.declared.fault.Fault.{Fault}
+use Rattle.lfs_request.specs.declared.fault.Fault.TheVariants.{Refused, CannotWrite}
+use Rattle.lfs_request.specs.declared.outcome.Outcome.{Outcome}
+use Rattle.lfs_request.specs.Fault.{blames_output}
 use Rattle.lfs_step.specs.declared.step.Step.{Step}
 use Rattle.lfs_step.specs.Outcome.{Answers, SendsText, given}
 use Rattle.lfs_exchange.specs.declared.step_kind.StepKind.{StepKind}
 use Rattle.lfs_exchange.specs.declared.step_kind.StepKind.TheVariants.{Makes, Asks, Recounts, Changes, Forgets}
 use Rattle.lfs_exchange.specs.Handing.{HandedBytes, HandsImage, HandsJournal, IsClaimed, IsHanded, IsUnwritten}
-use Rattle.lfs_exchange.specs.StepKind.{kind_of}
+use Rattle.lfs_serve.specs.StepKind.{kind_of}
 use Rattle.lfs_exchange.specs.Storing.{LeavesFiles, SparesFiles}
 use Rattle.lfs_host.specs.Files.{Files, IsTarget}
 use Rattle.lfs_host.specs.Scene.{HasClaimed, KeepsScene, Scene, is_blamed}

@@ -13,7 +13,7 @@ use Rattle.lfs_history.specs.Filling.{bytes_given}
 use Rattle.lfs_history.specs.Meaning.{step_by}
 use Rattle.lfs_history.specs.Taking as change
 use Rattle.lfs_history.specs.Taking.{KeepsInRange}
-use Rattle.lfs_change.specs.declared.fault.Fault.{Fault}
+use Rattle.lfs_request.specs.declared.fault.Fault.{Fault}
 use Rattle.lfs_host.specs.Files.{Files, ReadsFile, ReadsInput}
 use Rattle.lfs_host.specs.Scene.{Scene}
 use Rattle.lfs_exchange.specs.Handing.{IsUnread}

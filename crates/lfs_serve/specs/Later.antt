@@ -1,12 +1,12 @@
 -- Commits of later disk versions in what is read as an image, for which it is refused, unless older states are asked for (own).
 use Rattle.std.specs.Prelude.{ℕ, Bool, List, Option, Some, None, if◌then◌else◌}
 use Rattle.lfs_block.specs.declared.mount_fault.MountFault.TheVariants.{Version}
-use Rattle.lfs_change.specs.declared.fault.Fault.{Fault}
-use Rattle.lfs_change.specs.declared.fault.Fault.TheVariants.{Mount, Other}
-use Rattle.lfs_change.specs.declared.other_fault.OtherFault.TheVariants as other
+use Rattle.lfs_request.specs.declared.fault.Fault.{Fault}
+use Rattle.lfs_request.specs.declared.fault.Fault.TheVariants.{Mount, Other}
+use Rattle.lfs_request.specs.declared.other_fault.OtherFault.TheVariants as other
 use Rattle.lfs_later.specs.Version.{later_version}
 use Rattle.lfs_step.specs.declared.step.Step.{Step}
-use Rattle.lfs_step.specs.declared.query.Query.TheVariants.{Diff}
+use Rattle.lfs_request.specs.declared.query.Query.TheVariants.{Diff}
 use Rattle.lfs_step.specs.declared.step.Step.TheVariants.{Ask}
 use Rattle.lfs_report.specs.declared.later.Later.{Later}
 

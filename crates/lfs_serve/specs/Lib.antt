@@ -1,3 +1,5 @@
+pub mod Extent
+pub mod StepKind
 pub mod Later
 pub mod Batching
 pub mod Program

@@ -1,7 +1,7 @@
 -- How the steps of a script's lines end (own).
 use Rattle.std.specs.Borrow.{Bor}
 use Rattle.std.specs.Prelude.{◌≡◌, ◌⊎◌, ℕ, Bool, List, Option, Some, map}
-use Rattle.lfs_change.specs.declared.fault.Fault.{Fault}
+use Rattle.lfs_request.specs.declared.fault.Fault.{Fault}
 use Rattle.lfs_history.specs.Meaning.{OnBytes, step_of}
 use Rattle.lfs_history.specs.Taking.{Move}
 use Rattle.lfs_host.specs.Scene.{KeepsScene, Scene}

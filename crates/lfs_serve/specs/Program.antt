@@ -1,9 +1,9 @@
 -- What the program does with the files of a host (own).
 use Rattle.std.specs.Prelude.{ℕ, ◌≡◌, ◌⊎◌, ⊤, Bool, true, false, List, [], ◌∷◌, Option, Some, None, map}
-use Rattle.lfs_change.specs.declared.fault.Fault.{Fault}
-use Rattle.lfs_change.specs.declared.fault.Fault.TheVariants.{CannotWrite}
-use Rattle.lfs_change.specs.declared.outcome.Outcome.{Outcome}
-use Rattle.lfs_change.specs.Fault.{status_of}
+use Rattle.lfs_request.specs.declared.fault.Fault.{Fault}
+use Rattle.lfs_request.specs.declared.fault.Fault.TheVariants.{CannotWrite}
+use Rattle.lfs_request.specs.declared.outcome.Outcome.{Outcome}
+use Rattle.lfs_request.specs.Fault.{status_of}
 use Rattle.lfs_history.specs.Filling.{bytes_given}
 use Rattle.lfs_history.specs.Meaning.{step_by, step_of}
 use Rattle.lfs_history.specs.Taking as change
@@ -13,7 +13,7 @@ use Rattle.lfs_pack.specs.declared.pack_row.PackRow.{PackRow}
 use Rattle.lfs_request.specs.declared.request.Request.{Request}
 use Rattle.lfs_request.specs.declared.task.Task.{Task}
 use Rattle.lfs_request.specs.declared.task.Task.TheVariants.{Format, Pack, Extract, Ask, Forget, Change, Batch}
-use Rattle.lfs_request.specs.Extent.{IsExtent}
+use Rattle.lfs_serve.specs.Extent.{IsExtent}
 use Rattle.lfs_step.specs.declared.step.Step.{Step}
 use Rattle.lfs_step.specs.declared.step.Step.TheVariants as step
 use Rattle.lfs_step.specs.Outcome.{Answers, SendsText, given}
@@ -21,7 +21,8 @@ use Rattle.lfs_exchange.specs.declared.step_kind.StepKind.{StepKind}
 use Rattle.lfs_exchange.specs.declared.step_kind.StepKind.TheVariants.{Makes, Changes, Forgets}
 use Rattle.lfs_exchange.specs.Handing.{HandedBytes, HandsInput, HandsQuestion, IsHanded, IsNotTakenUp, IsOtherUnread, IsUnread, IsUnwritten, reads_input}
 use Rattle.lfs_exchange.specs.Printing.{HandsOn}
-use Rattle.lfs_exchange.specs.StepKind.{kind_of, kind_of_query, kind_of_steps}
+use Rattle.lfs_exchange.specs.StepKind.{kind_of_query, kind_of_steps}
+use Rattle.lfs_serve.specs.StepKind.{kind_of}
 use Rattle.lfs_exchange.specs.Storing.{LeavesFiles, SparesFiles}
 use Rattle.lfs_serve.specs.Batching.{BecomesBatch, BecomesNoBatch}
 use Rattle.lfs_serve.specs.Extracting.{EndsExtract}

@@ -1,8 +1,8 @@
 -- Lists of requests on one image's files, each of which finds the files as the one before left them (own).
 use Rattle.std.specs.Prelude.{◌≡◌, ◌⊎◌, ℕ, List, [], ◌∷◌, Option, Some, None}
-use Rattle.lfs_change.specs.declared.fault.Fault.{Fault}
+use Rattle.lfs_request.specs.declared.fault.Fault.{Fault}
 use Rattle.lfs_change.specs.Change.{Denotes}
-use Rattle.lfs_change.specs.Fault.{status_of}
+use Rattle.lfs_request.specs.Fault.{status_of}
 use Rattle.lfs_exchange.specs.Storing.{journal_name}
 use Rattle.lfs_history.specs.History.{History}
 use Rattle.lfs_host.specs.Files.{Files, bytes_there}

@@ -15,8 +15,8 @@ use crate::stepping::stepped;
 use lfs_exchange::{kind_of_steps, read_contents, read_input, taken_up};
 use lfs_host::Host;
 use lfs_report::{Beside, Stop, stop_of_line, with_line, with_number};
-use lfs_request::Request;
-use lfs_step::{Fault, Step};
+use lfs_request::{Fault, Request};
+use lfs_step::Step;
 use lfs_texts::{ScriptLine, script_lines, script_of};
 use std::alloc::Global;
 

@@ -3,7 +3,7 @@
 ghost use Rattle.std.specs.Prelude.{◌≡◌, ◌⊎◌, IfErr, OnOk};
 ghost use Rattle.std.specs.Option.{option_map};
 ghost use Rattle.std.specs.Result.{result_err};
-ghost use Rattle.lfs_change.specs.declared.fault.Fault.TheVariants.{HostEntry};
+ghost use Rattle.lfs_request.specs.declared.fault.Fault.TheVariants.{HostEntry};
 ghost use Rattle.lfs_exchange.specs.Handing.{IsUnread};
 ghost use Rattle.lfs_host.specs.HostTree.{IsKind};
 ghost use Rattle.lfs_host.specs.declared.host_kind.HostKind.TheVariants.{Missing};
@@ -13,14 +13,13 @@ ghost use Rattle.lfs_serve.specs.Extracting.{EndsBytes, EndsExtract, EndsMaking,
 
 use crate::later::{later_alone, must_be_read};
 use lfs_block::Image;
-use lfs_edit::Refusal;
+use lfs_command::Refusal;
 use lfs_exchange::{StepKind, fault_of_reading, taken_up};
 use lfs_extract::{ExtractFault, extract_rows};
 use lfs_fs::mount;
 use lfs_host::{Host, HostKind};
 use lfs_report::{Beside, Stop, stop_of_extracting, stop_of_image};
-use lfs_request::Request;
-use lfs_step::Fault;
+use lfs_request::{Fault, Request};
 use std::alloc::Global;
 
 /// Makes a folder of the host out of an image's file. What commits of a later version stand in it is put into `beside`. Takes memory.

@@ -6,11 +6,11 @@ ghost use Rattle.lfs_fs.specs.Limits.{most_file};
 ghost use Rattle.lfs_host.specs.Scene.{KeepsAll};
 ghost use Rattle.lfs_serve.specs.HostFolder.{ReadsNoFolder, fault_of_folder, folder_text, pack_text};
 
-use lfs_edit::Refusal;
+use lfs_command::Refusal;
 use lfs_folder::{FolderFault, FolderRow, folder_rows};
 use lfs_host::Host;
 use lfs_pack::PackRow;
-use lfs_step::Fault;
+use lfs_request::Fault;
 use std::alloc::{AllocError, Global};
 
 /// What is below a folder, the folder itself first.

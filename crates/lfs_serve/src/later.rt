@@ -5,10 +5,10 @@ ghost use Rattle.lfs_report.specs.Stop.{stopped_by};
 ghost use Rattle.lfs_serve.specs.Later.{later_alone, later_read, refused_by};
 
 use lfs_block::MountFault;
-use lfs_change::OtherFault;
 use lfs_later::later_version;
 use lfs_report::{Later, Statement, Stop};
-use lfs_step::{Fault, Query, Step};
+use lfs_request::{Fault, OtherFault, Query};
+use lfs_step::Step;
 
 /// Those in an image alone, of blocks of `size` bytes. Takes no memory.
 pub(crate) fn later_alone(size: u32, bytes: &[u8]) -> Later

@@ -2,11 +2,11 @@
 
 ghost use Rattle.std.specs.Prelude.{IfOk};
 ghost use Rattle.lfs_fs.specs.Superblock.{IsLimits};
-ghost use Rattle.lfs_request.specs.Extent.{IsExtent};
+ghost use Rattle.lfs_serve.specs.Extent.{IsExtent};
 ghost use Rattle.lfs_request.specs.declared.extent.Extent.TheVariants.{Least};
 
 use lfs_block::geometry_ok;
-use lfs_edit::Refusal;
+use lfs_command::Refusal;
 use lfs_fs::Limits;
 use lfs_pack::{PackRow, least_count, most_count};
 use lfs_request::Extent;

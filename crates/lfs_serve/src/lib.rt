@@ -11,6 +11,7 @@ mod line_moves;
 mod new_image;
 mod packing;
 mod plain_tasks;
+mod seeing;
 mod serving;
 mod sizing;
 mod stepping;

@@ -10,7 +10,7 @@ use lfs_exchange::names_of;
 use lfs_host::Host;
 use lfs_journal::Session;
 use lfs_report::{Statement, Stop};
-use lfs_step::Fault;
+use lfs_request::Fault;
 use std::alloc::Global;
 
 /// Why a step on an image of this name ended early; where its journal is another image's, with whether that is the one beside it. Takes

@@ -12,8 +12,8 @@ use lfs_fs::Limits;
 use lfs_history::{Move, Source, filled};
 use lfs_host::Host;
 use lfs_report::{Beside, Stop};
-use lfs_request::Request;
-use lfs_step::{Query, Step};
+use lfs_request::{Query, Request};
+use lfs_step::Step;
 use std::alloc::Global;
 
 /// Makes a new image. Takes memory.

@@ -2,7 +2,7 @@
 
 ghost use Rattle.std.specs.Prelude.{◌≡◌, IfOk, string_bytes};
 ghost use Rattle.lfs_exchange.specs.Handing.{IsClaimed, IsHanded};
-ghost use Rattle.lfs_exchange.specs.StepKind.{kind_of};
+ghost use Rattle.lfs_serve.specs.StepKind.{kind_of};
 ghost use Rattle.lfs_host.specs.Files.{IsTarget};
 ghost use Rattle.lfs_host.specs.Scene.{KeepsInput};
 ghost use Rattle.lfs_report.specs.Stop.{stopped_by};
@@ -12,11 +12,12 @@ ghost use Rattle.lfs_serve.specs.Program.{EndsStep, IsBlamed};
 
 use crate::later::{later_read, must_be_read};
 use crate::new_image::with_new_image;
+use crate::seeing::seen_of;
 use lfs_exchange::{Handed, Output, stored};
 use lfs_host::Host;
-use lfs_report::{Beside, Seen, Stop, stop_of_run};
-use lfs_request::Request;
-use lfs_step::{Outcome, Step, run};
+use lfs_report::{Beside, Stop, stop_of_run};
+use lfs_request::{Outcome, Request};
+use lfs_step::{Step, run};
 use std::alloc::Global;
 
 /// Takes a step on the files of an image that were taken up for it, and writes what it leaves. The caller owes that they are those of the
@@ -75,7 +76,7 @@ fn taken<H: Host>(
     ensures blamed { IsBlamed (stopped_by result) (H.known host.new) }
     ensures kept { KeepsInput (H.known host.old) (H.known host.new) }
 {
-    let seen = Seen::of(&step);
+    let seen = seen_of(&step);
     let outcome = ran(alloc, host, request.size, step, image, journal);
     match outcome.fault {
         None => Ok(outcome),

@@ -1,12 +1,12 @@
 -- What asks changes no file, however it ends.
 use Rattle.std.proofs.Common.{◌≡◌, ◌⊎◌, ℕ, Bool, List, Option, Some, None, refl, subst, inl, inr}
-use Rattle.lfs_change.specs.declared.fault.Fault.{Fault}
-use Rattle.lfs_change.specs.declared.fault.Fault.TheVariants.{Refused}
-use Rattle.lfs_change.specs.declared.outcome.Outcome.{Outcome}
-use Rattle.lfs_step.specs.declared.query.Query.TheVariants as query
+use Rattle.lfs_request.specs.declared.fault.Fault.{Fault}
+use Rattle.lfs_request.specs.declared.fault.Fault.TheVariants.{Refused}
+use Rattle.lfs_request.specs.declared.outcome.Outcome.{Outcome}
+use Rattle.lfs_request.specs.declared.query.Query.TheVariants as query
 use Rattle.lfs_step.specs.declared.step.Step.{Step}
 use Rattle.lfs_step.specs.declared.step.Step.TheVariants.{Ask}
-use Rattle.lfs_step.specs.Query.{Question}
+use Rattle.lfs_request.specs.Query.{Question}
 use Rattle.lfs_request.specs.Task.{IsTaskInRange}
 use Rattle.lfs_request.specs.declared.request.Request.{Request}
 use Rattle.lfs_request.specs.declared.task.Task.{Task}
@@ -14,7 +14,7 @@ use Rattle.lfs_request.specs.declared.task.Task.TheVariants as task
 use Rattle.lfs_exchange.specs.declared.step_kind.StepKind.{StepKind}
 use Rattle.lfs_exchange.specs.declared.step_kind.StepKind.TheVariants.{Asks, Recounts}
 use Rattle.lfs_host.specs.Files.{Files}
-use Rattle.lfs_exchange.specs.StepKind.{kind_of}
+use Rattle.lfs_serve.specs.StepKind.{kind_of}
 use Rattle.lfs_exchange.specs.Storing.{LeavesFiles, SparesFiles}
 use Rattle.lfs_serve_tests.specs.Asking.{OnlyAsks}
 use Rattle.lfs_host.specs.Scene.{Scene}

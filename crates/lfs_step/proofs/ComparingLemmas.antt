@@ -11,11 +11,11 @@ use Rattle.lfs_listing.specs.Difference.{difference}
 use Rattle.lfs_listing.specs.Unsent.{SendsListing}
 use Rattle.lfs_listing.specs.declared.unsent.Unsent.{Unsent}
 use Rattle.lfs_listing.specs.declared.unsent.Unsent.TheVariants.{Memory, CannotWrite}
-use Rattle.lfs_change.specs.declared.fault.Fault.{Fault}
-use Rattle.lfs_change.specs.declared.fault.Fault.TheVariants as fault
-use Rattle.lfs_change.specs.declared.other_fault.OtherFault.TheVariants as other
+use Rattle.lfs_request.specs.declared.fault.Fault.{Fault}
+use Rattle.lfs_request.specs.declared.fault.Fault.TheVariants as fault
+use Rattle.lfs_request.specs.declared.other_fault.OtherFault.TheVariants as other
 use Rattle.lfs_change.specs.Bytes.{image_of}
-use Rattle.lfs_change.specs.Fault.{blames_output, fault_of_mount}
+use Rattle.lfs_request.specs.Fault.{blames_output, fault_of_mount}
 use Rattle.lfs_block.specs.declared.mount_fault.MountFault.TheVariants.{Memory as No_memory}
 use Rattle.lfs_change.proofs.BytesLemmas.{at_bytes}
 use Rattle.lfs_step.specs.Comparing.{IsDifference, RefusesCompared, RefusesDifference, SendsCompared, SendsDifference}

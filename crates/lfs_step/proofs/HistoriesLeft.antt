@@ -8,8 +8,8 @@ use Rattle.lfs_history.specs.History.{History, IsHistory, IsMounted, fresh_histo
 use Rattle.lfs_history.specs.Meaning.{step_of}
 use Rattle.lfs_history.specs.OpeningLaws.{JournalsDenoteOneHistory, SavedHistoriesOpen}
 use Rattle.lfs_history.specs.Opening.{journal_of}
-use Rattle.lfs_change.specs.declared.fault.Fault.{Fault}
-use Rattle.lfs_change.specs.declared.outcome.Outcome.{Outcome}
+use Rattle.lfs_request.specs.declared.fault.Fault.{Fault}
+use Rattle.lfs_request.specs.declared.outcome.Outcome.{Outcome}
 use Rattle.lfs_change.specs.Bytes.{image_of}
 use Rattle.lfs_change.specs.Change.{Denotes, DenotesOn}
 use Rattle.lfs_change.specs.Forgetting.{IsForgotten}

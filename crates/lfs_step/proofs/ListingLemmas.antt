@@ -6,7 +6,7 @@ use Rattle.lfs_listing.specs.Listing.{listing}
 use Rattle.lfs_listing.specs.Unsent.{SendsListing}
 use Rattle.lfs_listing.specs.declared.unsent.Unsent.{Unsent}
 use Rattle.lfs_listing.specs.declared.unsent.Unsent.TheVariants.{Memory, CannotWrite}
-use Rattle.lfs_step.specs.declared.query.Query.TheVariants.{Ls}
+use Rattle.lfs_request.specs.declared.query.Query.TheVariants.{Ls}
 use Rattle.lfs_step.specs.Query.{RefusesReport, SendsReport, fault_of_unsent}
 
 pub listing_refused : (d : Disk) (m : MountedValue) → IsMountOf d m → (u : Unsent) → RefusesReport Ls d (fault_of_unsent u)

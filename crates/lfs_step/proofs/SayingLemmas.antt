@@ -3,11 +3,12 @@ use Rattle.std.proofs.Common.{◌≡◌, ℕ, Bool, true, false, List, Option, R
 use Rattle.std.specs.Prelude.{if◌then◌else◌, unwrap_or}
 use Rattle.std.specs.Result.{result_err}
 use Rattle.lfs_block.specs.Disk.{Disk}
-use Rattle.lfs_change.specs.declared.fault.Fault.{Fault}
-use Rattle.lfs_change.specs.declared.fault.Fault.TheVariants.{CannotWrite}
+use Rattle.lfs_request.specs.declared.fault.Fault.{Fault}
+use Rattle.lfs_request.specs.declared.fault.Fault.TheVariants.{CannotWrite}
 use Rattle.lfs_sink.specs.Send.{Sends}
-use Rattle.lfs_step.specs.declared.query.Query.TheVariants.{Check}
-use Rattle.lfs_step.specs.Query.{IsAnswer, Question, RefusesReport, SendsReport}
+use Rattle.lfs_request.specs.declared.query.Query.TheVariants.{Check}
+use Rattle.lfs_step.specs.Query.{IsAnswer, RefusesReport, SendsReport}
+use Rattle.lfs_request.specs.Query.{Question}
 
 -- the end of a text that went out as a whole, or didn't
 abbrev pub EndsAs : Result (Unit {0}) Fault → Bool → Type 0

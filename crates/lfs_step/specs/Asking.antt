@@ -2,12 +2,13 @@
 use Rattle.std.specs.Prelude.{ℕ, List, Option}
 use Rattle.lfs_block.specs.Disk.{Disk, IsDisk}
 use Rattle.lfs_block.specs.ImageFault.{IsNoImage}
-use Rattle.lfs_change.specs.declared.fault.Fault.{Fault}
-use Rattle.lfs_change.specs.declared.fault.Fault.TheVariants.{Image}
+use Rattle.lfs_request.specs.declared.fault.Fault.{Fault}
+use Rattle.lfs_request.specs.declared.fault.Fault.TheVariants.{Image}
 use Rattle.lfs_change.specs.Bytes.{image_of}
-use Rattle.lfs_step.specs.declared.query.Query.TheVariants.{Diff, Log}
+use Rattle.lfs_request.specs.declared.query.Query.TheVariants.{Diff, Log}
 use Rattle.lfs_step.specs.Comparing.{RefusesCompared, SendsCompared}
-use Rattle.lfs_step.specs.Query.{Question, RefusesReport, SendsReport}
+use Rattle.lfs_step.specs.Query.{RefusesReport, SendsReport}
+use Rattle.lfs_request.specs.Query.{Question}
 use Rattle.lfs_step.specs.Recounting.{RefusesRecount, SendsRecount}
 
 -- why nothing, or not all, is said of an image and its journal

@@ -7,9 +7,9 @@ use Rattle.lfs_fs.specs.Cause.{HasCause}
 use Rattle.lfs_fs.specs.Mounted.{MountedValue, IsMountOf}
 use Rattle.lfs_command.specs.declared.refusal.Refusal.TheVariants.{Memory}
 use Rattle.lfs_listing.specs.Difference.{difference}
-use Rattle.lfs_change.specs.declared.fault.Fault.{Fault}
-use Rattle.lfs_change.specs.declared.fault.Fault.TheVariants.{Mount, Refused, CannotWrite, Other}
-use Rattle.lfs_change.specs.declared.other_fault.OtherFault.TheVariants as other
+use Rattle.lfs_request.specs.declared.fault.Fault.{Fault}
+use Rattle.lfs_request.specs.declared.fault.Fault.TheVariants.{Mount, Refused, CannotWrite, Other}
+use Rattle.lfs_request.specs.declared.other_fault.OtherFault.TheVariants as other
 use Rattle.lfs_change.specs.Bytes.{image_of}
 use Rattle.lfs_sink.specs.Send.{SendsBeginning}
 use Rattle.lfs_step.specs.Query.{HasMount}

@@ -9,7 +9,7 @@ use Rattle.lfs_fs.specs.Mounts.{Mounts}
 use Rattle.lfs_history.specs.Laws.{IsCarriedOut}
 use Rattle.lfs_history.specs.Meaning.{step_of}
 use Rattle.lfs_history.specs.Taking.{Move, Do}
-use Rattle.lfs_change.specs.declared.outcome.Outcome.{Outcome}
+use Rattle.lfs_request.specs.declared.outcome.Outcome.{Outcome}
 use Rattle.lfs_change.specs.Bytes.{image_of}
 use Rattle.lfs_change.specs.Laws.{GrowsByTheNeed, GrowsOnTheKept}
 use Rattle.lfs_step.specs.declared.step.Step.{Step}

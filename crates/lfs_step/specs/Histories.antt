@@ -3,7 +3,7 @@ use Rattle.std.specs.Prelude.{◌≡◌, List, None, map}
 use Rattle.lfs_history.specs.Batch.{TakesAll}
 use Rattle.lfs_history.specs.History.{History, fresh_history}
 use Rattle.lfs_history.specs.Meaning.{step_of}
-use Rattle.lfs_change.specs.declared.outcome.Outcome.{Outcome}
+use Rattle.lfs_request.specs.declared.outcome.Outcome.{Outcome}
 use Rattle.lfs_change.specs.Bytes.{image_of}
 use Rattle.lfs_change.specs.Change.{Denotes}
 use Rattle.lfs_pack.specs.Packed.{AreRowsOf, Packed}

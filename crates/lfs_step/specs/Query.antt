@@ -1,6 +1,5 @@
 -- What is answered to a query of an image alone, and why nothing is (own).
 use Rattle.std.specs.Prelude.{ℕ, ◌≡◌, ◌⊎◌, ◌≤◌, List, Option, Some, None, length, take}
-use Rattle.std.specs.Global.{Vec}
 use Rattle.std.specs.Io.KnownBytes.{Appends, Keeps}
 use Rattle.lfs_block.specs.Disk.{Disk}
 use Rattle.lfs_fs.specs.Cause.{HasCause}
@@ -11,16 +10,12 @@ use Rattle.lfs_contents.specs.Contents.{IsContents, RefusesContents}
 use Rattle.lfs_listing.specs.Listing.{listing}
 use Rattle.lfs_listing.specs.declared.unsent.Unsent.{Unsent}
 use Rattle.lfs_listing.specs.declared.unsent.Unsent.TheVariants as unsent
-use Rattle.lfs_change.specs.declared.fault.Fault.{Fault}
-use Rattle.lfs_change.specs.declared.fault.Fault.TheVariants.{Mount, Refused, CannotWrite}
-use Rattle.lfs_step.specs.declared.query.Query.{Query}
-use Rattle.lfs_step.specs.declared.query.Query.TheVariants.{Check, Ls, Cat}
+use Rattle.lfs_request.specs.declared.fault.Fault.{Fault}
+use Rattle.lfs_request.specs.declared.fault.Fault.TheVariants.{Mount, Refused, CannotWrite}
+use Rattle.lfs_request.specs.Query.{Question}
+use Rattle.lfs_request.specs.declared.query.Query.TheVariants.{Check, Ls, Cat}
 use Rattle.lfs_sink.specs.Send.{SendsBeginning}
 use Rattle.lfs_step.specs.Summary.{summary}
-
--- a query, with the bytes of the other image in hand
-abbrev pub Question : Type 0
-Question = Query (Vec ℕ)
 
 -- the text that answers a query of an image alone, which mounts
 abbrev pub IsAnswer : Question → Disk → List ℕ → Type 0

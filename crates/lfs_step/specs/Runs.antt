@@ -6,8 +6,8 @@ use Rattle.lfs_history.specs.Batch.{TakesAll}
 use Rattle.lfs_history.specs.History.{History, fresh_history}
 use Rattle.lfs_history.specs.Meaning.{step_of}
 use Rattle.lfs_history.specs.Moves.{Forgets}
-use Rattle.lfs_change.specs.declared.fault.Fault.{Fault}
-use Rattle.lfs_change.specs.declared.outcome.Outcome.{Outcome}
+use Rattle.lfs_request.specs.declared.fault.Fault.{Fault}
+use Rattle.lfs_request.specs.declared.outcome.Outcome.{Outcome}
 use Rattle.lfs_change.specs.Change.{Denotes}
 use Rattle.lfs_pack.specs.Packed.{AreRowsOf, Packed}
 use Rattle.lfs_pack.specs.Packing.{IsPacked}

@@ -3,7 +3,6 @@
 
 mod comparing;
 mod laws;
-mod query;
 mod querying;
 mod recounting;
 mod running;
@@ -12,7 +11,5 @@ mod step;
 mod summary;
 
 pub use laws::{packed_images_list_their_rows, runs_go_on, steps_leave_histories};
-pub use lfs_change::{Fault, Outcome};
-pub use query::Query;
 pub use running::run;
 pub use step::Step;

@@ -3,23 +3,22 @@
 ghost use Rattle.std.specs.Prelude.{◌≡◌, false, IfErr};
 ghost use Rattle.std.specs.Result.{result_err};
 ghost use Rattle.lfs_fs.specs.Mounted.{IsMountOf};
-ghost use Rattle.lfs_change.specs.Fault.{blames_output, status_of};
+ghost use Rattle.lfs_request.specs.Fault.{blames_output, status_of};
 ghost use Rattle.lfs_step.specs.Asking.{RefusesAsked, SendsAsked};
 ghost use Rattle.lfs_step.specs.Outcome.{Answers, SendsText, given};
 ghost use Rattle.lfs_step.specs.Query.{RefusesReport, SendsReport};
-ghost use Rattle.lfs_step.specs.declared.query.Query.TheVariants.{Cat, Check, Ls};
+ghost use Rattle.lfs_request.specs.declared.query.Query.TheVariants.{Cat, Check, Ls};
 ghost use Rattle.lfs_step.specs.declared.step.Step.TheVariants.{Ask};
 
 use crate::comparing::compare_bytes;
-use crate::query::Query;
 use crate::recounting::recount;
 use crate::sending::{fault_of_listing, sent_whole};
 use crate::summary::summary;
 use lfs_block::Image;
-use lfs_change::{Fault, Outcome, Place};
 use lfs_contents::send_file;
 use lfs_fs::{Mounted, mount};
 use lfs_listing::send_listing;
+use lfs_request::{Fault, Outcome, Place, Query};
 use lfs_sink::{Sink, send};
 use std::alloc::Global;
 use std::mem::forget;

@@ -6,8 +6,8 @@ ghost use Rattle.lfs_book.specs.Book.{book_of, journal_bytes};
 ghost use Rattle.lfs_command.specs.declared.refusal.Refusal.TheVariants.{Memory};
 ghost use Rattle.lfs_fs.specs.Superblock.{IsLimits};
 ghost use Rattle.lfs_edit.specs.Formatted.{IsFormatted};
-ghost use Rattle.lfs_change.specs.Fault.{blames_output, status_of};
-ghost use Rattle.lfs_change.specs.declared.fault.Fault.TheVariants.{Refused};
+ghost use Rattle.lfs_request.specs.Fault.{blames_output, status_of};
+ghost use Rattle.lfs_request.specs.declared.fault.Fault.TheVariants.{Refused};
 ghost use Rattle.lfs_step.specs.Equations.{KeepsEquations, KeepsNeeds};
 ghost use Rattle.lfs_step.specs.Histories.{KeepsHistories};
 ghost use Rattle.lfs_step.specs.Outcome.{Answers, RefusesFormat, RefusesPacking, SendsText, given};
@@ -22,12 +22,13 @@ use crate::step::Step;
 use lfs_block::{ImageFault, geometry_ok};
 use lfs_book::write_journal;
 use lfs_change::{
-    Fault, Outcome, changed, changed_bytes_are_equations, forgotten,
-    journals_of_bytes_grow_by_the_need,
+    changed, changed_bytes_are_equations, forgotten, journals_of_bytes_grow_by_the_need,
 };
-use lfs_edit::{Refusal, format_within};
+use lfs_command::Refusal;
+use lfs_edit::format_within;
 use lfs_fs::Limits;
 use lfs_pack::{PackRow, pack_within};
+use lfs_request::{Fault, Outcome};
 use lfs_sink::Sink;
 use std::alloc::Global;
 

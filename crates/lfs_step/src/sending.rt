@@ -2,12 +2,12 @@
 
 ghost use Rattle.std.specs.Prelude.{◌≡◌, None, Some, if◌then◌else◌};
 ghost use Rattle.std.specs.Result.{result_err};
-ghost use Rattle.lfs_change.specs.declared.fault.Fault.TheVariants.{CannotWrite};
+ghost use Rattle.lfs_request.specs.declared.fault.Fault.TheVariants.{CannotWrite};
 ghost use Rattle.lfs_step.specs.Query.{fault_of_unsent};
 
-use lfs_change::Fault;
-use lfs_edit::Refusal;
+use lfs_command::Refusal;
 use lfs_listing::Unsent;
+use lfs_request::Fault;
 
 /// What a text that did not go out as a whole is told as.
 pub(crate) fn sent_whole(whole: bool) -> Result<(), Fault>

@@ -1,9 +1,9 @@
 //! What is done with an image and its journal.
 
-use crate::query::Query;
 use lfs_fs::Limits;
 use lfs_history::Move;
 use lfs_pack::PackRow;
+use lfs_request::Query;
 
 /// What is done with an image and its journal, with all bytes in hand that it takes.
 ///

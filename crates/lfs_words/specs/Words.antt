@@ -20,8 +20,8 @@ use Rattle.lfs_request.specs.declared.request.Request.{Request}
 use Rattle.lfs_request.specs.declared.task.Task.{Task}
 use Rattle.lfs_request.specs.declared.task.Task.TheVariants as task
 use Rattle.lfs_request.specs.declared.task.Task.TheVariants.{Format, Pack, Extract, Ask, Change, Batch}
-use Rattle.lfs_step.specs.declared.query.Query.{Query}
-use Rattle.lfs_step.specs.declared.query.Query.TheVariants.{Check, Ls, Cat, Diff, Log}
+use Rattle.lfs_request.specs.declared.query.Query.{Query}
+use Rattle.lfs_request.specs.declared.query.Query.TheVariants.{Check, Ls, Cat, Diff, Log}
 use Rattle.lfs_texts.specs.Digits.{SpellsByte, SpellsBytes, SpellsNoByte, SpellsNoBytes}
 use Rattle.lfs_texts.specs.Sizes.{IsSizeFault, SaysBlock, SaysBlocks, SaysNoBlock}
 use Rattle.lfs_texts.specs.declared.reason.Reason.TheVariants.{BadKind, BadValue}

@@ -15,8 +15,7 @@ use crate::spelling::{attribute_of, kind_of};
 use clap::ArgMatches;
 use lfs_command::Command;
 use lfs_history::{Move, Source};
-use lfs_request::Task;
-use lfs_step::Query;
+use lfs_request::{Query, Task};
 use std::alloc::Global;
 
 /// The question that a command's words say, where another image has blocks of this size.

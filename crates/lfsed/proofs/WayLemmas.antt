@@ -114,8 +114,7 @@ goes_words law size name r old mid h denotes on (inr (inr memory)) is =
 pub runs_lead_on : RequestsLeadOn → RunsLeadOn
 runs_lead_on law size name [] old last h denotes same = subst (λ (f : Files). FilesDenote size name f h) (sym same) denotes
 runs_lead_on law size name (r ∷ rs) old last h denotes (mid, is, later) =
-    let on : OnFiles r old mid = record { before = is.before; behind = is.behind } in
-    (
+    let on : OnFiles r old mid = record { before = is.before; behind = is.behind } in (
       mid,
       is.behind,
       elim (goes_words law size name r old mid h denotes on r.ends is.on) [

@@ -7,10 +7,10 @@ mod tips;
 mod way;
 
 use crate::cli::{USAGE, cli as run_words};
-use lfs_edit::Refusal;
+use lfs_command::Refusal;
 use lfs_exchange::tell;
 use lfs_host::Host;
-use lfs_step::Fault;
+use lfs_request::Fault;
 use lfs_system::Terminal;
 use std::io::ErrorKind;
 use std::process::ExitCode;

@@ -2,8 +2,8 @@
 use Rattle.std.proofs.Common.{◌≡◌, Option, Some, ap, inl, map, refl, sym, subst, ◌∙◌}
 use Rattle.lfs_command.specs.declared.refusal.Refusal.TheVariants.{Memory}
 use Rattle.lfs_history.specs.Meaning.{step_of}
-use Rattle.lfs_change.specs.declared.fault.Fault.{Fault}
-use Rattle.lfs_change.specs.declared.fault.Fault.TheVariants.{Refused}
+use Rattle.lfs_request.specs.declared.fault.Fault.{Fault}
+use Rattle.lfs_request.specs.declared.fault.Fault.TheVariants.{Refused}
 use Rattle.lfs_change.specs.Change.{AnswersImage}
 use Rattle.lfs_change.proofs.ChangeLemmas.{change_answers}
 use Rattle.lfs_change.proofs.beside.changed_beside.Goals as goal

@@ -1,7 +1,7 @@
 -- A session that nothing was done to has the image, and a journal without changes.
 use Rattle.std.proofs.Common.{rules, ◌≡◌, Option, Some, subst, sym}
-use Rattle.lfs_change.specs.declared.fault.Fault.{Fault}
-use Rattle.lfs_change.specs.Fault.{fault_of_mount}
+use Rattle.lfs_request.specs.declared.fault.Fault.{Fault}
+use Rattle.lfs_request.specs.Fault.{fault_of_mount}
 use Rattle.lfs_change.specs.Forgetting.{AnswersForgetting}
 use Rattle.lfs_change.proofs.ForgettingLemmas.{forgets, keeps}
 use Rattle.lfs_change.proofs.forgetting.image_forgotten.Goals as goal

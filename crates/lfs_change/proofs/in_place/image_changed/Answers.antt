@@ -1,9 +1,9 @@
 -- What opens no session is refused for that.
 use Rattle.std.proofs.Common.{rules, ◌≡◌, List, ℕ, Option, Some, map, sym, subst}
 use Rattle.lfs_history.specs.Meaning.{step_of}
-use Rattle.lfs_change.specs.declared.fault.Fault.{Fault}
+use Rattle.lfs_request.specs.declared.fault.Fault.{Fault}
 use Rattle.lfs_change.specs.Change.{AnswersImage, RefusesDenoting}
-use Rattle.lfs_change.specs.Fault.{fault_of_opening}
+use Rattle.lfs_request.specs.Fault.{fault_of_opening}
 use Rattle.lfs_change.proofs.ChangeLemmas.{opening_refuses}
 use Rattle.lfs_change.proofs.in_place.image_changed.Goals as goal
 

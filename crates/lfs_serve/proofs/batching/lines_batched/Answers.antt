@@ -5,7 +5,7 @@ use Rattle.std.proofs.lemmas.Slice.Zip.{AllZip-long}
 use Rattle.std.specs.Global.{Vec}
 use Rattle.std.specs.List.{AllByRecursion}
 use Rattle.lfs_command.specs.declared.refusal.Refusal.TheVariants.{Memory as No_memory}
-use Rattle.lfs_change.specs.declared.fault.Fault.TheVariants.{Refused}
+use Rattle.lfs_request.specs.declared.fault.Fault.TheVariants.{Refused}
 use Rattle.lfs_history.specs.Meaning.{OnBytes, step_of}
 use Rattle.lfs_history.specs.Taking.{KeepsInRange}
 use Rattle.lfs_host.specs.Scene.{Scene}

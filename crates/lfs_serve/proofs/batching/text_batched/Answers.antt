@@ -1,7 +1,7 @@
 -- A line of a text says no step, or its lines are taken.
 use Rattle.std.proofs.Common.{rules, ◌≡◌, ◌⊎◌, ℕ, List, refl, sym, subst, inl}
 use Rattle.std.specs.List.{AllZip}
-use Rattle.lfs_change.specs.declared.fault.Fault.{Fault}
+use Rattle.lfs_request.specs.declared.fault.Fault.{Fault}
 use Rattle.lfs_exchange.specs.Handing.{IsUnread}
 use Rattle.lfs_host.specs.Scene.{Scene}
 use Rattle.lfs_texts.specs.Script.{SaysLine, asking_lines}

@@ -1,6 +1,6 @@
 use Rattle.std.proofs.Common.{rules, ◌≡◌, ap, ◌∙◌, Option, Some, None}
 use Rattle.std.specs.Result.{result_err}
-use Rattle.lfs_change.specs.declared.fault.Fault.{Fault}
+use Rattle.lfs_request.specs.declared.fault.Fault.{Fault}
 use Rattle.lfs_serve.proofs.ExtractingLemmas.{bytes_end}
 use Rattle.lfs_serve.proofs.extracting.extract_bytes.Goals as goal
 

@@ -1,7 +1,7 @@
 use Rattle.std.proofs.Common.{rules, ◌≡◌, Some, None, ap, subst, ◌∙◌, string_bytes}
 use Rattle.lfs_exchange.specs.Handing.{HandedBytes, IsHanded}
 use Rattle.lfs_exchange.specs.Printing.{HandsOn}
-use Rattle.lfs_exchange.specs.StepKind.{kind_of}
+use Rattle.lfs_serve.specs.StepKind.{kind_of}
 use Rattle.lfs_exchange.specs.declared.step_kind.StepKind.{StepKind}
 use Rattle.lfs_host.specs.Scene.{Scene}
 use Rattle.lfs_serve.specs.Later.{later_read, refused_by}

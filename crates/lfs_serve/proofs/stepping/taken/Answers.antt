@@ -1,5 +1,5 @@
 use Rattle.std.proofs.Common.{Option, Some, refl, sym, ap, subst, ◌∙◌}
-use Rattle.lfs_change.specs.declared.fault.Fault.{Fault}
+use Rattle.lfs_request.specs.declared.fault.Fault.{Fault}
 use Rattle.lfs_step.specs.Outcome.{SendsText, given}
 use Rattle.lfs_serve.proofs.stepping.taken.Goals as goal
 

@@ -1,6 +1,6 @@
 -- A difference that didn't go out as a whole is told as what kept it.
 use Rattle.std.proofs.Common.{Some, sym, subst}
-use Rattle.lfs_change.specs.declared.fault.Fault.{Fault}
+use Rattle.lfs_request.specs.declared.fault.Fault.{Fault}
 use Rattle.lfs_step.specs.Comparing.{RefusesDifference, SendsDifference}
 use Rattle.lfs_step.proofs.ComparingLemmas.{difference_refused, difference_unsent}
 use Rattle.lfs_step.proofs.comparing.say_difference.Goals as goal

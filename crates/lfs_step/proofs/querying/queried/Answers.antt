@@ -1,7 +1,7 @@
 -- What is said of an image is said of its bytes.
 use Rattle.std.proofs.Common.{◌≡◌, ℕ, List, Option, IfErr, ap, subst, sym, ◌∙◌}
 use Rattle.std.specs.Result.{result_err}
-use Rattle.lfs_change.specs.declared.fault.Fault.{Fault}
+use Rattle.lfs_request.specs.declared.fault.Fault.{Fault}
 use Rattle.lfs_step.specs.Asking.{RefusesAsked, SendsAsked}
 use Rattle.lfs_step.proofs.OutcomeLemmas.{query_answers, query_sends}
 use Rattle.lfs_step.proofs.querying.queried.Goals as goal

@@ -1,10 +1,10 @@
 -- A listing that didn't go out as a whole is told as what kept it.
 use Rattle.std.proofs.Common.{List, Some, sym, subst}
-use Rattle.lfs_change.specs.declared.fault.Fault.{Fault}
+use Rattle.lfs_request.specs.declared.fault.Fault.{Fault}
 use Rattle.lfs_fs.specs.Row.{Row}
 use Rattle.lfs_listing.specs.Listing.{listing}
 use Rattle.lfs_listing.specs.Unsent.{SendsListing}
-use Rattle.lfs_step.specs.declared.query.Query.TheVariants.{Ls}
+use Rattle.lfs_request.specs.declared.query.Query.TheVariants.{Ls}
 use Rattle.lfs_step.specs.Query.{RefusesReport, SendsReport}
 use Rattle.lfs_step.proofs.ListingLemmas.{listing_refused, listing_sent}
 use Rattle.lfs_step.proofs.querying.say_listing.Goals as goal

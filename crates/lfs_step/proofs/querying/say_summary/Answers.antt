@@ -1,6 +1,6 @@
 -- A line that didn't go out as a whole is told as that.
 use Rattle.std.proofs.Common.{rules, ◌≡◌}
-use Rattle.lfs_step.specs.declared.query.Query.TheVariants.{Check}
+use Rattle.lfs_request.specs.declared.query.Query.TheVariants.{Check}
 use Rattle.lfs_step.specs.Query.{IsAnswer}
 use Rattle.lfs_step.specs.Summary.{summary}
 use Rattle.lfs_step.proofs.SayingLemmas.{summary_sent, text_refused}

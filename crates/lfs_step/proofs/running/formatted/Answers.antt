@@ -1,7 +1,7 @@
 -- A new image is answered with a journal without changes; a refusal hands both back.
 use Rattle.std.proofs.Common.{◌≡◌, List, ℕ, Option, ap, sym, ◌∙◌, subst}
 use Rattle.lfs_edit.specs.Formatted.{IsFormatted}
-use Rattle.lfs_change.specs.declared.fault.Fault.{Fault}
+use Rattle.lfs_request.specs.declared.fault.Fault.{Fault}
 use Rattle.lfs_step.specs.declared.step.Step.TheVariants.{Format}
 use Rattle.lfs_step.specs.Outcome.{given}
 use Rattle.lfs_step.proofs.OutcomeLemmas.{AnswersBy}

@@ -4,7 +4,6 @@ use crate::fault::Fault;
 use crate::kept_journal::KeptJournal;
 use crate::place::Place;
 use lfs_book::Journal;
-use lfs_journal::Stopped;
 
 /// What a run answers: the image and the journal to be kept, why nothing was done where there is a reason, at which of several steps
 /// that is, and the status to end with.
@@ -27,9 +26,9 @@ pub struct Outcome {
 }
 
 impl Outcome {
-    ghost use Rattle.std.specs.Prelude.{◌≡◌, None, Some, false};
+    ghost use Rattle.std.specs.Prelude.{◌≡◌, None};
     ghost use Rattle.lfs_book.specs.Book.{journal_bytes};
-    ghost use Rattle.lfs_change.specs.Fault.{blames_output, fault_of_step, status_of};
+    ghost use Rattle.lfs_request.specs.Fault.{status_of};
 
     /// The outcome with this fault, if any, and its status. Takes no memory.
     pub fn new(image: Vec<u8>, journal: Vec<u8>, fault: Option<Fault>) -> Outcome
@@ -68,8 +67,8 @@ impl Outcome {
         }
     }
 
-    /// The outcome that keeps an image and a journal. Takes no memory.
-    pub(crate) fn done(image: Vec<u8>, journal: Journal) -> Outcome
+    /// The outcome that keeps an image and a journal, with nothing refused. Takes no memory.
+    pub fn done(image: Vec<u8>, journal: Journal) -> Outcome
         ensures kept { (result.image ≡ image) × (result.journal.items ≡ journal_bytes journal) }
         ensures fault { result.fault ≡ None }
         ensures status { result.status ≡ 0 }
@@ -82,22 +81,5 @@ impl Outcome {
             place: None,
             status: 0,
         }
-    }
-
-    /// The outcome of several steps that aren't done. Takes no memory.
-    pub(crate) fn stopped(
-        image: Vec<u8>,
-        journal: Vec<u8>,
-        stopped: Stopped,
-        place: Option<Place>,
-    ) -> Outcome
-        ensures kept { (result.image ≡ image) × (result.journal.items ≡ journal.items) }
-        ensures fault { result.fault ≡ Some (fault_of_step stopped.fault) }
-        ensures at { result.at ≡ stopped.at }
-        ensures failed { blames_output result.fault ≡ false }
-        ensures status { result.status ≡ status_of result.fault }
-    {
-        let fault = Some(Fault::from(stopped.fault));
-        Outcome::placed(image, journal, fault, stopped.at, place)
     }
 }

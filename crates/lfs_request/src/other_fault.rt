@@ -19,7 +19,7 @@ pub enum OtherFault {
 
 impl OtherFault {
     ghost use Rattle.std.specs.Prelude.{◌≡◌};
-    ghost use Rattle.lfs_change.specs.Fault.{other_fault_number};
+    ghost use Rattle.lfs_request.specs.Fault.{other_fault_number};
 
     /// The fault's number, which is the one that it has for the first image too.
     pub fn number(self) -> u8

@@ -4,7 +4,7 @@ use Rattle.std.specs.Prelude.{◌≡◌, ◌⊎◌, ◌<◌, ℕ, true, false, L
 use Rattle.lfs_draft.specs.Reaches.{Reaches}
 use Rattle.lfs_fs.specs.Path.{IsPathText, Path}
 use Rattle.lfs_fs.specs.Volume.{Volume}
-use Rattle.lfs_change.specs.declared.place.Place.{Place}
+use Rattle.lfs_request.specs.declared.place.Place.{Place}
 
 -- so many names of a path lead to something
 abbrev pub LeadsSoFar : Volume → List ℕ → ℕ → Type 0

@@ -3,7 +3,7 @@ use Rattle.std.proofs.Common.{rules, ◌≡◌, ℕ, length, map, refl, subst, �
 use Rattle.std.proofs.lemmas.List.{length-map}
 use Rattle.lfs_draft.specs.Reaches.{Reaches}
 use Rattle.lfs_fs.specs.Path.{IsPathText}
-use Rattle.lfs_change.proofs.place.Place.of.Goals as goal
+use Rattle.lfs_request.proofs.place.Place.of.Goals as goal
 
 pub returns-clause-on : goal.returns-clause-on
 returns-clause-on c =

@@ -22,7 +22,7 @@ pub struct Place {
 
 impl Place {
     ghost use Rattle.std.specs.Prelude.{◌≡◌, IfSome};
-    ghost use Rattle.lfs_change.specs.Place.{IsPlaceOn};
+    ghost use Rattle.lfs_request.specs.Place.{IsPlaceOn};
 
     /// Where a path is refused in an image of this outline, or `target`, to which something is moved from there, where the whole of the
     /// path leads to something. `None` where one of the texts is no path, or memory is wanting.

@@ -1,8 +1,8 @@
 -- The bytes of a journal that is kept (own).
 use Rattle.std.specs.Prelude.{ℕ, List}
 use Rattle.lfs_book.specs.Book.{journal_bytes}
-use Rattle.lfs_change.specs.declared.kept_journal.JournalText.{JournalText}
-use Rattle.lfs_change.specs.declared.kept_journal.JournalText.TheVariants.{Given, Spelled}
+use Rattle.lfs_request.specs.declared.kept_journal.JournalText.{JournalText}
+use Rattle.lfs_request.specs.declared.kept_journal.JournalText.TheVariants.{Given, Spelled}
 
 -- The meaning of a `KeptJournal`: its Model's Value. Its bytes.
 pub record KeptBytes : Type 0 where

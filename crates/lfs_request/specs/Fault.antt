@@ -10,10 +10,10 @@ use Rattle.lfs_history.specs.declared.open_fault.OpenFault.TheVariants as openin
 use Rattle.lfs_history.specs.declared.step_fault.StepFault.{StepFault}
 use Rattle.lfs_history.specs.declared.step_fault.StepFault.TheVariants.{Refused as Refused_step}
 use Rattle.lfs_history.specs.Faults.{step_fault_number}
-use Rattle.lfs_change.specs.declared.fault.Fault.{Fault}
-use Rattle.lfs_change.specs.declared.fault.Fault.TheVariants.{Image, Mount, Refused, Step, JournalFormat, JournalMismatch, JournalImage, CannotRead, CannotWrite, HostEntry, HostName, BadHex, BadLine, Other}
-use Rattle.lfs_change.specs.declared.other_fault.OtherFault.{OtherFault}
-use Rattle.lfs_change.specs.declared.other_fault.OtherFault.TheVariants as other
+use Rattle.lfs_request.specs.declared.fault.Fault.{Fault}
+use Rattle.lfs_request.specs.declared.fault.Fault.TheVariants.{Image, Mount, Refused, Step, JournalFormat, JournalMismatch, JournalImage, CannotRead, CannotWrite, HostEntry, HostName, BadHex, BadLine, Other}
+use Rattle.lfs_request.specs.declared.other_fault.OtherFault.{OtherFault}
+use Rattle.lfs_request.specs.declared.other_fault.OtherFault.TheVariants as other
 
 -- a fault of an image that another is compared with has the number that it has for any image
 abbrev pub other_fault_number : OtherFault → ℕ

@@ -1,8 +1,8 @@
 -- The status is the fault's, or 0.
 use Rattle.std.proofs.Common.{ap, sym, ◌∙◌}
-use Rattle.lfs_change.specs.Fault.{status_of}
-use Rattle.lfs_change.proofs.outcome.Outcome.placed.Goals as goal
-use Rattle.lfs_change.proofs.outcome.Outcome.placed.Goals.{in-None, in-Some}
+use Rattle.lfs_request.specs.Fault.{status_of}
+use Rattle.lfs_request.proofs.outcome.Outcome.placed.Goals as goal
+use Rattle.lfs_request.proofs.outcome.Outcome.placed.Goals.{in-None, in-Some}
 
 pub returns-clause-status : goal.returns-clause-status
 returns-clause-status c =

@@ -45,7 +45,7 @@ pub enum Fault {
 
 impl Fault {
     ghost use Rattle.std.specs.Prelude.{◌≡◌};
-    ghost use Rattle.lfs_change.specs.Fault.{fault_number, status_of_number};
+    ghost use Rattle.lfs_request.specs.Fault.{fault_number, status_of_number};
 
     /// The fault's number.
     pub fn number(self) -> u8
@@ -115,7 +115,7 @@ impl fmt::Display for Fault {
 
 impl From<MountFault> for Fault {
     ghost use Rattle.std.specs.Prelude.{◌≡◌};
-    ghost use Rattle.lfs_change.specs.Fault.{fault_of_mount};
+    ghost use Rattle.lfs_request.specs.Fault.{fault_of_mount};
 
     ghost from_gives = { λ mount_fault fault. fault ≡ fault_of_mount mount_fault };
 
@@ -129,7 +129,7 @@ impl From<MountFault> for Fault {
 
 impl From<OpenFault> for Fault {
     ghost use Rattle.std.specs.Prelude.{◌≡◌};
-    ghost use Rattle.lfs_change.specs.Fault.{fault_of_opening};
+    ghost use Rattle.lfs_request.specs.Fault.{fault_of_opening};
 
     ghost from_gives = { λ open_fault fault. fault ≡ fault_of_opening open_fault };
 
@@ -145,7 +145,7 @@ impl From<OpenFault> for Fault {
 
 impl From<Refusal> for Fault {
     ghost use Rattle.std.specs.Prelude.{◌≡◌};
-    ghost use Rattle.lfs_change.specs.declared.fault.Fault.TheVariants.{Refused};
+    ghost use Rattle.lfs_request.specs.declared.fault.Fault.TheVariants.{Refused};
 
     ghost from_gives = { λ refusal fault. fault ≡ Refused refusal };
 
@@ -156,7 +156,7 @@ impl From<Refusal> for Fault {
 
 impl From<StepFault> for Fault {
     ghost use Rattle.std.specs.Prelude.{◌≡◌};
-    ghost use Rattle.lfs_change.specs.Fault.{fault_of_step};
+    ghost use Rattle.lfs_request.specs.Fault.{fault_of_step};
 
     ghost from_gives = { λ step_fault fault. fault ≡ fault_of_step step_fault };
 
@@ -171,7 +171,7 @@ impl From<StepFault> for Fault {
 impl From<AllocError> for Fault {
     ghost use Rattle.std.specs.Prelude.{◌≡◌};
     ghost use Rattle.lfs_command.specs.declared.refusal.Refusal.TheVariants.{Memory};
-    ghost use Rattle.lfs_change.specs.declared.fault.Fault.TheVariants.{Refused};
+    ghost use Rattle.lfs_request.specs.declared.fault.Fault.TheVariants.{Refused};
 
     ghost from_gives = { λ error fault. fault ≡ Refused Memory };
 

@@ -24,7 +24,7 @@ pub struct KeptJournal {
 }
 
 impl Model for KeptJournal {
-    ghost use Rattle.lfs_change.specs.KeptJournal.{KeptBytes, kept_items};
+    ghost use Rattle.lfs_request.specs.KeptJournal.{KeptBytes, kept_items};
 
     ghost Value = { KeptBytes };
 
