@@ -2,6 +2,7 @@
 use Rattle.std.proofs.Common.{◌≡◌, ℕ, ◌<◌, Bool, true, false, List, length, Option, Some, None, option_map, refl, sym, ap, subst, ◌∙◌}
 use Rattle.lfs_block.specs.Checksum.{crc}
 use Rattle.lfs_tag.specs.Reading.{TagFront, tag_at, CommitFront, with_tag, closed}
+use Rattle.lfs_tag.proofs.ReadLoop.{map_none}
 use Rattle.lfs_tag.proofs.Steps.{map_some, commit_by-none, commit_by-closed, commit_by-more, commit_by-shorter}
 use Rattle.lfs_later.specs.Commits.{closes, later_at, commits_from}
 use Rattle.lfs_later.specs.Seen.{commit_seen}
@@ -56,10 +57,6 @@ pub commit_shorter : (version : Option ℕ) (sum prev : ℕ) (rest : List ℕ) (
 commit_shorter version sum prev rest seen e =
     let m = map_some (commit_seen version) (later_at sum prev rest) seen (sym e) in
     subst (λ (s : ℕ × Option ℕ × List ℕ). length s.2 < length rest) m.2 (commit_by-shorter closes sum prev rest m.0 m.1)
-
-map_none : {A B : Type 0} (f : A → B) (o : Option A) → option_map f o ≡ None → o ≡ None
-map_none f None e = refl
-map_none f (Some x) e = absurd cc
 
 pub no_commit : (is_there : Bool) (version : Option ℕ) (sum prev : ℕ) (rest : List ℕ)
     → None ≡ option_map (commit_seen version) (later_at sum prev rest)

@@ -1,6 +1,6 @@
 -- The commits that a later version reads, one more and none.
-use Rattle.std.proofs.Common.{◌≡◌, ℕ, List, [], ◌∷◌, Option, Some, None, ap}
-use Rattle.lfs_tag.specs.Commit.{Commit, next_word}
+use Rattle.std.proofs.Common.{◌≡◌, ℕ, List, [], ◌∷◌, Some, None, ap}
+use Rattle.lfs_tag.specs.Commit.{next_word}
 use Rattle.lfs_tag.specs.Reading.{CommitFront, Front}
 use Rattle.lfs_tag.proofs.Steps.{log_by-none, log_by-more}
 use Rattle.lfs_later.specs.Commits.{closes, later_at, commits_from}

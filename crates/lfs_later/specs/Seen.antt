@@ -1,15 +1,9 @@
 -- What the code's readers give, seen by what they read (own).
 use Rattle.std.specs.Prelude.{ℕ, List, Option}
 use Rattle.lfs_tag.specs.Commit.{next_word}
-use Rattle.lfs_tag.specs.Reading.{TagFront, CommitFront}
-use Rattle.lfs_tag.specs.Tags.{item_with}
-use Rattle.lfs_later.specs.declared.commit.Found.{Found}
+use Rattle.lfs_tag.specs.Reading.{CommitFront}
 use Rattle.lfs_later.specs.declared.commit.Committed.{Committed}
 use Rattle.lfs_later.specs.Version.{last_stated}
-
--- a tag that was found
-abbrev pub tag_found : Found → TagFront
-tag_found f = record { stored = f.stored.now; item = item_with f.tag f.content.now; rest = f.rest.now }
 
 -- what is kept of a commit, behind others that stated a version: the word behind it, the version that is stated last, and the
 -- bytes behind it

@@ -6,10 +6,7 @@ ghost use Rattle.lfs_later.specs.Version.{block_seen, stated_in};
 
 use crate::commit::commit_at;
 use lfs_block::crc32;
-use lfs_tag::Log;
-
-/// The start value of each commit's checksum.
-const CHECKSUM_START: u32 = 0xffff_ffff;
+use lfs_tag::{CHECKSUM_START, Log};
 
 /// What commits that version 2.0 doesn't read state.
 #[derive(Clone, Copy)]

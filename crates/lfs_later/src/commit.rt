@@ -1,34 +1,21 @@
 //! A commit as later disk versions read it.
 
-ghost use Rattle.std.specs.Prelude.{◌≡◌, ◌≤◌, IfSome, length, option_map};
-ghost use Rattle.std.specs.Int.{w32, from_be_bytes};
+ghost use Rattle.std.specs.Prelude.{◌≡◌, length, option_map};
 ghost use Rattle.lfs_tag.specs.Tag.{data_len, word_of};
-ghost use Rattle.lfs_tag.specs.Commit.{word_after};
-ghost use Rattle.lfs_tag.specs.Reading.{closed, tag_at};
+ghost use Rattle.lfs_tag.specs.Found.{tag_found};
+ghost use Rattle.lfs_tag.specs.Reading.{closed};
 ghost use Rattle.lfs_later.specs.Commits.{closes, later_at};
-ghost use Rattle.lfs_later.specs.Seen.{commit_found, commit_seen, tag_found};
+ghost use Rattle.lfs_later.specs.Seen.{commit_found, commit_seen};
 ghost use Rattle.lfs_later.specs.Version.{last_stated, stated_by};
 
-use byteorder::{BigEndian, ByteOrder};
 use lfs_block::{crc32, little_word};
-use lfs_tag::{CHECKSUM, DELETED, Tag};
+use lfs_tag::{CHECKSUM, Found, Tag, tag_at};
 
 /// The least lower bits of the types of a checksum's tags that close no commit.
 const LEAST_UNCLOSING: u16 = 0x80;
 
 /// The word of a superblock's struct: one of 24 bytes, of entry 0.
 const SUPERBLOCK_WORD: u32 = 0x2010_0018;
-
-/// A tag at the front of bytes.
-#[derive(Clone, Copy)]
-pub(crate) struct Found<'a> {
-    /// Its word as it is stored.
-    pub(crate) stored: &'a [u8],
-    pub(crate) tag: Tag,
-    pub(crate) content: &'a [u8],
-    /// What stands behind its data.
-    pub(crate) rest: &'a [u8],
-}
 
 /// A commit at the front of bytes.
 #[derive(Clone, Copy)]
@@ -41,50 +28,13 @@ pub(crate) struct Committed<'a> {
     pub(crate) rest: &'a [u8],
 }
 
-/// The first four bytes, the highest first.
-fn big_word(bytes: &[u8]) -> u32
-    requires { 4 ≤ length bytes.now }
-    ensures { result ≡ from_be_bytes w32 bytes.now }
-{
-    BigEndian::read_u32(bytes)
-}
-
-/// The tag at the front of `bytes`, behind the word `prev`.
-#[tactic(auto, unfolding(lfs_tag::specs::Reading::tag_at))]
-fn tag_at<'a>(prev: u32, bytes: &'a [u8]) -> Option<Found<'a>>
-    ensures tag { option_map tag_found result ≡ tag_at prev bytes.now }
-    ensures len { IfSome result (λ found. length found.content.now ≡ data_len (word_of found.tag)) }
-{
-    if bytes.len() < 4 {
-        return None;
-    }
-    let (stored, behind) = bytes.split_at(4);
-    let tag = Tag::decode(big_word(stored), prev)?;
-    let len = tag.data_len();
-    if behind.len() < len {
-        return None;
-    }
-    let (content, rest) = behind.split_at(len);
-    Some(Found {
-        stored,
-        tag,
-        content,
-        rest,
-    })
-}
-
-/// Whether a tag closes its commit.
-fn closes(tag: Tag) -> bool
+/// Whether a tag closes its commit for a later disk version. Takes no memory.
+///
+/// Source: littlefs disk version 2.1.
+pub fn closes(tag: Tag) -> bool
     ensures { result ≡ closes (word_of tag) }
 {
     tag.main_kind() == CHECKSUM && tag.chunk() < LEAST_UNCLOSING
-}
-
-/// The word that the tag behind a checksum's tag is XORed with.
-fn word_after(tag: Tag) -> u32
-    ensures { result ≡ word_after (word_of tag) }
-{
-    tag.word() + (u32::from(tag.kind & 1) << 31)
 }
 
 /// The disk version that a tag states, or the one before it.
@@ -104,23 +54,11 @@ fn stated_by(so_far: Option<u32>, found: Found<'_>) -> Option<u32>
 fn closed<'a>(sum: u32, version: Option<u32>, found: Found<'a>) -> Option<Committed<'a>>
     ensures { option_map commit_found result ≡ option_map (commit_seen version) (closed sum (tag_found found.entry)) }
 {
-    let Found {
-        stored: _,
-        tag,
-        content,
-        rest,
-    } = found;
-    if tag.len == DELETED || content.len() < 4 {
-        return None;
-    }
-    let (checksum, _) = content.split_at(4);
-    if little_word(checksum) != sum {
-        return None;
-    }
+    let commit = lfs_tag::closed(sum, found)?;
     Some(Committed {
-        next: word_after(tag),
+        next: commit.next,
         version,
-        rest,
+        rest: commit.rest,
     })
 }
 

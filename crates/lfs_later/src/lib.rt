@@ -6,4 +6,5 @@ mod commit;
 mod pair;
 mod version;
 
+pub use commit::closes;
 pub use version::{StatedVersion, later_version, unread_version};

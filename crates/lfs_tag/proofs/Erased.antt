@@ -236,12 +236,13 @@ next_commit block cs rest at c log erased e h new n fits =
 
 -- ---- the tags of a log
 
-AllByRecursion-append : (xs ys : List Item) → AllByRecursion IsItem xs → AllByRecursion IsItem ys → AllByRecursion IsItem (xs ++ ys)
-AllByRecursion-append [] ys h k = k
-AllByRecursion-append (x ∷ xs) ys h k = (h.0, AllByRecursion-append xs ys h.1 k)
+pub AllByRecursion-append : {A : Type 0} (P : A → Type 0) (xs ys : List A) → AllByRecursion P xs → AllByRecursion P ys
+    → AllByRecursion P (xs ++ ys)
+AllByRecursion-append P [] ys h k = k
+AllByRecursion-append P (x ∷ xs) ys h k = (h.0, AllByRecursion-append P xs ys h.1 k)
 
 pub log_tags-items : (cs : List Commit) → AllByRecursion IsCommit cs → AllByRecursion IsItem (log_tags cs)
 log_tags-items [] h = tt
 log_tags-items (c ∷ cs) h =
     subst (AllByRecursion IsItem) (sym (flat_map-cons (λ (d : Commit). d.tags) c cs))
-    (AllByRecursion-append c.tags (log_tags cs) h.0.tags (log_tags-items cs h.1))
+    (AllByRecursion-append IsItem c.tags (log_tags cs) h.0.tags (log_tags-items cs h.1))

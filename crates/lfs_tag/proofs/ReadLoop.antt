@@ -12,7 +12,7 @@ use Rattle.lfs_tag.specs.Reading.{CommitFront, commit_at, Front, with_commit, lo
 use Rattle.lfs_tag.proofs.Steps.{map_some, commit_at-shorter, log_from-none, log_from-more}
 use Rattle.lfs_tag.proofs.Logs.{logged, log_of-takes, tags_again}
 
-map_none : {A B : Type 0} (f : A → B) (o : Option A) → option_map f o ≡ None → o ≡ None
+pub map_none : {A B : Type 0} (f : A → B) (o : Option A) → option_map f o ≡ None → o ≡ None
 map_none f None e = refl
 map_none f (Some x) e = absurd cc
 

@@ -1,12 +1,14 @@
 //! The data of a tag to be written.
 
-/// The data of a tag to be written: bytes that stand elsewhere, or eight bytes of its own.
+/// The data of a tag to be written: bytes that stand elsewhere, or bytes of its own.
 #[derive(Clone, Copy)]
 pub enum EditData<'a> {
     /// Bytes that stand elsewhere.
     Bytes(&'a [u8]),
     /// Two words.
     Words([u8; 8]),
+    /// What a superblock states.
+    Header([u8; 24]),
 }
 
 impl EditData<'_> {
@@ -20,6 +22,7 @@ impl EditData<'_> {
         match self {
             EditData::Bytes(bytes) => bytes,
             EditData::Words(words) => words,
+            EditData::Header(header) => header,
         }
     }
 }

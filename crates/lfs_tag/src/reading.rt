@@ -1,8 +1,8 @@
 //! What stands at the front of bytes: a tag, a commit.
 
-ghost use Rattle.std.specs.Prelude.{◌≡◌, ◌≤◌, length, take, option_map};
+ghost use Rattle.std.specs.Prelude.{◌≡◌, ◌≤◌, length, take, option_map, IfSome};
 ghost use Rattle.std.specs.Int.{w32, from_be_bytes};
-ghost use Rattle.lfs_tag.specs.Tag.{word_of};
+ghost use Rattle.lfs_tag.specs.Tag.{data_len, word_of};
 ghost use Rattle.lfs_tag.specs.Commit.{word_after};
 ghost use Rattle.lfs_tag.specs.Reading.{tag_at, closed, commit_at};
 ghost use Rattle.lfs_tag.specs.Found.{tag_found, commit_found, commit_seen};
@@ -14,24 +14,30 @@ use lfs_block::{crc32, little_word};
 /// The start value of each commit's checksum.
 pub const CHECKSUM_START: u32 = 0xffff_ffff;
 
-/// A tag at the front of bytes.
+/// A tag with its data at the front of bytes.
+///
+/// Source: SPEC.md, "Metadata tags".
 #[derive(Clone, Copy)]
-pub(crate) struct Found<'a> {
+pub struct Found<'a> {
     /// Its word as it is stored.
-    pub(crate) stored: &'a [u8],
-    pub(crate) tag: Tag,
-    pub(crate) content: &'a [u8],
+    pub stored: &'a [u8],
+    /// The tag.
+    pub tag: Tag,
+    /// Its data.
+    pub content: &'a [u8],
     /// What stands behind its data.
-    pub(crate) rest: &'a [u8],
+    pub rest: &'a [u8],
 }
 
 /// A commit at the front of bytes.
+///
+/// Source: SPEC.md, "0x5xx CRC".
 #[derive(Clone, Copy)]
-pub(crate) struct Committed<'a> {
+pub struct Committed<'a> {
     /// The word that the next tag is XORed with.
-    pub(crate) next: u32,
+    pub next: u32,
     /// What stands behind the commit.
-    pub(crate) rest: &'a [u8],
+    pub rest: &'a [u8],
 }
 
 /// The first four bytes, the highest first.
@@ -42,10 +48,13 @@ fn big_word(bytes: &[u8]) -> u32
     BigEndian::read_u32(bytes)
 }
 
-/// The tag at the front of `bytes`, behind the word `prev`.
+/// The tag at the front of `bytes`, behind the word `prev`; `None` where it isn't valid or runs past their end. Takes no memory.
+///
+/// Source: SPEC.md, "Metadata tags".
 #[tactic(auto, unfolding(crate::specs::Reading::tag_at))]
-pub(crate) fn tag_at<'a>(prev: u32, bytes: &'a [u8]) -> Option<Found<'a>>
-    ensures { option_map tag_found result ≡ tag_at prev bytes.now }
+pub fn tag_at<'a>(prev: u32, bytes: &'a [u8]) -> Option<Found<'a>>
+    ensures tag { option_map tag_found result ≡ tag_at prev bytes.now }
+    ensures len { IfSome result (λ found. length found.content.now ≡ data_len (word_of found.tag)) }
 {
     if bytes.len() < 4 {
         return None;
@@ -65,16 +74,20 @@ pub(crate) fn tag_at<'a>(prev: u32, bytes: &'a [u8]) -> Option<Found<'a>>
     })
 }
 
-/// The word that the tag behind a checksum's tag is XORed with.
-pub(crate) fn word_after(tag: Tag) -> u32
+/// The word that the tag behind a checksum's tag that closes a commit is XORed with. Takes no memory.
+///
+/// Source: SPEC.md, "0x5xx CRC".
+pub fn word_after(tag: Tag) -> u32
     ensures { result ≡ word_after (word_of tag) }
 {
     tag.word() + (u32::from(tag.kind & 1) << 31)
 }
 
-/// The commit that a checksum's tag closes, if it holds the checksum `sum`.
+/// The commit that a checksum's tag closes, if it holds the checksum `sum`; `None` else. Takes no memory.
+///
+/// Source: SPEC.md, "0x5xx CRC"; that a tag which is deleted or shorter than four bytes closes none: own.
 #[tactic(auto, unfolding(crate::specs::Reading::closed))]
-fn closed<'a>(sum: u32, found: Found<'a>) -> Option<Committed<'a>>
+pub fn closed<'a>(sum: u32, found: Found<'a>) -> Option<Committed<'a>>
     ensures { option_map commit_found result ≡ option_map commit_seen (closed sum (tag_found found.entry)) }
 {
     let Found {

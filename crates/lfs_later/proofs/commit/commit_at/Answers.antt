@@ -2,7 +2,7 @@ use Rattle.std.proofs.Common.{◌≡◌, true, false, sym, ◌∙◌, arith}
 use Rattle.lfs_tag.specs.Reading.{TagFront}
 use Rattle.lfs_tag.proofs.Steps.{tag_at-shorter}
 use Rattle.lfs_later.specs.Commits.{closes}
-use Rattle.lfs_later.specs.Seen.{tag_found}
+use Rattle.lfs_tag.specs.Found.{tag_found}
 use Rattle.lfs_later.proofs.Loops.{tag_more, tag_closes, no_tag}
 use Rattle.lfs_later.proofs.commit.commit_at.Goals as goal
 

@@ -10,7 +10,7 @@ use Rattle.lfs_tag.proofs.reading.commit_at.Goals as goal
 pub split_at-requires : goal.split_at-requires
 split_at-requires c =
     left_closing c.args.sum c.args.prev c.args.bytes.now c.loop-found.prev c.loop-found.rest.now
-    (tag_found c.in-Some.found) c.loop-found.invariant (sym c.in-Some.ensures)
+    (tag_found c.in-Some.found) c.loop-found.invariant (sym c.in-Some.ensures.tag)
 
 pub returns-then-main_kind-eq-CHECKSUM : goal.returns-then-main_kind-eq-CHECKSUM
 returns-then-main_kind-eq-CHECKSUM c =
@@ -21,10 +21,10 @@ returns-then-main_kind-eq-CHECKSUM c =
     c.closed.ensures
     ∙ ap (λ (s : ℕ). option_map commit_seen (closed s f)) covered
     ∙ left_closed c.args.sum c.args.prev c.args.bytes.now c.loop-found.prev c.loop-found.rest.now f c.loop-found.invariant
-    (sym c.in-Some.ensures) kind
+    (sym c.in-Some.ensures.tag) kind
 
 pub loop-found-smaller : goal.loop-found-smaller
-loop-found-smaller c = let k = tag_at-shorter c.loop-found.prev c.loop-found.rest.now (tag_found c.in-Some.found) (sym c.in-Some.ensures) in
+loop-found-smaller c = let k = tag_at-shorter c.loop-found.prev c.loop-found.rest.now (tag_found c.in-Some.found) (sym c.in-Some.ensures.tag) in
     omega (arith, k)
 
 pub loop-found-preserved : goal.loop-found-preserved
@@ -33,9 +33,9 @@ loop-found-preserved c =
     let kind : main_kind f.item.word ≢ 5 = λ e. c.if-main_kind-eq-CHECKSUM.false (c.main_kind.ensures ∙ e) in
     subst (λ (w : ℕ). Left c.args.sum c.args.prev c.args.bytes.now w f.rest) (sym c.word-prev.ensures)
     (left_more c.args.sum c.args.prev c.args.bytes.now c.loop-found.prev c.loop-found.rest.now f c.loop-found.invariant
-    (sym c.in-Some.ensures) kind)
+    (sym c.in-Some.ensures.tag) kind)
 
 pub returns : goal.returns
 returns c =
     left_none c.args.sum c.args.prev c.args.bytes.now c.loop-found.prev c.loop-found.rest.now c.loop-found.invariant
-    (sym c.in_default.ensures)
+    (sym c.in_default.ensures.tag)
