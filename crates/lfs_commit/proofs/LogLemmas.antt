@@ -21,7 +21,7 @@ abbrev new : ℕ → List Item → List ℕ → List ℕ
 new number ts block = commit_bytes (lead_at 4 (revised number block)) 0xffffffff (commit_of 4 ts)
 
 -- what is seen of a block whose log was read so
-abbrev seen_by : List ℕ → Front → LogSeen
+abbrev pub seen_by : List ℕ → Front → LogSeen
 seen_by block f = record {
   end = length block - length f.rest;
   commits = length f.commits;
@@ -55,5 +55,5 @@ written-committed first read written number size ts fits is_commit bytes =
     ∙ ap (λ (us : List Item). Some us) (append-nil ts)
 
 -- a list whose front was written whole
-pub written_whole : (len : ℕ) (now old : List ℕ) → len ≡ length now → take len (now ++ drop (length now) old) ≡ now
+pub written_whole : {A : Type 0} (len : ℕ) (now old : List A) → len ≡ length now → take len (now ++ drop (length now) old) ≡ now
 written_whole len now old e = take-append-le len now (drop (length now) old) (omega arith) ∙ take_all len now (omega arith)

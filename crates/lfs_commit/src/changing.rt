@@ -23,8 +23,11 @@ use std::alloc::{AllocError, Global};
 /// The most entries that the ids of tags can name.
 const MOST_NAMED: usize = 1_023;
 
-/// The part that a pair holds; `None` where it holds none all of whose entries are whole.
-fn held_part<B: Blocks>(
+/// The part that a pair holds; `None` where it holds none all of whose entries are whole. Takes memory. The caller owes two numbers
+/// below the block count.
+///
+/// Source: own.
+pub fn held_part<B: Blocks>(
     alloc: Global,
     blocks: &B,
     pair: (u32, u32),

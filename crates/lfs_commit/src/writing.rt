@@ -39,8 +39,16 @@ fn write_log(block: &mut [u8], number: u32, edits: &[Edit])
     let _end = write_commit(block, FIRST_COMMIT, FIRST_WORD, edits);
 }
 
-/// A block of `size` bytes with a revision and one commit of edits. All else is 0xff.
-fn block_with(alloc: Global, size: u32, number: u32, edits: &[Edit]) -> Result<Vec<u8>, AllocError>
+/// A block of `size` bytes with a revision and one commit of edits, which is read back so. All else is 0xff. The caller owes that the
+/// commit ends within the block. Takes memory.
+///
+/// Source: own.
+pub fn block_with(
+    alloc: Global,
+    size: u32,
+    number: u32,
+    edits: &[Edit],
+) -> Result<Vec<u8>, AllocError>
     requires { committed_end 4 (items edits.now) ≤ size }
     ensures { IfOk result (λ block. IsWritten size number (items edits.now) block.items) }
 {

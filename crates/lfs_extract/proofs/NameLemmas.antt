@@ -1,17 +1,15 @@
 -- Names of rows that a host can have, and of paths below a folder.
-use Rattle.std.proofs.Common.{◌≡◌, ℕ, zero, suc, List, [], ◌∷◌, Some, refl, sym, subst, arith, take}
+use Rattle.std.proofs.Common.{◌≡◌, ℕ, zero, suc, List, [], ◌∷◌, Some, refl, subst, arith, take}
 use Rattle.std.specs.Prelude.{All}
-use Rattle.std.proofs.lemmas.List.Elements.{All-nil, All-cons, All-head, All-tail, All-push, All-take, All-contains}
+use Rattle.std.proofs.lemmas.List.Elements.{All-nil, All-cons, All-head, All-tail, All-push, All-take}
 use Rattle.lfs_meta.specs.Name.{Name, IsName}
 use Rattle.lfs_fs.specs.Path.{Path}
-use Rattle.lfs_fs.specs.Entry.{Entry}
-use Rattle.lfs_fs.specs.Directory.{Directory, entries, begins_at}
 use Rattle.lfs_fs.specs.Volume.{Volume}
 use Rattle.lfs_fs.specs.Tree.{entry_at}
-use Rattle.lfs_fs.specs.Sound.{IsSound, IsProper}
+use Rattle.lfs_fs.specs.Sound.{IsSound}
 use Rattle.lfs_fs.specs.Row.{Row}
 use Rattle.lfs_fs.specs.Listed.{Listed, path_after, row_after, rows_after, rows_listed}
-use Rattle.lfs_fs.proofs.EntryAtLemmas.{by_last_name, found, stands_below}
+use Rattle.lfs_fs.proofs.ProperLemmas.{names_of_path}
 use Rattle.lfs_folder.specs.HostNames.{IsHostName}
 use Rattle.lfs_extract.specs.Extracted.{IsHostText, HaveTexts, HasOtherName, StayBelow}
 
@@ -68,17 +66,6 @@ text_paths q (x ∷ xs) before texts =
     text_path q x.depth x.entry.name before (All-head (λ (r : Row). IsHostText r.entry.name) (row_after q x) (rows_after next xs) texts) in
     All-cons (λ (r : Row). All IsHostText r.path) (row_after q x) (rows_after next xs) here
     (text_paths next xs here (All-tail (λ (r : Row). IsHostText r.entry.name) (row_after q x) (rows_after next xs) texts))
-
--- the names on the way to an entry of a sound volume are names
-names_of_path : (v : Volume) → IsSound v → (p : Path) (e : Entry) → entry_at v p ≡ Some e → All IsName p
-names_of_path v sound =
-    by_last_name (λ (p : Path). (e : Entry) → entry_at v p ≡ Some e → All IsName p) (λ e there. All-nil IsName)
-    (λ p n above e there.
-    let s = stands_below v p n e there in
-    let member = (found (begins_at s.pair) v.directories s.directory s.begins).0 in
-    let proper = All-contains (λ (d : Directory). All (IsProper v.limits) (entries d)) v.directories s.directory sound.proper member in
-    let one : IsProper v.limits e = All-contains (IsProper v.limits) (entries s.directory) e proper s.member in
-    All-push IsName p n (above s.above s.there) (subst IsName (sym s.named) one.name))
 
 both_fit : (p : Path) → All IsName p → All IsHostText p → All IsHostName p
 both_fit [] names texts = All-nil IsHostName

@@ -59,3 +59,4 @@ pub mod ThreadThereLemmas
 pub mod EntriesThereLemmas
 pub mod SoundThereLemmas
 pub mod MountsThereLemmas
+pub mod ProperLemmas

@@ -50,7 +50,7 @@ pub follow_more : (step : Pair → Option Pair) (from : Option Pair) (ps : List 
 follow_more step from [] p follow is = (is, tt)
 follow_more step from (q ∷ ps) p follow is = (follow.0, follow_more step (step q) ps p follow.1 is)
 
-after_more : (step : Pair → Option Pair) (from : Option Pair) (ps : List Pair) (p : Pair) → after step from (ps ++ p ∷ []) ≡ step p
+pub after_more : (step : Pair → Option Pair) (from : Option Pair) (ps : List Pair) (p : Pair) → after step from (ps ++ p ∷ []) ≡ step p
 after_more step from [] p = refl
 after_more step from (q ∷ ps) p = after_more step (step q) ps p
 
@@ -123,7 +123,7 @@ unread_pair d BadName ps p front cause = unread_by d BadName ps p front cause
 unread_pair d Memory ps p front cause = tt
 unread_pair d _ ps p front cause = absurd cause
 
-one_is_past : (count : ℕ) (p : Pair) (k x : ℕ) → k < 2 → get_or (p.0 ∷ p.1 ∷ []) k x ≡ x → count ≤ x → (count ≤ p.0) ⊎ (count ≤ p.1)
+pub one_is_past : (count : ℕ) (p : Pair) (k x : ℕ) → k < 2 → get_or (p.0 ∷ p.1 ∷ []) k x ≡ x → count ≤ x → (count ≤ p.0) ⊎ (count ≤ p.1)
 one_is_past count p zero x below is past = inl (omega arith)
 one_is_past count p (suc zero) x below is past = inr (omega arith)
 one_is_past count p (suc (suc k)) x below is past = absurd (omega arith)

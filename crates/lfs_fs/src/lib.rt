@@ -67,5 +67,6 @@ pub use row::Row;
 pub use row_body::RowBody;
 pub use row_path::follow;
 pub use rows::Rows;
-pub use thread_reading::ROOT;
+pub use thread_reading::{ROOT, next_pair};
+pub use used::mark_all;
 pub use used_blocks::UsedBlocks;

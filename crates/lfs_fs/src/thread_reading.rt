@@ -22,8 +22,10 @@ use std::alloc::Global;
 /// Source: SPEC.md, "0x0ff superblock".
 pub const ROOT: (u32, u32) = (0, 1);
 
-/// The pair that a tail names.
-fn next_pair(tail: Tail) -> Option<(u32, u32)>
+/// The pair that a tail names; `None` where the thread ends. Takes no memory.
+///
+/// Source: SPEC.md, "0x6xx tail".
+pub fn next_pair(tail: Tail) -> Option<(u32, u32)>
     ensures { result ≡ next tail }
 {
     match tail {

@@ -22,8 +22,10 @@ fn mark(used: &mut [bool], block: u32) -> Result<(), MountFault>
 }
 
 /// Marks blocks: `BlockRange` where there isn't one of them, `BlockTwice` where one is marked or stands twice. After a
-/// refusal the table is of no use.
-pub(crate) fn mark_all(used: &mut [bool], blocks: &[u32]) -> Result<(), MountFault>
+/// refusal the table is of no use. Takes no memory.
+///
+/// Source: own.
+pub fn mark_all(used: &mut [bool], blocks: &[u32]) -> Result<(), MountFault>
     ensures marked { OnOk result (AddsBlocks used.old used.new blocks.now) }
     ensures refused { IfErr result (λ fault. AreTaken fault used.old blocks.now) }
 {
