@@ -1,5 +1,6 @@
 pub mod AgreementLemmas
 pub mod BlockLens
+pub mod BytesLemmas
 pub mod ChangeLemmas
 pub mod ChecksumLemmas
 pub mod DiskLemmas

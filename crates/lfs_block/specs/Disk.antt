@@ -1,5 +1,5 @@
 -- An image as a list of bytes, and its blocks (littlefs disk version 2.0).
-use Rattle.std.specs.Prelude.{◌≡◌, ℕ, ◌+◌, ◌-◌, ◌*◌, List, ◌++◌, if◌then◌else◌, length, nat_lt, replicate, take, drop}
+use Rattle.std.specs.Prelude.{◌≡◌, ℕ, ◌+◌, ◌-◌, ◌*◌, ◌/◌, List, ◌++◌, if◌then◌else◌, length, nat_lt, replicate, take, drop}
 use Rattle.lfs_block.specs.Bytes.{IsBytes}
 use Rattle.lfs_block.specs.Geometry.{IsGeometry}
 
@@ -13,6 +13,10 @@ pub record IsDisk (d : Disk) : Type 0 where
   pub geometry : IsGeometry d.size d.count
   pub len : length d.bytes ≡ d.count * d.size
   pub bytes : IsBytes d.bytes
+
+-- the image that bytes are, cut into blocks of a size
+abbrev pub image_of : ℕ → List ℕ → Disk
+image_of size bytes = record { size = size; count = length bytes / size; bytes = bytes }
 
 -- block n, the n-th slice of the bytes
 abbrev pub block_of : Disk → ℕ → List ℕ

@@ -127,7 +127,7 @@ impl Image {
 
     /// Writes `bytes` over block `n`. The caller owes that there is such a block, and as many bytes as it has. Takes no
     /// memory.
-    pub(crate) fn write_block(&mut self, n: u32, bytes: &[u8])
+    pub fn write_block(&mut self, n: u32, bytes: &[u8])
         requires within { n < self.old.disk.count }
         requires whole { length bytes.now ≡ self.old.disk.size }
         ensures disk { self.new.disk ≡ put n bytes.now self.old.disk }

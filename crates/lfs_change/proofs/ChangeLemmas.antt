@@ -17,7 +17,7 @@ use Rattle.lfs_request.specs.declared.fault.Fault.TheVariants.{Image}
 use Rattle.lfs_request.specs.Fault.{blames_output, fault_of_step, fault_of_mount, fault_of_opening}
 use Rattle.lfs_request.specs.declared.outcome.Outcome.{Outcome}
 use Rattle.lfs_change.specs.Change.{AnswersChange, AnswersImage, DenotesOn, RefusesChange, RefusesDenoting, RefusesImage, RefusesStep}
-use Rattle.lfs_change.proofs.BytesLemmas.{image_of_disk}
+use Rattle.lfs_block.proofs.BytesLemmas.{image_of_disk}
 
 -- ---- what is denoted
 

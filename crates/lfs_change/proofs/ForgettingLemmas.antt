@@ -11,7 +11,7 @@ use Rattle.lfs_request.specs.declared.outcome.Outcome.{Outcome}
 use Rattle.lfs_change.specs.Change.{DenotesOn}
 use Rattle.lfs_request.specs.Fault.{fault_of_mount}
 use Rattle.lfs_change.specs.Forgetting.{AnswersForgetting, IsForgotten, RefusesForgetting}
-use Rattle.lfs_change.proofs.BytesLemmas.{image_of_disk}
+use Rattle.lfs_block.proofs.BytesLemmas.{image_of_disk}
 
 -- an image that is a session that nothing was done to
 pub forgets : (d : Disk) (h : History) (o : Outcome) → IsDisk d → h ≡ fresh_history d → IsHistory h → o.image.items ≡ h.present.bytes

@@ -2,7 +2,7 @@
 use Rattle.std.proofs.Common.{◌≡◌, ◌≤◌, ◌<◌, ◌+◌, ◌*◌, ◌^◌, inl, inr, ℕ, List, [], ◌∷◌, length, ap, sym, ◌∙◌, subst, arith}
 use Rattle.std.proofs.lemmas.List.{length-append}
 use Rattle.std.proofs.lemmas.Nat.{from_le_bytes-to_le_bytes_4}
-use Rattle.lfs_block.specs.Disk.{Disk}
+use Rattle.lfs_block.specs.Disk.{Disk, image_of}
 use Rattle.lfs_block.specs.Patch.{ChangeSet}
 use Rattle.lfs_book.specs.Book.{Book, IsVersionOf, bytes_in, journal_bytes, respelling}
 use Rattle.lfs_fs.specs.Holds.{Holds}
@@ -12,7 +12,6 @@ use Rattle.lfs_history.specs.History.{History}
 use Rattle.lfs_history.specs.Opening.{journal_of, kept_journal}
 use Rattle.lfs_history.specs.OpeningLaws.{JournalsGrowByTheNeed, KeptJournalsGrowByTheNeed}
 use Rattle.lfs_history.specs.Taking.{Do}
-use Rattle.lfs_change.specs.Bytes.{image_of}
 use Rattle.lfs_change.specs.Change.{DenotesOn}
 use Rattle.lfs_change.specs.Laws.{JournalsOfBytesGrowByTheNeed, JournalsOfBytesGrowOnTheKept, journal_length, version_of, done_of}
 use Rattle.lfs_change.proofs.ChangeLemmas.{denoted_present, one_taken}

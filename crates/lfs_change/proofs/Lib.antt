@@ -1,4 +1,3 @@
-pub mod BytesLemmas
 pub mod ChangeLemmas
 pub mod ForgettingLemmas
 pub mod LawLemmas

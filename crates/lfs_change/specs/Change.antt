@@ -1,6 +1,6 @@
 -- The outcome of steps on an image's history, all of which are done or none (own).
 use Rattle.std.specs.Prelude.{◌≡◌, ◌≢◌, ◌⊎◌, ℕ, List, [], ◌∷◌, Option, Some, None}
-use Rattle.lfs_block.specs.Disk.{Disk, IsDisk}
+use Rattle.lfs_block.specs.Disk.{Disk, IsDisk, image_of}
 use Rattle.lfs_block.specs.ImageFault.{IsNoImage}
 use Rattle.lfs_fs.specs.Cause.{HasCause}
 use Rattle.lfs_command.specs.declared.refusal.Refusal.TheVariants.{Memory}
@@ -17,7 +17,6 @@ use Rattle.lfs_request.specs.declared.fault.Fault.{Fault}
 use Rattle.lfs_request.specs.declared.fault.Fault.TheVariants as fault
 use Rattle.lfs_request.specs.declared.fault.Fault.TheVariants.{Image, Mount, Refused, JournalFormat, JournalMismatch, JournalImage}
 use Rattle.lfs_request.specs.declared.outcome.Outcome.{Outcome}
-use Rattle.lfs_change.specs.Bytes.{image_of}
 
 -- what an image and the bytes of a journal denote; without any, nothing was done to the image
 abbrev pub DenotesOn : Disk → List ℕ → History → Type 0

@@ -1,6 +1,6 @@
 -- The outcome where all is forgotten but an image (own).
 use Rattle.std.specs.Prelude.{◌≡◌, ℕ, List, [], Option, Some, None}
-use Rattle.lfs_block.specs.Disk.{IsDisk}
+use Rattle.lfs_block.specs.Disk.{IsDisk, image_of}
 use Rattle.lfs_block.specs.ImageFault.{IsNoImage}
 use Rattle.lfs_fs.specs.Cause.{HasCause}
 use Rattle.lfs_command.specs.declared.refusal.Refusal.TheVariants.{Memory}
@@ -10,7 +10,6 @@ use Rattle.lfs_history.specs.Opening.{journal_of}
 use Rattle.lfs_request.specs.declared.fault.Fault.{Fault}
 use Rattle.lfs_request.specs.declared.fault.Fault.TheVariants.{Image, Mount, Refused}
 use Rattle.lfs_request.specs.declared.outcome.Outcome.{Outcome}
-use Rattle.lfs_change.specs.Bytes.{image_of}
 use Rattle.lfs_change.specs.Change.{Denotes}
 
 -- The bytes are an image that mounts, whatever its journal was. The outcome is that image, and the journal of one that nothing was done

@@ -15,7 +15,7 @@ use Rattle.lfs_history.specs.Opening.{kept_journal}
 use Rattle.lfs_history.specs.Taking.{Move, Do, Undo}
 use Rattle.lfs_history.specs.Laws.{IsCarriedOut}
 use Rattle.lfs_request.specs.declared.outcome.Outcome.{Outcome}
-use Rattle.lfs_change.specs.Bytes.{image_of}
+use Rattle.lfs_block.specs.Disk.{image_of}
 use Rattle.lfs_change.specs.Change.{Denotes, DenotesOn, IsChanged}
 
 -- the image and the journal that steps leave denote the history that they leave

@@ -1,4 +1,3 @@
-pub mod Bytes
 pub mod KeptPast
 pub mod Change
 pub mod Forgetting

@@ -4,7 +4,7 @@ use Rattle.std.proofs.Common.{None, length, refl, sym, ap, subst, ◌∙◌, ari
 use Rattle.std.specs.Prelude.{codes, map}
 use Rattle.std.proofs.lemmas.List.{take_all}
 use Rattle.std.proofs.lemmas.Option.{same_Some}
-use Rattle.lfs_block.specs.Disk.{Disk, IsDisk}
+use Rattle.lfs_block.specs.Disk.{Disk, IsDisk, image_of}
 use Rattle.lfs_book.specs.Book.{most_journal}
 use Rattle.lfs_book.specs.Laws.{JournalsAreShort}
 use Rattle.lfs_command.specs.declared.refusal.Refusal.{Refusal}
@@ -14,7 +14,6 @@ use Rattle.lfs_history.specs.Meaning.{OnBytes, step_of}
 use Rattle.lfs_request.specs.declared.fault.Fault.{Fault}
 use Rattle.lfs_request.specs.declared.fault.Fault.TheVariants.{Refused, CannotWrite}
 use Rattle.lfs_request.specs.declared.outcome.Outcome.{Outcome}
-use Rattle.lfs_change.specs.Bytes.{image_of}
 use Rattle.lfs_change.specs.Change.{Denotes, DenotesOn}
 use Rattle.lfs_request.specs.Fault.{status_of}
 use Rattle.lfs_change.proofs.ChangeLemmas.{denoted_present}

@@ -1,10 +1,9 @@
 -- What is made of an image in a new folder of the host (own).
 use Rattle.std.specs.Prelude.{◌≡◌, ◌⊎◌, ℕ, Bool, true, false, List, Option, Some, None}
-use Rattle.lfs_block.specs.Disk.{Disk, IsDisk}
+use Rattle.lfs_block.specs.Disk.{Disk, IsDisk, image_of}
 use Rattle.lfs_block.specs.ImageFault.{IsNoImage}
 use Rattle.lfs_fs.specs.Cause.{HasCause}
 use Rattle.lfs_fs.specs.Mounted.{MountedValue, IsMountOf}
-use Rattle.lfs_change.specs.Bytes.{image_of}
 use Rattle.lfs_command.specs.declared.refusal.Refusal.TheVariants as refusal
 use Rattle.lfs_request.specs.declared.fault.Fault.{Fault}
 use Rattle.lfs_request.specs.declared.fault.Fault.TheVariants.{Image, Mount, Refused, CannotRead, CannotWrite, HostEntry, HostName}

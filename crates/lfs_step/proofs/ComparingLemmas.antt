@@ -2,7 +2,7 @@
 use Rattle.std.proofs.Common.{◌≡◌, ◌⊎◌, ℕ, List, Option, None, Some, true, false, rules, refl, sym, subst}
 use Rattle.std.specs.Io.KnownBytes.{Keeps}
 use mathlib.Core.Logic.{inl, inr}
-use Rattle.lfs_block.specs.Disk.{Disk, IsDisk}
+use Rattle.lfs_block.specs.Disk.{Disk, IsDisk, image_of}
 use Rattle.lfs_block.specs.declared.mount_fault.MountFault.{MountFault}
 use Rattle.lfs_fs.specs.Cause.{HasCause}
 use Rattle.lfs_fs.specs.Mounted.{MountedValue, IsMountOf}
@@ -14,10 +14,9 @@ use Rattle.lfs_listing.specs.declared.unsent.Unsent.TheVariants.{Memory, CannotW
 use Rattle.lfs_request.specs.declared.fault.Fault.{Fault}
 use Rattle.lfs_request.specs.declared.fault.Fault.TheVariants as fault
 use Rattle.lfs_request.specs.declared.other_fault.OtherFault.TheVariants as other
-use Rattle.lfs_change.specs.Bytes.{image_of}
 use Rattle.lfs_request.specs.Fault.{blames_output, fault_of_mount}
 use Rattle.lfs_block.specs.declared.mount_fault.MountFault.TheVariants.{Memory as No_memory}
-use Rattle.lfs_change.proofs.BytesLemmas.{at_bytes}
+use Rattle.lfs_block.proofs.BytesLemmas.{at_bytes}
 use Rattle.lfs_step.specs.Comparing.{IsDifference, RefusesCompared, RefusesDifference, SendsCompared, SendsDifference}
 use Rattle.lfs_step.specs.Query.{fault_of_unsent}
 

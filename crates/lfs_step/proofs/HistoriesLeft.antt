@@ -1,6 +1,6 @@
 -- What a step leaves denotes the history to which it leads.
 use Rattle.std.proofs.Common.{◌≡◌, ℕ, List, [], Option, map, refl, sym, subst, arith}
-use Rattle.lfs_block.specs.Disk.{Disk, IsDisk}
+use Rattle.lfs_block.specs.Disk.{Disk, IsDisk, image_of}
 use Rattle.lfs_book.specs.Book.{book_of, journal_bytes}
 use Rattle.lfs_edit.specs.Formatted.{disk_with}
 use Rattle.lfs_history.specs.Batch.{TakesAll}
@@ -10,11 +10,10 @@ use Rattle.lfs_history.specs.OpeningLaws.{JournalsDenoteOneHistory, SavedHistori
 use Rattle.lfs_history.specs.Opening.{journal_of}
 use Rattle.lfs_request.specs.declared.fault.Fault.{Fault}
 use Rattle.lfs_request.specs.declared.outcome.Outcome.{Outcome}
-use Rattle.lfs_change.specs.Bytes.{image_of}
 use Rattle.lfs_change.specs.Change.{Denotes, DenotesOn}
 use Rattle.lfs_change.specs.Forgetting.{IsForgotten}
 use Rattle.lfs_change.specs.Laws.{ChangedBytesAreDenoted}
-use Rattle.lfs_change.proofs.BytesLemmas.{image_of_disk}
+use Rattle.lfs_block.proofs.BytesLemmas.{image_of_disk}
 use Rattle.lfs_change.proofs.ChangeLemmas.{opened_denotes}
 use Rattle.lfs_change.proofs.LawLemmas.{one_denoted, some_bytes}
 use Rattle.lfs_step.specs.declared.step.Step.{Step}

@@ -3,7 +3,7 @@ use Rattle.std.proofs.Common.{ℕ, List, [], ◌∷◌, Option, Some, None, ap, 
 use Rattle.lfs_history.specs.History.{History, fresh_history}
 use Rattle.lfs_request.specs.declared.fault.Fault.{Fault}
 use Rattle.lfs_request.specs.declared.outcome.Outcome.{Outcome}
-use Rattle.lfs_change.specs.Bytes.{image_of}
+use Rattle.lfs_block.specs.Disk.{image_of}
 use Rattle.lfs_change.specs.Change.{Denotes}
 use Rattle.lfs_change.proofs.ChangeLemmas.{denoted_present}
 use Rattle.lfs_step.specs.declared.step.Step.{Step}

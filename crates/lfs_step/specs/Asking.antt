@@ -1,10 +1,9 @@
 -- What is answered to any query of an image and its journal, and why nothing is (own).
 use Rattle.std.specs.Prelude.{ℕ, List, Option}
-use Rattle.lfs_block.specs.Disk.{Disk, IsDisk}
+use Rattle.lfs_block.specs.Disk.{Disk, IsDisk, image_of}
 use Rattle.lfs_block.specs.ImageFault.{IsNoImage}
 use Rattle.lfs_request.specs.declared.fault.Fault.{Fault}
 use Rattle.lfs_request.specs.declared.fault.Fault.TheVariants.{Image}
-use Rattle.lfs_change.specs.Bytes.{image_of}
 use Rattle.lfs_request.specs.declared.query.Query.TheVariants.{Diff, Log}
 use Rattle.lfs_step.specs.Comparing.{RefusesCompared, SendsCompared}
 use Rattle.lfs_step.specs.Query.{RefusesReport, SendsReport}

@@ -1,7 +1,7 @@
 -- What is said of two images that are compared, and why nothing is (own).
 use Rattle.std.specs.Prelude.{ℕ, ◌≡◌, ◌⊎◌, ◌≤◌, List, Option, Some, None, length, take}
 use Rattle.std.specs.Io.KnownBytes.{Appends, Keeps}
-use Rattle.lfs_block.specs.Disk.{Disk, IsDisk}
+use Rattle.lfs_block.specs.Disk.{Disk, IsDisk, image_of}
 use Rattle.lfs_block.specs.ImageFault.{IsNoImage}
 use Rattle.lfs_fs.specs.Cause.{HasCause}
 use Rattle.lfs_fs.specs.Mounted.{MountedValue, IsMountOf}
@@ -10,7 +10,6 @@ use Rattle.lfs_listing.specs.Difference.{difference}
 use Rattle.lfs_request.specs.declared.fault.Fault.{Fault}
 use Rattle.lfs_request.specs.declared.fault.Fault.TheVariants.{Mount, Refused, CannotWrite, Other}
 use Rattle.lfs_request.specs.declared.other_fault.OtherFault.TheVariants as other
-use Rattle.lfs_change.specs.Bytes.{image_of}
 use Rattle.lfs_sink.specs.Send.{SendsBeginning}
 use Rattle.lfs_step.specs.Query.{HasMount}
 

@@ -10,7 +10,7 @@ use Rattle.lfs_history.specs.Laws.{IsCarriedOut}
 use Rattle.lfs_history.specs.Meaning.{step_of}
 use Rattle.lfs_history.specs.Taking.{Move, Do}
 use Rattle.lfs_request.specs.declared.outcome.Outcome.{Outcome}
-use Rattle.lfs_change.specs.Bytes.{image_of}
+use Rattle.lfs_block.specs.Disk.{image_of}
 use Rattle.lfs_change.specs.Laws.{GrowsByTheNeed, GrowsOnTheKept}
 use Rattle.lfs_step.specs.declared.step.Step.{Step}
 use Rattle.lfs_step.specs.declared.step.Step.TheVariants.{Change}

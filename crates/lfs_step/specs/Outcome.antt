@@ -11,7 +11,7 @@ use Rattle.lfs_edit.specs.Formatted.{IsFormatted}
 use Rattle.lfs_request.specs.declared.fault.Fault.{Fault}
 use Rattle.lfs_request.specs.declared.fault.Fault.TheVariants.{Image, Refused}
 use Rattle.lfs_request.specs.declared.outcome.Outcome.{Outcome}
-use Rattle.lfs_change.specs.Bytes.{image_of}
+use Rattle.lfs_block.specs.Disk.{image_of}
 use Rattle.lfs_change.specs.Change.{Denotes, IsChanged, RefusesChange}
 use Rattle.lfs_change.specs.Forgetting.{IsForgotten, RefusesForgetting}
 use Rattle.lfs_history.specs.Meaning.{step_of}

@@ -1,8 +1,7 @@
 -- Images, and the bytes that they are.
 use Rattle.std.proofs.Common.{◌≡◌, ◌*◌, ◌/◌, ◌<◌, ℕ, List, add-zero, length, sym, ap, ap₂, subst, ◌∙◌, arith}
 use Rattle.std.proofs.lemmas.Nat.{div-mul-add}
-use Rattle.lfs_block.specs.Disk.{Disk, IsDisk}
-use Rattle.lfs_change.specs.Bytes.{image_of}
+use Rattle.lfs_block.specs.Disk.{Disk, IsDisk, image_of}
 
 -- an image is what its bytes are
 pub image_of_disk : (d : Disk) → IsDisk d → image_of d.size d.bytes ≡ d
