@@ -1,0 +1,16 @@
+-- A pair that isn't read holds no part, unless memory was wanting.
+use Rattle.lfs_block.specs.Disk.{Disk}
+use Rattle.lfs_commit.proofs.ChangeLemmas.{has-cause}
+use Rattle.lfs_lower.proofs.superblocks.part_at.Goals as goal
+
+pub returns-in_default : goal.returns-in_default
+returns-in_default g c =
+    let d : Disk = g.B.Blocks.disk c.args.blocks.now in
+    record {
+      none =
+          c.unread_pairs_hold_no_part.ensures c.in-Err.fault d c.args.pair
+          (has-cause c.in-Err.fault d c.args.pair c.in-Err.ensures.refused c.in_default.not-Memory);
+      pair = tt;
+      found = tt;
+      whole = tt;
+    }

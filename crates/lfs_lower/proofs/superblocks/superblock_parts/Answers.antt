@@ -1,0 +1,71 @@
+-- Each pair is marked and read, and its part is gathered.
+use Rattle.std.proofs.Common.{◌≡◌, [], ◌∷◌, Option, None, false, replicate, ap, sym, ◌∙◌, subst}
+use Rattle.std.specs.Prelude.{IfNone, IfSome, Some}
+use Rattle.std.specs.List.{AllByRecursion}
+use Rattle.lfs_meta.specs.Body.{Pair}
+use Rattle.lfs_meta.specs.Whole.{IsWhole}
+use Rattle.lfs_fs.specs.Gathering.{PairPart}
+use Rattle.lfs_fs.specs.Reading.{reading_of}
+use Rattle.lfs_fs.specs.Used.{AddsBlocks, AreTaken}
+use Rattle.lfs_fs.proofs.ThreadReadLemmas.{pair_within}
+use Rattle.lfs_lower.specs.Joining.{IsGathered}
+use Rattle.lfs_lower.proofs.GatheredParts.{gathered_all, gathered_more, gathered_none, gathered_taken, gathered_unread, marked_by, refused_by}
+use Rattle.lfs_lower.proofs.superblocks.superblock_parts.Goals as goal
+
+pub walk-init : goal.walk-init
+walk-init g c =
+    gathered_none (reading_of (g.B.Blocks.disk c.args.blocks.now)) c.as_mut_slice-table.result.now c.new-parts.result.items
+    (c.as_mut_slice-table.ensures.value ∙ c.in_ok-used.ensures.items_if_clones_equal (λ y same. same)
+    ∙ ap (λ n. replicate n false) c.count.ensures) c.new-parts.ensures.items
+
+pub returns-then-is_err-clause-parts : goal.returns-then-is_err-clause-parts
+returns-then-is_err-clause-parts g c =
+    let r = reading_of (g.B.Blocks.disk c.args.blocks.now) in
+    let refused = refused_by c.mark_all.result (λ fault. AreTaken fault c.walk.table (c.in-Some.pair.0 ∷ c.in-Some.pair.1 ∷ []))
+    (sym c.is_err.ensures.value ∙ c.if-is_err.true) c.mark_all.ensures.refused in
+    gathered_taken r c.walk.table c.walk.parts.items c.in-Some.pair refused.0
+    (subst (λ (o : Option Pair). IsGathered r c.walk.table c.walk.parts.items o) c.in-Some.is c.walk.invariant) refused.1
+
+pub part_at-requires-clause-first : goal.part_at-requires-clause-first
+part_at-requires-clause-first g c =
+    let r = reading_of (g.B.Blocks.disk c.args.blocks.now) in
+    let marked = marked_by c.mark_all.result (AddsBlocks c.walk.table c.mark_all.new.used (c.in-Some.pair.0 ∷ c.in-Some.pair.1 ∷ []))
+    (sym c.is_err.ensures.value ∙ c.if-is_err.false) c.mark_all.ensures.marked in
+    (pair_within r c.in-Some.pair c.walk.table c.mark_all.new.used c.walk.invariant.len marked).0
+
+pub part_at-requires-clause-second : goal.part_at-requires-clause-second
+part_at-requires-clause-second g c =
+    let r = reading_of (g.B.Blocks.disk c.args.blocks.now) in
+    let marked = marked_by c.mark_all.result (AddsBlocks c.walk.table c.mark_all.new.used (c.in-Some.pair.0 ∷ c.in-Some.pair.1 ∷ []))
+    (sym c.is_err.ensures.value ∙ c.if-is_err.false) c.mark_all.ensures.marked in
+    (pair_within r c.in-Some.pair c.walk.table c.mark_all.new.used c.walk.invariant.len marked).1
+
+pub returns-in_default-2-clause-parts : goal.returns-in_default-2-clause-parts
+returns-in_default-2-clause-parts g c =
+    let r = reading_of (g.B.Blocks.disk c.args.blocks.now) in
+    gathered_unread r c.walk.table c.walk.parts.items c.in-Some.pair
+    (subst (λ (o : Option Pair). IsGathered r c.walk.table c.walk.parts.items o) c.in-Some.is c.walk.invariant)
+    (subst (λ (o : Option PairPart). IfNone o (r.part c.in-Some.pair ≡ None)) c.in_default-2.is c.in_ok-part.ensures.none)
+
+pub walk-preserved : goal.walk-preserved
+walk-preserved g c =
+    let r = reading_of (g.B.Blocks.disk c.args.blocks.now) in
+    let pair = c.in-Some.pair in
+    let part : PairPart = c.in-Some-2.part in
+    let at : part.0 ≡ pair = subst (λ (o : Option PairPart). IfSome o (λ p. p.0 ≡ pair)) c.in-Some-2.is c.in_ok-part.ensures.pair in
+    let found : r.part pair ≡ Some part.1 =
+    subst (λ (o : Option PairPart). IfSome o (λ p. r.part pair ≡ Some p.1)) c.in-Some-2.is c.in_ok-part.ensures.found in
+    let whole : AllByRecursion IsWhole part.1.entries =
+    subst (λ (o : Option PairPart). IfSome o (λ p. AllByRecursion IsWhole p.1.entries)) c.in-Some-2.is c.in_ok-part.ensures.whole in
+    let marked = marked_by c.mark_all.result (AddsBlocks c.walk.table c.mark_all.new.used (pair.0 ∷ pair.1 ∷ []))
+    (sym c.is_err.ensures.value ∙ c.if-is_err.false) c.mark_all.ensures.marked in
+    let more = gathered_more r c.walk.table c.walk.parts.items pair c.mark_all.new.used part.1
+    (subst (λ (o : Option Pair). IsGathered r c.walk.table c.walk.parts.items o) c.in-Some.is c.walk.invariant) marked found whole in
+    let one : (pair, part.1) ≡ part = ap (λ (p : Pair). (p, part.1)) (sym at) in
+    rw (c.lead-next.ensures, c.in_ok-push.ensures.items, ← one) more
+
+pub returns-clause-parts : goal.returns-clause-parts
+returns-clause-parts g c =
+    let r = reading_of (g.B.Blocks.disk c.args.blocks.now) in
+    gathered_all r c.walk.table c.walk.parts.items
+    (subst (λ (o : Option Pair). IsGathered r c.walk.table c.walk.parts.items o) c.in_default.is c.walk.invariant)

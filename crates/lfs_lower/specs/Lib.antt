@@ -1,0 +1,11 @@
+pub mod Spelled
+pub mod Lowered
+pub mod Along
+pub mod LaterReading
+pub mod Laws
+pub mod Kept
+pub mod OneSuperblock
+pub mod Anew
+pub mod Joined
+pub mod Joining
+pub mod ByDevice

@@ -1,0 +1,20 @@
+//! Images of later disk versions, and images whose superblock was expanded, lowered to version 2.0.
+#![tactic(auto)]
+
+mod block;
+mod by_device;
+mod commit;
+mod header;
+mod joining;
+mod kept;
+mod laws;
+mod lowering;
+mod superblocks;
+
+pub use by_device::read_by_device;
+pub use joining::join;
+pub use laws::{
+    lowered_blocks_are_read, lowered_images_hold_what_is_read, one_superblock_stays,
+    relaid_images_hold_what_is_read,
+};
+pub use lowering::lower;
