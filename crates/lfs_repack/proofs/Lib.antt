@@ -1,0 +1,4 @@
+pub mod TreePacked
+pub mod RowsPackable
+pub mod CopyingLemmas
+pub mod TextLemmas

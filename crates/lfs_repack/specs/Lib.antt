@@ -1,0 +1,3 @@
+pub mod Repacked
+pub mod RowText
+pub mod Laws

@@ -1,0 +1,24 @@
+//! Laws of rows that are packed again: each function does nothing but call laws, and its contract is the law.
+
+ghost use Rattle.lfs_repack.specs.Laws.{RowsAreOfTheirTexts, RowsArePackable, RowsPackToTheirTree};
+
+use lfs_fs::{outlines_are_sound, paths_are_ordered, rows_show_the_tree};
+
+/// A law: what the rows of a mounted image show can be packed, and the map of it is the image's tree. Takes no memory.
+///
+/// Source: own.
+pub fn rows_pack_to_their_tree()
+    ensures tree { RowsPackToTheirTree }
+    ensures packable { RowsArePackable }
+{
+    rows_show_the_tree();
+    paths_are_ordered();
+    outlines_are_sound();
+}
+
+/// A law: rows that have the texts of what can be packed, with its bytes and attributes, are rows of it. Takes no memory.
+///
+/// Source: own.
+pub fn rows_are_of_their_texts()
+    ensures { RowsAreOfTheirTexts }
+{}
