@@ -4,15 +4,13 @@ behind what version 2.0 reads, or in the block that a device takes for the live 
 goes on with the state before them, and says so. Where they are unfinished, stale or of version 2.0 nothing is said."""
 import struct
 import sys
-import zlib
 
 from support.folder import run_scenes
+from support.later import FIRST, LATER, LaterDraft
 from support.littlefs import Reader
-from support.logs import NO_ENTRY, Draft, attribute, file, image, superblock
+from support.logs import Draft, attribute, file, image, superblock
 
 SIZE, COUNT = 512, 8
-LATER, FIRST = 0x0002_0001, 0x0002_0000
-FORWARD = 0x5FF
 TOLD = "lfsed: a.img: a later commit of disk version 2.1 stands in it, which is not read\n"
 TOLD_OTHER = TOLD.replace("a.img", "b.img")
 CHANGED_BY_DEVICE = "lfsed: a.img: a device has changed it with disk version 2.1, which is not read; --older goes on with the state before that\n"
@@ -26,12 +24,6 @@ def version(number, name=()):
     return [*name, (0x201, 0, struct.pack("<6I", number, SIZE, COUNT, 255, 2_147_483_647, 1_022))]
 
 
-def later(draft, items, step=16):
-    """Adds a commit as version 2.1 has it: a checksum of the erased bytes behind it stands before the closing tag."""
-    erased = struct.pack("<2I", step, zlib.crc32(step * b"\xff") ^ 0xFFFF_FFFF)
-    return draft.add(items).tag(FORWARD, NO_ENTRY, len(erased), erased).close_at(step)
-
-
 def first(*more):
     """A block that version 2.0 wrote: a superblock and a file, and further commits."""
     draft = Draft(1).add(superblock(SIZE, COUNT) + file(1, b"old", b"old")).close_at(16)
@@ -42,15 +34,15 @@ def first(*more):
 
 def written(block, *commits):
     """A block of version 2.0 behind which a device of version 2.1 wrote these commits."""
-    draft = Draft.behind(block.ljust(SIZE, b"\xff"))
+    draft = LaterDraft.behind(block.ljust(SIZE, b"\xff"))
     for items in commits:
-        later(draft, items)
+        draft.commit(items)
     return draft.bytes
 
 
 def anew(revision, number=LATER):
     """A block that a device of version 2.1 wrote anew."""
-    return later(Draft(revision), superblock(SIZE, COUNT)[:1] + version(number) + file(1, b"new", b"new")).bytes
+    return LaterDraft(revision, SIZE).commit(superblock(SIZE, COUNT)[:1] + version(number) + file(1, b"new", b"new")).bytes
 
 
 # What a device of version 2.1 leaves of an image of version 2.0: its first write states its version.
@@ -64,7 +56,7 @@ LATEST = {"appended": APPENDED, "behind several": BEHIND_SEVERAL, "rewritten": R
 CREATED = [(0x401, 0, b""), *superblock(SIZE, COUNT)[:1]]
 FORMATTED = {
     "formatted": (image(SIZE, COUNT, {0: anew(1)}), "first"),
-    "created": (image(SIZE, COUNT, {0: later(Draft(1), version(LATER, CREATED)).bytes}), "first"),
+    "created": (image(SIZE, COUNT, {0: LaterDraft(1, SIZE).commit(version(LATER, CREATED)).bytes}), "first"),
     "in block 1": (image(SIZE, COUNT, {0: anew(1), 1: anew(2)}), "second"),
 }
 

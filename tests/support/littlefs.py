@@ -26,11 +26,15 @@ class Log:
             at += 4
             if word >> 31 or value is not None and len(value) < length:
                 return False
-            if kind >> 8 == 5:
+            if self.closes(kind):
                 return self.ends_one(tags, kind, at, word, value)
             at += len(value or b"")
             tags.append((kind, number, value))
         return False
+
+    def closes(self, kind):
+        """Whether tags of a kind end a commit."""
+        return kind >> 8 == 5
 
     def ends_one(self, tags, kind, at, word, value):
         """Takes a commit, whose closing word ends at a place, where its checksum is right."""
@@ -94,6 +98,8 @@ class Part:
 class Reader:
     """An image of blocks of one size: its parts in the order of the thread."""
 
+    read = Log
+
     def __init__(self, image, size):
         self.image, self.size = image, size
         self.parts = [self.part(ROOT)]
@@ -106,13 +112,13 @@ class Reader:
 
     def live(self, pair):
         """The numbers of a pair's live block, the one of later revision of those that have a commit, and of the other one."""
-        first, second = (Log(self.block(number)) for number in pair)
+        first, second = (self.read(self.block(number)) for number in pair)
         is_later = 0 < (second.revision() - first.revision()) % 2**32 < 2**31
         return pair[::-1] if second.commits and (is_later or not first.commits) else pair
 
     def part(self, pair):
         """What a pair holds."""
-        return Part(pair, Log(self.block(self.live(pair)[0])))
+        return Part(pair, self.read(self.block(self.live(pair)[0])))
 
     def thread(self):
         """The pairs of the thread."""

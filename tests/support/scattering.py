@@ -2,7 +2,7 @@
 some of it for a while only, and other blocks of pairs are erased, older or torn."""
 import struct
 
-from support.littlefs import blocks_for, pointers
+from support.littlefs import ROOT, blocks_for, pointers
 from support.logs import (
     SOFT, Draft, attribute, chained, created, deleted, directory, file, image, log, moved, superblock, tail,
 )
@@ -26,13 +26,13 @@ def laid(size, numbers, held):
 
 
 class Scattered:
-    """An image of blocks of a size that is put together."""
+    """An image of blocks of a size that is put together. What stands in front of the root's entries stands at the pair `root`."""
 
     def __init__(self, chance, size, count):
-        self.chance, self.size, self.count, self.blocks = chance, size, count, {}
+        self.chance, self.size, self.count, self.blocks, self.root = chance, size, count, {}, ROOT
         self.left = [*range(2, count)]
         chance.shuffle(self.left)
-        pairs = [(0, 1)] + [(self.left.pop(), self.left.pop()) for _ in range(chance.randrange(4))]
+        pairs = [ROOT] + [(self.left.pop(), self.left.pop()) for _ in range(chance.randrange(4))]
         self.entries = {pair: {} for pair in pairs}
         for at, pair in enumerate(pairs[1:]):
             self.entries[chance.choice(pairs[:at + 1])][self.name()] = directory, pair
@@ -62,10 +62,14 @@ class Scattered:
                     self.blocks.update(laid(self.size, numbers, held))
                     entries[self.name()] = chained, numbers[-1], len(held)
 
+    def superblock(self):
+        """The items of the superblock."""
+        return superblock(self.size, self.count)
+
     def commits(self, pair, behind, likely):
         """The items of a part's commits, one after another; it is so likely that something comes for a while only."""
-        first = pair == (0, 1)
-        commits, there = [superblock(self.size, self.count) if first else []], []
+        first = pair == self.root
+        commits, there = [self.superblock() if first else []], []
         for name, (spell, *held) in self.chance.sample([*self.entries[pair].items()], len(self.entries[pair])):
             there = sorted([*there, name], key=key)
             number = there.index(name) + first

@@ -23,6 +23,20 @@ def in_order(path):
     return [key(name) for name in path.split(b"/")[1:] if name]
 
 
+def listed(tree):
+    """What `ls` prints of a tree."""
+    rows = [(path, *tree[path]) for path in sorted(tree, key=in_order)]
+    return "".join(lines_of(path, None if held is None else len(held), attributes) for path, held, attributes in rows).encode()
+
+
+def said(reader):
+    """What `check` prints of an image that was read."""
+    paths, count = reader.rows(), len(reader.image) // reader.size
+    directories = sum(pair is not None for _, pair in paths)
+    counts = f"free {reader.free()}, directories {directories}, files {len(paths) - directories}"
+    return f"block {reader.size}, count {count}, {counts}\n".encode()
+
+
 def marked(mark, path, row):
     """The lines of a path's bytes and attributes with a mark in front of each."""
     held, attributes = row
