@@ -19,7 +19,7 @@ use Rattle.lfs_fs.proofs.OutlinedLemmas.{outlined_at}
 use Rattle.lfs_command.specs.PathMap.{same_path}
 use Rattle.lfs_law.proofs.PathMapLemmas.{same_path_decides}
 use Rattle.lfs_pack.specs.Packed.{packed_at, packed_node}
-use Rattle.lfs_repack.specs.Laws.{RowsPackToTheirTree}
+use Rattle.lfs_repack.specs.Laws.{PackedImagesHoldTheTree, RowsPackToTheirTree}
 use Rattle.lfs_repack.specs.Repacked.{all_packed, node_bytes, packed_of}
 
 -- what an entry shows is what it is packed as
@@ -107,3 +107,6 @@ module _ (shows : RowsShowTheTree) (d : Disk) (m : MountedValue) (is : IsMountOf
 
 pub rows_pack_to_their_tree : RowsShowTheTree → RowsPackToTheirTree
 rows_pack_to_their_tree shows d m is p disk = by_found shows d m is disk p (packed_at (all_packed d m.rows) p) refl
+
+pub packed_images_hold_the_tree : RowsShowTheTree → PackedImagesHoldTheTree
+packed_images_hold_the_tree shows d m is size count limits bytes packed p disk = packed.at p ∙ rows_pack_to_their_tree shows d m is p disk

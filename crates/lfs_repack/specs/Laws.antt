@@ -1,10 +1,12 @@
 -- Laws of rows that are packed again (own).
-use Rattle.std.specs.Prelude.{◌≡◌, List, map}
+use Rattle.std.specs.Prelude.{ℕ, ◌≡◌, List, map}
 use Rattle.lfs_block.specs.Disk.{Disk, IsDisk}
 use Rattle.lfs_fs.specs.Mounted.{MountedValue, IsMountOf}
 use Rattle.lfs_fs.specs.Path.{Path}
 use Rattle.lfs_fs.specs.Tree.{tree}
 use Rattle.lfs_pack.specs.declared.pack_row.PackRow.{PackRow}
+use Rattle.lfs_fs.specs.declared.limits.Limits.{Limits}
+use Rattle.lfs_pack.specs.Packing.{IsPacked}
 use Rattle.lfs_pack.specs.Packed.{ArePackable, AreRowsOf, Packed, packed_at}
 use Rattle.lfs_repack.specs.Repacked.{all_packed}
 use Rattle.lfs_repack.specs.RowText.{pack_text, packed_text}
@@ -13,6 +15,11 @@ use Rattle.lfs_repack.specs.RowText.{pack_text, packed_text}
 abbrev pub RowsPackToTheirTree : Type 0
 RowsPackToTheirTree = (d : Disk) (m : MountedValue) (is : IsMountOf d m) (p : Path) → IsDisk d
     → packed_at (all_packed d m.rows) p ≡ tree is.volume p
+
+-- the law: an image that is packed of them holds a volume of that tree
+abbrev pub PackedImagesHoldTheTree : Type 0
+PackedImagesHoldTheTree = (d : Disk) (m : MountedValue) (is : IsMountOf d m) (size count : ℕ) (limits : Limits) (bytes : List ℕ)
+    (packed : IsPacked size count limits (all_packed d m.rows) bytes) (p : Path) → IsDisk d → tree packed.volume p ≡ tree is.volume p
 
 -- the law: they can be packed
 abbrev pub RowsArePackable : Type 0

@@ -1,3 +1,4 @@
 pub mod Repacked
 pub mod RowText
+pub mod Copies
 pub mod Laws

@@ -1,20 +1,23 @@
-//! The rows of an image's tree, copied.
+//! The rows of a mounted image, copied.
 
 ghost use Rattle.std.specs.Prelude.{◌≡◌, ◌<◌, ◌≤◌, [], All, IfOk, OnOk, length, map};
 ghost use Rattle.std.specs.Option.{option_map};
 ghost use Rattle.lfs_file.specs.Content.{content};
 ghost use Rattle.lfs_fs.specs.Listed.{path_after, rows_listed};
+ghost use Rattle.lfs_fs.specs.Mounted.{IsMountOf};
 ghost use Rattle.lfs_fs.specs.Path.{path_text};
 ghost use Rattle.lfs_fs.specs.RowHeld.{row_body_held};
 ghost use Rattle.lfs_fs.specs.RowShown.{HasBlocks, shown_body};
 ghost use Rattle.lfs_pack.specs.Packed.{attribute_of};
+ghost use Rattle.lfs_repack.specs.Copies.{AreCopies};
 ghost use Rattle.lfs_repack.specs.Repacked.{node_bytes};
 ghost use Rattle.lfs_repack.specs.RowText.{shown_text, source_text};
 
+use crate::laws::{rows_are_of_their_texts, rows_pack_to_their_tree};
 use crate::source_row::SourceRow;
 use lfs_block::Blocks;
 use lfs_contents::send_blocks;
-use lfs_fs::{Row, RowBody, Rows, follow};
+use lfs_fs::{Mounted, Row, RowBody, Rows, follow, rows_show_the_tree};
 use lfs_meta::Attribute;
 use lfs_sink::MemorySink;
 use std::alloc::{AllocError, Global};
@@ -107,11 +110,8 @@ fn source_row<B: Blocks>(
     })
 }
 
-/// Copies of rows of an image's tree, in their order: of a file its contents, and of each row its attributes. The caller owes that the
-/// rows' blocks are on the disk, and no more than it has. Takes memory for all that the rows hold.
-///
-/// Source: own.
-pub fn source_rows<B: Blocks>(
+/// Copies of rows, in their order. The caller owes that their blocks are on the disk, and no more than it has.
+fn copied_rows<B: Blocks>(
     alloc: Global,
     disk: &B,
     rows: Rows<'_>,
@@ -126,4 +126,23 @@ pub fn source_rows<B: Blocks>(
         copied.push(source_row(alloc, disk, &path, &row)?)?;
     }
     Ok(copied)
+}
+
+/// Copies of the rows of a mounted image, in their order: of a file its contents, and of each row its attributes. The caller owes that
+/// `mounted` is the mount of the disk. Takes memory for all that the image holds.
+///
+/// Source: own.
+pub fn source_rows<B: Blocks>(
+    alloc: Global,
+    disk: &B,
+    mounted: &Mounted,
+) -> Result<Vec<SourceRow>, AllocError>
+    requires { IsMountOf (B.disk disk.now) mounted.now }
+    ensures { IfOk result (λ copied. AreCopies (B.disk disk.now) mounted.now.rows copied.items) }
+{
+    rows_show_the_tree();
+    rows_pack_to_their_tree();
+    rows_are_of_their_texts();
+    let _within_limits = disk.size();
+    copied_rows(alloc, disk, mounted.rows())
 }

@@ -1,14 +1,16 @@
 //! Laws of rows that are packed again: each function does nothing but call laws, and its contract is the law.
 
-ghost use Rattle.lfs_repack.specs.Laws.{RowsAreOfTheirTexts, RowsArePackable, RowsPackToTheirTree};
+ghost use Rattle.lfs_repack.specs.Laws.{PackedImagesHoldTheTree, RowsAreOfTheirTexts, RowsArePackable, RowsPackToTheirTree};
 
 use lfs_fs::{outlines_are_sound, paths_are_ordered, rows_show_the_tree};
 
-/// A law: what the rows of a mounted image show can be packed, and the map of it is the image's tree. Takes no memory.
+/// A law: what the rows of a mounted image show can be packed, the map of it is the image's tree, and an image that is packed of it holds a
+/// volume of that tree. Takes no memory.
 ///
 /// Source: own.
 pub fn rows_pack_to_their_tree()
     ensures tree { RowsPackToTheirTree }
+    ensures held { PackedImagesHoldTheTree }
     ensures packable { RowsArePackable }
 {
     rows_show_the_tree();

@@ -20,7 +20,7 @@ impl SourceRow {
     ghost use Rattle.lfs_repack.specs.RowText.{pack_text, source_text};
 
     /// The row as it is packed. Takes no memory.
-    pub fn pack_row(&self) -> PackRow<'_>
+    pub(crate) fn pack_row(&self) -> PackRow<'_>
         ensures { pack_text result ≡ source_text self.now }
     {
         PackRow {

@@ -2,7 +2,7 @@ use Rattle.std.proofs.Common.{map}
 use Rattle.lfs_fs.specs.Listed.{rows_after, rows_listed}
 use Rattle.lfs_repack.specs.RowText.{source_text}
 use Rattle.lfs_repack.proofs.CopyingLemmas.{AreLeft}
-use Rattle.lfs_repack.proofs.copying.source_rows.Given as goal
+use Rattle.lfs_repack.proofs.copying.copied_rows.Given as goal
 
 -- the rows so far are copied, and the others are left
 abbrev pub invariant-loop-row : goal.invariant-loop-row
