@@ -2,4 +2,5 @@ pub mod Fault
 pub mod KeptJournal
 pub mod Place
 pub mod Query
+pub mod SaidLimits
 pub mod Task

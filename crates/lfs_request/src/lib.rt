@@ -4,19 +4,25 @@
 mod extent;
 mod fault;
 mod kept_journal;
+mod manner;
 mod other_fault;
 mod outcome;
 mod place;
 mod query;
 mod request;
+mod said_limits;
+mod source_image;
 mod task;
 
 pub use extent::Extent;
 pub use fault::Fault;
 pub use kept_journal::KeptJournal;
+pub use manner::Manner;
 pub use other_fault::OtherFault;
 pub use outcome::Outcome;
 pub use place::Place;
 pub use query::Query;
 pub use request::Request;
+pub use said_limits::SaidLimits;
+pub use source_image::SourceImage;
 pub use task::Task;

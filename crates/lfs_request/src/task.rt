@@ -2,6 +2,8 @@
 
 use crate::extent::Extent;
 use crate::query::Query;
+use crate::said_limits::SaidLimits;
+use crate::source_image::SourceImage;
 use lfs_fs::Limits;
 use lfs_history::{Move, Source};
 
@@ -26,13 +28,29 @@ pub enum Task<'a> {
         /// The folder's name.
         dir: &'a str,
     },
+    /// A new image with all that another one holds.
+    Repack {
+        /// The other image.
+        source: SourceImage<'a>,
+        /// How many blocks the new one gets; as many as the bytes of the other fill for `None`.
+        extent: Option<Extent>,
+        /// The greatest lengths of a name, a file and an attribute, as far as they are said; else those of the other image.
+        limits: SaidLimits,
+    },
     /// A new folder of the host, with what is in the image.
     Extract {
         /// The folder's name.
         dir: &'a str,
+        /// Whether the image is read as a device does.
+        by_device: bool,
     },
-    /// What is asked of the image; another image is there by the name of its file.
-    Ask(Query<'a, &'a str>),
+    /// What is asked of the image.
+    Ask {
+        /// The question; another image is there by the name of its file.
+        query: Query<'a, &'a str>,
+        /// Whether images are read as a device does.
+        by_device: bool,
+    },
     /// The image alone, and no change that led to it or was taken back.
     Forget,
     /// A step on the image's history.
