@@ -92,7 +92,7 @@ IsUnwritten scene CannotWrite = HasRefused scene
 IsUnwritten scene (Refused refusal) = refusal ≡ Memory
 IsUnwritten scene _ = ⊥
 
--- the same of the image that another is compared with
+-- the same of the image that another is compared with, or made of
 abbrev pub IsOtherUnread : Scene → Fault → Type 0
 IsOtherUnread scene fault = IsUnread scene fault ⊎ ((fault ≡ Other other.CannotRead) × HasRefused scene)
 

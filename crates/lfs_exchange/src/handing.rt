@@ -255,8 +255,11 @@ pub fn read_input<H: Host>(alloc: Global, host: &mut H) -> Result<Vec<u8>, Fault
     }
 }
 
-/// The bytes of the file of an image that another is compared with, and one more than an image has where there are more.
-fn read_other<H: Host>(alloc: Global, host: &mut H, name: &str) -> Result<Vec<u8>, Fault>
+/// The bytes of the file of an image that another is compared with, or made of, and one more than an image has where there are more.
+/// Takes memory.
+///
+/// Source: own.
+pub fn read_other<H: Host>(alloc: Global, host: &mut H, name: &str) -> Result<Vec<u8>, Fault>
     ensures bytes { IfOk result (λ bytes. ReadsFile (H.known host.old).files name.now most_image bytes.items) }
     ensures refused { IfErr result (IsOtherUnread (H.known host.new)) }
     ensures kept { KeepsAll (H.known host.old) (H.known host.new) }

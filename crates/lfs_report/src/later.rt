@@ -3,10 +3,11 @@
 ghost use Rattle.std.specs.Prelude.{◌≡◌};
 
 use crate::line::say_version;
+use crate::task_paths::other_of;
 use lfs_host::Host;
-use lfs_request::{Query, Request, Task};
+use lfs_request::Request;
 
-/// The disk versions of commits that aren't read, where such stand in an image, and in the one that it is compared with.
+/// The disk versions of commits that aren't read, where such stand in an image, and in the other one that is read.
 ///
 /// Source: own.
 #[derive(Clone, Copy)]
@@ -26,13 +27,13 @@ pub fn tell_later<H: Host>(host: &mut H, request: &Request<'_>, later: Later)
     if let Some(version) = later.image {
         tell_version(host, request.image, version);
     }
-    if let (Some(version), Task::Ask(Query::Diff { other, .. })) = (later.other, &request.task) {
-        tell_version(host, *other, version);
+    if let (Some(version), Some(other)) = (later.other, other_of(&request.task)) {
+        tell_version(host, other, version);
     }
 }
 
 /// Tells of those in the image of this name.
-pub(crate) fn tell_version<H: Host>(host: &mut H, image: &str, version: u32)
+fn tell_version<H: Host>(host: &mut H, image: &str, version: u32)
     ensures kept { H.known host.new ≡ H.known host.old }
 {
     say_version(
@@ -41,18 +42,5 @@ pub(crate) fn tell_version<H: Host>(host: &mut H, image: &str, version: u32)
         "a later commit of disk version ",
         version,
         " stands in it, which is not read",
-    );
-}
-
-/// Tells that a device has changed the image of this name, for which it is refused. Takes no memory.
-pub(crate) fn tell_changed<H: Host>(host: &mut H, image: &str, version: u32)
-    ensures kept { H.known host.new ≡ H.known host.old }
-{
-    say_version(
-        host,
-        image,
-        "a device has changed it with disk version ",
-        version,
-        ", which is not read; --older goes on with the state before that",
     );
 }

@@ -3,6 +3,8 @@
 
 mod beside;
 mod finding;
+mod geometry;
+mod hint;
 mod last_name;
 mod later;
 mod line;
@@ -13,6 +15,7 @@ mod refused_line;
 mod refused_row;
 mod seen;
 mod shown;
+mod source;
 mod stated;
 mod stop;
 mod stopping;
@@ -21,6 +24,7 @@ mod task_paths;
 mod telling;
 mod told_digits;
 mod told_line;
+mod versions;
 mod within;
 
 pub use beside::Beside;
@@ -29,6 +33,7 @@ pub use need::with_need;
 pub use refused_line::{stop_at, stop_of_line, with_line, with_number};
 pub use refused_row::with_row;
 pub use seen::Seen;
+pub use source::{stop_of_source, stop_of_source_bytes};
 pub use stated::{Sight, Statement};
 pub use stop::Stop;
 pub use stopping::{stop_of_extracting, stop_of_image, stop_of_run};

@@ -17,6 +17,8 @@ pub enum Piece<'a> {
     Bytes(&'a [u8]),
     /// A number.
     Number(usize),
+    /// A disk version, with its major number in the upper half.
+    Version(u32),
     /// What is said of a path.
     Finding(Finding),
     /// What is wrong with a word.
@@ -29,6 +31,7 @@ impl fmt::Display for Piece<'_> {
             Piece::Text(text) => f.write_str(text),
             Piece::Bytes(bytes) => Shown { bytes }.fmt(f),
             Piece::Number(number) => number.fmt(f),
+            Piece::Version(version) => write!(f, "{}.{}", version >> 16, version & 0xffff),
             Piece::Finding(finding) => finding.fmt(f),
             Piece::Reason(reason) => reason.fmt(f),
         }
@@ -83,9 +86,7 @@ pub(crate) fn say_version<'a, H: Host>(
         name,
         &[
             Piece::Text(front),
-            Piece::Number((version >> 16) as usize),
-            Piece::Text("."),
-            Piece::Number((version & 0xffff) as usize),
+            Piece::Version(version),
             Piece::Text(behind),
         ],
     );

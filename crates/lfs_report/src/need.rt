@@ -1,4 +1,4 @@
-//! How many blocks a folder needs that has no room, as it is told.
+//! How many blocks rows need that have no room, as it is told.
 
 ghost use Rattle.std.specs.Prelude.{◌≡◌};
 ghost use Rattle.lfs_fs.specs.Superblock.{IsLimits};
@@ -15,7 +15,7 @@ use std::alloc::Global;
 /// The least number of blocks of an image.
 const MIN_BLOCK_COUNT: u32 = 2;
 
-/// Why packing a folder into blocks of `size` bytes ended early; where it has no room, with how many blocks it needs. The caller owes
+/// Why packing rows into blocks of `size` bytes ended early; where they have no room, with how many blocks they need. The caller owes
 /// limits that images may state. Takes memory, and tells of no number where it is refused.
 ///
 /// Source: own.

@@ -1,4 +1,4 @@
-//! The row of a folder for which the folder isn't packed.
+//! The row of a folder, or of another image, for which that isn't packed.
 
 ghost use Rattle.std.specs.Prelude.{◌≡◌};
 
@@ -12,8 +12,8 @@ use lfs_pack::PackRow;
 use lfs_request::Fault;
 use std::alloc::Global;
 
-/// Why packing a folder ended early; where that is for one of its rows, with what is said of it, and with the text of its path in
-/// `beside`. Takes memory, and tells of no row where it is refused.
+/// Why packing rows ended early; where that is for one of them, with what is said of it, and with the text of its path in `beside`.
+/// Takes memory, and tells of no row where it is refused.
 ///
 /// Source: own.
 pub fn with_row(
@@ -40,6 +40,7 @@ fn finding_of(fault: Fault, limits: Limits) -> Option<Finding> {
     match fault {
         Fault::Refused(Refusal::NameTooLong) => Some(Finding::LongName(limits.name)),
         Fault::Refused(Refusal::FileTooLarge) => Some(Finding::LongFile(limits.file)),
+        Fault::Refused(Refusal::AttrTooLarge) => Some(Finding::LongValue(limits.attribute)),
         Fault::Refused(Refusal::EntryTooLarge) => Some(Finding::LargeEntry),
         _ => None,
     }

@@ -84,15 +84,17 @@ pub enum Statement {
     Unread(StatedVersion),
     /// The disk version of a later commit, for which the image is refused.
     Later(u32),
+    /// A device may have expanded its superblock.
+    Expanded,
     /// How many bytes there are, which are no whole blocks of this size.
     Length(usize, u32),
     /// What is known of the path for which a step is refused.
     Path(PathNote),
-    /// What is known of the row for which a folder isn't packed; the text of its path is kept beside.
+    /// What is known of the row for which a folder, or another image, isn't packed; the text of its path is kept beside.
     Row(Finding),
     /// The number of the line of a script that is refused, and what is wrong in it where it says no step; its text is kept beside.
     Line(usize, Option<Flaw>),
-    /// How many blocks the folder needs that is packed; no image of this block size holds it for `None`.
+    /// How many blocks are needed for what is packed; no image of this block size holds it for `None`.
     Need(Option<u32>),
     /// How many changes are done, or undone, fewer than are asked for.
     Changes(usize),
@@ -102,7 +104,7 @@ pub enum Statement {
     NewImage,
 }
 
-/// What is told of an image behind a fault; `other` is what is seen of one that the first is compared with. Takes no memory.
+/// What is told of an image behind a fault; `other` is what is seen of the other one that is read. Takes no memory.
 pub(crate) fn statement_for(fault: Fault, image: Sight, other: Sight) -> Option<Statement> {
     match fault {
         Fault::Image(fault) => statement_of_bytes(fault, image),
@@ -128,15 +130,31 @@ fn statement_of_image(fault: MountFault, seen: Sight) -> Option<Statement> {
     if let (MountFault::NoValidCommit, Some(version)) = (fault, seen.unread) {
         return Some(Statement::Unread(version));
     }
+    if may_be_expanded(fault, seen) {
+        return Some(Statement::Expanded);
+    }
     let stated = seen.stated?;
-    let place = match fault {
-        MountFault::Geometry => StatedPlace::Superblock,
-        MountFault::Version => StatedPlace::SuperblockVersion,
-        MountFault::NoValidCommit if stated.version != VERSION => StatedPlace::Version,
-        MountFault::NoValidCommit | MountFault::NoSuperblock => StatedPlace::FirstBlock,
-        _ => return None,
-    };
-    Some(Statement::Stated(place, stated))
+    Some(Statement::Stated(place_of(fault, stated)?, stated))
+}
+
+/// Whether an image may be refused since a device has expanded its superblock.
+fn may_be_expanded(fault: MountFault, seen: Sight) -> bool {
+    match fault {
+        MountFault::SuperblockElsewhere => true,
+        MountFault::NoSuperblock => seen.stated.is_none(),
+        _ => false,
+    }
+}
+
+/// Which of what the first block states is told, and as what; nothing where a fault has another cause.
+fn place_of(fault: MountFault, stated: Stated) -> Option<StatedPlace> {
+    match fault {
+        MountFault::Geometry => Some(StatedPlace::Superblock),
+        MountFault::Version => Some(StatedPlace::SuperblockVersion),
+        MountFault::NoValidCommit if stated.version != VERSION => Some(StatedPlace::Version),
+        MountFault::NoValidCommit | MountFault::NoSuperblock => Some(StatedPlace::FirstBlock),
+        _ => None,
+    }
 }
 
 /// What the superblock at the front of block 0 states, whatever the size of a block is; nothing where there is none. Takes no memory.

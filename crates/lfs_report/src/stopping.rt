@@ -146,7 +146,7 @@ fn path_statement(note: Option<PathNote>) -> Option<Statement> {
     }
 }
 
-/// How many whole blocks there are.
-fn blocks_in(size: u32, bytes: &[u8]) -> Option<usize> {
+/// How many whole blocks there are. Takes no memory.
+pub(crate) fn blocks_in(size: u32, bytes: &[u8]) -> Option<usize> {
     bytes.len().checked_div(size as usize)
 }

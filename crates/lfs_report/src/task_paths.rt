@@ -4,6 +4,18 @@ use crate::path_note::Front;
 use lfs_history::Move;
 use lfs_request::{Query, Task};
 
+/// The name of the other image that a task reads, where it reads one. Takes no memory.
+pub(crate) fn other_of<'a>(task: &Task<'a>) -> Option<&'a str> {
+    match task {
+        Task::Ask {
+            query: Query::Diff { other, .. },
+            ..
+        } => Some(*other),
+        Task::Repack { source, .. } => Some(source.file),
+        _ => None,
+    }
+}
+
 /// The paths of a task.
 #[derive(Clone, Copy)]
 pub struct TaskPaths<'a> {
@@ -17,7 +29,10 @@ impl<'a> TaskPaths<'a> {
     /// The paths of a task, where it has any. Takes no memory.
     pub(crate) fn of(task: &Task<'a>) -> Option<TaskPaths<'a>> {
         match task {
-            Task::Ask(Query::Cat { path }) => Some(TaskPaths {
+            Task::Ask {
+                query: Query::Cat { path },
+                ..
+            } => Some(TaskPaths {
                 path: *path,
                 target: None,
             }),

@@ -5,32 +5,24 @@ ghost use Rattle.lfs_request.specs.Fault.{status_of};
 ghost use Rattle.lfs_report.specs.Stop.{stopped_by};
 
 use crate::finding::Finding;
+use crate::geometry::{tell_count, tell_limit};
+use crate::hint::hint_of;
 use crate::last_name::last_name;
-use crate::later::tell_changed;
-use crate::line::{Piece, say, say_blocks, say_version, say_words};
+use crate::line::{Piece, say, say_blocks, say_words};
 use crate::no_path::tell_no_path;
 use crate::path_note::PathNote;
-use crate::stated::{Stated, StatedPlace, Statement};
+use crate::stated::Statement;
 use crate::stop::Stop;
-use crate::task_paths::TaskPaths;
+use crate::task_paths::{TaskPaths, other_of};
 use crate::told_line::ToldLine;
-use lfs_block::{BLOCK_SIZE_STEP, ImageFault, MAX_IMAGE_LENGTH};
+use crate::versions::{tell_changed, tell_expanded, tell_stated, tell_unread};
+use lfs_block::ImageFault;
 use lfs_command::{Command, Refusal};
 use lfs_exchange::tell_of_image;
 use lfs_history::Move;
 use lfs_host::Host;
-use lfs_later::StatedVersion;
 use lfs_request::{Fault, OtherFault, Query, Request, Task};
 use lfs_texts::Flaw;
-
-/// The least number of blocks of an image.
-const MIN_BLOCK_COUNT: usize = 2;
-
-/// The greatest number of blocks of an image.
-const MAX_BLOCK_COUNT: usize = 65_536;
-
-/// What is told of the two limits.
-const COUNT_LIMITS: &str = "an image has 2 to 65536 blocks, this one ";
 
 /// Tells on standard error how a request ended, and answers the status of that end; `text` is what its statement speaks of. Takes no
 /// memory.
@@ -59,24 +51,49 @@ fn tell_of<H: Host>(host: &mut H, request: &Request<'_>, stop: &Stop, text: &[u8
     let image = told_of(request, stop.fault);
     let status = tell_of_image(host, image, stop.fault);
     match stop.fault {
-        Fault::Image(ImageFault::BadGeometry) => tell_limit(host, request, stop.count),
+        Fault::Image(ImageFault::BadGeometry) => {
+            tell_limit(host, image, "--block", request.size, stop.count);
+        }
+        Fault::Other(OtherFault::Image(ImageFault::BadGeometry)) => {
+            tell_source_limit(host, request, stop.count);
+        }
         Fault::HostEntry => tell_entry(host, request),
         Fault::Refused(Refusal::BadCount) => tell_bad_count(host, request, stop.count),
         _ => {}
     }
-    if let Some(statement) = stop.statement {
-        tell_statement(host, request, image, statement, text);
-    } else if compares(request) && is_of_image(stop.fault) {
-        say_words(host, image, "this image is refused");
+    match (stop.statement, hint_of(request)) {
+        (None, _) | (Some(Statement::Expanded), None) => {
+            tell_refused(host, request, image, stop.fault);
+        }
+        (Some(statement), _) => tell_statement(host, request, image, statement, text),
     }
     status
+}
+
+/// Tells which of two images a fault is of, the one of this name, where nothing more is known of it.
+fn tell_refused<H: Host>(host: &mut H, request: &Request<'_>, image: &str, fault: Fault)
+    ensures kept { H.known host.new ≡ H.known host.old }
+{
+    if is_of_one_of_two(request, fault) {
+        say_words(host, image, "this image is refused");
+    }
+}
+
+/// Tells which limit of its geometry an image doesn't keep that a new one is made of.
+fn tell_source_limit<H: Host>(host: &mut H, request: &Request<'_>, count: Option<usize>)
+    ensures kept { H.known host.new ≡ H.known host.old }
+{
+    let Task::Repack { source, .. } = &request.task else {
+        return;
+    };
+    tell_limit(host, source.file, "--from-block", source.size, count);
 }
 
 /// Tells of a folder that isn't made, since something has its name.
 fn tell_entry<H: Host>(host: &mut H, request: &Request<'_>)
     ensures kept { H.known host.new ≡ H.known host.old }
 {
-    let Task::Extract { dir } = request.task else {
+    let Task::Extract { dir, .. } = request.task else {
         return;
     };
     say_words(host, dir, "is there already");
@@ -115,72 +132,6 @@ fn wanted_by(task: &Task<'_>) -> Option<usize> {
         ) => Some(*count as usize),
         _ => None,
     }
-}
-
-/// Tells which limit of a geometry isn't kept.
-fn tell_limit<H: Host>(host: &mut H, request: &Request<'_>, count: Option<usize>)
-    ensures kept { H.known host.new ≡ H.known host.old }
-{
-    if request.size % BLOCK_SIZE_STEP != 0 {
-        tell_size(host, request.size);
-    } else if let Some(count) = count {
-        tell_count(host, request.image, count, request.size);
-    }
-}
-
-/// Tells that no block has this size.
-fn tell_size<H: Host>(host: &mut H, size: u32)
-    ensures kept { H.known host.new ≡ H.known host.old }
-{
-    host.complain(format_args!(
-        "lfsed: --block {size}: a block is a multiple of {BLOCK_SIZE_STEP} bytes\n"
-    ));
-}
-
-/// Tells which limit of the number of its blocks an image doesn't keep.
-fn tell_count<H: Host>(host: &mut H, image: &str, count: usize, size: u32)
-    ensures kept { H.known host.new ≡ H.known host.old }
-{
-    if (MIN_BLOCK_COUNT..=MAX_BLOCK_COUNT).contains(&count) {
-        tell_length(host, image, count, size);
-    } else {
-        tell_wrong_count(host, image, count, size);
-    }
-}
-
-/// Tells that an image of this many blocks has too many bytes.
-fn tell_length<H: Host>(host: &mut H, image: &str, count: usize, size: u32)
-    ensures kept { H.known host.new ≡ H.known host.old }
-{
-    say(
-        host,
-        image,
-        &[
-            Piece::Text("an image has at most "),
-            Piece::Number(MAX_IMAGE_LENGTH as usize),
-            Piece::Text(" bytes, this one "),
-            Piece::Number(count),
-            Piece::Text(" blocks of "),
-            Piece::Number(size as usize),
-        ],
-    );
-}
-
-/// Tells that an image has no such number of blocks.
-fn tell_wrong_count<H: Host>(host: &mut H, image: &str, count: usize, size: u32)
-    ensures kept { H.known host.new ≡ H.known host.old }
-{
-    say(
-        host,
-        image,
-        &[
-            Piece::Text(COUNT_LIMITS),
-            Piece::Number(count),
-            Piece::Text(" of "),
-            Piece::Number(size as usize),
-            Piece::Text(" bytes"),
-        ],
-    );
 }
 
 /// Tells what is known of a task's path.
@@ -236,7 +187,7 @@ fn tell_directory<'a, H: Host>(host: &mut H, image: &str, path: &'a [u8], target
     );
 }
 
-/// Tells what is known of a path, as that of the row for which a folder isn't packed.
+/// Tells what is known of a path, as that of a row that isn't packed.
 fn tell_row<H: Host>(host: &mut H, image: &str, path: &[u8], finding: Finding)
     ensures kept { H.known host.new ≡ H.known host.old }
 {
@@ -271,29 +222,38 @@ fn tell_line<H: Host>(
     }
 }
 
-/// Tells how many blocks a folder needs, or that none are enough.
+/// The name of what a task packs into a new image, where it packs something.
+fn packed_by<'a>(task: &Task<'a>) -> Option<&'a str> {
+    match task {
+        Task::Pack { dir, .. } => Some(*dir),
+        Task::Repack { source, .. } => Some(source.file),
+        _ => None,
+    }
+}
+
+/// Tells how many blocks are needed for what is packed, or that none are enough.
 fn tell_need<H: Host>(host: &mut H, request: &Request<'_>, count: Option<u32>)
     ensures kept { H.known host.new ≡ H.known host.old }
 {
-    let Task::Pack { dir, .. } = request.task else {
+    let Some(packed) = packed_by(&request.task) else {
         return;
     };
     match count {
         Some(count) => {
             let blocks = (count as usize, request.size);
-            say_blocks(host, dir, "needs ", blocks, " bytes in all");
+            say_blocks(host, packed, "needs ", blocks, " bytes in all");
         }
-        None => tell_no_image(host, dir, request.size),
+        None => tell_no_image(host, packed, request.size),
     }
 }
 
-/// Tells that no image with blocks of a size holds a folder.
-fn tell_no_image<H: Host>(host: &mut H, dir: &str, size: u32)
+/// Tells that no image with blocks of a size holds what is packed, by its name.
+fn tell_no_image<H: Host>(host: &mut H, packed: &str, size: u32)
     ensures kept { H.known host.new ≡ H.known host.old }
 {
     say(
         host,
-        dir,
+        packed,
         &[
             Piece::Text("no image with blocks of "),
             Piece::Number(size as usize),
@@ -312,10 +272,12 @@ fn tell_statement<H: Host>(
 )
     ensures kept { H.known host.new ≡ H.known host.old }
 {
+    let hint = hint_of(request);
     match statement {
-        Statement::Stated(place, stated) => tell_stated(host, image, place, stated),
-        Statement::Unread(stated) => tell_unread(host, image, stated),
-        Statement::Later(version) => tell_changed(host, image, version),
+        Statement::Stated(place, stated) => tell_stated(host, image, hint, place, stated),
+        Statement::Unread(stated) => tell_unread(host, image, hint, stated),
+        Statement::Later(version) => tell_changed(host, image, hint, version),
+        Statement::Expanded => tell_expanded(host, image, hint),
         Statement::Length(len, size) => tell_part(host, image, len, size),
         Statement::Path(note) => tell_note(host, request, note),
         Statement::Row(finding) => tell_row(host, image, text, finding),
@@ -324,74 +286,6 @@ fn tell_statement<H: Host>(
         Statement::Changes(count) => tell_changes(host, request, count),
         Statement::OtherJournal => tell_other_journal(host, image),
         Statement::NewImage => tell_new_image(host, image),
-    }
-}
-
-/// Tells what is stated somewhere in an image.
-fn tell_stated<H: Host>(host: &mut H, image: &str, place: StatedPlace, stated: Stated)
-    ensures kept { H.known host.new ≡ H.known host.old }
-{
-    let blocks = (stated.count as usize, stated.size);
-    match place {
-        StatedPlace::Superblock => say_blocks(
-            host,
-            image,
-            "its superblock states ",
-            blocks,
-            " bytes",
-        ),
-        StatedPlace::SuperblockVersion => tell_superblock_version(host, image, stated.version),
-        StatedPlace::FirstBlock => say_blocks(
-            host,
-            image,
-            "its first block states ",
-            blocks,
-            " bytes",
-        ),
-        StatedPlace::Version => tell_stated_version(host, image, stated.version),
-    }
-}
-
-/// Tells the disk version that an image's first block states.
-fn tell_stated_version<H: Host>(host: &mut H, image: &str, version: u32)
-    ensures kept { H.known host.new ≡ H.known host.old }
-{
-    say_version(
-        host,
-        image,
-        "its first block states disk version ",
-        version,
-        "",
-    );
-}
-
-/// Tells the disk version that an image's superblock states.
-fn tell_superblock_version<H: Host>(host: &mut H, image: &str, version: u32)
-    ensures kept { H.known host.new ≡ H.known host.old }
-{
-    say_version(
-        host,
-        image,
-        "its superblock states disk version ",
-        version,
-        "",
-    );
-}
-
-/// Tells the disk version that a block states of which version 2.0 reads no commit.
-fn tell_unread<H: Host>(host: &mut H, image: &str, stated: StatedVersion)
-    ensures kept { H.known host.new ≡ H.known host.old }
-{
-    if stated.block == 0 {
-        tell_stated_version(host, image, stated.version);
-    } else {
-        say_version(
-            host,
-            image,
-            "its second block states disk version ",
-            stated.version,
-            "",
-        );
     }
 }
 
@@ -451,27 +345,33 @@ fn tell_new_image<H: Host>(host: &mut H, image: &str)
 
 /// The name of the image that a fault is of.
 fn told_of<'a>(request: &Request<'a>, fault: Fault) -> &'a str {
-    match request.task {
-        Task::Ask(Query::Diff { other, .. }) if is_of_other(fault) => other,
+    match (fault, other_of(&request.task)) {
+        (Fault::Other(_), Some(other)) => other,
         _ => request.image,
     }
 }
 
-/// Whether a fault is of the image that another is compared with.
-fn is_of_other(fault: Fault) -> bool {
-    matches!(fault, Fault::Other(_))
-}
-
-/// Whether two images are compared.
-fn compares(request: &Request<'_>) -> bool {
-    matches!(request.task, Task::Ask(Query::Diff { .. }))
-}
-
-/// Whether a fault is of an image, and not of the host.
-fn is_of_image(fault: Fault) -> bool {
-    match fault {
-        Fault::Image(_) | Fault::Mount(_) => true,
-        Fault::Other(other) => !matches!(other, OtherFault::CannotRead),
+/// Whether a fault is of an image that is read, where a request names two.
+fn is_of_one_of_two(request: &Request<'_>, fault: Fault) -> bool {
+    match request.task {
+        Task::Ask {
+            query: Query::Diff { .. },
+            ..
+        } => is_of_image(fault) || is_of_other(fault),
+        Task::Repack { .. } => is_of_other(fault),
         _ => false,
     }
+}
+
+/// Whether a fault is of the request's image.
+fn is_of_image(fault: Fault) -> bool {
+    matches!(fault, Fault::Image(_) | Fault::Mount(_))
+}
+
+/// Whether a fault is of the other image that is read.
+fn is_of_other(fault: Fault) -> bool {
+    matches!(
+        fault,
+        Fault::Other(OtherFault::Image(_) | OtherFault::Mount(_))
+    )
 }

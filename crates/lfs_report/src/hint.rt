@@ -1,0 +1,33 @@
+//! The words of the command line by which an image is read as a device does.
+
+use lfs_request::{Query, Request, Task};
+
+/// The disk version that is read with them, with its major number in the upper half.
+const VERSION: u32 = 0x0002_0001;
+
+/// The words by which an image is read as a device does: an option of the command that is asked for, or of the one that makes a new image
+/// of it; nothing where the request says so already. Takes no memory.
+pub(crate) fn hint_of(request: &Request<'_>) -> Option<&'static str> {
+    match &request.task {
+        Task::Ask {
+            by_device: true,
+            ..
+        } => None,
+        Task::Extract {
+            by_device: true,
+            ..
+        } => None,
+        Task::Repack { source, .. } if source.manner.by_device => None,
+        Task::Ask {
+            query: Query::Log,
+            ..
+        } => Some("repack --device"),
+        Task::Ask { .. } | Task::Extract { .. } | Task::Repack { .. } => Some("--device"),
+        _ => Some("repack --device"),
+    }
+}
+
+/// The words of a hint, where a disk version is read with them. Takes no memory.
+pub(crate) fn hint_at(version: u32, hint: Option<&'static str>) -> Option<&'static str> {
+    if version == VERSION { hint } else { None }
+}

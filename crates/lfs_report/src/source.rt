@@ -1,0 +1,48 @@
+//! Why an image was refused that a new one is made of, with what is known of it beside.
+
+ghost use Rattle.std.specs.Prelude.{◌≡◌};
+ghost use Rattle.lfs_request.specs.declared.fault.Fault.TheVariants.{Other};
+ghost use Rattle.lfs_request.specs.declared.other_fault.OtherFault.TheVariants as other;
+
+use crate::stated::{Sight, statement_for};
+use crate::stop::Stop;
+use crate::stopping::blocks_in;
+use crate::superblock::superblock_statement;
+use lfs_block::{Image, ImageFault, MountFault};
+use lfs_request::{Fault, OtherFault};
+use std::alloc::Global;
+
+/// Why bytes were refused as the image that a new one is made of, with blocks of `size` bytes, and what they state. Takes no memory.
+///
+/// Source: own.
+pub fn stop_of_source_bytes(fault: ImageFault, size: u32, bytes: &[u8]) -> Stop
+    ensures { result.fault ≡ Other (other.Image fault) }
+{
+    let fault = Fault::Other(OtherFault::Image(fault));
+    Stop {
+        fault,
+        statement: statement_for(fault, Sight::none(), Sight::of(size, bytes)),
+        count: blocks_in(size, bytes),
+        at: 0,
+    }
+}
+
+/// Why the image that a new one is made of didn't mount, with what it states; `seen` is what was seen of its bytes. Takes memory, and tells
+/// of nothing more where it is refused.
+///
+/// Source: own.
+pub fn stop_of_source(alloc: Global, fault: MountFault, image: &Image, seen: Sight) -> Stop
+    ensures { result.fault ≡ Other (other.Mount fault) }
+{
+    let told = Fault::Other(OtherFault::Mount(fault));
+    let statement = match fault {
+        MountFault::Geometry | MountFault::Version => superblock_statement(alloc, fault, image),
+        _ => statement_for(told, Sight::none(), seen),
+    };
+    Stop {
+        fault: told,
+        statement,
+        count: None,
+        at: 0,
+    }
+}

@@ -1,0 +1,144 @@
+//! What an image states of itself, as it is told, with the words by which it is read as a device does.
+
+ghost use Rattle.std.specs.Prelude.{◌≡◌};
+
+use crate::hint::hint_at;
+use crate::line::{Piece, say, say_blocks, say_version};
+use crate::stated::{Stated, StatedPlace};
+use lfs_host::Host;
+use lfs_later::StatedVersion;
+
+/// What is told in front of the disk version that the first block states.
+const FIRST_BLOCK: &str = "its first block states disk version ";
+
+/// What is told in front of the disk version of a later commit, for which an image is refused.
+const CHANGED: &str = "a device has changed it with disk version ";
+
+/// Tells what is stated somewhere in an image. Takes no memory.
+pub(crate) fn tell_stated<H: Host>(
+    host: &mut H,
+    image: &str,
+    hint: Option<&'static str>,
+    place: StatedPlace,
+    stated: Stated,
+)
+    ensures kept { H.known host.new ≡ H.known host.old }
+{
+    let blocks = (stated.count as usize, stated.size);
+    let version = stated.version;
+    match place {
+        StatedPlace::Superblock => say_blocks(
+            host,
+            image,
+            "its superblock states ",
+            blocks,
+            " bytes",
+        ),
+        StatedPlace::SuperblockVersion => tell_stated_version(
+            host,
+            image,
+            hint,
+            "its superblock states disk version ",
+            version,
+        ),
+        StatedPlace::FirstBlock => say_blocks(
+            host,
+            image,
+            "its first block states ",
+            blocks,
+            " bytes",
+        ),
+        StatedPlace::Version => tell_stated_version(host, image, hint, FIRST_BLOCK, version),
+    }
+}
+
+/// Tells the disk version that a block states of which version 2.0 reads no commit. Takes no memory.
+pub(crate) fn tell_unread<H: Host>(
+    host: &mut H,
+    image: &str,
+    hint: Option<&'static str>,
+    stated: StatedVersion,
+)
+    ensures kept { H.known host.new ≡ H.known host.old }
+{
+    let front = if stated.block == 0 {
+        FIRST_BLOCK
+    } else {
+        "its second block states disk version "
+    };
+    tell_stated_version(host, image, hint, front, stated.version);
+}
+
+/// Tells a disk version that an image states, and by which words it is read.
+fn tell_stated_version<'a, H: Host>(
+    host: &mut H,
+    image: &str,
+    hint: Option<&'static str>,
+    front: &'a str,
+    version: u32,
+)
+    ensures kept { H.known host.new ≡ H.known host.old }
+{
+    match hint_at(version, hint) {
+        Some(hint) => say(
+            host,
+            image,
+            &[
+                Piece::Text(front),
+                Piece::Version(version),
+                Piece::Text(": "),
+                Piece::Text(hint),
+                Piece::Text(" reads it"),
+            ],
+        ),
+        None => say_version(host, image, front, version, ""),
+    }
+}
+
+/// Tells that a device has changed the image of this name, for which it is refused. Takes no memory.
+pub(crate) fn tell_changed<H: Host>(
+    host: &mut H,
+    image: &str,
+    hint: Option<&'static str>,
+    version: u32,
+)
+    ensures kept { H.known host.new ≡ H.known host.old }
+{
+    match hint_at(version, hint) {
+        Some(hint) => say(
+            host,
+            image,
+            &[
+                Piece::Text(CHANGED),
+                Piece::Version(version),
+                Piece::Text(", which is not read: "),
+                Piece::Text(hint),
+                Piece::Text(" reads it, --older goes on with the state before that"),
+            ],
+        ),
+        None => say_version(
+            host,
+            image,
+            CHANGED,
+            version,
+            ", which is not read; --older goes on with the state before that",
+        ),
+    }
+}
+
+/// Tells by which words an image is read whose superblock a device has expanded, where there are any. Takes no memory.
+pub(crate) fn tell_expanded<H: Host>(host: &mut H, image: &str, hint: Option<&'static str>)
+    ensures kept { H.known host.new ≡ H.known host.old }
+{
+    let Some(hint) = hint else {
+        return;
+    };
+    say(
+        host,
+        image,
+        &[
+            Piece::Text("a superblock that a device has expanded is read with "),
+            Piece::Text(hint),
+        ],
+    );
+}
