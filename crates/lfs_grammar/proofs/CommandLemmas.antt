@@ -12,8 +12,9 @@ use Rattle.clap.proofs.SimpleLemmas.{is_false}
 use Rattle.clap.proofs.WalkLemmas.{both}
 use Rattle.lfs_grammar.proofs.FaultlessRows.{none_of}
 use Rattle.lfs_grammar.proofs.Lists.{Each, In, contained, each, each_in}
-use Rattle.lfs_grammar.specs.Grammar.{IsNumber, IsSaid, IsSaidOrNeedNot, NamesCommand, attr_max, block, commands, count, file_max}
-use Rattle.lfs_grammar.specs.Grammar.{is_change, is_wanted, keep, name_max, new_block, new_count, steps, word}
+use Rattle.lfs_grammar.specs.Grammar.{IsNumber, IsSaid, IsSaidOrNeedNot, NamesCommand, attr_max, attr_max_or_source, block, commands}
+use Rattle.lfs_grammar.specs.Grammar.{count, file_max, file_max_or_source, is_change, is_wanted, keep, name_max, name_max_or_source}
+use Rattle.lfs_grammar.specs.Grammar.{new_block, new_count, steps, word}
 
 -- ---- the command of a name
 
@@ -100,6 +101,15 @@ file_max_is = (1, 2147483647, refl, omega arith)
 
 pub attr_max_is : IsNumber attr_max
 attr_max_is = (1, 1022, refl, omega arith)
+
+pub name_max_or_source_is : IsNumber name_max_or_source
+name_max_or_source_is = (1, 1022, refl, omega arith)
+
+pub file_max_or_source_is : IsNumber file_max_or_source
+file_max_or_source_is = (1, 2147483647, refl, omega arith)
+
+pub attr_max_or_source_is : IsNumber attr_max_or_source
+attr_max_or_source_is = (1, 1022, refl, omega arith)
 
 pub keep_is : IsNumber keep
 keep_is = (1, 1000, refl, omega arith)

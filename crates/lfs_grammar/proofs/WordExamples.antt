@@ -93,6 +93,39 @@ comparing_says : (text_at (codes "image") comparing ≡ Some (Some (codes "a.img
 unfolding clap_on_literals
 comparing_says = (refl, refl)
 
+-- lfsed check --device a.img, and without it
+abbrev checking : List Text
+checking = codes "lfsed" ∷ codes "check" ∷ codes "--device" ∷ codes "a.img" ∷ []
+
+checking_is_taken : IsTaken checking
+unfolding clap_on_literals
+checking_is_taken = refl
+
+checking_says : (text_at (codes "device") checking ≡ Some (Some (codes "true")))
+    × (text_at (codes "device") comparing ≡ Some (Some (codes "false")))
+unfolding clap_on_literals
+checking_says = (refl, refl)
+
+-- lfsed repack a.img b.img --name-max 3 --device
+abbrev repacking : List Text
+repacking = codes "lfsed" ∷ codes "repack" ∷ codes "a.img" ∷ codes "b.img" ∷ codes "--name-max" ∷ codes "3" ∷ codes "--device" ∷ []
+
+repacking_is_taken : IsTaken repacking
+unfolding clap_on_literals
+repacking_is_taken = refl
+
+repacking_says : (text_at (codes "image") repacking ≡ Some (Some (codes "a.img")))
+    × (text_at (codes "source") repacking ≡ Some (Some (codes "b.img")))
+    × (number_at (codes "block") repacking ≡ Some (Some (codes "4096")))
+    × (text_at (codes "from-block") repacking ≡ Some (Some (codes "auto")))
+    × (number_at (codes "count") repacking ≡ Some None)
+    × (number_at (codes "name-max") repacking ≡ Some (Some (codes "3")))
+    × (number_at (codes "attr-max") repacking ≡ Some None)
+    × (text_at (codes "device") repacking ≡ Some (Some (codes "true")))
+    × (text_at (codes "older") repacking ≡ Some (Some (codes "false")))
+unfolding clap_on_literals
+repacking_says = (refl, refl, refl, refl, refl, refl, refl, refl, refl)
+
 -- lfsed pack a.img src --least --size=1M --name-max 3 --new
 abbrev packing : List Text
 packing = codes "lfsed" ∷ codes "pack" ∷ codes "a.img" ∷ codes "src" ∷ codes "--least" ∷ codes "--size=1M" ∷ codes "--name-max" ∷ codes "3"
@@ -164,6 +197,15 @@ no_size_of_a_new_image : fault_of grammar (codes "lfsed" ∷ codes "format" ∷ 
 unfolding clap_on_literals
 no_size_of_a_new_image = refl
 
+no_size_of_a_repacked_image : fault_of grammar
+    (codes "lfsed" ∷ codes "repack" ∷ codes "-b" ∷ codes "auto" ∷ codes "a.img" ∷ codes "b.img" ∷ []) ≡ ValueValidation ∷ []
+unfolding clap_on_literals
+no_size_of_a_repacked_image = refl
+
+no_source : fault_of grammar (codes "lfsed" ∷ codes "repack" ∷ codes "a.img" ∷ []) ≡ MissingRequiredArgument ∷ []
+unfolding clap_on_literals
+no_source = refl
+
 too_long_a_name : fault_of grammar (codes "lfsed" ∷ codes "format" ∷ codes "--name-max=1023" ∷ codes "a.img" ∷ []) ≡ ValueValidation ∷ []
 unfolding clap_on_literals
 too_long_a_name = refl
@@ -183,6 +225,10 @@ none_kept = refl
 nothing_to_keep : fault_of grammar (codes "lfsed" ∷ codes "check" ∷ codes "--keep" ∷ codes "1" ∷ codes "a.img" ∷ []) ≡ UnknownArgument ∷ []
 unfolding clap_on_literals
 nothing_to_keep = refl
+
+nothing_of_a_device : fault_of grammar (codes "lfsed" ∷ codes "log" ∷ codes "--device" ∷ codes "a.img" ∷ []) ≡ UnknownArgument ∷ []
+unfolding clap_on_literals
+nothing_of_a_device = refl
 
 two_images : fault_of grammar (codes "lfsed" ∷ codes "check" ∷ codes "a.img" ∷ codes "b.img" ∷ []) ≡ UnknownArgument ∷ []
 unfolding clap_on_literals

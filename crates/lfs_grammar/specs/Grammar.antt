@@ -69,6 +69,16 @@ file_max = number_or (codes "file-max") 1 2147483647 (codes "2147483647")
 abbrev pub attr_max : Rule
 attr_max = number_or (codes "attr-max") 1 1022 (codes "1022")
 
+-- the same of an image that is made of another one, whose limits stand where they aren't said
+abbrev pub name_max_or_source : Rule
+name_max_or_source = number (codes "name-max") 1 1022
+
+abbrev pub file_max_or_source : Rule
+file_max_or_source = number (codes "file-max") 1 2147483647
+
+abbrev pub attr_max_or_source : Rule
+attr_max_or_source = number (codes "attr-max") 1 1022
+
 -- how many images of the past are kept: `--keep`, a whole number from 1 to 1,000, which needn't be said
 abbrev pub keep : Rule
 keep = number (codes "keep") 1 1000
@@ -88,6 +98,14 @@ script = record (new_rule (codes "script")) { value_names = 1 }
 -- no file is replaced
 abbrev pub is_new : Rule
 is_new = flag (codes "new")
+
+-- images are read as a device does
+abbrev pub device : Rule
+device = flag (codes "device")
+
+-- the block size of the image that another one is made of: `--from-block`, a text, and `auto` where it isn't said
+abbrev pub from_block : Rule
+from_block = record (option (codes "from-block")) { defaults = codes "auto" ∷ [] }
 
 -- the state before commits of a later disk version is gone on with
 abbrev pub older : Rule
@@ -110,15 +128,22 @@ rule_at argument.Count = count
 rule_at argument.NewCount = new_count
 rule_at argument.Size = size
 rule_at argument.Least = flag (codes "least")
+rule_at argument.LeastOfSource = flag (codes "least")
 rule_at argument.NameMax = name_max
 rule_at argument.FileMax = file_max
 rule_at argument.AttrMax = attr_max
+rule_at argument.NameMaxOrSource = name_max_or_source
+rule_at argument.FileMaxOrSource = file_max_or_source
+rule_at argument.AttrMaxOrSource = attr_max_or_source
 rule_at argument.New = is_new
+rule_at argument.Device = device
 rule_at argument.Older = older
 rule_at argument.Keep = keep
 rule_at argument.Steps = steps
 rule_at argument.Image = word (codes "image")
 rule_at argument.Other = word (codes "other")
+rule_at argument.Source = word (codes "source")
+rule_at argument.FromBlock = from_block
 rule_at argument.Dir = word (codes "dir")
 rule_at argument.NewDir = word (codes "dir")
 rule_at argument.Path = word (codes "path")
@@ -149,6 +174,7 @@ form_rule (form.SpareWord name) id = spare_word id
 form_rule (form.SpareWords name most) id = spare_words id most
 form_rule (form.SpareNumber name least most) id = record (spare_word id) { parser = Some (Signed least most) }
 form_rule (form.Option name long) id = record (option id) { long = Some long.now }
+form_rule (form.OptionOr name default) id = record (option id) { defaults = default.now ∷ [] }
 form_rule (form.Number name least most) id = number_within id least most
 form_rule (form.NumberOr name least most default) id = record (number_within id least most) { defaults = default.now ∷ [] }
 form_rule form.Block id = block_option id
@@ -180,6 +206,19 @@ making name rules =
 abbrev pub reading : Text → List Rule → Shape
 reading name rules = (command name (block ∷ word (codes "image") ∷ rules ++ older ∷ [])).top
 
+-- a command that makes an image of another one: it takes the block size and the file name of each, how many blocks there are, the limits,
+-- whether a file is replaced, and how the other image is read
+abbrev pub repack : Shape
+repack =
+    (command (codes "repack") (
+    new_block ∷ word (codes "image") ∷ word (codes "source") ∷ from_block ∷ count ∷ size ∷ flag (codes "least")
+    ∷ name_max_or_source ∷ file_max_or_source ∷ attr_max_or_source ∷ is_new ∷ device ∷ older ∷ []
+    )).top
+
+-- a command that shows what an image holds, which may be read as a device does
+abbrev pub asking : Text → List Rule → Shape
+asking name rules = reading name (rules ++ device ∷ [])
+
 -- a command that changes the image: behind it the past may be cut
 abbrev pub changing : Text → List Rule → Shape
 changing name rules = reading name (rules ++ keep ∷ [])
@@ -196,11 +235,12 @@ abbrev pub commands : List Shape
 commands =
     making (codes "format") (count ∷ size ∷ [])
     ∷ making (codes "pack") (word (codes "dir") ∷ count ∷ size ∷ flag (codes "least") ∷ [])
-    ∷ reading (codes "extract") (word (codes "dir") ∷ [])
-    ∷ reading (codes "check") []
-    ∷ reading (codes "ls") []
-    ∷ reading (codes "cat") (word (codes "path") ∷ [])
-    ∷ reading (codes "diff") (word (codes "other") ∷ [])
+    ∷ repack
+    ∷ asking (codes "extract") (word (codes "dir") ∷ [])
+    ∷ asking (codes "check") []
+    ∷ asking (codes "ls") []
+    ∷ asking (codes "cat") (word (codes "path") ∷ [])
+    ∷ asking (codes "diff") (word (codes "other") ∷ [])
     ∷ reading (codes "log") []
     ∷ changing (codes "mkdir") (word (codes "path") ∷ [])
     ∷ changing (codes "put") (word (codes "path") ∷ contents ∷ [])

@@ -27,7 +27,8 @@ names_change_option word = begins_with word (codes "--keep") || begins_with word
 -- an option of an image or a file that is there, by its long name
 abbrev pub names_image_option : Text → Bool
 names_image_option word =
-    begins_with word (codes "--block") || begins_with word (codes "--older") || begins_with word (codes "--from")
+    begins_with word (codes "--block") || begins_with word (codes "--device") || begins_with word (codes "--older")
+    || begins_with word (codes "--from")
 
 -- an option by its long name
 abbrev pub names_long_option : Text → Bool
@@ -57,6 +58,7 @@ is_plain_name (Some name) = not (begins_with name (codes "-"))
 abbrev pub are_plain_names : List Row → Bool
 are_plain_names rows =
     is_plain_name (first_of (codes "dir") rows) && is_plain_name (first_of (codes "other") rows)
+    && is_plain_name (first_of (codes "source") rows)
     && is_plain_name (first_of (codes "contents") rows) && is_plain_name (first_of (codes "script") rows)
 
 -- no file or folder of the host is named by a word that begins with a hyphen

@@ -23,14 +23,24 @@ pub(crate) enum Argument {
     Size,
     /// That the image gets the least number of blocks.
     Least,
+    /// The same of an image that is made of another one.
+    LeastOfSource,
     /// The greatest length of a name.
     NameMax,
     /// The greatest length of a file.
     FileMax,
     /// The greatest length of an attribute.
     AttrMax,
+    /// The greatest length of a name, that of another image where it isn't said.
+    NameMaxOrSource,
+    /// The greatest length of a file, that of another image where it isn't said.
+    FileMaxOrSource,
+    /// The greatest length of an attribute, that of another image where it isn't said.
+    AttrMaxOrSource,
     /// That no file is replaced.
     New,
+    /// That images are read as a device does.
+    Device,
     /// That the state before commits of a later disk version is gone on with.
     Older,
     /// The number of images of the past that are kept.
@@ -41,6 +51,10 @@ pub(crate) enum Argument {
     Image,
     /// The file name of an image that it is compared with.
     Other,
+    /// The file name of an image that it is made of.
+    Source,
+    /// The block size of that one.
+    FromBlock,
     /// The name of a folder that is read.
     Dir,
     /// The name of a folder that is made.
@@ -76,6 +90,8 @@ enum Form {
     SpareNumber(&'static str, i64, i64),
     /// By an option of this long name, which needn't be there.
     Option(&'static str, &'static str),
+    /// By an option that is named as the argument, with a text that stands where none is said.
+    OptionOr(&'static str, &'static str),
     /// By an option that is named as the argument, a whole number from the first to the second.
     Number(&'static str, i64, i64),
     /// The same with a number that stands where none is said.
@@ -137,6 +153,13 @@ static LEAST: ArgumentRow = ArgumentRow {
     help: "Give it the least number of blocks that holds the folder",
 };
 
+/// The same of an image that is made of another one.
+static LEAST_OF_SOURCE: ArgumentRow = ArgumentRow {
+    id: "least",
+    form: Form::Flag,
+    help: "Give it the least number of blocks that holds all of it",
+};
+
 /// The greatest length of a name.
 static NAME_MAX: ArgumentRow = ArgumentRow {
     id: "name-max",
@@ -158,11 +181,39 @@ static ATTR_MAX: ArgumentRow = ArgumentRow {
     help: "Greatest length of an attribute in bytes, from 1 to 1022",
 };
 
+/// The greatest length of a name, that of another image where it isn't said.
+static NAME_MAX_OR_SOURCE: ArgumentRow = ArgumentRow {
+    id: "name-max",
+    form: Form::Number("N", 1, 1_022),
+    help: "Greatest length of a name in bytes, from 1 to 1022; that of SOURCE where it is not said",
+};
+
+/// The greatest length of a file, that of another image where it isn't said.
+static FILE_MAX_OR_SOURCE: ArgumentRow = ArgumentRow {
+    id: "file-max",
+    form: Form::Number("N", 1, 2_147_483_647),
+    help: "Greatest length of a file in bytes, from 1 to 2147483647; that of SOURCE where it is not said",
+};
+
+/// The greatest length of an attribute, that of another image where it isn't said.
+static ATTR_MAX_OR_SOURCE: ArgumentRow = ArgumentRow {
+    id: "attr-max",
+    form: Form::Number("N", 1, 1_022),
+    help: "Greatest length of an attribute in bytes, from 1 to 1022; that of SOURCE where it is not said",
+};
+
 /// That no file is replaced.
 static NEW: ArgumentRow = ArgumentRow {
     id: "new",
     form: Form::Flag,
     help: "Refuse to replace a file that is there",
+};
+
+/// That images are read as a device does.
+static DEVICE: ArgumentRow = ArgumentRow {
+    id: "device",
+    form: Form::Flag,
+    help: "Read the image as a device does: also disk version 2.1, and a superblock that was expanded",
 };
 
 /// That older states are gone on with.
@@ -198,6 +249,20 @@ static OTHER: ArgumentRow = ArgumentRow {
     id: "other",
     form: Form::Word("OTHER"),
     help: "File of the image that it is compared with",
+};
+
+/// The file name of an image that it is made of.
+static SOURCE: ArgumentRow = ArgumentRow {
+    id: "source",
+    form: Form::Word("SOURCE"),
+    help: "File of the image that it is made of; it may be IMAGE itself",
+};
+
+/// The block size of that one.
+static FROM_BLOCK: ArgumentRow = ArgumentRow {
+    id: "from-block",
+    form: Form::OptionOr("BYTES", "auto"),
+    help: "Size of a block of SOURCE, a multiple of 16 from 256 to 65536, or auto",
 };
 
 /// The name of a folder that is read.
@@ -281,15 +346,22 @@ fn row_of(argument: Argument) -> &'static ArgumentRow
         Argument::NewCount => &NEW_COUNT,
         Argument::Size => &SIZE,
         Argument::Least => &LEAST,
+        Argument::LeastOfSource => &LEAST_OF_SOURCE,
         Argument::NameMax => &NAME_MAX,
         Argument::FileMax => &FILE_MAX,
         Argument::AttrMax => &ATTR_MAX,
+        Argument::NameMaxOrSource => &NAME_MAX_OR_SOURCE,
+        Argument::FileMaxOrSource => &FILE_MAX_OR_SOURCE,
+        Argument::AttrMaxOrSource => &ATTR_MAX_OR_SOURCE,
         Argument::New => &NEW,
+        Argument::Device => &DEVICE,
         Argument::Older => &OLDER,
         Argument::Keep => &KEEP,
         Argument::Steps => &STEPS,
         Argument::Image => &IMAGE,
         Argument::Other => &OTHER,
+        Argument::Source => &SOURCE,
+        Argument::FromBlock => &FROM_BLOCK,
         Argument::Dir => &DIR,
         Argument::NewDir => &NEW_DIR,
         Argument::Path => &PATH,
@@ -324,6 +396,9 @@ fn formed<'a>(alloc: Global, row: &ArgumentRow) -> Arg<'a>
             named(alloc, row, name).value_parser(ValueParser::Signed(least, most))
         }
         Form::Option(name, long) => named(alloc, row, name).long(long),
+        Form::OptionOr(name, default) => {
+            named(alloc, row, name).long(row.id).default_value(default)
+        }
         Form::Number(name, least, most) => number(alloc, row, name, least, most),
         Form::NumberOr(name, least, most, default) => {
             number(alloc, row, name, least, most).default_value(default)

@@ -36,13 +36,18 @@ pub const FORMAT_USAGE: &str = "lfsed format [OPTIONS] <--count <N>|--size <BYTE
 pub const PACK_USAGE: &str =
     "lfsed pack [OPTIONS] <--count <N>|--size <BYTES>|--least> <IMAGE> <DIR>";
 
+/// How `repack` is used.
+///
+/// Source: own.
+pub const REPACK_USAGE: &str = "lfsed repack [OPTIONS] <IMAGE> <SOURCE>";
+
 /// How `grow` is used.
 ///
 /// Source: own.
 pub const GROW_USAGE: &str = "lfsed grow [OPTIONS] <IMAGE> <COUNT|--size <BYTES>>";
 
 /// The program's commands, in the order of its help. Each but the last takes the block size and the image's file name.
-static COMMANDS: [CommandRow; 20] = [
+static COMMANDS: [CommandRow; 21] = [
     CommandRow {
         name: "format",
         about: "Write a new image, in place of a file of this name",
@@ -76,6 +81,26 @@ static COMMANDS: [CommandRow; 20] = [
         ],
     },
     CommandRow {
+        name: "repack",
+        about: "Write a new image with all that another one holds, in place of a file of this name",
+        usage: None,
+        arguments: &[
+            Argument::NewBlock,
+            Argument::Image,
+            Argument::Source,
+            Argument::FromBlock,
+            Argument::Count,
+            Argument::Size,
+            Argument::LeastOfSource,
+            Argument::NameMaxOrSource,
+            Argument::FileMaxOrSource,
+            Argument::AttrMaxOrSource,
+            Argument::New,
+            Argument::Device,
+            Argument::Older,
+        ],
+    },
+    CommandRow {
         name: "extract",
         about: "Make a new folder with what is in an image; attributes are left behind",
         usage: None,
@@ -83,6 +108,7 @@ static COMMANDS: [CommandRow; 20] = [
             Argument::Block,
             Argument::Image,
             Argument::NewDir,
+            Argument::Device,
             Argument::Older,
         ],
     },
@@ -90,13 +116,23 @@ static COMMANDS: [CommandRow; 20] = [
         name: "check",
         about: "Judge an image; print its geometry, free blocks, directories and files",
         usage: None,
-        arguments: &[Argument::Block, Argument::Image, Argument::Older],
+        arguments: &[
+            Argument::Block,
+            Argument::Image,
+            Argument::Device,
+            Argument::Older,
+        ],
     },
     CommandRow {
         name: "ls",
         about: "List what stands at each path, with sizes and attributes",
         usage: None,
-        arguments: &[Argument::Block, Argument::Image, Argument::Older],
+        arguments: &[
+            Argument::Block,
+            Argument::Image,
+            Argument::Device,
+            Argument::Older,
+        ],
     },
     CommandRow {
         name: "cat",
@@ -106,6 +142,7 @@ static COMMANDS: [CommandRow; 20] = [
             Argument::Block,
             Argument::Image,
             Argument::Path,
+            Argument::Device,
             Argument::Older,
         ],
     },
@@ -117,6 +154,7 @@ static COMMANDS: [CommandRow; 20] = [
             Argument::Block,
             Argument::Image,
             Argument::Other,
+            Argument::Device,
             Argument::Older,
         ],
     },

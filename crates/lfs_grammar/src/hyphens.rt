@@ -49,7 +49,10 @@ fn names_change_option(word: &str) -> bool
 fn names_image_option(word: &str) -> bool
     ensures { result ≡ names_image_option word.now }
 {
-    word.starts_with("--block") || word.starts_with("--older") || word.starts_with("--from")
+    word.starts_with("--block")
+        || word.starts_with("--device")
+        || word.starts_with("--older")
+        || word.starts_with("--from")
 }
 
 /// Whether a word is an option, or asks for help.
@@ -102,6 +105,7 @@ fn are_plain(options: &ArgMatches<'_>) -> bool
 {
     is_plain(options, "dir")
         && is_plain(options, "other")
+        && is_plain(options, "source")
         && is_plain(options, "contents")
         && is_plain(options, "script")
 }

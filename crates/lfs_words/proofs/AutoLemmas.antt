@@ -1,14 +1,28 @@
--- The words that say `auto` for the block size.
-use Rattle.std.proofs.Common.{◌≡◌, ◌∙◌, List, [], Option, Some, ap, codes, subst, sym}
+-- The words that say `auto` for a block size, and the option that says the size of another image's blocks.
+use Rattle.std.proofs.Common.{◌≡◌, ◌∙◌, List, [], Option, Some, ap, codes, cond, inl, inr, subst, sym}
 use Rattle.std.specs.Option.{option_map_or}
+use Rattle.std.specs.Prelude.{is_some}
 use Rattle.clap.specs.Words.{Row, Text}
-use Rattle.lfs_words.specs.Words.{HasText, SaysAuto}
+use Rattle.lfs_words.specs.Words.{HasNone, HasText, SaysAuto, SaysAutoOther, other_block}
 
 -- they are those of the command that is named
-pub auto_rows : (id : Text) (named : Option (Text × List Row)) (name : Text) (rows : List Row) (file : Text) → named ≡ Some (name, rows)
-    → SaysAuto id named file → HasText rows (codes "block") (codes "auto") × HasText rows id file
-auto_rows id named name rows file is says =
+pub auto_rows : (option id : Text) (named : Option (Text × List Row)) (name : Text) (rows : List Row) (file : Text)
+    → named ≡ Some (name, rows) → SaysAuto option id named file → HasText rows option (codes "auto") × HasText rows id file
+auto_rows option id named name rows file is says =
     let same : says.1 ≡ rows = ap (λ (o : Option (Text × List Row)). option_map_or (λ p. p.1) o []) (sym says.2 ∙ is) in (
-      subst (λ (r : List Row). HasText r (codes "block") (codes "auto")) same says.3,
+      subst (λ (r : List Row). HasText r option (codes "auto")) same says.3,
       subst (λ (r : List Row). HasText r id file) same says.4,
     )
+
+-- they say it neither of one image nor of the other
+pub no_other : (named : Option (Text × List Row)) (file : Text) → (SaysAuto (codes "block") (codes "other") named file → ⊥)
+    → (SaysAuto (codes "from-block") (codes "source") named file → ⊥) → SaysAutoOther named file → ⊥
+no_other named file compared made (inl says) = compared says
+no_other named file compared made (inr says) = made says
+
+-- it has a text of its own, or none
+pub of_its_own : (rows : List Row) (text : Text) → HasText rows (codes "from-block") text → other_block rows ≡ codes "from-block"
+of_its_own rows text has = ap (λ (o : Option Text). cond (is_some o) (codes "from-block") (codes "block")) has
+
+pub of_the_image : (rows : List Row) → HasNone rows (codes "from-block") → other_block rows ≡ codes "block"
+of_the_image rows none = ap (λ (o : Option Text). cond (is_some o) (codes "from-block") (codes "block")) none

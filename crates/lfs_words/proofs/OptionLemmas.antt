@@ -1,6 +1,6 @@
 -- What is read of an argument that is said.
 use Rattle.std.proofs.Common.{◌≡◌, ◌≤◌, ◌∙◌, ℕ, List, Option, Some, None, sym, ap, subst, refl, true, inl, inr, codes, arith}
-use Rattle.std.specs.Prelude.{IfSome, IsNone, Ok, Result, option_map, pos}
+use Rattle.std.specs.Prelude.{IfSome, IsNone, Ok, Result, is_some, option_map, pos}
 use Rattle.std.proofs.lemmas.Option.{none-some, same_Some}
 use Rattle.std.specs.Borrow.{Bor}
 use Rattle.std.specs.Str.Parse.{ParsesUnsigned}
@@ -15,10 +15,10 @@ use Rattle.clap.specs.declared.builder.value_parser.ValueParser.TheVariants.{Sig
 use Rattle.clap.proofs.CallerReads.{signed_reads}
 use Rattle.clap.proofs.ValueTestLemmas.{accepts-Accepts}
 use Rattle.clap.proofs.WalkLemmas.{first_value-rows, one_text-rows}
-use Rattle.lfs_grammar.specs.Grammar.{IsNumber, IsSaid, NamesCommand, is_change, keep}
+use Rattle.lfs_grammar.specs.Grammar.{IsNumber, IsSaid, IsSaidOrNeedNot, NamesCommand, is_change, keep}
 use Rattle.lfs_grammar.proofs.CommandLemmas.{keep_says}
 use Rattle.lfs_history.specs.Taking.{MayKeep}
-use Rattle.lfs_words.specs.Words.{HasNumber, HasText, IsKept}
+use Rattle.lfs_words.specs.Words.{HasNumber, HasNumberIfSaid, HasText}
 
 none_is : {X : Type 0} (r : Option X) → IsNone r → r ≡ None
 none_is None none = refl
@@ -37,6 +37,12 @@ text_there f id r rule gives none is said =
     let first : first_value f id ≡ Some said.text = first_value-rows f id ∙ ap (λ (i : Text). first_of i (rows_of f)) (sym is) ∙ said.first in
     let nothing : None ≡ first_value f id = rw (none_is r none) at gives in
     cc
+
+-- a text is there where one is read
+pub some_there : (f : Found) (id : Text) (r : Option (Bor Text)) → option_map (λ s. s.now) r ≡ first_value f id
+    → is_some r ≡ is_some (first_of id (rows_of f))
+some_there f id None gives = ap is_some (gives ∙ first_value-rows f id)
+some_there f id (Some text) gives = ap is_some (gives ∙ first_value-rows f id)
 
 -- the number that is read
 pub number_read : (E : Type 0) (G : Text → Result ℕ E → Type 0) (f : Found) (id : Text) (r : Option ℕ)
@@ -89,20 +95,26 @@ number_within E G f id (Some n) only some = λ rule is number said.
     let same : got.0 ≡ n = same_Some got.0 n (sym got.1) in
     (subst (λ (m : ℕ). number.0 ≤ m) same got.2, subst (λ (m : ℕ). m ≤ number.1) same got.3)
 
--- ---- how many images are kept
+-- ---- a number that needn't be said
 
-pub kept_as_said : (r : Option ℕ) (rows : List Row) → IfSome r (λ n. HasNumber rows (codes "keep") n)
-    → (IsNone r → IsSaid keep rows → ⊥) → IsKept r rows
-kept_as_said None rows has none = none refl
-kept_as_said (Some n) rows has none = has
+pub number_as_said : (r : Option ℕ) (rule : Rule) (rows : List Row) → IfSome r (λ n. HasNumber rows rule.id n)
+    → (IsNone r → IsSaid rule rows → ⊥) → HasNumberIfSaid rows rule r
+number_as_said None rule rows has none = none refl
+number_as_said (Some n) rule rows has none = has
 
+pub number_ranges : (r : Option ℕ) (rule : Rule) (rows : List Row) (number : IsNumber rule) → IfSome r (λ n. HasNumber rows rule.id n)
+    → IfSome r (λ n. (x : Rule) → x.id ≡ rule.id → (is : IsNumber x) → IsSaid x rows → (is.0 ≤ n) × (n ≤ is.1))
+    → IsSaidOrNeedNot rule rows → IfSome r (λ n. (number.0 ≤ n) × (n ≤ number.1))
+number_ranges None rule rows number has within says = tt
+number_ranges (Some n) rule rows number has within (inl said) = within rule refl number said
+number_ranges (Some n) rule rows number has within (inr gone) = absurd (none-some has.0 (sym gone.2 ∙ has.1))
+
+-- how many images are kept
 pub kept_within : (r : Option ℕ) (name : Text) (rows : List Row) → is_change name ≡ true
     → IfSome r (λ n. HasNumber rows (codes "keep") n)
     → IfSome r (λ n. (rule : Rule) → rule.id ≡ codes "keep" → (is : IsNumber rule) → IsSaid rule rows → (is.0 ≤ n) × (n ≤ is.1))
     → NamesCommand (Some (name, rows)) → MayKeep r
 kept_within None name rows changes has within names = tt
 kept_within (Some n) name rows changes has within names =
-    elim (keep_says name rows changes names) [
-      | inl said ↦ let is : IsNumber keep = (1, 1000, refl, omega arith) in within keep refl is said
-      | inr gone ↦ absurd (none-some has.0 (sym gone.2 ∙ has.1))
-    ]
+    let number : IsNumber keep = (1, 1000, refl, omega arith) in
+    number_ranges (Some n) keep rows number has within (keep_says name rows changes names)

@@ -1,12 +1,13 @@
 -- What the words of a command line ask for (own).
-use Rattle.std.specs.Prelude.{ℕ, Bool, true, false, ◌≡◌, ◌⊎◌, ◌||◌, ⊤, List, [], ◌∷◌, Option, None, Some, codes, map, option_map}
+use Rattle.std.specs.Prelude.{ℕ, Bool, true, false, ◌≡◌, ◌⊎◌, ◌||◌, ⊤, List, [], ◌∷◌, Option, None, Some, codes, if◌then◌else◌, is_some, map}
+use Rattle.std.specs.Prelude.{option_map}
 use Rattle.std.specs.Borrow.{Bor}
 use Rattle.std.specs.List.{list_any}
 use Rattle.std.specs.Option.{option_map_or}
 use Rattle.std.specs.Str.{bytes_eq}
 use Rattle.std.specs.Str.Parse.{digits_value, without_leading_plus}
-use Rattle.clap.specs.Words.{Row, Text, all_of, first_of, one_of}
-use Rattle.lfs_grammar.specs.Grammar.{IsSaid, keep}
+use Rattle.clap.specs.Words.{Row, Rule, Text, all_of, first_of, one_of}
+use Rattle.lfs_grammar.specs.Grammar.{IsSaid, attr_max_or_source, file_max_or_source, keep, name_max_or_source}
 use Rattle.lfs_command.specs.declared.command.Command.{Command}
 use Rattle.lfs_command.specs.declared.command.Command.TheVariants.{Mkdir, Put, Rm, Mv, SetAttr, RmAttr, Grow}
 use Rattle.lfs_fs.specs.declared.limits.Limits.{Limits}
@@ -16,10 +17,13 @@ use Rattle.lfs_history.specs.declared.source.Source.{Source}
 use Rattle.lfs_history.specs.declared.source.Source.TheVariants.{Input, File, Said}
 use Rattle.lfs_request.specs.declared.extent.Extent.{Extent}
 use Rattle.lfs_request.specs.declared.extent.Extent.TheVariants.{Count, Least}
+use Rattle.lfs_request.specs.declared.manner.Manner.{Manner}
 use Rattle.lfs_request.specs.declared.request.Request.{Request}
+use Rattle.lfs_request.specs.declared.said_limits.SaidLimits.{SaidLimits}
+use Rattle.lfs_request.specs.declared.source_image.SourceImage.{SourceImage}
 use Rattle.lfs_request.specs.declared.task.Task.{Task}
 use Rattle.lfs_request.specs.declared.task.Task.TheVariants as task
-use Rattle.lfs_request.specs.declared.task.Task.TheVariants.{Format, Pack, Extract, Ask, Change, Batch}
+use Rattle.lfs_request.specs.declared.task.Task.TheVariants.{Format, Pack, Repack, Extract, Ask, Change, Batch}
 use Rattle.lfs_request.specs.declared.query.Query.{Query}
 use Rattle.lfs_request.specs.declared.query.Query.TheVariants.{Check, Ls, Cat, Diff, Log}
 use Rattle.lfs_texts.specs.Digits.{SpellsByte, SpellsBytes, SpellsNoByte, SpellsNoBytes}
@@ -53,9 +57,22 @@ HasNone rows id = first_of id rows ≡ None
 abbrev pub is_flagged : Text → List Row → Bool
 is_flagged id rows = option_map_or (λ text. bytes_eq text (codes "true")) (first_of id rows) false
 
--- the size of a block, where `auto` stands for this one
-abbrev pub HasBlock : List Row → ℕ → ℕ → Type 0
-HasBlock rows stated size = (text : Text) × HasText rows (codes "block") text × SaysBlock text stated size
+-- a number, where an argument is said that is one
+abbrev pub HasNumberIfSaid : List Row → Rule → Option ℕ → Type 0
+HasNumberIfSaid rows rule (Some number) = HasNumber rows rule.id number
+HasNumberIfSaid rows rule None = IsSaid rule rows → ⊥
+
+-- the size of a block that an option says, where `auto` stands for this one
+abbrev pub HasBlock : List Row → Text → ℕ → ℕ → Type 0
+HasBlock rows option stated size = (text : Text) × HasText rows option text × SaysBlock text stated size
+
+-- the option that says the size of another image's blocks: `--from-block` where it has a text, else `--block`
+abbrev pub other_block : List Row → Text
+other_block rows = if is_some (first_of (codes "from-block") rows) then codes "from-block" else codes "block"
+
+-- the size of a block of another image, where `auto` stands for this one
+abbrev pub HasOtherBlock : List Row → ℕ → ℕ → Type 0
+HasOtherBlock rows stated size = HasBlock rows (other_block rows) stated size
 
 -- how many blocks of this size are said: as a number, or as the size of the image in its place
 abbrev pub SaysCount : List Row → ℕ → ℕ → Type 0
@@ -69,12 +86,38 @@ SaysExtent rows block (Count count) = (is_flagged (codes "least") rows ≡ false
 SaysExtent rows block Least =
     (is_flagged (codes "least") rows ≡ true) × HasNone rows (codes "count") × HasNone rows (codes "size")
 
+-- it is said in some way
+abbrev pub is_extent_said : List Row → Bool
+is_extent_said rows =
+    is_flagged (codes "least") rows || is_some (first_of (codes "count") rows) || is_some (first_of (codes "size") rows)
+
+-- the same of an image that is made of another one, where it needn't be said
+abbrev pub SaysExtentIfSaid : List Row → ℕ → Option Extent → Type 0
+SaysExtentIfSaid rows block (Some extent) = SaysExtent rows block extent
+SaysExtentIfSaid rows block None = is_extent_said rows ≡ false
+
 -- the limits of a new image
 abbrev pub SaysLimits : List Row → Limits → Type 0
 SaysLimits rows limits =
     HasNumber rows (codes "name-max") limits.name
     × HasNumber rows (codes "file-max") limits.file
     × HasNumber rows (codes "attr-max") limits.attribute
+
+-- those of an image that is made of another one, each where it is said
+abbrev pub SaysLimitsIfSaid : List Row → SaidLimits → Type 0
+SaysLimitsIfSaid rows limits =
+    HasNumberIfSaid rows name_max_or_source limits.name
+    × HasNumberIfSaid rows file_max_or_source limits.file
+    × HasNumberIfSaid rows attr_max_or_source limits.attribute
+
+-- how an image is read
+abbrev pub IsManner : Manner → List Row → Type 0
+IsManner manner rows =
+    (manner.takes_older ≡ is_flagged (codes "older") rows) × (manner.by_device ≡ is_flagged (codes "device") rows)
+
+-- the image that a new one is made of, which has blocks of this size
+abbrev pub IsSource : SourceImage → List Row → ℕ → Type 0
+IsSource source rows other = HasText rows (codes "source") source.file.now × (source.size ≡ other) × IsManner source.manner rows
 
 -- where the contents of a file that is put come from: a file of the host, or standard input where none is said
 abbrev pub HasContents : List Row → Source → Type 0
@@ -109,8 +152,7 @@ IsCommand _ name rows block = ⊥
 
 -- how many images of the past are kept behind a command: as many as are said, or all where no number is
 abbrev pub IsKept : Option ℕ → List Row → Type 0
-IsKept (Some number) rows = HasNumber rows (codes "keep") number
-IsKept None rows = IsSaid keep rows → ⊥
+IsKept number rows = HasNumberIfSaid rows keep number
 
 -- the query that a name and its options say, where another image has blocks of this size
 abbrev pub IsQuery : Query (Bor (List ℕ)) → Text → List Row → ℕ → Type 0
@@ -126,8 +168,12 @@ abbrev pub IsTask : Task → Text → List Row → ℕ → ℕ → Type 0
 IsTask (Format count limits) name rows block other = (name ≡ codes "format") × SaysCount rows block count × SaysLimits rows limits
 IsTask (Pack extent limits dir) name rows block other =
     (name ≡ codes "pack") × SaysExtent rows block extent × SaysLimits rows limits × HasText rows (codes "dir") dir.now
-IsTask (Extract dir) name rows block other = (name ≡ codes "extract") × HasText rows (codes "dir") dir.now
-IsTask (Ask query) name rows block other = IsQuery query name rows other
+IsTask (Repack source extent limits) name rows block other =
+    (name ≡ codes "repack") × IsSource source rows other × SaysExtentIfSaid rows block extent × SaysLimitsIfSaid rows limits
+IsTask (Extract dir by_device) name rows block other =
+    (name ≡ codes "extract") × HasText rows (codes "dir") dir.now × (by_device ≡ is_flagged (codes "device") rows)
+IsTask (Ask query by_device) name rows block other =
+    IsQuery query name rows other × (by_device ≡ is_flagged (codes "device") rows)
 IsTask task.Forget name rows block other = name ≡ codes "forget"
 IsTask (Change (Do command kept)) name rows block other = IsCommand command name rows block × IsKept kept rows
 IsTask (Change (Undo steps)) name rows block other = (name ≡ codes "undo") × HasNumber rows (codes "steps") steps
@@ -139,8 +185,8 @@ IsTask (Batch file kept) name rows block other =
 -- the request that a command and its options ask for, where `auto` stands for these block sizes
 abbrev pub IsRequest : Request → Text → List Row → AutoSizes → Type 0
 IsRequest request name rows stated =
-    ((other : ℕ) × HasBlock rows stated.other other × IsTask request.task name rows request.size other)
-    × HasBlock rows stated.image request.size
+    ((other : ℕ) × HasOtherBlock rows stated.other other × IsTask request.task name rows request.size other)
+    × HasBlock rows (codes "block") stated.image request.size
     × HasText rows (codes "image") request.image.now
     × (request.is_new ≡ is_flagged (codes "new") rows)
     × (request.takes_older ≡ is_flagged (codes "older") rows)
@@ -174,16 +220,20 @@ abbrev pub is_question : Text → Bool
 is_question name =
     list_any (λ other. bytes_eq other name) (codes "check" ∷ codes "ls" ∷ codes "cat" ∷ codes "diff" ∷ codes "log" ∷ [])
 
--- `auto` is said for the block size, and this file is named by an argument
-abbrev pub SaysAuto : Text → Option (Text × List Row) → Text → Type 0
-SaysAuto id named file =
-    (name : Text) × (rows : List Row) × (named ≡ Some (name, rows))
-    × HasText rows (codes "block") (codes "auto") × HasText rows id file
+-- `auto` is said for the block size by an option, and this file is named by an argument
+abbrev pub SaysAuto : Text → Text → Option (Text × List Row) → Text → Type 0
+SaysAuto option id named file =
+    (name : Text) × (rows : List Row) × (named ≡ Some (name, rows)) × HasText rows option (codes "auto") × HasText rows id file
 
--- why there is no block size: the text is no size
-abbrev pub IsBlockMisuse : Misuse → List Row → ℕ → Type 0
-IsBlockMisuse (Block text) rows stated = HasText rows (codes "block") text.now × SaysNoBlock text.now stated
-IsBlockMisuse _ rows stated = ⊥
+-- the same of the image that one is compared with, or made of
+abbrev pub SaysAutoOther : Option (Text × List Row) → Text → Type 0
+SaysAutoOther named file =
+    SaysAuto (codes "block") (codes "other") named file ⊎ SaysAuto (codes "from-block") (codes "source") named file
+
+-- why there is no block size: the text of the option that says it is no size
+abbrev pub IsBlockMisuse : Misuse → List Row → Text → ℕ → Type 0
+IsBlockMisuse (Block option text) rows said stated = (option.now ≡ said) × HasText rows said text.now × SaysNoBlock text.now stated
+IsBlockMisuse _ rows said stated = ⊥
 
 -- why there is no number of blocks of this size: it is said in no way, in two ways, or the size of the image says none
 abbrev pub IsCountMisuse : Misuse → List Row → ℕ → Type 0
@@ -204,11 +254,12 @@ IsExtentMisuse misuse rows block =
     ((is_flagged (codes "least") rows ≡ false) × IsCountMisuse misuse rows block)
     ⊎ ((is_flagged (codes "least") rows ≡ true) × IsTwice misuse × (HasSome rows (codes "count") ⊎ HasSome rows (codes "size")))
 
--- why a command says no number of blocks of this size that has to
+-- why a command says no number of blocks of this size that has to, or that says it in some way
 abbrev pub IsSizeMisuse : Misuse → Text → List Row → ℕ → Type 0
 IsSizeMisuse misuse name rows block =
     (((name ≡ codes "format") ⊎ (name ≡ codes "grow")) × IsCountMisuse misuse rows block)
     ⊎ ((name ≡ codes "pack") × IsExtentMisuse misuse rows block)
+    ⊎ ((name ≡ codes "repack") × (is_extent_said rows ≡ true) × IsExtentMisuse misuse rows block)
 
 -- the digits of a kind spell nothing
 abbrev pub IsKindMisuse : Misuse → Text → List Row → Type 0
@@ -237,9 +288,9 @@ IsCommandMisuse misuse name rows block =
 -- why a command and its options say no request: no block size, of the one image or of the other, or nothing to be done
 abbrev pub IsMisuse : Misuse → Text → List Row → AutoSizes → Type 0
 IsMisuse misuse name rows stated =
-    IsBlockMisuse misuse rows stated.image
-    ⊎ IsBlockMisuse misuse rows stated.other
-    ⊎ ((block : ℕ) × HasBlock rows stated.image block × IsCommandMisuse misuse name rows block)
+    IsBlockMisuse misuse rows (codes "block") stated.image
+    ⊎ IsBlockMisuse misuse rows (other_block rows) stated.other
+    ⊎ ((block : ℕ) × HasBlock rows (codes "block") stated.image block × IsCommandMisuse misuse name rows block)
 
 -- the same of the command that is named with its options
 abbrev pub IsMissaid : Option (Text × List Row) → AutoSizes → Misuse → Type 0

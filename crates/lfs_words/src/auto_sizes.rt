@@ -7,6 +7,6 @@
 pub struct AutoSizes {
     /// That of the image.
     pub image: u32,
-    /// That of the image that it is compared with.
+    /// That of the image that it is compared with, or made of.
     pub other: u32,
 }

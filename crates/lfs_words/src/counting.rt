@@ -1,30 +1,58 @@
 //! How many blocks the words of a command say.
 
-ghost use Rattle.std.specs.Prelude.{◌≡◌, ◌≢◌, ◌<◌, ◌⊎◌, IfErr, IfOk, codes};
-ghost use Rattle.clap.specs.Words.{Rule, found_of, rows_of};
+ghost use Rattle.std.specs.Prelude.{◌≡◌, ◌<◌, ◌⊎◌, IfErr, IfOk, List, codes, true};
+ghost use Rattle.clap.specs.Words.{Row, Rule, found_of, rows_of};
 ghost use Rattle.lfs_fs.specs.Superblock.{IsLimits};
-ghost use Rattle.lfs_grammar.specs.Grammar.{IsNumber, IsSaid, IsSaidOrNeedNot, attr_max, count as count_rule, file_max, name_max};
-ghost use Rattle.lfs_words.specs.Words.{HasBlock, IsBlockMisuse, IsCountMisuse, IsExtentMisuse, IsTwice, SaysCount, SaysExtent, SaysLimits};
+ghost use Rattle.lfs_grammar.specs.Grammar.{IsNumber, IsSaid, IsSaidOrNeedNot, attr_max, attr_max_or_source, file_max};
+ghost use Rattle.lfs_grammar.specs.Grammar.{file_max_or_source, name_max, name_max_or_source};
+ghost use Rattle.lfs_request.specs.SaidLimits.{AreSaidInRange};
+ghost use Rattle.lfs_texts.specs.Sizes.{SaysBlock};
+ghost use Rattle.lfs_words.specs.Words.{HasBlock, HasOtherBlock, HasText, IsBlockMisuse, IsCountMisuse, IsExtentMisuse, IsTwice, SaysCount};
+ghost use Rattle.lfs_words.specs.Words.{SaysExtent, SaysExtentIfSaid, SaysLimits, SaysLimitsIfSaid, is_extent_said, other_block};
 ghost use Rattle.lfs_words.specs.declared.misuse.Misuse.TheVariants.{Unsaid};
 
-use crate::misuse::{Misuse, PACK, Ways};
-use crate::options::{number, said, text};
+use crate::misuse::{Misuse, REPACK, Ways};
+use crate::options::{has_text, number, number_if_said, said, text};
 use clap::ArgMatches;
 use lfs_fs::Limits;
-use lfs_request::Extent;
+use lfs_request::{Extent, SaidLimits};
 use lfs_texts::{block_said, blocks_said};
+
+/// The block size that the text of an option says, where `auto` stands for this one.
+fn block_in<'a>(option: &'static str, text: &'a str, stated: u32) -> Result<u32, Misuse<'a>>
+    ensures block { IfOk result (λ size. SaysBlock text.now stated size × (0 < size)) }
+    ensures refused { IfErr result (λ misuse. (rows : List Row) → HasText rows option.now text.now
+        → IsBlockMisuse misuse rows option.now stated) }
+{
+    match block_said(text, stated) {
+        Some(size) => Ok(size),
+        None => Err(Misuse::Block { option, text }),
+    }
+}
 
 /// The block size that the words say, where `auto` stands for this one.
 pub(crate) fn block_of<'a>(options: &ArgMatches<'a>, stated: u32) -> Result<u32, Misuse<'a>>
-    ensures block { IfOk result (λ size. HasBlock (rows_of (found_of options.now)) stated size × (0 < size)) }
-    ensures refused { IfErr result (λ misuse. (misuse ≡ Unsaid) ⊎ IsBlockMisuse misuse (rows_of (found_of options.now)) stated) }
+    ensures block { IfOk result (λ size. HasBlock (rows_of (found_of options.now)) (codes "block") stated size × (0 < size)) }
+    ensures refused { IfErr result (λ misuse. (misuse ≡ Unsaid)
+        ⊎ IsBlockMisuse misuse (rows_of (found_of options.now)) (codes "block") stated) }
     ensures unsaid { IfErr result (λ misuse. misuse ≡ Unsaid → (rule : Rule) → rule.id ≡ codes "block"
         → IsSaid rule (rows_of (found_of options.now)) → ⊥) }
 {
     let text = text(options, "block")?;
-    match block_said(text, stated) {
-        Some(size) => Ok(size),
-        None => Err(Misuse::Block(text)),
+    block_in("block", text, stated)
+}
+
+/// The block size of another image that the words say, where `auto` stands for this one.
+pub(crate) fn other_block_of<'a>(options: &ArgMatches<'a>, stated: u32) -> Result<u32, Misuse<'a>>
+    ensures block { IfOk result (HasOtherBlock (rows_of (found_of options.now)) stated) }
+    ensures refused { IfErr result (λ misuse. (misuse ≡ Unsaid)
+        ⊎ IsBlockMisuse misuse (rows_of (found_of options.now)) (other_block (rows_of (found_of options.now))) stated) }
+    ensures unsaid { IfErr result (λ misuse. misuse ≡ Unsaid → (rule : Rule) → rule.id ≡ codes "block"
+        → IsSaid rule (rows_of (found_of options.now)) → ⊥) }
+{
+    match options.get_str("from-block") {
+        Some(text) => block_in("from-block", text, stated),
+        None => block_of(options, stated),
     }
 }
 
@@ -55,8 +83,12 @@ pub(crate) fn count_of<'a>(
     }
 }
 
-/// How many blocks of this size a packed image gets by the words.
-pub(crate) fn extent_of<'a>(options: &ArgMatches<'a>, block: u32) -> Result<Extent, Misuse<'a>>
+/// How many blocks of this size a packed image gets by the words, which say it in one of these ways.
+pub(crate) fn extent_of<'a>(
+    options: &ArgMatches<'a>,
+    block: u32,
+    ways: Ways,
+) -> Result<Extent, Misuse<'a>>
     requires { 0 < block }
     ensures extent { IfOk result (λ extent. SaysExtent (rows_of (found_of options.now)) block extent) }
     ensures refused { IfErr result (λ misuse. (misuse ≡ Unsaid) ⊎ IsExtentMisuse misuse (rows_of (found_of options.now)) block) }
@@ -64,23 +96,49 @@ pub(crate) fn extent_of<'a>(options: &ArgMatches<'a>, block: u32) -> Result<Exte
         → IsSaidOrNeedNot rule (rows_of (found_of options.now)) → ⊥) }
 {
     if !said(options, "least") {
-        return Ok(Extent::Count(count_of(options, block, PACK)?));
+        return Ok(Extent::Count(count_of(options, block, ways)?));
     }
     match (options.get_str("count"), options.get_str("size")) {
         (None, None) => Ok(Extent::Least),
-        (Some(_), _) => Err(twice("--count <N>")),
-        (None, Some(_)) => Err(twice("--size <BYTES>")),
+        (Some(_), _) => Err(twice(ways, "--count <N>")),
+        (None, Some(_)) => Err(twice(ways, "--size <BYTES>")),
     }
 }
 
 /// What is wrong where `--least` is said beside another way.
-fn twice<'a>(one: &'static str) -> Misuse<'a>
+fn twice<'a>(ways: Ways, one: &'static str) -> Misuse<'a>
     ensures twice { IsTwice result }
 {
     Misuse::TwoCounts {
-        ways: PACK,
+        ways,
         one,
         other: "--least",
+    }
+}
+
+/// Whether the words say in some way how many blocks a packed image gets.
+fn is_extent_said(options: &ArgMatches<'_>) -> bool
+    ensures { result ≡ is_extent_said (rows_of (found_of options.now)) }
+{
+    said(options, "least") || has_text(options, "count") || has_text(options, "size")
+}
+
+/// How many blocks of this size an image gets by the words that is made of another one; `None` where they say it in no way.
+pub(crate) fn extent_if_said<'a>(
+    options: &ArgMatches<'a>,
+    block: u32,
+) -> Result<Option<Extent>, Misuse<'a>>
+    requires { 0 < block }
+    ensures extent { IfOk result (λ extent. SaysExtentIfSaid (rows_of (found_of options.now)) block extent) }
+    ensures refused { IfErr result (λ misuse. (misuse ≡ Unsaid)
+        ⊎ ((is_extent_said (rows_of (found_of options.now)) ≡ true) × IsExtentMisuse misuse (rows_of (found_of options.now)) block)) }
+    ensures unsaid { IfErr result (λ misuse. misuse ≡ Unsaid → (rule : Rule) → rule.id ≡ codes "count" → IsNumber rule
+        → IsSaidOrNeedNot rule (rows_of (found_of options.now)) → ⊥) }
+{
+    if is_extent_said(options) {
+        Ok(Some(extent_of(options, block, REPACK)?))
+    } else {
+        Ok(None)
     }
 }
 
@@ -97,4 +155,18 @@ pub(crate) fn limits_of<'a>(options: &ArgMatches<'a>) -> Result<Limits, Misuse<'
         file: number(options, "file-max")?,
         attribute: number(options, "attr-max")?,
     })
+}
+
+/// The limits that the words say, as far as they do.
+pub(crate) fn limits_if_said(options: &ArgMatches<'_>) -> SaidLimits
+    ensures limits { SaysLimitsIfSaid (rows_of (found_of options.now)) result }
+    ensures within { IsSaidOrNeedNot name_max_or_source (rows_of (found_of options.now))
+        → IsSaidOrNeedNot file_max_or_source (rows_of (found_of options.now))
+        → IsSaidOrNeedNot attr_max_or_source (rows_of (found_of options.now)) → AreSaidInRange result }
+{
+    SaidLimits {
+        name: number_if_said(options, "name-max"),
+        file: number_if_said(options, "file-max"),
+        attribute: number_if_said(options, "attr-max"),
+    }
 }

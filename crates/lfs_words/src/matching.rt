@@ -4,11 +4,11 @@ ghost use Rattle.std.specs.Prelude.{◌≡◌, ◌⊎◌, IfErr, IfOk, IfSome, I
 ghost use Rattle.clap.specs.Words.{Text, found_of, rows_of, subcommand_rows_of};
 ghost use Rattle.lfs_grammar.specs.Grammar.{NamesCommand};
 ghost use Rattle.lfs_request.specs.Task.{IsTaskInRange};
-ghost use Rattle.lfs_words.specs.Words.{AsksFor, Explains, IsMissaid, IsMisuse, IsRequest, NamesExplain, SaysAuto};
+ghost use Rattle.lfs_words.specs.Words.{AsksFor, Explains, IsMissaid, IsMisuse, IsRequest, NamesExplain, SaysAuto, SaysAutoOther};
 ghost use Rattle.lfs_words.specs.declared.misuse.Misuse.TheVariants.{Memory, Unsaid};
 
 use crate::auto_sizes::AutoSizes;
-use crate::counting::block_of;
+use crate::counting::{block_of, other_block_of};
 use crate::misuse::Misuse;
 use crate::options::{said, text};
 use crate::tasks::task_of;
@@ -30,7 +30,7 @@ fn request_of<'a>(
         → name.now ≡ codes "explain") }
 {
     let size = block_of(options, stated.image)?;
-    let other = block_of(options, stated.other)?;
+    let other = other_block_of(options, stated.other)?;
     Ok(Request {
         task: task_of(alloc, name, options, size, other)?,
         size,
@@ -82,29 +82,33 @@ pub fn faults_asked<'m, 'a>(matches: &'m ArgMatches<'a>) -> Option<Option<&'m [&
 ///
 /// Source: own.
 pub fn auto_image<'a>(matches: &ArgMatches<'a>) -> Option<&'a str>
-    ensures some { IfSome result (λ image. SaysAuto (codes "image") (subcommand_rows_of matches.now) image.now) }
-    ensures none { IsNone result → (image : Text) → SaysAuto (codes "image") (subcommand_rows_of matches.now) image → ⊥ }
+    ensures some { IfSome result (λ image. SaysAuto (codes "block") (codes "image") (subcommand_rows_of matches.now) image.now) }
+    ensures none { IsNone result → (image : Text) → SaysAuto (codes "block") (codes "image") (subcommand_rows_of matches.now) image → ⊥ }
 {
-    auto_file(matches, "image")
+    auto_file(matches, "block", "image")
 }
 
-/// The file of the image that it is compared with, where the words say `auto` for the block size. Takes no memory.
+/// The file of the image that it is compared with, or made of, where the words say `auto` for the block size of that one. Takes no
+/// memory.
 ///
 /// Source: own.
 pub fn auto_other<'a>(matches: &ArgMatches<'a>) -> Option<&'a str>
-    ensures some { IfSome result (λ other. SaysAuto (codes "other") (subcommand_rows_of matches.now) other.now) }
-    ensures none { IsNone result → (other : Text) → SaysAuto (codes "other") (subcommand_rows_of matches.now) other → ⊥ }
+    ensures some { IfSome result (λ other. SaysAutoOther (subcommand_rows_of matches.now) other.now) }
+    ensures none { IsNone result → (other : Text) → SaysAutoOther (subcommand_rows_of matches.now) other → ⊥ }
 {
-    auto_file(matches, "other")
+    match auto_file(matches, "block", "other") {
+        Some(other) => Some(other),
+        None => auto_file(matches, "from-block", "source"),
+    }
 }
 
-/// The file that is named by an argument, where the words say `auto` for the block size.
-fn auto_file<'a>(matches: &ArgMatches<'a>, id: &str) -> Option<&'a str>
-    ensures some { IfSome result (λ file. SaysAuto id.now (subcommand_rows_of matches.now) file.now) }
-    ensures none { IsNone result → (file : Text) → SaysAuto id.now (subcommand_rows_of matches.now) file → ⊥ }
+/// The file that is named by an argument, where the words say `auto` for the block size by this option.
+fn auto_file<'a>(matches: &ArgMatches<'a>, option: &str, id: &str) -> Option<&'a str>
+    ensures some { IfSome result (λ file. SaysAuto option.now id.now (subcommand_rows_of matches.now) file.now) }
+    ensures none { IsNone result → (file : Text) → SaysAuto option.now id.now (subcommand_rows_of matches.now) file → ⊥ }
 {
     let (_, options) = matches.subcommand()?;
-    if options.get_str("block")? == "auto" {
+    if options.get_str(option)? == "auto" {
         options.get_str(id)
     } else {
         None

@@ -1,6 +1,6 @@
 //! Why the words of a command say no request.
 
-use lfs_grammar::{FORMAT_USAGE, GROW_USAGE, PACK_USAGE};
+use lfs_grammar::{FORMAT_USAGE, GROW_USAGE, PACK_USAGE, REPACK_USAGE};
 use lfs_texts::{Reason, SizeFault};
 use std::alloc::AllocError;
 use std::fmt;
@@ -32,6 +32,13 @@ pub(crate) const PACK: Ways = Ways {
     usage: PACK_USAGE,
 };
 
+/// How `repack` says it, where it does.
+pub(crate) const REPACK: Ways = Ways {
+    count: "--count <N>",
+    all: "<--count <N>|--size <BYTES>|--least>",
+    usage: REPACK_USAGE,
+};
+
 /// How `grow` says it.
 pub(crate) const GROW: Ways = Ways {
     count: "[COUNT]",
@@ -46,8 +53,13 @@ pub(crate) const GROW: Ways = Ways {
 pub enum Misuse<'a> {
     /// A command is named that takes other words, or one of its words isn't there. The grammar takes no such words.
     Unsaid,
-    /// The text of `--block` is no size of a block.
-    Block(&'a str),
+    /// The text of an option is no size of a block.
+    Block {
+        /// The option's name.
+        option: &'static str,
+        /// The text.
+        text: &'a str,
+    },
     /// No number of blocks is said in any way.
     NoCount(Ways),
     /// It is said in two ways.
@@ -94,7 +106,7 @@ impl<'a> fmt::Display for Misuse<'a> {
     fn fmt<W: fmt::Write>(&self, f: &mut fmt::Formatter<W>) -> fmt::Result {
         match *self {
             Misuse::Unsaid => f.write_str("the command or one of its arguments is missing"),
-            Misuse::Block(text) => show_block(f, text),
+            Misuse::Block { option, text } => show_block(f, option, text),
             Misuse::NoCount(ways) => write!(
                 f,
                 "the following required arguments were not provided:\n  {}\n\nUsage: {}",
@@ -114,13 +126,16 @@ impl<'a> fmt::Display for Misuse<'a> {
     }
 }
 
-/// Says why a text is no size of a block.
-fn show_block<W: fmt::Write>(f: &mut fmt::Formatter<W>, text: &str) -> fmt::Result {
+/// Says why an option's text is no size of a block.
+fn show_block<W: fmt::Write>(f: &mut fmt::Formatter<W>, option: &str, text: &str) -> fmt::Result {
     match text.parse::<i64>() {
         Ok(size) => write!(
             f,
-            "invalid value '{text}' for '--block <BYTES>': {size} is not in 256..=65536"
+            "invalid value '{text}' for '--{option} <BYTES>': {size} is not in 256..=65536"
         ),
-        Err(error) => write!(f, "invalid value '{text}' for '--block <BYTES>': {error}"),
+        Err(error) => write!(
+            f,
+            "invalid value '{text}' for '--{option} <BYTES>': {error}"
+        ),
     }
 }

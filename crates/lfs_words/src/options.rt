@@ -1,7 +1,7 @@
 //! The options that a command's words have.
 
-ghost use Rattle.std.specs.Prelude.{◌≡◌, ◌≤◌, IfErr, IfOk, IfSome, IsNone};
-ghost use Rattle.clap.specs.Words.{Rule, found_of, rows_of};
+ghost use Rattle.std.specs.Prelude.{◌≡◌, ◌≤◌, IfErr, IfOk, IfSome, IsNone, is_some};
+ghost use Rattle.clap.specs.Words.{Rule, first_of, found_of, rows_of};
 ghost use Rattle.lfs_grammar.specs.Grammar.{IsNumber, IsSaid};
 ghost use Rattle.lfs_words.specs.Words.{HasNumber, HasText, is_flagged};
 ghost use Rattle.lfs_words.specs.declared.misuse.Misuse.TheVariants.{Unsaid};
@@ -19,6 +19,13 @@ pub(crate) fn text<'a>(options: &ArgMatches<'a>, id: &str) -> Result<&'a str, Mi
         Some(text) => Ok(text),
         None => Err(Misuse::Unsaid),
     }
+}
+
+/// Whether an option has a text.
+pub(crate) fn has_text(options: &ArgMatches<'_>, id: &str) -> bool
+    ensures { result ≡ is_some (first_of id.now (rows_of (found_of options.now))) }
+{
+    options.get_str(id).is_some()
 }
 
 /// The bytes of an option's text.

@@ -5,17 +5,18 @@ ghost use Rattle.clap.specs.Words.{Text, found_of, rows_of};
 ghost use Rattle.lfs_grammar.specs.Grammar.{NamesCommand, is_change};
 ghost use Rattle.lfs_history.specs.Taking.{MayKeep};
 ghost use Rattle.lfs_request.specs.Task.{IsTaskInRange};
-ghost use Rattle.lfs_words.specs.Words.{HasContents, IsCommand, IsCommandMisuse, IsKept, IsQuery, IsSizeMisuse, IsTask, is_command, is_other, is_question};
+ghost use Rattle.lfs_words.specs.Words.{HasContents, IsCommand, IsCommandMisuse, IsKept, IsManner, IsQuery, IsSizeMisuse, IsTask, is_command};
+ghost use Rattle.lfs_words.specs.Words.{is_other, is_question};
 ghost use Rattle.lfs_words.specs.declared.misuse.Misuse.TheVariants.{Memory, Unsaid};
 
-use crate::counting::{count_of, extent_of, limits_of};
-use crate::misuse::{FORMAT, GROW, Misuse};
-use crate::options::{bytes, number, number_if_said, text};
+use crate::counting::{count_of, extent_if_said, extent_of, limits_if_said, limits_of};
+use crate::misuse::{FORMAT, GROW, Misuse, PACK};
+use crate::options::{bytes, number, number_if_said, said, text};
 use crate::spelling::{attribute_of, kind_of};
 use clap::ArgMatches;
 use lfs_command::Command;
 use lfs_history::{Move, Source};
-use lfs_request::{Query, Task};
+use lfs_request::{Manner, Query, SourceImage, Task};
 use std::alloc::Global;
 
 /// The question that a command's words say, where another image has blocks of this size.
@@ -124,6 +125,35 @@ fn keep_of(options: &ArgMatches<'_>) -> Option<u32>
     number_if_said(options, "keep")
 }
 
+/// What the words of `repack` ask to be done, on an image of this block size; the one that it is made of has blocks of the second size.
+fn repack_of<'a>(options: &ArgMatches<'a>, block: u32, other: u32) -> Result<Task<'a>, Misuse<'a>>
+    requires { 0 < block }
+    ensures some { IfOk result (λ task. IsTask task (codes "repack") (rows_of (found_of options.now)) block other) }
+    ensures within { IfOk result (λ task. NamesCommand (Some (codes "repack", rows_of (found_of options.now))) → IsTaskInRange task) }
+    ensures refused { IfErr result (λ misuse. (misuse ≡ Unsaid) ⊎ IsSizeMisuse misuse (codes "repack") (rows_of (found_of options.now)) block) }
+    ensures unsaid { IfErr result (λ misuse. misuse ≡ Unsaid → NamesCommand (Some (codes "repack", rows_of (found_of options.now))) → ⊥) }
+{
+    Ok(Task::Repack {
+        source: SourceImage {
+            file: text(options, "source")?,
+            size: other,
+            manner: manner_of(options),
+        },
+        extent: extent_if_said(options, block)?,
+        limits: limits_if_said(options),
+    })
+}
+
+/// How the words say that an image is read.
+fn manner_of(options: &ArgMatches<'_>) -> Manner
+    ensures { IsManner result (rows_of (found_of options.now)) }
+{
+    Manner {
+        takes_older: said(options, "older"),
+        by_device: said(options, "device"),
+    }
+}
+
 /// What a command's words ask to be done that is no command on an image's tree; another image has blocks of the second size.
 fn other_task_of<'a>(
     name: &str,
@@ -138,18 +168,21 @@ fn other_task_of<'a>(
     ensures unsaid { IfErr result (λ misuse. misuse ≡ Unsaid → NamesCommand (Some (name.now, rows_of (found_of options.now)))
         → is_other name.now ≡ true) }
 {
+    let by_device = said(options, "device");
     match name {
         "format" => Ok(Task::Format {
             count: count_of(options, block, FORMAT)?,
             limits: limits_of(options)?,
         }),
         "pack" => Ok(Task::Pack {
-            extent: extent_of(options, block)?,
+            extent: extent_of(options, block, PACK)?,
             limits: limits_of(options)?,
             dir: text(options, "dir")?,
         }),
+        "repack" => repack_of(options, block, other),
         "extract" => Ok(Task::Extract {
             dir: text(options, "dir")?,
+            by_device,
         }),
         "undo" => Ok(Task::Change(Move::Undo {
             steps: number(options, "steps")?,
@@ -162,7 +195,10 @@ fn other_task_of<'a>(
             file: options.get_str("script"),
             keep: keep_of(options),
         }),
-        _ => Ok(Task::Ask(question_of(name, options, other)?)),
+        _ => Ok(Task::Ask {
+            query: question_of(name, options, other)?,
+            by_device,
+        }),
     }
 }
 

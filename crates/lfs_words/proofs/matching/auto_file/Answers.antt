@@ -19,8 +19,8 @@ returns-in_err-get_str-clause-none c = λ none image says.
     let name : subcommand_name_of m ≡ Some called = search rules in
     let has : option_map (λ p. p.1) (subcommand_rows_of m) ≡ Some rows = search rules in
     let is = names_command m called rows name has in
-    let gone : None ≡ first_of (codes "block") rows = c.in_err-get_str.ensures ∙ first_value-rows options (codes "block") in
-    none-some (codes "auto") (gone ∙ (auto_rows c.args.id.now (subcommand_rows_of m) called rows image is says).0)
+    let gone : None ≡ first_of c.args.option.now rows = c.in_err-get_str.ensures ∙ first_value-rows options c.args.option.now in
+    none-some (codes "auto") (gone ∙ (auto_rows c.args.option.now c.args.id.now (subcommand_rows_of m) called rows image is says).0)
 
 pub returns-then-eq-clause-some : goal.returns-then-eq-clause-some
 returns-then-eq-clause-some c =
@@ -32,8 +32,8 @@ returns-then-eq-clause-some c =
     let has : option_map (λ p. p.1) (subcommand_rows_of m) ≡ Some rows = search rules in
     let is = names_command m called rows name has in
     let auto : c.in_ok-get_str.field-0.now ≡ codes "auto" = search rules in
-    let block : first_of (codes "block") rows ≡ Some (codes "auto") =
-    sym (c.in_ok-get_str.ensures ∙ first_value-rows options (codes "block")) ∙ ap (λ (t : Text). Some t) auto in
+    let block : first_of c.args.option.now rows ≡ Some (codes "auto") =
+    sym (c.in_ok-get_str.ensures ∙ first_value-rows options c.args.option.now) ∙ ap (λ (t : Text). Some t) auto in
     some_weaker c.get_str-then-eq.result _ _ (λ image text. (called, rows, is, block, text))
     (text_read options c.args.id.now c.get_str-then-eq.result c.get_str-then-eq.ensures)
 
@@ -48,7 +48,7 @@ returns-then-eq-clause-none c = λ none image says.
     let is = names_command m called rows name has in
     let gone : None ≡ first_of c.args.id.now rows =
     none_there options c.args.id.now c.get_str-then-eq.result c.get_str-then-eq.ensures none in
-    none-some image (gone ∙ (auto_rows c.args.id.now (subcommand_rows_of m) called rows image is says).1)
+    none-some image (gone ∙ (auto_rows c.args.option.now c.args.id.now (subcommand_rows_of m) called rows image is says).1)
 
 pub returns-else-eq-clause-none : goal.returns-else-eq-clause-none
 returns-else-eq-clause-none c = λ none image says.
@@ -60,7 +60,8 @@ returns-else-eq-clause-none c = λ none image says.
     let has : option_map (λ p. p.1) (subcommand_rows_of m) ≡ Some rows = search rules in
     let is = names_command m called rows name has in
     let block : Some c.in_ok-get_str.field-0.now ≡ Some (codes "auto") =
-    c.in_ok-get_str.ensures ∙ first_value-rows options (codes "block") ∙ (auto_rows c.args.id.now (subcommand_rows_of m) called rows image is says).0 in
+    c.in_ok-get_str.ensures ∙ first_value-rows options c.args.option.now
+    ∙ (auto_rows c.args.option.now c.args.id.now (subcommand_rows_of m) called rows image is says).0 in
     let auto : c.in_ok-get_str.field-0.now ≡ codes "auto" = ap (λ (o : Option Text). unwrap_or o (codes "auto")) block in
     let other : c.in_ok-get_str.field-0.now ≡ codes "auto" → ⊥ = search rules in
     other auto

@@ -2,12 +2,12 @@ use Rattle.std.proofs.Common.{refl}
 use Rattle.clap.specs.Words.{found_of, rows_of}
 use Rattle.lfs_grammar.specs.Grammar.{keep}
 use Rattle.lfs_grammar.proofs.CommandLemmas.{keep_is}
-use Rattle.lfs_words.proofs.OptionLemmas.{kept_as_said, kept_within}
+use Rattle.lfs_words.proofs.OptionLemmas.{kept_within, number_as_said}
 use Rattle.lfs_words.proofs.tasks.keep_of.Goals as goal
 
 pub returns-clause-kept : goal.returns-clause-kept
 returns-clause-kept c =
-    kept_as_said c.number_if_said.result (rows_of (found_of c.args.options.now)) c.number_if_said.ensures.some
+    number_as_said c.number_if_said.result keep (rows_of (found_of c.args.options.now)) c.number_if_said.ensures.some
     (λ none said. c.number_if_said.ensures.none none keep refl keep_is said)
 
 pub returns-clause-within : goal.returns-clause-within

@@ -1,8 +1,11 @@
-use Rattle.std.proofs.Common.{◌≡◌, ◌∙◌, ap, codes, inl, inr, refl, true}
-use Rattle.clap.specs.Words.{found_of, rows_of}
+use Rattle.std.proofs.Common.{◌≡◌, ◌∙◌, Some, ap, codes, inl, inr, refl, subst, sym, true}
+use Rattle.std.specs.Prelude.{IfOk}
+use Rattle.std.proofs.lemmas.Result.{IfErr-weaker, IfOk-weaker}
+use Rattle.clap.specs.Words.{Text, found_of, rows_of}
 use Rattle.clap.proofs.WalkLemmas.{first_value-rows}
-use Rattle.lfs_grammar.specs.Grammar.{count, is_change, steps, word}
+use Rattle.lfs_grammar.specs.Grammar.{NamesCommand, count, is_change, steps, word}
 use Rattle.lfs_grammar.proofs.CommandLemmas.{count_is, said_of, says_of, steps_is}
+use Rattle.lfs_words.specs.Words.{IsSizeMisuse, IsTask}
 use Rattle.lfs_words.proofs.Handed.{handed_on}
 use Rattle.lfs_words.proofs.tasks.other_task_of.Goals as goal
 
@@ -44,7 +47,7 @@ returns-in_err-extent_of-in-pack-clause-refused c =
     handed_on on.result c.in_err-extent_of-in-pack.field-0.0 _ on.ensures.1
     (elim c.in_err-extent_of-in-pack.ensures.refused [
       | inl unsaid ↦ inl unsaid
-      | inr misuse ↦ inr (inr (c.in-pack.is, misuse))
+      | inr misuse ↦ inr (inr (inl (c.in-pack.is, misuse)))
     ])
 
 pub returns-in_err-extent_of-in-pack-clause-unsaid : goal.returns-in_err-extent_of-in-pack-clause-unsaid
@@ -77,6 +80,32 @@ returns-in_ok-text-in-pack-clause-within c = λ names.
     let said = said_of c.args.name.now (codes "pack") (rows_of (found_of c.args.options.now)) c.in-pack.is names in
     let limits = said.1.1.1.1.1.1 in
     c.in_ok-limits_of-in-pack.ensures.within (limits.0 refl) (limits.1.0 refl) (limits.1.1.0 refl)
+
+pub returns-in-repack-clause-some : goal.returns-in-repack-clause-some
+returns-in-repack-clause-some c =
+    let rows = rows_of (found_of c.args.options.now) in
+    subst (λ (name : Text). IfOk c.repack_of.result (λ task. IsTask task name rows c.args.block c.args.other)) (sym c.in-repack.is)
+    c.repack_of.ensures.some
+
+pub returns-in-repack-clause-within : goal.returns-in-repack-clause-within
+returns-in-repack-clause-within c =
+    let rows = rows_of (found_of c.args.options.now) in
+    IfOk-weaker c.repack_of.result _ _ (λ task within names.
+    within (subst (λ (name : Text). NamesCommand (Some (name, rows))) c.in-repack.is names)) c.repack_of.ensures.within
+
+pub returns-in-repack-clause-refused : goal.returns-in-repack-clause-refused
+returns-in-repack-clause-refused c =
+    let rows = rows_of (found_of c.args.options.now) in
+    IfErr-weaker c.repack_of.result _ _ (λ misuse why. elim why [
+      | inl unsaid ↦ inl unsaid
+      | inr size ↦ inr (subst (λ (name : Text). IsSizeMisuse misuse name rows c.args.block) (sym c.in-repack.is) size)
+    ]) c.repack_of.ensures.refused
+
+pub returns-in-repack-clause-unsaid : goal.returns-in-repack-clause-unsaid
+returns-in-repack-clause-unsaid c =
+    let rows = rows_of (found_of c.args.options.now) in
+    IfErr-weaker c.repack_of.result _ _ (λ misuse never is names.
+    absurd (never is (subst (λ (name : Text). NamesCommand (Some (name, rows))) c.in-repack.is names))) c.repack_of.ensures.unsaid
 
 pub returns-in_err-text-in-extract-clause-unsaid : goal.returns-in_err-text-in-extract-clause-unsaid
 returns-in_err-text-in-extract-clause-unsaid c =
