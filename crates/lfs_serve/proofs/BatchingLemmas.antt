@@ -22,7 +22,7 @@ use Rattle.lfs_step.specs.declared.step.Step.TheVariants.{Change}
 use Rattle.lfs_exchange.specs.StepKind.{kind_of_steps}
 use Rattle.lfs_serve.specs.Batching.{BecomesBatch, BecomesNoBatch, HandsLine, KeepInRange, LinesKeep, MeansMove, ReadsScript, SaysNoSteps, TakesLines, TakesText, move_said, moves_said}
 use Rattle.lfs_serve.specs.Lines.{EndsLines}
-use Rattle.lfs_serve.specs.Program.{EndsTask}
+use Rattle.lfs_serve.specs.Program.{EndsTask, as_it_is}
 use Rattle.lfs_serve.proofs.StepLemmas.{step_from}
 
 -- ---- lines that are read
@@ -164,7 +164,7 @@ script_ends file text keep older size name old mid new ended fault is reads kept
       | inl did ↦ inl (
         Change did.0,
         from_mid file text keep old mid (map step_of did.0.now) reads kept.0 did.1,
-        step_from (Change did.0) older size name mid old new fault kept.0 kept.1 did.2,
+        step_from (Change did.0) (as_it_is older) size name mid old new fault kept.0 kept.1 did.2,
       )
       | inr not ↦
           inr (

@@ -1,11 +1,12 @@
 -- How making a folder of an image ends.
-use Rattle.std.proofs.Common.{◌≡◌, ◌⊎◌, ℕ, Bool, List, Option, Some, None, Result, Ok, Err, refl, sym, subst, inl, inr}
+use Rattle.std.proofs.Common.{◌≡◌, ◌⊎◌, ℕ, List, Option, Some, None, Result, Ok, Err, refl, sym, subst, inl, inr}
 use Rattle.std.specs.Option.{option_map}
 use Rattle.std.specs.Prelude.{IfErr, IfSome}
 use Rattle.std.specs.Result.{result_err}
 use Rattle.lfs_block.specs.Disk.{Disk, IsDisk}
 use Rattle.lfs_block.proofs.BytesLemmas.{image_of_disk}
 use Rattle.lfs_request.specs.declared.fault.Fault.{Fault}
+use Rattle.lfs_request.specs.declared.manner.Manner.{Manner}
 use Rattle.lfs_request.specs.declared.fault.Fault.TheVariants.{Image, Refused, CannotRead, HostEntry}
 use Rattle.lfs_extract.specs.declared.extract_fault.ExtractFault.{ExtractFault}
 use Rattle.lfs_extract.specs.declared.extract_fault.ExtractFault.TheVariants.{Memory, HostName, CannotWrite}
@@ -20,6 +21,7 @@ use Rattle.lfs_exchange.specs.declared.step_kind.StepKind.{StepKind}
 use Rattle.lfs_exchange.specs.declared.step_kind.StepKind.TheVariants.{Asks}
 use Rattle.lfs_exchange.specs.Handing.{HandsImage, IsNotTakenUp, IsUnfound, IsUnread, fault_of_reading, most_image}
 use Rattle.lfs_serve.specs.Later.{later_alone, refused_by}
+use Rattle.lfs_serve.specs.ReadBy.{IsReadBy}
 use Rattle.lfs_serve.specs.Extracting.{EndsBytes, EndsExtract, EndsMaking, FindsFolder, MakesRows, StopsMaking, fault_of_extracting}
 
 -- what the host refuses to read
@@ -73,20 +75,20 @@ bytes_end size bytes d dir tree old new ended fault is size_is bytes_are told en
     subst (EndsBytes size bytes dir tree old new) (sym told) by_bytes
 
 -- what is made of the bytes of a file
-pub file_ends : (older : Bool) (size : ℕ) (name dir bytes : List ℕ) (old mid new : Scene) (ended : Option Fault)
+pub file_ends : (manner : Manner) (size : ℕ) (name dir bytes image : List ℕ) (old mid new : Scene) (ended : Option Fault)
     → ReadsFile old.files name most_image bytes → mid.tree ≡ old.tree → mid.made ≡ old.made → KeepsScene old new
-    → refused_by older (later_alone size bytes) ≡ None → EndsBytes size bytes dir mid.tree mid.made new ended
-    → EndsExtract older size name dir old new ended
-file_ends older size name dir bytes old mid new ended reads tree_is made_is keeps none ends =
-    let by_tree = subst (λ (t : Option HostTree). EndsBytes size bytes dir t mid.made new ended) tree_is ends in
-    let by_made = subst (λ (before : Option (List Made)). EndsBytes size bytes dir old.tree before new ended) made_is by_tree in
-    (keeps, inr (bytes, reads, inr (none, by_made)))
+    → refused_by manner (later_alone size bytes) ≡ None → IsReadBy manner.by_device size bytes image
+    → EndsBytes size image dir mid.tree mid.made new ended → EndsExtract manner size name dir old new ended
+file_ends manner size name dir bytes image old mid new ended reads tree_is made_is keeps none read ends =
+    let by_tree = subst (λ (t : Option HostTree). EndsBytes size image dir t mid.made new ended) tree_is ends in
+    let by_made = subst (λ (before : Option (List Made)). EndsBytes size image dir old.tree before new ended) made_is by_tree in
+    (keeps, inr (bytes, reads, inr (none, (image, read, by_made))))
 
 -- nothing is made of an image that is refused for a commit of a later version
-pub file_later : (older : Bool) (size : ℕ) (name dir bytes : List ℕ) (old new : Scene) (ended : Option Fault) (fault : Fault)
+pub file_later : (manner : Manner) (size : ℕ) (name dir bytes : List ℕ) (old new : Scene) (ended : Option Fault) (fault : Fault)
     → ReadsFile old.files name most_image bytes → KeepsScene old new → new.made ≡ old.made → ended ≡ Some fault
-    → refused_by older (later_alone size bytes) ≡ Some fault → EndsExtract older size name dir old new ended
-file_later older size name dir bytes old new ended fault reads keeps made_is is refused =
+    → refused_by manner (later_alone size bytes) ≡ Some fault → EndsExtract manner size name dir old new ended
+file_later manner size name dir bytes old new ended fault reads keeps made_is is refused =
     (keeps, inr (bytes, reads, inl (made_is, (fault, is, refused))))
 
 -- what is handed of a file that is asked is what is read of it
@@ -106,6 +108,6 @@ not_taken_unread new name fault (inl unfound) = unfound_unread new name fault un
 not_taken_unread new name fault (inr unread) = unread
 
 -- nor of a file that isn't read
-pub file_unread : (older : Bool) (size : ℕ) (name dir : List ℕ) (old new : Scene) (ended : Option Fault) (fault : Fault) → KeepsScene old new
-    → new.made ≡ old.made → ended ≡ Some fault → IsUnread new fault → EndsExtract older size name dir old new ended
-file_unread older size name dir old new ended fault keeps made_is is unread = (keeps, inl (made_is, (fault, is, unread)))
+pub file_unread : (manner : Manner) (size : ℕ) (name dir : List ℕ) (old new : Scene) (ended : Option Fault) (fault : Fault) → KeepsScene old new
+    → new.made ≡ old.made → ended ≡ Some fault → IsUnread new fault → EndsExtract manner size name dir old new ended
+file_unread manner size name dir old new ended fault keeps made_is is unread = (keeps, inl (made_is, (fault, is, unread)))

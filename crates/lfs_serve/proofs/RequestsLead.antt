@@ -1,5 +1,5 @@
 -- Where lists of requests lead.
-use Rattle.std.proofs.Common.{◌≡◌, ◌⊎◌, ◌<◌, ◌≤◌, ◌+◌, ℕ, Bor, Bool, List, [], ◌∷◌, ◌++◌, Option, Some}
+use Rattle.std.proofs.Common.{◌≡◌, ◌⊎◌, ◌<◌, ◌≤◌, ◌+◌, ℕ, Bor, Bool, false, List, [], ◌∷◌, ◌++◌, Option, Some}
 use Rattle.std.proofs.Common.{None, length, refl, sym, ap, subst, ◌∙◌, arith, inl, inr, length-append}
 use Rattle.std.specs.Prelude.{codes, map}
 use Rattle.std.proofs.lemmas.List.{take_all}
@@ -17,6 +17,8 @@ use Rattle.lfs_request.specs.declared.outcome.Outcome.{Outcome}
 use Rattle.lfs_change.specs.Change.{Denotes, DenotesOn}
 use Rattle.lfs_request.specs.Fault.{status_of}
 use Rattle.lfs_change.proofs.ChangeLemmas.{denoted_present}
+use Rattle.lfs_request.specs.declared.manner.Manner.{Manner}
+use Rattle.lfs_request.specs.declared.query.Query.{Query}
 use Rattle.lfs_request.specs.declared.query.Query.TheVariants as query
 use Rattle.lfs_step.specs.declared.step.Step.{Step}
 use Rattle.lfs_step.specs.declared.step.Step.TheVariants.{Format, Pack, Ask, Forget, Change}
@@ -28,7 +30,7 @@ use Rattle.lfs_step.specs.Runs.{GoesOn, HasGoodRows}
 use Rattle.lfs_exchange.specs.declared.step_kind.StepKind.{StepKind}
 use Rattle.lfs_exchange.specs.declared.step_kind.StepKind.TheVariants.{Makes, Asks, Recounts, Changes, Forgets}
 use Rattle.lfs_exchange.specs.Handing.{HandedBytes, IsHanded, IsUnwritten, most_image}
-use Rattle.lfs_exchange.specs.StepKind.{kind_of_steps}
+use Rattle.lfs_exchange.specs.StepKind.{kind_of_query, kind_of_steps}
 use Rattle.lfs_serve.specs.StepKind.{kind_of}
 use Rattle.lfs_exchange.specs.Storing.{HasBoth, LeavesFiles, SparesFiles, journal_name, new_name, new_names}
 use Rattle.lfs_host.specs.Files.{Apart, BeginsWith, Files, FindsFile, ReadsFile, bytes_there}
@@ -36,7 +38,9 @@ use Rattle.lfs_host.specs.Scene.{KeepsScene, Scene, WasRefused, unknown}
 use Rattle.lfs_request.specs.declared.task.Task.{Task}
 use Rattle.lfs_request.specs.declared.task.Task.TheVariants as task
 use Rattle.lfs_serve.specs.HostFolder.{packed_of}
-use Rattle.lfs_serve.specs.Program.{BecomesStep, EndsStep, EndsTask, IsNotBegun, StopsStep}
+use Rattle.lfs_repack.specs.Repacked.{all_packed}
+use Rattle.lfs_serve.specs.ReadBy.{IsReadBy}
+use Rattle.lfs_serve.specs.Program.{BecomesStep, EndsStep, EndsTask, IsNotBegun, StopsStep, manner_of}
 use Rattle.lfs_serve.specs.Requests.{FilesDenote, IsServedOn, IsTorn, RequestGoes, RequestsLeadOn, Served, TaskGoes, TaskGoesBy}
 use Rattle.lfs_serve.proofs.StepLemmas.{handed_from}
 
@@ -151,6 +155,14 @@ asks query size name old new h denotes same = record {
   denotes = same_files size name old new h same denotes;
 }
 
+asked : (query : Question) (size : ℕ) (name : List ℕ) (old new : Files) (h : History) (outcome : Outcome) → FilesDenote size name old h
+    → LeavesFiles (kind_of_query query) (Some old) (Some new) name outcome → StepLeads size name (Ask query) new h
+asked query.Check size name old new h outcome denotes same = asks query.Check size name old new h denotes same
+asked query.Ls size name old new h outcome denotes same = asks query.Ls size name old new h denotes same
+asked (query.Cat path) size name old new h outcome denotes same = asks (query.Cat path) size name old new h denotes same
+asked (query.Diff other other_size) size name old new h outcome denotes same = asks (query.Diff other other_size) size name old new h denotes same
+asked query.Log size name old new h outcome denotes same = asks query.Log size name old new h denotes same
+
 -- all but the image is forgotten
 forgets : Laws → (size : ℕ) (name : List ℕ) (old new : Files) (h : History) (b : HandedBytes) (outcome : Outcome) → FilesDenote size name old h
     → IsHanded Forgets name (with_files old) b → AnswersDone Forget (given size b.image b.journal) outcome
@@ -209,30 +221,40 @@ done_leads laws (Pack count limits rows) size name old new h b outcome (packed, 
     let next = fresh_history (image_of size outcome.image.items) in
     let left = laws.leaves (Pack count limits rows) (given size b.image b.journal) outcome answers packed are in
     record { next = next; goes = (refl, answers.0); denotes = written size name old new outcome next both left }
-done_leads laws (Ask query.Check) size name old new h b outcome good denotes handed answers same = asks query.Check size name old new h denotes same
-done_leads laws (Ask query.Ls) size name old new h b outcome good denotes handed answers same = asks query.Ls size name old new h denotes same
-done_leads laws (Ask (query.Cat path)) size name old new h b outcome good denotes handed answers same =
-    asks (query.Cat path) size name old new h denotes same
-done_leads laws (Ask (query.Diff other other_size)) size name old new h b outcome good denotes handed answers same =
-    asks (query.Diff other other_size) size name old new h denotes same
-done_leads laws (Ask query.Log) size name old new h b outcome good denotes handed answers same = asks query.Log size name old new h denotes same
+done_leads laws (Ask query) size name old new h b outcome good denotes handed answers same = asked query size name old new h outcome denotes same
 done_leads laws Forget size name old new h b outcome good denotes handed answers leaves =
     forgets laws size name old new h b outcome denotes handed answers leaves
 done_leads laws (Change steps) size name old new h b outcome good denotes handed answers leaves =
     takes_all laws steps.now steps refl size name old new h b outcome denotes handed answers leaves
 
+-- a step is a question
+abbrev IsAsking : Step → Type 0
+IsAsking s = (query : Question) × (s ≡ Ask query)
+
+-- only a question may be asked of an image that is read as a device does
+abbrev IsReadFor : Step → Manner → Type 0
+IsReadFor s manner = (manner.by_device ≡ false) ⊎ IsAsking s
+
 -- a step that was done
-step_leads : Laws → (s : Step) (older : Bool) (size : ℕ) (name : List ℕ) (scene behind : Scene) (old new : Files) (h : History) → HasGoodRows s
-    → scene.files ≡ Some old → behind.files ≡ Some new → FilesDenote size name old h → EndsStep s older size name scene behind None
-    → StepLeads size name s new h
-step_leads laws s older size name scene behind old new h good before later denotes (outcome, runs, leaves, flushed) =
+step_leads : Laws → (s : Step) (manner : Manner) (size : ℕ) (name : List ℕ) (scene behind : Scene) (old new : Files) (h : History) → HasGoodRows s
+    → IsReadFor s manner → scene.files ≡ Some old → behind.files ≡ Some new → FilesDenote size name old h
+    → EndsStep s manner size name scene behind None → StepLeads size name s new h
+step_leads laws s manner size name scene behind old new h good for before later denotes (outcome, runs, leaves, flushed) =
     let b = runs.bytes in
     let at : IsHanded (kind_of s) name (with_files old) b = handed_from (kind_of s) name scene (with_files old) b before runs.handed in
-    let done = subst (λ (f : Option Fault). AnswersBy f s (given size b.image b.journal) outcome) runs.fault_is runs.answers in
+    let done = subst (λ (f : Option Fault). AnswersBy f s (given size runs.image b.journal) outcome) runs.fault_is runs.answers in
     let left : LeavesFiles (kind_of s) (Some old) (Some new) name outcome =
     subst (λ (f : Option Files). LeavesFiles (kind_of s) (Some old) f name outcome) later
     (subst (λ (f : Option Files). LeavesFiles (kind_of s) f behind.files name outcome) before leaves) in
-    done_leads laws s size name old new h b outcome good denotes at done left
+    elim for [
+      | inl plain ↦
+          let same : runs.image ≡ b.image = subst (λ (d : Bool). IsReadBy d size b.image runs.image) plain runs.read in
+          done_leads laws s size name old new h b outcome good denotes at
+          (subst (λ (i : List ℕ). AnswersDone s (given size i b.journal) outcome) same done) left
+      | inr (query, is) ↦
+          subst (λ (t : Step). StepLeads size name t new h) (sym is)
+          (asked query size name old new h outcome denotes (subst (λ (t : Step). LeavesFiles (kind_of t) (Some old) (Some new) name outcome) is left))
+    ]
 
 -- ---- what a step leaves that wasn't done
 
@@ -265,14 +287,14 @@ abbrev IsTornBy : Scene → ℕ → List ℕ → Files → Files → Type 0
 IsTornBy behind status name old new = WasRefused behind.has_refused_place × (status ≡ 4) × (new name ≡ old name)
 
 -- the files denote the history still, or the host tore them apart
-stop_leaves : (s : Step) (older : Bool) (size : ℕ) (name : List ℕ) (scene behind : Scene) (fault : Fault) (old new : Files) (h : History)
-    → scene.files ≡ Some old → behind.files ≡ Some new → FilesDenote size name old h → StopsStep s older size name scene behind fault
+stop_leaves : (s : Step) (manner : Manner) (size : ℕ) (name : List ℕ) (scene behind : Scene) (fault : Fault) (old new : Files) (h : History)
+    → scene.files ≡ Some old → behind.files ≡ Some new → FilesDenote size name old h → StopsStep s manner size name scene behind fault
     → FilesDenote size name new h ⊎ IsTornBy behind (status_of (Some fault)) name old new
-stop_leaves s older size name scene behind fault old new h before later denotes (inl (outcome, runs, same)) =
+stop_leaves s manner size name scene behind fault old new h before later denotes (inl (outcome, runs, same)) =
     inl (same_files size name old new h (sym later ∙ same ∙ before) denotes)
-stop_leaves s older size name scene behind fault old new h before later denotes (inr (inl (refused, keeps))) =
+stop_leaves s manner size name scene behind fault old new h before later denotes (inr (inl (refused, keeps))) =
     inl (same_files size name old new h (sym later ∙ keeps.0 ∙ before) denotes)
-stop_leaves s older size name scene behind fault old new h before later denotes (inr (inr (unwritten, (outcome, runs, spares)))) =
+stop_leaves s manner size name scene behind fault old new h before later denotes (inr (inr (unwritten, (outcome, runs, spares)))) =
     let placed = behind.has_refused_place in
     let left : SparesFiles fault (kind_of s) placed (Some old) (Some new) name outcome =
     subst (λ (f : Option Files). SparesFiles fault (kind_of s) placed (Some old) f name outcome) later
@@ -287,9 +309,11 @@ stop_leaves s older size name scene behind fault old new h before later denotes 
 -- the rows of a folder say what is packed, and no other step has any
 good_step : (t : Task) (size : ℕ) (scene : Scene) (s : Step) → BecomesStep t size scene s → HasGoodRows s
 good_step (task.Pack extent limits dir) size scene (Pack count stated rows) (folder, counts, same) = (map packed_of folder.shown, folder.packed)
+good_step (task.Repack source extent said) size scene (Pack count stated rows) packs =
+    (all_packed (image_of source.size packs.image) packs.mounted.rows, packs.rows_are)
 good_step (task.Format many limits) size scene (Pack count stated rows) becomes = absurd becomes
-good_step (task.Extract dir) size scene (Pack count stated rows) becomes = absurd becomes
-good_step (task.Ask query) size scene (Pack count stated rows) becomes = absurd becomes
+good_step (task.Extract dir by_device) size scene (Pack count stated rows) becomes = absurd becomes
+good_step (task.Ask query by_device) size scene (Pack count stated rows) becomes = absurd becomes
 good_step task.Forget size scene (Pack count stated rows) becomes = absurd becomes
 good_step (task.Change move) size scene (Pack count stated rows) becomes = absurd becomes
 good_step (task.Batch file keep) size scene (Pack count stated rows) becomes = absurd becomes
@@ -310,9 +334,10 @@ stopped size name t scene behind fault old new h (inl denotes) = Leads h refl de
 stopped size name t scene behind fault old new h (inr torn) = Tears torn
 
 -- a folder that is made leaves the history
-extracted : (fault : Option Fault) (size : ℕ) (dir : Bor (List ℕ)) (scene : Scene) (h : History) → TaskGoesBy fault size (task.Extract dir) scene h h
-extracted None size dir scene h = refl
-extracted (Some fault) size dir scene h = refl
+extracted : (fault : Option Fault) (size : ℕ) (dir : Bor (List ℕ)) (by_device : Bool) (scene : Scene) (h : History)
+    → TaskGoesBy fault size (task.Extract dir by_device) scene h h
+extracted None size dir by_device scene h = refl
+extracted (Some fault) size dir by_device scene h = refl
 
 -- the name of an image that is to be new is taken: nothing is done
 name_taken : (fault : Option Fault) (size : ℕ) (name : List ℕ) (t : Task) (scene behind : Scene) (old new : Files) (h : History)
@@ -323,41 +348,61 @@ name_taken fault size name t scene behind old new h is denotes =
 -- as the step that a task becomes, or before that
 abbrev EndsAsStep : Task → Bool → ℕ → List ℕ → Scene → Scene → Option Fault → Type 0
 EndsAsStep t older size name old new fault =
-    ((s : Step) × BecomesStep t size old s × EndsStep s older size name old new fault)
+    ((s : Step) × BecomesStep t size old s × EndsStep s (manner_of t older) size name old new fault)
     ⊎ (KeepsScene old new × ((why : Fault) × (fault ≡ Some why) × IsNotBegun t name old new why))
+
+-- the task of a question becomes one
+asking : (query : Query (Bor (List ℕ))) (by_device : Bool) (size : ℕ) (scene : Scene) (s : Step) → BecomesStep (task.Ask query by_device) size scene s
+    → IsAsking s
+asking query by_device size scene (Ask question) becomes = (question, refl)
+asking query by_device size scene (Format count limits) becomes = absurd becomes
+asking query by_device size scene (Pack count limits rows) becomes = absurd becomes
+asking query by_device size scene Forget becomes = absurd becomes
+asking query by_device size scene (Change steps) becomes = absurd becomes
 
 -- a task that becomes a step
 step_ends : Laws → (fault : Option Fault) (t : Task) (older : Bool) (size : ℕ) (name : List ℕ) (scene behind : Scene) (old new : Files) (h : History)
     → ((next : History) → (s : Step) × BecomesStep t size scene s × GoesOn size s h next → TaskGoes size t scene h next)
+    → ((s : Step) → BecomesStep t size scene s → IsReadFor s (manner_of t older))
     → scene.files ≡ Some old → behind.files ≡ Some new → FilesDenote size name old h → EndsAsStep t older size name scene behind fault
     → Ends size name t scene behind fault old new h
-step_ends laws None t older size name scene behind old new h turn before later denotes (inl (s, becomes, ends)) =
-    let leads = step_leads laws s older size name scene behind old new h (good_step t size scene s becomes) before later denotes ends in
+step_ends laws None t older size name scene behind old new h turn for before later denotes (inl (s, becomes, ends)) =
+    let leads = step_leads laws s (manner_of t older) size name scene behind old new h (good_step t size scene s becomes) (for s becomes) before
+    later denotes ends in
     Leads leads.next (turn leads.next (s, becomes, leads.goes)) leads.denotes
-step_ends laws None t older size name scene behind old new h turn before later denotes (inr (keeps, (why, is, not))) = absurd cc
-step_ends laws (Some fault) t older size name scene behind old new h turn before later denotes (inl (s, becomes, ends)) =
-    stopped size name t scene behind fault old new h (stop_leaves s older size name scene behind fault old new h before later denotes ends)
-step_ends laws (Some fault) t older size name scene behind old new h turn before later denotes (inr (keeps, not)) =
+step_ends laws None t older size name scene behind old new h turn for before later denotes (inr (keeps, (why, is, not))) = absurd cc
+step_ends laws (Some fault) t older size name scene behind old new h turn for before later denotes (inl (s, becomes, ends)) =
+    stopped size name t scene behind fault old new h (stop_leaves s (manner_of t older) size name scene behind fault old new h before later denotes ends)
+step_ends laws (Some fault) t older size name scene behind old new h turn for before later denotes (inr (keeps, not)) =
     Leads h refl (same_files size name old new h (sym later ∙ keeps.0 ∙ before) denotes)
 
 -- any task
 task_ends : Laws → (fault : Option Fault) (t : Task) (older : Bool) (size : ℕ) (name : List ℕ) (scene behind : Scene) (old new : Files) (h : History)
     → scene.files ≡ Some old → behind.files ≡ Some new → FilesDenote size name old h → EndsTask t older size name scene behind fault
     → Ends size name t scene behind fault old new h
-task_ends laws fault (task.Extract dir) older size name scene behind old new h before later denotes ends =
-    Leads h (extracted fault size dir scene h) (same_files size name old new h (sym later ∙ ends.0.0 ∙ before) denotes)
+task_ends laws fault (task.Extract dir by_device) older size name scene behind old new h before later denotes ends =
+    Leads h (extracted fault size dir by_device scene h) (same_files size name old new h (sym later ∙ ends.0.0 ∙ before) denotes)
 task_ends laws fault (task.Format count limits) older size name scene behind old new h before later denotes ends =
-    step_ends laws fault (task.Format count limits) older size name scene behind old new h (λ next goes. goes) before later denotes ends
+    step_ends laws fault (task.Format count limits) older size name scene behind old new h (λ next goes. goes) (λ s becomes. inl refl) before later
+    denotes ends
 task_ends laws fault (task.Pack extent limits dir) older size name scene behind old new h before later denotes ends =
-    step_ends laws fault (task.Pack extent limits dir) older size name scene behind old new h (λ next goes. goes) before later denotes ends
-task_ends laws fault (task.Ask query) older size name scene behind old new h before later denotes ends =
-    step_ends laws fault (task.Ask query) older size name scene behind old new h (λ next goes. goes) before later denotes ends
+    step_ends laws fault (task.Pack extent limits dir) older size name scene behind old new h (λ next goes. goes) (λ s becomes. inl refl) before later
+    denotes ends
+task_ends laws fault (task.Repack source extent said) older size name scene behind old new h before later denotes ends =
+    step_ends laws fault (task.Repack source extent said) older size name scene behind old new h (λ next goes. goes) (λ s becomes. inl refl) before later
+    denotes ends
+task_ends laws fault (task.Ask query by_device) older size name scene behind old new h before later denotes ends =
+    step_ends laws fault (task.Ask query by_device) older size name scene behind old new h (λ next goes. goes)
+    (λ s becomes. inr (asking query by_device size scene s becomes)) before later denotes ends
 task_ends laws fault task.Forget older size name scene behind old new h before later denotes ends =
-    step_ends laws fault task.Forget older size name scene behind old new h (λ next goes. goes) before later denotes ends
+    step_ends laws fault task.Forget older size name scene behind old new h (λ next goes. goes) (λ s becomes. inl refl) before later
+    denotes ends
 task_ends laws fault (task.Change move) older size name scene behind old new h before later denotes ends =
-    step_ends laws fault (task.Change move) older size name scene behind old new h (λ next goes. goes) before later denotes ends
+    step_ends laws fault (task.Change move) older size name scene behind old new h (λ next goes. goes) (λ s becomes. inl refl) before later
+    denotes ends
 task_ends laws fault (task.Batch file keep) older size name scene behind old new h before later denotes ends =
-    step_ends laws fault (task.Batch file keep) older size name scene behind old new h (λ next goes. goes) before later denotes ends
+    step_ends laws fault (task.Batch file keep) older size name scene behind old new h (λ next goes. goes) (λ s becomes. inl refl) before later
+    denotes ends
 
 -- ---- requests
 

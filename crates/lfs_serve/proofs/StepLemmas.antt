@@ -3,6 +3,7 @@ use Rattle.std.proofs.Common.{◌≡◌, ℕ, Bool, true, List, Option, Some, No
 use Rattle.std.specs.Prelude.{Contains, IfSome}
 use Rattle.lfs_request.specs.declared.fault.Fault.{Fault}
 use Rattle.lfs_request.specs.declared.fault.Fault.TheVariants.{Refused, CannotWrite}
+use Rattle.lfs_request.specs.declared.manner.Manner.{Manner}
 use Rattle.lfs_request.specs.declared.outcome.Outcome.{Outcome}
 use Rattle.lfs_request.specs.Fault.{blames_output}
 use Rattle.lfs_step.specs.declared.step.Step.{Step}
@@ -16,9 +17,9 @@ use Rattle.lfs_host.specs.Files.{Files, IsTarget}
 use Rattle.lfs_host.specs.Scene.{HasClaimed, KeepsScene, Scene, is_blamed}
 use Rattle.lfs_host.proofs.BlameLemmas.{blamed_has_refused}
 use Rattle.lfs_report.specs.Stop.{stopped_by}
-use Rattle.lfs_report.specs.declared.later.Later.{Later}
 use Rattle.lfs_report.specs.declared.stop.Stop.{Stop}
 use Rattle.lfs_serve.specs.Later.{later_read, refused_by}
+use Rattle.lfs_serve.specs.ReadBy.{IsReadBy, WantsMemory}
 use Rattle.lfs_serve.specs.Program.{EndsStep, IsBlamed, RunsStep, StopsStep}
 
 -- ---- the file that a name leads to
@@ -98,19 +99,22 @@ pub blames : (fault : Option Fault) (failed : Bool) (s : Scene) → failed ≡ b
 blames (Some CannotWrite) failed s is blamed = blamed_has_refused failed s is blamed
 blames _ failed s is blamed = tt
 
--- a step that ran on what it was handed; nothing was printed behind it
-pub step_ran : (step : Step) (older : Bool) (size : ℕ) (name : List ℕ) (old new : Scene) (h : HandedBytes) (fault : Option Fault)
-    (after : Option (List ℕ)) (outcome : Outcome) → IsHanded (kind_of step) name old h → refused_by older (later_read step size h.image) ≡ None
-    → Answers step (given size h.image h.journal) outcome → outcome.fault ≡ fault
-    → SendsText step (given size h.image h.journal) fault old.printed after → new.printed ≡ after → IsBlamed fault new
-    → RunsStep step older size name old new fault outcome
-step_ran step older size name old new h fault after outcome is none answers fault_is sends last blamed = record {
+-- a step that ran on what it was handed, as it was read; nothing was printed behind it
+pub step_ran : (step : Step) (manner : Manner) (size : ℕ) (name : List ℕ) (old new : Scene) (h : HandedBytes) (image : List ℕ)
+    (fault : Option Fault) (after : Option (List ℕ)) (outcome : Outcome) → IsHanded (kind_of step) name old h
+    → refused_by manner (later_read step size h.image) ≡ None → IsReadBy manner.by_device size h.image image
+    → Answers step (given size image h.journal) outcome → outcome.fault ≡ fault
+    → SendsText step (given size image h.journal) fault old.printed after → new.printed ≡ after → IsBlamed fault new
+    → RunsStep step manner size name old new fault outcome
+step_ran step manner size name old new h image fault after outcome is none reads answers fault_is sends last blamed = record {
   bytes = h;
   handed = is;
-  read = none;
+  not_later = none;
+  image = image;
+  read = reads;
   answers = answers;
   fault_is = fault_is;
-  sends = subst (λ (p : Option (List ℕ)). SendsText step (given size h.image h.journal) fault old.printed p) (sym last) sends;
+  sends = subst (λ (p : Option (List ℕ)). SendsText step (given size image h.journal) fault old.printed p) (sym last) sends;
   blamed = blamed;
 }
 
@@ -119,81 +123,84 @@ pub stopped_at : {T : Type 0} (r : Result T Stop) (fault : Fault) (stop : Stop) 
     → stopped_by r ≡ Some fault
 stopped_at r fault stop is same = ap stopped_by is ∙ ap Some same
 
--- ---- commits of a later version
-
--- what a result is stopped by, of what a step is done on
-pub refused_read : (older : Bool) (step : Step) (size : ℕ) (image : List ℕ) (found : Later) (ended : Option Fault)
-    → found ≡ later_read step size image → ended ≡ refused_by older found → refused_by older (later_read step size image) ≡ ended
-refused_read older step size image found ended is refused = subst (λ (l : Later). refused_by older l ≡ ended) is (sym refused)
-
 -- ---- how steps end
 
-ends_stopped : (step : Step) (older : Bool) (size : ℕ) (name : List ℕ) (old new : Scene) (ended : Option Fault) (fault : Fault)
-    → ended ≡ Some fault → StopsStep step older size name old new fault → EndsStep step older size name old new ended
-ends_stopped step older size name old new ended fault is stops = subst (EndsStep step older size name old new) (sym is) stops
+ends_stopped : (step : Step) (manner : Manner) (size : ℕ) (name : List ℕ) (old new : Scene) (ended : Option Fault) (fault : Fault)
+    → ended ≡ Some fault → StopsStep step manner size name old new fault → EndsStep step manner size name old new ended
+ends_stopped step manner size name old new ended fault is stops = subst (EndsStep step manner size name old new) (sym is) stops
 
 -- what is refused for a commit of a later version changes nothing
-pub ends_later : (step : Step) (older : Bool) (size : ℕ) (name : List ℕ) (old new : Scene) (h : HandedBytes) (ended : Option Fault) (fault : Fault)
-    → ended ≡ Some fault → IsHanded (kind_of step) name old h → refused_by older (later_read step size h.image) ≡ Some fault
-    → KeepsScene old new → EndsStep step older size name old new ended
-ends_later step older size name old new h ended fault is handed refused keeps =
-    ends_stopped step older size name old new ended fault is (inr (inl ((h, handed, refused), keeps)))
+pub ends_later : (step : Step) (manner : Manner) (size : ℕ) (name : List ℕ) (old new : Scene) (h : HandedBytes) (ended : Option Fault) (fault : Fault)
+    → ended ≡ Some fault → IsHanded (kind_of step) name old h → refused_by manner (later_read step size h.image) ≡ Some fault
+    → KeepsScene old new → EndsStep step manner size name old new ended
+ends_later step manner size name old new h ended fault is handed refused keeps =
+    ends_stopped step manner size name old new ended fault is (inr (inl (inl (h, handed, refused), keeps)))
+
+-- nor does want of memory to read an image as a device does
+pub ends_wanting : (step : Step) (manner : Manner) (size : ℕ) (name : List ℕ) (old new : Scene) (ended : Option Fault) (fault : Fault)
+    → ended ≡ Some fault → WantsMemory manner.by_device fault → KeepsScene old new → EndsStep step manner size name old new ended
+ends_wanting step manner size name old new ended fault is wants keeps =
+    ends_stopped step manner size name old new ended fault is (inr (inl (inr wants, keeps)))
 
 -- a run that is refused changes no file
-pub ends_refused : (step : Step) (older : Bool) (size : ℕ) (name : List ℕ) (old new : Scene) (ended : Option Fault) (fault : Fault) (outcome : Outcome)
-    → ended ≡ Some fault → RunsStep step older size name old new (Some fault) outcome → new.files ≡ old.files
-    → EndsStep step older size name old new ended
-ends_refused step older size name old new ended fault outcome is runs same =
-    ends_stopped step older size name old new ended fault is (inl (outcome, runs, same))
+pub ends_refused : (step : Step) (manner : Manner) (size : ℕ) (name : List ℕ) (old new : Scene) (ended : Option Fault) (fault : Fault) (outcome : Outcome)
+    → ended ≡ Some fault → RunsStep step manner size name old new (Some fault) outcome → new.files ≡ old.files
+    → EndsStep step manner size name old new ended
+ends_refused step manner size name old new ended fault outcome is runs same =
+    ends_stopped step manner size name old new ended fault is (inl (outcome, runs, same))
 
 -- what the host refuses behind a run spares the files
-pub ends_behind : (step : Step) (older : Bool) (size : ℕ) (name : List ℕ) (old new : Scene) (ended : Option Fault) (fault : Fault) (outcome : Outcome)
-    → ended ≡ Some fault → IsUnwritten new fault → RunsStep step older size name old new None outcome
-    → SparesFiles fault (kind_of step) new.has_refused_place old.files new.files name outcome → EndsStep step older size name old new ended
-ends_behind step older size name old new ended fault outcome is unwritten runs spares =
-    ends_stopped step older size name old new ended fault is (inr (inr (unwritten, (outcome, runs, spares))))
+pub ends_behind : (step : Step) (manner : Manner) (size : ℕ) (name : List ℕ) (old new : Scene) (ended : Option Fault) (fault : Fault) (outcome : Outcome)
+    → ended ≡ Some fault → IsUnwritten new fault → RunsStep step manner size name old new None outcome
+    → SparesFiles fault (kind_of step) new.has_refused_place old.files new.files name outcome → EndsStep step manner size name old new ended
+ends_behind step manner size name old new ended fault outcome is unwritten runs spares =
+    ends_stopped step manner size name old new ended fault is (inr (inr (unwritten, (outcome, runs, spares))))
 
 -- ---- a step on a host with the same files and standard output
 
-runs_from : (step : Step) (older : Bool) (size : ℕ) (name : List ℕ) (mid old new : Scene) (fault : Option Fault) (outcome : Outcome)
-    → mid.files ≡ old.files → mid.printed ≡ old.printed → RunsStep step older size name mid new fault outcome
-    → RunsStep step older size name old new fault outcome
-runs_from step older size name mid old new fault outcome files printed runs = record {
+runs_from : (step : Step) (manner : Manner) (size : ℕ) (name : List ℕ) (mid old new : Scene) (fault : Option Fault) (outcome : Outcome)
+    → mid.files ≡ old.files → mid.printed ≡ old.printed → RunsStep step manner size name mid new fault outcome
+    → RunsStep step manner size name old new fault outcome
+runs_from step manner size name mid old new fault outcome files printed runs = record {
   bytes = runs.bytes;
   handed = handed_from (kind_of step) name mid old runs.bytes files runs.handed;
+  not_later = runs.not_later;
+  image = runs.image;
   read = runs.read;
   answers = runs.answers;
   fault_is = runs.fault_is;
-  sends = subst (λ (p : Option (List ℕ)). SendsText step (given size runs.bytes.image runs.bytes.journal) fault p new.printed) printed runs.sends;
+  sends = subst (λ (p : Option (List ℕ)). SendsText step (given size runs.image runs.bytes.journal) fault p new.printed) printed runs.sends;
   blamed = runs.blamed;
 }
 
-pub step_from : (step : Step) (older : Bool) (size : ℕ) (name : List ℕ) (mid old new : Scene) (ended : Option Fault)
-    → mid.files ≡ old.files → mid.printed ≡ old.printed → EndsStep step older size name mid new ended
-    → EndsStep step older size name old new ended
-step_from step older size name mid old new None files printed (outcome, runs, leaves, flushed) = (
+pub step_from : (step : Step) (manner : Manner) (size : ℕ) (name : List ℕ) (mid old new : Scene) (ended : Option Fault)
+    → mid.files ≡ old.files → mid.printed ≡ old.printed → EndsStep step manner size name mid new ended
+    → EndsStep step manner size name old new ended
+step_from step manner size name mid old new None files printed (outcome, runs, leaves, flushed) = (
   outcome,
-  runs_from step older size name mid old new None outcome files printed runs,
+  runs_from step manner size name mid old new None outcome files printed runs,
   subst (λ (f : Option Files). LeavesFiles (kind_of step) f new.files name outcome) files leaves,
   flushed,
 )
-step_from step older size name mid old new (Some fault) files printed (inl (outcome, runs, same)) =
-    inl (outcome, runs_from step older size name mid old new (Some fault) outcome files printed runs, same ∙ files)
-step_from step older size name mid old new (Some fault) files printed (inr (inl ((h, handed, refused), keeps))) =
-    inr (inl ((h, handed_from (kind_of step) name mid old h files handed, refused), (keeps.0 ∙ files, keeps.1 ∙ printed)))
-step_from step older size name mid old new (Some fault) files printed (inr (inr (unwritten, (outcome, runs, spares)))) =
+step_from step manner size name mid old new (Some fault) files printed (inl (outcome, runs, same)) =
+    inl (outcome, runs_from step manner size name mid old new (Some fault) outcome files printed runs, same ∙ files)
+step_from step manner size name mid old new (Some fault) files printed (inr (inl (inl (h, handed, refused), keeps))) =
+    inr (inl (inl (h, handed_from (kind_of step) name mid old h files handed, refused), (keeps.0 ∙ files, keeps.1 ∙ printed)))
+step_from step manner size name mid old new (Some fault) files printed (inr (inl (inr wants, keeps))) =
+    inr (inl (inr wants, (keeps.0 ∙ files, keeps.1 ∙ printed)))
+step_from step manner size name mid old new (Some fault) files printed (inr (inr (unwritten, (outcome, runs, spares)))) =
     inr (inr (
       unwritten,
       (
         outcome,
-        runs_from step older size name mid old new None outcome files printed runs,
+        runs_from step manner size name mid old new None outcome files printed runs,
         subst (λ (f : Option Files). SparesFiles fault (kind_of step) new.has_refused_place f new.files name outcome) files spares,
       ),
     ))
 
 -- the same by the fault that is known
-pub step_at : (step : Step) (older : Bool) (size : ℕ) (name : List ℕ) (mid old new : Scene) (ended known : Option Fault)
-    → mid.files ≡ old.files → mid.printed ≡ old.printed → ended ≡ known → EndsStep step older size name mid new known
-    → EndsStep step older size name old new ended
-step_at step older size name mid old new ended known files printed is ends =
-    step_from step older size name mid old new ended files printed (subst (EndsStep step older size name mid new) (sym is) ends)
+pub step_at : (step : Step) (manner : Manner) (size : ℕ) (name : List ℕ) (mid old new : Scene) (ended known : Option Fault)
+    → mid.files ≡ old.files → mid.printed ≡ old.printed → ended ≡ known → EndsStep step manner size name mid new known
+    → EndsStep step manner size name old new ended
+step_at step manner size name mid old new ended known files printed is ends =
+    step_from step manner size name mid old new ended files printed (subst (EndsStep step manner size name mid new) (sym is) ends)

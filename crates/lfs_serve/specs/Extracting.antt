@@ -6,6 +6,7 @@ use Rattle.lfs_fs.specs.Cause.{HasCause}
 use Rattle.lfs_fs.specs.Mounted.{MountedValue, IsMountOf}
 use Rattle.lfs_command.specs.declared.refusal.Refusal.TheVariants as refusal
 use Rattle.lfs_request.specs.declared.fault.Fault.{Fault}
+use Rattle.lfs_request.specs.declared.manner.Manner.{Manner}
 use Rattle.lfs_request.specs.declared.fault.Fault.TheVariants.{Image, Mount, Refused, CannotRead, CannotWrite, HostEntry, HostName}
 use Rattle.lfs_extract.specs.Extracted.{Extracts, JudgesNames, all_made}
 use Rattle.lfs_extract.specs.declared.extract_fault.ExtractFault.{ExtractFault}
@@ -19,6 +20,7 @@ use Rattle.lfs_host.specs.declared.host_kind.HostKind.TheVariants.{Missing}
 use Rattle.lfs_step.specs.Query.{HasMount}
 use Rattle.lfs_exchange.specs.Handing.{IsUnread, most_image}
 use Rattle.lfs_serve.specs.Later.{later_alone, refused_by}
+use Rattle.lfs_serve.specs.ReadBy.{IsReadBy}
 
 -- ---- a mounted image
 
@@ -73,17 +75,18 @@ abbrev pub EndsBytes : ℕ → List ℕ → List ℕ → Option HostTree → Opt
 EndsBytes size bytes dir tree old new (Some (Image fault)) = IsNoImage fault size bytes × (new.made ≡ old)
 EndsBytes size bytes dir tree old new fault = IsDisk (image_of size bytes) × EndsMaking (image_of size bytes) dir tree old new fault
 
--- the same where a commit of a later version may be refused: then nothing is made
-abbrev pub EndsRead : Bool → ℕ → List ℕ → List ℕ → Option HostTree → Option (List Made) → Scene → Option Fault → Type 0
-EndsRead older size bytes dir tree old new fault =
-    ((new.made ≡ old) × ((why : Fault) × (fault ≡ Some why) × (refused_by older (later_alone size bytes) ≡ Some why)))
-    ⊎ ((refused_by older (later_alone size bytes) ≡ None) × EndsBytes size bytes dir tree old new fault)
+-- the same of bytes that are read in a manner, where a commit of a later version may be refused: then nothing is made
+abbrev pub EndsRead : Manner → ℕ → List ℕ → List ℕ → Option HostTree → Option (List Made) → Scene → Option Fault → Type 0
+EndsRead manner size bytes dir tree old new fault =
+    ((new.made ≡ old) × ((why : Fault) × (fault ≡ Some why) × (refused_by manner (later_alone size bytes) ≡ Some why)))
+    ⊎ ((refused_by manner (later_alone size bytes) ≡ None)
+    × ((image : List ℕ) × IsReadBy manner.by_device size bytes image × EndsBytes size image dir tree old new fault))
 
 -- ---- an image's file
 
--- what is made of an image's file: nothing where it isn't read, and else as of its bytes; no file changes, and nothing is printed
-abbrev pub EndsExtract : Bool → ℕ → List ℕ → List ℕ → Scene → Scene → Option Fault → Type 0
-EndsExtract older size name dir old new fault =
+-- what is made of an image's file: nothing where it isn't read, in its manner; else as of its bytes; no file changes, and nothing is printed
+abbrev pub EndsExtract : Manner → ℕ → List ℕ → List ℕ → Scene → Scene → Option Fault → Type 0
+EndsExtract manner size name dir old new fault =
     KeepsScene old new
     × (((new.made ≡ old.made) × ((why : Fault) × (fault ≡ Some why) × IsUnread new why))
-    ⊎ ((bytes : List ℕ) × ReadsFile old.files name most_image bytes × EndsRead older size bytes dir old.tree old.made new fault))
+    ⊎ ((bytes : List ℕ) × ReadsFile old.files name most_image bytes × EndsRead manner size bytes dir old.tree old.made new fault))

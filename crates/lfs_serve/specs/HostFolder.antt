@@ -1,7 +1,6 @@
 -- What is read of a host's folder, and what is packed of it (own).
 use Rattle.std.specs.Prelude.{◌≡◌, ℕ, List, [], Option, IfSome, map}
 use Rattle.std.specs.Option.{option_map}
-use Rattle.lfs_meta.specs.Attribute.{Attributes}
 use Rattle.lfs_command.specs.declared.refusal.Refusal.TheVariants as refusal
 use Rattle.lfs_request.specs.declared.fault.Fault.{Fault}
 use Rattle.lfs_request.specs.declared.fault.Fault.TheVariants as fault
@@ -13,7 +12,8 @@ use Rattle.lfs_fs.specs.Limits.{most_file}
 use Rattle.lfs_host.specs.HostTree.{HostTree}
 use Rattle.lfs_host.specs.Scene.{Scene}
 use Rattle.lfs_pack.specs.declared.pack_row.PackRow.{PackRow}
-use Rattle.lfs_pack.specs.Packed.{AreRowsOf, Packed, attribute_of, row_bytes}
+use Rattle.lfs_pack.specs.Packed.{AreRowsOf, Packed}
+use Rattle.lfs_repack.specs.RowText.{RowText}
 
 -- ---- what is read
 
@@ -44,16 +44,6 @@ pub record PacksFolder (tree : Option HostTree) (dir : List ℕ) (rows : List Pa
 
 -- ---- rows, as the code has them
 
--- a path's text, a file's bytes, and attributes
-pub record RowText : Type 0 where
-  pub text : List ℕ
-  pub bytes : Option (List ℕ)
-  pub attributes : Attributes
-
--- those of a folder's row, without attributes
+-- the text of a folder's row, without attributes
 abbrev pub folder_text : FolderRow → RowText
 folder_text row = record { text = row.path.items; bytes = option_map (λ b. b.items) row.bytes; attributes = [] }
-
--- those of a row that is packed
-abbrev pub pack_text : PackRow → RowText
-pack_text row = record { text = row.path.now; bytes = row_bytes row; attributes = map attribute_of row.attributes.now }

@@ -1,8 +1,9 @@
--- Commits of later disk versions in what is read as an image, for which it is refused, unless older states are asked for (own).
-use Rattle.std.specs.Prelude.{ℕ, Bool, List, Option, Some, None, if◌then◌else◌}
+-- Commits of later disk versions in what is read as an image, for which it is refused, unless it is read in a manner that takes it (own).
+use Rattle.std.specs.Prelude.{ℕ, ◌||◌, List, Option, Some, None, if◌then◌else◌}
 use Rattle.lfs_block.specs.declared.mount_fault.MountFault.TheVariants.{Version}
 use Rattle.lfs_request.specs.declared.fault.Fault.{Fault}
 use Rattle.lfs_request.specs.declared.fault.Fault.TheVariants.{Mount, Other}
+use Rattle.lfs_request.specs.declared.manner.Manner.{Manner}
 use Rattle.lfs_request.specs.declared.other_fault.OtherFault.TheVariants as other
 use Rattle.lfs_later.specs.Version.{later_version}
 use Rattle.lfs_step.specs.declared.step.Step.{Step}
@@ -20,12 +21,16 @@ later_read (Ask (Diff other other_size)) size image =
     record { image = later_version image size; other = later_version other.items other_size }
 later_read step size image = later_alone size image
 
+-- those in an image that another one is made of
+abbrev pub later_in_source : ℕ → List ℕ → Later
+later_in_source size bytes = record { image = None; other = later_version bytes size }
+
 -- what they are refused with, by the versions of those in the image and in the other one
 abbrev pub refusal_of : Option ℕ → Option ℕ → Option Fault
 refusal_of (Some version) compared = Some (Mount Version)
 refusal_of None (Some version) = Some (Other (other.Mount Version))
 refusal_of None None = None
 
--- the same, unless the state before them is gone on with
-abbrev pub refused_by : Bool → Later → Option Fault
-refused_by older later = if older then None else refusal_of later.image later.other
+-- the same, unless the state before them is gone on with, or images are read as a device does, which reads them
+abbrev pub refused_by : Manner → Later → Option Fault
+refused_by manner later = if manner.takes_older || manner.by_device then None else refusal_of later.image later.other

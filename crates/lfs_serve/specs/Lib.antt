@@ -1,10 +1,13 @@
 pub mod Extent
 pub mod StepKind
 pub mod Later
+pub mod ReadBy
 pub mod Batching
 pub mod Program
 pub mod Lines
 pub mod Extracting
 pub mod HostFolder
+pub mod Repacking
+pub mod Opened
 pub mod Requests
 pub mod Stated

@@ -2,8 +2,10 @@
 use Rattle.std.specs.Prelude.{ℕ, ◌≡◌, ◌⊎◌, ⊤, Bool, true, false, List, [], ◌∷◌, Option, Some, None, map}
 use Rattle.lfs_request.specs.declared.fault.Fault.{Fault}
 use Rattle.lfs_request.specs.declared.fault.Fault.TheVariants.{CannotWrite}
+use Rattle.lfs_request.specs.declared.manner.Manner.{Manner}
 use Rattle.lfs_request.specs.declared.outcome.Outcome.{Outcome}
 use Rattle.lfs_request.specs.Fault.{status_of}
+use Rattle.lfs_request.specs.Query.{Question}
 use Rattle.lfs_history.specs.Filling.{bytes_given}
 use Rattle.lfs_history.specs.Meaning.{step_by, step_of}
 use Rattle.lfs_history.specs.Taking as change
@@ -12,7 +14,7 @@ use Rattle.lfs_host.specs.Scene.{HasRefused, KeepsScene, Scene}
 use Rattle.lfs_pack.specs.declared.pack_row.PackRow.{PackRow}
 use Rattle.lfs_request.specs.declared.request.Request.{Request}
 use Rattle.lfs_request.specs.declared.task.Task.{Task}
-use Rattle.lfs_request.specs.declared.task.Task.TheVariants.{Format, Pack, Extract, Ask, Forget, Change, Batch}
+use Rattle.lfs_request.specs.declared.task.Task.TheVariants.{Format, Pack, Repack, Extract, Ask, Forget, Change, Batch}
 use Rattle.lfs_serve.specs.Extent.{IsExtent}
 use Rattle.lfs_step.specs.declared.step.Step.{Step}
 use Rattle.lfs_step.specs.declared.step.Step.TheVariants as step
@@ -28,6 +30,8 @@ use Rattle.lfs_serve.specs.Batching.{BecomesBatch, BecomesNoBatch}
 use Rattle.lfs_serve.specs.Extracting.{EndsExtract}
 use Rattle.lfs_serve.specs.HostFolder.{PacksFolder, ReadsNoFolder}
 use Rattle.lfs_serve.specs.Later.{later_read, refused_by}
+use Rattle.lfs_serve.specs.ReadBy.{IsAskedBy, IsReadBy, WantsMemory}
+use Rattle.lfs_serve.specs.Repacking.{PacksSource, RefusesSource}
 
 -- ---- a step
 
@@ -36,37 +40,40 @@ abbrev pub IsBlamed : Option Fault → Scene → Type 0
 IsBlamed (Some CannotWrite) s = HasRefused s
 IsBlamed _ s = ⊤
 
--- `run` was handed what is known of an image's files, in which nothing was to be refused as later; it answered this outcome, and said so
--- much of it.
-pub record RunsStep (step : Step) (older : Bool) (size : ℕ) (name : List ℕ) (old new : Scene) (fault : Option Fault) (outcome : Outcome)
+-- `run` was handed what is known of an image's files, in which nothing was to be refused as later, read in a manner; it answered this
+-- outcome, and said so much of it.
+pub record RunsStep (step : Step) (manner : Manner) (size : ℕ) (name : List ℕ) (old new : Scene) (fault : Option Fault) (outcome : Outcome)
     : Type 0 where
   pub bytes : HandedBytes
   pub handed : IsHanded (kind_of step) name old bytes
-  pub read : refused_by older (later_read step size bytes.image) ≡ None
-  pub answers : Answers step (given size bytes.image bytes.journal) outcome
+  pub not_later : refused_by manner (later_read step size bytes.image) ≡ None
+  pub image : List ℕ
+  pub read : IsReadBy manner.by_device size bytes.image image
+  pub answers : Answers step (given size image bytes.journal) outcome
   pub fault_is : outcome.fault ≡ fault
-  pub sends : SendsText step (given size bytes.image bytes.journal) fault old.printed new.printed
+  pub sends : SendsText step (given size image bytes.journal) fault old.printed new.printed
   pub blamed : IsBlamed fault new
 
 -- a step is refused for a commit of a later version in what it was to be done on
-abbrev pub IsLater : Step → Bool → ℕ → List ℕ → Scene → Fault → Type 0
-IsLater step older size name old fault =
-    (h : HandedBytes) × IsHanded (kind_of step) name old h × (refused_by older (later_read step size h.image) ≡ Some fault)
+abbrev pub IsLater : Step → Manner → ℕ → List ℕ → Scene → Fault → Type 0
+IsLater step manner size name old fault =
+    (h : HandedBytes) × IsHanded (kind_of step) name old h × (refused_by manner (later_read step size h.image) ≡ Some fault)
 
--- why a step wasn't done: `run` refused it, or a commit of a later version was, or the host refused something behind that
-abbrev pub StopsStep : Step → Bool → ℕ → List ℕ → Scene → Scene → Fault → Type 0
-StopsStep step older size name old new fault =
-    ((outcome : Outcome) × RunsStep step older size name old new (Some fault) outcome × (new.files ≡ old.files))
-    ⊎ (IsLater step older size name old fault × KeepsScene old new)
+-- why a step wasn't done: `run` refused it; a commit of a later version was refused, or memory was wanting to read the image; or the host
+-- refused something behind that
+abbrev pub StopsStep : Step → Manner → ℕ → List ℕ → Scene → Scene → Fault → Type 0
+StopsStep step manner size name old new fault =
+    ((outcome : Outcome) × RunsStep step manner size name old new (Some fault) outcome × (new.files ≡ old.files))
+    ⊎ ((IsLater step manner size name old fault ⊎ WantsMemory manner.by_device fault) × KeepsScene old new)
     ⊎ (IsUnwritten new fault × ((outcome : Outcome)
-    × RunsStep step older size name old new None outcome × SparesFiles fault (kind_of step) new.has_refused_place old.files new.files name outcome))
+    × RunsStep step manner size name old new None outcome × SparesFiles fault (kind_of step) new.has_refused_place old.files new.files name outcome))
 
 -- how a step on an image's file ends: done, the files have the bytes of the outcome, and an answer is handed on; or with a fault
-abbrev pub EndsStep : Step → Bool → ℕ → List ℕ → Scene → Scene → Option Fault → Type 0
-EndsStep step older size name old new None =
-    (outcome : Outcome) × RunsStep step older size name old new None outcome
+abbrev pub EndsStep : Step → Manner → ℕ → List ℕ → Scene → Scene → Option Fault → Type 0
+EndsStep step manner size name old new None =
+    (outcome : Outcome) × RunsStep step manner size name old new None outcome
     × LeavesFiles (kind_of step) old.files new.files name outcome × HandsOn (kind_of step) new
-EndsStep step older size name old new (Some fault) = StopsStep step older size name old new fault
+EndsStep step manner size name old new (Some fault) = StopsStep step manner size name old new fault
 
 -- ---- a task
 
@@ -75,29 +82,42 @@ abbrev pub BecomesStep : Task → ℕ → Scene → Step → Type 0
 BecomesStep (Format count limits) size s (step.Format blocks stated) = (blocks ≡ count) × (stated ≡ limits)
 BecomesStep (Pack extent limits dir) size s (step.Pack count stated rows) =
     PacksFolder s.tree dir.now rows.now × IsExtent size limits rows.now extent count × (stated ≡ limits)
-BecomesStep (Ask query) size s (step.Ask question) = HandsQuestion s.files query question
+BecomesStep (Repack source extent said) size s (step.Pack count stated rows) = PacksSource source extent said size s.files count stated rows.now
+BecomesStep (Ask query by_device) size s (step.Ask question) =
+    (handed : Question) × HandsQuestion s.files query handed × IsAskedBy by_device handed question
 BecomesStep Forget size s step.Forget = ⊤
 BecomesStep (Change move) size s (step.Change steps) =
     (read : List ℕ) × HandsInput move s.files s.typed read × (map step_of steps.now ≡ step_by (bytes_given read) move ∷ [])
 BecomesStep (Batch file keep) size s (step.Change steps) = BecomesBatch file keep s (map step_of steps.now)
 BecomesStep _ size s _ = ⊥
 
+-- the manner in which the image is read that a task is done on: as it is, or as a device does where the task asks for that
+abbrev pub as_it_is : Bool → Manner
+as_it_is older = record { takes_older = older; by_device = false }
+
+abbrev pub manner_of : Task → Bool → Manner
+manner_of (Extract dir by_device) older = record { takes_older = older; by_device = by_device }
+manner_of (Ask query by_device) older = record { takes_older = older; by_device = by_device }
+manner_of _ older = as_it_is older
+
 -- the kind of that step, which is known before the image's files are taken up, once a folder or a script is read
 abbrev pub HasKind : Task → Scene → StepKind → Type 0
 HasKind (Format count limits) s kind = kind ≡ Makes
 HasKind (Pack extent limits dir) s kind = (kind ≡ Makes) × ((rows : List PackRow) × PacksFolder s.tree dir.now rows)
-HasKind (Extract dir) s kind = ⊥
-HasKind (Ask query) s kind = kind ≡ kind_of_query query
+HasKind (Repack source extent said) s kind = kind ≡ Makes
+HasKind (Extract dir by_device) s kind = ⊥
+HasKind (Ask query by_device) s kind = kind ≡ kind_of_query query
 HasKind Forget s kind = kind ≡ Forgets
 HasKind (Change move) s kind = kind ≡ Changes
 HasKind (Batch file keep) s kind = (moves : List change.Move) × BecomesBatch file keep s moves × (kind ≡ kind_of_steps moves)
 
--- why what is read for a task isn't, but for the image's files: its folder, its script, or contents, or another image
+-- why what is read for a task isn't, but for the image's files: its folder, its script, or contents, or another image, also as it is read
 abbrev pub IsNotRead : Task → Scene → Scene → Fault → Type 0
 IsNotRead (Pack extent limits dir) old new why = ReadsNoFolder old.tree dir.now new why
 IsNotRead (Batch file keep) old new why = BecomesNoBatch file old new why
 IsNotRead (Change move) old new why = IsUnread new why
-IsNotRead (Ask query) old new why = IsOtherUnread new why
+IsNotRead (Repack source extent said) old new why = RefusesSource source old new why
+IsNotRead (Ask query by_device) old new why = IsOtherUnread new why
 IsNotRead _ old new why = ⊥
 
 -- why no step of a task is run: what is read for it isn't, or its image's files aren't taken up
@@ -107,9 +127,10 @@ IsNotBegun task name old new why =
 
 -- how a task on an image's file ends: as a folder that is made; as the step that it becomes; or before that, with nothing changed
 abbrev pub EndsTask : Task → Bool → ℕ → List ℕ → Scene → Scene → Option Fault → Type 0
-EndsTask (Extract dir) older size name old new fault = EndsExtract older size name dir.now old new fault
+EndsTask (Extract dir by_device) older size name old new fault =
+    EndsExtract (record { takes_older = older; by_device = by_device }) size name dir.now old new fault
 EndsTask task older size name old new fault =
-    ((step : Step) × BecomesStep task size old step × EndsStep step older size name old new fault)
+    ((step : Step) × BecomesStep task size old step × EndsStep step (manner_of task older) size name old new fault)
     ⊎ (KeepsScene old new × ((why : Fault) × (fault ≡ Some why) × IsNotBegun task name old new why))
 
 -- ---- what is left besides
@@ -122,7 +143,7 @@ task_reads_input _ = false
 
 -- whether a task makes a folder
 abbrev pub makes_folder : Task → Bool
-makes_folder (Extract dir) = true
+makes_folder (Extract dir by_device) = true
 makes_folder _ = false
 
 -- what is left on standard input is as it was but where the task reads it, and what was made in new folders but where it makes one

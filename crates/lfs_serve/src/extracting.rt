@@ -11,7 +11,8 @@ ghost use Rattle.lfs_host.specs.Scene.{KeepsAll, KeepsFiles};
 ghost use Rattle.lfs_report.specs.Stop.{stopped_by};
 ghost use Rattle.lfs_serve.specs.Extracting.{EndsBytes, EndsExtract, EndsMaking, FindsFolder, fault_of_extracting};
 
-use crate::later::{later_alone, must_be_read};
+use crate::later::pass_alone;
+use crate::read_by::read_by;
 use lfs_block::Image;
 use lfs_command::Refusal;
 use lfs_exchange::{StepKind, fault_of_reading, taken_up};
@@ -19,25 +20,29 @@ use lfs_extract::{ExtractFault, extract_rows};
 use lfs_fs::mount;
 use lfs_host::{Host, HostKind};
 use lfs_report::{Beside, Stop, stop_of_extracting, stop_of_image};
-use lfs_request::{Fault, Request};
+use lfs_request::{Fault, Manner, Request};
 use std::alloc::Global;
 
-/// Makes a folder of the host out of an image's file. What commits of a later version stand in it is put into `beside`. Takes memory.
+/// Makes a folder of the host out of an image's file, which is read as a device does where that is asked for. What commits of a later version stand in it is put into `beside`. Takes memory.
 pub(crate) fn extracted<H: Host>(
     alloc: Global,
     host: &mut H,
     request: &Request<'_>,
     beside: &mut Beside,
+    by_device: bool,
     dir: &str,
 ) -> Result<(), Stop>
-    ensures made { EndsExtract request.now.takes_older request.now.size request.now.image.now dir.now (H.known host.old) (H.known host.new) (stopped_by result) }
+    ensures made { EndsExtract (record { takes_older = request.now.takes_older; by_device = by_device }) request.now.size request.now.image.now dir.now (H.known host.old) (H.known host.new) (stopped_by result) }
     ensures kept { KeepsFiles (H.known host.old) (H.known host.new) }
 {
     let handed = taken_up(alloc, host, StepKind::Asks, request.image)?;
-    let found = later_alone(request.size, &handed.image);
-    must_be_read(request.takes_older, found)?;
-    beside.later = found;
-    extract_bytes(alloc, host, request.size, handed.image, dir)
+    let manner = Manner {
+        takes_older: request.takes_older,
+        by_device,
+    };
+    pass_alone(manner, request.size, &handed.image, beside)?;
+    let image = read_by(alloc, by_device, request.size, handed.image)?;
+    extract_bytes(alloc, host, request.size, image, dir)
 }
 
 /// Makes a folder out of bytes that are an image.

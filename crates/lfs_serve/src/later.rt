@@ -2,16 +2,63 @@
 
 ghost use Rattle.std.specs.Prelude.{◌≡◌};
 ghost use Rattle.lfs_report.specs.Stop.{stopped_by};
-ghost use Rattle.lfs_serve.specs.Later.{later_alone, later_read, refused_by};
+ghost use Rattle.lfs_serve.specs.Later.{later_alone, later_in_source, later_read, refused_by};
 
 use lfs_block::MountFault;
 use lfs_later::later_version;
-use lfs_report::{Later, Statement, Stop};
-use lfs_request::{Fault, OtherFault, Query};
+use lfs_report::{Beside, Later, Statement, Stop};
+use lfs_request::{Fault, Manner, OtherFault, Query};
 use lfs_step::Step;
 
-/// Those in an image alone, of blocks of `size` bytes. Takes no memory.
-pub(crate) fn later_alone(size: u32, bytes: &[u8]) -> Later
+/// Refuses those in an image alone, of blocks of `size` bytes, unless its manner takes them. Those that are to be told of are put into
+/// `beside`, as they are by the two that follow. Takes no memory.
+pub(crate) fn pass_alone(
+    manner: Manner,
+    size: u32,
+    bytes: &[u8],
+    beside: &mut Beside,
+) -> Result<(), Stop>
+    ensures { stopped_by result ≡ refused_by manner (later_alone size bytes.now) }
+{
+    if manner.by_device {
+        return Ok(());
+    }
+    pass(manner, later_alone(size, bytes), beside)
+}
+
+/// Refuses those in what a step is done on: an image of these bytes, and the one that it is compared with. Takes no memory.
+pub(crate) fn pass_step(
+    manner: Manner,
+    step: &Step<'_>,
+    size: u32,
+    image: &[u8],
+    beside: &mut Beside,
+) -> Result<(), Stop>
+    ensures { stopped_by result ≡ refused_by manner (later_read step.now size image.now) }
+{
+    if manner.by_device {
+        return Ok(());
+    }
+    pass(manner, later_read(step, size, image), beside)
+}
+
+/// Refuses those in an image that another one is made of. Takes no memory.
+pub(crate) fn pass_source(
+    manner: Manner,
+    size: u32,
+    bytes: &[u8],
+    beside: &mut Beside,
+) -> Result<(), Stop>
+    ensures { stopped_by result ≡ refused_by manner (later_in_source size bytes.now) }
+{
+    if manner.by_device {
+        return Ok(());
+    }
+    pass(manner, later_in_source(size, bytes), beside)
+}
+
+/// Those in an image alone.
+fn later_alone(size: u32, bytes: &[u8]) -> Later
     ensures { result ≡ later_alone size bytes.now }
 {
     Later {
@@ -20,8 +67,8 @@ pub(crate) fn later_alone(size: u32, bytes: &[u8]) -> Later
     }
 }
 
-/// Those in what a step is done on: an image of these bytes, and the one that it is compared with. Takes no memory.
-pub(crate) fn later_read(step: &Step<'_>, size: u32, image: &[u8]) -> Later
+/// Those in an image of these bytes, and in the one that it is compared with.
+fn later_read(step: &Step<'_>, size: u32, image: &[u8]) -> Later
     ensures { result ≡ later_read step.now size image.now }
 {
     let other = match step {
@@ -39,11 +86,30 @@ pub(crate) fn later_read(step: &Step<'_>, size: u32, image: &[u8]) -> Later
     }
 }
 
-/// Refuses them, unless the state before them is gone on with. Takes no memory.
-pub(crate) fn must_be_read(takes_older: bool, later: Later) -> Result<(), Stop>
-    ensures { stopped_by result ≡ refused_by takes_older later }
+/// Those in an image that another one is made of.
+fn later_in_source(size: u32, bytes: &[u8]) -> Later
+    ensures { result ≡ later_in_source size bytes.now }
 {
-    if takes_older {
+    Later {
+        image: None,
+        other: later_version(bytes, size),
+    }
+}
+
+/// Refuses them, unless the state before them is gone on with, and then puts them into `beside`.
+fn pass(manner: Manner, later: Later, beside: &mut Beside) -> Result<(), Stop>
+    ensures { stopped_by result ≡ refused_by manner later }
+{
+    must_be_read(manner, later)?;
+    beside.later = later;
+    Ok(())
+}
+
+/// Refuses them, unless they are read, or the state before them is gone on with.
+fn must_be_read(manner: Manner, later: Later) -> Result<(), Stop>
+    ensures { stopped_by result ≡ refused_by manner later }
+{
+    if manner.takes_older || manner.by_device {
         return Ok(());
     }
     match (later.image, later.other) {

@@ -1,8 +1,10 @@
 //! How many blocks a packed image gets.
 
-ghost use Rattle.std.specs.Prelude.{IfOk};
+ghost use Rattle.std.specs.Prelude.{◌≤◌, IfOk};
+ghost use Rattle.lfs_exchange.specs.Handing.{most_image};
 ghost use Rattle.lfs_fs.specs.Superblock.{IsLimits};
 ghost use Rattle.lfs_serve.specs.Extent.{IsExtent};
+ghost use Rattle.lfs_serve.specs.Repacking.{IsExtentFor, IsFilled};
 ghost use Rattle.lfs_request.specs.declared.extent.Extent.TheVariants.{Least};
 
 use lfs_block::geometry_ok;
@@ -31,6 +33,38 @@ pub(crate) fn counted(
         Extent::Count(count) => Ok(count),
         Extent::Least => least(alloc, size, limits, rows),
     }
+}
+
+/// How many blocks an image gets that is made of another one of `len` bytes, which is at most as long as an image may be: those that are
+/// said, or as few as hold so many bytes. The caller owes limits that images may state. Takes memory.
+pub(crate) fn counted_for(
+    alloc: Global,
+    size: u32,
+    extent: Option<Extent>,
+    limits: Limits,
+    rows: &[PackRow<'_>],
+    len: u32,
+) -> Result<u32, AllocError>
+    requires limits { IsLimits limits }
+    requires len { len ≤ most_image }
+    ensures { IfOk result (IsExtentFor len size limits rows.now extent) }
+{
+    match extent {
+        Some(extent) => counted(alloc, size, extent, limits, rows),
+        None => Ok(filled_count(size, len)),
+    }
+}
+
+/// As few blocks of a size as hold so many bytes.
+fn filled_count(size: u32, len: u32) -> u32
+    requires { len ≤ most_image }
+    ensures { IsFilled size len result }
+{
+    if size == 0 {
+        return 0;
+    }
+    let whole = len / size;
+    if len % size == 0 { whole } else { whole + 1 }
 }
 
 /// The least number of blocks that holds rows; of a size that no block has, as few as an image has.

@@ -6,13 +6,14 @@ ghost use Rattle.lfs_request.specs.Task.{IsTaskInRange};
 ghost use Rattle.lfs_request.specs.declared.task.Task.TheVariants.{Ask, Change, Forget, Format};
 ghost use Rattle.lfs_serve.specs.Program.{EndsTask, TaskLeavesRest};
 
-use crate::stepping::stepped;
+use crate::read_by::asked_by;
+use crate::stepping::{stepped, stepped_in};
 use lfs_exchange::{StepKind, input_of, kind_of_query, question_of, taken_up};
 use lfs_fs::Limits;
 use lfs_history::{Move, Source, filled};
 use lfs_host::Host;
 use lfs_report::{Beside, Stop};
-use lfs_request::{Query, Request};
+use lfs_request::{Manner, Query, Request};
 use lfs_step::Step;
 use std::alloc::Global;
 
@@ -35,21 +36,28 @@ pub(crate) fn formatted<H: Host>(
     stepped(alloc, host, request, beside, handed, step)
 }
 
-/// Asks something of an image: another image is read last. Takes memory.
+/// Asks something of an image, which is read as a device does where that is asked for: another image is read last. Takes memory.
 pub(crate) fn queried<H: Host>(
     alloc: Global,
     host: &mut H,
     request: &Request<'_>,
     beside: &mut Beside,
     query: &Query<'_, &str>,
+    by_device: bool,
 ) -> Result<(), Stop>
-    ensures ended { EndsTask (Ask query.now) request.now.takes_older request.now.size request.now.image.now
+    ensures ended { EndsTask (Ask query.now by_device) request.now.takes_older request.now.size request.now.image.now
         (H.known host.old) (H.known host.new) (stopped_by result) }
-    ensures rest { TaskLeavesRest (Ask query.now) (H.known host.old) (H.known host.new) }
+    ensures rest { TaskLeavesRest (Ask query.now by_device) (H.known host.old) (H.known host.new) }
 {
     let handed = taken_up(alloc, host, kind_of_query(query), request.image)?;
-    let question = question_of(alloc, host, query)?;
-    stepped(alloc, host, request, beside, handed, Step::Ask(question))
+    let asked = question_of(alloc, host, query)?;
+    let question = asked_by(alloc, by_device, asked)?;
+    let manner = Manner {
+        takes_older: request.takes_older,
+        by_device,
+    };
+    let step = Step::Ask(question);
+    stepped_in(alloc, host, request, beside, manner, handed, step)
 }
 
 /// Forgets all but an image. Takes memory.

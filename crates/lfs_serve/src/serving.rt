@@ -9,6 +9,7 @@ use crate::batching::batched;
 use crate::extracting::extracted;
 use crate::packing::packed;
 use crate::plain_tasks::{changed, forgotten, formatted, queried};
+use crate::repacking::repacked;
 use lfs_exchange::spare;
 use lfs_host::Host;
 use lfs_report::{Beside, Stop, tell_end, tell_later, tell_within};
@@ -71,8 +72,17 @@ fn done<H: Host>(
             limits,
             dir,
         } => packed(alloc, host, request, beside, *extent, *limits, *dir),
-        Task::Extract { dir } => extracted(alloc, host, request, beside, *dir),
-        Task::Ask(query) => queried(alloc, host, request, beside, query),
+        Task::Repack {
+            source,
+            extent,
+            limits,
+        } => repacked(alloc, host, request, beside, source, *extent, *limits),
+        Task::Extract { dir, by_device } => {
+            extracted(alloc, host, request, beside, *by_device, *dir)
+        }
+        Task::Ask { query, by_device } => {
+            queried(alloc, host, request, beside, query, *by_device)
+        }
         Task::Forget => forgotten(alloc, host, request, beside),
         Task::Change(step) => changed(alloc, host, request, beside, step),
         Task::Batch { file, keep } => batched(alloc, host, request, beside, *file, *keep),

@@ -8,20 +8,22 @@ ghost use Rattle.lfs_host.specs.Scene.{KeepsInput};
 ghost use Rattle.lfs_report.specs.Stop.{stopped_by};
 ghost use Rattle.lfs_step.specs.Outcome.{Answers, SendsText, given};
 ghost use Rattle.lfs_step.specs.Step.{IsStepInRange};
-ghost use Rattle.lfs_serve.specs.Program.{EndsStep, IsBlamed};
+ghost use Rattle.lfs_serve.specs.Program.{EndsStep, IsBlamed, as_it_is};
 
-use crate::later::{later_read, must_be_read};
+use crate::later::pass_step;
 use crate::new_image::with_new_image;
+use crate::read_by::read_by;
 use crate::seeing::seen_of;
 use lfs_exchange::{Handed, Output, stored};
 use lfs_host::Host;
 use lfs_report::{Beside, Stop, stop_of_run};
-use lfs_request::{Outcome, Request};
+use lfs_request::{Manner, Outcome, Request};
 use lfs_step::{Step, run};
 use std::alloc::Global;
 
 /// Takes a step on the files of an image that were taken up for it, and writes what it leaves. The caller owes that they are those of the
-/// request's image, as they are known, and that this run has claimed the name, where a file is to be changed. Takes memory.
+/// request's image, as they are known, and that this run has claimed the name, where a file is to be changed. The image is read as it is.
+/// Takes memory.
 pub(crate) fn stepped<H: Host>(
     alloc: Global,
     host: &mut H,
@@ -36,20 +38,47 @@ pub(crate) fn stepped<H: Host>(
     requires claimed { IsClaimed handed.kind (H.known host.old) (string_bytes handed.target) }
     requires handed { IsHanded handed.kind request.now.image.now (H.known host.old)
         (record { image = handed.image.items; journal = handed.journal.items }) }
-    ensures ended { EndsStep step.entry request.now.takes_older request.now.size request.now.image.now
+    ensures ended { EndsStep step.entry (as_it_is request.now.takes_older) request.now.size request.now.image.now
         (H.known host.old) (H.known host.new) (stopped_by result) }
     ensures typed { (H.known host.new).typed ≡ (H.known host.old).typed }
     ensures made { (H.known host.new).made ≡ (H.known host.old).made }
 {
-    let found = later_read(&step, request.size, &handed.image);
-    must_be_read(request.takes_older, found)?;
-    beside.later = found;
+    let manner = Manner {
+        takes_older: request.takes_older,
+        by_device: false,
+    };
+    stepped_in(alloc, host, request, beside, manner, handed, step)
+}
+
+/// The same, where the image is read in this manner.
+pub(crate) fn stepped_in<H: Host>(
+    alloc: Global,
+    host: &mut H,
+    request: &Request<'_>,
+    beside: &mut Beside,
+    manner: Manner,
+    handed: Handed,
+    step: Step<'_>,
+) -> Result<(), Stop>
+    requires kind { handed.kind ≡ kind_of step }
+    requires range { IsStepInRange step }
+    requires target { IsTarget (H.known host.old).files request.now.image.now (string_bytes handed.target) }
+    requires claimed { IsClaimed handed.kind (H.known host.old) (string_bytes handed.target) }
+    requires handed { IsHanded handed.kind request.now.image.now (H.known host.old)
+        (record { image = handed.image.items; journal = handed.journal.items }) }
+    ensures ended { EndsStep step.entry manner request.now.size request.now.image.now
+        (H.known host.old) (H.known host.new) (stopped_by result) }
+    ensures typed { (H.known host.new).typed ≡ (H.known host.old).typed }
+    ensures made { (H.known host.new).made ≡ (H.known host.old).made }
+{
+    pass_step(manner, &step, request.size, &handed.image, beside)?;
     let Handed {
         kind,
         target,
         image,
         journal,
     } = handed;
+    let image = read_by(alloc, manner.by_device, request.size, image)?;
     match taken(alloc, host, request, step, image, journal) {
         Ok(outcome) => Ok(stored(alloc, host, kind, target.as_str(), &outcome)?),
         Err(stop) => {

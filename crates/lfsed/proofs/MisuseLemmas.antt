@@ -12,7 +12,8 @@ no_extent rows block (inr (is, none, said)) = none
 
 no_size : (name : Text) (rows : List Row) (block : ℕ) → IsSizeMisuse Memory name rows block → ⊥
 no_size name rows block (inl (is, none)) = none
-no_size name rows block (inr (is, extent)) = no_extent rows block extent
+no_size name rows block (inr (inl (is, extent))) = no_extent rows block extent
+no_size name rows block (inr (inr (is, said, extent))) = no_extent rows block extent
 
 no_hex : (name : Text) (rows : List Row) → IsHexMisuse Memory name rows → ⊥
 no_hex name rows (inl none) = none

@@ -9,7 +9,6 @@ use Rattle.lfs_host.specs.Scene.{KeepsAll, Scene}
 use Rattle.lfs_grammar.specs.Grammar.{IsMatched, IsTaken, grammar}
 use Rattle.lfs_grammar.specs.Hyphens.{dashed, names_files_plainly}
 use Rattle.lfs_serve.specs.Stated.{IsStatedSize}
-use Rattle.lfs_words.specs.Words.{SaysAuto}
 use Rattle.lfsed.specs.Words.{EndsNamed, EndsWords, Looks}
 
 -- words that are refused with an error other than want of memory aren't taken
@@ -33,8 +32,8 @@ ends_as_dashed words read m old new status refused is matched plain ends =
     )
 
 -- a look at the file that is named, or at none
-pub looks : (id : Text) (named : Option (Text × List Row)) (file : Option (Bor Text)) (old new : Scene) (size : ℕ)
-    → IfSome file (λ f. SaysAuto id named f.now) → (IsNone file → (text : Text) → SaysAuto id named text → ⊥) → KeepsAll old new
-    → IfSome file (λ f. IsStatedSize old new f.now size) → Looks id named old new size
-looks id named (Some f) old new size says none keeps stated = (keeps, inl (f.now, says, stated))
-looks id named None old new size says none keeps stated = (keeps, inr (none refl))
+pub looks : (says : Text → Type 0) (file : Option (Bor Text)) (old new : Scene) (size : ℕ) → IfSome file (λ f. says f.now)
+    → (IsNone file → (text : Text) → says text → ⊥) → KeepsAll old new → IfSome file (λ f. IsStatedSize old new f.now size)
+    → Looks says old new size
+looks says (Some f) old new size is none keeps stated = (keeps, inl (f.now, is, stated))
+looks says None old new size is none keeps stated = (keeps, inr (none refl))

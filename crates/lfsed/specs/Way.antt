@@ -6,7 +6,7 @@
 --   3  EndsRequest   the name of an image that is to be new is spared, and the status tells the fault         lfs_serve/specs/Program.antt
 --   4  EndsTask      a folder is made; or what the task names is read, and it becomes a step                  lfs_serve/specs/Program.antt
 --   5  EndsStep      the files get what the step leaves, or stay                                              lfs_serve/specs/Program.antt
---   6  RunsStep      the step is handed the image's files, with no later commit in them, and is run           lfs_serve/specs/Program.antt
+--   6  RunsStep      the step is handed the image's files, with no later commit in them or read so, and is run lfs_serve/specs/Program.antt
 --   7  Answers       it is done; or a fault holds, and image and journal stay                                 lfs_step/specs/Outcome.antt
 --   8  AnswersDone   a new image, an answer, a journal without changes, or a change                           lfs_step/specs/Outcome.antt
 --   9  IsChanged     image and journal denote a history, and what is left denotes the one it leads to         lfs_change/specs/Change.antt

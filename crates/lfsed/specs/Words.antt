@@ -13,7 +13,7 @@ use Rattle.lfs_request.specs.declared.request.Request.{Request}
 use Rattle.lfs_words.specs.declared.auto_sizes.AutoSizes.{AutoSizes}
 use Rattle.lfs_grammar.specs.Grammar.{grammar}
 use Rattle.lfs_grammar.specs.Hyphens.{IsRead}
-use Rattle.lfs_words.specs.Words.{AsksFor, Explains, IsMissaid, SaysAuto}
+use Rattle.lfs_words.specs.Words.{AsksFor, Explains, IsMissaid, SaysAuto, SaysAutoOther}
 use Rattle.lfs_words.specs.declared.misuse.Misuse.{Misuse}
 use Rattle.lfs_exchange.specs.Printing.{PrintsBeginning}
 use Rattle.lfs_host.specs.Scene.{KeepsAll, KeepsInput, Scene}
@@ -63,17 +63,17 @@ abbrev pub EndsError : ErrorKind → Scene → Scene → ℕ → Type 0
 EndsError kind old new status =
     EndsMisused old new status ⊎ (CallsForHelp kind × EndsPrinting old new status) ⊎ EndsForMemory old new status
 
--- a look at the image's file that an argument names, which changes nothing: its block size stands for `auto`, or any where the words don't
--- say so, or name no such file
-abbrev pub Looks : Text → Option (Text × List Row) → Scene → Scene → ℕ → Type 0
-Looks id named old new size =
-    KeepsAll old new
-    × (((file : Text) × SaysAuto id named file × IsStatedSize old new file size) ⊎ ((file : Text) → ¬ SaysAuto id named file))
+-- a look at the file of which the words say that its block size stands for `auto`, which changes nothing: so it does, or any, where they say
+-- so of no file
+abbrev pub Looks : (Text → Type 0) → Scene → Scene → ℕ → Type 0
+Looks says old new size =
+    KeepsAll old new × (((file : Text) × says file × IsStatedSize old new file size) ⊎ ((file : Text) → ¬ says file))
 
--- block sizes stand for `auto`: those of the image, and of the one that it is compared with
+-- block sizes stand for `auto`: those of the image, and of the one that it is compared with, or made of
 abbrev pub AreStated : Option (Text × List Row) → Scene → Scene → AutoSizes → Type 0
 AreStated named old new stated =
-    (looked : Scene) × Looks (codes "image") named old looked stated.image × Looks (codes "other") named looked new stated.other
+    (looked : Scene) × Looks (SaysAuto (codes "block") (codes "image") named) old looked stated.image
+    × Looks (SaysAutoOther named) looked new stated.other
 
 -- how a command that is named with its options ends: by saying what the faults mean that it asks for; behind a look at the files of the
 -- images, as the request that it asks for, or refused where it says none; or for want of memory. No file is changed but by a request, and

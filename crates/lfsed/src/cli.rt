@@ -116,7 +116,7 @@ fn misused<H: Host>(host: &mut H, misuse: Misuse<'_>) -> Result<u8, Fault>
     Ok(USAGE)
 }
 
-/// What the image states as its block size, and the one that it is compared with, where the words say `auto` for it.
+/// What the image states as its block size, and the one that it is compared with, or made of, where the words say `auto` for it.
 fn stated_for<H: Host>(
     alloc: Global,
     host: &mut H,

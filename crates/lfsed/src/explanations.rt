@@ -31,10 +31,11 @@ const EXPLANATIONS: [Explanation; 49] = [
     Explanation {
         number: 3,
         name: "NoValidCommit",
-        text: "Neither block of a pair that the thread names holds a commit whose checksum is right. \
-         The image is damaged, or `--block` isn't its block size, or a later littlefs wrote it: \
-         the second line says what its first block states of that, and 10 what keeps a device at \
-         disk version 2.0.",
+        text: "Neither block of a pair that the thread names holds a commit whose checksum is right. The \
+         image is damaged, or `--block` isn't its block size, or a later littlefs wrote it: the \
+         second line says what its first block states of that. `--device` reads an image of disk \
+         version 2.1, and `repack --device` makes one of version 2.0 of it; 10 says what keeps a \
+         device at version 2.0.",
     },
     Explanation {
         number: 4,
@@ -69,17 +70,19 @@ const EXPLANATIONS: [Explanation; 49] = [
         number: 9,
         name: "NoSuperblock",
         text: "The first entry of blocks 0 and 1 is no superblock. The file is no littlefs image, or \
-         `--block` isn't its block size.",
+         `--block` isn't its block size, or a device that ran long has expanded its superblock. \
+         `--device` reads such an image, and `repack --device` makes one with a single superblock of \
+         it.",
     },
     Explanation {
         number: 10,
         name: "Version",
-        text: "The image is of another disk version than 2.0, or a device has changed it with one, as \
-         the second line says: `--older` goes on with the state before that change, and what is \
+        text: "The image is of another disk version than 2.0, or a device has changed it with one, as the \
+         second line says. `--device` reads version 2.1, and `repack --device` makes an image of \
+         version 2.0 of it; `--older` goes on with the state before such a change, and what is \
          written then drops it. Since 2.6 littlefs writes disk version 2.1, also into an image of \
-         2.0. It keeps 2.0 where it is built with \
-         LFS_MULTIVERSION and `lfs_config.disk_version` is 0x00020000: build the device so, and \
-         write the image again.",
+         2.0. It keeps 2.0 where it is built with LFS_MULTIVERSION and `lfs_config.disk_version` is \
+         0x00020000: build the device so, and write the image again.",
     },
     Explanation {
         number: 11,
@@ -119,24 +122,26 @@ const EXPLANATIONS: [Explanation; 49] = [
         number: 17,
         name: "Orphan",
         text: "A directory can't be reached from the root: a device lost its power while it made or removed \
-         it. What mends it is a mount for writing and a change by a littlefs that keeps disk version 2.0: one \
-         before 2.6, or one that is built with LFS_MULTIVERSION and has 0x00020000 as \
-         `lfs_config.disk_version`. Any other makes the image one of version 2.1, which isn't read (10).",
+         it. What mends it is a mount for writing and a change by a littlefs. One before 2.6, or one \
+         that is kept at disk version 2.0 (10), leaves an image of that; any other leaves one of 2.1, \
+         and `repack --device` makes one of 2.0 of it.",
     },
     Explanation {
         number: 18,
         name: "UnfinishedMove",
-        text: "A device lost its power while it moved something. What ends the move is a mount for writing and a \
-         change by a littlefs that keeps disk version 2.0: one before 2.6, or one that is built with \
-         LFS_MULTIVERSION and has 0x00020000 as `lfs_config.disk_version`. Any other makes the image one of \
-         version 2.1, which isn't read (10).",
+        text: "A device lost its power while it moved something. What ends the move is a mount for writing \
+         and a change by a littlefs. One before 2.6, or one that is kept at disk version 2.0 (10), \
+         leaves an image of that; any other leaves one of 2.1, and `repack --device` makes one of 2.0 \
+         of it.",
     },
     Explanation {
         number: 19,
         name: "SuperblockElsewhere",
         text: "A superblock stands behind the first one: a device makes such a chain where its root is \
-         changed very often and `lfs_config.block_cycles` isn't -1. The image need not be damaged, but a chain \
-         of superblocks isn't edited: read its files with littlefs, and `pack` them into a new image.",
+         changed very often and `lfs_config.block_cycles` isn't -1. `--device` reads it, and `repack \
+         --device` makes an image with a single superblock of it. Where it is told with `--device`, \
+         the image is damaged, or the attributes of `/` leave no room for that: read its files with \
+         littlefs, and `pack` them into a new image.",
     },
     Explanation {
         number: 20,
@@ -185,20 +190,20 @@ const EXPLANATIONS: [Explanation; 49] = [
     Explanation {
         number: 36,
         name: "NameTooLong",
-        text: "The new name is longer than the image's limit, which is 255 bytes where a new image \
+        text: "The new name is longer than the image's limit, which is 255 bytes where `format` or `pack` \
          wasn't given another by `--name-max`.",
     },
     Explanation {
         number: 37,
         name: "FileTooLarge",
-        text: "The contents are longer than the image's limit, which is 2147483647 bytes where a new \
-         image wasn't given another by `--file-max`.",
+        text: "The contents are longer than the image's limit, which is 2147483647 bytes where `format` or \
+         `pack` wasn't given another by `--file-max`.",
     },
     Explanation {
         number: 38,
         name: "AttrTooLarge",
-        text: "The value is longer than the image's limit, which is 1022 bytes where a new image wasn't \
-         given another by `--attr-max`.",
+        text: "The value is longer than the image's limit, which is 1022 bytes where `format` or `pack` \
+         wasn't given another by `--attr-max`.",
     },
     Explanation {
         number: 39,
@@ -224,8 +229,8 @@ const EXPLANATIONS: [Explanation; 49] = [
     Explanation {
         number: 43,
         name: "NoSpace",
-        text: "The change needs more new blocks than are free; both numbers are said, and of a folder \
-         that is packed a second line says how many blocks it needs in all. Remove something, \
+        text: "The change needs more new blocks than are free; both numbers are said, and of a folder or an \
+         image that is packed a second line says how many blocks it needs in all. Remove something, \
          lengthen the image with `grow`, or pack into an image of more blocks.",
     },
     Explanation {

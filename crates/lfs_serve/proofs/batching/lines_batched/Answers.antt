@@ -14,6 +14,7 @@ use Rattle.lfs_exchange.specs.declared.step_kind.StepKind.{StepKind}
 use Rattle.lfs_exchange.specs.Handing.{IsNotTakenUp}
 use Rattle.lfs_report.specs.Stop.{stopped_by}
 use Rattle.lfs_serve.specs.Batching.{HandsLine, moves_said}
+use Rattle.lfs_serve.specs.Program.{as_it_is}
 use Rattle.lfs_serve.proofs.BatchingLemmas.{all_in_range, same_kind, takes_lines}
 use Rattle.lfs_serve.proofs.StepLemmas.{step_at, stopped_at}
 use Rattle.lfs_serve.proofs.batching.lines_batched.Goals as goal
@@ -80,7 +81,7 @@ returns-in-Ok-clause-ended g c =
     let takes = takes_lines old.files c.args.lines.now c.in_ok-read.read.items steps.now c.in_ok-moves.moves.items c.in_ok-read.ensures.read said are in
     let first = c.read_lines.ensures.kept.0 in
     let then = c.taken_up.ensures.kept.0 in
-    let ends = step_at (Change steps) request.takes_older request.size request.image.now mid old new None (stopped_by c.stepped.result)
+    let ends = step_at (Change steps) (as_it_is request.takes_older) request.size request.image.now mid old new None (stopped_by c.stepped.result)
     (then.0 ∙ first.0) (then.2 ∙ first.2) (sym (ap stopped_by c.in-Ok.is)) c.stepped.ensures.ended in
     inl (steps, takes, ends)
 
@@ -99,6 +100,6 @@ returns-clause-ended g c =
     let first = c.read_lines.ensures.kept.0 in
     let then = c.taken_up.ensures.kept.0 in
     let told = ap Some c.with_number.ensures.fault ∙ sym (ap stopped_by c.in-Err.is) in
-    let ends = step_at (Change steps) request.takes_older request.size request.image.now mid old new (Some c.with_number.result.fault)
+    let ends = step_at (Change steps) (as_it_is request.takes_older) request.size request.image.now mid old new (Some c.with_number.result.fault)
     (stopped_by c.stepped.result) (then.0 ∙ first.0) (then.2 ∙ first.2) told c.stepped.ensures.ended in
     inl (steps, takes, ends)

@@ -12,6 +12,7 @@ use Rattle.lfs_pack.specs.declared.pack_row.PackRow.{PackRow}
 use Rattle.lfs_report.specs.Stop.{stopped_by}
 use Rattle.lfs_step.specs.declared.step.Step.TheVariants.{Pack}
 use Rattle.lfs_serve.specs.HostFolder.{PacksFolder}
+use Rattle.lfs_serve.specs.Program.{as_it_is}
 use Rattle.lfs_serve.proofs.HostFolderLemmas.{packs, wants_memory}
 use Rattle.lfs_serve.proofs.StepLemmas.{step_at, stopped_at}
 use Rattle.lfs_serve.proofs.packing.packed.Goals as goal
@@ -83,7 +84,7 @@ returns-in-Ok-clause-ended g c =
     let step = Pack c.in_ok-count.count c.args.limits c.as_slice-rows.result in
     let first = c.folder_of.ensures.kept.0 in
     let then = c.taken_up.ensures.kept.0 in
-    let ends = step_at step request.takes_older request.size request.image.now mid old new None (stopped_by c.stepped.result)
+    let ends = step_at step (as_it_is request.takes_older) request.size request.image.now mid old new None (stopped_by c.stepped.result)
     (then.0 ∙ first.0) (then.2 ∙ first.2) (sym (ap stopped_by c.in-Ok.is)) c.stepped.ensures.ended in
     inl (step, (packed, c.in_ok-count.ensures, refl), ends)
 
@@ -104,6 +105,6 @@ returns-clause-ended g c =
     let first = c.folder_of.ensures.kept.0 in
     let then = c.taken_up.ensures.kept.0 in
     let told = ap Some (c.with_row.ensures ∙ c.with_need-stop.ensures) ∙ sym (ap stopped_by c.in-Err.is) in
-    let ends = step_at step request.takes_older request.size request.image.now mid old new (Some c.with_row.result.fault) (stopped_by c.stepped.result)
+    let ends = step_at step (as_it_is request.takes_older) request.size request.image.now mid old new (Some c.with_row.result.fault) (stopped_by c.stepped.result)
     (then.0 ∙ first.0) (then.2 ∙ first.2) told c.stepped.ensures.ended in
     inl (step, (packed, c.in_ok-count.ensures, refl), ends)

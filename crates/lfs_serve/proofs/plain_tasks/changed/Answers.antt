@@ -10,6 +10,7 @@ use Rattle.lfs_host.specs.Files.{Files}
 use Rattle.lfs_host.specs.Scene.{Scene}
 use Rattle.lfs_report.specs.Stop.{stopped_by}
 use Rattle.lfs_step.specs.declared.step.Step.TheVariants.{Change}
+use Rattle.lfs_serve.specs.Program.{as_it_is}
 use Rattle.lfs_serve.proofs.StepLemmas.{step_from, stopped_at}
 use Rattle.lfs_serve.proofs.plain_tasks.changed.Goals as goal
 
@@ -49,6 +50,6 @@ returns-clause-ended g c =
     inl (
       Change _,
       (input, reads, same),
-      step_from (Change _) request.takes_older request.size request.image.now mid old new (stopped_by c.stepped.result)
+      step_from (Change _) (as_it_is request.takes_older) request.size request.image.now mid old new (stopped_by c.stepped.result)
           (then.0 ∙ first.0) (then.1 ∙ first.2) c.stepped.ensures.ended,
     )

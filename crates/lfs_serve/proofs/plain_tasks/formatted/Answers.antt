@@ -5,6 +5,7 @@ use Rattle.lfs_exchange.specs.declared.step_kind.StepKind.TheVariants.{Makes}
 use Rattle.lfs_host.specs.Scene.{Scene}
 use Rattle.lfs_report.specs.Stop.{stopped_by}
 use Rattle.lfs_step.specs.declared.step.Step.TheVariants.{Format}
+use Rattle.lfs_serve.specs.Program.{as_it_is}
 use Rattle.lfs_serve.proofs.StepLemmas.{step_from, stopped_at}
 use Rattle.lfs_serve.proofs.plain_tasks.formatted.Goals as goal
 
@@ -26,6 +27,6 @@ returns-clause-ended g c =
     inl (
       step,
       (refl, refl),
-      step_from step request.takes_older request.size request.image.now mid old new (stopped_by c.stepped.result) kept.0 kept.2
+      step_from step (as_it_is request.takes_older) request.size request.image.now mid old new (stopped_by c.stepped.result) kept.0 kept.2
           c.stepped.ensures.ended,
     )

@@ -6,7 +6,10 @@ use Rattle.lfs_exchange.specs.Handing.{HandsQuestion, IsNotTakenUp}
 use Rattle.lfs_exchange.specs.StepKind.{kind_of_query}
 use Rattle.lfs_host.specs.Files.{Files}
 use Rattle.lfs_host.specs.Scene.{Scene}
+use Rattle.lfs_command.specs.declared.refusal.Refusal.TheVariants.{Memory}
 use Rattle.lfs_report.specs.Stop.{stopped_by}
+use Rattle.lfs_request.specs.declared.fault.Fault.TheVariants.{Refused}
+use Rattle.lfs_request.specs.declared.manner.Manner.{Manner}
 use Rattle.lfs_step.specs.declared.step.Step.TheVariants.{Ask}
 use Rattle.lfs_serve.proofs.StepLemmas.{step_from, stopped_at}
 use Rattle.lfs_serve.proofs.plain_tasks.queried.Goals as goal
@@ -21,29 +24,38 @@ returns-in_err-handed-clause-ended g c =
     c.in_err-handed.ensures.refused in
     inr ((kept.0, kept.2), (fault, stopped_at c.from_residual.result fault p.0 p.1 p.2, inr (kind_of_query c.args.query.now, refl, not)))
 
+pub returns-in_err-asked-clause-ended : goal.returns-in_err-asked-clause-ended
+returns-in_err-asked-clause-ended g c =
+    let fault = c.in_err-asked.field-0.0 in
+    let on = c.from_residual-in_err-asked in
+    let p = err_from_is_err_and on.result on.ensures.1 in
+    let first = c.taken_up.ensures.kept.0 in
+    let then = c.question_of.ensures.kept.0 in
+    inr ((then.0 ∙ first.0, then.2 ∙ first.2), (fault, stopped_at on.result fault p.0 p.1 p.2, inl c.in_err-asked.ensures.refused))
+
 pub returns-in_err-question-clause-ended : goal.returns-in_err-question-clause-ended
 returns-in_err-question-clause-ended g c =
-    let fault = c.in_err-question.field-0.0 in
     let on = c.from_residual-in_err-question in
     let p = err_from_is_err_and on.result on.ensures.1 in
     let first = c.taken_up.ensures.kept.0 in
     let then = c.question_of.ensures.kept.0 in
-    inr ((then.0 ∙ first.0, then.2 ∙ first.2), (fault, stopped_at on.result fault p.0 p.1 p.2, inl c.in_err-question.ensures.refused))
+    inr ((then.0 ∙ first.0, then.2 ∙ first.2), (Refused Memory, stopped_at on.result (Refused Memory) p.0 p.1 p.2, inl (inl refl)))
 
 pub returns-clause-ended : goal.returns-clause-ended
 returns-clause-ended g c =
     let old : Scene = g.H.Known.known c.args.host.now in
     let by_taken : Scene = g.H.Known.known c.taken_up.new.host in
     let mid : Scene = g.H.Known.known c.question_of.new.host in
-    let new : Scene = g.H.Known.known c.stepped.new.host in
+    let new : Scene = g.H.Known.known c.stepped_in.new.host in
     let request = c.args.request.now in
+    let manner : Manner = record { takes_older = request.takes_older; by_device = c.args.by_device } in
     let first = c.taken_up.ensures.kept.0 in
     let then = c.question_of.ensures.kept.0 in
     let step = Ask c.in_ok-question.question in
-    let reads = subst (λ (f : Option Files). HandsQuestion f c.args.query.now c.in_ok-question.question) first.0 c.in_ok-question.ensures.question in
+    let reads = subst (λ (f : Option Files). HandsQuestion f c.args.query.now c.in_ok-asked.asked) first.0 c.in_ok-asked.ensures.question in
     inl (
       step,
-      reads,
-      step_from step request.takes_older request.size request.image.now mid old new (stopped_by c.stepped.result)
-          (then.0 ∙ first.0) (then.2 ∙ first.2) c.stepped.ensures.ended,
+      (c.in_ok-asked.asked, reads, c.in_ok-question.ensures),
+      step_from step manner request.size request.image.now mid old new (stopped_by c.stepped_in.result)
+          (then.0 ∙ first.0) (then.2 ∙ first.2) c.stepped_in.ensures.ended,
     )

@@ -1,4 +1,7 @@
-use Rattle.std.proofs.Common.{rules, ◌≡◌, Some, None, ap, subst, ◌∙◌, string_bytes}
+use Rattle.std.proofs.Common.{rules, ◌≡◌, ℕ, List, Some, None, refl, sym, ap, subst, ◌∙◌, string_bytes}
+use Rattle.std.proofs.lemmas.Result.{err_from_is_err_and}
+use Rattle.lfs_command.specs.declared.refusal.Refusal.TheVariants.{Memory}
+use Rattle.lfs_request.specs.declared.fault.Fault.TheVariants.{Refused}
 use Rattle.lfs_exchange.specs.Handing.{HandedBytes, IsHanded}
 use Rattle.lfs_exchange.specs.Printing.{HandsOn}
 use Rattle.lfs_serve.specs.StepKind.{kind_of}
@@ -6,66 +9,77 @@ use Rattle.lfs_exchange.specs.declared.step_kind.StepKind.{StepKind}
 use Rattle.lfs_host.specs.Scene.{Scene}
 use Rattle.lfs_serve.specs.Later.{later_read, refused_by}
 use Rattle.lfs_serve.specs.Program.{RunsStep}
-use Rattle.lfs_serve.proofs.StepLemmas.{claimed_at, ends_behind, ends_later, ends_refused, leaves_at, refused_read, spares_at, step_ran}
-use Rattle.lfs_serve.proofs.stepping.stepped.Goals as goal
+use Rattle.lfs_serve.proofs.StepLemmas.{claimed_at, ends_behind, ends_later, ends_refused, ends_wanting, leaves_at, spares_at, step_ran, stopped_at}
+use Rattle.lfs_serve.proofs.stepping.stepped_in.Goals as goal
 
-pub returns-in_err-must_be_read-clause-ended : goal.returns-in_err-must_be_read-clause-ended
-returns-in_err-must_be_read-clause-ended g c =
+pub returns-in_err-pass_step-clause-ended : goal.returns-in_err-pass_step-clause-ended
+returns-in_err-pass_step-clause-ended g c =
     let step = c.args.step in
-    let older = c.args.request.now.takes_older in
+    let manner = c.args.manner in
     let size = c.args.request.now.size in
     let name = c.args.request.now.image.now in
     let old : Scene = g.H.Known.known c.args.host.now in
     let h : HandedBytes = record { image = c.args.handed.image.items; journal = c.args.handed.journal.items } in
     let is : IsHanded (kind_of step) name old h = subst (λ (kind : StepKind). IsHanded kind name old h) c.requires.kind c.requires.handed in
-    let fault = c.in_err-must_be_read.field-0.0.fault in
-    let refused : refused_by older (later_read step size h.image) ≡ Some fault =
-    refused_read older step size h.image c.later_read-found.result (Some fault) (search rules) c.in_err-must_be_read.ensures in
-    ends_later step older size name old old h _ fault (search rules) is refused (search rules)
+    let fault = c.in_err-pass_step.field-0.0.fault in
+    let refused : refused_by manner (later_read step size h.image) ≡ Some fault =
+    subst (λ (bytes : List ℕ). refused_by manner (later_read step size bytes) ≡ Some fault) c.deref.ensures.value
+    (sym c.in_err-pass_step.ensures) in
+    ends_later step manner size name old old h _ fault (search rules) is refused (search rules)
+
+pub returns-in_err-image-clause-ended : goal.returns-in_err-image-clause-ended
+returns-in_err-image-clause-ended g c =
+    let old : Scene = g.H.Known.known c.args.host.now in
+    let on = c.from_residual-in_err-image in
+    let p = err_from_is_err_and on.result on.ensures.1 in
+    ends_wanting c.args.step c.args.manner c.args.request.now.size c.args.request.now.image.now old old _ (Refused Memory)
+    (stopped_at on.result (Refused Memory) p.0 p.1 p.2) (c.in_err-image.ensures.refused, refl) (search rules)
 
 pub returns-in_err-stored-in-Ok-clause-ended : goal.returns-in_err-stored-in-Ok-clause-ended
 returns-in_err-stored-in-Ok-clause-ended g c =
     let step = c.args.step in
-    let older = c.args.request.now.takes_older in
+    let manner = c.args.manner in
     let size = c.args.request.now.size in
     let name = c.args.request.now.image.now in
     let old : Scene = g.H.Known.known c.args.host.now in
     let by_taken : Scene = g.H.Known.known c.taken.new.host in
     let h : HandedBytes = record { image = c.args.handed.image.items; journal = c.args.handed.journal.items } in
     let is : IsHanded (kind_of step) name old h = subst (λ (kind : StepKind). IsHanded kind name old h) c.requires.kind c.requires.handed in
-    let none : refused_by older (later_read step size h.image) ≡ None =
-    refused_read older step size h.image c.later_read-found.result None (search rules) c.in_ok-must_be_read.ensures in
+    let none : refused_by manner (later_read step size h.image) ≡ None =
+    subst (λ (bytes : List ℕ). refused_by manner (later_read step size bytes) ≡ None) c.deref.ensures.value
+    (sym c.in_ok-pass_step.ensures) in
     let by_stored : Scene = g.H.Known.known c.stored.new.host in
     let target = string_bytes c.args.handed.target in
     let files = c.taken.ensures.kept.0 in
     let outcome = c.in-Ok.ensures.ran.0 in
-    let runs : RunsStep step older size name old by_stored None outcome =
-    step_ran step older size name old by_stored h None by_taken.printed outcome is none c.in-Ok.ensures.ran.1 c.in-Ok.ensures.ran.2
+    let runs : RunsStep step manner size name old by_stored None outcome =
+    step_ran step manner size name old by_stored h c.in_ok-image.image.items None by_taken.printed outcome is none c.in_ok-image.ensures.read c.in-Ok.ensures.ran.1 c.in-Ok.ensures.ran.2
     c.in-Ok.ensures.ran.3 c.stored.ensures.kept.1 tt in
     let fault = c.in_err-stored-in-Ok.field-0.0 in
     let spares = spares_at fault c.args.handed.kind (kind_of step) by_stored.has_refused_place old.files by_taken.files by_stored.files name target
     c.as_str.result.now outcome c.in-Ok.outcome c.requires.target (search rules) files c.requires.kind c.in-Ok.ensures.ran.4
     c.in_err-stored-in-Ok.ensures.files in
-    ends_behind step older size name old by_stored _ fault outcome (search rules) c.in_err-stored-in-Ok.ensures.refused runs spares
+    ends_behind step manner size name old by_stored _ fault outcome (search rules) c.in_err-stored-in-Ok.ensures.refused runs spares
 
 pub returns-in-Ok-clause-ended : goal.returns-in-Ok-clause-ended
 returns-in-Ok-clause-ended g c =
     let step = c.args.step in
-    let older = c.args.request.now.takes_older in
+    let manner = c.args.manner in
     let size = c.args.request.now.size in
     let name = c.args.request.now.image.now in
     let old : Scene = g.H.Known.known c.args.host.now in
     let by_taken : Scene = g.H.Known.known c.taken.new.host in
     let h : HandedBytes = record { image = c.args.handed.image.items; journal = c.args.handed.journal.items } in
     let is : IsHanded (kind_of step) name old h = subst (λ (kind : StepKind). IsHanded kind name old h) c.requires.kind c.requires.handed in
-    let none : refused_by older (later_read step size h.image) ≡ None =
-    refused_read older step size h.image c.later_read-found.result None (search rules) c.in_ok-must_be_read.ensures in
+    let none : refused_by manner (later_read step size h.image) ≡ None =
+    subst (λ (bytes : List ℕ). refused_by manner (later_read step size bytes) ≡ None) c.deref.ensures.value
+    (sym c.in_ok-pass_step.ensures) in
     let by_stored : Scene = g.H.Known.known c.stored.new.host in
     let target = string_bytes c.args.handed.target in
     let files = c.taken.ensures.kept.0 in
     let outcome = c.in-Ok.ensures.ran.0 in
-    let runs : RunsStep step older size name old by_stored None outcome =
-    step_ran step older size name old by_stored h None by_taken.printed outcome is none c.in-Ok.ensures.ran.1 c.in-Ok.ensures.ran.2
+    let runs : RunsStep step manner size name old by_stored None outcome =
+    step_ran step manner size name old by_stored h c.in_ok-image.image.items None by_taken.printed outcome is none c.in_ok-image.ensures.read c.in-Ok.ensures.ran.1 c.in-Ok.ensures.ran.2
     c.in-Ok.ensures.ran.3 c.stored.ensures.kept.1 tt in
     let leaves = leaves_at c.args.handed.kind (kind_of step) old.files by_taken.files by_stored.files name target c.as_str.result.now outcome
     c.in-Ok.outcome c.requires.target (search rules) files c.requires.kind c.in-Ok.ensures.ran.4 c.in_ok-stored-in-Ok.ensures.files in
@@ -75,21 +89,22 @@ returns-in-Ok-clause-ended g c =
 pub returns-clause-ended : goal.returns-clause-ended
 returns-clause-ended g c =
     let step = c.args.step in
-    let older = c.args.request.now.takes_older in
+    let manner = c.args.manner in
     let size = c.args.request.now.size in
     let name = c.args.request.now.image.now in
     let old : Scene = g.H.Known.known c.args.host.now in
     let by_taken : Scene = g.H.Known.known c.taken.new.host in
     let h : HandedBytes = record { image = c.args.handed.image.items; journal = c.args.handed.journal.items } in
     let is : IsHanded (kind_of step) name old h = subst (λ (kind : StepKind). IsHanded kind name old h) c.requires.kind c.requires.handed in
-    let none : refused_by older (later_read step size h.image) ≡ None =
-    refused_read older step size h.image c.later_read-found.result None (search rules) c.in_ok-must_be_read.ensures in
+    let none : refused_by manner (later_read step size h.image) ≡ None =
+    subst (λ (bytes : List ℕ). refused_by manner (later_read step size bytes) ≡ None) c.deref.ensures.value
+    (sym c.in_ok-pass_step.ensures) in
     let by_looked : Scene = g.H.Known.known c.with_new_image.new.host in
     let fault = c.in-Err.stop.fault in
     let looked = c.with_new_image.ensures.kept.0 in
     let outcome = c.in-Err.ensures.ran.0 in
-    let runs : RunsStep step older size name old by_looked (Some fault) outcome =
-    step_ran step older size name old by_looked h (Some fault) by_taken.printed outcome is none c.in-Err.ensures.ran.1 c.in-Err.ensures.ran.2
+    let runs : RunsStep step manner size name old by_looked (Some fault) outcome =
+    step_ran step manner size name old by_looked h c.in_ok-image.image.items (Some fault) by_taken.printed outcome is none c.in_ok-image.ensures.read c.in-Err.ensures.ran.1 c.in-Err.ensures.ran.2
     c.in-Err.ensures.ran.3 looked.2 (c.with_new_image.ensures.blamed c.in-Err.ensures.blamed) in
-    ends_refused step older size name old by_looked (Some c.with_new_image.result.fault) fault outcome (ap Some c.with_new_image.ensures.fault) runs
+    ends_refused step manner size name old by_looked (Some c.with_new_image.result.fault) fault outcome (ap Some c.with_new_image.ensures.fault) runs
     (looked.0 ∙ c.taken.ensures.kept.0)

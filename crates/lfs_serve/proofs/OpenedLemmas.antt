@@ -1,0 +1,26 @@
+-- The image that bytes are, opened.
+use Rattle.std.proofs.Common.{◌≡◌, ◌⊎◌, ◌∙◌, ℕ, List, Result, Ok, Err, IfErr, sym, ap, subst, inl, inr}
+use Rattle.lfs_block.specs.Disk.{Disk, IsDisk, image_of}
+use Rattle.lfs_block.proofs.BytesLemmas.{image_of_disk}
+use Rattle.lfs_command.specs.declared.refusal.Refusal.TheVariants.{Memory}
+use Rattle.lfs_fs.specs.Cause.{HasCause}
+use Rattle.lfs_report.specs.declared.stop.Stop.{Stop}
+use Rattle.lfs_request.specs.declared.fault.Fault.TheVariants.{Refused}
+use Rattle.lfs_serve.specs.Opened.{RefusesMount}
+use Rattle.lfs_serve.specs.Repacking.{JudgesSource}
+use Rattle.lfs_serve.specs.declared.opened.Opened.{Opened}
+
+-- a disk is that of its bytes
+pub disk_is : (size : ℕ) (bytes : List ℕ) (d : Disk) → IsDisk d → d.size ≡ size → d.bytes ≡ bytes → d ≡ image_of size bytes
+disk_is size bytes d is size_is bytes_are =
+    sym (image_of_disk d is) ∙ ap (λ (n : ℕ). image_of n d.bytes) size_is ∙ ap (image_of size) bytes_are
+
+-- what one that isn't opened is refused for is a cause of its bytes
+pub judged : (size : ℕ) (bytes : List ℕ) (d : Disk) → IsDisk d → d ≡ image_of size bytes → (r : Result Opened Stop)
+    → IfErr r (λ stop. (stop.fault ≡ Refused Memory) ⊎ RefusesMount d stop.fault)
+    → IfErr r (λ stop. (stop.fault ≡ Refused Memory) ⊎ JudgesSource size bytes stop.fault)
+judged size bytes d is same (Ok o) refused = tt
+judged size bytes d is same (Err stop) (inl memory) = inl memory
+judged size bytes d is same (Err stop) (inr (cause, for, has)) =
+    let at = subst (λ (e : Disk). IsDisk e) same is in
+    inr (subst (JudgesSource size bytes) (sym for) (at, subst (λ (e : Disk). HasCause e cause) same has))

@@ -1,0 +1,101 @@
+//! An image that a new one is made of, opened.
+
+ghost use Rattle.std.specs.Prelude.{◌≡◌, ◌⊎◌, IfErr, IfOk};
+ghost use Rattle.lfs_command.specs.declared.refusal.Refusal.TheVariants.{Memory};
+ghost use Rattle.lfs_fs.specs.Mounted.{IsMountOf};
+ghost use Rattle.lfs_host.specs.Scene.{KeepsAll};
+ghost use Rattle.lfs_request.specs.declared.fault.Fault.TheVariants.{Refused};
+ghost use Rattle.lfs_serve.specs.Opened.{IsOpened, IsOpenedAs, IsOpenedOn, RefusesMount};
+ghost use Rattle.lfs_serve.specs.Repacking.{JudgesSource, ReadsSource, RefusesSource};
+
+use crate::later::pass_source;
+use crate::read_by::read_by;
+use lfs_block::{Blocks, Image, MountFault};
+use lfs_exchange::read_other;
+use lfs_fs::{Limits, Mounted, mount, outlines_are_sound};
+use lfs_host::Host;
+use lfs_repack::{SourceRow, source_rows};
+use lfs_report::{Beside, Sight, Stop, stop_of_source, stop_of_source_bytes};
+use lfs_request::SourceImage;
+use std::alloc::{AllocError, Global};
+
+/// An image that a new one is made of: what is taken of it.
+#[derive(Drop)]
+pub(crate) struct Opened {
+    /// How many bytes it has.
+    pub(crate) len: u32,
+    /// Its limits.
+    pub(crate) limits: Limits,
+    /// Copies of its rows.
+    pub(crate) rows: Vec<SourceRow>,
+}
+
+/// Opens an image that a new one is made of. What commits of a later version stand in it is put into `beside`. Takes memory.
+pub(crate) fn open_source<H: Host>(
+    alloc: Global,
+    host: &mut H,
+    beside: &mut Beside,
+    source: &SourceImage<'_>,
+) -> Result<Opened, Stop>
+    ensures opened { IfOk result (IsOpened source.now (H.known host.old).files) }
+    ensures refused { IfErr result (λ stop. RefusesSource source.now (H.known host.old) (H.known host.new) stop.fault) }
+    ensures kept { KeepsAll (H.known host.old) (H.known host.new) }
+{
+    let bytes = source_bytes(alloc, host, beside, source)?;
+    opened_as(alloc, source.size, bytes)
+}
+
+/// The bytes of its file, as they are read in its manner.
+fn source_bytes<H: Host>(
+    alloc: Global,
+    host: &mut H,
+    beside: &mut Beside,
+    source: &SourceImage<'_>,
+) -> Result<Vec<u8>, Stop>
+    ensures read { IfOk result (λ image. ReadsSource source.now (H.known host.old).files image.items) }
+    ensures refused { IfErr result (λ stop. RefusesSource source.now (H.known host.old) (H.known host.new) stop.fault) }
+    ensures kept { KeepsAll (H.known host.old) (H.known host.new) }
+{
+    let SourceImage { file, size, manner } = *source;
+    let bytes = read_other(alloc, host, file)?;
+    pass_source(manner, size, &bytes, beside)?;
+    Ok(read_by(alloc, manner.by_device, size, bytes)?)
+}
+
+/// Opens the image that bytes are.
+fn opened_as(alloc: Global, size: u32, bytes: Vec<u8>) -> Result<Opened, Stop>
+    ensures opened { IfOk result (IsOpenedAs size bytes.items) }
+    ensures refused { IfErr result (λ stop. (stop.fault ≡ Refused Memory) ⊎ JudgesSource size bytes.items stop.fault) }
+{
+    let seen = Sight::of(size, &bytes);
+    match Image::new(bytes, size) {
+        Ok(image) => opened_on(alloc, &image, seen),
+        Err((fault, bytes)) => Err(stop_of_source_bytes(fault, size, &bytes)),
+    }
+}
+
+/// Opens an image, of which this is seen.
+fn opened_on(alloc: Global, image: &Image, seen: Sight) -> Result<Opened, Stop>
+    ensures opened { IfOk result (IsOpenedOn image.now.disk) }
+    ensures refused { IfErr result (λ stop. (stop.fault ≡ Refused Memory) ⊎ RefusesMount image.now.disk stop.fault) }
+{
+    outlines_are_sound();
+    let mounted = mounted_source(alloc, image, seen)?;
+    Ok(Opened {
+        len: image.size() * image.count(),
+        limits: mounted.outline().limits,
+        rows: source_rows(alloc, image, &mounted)?,
+    })
+}
+
+/// Mounts it.
+fn mounted_source(alloc: Global, image: &Image, seen: Sight) -> Result<Mounted, Stop>
+    ensures mounted { IfOk result (λ mounted. IsMountOf image.now.disk mounted) }
+    ensures refused { IfErr result (λ stop. (stop.fault ≡ Refused Memory) ⊎ RefusesMount image.now.disk stop.fault) }
+{
+    match mount(alloc, image) {
+        Ok(mounted) => Ok(mounted),
+        Err(MountFault::Memory) => Err(Stop::from(AllocError)),
+        Err(fault) => Err(stop_of_source(alloc, fault, image, seen)),
+    }
+}

@@ -1,0 +1,52 @@
+//! What an image holds, packed into a new one.
+
+ghost use Rattle.lfs_report.specs.Stop.{stopped_by};
+ghost use Rattle.lfs_request.specs.SaidLimits.{AreSaidInRange};
+ghost use Rattle.lfs_request.specs.declared.task.Task.TheVariants.{Repack};
+ghost use Rattle.lfs_serve.specs.Program.{EndsTask, TaskLeavesRest};
+
+use crate::least::counted_for;
+use crate::opened::open_source;
+use crate::stepping::stepped;
+use lfs_exchange::{StepKind, taken_up};
+use lfs_host::Host;
+use lfs_repack::pack_rows;
+use lfs_report::{Beside, Stop, with_need, with_row};
+use lfs_request::{Extent, Request, SaidLimits, SourceImage};
+use lfs_step::Step;
+use std::alloc::Global;
+
+/// Packs what another image holds, which is read behind the claim of the new one's name. Takes memory.
+pub(crate) fn repacked<H: Host>(
+    alloc: Global,
+    host: &mut H,
+    request: &Request<'_>,
+    beside: &mut Beside,
+    source: &SourceImage<'_>,
+    extent: Option<Extent>,
+    limits: SaidLimits,
+) -> Result<(), Stop>
+    requires { AreSaidInRange limits }
+    ensures ended { EndsTask (Repack source.now extent limits) request.now.takes_older request.now.size request.now.image.now
+        (H.known host.old) (H.known host.new) (stopped_by result) }
+    ensures rest { TaskLeavesRest (Repack source.now extent limits) (H.known host.old) (H.known host.new) }
+{
+    let handed = taken_up(alloc, host, StepKind::Makes, request.image)?;
+    let opened = open_source(alloc, host, beside, source)?;
+    let rows = pack_rows(alloc, &opened.rows)?;
+    let rows = rows.as_slice();
+    let limits = limits.or(opened.limits);
+    let count = counted_for(alloc, request.size, extent, limits, rows, opened.len)?;
+    let step = Step::Pack {
+        count,
+        limits,
+        rows,
+    };
+    match stepped(alloc, host, request, beside, handed, step) {
+        Ok(()) => Ok(()),
+        Err(stop) => {
+            let stop = with_need(alloc, request.size, limits, rows, stop);
+            Err(with_row(alloc, limits, rows, beside, stop))
+        }
+    }
+}
