@@ -6,7 +6,7 @@ import os
 import subprocess
 import sys
 
-from later import APPENDED, REFUSED, TOLD
+from later import APPENDED, REFUSED_CHANGE, TOLD
 from support.folder import PROGRAM, contents, run_scenes
 from support.journal import journal, word
 from support.littlefs import Reader
@@ -471,7 +471,7 @@ def later_commits(folder):
         folder.check(f"older: {text}", ended == (status, told, b""), ended)
         folder.be(APPENDED, 0)
         ended = batch.batch(text)
-        folder.check(f"later: {text}", ended == (3, REFUSED, b""), ended)
+        folder.check(f"later: {text}", ended == (3, REFUSED_CHANGE, b""), ended)
         folder.check(f"later: {text}: files", batch.files() == (APPENDED, None, []))
 
 

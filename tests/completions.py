@@ -41,6 +41,8 @@ LINES = [
     ("lfsed check -b 512 fw", ["check", "-b", "512", "fw.img"]),
     ("lfsed diff fw.img oth", ["diff", "fw.img", "other.img"]),
     ("lfsed pack fw.img fol", ["pack", "fw.img", "folder/"]),
+    ("lfsed repack --device --from-block 512 fw.img oth", ["repack", "--device", "--from-block", "512", "fw.img", "other.img"]),
+    ("lfsed check --dev", ["check", "--device"]),
     ("lfsed cat -b 512 fw.img /con", ["cat", "-b", "512", "fw.img", "/config"]),
     ("lfsed cat --block=512 fw.img /dir/t", ["cat", "--block=512", "fw.img", "/dir/two words"]),
     ("lfsed cat -b 512 fw.img /oth", ["cat", "-b", "512", "fw.img", "/oth"]),

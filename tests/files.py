@@ -158,16 +158,24 @@ def an_image_that_another_keeps(files):
     """A run that changes an image which another program keeps ends with 61, and one that reads it reads it."""
     with open(files.image, "rb") as kept:
         fcntl.flock(kept, fcntl.LOCK_EX)
-        for words in ["mkdir", "--block", "512", "a.img", "/d"], ["format", "--block", "512", "--count", "8", "a.img"]:
+        for words in (
+            ["mkdir", "--block", "512", "a.img", "/d"], ["format", "--block", "512", "--count", "8", "a.img"],
+            ["repack", "--block", "512", "a.img", "a.img"],
+        ):
             files.refused(f"{words[0]} of an image that is kept", words, NOT_WRITTEN, "")
-        status, said = files.run(["check", "--block", "512", "a.img"])
-        files.check("an image that is kept is read", status == 0 and not said, (status, said))
+        for words in (
+            ["check", "--block", "512", "a.img"], ["check", "--block", "512", "--device", "a.img"],
+            ["repack", "--block", "512", "b.img", "a.img"],
+        ):
+            status, said = files.run(words)
+            files.check(f"an image that is kept is read: {words}", status == 0 and not said, (status, said))
     files.must(["mkdir", "--block", "512", "a.img", "/d"])
 
 
 # Runs, and for each the calls of the C library that it makes.
 RUNS_THAT_CALL = (
     (["check", "a.img"], "open read write statx"),
+    (["check", "--device", "a.img"], "open read write statx"),
     (["put", "a.img", "/f"], "open read write statx flock fchmod fsync rename"),
     (["put", "link.img", "/f"], "open read write statx flock fchmod fsync rename realpath"),
     (["batch", "a.img", "steps"], "open read write statx flock fchmod fsync rename"),
@@ -175,6 +183,9 @@ RUNS_THAT_CALL = (
     (["forget", "a.img"], "open read write statx flock fchmod fsync rename"),
     (["format", "--count", "8", "a.img"], "open write statx flock fchmod fsync rename"),
     (["format", "--count", "8", "new.img"], "open write statx flock fsync link"),
+    (["repack", "--from-block", "512", "--device", "a.img", "b.img"], "open read write statx flock fchmod fsync rename"),
+    (["repack", "--from-block", "512", "new.img", "b.img"], "open read write statx flock fsync link"),
+    (["repack", "--from-block", "512", "a.img", "a.img"], "open read write statx flock fchmod fsync rename"),
 )
 
 
@@ -183,6 +194,7 @@ def calls_that_fail(files):
     journal alone where the image didn't get its place behind it."""
     files.must(["put", "--block", "512", "a.img", "/old"], b"contents")
     (files.folder / "link.img").symlink_to("a.img")
+    files.must(["format", "--block", "512", "--count", "16", "b.img"])
     (files.folder / "steps").write_bytes(b"mkdir /made\nsetattr /old 74 01\n")
     with tempfile.TemporaryDirectory() as folder:
         os.chmod(folder, 0o755)
@@ -244,7 +256,7 @@ def write_protected(files):
     files.image.chmod(0o444)
     for words in (
         ["put", "--block", "512", "a.img", "/f"], ["undo", "--block", "512", "a.img"], ["forget", "--block", "512", "a.img"],
-        ["format", "--block", "512", "--count", "8", "a.img"],
+        ["format", "--block", "512", "--count", "8", "a.img"], ["repack", "--block", "512", "a.img", "a.img"],
     ):
         files.refused(f"write-protected: {words[0]}", words, NOT_WRITTEN, "a.img: is write-protected")
     files.must(["ls", "--block", "512", "a.img"])
@@ -296,9 +308,10 @@ def images_that_are_new(files):
         there = f"lfsed: {name}: something is there already"
         files.refused(f"a new image: {name}", ["format", *words, name], NOT_WRITTEN, there)
         files.refused(f"a new image of a folder: {name}", ["pack", *words, name, "full"], NOT_WRITTEN, there)
-    for command in ["format", *words, "one.img"], ["pack", *words, "two.img", "full"]:
+        files.refused(f"a new image of another: {name}", ["repack", *words, name, "a.img"], NOT_WRITTEN, there)
+    for command in ["format", *words, "one.img"], ["pack", *words, "two.img", "full"], ["repack", *words, "three.img", "a.img"]:
         files.must(command)
-        files.refused(f"{command[-1]} again", command, NOT_WRITTEN, f"lfsed: {command[6]}: something is there already")
+        files.refused(f"{command[0]} again", command, NOT_WRITTEN, f"lfsed: {command[6]}: something is there already")
 
 
 def contents_of_a_file(files):
@@ -357,6 +370,8 @@ def limit_files(length):
 def disks_that_refuse(files):
     mkdir = ["mkdir", "--block", "512", "a.img", "/d"]
     files.refused("a full disk", mkdir, NOT_WRITTEN, "a.img: ", preexec_fn=lambda: limit_files(8_192))
+    repack = ["repack", "--block", "512", "a.img", "a.img"]
+    files.refused("a full disk for a new image", repack, NOT_WRITTEN, "a.img: ", preexec_fn=lambda: limit_files(8_192))
     for number in range(40):
         files.must(["put", "--block", "512", "a.img", "/f"], bytes([number]))
     journal = "the journal of a.img: File too large"

@@ -13,9 +13,13 @@ from support.logs import Draft, attribute, file, image, superblock
 SIZE, COUNT = 512, 8
 TOLD = "lfsed: a.img: a later commit of disk version 2.1 stands in it, which is not read\n"
 TOLD_OTHER = TOLD.replace("a.img", "b.img")
-CHANGED_BY_DEVICE = "lfsed: a.img: a device has changed it with disk version 2.1, which is not read; --older goes on with the state before that\n"
+CHANGED_BY_DEVICE = (
+    "lfsed: a.img: a device has changed it with disk version 2.1, which is not read: "
+    "--device reads it, --older goes on with the state before that\n"
+)
 REFUSED = "lfsed: 10 Version\n" + CHANGED_BY_DEVICE
 REFUSED_OTHER = REFUSED.replace("a.img", "b.img")
+REFUSED_CHANGE = REFUSED.replace("--device", "repack --device")
 SAID = "block 512, count 8, free 6, directories 1, files 1\n"
 
 
@@ -124,7 +128,7 @@ def each_command_refuses_them(folder):
     for name, latest in LATEST.items():
         for words in [words for words, *_ in ASKED + CHANGED] + ["ls -b 512 a.img"]:
             folder.be(latest, 0)
-            folder.play([(words, 4, 3, REFUSED, "")])
+            folder.play([(words, 4, 3, REFUSED if words.split(" ")[0] in ("check", "cat", "ls") else REFUSED_CHANGE, "")])
             folder.check(f"{name}: refused: {words}", (folder.old(), folder.saved()) == (latest, None))
         folder.be(latest, 0)
         folder.play([("extract -b 512 a.img made", 0, 3, REFUSED, "")])
@@ -141,10 +145,11 @@ def nothing_is_said_of_others(folder):
 
 def a_later_image_states_its_version(folder):
     for name, (formatted, place) in FORMATTED.items():
-        second = f"lfsed: 3 NoValidCommit\nlfsed: a.img: its {place} block states disk version 2.1\n"
+        states = f"lfsed: 3 NoValidCommit\nlfsed: a.img: its {place} block states disk version 2.1: "
+        asked, changed = states + "--device reads it\n", states + "repack --device reads it\n"
         for older in "", " --older":
             folder.be(formatted, 0)
-            folder.play([(f"check -b 512 a.img{older}", 0, 3, second, ""), (f"put -b 512 a.img /more{older}", 4, 3, second, "")])
+            folder.play([(f"check -b 512 a.img{older}", 0, 3, asked, ""), (f"put -b 512 a.img /more{older}", 4, 3, changed, "")])
             folder.check(f"{name}{older}", folder.old() == formatted)
 
 

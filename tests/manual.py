@@ -17,13 +17,13 @@ INSTALLED = {
     "share/zsh/site-functions/_lfsed": "completions/_lfsed",
     "share/fish/vendor_completions.d/lfsed.fish": "completions/lfsed.fish",
 }
-COMMANDS = "batch cat check diff explain extract forget format grow log ls mkdir mv pack put redo rm rmattr setattr undo"
+COMMANDS = "batch cat check diff explain extract forget format grow log ls mkdir mv pack put redo repack rm rmattr setattr undo"
 # The words of a command line, of which the last one is completed, and what it may become.
 COMPLETED = [
     ("lfsed ", f"--help --version {COMMANDS} help"),
     ("lfsed p", "pack put"),
     ("lfsed help und", "undo"),
-    ("lfsed check -", "--block --help --older -b -h"),
+    ("lfsed check -", "--block --device --help --older -b -h"),
     ("lfsed pack --c", "--count"),
     ("lfsed check ", "fw.img src"),
     ("lfsed check fw", "fw.img"),
@@ -56,6 +56,15 @@ COMPLETED = [
     ("lfsed batch --keep 3 f", "fw.img"),
     ("lfsed batch fw.img ", "fw.img src"),
     ("lfsed batch fw.img fw.img ", ""),
+    ("lfsed re", "redo repack"),
+    ("lfsed extract --d", "--device"),
+    ("lfsed undo --d", ""),
+    ("lfsed repack --", "--attr-max --block --count --device --file-max --from-block --help --least --name-max --new --older --size"),
+    ("lfsed repack f", "fw.img"),
+    ("lfsed repack fw.img f", "fw.img"),
+    ("lfsed repack fw.img fw.img ", ""),
+    ("lfsed repack --from-block ", ""),
+    ("lfsed repack --from-block 512 --device fw.img f", "fw.img"),
 ]
 
 

@@ -11,13 +11,18 @@ import sys
 import tempfile
 
 from support.journal import journal
-from support.logs import file, image, log, superblock
+from support.later import FIRST, LATER, appended, expanded, stated, written
+from support.littlefs import ROOT
+from support.logs import SOFT, attribute, chained, directory, file, image, log, superblock, tail
+from support.scattering import laid
 from support.refusing import Refusing
 
 HOME = pathlib.Path(__file__).resolve().parent.parent
 PROGRAM = HOME / "crates/lfsed/out/lfsed"
 # No file, and no journal.
 NOTHING = None, None
+# What is told of another image of which there is no memory to find out more.
+REFUSED = b"lfsed: b.img: this image is refused\n"
 
 
 class Runs:
@@ -44,10 +49,12 @@ class Runs:
 
     def row(self, words, state, contents=b""):
         """Refuses each request of a run in turn; answers the files that the run leaves with ample memory. A refused run may leave out
-        the lines behind that of its fault, where there is no memory to find out what they say."""
+        the lines behind that of its fault, where there is no memory to find out what they say, or say of another image which one it is."""
         ample = self.run(words, state, contents, 0)
         lines = ample[2].splitlines(keepends=True)
         told = [(*ample[:2], b"".join(lines[:n]), ample[3]) for n in range(1, len(lines))] + [ample]
+        if lines[1:] and lines[1].startswith(b"lfsed: b.img: its superblock states "):
+            told.append((*ample[:2], lines[0] + REFUSED, ample[3]))
         at, memory, is_right = 0, 0, True
         while at == 0 or self.refusing.was_hit():
             at += 1
@@ -201,6 +208,67 @@ def growing_rows(runs):
     runs.size = 512
 
 
+def device_images():
+    """Images that devices left: one of version 2.0 that a device appended to, one that it formatted, with a directory, one whose superblock
+    was expanded, and one of these that states another version."""
+    plain = log(1, stated(FIRST, 512, 16) + file(1, b"early", b"old"), 16).ljust(512, b"\xff")
+    root = stated(LATER, 512, 16) + directory(1, b"d", (2, 3)) + attribute(1, 0x74, b"\1") + tail(SOFT, (2, 3))
+    blocks = laid(512, [7, 5], bytes(700))
+    parts = expanded([ROOT, (2, 3)], [stated(FIRST, 512, 16), stated(LATER, 512, 16) + file(1, b"early", b"new")])
+    other = expanded([ROOT, (2, 3)], [stated(FIRST, 512, 16), stated(0x0002_0002, 512, 16)])
+    return [
+        image(512, 16, {0: appended(plain, stated(LATER, 512, 16)[1:], file(2, b"late", b"new"))}),
+        image(512, 16, {0: written(1, 512, root), 2: written(1, 512, file(0, b"f", b"in") + chained(1, b"g", 5, 700)), **blocks}),
+        image(512, 16, {number: written(1, 512, items) for number, items in parts.items()}),
+        image(512, 16, {number: log(1, items, 16) for number, items in other.items()}),
+    ]
+
+
+def device_rows(runs):
+    """Images that devices left, read as a device does, and without that."""
+    other = runs.files[0].with_name("b.img")
+    for held in device_images():
+        state = held, None
+        other.write_bytes(held)
+        for words in ["check"], ["ls"], ["extract", "made"]:
+            runs.row([words[0], "--device", "a.img", *words[1:]], state)
+        runs.row(["cat", "--device", "a.img", "/early"], state)
+        runs.row(["diff", "--device", "a.img", "b.img"], (device_images()[0], None))
+        for words in ["check", "a.img"], ["mkdir", "a.img", "/a"], ["repack", "a.img", "b.img"]:
+            runs.row(words, state)
+
+
+def repacking_rows(runs):
+    """Images that are made of others: in the place of nothing, of another and of their own, of fewer blocks and other sizes of them, with
+    limits, of images that aren't read, and where there is no room."""
+    other = runs.files[0].with_name("b.img")
+    held = image(512, 16, {
+        0: log(1, superblock(512, 16) + attribute(0, 1, b"root") + directory(1, b"d", (2, 3)) + attribute(1, 2, b"")
+               + file(2, b"f", b"in") + tail(SOFT, (2, 3))),
+        2: log(1, chained(0, b"g", 5, 700) + attribute(0, 3, bytes(9))), **laid(512, [7, 5], bytes(700)),
+    })
+    made = runs.row(["repack", "a.img", "a.img"], (held, None))
+    for held in [held, *device_images()]:
+        other.write_bytes(held)
+        runs.row(["repack", "--device", "a.img", "b.img"], NOTHING)
+        runs.row(["repack", "--device", "--least", "a.img", "b.img"], made)
+    other.write_bytes(made[0])
+    for words in (
+        ["--count=5"], ["--size=2k"], ["--name-max=1", "--attr-max=8"], ["--from-block=512", "--least", "--name-max=9"],
+        ["--from-block=1024"], ["--new"],
+    ):
+        runs.row(["repack", *words, "a.img", "b.img"], made)
+    for size in 256, 1_024:
+        runs.size = size
+        runs.row(["repack", "a.img", "b.img"], NOTHING)
+    runs.size = 512
+    for held in bytes(4_096), bytes(700), made[0][:-512]:
+        other.write_bytes(held)
+        runs.row(["repack", "a.img", "b.img"], made)
+    other.unlink()
+    runs.row(["repack", "a.img", "b.img"], made)
+
+
 def tried(group):
     """Tries a group of rows in a folder of its own: what is said of them, how many there are, and of how many a run went wrong."""
     said = io.StringIO()
@@ -210,7 +278,9 @@ def tried(group):
     return said.getvalue(), runs.ran, runs.wrong
 
 
-GROUPS = [history_rows, script_rows, rows, directory_rows, small_block_rows, folder_rows, comparing_rows, growing_rows]
+GROUPS = [
+    history_rows, script_rows, repacking_rows, device_rows, rows, directory_rows, small_block_rows, folder_rows, comparing_rows, growing_rows,
+]
 
 subprocess.run([HOME / "bin/lfsed", "--help"], stdout=subprocess.DEVNULL, check=True)
 ran = wrong = 0

@@ -21,6 +21,8 @@ mod packing;
 #[cfg(test)]
 mod reaching;
 #[cfg(test)]
+mod repacking;
+#[cfg(test)]
 mod weighing;
 #[cfg(test)]
 mod writers;

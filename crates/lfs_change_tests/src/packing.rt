@@ -15,8 +15,8 @@ f         65 /d/f
 @ 74 01
 ";
 
-// the attributes of the file that is packed
-fn attributes(alloc: Global) -> Result<Vec<(u8, Vec<u8>)>, AllocError> {
+/// The attributes of the file that is packed.
+pub(crate) fn attributes(alloc: Global) -> Result<Vec<(u8, Vec<u8>)>, AllocError> {
     let mut attributes = Vec::new(alloc);
     attributes.push((0x74, Vec::from_slice(alloc, &[1])?))?;
     Ok(attributes)

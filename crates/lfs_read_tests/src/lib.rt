@@ -13,6 +13,8 @@ mod cutting;
 #[cfg(test)]
 mod deltas;
 #[cfg(test)]
+mod devices;
+#[cfg(test)]
 mod entries;
 #[cfg(test)]
 mod files;

@@ -2,6 +2,7 @@
 use Rattle.std.proofs.Common.{◌≡◌, ◌⊎◌, ℕ, Bool, List, Option, Some, None, refl, subst, inl, inr}
 use Rattle.lfs_request.specs.declared.fault.Fault.{Fault}
 use Rattle.lfs_request.specs.declared.fault.Fault.TheVariants.{Refused}
+use Rattle.lfs_request.specs.declared.manner.Manner.{Manner}
 use Rattle.lfs_request.specs.declared.outcome.Outcome.{Outcome}
 use Rattle.lfs_request.specs.declared.query.Query.TheVariants as query
 use Rattle.lfs_step.specs.declared.step.Step.{Step}
@@ -18,7 +19,7 @@ use Rattle.lfs_serve.specs.StepKind.{kind_of}
 use Rattle.lfs_exchange.specs.Storing.{LeavesFiles, SparesFiles}
 use Rattle.lfs_serve_tests.specs.Asking.{OnlyAsks}
 use Rattle.lfs_host.specs.Scene.{Scene}
-use Rattle.lfs_serve.specs.Program.{EndsRequest, EndsStep, EndsTask}
+use Rattle.lfs_serve.specs.Program.{EndsRequest, EndsStep, EndsTask, manner_of}
 
 -- where the host refused something behind what asks, all files stay
 all_spared : (fault : Fault) (kind : StepKind) (placed : Option Bool) (old new : Option Files) (name : List ℕ) (o : Outcome) → (kind ≡ Asks) ⊎ (kind ≡ Recounts)
@@ -51,21 +52,21 @@ asks_of (query.Cat path) = inl refl
 asks_of (query.Diff other size) = inl refl
 asks_of query.Log = inr refl
 
-step_keeps : (fault : Option Fault) (step : Step) (older : Bool) (size : ℕ) (name : List ℕ) (old new : Scene)
-    → (kind_of step ≡ Asks) ⊎ (kind_of step ≡ Recounts) → EndsStep step older size name old new fault → new.files ≡ old.files
-step_keeps None step older size name old new asks (o, runs, leaves, flushed) = all_left (kind_of step) old.files new.files name o asks leaves
-step_keeps (Some fault) step older size name old new asks (inl (o, runs, same)) = same
-step_keeps (Some fault) step older size name old new asks (inr (inl (why, keeps))) = keeps.0
-step_keeps (Some fault) step older size name old new asks (inr (inr (unwritten, (o, runs, spares)))) =
+step_keeps : (fault : Option Fault) (step : Step) (manner : Manner) (size : ℕ) (name : List ℕ) (old new : Scene)
+    → (kind_of step ≡ Asks) ⊎ (kind_of step ≡ Recounts) → EndsStep step manner size name old new fault → new.files ≡ old.files
+step_keeps None step manner size name old new asks (o, runs, leaves, flushed) = all_left (kind_of step) old.files new.files name o asks leaves
+step_keeps (Some fault) step manner size name old new asks (inl (o, runs, same)) = same
+step_keeps (Some fault) step manner size name old new asks (inr (inl (why, keeps))) = keeps.0
+step_keeps (Some fault) step manner size name old new asks (inr (inr (unwritten, (o, runs, spares)))) =
     all_spared fault (kind_of step) new.has_refused_place old.files new.files name o asks spares
 
 task_keeps : (fault : Option Fault) (t : Task) (older : Bool) (size : ℕ) (name : List ℕ) (old new : Scene) → OnlyAsks t
     → EndsTask t older size name old new fault → new.files ≡ old.files
-task_keeps fault (task.Ask query) older size name old new asks (inl (Ask question, becomes, ends)) =
-    step_keeps fault (Ask question) older size name old new (asks_of question) ends
-task_keeps fault (task.Ask query) older size name old new asks (inl (_, becomes, ends)) = absurd becomes
-task_keeps fault (task.Ask query) older size name old new asks (inr (keeps, why)) = keeps.0
-task_keeps fault (task.Extract dir) older size name old new asks ends = ends.0.0
+task_keeps fault (task.Ask query by_device) older size name old new asks (inl (Ask question, becomes, ends)) =
+    step_keeps fault (Ask question) (manner_of (task.Ask query by_device) older) size name old new (asks_of question) ends
+task_keeps fault (task.Ask query by_device) older size name old new asks (inl (_, becomes, ends)) = absurd becomes
+task_keeps fault (task.Ask query by_device) older size name old new asks (inr (keeps, why)) = keeps.0
+task_keeps fault (task.Extract dir by_device) older size name old new asks ends = ends.0.0
 task_keeps fault _ older size name old new only ends = absurd only
 
 -- a request that asks changes no file
@@ -79,6 +80,6 @@ asking_keeps request old new status only is =
 
 -- and its caller owes nothing more
 pub asking_in_range : (t : Task) → OnlyAsks t → IsTaskInRange t
-asking_in_range (task.Ask query) only = tt
-asking_in_range (task.Extract dir) only = tt
+asking_in_range (task.Ask query by_device) only = tt
+asking_in_range (task.Extract dir by_device) only = tt
 asking_in_range _ only = absurd only
