@@ -1,0 +1,70 @@
+#!/usr/bin/env python3
+"""Measures `check --device` of an image of 64 MiB in blocks of 4,096 bytes, as a device of disk version 2.1 writes it, beside `check` of the
+one of version 2.0 with the same tree, by processor time: of each the least of fifteen runs. Ends with 1 where its mark is missed."""
+import os
+import pathlib
+import random
+import struct
+import subprocess
+import sys
+import tempfile
+
+HOME = pathlib.Path(__file__).resolve().parent.parent
+sys.path.insert(0, str(HOME / "tests"))
+
+from support.folder import PROGRAM, spread
+from support.later import LATER, written
+from support.littlefs import Log, Reader
+
+SIZE, COUNT, ROUNDS, MOST = 4_096, 16_384, 15, 1.5
+HEADER = 0x201
+
+
+def packed(room):
+    """An image of version 2.0 with 5,000 files of mixed sizes, 40 MiB together, in 300 folders."""
+    chance = random.Random(9)
+    sizes = [chance.choice([0, 100, 2_000, chance.randrange(40_000)]) for _ in range(5_000)]
+    rate = 40 * 2**20 / sum(sizes)
+    spread(room / "tree", chance, [round(size * rate) for size in sizes])
+    subprocess.run([PROGRAM, "pack", "--block", str(SIZE), "--count", str(COUNT), room / "a.img", room / "tree"], check=True)
+    return (room / "a.img").read_bytes()
+
+
+def stated(item):
+    """A tag of the root, which states version 2.1 where it is the superblock's struct."""
+    kind, number, value = item
+    is_header = (kind, number, len(value or b"")) == (HEADER, 0, 24)
+    return (kind, number, struct.pack("<I", LATER) + value[4:]) if is_header else item
+
+
+def raised(image):
+    """The same image as a device writes it: each pair of the thread anew, with forward checksums."""
+    blocks = bytearray(image)
+    for first, _ in Reader(image, SIZE).thread():
+        place = slice(first * SIZE, (first + 1) * SIZE)
+        commits = Log(image[place]).commits
+        blocks[place] = written(1, SIZE, *[[stated(item) if first == 0 else item for item in tags] for tags in commits])
+    return bytes(blocks)
+
+
+def spent(words):
+    """The processor time of a run, in seconds."""
+    child = subprocess.Popen([PROGRAM, *words], stdin=subprocess.DEVNULL, stdout=subprocess.DEVNULL)
+    _, status, usage = os.wait4(child.pid, 0)
+    if status:
+        sys.exit(f"{words} failed")
+    return usage.ru_utime + usage.ru_stime
+
+
+def main():
+    with tempfile.TemporaryDirectory() as folder:
+        room = pathlib.Path(folder)
+        (room / "b.img").write_bytes(raised(packed(room)))
+        words = ["check", "--block", str(SIZE), room / "a.img"], ["check", "--block", str(SIZE), "--device", room / "b.img"]
+        plain, device = (min(spent(run) for _ in range(ROUNDS)) for run in words)
+    print(f"64 MiB: check {1_000 * plain:.1f} ms, check --device of version 2.1 {1_000 * device:.1f} ms, "
+          f"{device / plain:.2f} times as long, to be at most {MOST}")
+    sys.exit(1 if device > MOST * plain else 0)
+
+
+main()
