@@ -1,5 +1,5 @@
 -- Files by their names, and standard input, where they are known (own).
-use Rattle.std.specs.Prelude.{ℕ, ◌≡◌, ◌+◌, List, [], ◌∷◌, Option, Some, None, IsSome, take, ⊤}
+use Rattle.std.specs.Prelude.{ℕ, ◌≡◌, ◌+◌, List, [], ◌∷◌, Option, Some, None, IsSome, take, drop, ⊤}
 use Rattle.lfs_host.specs.declared.lock.Lock.{Lock}
 use Rattle.lfs_host.specs.declared.lock.Lock.TheVariants.{NoFile}
 
@@ -31,10 +31,14 @@ IsLocked files name _ = IsThere files name
 abbrev pub BeginsWith : ℕ → List ℕ → List ℕ → Type 0
 BeginsWith most whole bytes = bytes ≡ take (most + 1) whole
 
--- what is read of a file
+-- what is read of a file from a place on
+abbrev pub ReadsFrom : Option Files → List ℕ → ℕ → ℕ → List ℕ → Type 0
+ReadsFrom None name place most bytes = ⊤
+ReadsFrom (Some files) name place most bytes = (whole : List ℕ) × (files name ≡ Some whole) × BeginsWith most (drop place whole) bytes
+
+-- what is read of a file from its beginning on
 abbrev pub ReadsFile : Option Files → List ℕ → ℕ → List ℕ → Type 0
-ReadsFile None name most bytes = ⊤
-ReadsFile (Some files) name most bytes = (whole : List ℕ) × (files name ≡ Some whole) × BeginsWith most whole bytes
+ReadsFile files name most bytes = ReadsFrom files name 0 most bytes
 
 -- the bytes of a file, none where there is no such file
 abbrev pub bytes_there : Option (List ℕ) → List ℕ

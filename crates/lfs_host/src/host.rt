@@ -2,7 +2,7 @@
 
 ghost use Rattle.std.specs.Prelude.{◌≡◌, ◌<◌, ◌≤◌, length, take, false, is_err, is_none, IfOk, IfSome, MatchOption, MatchResult, OnOk, string_bytes};
 ghost use Rattle.std.specs.Io.KnownBytes.{Appends, Keeps};
-ghost use Rattle.lfs_host.specs.Files.{FindsFile, IsLocked, IsMissing, IsTarget, KeepsOthers, ReadsFile, ReadsInput, Renames, Writes};
+ghost use Rattle.lfs_host.specs.Files.{FindsFile, IsLocked, IsMissing, IsTarget, KeepsOthers, ReadsFile, ReadsFrom, ReadsInput, Renames, Writes};
 ghost use Rattle.lfs_host.specs.Scene.{Claims, HasClaimed, KeepsAll, KeepsInput, KeepsOutput, KeepsSeen, KeepsText, Notes, NotesFile, NotesPlace, reading_refused};
 
 use crate::folders::Folders;
@@ -45,9 +45,15 @@ pub trait Host: Folders + NewFolder {
     fn is_below(&mut self, name: &str, folder: &str) -> bool
         ensures kept { Self.known self.new ≡ Self.known self.old };
 
-    /// The bytes of a file, `most` of them and one more at most.
-    fn read(&mut self, alloc: Global, name: &str, most: u64) -> Result<Vec<u8>, ReadFault>
-        ensures read { IfOk result (λ bytes. ReadsFile (Self.known self.old).files name.now most bytes.items) }
+    /// The bytes of a file from a place on, `most` of them and one more at most; none where the place is behind its end.
+    fn read(
+        &mut self,
+        alloc: Global,
+        name: &str,
+        place: u64,
+        most: u64,
+    ) -> Result<Vec<u8>, ReadFault>
+        ensures read { IfOk result (λ bytes. ReadsFrom (Self.known self.old).files name.now place most bytes.items) }
         ensures noted { Notes (reading_refused result) (Self.known self.old) (Self.known self.new) }
         ensures kept { KeepsAll (Self.known self.old) (Self.known self.new) };
 

@@ -1,6 +1,6 @@
 //! A host in memory.
 
-ghost use Rattle.std.specs.Prelude.{◌≡◌, ◌∷◌, ◌++◌, ℕ, List, [], None, Contains, IfOk, MatchResult, OnErr, OnOk, false, true, is_err, is_ok, map, string_bytes, ◌||◌};
+ghost use Rattle.std.specs.Prelude.{◌≡◌, ◌∷◌, ◌++◌, ℕ, List, [], None, Contains, drop, IfOk, MatchResult, OnErr, OnOk, false, true, is_err, is_ok, map, string_bytes, ◌||◌};
 ghost use Rattle.std.specs.Option.{option_map};
 ghost use Rattle.lfs_host.specs.declared.failing.Failing.TheVariants.{Never};
 ghost use Rattle.lfs_host.specs.Files.{BeginsWith, HasWritten, StaysBut};
@@ -118,6 +118,16 @@ impl MemoryHost {
     }
 }
 
+/// The bytes from a place on.
+fn behind(bytes: &[u8], place: u64) -> &[u8]
+    ensures { result.now ≡ drop place bytes.now }
+{
+    if bytes.len() as u64 <= place {
+        return &[];
+    }
+    &bytes[place as usize..]
+}
+
 /// The first of these bytes, `most` of them and one more at most.
 fn beginning(bytes: &[u8], most: u64) -> &[u8]
     ensures { BeginsWith most bytes.now result.now }
@@ -195,7 +205,7 @@ impl Folders for MemoryHost {
     }
 
     fn read_entry(&mut self, alloc: Global, name: &str, most: u64) -> Result<Vec<u8>, ReadFault> {
-        self.read(alloc, name, most)
+        self.read(alloc, name, 0, most)
     }
 }
 
@@ -280,11 +290,17 @@ impl Host for MemoryHost {
         below(folder, name).is_some()
     }
 
-    fn read(&mut self, alloc: Global, name: &str, most: u64) -> Result<Vec<u8>, ReadFault> {
+    fn read(
+        &mut self,
+        alloc: Global,
+        name: &str,
+        place: u64,
+        most: u64,
+    ) -> Result<Vec<u8>, ReadFault> {
         match self.files.get(name) {
-            Some(bytes) => {
-                Vec::from_slice(alloc, beginning(bytes, most)).map_err(|_| ReadFault::Memory)
-            }
+            Some(bytes) => Vec::from_slice(alloc, beginning(behind(bytes, place), most)).map_err(
+                |_| ReadFault::Memory,
+            ),
             None => {
                 self.has_refused = true;
                 Err(ReadFault::CannotRead)
@@ -307,7 +323,7 @@ impl Host for MemoryHost {
         name: &str,
         most: u64,
     ) -> Result<Vec<u8>, ReadFault> {
-        self.read(alloc, name, most)
+        self.read(alloc, name, 0, most)
     }
 
     fn input(&mut self, alloc: Global, most: u64) -> Result<Vec<u8>, ReadFault> {

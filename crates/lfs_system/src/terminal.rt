@@ -13,7 +13,7 @@ use lfs_sink::{Out, Sink, Text};
 use std::alloc::{AllocError, Global};
 use std::fmt::Display;
 use std::fs::{self, File};
-use std::io::{self, ErrorKind, IsTerminal, Printer, Read};
+use std::io::{self, ErrorKind, IsTerminal, Printer, Read, Seek, SeekFrom};
 
 /// What the system refused.
 #[derive(Clone, Copy)]
@@ -155,15 +155,25 @@ fn bytes_in(alloc: Global, file: File, len: u64, most: u64) -> io::Result<Vec<u8
     Ok(bytes)
 }
 
-/// The bytes of a file, `most` of them and one more at most.
-fn bytes_of(alloc: Global, file: File, most: u64) -> io::Result<Vec<u8>> {
+/// The bytes of a file from a place on, `most` of them and one more at most; none where the place is behind its end.
+fn bytes_from(alloc: Global, mut file: File, place: u64, most: u64) -> io::Result<Vec<u8>> {
     let len = file.metadata()?.len();
-    bytes_in(alloc, file, len, most)
+    let place = place.min(len);
+    if place > 0 {
+        file.seek(SeekFrom::Start(place))?;
+    }
+    bytes_in(alloc, file, len - place, most)
 }
 
-/// The bytes of the file that a name leads to, `most` of them and one more at most.
-fn read_bytes(rt: &HostRuntime, alloc: Global, name: &str, most: u64) -> io::Result<Vec<u8>> {
-    bytes_of(alloc, opened(rt, name)?, most)
+/// The bytes of the file that a name leads to, from a place on, `most` of them and one more at most.
+fn read_bytes(
+    rt: &HostRuntime,
+    alloc: Global,
+    name: &str,
+    place: u64,
+    most: u64,
+) -> io::Result<Vec<u8>> {
+    bytes_from(alloc, opened(rt, name)?, place, most)
 }
 
 /// The bytes of a file whose contents are put, `most` of them and one more at most.
@@ -190,7 +200,7 @@ fn input_of(rt: &HostRuntime, alloc: Global, most: u64) -> io::Result<Vec<u8>> {
 
 /// The bytes of a file in a folder, `most` of them and one more at most.
 fn entry_bytes(rt: &HostRuntime, alloc: Global, name: &str, most: u64) -> io::Result<Vec<u8>> {
-    bytes_of(alloc, opened_entry(rt, name)?, most)
+    bytes_from(alloc, opened_entry(rt, name)?, 0, most)
 }
 
 /// Why a folder isn't listed.
@@ -302,12 +312,18 @@ impl Host for Terminal<'_> {
         is_below(self.rt, name, folder).unwrap_or(false)
     }
 
-    fn read(&mut self, alloc: Global, name: &str, most: u64) -> Result<Vec<u8>, ReadFault> {
-        read_bytes(self.rt, alloc, name, most).map_err(|error| self.read_fault(error))
+    fn read(
+        &mut self,
+        alloc: Global,
+        name: &str,
+        place: u64,
+        most: u64,
+    ) -> Result<Vec<u8>, ReadFault> {
+        read_bytes(self.rt, alloc, name, place, most).map_err(|error| self.read_fault(error))
     }
 
     fn find(&mut self, alloc: Global, name: &str, most: u64) -> Result<Vec<u8>, ReadFault> {
-        match read_bytes(self.rt, alloc, name, most) {
+        match read_bytes(self.rt, alloc, name, 0, most) {
             Ok(bytes) => Ok(bytes),
             Err(error) if error.kind() == ErrorKind::NotFound => Ok(Vec::new(alloc)),
             Err(error) => {
