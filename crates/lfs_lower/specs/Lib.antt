@@ -9,3 +9,5 @@ pub mod Anew
 pub mod Joined
 pub mod Joining
 pub mod ByDevice
+pub mod ReadAs
+pub mod Within

@@ -1,4 +1,5 @@
-//! Images of later disk versions, and images whose superblock was expanded, lowered to version 2.0.
+//! Images of later disk versions, and images whose superblock was expanded, lowered to version 2.0; and the image with
+//! which bytes begin.
 #![tactic(auto)]
 
 mod block;
@@ -10,6 +11,7 @@ mod kept;
 mod laws;
 mod lowering;
 mod superblocks;
+mod within;
 
 pub use by_device::read_by_device;
 pub use joining::join;
@@ -18,3 +20,4 @@ pub use laws::{
     relaid_images_hold_what_is_read,
 };
 pub use lowering::lower;
+pub use within::{read_as, read_within};

@@ -1,0 +1,45 @@
+-- An image that begins with some bytes, and has others behind it (own).
+use Rattle.std.specs.Prelude.{ℕ, ◌*◌, ◌/◌, ◌==◌, ◌≡◌, ◌⊎◌, min, Bool, List, length, take, Option, Some, None, option_and_then, if◌then◌else◌}
+use Rattle.std.specs.Option.{option_map_or}
+use Rattle.lfs_block.specs.Disk.{Disk, IsDisk, image_of}
+use Rattle.lfs_block.specs.ImageFault.{IsNoImage}
+use Rattle.lfs_block.specs.declared.image_fault.ImageFault.{ImageFault}
+use Rattle.lfs_meta.specs.Body.{StoredBody, Inline, Chain, Directory_at}
+use Rattle.lfs_meta.specs.Entry.{StoredEntry}
+use Rattle.lfs_fs.specs.Pair.{root}
+use Rattle.lfs_fs.specs.Reading.{Reading, reading_of}
+use Rattle.lfs_fs.specs.Superblock.{word_at}
+use Rattle.lfs_lower.specs.OneSuperblock.{superblock_at, superblock_in}
+use Rattle.lfs_lower.specs.ReadAs.{IsReadAs}
+
+-- as many bytes as fill whole blocks of a size, of which an image has 65,536 at most; all of them where a block has none
+abbrev pub whole_blocks : ℕ → List ℕ → List ℕ
+whole_blocks size bytes = if size == 0 then bytes else take (min (length bytes / size) 65536 * size) bytes
+
+-- the number of blocks that the struct of a superblock states
+abbrev pub count_of_struct : StoredBody → Option ℕ
+count_of_struct (Inline bytes) = Some (word_at bytes 2)
+count_of_struct (Chain head size) = None
+count_of_struct (Directory_at first second) = None
+
+-- the number of blocks that the superblock states with which entries begin
+abbrev pub count_in : List StoredEntry → Option ℕ
+count_in es = option_and_then (λ e. count_of_struct e.body) (superblock_in es)
+
+-- the number of blocks that the superblock of the root's first pair states; none where that pair begins with none
+abbrev pub count_stated : Reading → Option ℕ
+count_stated r = option_and_then (λ e. count_of_struct e.body) (superblock_at r root)
+
+-- as many of an image's bytes as its superblock states; all of them where it has none, or states more
+abbrev pub own_part : Disk → List ℕ
+own_part d = option_map_or (λ count. take (count * d.size) d.bytes) (count_stated (reading_of d)) d.bytes
+
+-- the same of bytes, of which those that are no image stay
+abbrev pub IsOwnPart : ℕ → List ℕ → List ℕ → Type 0
+IsOwnPart size bytes own =
+    (IsDisk (image_of size bytes) × (own ≡ own_part (image_of size bytes))) ⊎ ((fault : ImageFault) × IsNoImage fault size bytes × (own ≡ bytes))
+
+-- the image with which bytes begin: of as many whole blocks as are there, read in a manner, as many as its superblock states
+abbrev pub IsWithin : Bool → ℕ → List ℕ → List ℕ → Type 0
+IsWithin by_device size bytes image =
+    (whole : List ℕ) × IsReadAs by_device size (whole_blocks size bytes) whole × IsOwnPart size whole image
