@@ -12,7 +12,7 @@ use Rattle.clap.proofs.SimpleLemmas.{is_false}
 use Rattle.clap.proofs.WalkLemmas.{both}
 use Rattle.lfs_grammar.proofs.FaultlessRows.{none_of}
 use Rattle.lfs_grammar.proofs.Lists.{Each, In, contained, each, each_in}
-use Rattle.lfs_grammar.specs.Grammar.{IsNumber, IsSaid, IsSaidOrNeedNot, NamesCommand, attr_max, attr_max_or_source, block, commands}
+use Rattle.lfs_grammar.specs.Grammar.{IsNumber, IsSaid, IsSaidOrNeedNot, NamesCommand, TakesNoImage, attr_max, attr_max_or_source, block, commands}
 use Rattle.lfs_grammar.specs.Grammar.{count, file_max, file_max_or_source, is_change, is_wanted, keep, name_max, name_max_or_source}
 use Rattle.lfs_grammar.specs.Grammar.{new_block, new_count, steps, word}
 
@@ -117,12 +117,12 @@ keep_is = (1, 1000, refl, omega arith)
 pub steps_is : IsNumber steps
 steps_is = (1, 1000, refl, omega arith)
 
--- each command but the one that explains takes the block size and an image
+-- each command but those that look for images or explain takes the block size and an image
 abbrev TakesImage : Shape → Type 0
 TakesImage c =
     ((rest : List Rule) × (c.rules ≡ block ∷ word (codes "image") ∷ rest))
     ⊎ ((rest : List Rule) × (c.rules ≡ new_block ∷ word (codes "image") ∷ rest))
-    ⊎ (c.name ≡ codes "explain")
+    ⊎ TakesNoImage c.name
 
 takes_image : Each TakesImage commands
 takes_image = search rules
@@ -138,12 +138,12 @@ image_of rows first rules rest named wanted is said =
     subst (λ (r : List Rule). Each (λ rule. IsSaidOrNeedNot rule rows) r) is said in
     ((first, named, wanted_said first rows wanted all.0), wanted_said (word (codes "image")) rows refl all.1.0)
 
-pub image_said : (name : Text) (rows : List Row) → NamesCommand (Some (name, rows)) → (name ≡ codes "explain") ⊎ SaysImage rows
+pub image_said : (name : Text) (rows : List Row) → NamesCommand (Some (name, rows)) → TakesNoImage name ⊎ SaysImage rows
 image_said name rows names =
     elim (each_in TakesImage commands names.command takes_image (contained commands names.command names.here)) [
       | inl takes ↦ inr (image_of rows block names.command.rules takes.0 refl refl takes.1 (command_said name rows names))
       | inr (inl takes) ↦ inr (image_of rows new_block names.command.rules takes.0 refl refl takes.1 (command_said name rows names))
-      | inr (inr is) ↦ inl (sym (called name rows names) ∙ is)
+      | inr (inr none) ↦ inl (subst TakesNoImage (called name rows names) none)
     ]
 
 -- each command that changes an image takes how many images of the past are kept

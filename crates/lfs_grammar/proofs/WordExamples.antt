@@ -93,9 +93,9 @@ comparing_says : (text_at (codes "image") comparing ≡ Some (Some (codes "a.img
 unfolding clap_on_literals
 comparing_says = (refl, refl)
 
--- lfsed check --device a.img, and without it
+-- lfsed check --device --offset 0x1000 a.img, and without these
 abbrev checking : List Text
-checking = codes "lfsed" ∷ codes "check" ∷ codes "--device" ∷ codes "a.img" ∷ []
+checking = codes "lfsed" ∷ codes "check" ∷ codes "--device" ∷ codes "--offset" ∷ codes "0x1000" ∷ codes "a.img" ∷ []
 
 checking_is_taken : IsTaken checking
 unfolding clap_on_literals
@@ -103,8 +103,22 @@ checking_is_taken = refl
 
 checking_says : (text_at (codes "device") checking ≡ Some (Some (codes "true")))
     × (text_at (codes "device") comparing ≡ Some (Some (codes "false")))
+    × (text_at (codes "offset") checking ≡ Some (Some (codes "0x1000")))
+    × (text_at (codes "offset") comparing ≡ Some None)
 unfolding clap_on_literals
-checking_says = (refl, refl)
+checking_says = (refl, refl, refl, refl)
+
+-- lfsed find flash.bin
+abbrev finding : List Text
+finding = codes "lfsed" ∷ codes "find" ∷ codes "flash.bin" ∷ []
+
+finding_is_taken : IsTaken finding
+unfolding clap_on_literals
+finding_is_taken = refl
+
+finding_says : text_at (codes "flash") finding ≡ Some (Some (codes "flash.bin"))
+unfolding clap_on_literals
+finding_says = refl
 
 -- lfsed repack a.img b.img --name-max 3 --device
 abbrev repacking : List Text
@@ -229,6 +243,10 @@ nothing_to_keep = refl
 nothing_of_a_device : fault_of grammar (codes "lfsed" ∷ codes "log" ∷ codes "--device" ∷ codes "a.img" ∷ []) ≡ UnknownArgument ∷ []
 unfolding clap_on_literals
 nothing_of_a_device = refl
+
+nothing_at_a_place : fault_of grammar (codes "lfsed" ∷ codes "log" ∷ codes "--offset" ∷ codes "0" ∷ codes "a.img" ∷ []) ≡ UnknownArgument ∷ []
+unfolding clap_on_literals
+nothing_at_a_place = refl
 
 two_images : fault_of grammar (codes "lfsed" ∷ codes "check" ∷ codes "a.img" ∷ codes "b.img" ∷ []) ≡ UnknownArgument ∷ []
 unfolding clap_on_literals

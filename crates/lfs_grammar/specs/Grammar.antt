@@ -103,6 +103,10 @@ is_new = flag (codes "new")
 abbrev pub device : Rule
 device = flag (codes "device")
 
+-- where in its file the image begins that is read: `--offset`, a text, which needn't be said
+abbrev pub offset : Rule
+offset = option (codes "offset")
+
 -- the block size of the image that another one is made of: `--from-block`, a text, and `auto` where it isn't said
 abbrev pub from_block : Rule
 from_block = record (option (codes "from-block")) { defaults = codes "auto" ∷ [] }
@@ -137,6 +141,8 @@ rule_at argument.FileMaxOrSource = file_max_or_source
 rule_at argument.AttrMaxOrSource = attr_max_or_source
 rule_at argument.New = is_new
 rule_at argument.Device = device
+rule_at argument.Offset = offset
+rule_at argument.OffsetInSource = offset
 rule_at argument.Older = older
 rule_at argument.Keep = keep
 rule_at argument.Steps = steps
@@ -144,6 +150,7 @@ rule_at argument.Image = word (codes "image")
 rule_at argument.Other = word (codes "other")
 rule_at argument.Source = word (codes "source")
 rule_at argument.FromBlock = from_block
+rule_at argument.Flash = word (codes "flash")
 rule_at argument.Dir = word (codes "dir")
 rule_at argument.NewDir = word (codes "dir")
 rule_at argument.Path = word (codes "path")
@@ -212,12 +219,12 @@ abbrev pub repack : Shape
 repack =
     (command (codes "repack") (
     new_block ∷ word (codes "image") ∷ word (codes "source") ∷ from_block ∷ count ∷ size ∷ flag (codes "least")
-    ∷ name_max_or_source ∷ file_max_or_source ∷ attr_max_or_source ∷ is_new ∷ device ∷ older ∷ []
+    ∷ name_max_or_source ∷ file_max_or_source ∷ attr_max_or_source ∷ is_new ∷ device ∷ offset ∷ older ∷ []
     )).top
 
--- a command that shows what an image holds, which may be read as a device does
+-- a command that shows what an image holds, which may be read as a device does, and may begin at a place of its file
 abbrev pub asking : Text → List Rule → Shape
-asking name rules = reading name (rules ++ device ∷ [])
+asking name rules = reading name (rules ++ device ∷ offset ∷ [])
 
 -- a command that changes the image: behind it the past may be cut
 abbrev pub changing : Text → List Rule → Shape
@@ -230,12 +237,17 @@ is_change name =
     || bytes_eq name (codes "setattr") || bytes_eq name (codes "rmattr") || bytes_eq name (codes "grow")
     || bytes_eq name (codes "batch")
 
+-- a command of this name takes no image: it looks for images, or explains
+abbrev pub TakesNoImage : Text → Type 0
+TakesNoImage name = (name ≡ codes "find") ⊎ (name ≡ codes "explain")
+
 -- the program's commands
 abbrev pub commands : List Shape
 commands =
     making (codes "format") (count ∷ size ∷ [])
     ∷ making (codes "pack") (word (codes "dir") ∷ count ∷ size ∷ flag (codes "least") ∷ [])
     ∷ repack
+    ∷ (command (codes "find") (word (codes "flash") ∷ [])).top
     ∷ asking (codes "extract") (word (codes "dir") ∷ [])
     ∷ asking (codes "check") []
     ∷ asking (codes "ls") []

@@ -24,10 +24,14 @@ names_limit_option word =
 abbrev pub names_change_option : Text → Bool
 names_change_option word = begins_with word (codes "--keep") || begins_with word (codes "--steps")
 
+-- an option that says how an image is looked at, by its long name
+abbrev pub names_view_option : Text → Bool
+names_view_option word = begins_with word (codes "--device") || begins_with word (codes "--offset")
+
 -- an option of an image or a file that is there, by its long name
 abbrev pub names_image_option : Text → Bool
 names_image_option word =
-    begins_with word (codes "--block") || begins_with word (codes "--device") || begins_with word (codes "--older")
+    begins_with word (codes "--block") || names_view_option word || begins_with word (codes "--older")
     || begins_with word (codes "--from")
 
 -- an option by its long name
@@ -54,11 +58,11 @@ abbrev pub is_plain_name : Option Text → Bool
 is_plain_name None = true
 is_plain_name (Some name) = not (begins_with name (codes "-"))
 
--- neither a folder, another image, a file of contents nor one of steps is named by a word that begins with a hyphen
+-- neither a folder, another image, nor a file of contents, of steps or of images is named by a word that begins with a hyphen
 abbrev pub are_plain_names : List Row → Bool
 are_plain_names rows =
     is_plain_name (first_of (codes "dir") rows) && is_plain_name (first_of (codes "other") rows)
-    && is_plain_name (first_of (codes "source") rows)
+    && is_plain_name (first_of (codes "source") rows) && is_plain_name (first_of (codes "flash") rows)
     && is_plain_name (first_of (codes "contents") rows) && is_plain_name (first_of (codes "script") rows)
 
 -- no file or folder of the host is named by a word that begins with a hyphen

@@ -41,6 +41,10 @@ pub(crate) enum Argument {
     New,
     /// That images are read as a device does.
     Device,
+    /// Where in its file an image begins.
+    Offset,
+    /// The same of an image that another one is made of.
+    OffsetInSource,
     /// That the state before commits of a later disk version is gone on with.
     Older,
     /// The number of images of the past that are kept.
@@ -55,6 +59,8 @@ pub(crate) enum Argument {
     Source,
     /// The block size of that one.
     FromBlock,
+    /// The file in which images are looked for.
+    Flash,
     /// The name of a folder that is read.
     Dir,
     /// The name of a folder that is made.
@@ -216,6 +222,20 @@ static DEVICE: ArgumentRow = ArgumentRow {
     help: "Read the image as a device does: also disk version 2.1, and a superblock that was expanded",
 };
 
+/// Where in its file an image begins.
+static OFFSET: ArgumentRow = ArgumentRow {
+    id: "offset",
+    form: Form::Option("BYTES", "offset"),
+    help: "Place in the file at which the image begins: 1114112, 0x110000, 1088k or 1M",
+};
+
+/// The same of an image that another one is made of.
+static OFFSET_IN_SOURCE: ArgumentRow = ArgumentRow {
+    id: "offset",
+    form: Form::Option("BYTES", "offset"),
+    help: "Place in SOURCE at which the image begins: 1114112, 0x110000, 1088k or 1M",
+};
+
 /// That older states are gone on with.
 static OLDER: ArgumentRow = ArgumentRow {
     id: "older",
@@ -263,6 +283,13 @@ static FROM_BLOCK: ArgumentRow = ArgumentRow {
     id: "from-block",
     form: Form::OptionOr("BYTES", "auto"),
     help: "Size of a block of SOURCE, a multiple of 16 from 256 to 65536, or auto",
+};
+
+/// The file in which images are looked for.
+static FLASH: ArgumentRow = ArgumentRow {
+    id: "flash",
+    form: Form::Word("FLASH"),
+    help: "File that images are looked for in",
 };
 
 /// The name of a folder that is read.
@@ -355,6 +382,8 @@ fn row_of(argument: Argument) -> &'static ArgumentRow
         Argument::AttrMaxOrSource => &ATTR_MAX_OR_SOURCE,
         Argument::New => &NEW,
         Argument::Device => &DEVICE,
+        Argument::Offset => &OFFSET,
+        Argument::OffsetInSource => &OFFSET_IN_SOURCE,
         Argument::Older => &OLDER,
         Argument::Keep => &KEEP,
         Argument::Steps => &STEPS,
@@ -362,6 +391,7 @@ fn row_of(argument: Argument) -> &'static ArgumentRow
         Argument::Other => &OTHER,
         Argument::Source => &SOURCE,
         Argument::FromBlock => &FROM_BLOCK,
+        Argument::Flash => &FLASH,
         Argument::Dir => &DIR,
         Argument::NewDir => &NEW_DIR,
         Argument::Path => &PATH,

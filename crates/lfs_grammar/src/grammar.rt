@@ -47,7 +47,7 @@ pub const REPACK_USAGE: &str = "lfsed repack [OPTIONS] <IMAGE> <SOURCE>";
 pub const GROW_USAGE: &str = "lfsed grow [OPTIONS] <IMAGE> <COUNT|--size <BYTES>>";
 
 /// The program's commands, in the order of its help. Each but the last takes the block size and the image's file name.
-static COMMANDS: [CommandRow; 21] = [
+static COMMANDS: [CommandRow; 22] = [
     CommandRow {
         name: "format",
         about: "Write a new image, in place of a file of this name",
@@ -97,8 +97,15 @@ static COMMANDS: [CommandRow; 21] = [
             Argument::AttrMaxOrSource,
             Argument::New,
             Argument::Device,
+            Argument::OffsetInSource,
             Argument::Older,
         ],
+    },
+    CommandRow {
+        name: "find",
+        about: "List where in a file images begin, with what they state and whether they mount",
+        usage: None,
+        arguments: &[Argument::Flash],
     },
     CommandRow {
         name: "extract",
@@ -109,6 +116,7 @@ static COMMANDS: [CommandRow; 21] = [
             Argument::Image,
             Argument::NewDir,
             Argument::Device,
+            Argument::Offset,
             Argument::Older,
         ],
     },
@@ -120,6 +128,7 @@ static COMMANDS: [CommandRow; 21] = [
             Argument::Block,
             Argument::Image,
             Argument::Device,
+            Argument::Offset,
             Argument::Older,
         ],
     },
@@ -131,6 +140,7 @@ static COMMANDS: [CommandRow; 21] = [
             Argument::Block,
             Argument::Image,
             Argument::Device,
+            Argument::Offset,
             Argument::Older,
         ],
     },
@@ -143,6 +153,7 @@ static COMMANDS: [CommandRow; 21] = [
             Argument::Image,
             Argument::Path,
             Argument::Device,
+            Argument::Offset,
             Argument::Older,
         ],
     },
@@ -155,6 +166,7 @@ static COMMANDS: [CommandRow; 21] = [
             Argument::Image,
             Argument::Other,
             Argument::Device,
+            Argument::Offset,
             Argument::Older,
         ],
     },

@@ -3,7 +3,7 @@
 ghost use Rattle.std.specs.Prelude.{◌≡◌, IfOk, map};
 ghost use Rattle.clap.specs.Words.{first_of, found_of, rows_of, subcommand_rows_of};
 ghost use Rattle.lfs_grammar.specs.Hyphens.{are_plain_names, dashed, is_plain_name, is_stray, names_change_option, names_files_plainly};
-ghost use Rattle.lfs_grammar.specs.Hyphens.{names_image_option, names_limit_option, names_long_option, names_new_option, names_option};
+ghost use Rattle.lfs_grammar.specs.Hyphens.{names_image_option, names_limit_option, names_long_option, names_new_option, names_option, names_view_option};
 
 use clap::ArgMatches;
 use std::alloc::{AllocError, Global};
@@ -50,9 +50,16 @@ fn names_image_option(word: &str) -> bool
     ensures { result ≡ names_image_option word.now }
 {
     word.starts_with("--block")
-        || word.starts_with("--device")
+        || names_view_option(word)
         || word.starts_with("--older")
         || word.starts_with("--from")
+}
+
+/// Whether a word is an option that says how an image is looked at, by its long name.
+fn names_view_option(word: &str) -> bool
+    ensures { result ≡ names_view_option word.now }
+{
+    word.starts_with("--device") || word.starts_with("--offset")
 }
 
 /// Whether a word is an option, or asks for help.
@@ -99,13 +106,14 @@ fn is_plain(options: &ArgMatches<'_>, id: &str) -> bool
     }
 }
 
-/// Whether neither a folder's name, that of another image, nor that of a file of contents or of steps begins with a hyphen.
+/// Whether neither a folder's name, that of another image, nor that of a file of contents, of steps or of images begins with a hyphen.
 fn are_plain(options: &ArgMatches<'_>) -> bool
     ensures { result ≡ are_plain_names (rows_of (found_of options.now)) }
 {
     is_plain(options, "dir")
         && is_plain(options, "other")
         && is_plain(options, "source")
+        && is_plain(options, "flash")
         && is_plain(options, "contents")
         && is_plain(options, "script")
 }

@@ -28,5 +28,5 @@ pub use script::{Script, line_at, script_of};
 pub use script_fault::ScriptFault;
 pub use script_line::ScriptLine;
 pub use script_steps::script_lines;
-pub use sizes::{SizeFault, block_said, blocks_said};
+pub use sizes::{NO_BYTES, SizeFault, block_said, blocks_said, bytes_said};
 pub use verb::Verb;

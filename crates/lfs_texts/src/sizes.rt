@@ -5,6 +5,12 @@ ghost use Rattle.lfs_texts.specs.Sizes.{HasUnit, IsSizeFault, SaysBlock, SaysBlo
 
 use std::fmt;
 
+/// Why a text says no number of bytes.
+///
+/// Source: own.
+pub const NO_BYTES: &str =
+    "it is no number of bytes: decimal, hexadecimal behind 0x, or decimal with k or M behind it";
+
 /// The fewest blocks of an image.
 const LEAST_COUNT: u64 = 2;
 
@@ -37,9 +43,7 @@ pub enum SizeFault {
 impl fmt::Display for SizeFault {
     fn fmt<W: fmt::Write>(&self, f: &mut fmt::Formatter<W>) -> fmt::Result {
         match *self {
-            SizeFault::NoNumber => f.write_str(
-                "it is no number of bytes: decimal, hexadecimal behind 0x, or decimal with k or M behind it",
-            ),
+            SizeFault::NoNumber => f.write_str(NO_BYTES),
             SizeFault::NoMultiple { bytes, block } => {
                 write!(f, "{bytes} is no multiple of the block size, {block}")
             }
@@ -76,8 +80,11 @@ pub fn blocks_said(text: &str, block: u32) -> Result<u32, SizeFault>
     Ok(count as u32)
 }
 
-/// How many bytes a text says. `None` where it says no number, or a greater one than `u64` holds.
-fn bytes_said(text: &str) -> Option<u64>
+/// How many bytes a text says: a decimal number, a hexadecimal one behind `0x`, or a decimal one with `k` or `M` behind it, for 1,024 and
+/// 1,048,576. `None` where it says no number, or a greater one than `u64` holds. Takes no memory.
+///
+/// Source: own.
+pub fn bytes_said(text: &str) -> Option<u64>
     ensures bytes { IfSome result (λ bytes. SaysBytes text.now bytes) }
     ensures none { IsNone result → SaysNoBytes text.now }
 {
