@@ -19,7 +19,7 @@ use Rattle.lfs_request.specs.declared.query.Query.TheVariants.{Check, Ls, Cat, D
 use Rattle.lfs_request.specs.Query.{Question}
 use Rattle.lfs_host.specs.declared.read_fault.ReadFault.{ReadFault}
 use Rattle.lfs_host.specs.declared.read_fault.ReadFault.TheVariants as reading
-use Rattle.lfs_host.specs.Files.{Files, FindsFile, IsMissing, IsTarget, ReadsFile, ReadsInput}
+use Rattle.lfs_host.specs.Files.{Files, FindsFile, IsMissing, IsTarget, ReadsFile, ReadsFrom, ReadsInput}
 use Rattle.lfs_host.specs.Scene.{HasClaimed, HasRefused, HasRefusedFile, HasWithheld, Scene}
 use Rattle.lfs_exchange.specs.Storing.{journal_name}
 
@@ -33,10 +33,10 @@ IsClaimed Asks scene name = ⊤
 IsClaimed Recounts scene name = ⊤
 IsClaimed _ scene name = HasClaimed scene name
 
--- the bytes of an image that a step is handed: those of its file, none where the image is made
-abbrev pub HandsImage : StepKind → Option Files → List ℕ → List ℕ → Type 0
-HandsImage Makes files name image = image ≡ []
-HandsImage _ files name image = ReadsFile files name most_image image
+-- the bytes of an image that a step is handed: those of its file from a place on, none where the image is made
+abbrev pub HandsImage : StepKind → ℕ → Option Files → List ℕ → List ℕ → Type 0
+HandsImage Makes place files name image = image ≡ []
+HandsImage _ place files name image = ReadsFrom files name place most_image image
 
 -- the bytes of a journal that a step is handed: those of its file, where the step reads one and it is there
 abbrev pub HandsJournal : StepKind → Option Files → List ℕ → List ℕ → Type 0
@@ -73,9 +73,9 @@ pub record HandedBytes : Type 0 where
   pub image : List ℕ
   pub journal : List ℕ
 
--- it is handed this of what is known of a host
-pub record IsHanded (kind : StepKind) (name : List ℕ) (s : Scene) (h : HandedBytes) : Type 0 where
-  pub image : HandsImage kind s.files name h.image
+-- it is handed this of what is known of a host, where the image begins at a place of its file
+pub record IsHanded (kind : StepKind) (place : ℕ) (name : List ℕ) (s : Scene) (h : HandedBytes) : Type 0 where
+  pub image : HandsImage kind place s.files name h.image
   pub journal : HandsJournal kind s.files name h.journal
 
 -- ---- faults of the host

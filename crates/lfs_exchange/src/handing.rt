@@ -5,7 +5,7 @@ ghost use Rattle.lfs_book.specs.Book.{most_journal};
 ghost use Rattle.lfs_request.specs.declared.fault.Fault.TheVariants.{CannotRead, CannotWrite, Other};
 ghost use Rattle.lfs_request.specs.declared.other_fault.OtherFault.TheVariants as other;
 ghost use Rattle.lfs_fs.specs.Limits.{most_file};
-ghost use Rattle.lfs_host.specs.Files.{FindsFile, IsMissing, IsTarget, ReadsFile, ReadsInput};
+ghost use Rattle.lfs_host.specs.Files.{FindsFile, IsMissing, IsTarget, ReadsFile, ReadsFrom, ReadsInput};
 ghost use Rattle.lfs_host.specs.Scene.{HasClaimed, HasRefused, KeepsAll, KeepsOutput, KeepsSeen};
 ghost use Rattle.lfs_exchange.specs.Handing.{HandsImage, HandsInput, HandsJournal, HandsQuestion, IsClaimed, IsHanded, IsNotAimed, IsNotLocked, IsNotTakenUp, IsOtherUnread, IsUnread, IsUnreadFor, LeavesInput, fault_at, fault_of_reading, most_image};
 ghost use Rattle.lfs_exchange.specs.declared.step_kind.StepKind.TheVariants.{Makes};
@@ -36,24 +36,25 @@ pub struct Handed {
 }
 
 /// What a step of a kind is handed of the files of the image of this name, which is locked for this run where it is to be changed or
-/// replaced: the image's file before its journal. Takes memory.
+/// replaced: the image's file, from a place on, before its journal. Takes memory.
 ///
 /// Source: own.
 pub fn taken_up<H: Host>(
     alloc: Global,
     host: &mut H,
     kind: StepKind,
+    place: u64,
     name: &str,
 ) -> Result<Handed, Fault>
     ensures kind { IfOk result (λ h. h.kind ≡ kind) }
     ensures target { IfOk result (λ h. IsTarget (H.known host.new).files name.now (string_bytes h.target)) }
     ensures claimed { IfOk result (λ h. IsClaimed h.kind (H.known host.new) (string_bytes h.target)) }
-    ensures handed { IfOk result (λ h. IsHanded h.kind name.now (H.known host.new) (record { image = h.image.items; journal = h.journal.items })) }
+    ensures handed { IfOk result (λ h. IsHanded h.kind place name.now (H.known host.new) (record { image = h.image.items; journal = h.journal.items })) }
     ensures refused { IfErr result (IsNotTakenUp kind (H.known host.new) name.now) }
     ensures kept { KeepsSeen (H.known host.old) (H.known host.new) }
 {
     let target = aimed(alloc, host, kind, name)?;
-    let image = read_image(alloc, host, kind, target.as_str())?;
+    let image = read_image(alloc, host, kind, place, target.as_str())?;
     let journal = journal_of(alloc, host, kind, target.as_str())?;
     Ok(Handed {
         kind,
@@ -126,21 +127,22 @@ pub fn spare<H: Host>(host: &mut H, is_new: bool, name: &str) -> Result<(), Faul
     Ok(())
 }
 
-/// The bytes of an image's file, and one more than an image has where there are more; none where the image is made.
+/// The bytes of an image's file from a place on, and one more than an image has where there are more; none where the image is made.
 fn read_image<H: Host>(
     alloc: Global,
     host: &mut H,
     kind: StepKind,
+    place: u64,
     name: &str,
 ) -> Result<Vec<u8>, Fault>
-    ensures image { IfOk result (λ bytes. HandsImage kind (H.known host.old).files name.now bytes.items) }
+    ensures image { IfOk result (λ bytes. HandsImage kind place (H.known host.old).files name.now bytes.items) }
     ensures refused { IfErr result (IsUnreadFor kind (H.known host.new)) }
     ensures kept { KeepsAll (H.known host.old) (H.known host.new) }
 {
     if let StepKind::Makes = kind {
         return Ok(Vec::new(alloc));
     }
-    match host.read(alloc, name, MAX_IMAGE_LENGTH) {
+    match host.read(alloc, name, place, MAX_IMAGE_LENGTH) {
         Ok(bytes) => Ok(bytes),
         Err(fault) => Err(fault_of_reading(fault)),
     }
@@ -220,7 +222,7 @@ pub fn question_of<'a, H: Host>(
         Query::Ls => Ok(Query::Ls),
         Query::Cat { path } => Ok(Query::Cat { path }),
         Query::Diff { other, size } => Ok(Query::Diff {
-            other: read_other(alloc, host, other)?,
+            other: read_other(alloc, host, 0, other)?,
             size,
         }),
         Query::Log => Ok(Query::Log),
@@ -255,16 +257,21 @@ pub fn read_input<H: Host>(alloc: Global, host: &mut H) -> Result<Vec<u8>, Fault
     }
 }
 
-/// The bytes of the file of an image that another is compared with, or made of, and one more than an image has where there are more.
-/// Takes memory.
+/// The bytes of the file of an image that another is compared with, or made of, from a place on, and one more than an image has where
+/// there are more. Takes memory.
 ///
 /// Source: own.
-pub fn read_other<H: Host>(alloc: Global, host: &mut H, name: &str) -> Result<Vec<u8>, Fault>
-    ensures bytes { IfOk result (λ bytes. ReadsFile (H.known host.old).files name.now most_image bytes.items) }
+pub fn read_other<H: Host>(
+    alloc: Global,
+    host: &mut H,
+    place: u64,
+    name: &str,
+) -> Result<Vec<u8>, Fault>
+    ensures bytes { IfOk result (λ bytes. ReadsFrom (H.known host.old).files name.now place most_image bytes.items) }
     ensures refused { IfErr result (IsOtherUnread (H.known host.new)) }
     ensures kept { KeepsAll (H.known host.old) (H.known host.new) }
 {
-    match host.read(alloc, name, MAX_IMAGE_LENGTH) {
+    match host.read(alloc, name, place, MAX_IMAGE_LENGTH) {
         Ok(bytes) => Ok(bytes),
         Err(ReadFault::Memory) => Err(Fault::Refused(Refusal::Memory)),
         Err(ReadFault::CannotRead) => Err(Fault::Other(OtherFault::CannotRead)),

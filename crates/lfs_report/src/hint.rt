@@ -9,15 +9,8 @@ const VERSION: u32 = 0x0002_0001;
 /// of it; nothing where the request says so already. Takes no memory.
 pub(crate) fn hint_of(request: &Request<'_>) -> Option<&'static str> {
     match &request.task {
-        Task::Ask {
-            by_device: true,
-            ..
-        } => None,
-        Task::Extract {
-            by_device: true,
-            ..
-        } => None,
-        Task::Repack { source, .. } if source.manner.by_device => None,
+        Task::Ask { view, .. } | Task::Extract { view, .. } if view.by_device => None,
+        Task::Repack { source, .. } if source.manner.view.by_device => None,
         Task::Ask {
             query: Query::Log,
             ..

@@ -4,3 +4,4 @@ pub mod Place
 pub mod Query
 pub mod SaidLimits
 pub mod Task
+pub mod View

@@ -13,6 +13,7 @@ mod request;
 mod said_limits;
 mod source_image;
 mod task;
+mod view;
 
 pub use extent::Extent;
 pub use fault::Fault;
@@ -26,3 +27,4 @@ pub use request::Request;
 pub use said_limits::SaidLimits;
 pub use source_image::SourceImage;
 pub use task::Task;
+pub use view::View;

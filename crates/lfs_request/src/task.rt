@@ -4,6 +4,7 @@ use crate::extent::Extent;
 use crate::query::Query;
 use crate::said_limits::SaidLimits;
 use crate::source_image::SourceImage;
+use crate::view::View;
 use lfs_fs::Limits;
 use lfs_history::{Move, Source};
 
@@ -41,15 +42,15 @@ pub enum Task<'a> {
     Extract {
         /// The folder's name.
         dir: &'a str,
-        /// Whether the image is read as a device does.
-        by_device: bool,
+        /// How the image is looked at.
+        view: View,
     },
     /// What is asked of the image.
     Ask {
         /// The question; another image is there by the name of its file.
         query: Query<'a, &'a str>,
-        /// Whether images are read as a device does.
-        by_device: bool,
+        /// How the image is looked at; another image is all of its file, and read as a device does where this one is.
+        view: View,
     },
     /// The image alone, and no change that led to it or was taken back.
     Forget,
