@@ -1,5 +1,5 @@
 -- What the words of a command line ask for (own).
-use Rattle.std.specs.Prelude.{ℕ, Bool, true, false, ◌≡◌, ◌⊎◌, ◌||◌, ⊤, List, [], ◌∷◌, Option, None, Some, codes, if◌then◌else◌, is_some, map}
+use Rattle.std.specs.Prelude.{ℕ, ◌<◌, ◌^◌, Bool, true, false, ◌≡◌, ◌⊎◌, ◌||◌, ⊤, List, [], ◌∷◌, Option, None, Some, codes, if◌then◌else◌, is_some, map}
 use Rattle.std.specs.Prelude.{option_map}
 use Rattle.std.specs.Borrow.{Bor}
 use Rattle.std.specs.List.{list_any}
@@ -7,7 +7,7 @@ use Rattle.std.specs.Option.{option_map_or}
 use Rattle.std.specs.Str.{bytes_eq}
 use Rattle.std.specs.Str.Parse.{digits_value, without_leading_plus}
 use Rattle.clap.specs.Words.{Row, Rule, Text, all_of, first_of, one_of}
-use Rattle.lfs_grammar.specs.Grammar.{IsSaid, attr_max_or_source, file_max_or_source, keep, name_max_or_source}
+use Rattle.lfs_grammar.specs.Grammar.{IsSaid, TakesNoImage, attr_max_or_source, file_max_or_source, keep, name_max_or_source}
 use Rattle.lfs_command.specs.declared.command.Command.{Command}
 use Rattle.lfs_command.specs.declared.command.Command.TheVariants.{Mkdir, Put, Rm, Mv, SetAttr, RmAttr, Grow}
 use Rattle.lfs_fs.specs.declared.limits.Limits.{Limits}
@@ -21,17 +21,19 @@ use Rattle.lfs_request.specs.declared.manner.Manner.{Manner}
 use Rattle.lfs_request.specs.declared.request.Request.{Request}
 use Rattle.lfs_request.specs.declared.said_limits.SaidLimits.{SaidLimits}
 use Rattle.lfs_request.specs.declared.source_image.SourceImage.{SourceImage}
+use Rattle.lfs_request.specs.declared.view.View.{View}
 use Rattle.lfs_request.specs.declared.task.Task.{Task}
 use Rattle.lfs_request.specs.declared.task.Task.TheVariants as task
 use Rattle.lfs_request.specs.declared.task.Task.TheVariants.{Format, Pack, Repack, Extract, Ask, Change, Batch}
 use Rattle.lfs_request.specs.declared.query.Query.{Query}
 use Rattle.lfs_request.specs.declared.query.Query.TheVariants.{Check, Ls, Cat, Diff, Log}
 use Rattle.lfs_texts.specs.Digits.{SpellsByte, SpellsBytes, SpellsNoByte, SpellsNoBytes}
-use Rattle.lfs_texts.specs.Sizes.{IsSizeFault, SaysBlock, SaysBlocks, SaysNoBlock}
+use Rattle.lfs_texts.specs.Sizes.{IsSizeFault, SaysBlock, SaysBlocks, SaysBytes, SaysNoBlock, SaysNoBytes}
 use Rattle.lfs_texts.specs.declared.reason.Reason.TheVariants.{BadKind, BadValue}
+use Rattle.lfs_words.specs.declared.auto_file.AutoFile.{AutoFile}
 use Rattle.lfs_words.specs.declared.auto_sizes.AutoSizes.{AutoSizes}
 use Rattle.lfs_words.specs.declared.misuse.Misuse.{Misuse}
-use Rattle.lfs_words.specs.declared.misuse.Misuse.TheVariants.{Block, NoCount, TwoCounts, Size, Hex}
+use Rattle.lfs_words.specs.declared.misuse.Misuse.TheVariants.{Block, NoCount, TwoCounts, Size, Offset, Hex}
 
 -- an option's text
 abbrev pub HasText : List Row → Text → Text → Type 0
@@ -110,10 +112,22 @@ SaysLimitsIfSaid rows limits =
     × HasNumberIfSaid rows file_max_or_source limits.file
     × HasNumberIfSaid rows attr_max_or_source limits.attribute
 
+-- where in its file an image begins, in bytes, as an option says it
+abbrev pub SaysPlace : List Row → ℕ → Type 0
+SaysPlace rows place = (text : Text) × HasText rows (codes "offset") text × SaysBytes text place
+
+-- the same, where it is said
+abbrev pub SaysPlaceIfSaid : List Row → Option ℕ → Type 0
+SaysPlaceIfSaid rows (Some place) = SaysPlace rows place
+SaysPlaceIfSaid rows None = HasNone rows (codes "offset")
+
+-- how an image is looked at
+abbrev pub IsView : View → List Row → Type 0
+IsView view rows = (view.by_device ≡ is_flagged (codes "device") rows) × SaysPlaceIfSaid rows view.offset
+
 -- how an image is read
 abbrev pub IsManner : Manner → List Row → Type 0
-IsManner manner rows =
-    (manner.takes_older ≡ is_flagged (codes "older") rows) × (manner.by_device ≡ is_flagged (codes "device") rows)
+IsManner manner rows = (manner.takes_older ≡ is_flagged (codes "older") rows) × IsView manner.view rows
 
 -- the image that a new one is made of, which has blocks of this size
 abbrev pub IsSource : SourceImage → List Row → ℕ → Type 0
@@ -170,10 +184,8 @@ IsTask (Pack extent limits dir) name rows block other =
     (name ≡ codes "pack") × SaysExtent rows block extent × SaysLimits rows limits × HasText rows (codes "dir") dir.now
 IsTask (Repack source extent limits) name rows block other =
     (name ≡ codes "repack") × IsSource source rows other × SaysExtentIfSaid rows block extent × SaysLimitsIfSaid rows limits
-IsTask (Extract dir by_device) name rows block other =
-    (name ≡ codes "extract") × HasText rows (codes "dir") dir.now × (by_device ≡ is_flagged (codes "device") rows)
-IsTask (Ask query by_device) name rows block other =
-    IsQuery query name rows other × (by_device ≡ is_flagged (codes "device") rows)
+IsTask (Extract dir view) name rows block other = (name ≡ codes "extract") × HasText rows (codes "dir") dir.now × IsView view rows
+IsTask (Ask query view) name rows block other = IsQuery query name rows other × IsView view rows
 IsTask task.Forget name rows block other = name ≡ codes "forget"
 IsTask (Change (Do command kept)) name rows block other = IsCommand command name rows block × IsKept kept rows
 IsTask (Change (Undo steps)) name rows block other = (name ≡ codes "undo") × HasNumber rows (codes "steps") steps
@@ -196,6 +208,18 @@ abbrev pub AsksFor : Option (Text × List Row) → AutoSizes → Request → Typ
 AsksFor named stated request =
     (name : Text) × (rows : List Row) × (named ≡ Some (name, rows)) × IsRequest request name rows stated
 
+-- a command is named that takes no image
+abbrev pub NamesNoImage : Option (Text × List Row) → Type 0
+NamesNoImage named = (name : Text) × (rows : List Row) × (named ≡ Some (name, rows)) × TakesNoImage name
+
+-- images are looked for in a file
+abbrev pub NamesFind : Option (Text × List Row) → Type 0
+NamesFind named = (rows : List Row) × (named ≡ Some (codes "find", rows))
+
+-- in the file of this name
+abbrev pub LooksIn : Option (Text × List Row) → Text → Type 0
+LooksIn named flash = (rows : List Row) × (named ≡ Some (codes "find", rows)) × HasText rows (codes "flash") flash
+
 -- it is asked what faults mean
 abbrev pub NamesExplain : Option (Text × List Row) → Type 0
 NamesExplain named = (rows : List Row) × (named ≡ Some (codes "explain", rows))
@@ -211,9 +235,9 @@ is_command name =
     list_any (λ command. bytes_eq command name)
     (codes "mkdir" ∷ codes "put" ∷ codes "rm" ∷ codes "mv" ∷ codes "setattr" ∷ codes "rmattr" ∷ codes "grow" ∷ [])
 
--- one of these, or the command that explains
+-- one of these, or one that takes no image
 abbrev pub is_other : Text → Bool
-is_other name = is_command name || bytes_eq (codes "explain") name
+is_other name = is_command name || bytes_eq (codes "find") name || bytes_eq (codes "explain") name
 
 -- a command that asks something of an image
 abbrev pub is_question : Text → Bool
@@ -225,10 +249,26 @@ abbrev pub SaysAuto : Text → Text → Option (Text × List Row) → Text → T
 SaysAuto option id named file =
     (name : Text) × (rows : List Row) × (named ≡ Some (name, rows)) × HasText rows option (codes "auto") × HasText rows id file
 
--- the same of the image that one is compared with, or made of
-abbrev pub SaysAutoOther : Option (Text × List Row) → Text → Type 0
+-- a place in its file is said for the image
+abbrev pub NamesPlace : Option (Text × List Row) → ℕ → Type 0
+NamesPlace named place = (name : Text) × (rows : List Row) × (named ≡ Some (name, rows)) × SaysPlace rows place
+
+-- the image begins there, or at the beginning of its file where none is said
+abbrev pub BeginsAt : Option (Text × List Row) → ℕ → Type 0
+BeginsAt named place = NamesPlace named place ⊎ (((other : ℕ) → NamesPlace named other → other < 2 ^ 64 → ⊥) × (place ≡ 0))
+
+-- `auto` is said for the block size of the image
+abbrev pub SaysAutoImage : Option (Text × List Row) → AutoFile → Type 0
+SaysAutoImage named file = SaysAuto (codes "block") (codes "image") named file.name.now × BeginsAt named file.place
+
+-- the same of the image that it is made of
+abbrev pub SaysAutoSource : Option (Text × List Row) → AutoFile → Type 0
+SaysAutoSource named file = SaysAuto (codes "from-block") (codes "source") named file.name.now × BeginsAt named file.place
+
+-- the same of that, or of the image that it is compared with, which is all of its file
+abbrev pub SaysAutoOther : Option (Text × List Row) → AutoFile → Type 0
 SaysAutoOther named file =
-    SaysAuto (codes "block") (codes "other") named file ⊎ SaysAuto (codes "from-block") (codes "source") named file
+    (SaysAuto (codes "block") (codes "other") named file.name.now × (file.place ≡ 0)) ⊎ SaysAutoSource named file
 
 -- why there is no block size: the text of the option that says it is no size
 abbrev pub IsBlockMisuse : Misuse → List Row → Text → ℕ → Type 0
@@ -278,12 +318,18 @@ abbrev pub IsHexMisuse : Misuse → Text → List Row → Type 0
 IsHexMisuse misuse name rows =
     IsKindMisuse misuse name rows ⊎ (((kind : ℕ) × HasByte rows (codes "kind") kind) × IsValueMisuse misuse name rows)
 
--- why a command says nothing to be done on blocks of this size: no number of them, or digits that spell nothing
+-- no place in a file is said: the text of the option that says it is no number of bytes
+abbrev pub IsOffsetMisuse : Misuse → List Row → Type 0
+IsOffsetMisuse (Offset text) rows = HasText rows (codes "offset") text.now × SaysNoBytes text.now
+IsOffsetMisuse _ rows = ⊥
+
+-- why a command says nothing to be done on blocks of this size: no number of them, digits that spell nothing, or no place in a file
 abbrev pub IsCommandMisuse : Misuse → Text → List Row → ℕ → Type 0
 IsCommandMisuse misuse name rows block =
     IsSizeMisuse misuse name rows block
     ⊎ ((name ≡ codes "setattr") × IsHexMisuse misuse name rows)
     ⊎ ((name ≡ codes "rmattr") × IsKindMisuse misuse name rows)
+    ⊎ IsOffsetMisuse misuse rows
 
 -- why a command and its options say no request: no block size, of the one image or of the other, or nothing to be done
 abbrev pub IsMisuse : Misuse → Text → List Row → AutoSizes → Type 0

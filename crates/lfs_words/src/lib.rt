@@ -1,6 +1,7 @@
 //! What the words of the program's command line ask for.
 #![tactic(auto)]
 
+mod auto_file;
 mod auto_sizes;
 mod counting;
 mod matching;
@@ -8,7 +9,9 @@ mod misuse;
 mod options;
 mod spelling;
 mod tasks;
+mod viewing;
 
+pub use auto_file::AutoFile;
 pub use auto_sizes::AutoSizes;
-pub use matching::{auto_image, auto_other, faults_asked, request_said};
+pub use matching::{auto_image, auto_other, faults_asked, flash_asked, request_said};
 pub use misuse::{Misuse, Ways};

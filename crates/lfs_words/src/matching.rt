@@ -2,16 +2,18 @@
 
 ghost use Rattle.std.specs.Prelude.{◌≡◌, ◌⊎◌, IfErr, IfOk, IfSome, IsNone, Some, codes};
 ghost use Rattle.clap.specs.Words.{Text, found_of, rows_of, subcommand_rows_of};
-ghost use Rattle.lfs_grammar.specs.Grammar.{NamesCommand};
+ghost use Rattle.lfs_grammar.specs.Grammar.{NamesCommand, TakesNoImage};
 ghost use Rattle.lfs_request.specs.Task.{IsTaskInRange};
-ghost use Rattle.lfs_words.specs.Words.{AsksFor, Explains, IsMissaid, IsMisuse, IsRequest, NamesExplain, SaysAuto, SaysAutoOther};
+ghost use Rattle.lfs_words.specs.Words.{AsksFor, BeginsAt, Explains, IsMissaid, IsMisuse, IsRequest, LooksIn, NamesExplain, NamesFind, NamesNoImage, SaysAuto, SaysAutoImage, SaysAutoOther, SaysAutoSource};
 ghost use Rattle.lfs_words.specs.declared.misuse.Misuse.TheVariants.{Memory, Unsaid};
 
+use crate::auto_file::AutoFile;
 use crate::auto_sizes::AutoSizes;
 use crate::counting::{block_of, other_block_of};
 use crate::misuse::Misuse;
 use crate::options::{said, text};
 use crate::tasks::task_of;
+use crate::viewing::place_said;
 use clap::ArgMatches;
 use lfs_request::Request;
 use std::alloc::Global;
@@ -27,7 +29,7 @@ fn request_of<'a>(
     ensures within { IfOk result (λ request. NamesCommand (Some (name.now, rows_of (found_of options.now))) → IsTaskInRange request.task) }
     ensures refused { IfErr result (λ misuse. (misuse ≡ Unsaid) ⊎ (misuse ≡ Memory) ⊎ IsMisuse misuse name.now (rows_of (found_of options.now)) stated) }
     ensures unsaid { IfErr result (λ misuse. misuse ≡ Unsaid → NamesCommand (Some (name.now, rows_of (found_of options.now)))
-        → name.now ≡ codes "explain") }
+        → TakesNoImage name.now) }
 {
     let size = block_of(options, stated.image)?;
     let other = other_block_of(options, stated.other)?;
@@ -42,7 +44,7 @@ fn request_of<'a>(
 
 /// The request that the words that were matched say, where `auto` stands for blocks of so many bytes. Where they name a command with
 /// all that it takes, it keeps 1 to 1,000 images or all, and a new image gets limits that images may state. Else why they say none:
-/// `Unsaid` only where they name no such command, or ask what faults mean; `Memory` only that a growth of memory was refused.
+/// `Unsaid` only where they name no such command, or one that takes no image; `Memory` only that a growth of memory was refused.
 ///
 /// Source: own.
 pub fn request_said<'a>(
@@ -54,7 +56,7 @@ pub fn request_said<'a>(
     ensures within { IfOk result (λ request. NamesCommand (subcommand_rows_of matches.now) → IsTaskInRange request.task) }
     ensures refused { IfErr result (λ misuse. (misuse ≡ Unsaid) ⊎ (misuse ≡ Memory) ⊎ IsMissaid (subcommand_rows_of matches.now) stated misuse) }
     ensures unsaid { IfErr result (λ misuse. misuse ≡ Unsaid → NamesCommand (subcommand_rows_of matches.now)
-        → NamesExplain (subcommand_rows_of matches.now)) }
+        → NamesNoImage (subcommand_rows_of matches.now)) }
 {
     let Some((name, options)) = matches.subcommand() else {
         return Err(Misuse::Unsaid);
@@ -78,27 +80,72 @@ pub fn faults_asked<'m, 'a>(matches: &'m ArgMatches<'a>) -> Option<Option<&'m [&
     }
 }
 
+/// The file in which images are looked for, where the words that were matched ask for that. Takes no memory.
+///
+/// Source: own.
+pub fn flash_asked<'a>(matches: &ArgMatches<'a>) -> Option<&'a str>
+    ensures some { IfSome result (λ flash. LooksIn (subcommand_rows_of matches.now) flash.now) }
+    ensures none { IsNone result → NamesCommand (subcommand_rows_of matches.now) → NamesFind (subcommand_rows_of matches.now) → ⊥ }
+{
+    let (name, options) = matches.subcommand()?;
+    if name == "find" {
+        options.get_str("flash")
+    } else {
+        None
+    }
+}
+
 /// The file of the image that states its block size, where the words that were matched say `auto` for it. Takes no memory.
 ///
 /// Source: own.
-pub fn auto_image<'a>(matches: &ArgMatches<'a>) -> Option<&'a str>
-    ensures some { IfSome result (λ image. SaysAuto (codes "block") (codes "image") (subcommand_rows_of matches.now) image.now) }
-    ensures none { IsNone result → (image : Text) → SaysAuto (codes "block") (codes "image") (subcommand_rows_of matches.now) image → ⊥ }
+pub fn auto_image<'a>(matches: &ArgMatches<'a>) -> Option<AutoFile<'a>>
+    ensures some { IfSome result (SaysAutoImage (subcommand_rows_of matches.now)) }
+    ensures none { IsNone result → (image : AutoFile) → SaysAutoImage (subcommand_rows_of matches.now) image → ⊥ }
 {
-    auto_file(matches, "block", "image")
+    match auto_file(matches, "block", "image") {
+        Some(name) => Some(AutoFile {
+            name,
+            place: begins_at(matches),
+        }),
+        None => None,
+    }
 }
 
 /// The file of the image that it is compared with, or made of, where the words say `auto` for the block size of that one. Takes no
 /// memory.
 ///
 /// Source: own.
-pub fn auto_other<'a>(matches: &ArgMatches<'a>) -> Option<&'a str>
-    ensures some { IfSome result (λ other. SaysAutoOther (subcommand_rows_of matches.now) other.now) }
-    ensures none { IsNone result → (other : Text) → SaysAutoOther (subcommand_rows_of matches.now) other → ⊥ }
+pub fn auto_other<'a>(matches: &ArgMatches<'a>) -> Option<AutoFile<'a>>
+    ensures some { IfSome result (SaysAutoOther (subcommand_rows_of matches.now)) }
+    ensures none { IsNone result → (other : AutoFile) → SaysAutoOther (subcommand_rows_of matches.now) other → ⊥ }
 {
     match auto_file(matches, "block", "other") {
-        Some(other) => Some(other),
-        None => auto_file(matches, "from-block", "source"),
+        Some(name) => Some(AutoFile { name, place: 0 }),
+        None => auto_source(matches),
+    }
+}
+
+/// The same of one that it is made of.
+fn auto_source<'a>(matches: &ArgMatches<'a>) -> Option<AutoFile<'a>>
+    ensures some { IfSome result (SaysAutoSource (subcommand_rows_of matches.now)) }
+    ensures none { IsNone result → (source : AutoFile) → SaysAutoSource (subcommand_rows_of matches.now) source → ⊥ }
+{
+    match auto_file(matches, "from-block", "source") {
+        Some(name) => Some(AutoFile {
+            name,
+            place: begins_at(matches),
+        }),
+        None => None,
+    }
+}
+
+/// Where in its file the image begins that the words speak of, in bytes: at its beginning where they say no place.
+fn begins_at(matches: &ArgMatches<'_>) -> u64
+    ensures { BeginsAt (subcommand_rows_of matches.now) result }
+{
+    match matches.subcommand() {
+        Some((_, options)) => place_said(options).unwrap_or(0),
+        None => 0,
     }
 }
 

@@ -1,7 +1,7 @@
 //! Why the words of a command say no request.
 
 use lfs_grammar::{FORMAT_USAGE, GROW_USAGE, PACK_USAGE, REPACK_USAGE};
-use lfs_texts::{Reason, SizeFault};
+use lfs_texts::{NO_BYTES, Reason, SizeFault};
 use std::alloc::AllocError;
 use std::fmt;
 
@@ -78,6 +78,11 @@ pub enum Misuse<'a> {
         /// What is wrong with it.
         fault: SizeFault,
     },
+    /// The text of `--offset` is no number of bytes.
+    Offset {
+        /// The text.
+        text: &'a str,
+    },
     /// The digits of an attribute's kind or value spell nothing.
     Hex {
         /// The command's name.
@@ -119,6 +124,12 @@ impl<'a> fmt::Display for Misuse<'a> {
             ),
             Misuse::Size { text, fault } => {
                 write!(f, "invalid value '{text}' for '--size <BYTES>': {fault}")
+            }
+            Misuse::Offset { text } => {
+                write!(
+                    f,
+                    "invalid value '{text}' for '--offset <BYTES>': {NO_BYTES}"
+                )
             }
             Misuse::Hex { reason, digits, .. } => write!(f, "{reason}: {digits}"),
             Misuse::Memory => f.write_str("memory is wanting"),

@@ -2,10 +2,10 @@
 
 ghost use Rattle.std.specs.Prelude.{◌≡◌, ◌<◌, ◌⊎◌, IfErr, IfOk, Some, codes, false, true};
 ghost use Rattle.clap.specs.Words.{Text, found_of, rows_of};
-ghost use Rattle.lfs_grammar.specs.Grammar.{NamesCommand, is_change};
+ghost use Rattle.lfs_grammar.specs.Grammar.{NamesCommand, TakesNoImage, is_change};
 ghost use Rattle.lfs_history.specs.Taking.{MayKeep};
 ghost use Rattle.lfs_request.specs.Task.{IsTaskInRange};
-ghost use Rattle.lfs_words.specs.Words.{HasContents, IsCommand, IsCommandMisuse, IsKept, IsManner, IsQuery, IsSizeMisuse, IsTask, is_command};
+ghost use Rattle.lfs_words.specs.Words.{HasContents, IsCommand, IsCommandMisuse, IsKept, IsManner, IsOffsetMisuse, IsQuery, IsSizeMisuse, IsTask, is_command};
 ghost use Rattle.lfs_words.specs.Words.{is_other, is_question};
 ghost use Rattle.lfs_words.specs.declared.misuse.Misuse.TheVariants.{Memory, Unsaid};
 
@@ -13,6 +13,7 @@ use crate::counting::{count_of, extent_if_said, extent_of, limits_if_said, limit
 use crate::misuse::{FORMAT, GROW, Misuse, PACK};
 use crate::options::{bytes, number, number_if_said, said, text};
 use crate::spelling::{attribute_of, kind_of};
+use crate::viewing::view_of;
 use clap::ArgMatches;
 use lfs_command::Command;
 use lfs_history::{Move, Source};
@@ -130,14 +131,15 @@ fn repack_of<'a>(options: &ArgMatches<'a>, block: u32, other: u32) -> Result<Tas
     requires { 0 < block }
     ensures some { IfOk result (λ task. IsTask task (codes "repack") (rows_of (found_of options.now)) block other) }
     ensures within { IfOk result (λ task. NamesCommand (Some (codes "repack", rows_of (found_of options.now))) → IsTaskInRange task) }
-    ensures refused { IfErr result (λ misuse. (misuse ≡ Unsaid) ⊎ IsSizeMisuse misuse (codes "repack") (rows_of (found_of options.now)) block) }
+    ensures refused { IfErr result (λ misuse. (misuse ≡ Unsaid) ⊎ IsSizeMisuse misuse (codes "repack") (rows_of (found_of options.now)) block
+        ⊎ IsOffsetMisuse misuse (rows_of (found_of options.now))) }
     ensures unsaid { IfErr result (λ misuse. misuse ≡ Unsaid → NamesCommand (Some (codes "repack", rows_of (found_of options.now))) → ⊥) }
 {
     Ok(Task::Repack {
         source: SourceImage {
             file: text(options, "source")?,
             size: other,
-            manner: manner_of(options),
+            manner: manner_of(options)?,
         },
         extent: extent_if_said(options, block)?,
         limits: limits_if_said(options),
@@ -145,13 +147,14 @@ fn repack_of<'a>(options: &ArgMatches<'a>, block: u32, other: u32) -> Result<Tas
 }
 
 /// How the words say that an image is read.
-fn manner_of(options: &ArgMatches<'_>) -> Manner
-    ensures { IsManner result (rows_of (found_of options.now)) }
+fn manner_of<'a>(options: &ArgMatches<'a>) -> Result<Manner, Misuse<'a>>
+    ensures some { IfOk result (λ manner. IsManner manner (rows_of (found_of options.now))) }
+    ensures refused { IfErr result (λ misuse. IsOffsetMisuse misuse (rows_of (found_of options.now))) }
 {
-    Manner {
+    Ok(Manner {
         takes_older: said(options, "older"),
-        by_device: said(options, "device"),
-    }
+        view: view_of(options)?,
+    })
 }
 
 /// What a command's words ask to be done that is no command on an image's tree; another image has blocks of the second size.
@@ -164,11 +167,12 @@ fn other_task_of<'a>(
     requires { 0 < block }
     ensures some { IfOk result (λ task. IsTask task name.now (rows_of (found_of options.now)) block other) }
     ensures within { IfOk result (λ task. NamesCommand (Some (name.now, rows_of (found_of options.now))) → IsTaskInRange task) }
-    ensures refused { IfErr result (λ misuse. (misuse ≡ Unsaid) ⊎ IsSizeMisuse misuse name.now (rows_of (found_of options.now)) block) }
+    ensures refused { IfErr result (λ misuse. (misuse ≡ Unsaid) ⊎ IsSizeMisuse misuse name.now (rows_of (found_of options.now)) block
+        ⊎ IsOffsetMisuse misuse (rows_of (found_of options.now))) }
     ensures unsaid { IfErr result (λ misuse. misuse ≡ Unsaid → NamesCommand (Some (name.now, rows_of (found_of options.now)))
         → is_other name.now ≡ true) }
 {
-    let by_device = said(options, "device");
+    let view = view_of(options)?;
     match name {
         "format" => Ok(Task::Format {
             count: count_of(options, block, FORMAT)?,
@@ -182,7 +186,7 @@ fn other_task_of<'a>(
         "repack" => repack_of(options, block, other),
         "extract" => Ok(Task::Extract {
             dir: text(options, "dir")?,
-            by_device,
+            view,
         }),
         "undo" => Ok(Task::Change(Move::Undo {
             steps: number(options, "steps")?,
@@ -197,7 +201,7 @@ fn other_task_of<'a>(
         }),
         _ => Ok(Task::Ask {
             query: question_of(name, options, other)?,
-            by_device,
+            view,
         }),
     }
 }
@@ -215,7 +219,7 @@ pub(crate) fn task_of<'a>(
     ensures within { IfOk result (λ task. NamesCommand (Some (name.now, rows_of (found_of options.now))) → IsTaskInRange task) }
     ensures refused { IfErr result (λ misuse. (misuse ≡ Unsaid) ⊎ (misuse ≡ Memory) ⊎ IsCommandMisuse misuse name.now (rows_of (found_of options.now)) block) }
     ensures unsaid { IfErr result (λ misuse. misuse ≡ Unsaid → NamesCommand (Some (name.now, rows_of (found_of options.now)))
-        → name.now ≡ codes "explain") }
+        → TakesNoImage name.now) }
 {
     if !is_change(name) || name == "batch" {
         return other_task_of(name, options, block, other);

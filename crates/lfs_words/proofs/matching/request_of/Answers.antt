@@ -20,7 +20,7 @@ returns-in_err-size-clause-unsaid c =
     handed_on on.result c.in_err-size.field-0.0 _ on.ensures.1
     (λ is names.
     elim (image_said c.args.name.now (rows_of (found_of c.args.options.now)) names) [
-      | inl explains ↦ explains
+      | inl none ↦ none
       | inr says ↦ absurd (c.in_err-size.ensures.unsaid is says.0.0 says.0.1 says.0.2)
     ])
 
@@ -39,7 +39,7 @@ returns-in_err-other-clause-unsaid c =
     handed_on on.result c.in_err-other.field-0.0 _ on.ensures.1
     (λ is names.
     elim (image_said c.args.name.now (rows_of (found_of c.args.options.now)) names) [
-      | inl explains ↦ explains
+      | inl none ↦ none
       | inr says ↦ absurd (c.in_err-other.ensures.unsaid is says.0.0 says.0.1 says.0.2)
     ])
 
@@ -49,7 +49,7 @@ returns-in_err-text-clause-unsaid c =
     handed_on on.result c.in_err-text.field-0.0 _ on.ensures.1
     (λ is names.
     elim (image_said c.args.name.now (rows_of (found_of c.args.options.now)) names) [
-      | inl explains ↦ explains
+      | inl none ↦ none
       | inr says ↦ absurd (c.in_err-text.ensures.none.1 (word (codes "image")) refl says.1)
     ])
 

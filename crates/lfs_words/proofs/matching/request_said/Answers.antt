@@ -1,8 +1,8 @@
-use Rattle.std.proofs.Common.{rules, ◌≡◌, ◌∙◌, Some, ap, inl, inr, subst}
+use Rattle.std.proofs.Common.{rules, ◌≡◌, Some, inl, inr, subst}
 use Rattle.std.specs.Prelude.{option_map}
 use Rattle.std.proofs.lemmas.Result.{IfErr-weaker, IfOk-weaker}
 use Rattle.clap.specs.Matches.{subcommand_name_of}
-use Rattle.clap.specs.Words.{Text, found_of, rows_of, subcommand_rows_of}
+use Rattle.clap.specs.Words.{found_of, rows_of, subcommand_rows_of}
 use Rattle.lfs_grammar.specs.Grammar.{NamesCommand}
 use Rattle.lfs_grammar.proofs.WordLemmas.{names_command}
 use Rattle.lfs_words.proofs.matching.request_said.Goals as goal
@@ -49,5 +49,5 @@ returns-clause-unsaid c =
     let name : subcommand_name_of m ≡ Some called = search rules in
     let has : option_map (λ p. p.1) (subcommand_rows_of m) ≡ Some rows = search rules in
     let is = names_command m called rows name has in
-    IfErr-weaker c.request_of.result _ _ (λ misuse explains unsaid names.
-    (rows, is ∙ ap (λ (n : Text). Some (n, rows)) (explains unsaid (subst NamesCommand is names)))) c.request_of.ensures.unsaid
+    IfErr-weaker c.request_of.result _ _ (λ misuse none unsaid names. (called, rows, is, none unsaid (subst NamesCommand is names)))
+    c.request_of.ensures.unsaid

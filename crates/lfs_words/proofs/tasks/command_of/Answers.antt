@@ -95,7 +95,7 @@ returns-in_err-kind_of-in-rmattr-clause-refused c =
       | inr misuse ↦
           let named = subst (λ (name : Text). IsKindMisuse c.in_err-kind_of-in-rmattr.field-0.0 name (rows_of (found_of c.args.options.now)))
           (sym c.in-rmattr.is) misuse in
-          inr (inr (inr (inr (c.in-rmattr.is, named))))
+          inr (inr (inr (inr (inl (c.in-rmattr.is, named)))))
     ])
 
 pub returns-in_err-kind_of-in-rmattr-clause-unsaid : goal.returns-in_err-kind_of-in-rmattr-clause-unsaid

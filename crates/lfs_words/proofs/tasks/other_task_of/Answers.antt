@@ -11,16 +11,16 @@ use Rattle.lfs_words.proofs.tasks.other_task_of.Goals as goal
 
 pub returns-in_err-count_of-in-format-clause-refused : goal.returns-in_err-count_of-in-format-clause-refused
 returns-in_err-count_of-in-format-clause-refused c =
-    let on = c.from_residual in
+    let on = c.from_residual-in_err-count_of-in-format in
     handed_on on.result c.in_err-count_of-in-format.field-0.0 _ on.ensures.1
     (elim c.in_err-count_of-in-format.ensures.refused [
       | inl unsaid ↦ inl unsaid
-      | inr misuse ↦ inr (inl (inl c.in-format.is, misuse))
+      | inr misuse ↦ inr (inl (inl (inl c.in-format.is, misuse)))
     ])
 
 pub returns-in_err-count_of-in-format-clause-unsaid : goal.returns-in_err-count_of-in-format-clause-unsaid
 returns-in_err-count_of-in-format-clause-unsaid c =
-    let on = c.from_residual in
+    let on = c.from_residual-in_err-count_of-in-format in
     handed_on on.result c.in_err-count_of-in-format.field-0.0 _ on.ensures.1
     (λ is names.
     let says = says_of c.args.name.now (codes "format") (rows_of (found_of c.args.options.now)) c.in-format.is names in
@@ -47,7 +47,7 @@ returns-in_err-extent_of-in-pack-clause-refused c =
     handed_on on.result c.in_err-extent_of-in-pack.field-0.0 _ on.ensures.1
     (elim c.in_err-extent_of-in-pack.ensures.refused [
       | inl unsaid ↦ inl unsaid
-      | inr misuse ↦ inr (inr (inl (c.in-pack.is, misuse)))
+      | inr misuse ↦ inr (inl (inr (inl (c.in-pack.is, misuse))))
     ])
 
 pub returns-in_err-extent_of-in-pack-clause-unsaid : goal.returns-in_err-extent_of-in-pack-clause-unsaid
@@ -98,7 +98,8 @@ returns-in-repack-clause-refused c =
     let rows = rows_of (found_of c.args.options.now) in
     IfErr-weaker c.repack_of.result _ _ (λ misuse why. elim why [
       | inl unsaid ↦ inl unsaid
-      | inr size ↦ inr (subst (λ (name : Text). IsSizeMisuse misuse name rows c.args.block) (sym c.in-repack.is) size)
+      | inr (inl size) ↦ inr (inl (subst (λ (name : Text). IsSizeMisuse misuse name rows c.args.block) (sym c.in-repack.is) size))
+      | inr (inr offset) ↦ inr (inr offset)
     ]) c.repack_of.ensures.refused
 
 pub returns-in-repack-clause-unsaid : goal.returns-in-repack-clause-unsaid

@@ -19,7 +19,7 @@ returns-in_err-extent_if_said-clause-refused c =
     handed_on on.result c.in_err-extent_if_said.field-0.0 _ on.ensures.1
     (elim c.in_err-extent_if_said.ensures.refused [
       | inl unsaid ↦ inl unsaid
-      | inr misuse ↦ inr (inr (inr (refl, misuse.0, misuse.1)))
+      | inr misuse ↦ inr (inl (inr (inr (refl, misuse.0, misuse.1))))
     ])
 
 pub returns-in_err-extent_if_said-clause-unsaid : goal.returns-in_err-extent_if_said-clause-unsaid
