@@ -7,10 +7,11 @@ use Rattle.lfs_block.specs.Disk.{Disk, IsDisk}
 use Rattle.lfs_block.proofs.BytesLemmas.{image_of_disk}
 use Rattle.lfs_request.specs.declared.fault.Fault.{Fault}
 use Rattle.lfs_request.specs.declared.manner.Manner.{Manner}
+use Rattle.lfs_request.specs.View.{start_of}
 use Rattle.lfs_request.specs.declared.fault.Fault.TheVariants.{Image, Refused, CannotRead, HostEntry}
 use Rattle.lfs_extract.specs.declared.extract_fault.ExtractFault.{ExtractFault}
 use Rattle.lfs_extract.specs.declared.extract_fault.ExtractFault.TheVariants.{Memory, HostName, CannotWrite}
-use Rattle.lfs_host.specs.Files.{Files, ReadsFile}
+use Rattle.lfs_host.specs.Files.{Files, ReadsFrom}
 use Rattle.lfs_host.specs.HostTree.{HostTree}
 use Rattle.lfs_host.specs.NewFolder.{Made}
 use Rattle.lfs_host.specs.Scene.{HasRefused, KeepsScene, Notes, Scene, refuses_reading}
@@ -76,8 +77,8 @@ bytes_end size bytes d dir tree old new ended fault is size_is bytes_are told en
 
 -- what is made of the bytes of a file
 pub file_ends : (manner : Manner) (size : ℕ) (name dir bytes image : List ℕ) (old mid new : Scene) (ended : Option Fault)
-    → ReadsFile old.files name most_image bytes → mid.tree ≡ old.tree → mid.made ≡ old.made → KeepsScene old new
-    → refused_by manner (later_alone size bytes) ≡ None → IsReadBy manner.by_device size bytes image
+    → ReadsFrom old.files name (start_of manner.view) most_image bytes → mid.tree ≡ old.tree → mid.made ≡ old.made → KeepsScene old new
+    → refused_by manner (later_alone size bytes) ≡ None → IsReadBy manner.view size bytes image
     → EndsBytes size image dir mid.tree mid.made new ended → EndsExtract manner size name dir old new ended
 file_ends manner size name dir bytes image old mid new ended reads tree_is made_is keeps none read ends =
     let by_tree = subst (λ (t : Option HostTree). EndsBytes size image dir t mid.made new ended) tree_is ends in
@@ -86,16 +87,17 @@ file_ends manner size name dir bytes image old mid new ended reads tree_is made_
 
 -- nothing is made of an image that is refused for a commit of a later version
 pub file_later : (manner : Manner) (size : ℕ) (name dir bytes : List ℕ) (old new : Scene) (ended : Option Fault) (fault : Fault)
-    → ReadsFile old.files name most_image bytes → KeepsScene old new → new.made ≡ old.made → ended ≡ Some fault
+    → ReadsFrom old.files name (start_of manner.view) most_image bytes → KeepsScene old new → new.made ≡ old.made → ended ≡ Some fault
     → refused_by manner (later_alone size bytes) ≡ Some fault → EndsExtract manner size name dir old new ended
 file_later manner size name dir bytes old new ended fault reads keeps made_is is refused =
     (keeps, inr (bytes, reads, inl (made_is, (fault, is, refused))))
 
 -- what is handed of a file that is asked is what is read of it
-pub asked_read : (kind : StepKind) (files old : Option Files) (name image : List ℕ) → kind ≡ Asks → files ≡ old → HandsImage kind files name image
-    → ReadsFile old name most_image image
-asked_read kind files old name image is same hands =
-    subst (λ (f : Option Files). ReadsFile f name most_image image) same (subst (λ (k : StepKind). HandsImage k files name image) is hands)
+pub asked_read : (kind : StepKind) (place : ℕ) (files old : Option Files) (name image : List ℕ) → kind ≡ Asks → files ≡ old
+    → HandsImage kind place files name image → ReadsFrom old name place most_image image
+asked_read kind place files old name image is same hands =
+    subst (λ (f : Option Files). ReadsFrom f name place most_image image) same
+    (subst (λ (k : StepKind). HandsImage k place files name image) is hands)
 
 -- a file that isn't taken up isn't read
 unfound_unread : (new : Scene) (name : List ℕ) (fault : Fault) → IsUnfound new name fault → IsUnread new fault

@@ -2,12 +2,13 @@
 use Rattle.std.proofs.Common.{◌≡◌, ℕ, List, Option, ap, subst, ◌∙◌, map, inl, inr}
 use Rattle.lfs_fs.specs.declared.limits.Limits.{Limits}
 use Rattle.lfs_exchange.specs.Handing.{most_image}
-use Rattle.lfs_host.specs.Files.{Files, ReadsFile}
+use Rattle.lfs_host.specs.Files.{Files, ReadsFrom}
 use Rattle.lfs_host.specs.Scene.{Scene}
 use Rattle.lfs_pack.specs.declared.pack_row.PackRow.{PackRow}
 use Rattle.lfs_repack.specs.RowText.{pack_text, source_text}
 use Rattle.lfs_request.specs.declared.fault.Fault.{Fault}
 use Rattle.lfs_request.specs.SaidLimits.{limits_or}
+use Rattle.lfs_request.specs.View.{start_of}
 use Rattle.lfs_request.specs.declared.extent.Extent.{Extent}
 use Rattle.lfs_request.specs.declared.said_limits.SaidLimits.{SaidLimits}
 use Rattle.lfs_request.specs.declared.source_image.SourceImage.{SourceImage}
@@ -39,6 +40,6 @@ pub refused_from : (source : SourceImage) (mid old new : Scene) (why : Fault) �
     → RefusesSource source old new why
 refused_from source mid old new why same (inl unread) = inl unread
 refused_from source mid old new why same (inr (inl (bytes, reads, later))) =
-    inr (inl (bytes, subst (λ (f : Option Files). ReadsFile f source.file.now most_image bytes) same reads, later))
+    inr (inl (bytes, subst (λ (f : Option Files). ReadsFrom f source.file.now (start_of source.manner.view) most_image bytes) same reads, later))
 refused_from source mid old new why same (inr (inr (image, reads, judged))) =
     inr (inr (image, subst (λ (f : Option Files). ReadsSource source f image) same reads, judged))

@@ -1,5 +1,5 @@
 -- Where lists of requests lead.
-use Rattle.std.proofs.Common.{◌≡◌, ◌⊎◌, ◌<◌, ◌≤◌, ◌+◌, ℕ, Bor, Bool, false, List, [], ◌∷◌, ◌++◌, Option, Some}
+use Rattle.std.proofs.Common.{◌≡◌, ◌⊎◌, ◌<◌, ◌≤◌, ◌+◌, ℕ, Bor, Bool, List, [], ◌∷◌, ◌++◌, Option, Some}
 use Rattle.std.proofs.Common.{None, length, refl, sym, ap, subst, ◌∙◌, arith, inl, inr, length-append}
 use Rattle.std.specs.Prelude.{codes, map}
 use Rattle.std.proofs.lemmas.List.{take_all}
@@ -26,6 +26,8 @@ use Rattle.lfs_step.specs.Histories.{StepsLeaveHistories}
 use Rattle.lfs_step.specs.Outcome.{AnswersDone, given}
 use Rattle.lfs_step.proofs.OutcomeLemmas.{AnswersBy}
 use Rattle.lfs_request.specs.Query.{Question}
+use Rattle.lfs_request.specs.View.{start_of, whole_view}
+use Rattle.lfs_request.specs.declared.view.View.{View}
 use Rattle.lfs_step.specs.Runs.{GoesOn, HasGoodRows}
 use Rattle.lfs_exchange.specs.declared.step_kind.StepKind.{StepKind}
 use Rattle.lfs_exchange.specs.declared.step_kind.StepKind.TheVariants.{Makes, Asks, Recounts, Changes, Forgets}
@@ -136,7 +138,7 @@ record StepLeads (size : ℕ) (name : List ℕ) (s : Step) (new : Files) (old : 
 
 -- what a change was handed is what the files have
 handed_change : JournalsAreShort → (size : ℕ) (name : List ℕ) (files : Files) (h : History) (b : HandedBytes) → FilesDenote size name files h
-    → IsHanded Changes name (with_files files) b → Denotes size b.image b.journal h
+    → IsHanded Changes 0 name (with_files files) b → Denotes size b.image b.journal h
 handed_change short size name files h b denotes handed =
     subst (λ (i : List ℕ). Denotes size i b.journal h) (sym (image_read size name b.image files h denotes handed.image))
     (subst (λ (j : List ℕ). Denotes size denotes.0 j h) (sym (journal_read short size name b.journal files h denotes handed.journal)) denotes.2)
@@ -165,7 +167,7 @@ asked query.Log size name old new h outcome denotes same = asks query.Log size n
 
 -- all but the image is forgotten
 forgets : Laws → (size : ℕ) (name : List ℕ) (old new : Files) (h : History) (b : HandedBytes) (outcome : Outcome) → FilesDenote size name old h
-    → IsHanded Forgets name (with_files old) b → AnswersDone Forget (given size b.image b.journal) outcome
+    → IsHanded Forgets 0 name (with_files old) b → AnswersDone Forget (given size b.image b.journal) outcome
     → LeavesFiles Forgets (Some old) (Some new) name outcome → StepLeads size name Forget new h
 forgets laws size name old new h b outcome denotes handed answers replaced =
     let d = image_of size b.image in
@@ -192,7 +194,7 @@ forgets laws size name old new h b outcome denotes handed answers replaced =
 -- steps on the history; none at all leave it
 takes_all : Laws → (moves : List OnBytes) (steps : Bor (List OnBytes)) → moves ≡ steps.now → (size : ℕ) (name : List ℕ) (old new : Files)
     (h : History) (b : HandedBytes) (outcome : Outcome) → FilesDenote size name old h
-    → IsHanded (kind_of_steps steps.now) name (with_files old) b → AnswersDone (Change steps) (given size b.image b.journal) outcome
+    → IsHanded (kind_of_steps steps.now) 0 name (with_files old) b → AnswersDone (Change steps) (given size b.image b.journal) outcome
     → LeavesFiles (kind_of_steps steps.now) (Some old) (Some new) name outcome → StepLeads size name (Change steps) new h
 takes_all laws [] steps are size name old new h b outcome denotes handed answers leaves =
     let same : Some new ≡ Some old = subst (λ (k : StepKind). LeavesFiles k (Some old) (Some new) name outcome) (sym (ap kind_of_steps are)) leaves in
@@ -205,13 +207,13 @@ takes_all laws (m ∷ ms) steps are size name old new h b outcome denotes handed
     let kind : kind_of_steps steps.now ≡ Changes = sym (ap kind_of_steps are) in
     let both : HasBoth name outcome.image.items outcome.journal.items old new =
     subst (λ (k : StepKind). LeavesFiles k (Some old) (Some new) name outcome) kind leaves in
-    let on = handed_change laws.short size name old h b denotes (subst (λ (k : StepKind). IsHanded k name (with_files old) b) kind handed) in
+    let on = handed_change laws.short size name old h b denotes (subst (λ (k : StepKind). IsHanded k 0 name (with_files old) b) kind handed) in
     let (next, takes, left) = laws.leaves (Change steps) (given size b.image b.journal) outcome answers h on in
     record { next = next; goes = takes; denotes = written size name old new outcome next both left }
 
 -- any step
 done_leads : Laws → (s : Step) (size : ℕ) (name : List ℕ) (old new : Files) (h : History) (b : HandedBytes) (outcome : Outcome) → HasGoodRows s
-    → FilesDenote size name old h → IsHanded (kind_of s) name (with_files old) b → AnswersDone s (given size b.image b.journal) outcome
+    → FilesDenote size name old h → IsHanded (kind_of s) 0 name (with_files old) b → AnswersDone s (given size b.image b.journal) outcome
     → LeavesFiles (kind_of s) (Some old) (Some new) name outcome → StepLeads size name s new h
 done_leads laws (Format count limits) size name old new h b outcome good denotes handed answers both =
     let next = fresh_history (image_of size outcome.image.items) in
@@ -231,9 +233,9 @@ done_leads laws (Change steps) size name old new h b outcome good denotes handed
 abbrev IsAsking : Step → Type 0
 IsAsking s = (query : Question) × (s ≡ Ask query)
 
--- only a question may be asked of an image that is read as a device does
+-- only a question may be asked of an image that isn't all of its file, as it is
 abbrev IsReadFor : Step → Manner → Type 0
-IsReadFor s manner = (manner.by_device ≡ false) ⊎ IsAsking s
+IsReadFor s manner = (manner.view ≡ whole_view) ⊎ IsAsking s
 
 -- a step that was done
 step_leads : Laws → (s : Step) (manner : Manner) (size : ℕ) (name : List ℕ) (scene behind : Scene) (old new : Files) (h : History) → HasGoodRows s
@@ -241,14 +243,15 @@ step_leads : Laws → (s : Step) (manner : Manner) (size : ℕ) (name : List ℕ
     → EndsStep s manner size name scene behind None → StepLeads size name s new h
 step_leads laws s manner size name scene behind old new h good for before later denotes (outcome, runs, leaves, flushed) =
     let b = runs.bytes in
-    let at : IsHanded (kind_of s) name (with_files old) b = handed_from (kind_of s) name scene (with_files old) b before runs.handed in
     let done = subst (λ (f : Option Fault). AnswersBy f s (given size runs.image b.journal) outcome) runs.fault_is runs.answers in
     let left : LeavesFiles (kind_of s) (Some old) (Some new) name outcome =
     subst (λ (f : Option Files). LeavesFiles (kind_of s) (Some old) f name outcome) later
     (subst (λ (f : Option Files). LeavesFiles (kind_of s) f behind.files name outcome) before leaves) in
     elim for [
       | inl plain ↦
-          let same : runs.image ≡ b.image = subst (λ (d : Bool). IsReadBy d size b.image runs.image) plain runs.read in
+          let same : runs.image ≡ b.image = subst (λ (v : View). IsReadBy v size b.image runs.image) plain runs.read in
+          let at : IsHanded (kind_of s) 0 name (with_files old) b = handed_from (kind_of s) 0 name scene (with_files old) b before
+          (subst (λ (v : View). IsHanded (kind_of s) (start_of v) name scene b) plain runs.handed) in
           done_leads laws s size name old new h b outcome good denotes at
           (subst (λ (i : List ℕ). AnswersDone s (given size i b.journal) outcome) same done) left
       | inr (query, is) ↦
@@ -312,8 +315,8 @@ good_step (task.Pack extent limits dir) size scene (Pack count stated rows) (fol
 good_step (task.Repack source extent said) size scene (Pack count stated rows) packs =
     (all_packed (image_of source.size packs.image) packs.mounted.rows, packs.rows_are)
 good_step (task.Format many limits) size scene (Pack count stated rows) becomes = absurd becomes
-good_step (task.Extract dir by_device) size scene (Pack count stated rows) becomes = absurd becomes
-good_step (task.Ask query by_device) size scene (Pack count stated rows) becomes = absurd becomes
+good_step (task.Extract dir view) size scene (Pack count stated rows) becomes = absurd becomes
+good_step (task.Ask query view) size scene (Pack count stated rows) becomes = absurd becomes
 good_step task.Forget size scene (Pack count stated rows) becomes = absurd becomes
 good_step (task.Change move) size scene (Pack count stated rows) becomes = absurd becomes
 good_step (task.Batch file keep) size scene (Pack count stated rows) becomes = absurd becomes
@@ -334,10 +337,10 @@ stopped size name t scene behind fault old new h (inl denotes) = Leads h refl de
 stopped size name t scene behind fault old new h (inr torn) = Tears torn
 
 -- a folder that is made leaves the history
-extracted : (fault : Option Fault) (size : ℕ) (dir : Bor (List ℕ)) (by_device : Bool) (scene : Scene) (h : History)
-    → TaskGoesBy fault size (task.Extract dir by_device) scene h h
-extracted None size dir by_device scene h = refl
-extracted (Some fault) size dir by_device scene h = refl
+extracted : (fault : Option Fault) (size : ℕ) (dir : Bor (List ℕ)) (view : View) (scene : Scene) (h : History)
+    → TaskGoesBy fault size (task.Extract dir view) scene h h
+extracted None size dir view scene h = refl
+extracted (Some fault) size dir view scene h = refl
 
 -- the name of an image that is to be new is taken: nothing is done
 name_taken : (fault : Option Fault) (size : ℕ) (name : List ℕ) (t : Task) (scene behind : Scene) (old new : Files) (h : History)
@@ -352,13 +355,13 @@ EndsAsStep t older size name old new fault =
     ⊎ (KeepsScene old new × ((why : Fault) × (fault ≡ Some why) × IsNotBegun t name old new why))
 
 -- the task of a question becomes one
-asking : (query : Query (Bor (List ℕ))) (by_device : Bool) (size : ℕ) (scene : Scene) (s : Step) → BecomesStep (task.Ask query by_device) size scene s
+asking : (query : Query (Bor (List ℕ))) (view : View) (size : ℕ) (scene : Scene) (s : Step) → BecomesStep (task.Ask query view) size scene s
     → IsAsking s
-asking query by_device size scene (Ask question) becomes = (question, refl)
-asking query by_device size scene (Format count limits) becomes = absurd becomes
-asking query by_device size scene (Pack count limits rows) becomes = absurd becomes
-asking query by_device size scene Forget becomes = absurd becomes
-asking query by_device size scene (Change steps) becomes = absurd becomes
+asking query view size scene (Ask question) becomes = (question, refl)
+asking query view size scene (Format count limits) becomes = absurd becomes
+asking query view size scene (Pack count limits rows) becomes = absurd becomes
+asking query view size scene Forget becomes = absurd becomes
+asking query view size scene (Change steps) becomes = absurd becomes
 
 -- a task that becomes a step
 step_ends : Laws → (fault : Option Fault) (t : Task) (older : Bool) (size : ℕ) (name : List ℕ) (scene behind : Scene) (old new : Files) (h : History)
@@ -380,8 +383,8 @@ step_ends laws (Some fault) t older size name scene behind old new h turn for be
 task_ends : Laws → (fault : Option Fault) (t : Task) (older : Bool) (size : ℕ) (name : List ℕ) (scene behind : Scene) (old new : Files) (h : History)
     → scene.files ≡ Some old → behind.files ≡ Some new → FilesDenote size name old h → EndsTask t older size name scene behind fault
     → Ends size name t scene behind fault old new h
-task_ends laws fault (task.Extract dir by_device) older size name scene behind old new h before later denotes ends =
-    Leads h (extracted fault size dir by_device scene h) (same_files size name old new h (sym later ∙ ends.0.0 ∙ before) denotes)
+task_ends laws fault (task.Extract dir view) older size name scene behind old new h before later denotes ends =
+    Leads h (extracted fault size dir view scene h) (same_files size name old new h (sym later ∙ ends.0.0 ∙ before) denotes)
 task_ends laws fault (task.Format count limits) older size name scene behind old new h before later denotes ends =
     step_ends laws fault (task.Format count limits) older size name scene behind old new h (λ next goes. goes) (λ s becomes. inl refl) before later
     denotes ends
@@ -391,9 +394,9 @@ task_ends laws fault (task.Pack extent limits dir) older size name scene behind 
 task_ends laws fault (task.Repack source extent said) older size name scene behind old new h before later denotes ends =
     step_ends laws fault (task.Repack source extent said) older size name scene behind old new h (λ next goes. goes) (λ s becomes. inl refl) before later
     denotes ends
-task_ends laws fault (task.Ask query by_device) older size name scene behind old new h before later denotes ends =
-    step_ends laws fault (task.Ask query by_device) older size name scene behind old new h (λ next goes. goes)
-    (λ s becomes. inr (asking query by_device size scene s becomes)) before later denotes ends
+task_ends laws fault (task.Ask query view) older size name scene behind old new h before later denotes ends =
+    step_ends laws fault (task.Ask query view) older size name scene behind old new h (λ next goes. goes)
+    (λ s becomes. inr (asking query view size scene s becomes)) before later denotes ends
 task_ends laws fault task.Forget older size name scene behind old new h before later denotes ends =
     step_ends laws fault task.Forget older size name scene behind old new h (λ next goes. goes) (λ s becomes. inl refl) before later
     denotes ends

@@ -4,6 +4,7 @@ use Rattle.std.specs.Prelude.{Contains, IfSome}
 use Rattle.lfs_request.specs.declared.fault.Fault.{Fault}
 use Rattle.lfs_request.specs.declared.fault.Fault.TheVariants.{Refused, CannotWrite}
 use Rattle.lfs_request.specs.declared.manner.Manner.{Manner}
+use Rattle.lfs_request.specs.View.{start_of}
 use Rattle.lfs_request.specs.declared.outcome.Outcome.{Outcome}
 use Rattle.lfs_request.specs.Fault.{blames_output}
 use Rattle.lfs_step.specs.declared.step.Step.{Step}
@@ -84,10 +85,10 @@ claimed_at Forgets mid new target at is same has = has_claimed mid new target at
 -- ---- what is handed
 
 -- of a host whose files are the same
-pub handed_from : (kind : StepKind) (name : List ℕ) (mid old : Scene) (h : HandedBytes) → mid.files ≡ old.files → IsHanded kind name mid h
-    → IsHanded kind name old h
-handed_from kind name mid old h files is = record {
-  image = subst (λ (f : Option Files). HandsImage kind f name h.image) files is.image;
+pub handed_from : (kind : StepKind) (place : ℕ) (name : List ℕ) (mid old : Scene) (h : HandedBytes) → mid.files ≡ old.files
+    → IsHanded kind place name mid h → IsHanded kind place name old h
+handed_from kind place name mid old h files is = record {
+  image = subst (λ (f : Option Files). HandsImage kind place f name h.image) files is.image;
   journal = subst (λ (f : Option Files). HandsJournal kind f name h.journal) files is.journal;
 }
 
@@ -101,8 +102,8 @@ blames _ failed s is blamed = tt
 
 -- a step that ran on what it was handed, as it was read; nothing was printed behind it
 pub step_ran : (step : Step) (manner : Manner) (size : ℕ) (name : List ℕ) (old new : Scene) (h : HandedBytes) (image : List ℕ)
-    (fault : Option Fault) (after : Option (List ℕ)) (outcome : Outcome) → IsHanded (kind_of step) name old h
-    → refused_by manner (later_read step size h.image) ≡ None → IsReadBy manner.by_device size h.image image
+    (fault : Option Fault) (after : Option (List ℕ)) (outcome : Outcome) → IsHanded (kind_of step) (start_of manner.view) name old h
+    → refused_by manner (later_read step size h.image) ≡ None → IsReadBy manner.view size h.image image
     → Answers step (given size image h.journal) outcome → outcome.fault ≡ fault
     → SendsText step (given size image h.journal) fault old.printed after → new.printed ≡ after → IsBlamed fault new
     → RunsStep step manner size name old new fault outcome
@@ -131,14 +132,14 @@ ends_stopped step manner size name old new ended fault is stops = subst (EndsSte
 
 -- what is refused for a commit of a later version changes nothing
 pub ends_later : (step : Step) (manner : Manner) (size : ℕ) (name : List ℕ) (old new : Scene) (h : HandedBytes) (ended : Option Fault) (fault : Fault)
-    → ended ≡ Some fault → IsHanded (kind_of step) name old h → refused_by manner (later_read step size h.image) ≡ Some fault
+    → ended ≡ Some fault → IsHanded (kind_of step) (start_of manner.view) name old h → refused_by manner (later_read step size h.image) ≡ Some fault
     → KeepsScene old new → EndsStep step manner size name old new ended
 ends_later step manner size name old new h ended fault is handed refused keeps =
     ends_stopped step manner size name old new ended fault is (inr (inl (inl (h, handed, refused), keeps)))
 
 -- nor does want of memory to read an image as a device does
 pub ends_wanting : (step : Step) (manner : Manner) (size : ℕ) (name : List ℕ) (old new : Scene) (ended : Option Fault) (fault : Fault)
-    → ended ≡ Some fault → WantsMemory manner.by_device fault → KeepsScene old new → EndsStep step manner size name old new ended
+    → ended ≡ Some fault → WantsMemory manner.view fault → KeepsScene old new → EndsStep step manner size name old new ended
 ends_wanting step manner size name old new ended fault is wants keeps =
     ends_stopped step manner size name old new ended fault is (inr (inl (inr wants, keeps)))
 
@@ -163,7 +164,7 @@ runs_from : (step : Step) (manner : Manner) (size : ℕ) (name : List ℕ) (mid 
     → RunsStep step manner size name old new fault outcome
 runs_from step manner size name mid old new fault outcome files printed runs = record {
   bytes = runs.bytes;
-  handed = handed_from (kind_of step) name mid old runs.bytes files runs.handed;
+  handed = handed_from (kind_of step) (start_of manner.view) name mid old runs.bytes files runs.handed;
   not_later = runs.not_later;
   image = runs.image;
   read = runs.read;
@@ -185,7 +186,7 @@ step_from step manner size name mid old new None files printed (outcome, runs, l
 step_from step manner size name mid old new (Some fault) files printed (inl (outcome, runs, same)) =
     inl (outcome, runs_from step manner size name mid old new (Some fault) outcome files printed runs, same ∙ files)
 step_from step manner size name mid old new (Some fault) files printed (inr (inl (inl (h, handed, refused), keeps))) =
-    inr (inl (inl (h, handed_from (kind_of step) name mid old h files handed, refused), (keeps.0 ∙ files, keeps.1 ∙ printed)))
+    inr (inl (inl (h, handed_from (kind_of step) (start_of manner.view) name mid old h files handed, refused), (keeps.0 ∙ files, keeps.1 ∙ printed)))
 step_from step manner size name mid old new (Some fault) files printed (inr (inl (inr wants, keeps))) =
     inr (inl (inr wants, (keeps.0 ∙ files, keeps.1 ∙ printed)))
 step_from step manner size name mid old new (Some fault) files printed (inr (inr (unwritten, (outcome, runs, spares)))) =

@@ -7,11 +7,12 @@ use Rattle.lfs_fs.specs.Mounted.{MountedValue, IsMountOf}
 use Rattle.lfs_command.specs.declared.refusal.Refusal.TheVariants as refusal
 use Rattle.lfs_request.specs.declared.fault.Fault.{Fault}
 use Rattle.lfs_request.specs.declared.manner.Manner.{Manner}
+use Rattle.lfs_request.specs.View.{start_of}
 use Rattle.lfs_request.specs.declared.fault.Fault.TheVariants.{Image, Mount, Refused, CannotRead, CannotWrite, HostEntry, HostName}
 use Rattle.lfs_extract.specs.Extracted.{Extracts, JudgesNames, all_made}
 use Rattle.lfs_extract.specs.declared.extract_fault.ExtractFault.{ExtractFault}
 use Rattle.lfs_extract.specs.declared.extract_fault.ExtractFault.TheVariants as extracting
-use Rattle.lfs_host.specs.Files.{ReadsFile}
+use Rattle.lfs_host.specs.Files.{ReadsFrom}
 use Rattle.lfs_host.specs.HostTree.{HostTree, IsKind}
 use Rattle.lfs_host.specs.NewFolder.{Made}
 use Rattle.lfs_host.specs.Scene.{HasRefused, KeepsScene, Scene}
@@ -80,7 +81,7 @@ abbrev pub EndsRead : Manner → ℕ → List ℕ → List ℕ → Option HostTr
 EndsRead manner size bytes dir tree old new fault =
     ((new.made ≡ old) × ((why : Fault) × (fault ≡ Some why) × (refused_by manner (later_alone size bytes) ≡ Some why)))
     ⊎ ((refused_by manner (later_alone size bytes) ≡ None)
-    × ((image : List ℕ) × IsReadBy manner.by_device size bytes image × EndsBytes size image dir tree old new fault))
+    × ((image : List ℕ) × IsReadBy manner.view size bytes image × EndsBytes size image dir tree old new fault))
 
 -- ---- an image's file
 
@@ -89,4 +90,4 @@ abbrev pub EndsExtract : Manner → ℕ → List ℕ → List ℕ → Scene → 
 EndsExtract manner size name dir old new fault =
     KeepsScene old new
     × (((new.made ≡ old.made) × ((why : Fault) × (fault ≡ Some why) × IsUnread new why))
-    ⊎ ((bytes : List ℕ) × ReadsFile old.files name most_image bytes × EndsRead manner size bytes dir old.tree old.made new fault))
+    ⊎ ((bytes : List ℕ) × ReadsFrom old.files name (start_of manner.view) most_image bytes × EndsRead manner size bytes dir old.tree old.made new fault))

@@ -33,4 +33,4 @@ refusal_of None None = None
 
 -- the same, unless the state before them is gone on with, or images are read as a device does, which reads them
 abbrev pub refused_by : Manner → Later → Option Fault
-refused_by manner later = if manner.takes_older || manner.by_device then None else refusal_of later.image later.other
+refused_by manner later = if manner.takes_older || manner.view.by_device then None else refusal_of later.image later.other

@@ -6,6 +6,7 @@ use Rattle.lfs_request.specs.declared.manner.Manner.{Manner}
 use Rattle.lfs_request.specs.declared.outcome.Outcome.{Outcome}
 use Rattle.lfs_request.specs.Fault.{status_of}
 use Rattle.lfs_request.specs.Query.{Question}
+use Rattle.lfs_request.specs.View.{start_of, whole_view}
 use Rattle.lfs_history.specs.Filling.{bytes_given}
 use Rattle.lfs_history.specs.Meaning.{step_by, step_of}
 use Rattle.lfs_history.specs.Taking as change
@@ -45,10 +46,10 @@ IsBlamed _ s = ⊤
 pub record RunsStep (step : Step) (manner : Manner) (size : ℕ) (name : List ℕ) (old new : Scene) (fault : Option Fault) (outcome : Outcome)
     : Type 0 where
   pub bytes : HandedBytes
-  pub handed : IsHanded (kind_of step) name old bytes
+  pub handed : IsHanded (kind_of step) (start_of manner.view) name old bytes
   pub not_later : refused_by manner (later_read step size bytes.image) ≡ None
   pub image : List ℕ
-  pub read : IsReadBy manner.by_device size bytes.image image
+  pub read : IsReadBy manner.view size bytes.image image
   pub answers : Answers step (given size image bytes.journal) outcome
   pub fault_is : outcome.fault ≡ fault
   pub sends : SendsText step (given size image bytes.journal) fault old.printed new.printed
@@ -57,14 +58,14 @@ pub record RunsStep (step : Step) (manner : Manner) (size : ℕ) (name : List �
 -- a step is refused for a commit of a later version in what it was to be done on
 abbrev pub IsLater : Step → Manner → ℕ → List ℕ → Scene → Fault → Type 0
 IsLater step manner size name old fault =
-    (h : HandedBytes) × IsHanded (kind_of step) name old h × (refused_by manner (later_read step size h.image) ≡ Some fault)
+    (h : HandedBytes) × IsHanded (kind_of step) (start_of manner.view) name old h × (refused_by manner (later_read step size h.image) ≡ Some fault)
 
 -- why a step wasn't done: `run` refused it; a commit of a later version was refused, or memory was wanting to read the image; or the host
 -- refused something behind that
 abbrev pub StopsStep : Step → Manner → ℕ → List ℕ → Scene → Scene → Fault → Type 0
 StopsStep step manner size name old new fault =
     ((outcome : Outcome) × RunsStep step manner size name old new (Some fault) outcome × (new.files ≡ old.files))
-    ⊎ ((IsLater step manner size name old fault ⊎ WantsMemory manner.by_device fault) × KeepsScene old new)
+    ⊎ ((IsLater step manner size name old fault ⊎ WantsMemory manner.view fault) × KeepsScene old new)
     ⊎ (IsUnwritten new fault × ((outcome : Outcome)
     × RunsStep step manner size name old new None outcome × SparesFiles fault (kind_of step) new.has_refused_place old.files new.files name outcome))
 
@@ -83,21 +84,21 @@ BecomesStep (Format count limits) size s (step.Format blocks stated) = (blocks �
 BecomesStep (Pack extent limits dir) size s (step.Pack count stated rows) =
     PacksFolder s.tree dir.now rows.now × IsExtent size limits rows.now extent count × (stated ≡ limits)
 BecomesStep (Repack source extent said) size s (step.Pack count stated rows) = PacksSource source extent said size s.files count stated rows.now
-BecomesStep (Ask query by_device) size s (step.Ask question) =
-    (handed : Question) × HandsQuestion s.files query handed × IsAskedBy by_device handed question
+BecomesStep (Ask query view) size s (step.Ask question) =
+    (handed : Question) × HandsQuestion s.files query handed × IsAskedBy view.by_device handed question
 BecomesStep Forget size s step.Forget = ⊤
 BecomesStep (Change move) size s (step.Change steps) =
     (read : List ℕ) × HandsInput move s.files s.typed read × (map step_of steps.now ≡ step_by (bytes_given read) move ∷ [])
 BecomesStep (Batch file keep) size s (step.Change steps) = BecomesBatch file keep s (map step_of steps.now)
 BecomesStep _ size s _ = ⊥
 
--- the manner in which the image is read that a task is done on: as it is, or as a device does where the task asks for that
+-- the manner in which the image is read that a task is done on: as all of its file, as it is, or as the task looks at it
 abbrev pub as_it_is : Bool → Manner
-as_it_is older = record { takes_older = older; by_device = false }
+as_it_is older = record { takes_older = older; view = whole_view }
 
 abbrev pub manner_of : Task → Bool → Manner
-manner_of (Extract dir by_device) older = record { takes_older = older; by_device = by_device }
-manner_of (Ask query by_device) older = record { takes_older = older; by_device = by_device }
+manner_of (Extract dir view) older = record { takes_older = older; view = view }
+manner_of (Ask query view) older = record { takes_older = older; view = view }
 manner_of _ older = as_it_is older
 
 -- the kind of that step, which is known before the image's files are taken up, once a folder or a script is read
@@ -105,8 +106,8 @@ abbrev pub HasKind : Task → Scene → StepKind → Type 0
 HasKind (Format count limits) s kind = kind ≡ Makes
 HasKind (Pack extent limits dir) s kind = (kind ≡ Makes) × ((rows : List PackRow) × PacksFolder s.tree dir.now rows)
 HasKind (Repack source extent said) s kind = kind ≡ Makes
-HasKind (Extract dir by_device) s kind = ⊥
-HasKind (Ask query by_device) s kind = kind ≡ kind_of_query query
+HasKind (Extract dir view) s kind = ⊥
+HasKind (Ask query view) s kind = kind ≡ kind_of_query query
 HasKind Forget s kind = kind ≡ Forgets
 HasKind (Change move) s kind = kind ≡ Changes
 HasKind (Batch file keep) s kind = (moves : List change.Move) × BecomesBatch file keep s moves × (kind ≡ kind_of_steps moves)
@@ -117,7 +118,7 @@ IsNotRead (Pack extent limits dir) old new why = ReadsNoFolder old.tree dir.now 
 IsNotRead (Batch file keep) old new why = BecomesNoBatch file old new why
 IsNotRead (Change move) old new why = IsUnread new why
 IsNotRead (Repack source extent said) old new why = RefusesSource source old new why
-IsNotRead (Ask query by_device) old new why = IsOtherUnread new why
+IsNotRead (Ask query view) old new why = IsOtherUnread new why
 IsNotRead _ old new why = ⊥
 
 -- why no step of a task is run: what is read for it isn't, or its image's files aren't taken up
@@ -127,8 +128,8 @@ IsNotBegun task name old new why =
 
 -- how a task on an image's file ends: as a folder that is made; as the step that it becomes; or before that, with nothing changed
 abbrev pub EndsTask : Task → Bool → ℕ → List ℕ → Scene → Scene → Option Fault → Type 0
-EndsTask (Extract dir by_device) older size name old new fault =
-    EndsExtract (record { takes_older = older; by_device = by_device }) size name dir.now old new fault
+EndsTask (Extract dir view) older size name old new fault =
+    EndsExtract (record { takes_older = older; view = view }) size name dir.now old new fault
 EndsTask task older size name old new fault =
     ((step : Step) × BecomesStep task size old step × EndsStep step (manner_of task older) size name old new fault)
     ⊎ (KeepsScene old new × ((why : Fault) × (fault ≡ Some why) × IsNotBegun task name old new why))
@@ -143,7 +144,7 @@ task_reads_input _ = false
 
 -- whether a task makes a folder
 abbrev pub makes_folder : Task → Bool
-makes_folder (Extract dir by_device) = true
+makes_folder (Extract dir view) = true
 makes_folder _ = false
 
 -- what is left on standard input is as it was but where the task reads it, and what was made in new folders but where it makes one

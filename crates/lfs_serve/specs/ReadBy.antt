@@ -1,23 +1,33 @@
 -- The bytes of an image's file as they are read (own).
-use Rattle.std.specs.Prelude.{ℕ, ◌≡◌, Bool, true, false, List}
+use Rattle.std.specs.Prelude.{ℕ, ◌≡◌, ◌⊎◌, Bool, true, List, Option, Some, None, IsSome}
 use Rattle.lfs_command.specs.declared.refusal.Refusal.TheVariants.{Memory}
-use Rattle.lfs_lower.specs.ByDevice.{IsReadByDevice}
+use Rattle.lfs_lower.specs.ReadAs.{IsReadAs}
+use Rattle.lfs_lower.specs.Within.{IsWithin}
 use Rattle.lfs_request.specs.Query.{Question}
 use Rattle.lfs_request.specs.declared.fault.Fault.{Fault}
 use Rattle.lfs_request.specs.declared.fault.Fault.TheVariants.{Refused}
 use Rattle.lfs_request.specs.declared.query.Query.TheVariants.{Diff}
+use Rattle.lfs_request.specs.declared.view.View.{View}
 
--- as a device does, where that is asked for, and else as they are
-abbrev pub IsReadBy : Bool → ℕ → List ℕ → List ℕ → Type 0
-IsReadBy true size old new = IsReadByDevice size old new
-IsReadBy false size old new = new ≡ old
+-- all of them, where the image is all of its file; else the image with which those begin that stand at its place and behind it
+abbrev pub IsReadAt : Option ℕ → Bool → ℕ → List ℕ → List ℕ → Type 0
+IsReadAt None by_device size old new = IsReadAs by_device size old new
+IsReadAt (Some place) by_device size old new = IsWithin by_device size old new
 
--- memory is wanting to read them as a device does
-abbrev pub WantsMemory : Bool → Fault → Type 0
-WantsMemory by_device fault = (by_device ≡ true) × (fault ≡ Refused Memory)
+-- as the image is looked at: also as a device does, where that is asked for
+abbrev pub IsReadBy : View → ℕ → List ℕ → List ℕ → Type 0
+IsReadBy view size old new = IsReadAt view.offset view.by_device size old new
 
--- a question, whose other image is read so
+-- they aren't read as they are
+abbrev pub IsReadAnew : View → Type 0
+IsReadAnew view = (view.by_device ≡ true) ⊎ IsSome view.offset
+
+-- memory is wanting for that
+abbrev pub WantsMemory : View → Fault → Type 0
+WantsMemory view fault = IsReadAnew view × (fault ≡ Refused Memory)
+
+-- a question, whose other image is read as a device does, where that is asked for
 abbrev pub IsAskedBy : Bool → Question → Question → Type 0
-IsAskedBy by_device (Diff old size) (Diff new new_size) = (new_size ≡ size) × IsReadBy by_device size old.items new.items
+IsAskedBy by_device (Diff old size) (Diff new new_size) = (new_size ≡ size) × IsReadAs by_device size old.items new.items
 IsAskedBy by_device (Diff old size) _ = ⊥
 IsAskedBy by_device old new = new ≡ old

@@ -5,12 +5,13 @@ use Rattle.lfs_block.specs.ImageFault.{IsNoImage}
 use Rattle.lfs_fs.specs.Cause.{HasCause}
 use Rattle.lfs_fs.specs.Mounted.{MountedValue, IsMountOf}
 use Rattle.lfs_fs.specs.declared.limits.Limits.{Limits}
-use Rattle.lfs_host.specs.Files.{Files, ReadsFile}
+use Rattle.lfs_host.specs.Files.{Files, ReadsFrom}
 use Rattle.lfs_host.specs.Scene.{Scene}
 use Rattle.lfs_pack.specs.Packed.{AreRowsOf}
 use Rattle.lfs_pack.specs.declared.pack_row.PackRow.{PackRow}
 use Rattle.lfs_repack.specs.Repacked.{all_packed}
 use Rattle.lfs_request.specs.SaidLimits.{limits_or}
+use Rattle.lfs_request.specs.View.{start_of}
 use Rattle.lfs_request.specs.declared.extent.Extent.{Extent}
 use Rattle.lfs_request.specs.declared.fault.Fault.{Fault}
 use Rattle.lfs_request.specs.declared.fault.Fault.TheVariants.{Other}
@@ -24,16 +25,16 @@ use Rattle.lfs_serve.specs.ReadBy.{IsReadBy}
 
 -- ---- what is read
 
--- the bytes of its file, none of which is refused as later
+-- the bytes of its file from its place on, none of which is refused as later
 pub record TakesSource (source : SourceImage) (files : Option Files) (bytes : List ℕ) : Type 0 where
-  pub there : ReadsFile files source.file.now most_image bytes
+  pub there : ReadsFrom files source.file.now (start_of source.manner.view) most_image bytes
   pub not_later : refused_by source.manner (later_in_source source.size bytes) ≡ None
 
 -- these are they, read in its manner
 pub record ReadsSource (source : SourceImage) (files : Option Files) (image : List ℕ) : Type 0 where
   pub bytes : List ℕ
   pub takes : TakesSource source files bytes
-  pub read : IsReadBy source.manner.by_device source.size bytes image
+  pub read : IsReadBy source.manner.view source.size bytes image
 
 -- ---- what is made of it
 
@@ -71,5 +72,6 @@ JudgesSource size image _ = ⊥
 abbrev pub RefusesSource : SourceImage → Scene → Scene → Fault → Type 0
 RefusesSource source old new why =
     IsOtherUnread new why
-    ⊎ ((bytes : List ℕ) × ReadsFile old.files source.file.now most_image bytes × (refused_by source.manner (later_in_source source.size bytes) ≡ Some why))
+    ⊎ ((bytes : List ℕ) × ReadsFrom old.files source.file.now (start_of source.manner.view) most_image bytes
+    × (refused_by source.manner (later_in_source source.size bytes) ≡ Some why))
     ⊎ ((image : List ℕ) × ReadsSource source old.files image × JudgesSource source.size image why)

@@ -1,7 +1,7 @@
 -- The block size that an image's file states (own).
 use Rattle.std.specs.Prelude.{◌≡◌, ◌⊎◌, ℕ, List, Option}
 use Rattle.std.specs.Option.{unwrap_or}
-use Rattle.lfs_host.specs.Files.{ReadsFile}
+use Rattle.lfs_host.specs.Files.{ReadsFrom}
 use Rattle.lfs_host.specs.Scene.{HasRefused, Scene}
 use Rattle.lfs_stated.specs.Size.{IsStated}
 
@@ -13,9 +13,10 @@ usual_size = 4096
 abbrev pub most_front : ℕ
 most_front = 65568
 
--- this is the block size that an image's file states, or the usual one where it states none, or where the host has refused to read it
-abbrev pub IsStatedSize : Scene → Scene → List ℕ → ℕ → Type 0
-IsStatedSize old new name size =
-    ((front : List ℕ) × ReadsFile old.files name most_front front
+-- this is the block size that an image states which begins at a place of its file, or the usual one where it states none, or where the
+-- host has refused to read it
+abbrev pub IsStatedSize : Scene → Scene → List ℕ → ℕ → ℕ → Type 0
+IsStatedSize old new name place size =
+    ((front : List ℕ) × ReadsFrom old.files name place most_front front
     × ((stated : Option ℕ) × IsStated front stated × (size ≡ unwrap_or stated usual_size)))
     ⊎ (HasRefused new × (size ≡ usual_size))

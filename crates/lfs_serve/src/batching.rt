@@ -95,7 +95,7 @@ fn lines_batched<H: Host>(
     let read = read_lines(alloc, host, lines)?;
     let moves = moves_of(alloc, lines, &read)?;
     let steps = moves.as_slice();
-    let handed = taken_up(alloc, host, kind_of_steps(steps), request.image)?;
+    let handed = taken_up(alloc, host, kind_of_steps(steps), 0, request.image)?;
     match stepped(alloc, host, request, beside, handed, Step::Change(steps)) {
         Ok(()) => Ok(()),
         Err(stop) => Err(with_number(lines, stop)),

@@ -20,28 +20,30 @@ use lfs_extract::{ExtractFault, extract_rows};
 use lfs_fs::mount;
 use lfs_host::{Host, HostKind};
 use lfs_report::{Beside, Stop, stop_of_extracting, stop_of_image};
-use lfs_request::{Fault, Manner, Request};
+use lfs_request::{Fault, Manner, Request, View};
 use std::alloc::Global;
 
-/// Makes a folder of the host out of an image's file, which is read as a device does where that is asked for. What commits of a later version stand in it is put into `beside`. Takes memory.
+/// Makes a folder of the host out of an image's file, as the image is looked at. What commits of a later version stand in it is put into
+/// `beside`. Takes memory.
 pub(crate) fn extracted<H: Host>(
     alloc: Global,
     host: &mut H,
     request: &Request<'_>,
     beside: &mut Beside,
-    by_device: bool,
+    view: View,
     dir: &str,
 ) -> Result<(), Stop>
-    ensures made { EndsExtract (record { takes_older = request.now.takes_older; by_device = by_device }) request.now.size request.now.image.now dir.now (H.known host.old) (H.known host.new) (stopped_by result) }
+    ensures made { EndsExtract (record { takes_older = request.now.takes_older; view = view }) request.now.size request.now.image.now dir.now
+        (H.known host.old) (H.known host.new) (stopped_by result) }
     ensures kept { KeepsFiles (H.known host.old) (H.known host.new) }
 {
-    let handed = taken_up(alloc, host, StepKind::Asks, request.image)?;
+    let handed = taken_up(alloc, host, StepKind::Asks, view.start(), request.image)?;
     let manner = Manner {
         takes_older: request.takes_older,
-        by_device,
+        view,
     };
     pass_alone(manner, request.size, &handed.image, beside)?;
-    let image = read_by(alloc, by_device, request.size, handed.image)?;
+    let image = read_by(alloc, view, request.size, handed.image)?;
     extract_bytes(alloc, host, request.size, image, dir)
 }
 

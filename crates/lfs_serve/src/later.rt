@@ -20,7 +20,7 @@ pub(crate) fn pass_alone(
 ) -> Result<(), Stop>
     ensures { stopped_by result ≡ refused_by manner (later_alone size bytes.now) }
 {
-    if manner.by_device {
+    if manner.view.by_device {
         return Ok(());
     }
     pass(manner, later_alone(size, bytes), beside)
@@ -36,7 +36,7 @@ pub(crate) fn pass_step(
 ) -> Result<(), Stop>
     ensures { stopped_by result ≡ refused_by manner (later_read step.now size image.now) }
 {
-    if manner.by_device {
+    if manner.view.by_device {
         return Ok(());
     }
     pass(manner, later_read(step, size, image), beside)
@@ -51,7 +51,7 @@ pub(crate) fn pass_source(
 ) -> Result<(), Stop>
     ensures { stopped_by result ≡ refused_by manner (later_in_source size bytes.now) }
 {
-    if manner.by_device {
+    if manner.view.by_device {
         return Ok(());
     }
     pass(manner, later_in_source(size, bytes), beside)
@@ -101,7 +101,9 @@ fn pass(manner: Manner, later: Later, beside: &mut Beside) -> Result<(), Stop>
     ensures { stopped_by result ≡ refused_by manner later }
 {
     must_be_read(manner, later)?;
-    beside.later = later;
+    if later.image.is_some() || later.other.is_some() {
+        beside.later = later;
+    }
     Ok(())
 }
 
@@ -109,7 +111,7 @@ fn pass(manner: Manner, later: Later, beside: &mut Beside) -> Result<(), Stop>
 fn must_be_read(manner: Manner, later: Later) -> Result<(), Stop>
     ensures { stopped_by result ≡ refused_by manner later }
 {
-    if manner.takes_older || manner.by_device {
+    if manner.takes_older || manner.view.by_device {
         return Ok(());
     }
     match (later.image, later.other) {

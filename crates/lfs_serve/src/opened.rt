@@ -57,9 +57,9 @@ fn source_bytes<H: Host>(
     ensures kept { KeepsAll (H.known host.old) (H.known host.new) }
 {
     let SourceImage { file, size, manner } = *source;
-    let bytes = read_other(alloc, host, file)?;
+    let bytes = read_other(alloc, host, manner.view.start(), file)?;
     pass_source(manner, size, &bytes, beside)?;
-    Ok(read_by(alloc, manner.by_device, size, bytes)?)
+    Ok(read_by(alloc, manner.view, size, bytes)?)
 }
 
 /// Opens the image that bytes are.

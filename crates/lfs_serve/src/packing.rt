@@ -35,7 +35,7 @@ pub(crate) fn packed<H: Host>(
     let rows = pack_rows(alloc, &folder)?;
     let rows = rows.as_slice();
     let count = counted(alloc, request.size, extent, limits, rows)?;
-    let handed = taken_up(alloc, host, StepKind::Makes, request.image)?;
+    let handed = taken_up(alloc, host, StepKind::Makes, 0, request.image)?;
     let step = Step::Pack {
         count,
         limits,

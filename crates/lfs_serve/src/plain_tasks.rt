@@ -13,7 +13,7 @@ use lfs_fs::Limits;
 use lfs_history::{Move, Source, filled};
 use lfs_host::Host;
 use lfs_report::{Beside, Stop};
-use lfs_request::{Manner, Query, Request};
+use lfs_request::{Manner, Query, Request, View};
 use lfs_step::Step;
 use std::alloc::Global;
 
@@ -31,30 +31,36 @@ pub(crate) fn formatted<H: Host>(
         (H.known host.old) (H.known host.new) (stopped_by result) }
     ensures rest { TaskLeavesRest (Format count limits) (H.known host.old) (H.known host.new) }
 {
-    let handed = taken_up(alloc, host, StepKind::Makes, request.image)?;
+    let handed = taken_up(alloc, host, StepKind::Makes, 0, request.image)?;
     let step = Step::Format { count, limits };
     stepped(alloc, host, request, beside, handed, step)
 }
 
-/// Asks something of an image, which is read as a device does where that is asked for: another image is read last. Takes memory.
+/// Asks something of an image, as it is looked at: another image is read last. Takes memory.
 pub(crate) fn queried<H: Host>(
     alloc: Global,
     host: &mut H,
     request: &Request<'_>,
     beside: &mut Beside,
     query: &Query<'_, &str>,
-    by_device: bool,
+    view: View,
 ) -> Result<(), Stop>
-    ensures ended { EndsTask (Ask query.now by_device) request.now.takes_older request.now.size request.now.image.now
+    ensures ended { EndsTask (Ask query.now view) request.now.takes_older request.now.size request.now.image.now
         (H.known host.old) (H.known host.new) (stopped_by result) }
-    ensures rest { TaskLeavesRest (Ask query.now by_device) (H.known host.old) (H.known host.new) }
+    ensures rest { TaskLeavesRest (Ask query.now view) (H.known host.old) (H.known host.new) }
 {
-    let handed = taken_up(alloc, host, kind_of_query(query), request.image)?;
+    let handed = taken_up(
+        alloc,
+        host,
+        kind_of_query(query),
+        view.start(),
+        request.image,
+    )?;
     let asked = question_of(alloc, host, query)?;
-    let question = asked_by(alloc, by_device, asked)?;
+    let question = asked_by(alloc, view.by_device, asked)?;
     let manner = Manner {
         takes_older: request.takes_older,
-        by_device,
+        view,
     };
     let step = Step::Ask(question);
     stepped_in(alloc, host, request, beside, manner, handed, step)
@@ -71,7 +77,7 @@ pub(crate) fn forgotten<H: Host>(
         (H.known host.old) (H.known host.new) (stopped_by result) }
     ensures rest { TaskLeavesRest Forget (H.known host.old) (H.known host.new) }
 {
-    let handed = taken_up(alloc, host, StepKind::Forgets, request.image)?;
+    let handed = taken_up(alloc, host, StepKind::Forgets, 0, request.image)?;
     stepped(alloc, host, request, beside, handed, Step::Forget)
 }
 
@@ -88,7 +94,7 @@ pub(crate) fn changed<H: Host>(
         (H.known host.old) (H.known host.new) (stopped_by result) }
     ensures rest { TaskLeavesRest (Change step.now) (H.known host.old) (H.known host.new) }
 {
-    let handed = taken_up(alloc, host, StepKind::Changes, request.image)?;
+    let handed = taken_up(alloc, host, StepKind::Changes, 0, request.image)?;
     let input = input_of(alloc, host, step)?;
     let steps = [filled(step, &input)];
     stepped(alloc, host, request, beside, handed, Step::Change(&steps))

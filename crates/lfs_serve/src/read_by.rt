@@ -1,29 +1,29 @@
 //! The bytes of an image's file as they are read.
 
-ghost use Rattle.std.specs.Prelude.{◌≡◌, IfErr, IfOk, true};
-ghost use Rattle.lfs_serve.specs.ReadBy.{IsAskedBy, IsReadBy};
+ghost use Rattle.std.specs.Prelude.{IfErr, IfOk};
+ghost use Rattle.lfs_serve.specs.ReadBy.{IsAskedBy, IsReadAnew, IsReadBy};
 
-use lfs_lower::read_by_device;
-use lfs_request::Query;
+use lfs_lower::{read_as, read_within};
+use lfs_request::{Query, View};
 use std::alloc::{AllocError, Global};
 
-/// Bytes as a device reads them, where that is asked for, and else as they are. Takes memory where it is asked for.
+/// Bytes that were read of an image's file, from its place on, as the image is looked at. Takes memory where they aren't read as they are.
 pub(crate) fn read_by(
     alloc: Global,
-    by_device: bool,
+    view: View,
     size: u32,
     bytes: Vec<u8>,
 ) -> Result<Vec<u8>, AllocError>
-    ensures read { IfOk result (λ read. IsReadBy by_device size bytes.items read.items) }
-    ensures refused { IfErr result (λ error. by_device ≡ true) }
+    ensures read { IfOk result (λ read. IsReadBy view size bytes.items read.items) }
+    ensures refused { IfErr result (λ error. IsReadAnew view) }
 {
-    if by_device {
-        return read_by_device(alloc, size, bytes);
+    match view.offset {
+        None => read_as(alloc, view.by_device, size, bytes),
+        Some(_) => read_within(alloc, view.by_device, size, bytes),
     }
-    Ok(bytes)
 }
 
-/// A question, whose other image is read so.
+/// A question, whose other image is read as a device does, where that is asked for.
 pub(crate) fn asked_by<'a>(
     alloc: Global,
     by_device: bool,
@@ -33,7 +33,7 @@ pub(crate) fn asked_by<'a>(
 {
     match question {
         Query::Diff { other, size } => Ok(Query::Diff {
-            other: read_by(alloc, by_device, size, other)?,
+            other: read_as(alloc, by_device, size, other)?,
             size,
         }),
         question => Ok(question),

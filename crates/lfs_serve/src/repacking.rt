@@ -31,7 +31,7 @@ pub(crate) fn repacked<H: Host>(
         (H.known host.old) (H.known host.new) (stopped_by result) }
     ensures rest { TaskLeavesRest (Repack source.now extent limits) (H.known host.old) (H.known host.new) }
 {
-    let handed = taken_up(alloc, host, StepKind::Makes, request.image)?;
+    let handed = taken_up(alloc, host, StepKind::Makes, 0, request.image)?;
     let opened = open_source(alloc, host, beside, source)?;
     let rows = pack_rows(alloc, &opened.rows)?;
     let rows = rows.as_slice();

@@ -77,12 +77,8 @@ fn done<H: Host>(
             extent,
             limits,
         } => repacked(alloc, host, request, beside, source, *extent, *limits),
-        Task::Extract { dir, by_device } => {
-            extracted(alloc, host, request, beside, *by_device, *dir)
-        }
-        Task::Ask { query, by_device } => {
-            queried(alloc, host, request, beside, query, *by_device)
-        }
+        Task::Extract { dir, view } => extracted(alloc, host, request, beside, *view, *dir),
+        Task::Ask { query, view } => queried(alloc, host, request, beside, query, *view),
         Task::Forget => forgotten(alloc, host, request, beside),
         Task::Change(step) => changed(alloc, host, request, beside, step),
         Task::Batch { file, keep } => batched(alloc, host, request, beside, *file, *keep),

@@ -6,6 +6,7 @@ ghost use Rattle.lfs_serve.specs.StepKind.{kind_of};
 ghost use Rattle.lfs_host.specs.Files.{IsTarget};
 ghost use Rattle.lfs_host.specs.Scene.{KeepsInput};
 ghost use Rattle.lfs_report.specs.Stop.{stopped_by};
+ghost use Rattle.lfs_request.specs.View.{start_of};
 ghost use Rattle.lfs_step.specs.Outcome.{Answers, SendsText, given};
 ghost use Rattle.lfs_step.specs.Step.{IsStepInRange};
 ghost use Rattle.lfs_serve.specs.Program.{EndsStep, IsBlamed, as_it_is};
@@ -17,7 +18,7 @@ use crate::seeing::seen_of;
 use lfs_exchange::{Handed, Output, stored};
 use lfs_host::Host;
 use lfs_report::{Beside, Stop, stop_of_run};
-use lfs_request::{Manner, Outcome, Request};
+use lfs_request::{Manner, Outcome, Request, View};
 use lfs_step::{Step, run};
 use std::alloc::Global;
 
@@ -36,16 +37,20 @@ pub(crate) fn stepped<H: Host>(
     requires range { IsStepInRange step }
     requires target { IsTarget (H.known host.old).files request.now.image.now (string_bytes handed.target) }
     requires claimed { IsClaimed handed.kind (H.known host.old) (string_bytes handed.target) }
-    requires handed { IsHanded handed.kind request.now.image.now (H.known host.old)
+    requires handed { IsHanded handed.kind 0 request.now.image.now (H.known host.old)
         (record { image = handed.image.items; journal = handed.journal.items }) }
     ensures ended { EndsStep step.entry (as_it_is request.now.takes_older) request.now.size request.now.image.now
         (H.known host.old) (H.known host.new) (stopped_by result) }
     ensures typed { (H.known host.new).typed ≡ (H.known host.old).typed }
     ensures made { (H.known host.new).made ≡ (H.known host.old).made }
 {
+    let view = View {
+        by_device: false,
+        offset: None,
+    };
     let manner = Manner {
         takes_older: request.takes_older,
-        by_device: false,
+        view,
     };
     stepped_in(alloc, host, request, beside, manner, handed, step)
 }
@@ -64,7 +69,7 @@ pub(crate) fn stepped_in<H: Host>(
     requires range { IsStepInRange step }
     requires target { IsTarget (H.known host.old).files request.now.image.now (string_bytes handed.target) }
     requires claimed { IsClaimed handed.kind (H.known host.old) (string_bytes handed.target) }
-    requires handed { IsHanded handed.kind request.now.image.now (H.known host.old)
+    requires handed { IsHanded handed.kind (start_of manner.view) request.now.image.now (H.known host.old)
         (record { image = handed.image.items; journal = handed.journal.items }) }
     ensures ended { EndsStep step.entry manner request.now.size request.now.image.now
         (H.known host.old) (H.known host.new) (stopped_by result) }
@@ -78,7 +83,7 @@ pub(crate) fn stepped_in<H: Host>(
         image,
         journal,
     } = handed;
-    let image = read_by(alloc, manner.by_device, request.size, image)?;
+    let image = read_by(alloc, manner.view, request.size, image)?;
     match taken(alloc, host, request, step, image, journal) {
         Ok(outcome) => Ok(stored(alloc, host, kind, target.as_str(), &outcome)?),
         Err(stop) => {

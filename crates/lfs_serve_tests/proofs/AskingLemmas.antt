@@ -62,11 +62,11 @@ step_keeps (Some fault) step manner size name old new asks (inr (inr (unwritten,
 
 task_keeps : (fault : Option Fault) (t : Task) (older : Bool) (size : ℕ) (name : List ℕ) (old new : Scene) → OnlyAsks t
     → EndsTask t older size name old new fault → new.files ≡ old.files
-task_keeps fault (task.Ask query by_device) older size name old new asks (inl (Ask question, becomes, ends)) =
-    step_keeps fault (Ask question) (manner_of (task.Ask query by_device) older) size name old new (asks_of question) ends
-task_keeps fault (task.Ask query by_device) older size name old new asks (inl (_, becomes, ends)) = absurd becomes
-task_keeps fault (task.Ask query by_device) older size name old new asks (inr (keeps, why)) = keeps.0
-task_keeps fault (task.Extract dir by_device) older size name old new asks ends = ends.0.0
+task_keeps fault (task.Ask query view) older size name old new asks (inl (Ask question, becomes, ends)) =
+    step_keeps fault (Ask question) (manner_of (task.Ask query view) older) size name old new (asks_of question) ends
+task_keeps fault (task.Ask query view) older size name old new asks (inl (_, becomes, ends)) = absurd becomes
+task_keeps fault (task.Ask query view) older size name old new asks (inr (keeps, why)) = keeps.0
+task_keeps fault (task.Extract dir view) older size name old new asks ends = ends.0.0
 task_keeps fault _ older size name old new only ends = absurd only
 
 -- a request that asks changes no file
@@ -80,6 +80,6 @@ asking_keeps request old new status only is =
 
 -- and its caller owes nothing more
 pub asking_in_range : (t : Task) → OnlyAsks t → IsTaskInRange t
-asking_in_range (task.Ask query by_device) only = tt
-asking_in_range (task.Extract dir by_device) only = tt
+asking_in_range (task.Ask query view) only = tt
+asking_in_range (task.Extract dir view) only = tt
 asking_in_range _ only = absurd only

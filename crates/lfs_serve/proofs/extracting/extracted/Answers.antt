@@ -19,7 +19,7 @@ returns-in_err-handed-clause-made g c =
     let fault = c.in_err-handed.field-0.0 in
     let kept = c.taken_up.ensures.kept in
     let p = err_from_is_err_and c.from_residual.result c.from_residual.ensures.1 in
-    let manner : Manner = record { takes_older = request.takes_older; by_device = c.args.by_device } in
+    let manner : Manner = record { takes_older = request.takes_older; view = c.args.view } in
     file_unread manner request.size name c.args.dir.now old new (stopped_by c.from_residual.result) fault (kept.0.0, kept.0.2) kept.2
     (stopped_at c.from_residual.result fault p.0 p.1 p.2) (not_taken_unread new name fault c.in_err-handed.ensures.refused)
 
@@ -31,6 +31,6 @@ returns-in_err-image-clause-made g c =
     let kept = c.taken_up.ensures.kept in
     let on = c.from_residual-in_err-image in
     let p = err_from_is_err_and on.result on.ensures.1 in
-    let manner : Manner = record { takes_older = request.takes_older; by_device = c.args.by_device } in
+    let manner : Manner = record { takes_older = request.takes_older; view = c.args.view } in
     file_unread manner request.size request.image.now c.args.dir.now old new (stopped_by on.result) (Refused Memory) (kept.0.0, kept.0.2) kept.2
     (stopped_at on.result (Refused Memory) p.0 p.1 p.2) refl

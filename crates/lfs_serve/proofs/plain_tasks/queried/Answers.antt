@@ -48,7 +48,7 @@ returns-clause-ended g c =
     let mid : Scene = g.H.Known.known c.question_of.new.host in
     let new : Scene = g.H.Known.known c.stepped_in.new.host in
     let request = c.args.request.now in
-    let manner : Manner = record { takes_older = request.takes_older; by_device = c.args.by_device } in
+    let manner : Manner = record { takes_older = request.takes_older; view = c.args.view } in
     let first = c.taken_up.ensures.kept.0 in
     let then = c.question_of.ensures.kept.0 in
     let step = Ask c.in_ok-question.question in

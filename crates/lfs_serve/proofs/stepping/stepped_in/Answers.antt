@@ -4,6 +4,7 @@ use Rattle.lfs_command.specs.declared.refusal.Refusal.TheVariants.{Memory}
 use Rattle.lfs_request.specs.declared.fault.Fault.TheVariants.{Refused}
 use Rattle.lfs_exchange.specs.Handing.{HandedBytes, IsHanded}
 use Rattle.lfs_exchange.specs.Printing.{HandsOn}
+use Rattle.lfs_request.specs.View.{start_of}
 use Rattle.lfs_serve.specs.StepKind.{kind_of}
 use Rattle.lfs_exchange.specs.declared.step_kind.StepKind.{StepKind}
 use Rattle.lfs_host.specs.Scene.{Scene}
@@ -20,7 +21,8 @@ returns-in_err-pass_step-clause-ended g c =
     let name = c.args.request.now.image.now in
     let old : Scene = g.H.Known.known c.args.host.now in
     let h : HandedBytes = record { image = c.args.handed.image.items; journal = c.args.handed.journal.items } in
-    let is : IsHanded (kind_of step) name old h = subst (λ (kind : StepKind). IsHanded kind name old h) c.requires.kind c.requires.handed in
+    let place = start_of manner.view in
+    let is : IsHanded (kind_of step) place name old h = subst (λ (kind : StepKind). IsHanded kind place name old h) c.requires.kind c.requires.handed in
     let fault = c.in_err-pass_step.field-0.0.fault in
     let refused : refused_by manner (later_read step size h.image) ≡ Some fault =
     subst (λ (bytes : List ℕ). refused_by manner (later_read step size bytes) ≡ Some fault) c.deref.ensures.value
@@ -44,7 +46,8 @@ returns-in_err-stored-in-Ok-clause-ended g c =
     let old : Scene = g.H.Known.known c.args.host.now in
     let by_taken : Scene = g.H.Known.known c.taken.new.host in
     let h : HandedBytes = record { image = c.args.handed.image.items; journal = c.args.handed.journal.items } in
-    let is : IsHanded (kind_of step) name old h = subst (λ (kind : StepKind). IsHanded kind name old h) c.requires.kind c.requires.handed in
+    let place = start_of manner.view in
+    let is : IsHanded (kind_of step) place name old h = subst (λ (kind : StepKind). IsHanded kind place name old h) c.requires.kind c.requires.handed in
     let none : refused_by manner (later_read step size h.image) ≡ None =
     subst (λ (bytes : List ℕ). refused_by manner (later_read step size bytes) ≡ None) c.deref.ensures.value
     (sym c.in_ok-pass_step.ensures) in
@@ -70,7 +73,8 @@ returns-in-Ok-clause-ended g c =
     let old : Scene = g.H.Known.known c.args.host.now in
     let by_taken : Scene = g.H.Known.known c.taken.new.host in
     let h : HandedBytes = record { image = c.args.handed.image.items; journal = c.args.handed.journal.items } in
-    let is : IsHanded (kind_of step) name old h = subst (λ (kind : StepKind). IsHanded kind name old h) c.requires.kind c.requires.handed in
+    let place = start_of manner.view in
+    let is : IsHanded (kind_of step) place name old h = subst (λ (kind : StepKind). IsHanded kind place name old h) c.requires.kind c.requires.handed in
     let none : refused_by manner (later_read step size h.image) ≡ None =
     subst (λ (bytes : List ℕ). refused_by manner (later_read step size bytes) ≡ None) c.deref.ensures.value
     (sym c.in_ok-pass_step.ensures) in
@@ -95,7 +99,8 @@ returns-clause-ended g c =
     let old : Scene = g.H.Known.known c.args.host.now in
     let by_taken : Scene = g.H.Known.known c.taken.new.host in
     let h : HandedBytes = record { image = c.args.handed.image.items; journal = c.args.handed.journal.items } in
-    let is : IsHanded (kind_of step) name old h = subst (λ (kind : StepKind). IsHanded kind name old h) c.requires.kind c.requires.handed in
+    let place = start_of manner.view in
+    let is : IsHanded (kind_of step) place name old h = subst (λ (kind : StepKind). IsHanded kind place name old h) c.requires.kind c.requires.handed in
     let none : refused_by manner (later_read step size h.image) ≡ None =
     subst (λ (bytes : List ℕ). refused_by manner (later_read step size bytes) ≡ None) c.deref.ensures.value
     (sym c.in_ok-pass_step.ensures) in
