@@ -22,7 +22,8 @@ no_hex name rows (inr (kind, none)) = none
 no_command : (name : Text) (rows : List Row) (block : ℕ) → IsCommandMisuse Memory name rows block → ⊥
 no_command name rows block (inl size) = no_size name rows block size
 no_command name rows block (inr (inl (is, hex))) = no_hex name rows hex
-no_command name rows block (inr (inr (is, none))) = none
+no_command name rows block (inr (inr (inl (is, none)))) = none
+no_command name rows block (inr (inr (inr none))) = none
 
 no_misuse : (name : Text) (rows : List Row) (stated : AutoSizes) → IsMisuse Memory name rows stated → ⊥
 no_misuse name rows stated (inl none) = none

@@ -1,6 +1,5 @@
 -- How words end that are read as they are, and with `--` before the first stray one.
 use Rattle.std.proofs.Common.{◌≡◌, ◌∙◌, ℕ, List, Option, Some, None, IfSome, IsNone, inl, inr, refl, sym, ap, subst, true}
-use Rattle.std.specs.Borrow.{Bor}
 use Rattle.clap.specs.Words.{HasKind, IsAmong, Kinds, Row, Text, fault_of, kind_of, subcommand_rows_of}
 use Rattle.clap.specs.declared.error.Error.{Error}
 use Rattle.clap.specs.declared.error.kind.ErrorKind.TheVariants.{OutOfMemory}
@@ -9,6 +8,7 @@ use Rattle.lfs_host.specs.Scene.{KeepsAll, Scene}
 use Rattle.lfs_grammar.specs.Grammar.{IsMatched, IsTaken, grammar}
 use Rattle.lfs_grammar.specs.Hyphens.{dashed, names_files_plainly}
 use Rattle.lfs_serve.specs.Stated.{IsStatedSize}
+use Rattle.lfs_words.specs.declared.auto_file.AutoFile.{AutoFile}
 use Rattle.lfsed.specs.Words.{EndsNamed, EndsWords, Looks}
 
 -- words that are refused with an error other than want of memory aren't taken
@@ -32,8 +32,8 @@ ends_as_dashed words read m old new status refused is matched plain ends =
     )
 
 -- a look at the file that is named, or at none
-pub looks : (says : Text → Type 0) (file : Option (Bor Text)) (old new : Scene) (size : ℕ) → IfSome file (λ f. says f.now)
-    → (IsNone file → (text : Text) → says text → ⊥) → KeepsAll old new → IfSome file (λ f. IsStatedSize old new f.now size)
-    → Looks says old new size
-looks says (Some f) old new size is none keeps stated = (keeps, inl (f.now, is, stated))
+pub looks : (says : AutoFile → Type 0) (file : Option AutoFile) (old new : Scene) (size : ℕ) → IfSome file says
+    → (IsNone file → (other : AutoFile) → says other → ⊥) → KeepsAll old new
+    → IfSome file (λ f. IsStatedSize old new f.name.now f.place size) → Looks says old new size
+looks says (Some f) old new size is none keeps stated = (keeps, inl (f, is, stated))
 looks says None old new size is none keeps stated = (keeps, inr (none refl))

@@ -96,8 +96,10 @@ goes_named law size name r old mid h denotes on named (inr (inl (stated, looked,
 goes_named law size name r old mid h denotes on named (inr (inl (stated, looked, are, inr (misuse, missaid, misused)))) is =
     stays size name r old mid h denotes on
     (misused_stays looked r.new r.status misused ∙ looked_stays named r.old looked stated are)
-goes_named law size name r old mid h denotes on named (inr (inr memory)) is =
+goes_named law size name r old mid h denotes on named (inr (inr (inl memory))) is =
     stays size name r old mid h denotes on (memory_stays r.old r.new r.status memory)
+goes_named law size name r old mid h denotes on named (inr (inr (inr (flash, looks, (fault, finds, told))))) is =
+    stays size name r old mid h denotes on finds.0.0
 
 goes_words : RequestsLeadOn → (size : ℕ) (name : List ℕ) (r : Run) (old mid : Files) (h : History) → FilesDenote size name old h
     → OnFiles r old mid → (ends : EndsWords r.words r.old r.new r.status)

@@ -2,7 +2,7 @@
 --
 -- Each of these says how a run goes on by the next one:
 --   1  EndsWords     the words are read, as they are or with `--` before a stray one, or refused              lfsed/specs/Words.antt
---   2  EndsNamed     the command that they name explains faults, or asks for a request, or for none           lfsed/specs/Words.antt
+--   2  EndsNamed     the command that they name explains faults, lists images, or asks for a request or none  lfsed/specs/Words.antt
 --   3  EndsRequest   the name of an image that is to be new is spared, and the status tells the fault         lfs_serve/specs/Program.antt
 --   4  EndsTask      a folder is made; or what the task names is read, and it becomes a step                  lfs_serve/specs/Program.antt
 --   5  EndsStep      the files get what the step leaves, or stay                                              lfs_serve/specs/Program.antt

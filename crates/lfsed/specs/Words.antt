@@ -1,5 +1,5 @@
 -- How the words of a command line end (own).
-use Rattle.std.specs.Prelude.{codes, ℕ, ◌≡◌, ◌⊎◌, List, Option, Result, Ok, Err, Some}
+use Rattle.std.specs.Prelude.{ℕ, ◌≡◌, ◌⊎◌, List, Option, Result, Ok, Err, Some}
 use Rattle.std.specs.Borrow.{Bor}
 use Rattle.std.specs.Io.KnownBytes.{Appends}
 use Rattle.clap.specs.Words.{IsAmong, Row, Text, fault_of, subcommand_of}
@@ -10,12 +10,14 @@ use Rattle.lfs_request.specs.declared.fault.Fault.{Fault}
 use Rattle.lfs_request.specs.declared.fault.Fault.TheVariants.{CannotWrite, Refused}
 use Rattle.lfs_request.specs.Fault.{status_of}
 use Rattle.lfs_request.specs.declared.request.Request.{Request}
+use Rattle.lfs_words.specs.declared.auto_file.AutoFile.{AutoFile}
 use Rattle.lfs_words.specs.declared.auto_sizes.AutoSizes.{AutoSizes}
 use Rattle.lfs_grammar.specs.Grammar.{grammar}
 use Rattle.lfs_grammar.specs.Hyphens.{IsRead}
-use Rattle.lfs_words.specs.Words.{AsksFor, Explains, IsMissaid, SaysAuto, SaysAutoOther}
+use Rattle.lfs_words.specs.Words.{AsksFor, Explains, IsMissaid, LooksIn, SaysAutoImage, SaysAutoOther}
 use Rattle.lfs_words.specs.declared.misuse.Misuse.{Misuse}
 use Rattle.lfs_exchange.specs.Printing.{PrintsBeginning}
+use Rattle.lfs_find.specs.Finding.{EndsFinding}
 use Rattle.lfs_host.specs.Scene.{KeepsAll, KeepsInput, Scene}
 use Rattle.lfs_serve.specs.Program.{EndsRequest}
 use Rattle.lfs_serve.specs.Stated.{IsStatedSize}
@@ -65,19 +67,24 @@ EndsError kind old new status =
 
 -- a look at the file of which the words say that its block size stands for `auto`, which changes nothing: so it does, or any, where they say
 -- so of no file
-abbrev pub Looks : (Text → Type 0) → Scene → Scene → ℕ → Type 0
+abbrev pub Looks : (AutoFile → Type 0) → Scene → Scene → ℕ → Type 0
 Looks says old new size =
-    KeepsAll old new × (((file : Text) × says file × IsStatedSize old new file size) ⊎ ((file : Text) → ¬ says file))
+    KeepsAll old new
+    × (((file : AutoFile) × says file × IsStatedSize old new file.name.now file.place size) ⊎ ((file : AutoFile) → ¬ says file))
 
 -- block sizes stand for `auto`: those of the image, and of the one that it is compared with, or made of
 abbrev pub AreStated : Option (Text × List Row) → Scene → Scene → AutoSizes → Type 0
 AreStated named old new stated =
-    (looked : Scene) × Looks (SaysAuto (codes "block") (codes "image") named) old looked stated.image
+    (looked : Scene) × Looks (SaysAutoImage named) old looked stated.image
     × Looks (SaysAutoOther named) looked new stated.other
 
+-- images are looked for in a file, and listed, with the status that tells the fault
+abbrev pub EndsFound : Text → Scene → Scene → ℕ → Type 0
+EndsFound flash old new status = (fault : Option Fault) × EndsFinding flash old new fault × (status ≡ status_of fault)
+
 -- how a command that is named with its options ends: by saying what the faults mean that it asks for; behind a look at the files of the
--- images, as the request that it asks for, or refused where it says none; or for want of memory. No file is changed but by a request, and
--- nothing is printed of words that are refused
+-- images, as the request that it asks for, or refused where it says none; or for want of memory; or by listing the images of a file. No
+-- file is changed but by a request, and nothing is printed of words that are refused
 abbrev pub EndsNamed : Option (Text × List Row) → Scene → Scene → ℕ → Type 0
 EndsNamed named old new status =
     ((faults : Option (Bor (List (Bor Text)))) × Explains named faults × EndsExplained old new status)
@@ -85,6 +92,7 @@ EndsNamed named old new status =
     × (((request : Request) × AsksFor named stated request × EndsRequest request looked new status)
     ⊎ ((misuse : Misuse) × IsMissaid named stated misuse × EndsMisused looked new status)))
     ⊎ EndsForMemory old new status
+    ⊎ ((flash : Text) × LooksIn named flash × EndsFound flash old new status)
 
 -- how refused words end: as an error of one of the kinds that the grammar finds with them
 abbrev pub EndsRefused : List Text → Scene → Scene → ℕ → Type 0

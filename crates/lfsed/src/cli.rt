@@ -10,7 +10,7 @@ ghost use Rattle.lfs_request.specs.declared.fault.Fault.TheVariants.{Refused};
 ghost use Rattle.lfs_command.specs.declared.refusal.Refusal.TheVariants.{Memory as No_memory};
 ghost use Rattle.lfs_serve.specs.Stated.{IsStatedSize};
 ghost use Rattle.lfs_words.specs.declared.misuse.Misuse.TheVariants.{Memory};
-ghost use Rattle.lfsed.specs.Words.{EndsError, EndsExplained, EndsMisused, EndsNamed, EndsPrinting, EndsWords, AreStated, ended_with};
+ghost use Rattle.lfsed.specs.Words.{EndsError, EndsExplained, EndsFound, EndsMisused, EndsNamed, EndsPrinting, EndsWords, AreStated, ended_with};
 
 use crate::explanations::{explained, explanations};
 use crate::tips::retold;
@@ -18,12 +18,15 @@ use clap::error::ErrorKind;
 use clap::{ArgMatches, Error};
 use lfs_command::Refusal;
 use lfs_exchange::{MORE, print, tell_of_image};
+use lfs_find::list_images;
 use lfs_grammar::{dashed, matched, names_files_plainly};
 use lfs_host::Host;
 use lfs_report::tell_digits;
 use lfs_request::Fault;
 use lfs_serve::{served, stated_size};
-use lfs_words::{AutoSizes, Misuse, auto_image, auto_other, faults_asked, request_said};
+use lfs_words::{
+    AutoFile, AutoSizes, Misuse, auto_image, auto_other, faults_asked, flash_asked, request_said,
+};
 use std::alloc::{AllocError, Global};
 use std::convert::AsStr;
 use std::fmt::Write;
@@ -89,10 +92,23 @@ fn carried<H: Host>(alloc: Global, host: &mut H, matches: &ArgMatches<'_>) -> Re
     if let Some(faults) = faults_asked(matches) {
         return explain(alloc, host, faults);
     }
+    if let Some(flash) = flash_asked(matches) {
+        return Ok(find(alloc, host, flash));
+    }
     let stated = stated_for(alloc, host, matches)?;
     match request_said(alloc, matches, stated) {
         Ok(request) => Ok(served(alloc, host, &request)),
         Err(misuse) => misused(host, misuse),
+    }
+}
+
+/// Lists the images that stand in a file, and answers the status.
+fn find<H: Host>(alloc: Global, host: &mut H, flash: &str) -> u8
+    ensures ended { EndsFound flash.now (H.known host.old) (H.known host.new) result }
+{
+    match list_images(alloc, host, flash) {
+        Ok(()) => 0,
+        Err(fault) => tell_of_image(host, flash, fault),
     }
 }
 
@@ -134,14 +150,14 @@ fn stated_for<H: Host>(
 fn size_in<H: Host>(
     alloc: Global,
     host: &mut H,
-    file: Option<&str>,
+    file: Option<AutoFile<'_>>,
     size: u32,
 ) -> Result<u32, AllocError>
-    ensures stated { IfOk result (λ stated. IfSome file.entry (λ name. IsStatedSize (H.known host.old) (H.known host.new) name.now stated)) }
+    ensures stated { IfOk result (λ stated. IfSome file.entry (λ f. IsStatedSize (H.known host.old) (H.known host.new) f.name.now f.place stated)) }
     ensures kept { KeepsAll (H.known host.old) (H.known host.new) }
 {
     match file {
-        Some(name) => stated_size(alloc, host, name),
+        Some(file) => stated_size(alloc, host, file.name, file.place),
         None => Ok(size),
     }
 }

@@ -20,22 +20,24 @@ const EXPLANATIONS: [Explanation; 49] = [
         name: "ImageLength",
         text: "The file's length is no multiple of the block size, or the file is longer than any image. \
          Give the block size that the image was made with (`--block`), and check that the file was \
-         copied as a whole.",
+         copied as a whole. Where more stands in the file than an image, `find` lists where images \
+         begin, and `--offset` reads one there.",
     },
     Explanation {
         number: 2,
         name: "BadGeometry",
         text: "The block size, the number of blocks or the length is out of its limit. A block has a multiple of \
-         16 bytes, from 256 to 65536, an image 2 to 65536 blocks and at most 67108864 bytes.",
+         16 bytes, from 256 to 65536, an image 2 to 65536 blocks and at most 67108864 bytes. At the end \
+         of a file, or past it, `--offset` finds no blocks.",
     },
     Explanation {
         number: 3,
         name: "NoValidCommit",
         text: "Neither block of a pair that the thread names holds a commit whose checksum is right. The \
-         image is damaged, or `--block` isn't its block size, or a later littlefs wrote it: the \
-         second line says what its first block states of that. `--device` reads an image of disk \
-         version 2.1, and `repack --device` makes one of version 2.0 of it; 10 says what keeps a \
-         device at version 2.0.",
+         image is damaged, or `--block` isn't its block size, or it begins at another place of the \
+         file, which `find` lists, or a later littlefs wrote it: the second line says what its first \
+         block states of that. `--device` reads an image of disk version 2.1, and `repack --device` \
+         makes one of version 2.0 of it; 10 says what keeps a device at version 2.0.",
     },
     Explanation {
         number: 4,
@@ -88,7 +90,9 @@ const EXPLANATIONS: [Explanation; 49] = [
         number: 11,
         name: "Geometry",
         text: "The superblock states another block size or number of blocks than the image has. The second \
-         line says which: give that block size (`--block`), or the whole file.",
+         line says which: give that block size (`--block`), or the whole file. Where something stands \
+         behind the image, `--offset 0` reads it without that, and `repack --offset 0` makes a file of \
+         it alone.",
     },
     Explanation {
         number: 12,

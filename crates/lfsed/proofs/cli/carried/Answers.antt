@@ -1,13 +1,17 @@
--- An explanation ends as it is printed. Behind a look at the images' files a request ends as it is served, and words that say none as they
+-- An explanation ends as it is printed, and so does a list of images. Behind a look at the images' files a request ends as it is served, and words that say none as they
 -- are refused, or for want of memory.
-use Rattle.std.proofs.Common.{rules, inl, inr, sym, subst}
-use Rattle.clap.specs.Words.{subcommand_rows_of}
+use Rattle.std.proofs.Common.{rules, ◌∙◌, Some, ap, inl, inr, sym, subst}
+use Rattle.clap.specs.Words.{Text, subcommand_rows_of}
 use Rattle.lfs_host.specs.Scene.{KeepsAll, Scene}
 use Rattle.lfsed.proofs.MisuseLemmas.{not_for_memory}
 use Rattle.lfsed.proofs.cli.carried.Goals as goal
 
 pub returns-in-Some : goal.returns-in-Some
 returns-in-Some g c = record { ended = inl (c.in-Some.faults, c.in-Some.ensures.some, c.explain.ensures.ended) }
+
+pub returns-in-Some-flash_asked : goal.returns-in-Some-flash_asked
+returns-in-Some-flash_asked g c =
+    record { ended = inr (inr (inr (c.in-Some-flash_asked.flash.now, c.in-Some-flash_asked.ensures.some, c.find.ensures.ended))) }
 
 pub returns-in-Ok : goal.returns-in-Ok
 returns-in-Ok g c =
@@ -23,10 +27,17 @@ returns-in-Err g c =
     let new : Scene = g.H.Known.known c.misused.new.host in
     let stated = c.in_ok-stated.stated in
     elim c.in-Err.ensures.refused [
-      | inl unsaid ↦ absurd (c.in_default.ensures.none (search rules) (c.in-Err.ensures.unsaid unsaid c.requires))
+      | inl unsaid ↦
+          let (name, rows, is, none) = c.in-Err.ensures.unsaid unsaid c.requires in
+          elim none [
+            | inl finds ↦
+                absurd (c.in_default-flash_asked.ensures.none (search rules) c.requires (rows, is ∙ ap (λ (n : Text). Some (n, rows)) finds))
+            | inr explains ↦
+                absurd (c.in_default.ensures.none (search rules) (rows, is ∙ ap (λ (n : Text). Some (n, rows)) explains))
+          ]
       | inr (inl memory) ↦
           let told = c.misused.ensures.memory memory in
-          record { ended = inr (inr (subst (KeepsAll old) (sym told.0) c.stated_for.ensures.kept, told.1)) }
+          record { ended = inr (inr (inl (subst (KeepsAll old) (sym told.0) c.stated_for.ensures.kept, told.1))) }
       | inr (inr missaid) ↦
           let told = c.misused.ensures.told (not_for_memory named stated c.in-Err.misuse missaid) in
           record { ended = inr (inl (stated, looked, c.in_ok-stated.ensures.stated, inr (c.in-Err.misuse, missaid, told))) }

@@ -1,7 +1,6 @@
 -- The image's file is looked at before the other one.
-use Rattle.std.proofs.Common.{codes}
 use Rattle.clap.specs.Words.{subcommand_rows_of}
-use Rattle.lfs_words.specs.Words.{SaysAuto, SaysAutoOther}
+use Rattle.lfs_words.specs.Words.{SaysAutoImage, SaysAutoOther}
 use Rattle.lfsed.proofs.ReadLemmas.{looks}
 use Rattle.lfsed.proofs.cli.stated_for.Goals as goal
 
@@ -12,7 +11,7 @@ returns-clause-stated g c =
     let looked = g.H.Known.known c.size_in.new.host in
     let new = g.H.Known.known c.size_in-2.new.host in (
       looked,
-      looks (SaysAuto (codes "block") (codes "image") named) c.auto_image.result old looked c.in_ok-image.image c.auto_image.ensures.some c.auto_image.ensures.none
+      looks (SaysAutoImage named) c.auto_image.result old looked c.in_ok-image.image c.auto_image.ensures.some c.auto_image.ensures.none
           c.in_ok-image.ensures.kept c.in_ok-image.ensures.stated,
       looks (SaysAutoOther named) c.auto_other.result looked new c.in_ok-other.other c.auto_other.ensures.some c.auto_other.ensures.none
           c.in_ok-other.ensures.kept c.in_ok-other.ensures.stated,

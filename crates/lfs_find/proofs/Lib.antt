@@ -1,0 +1,3 @@
+pub mod PlaceLemmas
+pub mod FoundLemmas
+pub mod FindingLemmas

@@ -1,0 +1,16 @@
+//! Where in a file an image may stand.
+
+/// Where in a file an image may stand, and what the superblock states that stands there at the start of a block.
+///
+/// Source: own.
+#[derive(Clone, Copy, Debug, PartialEq, Eq)]
+pub struct Place {
+    /// The byte of the file at which it begins.
+    pub at: usize,
+    /// The version: its major number in the upper half, and its minor number in the lower one.
+    pub version: u32,
+    /// The size of its blocks, in bytes.
+    pub size: u32,
+    /// The number of its blocks.
+    pub count: u32,
+}
