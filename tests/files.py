@@ -88,11 +88,15 @@ def what_is_no_image(files):
     for name, said in ("none.img", "none.img: No such file"), ("folder", "folder: not a regular file"):
         files.refused(f"check {name}", [*check, name], NOT_READ, said)
         files.refused(f"put {name}", [*put, name, "/x"], NOT_READ, said)
+        files.refused(f"check --offset {name}", [*check, "--offset", "512", name], NOT_READ, said)
+        files.refused(f"find {name}", ["find", name], NOT_READ, said)
     for name in "pipe", "/dev/zero":
-        files.refused(f"check {name}", [*check, name], NOT_READ, "not a regular file")
+        for words in check, [*check, "--offset", "512"], ["find"]:
+            files.refused(f"{words} {name}", [*words, name], NOT_READ, "not a regular file")
     files.refused("format folder", ["format", "--block", "512", "--count", "8", "folder"], NOT_WRITTEN, "folder: ")
     with open("/dev/full", "wb") as full:
         files.refused("full output", [*check, "a.img"], NOT_WRITTEN, "lfsed: standard output: No space left", stdout=full)
+        files.refused("full output of what is found", ["find", "a.img"], NOT_WRITTEN, "lfsed: standard output: No space left", stdout=full)
         files.refused("full help", ["--help"], NOT_WRITTEN, "lfsed: standard output: No space left", stdout=full)
         files.refused("full explanation", ["explain", "41"], NOT_WRITTEN, "lfsed: standard output: No space left", stdout=full)
     status, said = files.run([*check[:2], "1024", "a.img"])
@@ -113,6 +117,7 @@ CUT = (
     (9, ["check", "--block", "512", "a.img"], b"block 512"),
     (52, ["check", "--block", "512", "a.img"], b"block 512, count 64, free 54, directories 1, files 1"),
     (20, ["--help"], b"Edit littlefs images"),
+    (8, ["find", "a.img"], b"0x0  ver"),
     (7, ["explain", "41"], b"41 IsRo"),
     (1_000, ["cat", "--block", "512", "a.img", "/large"], 1_000 * b"7"),
     (20, ["ls", "--block", "512", "a.img"], b"d          - /\nf    "),
@@ -165,7 +170,7 @@ def an_image_that_another_keeps(files):
             files.refused(f"{words[0]} of an image that is kept", words, NOT_WRITTEN, "")
         for words in (
             ["check", "--block", "512", "a.img"], ["check", "--block", "512", "--device", "a.img"],
-            ["repack", "--block", "512", "b.img", "a.img"],
+            ["repack", "--block", "512", "b.img", "a.img"], ["check", "--block", "512", "--offset", "0", "a.img"], ["find", "a.img"],
         ):
             status, said = files.run(words)
             files.check(f"an image that is kept is read: {words}", status == 0 and not said, (status, said))
@@ -186,6 +191,10 @@ RUNS_THAT_CALL = (
     (["repack", "--from-block", "512", "--device", "a.img", "b.img"], "open read write statx flock fchmod fsync rename"),
     (["repack", "--from-block", "512", "new.img", "b.img"], "open read write statx flock fsync link"),
     (["repack", "--from-block", "512", "a.img", "a.img"], "open read write statx flock fchmod fsync rename"),
+    (["check", "--offset", "700", "flash.bin"], "open lseek read write statx"),
+    (["check", "--device", "--offset", "700", "flash.bin"], "open lseek read write statx"),
+    (["repack", "--from-block", "512", "--offset", "700", "b.img", "flash.bin"], "open lseek read write statx flock fchmod fsync rename"),
+    (["find", "flash.bin"], "open read write statx"),
 )
 
 
@@ -196,12 +205,14 @@ def calls_that_fail(files):
     (files.folder / "link.img").symlink_to("a.img")
     files.must(["format", "--block", "512", "--count", "16", "b.img"])
     (files.folder / "steps").write_bytes(b"mkdir /made\nsetattr /old 74 01\n")
+    (files.folder / "flash.bin").write_bytes(bytes(700) + files.image.read_bytes() + bytes(99))
     with tempfile.TemporaryDirectory() as folder:
         os.chmod(folder, 0o755)
         refusing = Refusing(pathlib.Path(folder))
         for (command, *words), calls in RUNS_THAT_CALL:
+            sized = [command] if command == "find" else [command, "--block", "512"]
             for call in calls.split():
-                fail_in_turn(files, [command, "--block", "512", *words], call, refusing)
+                fail_in_turn(files, [*sized, *words], call, refusing)
 
 
 def with_the_journal_of(before, after):
@@ -382,6 +393,7 @@ def disks_that_refuse(files):
         files.refused("a read-only folder", mkdir, NOT_WRITTEN, "a.img: Permission denied", user=NOBODY)
         files.image.chmod(0o600)
         files.refused("an unreadable image", mkdir, NOT_READ, "a.img: Permission denied", user=NOBODY)
+        files.refused("an unreadable file", ["find", "a.img"], NOT_READ, "a.img: Permission denied", user=NOBODY)
         files.image.chmod(0o644)
         files.image.with_name("a.img.lfsj").chmod(0o600)
         files.refused("an unreadable journal", mkdir, NOT_READ, "the journal of a.img: Permission denied", user=NOBODY)

@@ -17,13 +17,13 @@ INSTALLED = {
     "share/zsh/site-functions/_lfsed": "completions/_lfsed",
     "share/fish/vendor_completions.d/lfsed.fish": "completions/lfsed.fish",
 }
-COMMANDS = "batch cat check diff explain extract forget format grow log ls mkdir mv pack put redo repack rm rmattr setattr undo"
+COMMANDS = "batch cat check diff explain extract find forget format grow log ls mkdir mv pack put redo repack rm rmattr setattr undo"
 # The words of a command line, of which the last one is completed, and what it may become.
 COMPLETED = [
     ("lfsed ", f"--help --version {COMMANDS} help"),
     ("lfsed p", "pack put"),
     ("lfsed help und", "undo"),
-    ("lfsed check -", "--block --device --help --older -b -h"),
+    ("lfsed check -", "--block --device --help --offset --older -b -h"),
     ("lfsed pack --c", "--count"),
     ("lfsed check ", "fw.img src"),
     ("lfsed check fw", "fw.img"),
@@ -46,6 +46,13 @@ COMPLETED = [
     ("lfsed diff fw.img f", "fw.img"),
     ("lfsed diff fw.img fw.img ", ""),
     ("lfsed undo --o", "--older"),
+    ("lfsed cat --o", "--offset --older"),
+    ("lfsed fi", "find"),
+    ("lfsed find f", "fw.img"),
+    ("lfsed find fw.img ", ""),
+    ("lfsed find --", "--help"),
+    ("lfsed ls --offset ", ""),
+    ("lfsed ls --device --offset 1088k f", "fw.img"),
     ("lfsed undo --steps 3 f", "fw.img"),
     ("lfsed explain 5", "5 50 51 52 53 54 55"),
     ("lfsed check --block = 512 f", "fw.img"),
@@ -59,7 +66,7 @@ COMPLETED = [
     ("lfsed re", "redo repack"),
     ("lfsed extract --d", "--device"),
     ("lfsed undo --d", ""),
-    ("lfsed repack --", "--attr-max --block --count --device --file-max --from-block --help --least --name-max --new --older --size"),
+    ("lfsed repack --", "--attr-max --block --count --device --file-max --from-block --help --least --name-max --new --offset --older --size"),
     ("lfsed repack f", "fw.img"),
     ("lfsed repack fw.img f", "fw.img"),
     ("lfsed repack fw.img fw.img ", ""),

@@ -47,6 +47,7 @@ static int fails(const char *call) { return name && !strcmp(name, call) && is_co
   }
 
 CALL(ssize_t, read, -1, (int file, void *bytes, size_t count), (file, bytes, count))
+CALL(off_t, lseek, -1, (int file, off_t at, int from), (file, at, from))
 CALL(ssize_t, write, -1, (int file, const void *bytes, size_t count), (file, bytes, count))
 CALL(int, statx, -1, (int folder, const char *path, int flags, unsigned mask, struct statx *found), (folder, path, flags, mask, found))
 CALL(int, flock, -1, (int file, int how), (file, how))

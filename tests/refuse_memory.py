@@ -42,7 +42,8 @@ class Runs:
             if data is not None:
                 file.write_bytes(data)
         env = self.refusing.env(at) if at else None
-        command = [PROGRAM, words[0], f"--block={self.size}", *words[1:]]
+        sized = [] if words[0] == "find" else [f"--block={self.size}"]
+        command = [PROGRAM, words[0], *sized, *words[1:]]
         ended = subprocess.run(command, cwd=self.files[0].parent, input=contents, capture_output=True, env=env)
         after = tuple(file.read_bytes() if file.exists() else None for file in self.files)
         return ended.returncode, ended.stdout, ended.stderr, after
@@ -269,6 +270,28 @@ def repacking_rows(runs):
     runs.row(["repack", "a.img", "b.img"], made)
 
 
+def flash_rows(runs):
+    """Images that stand in a larger file: they are read at their place in it, made anew and found; and places at which nothing is."""
+    other, images = runs.files[0].with_name("b.img"), device_images()
+    for held in images:
+        state = bytes(700) + held + bytes(300), None
+        other.write_bytes(state[0])
+        runs.row(["check", "--device", "--offset=700", "a.img"], state)
+        runs.row(["repack", "--device", "--offset=700", "a.img", "b.img"], NOTHING)
+        runs.row(["find", "a.img"], state)
+    state = bytes(700) + images[0] + bytes(300), None
+    other.write_bytes(images[0])
+    for words in ["ls", "a.img"], ["cat", "a.img", "/early"], ["extract", "a.img", "made"], ["diff", "a.img", "b.img"]:
+        runs.row([words[0], "--device", "--offset=700", *words[1:]], state)
+    for words in ["--offset=700"], ["--device", "--offset=99"], ["--device", "--offset=1M"]:
+        runs.row(["check", *words, "a.img"], state)
+    runs.size = "auto"
+    runs.row(["check", "--device", "--offset=700", "a.img"], state)
+    runs.size = 512
+    for held in b"", bytes(5_000), b"".join(held + bytes(9) for held in images):
+        runs.row(["find", "a.img"], (held, None))
+
+
 def tried(group):
     """Tries a group of rows in a folder of its own: what is said of them, how many there are, and of how many a run went wrong."""
     said = io.StringIO()
@@ -279,7 +302,8 @@ def tried(group):
 
 
 GROUPS = [
-    history_rows, script_rows, repacking_rows, device_rows, rows, directory_rows, small_block_rows, folder_rows, comparing_rows, growing_rows,
+    history_rows, script_rows, repacking_rows, device_rows, flash_rows, rows, directory_rows, small_block_rows, folder_rows, comparing_rows,
+    growing_rows,
 ]
 
 subprocess.run([HOME / "bin/lfsed", "--help"], stdout=subprocess.DEVNULL, check=True)
