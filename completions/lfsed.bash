@@ -20,7 +20,7 @@ _lfsed() {
   local current=${COMP_WORDS[COMP_CWORD]} before=${COMP_WORDS[COMP_CWORD - 1]} options= words= block= image= at at_word=0 named
   COMPREPLY=()
   if [ "$COMP_CWORD" = 1 ]; then
-    mapfile -t COMPREPLY < <(compgen -W 'format pack repack extract check ls cat diff log mkdir put rm mv setattr rmattr grow undo redo forget batch explain help --help --version' -- "$current")
+    mapfile -t COMPREPLY < <(compgen -W 'format pack repack find extract check ls cat diff log mkdir put rm mv setattr rmattr grow undo redo forget batch explain help --help --version' -- "$current")
     return
   fi
   case $before in
@@ -34,7 +34,7 @@ _lfsed() {
       esac
       return
       ;;
-    -b | --block | --count | --size | --name-max | --file-max | --attr-max | --from-block | --keep | --from | --steps) return ;;
+    -b | --block | --count | --size | --name-max | --file-max | --attr-max | --from-block | --offset | --keep | --from | --steps) return ;;
   esac
   case ${COMP_WORDS[1]} in
     format)
@@ -46,27 +46,31 @@ _lfsed() {
       words='IMAGE DIR'
       ;;
     repack)
-      options='-b --block --from-block --count --size --least --name-max --file-max --attr-max --new --device --older -h --help'
+      options='-b --block --from-block --count --size --least --name-max --file-max --attr-max --new --device --offset --older -h --help'
       words='IMAGE SOURCE'
       ;;
+    find)
+      options='-h --help'
+      words='FLASH'
+      ;;
     extract)
-      options='-b --block --device --older -h --help'
+      options='-b --block --device --offset --older -h --help'
       words='IMAGE DIR'
       ;;
     check)
-      options='-b --block --device --older -h --help'
+      options='-b --block --device --offset --older -h --help'
       words='IMAGE'
       ;;
     ls)
-      options='-b --block --device --older -h --help'
+      options='-b --block --device --offset --older -h --help'
       words='IMAGE'
       ;;
     cat)
-      options='-b --block --device --older -h --help'
+      options='-b --block --device --offset --older -h --help'
       words='IMAGE PATH'
       ;;
     diff)
-      options='-b --block --device --older -h --help'
+      options='-b --block --device --offset --older -h --help'
       words='IMAGE OTHER'
       ;;
     log)
@@ -132,7 +136,7 @@ _lfsed() {
   esac
   for ((at = 2; at < COMP_CWORD; at++)); do
     case ${COMP_WORDS[at]} in
-      -b | --block | --count | --size | --name-max | --file-max | --attr-max | --from-block | --keep | --from | --steps)
+      -b | --block | --count | --size | --name-max | --file-max | --attr-max | --from-block | --offset | --keep | --from | --steps)
         named=${COMP_WORDS[at]} at=$((at + 1))
         if [ "${COMP_WORDS[at]}" = = ]; then
           at=$((at + 1))
@@ -152,11 +156,11 @@ _lfsed() {
   done
   read -r -a named <<<"$words"
   case ${named[at_word]-} in
-    IMAGE | OTHER | SOURCE | FILE) mapfile -t COMPREPLY < <(compgen -f -- "$current") ;;
+    IMAGE | OTHER | SOURCE | FLASH | FILE) mapfile -t COMPREPLY < <(compgen -f -- "$current") ;;
     DIR) mapfile -t COMPREPLY < <(compgen -d -- "$current") ;;
     PATH | FROM | TO) _lfsed_offer < <(_lfsed_paths "$image" "$block") ;;
     FAULT) mapfile -t COMPREPLY < <(compgen -W '1 2 3 4 5 6 7 8 9 10 11 12 13 14 15 16 17 18 19 20 21 30 31 32 33 34 35 36 37 38 39 40 41 42 43 44 46 50 51 52 53 54 55 60 61 62 63 64 65 ImageLength BadGeometry NoValidCommit UnknownTag BadTag IncompleteEntry BadName BadSkipList NoSuperblock Version Geometry Limits OrderFault BlockRange BlockTwice MissingDirectory Orphan UnfinishedMove SuperblockElsewhere BadSize UnknownState NotFound Exists NotADirectory IsADirectory NotEmpty BadPath NameTooLong FileTooLarge AttrTooLarge NoAttr IntoItself IsRoot EntryTooLarge NoSpace Memory BadCount JournalFormat JournalMismatch JournalImage NothingToUndo NothingToRedo JournalFull CannotRead CannotWrite HostEntry HostName BadHex BadLine' -- "$current") ;;
-    COMMAND) mapfile -t COMPREPLY < <(compgen -W 'format pack repack extract check ls cat diff log mkdir put rm mv setattr rmattr grow undo redo forget batch explain' -- "$current") ;;
+    COMMAND) mapfile -t COMPREPLY < <(compgen -W 'format pack repack find extract check ls cat diff log mkdir put rm mv setattr rmattr grow undo redo forget batch explain' -- "$current") ;;
   esac
 }
 complete -o filenames -F _lfsed lfsed

@@ -6,7 +6,7 @@ function __lfsed_words
   set -l at 3
   while test $at -le (count $words)
     switch $words[$at]
-      case -b --block --count --size --name-max --file-max --attr-max --from-block --keep --from --steps
+      case -b --block --count --size --name-max --file-max --attr-max --from-block --offset --keep --from --steps
         set at (math $at + 1)
       case '-*'
       case '*'
@@ -38,6 +38,7 @@ complete -c lfsed -f
 complete -c lfsed -n __fish_use_subcommand -a format -d 'Write a new image, in place of a file of this name'
 complete -c lfsed -n __fish_use_subcommand -a pack -d 'Write a new image with what is in a folder, in place of a file of this name'
 complete -c lfsed -n __fish_use_subcommand -a repack -d 'Write a new image with all that another one holds, in place of a file of this name'
+complete -c lfsed -n __fish_use_subcommand -a find -d 'List where in a file images begin, with what they state and whether they mount'
 complete -c lfsed -n __fish_use_subcommand -a extract -d 'Make a new folder with what is in an image; attributes are left behind'
 complete -c lfsed -n __fish_use_subcommand -a check -d 'Judge an image; print its geometry, free blocks, directories and files'
 complete -c lfsed -n __fish_use_subcommand -a ls -d 'List what stands at each path, with sizes and attributes'
@@ -56,7 +57,7 @@ complete -c lfsed -n __fish_use_subcommand -a redo -d 'Make the latest change ag
 complete -c lfsed -n __fish_use_subcommand -a forget -d 'Keep the image alone: its changes can no longer be taken back'
 complete -c lfsed -n __fish_use_subcommand -a batch -d 'Carry out the steps of a script, a line each: all of them or none'
 complete -c lfsed -n __fish_use_subcommand -a explain -d 'Say what faults mean, and what to do'
-complete -c lfsed -n '__lfsed_at help 0' -a 'format pack repack extract check ls cat diff log mkdir put rm mv setattr rmattr grow undo redo forget batch explain'
+complete -c lfsed -n '__lfsed_at help 0' -a 'format pack repack find extract check ls cat diff log mkdir put rm mv setattr rmattr grow undo redo forget batch explain'
 complete -c lfsed -n '__lfsed_at format 0' -F
 complete -c lfsed -n '__fish_seen_subcommand_from format' -s b -l block -x -d 'Size of a block, a multiple of 16 from 256 to 65536 [default: 4096]'
 complete -c lfsed -n '__fish_seen_subcommand_from format' -l count -x -d 'Number of blocks, from 2 to 65536; at most 67108864 bytes in all'
@@ -89,34 +90,42 @@ complete -c lfsed -n '__fish_seen_subcommand_from repack' -l file-max -x -d 'Gre
 complete -c lfsed -n '__fish_seen_subcommand_from repack' -l attr-max -x -d 'Greatest length of an attribute in bytes, from 1 to 1022; that of SOURCE where it is not said'
 complete -c lfsed -n '__fish_seen_subcommand_from repack' -l new -d 'Refuse to replace a file that is there'
 complete -c lfsed -n '__fish_seen_subcommand_from repack' -l device -d 'Read the image as a device does: also disk version 2.1, and a superblock that was expanded'
+complete -c lfsed -n '__fish_seen_subcommand_from repack' -l offset -x -d 'Place in SOURCE at which the image begins: 1114112, 0x110000, 1088k or 1M'
 complete -c lfsed -n '__fish_seen_subcommand_from repack' -l older -d 'Go on with the state before commits of a later disk version, which are not read'
 complete -c lfsed -n '__fish_seen_subcommand_from repack' -s h -l help -d 'Print help'
+complete -c lfsed -n '__lfsed_at find 0' -F
+complete -c lfsed -n '__fish_seen_subcommand_from find' -s h -l help -d 'Print help'
 complete -c lfsed -n '__lfsed_at extract 0' -F
 complete -c lfsed -n '__lfsed_at extract 1' -a '(__fish_complete_directories)'
 complete -c lfsed -n '__fish_seen_subcommand_from extract' -s b -l block -x -d 'Size of a block, a multiple of 16 from 256 to 65536, or auto [default: 4096]'
 complete -c lfsed -n '__fish_seen_subcommand_from extract' -l device -d 'Read the image as a device does: also disk version 2.1, and a superblock that was expanded'
+complete -c lfsed -n '__fish_seen_subcommand_from extract' -l offset -x -d 'Place in the file at which the image begins: 1114112, 0x110000, 1088k or 1M'
 complete -c lfsed -n '__fish_seen_subcommand_from extract' -l older -d 'Go on with the state before commits of a later disk version, which are not read'
 complete -c lfsed -n '__fish_seen_subcommand_from extract' -s h -l help -d 'Print help'
 complete -c lfsed -n '__lfsed_at check 0' -F
 complete -c lfsed -n '__fish_seen_subcommand_from check' -s b -l block -x -d 'Size of a block, a multiple of 16 from 256 to 65536, or auto [default: 4096]'
 complete -c lfsed -n '__fish_seen_subcommand_from check' -l device -d 'Read the image as a device does: also disk version 2.1, and a superblock that was expanded'
+complete -c lfsed -n '__fish_seen_subcommand_from check' -l offset -x -d 'Place in the file at which the image begins: 1114112, 0x110000, 1088k or 1M'
 complete -c lfsed -n '__fish_seen_subcommand_from check' -l older -d 'Go on with the state before commits of a later disk version, which are not read'
 complete -c lfsed -n '__fish_seen_subcommand_from check' -s h -l help -d 'Print help'
 complete -c lfsed -n '__lfsed_at ls 0' -F
 complete -c lfsed -n '__fish_seen_subcommand_from ls' -s b -l block -x -d 'Size of a block, a multiple of 16 from 256 to 65536, or auto [default: 4096]'
 complete -c lfsed -n '__fish_seen_subcommand_from ls' -l device -d 'Read the image as a device does: also disk version 2.1, and a superblock that was expanded'
+complete -c lfsed -n '__fish_seen_subcommand_from ls' -l offset -x -d 'Place in the file at which the image begins: 1114112, 0x110000, 1088k or 1M'
 complete -c lfsed -n '__fish_seen_subcommand_from ls' -l older -d 'Go on with the state before commits of a later disk version, which are not read'
 complete -c lfsed -n '__fish_seen_subcommand_from ls' -s h -l help -d 'Print help'
 complete -c lfsed -n '__lfsed_at cat 0' -F
 complete -c lfsed -n '__lfsed_at cat 1' -a '(__lfsed_paths)'
 complete -c lfsed -n '__fish_seen_subcommand_from cat' -s b -l block -x -d 'Size of a block, a multiple of 16 from 256 to 65536, or auto [default: 4096]'
 complete -c lfsed -n '__fish_seen_subcommand_from cat' -l device -d 'Read the image as a device does: also disk version 2.1, and a superblock that was expanded'
+complete -c lfsed -n '__fish_seen_subcommand_from cat' -l offset -x -d 'Place in the file at which the image begins: 1114112, 0x110000, 1088k or 1M'
 complete -c lfsed -n '__fish_seen_subcommand_from cat' -l older -d 'Go on with the state before commits of a later disk version, which are not read'
 complete -c lfsed -n '__fish_seen_subcommand_from cat' -s h -l help -d 'Print help'
 complete -c lfsed -n '__lfsed_at diff 0' -F
 complete -c lfsed -n '__lfsed_at diff 1' -F
 complete -c lfsed -n '__fish_seen_subcommand_from diff' -s b -l block -x -d 'Size of a block, a multiple of 16 from 256 to 65536, or auto [default: 4096]'
 complete -c lfsed -n '__fish_seen_subcommand_from diff' -l device -d 'Read the image as a device does: also disk version 2.1, and a superblock that was expanded'
+complete -c lfsed -n '__fish_seen_subcommand_from diff' -l offset -x -d 'Place in the file at which the image begins: 1114112, 0x110000, 1088k or 1M'
 complete -c lfsed -n '__fish_seen_subcommand_from diff' -l older -d 'Go on with the state before commits of a later disk version, which are not read'
 complete -c lfsed -n '__fish_seen_subcommand_from diff' -s h -l help -d 'Print help'
 complete -c lfsed -n '__lfsed_at log 0' -F
