@@ -28,6 +28,8 @@ mod logs;
 mod patches;
 mod samples;
 #[cfg(test)]
+mod surveys;
+#[cfg(test)]
 mod trees;
 #[cfg(test)]
 mod writing;

@@ -1,0 +1,19 @@
+//! Laws of surveys: each function does nothing, and its contract is the law.
+
+ghost use Rattle.lfs_survey.specs.Place.{SurveysAreRight};
+ghost use Rattle.lfs_survey.specs.Reached.{AreasAreWhole};
+
+use lfs_meta::unread_pairs_hold_no_part;
+
+/// An area has each pair that a trail from its start leads to, unless a pair on the trail was turned away.
+pub fn areas_are_whole()
+    ensures { AreasAreWhole }
+{
+    unread_pairs_hold_no_part();
+}
+
+/// What is found at each place of a survey is right there: behind the blocks that were looked at before it, a pair holds the part that is
+/// found, or isn't read for the fault.
+pub fn surveys_are_right()
+    ensures { SurveysAreRight }
+{}
