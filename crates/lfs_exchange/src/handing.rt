@@ -7,7 +7,8 @@ ghost use Rattle.lfs_request.specs.declared.other_fault.OtherFault.TheVariants a
 ghost use Rattle.lfs_fs.specs.Limits.{most_file};
 ghost use Rattle.lfs_host.specs.Files.{FindsFile, IsMissing, IsTarget, ReadsFile, ReadsFrom, ReadsInput};
 ghost use Rattle.lfs_host.specs.Scene.{HasClaimed, HasRefused, KeepsAll, KeepsOutput, KeepsSeen};
-ghost use Rattle.lfs_exchange.specs.Handing.{HandsImage, HandsInput, HandsJournal, HandsQuestion, IsClaimed, IsHanded, IsNotAimed, IsNotLocked, IsNotTakenUp, IsOtherUnread, IsUnread, IsUnreadFor, LeavesInput, fault_at, fault_of_reading, most_image};
+ghost use Rattle.lfs_exchange.specs.Handing.{HandsImage, HandsInput, HandsJournal, HandsQuestion, IsClaimed, IsHanded, IsNotAimed, IsNotLocked};
+ghost use Rattle.lfs_exchange.specs.Handing.{IsNotTakenUp, IsOtherUnread, IsUnread, IsUnreadFor, LeavesInput, fault_at, fault_of_reading, most_image};
 ghost use Rattle.lfs_exchange.specs.declared.step_kind.StepKind.TheVariants.{Makes};
 ghost use Rattle.lfs_exchange.specs.Storing.{journal_name};
 

@@ -4,7 +4,8 @@ ghost use Rattle.std.specs.Prelude.{◌≡◌, ◌⊎◌, IfErr, IfOk, IfSome, I
 ghost use Rattle.clap.specs.Words.{Text, found_of, rows_of, subcommand_rows_of};
 ghost use Rattle.lfs_grammar.specs.Grammar.{NamesCommand, TakesNoImage};
 ghost use Rattle.lfs_request.specs.Task.{IsTaskInRange};
-ghost use Rattle.lfs_words.specs.Words.{AsksFor, BeginsAt, Explains, IsMissaid, IsMisuse, IsRequest, LooksIn, NamesExplain, NamesFind, NamesNoImage, SaysAuto, SaysAutoImage, SaysAutoOther, SaysAutoSource};
+ghost use Rattle.lfs_words.specs.Words.{AsksFor, BeginsAt, Explains, IsMissaid, IsMisuse, IsRequest};
+ghost use Rattle.lfs_words.specs.Words.{LooksIn, NamesExplain, NamesFind, NamesNoImage, SaysAuto, SaysAutoImage, SaysAutoOther, SaysAutoSource};
 ghost use Rattle.lfs_words.specs.declared.misuse.Misuse.TheVariants.{Memory, Unsaid};
 
 use crate::auto_file::AutoFile;

@@ -22,7 +22,8 @@ returns-in_err-pass_step-clause-ended g c =
     let old : Scene = g.H.Known.known c.args.host.now in
     let h : HandedBytes = record { image = c.args.handed.image.items; journal = c.args.handed.journal.items } in
     let place = start_of manner.view in
-    let is : IsHanded (kind_of step) place name old h = subst (λ (kind : StepKind). IsHanded kind place name old h) c.requires.kind c.requires.handed in
+    let is : IsHanded (kind_of step) place name old h =
+    subst (λ (kind : StepKind). IsHanded kind place name old h) c.requires.kind c.requires.handed in
     let fault = c.in_err-pass_step.field-0.0.fault in
     let refused : refused_by manner (later_read step size h.image) ≡ Some fault =
     subst (λ (bytes : List ℕ). refused_by manner (later_read step size bytes) ≡ Some fault) c.deref.ensures.value
@@ -47,7 +48,8 @@ returns-in_err-stored-in-Ok-clause-ended g c =
     let by_taken : Scene = g.H.Known.known c.taken.new.host in
     let h : HandedBytes = record { image = c.args.handed.image.items; journal = c.args.handed.journal.items } in
     let place = start_of manner.view in
-    let is : IsHanded (kind_of step) place name old h = subst (λ (kind : StepKind). IsHanded kind place name old h) c.requires.kind c.requires.handed in
+    let is : IsHanded (kind_of step) place name old h =
+    subst (λ (kind : StepKind). IsHanded kind place name old h) c.requires.kind c.requires.handed in
     let none : refused_by manner (later_read step size h.image) ≡ None =
     subst (λ (bytes : List ℕ). refused_by manner (later_read step size bytes) ≡ None) c.deref.ensures.value
     (sym c.in_ok-pass_step.ensures) in
@@ -56,8 +58,8 @@ returns-in_err-stored-in-Ok-clause-ended g c =
     let files = c.taken.ensures.kept.0 in
     let outcome = c.in-Ok.ensures.ran.0 in
     let runs : RunsStep step manner size name old by_stored None outcome =
-    step_ran step manner size name old by_stored h c.in_ok-image.image.items None by_taken.printed outcome is none c.in_ok-image.ensures.read c.in-Ok.ensures.ran.1 c.in-Ok.ensures.ran.2
-    c.in-Ok.ensures.ran.3 c.stored.ensures.kept.1 tt in
+    step_ran step manner size name old by_stored h c.in_ok-image.image.items None by_taken.printed outcome is none
+    c.in_ok-image.ensures.read c.in-Ok.ensures.ran.1 c.in-Ok.ensures.ran.2 c.in-Ok.ensures.ran.3 c.stored.ensures.kept.1 tt in
     let fault = c.in_err-stored-in-Ok.field-0.0 in
     let spares = spares_at fault c.args.handed.kind (kind_of step) by_stored.has_refused_place old.files by_taken.files by_stored.files name target
     c.as_str.result.now outcome c.in-Ok.outcome c.requires.target (search rules) files c.requires.kind c.in-Ok.ensures.ran.4
@@ -74,7 +76,8 @@ returns-in-Ok-clause-ended g c =
     let by_taken : Scene = g.H.Known.known c.taken.new.host in
     let h : HandedBytes = record { image = c.args.handed.image.items; journal = c.args.handed.journal.items } in
     let place = start_of manner.view in
-    let is : IsHanded (kind_of step) place name old h = subst (λ (kind : StepKind). IsHanded kind place name old h) c.requires.kind c.requires.handed in
+    let is : IsHanded (kind_of step) place name old h =
+    subst (λ (kind : StepKind). IsHanded kind place name old h) c.requires.kind c.requires.handed in
     let none : refused_by manner (later_read step size h.image) ≡ None =
     subst (λ (bytes : List ℕ). refused_by manner (later_read step size bytes) ≡ None) c.deref.ensures.value
     (sym c.in_ok-pass_step.ensures) in
@@ -83,8 +86,8 @@ returns-in-Ok-clause-ended g c =
     let files = c.taken.ensures.kept.0 in
     let outcome = c.in-Ok.ensures.ran.0 in
     let runs : RunsStep step manner size name old by_stored None outcome =
-    step_ran step manner size name old by_stored h c.in_ok-image.image.items None by_taken.printed outcome is none c.in_ok-image.ensures.read c.in-Ok.ensures.ran.1 c.in-Ok.ensures.ran.2
-    c.in-Ok.ensures.ran.3 c.stored.ensures.kept.1 tt in
+    step_ran step manner size name old by_stored h c.in_ok-image.image.items None by_taken.printed outcome is none
+    c.in_ok-image.ensures.read c.in-Ok.ensures.ran.1 c.in-Ok.ensures.ran.2 c.in-Ok.ensures.ran.3 c.stored.ensures.kept.1 tt in
     let leaves = leaves_at c.args.handed.kind (kind_of step) old.files by_taken.files by_stored.files name target c.as_str.result.now outcome
     c.in-Ok.outcome c.requires.target (search rules) files c.requires.kind c.in-Ok.ensures.ran.4 c.in_ok-stored-in-Ok.ensures.files in
     let flushed = subst (λ (kind : StepKind). HandsOn kind by_stored) c.requires.kind c.in_ok-stored-in-Ok.ensures.flushed in
@@ -100,7 +103,8 @@ returns-clause-ended g c =
     let by_taken : Scene = g.H.Known.known c.taken.new.host in
     let h : HandedBytes = record { image = c.args.handed.image.items; journal = c.args.handed.journal.items } in
     let place = start_of manner.view in
-    let is : IsHanded (kind_of step) place name old h = subst (λ (kind : StepKind). IsHanded kind place name old h) c.requires.kind c.requires.handed in
+    let is : IsHanded (kind_of step) place name old h =
+    subst (λ (kind : StepKind). IsHanded kind place name old h) c.requires.kind c.requires.handed in
     let none : refused_by manner (later_read step size h.image) ≡ None =
     subst (λ (bytes : List ℕ). refused_by manner (later_read step size bytes) ≡ None) c.deref.ensures.value
     (sym c.in_ok-pass_step.ensures) in
@@ -109,7 +113,7 @@ returns-clause-ended g c =
     let looked = c.with_new_image.ensures.kept.0 in
     let outcome = c.in-Err.ensures.ran.0 in
     let runs : RunsStep step manner size name old by_looked (Some fault) outcome =
-    step_ran step manner size name old by_looked h c.in_ok-image.image.items (Some fault) by_taken.printed outcome is none c.in_ok-image.ensures.read c.in-Err.ensures.ran.1 c.in-Err.ensures.ran.2
-    c.in-Err.ensures.ran.3 looked.2 (c.with_new_image.ensures.blamed c.in-Err.ensures.blamed) in
+    step_ran step manner size name old by_looked h c.in_ok-image.image.items (Some fault) by_taken.printed outcome is none
+    c.in_ok-image.ensures.read c.in-Err.ensures.ran.1 c.in-Err.ensures.ran.2 c.in-Err.ensures.ran.3 looked.2 (c.with_new_image.ensures.blamed c.in-Err.ensures.blamed) in
     ends_refused step manner size name old by_looked (Some c.with_new_image.result.fault) fault outcome (ap Some c.with_new_image.ensures.fault) runs
     (looked.0 ∙ c.taken.ensures.kept.0)
