@@ -5,3 +5,9 @@ pub mod ReachedLemmas
 pub mod SurveyLemmas
 pub mod PlacingLemmas
 pub mod RightLemmas
+pub mod LoneLemmas
+pub mod AlongLemmas
+pub mod AllPlacesLemmas
+pub mod LostLemmas
+pub mod PairKeyLemmas
+pub mod SharedLemmas

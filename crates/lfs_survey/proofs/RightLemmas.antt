@@ -30,9 +30,9 @@ found_there d looked (x ∷ cs) (y ∷ fs) (suc n) f right is = found_there d (l
 area_there : (d : Disk) (looked : List Bool) (starts : List Pair) (areas : List Area) (i : ℕ) (a : Area) → BeginIn d looked starts areas
     → slice_get areas i ≡ Some a → (start : Pair) × IsArea d (behind_areas looked (take i areas)) start a
 area_there d looked starts [] i a h is = absurd (no_some a is)
-area_there d looked starts (x ∷ areas) zero a (start, has, area, rest) is =
+area_there d looked starts (x ∷ areas) zero a (start, has, area, rest, free) is =
     (start, subst (λ (y : Area). IsArea d looked start y) (same_some x a is) area)
-area_there d looked starts (x ∷ areas) (suc i) a (start, has, area, rest) is = area_there d (behind_area looked x) starts areas i a rest is
+area_there d looked starts (x ∷ areas) (suc i) a (start, has, area, rest, free) is = area_there d (behind_area looked x) starts areas i a rest is
 
 any_area : (d : Disk) (starts : List Pair) (first : Area) (later : List Area) (i : ℕ) (a : Area) → IsArea d (unlooked d) root first
     → BeginIn d (behind_area (unlooked d) first) starts later → slice_get (first ∷ later) i ≡ Some a

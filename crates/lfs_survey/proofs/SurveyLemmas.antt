@@ -33,19 +33,19 @@ after_first looked cs rest (f ∷ fs) start calls all = rw calls (
 
 -- ---- lists of areas
 
-begin_weaker : (d : Disk) (looked : List Bool) (xs ys : List Pair) (areas : List Area) → ((p : Pair) → Contains xs p → Contains ys p)
+pub begin_weaker : (d : Disk) (looked : List Bool) (xs ys : List Pair) (areas : List Area) → ((p : Pair) → Contains xs p → Contains ys p)
     → BeginIn d looked xs areas → BeginIn d looked ys areas
 begin_weaker d looked xs ys [] more h = tt
-begin_weaker d looked xs ys (a ∷ areas) more (start, has, area, rest) =
-    (start, more start has, area, begin_weaker d (behind_area looked a) xs ys areas more rest)
+begin_weaker d looked xs ys (a ∷ areas) more (start, has, area, rest, free) =
+    (start, more start has, area, begin_weaker d (behind_area looked a) xs ys areas more rest, free)
 
-begin_append : (d : Disk) (looked : List Bool) (starts : List Pair) (xs ys : List Area) → BeginIn d looked starts xs
+pub begin_append : (d : Disk) (looked : List Bool) (starts : List Pair) (xs ys : List Area) → BeginIn d looked starts xs
     → BeginIn d (behind_areas looked xs) starts ys → BeginIn d looked starts (xs ++ ys)
 begin_append d looked starts [] ys first later = later
-begin_append d looked starts (a ∷ xs) ys (start, has, area, rest) later =
-    (start, has, area, begin_append d (behind_area looked a) starts xs ys rest later)
+begin_append d looked starts (a ∷ xs) ys (start, has, area, rest, free) later =
+    (start, has, area, begin_append d (behind_area looked a) starts xs ys rest later, free)
 
-behind_append : (looked : List Bool) (xs ys : List Area) → behind_areas looked (xs ++ ys) ≡ behind_areas (behind_areas looked xs) ys
+pub behind_append : (looked : List Bool) (xs ys : List Area) → behind_areas looked (xs ++ ys) ≡ behind_areas (behind_areas looked xs) ys
 behind_append looked [] ys = refl
 behind_append looked (a ∷ xs) ys = behind_append (behind_area looked a) xs ys
 
@@ -77,7 +77,7 @@ adds_one d looked next areas new start a is area after push =
     record {
       more = a ∷ [];
       added = push;
-      begin = (start, (0, omega arith, refl), area, tt);
+      begin = (start, (0, omega arith, refl), area, tt, is);
       looked = after;
       closed = All-cons (λ p. is_open next p ≡ false) start [] shut (All-nil (λ p. is_open next p ≡ false));
       len = ap length after ∙ after_len looked a.calls.items a.found.items;

@@ -4,3 +4,10 @@ pub mod Area
 pub mod Survey
 pub mod Reached
 pub mod Place
+pub mod Lone
+pub mod Unread
+pub mod AllPlaces
+pub mod Faults
+pub mod Lost
+pub mod PairKeys
+pub mod Shared

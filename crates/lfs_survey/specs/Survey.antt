@@ -1,5 +1,5 @@
 -- All that is found of an image over its tree and its thread (own).
-use Rattle.std.specs.Prelude.{◌≡◌, ◌+◌, ◌≤◌, Bool, false, List, [], ◌∷◌, ◌++◌, All, Contains, flat_map, length, replicate}
+use Rattle.std.specs.Prelude.{◌≡◌, ◌+◌, ◌≤◌, Bool, true, false, List, [], ◌∷◌, ◌++◌, All, Contains, flat_map, length, replicate}
 use Rattle.lfs_block.specs.Disk.{Disk}
 use Rattle.lfs_meta.specs.Body.{Pair}
 use Rattle.lfs_meta.specs.declared.tail.Tail.{Tail}
@@ -37,11 +37,11 @@ abbrev pub behind_areas : List Bool → List Area → List Bool
 behind_areas looked [] = looked
 behind_areas looked (a ∷ more) = behind_areas (behind_area looked a) more
 
--- areas, one after another, each of which begins at one of these pairs
+-- areas, one after another, each of which begins at one of these pairs, which is open then
 abbrev pub BeginIn : Disk → List Bool → List Pair → List Area → Type 0
 BeginIn d looked starts [] = Unit {0}
-BeginIn d looked starts (a ∷ more) =
-    (start : Pair) × Contains starts start × IsArea d looked start a × BeginIn d (behind_area looked a) starts more
+BeginIn d looked starts (a ∷ more) = (start : Pair) × Contains starts start × IsArea d looked start a
+    × BeginIn d (behind_area looked a) starts more × (is_open looked start ≡ true)
 
 -- areas are added that begin at some of these pairs, none of which is open then
 pub record AddsAreas (d : Disk) (before after : List Bool) (old new : List Area) (starts : List Pair) : Type 0 where

@@ -1,5 +1,6 @@
 //! Laws of surveys: each function does nothing, and its contract is the law.
 
+ghost use Rattle.lfs_survey.specs.Lost.{LostAreasAreNotReached};
 ghost use Rattle.lfs_survey.specs.Place.{SurveysAreRight};
 ghost use Rattle.lfs_survey.specs.Reached.{AreasAreWhole};
 
@@ -16,4 +17,9 @@ pub fn areas_are_whole()
 /// found, or isn't read for the fault.
 pub fn surveys_are_right()
     ensures { SurveysAreRight }
+{}
+
+/// The root's area hasn't the pair at which the second one begins: no trail from the root leads there, unless a pair on it was turned away.
+pub fn lost_areas_are_not_reached()
+    ensures { LostAreasAreNotReached }
 {}

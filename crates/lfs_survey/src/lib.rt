@@ -1,27 +1,52 @@
 //! A survey of an image that needn't mount: what is found at each pair that its tree and its thread lead to.
 #![tactic(auto)]
 
+mod all_places;
 mod area;
 mod call;
+mod call_faults;
 mod calling;
+mod chain_place;
+mod entry_faults;
+mod entry_place;
 mod found;
 mod laws;
+mod limits;
+mod lone;
+mod lone_pairs;
 mod looking;
+mod lost;
+mod order_place;
 mod place;
 mod placing;
+mod shared_place;
 mod survey;
 mod surveying;
 mod surveying_all;
+mod unnamed_place;
+mod unread;
 mod way;
 
+pub use all_places::{call_at, entry_at, entry_places_of, found_at};
 pub use area::Area;
 pub use call::Call;
+pub use call_faults::first_tail_past;
+pub use chain_place::first_without_chain;
+pub use entry_faults::{first_oversized, first_superblock_elsewhere};
+pub use entry_place::EntryPlace;
 pub use found::Found;
-pub use laws::{areas_are_whole, surveys_are_right};
+pub use laws::{areas_are_whole, lost_areas_are_not_reached, surveys_are_right};
+pub use limits::stated_limits;
+pub use lone::lone_areas;
 pub use looking::look_at;
+pub use lost::lost_place;
+pub use order_place::{entry_before, first_misplaced};
 pub use place::Place;
 pub use placing::first_place;
+pub use shared_place::{chain_at, first_shared};
 pub use survey::Survey;
 pub use surveying::survey_from;
 pub use surveying_all::survey_all;
+pub use unnamed_place::first_unnamed;
+pub use unread::has_unread;
 pub use way::Way;

@@ -10,7 +10,7 @@ use lfs_meta::read_pair;
 use std::alloc::{AllocError, Global};
 
 /// Whether a block is not the table's, or was looked at.
-fn is_closed(looked: &[bool], block: u32) -> bool
+pub(crate) fn is_closed(looked: &[bool], block: u32) -> bool
     ensures { result ≡ slice_index_or looked.now block true }
 {
     let index = block as usize;

@@ -27,7 +27,7 @@ fn push_tail(tails: &mut Vec<(u32, u32)>, found: &Found) -> Result<(), AllocErro
 }
 
 /// The pairs to which the thread goes on behind an area, to other directories.
-fn tails_of(alloc: Global, area: &Area) -> Result<Vec<(u32, u32)>, AllocError>
+pub(crate) fn tails_of(alloc: Global, area: &Area) -> Result<Vec<(u32, u32)>, AllocError>
     ensures { IfOk result (λ tails. tails.items ≡ area_tails area.now) }
 {
     let mut tails = Vec::new(alloc);
@@ -56,7 +56,7 @@ fn add_area<B: Blocks>(
 }
 
 /// Adds an area for each of these pairs that is open when it is come to.
-fn add_areas<B: Blocks>(
+pub(crate) fn add_areas<B: Blocks>(
     alloc: Global,
     blocks: &B,
     looked: &mut [bool],

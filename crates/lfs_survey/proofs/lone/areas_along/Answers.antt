@@ -1,0 +1,25 @@
+-- The areas of the pairs that are begun with, and those behind the tails of one area after another.
+use Rattle.std.proofs.Common.{◌≡◌, ◌<◌, List, length, ap, sym, ◌∙◌, arith, subst}
+use Rattle.lfs_block.specs.Disk.{Disk}
+use Rattle.lfs_meta.specs.Body.{Pair}
+use Rattle.lfs_survey.specs.Survey.{AddsAreas, area_tails}
+use Rattle.lfs_survey.specs.declared.area.Area.{Area}
+use Rattle.lfs_survey.proofs.AlongLemmas.{along_all, along_begin, along_more}
+use Rattle.lfs_survey.proofs.lone.areas_along.Goals as goal
+
+pub areas-init : goal.areas-init
+areas-init g c =
+    let d : Disk = g.B.Blocks.disk c.args.blocks.now in
+    along_begin d c.args.looked.now c.add_areas.new.looked c.args.starts.now c.add_areas.new.areas.items
+    (subst (λ (old : List Area). AddsAreas d c.args.looked.now c.add_areas.new.looked old c.add_areas.new.areas.items c.args.starts.now)
+    c.new-areas.ensures.items c.in_ok-add_areas.ensures)
+
+pub areas-preserved : goal.areas-preserved
+areas-preserved g c =
+    let d : Disk = g.B.Blocks.disk c.args.blocks.now in
+    let within : c.areas.next < length c.areas.areas.items = omega arith in
+    let tails : c.deref.result.now ≡ area_tails c.index.result.now = c.deref.ensures.value ∙ c.in_ok-tails.ensures in
+    along_more d c.args.looked.now c.areas.looked c.add_areas-in-areas.new.looked c.args.starts.now c.areas.areas.items
+    c.add_areas-in-areas.new.areas.items c.areas.next c.index.result.now c.areas.invariant within c.index.ensures
+    (subst (λ (ps : List Pair). AddsAreas d c.areas.looked c.add_areas-in-areas.new.looked c.areas.areas.items
+    c.add_areas-in-areas.new.areas.items ps) tails c.in_ok-add_areas-2.ensures)
