@@ -12,6 +12,7 @@ pub mod LongestFronts
 pub mod LoweredAlong
 pub mod LoweredBlocks
 pub mod LoweredHeld
+pub mod LoweredThrough
 pub mod PairsAlong
 pub mod PartsPut
 pub mod ReadTags

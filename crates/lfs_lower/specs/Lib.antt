@@ -1,6 +1,7 @@
 pub mod Spelled
 pub mod Lowered
 pub mod Along
+pub mod Through
 pub mod LaterReading
 pub mod Laws
 pub mod Kept

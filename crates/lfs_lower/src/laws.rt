@@ -2,6 +2,7 @@
 
 ghost use Rattle.lfs_lower.specs.Joined.{OneSuperblockStays, RelaidImagesHoldWhatIsRead};
 ghost use Rattle.lfs_lower.specs.Laws.{LivesAreRead, LoweredBlocksAreRead, LoweredImagesHoldWhatIsRead};
+ghost use Rattle.lfs_lower.specs.Through.{LoweredPairsAreRead};
 
 use lfs_file::chains_stay_on_their_blocks;
 use lfs_fs::{both_sides_hold, same_readings_hold_the_same, stored_links_stay};
@@ -31,6 +32,15 @@ pub fn lowered_images_hold_what_is_read()
     stored_links_stay();
     both_sides_hold();
     same_readings_hold_the_same();
+    lowered_blocks_are_read();
+}
+
+/// A law: of an image all of whose blocks are lowered each pair holds what version 2.1 reads of it. Takes no memory.
+///
+/// Source: own.
+pub fn lowered_pairs_are_read()
+    ensures { LoweredPairsAreRead }
+{
     lowered_blocks_are_read();
 }
 

@@ -10,14 +10,16 @@ mod joining;
 mod kept;
 mod laws;
 mod lowering;
+mod lowering_all;
 mod superblocks;
 mod within;
 
 pub use by_device::read_by_device;
 pub use joining::join;
 pub use laws::{
-    lowered_blocks_are_read, lowered_images_hold_what_is_read, one_superblock_stays,
-    relaid_images_hold_what_is_read,
+    lowered_blocks_are_read, lowered_images_hold_what_is_read, lowered_pairs_are_read,
+    one_superblock_stays, relaid_images_hold_what_is_read,
 };
 pub use lowering::lower;
+pub use lowering_all::lower_all;
 pub use within::{read_as, read_within};

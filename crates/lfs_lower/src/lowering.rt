@@ -17,7 +17,7 @@ use std::alloc::{AllocError, Global};
 const ROOT_END: u32 = 2;
 
 /// Lowers a block of an image.
-fn lower_block(alloc: Global, image: &mut Image, number: u32) -> Result<(), AllocError>
+pub(crate) fn lower_block(alloc: Global, image: &mut Image, number: u32) -> Result<(), AllocError>
     requires { number < image.old.disk.count }
     ensures { OnOk result (IsBlockLowered image.old.disk image.new.disk number) }
 {
