@@ -1,8 +1,13 @@
 pub mod AttributeLemmas
+pub mod BlockMapLemmas
 pub mod BodyLemmas
 pub mod BufferLemmas
 pub mod ColumnLemmas
+pub mod CountingLemmas
 pub mod DigitLemmas
+pub mod DirectoryLemmas
+pub mod EndLemmas
+pub mod GatheringLemmas
 pub mod KeptLemmas
 mod ListingRows
 pub mod MergeLemmas
@@ -10,9 +15,15 @@ pub mod NamingLemmas
 pub mod OrderLemmas
 pub mod ReadingLemmas
 pub mod RowLemmas
+pub mod RunLemmas
 pub mod SameNodes
 pub mod SameRows
+pub mod SumLemmas
+pub mod SummingLemmas
 pub mod TreesCompared
 pub mod UnreadLemmas
 pub mod UnsentLemmas
+pub mod UsesLemmas
+pub mod UsingLemmas
 pub mod WholeLemmas
+pub mod WithinLemmas

@@ -1,8 +1,15 @@
 pub mod Ahead
+pub mod BlockMap
+pub mod BlockSums
+pub mod BlockUses
 pub mod Buffer
 pub mod Comparing
 pub mod Difference
+pub mod DirectoryNumbers
 pub mod Listing
 pub mod Order
+pub mod Runs
+pub mod Summing
 pub mod Trees
 pub mod Unsent
+pub mod Using

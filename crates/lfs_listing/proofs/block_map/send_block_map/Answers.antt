@@ -1,0 +1,19 @@
+-- Nothing has gone out where memory is refused before the first line.
+use Rattle.std.proofs.Common.{List, subst, ◌∙◌, ℕ}
+use Rattle.std.specs.Result.{result_err}
+use Rattle.lfs_listing.specs.Unsent.{SendsListing}
+use Rattle.lfs_listing.proofs.BlockMapLemmas.{map_text}
+use Rattle.lfs_listing.proofs.BufferLemmas.{under_way}
+use Rattle.lfs_listing.proofs.UnsentLemmas.{refused}
+use Rattle.lfs_listing.proofs.block_map.send_block_map.Goals as goal
+
+pub returns-in_err-users-clause-sent : goal.returns-in_err-users-clause-sent
+returns-in_err-users-clause-sent g c =
+    refused c.from_residual.result _ _ _ _ _ c.from_residual.ensures.1 (under_way (g.S.Sink.sent c.args.out.now) _)
+
+pub returns-clause-sent : goal.returns-clause-sent
+returns-clause-sent g c =
+    let m = c.args.mounted.now in
+    subst (λ (text : List ℕ). SendsListing (result_err c.send_runs.result) (g.S.Sink.sent c.args.out.now) (g.S.Sink.sent c.send_runs.new.out) text)
+    (map_text m.outline m.rows c.deref.result.now c.in_ok-users.ends (c.deref.ensures.value ∙ c.in_ok-users.ensures.users) c.in_ok-users.ensures.ends)
+    c.send_runs.ensures.sent

@@ -1,0 +1,14 @@
+-- The first part, and then the others.
+use Rattle.std.proofs.Common.{◌≡◌, ◌++◌, ◌∙◌, List, Option, ℕ, Some, ap, flat_map, fold, subst}
+use Rattle.lfs_fs.specs.Directory.{Directory, Part}
+use Rattle.lfs_listing.specs.BlockMap.{directory_blocks, part_blocks}
+use Rattle.lfs_listing.specs.Using.{give}
+use Rattle.lfs_listing.proofs.using.give_directory.Goals as goal
+
+pub returns : goal.returns
+returns c =
+    let old : List (Option ℕ) = c.args.users.now in
+    let give' : List (Option ℕ) → ℕ → List (Option ℕ) = give c.args.number in
+    subst (λ (d : Directory). c.give_parts.new.users ≡ fold give' old (directory_blocks (Some d))) c.directory.view_is
+    (c.give_parts.ensures ∙ ap (λ (us : List (Option ℕ)). fold give' us (flat_map part_blocks c.deref.result.now)) c.give_part.ensures
+    ∙ ap (λ (ps : List Part). fold give' old (part_blocks c.directory.inside.first ++ flat_map part_blocks ps)) c.deref.ensures.value)

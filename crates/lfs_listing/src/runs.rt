@@ -1,0 +1,79 @@
+//! The lines of runs of blocks.
+
+ghost use Rattle.std.specs.Prelude.{◌≡◌, ◌<◌, ◌+◌, ◌++◌, None, OnOk, decimal, false, flat_map, length, nat_eq, not, slice_index_or};
+ghost use Rattle.std.specs.Result.{result_err};
+ghost use Rattle.lfs_listing.specs.BlockMap.{run_line, run_word, runs_from};
+ghost use Rattle.lfs_listing.specs.Runs.{goes_on};
+ghost use Rattle.lfs_listing.specs.Unsent.{SendsListing, blames_sink};
+ghost use Rattle.lfs_listing.specs.Using.{user_end};
+
+use crate::buffer::{send_if_full, send_rest};
+use crate::row_ends::RowEnds;
+use crate::unsent::Unsent;
+use itoa::Buffer;
+use lfs_sink::Sink;
+use std::alloc::{AllocError, Global};
+
+/// Adds a number.
+pub(crate) fn append_number(text: &mut Vec<u8>, number: usize) -> Result<(), AllocError>
+    ensures { OnOk result (text.new.items ≡ text.old.items ++ decimal number) }
+{
+    text.extend_from_slice(Buffer::new().format(number).as_bytes())
+}
+
+/// Adds the numbers of a run's first and last block, one where they are the same.
+fn append_run(text: &mut Vec<u8>, first: usize, last: usize) -> Result<(), AllocError>
+    ensures { OnOk result (text.new.items ≡ text.old.items ++ run_word first last) }
+{
+    append_number(text, first)?;
+    if first == last {
+        return Ok(());
+    }
+    text.extend_from_slice(b"-")?;
+    append_number(text, last)
+}
+
+/// Adds the line of a run, by its end.
+fn append_line(text: &mut Vec<u8>, first: usize, last: usize, end: &[u8]) -> Result<(), AllocError>
+    ensures { OnOk result (text.new.items ≡ text.old.items ++ (run_word first last ++ end.now)) }
+{
+    append_run(text, first, last)?;
+    text.extend_from_slice(end)
+}
+
+/// Whether the next block has the same user. Takes no memory.
+fn goes_on(users: &[Option<usize>], block: usize) -> bool
+    requires { block < length users.now }
+    ensures { result ≡ goes_on users.now block }
+{
+    match users.get(block + 1) {
+        Some(next) => *next == users[block],
+        None => false,
+    }
+}
+
+/// Sends a line for each run of blocks of one user. The caller owes that the sink has not failed before.
+pub(crate) fn send_runs<S: Sink>(
+    alloc: Global,
+    users: &[Option<usize>],
+    ends: &RowEnds,
+    out: &mut S,
+) -> Result<(), Unsent>
+    requires { S.failed out.old ≡ false }
+    ensures sent { SendsListing (result_err result) (S.sent out.old) (S.sent out.new)
+        (flat_map (run_line (user_end ends.now)) (runs_from 0 users.now)) }
+    ensures failed { S.failed out.new ≡ blames_sink (result_err result) }
+    ensures kept { S.kept out.new ≡ S.kept out.old }
+{
+    let mut text = Vec::new(alloc);
+    let mut first = 0;
+    for (block, &user) in users.iter().enumerate() {
+        if goes_on(users, block) {
+            continue;
+        }
+        append_line(&mut text, first, block, ends.of_user(user))?;
+        send_if_full(&mut text, out)?;
+        first = block + 1;
+    }
+    send_rest(&mut text, out)
+}
