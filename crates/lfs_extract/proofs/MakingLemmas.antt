@@ -17,11 +17,11 @@ use Rattle.lfs_extract.specs.Extracted.{Extracts, HaveTexts, IsHostText, JudgesN
 use Rattle.lfs_extract.specs.declared.extract_fault.ExtractFault.{ExtractFault}
 use Rattle.lfs_extract.specs.declared.extract_fault.ExtractFault.TheVariants.{Memory, HostName, CannotWrite}
 
-makes_nothing : (old : Option (List Made)) → Makes old old []
+pub makes_nothing : (old : Option (List Made)) → Makes old old []
 makes_nothing None = tt
 makes_nothing (Some xs) = sym (append-nil xs)
 
-makes_then : (a b c : Option (List Made)) (first second : List Made) → Makes a b first → Makes b c second → Makes a c (first ++ second)
+pub makes_then : (a b c : Option (List Made)) (first second : List Made) → Makes a b first → Makes b c second → Makes a c (first ++ second)
 makes_then None b c first second p q = tt
 makes_then (Some xs) None c first second p q = absurd p
 makes_then (Some xs) (Some ys) None first second p q = absurd q

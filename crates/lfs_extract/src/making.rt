@@ -44,8 +44,12 @@ fn fill_file<B: Blocks, F: NewFolder>(disk: &B, body: &RowBody<'_>, folder: &mut
     send_contents(disk, body, &mut FileSink::new(folder))
 }
 
-/// Makes a file of a name with the contents of a row.
-fn make_file<B: Blocks, F: NewFolder>(
+/// Makes a file of a name with the contents that a row's body has: none where it is a directory's. The caller owes that its blocks are
+/// on the disk, and no more than it has. Contents are written slice by slice. Where the host refuses to make the file or to write to it,
+/// nothing is made, and a file that was begun may be left with a beginning of its contents.
+///
+/// Source: own.
+pub fn make_file<B: Blocks, F: NewFolder>(
     disk: &B,
     body: &RowBody<'_>,
     name: &str,

@@ -1,0 +1,104 @@
+-- What becomes of an entry of a part that is found (own).
+use Rattle.std.specs.Prelude.{ℕ, ◌<◌, ◌≤◌, ◌==◌, not, Bool, true, false, List, [], ◌∷◌, Option, Some, None, if◌then◌else◌, All, length, slice_index_or, slice_set}
+use Rattle.std.specs.List.{list_any}
+use Rattle.lfs_block.specs.Disk.{Disk}
+use Rattle.lfs_block.specs.declared.mount_fault.MountFault.{MountFault}
+use Rattle.lfs_block.specs.declared.mount_fault.MountFault.TheVariants.{BadSkipList, BlockTwice}
+use Rattle.lfs_file.specs.Content.{content}
+use Rattle.lfs_file.specs.SkipList.{chain_of}
+use Rattle.lfs_meta.specs.Body.{StoredBody, Inline, Chain, Directory_at}
+use Rattle.lfs_meta.specs.Entry.{StoredEntry}
+use Rattle.lfs_meta.specs.declared.kind.Kind.{Kind}
+use Rattle.lfs_meta.specs.declared.kind.Kind.TheVariants.{File, Dir, Super}
+use Rattle.lfs_salvage.specs.declared.block_use.BlockUse.{BlockUse}
+use Rattle.lfs_salvage.specs.declared.block_use.BlockUse.TheVariants as use_of
+use Rattle.lfs_salvage.specs.declared.home.Home.{Home}
+
+-- a file that is saved, of the bytes in its entry or of a chain; one that is saved already, elsewhere; what is no file; or a file that isn't
+-- saved, for this
+pub data Fate : Type 0 where
+  In_entry : Fate
+  In_chain : (head : ℕ) (blocks : List ℕ) (size : ℕ) → Fate
+  Elsewhere : (home : Home) → Fate
+  Passed : Fate
+  Lost : (fault : MountFault) → Fate
+
+-- ---- blocks in use
+
+abbrev pub is_free : BlockUse → Bool
+is_free use_of.Free = true
+is_free (use_of.Part area call) = false
+is_free use_of.Chain = false
+is_free (use_of.Head home size) = false
+
+-- whether a block is in use
+abbrev pub is_used : List BlockUse → ℕ → Bool
+is_used uses b = not (is_free (slice_index_or uses b use_of.Free))
+
+-- ---- files
+
+-- a file with a chain is saved where none of the chain's blocks is in use; one without isn't
+abbrev pub chain_fate : List BlockUse → ℕ → ℕ → Option (List ℕ) → Fate
+chain_fate uses head size None = Lost BadSkipList
+chain_fate uses head size (Some blocks) = if list_any (is_used uses) blocks then Lost BlockTwice else In_chain head blocks size
+
+-- by what its head is used for: as the head of a file of as many bytes it is saved already
+abbrev pub head_fate : Disk → List BlockUse → ℕ → ℕ → BlockUse → Fate
+head_fate d uses head size use_of.Free = chain_fate uses head size (chain_of d head size)
+head_fate d uses head size (use_of.Part area call) = Lost BlockTwice
+head_fate d uses head size use_of.Chain = Lost BlockTwice
+head_fate d uses head size (use_of.Head home long) = if long == size then Elsewhere home else Lost BlockTwice
+
+-- a file of no bytes has no blocks
+abbrev pub body_fate : Disk → List BlockUse → StoredBody → Fate
+body_fate d uses (Inline bytes) = In_entry
+body_fate d uses (Chain head size) =
+    if size == 0 then In_chain head [] size else head_fate d uses head size (slice_index_or uses head use_of.Free)
+body_fate d uses (Directory_at first second) = Passed
+
+abbrev pub kind_fate : Disk → List BlockUse → Kind → StoredBody → Fate
+kind_fate d uses File body = body_fate d uses body
+kind_fate d uses Dir body = Passed
+kind_fate d uses Super body = Passed
+
+-- what becomes of an entry where blocks are used so
+abbrev pub fate : Disk → List BlockUse → StoredEntry → Fate
+fate d uses e = kind_fate d uses e.kind e.body
+
+-- ---- what is saved
+
+-- the bytes that are saved of an entry, where a file is
+abbrev pub saved_bytes : Disk → StoredBody → Fate → Option (List ℕ)
+saved_bytes d (Inline bytes) In_entry = Some bytes
+saved_bytes d (Chain head size) In_entry = None
+saved_bytes d (Directory_at first second) In_entry = None
+saved_bytes d body (In_chain head blocks size) = Some (content d size blocks)
+saved_bytes d body (Elsewhere home) = None
+saved_bytes d body Passed = None
+saved_bytes d body (Lost fault) = None
+
+-- blocks become a chain's
+abbrev pub chained : List BlockUse → List ℕ → List BlockUse
+chained uses [] = uses
+chained uses (b ∷ bs) = chained (slice_set uses b use_of.Chain) bs
+
+-- so do those of a file that is saved, whose head then has its place and its length; one of no bytes has none
+abbrev pub settled : List BlockUse → ℕ → BlockUse → List ℕ → List BlockUse
+settled uses head as_head [] = uses
+settled uses head as_head (b ∷ bs) = slice_set (chained uses (b ∷ bs)) head as_head
+
+-- what blocks are used for behind an entry that stands here
+abbrev pub uses_behind : List BlockUse → Home → Fate → List BlockUse
+uses_behind uses home In_entry = uses
+uses_behind uses home (In_chain head blocks size) = settled uses head (use_of.Head home size) blocks
+uses_behind uses home (Elsewhere other) = uses
+uses_behind uses home Passed = uses
+uses_behind uses home (Lost fault) = uses
+
+-- the blocks of a chain are the disk's, and no more than it has
+abbrev pub HasFileBlocks : Disk → Fate → Type 0
+HasFileBlocks d In_entry = Unit {0}
+HasFileBlocks d (In_chain head blocks size) = All (λ b. b < d.count) blocks × (length blocks ≤ d.count)
+HasFileBlocks d (Elsewhere home) = Unit {0}
+HasFileBlocks d Passed = Unit {0}
+HasFileBlocks d (Lost fault) = Unit {0}

@@ -1,0 +1,11 @@
+-- What a `FileBody` means.
+use Rattle.lfs_salvage.specs.Fate.{Fate, In_entry, In_chain, Elsewhere, Passed, Lost}
+use Rattle.lfs_salvage.specs.declared.file_body.FileBody.{FileBody}
+use Rattle.lfs_salvage.specs.declared.file_body.FileBody.TheVariants as case
+
+abbrev pub fate_held : FileBody → Fate
+fate_held case.Inline = In_entry
+fate_held (case.Chain head blocks size) = In_chain head blocks.items size
+fate_held (case.Elsewhere home) = Elsewhere home
+fate_held case.Passed = Passed
+fate_held (case.Lost fault) = Lost fault

@@ -1,0 +1,11 @@
+pub mod Fate
+pub mod FateHeld
+pub mod Unsaved
+pub mod Word
+pub mod Folder
+pub mod AreaMade
+pub mod PartsUsed
+pub mod Below
+pub mod Saving
+pub mod Shown
+pub mod Apart

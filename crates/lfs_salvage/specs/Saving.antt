@@ -1,0 +1,23 @@
+-- What of all that is to be saved is made (own).
+use Rattle.std.specs.Prelude.{◌≡◌, List, ◌++◌, Option, Result, MatchResult}
+use Rattle.lfs_extract.specs.Extracted.{MakesFront}
+use Rattle.lfs_extract.specs.declared.extract_fault.ExtractFault.{ExtractFault}
+use Rattle.lfs_extract.specs.declared.extract_fault.ExtractFault.TheVariants.{Memory, HostName, CannotWrite}
+use Rattle.lfs_host.specs.NewFolder.{Made, Makes}
+
+-- those in front were made, perhaps all, and no other
+pub record MakesFirst (old new : Option (List Made)) (whole : List Made) : Type 0 where
+  pub front : List Made
+  pub rest : List Made
+  pub split : front ++ rest ≡ whole
+  pub made : Makes old new front
+
+-- what is made where the fault ends it: those in front of one that the host refuses, or those in front where memory is refused
+abbrev pub Stops : ExtractFault → Option (List Made) → Option (List Made) → List Made → Type 0
+Stops CannotWrite old new whole = MakesFront old new whole
+Stops Memory old new whole = MakesFirst old new whole
+Stops HostName old new whole = ⊥
+
+-- all is made, or what is so far
+abbrev pub Saves : Result (Unit {0}) ExtractFault → Option (List Made) → Option (List Made) → List Made → Type 0
+Saves result old new whole = MatchResult result (λ _. Makes old new whole) (λ fault. Stops fault old new whole)

@@ -1,0 +1,122 @@
+//! What is known of what is saved of an image.
+
+use crate::block_use::BlockUse;
+use crate::file_body::FileBody;
+use crate::home::Home;
+use crate::unsaved::{Unsaved, Why};
+use lfs_survey::{Area, Found};
+use std::alloc::{AllocError, Global};
+
+/// What is known of what is saved of an image so far.
+///
+/// Source: own.
+#[derive(Drop)]
+pub struct Salvage {
+    /// What each block is used for.
+    pub uses: Vec<BlockUse>,
+    /// The entries whose files aren't saved, in the order in which they are come to.
+    pub unsaved: Vec<Unsaved>,
+}
+
+impl Salvage {
+    ghost use Rattle.std.specs.Prelude.{◌≡◌, [], ◌++◌, IfOk, OnOk, slice_set};
+    ghost use Rattle.lfs_salvage.specs.Fate.{chained, settled, uses_behind};
+    ghost use Rattle.lfs_salvage.specs.FateHeld.{fate_held};
+    ghost use Rattle.lfs_salvage.specs.PartsUsed.{part_uses, parts_uses, uses_at_first};
+    ghost use Rattle.lfs_salvage.specs.Unsaved.{unsaved};
+
+    /// Nothing is saved yet of an image of so many blocks, of which these areas are found: the blocks of their parts are in use, and no
+    /// others. Takes memory.
+    pub fn new(alloc: Global, count: u32, areas: &[Area]) -> Result<Salvage, AllocError>
+        ensures uses { IfOk result (λ salvage. salvage.uses.items ≡ uses_at_first count areas.now) }
+        ensures unsaved { IfOk result (λ salvage. salvage.unsaved.items ≡ []) }
+    {
+        let mut salvage = Salvage {
+            uses: vec![in alloc; BlockUse::Free; count as usize]?,
+            unsaved: Vec::new(alloc),
+        };
+        'each: for (number, area) in areas.iter().enumerate() {
+            salvage.mark_parts(number, &area.found);
+        }
+        Ok(salvage)
+    }
+
+    /// Marks the blocks of the parts that an area has.
+    fn mark_parts(&mut self, area: usize, found: &[Found])
+        ensures uses { self.new.uses.items ≡ parts_uses self.old.uses.items area 0 found.now }
+        ensures unsaved { self.new.unsaved ≡ self.old.unsaved }
+    {
+        'each: for (call, here) in found.iter().enumerate() {
+            self.mark_part(area, call, here);
+        }
+    }
+
+    /// Marks the blocks of a part.
+    fn mark_part(&mut self, area: usize, call: usize, found: &Found)
+        ensures uses { self.new.uses.items ≡ part_uses self.old.uses.items area call found.now }
+        ensures unsaved { self.new.unsaved ≡ self.old.unsaved }
+    {
+        if let Found::Part(part) = found {
+            self.mark(part.pair.0, BlockUse::Part { area, call });
+            self.mark(part.pair.1, BlockUse::Part { area, call });
+        }
+    }
+
+    /// Marks a block, where it is the table's.
+    fn mark(&mut self, block: u32, as_use: BlockUse)
+        ensures uses { self.new.uses.items ≡ slice_set self.old.uses.items block as_use }
+        ensures unsaved { self.new.unsaved ≡ self.old.unsaved }
+    {
+        let index = block as usize;
+        if index < self.uses.len() {
+            self.uses[index] = as_use;
+        }
+    }
+
+    /// Marks the blocks of a chain.
+    fn mark_chain(&mut self, blocks: &[u32])
+        ensures uses { self.new.uses.items ≡ chained self.old.uses.items blocks.now }
+        ensures unsaved { self.new.unsaved ≡ self.old.unsaved }
+    {
+        'each: for block in blocks {
+            self.mark(*block, BlockUse::Chain);
+        }
+    }
+
+    /// Marks the blocks of a file that is saved, and its last one with what is known of it.
+    fn settle_chain(&mut self, head: u32, as_head: BlockUse, blocks: &[u32])
+        ensures uses { self.new.uses.items ≡ settled self.old.uses.items head as_head blocks.now }
+        ensures unsaved { self.new.unsaved ≡ self.old.unsaved }
+    {
+        if !blocks.is_empty() {
+            self.mark_chain(blocks);
+            self.mark(head, as_head);
+        }
+    }
+
+    /// Marks the blocks of an entry that stands here, where its file is saved.
+    pub(crate) fn settle(&mut self, home: Home, body: &FileBody)
+        ensures uses { self.new.uses.items ≡ uses_behind self.old.uses.items home (fate_held body.now) }
+        ensures unsaved { self.new.unsaved ≡ self.old.unsaved }
+    {
+        if let FileBody::Chain { head, blocks, size } = body {
+            self.settle_chain(*head, BlockUse::Head { home, size: *size }, blocks);
+        }
+    }
+
+    /// Keeps an entry that stands here, where its file isn't saved, and why.
+    pub(crate) fn keep_unsaved(&mut self, home: Home, body: &FileBody) -> Result<(), AllocError>
+        ensures unsaved { OnOk result (self.new.unsaved.items ≡ self.old.unsaved.items ++ unsaved home (fate_held body.now)) }
+        ensures uses { self.new.uses ≡ self.old.uses }
+    {
+        let why = match body {
+            FileBody::Lost(fault) => Why::Fault(*fault),
+            FileBody::Elsewhere(other) => Why::Elsewhere(*other),
+            FileBody::Inline => return Ok(()),
+            FileBody::Chain { .. } => return Ok(()),
+            FileBody::Passed => return Ok(()),
+        };
+        self.unsaved.push(Unsaved { home, why })?;
+        Ok(())
+    }
+}

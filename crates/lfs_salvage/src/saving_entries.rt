@@ -1,0 +1,151 @@
+//! Saving the entries of a part that is found.
+
+ghost use Rattle.std.specs.Prelude.{◌≡◌, ◌++◌, ℕ, List, IfErr, IfSome, OnOk, Some, option_map};
+ghost use Rattle.lfs_block.specs.Disk.{Disk};
+ghost use Rattle.lfs_extract.specs.Making.{contents_of};
+ghost use Rattle.lfs_extract.specs.declared.extract_fault.ExtractFault.TheVariants.{CannotWrite};
+ghost use Rattle.lfs_folder.specs.PathBelow.{name_in};
+ghost use Rattle.lfs_fs.specs.RowHeld.{row_body_held};
+ghost use Rattle.lfs_fs.specs.RowShown.{HasBlocks};
+ghost use Rattle.lfs_host.specs.Scene.{HasRefused, KeepsFiles};
+ghost use Rattle.lfs_meta.specs.BodyHeld.{body_held};
+ghost use Rattle.lfs_salvage.specs.AreaMade.{entries_made, entries_unsaved, entries_uses, entry_made, entry_uses, file_made, home_of};
+ghost use Rattle.lfs_salvage.specs.Below.{IsNameBelow, MakesBelow};
+ghost use Rattle.lfs_salvage.specs.Fate.{HasFileBlocks, fate, saved_bytes};
+ghost use Rattle.lfs_salvage.specs.FateHeld.{fate_held};
+ghost use Rattle.lfs_salvage.specs.Saving.{Saves};
+ghost use Rattle.lfs_salvage.specs.Unsaved.{unsaved};
+ghost use Rattle.lfs_salvage.specs.Word.{word};
+
+use crate::file_body::FileBody;
+use crate::home::Home;
+use crate::reading::file_of;
+use crate::salvage::Salvage;
+use crate::words::name_below;
+use lfs_block::Blocks;
+use lfs_extract::{ExtractFault, make_file};
+use lfs_fs::RowBody;
+use lfs_host::NewFolder;
+use lfs_meta::{Body, Entry};
+use std::alloc::Global;
+
+/// Where the bytes of a file are that is saved; none where none is.
+fn saved_body<'a>(stored: &'a Body, body: &'a FileBody) -> Option<RowBody<'a>>
+    ensures bytes { (d : Disk) → option_map (λ row. contents_of d (row_body_held row)) result ≡ saved_bytes d (body_held stored.now) (fate_held body.now) }
+    ensures there { (d : Disk) → HasFileBlocks d (fate_held body.now) → IfSome result (λ row. HasBlocks d (row_body_held row)) }
+{
+    match body {
+        FileBody::Inline => match stored {
+            Body::Inline(bytes) => Some(RowBody::Inline(bytes)),
+            Body::Chain { .. } => None,
+            Body::Directory(..) => None,
+        },
+        FileBody::Chain { blocks, size, .. } => Some(RowBody::Chain {
+            blocks,
+            size: *size,
+        }),
+        FileBody::Elsewhere(_) => None,
+        FileBody::Passed => None,
+        FileBody::Lost(_) => None,
+    }
+}
+
+/// Makes a file with a body's contents, under the host's word for a name in a folder.
+fn make_named<B: Blocks, F: NewFolder>(
+    alloc: Global,
+    disk: &B,
+    body: &RowBody<'_>,
+    name: &[u8],
+    above: &str,
+    folder: &mut F,
+) -> Result<(), ExtractFault>
+    requires blocks { HasBlocks (B.disk disk.now) (row_body_held body.now) }
+    ensures made { Saves result (F.known folder.old).made (F.known folder.new).made
+        (file_made (name_in above.now (word name.now)) (Some (contents_of (B.disk disk.now) (row_body_held body.now)))) }
+    ensures below { (top : List ℕ) → IsNameBelow top above.now → MakesBelow top (F.known folder.old).made (F.known folder.new).made }
+    ensures blamed { IfErr result (λ fault. fault ≡ CannotWrite → HasRefused (F.known folder.new)) }
+    ensures kept { KeepsFiles (F.known folder.old) (F.known folder.new) }
+{
+    let below = name_below(alloc, above, name)?;
+    make_file(disk, body, below.as_str(), folder)?;
+    Ok(())
+}
+
+/// Makes the file of an entry, where it is saved.
+fn make_entry<B: Blocks, F: NewFolder>(
+    alloc: Global,
+    disk: &B,
+    entry: &Entry,
+    body: &FileBody,
+    above: &str,
+    folder: &mut F,
+) -> Result<(), ExtractFault>
+    requires { HasFileBlocks (B.disk disk.now) (fate_held body.now) }
+    ensures made { Saves result (F.known folder.old).made (F.known folder.new).made
+        (file_made (name_in above.now (word entry.now.name)) (saved_bytes (B.disk disk.now) entry.now.body (fate_held body.now))) }
+    ensures below { (top : List ℕ) → IsNameBelow top above.now → MakesBelow top (F.known folder.old).made (F.known folder.new).made }
+    ensures blamed { IfErr result (λ fault. fault ≡ CannotWrite → HasRefused (F.known folder.new)) }
+    ensures kept { KeepsFiles (F.known folder.old) (F.known folder.new) }
+{
+    match saved_body(&entry.body, body) {
+        Some(row) => make_named(alloc, disk, &row, &entry.name, above, folder),
+        None => Ok(()),
+    }
+}
+
+/// Saves an entry that stands here, in a folder: its file is made there, or it is kept why it isn't.
+fn save_entry<B: Blocks, F: NewFolder>(
+    alloc: Global,
+    disk: &B,
+    entry: &Entry,
+    home: Home,
+    above: &str,
+    salvage: &mut Salvage,
+    folder: &mut F,
+) -> Result<(), ExtractFault>
+    ensures made { Saves result (F.known folder.old).made (F.known folder.new).made
+        (entry_made (B.disk disk.now) above.now salvage.old.uses.items entry.now) }
+    ensures uses { OnOk result (salvage.new.uses.items ≡ entry_uses (B.disk disk.now) salvage.old.uses.items home entry.now) }
+    ensures unsaved { OnOk result (salvage.new.unsaved.items
+        ≡ salvage.old.unsaved.items ++ unsaved home (fate (B.disk disk.now) salvage.old.uses.items entry.now)) }
+    ensures below { (top : List ℕ) → IsNameBelow top above.now → MakesBelow top (F.known folder.old).made (F.known folder.new).made }
+    ensures blamed { IfErr result (λ fault. fault ≡ CannotWrite → HasRefused (F.known folder.new)) }
+    ensures kept { KeepsFiles (F.known folder.old) (F.known folder.new) }
+{
+    let body = file_of(alloc, disk, &salvage.uses, entry)?;
+    salvage.keep_unsaved(home, &body)?;
+    make_entry(alloc, disk, entry, &body, above, folder)?;
+    salvage.settle(home, &body);
+    Ok(())
+}
+
+/// Saves the entries of the part that is found at a call of an area, in a folder.
+pub(crate) fn save_entries<B: Blocks, F: NewFolder>(
+    alloc: Global,
+    disk: &B,
+    entries: &[Entry],
+    area: usize,
+    call: usize,
+    above: &str,
+    salvage: &mut Salvage,
+    folder: &mut F,
+) -> Result<(), ExtractFault>
+    ensures made { Saves result (F.known folder.old).made (F.known folder.new).made
+        (entries_made (B.disk disk.now) above.now salvage.old.uses.items area call 0 entries.now) }
+    ensures uses { OnOk result (salvage.new.uses.items ≡ entries_uses (B.disk disk.now) salvage.old.uses.items area call 0 entries.now) }
+    ensures unsaved { OnOk result (salvage.new.unsaved.items
+        ≡ salvage.old.unsaved.items ++ entries_unsaved (B.disk disk.now) salvage.old.uses.items area call 0 entries.now) }
+    ensures below { (top : List ℕ) → IsNameBelow top above.now → MakesBelow top (F.known folder.old).made (F.known folder.new).made }
+    ensures blamed { IfErr result (λ fault. fault ≡ CannotWrite → HasRefused (F.known folder.new)) }
+    ensures kept { KeepsFiles (F.known folder.old) (F.known folder.new) }
+{
+    'each: for (index, entry) in entries.iter().enumerate() {
+        let home = Home {
+            area,
+            call,
+            entry: index,
+        };
+        save_entry(alloc, disk, entry, home, above, salvage, folder)?;
+    }
+    Ok(())
+}
