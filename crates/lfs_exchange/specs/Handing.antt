@@ -15,7 +15,7 @@ use Rattle.lfs_history.specs.declared.moves.Move.TheVariants.{Do}
 use Rattle.lfs_history.specs.declared.source.Source.{Source}
 use Rattle.lfs_history.specs.declared.source.Source.TheVariants.{File, Input}
 use Rattle.lfs_request.specs.declared.query.Query.{Query}
-use Rattle.lfs_request.specs.declared.query.Query.TheVariants.{Check, Ls, Cat, Diff, Log}
+use Rattle.lfs_request.specs.declared.query.Query.TheVariants.{Check, Ls, Blocks, Cat, Diff, Log}
 use Rattle.lfs_request.specs.Query.{Question}
 use Rattle.lfs_host.specs.declared.read_fault.ReadFault.{ReadFault}
 use Rattle.lfs_host.specs.declared.read_fault.ReadFault.TheVariants as reading
@@ -63,6 +63,7 @@ LeavesInput step old new = reads_input step ≡ false → new.typed ≡ old.type
 abbrev pub HandsQuestion : Option Files → Query (Bor (List ℕ)) → Question → Type 0
 HandsQuestion files Check Check = ⊤
 HandsQuestion files Ls Ls = ⊤
+HandsQuestion files (Blocks sums) (Blocks same) = same ≡ sums
 HandsQuestion files (Cat path) (Cat text) = text ≡ path
 HandsQuestion files (Diff name size) (Diff other other_size) = ReadsFile files name.now most_image other.items × (other_size ≡ size)
 HandsQuestion files Log Log = ⊤

@@ -221,6 +221,7 @@ pub fn question_of<'a, H: Host>(
     match *query {
         Query::Check => Ok(Query::Check),
         Query::Ls => Ok(Query::Ls),
+        Query::Blocks { sums } => Ok(Query::Blocks { sums }),
         Query::Cat { path } => Ok(Query::Cat { path }),
         Query::Diff { other, size } => Ok(Query::Diff {
             other: read_other(alloc, host, 0, other)?,

@@ -31,7 +31,8 @@ pub fn kind_of_query<O>(query: &Query<'_, O>) -> StepKind
 {
     match query {
         Query::Log => StepKind::Recounts,
-        Query::Check | Query::Ls | Query::Cat { .. } | Query::Diff { .. } => StepKind::Asks,
+        Query::Check | Query::Ls | Query::Blocks { .. } | Query::Cat { .. } | Query::Diff { .. } =>
+            StepKind::Asks,
     }
 }
 

@@ -108,6 +108,19 @@ checking_says : (text_at (codes "device") checking ≡ Some (Some (codes "true")
 unfolding clap_on_literals
 checking_says = (refl, refl, refl, refl)
 
+-- lfsed blocks --sum a.img, and without it
+abbrev summing : List Text
+summing = codes "lfsed" ∷ codes "blocks" ∷ codes "--sum" ∷ codes "a.img" ∷ []
+
+summing_is_taken : IsTaken summing
+unfolding clap_on_literals
+summing_is_taken = refl
+
+summing_says : (text_at (codes "sum") summing ≡ Some (Some (codes "true")))
+    × (text_at (codes "sum") (codes "lfsed" ∷ codes "blocks" ∷ codes "a.img" ∷ []) ≡ Some (Some (codes "false")))
+unfolding clap_on_literals
+summing_says = (refl, refl)
+
 -- lfsed find flash.bin
 abbrev finding : List Text
 finding = codes "lfsed" ∷ codes "find" ∷ codes "flash.bin" ∷ []

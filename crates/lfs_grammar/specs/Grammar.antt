@@ -99,6 +99,10 @@ script = record (new_rule (codes "script")) { value_names = 1 }
 abbrev pub is_new : Rule
 is_new = flag (codes "new")
 
+-- it is printed how many blocks each path takes
+abbrev pub sum : Rule
+sum = flag (codes "sum")
+
 -- images are read as a device does
 abbrev pub device : Rule
 device = flag (codes "device")
@@ -140,6 +144,7 @@ rule_at argument.NameMaxOrSource = name_max_or_source
 rule_at argument.FileMaxOrSource = file_max_or_source
 rule_at argument.AttrMaxOrSource = attr_max_or_source
 rule_at argument.New = is_new
+rule_at argument.Sum = sum
 rule_at argument.Device = device
 rule_at argument.Offset = offset
 rule_at argument.OffsetInSource = offset
@@ -251,6 +256,7 @@ commands =
     ∷ asking (codes "extract") (word (codes "dir") ∷ [])
     ∷ asking (codes "check") []
     ∷ asking (codes "ls") []
+    ∷ asking (codes "blocks") (sum ∷ [])
     ∷ asking (codes "cat") (word (codes "path") ∷ [])
     ∷ asking (codes "diff") (word (codes "other") ∷ [])
     ∷ reading (codes "log") []

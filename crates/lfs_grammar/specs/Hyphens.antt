@@ -32,7 +32,7 @@ names_view_option word = begins_with word (codes "--device") || begins_with word
 abbrev pub names_image_option : Text → Bool
 names_image_option word =
     begins_with word (codes "--block") || names_view_option word || begins_with word (codes "--older")
-    || begins_with word (codes "--from")
+    || begins_with word (codes "--from") || begins_with word (codes "--sum")
 
 -- an option by its long name
 abbrev pub names_long_option : Text → Bool

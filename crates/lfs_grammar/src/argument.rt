@@ -39,6 +39,8 @@ pub(crate) enum Argument {
     AttrMaxOrSource,
     /// That no file is replaced.
     New,
+    /// That it is printed how many blocks each path takes.
+    Sum,
     /// That images are read as a device does.
     Device,
     /// Where in its file an image begins.
@@ -215,6 +217,13 @@ static NEW: ArgumentRow = ArgumentRow {
     help: "Refuse to replace a file that is there",
 };
 
+/// That it is printed how many blocks each path takes.
+static SUM: ArgumentRow = ArgumentRow {
+    id: "sum",
+    form: Form::Flag,
+    help: "Print how many blocks each path takes, with all that is below it",
+};
+
 /// That images are read as a device does.
 static DEVICE: ArgumentRow = ArgumentRow {
     id: "device",
@@ -381,6 +390,7 @@ fn row_of(argument: Argument) -> &'static ArgumentRow
         Argument::FileMaxOrSource => &FILE_MAX_OR_SOURCE,
         Argument::AttrMaxOrSource => &ATTR_MAX_OR_SOURCE,
         Argument::New => &NEW,
+        Argument::Sum => &SUM,
         Argument::Device => &DEVICE,
         Argument::Offset => &OFFSET,
         Argument::OffsetInSource => &OFFSET_IN_SOURCE,

@@ -47,7 +47,7 @@ pub const REPACK_USAGE: &str = "lfsed repack [OPTIONS] <IMAGE> <SOURCE>";
 pub const GROW_USAGE: &str = "lfsed grow [OPTIONS] <IMAGE> <COUNT|--size <BYTES>>";
 
 /// The program's commands, in the order of its help. Each but the last takes the block size and the image's file name.
-static COMMANDS: [CommandRow; 22] = [
+static COMMANDS: [CommandRow; 23] = [
     CommandRow {
         name: "format",
         about: "Write a new image, in place of a file of this name",
@@ -139,6 +139,19 @@ static COMMANDS: [CommandRow; 22] = [
         arguments: &[
             Argument::Block,
             Argument::Image,
+            Argument::Device,
+            Argument::Offset,
+            Argument::Older,
+        ],
+    },
+    CommandRow {
+        name: "blocks",
+        about: "Print which blocks hold what, and which are free",
+        usage: None,
+        arguments: &[
+            Argument::Block,
+            Argument::Image,
+            Argument::Sum,
             Argument::Device,
             Argument::Offset,
             Argument::Older,

@@ -53,6 +53,7 @@ fn names_image_option(word: &str) -> bool
         || names_view_option(word)
         || word.starts_with("--older")
         || word.starts_with("--from")
+        || word.starts_with("--sum")
 }
 
 /// Whether a word is an option that says how an image is looked at, by its long name.

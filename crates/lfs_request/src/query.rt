@@ -9,6 +9,11 @@ pub enum Query<'a, O> {
     Check,
     /// What stands at each path.
     Ls,
+    /// Which block holds what.
+    Blocks {
+        /// In place of that, how many blocks each path takes.
+        sums: bool,
+    },
     /// The contents of a file.
     Cat {
         /// The text of the file's path.

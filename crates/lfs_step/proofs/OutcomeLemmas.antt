@@ -7,7 +7,7 @@ use Rattle.lfs_request.specs.declared.fault.Fault.{Fault}
 use Rattle.lfs_request.specs.declared.fault.Fault.TheVariants.{Image}
 use Rattle.lfs_request.specs.declared.outcome.Outcome.{Outcome}
 use Rattle.lfs_block.proofs.BytesLemmas.{at_bytes}
-use Rattle.lfs_request.specs.declared.query.Query.TheVariants.{Check, Ls, Cat, Diff, Log}
+use Rattle.lfs_request.specs.declared.query.Query.TheVariants.{Check, Ls, Blocks, Cat, Diff, Log}
 use Rattle.lfs_step.specs.declared.step.Step.{Step}
 use Rattle.lfs_step.specs.declared.step.Step.TheVariants.{Ask}
 use Rattle.lfs_step.specs.Asking.{RefusesAsked, RefusesQuery, SendsAsked}
@@ -23,6 +23,7 @@ AnswersBy fault step g outcome =
 no_image : (q : Question) (d : Disk) (journal : List ℕ) (f : _) → RefusesAsked q d journal (Image f) → ⊥
 no_image Check d journal f refuses = refuses
 no_image Ls d journal f refuses = refuses
+no_image (Blocks sums) d journal f refuses = refuses
 no_image (Cat path) d journal f refuses = refuses
 no_image (Diff other size) d journal f refuses = refuses.1
 no_image Log d journal f refuses = refuses

@@ -1,5 +1,5 @@
 -- What is answered to a query of an image alone, and why nothing is (own).
-use Rattle.std.specs.Prelude.{ℕ, ◌≡◌, ◌⊎◌, ◌≤◌, List, Option, Some, None, length, take}
+use Rattle.std.specs.Prelude.{ℕ, ◌≡◌, ◌⊎◌, ◌≤◌, Bool, true, false, List, Option, Some, None, length, take}
 use Rattle.std.specs.Io.KnownBytes.{Appends, Keeps}
 use Rattle.lfs_block.specs.Disk.{Disk}
 use Rattle.lfs_fs.specs.Cause.{HasCause}
@@ -7,20 +7,28 @@ use Rattle.lfs_fs.specs.Mounted.{MountedValue, IsMountOf}
 use Rattle.lfs_command.specs.declared.refusal.Refusal.{Refusal}
 use Rattle.lfs_command.specs.declared.refusal.Refusal.TheVariants.{Memory}
 use Rattle.lfs_contents.specs.Contents.{IsContents, RefusesContents}
-use Rattle.lfs_listing.specs.Listing.{listing}
+use Rattle.lfs_listing.specs.BlockMap.{block_map}
+use Rattle.lfs_listing.specs.BlockSums.{block_sums}
+use Rattle.lfs_listing.specs.Listing.{listing, shown_byte}
 use Rattle.lfs_listing.specs.declared.unsent.Unsent.{Unsent}
 use Rattle.lfs_listing.specs.declared.unsent.Unsent.TheVariants as unsent
 use Rattle.lfs_request.specs.declared.fault.Fault.{Fault}
 use Rattle.lfs_request.specs.declared.fault.Fault.TheVariants.{Mount, Refused, CannotWrite}
 use Rattle.lfs_request.specs.Query.{Question}
-use Rattle.lfs_request.specs.declared.query.Query.TheVariants.{Check, Ls, Cat}
+use Rattle.lfs_request.specs.declared.query.Query.TheVariants.{Check, Ls, Blocks, Cat}
 use Rattle.lfs_sink.specs.Send.{SendsBeginning}
 use Rattle.lfs_step.specs.Summary.{summary}
+
+-- which block holds what, or in place of that how many blocks each path takes
+abbrev pub blocks_text : Bool → MountedValue → List ℕ
+blocks_text true mounted = block_sums shown_byte mounted.outline mounted.rows
+blocks_text false mounted = block_map shown_byte mounted.outline mounted.rows
 
 -- the text that answers a query of an image alone, which mounts
 abbrev pub IsAnswer : Question → Disk → List ℕ → Type 0
 IsAnswer Check disk text = (mounted : MountedValue) × IsMountOf disk mounted × (text ≡ summary disk mounted)
 IsAnswer Ls disk text = (mounted : MountedValue) × IsMountOf disk mounted × (text ≡ listing mounted.rows)
+IsAnswer (Blocks sums) disk text = (mounted : MountedValue) × IsMountOf disk mounted × (text ≡ blocks_text sums mounted)
 IsAnswer (Cat path) disk text = IsContents disk path.now text
 IsAnswer _ disk text = ⊥
 
@@ -46,12 +54,13 @@ abbrev pub SendsSome : Question → Disk → Option (List ℕ) → Option (List 
 SendsSome query disk old new =
     Keeps old new ⊎ ((text : List ℕ) × IsAnswer query disk text × (n : ℕ) × (n ≤ length text) × Appends old new (take n text))
 
--- what goes out on an image: the whole text, a beginning of it where standard output failed, else nothing; of a listing, which is
--- written row by row, some where memory was refused
+-- what goes out on an image: the whole text, a beginning of it where standard output failed, else nothing; of a listing, and of what is
+-- said of blocks, which are written line by line, some where memory was refused
 abbrev pub SendsReport : Question → Disk → Option Fault → Option (List ℕ) → Option (List ℕ) → Type 0
 SendsReport query disk None old new = (text : List ℕ) × IsAnswer query disk text × Appends old new text
 SendsReport query disk (Some CannotWrite) old new = (text : List ℕ) × IsAnswer query disk text × SendsBeginning old new text
 SendsReport Ls disk (Some (Refused refusal)) old new = SendsSome Ls disk old new
+SendsReport (Blocks sums) disk (Some (Refused refusal)) old new = SendsSome (Blocks sums) disk old new
 SendsReport query disk (Some fault) old new = Keeps old new
 
 -- a listing that didn't go out as a whole is told as want of memory, or as standard output that failed

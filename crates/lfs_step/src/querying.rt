@@ -2,12 +2,14 @@
 
 ghost use Rattle.std.specs.Prelude.{◌≡◌, false, IfErr};
 ghost use Rattle.std.specs.Result.{result_err};
+ghost use Rattle.lfs_block.specs.Disk.{Disk};
 ghost use Rattle.lfs_fs.specs.Mounted.{IsMountOf};
+ghost use Rattle.lfs_listing.specs.Unsent.{SendsListing, blames_sink};
 ghost use Rattle.lfs_request.specs.Fault.{blames_output, status_of};
 ghost use Rattle.lfs_step.specs.Asking.{RefusesAsked, SendsAsked};
 ghost use Rattle.lfs_step.specs.Outcome.{Answers, SendsText, given};
-ghost use Rattle.lfs_step.specs.Query.{RefusesReport, SendsReport};
-ghost use Rattle.lfs_request.specs.declared.query.Query.TheVariants.{Cat, Check, Ls};
+ghost use Rattle.lfs_step.specs.Query.{RefusesReport, SendsReport, blocks_text};
+ghost use Rattle.lfs_request.specs.declared.query.Query.TheVariants.{Blocks, Cat, Check, Ls};
 ghost use Rattle.lfs_step.specs.declared.step.Step.TheVariants.{Ask};
 
 use crate::comparing::compare_bytes;
@@ -17,7 +19,7 @@ use crate::summary::summary;
 use lfs_block::Image;
 use lfs_contents::send_file;
 use lfs_fs::{Mounted, mount};
-use lfs_listing::send_listing;
+use lfs_listing::{Unsent, send_block_map, send_block_sums, send_listing};
 use lfs_request::{Fault, Outcome, Place, Query};
 use lfs_sink::{Sink, send};
 use std::alloc::Global;
@@ -72,6 +74,7 @@ fn report<S: Sink>(
     match query {
         Query::Check => say_summary(alloc, image, out),
         Query::Ls => say_listing(alloc, image, out),
+        Query::Blocks { sums } => say_blocks(alloc, image, sums, out),
         Query::Cat { path } => say_contents(alloc, image, path, place, out),
         Query::Diff { other, size } => compare_bytes(alloc, image, size, other, out),
         Query::Log => recount(alloc, image, journal, out),
@@ -103,6 +106,43 @@ fn say_listing<S: Sink>(alloc: Global, image: &Image, out: &mut S) -> Result<(),
 {
     let mounted = mount(alloc, image)?;
     let sent = send_listing(alloc, mounted.rows(), out);
+    forget(mounted);
+    match sent {
+        Ok(()) => Ok(()),
+        Err(unsent) => Err(fault_of_listing(unsent)),
+    }
+}
+
+/// Sends which block of a mounted image holds what, or in place of that how many blocks each path takes.
+fn send_blocks<S: Sink>(
+    alloc: Global,
+    mounted: &Mounted,
+    sums: bool,
+    out: &mut S,
+) -> Result<(), Unsent>
+    requires mounted { (disk : Disk) × IsMountOf disk mounted.now }
+    requires works { S.failed out.old ≡ false }
+    ensures sent { SendsListing (result_err result) (S.sent out.old) (S.sent out.new) (blocks_text sums mounted.now) }
+    ensures failed { S.failed out.new ≡ blames_sink (result_err result) }
+    ensures kept { S.kept out.new ≡ S.kept out.old }
+{
+    if sums {
+        send_block_sums(alloc, mounted, out)
+    } else {
+        send_block_map(alloc, mounted, out)
+    }
+}
+
+/// Says which block of an image holds what, or how many blocks each path takes, line by line.
+fn say_blocks<S: Sink>(alloc: Global, image: &Image, sums: bool, out: &mut S) -> Result<(), Fault>
+    requires { S.failed out.old ≡ false }
+    ensures refused { IfErr result (λ fault. RefusesReport (Blocks sums) image.now.disk fault) }
+    ensures sent { SendsReport (Blocks sums) image.now.disk (result_err result) (S.sent out.old) (S.sent out.new) }
+    ensures failed { S.failed out.new ≡ blames_output (result_err result) }
+    ensures kept { S.kept out.new ≡ S.kept out.old }
+{
+    let mounted = mount(alloc, image)?;
+    let sent = send_blocks(alloc, &mounted, sums, out);
     forget(mounted);
     match sent {
         Ok(()) => Ok(()),

@@ -1,3 +1,4 @@
 pub mod AutoLemmas
 pub mod Handed
+pub mod NameLemmas
 pub mod OptionLemmas

@@ -26,7 +26,7 @@ use Rattle.lfs_request.specs.declared.task.Task.{Task}
 use Rattle.lfs_request.specs.declared.task.Task.TheVariants as task
 use Rattle.lfs_request.specs.declared.task.Task.TheVariants.{Format, Pack, Repack, Extract, Ask, Change, Batch}
 use Rattle.lfs_request.specs.declared.query.Query.{Query}
-use Rattle.lfs_request.specs.declared.query.Query.TheVariants.{Check, Ls, Cat, Diff, Log}
+use Rattle.lfs_request.specs.declared.query.Query.TheVariants.{Check, Ls, Blocks, Cat, Diff, Log}
 use Rattle.lfs_texts.specs.Digits.{SpellsByte, SpellsBytes, SpellsNoByte, SpellsNoBytes}
 use Rattle.lfs_texts.specs.Sizes.{IsSizeFault, SaysBlock, SaysBlocks, SaysBytes, SaysNoBlock, SaysNoBytes}
 use Rattle.lfs_texts.specs.declared.reason.Reason.TheVariants.{BadKind, BadValue}
@@ -172,6 +172,7 @@ IsKept number rows = HasNumberIfSaid rows keep number
 abbrev pub IsQuery : Query (Bor (List ℕ)) → Text → List Row → ℕ → Type 0
 IsQuery Check name rows other = name ≡ codes "check"
 IsQuery Ls name rows other = name ≡ codes "ls"
+IsQuery (Blocks sums) name rows other = (name ≡ codes "blocks") × (sums ≡ is_flagged (codes "sum") rows)
 IsQuery (Cat path) name rows other = (name ≡ codes "cat") × HasText rows (codes "path") path.now
 IsQuery (Diff name_of_other size) name rows other =
     (name ≡ codes "diff") × HasText rows (codes "other") name_of_other.now × (size ≡ other)
@@ -242,7 +243,7 @@ is_other name = is_command name || bytes_eq (codes "find") name || bytes_eq (cod
 -- a command that asks something of an image
 abbrev pub is_question : Text → Bool
 is_question name =
-    list_any (λ other. bytes_eq other name) (codes "check" ∷ codes "ls" ∷ codes "cat" ∷ codes "diff" ∷ codes "log" ∷ [])
+    list_any (λ other. bytes_eq other name) (codes "check" ∷ codes "ls" ∷ codes "blocks" ∷ codes "cat" ∷ codes "diff" ∷ codes "log" ∷ [])
 
 -- `auto` is said for the block size by an option, and this file is named by an argument
 abbrev pub SaysAuto : Text → Text → Option (Text × List Row) → Text → Type 0

@@ -33,6 +33,9 @@ fn question_of<'a>(
     match name {
         "check" => Ok(Query::Check),
         "ls" => Ok(Query::Ls),
+        "blocks" => Ok(Query::Blocks {
+            sums: said(options, "sum"),
+        }),
         "cat" => Ok(Query::Cat {
             path: bytes(options, "path")?,
         }),

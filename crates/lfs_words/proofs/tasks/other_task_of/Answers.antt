@@ -7,6 +7,7 @@ use Rattle.lfs_grammar.specs.Grammar.{NamesCommand, count, is_change, steps, wor
 use Rattle.lfs_grammar.proofs.CommandLemmas.{count_is, said_of, says_of, steps_is}
 use Rattle.lfs_words.specs.Words.{IsSizeMisuse, IsTask}
 use Rattle.lfs_words.proofs.Handed.{handed_on}
+use Rattle.lfs_words.proofs.NameLemmas.{other_named}
 use Rattle.lfs_words.proofs.tasks.other_task_of.Goals as goal
 
 pub returns-in_err-count_of-in-format-clause-refused : goal.returns-in_err-count_of-in-format-clause-refused
@@ -143,3 +144,12 @@ pub returns-in-batch-clause-within : goal.returns-in-batch-clause-within
 returns-in-batch-clause-within c = λ names.
     let changes : is_change c.args.name.now ≡ true = ap is_change c.in-batch.is in
     c.keep_of.ensures.within c.args.name.now changes names
+
+pub returns-in_err-question_of-in_default-clause-unsaid : goal.returns-in_err-question_of-in_default-clause-unsaid
+returns-in_err-question_of-in_default-clause-unsaid c =
+    let on = c.from_residual-in_err-question_of-in_default in
+    let h = c.in_default in
+    handed_on on.result c.in_err-question_of-in_default.field-0.0 _ on.ensures.1
+    (λ is names.
+    other_named c.args.name.now (rows_of (found_of c.args.options.now)) names h.not-batch h.not-format h.not-pack h.not-repack h.not-extract
+    h.not-undo h.not-redo h.not-forget (c.in_err-question_of-in_default.ensures.unsaid names))
