@@ -10,6 +10,8 @@ use std::alloc::Global;
 pub struct Beside {
     /// Commits of later disk versions in what was read as an image.
     pub later: Later,
+    /// Whether the image is read as a device does.
+    pub by_device: bool,
     /// The text that the statement of a stop speaks of; empty where it speaks of none.
     pub text: Vec<u8>,
 }
@@ -24,6 +26,7 @@ impl Beside {
                 image: None,
                 other: None,
             },
+            by_device: false,
             text: Vec::new(alloc),
         }
     }

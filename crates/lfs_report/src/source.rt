@@ -4,10 +4,10 @@ ghost use Rattle.std.specs.Prelude.{◌≡◌};
 ghost use Rattle.lfs_request.specs.declared.fault.Fault.TheVariants.{Other};
 ghost use Rattle.lfs_request.specs.declared.other_fault.OtherFault.TheVariants as other;
 
+use crate::beside::Beside;
 use crate::stated::{Sight, statement_for};
 use crate::stop::Stop;
-use crate::stopping::blocks_in;
-use crate::superblock::superblock_statement;
+use crate::stopping::{blocks_in, statement_of_mount};
 use lfs_block::{Image, ImageFault, MountFault};
 use lfs_request::{Fault, OtherFault};
 use std::alloc::Global;
@@ -27,21 +27,22 @@ pub fn stop_of_source_bytes(fault: ImageFault, size: u32, bytes: &[u8]) -> Stop
     }
 }
 
-/// Why the image that a new one is made of didn't mount, with what it states; `seen` is what was seen of its bytes. Takes memory, and tells
-/// of nothing more where it is refused.
+/// Why the image that a new one is made of didn't mount, with what it states, or with the place of its fault, whose text is put into
+/// `beside`; `seen` is what was seen of its bytes. Takes memory, and tells of nothing more where it is refused.
 ///
 /// Source: own.
-pub fn stop_of_source(alloc: Global, fault: MountFault, image: &Image, seen: Sight) -> Stop
+pub fn stop_of_source(
+    alloc: Global,
+    fault: MountFault,
+    image: &Image,
+    seen: Sight,
+    beside: &mut Beside,
+) -> Stop
     ensures { result.fault ≡ Other (other.Mount fault) }
 {
-    let told = Fault::Other(OtherFault::Mount(fault));
-    let statement = match fault {
-        MountFault::Geometry | MountFault::Version => superblock_statement(alloc, fault, image),
-        _ => statement_for(told, Sight::none(), seen),
-    };
     Stop {
-        fault: told,
-        statement,
+        fault: Fault::Other(OtherFault::Mount(fault)),
+        statement: statement_of_mount(alloc, fault, image, seen, beside),
         count: None,
         at: 0,
     }

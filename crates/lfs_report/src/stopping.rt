@@ -2,6 +2,8 @@
 
 ghost use Rattle.std.specs.Prelude.{◌≡◌};
 
+use crate::beside::Beside;
+use crate::fault_place::statement_at;
 use crate::path_note::{PathNote, note_of};
 use crate::seen::Seen;
 use crate::stated::{Sight, Statement, statement_for};
@@ -27,8 +29,9 @@ pub fn stop_of_image(fault: Fault, size: u32, bytes: &[u8]) -> Stop
     }
 }
 
-/// Why a step that was run for a request ended early, with what its image states, what is known of its path there, or what its journal
-/// has; `seen` is what was seen of the step before. Takes memory, and tells of nothing more where it is refused.
+/// Why a step that was run for a request ended early, with what its image states, the place of its fault, whose text is put into `beside`,
+/// what is known of its path there, or what its journal has; `seen` is what was seen of the step before. Takes memory, and tells of
+/// nothing more where it is refused.
 ///
 /// Source: own.
 pub fn stop_of_run(
@@ -37,6 +40,7 @@ pub fn stop_of_run(
     fault: Fault,
     outcome: Outcome,
     seen: Seen,
+    beside: &mut Beside,
 ) -> Stop
     ensures fault { result.fault ≡ fault }
     ensures at { result.at ≡ outcome.at }
@@ -52,7 +56,8 @@ pub fn stop_of_run(
             refusal,
             outcome.place,
         )),
-        fault => statement_of_run(alloc, size, fault, outcome.image, seen.other),
+        Fault::Mount(fault) => statement_of_bytes(alloc, size, fault, outcome.image, beside),
+        fault => statement_for(fault, Sight::of(size, &outcome.image), seen.other),
     };
     Stop {
         fault,
@@ -62,36 +67,18 @@ pub fn stop_of_run(
     }
 }
 
-/// What is known beside a fault of these bytes of an image, or of the one that it is compared with.
-fn statement_of_run(
-    alloc: Global,
-    size: u32,
-    fault: Fault,
-    bytes: Vec<u8>,
-    other: Sight,
-) -> Option<Statement> {
-    match fault {
-        Fault::Mount(fault @ (MountFault::Geometry | MountFault::Version)) => {
-            statement_of_bytes(alloc, size, fault, bytes)
-        }
-        fault => statement_for(fault, Sight::of(size, &bytes), other),
-    }
-}
-
-/// Why a folder wasn't made of an image, with what that states. Takes memory, and tells of nothing more where it is refused.
+/// Why a folder wasn't made of an image, with what that states, or with the place of its fault, whose text is put into `beside`. Takes
+/// memory, and tells of nothing more where it is refused.
 ///
 /// Source: own.
-pub fn stop_of_extracting(alloc: Global, fault: Fault, image: Image) -> Stop
+pub fn stop_of_extracting(alloc: Global, fault: Fault, image: Image, beside: &mut Beside) -> Stop
     ensures { result.fault ≡ fault }
 {
+    let size = image.size();
+    let bytes = image.into_bytes();
     let statement = match fault {
-        Fault::Mount(fault @ (MountFault::Geometry | MountFault::Version)) => {
-            superblock_statement(alloc, fault, &image)
-        }
-        fault => {
-            let size = image.size();
-            statement_for(fault, Sight::of(size, &image.into_bytes()), Sight::none())
-        }
+        Fault::Mount(fault) => statement_of_bytes(alloc, size, fault, bytes, beside),
+        fault => statement_for(fault, Sight::of(size, &bytes), Sight::none()),
     };
     Stop {
         fault,
@@ -101,16 +88,36 @@ pub fn stop_of_extracting(alloc: Global, fault: Fault, image: Image) -> Stop
     }
 }
 
-/// What the superblock states of bytes that are an image, behind a fault of its geometry or its version.
+/// What is known of bytes that are an image, behind a fault for which it doesn't mount.
 fn statement_of_bytes(
     alloc: Global,
     size: u32,
     fault: MountFault,
     bytes: Vec<u8>,
+    beside: &mut Beside,
 ) -> Option<Statement> {
+    let seen = Sight::of(size, &bytes);
     match Image::new(bytes, size) {
-        Ok(image) => superblock_statement(alloc, fault, &image),
+        Ok(image) => statement_of_mount(alloc, fault, &image, seen, beside),
         Err(_) => None,
+    }
+}
+
+/// What is known of an image that doesn't mount: what its superblock states, behind a fault of its geometry or its version; else the first
+/// place of the fault, or what is seen of the image. Takes memory.
+pub(crate) fn statement_of_mount(
+    alloc: Global,
+    fault: MountFault,
+    image: &Image,
+    seen: Sight,
+    beside: &mut Beside,
+) -> Option<Statement> {
+    match fault {
+        MountFault::Geometry | MountFault::Version => superblock_statement(alloc, fault, image),
+        _ => {
+            let usual = statement_for(Fault::Mount(fault), seen, Sight::none());
+            statement_at(alloc, image, fault, usual, beside)
+        }
     }
 }
 

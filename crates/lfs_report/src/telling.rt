@@ -62,6 +62,7 @@ fn tell_of<H: Host>(host: &mut H, request: &Request<'_>, stop: &Stop, text: &[u8
         _ => {}
     }
     match (stop.statement, hint_of(request)) {
+        (Some(Statement::Expanded), None) if !text.is_empty() => tell_place(host, image, text),
         (None, _) | (Some(Statement::Expanded), None) => {
             tell_refused(host, request, image, stop.fault);
         }
@@ -77,6 +78,13 @@ fn tell_refused<H: Host>(host: &mut H, request: &Request<'_>, image: &str, fault
     if is_of_one_of_two(request, fault) {
         say_words(host, image, "this image is refused");
     }
+}
+
+/// Tells the place of a fault in the image of this name.
+fn tell_place<H: Host>(host: &mut H, image: &str, text: &[u8])
+    ensures kept { H.known host.new ≡ H.known host.old }
+{
+    say(host, image, &[Piece::Bytes(text)]);
 }
 
 /// Tells which limit of its geometry an image doesn't keep that a new one is made of.
@@ -280,6 +288,7 @@ fn tell_statement<H: Host>(
         Statement::Expanded => tell_expanded(host, image, hint),
         Statement::Length(len, size) => tell_part(host, image, len, size),
         Statement::Path(note) => tell_note(host, request, note),
+        Statement::Place => tell_place(host, image, text),
         Statement::Row(finding) => tell_row(host, image, text, finding),
         Statement::Line(number, flaw) => tell_line(host, request, text, number, flaw),
         Statement::Need(count) => tell_need(host, request, count),

@@ -161,6 +161,7 @@ asked : (query : Question) (size : ℕ) (name : List ℕ) (old new : Files) (h :
     → LeavesFiles (kind_of_query query) (Some old) (Some new) name outcome → StepLeads size name (Ask query) new h
 asked query.Check size name old new h outcome denotes same = asks query.Check size name old new h denotes same
 asked query.Ls size name old new h outcome denotes same = asks query.Ls size name old new h denotes same
+asked (query.Blocks sums) size name old new h outcome denotes same = asks (query.Blocks sums) size name old new h denotes same
 asked (query.Cat path) size name old new h outcome denotes same = asks (query.Cat path) size name old new h denotes same
 asked (query.Diff other other_size) size name old new h outcome denotes same = asks (query.Diff other other_size) size name old new h denotes same
 asked query.Log size name old new h outcome denotes same = asks query.Log size name old new h denotes same

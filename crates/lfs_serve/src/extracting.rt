@@ -44,14 +44,15 @@ pub(crate) fn extracted<H: Host>(
     };
     pass_alone(manner, request.size, &handed.image, beside)?;
     let image = read_by(alloc, view, request.size, handed.image)?;
-    extract_bytes(alloc, host, request.size, image, dir)
+    extract_bytes(alloc, host, request.size, beside, image, dir)
 }
 
-/// Makes a folder out of bytes that are an image.
+/// Makes a folder out of bytes that are an image. The text of what is told of its end is put into `beside`.
 fn extract_bytes<H: Host>(
     alloc: Global,
     host: &mut H,
     size: u32,
+    beside: &mut Beside,
     bytes: Vec<u8>,
     dir: &str,
 ) -> Result<(), Stop>
@@ -64,7 +65,7 @@ fn extract_bytes<H: Host>(
     };
     match extract_image(alloc, host, &image, dir) {
         Ok(()) => Ok(()),
-        Err(fault) => Err(stop_of_extracting(alloc, fault, image)),
+        Err(fault) => Err(stop_of_extracting(alloc, fault, image, beside)),
     }
 }
 

@@ -21,6 +21,7 @@ pub(crate) fn pass_alone(
     ensures { stopped_by result ≡ refused_by manner (later_alone size bytes.now) }
 {
     if manner.view.by_device {
+        beside.by_device = true;
         return Ok(());
     }
     pass(manner, later_alone(size, bytes), beside)
@@ -37,6 +38,7 @@ pub(crate) fn pass_step(
     ensures { stopped_by result ≡ refused_by manner (later_read step.now size image.now) }
 {
     if manner.view.by_device {
+        beside.by_device = true;
         return Ok(());
     }
     pass(manner, later_read(step, size, image), beside)
@@ -52,6 +54,7 @@ pub(crate) fn pass_source(
     ensures { stopped_by result ≡ refused_by manner (later_in_source size bytes.now) }
 {
     if manner.view.by_device {
+        beside.by_device = true;
         return Ok(());
     }
     pass(manner, later_in_source(size, bytes), beside)

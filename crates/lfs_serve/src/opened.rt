@@ -30,7 +30,8 @@ pub(crate) struct Opened {
     pub(crate) rows: Vec<SourceRow>,
 }
 
-/// Opens an image that a new one is made of. What commits of a later version stand in it is put into `beside`. Takes memory.
+/// Opens an image that a new one is made of. What commits of a later version stand in it is put into `beside`, and the text of what is told
+/// where it is refused. Takes memory.
 pub(crate) fn open_source<H: Host>(
     alloc: Global,
     host: &mut H,
@@ -42,7 +43,7 @@ pub(crate) fn open_source<H: Host>(
     ensures kept { KeepsAll (H.known host.old) (H.known host.new) }
 {
     let bytes = source_bytes(alloc, host, beside, source)?;
-    opened_as(alloc, source.size, bytes)
+    opened_as(alloc, source.size, bytes, beside)
 }
 
 /// The bytes of its file, as they are read in its manner.
@@ -63,24 +64,24 @@ fn source_bytes<H: Host>(
 }
 
 /// Opens the image that bytes are.
-fn opened_as(alloc: Global, size: u32, bytes: Vec<u8>) -> Result<Opened, Stop>
+fn opened_as(alloc: Global, size: u32, bytes: Vec<u8>, beside: &mut Beside) -> Result<Opened, Stop>
     ensures opened { IfOk result (IsOpenedAs size bytes.items) }
     ensures refused { IfErr result (λ stop. (stop.fault ≡ Refused Memory) ⊎ JudgesSource size bytes.items stop.fault) }
 {
     let seen = Sight::of(size, &bytes);
     match Image::new(bytes, size) {
-        Ok(image) => opened_on(alloc, &image, seen),
+        Ok(image) => opened_on(alloc, &image, seen, beside),
         Err((fault, bytes)) => Err(stop_of_source_bytes(fault, size, &bytes)),
     }
 }
 
 /// Opens an image, of which this is seen.
-fn opened_on(alloc: Global, image: &Image, seen: Sight) -> Result<Opened, Stop>
+fn opened_on(alloc: Global, image: &Image, seen: Sight, beside: &mut Beside) -> Result<Opened, Stop>
     ensures opened { IfOk result (IsOpenedOn image.now.disk) }
     ensures refused { IfErr result (λ stop. (stop.fault ≡ Refused Memory) ⊎ RefusesMount image.now.disk stop.fault) }
 {
     outlines_are_sound();
-    let mounted = mounted_source(alloc, image, seen)?;
+    let mounted = mounted_source(alloc, image, seen, beside)?;
     Ok(Opened {
         len: image.size() * image.count(),
         limits: mounted.outline().limits,
@@ -89,13 +90,18 @@ fn opened_on(alloc: Global, image: &Image, seen: Sight) -> Result<Opened, Stop>
 }
 
 /// Mounts it.
-fn mounted_source(alloc: Global, image: &Image, seen: Sight) -> Result<Mounted, Stop>
+fn mounted_source(
+    alloc: Global,
+    image: &Image,
+    seen: Sight,
+    beside: &mut Beside,
+) -> Result<Mounted, Stop>
     ensures mounted { IfOk result (λ mounted. IsMountOf image.now.disk mounted) }
     ensures refused { IfErr result (λ stop. (stop.fault ≡ Refused Memory) ⊎ RefusesMount image.now.disk stop.fault) }
 {
     match mount(alloc, image) {
         Ok(mounted) => Ok(mounted),
         Err(MountFault::Memory) => Err(Stop::from(AllocError)),
-        Err(fault) => Err(stop_of_source(alloc, fault, image, seen)),
+        Err(fault) => Err(stop_of_source(alloc, fault, image, seen, beside)),
     }
 }

@@ -84,7 +84,7 @@ pub(crate) fn stepped_in<H: Host>(
         journal,
     } = handed;
     let image = read_by(alloc, manner.view, request.size, image)?;
-    match taken(alloc, host, request, step, image, journal) {
+    match taken(alloc, host, request, beside, step, image, journal) {
         Ok(outcome) => Ok(stored(alloc, host, kind, target.as_str(), &outcome)?),
         Err(stop) => {
             let name = target.as_str();
@@ -93,11 +93,12 @@ pub(crate) fn stepped_in<H: Host>(
     }
 }
 
-/// Takes a step on what it is handed, and answers what it leaves.
+/// Takes a step on what it is handed, and answers what it leaves. The text of what is told of its end is put into `beside`.
 fn taken<H: Host>(
     alloc: Global,
     host: &mut H,
     request: &Request<'_>,
+    beside: &mut Beside,
     step: Step<'_>,
     image: Vec<u8>,
     journal: Vec<u8>,
@@ -114,7 +115,7 @@ fn taken<H: Host>(
     let outcome = ran(alloc, host, request.size, step, image, journal);
     match outcome.fault {
         None => Ok(outcome),
-        Some(fault) => Err(stop_of_run(alloc, request, fault, outcome, seen)),
+        Some(fault) => Err(stop_of_run(alloc, request, fault, outcome, seen, beside)),
     }
 }
 

@@ -48,6 +48,7 @@ all_left kind old new name o (inr asks) leaves = subst (λ (k : StepKind). Leave
 asks_of : (q : Question) → (kind_of (Ask q) ≡ Asks) ⊎ (kind_of (Ask q) ≡ Recounts)
 asks_of query.Check = inl refl
 asks_of query.Ls = inl refl
+asks_of (query.Blocks sums) = inl refl
 asks_of (query.Cat path) = inl refl
 asks_of (query.Diff other size) = inl refl
 asks_of query.Log = inr refl

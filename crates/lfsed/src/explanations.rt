@@ -234,8 +234,9 @@ const EXPLANATIONS: [Explanation; 49] = [
         number: 43,
         name: "NoSpace",
         text: "The change needs more new blocks than are free; both numbers are said, and of a folder or an \
-         image that is packed a second line says how many blocks it needs in all. Remove something, \
-         lengthen the image with `grow`, or pack into an image of more blocks.",
+         image that is packed a second line says how many blocks it needs in all. `blocks --sum` \
+         says what the paths of an image take. Remove something, lengthen the image with `grow`, or pack \
+         into an image of more blocks.",
     },
     Explanation {
         number: 44,
