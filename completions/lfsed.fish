@@ -42,6 +42,7 @@ complete -c lfsed -n __fish_use_subcommand -a find -d 'List where in a file imag
 complete -c lfsed -n __fish_use_subcommand -a extract -d 'Make a new folder with what is in an image; attributes are left behind'
 complete -c lfsed -n __fish_use_subcommand -a check -d 'Judge an image; print its geometry, free blocks, directories and files'
 complete -c lfsed -n __fish_use_subcommand -a ls -d 'List what stands at each path, with sizes and attributes'
+complete -c lfsed -n __fish_use_subcommand -a blocks -d 'Print which blocks hold what, and which are free'
 complete -c lfsed -n __fish_use_subcommand -a cat -d 'Print the contents of a file'
 complete -c lfsed -n __fish_use_subcommand -a diff -d 'List what another image has otherwise, row by row, as ls prints it'
 complete -c lfsed -n __fish_use_subcommand -a log -d 'List the changes that the journal keeps, and what each of them changed'
@@ -57,7 +58,7 @@ complete -c lfsed -n __fish_use_subcommand -a redo -d 'Make the latest change ag
 complete -c lfsed -n __fish_use_subcommand -a forget -d 'Keep the image alone: its changes can no longer be taken back'
 complete -c lfsed -n __fish_use_subcommand -a batch -d 'Carry out the steps of a script, a line each: all of them or none'
 complete -c lfsed -n __fish_use_subcommand -a explain -d 'Say what faults mean, and what to do'
-complete -c lfsed -n '__lfsed_at help 0' -a 'format pack repack find extract check ls cat diff log mkdir put rm mv setattr rmattr grow undo redo forget batch explain'
+complete -c lfsed -n '__lfsed_at help 0' -a 'format pack repack find extract check ls blocks cat diff log mkdir put rm mv setattr rmattr grow undo redo forget batch explain'
 complete -c lfsed -n '__lfsed_at format 0' -F
 complete -c lfsed -n '__fish_seen_subcommand_from format' -s b -l block -x -d 'Size of a block, a multiple of 16 from 256 to 65536 [default: 4096]'
 complete -c lfsed -n '__fish_seen_subcommand_from format' -l count -x -d 'Number of blocks, from 2 to 65536; at most 67108864 bytes in all'
@@ -114,6 +115,13 @@ complete -c lfsed -n '__fish_seen_subcommand_from ls' -l device -d 'Read the ima
 complete -c lfsed -n '__fish_seen_subcommand_from ls' -l offset -x -d 'Place in the file at which the image begins: 1114112, 0x110000, 1088k or 1M'
 complete -c lfsed -n '__fish_seen_subcommand_from ls' -l older -d 'Go on with the state before commits of a later disk version, which are not read'
 complete -c lfsed -n '__fish_seen_subcommand_from ls' -s h -l help -d 'Print help'
+complete -c lfsed -n '__lfsed_at blocks 0' -F
+complete -c lfsed -n '__fish_seen_subcommand_from blocks' -s b -l block -x -d 'Size of a block, a multiple of 16 from 256 to 65536, or auto [default: 4096]'
+complete -c lfsed -n '__fish_seen_subcommand_from blocks' -l sum -d 'Print how many blocks each path takes, with all that is below it'
+complete -c lfsed -n '__fish_seen_subcommand_from blocks' -l device -d 'Read the image as a device does: also disk version 2.1, and a superblock that was expanded'
+complete -c lfsed -n '__fish_seen_subcommand_from blocks' -l offset -x -d 'Place in the file at which the image begins: 1114112, 0x110000, 1088k or 1M'
+complete -c lfsed -n '__fish_seen_subcommand_from blocks' -l older -d 'Go on with the state before commits of a later disk version, which are not read'
+complete -c lfsed -n '__fish_seen_subcommand_from blocks' -s h -l help -d 'Print help'
 complete -c lfsed -n '__lfsed_at cat 0' -F
 complete -c lfsed -n '__lfsed_at cat 1' -a '(__lfsed_paths)'
 complete -c lfsed -n '__fish_seen_subcommand_from cat' -s b -l block -x -d 'Size of a block, a multiple of 16 from 256 to 65536, or auto [default: 4096]'

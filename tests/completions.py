@@ -43,6 +43,8 @@ LINES = [
     ("lfsed pack fw.img fol", ["pack", "fw.img", "folder/"]),
     ("lfsed repack --device --from-block 512 fw.img oth", ["repack", "--device", "--from-block", "512", "fw.img", "other.img"]),
     ("lfsed check --dev", ["check", "--device"]),
+    ("lfsed blocks --su", ["blocks", "--sum"]),
+    ("lfsed blo", ["blocks"]),
     ("lfsed check --off", ["check", "--offset"]),
     ("lfsed check --device --offset 1088k oth", ["check", "--device", "--offset", "1088k", "other.img"]),
     ("lfsed find oth", ["find", "other.img"]),

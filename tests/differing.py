@@ -104,9 +104,9 @@ def refused(folder):
         (good[:-1], good, "lfsed: 1 ImageLength\nlfsed: a.img: its first block states 8 blocks of 512 bytes\n"),
         (good, good[:-1], "lfsed: 1 ImageLength\nlfsed: b.img: its first block states 8 blocks of 512 bytes\n"),
         (good[:-1], small[:-1], "lfsed: 1 ImageLength\nlfsed: a.img: its first block states 8 blocks of 512 bytes\n"),
-        (bytes(4_096), good, "lfsed: 3 NoValidCommit\nlfsed: a.img: this image is refused\n"),
+        (bytes(4_096), good, "lfsed: 3 NoValidCommit\nlfsed: a.img: blocks 0 and 1 (/): neither holds a whole commit\n"),
         (good, bytes(4_096), "lfsed: 3 NoValidCommit\nlfsed: b.img: this image is refused\n"),
-        (bytes(4_096), bytes(4_096), "lfsed: 3 NoValidCommit\nlfsed: a.img: this image is refused\n"),
+        (bytes(4_096), bytes(4_096), "lfsed: 3 NoValidCommit\nlfsed: a.img: blocks 0 and 1 (/): neither holds a whole commit\n"),
         (good, small, "lfsed: 11 Geometry\nlfsed: b.img: its superblock states 16 blocks of 256 bytes\n"),
         (small, good, "lfsed: 11 Geometry\nlfsed: a.img: its superblock states 16 blocks of 256 bytes\n"),
     ]

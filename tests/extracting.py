@@ -48,7 +48,7 @@ def what_is_refused(folder):
     folder.be(b"", 4_095)
     is_refused(folder, "another length", 3, "lfsed: 1 ImageLength\nlfsed: a.img: 4095 bytes are no multiple of 512\n")
     folder.be(b"", 4_096)
-    is_refused(folder, "no superblock", 3, "lfsed: 3 NoValidCommit\n")
+    is_refused(folder, "no superblock", 3, "lfsed: 3 NoValidCommit\nlfsed: a.img: blocks 0 and 1 (/): neither holds a whole commit\n")
     for name in b"\xff", b"a\0b":
         folder.be(image(512, 8, {0: log(1, superblock(512, 8) + file(1, b"A", b"first") + file(2, name))}), 0)
         is_refused(folder, f"the name {name}", 4, "lfsed: 63 HostName\n")

@@ -121,6 +121,8 @@ CUT = (
     (7, ["explain", "41"], b"41 IsRo"),
     (1_000, ["cat", "--block", "512", "a.img", "/large"], 1_000 * b"7"),
     (20, ["ls", "--block", "512", "a.img"], b"d          - /\nf    "),
+    (11, ["blocks", "--block", "512", "a.img"], b"0-1 d /\n2-9"),
+    (9, ["blocks", "--sum", "--block", "512", "a.img"], b"10 d /\n8 "),
 )
 
 

@@ -25,6 +25,7 @@ MIB = 1 << 20
 MORE = "\n\nFor more information, try '--help'.\n"
 # What is told of the one of two images that is refused, where nothing else is known.
 OF_TWO = "lfsed: a.img: this image is refused\n"
+UNREAD = "lfsed: a.img: blocks 0 and 1 (/): neither holds a whole commit\n"
 NO_NUMBER = "it is no number of bytes: decimal, hexadecimal behind 0x, or decimal with k or M behind it"
 
 
@@ -272,12 +273,12 @@ def nothing_is_read(folder):
                 ("less than a block", Flash(before + bytes(SIZE - 1), at, b""), "2 BadGeometry", None),
                 ("a block", Flash(before + bytes(2 * SIZE - 1), at, bytes(SIZE)), "2 BadGeometry", geometry(1)),
                 ("an image's first block", Flash(before + held[:2 * SIZE - 1], at, held[:SIZE]), "2 BadGeometry", geometry(1) + states),
-                ("zeros", inside(bytes(3 * SIZE), before, bytes(9)), "3 NoValidCommit", ""),
-                ("noise", inside(noise(40 * SIZE), before, noise(9)), "3 NoValidCommit", ""),
-                ("erased", inside(erased(2 * SIZE), before, erased(SIZE - 1)), "3 NoValidCommit", ""),
-                ("a byte late", Flash(whole + held, at + 1, (whole + held)[at + 1:][:15 * SIZE]), "3 NoValidCommit", ""),
+                ("zeros", inside(bytes(3 * SIZE), before, bytes(9)), "3 NoValidCommit", UNREAD),
+                ("noise", inside(noise(40 * SIZE), before, noise(9)), "3 NoValidCommit", UNREAD),
+                ("erased", inside(erased(2 * SIZE), before, erased(SIZE - 1)), "3 NoValidCommit", UNREAD),
+                ("a byte late", Flash(whole + held, at + 1, (whole + held)[at + 1:][:15 * SIZE]), "3 NoValidCommit", UNREAD),
                 ("no checksum", Flash(before + damaged(held) + noise(700), at, damaged(held) + noise(700)[:SIZE]), "3 NoValidCommit",
-                 "" if options else states),
+                 UNREAD if options else states),
             ):
                 ends = are_alike(folder, name, flash, SIZE, options)
                 for command, (status, told, printed, made) in ends.items():
@@ -374,7 +375,7 @@ def places_in_large_files_at_which_nothing_is(folder):
             folder.check(f"{count} blocks: {line}", ended == (3, told, b""), ended)
             line = f"check -b {size}{options} --offset {MIB + 6} {FLASH}"
             ended = folder.run(line)
-            folder.check(f"a hole: {line}", ended == (3, "lfsed: 3 NoValidCommit\n", b""), ended)
+            folder.check(f"a hole: {line}", ended == (3, f"lfsed: 3 NoValidCommit\n{UNREAD.replace('a.img', FLASH)}", b""), ended)
 
 
 # Texts that are no numbers of bytes.

@@ -100,6 +100,8 @@ def directory_rows(runs):
     runs.row(["mv", "a.img", "/d/x", "/y"], filled)
     runs.row(["mv", "a.img", "/d", "/e"], filled)
     runs.row(["ls", "a.img"], filled)
+    runs.row(["blocks", "a.img"], filled)
+    runs.row(["blocks", "--sum", "a.img"], filled)
     parted = new
     for letter in "ac":
         parted = runs.row(["put", "a.img", "/" + 200 * letter], parted)
@@ -118,6 +120,8 @@ def small_block_rows(runs):
     runs.row(["put", "a.img", "/d/" + 130 * "b"], parted)
     runs.row(["mv", "a.img", "/d/" + 80 * "a", "/" + 180 * "a"], parted)
     runs.row(["ls", "a.img"], parted)
+    runs.row(["blocks", "a.img"], parted)
+    runs.row(["blocks", "--sum", "a.img"], parted)
     runs.size = 512
 
 

@@ -219,15 +219,15 @@ def images_that_are_new(folder):
 def sources_that_are_no_image(folder):
     folder.be(WORKED, 0)
     folder.journal.write_bytes(journal(512, 32, [], []))
-    refused = "b.img: this image is refused"
     other = image(512, 8, {0: log(1, superblock(512, 8) + tail(SOFT, (2, 8)))})
     sources = [
         (4_097 * b"x", "1 ImageLength", "b.img: 4097 bytes are no multiple of 4096"),
         (WORKED[:-1], "1 ImageLength", "b.img: its first block states 32 blocks of 512 bytes"),
         (WORKED[:512], "2 BadGeometry", "b.img: an image has 2 to 65536 blocks, this one 1 of 512 bytes"),
-        (bytes(8_192), "3 NoValidCommit", refused),
-        (image(512, 8, {0: log(1, superblock(512, 8) + file(1, b"f")[:1])}), "6 IncompleteEntry", refused),
-        (other, "14 BlockRange", refused),
+        (bytes(8_192), "3 NoValidCommit", "b.img: blocks 0 and 1 (/): neither holds a whole commit"),
+        (image(512, 8, {0: log(1, superblock(512, 8) + file(1, b"f")[:1])}), "6 IncompleteEntry",
+         "b.img: blocks 0 and 1 (/): an entry that isn't whole"),
+        (other, "14 BlockRange", "b.img: blocks 0 and 1 (/): go on in blocks 2 and 8, of 8"),
         (WORKED[:-512], "11 Geometry", "b.img: its superblock states 32 blocks of 512 bytes"),
         (image(512, 8, {0: log(1, stated(0x0002_0002, 512, 8))}), "10 Version", "b.img: its superblock states disk version 2.2"),
     ]

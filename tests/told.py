@@ -5,7 +5,7 @@ import sys
 
 from support.folder import contents, run_scenes
 from later import version
-from support.logs import image, log, superblock
+from support.logs import HARD, NO_ENTRY, SOFT, attribute, chained, directory, file, image, log, superblock, tail
 
 MADE = [
     ("mkdir -b 512 a.img /a", 0),
@@ -75,6 +75,48 @@ LIMITS = [
     ("setattr -b 512 a.img / 74 010203", 0, "38 AttrTooLarge", "/: its attribute is longer than 2 bytes"),
 ]
 
+# A directory below the root, and one below that, each by its entry and by the thread.
+TO_ETC, TO_NET = directory(1, b"etc", (2, 3)) + tail(SOFT, (2, 3)), directory(0, b"net", (4, 5)) + tail(SOFT, (4, 5))
+# What stands behind the superblock of an image of 8 blocks, and in other blocks; the fault for which it doesn't mount, and its first place.
+PLACES = [
+    (TO_ETC, {}, "3 NoValidCommit", "blocks 2 and 3 (/etc): neither holds a whole commit"),
+    (TO_ETC, {2: TO_NET}, "3 NoValidCommit", "blocks 4 and 5 (/etc/net): neither holds a whole commit"),
+    (tail(HARD, (4, 6)), {}, "3 NoValidCommit", "blocks 4 and 6 (/): neither holds a whole commit"),
+    (tail(SOFT, (2, 3)), {}, "3 NoValidCommit", "blocks 2 and 3: neither holds a whole commit"),
+    (TO_ETC, {2: [(0x100, NO_ENTRY, b"")]}, "4 UnknownTag", "blocks 2 and 3 (/etc): a tag of an unknown type"),
+    (TO_ETC, {3: [(0x600, NO_ENTRY, 7 * b"\xff")]}, "5 BadTag", "blocks 2 and 3 (/etc): a tag that doesn't fit"),
+    (file(1, b"f")[:1], {}, "6 IncompleteEntry", "blocks 0 and 1 (/): an entry that isn't whole"),
+    (TO_ETC, {2: file(0, b"..")}, "7 BadName", "blocks 2 and 3 (/etc): a name that none may have"),
+    (TO_ETC, {2: chained(0, b"a\xff", 9, 100)}, "8 BadSkipList", "/etc/a\\xff: no chain of 100 bytes ends in block 9"),
+    (chained(1, b"c", 4, 5_000), {}, "8 BadSkipList", "/c: no chain of 5000 bytes ends in block 4"),
+    (file(1, b"c.cfg") + file(2, b"b.cfg"), {}, "13 OrderFault", "blocks 0 and 1 (/): b.cfg stands behind c.cfg"),
+    (TO_ETC, {2: file(0, b"b") + tail(HARD, (4, 5)), 4: file(0, b"a")}, "13 OrderFault", "blocks 4 and 5 (/etc): a stands behind b"),
+    (directory(1, b"etc", (900, 901)), {}, "14 BlockRange", "/etc: blocks 900 and 901, of 8"),
+    (TO_ETC, {2: tail(HARD, (7, 8))}, "14 BlockRange", "blocks 2 and 3 (/etc): go on in blocks 7 and 8, of 8"),
+    (TO_ETC, {2: tail(SOFT, (8, 7))}, "14 BlockRange", "blocks 2 and 3 (/etc): go on in blocks 8 and 7, of 8"),
+    (directory(1, b"new", (2, 3)) + directory(2, b"old", (2, 3)) + tail(SOFT, (2, 3)), {2: []}, "15 BlockTwice",
+     "/old: blocks 2 and 3 are those of /new"),
+    (directory(1, b"a", (2, 3)) + directory(2, b"b", (4, 3)) + tail(SOFT, (2, 3)), {2: tail(SOFT, (4, 3)), 4: []}, "15 BlockTwice",
+     "block 3: /a and /b use it"),
+    (chained(1, b"a", 5, 100) + chained(2, b"b", 5, 90), {}, "15 BlockTwice", "block 5: /a and /b use it"),
+    (chained(1, b"c", 3, 100) + directory(2, b"etc", (2, 3)) + tail(SOFT, (2, 3)), {2: []}, "15 BlockTwice", "block 3: /etc and /c use it"),
+    (directory(1, b"etc", (2, 3)), {2: []}, "16 MissingDirectory", "/etc: blocks 2 and 3 begin no directory of the thread"),
+    (tail(SOFT, (2, 3)), {2: []}, "17 Orphan", "blocks 2 and 3: no path leads there"),
+    (tail(SOFT, (2, 3)), {2: chained(0, b"c", 9, 100)}, "8 BadSkipList", "blocks 2 and 3: /c: no chain of 100 bytes ends in block 9"),
+]
+# Limits of an image, an entry that isn't within them, and what is told.
+OVER = [
+    ((3,), file(1, b"four"), "/four: its name is longer than 3 bytes"),
+    ((3,), directory(1, b"four", (2, 3)) + tail(SOFT, (2, 3)), "/four: its name is longer than 3 bytes"),
+    ((9, 2), file(1, b"f", b"123"), "/f: its contents are longer than 2 bytes"),
+    ((9, 99), chained(1, b"f", 4, 100), "/f: its contents are longer than 99 bytes"),
+    ((9, 99, 2), file(1, b"f") + attribute(1, 0x74, b"123"), "/f: its attribute is longer than 2 bytes"),
+    ((9, 99, 2), attribute(0, 0x74, b"123"), "/: its attribute is longer than 2 bytes"),
+]
+# Commands that mount an image: of the first of two, of one that is read, and of one that is changed.
+MOUNTING = ["check -b 512 a.img", "ls -b 512 a.img", "cat -b 512 a.img /f", "diff -b 512 a.img b.img", "log -b 512 a.img", "extract -b 512 a.img made",
+            "repack -b 512 c.img a.img", "mkdir -b 512 a.img /d", "undo -b 512 a.img"]
+
 # What a folder has below a folder `d`, the name and how many bytes a file has, each packed into an image of 32 blocks; and what is told of
 # it. A block of 256 bytes has room for an entry of 216: 8 of them for tags, and 8 more where the contents don't stand in it.
 PACKED = [
@@ -139,6 +181,25 @@ def numbers_of_bytes_are_told(folder):
     is_refused(folder, "put -b 512 config.json /x", 3, "1 ImageLength", "lfsed: config.json: 39 bytes are no multiple of 512\n")
     is_refused(folder, "diff -b 512 a.img config.json", 0, "1 ImageLength", "lfsed: config.json: 39 bytes are no multiple of 512\n")
     folder.image.with_name("config.json").unlink()
+
+
+def is_placed(folder, held, first, second):
+    """Each command that mounts an image tells its fault, and where it is."""
+    folder.be(held, 0)
+    for words in MOUNTING:
+        ended = folder.run(words)
+        folder.check(f"{second}: {words}", ended == (3, f"lfsed: {first}\nlfsed: a.img: {second}\n", b""), ended)
+
+
+def places_of_faults_are_told(folder):
+    folder.image.with_name("b.img").write_bytes(image(512, 8, {0: log(1, superblock(512, 8))}))
+    for items, others, first, second in PLACES:
+        blocks = {number: log(1, more) for number, more in others.items()}
+        is_placed(folder, image(512, 8, {0: log(1, superblock(512, 8) + items), **blocks}), first, second)
+    for limits, items, second in OVER:
+        blocks = {2: log(1, []), 4: bytes(512)}
+        is_placed(folder, image(512, 8, {0: log(1, superblock(512, 8, *limits) + items), **blocks}), "20 BadSize", second)
+    is_placed(folder, bytes(4_096), "3 NoValidCommit", "blocks 0 and 1 (/): neither holds a whole commit")
 
 
 def versions_are_told(folder):
@@ -244,7 +305,8 @@ def the_image_of_a_journal_is_told(folder):
 
 if __name__ == "__main__":
     sys.exit(run_scenes([
-        paths_are_named, limits_are_those_of_the_image, geometries_are_named, numbers_of_bytes_are_told, versions_are_told,
+        paths_are_named, limits_are_those_of_the_image, geometries_are_named, numbers_of_bytes_are_told, places_of_faults_are_told,
+        versions_are_told,
         journals_of_other_images_are_told, undone_changes_are_counted, the_first_block_is_told, folders_are_named,
         rows_of_folders_are_named, the_image_of_a_journal_is_told,
     ]))
