@@ -17,7 +17,7 @@ INSTALLED = {
     "share/zsh/site-functions/_lfsed": "completions/_lfsed",
     "share/fish/vendor_completions.d/lfsed.fish": "completions/lfsed.fish",
 }
-COMMANDS = "batch cat check diff explain extract find forget format grow log ls mkdir mv pack put redo repack rm rmattr setattr undo"
+COMMANDS = "batch blocks cat check diff explain extract find forget format grow log ls mkdir mv pack put redo repack rm rmattr setattr undo"
 # The words of a command line, of which the last one is completed, and what it may become.
 COMPLETED = [
     ("lfsed ", f"--help --version {COMMANDS} help"),

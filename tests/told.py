@@ -115,7 +115,7 @@ OVER = [
 ]
 # Commands that mount an image: of the first of two, of one that is read, and of one that is changed.
 MOUNTING = ["check -b 512 a.img", "ls -b 512 a.img", "cat -b 512 a.img /f", "diff -b 512 a.img b.img", "log -b 512 a.img", "extract -b 512 a.img made",
-            "repack -b 512 c.img a.img", "mkdir -b 512 a.img /d", "undo -b 512 a.img"]
+            "repack -b 512 --from-block 512 c.img a.img", "mkdir -b 512 a.img /d", "undo -b 512 a.img"]
 
 # What a folder has below a folder `d`, the name and how many bytes a file has, each packed into an image of 32 blocks; and what is told of
 # it. A block of 256 bytes has room for an entry of 216: 8 of them for tags, and 8 more where the contents don't stand in it.
