@@ -296,6 +296,19 @@ def flash_rows(runs):
         runs.row(["find", "a.img"], (held, None))
 
 
+def salvage_rows(runs):
+    """Images that don't mount: of one much is lost, of one nothing, of one all; and what devices left, which mounts."""
+    blocks = laid(512, [6, 7], bytes(700))
+    root = superblock(512, 16) + directory(1, b"d", (2, 3)) + chained(2, b"f", 7, 700) + chained(3, b"g", 7, 700) + chained(4, b"h", 9, 5)
+    lossy = {0: log(1, root + tail(SOFT, (2, 3))), 4: log(1, directory(0, b"e", (10, 11))), 10: log(1, file(0, b"x", b"in")), **blocks}
+    whole = {0: log(1, root[:-2] + tail(SOFT, (2, 3))), 2: log(1, tail(SOFT, (4, 5))), 4: log(1, file(0, b"x", b"in")), **blocks}
+    for held in image(512, 16, lossy), image(512, 16, whole), bytes(4_096):
+        runs.row(["salvage", "a.img", "made"], (held, None))
+    for held in [*device_images(), image(512, 16, lossy)]:
+        runs.row(["salvage", "--device", "a.img", "made"], (held, None))
+    runs.row(["salvage", "--device", "--offset=700", "a.img", "made"], (bytes(700) + image(512, 16, lossy) + bytes(9), None))
+
+
 def tried(group):
     """Tries a group of rows in a folder of its own: what is said of them, how many there are, and of how many a run went wrong."""
     said = io.StringIO()
@@ -307,7 +320,7 @@ def tried(group):
 
 GROUPS = [
     history_rows, script_rows, repacking_rows, device_rows, flash_rows, rows, directory_rows, small_block_rows, folder_rows, comparing_rows,
-    growing_rows,
+    growing_rows, salvage_rows,
 ]
 
 subprocess.run([HOME / "bin/lfsed", "--help"], stdout=subprocess.DEVNULL, check=True)

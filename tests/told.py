@@ -159,6 +159,12 @@ def paths_are_named(folder):
     folder.check("the image stands", folder.old() == held)
 
 
+def what_takes_the_space_is_named(folder):
+    folder.play([("format -b 512 --count 8 a.img", 0, 0, "", "")])
+    second = "lfsed: a.img: lfsed blocks --sum a.img says what each path takes\n"
+    is_refused(folder, "put -b 512 a.img /f", 3_041, "43 NoSpace need 7 free 6", second)
+
+
 def limits_are_those_of_the_image(folder):
     folder.be(SMALL, 0)
     for words, length, first, second in LIMITS:
@@ -307,7 +313,7 @@ def the_image_of_a_journal_is_told(folder):
 
 if __name__ == "__main__":
     sys.exit(run_scenes([
-        paths_are_named, limits_are_those_of_the_image, geometries_are_named, numbers_of_bytes_are_told, places_of_faults_are_told,
+        paths_are_named, what_takes_the_space_is_named, limits_are_those_of_the_image, geometries_are_named, numbers_of_bytes_are_told, places_of_faults_are_told,
         versions_are_told,
         journals_of_other_images_are_told, undone_changes_are_counted, the_first_block_is_told, folders_are_named,
         rows_of_folders_are_named, the_image_of_a_journal_is_told,

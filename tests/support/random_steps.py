@@ -298,7 +298,8 @@ class Run:
         need = int(re.search(r"need (\d+) ", complaint)[1])
         inline = kind != "put" or len(what[1]) <= most_inline(self.size)
         taken = 2 * (kind == "mkdir") + (0 if inline else blocks_for(self.size, len(what[1])))
-        return complaint == f"lfsed: 43 NoSpace need {need} free {free}\n" and free < need <= taken + MOST_OF_PARTS
+        is_said = complaint.splitlines()[0] == f"lfsed: 43 NoSpace need {need} free {free}"
+        return is_said and free < need <= taken + MOST_OF_PARTS
 
     def meant(self, kind, what):
         """The number of the refusal of a command, the checks on room aside, or 0; and what then stands at each path."""

@@ -1,6 +1,7 @@
 //! What is kept beside the end of a run, for what is told of it.
 
 use crate::later::Later;
+use lfs_block::MountFault;
 use std::alloc::Global;
 
 /// What is kept beside the end of a run.
@@ -14,6 +15,10 @@ pub struct Beside {
     pub by_device: bool,
     /// The text that the statement of a stop speaks of; empty where it speaks of none.
     pub text: Vec<u8>,
+    /// Why an image doesn't mount of which all is saved all the same.
+    pub unmounted: Option<MountFault>,
+    /// Lines that are told of the image.
+    pub lines: Vec<String>,
 }
 
 impl Beside {
@@ -28,6 +33,8 @@ impl Beside {
             },
             by_device: false,
             text: Vec::new(alloc),
+            unmounted: None,
+            lines: Vec::new(alloc),
         }
     }
 }

@@ -1,10 +1,8 @@
 //! How a request's end is told: its status, the fault with its number, and lines of what more is known of it.
 #![tactic(auto)]
 
-mod all_lowered;
 mod beside;
-mod entry_lines;
-mod fault_place;
+mod fault_line;
 mod finding;
 mod geometry;
 mod hint;
@@ -13,13 +11,10 @@ mod later;
 mod line;
 mod need;
 mod no_path;
-mod pair_lines;
 mod path_note;
-mod place_text;
 mod refused_line;
 mod refused_row;
 mod seen;
-mod shown;
 mod source;
 mod stated;
 mod stop;
@@ -29,7 +24,6 @@ mod task_paths;
 mod telling;
 mod told_digits;
 mod told_line;
-mod twice_lines;
 mod versions;
 mod within;
 

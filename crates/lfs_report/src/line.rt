@@ -3,8 +3,8 @@
 ghost use Rattle.std.specs.Prelude.{◌≡◌};
 
 use crate::finding::Finding;
-use crate::shown::Shown;
 use lfs_host::Host;
+use lfs_place::Shown;
 use lfs_texts::Reason;
 use std::fmt;
 

@@ -3,7 +3,7 @@
 ghost use Rattle.std.specs.Prelude.{◌≡◌};
 
 use crate::beside::Beside;
-use crate::fault_place::statement_at;
+use crate::fault_line::statement_at;
 use crate::path_note::{PathNote, note_of};
 use crate::seen::Seen;
 use crate::stated::{Sight, Statement, statement_for};

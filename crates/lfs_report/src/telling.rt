@@ -4,6 +4,7 @@ ghost use Rattle.std.specs.Prelude.{◌≡◌, Some};
 ghost use Rattle.lfs_request.specs.Fault.{status_of};
 ghost use Rattle.lfs_report.specs.Stop.{stopped_by};
 
+use crate::beside::Beside;
 use crate::finding::Finding;
 use crate::geometry::{tell_count, tell_limit};
 use crate::hint::hint_of;
@@ -16,7 +17,7 @@ use crate::stop::Stop;
 use crate::task_paths::{TaskPaths, other_of};
 use crate::told_line::ToldLine;
 use crate::versions::{tell_changed, tell_expanded, tell_stated, tell_unread};
-use lfs_block::ImageFault;
+use lfs_block::{ImageFault, MountFault};
 use lfs_command::{Command, Refusal};
 use lfs_exchange::tell_of_image;
 use lfs_history::Move;
@@ -24,27 +25,30 @@ use lfs_host::Host;
 use lfs_request::{Fault, OtherFault, Query, Request, Task};
 use lfs_texts::Flaw;
 
-/// Tells on standard error how a request ended, and answers the status of that end; `text` is what its statement speaks of. Takes no
-/// memory.
+/// Tells on standard error how a request ended, with what is kept beside that end, and answers its status. Takes no memory.
 ///
 /// Source: own.
 pub fn tell_end<H: Host>(
     host: &mut H,
     request: &Request<'_>,
     end: &Result<(), Stop>,
-    text: &[u8],
+    beside: &Beside,
 ) -> u8
     ensures status { result ≡ status_of (stopped_by end.now) }
     ensures kept { H.known host.new ≡ H.known host.old }
 {
     match end {
-        Ok(()) => 0,
-        Err(stop) => tell_of(host, request, stop, text),
+        Ok(()) => {
+            tell_unmounted(host, request.image, beside.unmounted);
+            tell_lines(host, request.image, &beside.lines);
+            0
+        }
+        Err(stop) => tell_of(host, request, stop, beside),
     }
 }
 
 /// Tells why a request ended early, and answers the status.
-fn tell_of<H: Host>(host: &mut H, request: &Request<'_>, stop: &Stop, text: &[u8]) -> u8
+fn tell_of<H: Host>(host: &mut H, request: &Request<'_>, stop: &Stop, beside: &Beside) -> u8
     ensures status { result ≡ status_of (Some stop.now.fault) }
     ensures kept { H.known host.new ≡ H.known host.old }
 {
@@ -59,14 +63,17 @@ fn tell_of<H: Host>(host: &mut H, request: &Request<'_>, stop: &Stop, text: &[u8
         }
         Fault::HostEntry => tell_entry(host, request),
         Fault::Refused(Refusal::BadCount) => tell_bad_count(host, request, stop.count),
+        Fault::Refused(Refusal::NoSpace { .. }) => tell_space(host, request),
         _ => {}
     }
     match (stop.statement, hint_of(request)) {
-        (Some(Statement::Expanded), None) if !text.is_empty() => tell_place(host, image, text),
+        (Some(Statement::Expanded), None) if !beside.lines.is_empty() => {
+            tell_lines(host, image, &beside.lines);
+        }
         (None, _) | (Some(Statement::Expanded), None) => {
             tell_refused(host, request, image, stop.fault);
         }
-        (Some(statement), _) => tell_statement(host, request, image, statement, text),
+        (Some(statement), _) => tell_statement(host, request, image, statement, beside),
     }
     status
 }
@@ -80,11 +87,25 @@ fn tell_refused<H: Host>(host: &mut H, request: &Request<'_>, image: &str, fault
     }
 }
 
-/// Tells the place of a fault in the image of this name.
-fn tell_place<H: Host>(host: &mut H, image: &str, text: &[u8])
+/// Tells that nothing is lost of the image of this name, which doesn't mount.
+fn tell_unmounted<H: Host>(host: &mut H, image: &str, fault: Option<MountFault>)
     ensures kept { H.known host.new ≡ H.known host.old }
 {
-    say(host, image, &[Piece::Bytes(text)]);
+    if let Some(fault) = fault {
+        let number = fault.number();
+        host.complain(format_args!(
+            "lfsed: {image}: doesn't mount ({number} {fault}); nothing is lost\n"
+        ));
+    }
+}
+
+/// Tells lines of the image of this name.
+fn tell_lines<H: Host>(host: &mut H, image: &str, lines: &[String])
+    ensures kept { H.known host.new ≡ H.known host.old }
+{
+    for line in lines {
+        say_words(host, image, line.as_str());
+    }
 }
 
 /// Tells which limit of its geometry an image doesn't keep that a new one is made of.
@@ -127,6 +148,18 @@ fn tell_bad_count<H: Host>(host: &mut H, request: &Request<'_>, count: Option<us
             Piece::Text(" blocks; grow only lengthens"),
         ],
     );
+}
+
+/// Tells how to see what takes the blocks of an image that lacks free ones for a change.
+fn tell_space<H: Host>(host: &mut H, request: &Request<'_>)
+    ensures kept { H.known host.new ≡ H.known host.old }
+{
+    if let Task::Change(_) = request.task {
+        let image = request.image;
+        host.complain(format_args!(
+            "lfsed: {image}: lfsed blocks --sum {image} says what each path takes\n"
+        ));
+    }
 }
 
 /// How many blocks a task asks for that lengthens an image.
@@ -276,7 +309,7 @@ fn tell_statement<H: Host>(
     request: &Request<'_>,
     image: &str,
     statement: Statement,
-    text: &[u8],
+    beside: &Beside,
 )
     ensures kept { H.known host.new ≡ H.known host.old }
 {
@@ -288,9 +321,9 @@ fn tell_statement<H: Host>(
         Statement::Expanded => tell_expanded(host, image, hint),
         Statement::Length(len, size) => tell_part(host, image, len, size),
         Statement::Path(note) => tell_note(host, request, note),
-        Statement::Place => tell_place(host, image, text),
-        Statement::Row(finding) => tell_row(host, image, text, finding),
-        Statement::Line(number, flaw) => tell_line(host, request, text, number, flaw),
+        Statement::Lines => tell_lines(host, image, &beside.lines),
+        Statement::Row(finding) => tell_row(host, image, &beside.text, finding),
+        Statement::Line(number, flaw) => tell_line(host, request, &beside.text, number, flaw),
         Statement::Need(count) => tell_need(host, request, count),
         Statement::Changes(count) => tell_changes(host, request, count),
         Statement::OtherJournal => tell_other_journal(host, image),

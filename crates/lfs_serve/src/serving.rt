@@ -28,7 +28,7 @@ pub fn served<H: Host>(alloc: Global, host: &mut H, request: &Request<'_>) -> u8
 {
     let mut beside = Beside::new(alloc);
     let end = asked(alloc, host, request, &mut beside);
-    let status = tell_end(host, request, &end, &beside.text);
+    let status = tell_end(host, request, &end, &beside);
     tell_later(host, request, beside.later);
     tell_within(host, request);
     status

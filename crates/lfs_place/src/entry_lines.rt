@@ -1,6 +1,7 @@
-//! What is told of the entry at which an image has a fault.
+//! What is told of an entry at which an image has a fault.
 
-use crate::place_text::{put, put_entry, put_number, put_pair, put_words};
+use crate::path_text::name_of;
+use crate::placed_text::{PairText, PlacedPath};
 use lfs_block::Image;
 use lfs_fs::Limits;
 use lfs_meta::{Body, Entry, Kind};
@@ -8,6 +9,7 @@ use lfs_survey::{
     EntryPlace, Survey, entry_at, entry_before, first_misplaced, first_oversized,
     first_superblock_elsewhere, first_without_chain, stated_limits,
 };
+use crate::shown::Shown;
 use std::alloc::{AllocError, Global};
 
 /// The first file that has no chain.
@@ -15,64 +17,76 @@ pub(crate) fn chain_line(
     alloc: Global,
     image: &Image,
     survey: &Survey,
-) -> Result<Option<Vec<u8>>, AllocError> {
-    let Some(place) = first_without_chain(alloc, image, survey)? else {
+) -> Result<Option<String>, AllocError> {
+    match first_without_chain(alloc, image, survey)? {
+        Some(place) => chain_line_at(alloc, survey, place),
+        None => Ok(None),
+    }
+}
+
+/// The file at a place, which has no chain.
+pub(crate) fn chain_line_at(
+    alloc: Global,
+    survey: &Survey,
+    place: EntryPlace,
+) -> Result<Option<String>, AllocError> {
+    let Some((head, size)) = chain_of(survey, place) else {
         return Ok(None);
     };
-    let Some(entry) = entry_at(survey, place) else {
-        return Ok(None);
-    };
-    let Body::Chain { head, size } = entry.body else {
-        return Ok(None);
-    };
-    let mut text = Vec::new(alloc);
-    put_entry(alloc, &mut text, survey, place)?;
-    put_words(&mut text, ": no chain of ")?;
-    put_number(alloc, &mut text, size)?;
-    put_words(&mut text, " bytes ends in block ")?;
-    put_number(alloc, &mut text, head)?;
-    Ok(Some(text))
+    let path = PlacedPath::of_entry(alloc, survey, place)?;
+    Ok(Some(
+        format!(in alloc; "{path}: no chain of {size} bytes ends in block {head}")?,
+    ))
+}
+
+/// The last block of the file at a place, and its size, where it has a chain.
+pub(crate) fn chain_of(survey: &Survey, place: EntryPlace) -> Option<(u32, u32)> {
+    match entry_at(survey, place)?.body {
+        Body::Chain { head, size } => Some((head, size)),
+        _ => None,
+    }
 }
 
 /// The first entry that stands behind one before which it comes.
 pub(crate) fn misplaced_line(
     alloc: Global,
     survey: &Survey,
-) -> Result<Option<Vec<u8>>, AllocError> {
+) -> Result<Option<String>, AllocError> {
     let Some(place) = first_misplaced(alloc, survey)? else {
         return Ok(None);
     };
-    let (Some(before), Some(entry)) = (entry_before(survey, place), entry_at(survey, place)) else {
+    let Some(before) = entry_before(survey, place) else {
         return Ok(None);
     };
-    let mut text = Vec::new(alloc);
-    put_pair(alloc, &mut text, survey, place.at)?;
-    put(&mut text, b": ")?;
-    put(&mut text, &entry.name)?;
-    put_words(&mut text, " stands behind ")?;
-    put(&mut text, &before.name)?;
-    Ok(Some(text))
+    let pair = PairText::of(alloc, survey, place.at)?;
+    let name = name_of(survey, place);
+    let before = Shown {
+        bytes: &before.name,
+    };
+    Ok(Some(
+        format!(in alloc; "{pair}: {name} stands behind {before}")?,
+    ))
 }
 
 /// The first superblock behind the one with which an image begins.
 pub(crate) fn superblock_line(
     alloc: Global,
     survey: &Survey,
-) -> Result<Option<Vec<u8>>, AllocError> {
+) -> Result<Option<String>, AllocError> {
     let Some(place) = first_superblock_elsewhere(alloc, survey)? else {
         return Ok(None);
     };
-    let mut text = Vec::new(alloc);
-    put_pair(alloc, &mut text, survey, place.at)?;
-    put_words(&mut text, ": a superblock stands there")?;
-    Ok(Some(text))
+    let pair = PairText::of(alloc, survey, place.at)?;
+    Ok(Some(
+        format!(in alloc; "{pair}: a superblock stands there")?,
+    ))
 }
 
 /// The first entry that is over the limits of the image.
 pub(crate) fn oversized_line(
     alloc: Global,
     survey: &Survey,
-) -> Result<Option<Vec<u8>>, AllocError> {
+) -> Result<Option<String>, AllocError> {
     let Some(limits) = stated_limits(survey) else {
         return Ok(None);
     };
@@ -88,28 +102,26 @@ fn limit_line(
     survey: &Survey,
     place: EntryPlace,
     limits: Limits,
-) -> Result<Option<Vec<u8>>, AllocError> {
+) -> Result<Option<String>, AllocError> {
     let Some(entry) = entry_at(survey, place) else {
         return Ok(None);
     };
     let (words, limit) = over_words(entry, limits);
-    let mut text = Vec::new(alloc);
-    put_entry(alloc, &mut text, survey, place)?;
-    put_words(&mut text, words)?;
-    put_number(alloc, &mut text, limit)?;
-    put_words(&mut text, " bytes")?;
-    Ok(Some(text))
+    let path = PlacedPath::of_entry(alloc, survey, place)?;
+    Ok(Some(
+        format!(in alloc; "{path}: its {words} longer than {limit} bytes")?,
+    ))
 }
 
 /// What is said of an entry over these limits, and the limit.
 fn over_words(entry: &Entry, limits: Limits) -> (&'static str, u32) {
     if entry.kind != Kind::Super && entry.name.len() > limits.name as usize {
-        return (": its name is longer than ", limits.name);
+        return ("name is", limits.name);
     }
     if size_of(entry) > limits.file as usize {
-        return (": its contents are longer than ", limits.file);
+        return ("contents are", limits.file);
     }
-    (": its attribute is longer than ", limits.attribute)
+    ("attribute is", limits.attribute)
 }
 
 /// A file's size; others have none.

@@ -1,6 +1,6 @@
 //! What is told of a block that two things use.
 
-use crate::place_text::{put, put_blocks, put_directory, put_entry, put_number, put_words};
+use crate::placed_text::{PlacedPath, blocks_at};
 use lfs_block::{Image, MountFault};
 use lfs_survey::{
     EntryPlace, Found, Place, Survey, call_at, chain_at, entry_places_of, first_place,
@@ -13,7 +13,7 @@ pub(crate) fn twice_line(
     alloc: Global,
     image: &Image,
     survey: &Survey,
-) -> Result<Option<Vec<u8>>, AllocError> {
+) -> Result<Option<String>, AllocError> {
     if let Some(place) = first_place(survey, MountFault::BlockTwice) {
         return pair_line(alloc, survey, place);
     }
@@ -23,16 +23,11 @@ pub(crate) fn twice_line(
     }
 }
 
-/// Whether a pair has a block.
-fn has_block(pair: (u32, u32), block: u32) -> bool {
-    pair.0 == block || pair.1 == block
-}
-
 /// Whether a pair was looked at at a place, and a block is one of its.
 fn owns(survey: &Survey, place: Place, block: u32) -> bool {
     match (call_at(survey, place), found_at(survey, place)) {
         (_, Some(Found::Refused(MountFault::BlockRange | MountFault::BlockTwice))) => false,
-        (Some(call), Some(_)) => has_block(call.pair, block),
+        (Some(call), Some(_)) => call.pair.0 == block || call.pair.1 == block,
         _ => false,
     }
 }
@@ -59,13 +54,14 @@ fn owner_of(survey: &Survey, block: u32) -> Option<Place> {
 }
 
 /// The pair at a place, of which a block is another's.
-fn pair_line(alloc: Global, survey: &Survey, place: Place) -> Result<Option<Vec<u8>>, AllocError> {
-    let Some(call) = call_at(survey, place) else {
-        return Ok(None);
-    };
-    let (first, second) = call.pair;
+pub(crate) fn pair_line(
+    alloc: Global,
+    survey: &Survey,
+    place: Place,
+) -> Result<Option<String>, AllocError> {
+    let (first, second) = blocks_at(survey, place).pair;
     match (owner_of(survey, first), owner_of(survey, second)) {
-        (Some(one), Some(other)) if one == other => same_line(alloc, survey, place, call.pair, one),
+        (Some(one), Some(other)) if one == other => same_line(alloc, survey, place, one),
         (Some(owner), _) => half_line(alloc, survey, place, first, owner),
         (None, Some(owner)) => half_line(alloc, survey, place, second, owner),
         (None, None) => Ok(None),
@@ -77,16 +73,14 @@ fn same_line(
     alloc: Global,
     survey: &Survey,
     place: Place,
-    pair: (u32, u32),
     owner: Place,
-) -> Result<Option<Vec<u8>>, AllocError> {
-    let mut text = Vec::new(alloc);
-    put_directory(alloc, &mut text, survey, place)?;
-    put(&mut text, b": ")?;
-    put_blocks(alloc, &mut text, pair)?;
-    put_words(&mut text, " are those of ")?;
-    put_directory(alloc, &mut text, survey, owner)?;
-    Ok(Some(text))
+) -> Result<Option<String>, AllocError> {
+    let path = PlacedPath::of_pair(alloc, survey, place)?;
+    let other = PlacedPath::of_pair(alloc, survey, owner)?;
+    let blocks = blocks_at(survey, place);
+    Ok(Some(
+        format!(in alloc; "{path}: {blocks} are those of {other}")?,
+    ))
 }
 
 /// A pair of which one block is another directory's.
@@ -96,22 +90,12 @@ fn half_line(
     place: Place,
     block: u32,
     owner: Place,
-) -> Result<Option<Vec<u8>>, AllocError> {
-    let mut text = begun(alloc, block)?;
-    put_directory(alloc, &mut text, survey, owner)?;
-    put_words(&mut text, " and ")?;
-    put_directory(alloc, &mut text, survey, place)?;
-    put_words(&mut text, " use it")?;
-    Ok(Some(text))
-}
-
-/// How the line of a block begins.
-fn begun(alloc: Global, block: u32) -> Result<Vec<u8>, AllocError> {
-    let mut text = Vec::new(alloc);
-    put_words(&mut text, "block ")?;
-    put_number(alloc, &mut text, block)?;
-    put(&mut text, b": ")?;
-    Ok(text)
+) -> Result<Option<String>, AllocError> {
+    let path = PlacedPath::of_pair(alloc, survey, place)?;
+    let other = PlacedPath::of_pair(alloc, survey, owner)?;
+    Ok(Some(
+        format!(in alloc; "block {block}: {other} and {path} use it")?,
+    ))
 }
 
 /// The file at a place, of which a block is something else's.
@@ -120,18 +104,18 @@ fn chain_line(
     image: &Image,
     survey: &Survey,
     place: EntryPlace,
-) -> Result<Option<Vec<u8>>, AllocError> {
+) -> Result<Option<String>, AllocError> {
     let places = entry_places_of(alloc, survey)?;
-    let chain = chain_at(alloc, image, survey, place)?;
-    let Some(block) = shared_block(alloc, image, survey, &places, place, &chain)? else {
+    let Some(block) = shared_block(alloc, image, survey, &places, place)? else {
         return Ok(None);
     };
-    let mut text = begun(alloc, block)?;
-    put_user(alloc, &mut text, image, survey, &places, block)?;
-    put_words(&mut text, " and ")?;
-    put_entry(alloc, &mut text, survey, place)?;
-    put_words(&mut text, " use it")?;
-    Ok(Some(text))
+    let Some(user) = user_of(alloc, image, survey, &places, block)? else {
+        return Ok(None);
+    };
+    let path = PlacedPath::of_entry(alloc, survey, place)?;
+    Ok(Some(
+        format!(in alloc; "block {block}: {user} and {path} use it")?,
+    ))
 }
 
 /// Marks blocks in a table.
@@ -143,14 +127,13 @@ fn mark(table: &mut [bool], blocks: &[u32]) {
     }
 }
 
-/// The first of these blocks of the file at a place that was looked at, or that a file before it has.
+/// The first block of the file at a place that was looked at, or that the file of an entry before it has, of these.
 fn shared_block(
     alloc: Global,
     image: &Image,
     survey: &Survey,
     places: &[EntryPlace],
     place: EntryPlace,
-    chain: &[u32],
 ) -> Result<Option<u32>, AllocError> {
     let mut used = Vec::from_slice(alloc, &survey.looked)?;
     for other in places {
@@ -160,7 +143,8 @@ fn shared_block(
         let blocks = chain_at(alloc, image, survey, *other)?;
         mark(&mut used, &blocks);
     }
-    Ok(first_marked(&used, chain))
+    let chain = chain_at(alloc, image, survey, place)?;
+    Ok(first_marked(&used, &chain))
 }
 
 /// The first of these blocks that a table marks.
@@ -173,23 +157,22 @@ fn first_marked(table: &[bool], blocks: &[u32]) -> Option<u32> {
     None
 }
 
-/// Puts behind a text what uses a block: the directory whose pair has it, or else the first of these entries whose file has it.
-fn put_user(
+/// What uses a block: the directory whose pair has it, or else the first of these entries whose file has it.
+fn user_of<'a>(
     alloc: Global,
-    text: &mut Vec<u8>,
     image: &Image,
-    survey: &Survey,
+    survey: &'a Survey,
     places: &[EntryPlace],
     block: u32,
-) -> Result<(), AllocError> {
+) -> Result<Option<PlacedPath<'a>>, AllocError> {
     if let Some(owner) = owner_of(survey, block) {
-        return put_directory(alloc, text, survey, owner);
+        return Ok(Some(PlacedPath::of_pair(alloc, survey, owner)?));
     }
     for place in places {
         let blocks = chain_at(alloc, image, survey, *place)?;
         if blocks.contains(&block) {
-            return put_entry(alloc, text, survey, *place);
+            return Ok(Some(PlacedPath::of_entry(alloc, survey, *place)?));
         }
     }
-    Ok(())
+    Ok(None)
 }

@@ -1,8 +1,7 @@
-//! What is told of the pair at which an image has a fault.
+//! What is told of a pair at which an image has a fault.
 
-use crate::place_text::{
-    put, put_blocks, put_directory, put_entry, put_number, put_pair, put_words,
-};
+use crate::blocks_text::BlocksText;
+use crate::placed_text::{PairText, PlacedPath, blocks_at};
 use lfs_block::MountFault;
 use lfs_meta::Tail;
 use lfs_survey::{
@@ -14,11 +13,11 @@ use std::alloc::{AllocError, Global};
 /// What is said of a pair that isn't read for a fault, where that is of what its blocks hold.
 fn words_of(fault: MountFault) -> Option<&'static str> {
     match fault {
-        MountFault::NoValidCommit => Some(": neither holds a whole commit"),
-        MountFault::UnknownTag => Some(": a tag of an unknown type"),
-        MountFault::BadTag => Some(": a tag that doesn't fit"),
-        MountFault::IncompleteEntry => Some(": an entry that isn't whole"),
-        MountFault::BadName => Some(": a name that none may have"),
+        MountFault::NoValidCommit => Some("neither holds a whole commit"),
+        MountFault::UnknownTag => Some("a tag of an unknown type"),
+        MountFault::BadTag => Some("a tag that doesn't fit"),
+        MountFault::IncompleteEntry => Some("an entry that isn't whole"),
+        MountFault::BadName => Some("a name that none may have"),
         _ => None,
     }
 }
@@ -28,41 +27,46 @@ pub(crate) fn unread_line(
     alloc: Global,
     survey: &Survey,
     fault: MountFault,
-) -> Result<Option<Vec<u8>>, AllocError> {
-    let (Some(words), Some(place)) = (words_of(fault), first_place(survey, fault)) else {
+) -> Result<Option<String>, AllocError> {
+    match first_place(survey, fault) {
+        Some(place) => unread_line_at(alloc, survey, fault, place),
+        None => Ok(None),
+    }
+}
+
+/// The pair at a place, which isn't read for a fault, where that is of what its blocks hold.
+pub(crate) fn unread_line_at(
+    alloc: Global,
+    survey: &Survey,
+    fault: MountFault,
+    place: Place,
+) -> Result<Option<String>, AllocError> {
+    let Some(words) = words_of(fault) else {
         return Ok(None);
     };
-    let mut text = Vec::new(alloc);
-    put_pair(alloc, &mut text, survey, place)?;
-    put_words(&mut text, words)?;
-    Ok(Some(text))
+    let pair = PairText::of(alloc, survey, place)?;
+    Ok(Some(format!(in alloc; "{pair}: {words}")?))
 }
 
 /// The first area to which no path leads.
-pub(crate) fn lost_line(alloc: Global, survey: &Survey) -> Result<Option<Vec<u8>>, AllocError> {
+pub(crate) fn lost_line(alloc: Global, survey: &Survey) -> Result<Option<String>, AllocError> {
     let Some(place) = lost_place(survey) else {
         return Ok(None);
     };
-    let mut text = Vec::new(alloc);
-    put_pair(alloc, &mut text, survey, place)?;
-    put_words(&mut text, ": no path leads there")?;
-    Ok(Some(text))
+    let pair = PairText::of(alloc, survey, place)?;
+    Ok(Some(format!(in alloc; "{pair}: no path leads there")?))
 }
 
 /// The first pair that an entry leads to and at which no directory of the thread begins.
-pub(crate) fn unnamed_line(alloc: Global, survey: &Survey) -> Result<Option<Vec<u8>>, AllocError> {
+pub(crate) fn unnamed_line(alloc: Global, survey: &Survey) -> Result<Option<String>, AllocError> {
     let Some(place) = first_unnamed(alloc, survey)? else {
         return Ok(None);
     };
-    let Some(call) = call_at(survey, place) else {
-        return Ok(None);
-    };
-    let mut text = Vec::new(alloc);
-    put_directory(alloc, &mut text, survey, place)?;
-    put(&mut text, b": ")?;
-    put_blocks(alloc, &mut text, call.pair)?;
-    put_words(&mut text, " begin no directory of the thread")?;
-    Ok(Some(text))
+    let path = PlacedPath::of_pair(alloc, survey, place)?;
+    let blocks = blocks_at(survey, place);
+    Ok(Some(
+        format!(in alloc; "{path}: {blocks} begin no directory of the thread")?,
+    ))
 }
 
 /// The first pair that is named and lies past an image of so many blocks: of an entry, or with which a directory or the thread goes on.
@@ -70,9 +74,9 @@ pub(crate) fn range_line(
     alloc: Global,
     survey: &Survey,
     count: u32,
-) -> Result<Option<Vec<u8>>, AllocError> {
+) -> Result<Option<String>, AllocError> {
     if let Some(place) = first_place(survey, MountFault::BlockRange) {
-        return call_line(alloc, survey, place, count);
+        return past_line(alloc, survey, place, count);
     }
     let Some(place) = first_tail_past(alloc, survey, count)? else {
         return Ok(None);
@@ -86,13 +90,13 @@ pub(crate) fn range_line(
     }
 }
 
-/// A pair past an image of so many blocks, by the way that it is come to.
-fn call_line(
+/// The pair at a place, which lies past an image of so many blocks, by the way that it is come to.
+pub(crate) fn past_line(
     alloc: Global,
     survey: &Survey,
     place: Place,
     count: u32,
-) -> Result<Option<Vec<u8>>, AllocError> {
+) -> Result<Option<String>, AllocError> {
     let Some(call) = call_at(survey, place) else {
         return Ok(None);
     };
@@ -119,12 +123,10 @@ fn entry_line(
     place: EntryPlace,
     pair: (u32, u32),
     count: u32,
-) -> Result<Option<Vec<u8>>, AllocError> {
-    let mut text = Vec::new(alloc);
-    put_entry(alloc, &mut text, survey, place)?;
-    put(&mut text, b": ")?;
-    put_past(alloc, &mut text, pair, count)?;
-    Ok(Some(text))
+) -> Result<Option<String>, AllocError> {
+    let path = PlacedPath::of_entry(alloc, survey, place)?;
+    let blocks = BlocksText { pair };
+    Ok(Some(format!(in alloc; "{path}: {blocks}, of {count}")?))
 }
 
 /// A pair past an image with which what a pair holds goes on.
@@ -134,22 +136,10 @@ fn tail_line(
     place: Place,
     pair: (u32, u32),
     count: u32,
-) -> Result<Option<Vec<u8>>, AllocError> {
-    let mut text = Vec::new(alloc);
-    put_pair(alloc, &mut text, survey, place)?;
-    put_words(&mut text, ": go on in ")?;
-    put_past(alloc, &mut text, pair, count)?;
-    Ok(Some(text))
-}
-
-/// Puts a pair behind a text, and how many blocks an image has.
-fn put_past(
-    alloc: Global,
-    text: &mut Vec<u8>,
-    pair: (u32, u32),
-    count: u32,
-) -> Result<(), AllocError> {
-    put_blocks(alloc, text, pair)?;
-    put_words(text, ", of ")?;
-    put_number(alloc, text, count)
+) -> Result<Option<String>, AllocError> {
+    let from = PairText::of(alloc, survey, place)?;
+    let blocks = BlocksText { pair };
+    Ok(Some(
+        format!(in alloc; "{from}: go on in {blocks}, of {count}")?,
+    ))
 }

@@ -1,52 +1,29 @@
 //! Where in an image the fault is for which it doesn't mount, as it is told.
 
 use crate::all_lowered::all_lowered;
-use crate::beside::Beside;
 use crate::entry_lines::{chain_line, misplaced_line, oversized_line, superblock_line};
 use crate::pair_lines::{lost_line, range_line, unnamed_line, unread_line};
-use crate::stated::Statement;
 use crate::twice_lines::twice_line;
 use lfs_block::{Blocks, Image, MountFault};
 use lfs_survey::{Place, Survey, first_place, survey_all};
 use std::alloc::{AllocError, Global};
 
-/// What is told of the place of a fault.
+/// The first place of a fault in an image.
+///
+/// Source: own.
 #[derive(Drop)]
-pub(crate) struct FaultPlace {
-    /// The text.
-    pub(crate) text: Vec<u8>,
-    /// Whether it is the pair with which an image begins.
-    pub(crate) is_front: bool,
+pub struct FaultPlace {
+    /// What is told of it.
+    pub text: String,
+    /// Whether it is the pair with which the image begins.
+    pub is_front: bool,
 }
 
-/// What is told behind a fault for which an image doesn't mount: its first place, whose text is put into `beside`, or what is told as
-/// usual, where there is no such place, or where the image states something in front, and that isn't read. Takes memory, and tells of no
-/// place where it is refused.
-pub(crate) fn statement_at(
-    alloc: Global,
-    image: &Image,
-    fault: MountFault,
-    usual: Option<Statement>,
-    beside: &mut Beside,
-) -> Option<Statement> {
-    let Some(place) = place_of(alloc, image, fault, beside.by_device) else {
-        return usual;
-    };
-    match usual {
-        Some(Statement::Stated(..) | Statement::Unread(_)) if place.is_front => usual,
-        Some(Statement::Expanded) => {
-            beside.text = place.text;
-            usual
-        }
-        _ => {
-            beside.text = place.text;
-            Some(Statement::Place)
-        }
-    }
-}
-
-/// The first place of a fault; nothing where memory is refused.
-fn place_of(
+/// The first place of a fault for which an image doesn't mount; nothing where it has none. Pairs are read as a device does, where the
+/// image is read so. Takes memory, and tells of no place where it is refused.
+///
+/// Source: own.
+pub fn fault_place(
     alloc: Global,
     image: &Image,
     fault: MountFault,
@@ -94,8 +71,7 @@ fn placed(
         return Ok(None);
     }
     let survey = surveyed(alloc, image, by_device)?;
-    let text = line_of(alloc, image, &survey, fault)?;
-    match text {
+    match line_of(alloc, image, &survey, fault)? {
         Some(text) => Ok(Some(FaultPlace {
             text,
             is_front: is_front_unread(&survey, fault),
@@ -115,7 +91,7 @@ fn line_of(
     image: &Image,
     survey: &Survey,
     fault: MountFault,
-) -> Result<Option<Vec<u8>>, AllocError> {
+) -> Result<Option<String>, AllocError> {
     match fault {
         MountFault::BadSkipList => chain_line(alloc, image, survey),
         MountFault::OrderFault => misplaced_line(alloc, survey),

@@ -1,0 +1,112 @@
+//! What is told of files that aren't saved where they are named.
+
+use crate::entry_lines::{chain_line_at, chain_of};
+use crate::lines::Lines;
+use crate::placed_text::PlacedPath;
+use lfs_block::{Image, MountFault};
+use lfs_salvage::{BlockUse, Home, Salvage, Unsaved, Why};
+use lfs_survey::{EntryPlace, Place, Survey, chain_at};
+use std::alloc::{AllocError, Global};
+
+/// Adds a line for each file that is lost.
+pub(crate) fn add_lost_files(
+    alloc: Global,
+    image: &Image,
+    survey: &Survey,
+    salvage: &Salvage,
+    lines: &mut Lines,
+) -> Result<(), AllocError> {
+    for unsaved in salvage.unsaved.iter() {
+        if let Unsaved {
+            home,
+            why: Why::Fault(fault),
+        } = *unsaved
+        {
+            if lines.takes_one() {
+                let place = place_of(home);
+                lines.add(file_loss(alloc, image, survey, &salvage.uses, place, fault)?)?;
+            }
+        }
+    }
+    Ok(())
+}
+
+/// Adds a line for each file that is saved under another path.
+pub(crate) fn add_other_files(
+    alloc: Global,
+    survey: &Survey,
+    salvage: &Salvage,
+    lines: &mut Lines,
+) -> Result<(), AllocError> {
+    for unsaved in salvage.unsaved.iter() {
+        if let Unsaved {
+            home,
+            why: Why::Elsewhere(other),
+        } = *unsaved
+        {
+            if lines.takes_one() {
+                lines.add(other_file(alloc, survey, place_of(home), place_of(other))?)?;
+            }
+        }
+    }
+    Ok(())
+}
+
+/// Where an entry is.
+fn place_of(home: Home) -> EntryPlace {
+    let at = Place {
+        area: home.area,
+        call: home.call,
+    };
+    EntryPlace {
+        at,
+        entry: home.entry,
+    }
+}
+
+/// What is told of a file that isn't saved for a fault.
+fn file_loss(
+    alloc: Global,
+    image: &Image,
+    survey: &Survey,
+    uses: &[BlockUse],
+    place: EntryPlace,
+    fault: MountFault,
+) -> Result<Option<String>, AllocError> {
+    if fault == MountFault::BadSkipList {
+        return chain_line_at(alloc, survey, place);
+    }
+    let Some((head, _)) = chain_of(survey, place) else {
+        return Ok(None);
+    };
+    let chain = chain_at(alloc, image, survey, place)?;
+    let block = first_used(uses, &chain, head);
+    let path = PlacedPath::of_entry(alloc, survey, place)?;
+    Ok(Some(
+        format!(in alloc; "{path}: block {block} is in use already")?,
+    ))
+}
+
+/// The first of these blocks that is in use, or the last block of the file.
+fn first_used(uses: &[BlockUse], chain: &[u32], head: u32) -> u32 {
+    for block in chain {
+        if let Some(as_use) = uses.get(*block as usize) {
+            if !as_use.is_free() {
+                return *block;
+            }
+        }
+    }
+    head
+}
+
+/// What is told of a file that is saved under another path.
+fn other_file(
+    alloc: Global,
+    survey: &Survey,
+    place: EntryPlace,
+    other: EntryPlace,
+) -> Result<Option<String>, AllocError> {
+    let path = PlacedPath::of_entry(alloc, survey, place)?;
+    let other = PlacedPath::of_entry(alloc, survey, other)?;
+    Ok(Some(format!(in alloc; "{path}: is saved as {other}")?))
+}

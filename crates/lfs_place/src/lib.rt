@@ -1,0 +1,20 @@
+//! Places in what is found of an image that needn't mount, as they are told: where a fault is, and what is lost.
+#![tactic(auto)]
+
+mod all_lowered;
+mod blocks_text;
+mod entry_lines;
+mod fault_place;
+mod file_losses;
+mod lines;
+mod pair_lines;
+mod pair_losses;
+mod path_text;
+mod placed_text;
+mod salvage_lines;
+mod shown;
+mod twice_lines;
+
+pub use fault_place::{FaultPlace, fault_place};
+pub use salvage_lines::salvage_lines;
+pub use shown::Shown;

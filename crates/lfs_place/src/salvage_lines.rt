@@ -1,0 +1,74 @@
+//! What is told of what is saved of an image.
+
+use crate::file_losses::{add_lost_files, add_other_files};
+use crate::lines::Lines;
+use crate::pair_losses::{add_lost_area, add_lost_pairs, add_other_pairs};
+use lfs_block::Image;
+use lfs_salvage::{Salvage, Saved, lost_word};
+use lfs_survey::Survey;
+use std::alloc::{AllocError, Global};
+
+/// What is told of what is saved of an image: a line for each pair and each file that is lost, then one for each that is saved under
+/// another path, and for each area to which no path leads, where it is saved. Of either at most a hundred, and how many more there are.
+/// Takes memory.
+///
+/// Source: own.
+pub fn salvage_lines(
+    alloc: Global,
+    image: &Image,
+    saved: Saved,
+) -> Result<Vec<String>, AllocError> {
+    let Saved { areas, salvage } = saved;
+    let survey = Survey {
+        areas,
+        looked: Vec::new(alloc),
+    };
+    let mut lines = losses(alloc, image, &survey, &salvage)?;
+    let mut others = others(alloc, &survey, &salvage)?;
+    lines.append(&mut others)?;
+    Ok(lines)
+}
+
+/// What is lost.
+fn losses(
+    alloc: Global,
+    image: &Image,
+    survey: &Survey,
+    salvage: &Salvage,
+) -> Result<Vec<String>, AllocError> {
+    let mut lines = Lines::new(alloc);
+    for (area, here) in survey.areas.iter().enumerate() {
+        let calls = here.calls.len();
+        add_lost_pairs(alloc, survey, &salvage.uses, area, calls, &mut lines)?;
+    }
+    add_lost_files(alloc, image, survey, salvage, &mut lines)?;
+    lines.ended(alloc, "are lost")
+}
+
+/// What is saved under another path.
+fn others(
+    alloc: Global,
+    survey: &Survey,
+    salvage: &Salvage,
+) -> Result<Vec<String>, AllocError> {
+    let mut lines = Lines::new(alloc);
+    for (area, here) in survey.areas.iter().enumerate() {
+        let calls = here.calls.len();
+        add_other_pairs(alloc, survey, &salvage.uses, area, calls, &mut lines)?;
+    }
+    add_other_files(alloc, survey, salvage, &mut lines)?;
+    add_lost_areas(alloc, survey, &mut lines)?;
+    lines.ended(alloc, "are saved elsewhere")
+}
+
+/// Adds a line for each area to which no path leads.
+fn add_lost_areas(alloc: Global, survey: &Survey, lines: &mut Lines) -> Result<(), AllocError> {
+    let Some(root) = survey.areas.first() else {
+        return Ok(());
+    };
+    let word = lost_word(alloc, &root.found)?;
+    for area in 1..survey.areas.len() {
+        add_lost_area(alloc, survey, word.as_str(), area, lines)?;
+    }
+    Ok(())
+}

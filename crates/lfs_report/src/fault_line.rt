@@ -1,0 +1,33 @@
+//! What is told of the place of a fault for which an image doesn't mount.
+
+use crate::beside::Beside;
+use crate::stated::Statement;
+use lfs_block::{Image, MountFault};
+use lfs_place::fault_place;
+use std::alloc::Global;
+
+/// What is told behind a fault for which an image doesn't mount: its first place, whose line is put into `beside`, or what is told as
+/// usual, where there is no such place, or where the image states something in front, and that isn't read. Takes memory, and tells of no
+/// place where it is refused.
+pub(crate) fn statement_at(
+    alloc: Global,
+    image: &Image,
+    fault: MountFault,
+    usual: Option<Statement>,
+    beside: &mut Beside,
+) -> Option<Statement> {
+    let Some(place) = fault_place(alloc, image, fault, beside.by_device) else {
+        return usual;
+    };
+    let stays = match usual {
+        Some(Statement::Stated(..) | Statement::Unread(_)) => place.is_front,
+        _ => false,
+    };
+    if stays || beside.lines.push(place.text).is_err() {
+        return usual;
+    }
+    match usual {
+        Some(Statement::Expanded) => usual,
+        _ => Some(Statement::Lines),
+    }
+}
