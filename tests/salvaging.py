@@ -76,7 +76,7 @@ DAMAGED = [
     ("a hard tail to one", file(1, b"a", b"one") + tail(HARD, (2, 3)), {}, "3 NoValidCommit", True,
      [f"blocks 2 and 3 (/): {UNREAD}"], {"a": b"one"}),
     ("a wrong pointer", chained(1, b"c", 6, 1_400) + file(2, b"d", b"one"), {4: contents(512), 5: pointing([4], contents(508)),
-     6: pointing([5, 7], contents(504))}, "8 BadSkipList", True, ["/c: no chain of 1400 bytes ends in block 6"], {"d": b"one"}),
+     6: pointing([5, 7], contents(504))}, "8 BadSkipList", True, ["/c: block 6 names block 7 and not 4"], {"d": b"one"}),
     ("a chain past the end", ETC, {2: chained(0, b"c", 9, 100)}, "8 BadSkipList", True,
      ["/etc/c: no chain of 100 bytes ends in block 9"], {}),
     ("a chain through a pair", chained(1, b"c", 3, 100) + directory(2, b"d", (2, 3)) + tail(SOFT, (2, 3)), {2: []}, "15 BlockTwice", True,

@@ -1,6 +1,7 @@
 #!/usr/bin/env python3
 """What is told behind a fault, in a second line: the path that it is of, the limit that isn't kept, what the first block states, how
 many blocks a folder needs, and what stands where it may not. Each row was written by hand."""
+import struct
 import sys
 
 from support.folder import contents, run_scenes
@@ -75,6 +76,13 @@ LIMITS = [
     ("setattr -b 512 a.img / 74 010203", 0, "38 AttrTooLarge", "/: its attribute is longer than 2 bytes"),
 ]
 
+
+
+def pointing(pointers):
+    """A block of a file with pointers to those before it."""
+    return struct.pack(f"<{len(pointers)}I", *pointers).ljust(512, b"x")
+
+
 # A directory below the root, and one below that, each by its entry and by the thread.
 TO_ETC, TO_NET = directory(1, b"etc", (2, 3)) + tail(SOFT, (2, 3)), directory(0, b"net", (4, 5)) + tail(SOFT, (4, 5))
 # What stands behind the superblock of an image of 8 blocks, and in other blocks; the fault for which it doesn't mount, and its first place.
@@ -89,6 +97,8 @@ PLACES = [
     (TO_ETC, {2: file(0, b"..")}, "7 BadName", "blocks 2 and 3 (/etc): a name that none may have"),
     (TO_ETC, {2: chained(0, b"a\xff", 9, 100)}, "8 BadSkipList", "/etc/a\\xff: no chain of 100 bytes ends in block 9"),
     (chained(1, b"c", 4, 5_000), {}, "8 BadSkipList", "/c: no chain of 5000 bytes ends in block 4"),
+    (chained(1, b"c", 6, 1_400), {4: contents(512), 5: pointing([4]), 6: pointing([5, 7])}, "8 BadSkipList",
+     "/c: block 6 names block 7 and not 4"),
     (file(1, b"c.cfg") + file(2, b"b.cfg"), {}, "13 OrderFault", "blocks 0 and 1 (/): b.cfg stands behind c.cfg"),
     (TO_ETC, {2: file(0, b"b") + tail(HARD, (4, 5)), 4: file(0, b"a")}, "13 OrderFault", "blocks 4 and 5 (/etc): a stands behind b"),
     (directory(1, b"etc", (900, 901)), {}, "14 BlockRange", "/etc: blocks 900 and 901, of 8"),
@@ -100,6 +110,10 @@ PLACES = [
      "block 3: /a and /b use it"),
     (chained(1, b"a", 5, 100) + chained(2, b"b", 5, 90), {}, "15 BlockTwice", "block 5: /a and /b use it"),
     (chained(1, b"c", 3, 100) + directory(2, b"etc", (2, 3)) + tail(SOFT, (2, 3)), {2: []}, "15 BlockTwice", "block 3: /etc and /c use it"),
+    (directory(1, b"a", (4, 4)) + tail(SOFT, (4, 4)), {4: []}, "15 BlockTwice", "block 4: /a uses it twice"),
+    (TO_ETC, {2: tail(HARD, (2, 3))}, "15 BlockTwice", "blocks 2 and 3 (/etc): go on in blocks 2 and 3, which are in use already"),
+    (TO_ETC, {2: tail(SOFT, (2, 3))}, "15 BlockTwice", "blocks 2 and 3 (/etc): go on in blocks 2 and 3, which are in use already"),
+    (TO_ETC, {2: tail(SOFT, (1, 0))}, "15 BlockTwice", "blocks 2 and 3 (/etc): go on in blocks 1 and 0, which are in use already"),
     (directory(1, b"etc", (2, 3)), {2: []}, "16 MissingDirectory", "/etc: blocks 2 and 3 begin no directory of the thread"),
     (tail(SOFT, (2, 3)), {2: []}, "17 Orphan", "blocks 2 and 3: no path leads there"),
     (tail(SOFT, (2, 3)), {2: chained(0, b"c", 9, 100)}, "8 BadSkipList", "blocks 2 and 3: /c: no chain of 100 bytes ends in block 9"),
@@ -200,7 +214,7 @@ def is_placed(folder, held, first, second, mounting=MOUNTING):
 def places_of_faults_are_told(folder):
     folder.image.with_name("b.img").write_bytes(image(512, 8, {0: log(1, superblock(512, 8))}))
     for items, others, first, second in PLACES:
-        blocks = {number: log(1, more) for number, more in others.items()}
+        blocks = {number: more if isinstance(more, bytes) else log(1, more) for number, more in others.items()}
         is_placed(folder, image(512, 8, {0: log(1, superblock(512, 8) + items), **blocks}), first, second)
     for limits, items, second in OVER:
         blocks = {2: log(1, []), 4: bytes(512)}

@@ -2,6 +2,8 @@
 
 use crate::path_text::name_of;
 use crate::placed_text::{PairText, PlacedPath};
+use crate::shown::Shown;
+use crate::wrong_pointer::{WrongPointer, wrong_pointer};
 use lfs_block::Image;
 use lfs_fs::Limits;
 use lfs_meta::{Body, Entry, Kind};
@@ -9,7 +11,6 @@ use lfs_survey::{
     EntryPlace, Survey, entry_at, entry_before, first_misplaced, first_oversized,
     first_superblock_elsewhere, first_without_chain, stated_limits,
 };
-use crate::shown::Shown;
 use std::alloc::{AllocError, Global};
 
 /// The first file that has no chain.
@@ -19,7 +20,7 @@ pub(crate) fn chain_line(
     survey: &Survey,
 ) -> Result<Option<String>, AllocError> {
     match first_without_chain(alloc, image, survey)? {
-        Some(place) => chain_line_at(alloc, survey, place),
+        Some(place) => chain_line_at(alloc, image, survey, place),
         None => Ok(None),
     }
 }
@@ -27,6 +28,7 @@ pub(crate) fn chain_line(
 /// The file at a place, which has no chain.
 pub(crate) fn chain_line_at(
     alloc: Global,
+    image: &Image,
     survey: &Survey,
     place: EntryPlace,
 ) -> Result<Option<String>, AllocError> {
@@ -34,9 +36,26 @@ pub(crate) fn chain_line_at(
         return Ok(None);
     };
     let path = PlacedPath::of_entry(alloc, survey, place)?;
+    if let Some(wrong) = wrong_pointer(alloc, image, head, size)? {
+        return Ok(Some(pointer_line(alloc, &path, wrong)?));
+    }
     Ok(Some(
         format!(in alloc; "{path}: no chain of {size} bytes ends in block {head}")?,
     ))
+}
+
+/// A wrong pointer of the file at a path.
+fn pointer_line(
+    alloc: Global,
+    path: &PlacedPath<'_>,
+    wrong: WrongPointer,
+) -> Result<String, AllocError> {
+    let WrongPointer {
+        block,
+        named,
+        wanted,
+    } = wrong;
+    format!(in alloc; "{path}: block {block} names block {named} and not {wanted}")
 }
 
 /// The last block of the file at a place, and its size, where it has a chain.

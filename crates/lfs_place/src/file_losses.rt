@@ -74,7 +74,7 @@ fn file_loss(
     fault: MountFault,
 ) -> Result<Option<String>, AllocError> {
     if fault == MountFault::BadSkipList {
-        return chain_line_at(alloc, survey, place);
+        return chain_line_at(alloc, image, survey, place);
     }
     let Some((head, _)) = chain_of(survey, place) else {
         return Ok(None);

@@ -3,10 +3,12 @@
 
 mod all_lowered;
 mod blocks_text;
+mod circle_line;
 mod entry_lines;
 mod fault_place;
 mod file_losses;
 mod lines;
+mod owners;
 mod pair_lines;
 mod pair_losses;
 mod path_text;
@@ -14,6 +16,7 @@ mod placed_text;
 mod salvage_lines;
 mod shown;
 mod twice_lines;
+mod wrong_pointer;
 
 pub use fault_place::{FaultPlace, fault_place};
 pub use salvage_lines::salvage_lines;

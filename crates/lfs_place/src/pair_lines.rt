@@ -129,6 +129,20 @@ fn entry_line(
     Ok(Some(format!(in alloc; "{path}: {blocks}, of {count}")?))
 }
 
+/// A pair of which a block is in use already, and in which what a pair holds goes on.
+pub(crate) fn again_line(
+    alloc: Global,
+    survey: &Survey,
+    place: Place,
+    pair: (u32, u32),
+) -> Result<Option<String>, AllocError> {
+    let from = PairText::of(alloc, survey, place)?;
+    let blocks = BlocksText { pair };
+    Ok(Some(
+        format!(in alloc; "{from}: go on in {blocks}, which are in use already")?,
+    ))
+}
+
 /// A pair past an image with which what a pair holds goes on.
 fn tail_line(
     alloc: Global,

@@ -1,6 +1,7 @@
 //! What is told of pairs whose directories aren't saved where they are named.
 
 use crate::lines::Lines;
+use crate::owners::Owners;
 use crate::pair_lines::{past_line, unread_line_at};
 use crate::placed_text::{PlacedPath, blocks_at};
 use crate::twice_lines::pair_line;
@@ -14,6 +15,7 @@ pub(crate) fn add_lost_pairs(
     alloc: Global,
     survey: &Survey,
     uses: &[BlockUse],
+    owners: &Owners,
     area: usize,
     calls: usize,
     lines: &mut Lines,
@@ -22,7 +24,7 @@ pub(crate) fn add_lost_pairs(
         let place = Place { area, call };
         if let (Some(fault), true) = refused_at(survey, uses, place) {
             if lines.takes_one() {
-                lines.add(pair_loss(alloc, survey, uses.len() as u32, place, fault)?)?;
+                lines.add(pair_loss(alloc, survey, uses.len() as u32, owners, place, fault)?)?;
             }
         }
     }
@@ -68,12 +70,13 @@ fn pair_loss(
     alloc: Global,
     survey: &Survey,
     count: u32,
+    owners: &Owners,
     place: Place,
     fault: MountFault,
 ) -> Result<Option<String>, AllocError> {
     match fault {
         MountFault::BlockRange => past_line(alloc, survey, place, count),
-        MountFault::BlockTwice => pair_line(alloc, survey, place),
+        MountFault::BlockTwice => pair_line(alloc, survey, owners, place),
         fault => unread_line_at(alloc, survey, fault, place),
     }
 }

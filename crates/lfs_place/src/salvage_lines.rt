@@ -2,6 +2,7 @@
 
 use crate::file_losses::{add_lost_files, add_other_files};
 use crate::lines::Lines;
+use crate::owners::Owners;
 use crate::pair_losses::{add_lost_area, add_lost_pairs, add_other_pairs};
 use lfs_block::Image;
 use lfs_salvage::{Salvage, Saved, lost_word};
@@ -36,10 +37,11 @@ fn losses(
     survey: &Survey,
     salvage: &Salvage,
 ) -> Result<Vec<String>, AllocError> {
+    let owners = Owners::of(alloc, survey, salvage.uses.len())?;
     let mut lines = Lines::new(alloc);
     for (area, here) in survey.areas.iter().enumerate() {
         let calls = here.calls.len();
-        add_lost_pairs(alloc, survey, &salvage.uses, area, calls, &mut lines)?;
+        add_lost_pairs(alloc, survey, &salvage.uses, &owners, area, calls, &mut lines)?;
     }
     add_lost_files(alloc, image, survey, salvage, &mut lines)?;
     lines.ended(alloc, "are lost")

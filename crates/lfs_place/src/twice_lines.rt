@@ -1,70 +1,94 @@
 //! What is told of a block that two things use.
 
+use crate::circle_line::circle_line;
+use crate::owners::Owners;
+use crate::pair_lines::again_line;
 use crate::placed_text::{PlacedPath, blocks_at};
-use lfs_block::{Image, MountFault};
+use lfs_block::{Blocks, Image, MountFault};
 use lfs_survey::{
-    EntryPlace, Found, Place, Survey, call_at, chain_at, entry_places_of, first_place,
-    first_shared, found_at,
+    Call, EntryPlace, Place, Survey, Way, call_at, chain_at, entry_places_of, first_place,
+    first_shared,
 };
 use std::alloc::{AllocError, Global};
 
-/// The first pair of which a block is another's, or else the first file of which a block is something else's.
+/// The first pair of which a block is another's; or else the first that has one block twice; or else the first file of which a block is
+/// something else's; or else the first pair behind which the thread goes on where it was before.
 pub(crate) fn twice_line(
     alloc: Global,
     image: &Image,
     survey: &Survey,
 ) -> Result<Option<String>, AllocError> {
+    let owners = Owners::of(alloc, survey, image.count() as usize)?;
     if let Some(place) = first_place(survey, MountFault::BlockTwice) {
-        return pair_line(alloc, survey, place);
+        return pair_line(alloc, survey, &owners, place);
+    }
+    if let Some(place) = first_double(survey) {
+        return double_line(alloc, survey, place);
     }
     match first_shared(alloc, image, survey)? {
-        Some(place) => chain_line(alloc, image, survey, place),
-        None => Ok(None),
+        Some(place) => chain_line(alloc, image, survey, &owners, place),
+        None => circle_line(alloc, survey, &owners, image.count()),
     }
 }
 
-/// Whether a pair was looked at at a place, and a block is one of its.
-fn owns(survey: &Survey, place: Place, block: u32) -> bool {
-    match (call_at(survey, place), found_at(survey, place)) {
-        (_, Some(Found::Refused(MountFault::BlockRange | MountFault::BlockTwice))) => false,
-        (Some(call), Some(_)) => call.pair.0 == block || call.pair.1 == block,
-        _ => false,
-    }
-}
-
-/// The place of an area at which a block was looked at.
-fn owner_in(survey: &Survey, area: usize, calls: usize, block: u32) -> Option<Place> {
-    for call in 0..calls {
-        let place = Place { area, call };
-        if owns(survey, place, block) {
-            return Some(place);
+/// The call of these that has one block twice.
+fn double_in(calls: &[Call]) -> Option<usize> {
+    for (number, call) in calls.iter().enumerate() {
+        if call.pair.0 == call.pair.1 {
+            return Some(number);
         }
     }
     None
 }
 
-/// The place at which a block was looked at.
-fn owner_of(survey: &Survey, block: u32) -> Option<Place> {
+/// The first pair that has one block twice.
+fn first_double(survey: &Survey) -> Option<Place> {
     for (area, here) in survey.areas.iter().enumerate() {
-        if let Some(place) = owner_in(survey, area, here.calls.len(), block) {
-            return Some(place);
+        if let Some(call) = double_in(&here.calls) {
+            return Some(Place { area, call });
         }
     }
     None
+}
+
+/// The pair at a place, which has one block twice.
+fn double_line(
+    alloc: Global,
+    survey: &Survey,
+    place: Place,
+) -> Result<Option<String>, AllocError> {
+    let path = PlacedPath::of_pair(alloc, survey, place)?;
+    let (block, _) = blocks_at(survey, place).pair;
+    Ok(Some(format!(in alloc; "block {block}: {path} uses it twice")?))
 }
 
 /// The pair at a place, of which a block is another's.
 pub(crate) fn pair_line(
     alloc: Global,
     survey: &Survey,
+    owners: &Owners,
     place: Place,
 ) -> Result<Option<String>, AllocError> {
     let (first, second) = blocks_at(survey, place).pair;
-    match (owner_of(survey, first), owner_of(survey, second)) {
+    if let Some(from) = left_for(survey, place) {
+        return again_line(alloc, survey, from, (first, second));
+    }
+    match (owners.at(first), owners.at(second)) {
         (Some(one), Some(other)) if one == other => same_line(alloc, survey, place, one),
         (Some(owner), _) => half_line(alloc, survey, place, first, owner),
         (None, Some(owner)) => half_line(alloc, survey, place, second, owner),
         (None, None) => Ok(None),
+    }
+}
+
+/// The place at which a directory goes on in the pair at a place.
+fn left_for(survey: &Survey, place: Place) -> Option<Place> {
+    match call_at(survey, place)?.way {
+        Way::Next { from } => Some(Place {
+            area: place.area,
+            call: from,
+        }),
+        _ => None,
     }
 }
 
@@ -103,13 +127,14 @@ fn chain_line(
     alloc: Global,
     image: &Image,
     survey: &Survey,
+    owners: &Owners,
     place: EntryPlace,
 ) -> Result<Option<String>, AllocError> {
     let places = entry_places_of(alloc, survey)?;
     let Some(block) = shared_block(alloc, image, survey, &places, place)? else {
         return Ok(None);
     };
-    let Some(user) = user_of(alloc, image, survey, &places, block)? else {
+    let Some(user) = user_of(alloc, image, survey, owners, &places, block)? else {
         return Ok(None);
     };
     let path = PlacedPath::of_entry(alloc, survey, place)?;
@@ -162,10 +187,11 @@ fn user_of<'a>(
     alloc: Global,
     image: &Image,
     survey: &'a Survey,
+    owners: &Owners,
     places: &[EntryPlace],
     block: u32,
 ) -> Result<Option<PlacedPath<'a>>, AllocError> {
-    if let Some(owner) = owner_of(survey, block) {
+    if let Some(owner) = owners.at(block) {
         return Ok(Some(PlacedPath::of_pair(alloc, survey, owner)?));
     }
     for place in places {
