@@ -77,7 +77,6 @@ LIMITS = [
 ]
 
 
-
 def pointing(pointers):
     """A block of a file with pointers to those before it."""
     return struct.pack(f"<{len(pointers)}I", *pointers).ljust(512, b"x")

@@ -25,8 +25,8 @@ pub fn salvage_lines(
         looked: Vec::new(alloc),
     };
     let mut lines = losses(alloc, image, &survey, &salvage)?;
-    let mut others = others(alloc, &survey, &salvage)?;
-    lines.append(&mut others)?;
+    let mut more = others(alloc, &survey, &salvage)?;
+    lines.append(&mut more)?;
     Ok(lines)
 }
 
