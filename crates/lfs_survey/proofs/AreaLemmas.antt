@@ -5,11 +5,11 @@ use Rattle.lfs_block.specs.Disk.{Disk}
 use Rattle.lfs_meta.specs.Body.{Pair}
 use Rattle.lfs_fs.specs.Used.{unmarked}
 use Rattle.lfs_survey.specs.Area.{AreFound, looked_after}
-use Rattle.lfs_survey.specs.Calls.{calls_from, found_calls, start_call}
+use Rattle.lfs_survey.specs.Calls.{AreEarlier, calls_from, found_calls, start_call}
 use Rattle.lfs_survey.specs.Looking.{Grows, IsFound, looked_behind}
 use Rattle.lfs_survey.specs.declared.call.Call.{Call}
 use Rattle.lfs_survey.specs.declared.found.Found.{Found}
-use Rattle.lfs_survey.proofs.CallingLemmas.{calls_push}
+use Rattle.lfs_survey.proofs.CallingLemmas.{calls_push, earlier_append, earlier_found}
 use Rattle.lfs_survey.proofs.LookingLemmas.{behind_fewer, behind_grows, behind_len}
 
 -- ---- the table behind what is found
@@ -53,6 +53,7 @@ found_push d looked (x ∷ cs) more (y ∷ fs) c f within is right one =
 -- the first pairs were looked at, and the others wait
 pub record IsUnderWay (d : Disk) (before now : List Bool) (start : Pair) (cs : List Call) (fs : List Found) : Type 0 where
   pub called : cs ≡ start_call start ∷ calls_from 0 fs
+  pub earlier : AreEarlier 0 cs
   pub right : AreFound d before cs fs
   pub within : length fs ≤ length cs
   pub looked : now ≡ looked_after before cs fs
@@ -64,6 +65,7 @@ under_way_more : (d : Disk) (before now next : List Bool) (start : Pair) (cs mor
 under_way_more d before now next start cs more fs c f h within is one behind added = rw added (record {
   called = ap (λ (xs : List Call). xs ++ found_calls (length fs) f) h.called ∙ ap (λ (xs : List Call). start_call start ∷ xs)
       (ap (λ (n : ℕ). calls_from 0 fs ++ found_calls n f) (omega arith) ∙ sym (calls_push 0 fs f));
+  earlier = earlier_append 0 cs (found_calls (length fs) f) h.earlier (earlier_found (length fs) (0 + length cs) f (omega (arith, within)));
   right = found_push d before cs (found_calls (length fs) f) fs c f within is h.right
       (subst (λ (t : List Bool). IsFound d t c.pair f) h.looked one);
   within = omega (arith, length-append cs (found_calls (length fs) f), length-append fs (f ∷ []));

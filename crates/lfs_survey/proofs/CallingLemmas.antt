@@ -1,12 +1,15 @@
 -- Pairs that what is found leads to, one after another.
-use Rattle.std.proofs.Common.{◌≡◌, ℕ, ◌+◌, ◌<◌, List, [], ◌∷◌, ◌++◌, length, take, get_or, Result, Ok, Err, suc, ap, sym, ◌∙◌, arith}
+use Rattle.std.proofs.Common.{◌≡◌, ℕ, ◌+◌, ◌<◌, List, [], ◌∷◌, ◌++◌, length, take, get_or, Result, Ok, Err, suc, ap, sym, ◌∙◌, arith, subst}
 use Rattle.std.specs.Result.{OnOk}
 use Rattle.std.proofs.lemmas.List.{append-nil, append_assoc, length-take-le, take_more}
+use Rattle.lfs_meta.specs.Body.{StoredBody, Inline, Chain, Directory_at}
 use Rattle.lfs_meta.specs.Entry.{StoredEntry}
 use Rattle.lfs_meta.specs.declared.tail.Tail.{Tail}
-use Rattle.lfs_survey.specs.Calls.{body_calls, calls_from, entries_call, found_calls, tail_calls}
+use Rattle.lfs_meta.specs.declared.tail.Tail.TheVariants.{End, Soft, Hard}
+use Rattle.lfs_survey.specs.Calls.{AreEarlier, body_calls, calls_from, entries_call, found_calls, tail_calls}
 use Rattle.lfs_survey.specs.declared.call.Call.{Call}
 use Rattle.lfs_survey.specs.declared.found.Found.{Found}
+use Rattle.lfs_survey.specs.declared.found.Found.TheVariants.{Part, Refused}
 use Rattle.lfs_survey.specs.declared.way.Way.TheVariants.{Entry}
 
 entries_push : (from index : ℕ) (es : List StoredEntry) (e : StoredEntry) → entries_call from index (es ++ e ∷ [])
@@ -55,3 +58,34 @@ calls_push from (x ∷ fs) f =
     ap (λ (cs : List Call). found_calls from x ++ cs) rest
     ∙ ap (λ (n : ℕ). found_calls from x ++ (calls_from (suc from) fs ++ found_calls n f)) (omega arith)
     ∙ sym (append_assoc (found_calls from x) (calls_from (suc from) fs) (found_calls (from + suc (length fs)) f))
+
+-- ---- each behind what leads to it
+
+pub earlier_append : (n : ℕ) (xs ys : List Call) → AreEarlier n xs → AreEarlier (n + length xs) ys → AreEarlier n (xs ++ ys)
+earlier_append n [] ys first later = subst (λ (m : ℕ). AreEarlier m ys) (omega arith) later
+earlier_append n (x ∷ xs) ys (one, first) later =
+    (one, earlier_append (n + 1) xs ys first (subst (λ (m : ℕ). AreEarlier m ys) (omega arith) later))
+
+earlier_body : (from n index : ℕ) (b : StoredBody) → from < n → AreEarlier n (body_calls (Entry from index) b)
+earlier_body from n index (Inline bytes) before = tt
+earlier_body from n index (Chain head size) before = tt
+earlier_body from n index (Directory_at first second) before = (before, tt)
+
+earlier_entries : (from n index : ℕ) (es : List StoredEntry) → from < n → AreEarlier n (entries_call from index es)
+earlier_entries from n index [] before = tt
+earlier_entries from n index (e ∷ es) before =
+    let here = body_calls (Entry from index) e.body in
+    earlier_append n here (entries_call from (suc index) es) (earlier_body from n index e.body before)
+    (earlier_entries from (n + length here) (suc index) es (omega (arith, before)))
+
+earlier_tail : (from n : ℕ) (t : Tail) → from < n → AreEarlier n (tail_calls from t)
+earlier_tail from n End before = tt
+earlier_tail from n (Soft first second) before = tt
+earlier_tail from n (Hard first second) before = (before, tt)
+
+pub earlier_found : (from n : ℕ) (f : Found) → from < n → AreEarlier n (found_calls from f)
+earlier_found from n (Part p) before =
+    let here = entries_call from 0 p.1.entries in
+    earlier_append n here (tail_calls from p.1.tail) (earlier_entries from n 0 p.1.entries before)
+    (earlier_tail from (n + length here) p.1.tail (omega (arith, before)))
+earlier_found from n (Refused fault) before = tt
