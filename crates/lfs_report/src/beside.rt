@@ -15,9 +15,11 @@ pub struct Beside {
     pub by_device: bool,
     /// The text that the statement of a stop speaks of; empty where it speaks of none.
     pub text: Vec<u8>,
+    /// The first place of the fault in the image.
+    pub place: Option<String>,
     /// Why an image doesn't mount of which all is saved all the same.
     pub unmounted: Option<MountFault>,
-    /// Lines that are told of the image.
+    /// What is told of what is saved of an image, a text a line.
     pub lines: Vec<String>,
 }
 
@@ -33,6 +35,7 @@ impl Beside {
             },
             by_device: false,
             text: Vec::new(alloc),
+            place: None,
             unmounted: None,
             lines: Vec::new(alloc),
         }

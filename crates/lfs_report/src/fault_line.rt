@@ -19,15 +19,15 @@ pub(crate) fn statement_at(
     let Some(place) = fault_place(alloc, image, fault, beside.by_device) else {
         return usual;
     };
-    let stays = match usual {
-        Some(Statement::Stated(..) | Statement::Unread(_)) => place.is_front,
-        _ => false,
-    };
-    if stays || beside.lines.push(place.text).is_err() {
-        return usual;
-    }
     match usual {
-        Some(Statement::Expanded) => usual,
-        _ => Some(Statement::Lines),
+        Some(Statement::Stated(..) | Statement::Unread(_)) if place.is_front => usual,
+        Some(Statement::Expanded) => {
+            beside.place = Some(place.text);
+            usual
+        }
+        _ => {
+            beside.place = Some(place.text);
+            Some(Statement::Place)
+        }
     }
 }

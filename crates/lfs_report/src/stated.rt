@@ -90,8 +90,8 @@ pub enum Statement {
     Length(usize, u32),
     /// What is known of the path for which a step is refused.
     Path(PathNote),
-    /// Lines of the image, as of the first place of the fault, which are kept beside.
-    Lines,
+    /// The first place of the fault in the image; what is told of it is kept beside.
+    Place,
     /// What is known of the row for which a folder, or another image, isn't packed; the text of its path is kept beside.
     Row(Finding),
     /// The number of the line of a script that is refused, and what is wrong in it where it says no step; its text is kept beside.

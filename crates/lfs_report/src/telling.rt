@@ -67,14 +67,15 @@ fn tell_of<H: Host>(host: &mut H, request: &Request<'_>, stop: &Stop, beside: &B
         _ => {}
     }
     match (stop.statement, hint_of(request)) {
-        (Some(Statement::Expanded), None) if !beside.lines.is_empty() => {
-            tell_lines(host, image, &beside.lines);
+        (Some(Statement::Expanded), None) if beside.place.is_some() => {
+            tell_place(host, image, beside);
         }
         (None, _) | (Some(Statement::Expanded), None) => {
             tell_refused(host, request, image, stop.fault);
         }
         (Some(statement), _) => tell_statement(host, request, image, statement, beside),
     }
+    tell_lines(host, image, &beside.lines);
     status
 }
 
@@ -96,6 +97,15 @@ fn tell_unmounted<H: Host>(host: &mut H, image: &str, fault: Option<MountFault>)
         host.complain(format_args!(
             "lfsed: {image}: doesn't mount ({number} {fault}); nothing is lost\n"
         ));
+    }
+}
+
+/// Tells the place of a fault in the image of this name.
+fn tell_place<H: Host>(host: &mut H, image: &str, beside: &Beside)
+    ensures kept { H.known host.new ≡ H.known host.old }
+{
+    if let Some(place) = &beside.place {
+        say_words(host, image, place.as_str());
     }
 }
 
@@ -321,7 +331,7 @@ fn tell_statement<H: Host>(
         Statement::Expanded => tell_expanded(host, image, hint),
         Statement::Length(len, size) => tell_part(host, image, len, size),
         Statement::Path(note) => tell_note(host, request, note),
-        Statement::Lines => tell_lines(host, image, &beside.lines),
+        Statement::Place => tell_place(host, image, beside),
         Statement::Row(finding) => tell_row(host, image, &beside.text, finding),
         Statement::Line(number, flaw) => tell_line(host, request, &beside.text, number, flaw),
         Statement::Need(count) => tell_need(host, request, count),
