@@ -254,6 +254,7 @@ commands =
     ∷ repack
     ∷ (command (codes "find") (word (codes "flash") ∷ [])).top
     ∷ asking (codes "extract") (word (codes "dir") ∷ [])
+    ∷ asking (codes "salvage") (word (codes "dir") ∷ [])
     ∷ asking (codes "check") []
     ∷ asking (codes "ls") []
     ∷ asking (codes "blocks") (sum ∷ [])

@@ -47,7 +47,7 @@ pub const REPACK_USAGE: &str = "lfsed repack [OPTIONS] <IMAGE> <SOURCE>";
 pub const GROW_USAGE: &str = "lfsed grow [OPTIONS] <IMAGE> <COUNT|--size <BYTES>>";
 
 /// The program's commands, in the order of its help. Each but the last takes the block size and the image's file name.
-static COMMANDS: [CommandRow; 23] = [
+static COMMANDS: [CommandRow; 24] = [
     CommandRow {
         name: "format",
         about: "Write a new image, in place of a file of this name",
@@ -110,6 +110,19 @@ static COMMANDS: [CommandRow; 23] = [
     CommandRow {
         name: "extract",
         about: "Make a new folder with what is in an image; attributes are left behind",
+        usage: None,
+        arguments: &[
+            Argument::Block,
+            Argument::Image,
+            Argument::NewDir,
+            Argument::Device,
+            Argument::Offset,
+            Argument::Older,
+        ],
+    },
+    CommandRow {
+        name: "salvage",
+        about: "Make a new folder with all that can still be read of an image, also of one that doesn't mount",
         usage: None,
         arguments: &[
             Argument::Block,

@@ -45,6 +45,13 @@ pub enum Task<'a> {
         /// How the image is looked at.
         view: View,
     },
+    /// A new folder of the host, with all that can still be read of the image, which needn't mount.
+    Salvage {
+        /// The folder's name.
+        dir: &'a str,
+        /// How the image is looked at.
+        view: View,
+    },
     /// What is asked of the image.
     Ask {
         /// The question; another image is there by the name of its file.

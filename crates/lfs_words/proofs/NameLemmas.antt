@@ -13,7 +13,8 @@ use Rattle.lfs_words.specs.Words.{is_other, is_question}
 abbrev is_task : Text → Bool
 is_task name =
     bytes_eq (codes "batch") name || (bytes_eq (codes "format") name || (bytes_eq (codes "pack") name || (bytes_eq (codes "repack") name
-    || (bytes_eq (codes "extract") name || (bytes_eq (codes "undo") name || (bytes_eq (codes "redo") name || bytes_eq (codes "forget") name))))))
+    || (bytes_eq (codes "extract") name || (bytes_eq (codes "salvage") name || (bytes_eq (codes "undo") name
+    || (bytes_eq (codes "redo") name || bytes_eq (codes "forget") name)))))))
 
 abbrev is_known : Text → Bool
 is_known name = is_task name || (is_question name || is_other name)
@@ -44,12 +45,13 @@ none_by false b first second = second
 
 -- of what the grammar has it is one that changes a tree, or takes no image
 pub other_named : (name : Text) (rows : List Row) → NamesCommand (Some (name, rows)) → name ≢ codes "batch" → name ≢ codes "format"
-    → name ≢ codes "pack" → name ≢ codes "repack" → name ≢ codes "extract" → name ≢ codes "undo" → name ≢ codes "redo"
-    → name ≢ codes "forget" → is_question name ≡ false → is_other name ≡ true
-other_named name rows names batch format pack repack extract undo redo forget question =
+    → name ≢ codes "pack" → name ≢ codes "repack" → name ≢ codes "extract" → name ≢ codes "salvage" → name ≢ codes "undo"
+    → name ≢ codes "redo" → name ≢ codes "forget" → is_question name ≡ false → is_other name ≡ true
+other_named name rows names batch format pack repack extract salvage undo redo forget question =
     let task : is_task name ≡ false =
     none_by _ _ (no_word (codes "batch") name batch) (none_by _ _ (no_word (codes "format") name format)
     (none_by _ _ (no_word (codes "pack") name pack) (none_by _ _ (no_word (codes "repack") name repack)
-    (none_by _ _ (no_word (codes "extract") name extract) (none_by _ _ (no_word (codes "undo") name undo)
-    (none_by _ _ (no_word (codes "redo") name redo) (no_word (codes "forget") name forget))))))) in
+    (none_by _ _ (no_word (codes "extract") name extract) (none_by _ _ (no_word (codes "salvage") name salvage)
+    (none_by _ _ (no_word (codes "undo") name undo) (none_by _ _ (no_word (codes "redo") name redo)
+    (no_word (codes "forget") name forget)))))))) in
     other_by (is_question name) (is_other name) (other_by (is_task name) (is_question name || is_other name) (known name rows names) task) question

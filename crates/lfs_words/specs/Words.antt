@@ -24,7 +24,7 @@ use Rattle.lfs_request.specs.declared.source_image.SourceImage.{SourceImage}
 use Rattle.lfs_request.specs.declared.view.View.{View}
 use Rattle.lfs_request.specs.declared.task.Task.{Task}
 use Rattle.lfs_request.specs.declared.task.Task.TheVariants as task
-use Rattle.lfs_request.specs.declared.task.Task.TheVariants.{Format, Pack, Repack, Extract, Ask, Change, Batch}
+use Rattle.lfs_request.specs.declared.task.Task.TheVariants.{Format, Pack, Repack, Extract, Salvage, Ask, Change, Batch}
 use Rattle.lfs_request.specs.declared.query.Query.{Query}
 use Rattle.lfs_request.specs.declared.query.Query.TheVariants.{Check, Ls, Blocks, Cat, Diff, Log}
 use Rattle.lfs_texts.specs.Digits.{SpellsByte, SpellsBytes, SpellsNoByte, SpellsNoBytes}
@@ -186,6 +186,7 @@ IsTask (Pack extent limits dir) name rows block other =
 IsTask (Repack source extent limits) name rows block other =
     (name ≡ codes "repack") × IsSource source rows other × SaysExtentIfSaid rows block extent × SaysLimitsIfSaid rows limits
 IsTask (Extract dir view) name rows block other = (name ≡ codes "extract") × HasText rows (codes "dir") dir.now × IsView view rows
+IsTask (Salvage dir view) name rows block other = (name ≡ codes "salvage") × HasText rows (codes "dir") dir.now × IsView view rows
 IsTask (Ask query view) name rows block other = IsQuery query name rows other × IsView view rows
 IsTask task.Forget name rows block other = name ≡ codes "forget"
 IsTask (Change (Do command kept)) name rows block other = IsCommand command name rows block × IsKept kept rows

@@ -191,6 +191,10 @@ fn other_task_of<'a>(
             dir: text(options, "dir")?,
             view,
         }),
+        "salvage" => Ok(Task::Salvage {
+            dir: text(options, "dir")?,
+            view,
+        }),
         "undo" => Ok(Task::Change(Move::Undo {
             steps: number(options, "steps")?,
         })),

@@ -117,6 +117,14 @@ returns-in_err-text-in-extract-clause-unsaid c =
     let said = said_of c.args.name.now (codes "extract") (rows_of (found_of c.args.options.now)) c.in-extract.is names in
     absurd (c.in_err-text-in-extract.ensures.none.1 (word (codes "dir")) refl (said.1.1.0 refl)))
 
+pub returns-in_err-text-in-salvage-clause-unsaid : goal.returns-in_err-text-in-salvage-clause-unsaid
+returns-in_err-text-in-salvage-clause-unsaid c =
+    let on = c.from_residual-in_err-text-in-salvage in
+    handed_on on.result c.in_err-text-in-salvage.field-0.0 _ on.ensures.1
+    (λ is names.
+    let said = said_of c.args.name.now (codes "salvage") (rows_of (found_of c.args.options.now)) c.in-salvage.is names in
+    absurd (c.in_err-text-in-salvage.ensures.none.1 (word (codes "dir")) refl (said.1.1.0 refl)))
+
 pub returns-in_err-number-in-undo-clause-unsaid : goal.returns-in_err-number-in-undo-clause-unsaid
 returns-in_err-number-in-undo-clause-unsaid c =
     let on = c.from_residual-in_err-number-in-undo in
@@ -152,4 +160,4 @@ returns-in_err-question_of-in_default-clause-unsaid c =
     handed_on on.result c.in_err-question_of-in_default.field-0.0 _ on.ensures.1
     (λ is names.
     other_named c.args.name.now (rows_of (found_of c.args.options.now)) names h.not-batch h.not-format h.not-pack h.not-repack h.not-extract
-    h.not-undo h.not-redo h.not-forget (c.in_err-question_of-in_default.ensures.unsaid names))
+    h.not-salvage h.not-undo h.not-redo h.not-forget (c.in_err-question_of-in_default.ensures.unsaid names))
