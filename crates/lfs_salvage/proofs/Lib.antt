@@ -5,3 +5,6 @@ pub mod SavingLemmas
 pub mod AreaLemmas
 pub mod ShownLemmas
 pub mod ApartLemmas
+pub mod LostLemmas
+pub mod LostFolderLemmas
+pub mod SavedLemmas

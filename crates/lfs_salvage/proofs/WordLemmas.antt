@@ -1,17 +1,19 @@
 -- Words that a host can have.
-use Rattle.std.proofs.Common.{◌≡◌, ◌≢◌, ℕ, ◌<◌, ◌≤◌, ◌&&◌, ◌==◌, ◌/◌, ◌%◌, ◌⊎◌, inl, inr, Bool, true, false, List, [], ◌∷◌, ◌++◌, length, refl, ap, sym, ◌∙◌, arith}
+use Rattle.std.proofs.Common.{◌≡◌, ◌≢◌, ℕ, ◌<◌, ◌≤◌, ◌&&◌, ◌==◌, ◌/◌, ◌%◌, ◌⊎◌, inl, inr, Bool, true, false, List, [], ◌∷◌, ◌++◌, length, append_assoc, refl, ap, sym, ◌∙◌, arith}
 use Rattle.std.specs.Prelude.{not, flat_map, nat_le, nat_lt, if◌then◌else◌, All, slice_index, codes}
 use Rattle.std.specs.Str.{IsUtf8, is_utf8}
 use Rattle.std.proofs.lemmas.Bool.{and_parts}
+use Rattle.std.proofs.lemmas.Grind.{flat_map-append}
 use Rattle.std.proofs.lemmas.Bool.Decides.{nat_tests}
 use Rattle.std.proofs.lemmas.Str.{IsUtf8-from_ascii, IsUtf8-from_is_utf8, is_utf8-from_IsUtf8}
 use Rattle.std.proofs.lemmas.Str.Ascii.{IsAscii-from_all}
 use Rattle.std.proofs.lemmas.List.Elements.{All-append, All-cons, All-get_or, All-head, All-nil, All-push, All-tail, All-weaker}
 use Rattle.hex.specs.Hex.{encode_lower, encode_with, lower_digits}
 use Rattle.lfs_folder.specs.HostNames.{IsHostName, is_host_name}
-use Rattle.lfs_folder.specs.PathBelow.{name_in}
+use Rattle.lfs_folder.specs.PathBelow.{host_name, name_in}
 use Rattle.lfs_folder.proofs.HostNameLemmas.{all_pass, is_host_name-decides}
 use Rattle.lfs_folder.proofs.PathBelowLemmas.{name_below, name_of_root}
+use Rattle.lfs_fs.specs.Path.{Path}
 use Rattle.lfs_listing.specs.Listing.{shown_byte}
 use Rattle.lfs_meta.specs.Name.{Name, IsName, is_name}
 use Rattle.lfs_meta.proofs.NameLemmas.{is_name-decides}
@@ -26,10 +28,10 @@ pub record IsPlain (b : ℕ) : Type 0 where
   pub some' : b ≢ 0
   pub no_slash : b ≢ 47
 
-abbrev is_plain : ℕ → Bool
+abbrev pub is_plain : ℕ → Bool
 is_plain b = nat_lt b 128 && not (b == 0) && not (b == 47)
 
-plain_by : (b : ℕ) → is_plain b ≡ true → IsPlain b
+pub plain_by : (b : ℕ) → is_plain b ≡ true → IsPlain b
 plain_by b is = record { ascii = grind (arith, nat_tests); some' = grind (arith, nat_tests); no_slash = grind (arith, nat_tests) }
 
 digits_plain : All IsPlain lower_digits
@@ -121,7 +123,7 @@ is_not_own n other = by (is_host_name n) (is_utf8 n) refl where
 plain_text : (w : List ℕ) → All IsPlain w → IsUtf8 w
 plain_text w plain = IsUtf8-from_ascii w (IsAscii-from_all w (All-weaker IsPlain (λ (b : ℕ). b < 128) (λ b is. is.ascii) w plain))
 
-plain_word : (w : List ℕ) → All IsPlain w → 0 < length w → w ≢ 46 ∷ [] → w ≢ 46 ∷ 46 ∷ [] → IsHostName w
+pub plain_word : (w : List ℕ) → All IsPlain w → 0 < length w → w ≢ 46 ∷ [] → w ≢ 46 ∷ 46 ∷ [] → IsHostName w
 plain_word w plain some dot dots = record {
   name = record {
     some' = some;
@@ -162,6 +164,12 @@ word_is_host n small = by (is_own_word n) refl where
 
 -- ---- names below a folder
 
+-- a path behind another one
+name_beyond : (top : List ℕ) (p q : Path) → host_name top (p ++ q) ≡ host_name (host_name top p) q
+name_beyond top p q =
+    ap (λ (t : List ℕ). top ++ t) (flat_map-append (λ (n : Name). 47 ∷ n) p q)
+    ∙ sym (append_assoc top (flat_map (λ (n : Name). 47 ∷ n) p) (flat_map (λ (n : Name). 47 ∷ n) q))
+
 -- what has a host's name in a folder below is below
 pub below_in : (top folder w : List ℕ) → IsNameBelow top folder → IsHostName w → IsNameBelow top (name_in folder w)
 below_in top folder w (path, fits, is) host = (
@@ -173,3 +181,11 @@ below_in top folder w (path, fits, is) host = (
 -- a folder is below itself
 pub below_itself : (top : List ℕ) → IsNameBelow top top
 below_itself top = ([], All-nil IsHostName, sym (name_of_root top))
+
+-- what is below a folder below is below
+pub below_below : (top folder name : List ℕ) → IsNameBelow top folder → IsNameBelow folder name → IsNameBelow top name
+below_below top folder name (p, fits, at) (q, also, is) = (
+  p ++ q,
+  All-append IsHostName p q fits also,
+  is ∙ ap (λ (f : List ℕ). host_name f q) at ∙ sym (name_beyond top p q),
+)

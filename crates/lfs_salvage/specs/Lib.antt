@@ -9,3 +9,7 @@ pub mod Below
 pub mod Saving
 pub mod Shown
 pub mod Apart
+pub mod Lost
+pub mod AllMade
+pub mod Saved
+pub mod Losses

@@ -7,7 +7,7 @@ use lfs_block::MountFault;
 ///
 /// Source: own.
 #[derive(Drop)]
-pub enum FileBody {
+pub(crate) enum FileBody {
     /// A file is saved, of the bytes in its entry.
     Inline,
     /// A file of `size` bytes is saved, of a chain: its last block, and all of them, from block 0 on.

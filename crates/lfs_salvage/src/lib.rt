@@ -4,22 +4,28 @@
 mod block_use;
 mod file_body;
 mod folders;
+mod front;
 mod home;
 mod laws;
+mod losses;
+mod lost;
 mod reading;
 mod salvage;
+mod saved;
 mod saving;
 mod saving_entries;
+mod saving_image;
+mod saving_lost;
 mod unsaved;
 mod words;
 
 pub use block_use::BlockUse;
-pub use file_body::FileBody;
 pub use home::Home;
 pub use laws::{
     lost_files_have_a_cause, parts_are_in_use, saved_chains_are_apart, saved_files_are_shown,
 };
-pub use reading::file_of;
+pub use losses::is_lost;
 pub use salvage::Salvage;
-pub use saving::save_area;
+pub use saved::Saved;
+pub use saving_image::save_image;
 pub use unsaved::{Unsaved, Why};

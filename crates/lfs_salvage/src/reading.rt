@@ -18,7 +18,7 @@ use lfs_meta::{Body, Entry, Kind};
 use std::alloc::{AllocError, Global};
 
 /// What a block is used for; one that isn't the table's for nothing.
-fn use_of(uses: &[BlockUse], block: u32) -> BlockUse
+pub(crate) fn use_of(uses: &[BlockUse], block: u32) -> BlockUse
     ensures { result ≡ slice_index_or uses.now block Free }
 {
     let index = block as usize;
@@ -128,7 +128,7 @@ fn body_of<B: Blocks>(
 /// where its last block, or another one of its chain, is in use. What is no file is passed over. Takes memory.
 ///
 /// Source: own.
-pub fn file_of<B: Blocks>(
+pub(crate) fn file_of<B: Blocks>(
     alloc: Global,
     disk: &B,
     uses: &[BlockUse],

@@ -19,15 +19,15 @@ pub struct Salvage {
 }
 
 impl Salvage {
-    ghost use Rattle.std.specs.Prelude.{◌≡◌, [], ◌++◌, IfOk, OnOk, slice_set};
+    ghost use Rattle.std.specs.Prelude.{◌≡◌, ◌+◌, ◌<◌, ◌^◌, [], ◌++◌, IfOk, OnOk, length, slice_set};
     ghost use Rattle.lfs_salvage.specs.Fate.{chained, settled, uses_behind};
     ghost use Rattle.lfs_salvage.specs.FateHeld.{fate_held};
-    ghost use Rattle.lfs_salvage.specs.PartsUsed.{part_uses, parts_uses, uses_at_first};
+    ghost use Rattle.lfs_salvage.specs.PartsUsed.{areas_uses, part_uses, parts_uses, uses_at_first};
     ghost use Rattle.lfs_salvage.specs.Unsaved.{unsaved};
 
     /// Nothing is saved yet of an image of so many blocks, of which these areas are found: the blocks of their parts are in use, and no
     /// others. Takes memory.
-    pub fn new(alloc: Global, count: u32, areas: &[Area]) -> Result<Salvage, AllocError>
+    pub(crate) fn new(alloc: Global, count: u32, areas: &[Area]) -> Result<Salvage, AllocError>
         ensures uses { IfOk result (λ salvage. salvage.uses.items ≡ uses_at_first count areas.now) }
         ensures unsaved { IfOk result (λ salvage. salvage.unsaved.items ≡ []) }
     {
@@ -35,10 +35,19 @@ impl Salvage {
             uses: vec![in alloc; BlockUse::Free; count as usize]?,
             unsaved: Vec::new(alloc),
         };
-        'each: for (number, area) in areas.iter().enumerate() {
-            salvage.mark_parts(number, &area.found);
-        }
+        salvage.mark_areas(0, areas);
         Ok(salvage)
+    }
+
+    /// Marks the blocks of the parts that areas have, of which the first has this number.
+    pub(crate) fn mark_areas(&mut self, first: usize, areas: &[Area])
+        requires few { first + length areas.now < 2 ^ 64 }
+        ensures uses { self.new.uses.items ≡ areas_uses self.old.uses.items first areas.now }
+        ensures unsaved { self.new.unsaved ≡ self.old.unsaved }
+    {
+        'each: for (number, area) in areas.iter().enumerate() {
+            self.mark_parts(first + number, &area.found);
+        }
     }
 
     /// Marks the blocks of the parts that an area has.

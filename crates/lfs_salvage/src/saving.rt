@@ -81,7 +81,7 @@ fn save_found<B: Blocks, F: NewFolder>(
 /// With either, what `salvage` says is of no use.
 ///
 /// Source: own.
-pub fn save_area<B: Blocks, F: NewFolder>(
+pub(crate) fn save_area<B: Blocks, F: NewFolder>(
     alloc: Global,
     disk: &B,
     area: &Area,

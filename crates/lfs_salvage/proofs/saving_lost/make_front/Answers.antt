@@ -1,0 +1,29 @@
+-- The folders that lack are made, or the host refuses one.
+use Rattle.std.proofs.Common.{Option, List, [], ◌∷◌, ℕ}
+use Rattle.std.proofs.lemmas.Result.{err_from_is_err_and}
+use Rattle.lfs_host.specs.NewFolder.{FolderMade, Made}
+use Rattle.lfs_salvage.proofs.LostLemmas.{front_refused}
+use Rattle.lfs_salvage.proofs.SavingLemmas.{below_then, none_front, one_below}
+use Rattle.lfs_salvage.proofs.WordLemmas.{below_itself}
+use Rattle.lfs_salvage.proofs.saving_lost.make_front.Goals as goal
+
+pub returns-in_err-make_folder-in-Both-clause-made : goal.returns-in_err-make_folder-in-Both-clause-made
+returns-in_err-make_folder-in-Both-clause-made g c =
+    let p = err_from_is_err_and c.from_residual.result c.from_residual.ensures.1 in
+    rw (p.1, p.2, c.in-Both.is) (front_refused (g.F.Known.known c.args.folder.now).made (g.F.Known.known c.make_folder.new.self).made
+    (FolderMade c.args.dir.now) (FolderMade c.args.lost.now ∷ []) c.in_err-make_folder-in-Both.ensures.made)
+
+pub returns-in_err-make_folder-in-Lost-clause-made : goal.returns-in_err-make_folder-in-Lost-clause-made
+returns-in_err-make_folder-in-Lost-clause-made g c =
+    let p = err_from_is_err_and c.from_residual-in_err-make_folder-in-Lost.result c.from_residual-in_err-make_folder-in-Lost.ensures.1 in
+    rw (p.1, p.2, c.in-Lost.is) (none_front (g.F.Known.known c.args.folder.now).made (g.F.Known.known c.make_folder-in-Lost.new.self).made
+    (FolderMade c.args.lost.now) c.in_err-make_folder-in-Lost.ensures.made)
+
+pub returns-in_ok-make_folder-in-Both-2-clause-below : goal.returns-in_ok-make_folder-in-Both-2-clause-below
+returns-in_ok-make_folder-in-Both-2-clause-below g c =
+    let dir : List ℕ = c.args.dir.now in
+    let old : Option (List Made) = (g.F.Known.known c.args.folder.now).made in
+    let mid : Option (List Made) = (g.F.Known.known c.make_folder.new.self).made in
+    let new : Option (List Made) = (g.F.Known.known c.make_folder-in-Both.new.self).made in
+    below_then dir old mid new (one_below dir old mid (FolderMade dir) (below_itself dir) c.in_ok-make_folder-in-Both.ensures.made)
+    (one_below dir mid new (FolderMade c.args.lost.now) c.requires c.in_ok-make_folder-in-Both-2.ensures.made)
