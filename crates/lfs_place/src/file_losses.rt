@@ -90,10 +90,9 @@ fn file_loss(
 /// The first of these blocks that is in use, or the last block of the file.
 fn first_used(uses: &[BlockUse], chain: &[u32], head: u32) -> u32 {
     for block in chain {
-        if let Some(as_use) = uses.get(*block as usize) {
-            if !as_use.is_free() {
-                return *block;
-            }
+        match uses.get(*block as usize) {
+            None | Some(BlockUse::Free) => {}
+            Some(_) => return *block,
         }
     }
     head

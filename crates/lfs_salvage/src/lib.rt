@@ -25,6 +25,7 @@ pub use laws::{
     lost_files_have_a_cause, parts_are_in_use, saved_chains_are_apart, saved_files_are_shown,
 };
 pub use losses::is_lost;
+pub use lost::lost_word;
 pub use salvage::Salvage;
 pub use saved::Saved;
 pub use saving_image::save_image;

@@ -52,8 +52,10 @@ fn tildes_in(found: &[Found]) -> usize
         .fold(0, |most, found| tildes_behind(most, found))
 }
 
-/// The word that none of the names of what is found has.
-fn lost_word(alloc: Global, found: &[Found]) -> Result<String, AllocError>
+/// The name of the folder for what no path leads to, where this is found of the root's area: none of its names is that. Takes memory.
+///
+/// Source: own.
+pub fn lost_word(alloc: Global, found: &[Found]) -> Result<String, AllocError>
     ensures { IfOk result (λ word. string_bytes word ≡ lost_word found.now) }
 {
     let mut word = String::from_str(alloc, "lost+found")?;
