@@ -12,11 +12,10 @@ pub(crate) fn circle_line(
     alloc: Global,
     survey: &Survey,
     owners: &Owners,
-    count: u32,
 ) -> Result<Option<String>, AllocError> {
-    let mut passed = vec![in alloc; false; count as usize]?;
+    let mut passed = vec![in alloc; false; owners.count as usize]?;
     let mut at = Place { area: 0, call: 0 };
-    for _ in 0..count {
+    for _ in 0..owners.count {
         let Some(next) = next_pair(survey, at) else {
             return Ok(None);
         };

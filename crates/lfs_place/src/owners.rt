@@ -8,18 +8,20 @@ use std::alloc::{AllocError, Global};
 /// The place at which each block was looked at.
 #[derive(Drop)]
 pub(crate) struct Owners {
-    /// One a block.
+    /// How many blocks there are.
+    pub(crate) count: u32,
+    /// One place a block.
     places: Vec<Option<Place>>,
 }
 
 impl Owners {
     /// Those of a survey of an image of so many blocks. Takes memory.
-    pub(crate) fn of(alloc: Global, survey: &Survey, count: usize) -> Result<Owners, AllocError> {
-        let mut places = vec![in alloc; None; count]?;
+    pub(crate) fn of(alloc: Global, survey: &Survey, count: u32) -> Result<Owners, AllocError> {
+        let mut places = vec![in alloc; None; count as usize]?;
         for (area, here) in survey.areas.iter().enumerate() {
             own_area(&mut places, survey, area, here.calls.len());
         }
-        Ok(Owners { places })
+        Ok(Owners { count, places })
     }
 
     /// That of a block, where it was looked at.

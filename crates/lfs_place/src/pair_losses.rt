@@ -10,7 +10,7 @@ use lfs_salvage::{BlockUse, is_lost};
 use lfs_survey::{Found, Place, Survey, Way, call_at, found_at};
 use std::alloc::{AllocError, Global};
 
-/// Adds a line for each pair of an area, of an image of so many blocks, that is lost.
+/// Adds a line for each pair of an area that is lost.
 pub(crate) fn add_lost_pairs(
     alloc: Global,
     survey: &Survey,
@@ -24,7 +24,7 @@ pub(crate) fn add_lost_pairs(
         let place = Place { area, call };
         if let (Some(fault), true) = refused_at(survey, uses, place) {
             if lines.takes_one() {
-                lines.add(pair_loss(alloc, survey, uses.len() as u32, owners, place, fault)?)?;
+                lines.add(pair_loss(alloc, survey, owners, place, fault)?)?;
             }
         }
     }
@@ -69,13 +69,12 @@ fn refused_at(survey: &Survey, uses: &[BlockUse], place: Place) -> (Option<Mount
 fn pair_loss(
     alloc: Global,
     survey: &Survey,
-    count: u32,
     owners: &Owners,
     place: Place,
     fault: MountFault,
 ) -> Result<Option<String>, AllocError> {
     match fault {
-        MountFault::BlockRange => past_line(alloc, survey, place, count),
+        MountFault::BlockRange => past_line(alloc, survey, place, owners.count),
         MountFault::BlockTwice => pair_line(alloc, survey, owners, place),
         fault => unread_line_at(alloc, survey, fault, place),
     }

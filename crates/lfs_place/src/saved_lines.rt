@@ -4,7 +4,7 @@ use crate::file_losses::{add_lost_files, add_other_files};
 use crate::lines::Lines;
 use crate::owners::Owners;
 use crate::pair_losses::{add_lost_area, add_lost_pairs, add_other_pairs};
-use lfs_block::Image;
+use lfs_block::{Blocks, Image};
 use lfs_salvage::{Salvage, Saved, lost_word};
 use lfs_survey::Survey;
 use std::alloc::{AllocError, Global};
@@ -37,7 +37,7 @@ fn losses(
     survey: &Survey,
     salvage: &Salvage,
 ) -> Result<Vec<String>, AllocError> {
-    let owners = Owners::of(alloc, survey, salvage.uses.len())?;
+    let owners = Owners::of(alloc, survey, image.count())?;
     let mut lines = Lines::new(alloc);
     for (area, here) in survey.areas.iter().enumerate() {
         let calls = here.calls.len();

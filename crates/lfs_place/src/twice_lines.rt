@@ -18,7 +18,7 @@ pub(crate) fn twice_line(
     image: &Image,
     survey: &Survey,
 ) -> Result<Option<String>, AllocError> {
-    let owners = Owners::of(alloc, survey, image.count() as usize)?;
+    let owners = Owners::of(alloc, survey, image.count())?;
     if let Some(place) = first_place(survey, MountFault::BlockTwice) {
         return pair_line(alloc, survey, &owners, place);
     }
@@ -27,7 +27,7 @@ pub(crate) fn twice_line(
     }
     match first_shared(alloc, image, survey)? {
         Some(place) => chain_line(alloc, image, survey, &owners, place),
-        None => circle_line(alloc, survey, &owners, image.count()),
+        None => circle_line(alloc, survey, &owners),
     }
 }
 
