@@ -40,6 +40,7 @@ complete -c lfsed -n __fish_use_subcommand -a pack -d 'Write a new image with wh
 complete -c lfsed -n __fish_use_subcommand -a repack -d 'Write a new image with all that another one holds, in place of a file of this name'
 complete -c lfsed -n __fish_use_subcommand -a find -d 'List where in a file images begin, with what they state and whether they mount'
 complete -c lfsed -n __fish_use_subcommand -a extract -d 'Make a new folder with what is in an image; attributes are left behind'
+complete -c lfsed -n __fish_use_subcommand -a salvage -d 'Make a new folder with all that can still be read of an image, also of one that doesn\'t mount'
 complete -c lfsed -n __fish_use_subcommand -a check -d 'Judge an image; print its geometry, free blocks, directories and files'
 complete -c lfsed -n __fish_use_subcommand -a ls -d 'List what stands at each path, with sizes and attributes'
 complete -c lfsed -n __fish_use_subcommand -a blocks -d 'Print which blocks hold what, and which are free'
@@ -58,7 +59,7 @@ complete -c lfsed -n __fish_use_subcommand -a redo -d 'Make the latest change ag
 complete -c lfsed -n __fish_use_subcommand -a forget -d 'Keep the image alone: its changes can no longer be taken back'
 complete -c lfsed -n __fish_use_subcommand -a batch -d 'Carry out the steps of a script, a line each: all of them or none'
 complete -c lfsed -n __fish_use_subcommand -a explain -d 'Say what faults mean, and what to do'
-complete -c lfsed -n '__lfsed_at help 0' -a 'format pack repack find extract check ls blocks cat diff log mkdir put rm mv setattr rmattr grow undo redo forget batch explain'
+complete -c lfsed -n '__lfsed_at help 0' -a 'format pack repack find extract salvage check ls blocks cat diff log mkdir put rm mv setattr rmattr grow undo redo forget batch explain'
 complete -c lfsed -n '__lfsed_at format 0' -F
 complete -c lfsed -n '__fish_seen_subcommand_from format' -s b -l block -x -d 'Size of a block, a multiple of 16 from 256 to 65536 [default: 4096]'
 complete -c lfsed -n '__fish_seen_subcommand_from format' -l count -x -d 'Number of blocks, from 2 to 65536; at most 67108864 bytes in all'
@@ -103,6 +104,13 @@ complete -c lfsed -n '__fish_seen_subcommand_from extract' -l device -d 'Read th
 complete -c lfsed -n '__fish_seen_subcommand_from extract' -l offset -x -d 'Place in the file at which the image begins: 1114112, 0x110000, 1088k or 1M'
 complete -c lfsed -n '__fish_seen_subcommand_from extract' -l older -d 'Go on with the state before commits of a later disk version, which are not read'
 complete -c lfsed -n '__fish_seen_subcommand_from extract' -s h -l help -d 'Print help'
+complete -c lfsed -n '__lfsed_at salvage 0' -F
+complete -c lfsed -n '__lfsed_at salvage 1' -a '(__fish_complete_directories)'
+complete -c lfsed -n '__fish_seen_subcommand_from salvage' -s b -l block -x -d 'Size of a block, a multiple of 16 from 256 to 65536, or auto [default: 4096]'
+complete -c lfsed -n '__fish_seen_subcommand_from salvage' -l device -d 'Read the image as a device does: also disk version 2.1, and a superblock that was expanded'
+complete -c lfsed -n '__fish_seen_subcommand_from salvage' -l offset -x -d 'Place in the file at which the image begins: 1114112, 0x110000, 1088k or 1M'
+complete -c lfsed -n '__fish_seen_subcommand_from salvage' -l older -d 'Go on with the state before commits of a later disk version, which are not read'
+complete -c lfsed -n '__fish_seen_subcommand_from salvage' -s h -l help -d 'Print help'
 complete -c lfsed -n '__lfsed_at check 0' -F
 complete -c lfsed -n '__fish_seen_subcommand_from check' -s b -l block -x -d 'Size of a block, a multiple of 16 from 256 to 65536, or auto [default: 4096]'
 complete -c lfsed -n '__fish_seen_subcommand_from check' -l device -d 'Read the image as a device does: also disk version 2.1, and a superblock that was expanded'

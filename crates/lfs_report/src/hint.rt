@@ -9,13 +9,17 @@ const VERSION: u32 = 0x0002_0001;
 /// of it; nothing where the request says so already. Takes no memory.
 pub(crate) fn hint_of(request: &Request<'_>) -> Option<&'static str> {
     match &request.task {
-        Task::Ask { view, .. } | Task::Extract { view, .. } if view.by_device => None,
+        Task::Ask { view, .. } | Task::Extract { view, .. } | Task::Salvage { view, .. }
+            if view.by_device =>
+            None,
         Task::Repack { source, .. } if source.manner.view.by_device => None,
         Task::Ask {
             query: Query::Log,
             ..
         } => Some("repack --device"),
-        Task::Ask { .. } | Task::Extract { .. } | Task::Repack { .. } => Some("--device"),
+        Task::Ask { .. } | Task::Extract { .. } | Task::Salvage { .. } | Task::Repack { .. } => {
+            Some("--device")
+        }
         _ => Some("repack --device"),
     }
 }

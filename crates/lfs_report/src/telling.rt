@@ -132,8 +132,9 @@ fn tell_source_limit<H: Host>(host: &mut H, request: &Request<'_>, count: Option
 fn tell_entry<H: Host>(host: &mut H, request: &Request<'_>)
     ensures kept { H.known host.new ≡ H.known host.old }
 {
-    let Task::Extract { dir, .. } = request.task else {
-        return;
+    let dir = match request.task {
+        Task::Extract { dir, .. } | Task::Salvage { dir, .. } => dir,
+        _ => return,
     };
     say_words(host, dir, "is there already");
 }

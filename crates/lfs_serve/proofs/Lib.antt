@@ -1,5 +1,6 @@
 pub mod StepLemmas
 pub mod ExtractingLemmas
+pub mod SalvagingLemmas
 pub mod HostFolderLemmas
 pub mod BatchingLemmas
 pub mod OpenedLemmas

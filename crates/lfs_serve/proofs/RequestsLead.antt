@@ -317,6 +317,7 @@ good_step (task.Repack source extent said) size scene (Pack count stated rows) p
     (all_packed (image_of source.size packs.image) packs.mounted.rows, packs.rows_are)
 good_step (task.Format many limits) size scene (Pack count stated rows) becomes = absurd becomes
 good_step (task.Extract dir view) size scene (Pack count stated rows) becomes = absurd becomes
+good_step (task.Salvage dir view) size scene (Pack count stated rows) becomes = absurd becomes
 good_step (task.Ask query view) size scene (Pack count stated rows) becomes = absurd becomes
 good_step task.Forget size scene (Pack count stated rows) becomes = absurd becomes
 good_step (task.Change move) size scene (Pack count stated rows) becomes = absurd becomes
@@ -342,6 +343,11 @@ extracted : (fault : Option Fault) (size : ℕ) (dir : Bor (List ℕ)) (view : V
     → TaskGoesBy fault size (task.Extract dir view) scene h h
 extracted None size dir view scene h = refl
 extracted (Some fault) size dir view scene h = refl
+
+salvaged : (fault : Option Fault) (size : ℕ) (dir : Bor (List ℕ)) (view : View) (scene : Scene) (h : History)
+    → TaskGoesBy fault size (task.Salvage dir view) scene h h
+salvaged None size dir view scene h = refl
+salvaged (Some fault) size dir view scene h = refl
 
 -- the name of an image that is to be new is taken: nothing is done
 name_taken : (fault : Option Fault) (size : ℕ) (name : List ℕ) (t : Task) (scene behind : Scene) (old new : Files) (h : History)
@@ -386,6 +392,8 @@ task_ends : Laws → (fault : Option Fault) (t : Task) (older : Bool) (size : �
     → Ends size name t scene behind fault old new h
 task_ends laws fault (task.Extract dir view) older size name scene behind old new h before later denotes ends =
     Leads h (extracted fault size dir view scene h) (same_files size name old new h (sym later ∙ ends.0.0 ∙ before) denotes)
+task_ends laws fault (task.Salvage dir view) older size name scene behind old new h before later denotes ends =
+    Leads h (salvaged fault size dir view scene h) (same_files size name old new h (sym later ∙ ends.0.0 ∙ before) denotes)
 task_ends laws fault (task.Format count limits) older size name scene behind old new h before later denotes ends =
     step_ends laws fault (task.Format count limits) older size name scene behind old new h (λ next goes. goes) (λ s becomes. inl refl) before later
     denotes ends

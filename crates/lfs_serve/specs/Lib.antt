@@ -6,6 +6,7 @@ pub mod Batching
 pub mod Program
 pub mod Lines
 pub mod Extracting
+pub mod Salvaging
 pub mod HostFolder
 pub mod Repacking
 pub mod Opened

@@ -15,7 +15,7 @@ use Rattle.lfs_host.specs.Scene.{HasRefused, KeepsScene, Scene}
 use Rattle.lfs_pack.specs.declared.pack_row.PackRow.{PackRow}
 use Rattle.lfs_request.specs.declared.request.Request.{Request}
 use Rattle.lfs_request.specs.declared.task.Task.{Task}
-use Rattle.lfs_request.specs.declared.task.Task.TheVariants.{Format, Pack, Repack, Extract, Ask, Forget, Change, Batch}
+use Rattle.lfs_request.specs.declared.task.Task.TheVariants.{Format, Pack, Repack, Extract, Salvage, Ask, Forget, Change, Batch}
 use Rattle.lfs_serve.specs.Extent.{IsExtent}
 use Rattle.lfs_step.specs.declared.step.Step.{Step}
 use Rattle.lfs_step.specs.declared.step.Step.TheVariants as step
@@ -33,6 +33,7 @@ use Rattle.lfs_serve.specs.HostFolder.{PacksFolder, ReadsNoFolder}
 use Rattle.lfs_serve.specs.Later.{later_read, refused_by}
 use Rattle.lfs_serve.specs.ReadBy.{IsAskedBy, IsReadBy, WantsMemory}
 use Rattle.lfs_serve.specs.Repacking.{PacksSource, RefusesSource}
+use Rattle.lfs_serve.specs.Salvaging.{EndsSalvage}
 
 -- ---- a step
 
@@ -98,6 +99,7 @@ as_it_is older = record { takes_older = older; view = whole_view }
 
 abbrev pub manner_of : Task → Bool → Manner
 manner_of (Extract dir view) older = record { takes_older = older; view = view }
+manner_of (Salvage dir view) older = record { takes_older = older; view = view }
 manner_of (Ask query view) older = record { takes_older = older; view = view }
 manner_of _ older = as_it_is older
 
@@ -107,6 +109,7 @@ HasKind (Format count limits) s kind = kind ≡ Makes
 HasKind (Pack extent limits dir) s kind = (kind ≡ Makes) × ((rows : List PackRow) × PacksFolder s.tree dir.now rows)
 HasKind (Repack source extent said) s kind = kind ≡ Makes
 HasKind (Extract dir view) s kind = ⊥
+HasKind (Salvage dir view) s kind = ⊥
 HasKind (Ask query view) s kind = kind ≡ kind_of_query query
 HasKind Forget s kind = kind ≡ Forgets
 HasKind (Change move) s kind = kind ≡ Changes
@@ -130,6 +133,8 @@ IsNotBegun task name old new why =
 abbrev pub EndsTask : Task → Bool → ℕ → List ℕ → Scene → Scene → Option Fault → Type 0
 EndsTask (Extract dir view) older size name old new fault =
     EndsExtract (record { takes_older = older; view = view }) size name dir.now old new fault
+EndsTask (Salvage dir view) older size name old new fault =
+    EndsSalvage (record { takes_older = older; view = view }) size name dir.now old new fault
 EndsTask task older size name old new fault =
     ((step : Step) × BecomesStep task size old step × EndsStep step (manner_of task older) size name old new fault)
     ⊎ (KeepsScene old new × ((why : Fault) × (fault ≡ Some why) × IsNotBegun task name old new why))
@@ -145,6 +150,7 @@ task_reads_input _ = false
 -- whether a task makes a folder
 abbrev pub makes_folder : Task → Bool
 makes_folder (Extract dir view) = true
+makes_folder (Salvage dir view) = true
 makes_folder _ = false
 
 -- what is left on standard input is as it was but where the task reads it, and what was made in new folders but where it makes one

@@ -9,7 +9,7 @@ use Rattle.lfs_host.specs.Files.{Files, bytes_there}
 use Rattle.lfs_host.specs.Scene.{Scene, WasRefused}
 use Rattle.lfs_request.specs.declared.request.Request.{Request}
 use Rattle.lfs_request.specs.declared.task.Task.{Task}
-use Rattle.lfs_request.specs.declared.task.Task.TheVariants.{Extract}
+use Rattle.lfs_request.specs.declared.task.Task.TheVariants.{Extract, Salvage}
 use Rattle.lfs_step.specs.declared.step.Step.{Step}
 use Rattle.lfs_step.specs.Runs.{GoesOn}
 use Rattle.lfs_serve.specs.Program.{BecomesStep, EndsRequest}
@@ -46,6 +46,7 @@ AreServed size name (s ∷ ss) old new = (mid : Files) × IsServedOn size name s
 -- where a task leads that was done: as the step that it becomes; a folder that is made leaves the history
 abbrev pub TaskGoes : ℕ → Task → Scene → History → History → Type 0
 TaskGoes size (Extract dir view) s old new = new ≡ old
+TaskGoes size (Salvage dir view) s old new = new ≡ old
 TaskGoes size task s old new = (step : Step) × BecomesStep task size s step × GoesOn size step old new
 
 -- one that wasn't done leaves the history

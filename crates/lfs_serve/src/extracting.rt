@@ -5,11 +5,13 @@ ghost use Rattle.std.specs.Option.{option_map};
 ghost use Rattle.std.specs.Result.{result_err};
 ghost use Rattle.lfs_request.specs.declared.fault.Fault.TheVariants.{HostEntry};
 ghost use Rattle.lfs_exchange.specs.Handing.{IsUnread};
+ghost use Rattle.lfs_fs.specs.Mounted.{IsMountOf};
 ghost use Rattle.lfs_host.specs.HostTree.{IsKind};
 ghost use Rattle.lfs_host.specs.declared.host_kind.HostKind.TheVariants.{Missing};
 ghost use Rattle.lfs_host.specs.Scene.{KeepsAll, KeepsFiles};
 ghost use Rattle.lfs_report.specs.Stop.{stopped_by};
 ghost use Rattle.lfs_serve.specs.Extracting.{EndsBytes, EndsExtract, EndsMaking, FindsFolder, fault_of_extracting};
+ghost use Rattle.lfs_serve.specs.Salvaging.{IsOther};
 
 use crate::later::pass_alone;
 use crate::read_by::read_by;
@@ -17,7 +19,7 @@ use lfs_block::Image;
 use lfs_command::Refusal;
 use lfs_exchange::{StepKind, fault_of_reading, taken_up};
 use lfs_extract::{ExtractFault, extract_rows};
-use lfs_fs::mount;
+use lfs_fs::{Mounted, mount};
 use lfs_host::{Host, HostKind};
 use lfs_report::{Beside, Stop, stop_of_extracting, stop_of_image};
 use lfs_request::{Fault, Manner, Request, View};
@@ -80,24 +82,49 @@ fn extract_image<H: Host>(
     ensures kept { KeepsFiles (H.known host.old) (H.known host.new) }
 {
     let mounted = mount(alloc, image)?;
-    must_be_missing(host, dir)?;
-    told(extract_rows(alloc, image, &mounted, dir, host))
+    extract_mounted(alloc, host, image, &mounted, dir)
 }
 
-/// What a fault of making a folder is told as, where there is one.
+/// Makes a folder out of an image that mounts so. The caller owes that it does. Takes memory.
+pub(crate) fn extract_mounted<H: Host>(
+    alloc: Global,
+    host: &mut H,
+    image: &Image,
+    mounted: &Mounted,
+    dir: &str,
+) -> Result<(), Fault>
+    requires { IsMountOf image.now.disk mounted.now }
+    ensures made { EndsMaking image.now.disk dir.now (H.known host.old).tree (H.known host.old).made (H.known host.new) (result_err result) }
+    ensures other { IsOther (result_err result) }
+    ensures kept { KeepsFiles (H.known host.old) (H.known host.new) }
+{
+    must_be_missing(host, dir)?;
+    told(extract_rows(alloc, image, mounted, dir, host))
+}
+
+/// The end of making a folder, as it is told.
 fn told(made: Result<(), ExtractFault>) -> Result<(), Fault>
     ensures { result_err result ≡ option_map fault_of_extracting (result_err made) }
 {
     match made {
         Ok(()) => Ok(()),
-        Err(ExtractFault::Memory) => Err(Fault::Refused(Refusal::Memory)),
-        Err(ExtractFault::HostName) => Err(Fault::HostName),
-        Err(ExtractFault::CannotWrite) => Err(Fault::CannotWrite),
+        Err(fault) => Err(fault_of_extracting(fault)),
     }
 }
 
-/// Refuses a folder under whose name there is something already.
-fn must_be_missing<H: Host>(host: &mut H, dir: &str) -> Result<(), Fault>
+/// What a fault of making a folder is told as. Takes no memory.
+pub(crate) fn fault_of_extracting(fault: ExtractFault) -> Fault
+    ensures { result ≡ fault_of_extracting fault }
+{
+    match fault {
+        ExtractFault::Memory => Fault::Refused(Refusal::Memory),
+        ExtractFault::HostName => Fault::HostName,
+        ExtractFault::CannotWrite => Fault::CannotWrite,
+    }
+}
+
+/// Refuses a folder under whose name there is something already. Takes no memory.
+pub(crate) fn must_be_missing<H: Host>(host: &mut H, dir: &str) -> Result<(), Fault>
     ensures missing { OnOk result (IsKind (H.known host.old).tree dir.now Missing) }
     ensures refused { IfErr result (λ fault. IsUnread (H.known host.new) fault ⊎ ((fault ≡ HostEntry) × FindsFolder dir.now (H.known host.old).tree (H.known host.old).made (H.known host.new).made)) }
     ensures kept { KeepsAll (H.known host.old) (H.known host.new) }

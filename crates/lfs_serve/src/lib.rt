@@ -14,6 +14,7 @@ mod packing;
 mod plain_tasks;
 mod read_by;
 mod repacking;
+mod salvaging;
 mod seeing;
 mod serving;
 mod sizing;

@@ -10,6 +10,7 @@ use crate::extracting::extracted;
 use crate::packing::packed;
 use crate::plain_tasks::{changed, forgotten, formatted, queried};
 use crate::repacking::repacked;
+use crate::salvaging::salvaged;
 use lfs_exchange::spare;
 use lfs_host::Host;
 use lfs_report::{Beside, Stop, tell_end, tell_later, tell_within};
@@ -78,6 +79,7 @@ fn done<H: Host>(
             limits,
         } => repacked(alloc, host, request, beside, source, *extent, *limits),
         Task::Extract { dir, view } => extracted(alloc, host, request, beside, *view, *dir),
+        Task::Salvage { dir, view } => salvaged(alloc, host, request, beside, *view, *dir),
         Task::Ask { query, view } => queried(alloc, host, request, beside, query, *view),
         Task::Forget => forgotten(alloc, host, request, beside),
         Task::Change(step) => changed(alloc, host, request, beside, step),

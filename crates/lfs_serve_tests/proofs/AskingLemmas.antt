@@ -68,6 +68,7 @@ task_keeps fault (task.Ask query view) older size name old new asks (inl (Ask qu
 task_keeps fault (task.Ask query view) older size name old new asks (inl (_, becomes, ends)) = absurd becomes
 task_keeps fault (task.Ask query view) older size name old new asks (inr (keeps, why)) = keeps.0
 task_keeps fault (task.Extract dir view) older size name old new asks ends = ends.0.0
+task_keeps fault (task.Salvage dir view) older size name old new asks ends = ends.0.0
 task_keeps fault _ older size name old new only ends = absurd only
 
 -- a request that asks changes no file
@@ -83,4 +84,5 @@ asking_keeps request old new status only is =
 pub asking_in_range : (t : Task) → OnlyAsks t → IsTaskInRange t
 asking_in_range (task.Ask query view) only = tt
 asking_in_range (task.Extract dir view) only = tt
+asking_in_range (task.Salvage dir view) only = tt
 asking_in_range _ only = absurd only

@@ -1,9 +1,10 @@
 -- Tasks that ask (own).
 use Rattle.lfs_request.specs.declared.task.Task.{Task}
-use Rattle.lfs_request.specs.declared.task.Task.TheVariants.{Ask, Extract}
+use Rattle.lfs_request.specs.declared.task.Task.TheVariants.{Ask, Extract, Salvage}
 
 -- the task asks something of an image, or makes a folder of it, and changes nothing
 abbrev pub OnlyAsks : Task → Type 0
 OnlyAsks (Ask query view) = Unit {0}
 OnlyAsks (Extract dir view) = Unit {0}
+OnlyAsks (Salvage dir view) = Unit {0}
 OnlyAsks _ = ⊥
