@@ -39,9 +39,7 @@ pub(crate) fn chain_line_at(
     if let Some(wrong) = wrong_pointer(alloc, image, head, size)? {
         return Ok(Some(pointer_line(alloc, &path, wrong)?));
     }
-    Ok(Some(
-        format!(in alloc; "{path}: no chain of {size} bytes ends in block {head}")?,
-    ))
+    Ok(Some(format!(in alloc; "{path}: no chain of {size} bytes ends in block {head}")?))
 }
 
 /// A wrong pointer of the file at a path.
@@ -67,10 +65,7 @@ pub(crate) fn chain_of(survey: &Survey, place: EntryPlace) -> Option<(u32, u32)>
 }
 
 /// The first entry that stands behind one before which it comes.
-pub(crate) fn misplaced_line(
-    alloc: Global,
-    survey: &Survey,
-) -> Result<Option<String>, AllocError> {
+pub(crate) fn misplaced_line(alloc: Global, survey: &Survey) -> Result<Option<String>, AllocError> {
     let Some(place) = first_misplaced(alloc, survey)? else {
         return Ok(None);
     };
@@ -82,9 +77,7 @@ pub(crate) fn misplaced_line(
     let before = Shown {
         bytes: &before.name,
     };
-    Ok(Some(
-        format!(in alloc; "{pair}: {name} stands behind {before}")?,
-    ))
+    Ok(Some(format!(in alloc; "{pair}: {name} stands behind {before}")?))
 }
 
 /// The first superblock behind the one with which an image begins.
@@ -96,16 +89,11 @@ pub(crate) fn superblock_line(
         return Ok(None);
     };
     let pair = PairText::of(alloc, survey, place.at)?;
-    Ok(Some(
-        format!(in alloc; "{pair}: a superblock stands there")?,
-    ))
+    Ok(Some(format!(in alloc; "{pair}: a superblock stands there")?))
 }
 
 /// The first entry that is over the limits of the image.
-pub(crate) fn oversized_line(
-    alloc: Global,
-    survey: &Survey,
-) -> Result<Option<String>, AllocError> {
+pub(crate) fn oversized_line(alloc: Global, survey: &Survey) -> Result<Option<String>, AllocError> {
     let Some(limits) = stated_limits(survey) else {
         return Ok(None);
     };
@@ -127,9 +115,7 @@ fn limit_line(
     };
     let (words, limit) = over_words(entry, limits);
     let path = PlacedPath::of_entry(alloc, survey, place)?;
-    Ok(Some(
-        format!(in alloc; "{path}: its {words} longer than {limit} bytes")?,
-    ))
+    Ok(Some(format!(in alloc; "{path}: its {words} longer than {limit} bytes")?))
 }
 
 /// What is said of an entry over these limits, and the limit.

@@ -82,9 +82,7 @@ fn file_loss(
     let chain = chain_at(alloc, image, survey, place)?;
     let block = first_used(uses, &chain, head);
     let path = PlacedPath::of_entry(alloc, survey, place)?;
-    Ok(Some(
-        format!(in alloc; "{path}: block {block} is in use already")?,
-    ))
+    Ok(Some(format!(in alloc; "{path}: block {block} is in use already")?))
 }
 
 /// The first of these blocks that is in use, or the last block of the file.

@@ -64,9 +64,7 @@ pub(crate) fn unnamed_line(alloc: Global, survey: &Survey) -> Result<Option<Stri
     };
     let path = PlacedPath::of_pair(alloc, survey, place)?;
     let blocks = blocks_at(survey, place);
-    Ok(Some(
-        format!(in alloc; "{path}: {blocks} begin no directory of the thread")?,
-    ))
+    Ok(Some(format!(in alloc; "{path}: {blocks} begin no directory of the thread")?))
 }
 
 /// The first pair that is named and lies past an image of so many blocks: of an entry, or with which a directory or the thread goes on.
@@ -138,9 +136,7 @@ pub(crate) fn again_line(
 ) -> Result<Option<String>, AllocError> {
     let from = PairText::of(alloc, survey, place)?;
     let blocks = BlocksText { pair };
-    Ok(Some(
-        format!(in alloc; "{from}: go on in {blocks}, which are in use already")?,
-    ))
+    Ok(Some(format!(in alloc; "{from}: go on in {blocks}, which are in use already")?))
 }
 
 /// A pair past an image with which what a pair holds goes on.
@@ -153,7 +149,5 @@ fn tail_line(
 ) -> Result<Option<String>, AllocError> {
     let from = PairText::of(alloc, survey, place)?;
     let blocks = BlocksText { pair };
-    Ok(Some(
-        format!(in alloc; "{from}: go on in {blocks}, of {count}")?,
-    ))
+    Ok(Some(format!(in alloc; "{from}: go on in {blocks}, of {count}")?))
 }

@@ -97,9 +97,7 @@ fn other_pair(
         return Ok(Some(format!(in alloc; "{path}: is saved as {other}")?));
     }
     let blocks = blocks_at(survey, place);
-    Ok(Some(
-        format!(in alloc; "{path}: goes on in {blocks}, which are saved as {other}")?,
-    ))
+    Ok(Some(format!(in alloc; "{path}: goes on in {blocks}, which are saved as {other}")?))
 }
 
 /// Whether the directory of another pair goes on in the one at a place.
@@ -126,9 +124,9 @@ pub(crate) fn add_lost_area(
     if lines.takes_one() {
         let blocks = blocks_at(survey, place);
         let (first, _) = call.pair;
-        lines.add(Some(
-            format!(in alloc; "{blocks}: no path leads there: saved as {word}/{first}")?,
-        ))?;
+        lines.add(Some(format!(in alloc;
+            "{blocks}: no path leads there: saved as {word}/{first}"
+        )?))?;
     }
     Ok(())
 }

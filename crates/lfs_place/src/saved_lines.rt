@@ -41,18 +41,22 @@ fn losses(
     let mut lines = Lines::new(alloc);
     for (area, here) in survey.areas.iter().enumerate() {
         let calls = here.calls.len();
-        add_lost_pairs(alloc, survey, &salvage.uses, &owners, area, calls, &mut lines)?;
+        add_lost_pairs(
+            alloc,
+            survey,
+            &salvage.uses,
+            &owners,
+            area,
+            calls,
+            &mut lines,
+        )?;
     }
     add_lost_files(alloc, image, survey, salvage, &mut lines)?;
     lines.ended(alloc, "are lost")
 }
 
 /// What is saved under another path.
-fn others(
-    alloc: Global,
-    survey: &Survey,
-    salvage: &Salvage,
-) -> Result<Vec<String>, AllocError> {
+fn others(alloc: Global, survey: &Survey, salvage: &Salvage) -> Result<Vec<String>, AllocError> {
     let mut lines = Lines::new(alloc);
     for (area, here) in survey.areas.iter().enumerate() {
         let calls = here.calls.len();

@@ -52,11 +52,7 @@ fn first_double(survey: &Survey) -> Option<Place> {
 }
 
 /// The pair at a place, which has one block twice.
-fn double_line(
-    alloc: Global,
-    survey: &Survey,
-    place: Place,
-) -> Result<Option<String>, AllocError> {
+fn double_line(alloc: Global, survey: &Survey, place: Place) -> Result<Option<String>, AllocError> {
     let path = PlacedPath::of_pair(alloc, survey, place)?;
     let (block, _) = blocks_at(survey, place).pair;
     Ok(Some(format!(in alloc; "block {block}: {path} uses it twice")?))
@@ -102,9 +98,7 @@ fn same_line(
     let path = PlacedPath::of_pair(alloc, survey, place)?;
     let other = PlacedPath::of_pair(alloc, survey, owner)?;
     let blocks = blocks_at(survey, place);
-    Ok(Some(
-        format!(in alloc; "{path}: {blocks} are those of {other}")?,
-    ))
+    Ok(Some(format!(in alloc; "{path}: {blocks} are those of {other}")?))
 }
 
 /// A pair of which one block is another directory's.
@@ -117,9 +111,7 @@ fn half_line(
 ) -> Result<Option<String>, AllocError> {
     let path = PlacedPath::of_pair(alloc, survey, place)?;
     let other = PlacedPath::of_pair(alloc, survey, owner)?;
-    Ok(Some(
-        format!(in alloc; "block {block}: {other} and {path} use it")?,
-    ))
+    Ok(Some(format!(in alloc; "block {block}: {other} and {path} use it")?))
 }
 
 /// The file at a place, of which a block is something else's.
@@ -138,9 +130,7 @@ fn chain_line(
         return Ok(None);
     };
     let path = PlacedPath::of_entry(alloc, survey, place)?;
-    Ok(Some(
-        format!(in alloc; "block {block}: {user} and {path} use it")?,
-    ))
+    Ok(Some(format!(in alloc; "block {block}: {user} and {path} use it")?))
 }
 
 /// Marks blocks in a table.

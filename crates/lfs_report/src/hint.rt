@@ -10,8 +10,7 @@ const VERSION: u32 = 0x0002_0001;
 pub(crate) fn hint_of(request: &Request<'_>) -> Option<&'static str> {
     match &request.task {
         Task::Ask { view, .. } | Task::Extract { view, .. } | Task::Salvage { view, .. }
-            if view.by_device =>
-            None,
+            if view.by_device => None,
         Task::Repack { source, .. } if source.manner.view.by_device => None,
         Task::Ask {
             query: Query::Log,

@@ -1,5 +1,5 @@
 -- Areas that begin at some pairs, and along the thread behind them.
-use Rattle.std.proofs.Common.{◌≡◌, ℕ, ◌+◌, ◌<◌, ◌≤◌, Bool, true, false, List, [], ◌∷◌, ◌++◌, length, take, get_or, refl, ap, sym, ◌∙◌, arith, subst}
+use Rattle.std.proofs.Common.{◌≡◌, ℕ, ◌+◌, ◌<◌, ◌≤◌, Bool, false, List, [], ◌∷◌, ◌++◌, length, take, get_or, refl, ap, sym, ◌∙◌, arith, subst}
 use Rattle.std.specs.Prelude.{All}
 use Rattle.std.proofs.lemmas.List.{append-nil, append_assoc, length-append, take_all, take_more, take-append-le, take_at}
 use Rattle.std.proofs.lemmas.List.Concat.{flat_map-append}
@@ -7,7 +7,7 @@ use Rattle.std.proofs.lemmas.List.Elements.{All-append, All-take, All-weaker, Co
 use Rattle.lfs_block.specs.Disk.{Disk}
 use Rattle.lfs_meta.specs.Body.{Pair}
 use Rattle.lfs_survey.specs.Looking.{Grows, is_open}
-use Rattle.lfs_survey.specs.Lone.{AreAlong, AreLone, lone_pairs, unnamed_pairs}
+use Rattle.lfs_survey.specs.Lone.{AreAlong}
 use Rattle.lfs_survey.specs.Survey.{AddsAreas, BeginIn, area_tails, behind_areas, tails_behind}
 use Rattle.lfs_survey.specs.declared.area.Area.{Area}
 use Rattle.lfs_survey.proofs.LookingLemmas.{grows_shut, grows_then}

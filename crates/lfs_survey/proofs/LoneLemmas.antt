@@ -4,7 +4,7 @@ use Rattle.std.specs.Prelude.{All, Contains, Option, is_some, not, ◌&&◌, sli
 use Rattle.std.specs.List.{filter, range_with_len}
 use Rattle.std.proofs.lemmas.List.{append-nil, take_more}
 use Rattle.std.proofs.lemmas.List.Concat.{flat_map-append}
-use Rattle.std.proofs.lemmas.List.Elements.{All-append, All-head, All-tail, Contains-append_left}
+use Rattle.std.proofs.lemmas.List.Elements.{All-head, All-tail}
 use Rattle.std.proofs.lemmas.List.FromFn.{filter_of_map_range_with_len_more, get_or-map-range_with_len, length-map-range_with_len}
 use mathlib.Core.Logic.{inl, inr}
 use Rattle.lfs_block.specs.Disk.{Disk}

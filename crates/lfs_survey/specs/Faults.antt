@@ -1,18 +1,17 @@
 -- Which fault stands at a place of areas (own).
-use Rattle.std.specs.Prelude.{◌≡◌, ◌≢◌, ◌⊎◌, ◌<◌, ◌≤◌, ◌-◌, ◌==◌, ℕ, zero, false, List, [], Option, None, Some, All, Contains, length, slice_get, if◌then◌else◌}
+use Rattle.std.specs.Prelude.{◌≡◌, ◌≢◌, ◌⊎◌, ◌≤◌, ◌-◌, ◌==◌, ℕ, false, List, [], Option, None, Some, Contains, length, slice_get, if◌then◌else◌}
 use Rattle.std.specs.Option.{option_and_then}
 use Rattle.lfs_block.specs.Disk.{Disk}
 use Rattle.lfs_file.specs.SkipList.{chain_of}
 use Rattle.lfs_fs.specs.FrontCause.{IsOversized}
 use Rattle.lfs_fs.specs.NameOrder.{precedes}
-use Rattle.lfs_fs.specs.Pair.{root, unordered}
 use Rattle.lfs_fs.specs.Superblock.{IsSuperblock, header_of}
 use Rattle.lfs_fs.specs.declared.limits.Limits.{Limits}
 use Rattle.lfs_meta.specs.Body.{Pair, StoredBody, Inline, Chain, Directory_at}
 use Rattle.lfs_meta.specs.Entry.{StoredEntry}
 use Rattle.lfs_meta.specs.declared.kind.Kind.TheVariants.{Super}
-use Rattle.lfs_survey.specs.AllPlaces.{call_at, entry_at, found_at, found_entries}
-use Rattle.lfs_survey.specs.Survey.{found_tail, tails_behind}
+use Rattle.lfs_survey.specs.AllPlaces.{entry_at, found_at, found_entries}
+use Rattle.lfs_survey.specs.Survey.{found_tail}
 use Rattle.lfs_survey.specs.declared.area.Area.{Area}
 use Rattle.lfs_survey.specs.declared.call.Call.{Call}
 use Rattle.lfs_survey.specs.declared.entry_place.EntryPlace.{EntryPlace}

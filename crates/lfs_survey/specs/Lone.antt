@@ -1,5 +1,5 @@
 -- Areas of blocks by themselves, to which nothing leads that was looked at (own).
-use Rattle.std.specs.Prelude.{◌≡◌, ◌≤◌, ◌<◌, ◌⊎◌, ◌&&◌, ℕ, not, Bool, true, false, List, [], ◌∷◌, ◌++◌, All, Option, None, Some, is_some, flat_map, map, slice_index_or, slice_set}
+use Rattle.std.specs.Prelude.{◌≡◌, ◌<◌, ◌⊎◌, ◌&&◌, ℕ, not, Bool, true, false, List, [], ◌∷◌, ◌++◌, All, Option, None, Some, is_some, flat_map, map, slice_index_or, slice_set}
 use Rattle.std.specs.List.{filter, range_with_len}
 use Rattle.lfs_block.specs.Disk.{Disk}
 use Rattle.lfs_meta.specs.Body.{Pair, StoredBody, Inline, Chain, Directory_at}

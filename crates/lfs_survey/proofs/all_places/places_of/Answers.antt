@@ -1,5 +1,5 @@
 -- The places of one area more.
-use Rattle.std.proofs.Common.{◌≡◌, ◌<◌, ◌++◌, ℕ, List, length, get_or, ap, sym, ◌∙◌, arith, subst}
+use Rattle.std.proofs.Common.{◌≡◌, ◌<◌, ◌++◌, ℕ, List, length, get_or, ap, ◌∙◌, arith, subst}
 use Rattle.lfs_survey.specs.AllPlaces.{area_places}
 use Rattle.lfs_survey.specs.declared.area.Area.{Area}
 use Rattle.lfs_survey.proofs.AllPlacesLemmas.{places_more}

@@ -1,10 +1,10 @@
 -- The areas of the pairs that are begun with, and those behind the tails of one area after another.
-use Rattle.std.proofs.Common.{◌≡◌, ◌<◌, List, length, ap, sym, ◌∙◌, arith, subst}
+use Rattle.std.proofs.Common.{◌≡◌, ◌<◌, List, length, ◌∙◌, arith, subst}
 use Rattle.lfs_block.specs.Disk.{Disk}
 use Rattle.lfs_meta.specs.Body.{Pair}
 use Rattle.lfs_survey.specs.Survey.{AddsAreas, area_tails}
 use Rattle.lfs_survey.specs.declared.area.Area.{Area}
-use Rattle.lfs_survey.proofs.AlongLemmas.{along_all, along_begin, along_more}
+use Rattle.lfs_survey.proofs.AlongLemmas.{along_begin, along_more}
 use Rattle.lfs_survey.proofs.lone.areas_along.Goals as goal
 
 pub areas-init : goal.areas-init

@@ -1,5 +1,5 @@
 -- First from the unnamed blocks on, and then from those that are left, of which none stays open.
-use Rattle.std.proofs.Common.{◌≡◌, Bool, List, false, length, replicate, ap, sym, ◌∙◌, subst}
+use Rattle.std.proofs.Common.{◌≡◌, List, false, ◌∙◌, subst}
 use Rattle.std.specs.Prelude.{All}
 use Rattle.lfs_block.specs.Disk.{Disk}
 use Rattle.lfs_meta.specs.Body.{Pair}

@@ -1,5 +1,5 @@
 -- The blocks of each entry are marked.
-use Rattle.std.proofs.Common.{List, Bool, ap, ◌∙◌}
+use Rattle.std.proofs.Common.{ap, ◌∙◌}
 use Rattle.lfs_meta.specs.Entry.{StoredEntry}
 use Rattle.lfs_survey.specs.Lone.{body_pairs, marked_by}
 use Rattle.lfs_survey.proofs.LoneLemmas.{entries_marked}
