@@ -15,13 +15,16 @@ def holds(place):
 
 
 def is_extracted(folder, what, size, wanted):
-    """Makes a folder of the image, and compares it; image and journal stay as they were."""
+    """Makes a folder of the image, and compares it, and so does `salvage`; image and journal stay as they were."""
     before, place = (folder.old(), folder.saved()), folder.image.with_name("made")
     ended = folder.run(f"extract -b {size} a.img made")
     folder.check(what, ended == (0, "", b""), ended)
     found = holds(place)
     folder.check(f"{what}: contents", found == wanted, [*found][:9])
     folder.check(f"{what}: image", (folder.old(), folder.saved()) == before)
+    saved = folder.image.with_name("saved")
+    ended = folder.run(f"salvage -b {size} a.img saved")
+    folder.check(f"{what}: is saved alike", ended == (0, "", b"") and holds(saved) == found, ended)
     again = folder.run(f"extract -b {size} a.img made")
     folder.check(f"{what}: again", again == (4, "lfsed: 62 HostEntry\nlfsed: made: is there already\n", b"") and holds(place) == found, again)
 
