@@ -37,7 +37,7 @@ use Rattle.lfs_exchange.specs.Handing.{IsUnread, most_image}
 use Rattle.lfs_serve.specs.Extracting.{EndsMaking, FindsFolder, fault_of_extracting}
 use Rattle.lfs_serve.specs.Later.{later_alone, refused_by}
 use Rattle.lfs_serve.specs.ReadBy.{IsReadAt, IsReadBy}
-use Rattle.lfs_serve.specs.Salvaging.{AreReadIn, EndsKept, EndsSalvage, EndsSalvaged, EndsSaving, IsOther, SavesImage}
+use Rattle.lfs_serve.specs.Salvaging.{AreReadIn, EndsKept, EndsSalvage, EndsSalvaged, EndsSaving, IsOther}
 
 -- ---- faults that aren't that an image doesn't mount
 
@@ -118,6 +118,28 @@ unmounted_ends own i d e cause dir tree old new fault is format has are ends =
     let same = sym (image_of_disk i is) in
     (subst (λ (x : Disk). IsDisk x) same is, inr (cause, format, subst (λ (x : Disk). HasCause x cause) same has, (d, e, are, ends)))
 
+-- the images in which it is read are itself, or those of the file's own bytes
+pub unmounted_plain : (own : Option (Vec ℕ)) (i : Disk) (cause : MountFault) (dir : List ℕ) (tree : Option HostTree) (old : Option (List Made))
+    (new : Scene) (ended : Option Fault) → own ≡ None → IsDisk i → IsOfFormat cause → HasCause i cause → EndsSaving i i cause dir tree old new ended
+    → EndsKept (option_map (λ (kept : Vec ℕ). kept.items) own) i.size i.bytes dir tree old new ended
+unmounted_plain own i cause dir tree old new ended none is format has ends =
+    subst (λ (o : Option (Vec ℕ)). EndsKept (option_map (λ (kept : Vec ℕ). kept.items) o) i.size i.bytes dir tree old new ended) (sym none)
+    (unmounted_ends None i i i cause dir tree old new ended is format has (sym (image_of_disk i is), refl) ends)
+
+pub unmounted_own : (own : Option (Vec ℕ)) (kept : Vec ℕ) (i d e : Disk) (cause : MountFault) (dir : List ℕ) (tree : Option HostTree)
+    (old : Option (List Made)) (new : Scene) (ended : Option Fault) → own ≡ Some kept → IsDisk i → IsOfFormat cause → HasCause i cause
+    → AreReadIn true i.size kept.items i.bytes d e → EndsSaving d e cause dir tree old new ended
+    → EndsKept (option_map (λ (kept : Vec ℕ). kept.items) own) i.size i.bytes dir tree old new ended
+unmounted_own own kept i d e cause dir tree old new ended some is format has are ends =
+    subst (λ (o : Option (Vec ℕ)). EndsKept (option_map (λ (kept : Vec ℕ). kept.items) o) i.size i.bytes dir tree old new ended) (sym some)
+    (unmounted_ends (Some kept.items) i d e cause dir tree old new ended is format has are ends)
+
+-- what ends saving is told
+pub saving_told : (d e : Disk) (cause : MountFault) (dir : List ℕ) (tree : Option HostTree) (old : Option (List Made)) (new : Scene)
+    (ended : Option Fault) (fault : Fault) → ended ≡ Some fault → EndsSaving d e cause dir tree old new (Some fault)
+    → EndsSaving d e cause dir tree old new ended
+saving_told d e cause dir tree old new ended fault is ends = subst (EndsSaving d e cause dir tree old new) (sym is) ends
+
 -- memory is wanting before that
 pub no_memory_ends : (own : Option (List ℕ)) (i : Disk) (dir : List ℕ) (tree : Option HostTree) (old : Option (List Made)) (new : Scene)
     (ended : Option Fault) → IsDisk i → new.made ≡ old → ended ≡ Some (Refused Memory) → EndsKept own i.size i.bytes dir tree old new ended
@@ -143,9 +165,24 @@ bytes_salvaged own size bytes i dir tree old new fault size_is bytes_are ends =
     subst (λ (bs : List ℕ). EndsKept own size bs dir tree old new fault) bytes_are
     (subst (λ (n : ℕ). EndsKept own n i.bytes dir tree old new fault) size_is ends)
 
+-- so is a folder that is made of one that mounts
+pub bytes_mounted : (own : Option (List ℕ)) (size : ℕ) (bytes : List ℕ) (i : Disk) (dir : List ℕ) (tree : Option HostTree)
+    (old : Option (List Made)) (new : Scene) (ended fault : Option Fault) → IsDisk i → i.size ≡ size → i.bytes ≡ bytes → ended ≡ fault
+    → IsOther fault → EndsMaking i dir tree old new fault → EndsKept own size bytes dir tree old new ended
+bytes_mounted own size bytes i dir tree old new ended fault is size_is bytes_are told other ends =
+    subst (EndsKept own size bytes dir tree old new) (sym told)
+    (bytes_salvaged own size bytes i dir tree old new fault size_is bytes_are (mounted_ends own i dir tree old new fault is other ends))
+
+-- and want of memory before that
+pub bytes_without_memory : (own : Option (List ℕ)) (size : ℕ) (bytes : List ℕ) (i : Disk) (dir : List ℕ) (tree : Option HostTree)
+    (old : Option (List Made)) (new : Scene) (ended : Option Fault) → IsDisk i → i.size ≡ size → i.bytes ≡ bytes → new.made ≡ old
+    → ended ≡ Some (Refused Memory) → EndsKept own size bytes dir tree old new ended
+bytes_without_memory own size bytes i dir tree old new ended is size_is bytes_are same told =
+    bytes_salvaged own size bytes i dir tree old new ended size_is bytes_are (no_memory_ends own i dir tree old new ended is same told)
+
 -- bytes that are read as a device does are as many, and no more are read of them than there are
 by_device_long : (size : ℕ) (old new : List ℕ) → IsReadByDevice size old new → length new ≤ length old
-by_device_long size old new (inl (is, f, relaid, same)) =
+by_device_long size old new (inl (is, (f, relaid, same))) =
     let counts : f.count ≡ (image_of size old).count = relaid.joined.count ∙ relaid.lowered.count in
     let sizes : f.size ≡ size = relaid.joined.size ∙ relaid.lowered.size in
     let long : length new ≡ length old =

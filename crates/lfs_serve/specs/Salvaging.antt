@@ -16,7 +16,6 @@ use Rattle.lfs_request.specs.View.{start_of}
 use Rattle.lfs_request.specs.declared.fault.Fault.{Fault}
 use Rattle.lfs_request.specs.declared.fault.Fault.TheVariants.{Image, Mount, Refused, CannotRead, CannotWrite, HostEntry}
 use Rattle.lfs_request.specs.declared.manner.Manner.{Manner}
-use Rattle.lfs_request.specs.declared.view.View.{View}
 use Rattle.lfs_salvage.specs.Losses.{has_loss}
 use Rattle.lfs_salvage.specs.Saved.{SavesAll, StopsSaving}
 use Rattle.lfs_salvage.specs.declared.saved.Saved.{Saved}

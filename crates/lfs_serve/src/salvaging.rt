@@ -22,7 +22,7 @@ use lfs_exchange::{StepKind, taken_up};
 use lfs_fs::mount;
 use lfs_host::Host;
 use lfs_lower::lower_all;
-use lfs_report::{Beside, Salvaged, Sight, Stop, stop_of_image, stop_of_salvaging};
+use lfs_report::{Beside, Sight, Stop, keep_saved, stop_of_image, stop_of_salvaging};
 use lfs_request::{Fault, Manner, Request, View};
 use lfs_salvage::{Saved, save_image};
 use std::alloc::{AllocError, Global};
@@ -54,11 +54,7 @@ pub(crate) fn salvaged<H: Host>(
 }
 
 /// A copy of the bytes of an image's file, where the image is read as a device does.
-fn own_bytes(
-    alloc: Global,
-    by_device: bool,
-    bytes: &[u8],
-) -> Result<Option<Vec<u8>>, AllocError>
+fn own_bytes(alloc: Global, by_device: bool, bytes: &[u8]) -> Result<Option<Vec<u8>>, AllocError>
     ensures { IfOk result (λ own. option_map (λ kept. kept.items) own ≡ (if by_device then Some bytes.now else None)) }
 {
     if by_device {
@@ -91,7 +87,7 @@ fn salvage_bytes<H: Host>(
     match mount(alloc, &image) {
         Ok(mounted) => Ok(extract_mounted(alloc, host, &image, &mounted, dir)?),
         Err(MountFault::Memory) => Err(Stop::from(AllocError)),
-        Err(cause) => salvage_image(alloc, host, beside, cause, seen, own, image, dir),
+        Err(cause) => salvage_image(alloc, host, beside, cause, seen, own, &image, dir),
     }
 }
 
@@ -104,32 +100,28 @@ fn salvage_image<H: Host>(
     cause: MountFault,
     seen: Sight,
     own: Option<Vec<u8>>,
-    image: Image,
+    image: &Image,
     dir: &str,
 ) -> Result<(), Stop>
-    requires disk { IsDisk image.disk }
+    requires disk { IsDisk image.now.disk }
     requires format { IsOfFormat cause }
-    requires cause { HasCause image.disk cause }
-    requires long { IfSome own (λ kept. length image.disk.bytes ≤ length kept.items) }
-    ensures made { EndsKept (option_map (λ kept. kept.items) own) image.disk.size image.disk.bytes dir.now (H.known host.old).tree
-        (H.known host.old).made (H.known host.new) (stopped_by result) }
+    requires cause { HasCause image.now.disk cause }
+    requires long { IfSome own (λ kept. length image.now.disk.bytes ≤ length kept.items) }
+    ensures made { EndsKept (option_map (λ kept. kept.items) own) image.now.disk.size image.now.disk.bytes dir.now
+        (H.known host.old).tree (H.known host.old).made (H.known host.new) (stopped_by result) }
     ensures kept { KeepsFiles (H.known host.old) (H.known host.new) }
 {
-    let Some(own) = own else {
-        let saved = save_new(alloc, host, &image, &image, dir)?;
-        let end = end_of(alloc, cause, &image, &saved, seen);
-        beside.salvaged = Some(Salvaged {
-            cause,
-            saved,
-            disk: image,
-        });
-        return end;
-    };
-    let (disk, parts) = own_images(alloc, own, &image)?;
-    let saved = save_new(alloc, host, &disk, &parts, dir)?;
-    let end = end_of(alloc, cause, &image, &saved, seen);
-    beside.salvaged = Some(Salvaged { cause, saved, disk });
-    end
+    match own {
+        None => {
+            let saved = save_new(alloc, host, image, image, dir)?;
+            ended(alloc, beside, cause, seen, image, image, saved)
+        }
+        Some(own) => {
+            let (disk, parts) = own_images(alloc, own, image)?;
+            let saved = save_new(alloc, host, &disk, &parts, dir)?;
+            ended(alloc, beside, cause, seen, image, &disk, saved)
+        }
+    }
 }
 
 /// The image of a file's own bytes that is as long as the one that is read of them, and a copy of it with each block lowered.
@@ -177,13 +169,34 @@ fn save_new<H: Host>(
     }
 }
 
-/// How it ends that this was saved of an image that doesn't mount for this cause: with that where something is lost.
+/// How it ends that this was saved of an image that doesn't mount for this cause, with files as they stand in `disk`: with the cause where
+/// something is lost. What is told of it is put into `beside`.
+fn ended(
+    alloc: Global,
+    beside: &mut Beside,
+    cause: MountFault,
+    seen: Sight,
+    image: &Image,
+    disk: &Image,
+    saved: Saved,
+) -> Result<(), Stop>
+    ensures { stopped_by result ≡ (if has_loss saved then Some (Mount cause) else None) }
+{
+    let end = end_of(alloc, cause, seen, image, &saved);
+    if end.is_ok() {
+        beside.unmounted = Some(cause);
+    }
+    keep_saved(alloc, disk, saved, beside);
+    end
+}
+
+/// The end itself.
 fn end_of(
     alloc: Global,
     cause: MountFault,
+    seen: Sight,
     image: &Image,
     saved: &Saved,
-    seen: Sight,
 ) -> Result<(), Stop>
     ensures { stopped_by result ≡ (if has_loss saved.now then Some (Mount cause) else None) }
 {

@@ -6,7 +6,7 @@ use Rattle.lfs_report.specs.Stop.{stopped_by}
 use Rattle.lfs_command.specs.declared.refusal.Refusal.TheVariants.{Memory}
 use Rattle.lfs_request.specs.declared.fault.Fault.TheVariants.{Refused}
 use Rattle.lfs_request.specs.declared.manner.Manner.{Manner}
-use Rattle.lfs_serve.proofs.ExtractingLemmas.{asked_read, file_ends, file_later, file_unread, not_taken_unread}
+use Rattle.lfs_serve.proofs.ExtractingLemmas.{file_unread, not_taken_unread}
 use Rattle.lfs_serve.proofs.StepLemmas.{stopped_at}
 use Rattle.lfs_serve.proofs.extracting.extracted.Goals as goal
 

@@ -1,13 +1,22 @@
 -- Nothing is saved where the image's file isn't read, or a commit of a later version is refused in it.
-use Rattle.std.proofs.Common.{◌∙◌, refl}
+use Rattle.std.proofs.Common.{◌≡◌, ◌∙◌, List, None, Option, Some, ap, option_map, refl, subst, sym, ℕ}
+use Rattle.std.specs.Prelude.{if◌then◌else◌}
+use Rattle.std.specs.Global.{Vec}
 use Rattle.std.proofs.lemmas.Result.{err_from_is_err_and}
+use Rattle.lfs_exchange.specs.Handing.{most_image}
+use Rattle.lfs_host.specs.Files.{ReadsFrom}
 use Rattle.lfs_host.specs.Scene.{Scene}
 use Rattle.lfs_report.specs.Stop.{stopped_by}
 use Rattle.lfs_command.specs.declared.refusal.Refusal.TheVariants.{Memory}
 use Rattle.lfs_request.specs.declared.fault.Fault.TheVariants.{Refused}
+use Rattle.lfs_request.specs.View.{start_of}
+use Rattle.lfs_request.specs.declared.fault.Fault.{Fault}
 use Rattle.lfs_request.specs.declared.manner.Manner.{Manner}
+use Rattle.lfs_request.specs.declared.view.View.{View}
+use Rattle.lfs_serve.specs.Later.{later_alone, refused_by}
+use Rattle.lfs_serve.specs.Salvaging.{EndsSalvaged}
 use Rattle.lfs_serve.proofs.ExtractingLemmas.{asked_read, not_taken_unread}
-use Rattle.lfs_serve.proofs.SalvagingLemmas.{file_salvaged, file_unsaved, later_unsaved, own_long_enough, own_salvaged, read_long}
+use Rattle.lfs_serve.proofs.SalvagingLemmas.{file_salvaged, file_unsaved, own_long_enough, own_salvaged, read_long}
 use Rattle.lfs_serve.proofs.StepLemmas.{stopped_at}
 use Rattle.lfs_serve.proofs.salvaging.salvaged.Goals as goal
 
@@ -47,3 +56,39 @@ returns-in_err-image-clause-made g c =
     let manner : Manner = record { takes_older = request.takes_older; view = c.args.view } in
     file_unsaved manner request.size request.image.now c.args.dir.now old new (stopped_by on.result) (Refused Memory) (kept.0.0, kept.0.2) kept.2
     (stopped_at on.result (Refused Memory) p.0 p.1 p.2) refl
+
+pub salvage_bytes-requires : goal.salvage_bytes-requires
+salvage_bytes-requires g c =
+    let view : View = c.args.view in
+    let bytes : List ℕ = c.in_ok-handed.handed.image.items in
+    let image : List ℕ = c.in_ok-image.image.items in
+    own_long_enough view.by_device c.in_ok-own.own bytes image
+    (c.in_ok-own.ensures ∙ ap (λ (xs : List ℕ). if view.by_device then Some xs else None) c.deref-2.ensures.value)
+    (read_long view.offset view.by_device c.args.request.now.size bytes image c.in_ok-image.ensures.read)
+
+pub returns-clause-made : goal.returns-clause-made
+returns-clause-made g c =
+    let request = c.args.request.now in
+    let name : List ℕ = request.image.now in
+    let view : View = c.args.view in
+    let manner : Manner = record { takes_older = request.takes_older; view = view } in
+    let bytes : List ℕ = c.in_ok-handed.handed.image.items in
+    let image : List ℕ = c.in_ok-image.image.items in
+    let old : Scene = g.H.Known.known c.args.host.now in
+    let mid : Scene = g.H.Known.known c.taken_up.new.host in
+    let new : Scene = g.H.Known.known c.salvage_bytes.new.host in
+    let kept = c.taken_up.ensures.kept in
+    let left = c.salvage_bytes.ensures.kept in
+    let ended : Option Fault = stopped_by c.salvage_bytes.result in
+    let none : refused_by manner (later_alone request.size bytes) ≡ None =
+    ap (λ (xs : List ℕ). refused_by manner (later_alone request.size xs)) (sym c.deref.ensures.value) ∙ sym c.pass_alone.ensures
+    ∙ ap stopped_by c.in_ok-pass_alone.was in
+    let ends : EndsSalvaged view.by_device request.size bytes image c.args.dir.now mid.tree mid.made new ended =
+    own_salvaged view.by_device (option_map (λ (own : Vec ℕ). own.items) c.in_ok-own.own) request.size bytes image c.args.dir.now mid.tree mid.made
+    new ended (c.in_ok-own.ensures ∙ ap (λ (xs : List ℕ). if view.by_device then Some xs else None) c.deref-2.ensures.value)
+    c.salvage_bytes.ensures.made in
+    let reads : ReadsFrom old.files name (start_of view) most_image bytes =
+    subst (λ (place : ℕ). ReadsFrom old.files name place most_image bytes) c.start.ensures
+    (asked_read c.in_ok-handed.handed.kind c.start.result mid.files old.files name bytes c.in_ok-handed.ensures.kind kept.0.0
+    c.in_ok-handed.ensures.handed.image) in
+    file_salvaged manner request.size name c.args.dir.now bytes image old mid new ended reads kept.1 kept.2 (left.0 ∙ kept.0.0, left.2 ∙ kept.0.2) none c.in_ok-image.ensures.read ends

@@ -10,7 +10,7 @@ use Rattle.lfs_exchange.specs.declared.step_kind.StepKind.{StepKind}
 use Rattle.lfs_host.specs.Scene.{Scene}
 use Rattle.lfs_serve.specs.Later.{later_read, refused_by}
 use Rattle.lfs_serve.specs.Program.{RunsStep}
-use Rattle.lfs_serve.proofs.StepLemmas.{claimed_at, ends_behind, ends_later, ends_refused, ends_wanting, leaves_at, spares_at, step_ran, stopped_at}
+use Rattle.lfs_serve.proofs.StepLemmas.{ends_behind, ends_later, ends_refused, ends_wanting, leaves_at, spares_at, step_ran, stopped_at}
 use Rattle.lfs_serve.proofs.stepping.stepped_in.Goals as goal
 
 pub returns-in_err-pass_step-clause-ended : goal.returns-in_err-pass_step-clause-ended
