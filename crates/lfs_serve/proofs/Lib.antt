@@ -1,5 +1,7 @@
 pub mod StepLemmas
 pub mod ExtractingLemmas
+pub mod ReadLengths
+pub mod SavingLemmas
 pub mod SalvagingLemmas
 pub mod HostFolderLemmas
 pub mod BatchingLemmas

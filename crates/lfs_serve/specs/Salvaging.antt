@@ -74,7 +74,7 @@ EndsKept own size image dir tree old new fault = EndsSalvaged (is_some own) size
 
 -- ---- an image's file
 
--- what is saved of an image's file: nothing where it isn't read, in its manner; else as of its bytes; no file changes, and nothing is printed
+-- what is saved of an image's file: nothing where it isn't read, in its manner; else as of its bytes; files and what was printed stay
 abbrev pub EndsSalvage : Manner → ℕ → List ℕ → List ℕ → Scene → Scene → Option Fault → Type 0
 EndsSalvage manner size name dir old new fault =
     KeepsScene old new

@@ -94,7 +94,8 @@ pub(crate) fn extract_mounted<H: Host>(
     dir: &str,
 ) -> Result<(), Fault>
     requires { IsMountOf image.now.disk mounted.now }
-    ensures made { EndsMaking image.now.disk dir.now (H.known host.old).tree (H.known host.old).made (H.known host.new) (result_err result) }
+    ensures made { EndsMaking image.now.disk dir.now
+        (H.known host.old).tree (H.known host.old).made (H.known host.new) (result_err result) }
     ensures other { IsOther (result_err result) }
     ensures kept { KeepsFiles (H.known host.old) (H.known host.new) }
 {

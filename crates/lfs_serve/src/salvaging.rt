@@ -38,8 +38,8 @@ pub(crate) fn salvaged<H: Host>(
     view: View,
     dir: &str,
 ) -> Result<(), Stop>
-    ensures made { EndsSalvage (record { takes_older = request.now.takes_older; view = view }) request.now.size request.now.image.now dir.now
-        (H.known host.old) (H.known host.new) (stopped_by result) }
+    ensures made { EndsSalvage (record { takes_older = request.now.takes_older; view = view }) request.now.size request.now.image.now
+        dir.now (H.known host.old) (H.known host.new) (stopped_by result) }
     ensures kept { KeepsFiles (H.known host.old) (H.known host.new) }
 {
     let handed = taken_up(alloc, host, StepKind::Asks, view.start(), request.image)?;
@@ -75,8 +75,8 @@ fn salvage_bytes<H: Host>(
     dir: &str,
 ) -> Result<(), Stop>
     requires { IfSome own (λ kept. length bytes.items ≤ length kept.items) }
-    ensures made { EndsKept (option_map (λ kept. kept.items) own) size bytes.items dir.now (H.known host.old).tree (H.known host.old).made
-        (H.known host.new) (stopped_by result) }
+    ensures made { EndsKept (option_map (λ kept. kept.items) own) size bytes.items dir.now
+        (H.known host.old).tree (H.known host.old).made (H.known host.new) (stopped_by result) }
     ensures kept { KeepsFiles (H.known host.old) (H.known host.new) }
 {
     let seen = Sight::of(size, &bytes);
@@ -91,8 +91,8 @@ fn salvage_bytes<H: Host>(
     }
 }
 
-/// Makes a folder with all that can still be read of an image that doesn't mount for this cause: of its files and its pairs; or, where it is
-/// read as a device does, of the files of the image of the file's own bytes, and of the pairs of that one with each block lowered.
+/// Makes a folder with all that can still be read of an image that doesn't mount for this cause. Where the file's own bytes are kept, its
+/// files are those of the image of these, and its pairs those of that image with each block lowered.
 fn salvage_image<H: Host>(
     alloc: Global,
     host: &mut H,

@@ -8,23 +8,23 @@ use Rattle.lfs_request.specs.declared.fault.Fault.{Fault}
 use Rattle.lfs_serve.specs.Extracting.{EndsMaking, MakesRows}
 use Rattle.lfs_serve.specs.Salvaging.{IsOther}
 use Rattle.lfs_serve.proofs.ExtractingLemmas.{fault_blamed, rows_end, there_ends}
-use Rattle.lfs_serve.proofs.SalvagingLemmas.{made_other, there_other}
+use Rattle.lfs_serve.proofs.SavingLemmas.{made_other, there_other}
 use Rattle.lfs_serve.proofs.extracting.extract_mounted.Goals as goal
 
 pub returns-in_err-must_be_missing-clause-made : goal.returns-in_err-must_be_missing-clause-made
 returns-in_err-must_be_missing-clause-made g c =
     let p = err_from_is_err_and c.from_residual.result c.from_residual.ensures.1 in
     let old : Scene = g.H.Known.known c.args.host.now in
-    rw (p.1, p.2) (there_ends c.args.image.now.disk (c.args.mounted.now, c.requires) c.args.dir.now old.tree old.made
-    (g.H.Known.known c.must_be_missing.new.host) c.in_err-must_be_missing.field-0.0 c.in_err-must_be_missing.ensures.refused
-    c.must_be_missing.ensures.kept.2)
+    let new : Scene = g.H.Known.known c.must_be_missing.new.host in
+    rw (p.1, p.2) (there_ends c.args.image.now.disk (c.args.mounted.now, c.requires) c.args.dir.now old.tree old.made new
+    c.in_err-must_be_missing.field-0.0 c.in_err-must_be_missing.ensures.refused c.must_be_missing.ensures.kept.2)
 
 pub returns-in_err-must_be_missing-clause-other : goal.returns-in_err-must_be_missing-clause-other
 returns-in_err-must_be_missing-clause-other g c =
     let p = err_from_is_err_and c.from_residual.result c.from_residual.ensures.1 in
     let old : Scene = g.H.Known.known c.args.host.now in
-    rw (p.1, p.2) (there_other c.args.dir.now old.tree old.made (g.H.Known.known c.must_be_missing.new.host) c.in_err-must_be_missing.field-0.0
-    c.in_err-must_be_missing.ensures.refused)
+    let new : Scene = g.H.Known.known c.must_be_missing.new.host in
+    rw (p.1, p.2) (there_other c.args.dir.now old.tree old.made new c.in_err-must_be_missing.field-0.0 c.in_err-must_be_missing.ensures.refused)
 
 pub returns-clause-made : goal.returns-clause-made
 returns-clause-made g c =

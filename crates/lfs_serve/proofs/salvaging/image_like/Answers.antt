@@ -1,7 +1,7 @@
 use Rattle.std.proofs.Common.{◌∙◌, ℕ, subst}
 use Rattle.lfs_block.specs.ImageFault.{IsNoImage}
 use Rattle.lfs_serve.proofs.OpenedLemmas.{disk_is}
-use Rattle.lfs_serve.proofs.SalvagingLemmas.{like_no_fault}
+use Rattle.lfs_serve.proofs.ReadLengths.{like_no_fault}
 use Rattle.lfs_serve.proofs.salvaging.image_like.Goals as goal
 
 pub unreachable-requires : goal.unreachable-requires
@@ -11,5 +11,5 @@ unreachable-requires c =
 
 pub returns : goal.returns
 returns c =
-    disk_is c.args.image.now.disk.size c.args.bytes.items c.in-Ok.made.disk c.in-Ok.ensures.disk (c.in-Ok.ensures.size ∙ c.size.ensures.value)
-    c.in-Ok.ensures.bytes
+    let is = c.in-Ok.ensures in
+    disk_is c.args.image.now.disk.size c.args.bytes.items c.in-Ok.made.disk is.disk (is.size ∙ c.size.ensures.value) is.bytes

@@ -1,7 +1,6 @@
 -- Nothing is saved where the image's file isn't read, or a commit of a later version is refused in it.
-use Rattle.std.proofs.Common.{◌≡◌, ◌∙◌, List, None, Option, Some, ap, option_map, refl, subst, sym, ℕ}
+use Rattle.std.proofs.Common.{◌≡◌, ◌∙◌, List, None, Option, Some, ap, refl, subst, sym, ℕ}
 use Rattle.std.specs.Prelude.{if◌then◌else◌}
-use Rattle.std.specs.Global.{Vec}
 use Rattle.std.proofs.lemmas.Result.{err_from_is_err_and}
 use Rattle.lfs_exchange.specs.Handing.{most_image}
 use Rattle.lfs_host.specs.Files.{ReadsFrom}
@@ -16,7 +15,8 @@ use Rattle.lfs_request.specs.declared.view.View.{View}
 use Rattle.lfs_serve.specs.Later.{later_alone, refused_by}
 use Rattle.lfs_serve.specs.Salvaging.{EndsSalvaged}
 use Rattle.lfs_serve.proofs.ExtractingLemmas.{asked_read, not_taken_unread}
-use Rattle.lfs_serve.proofs.SalvagingLemmas.{file_salvaged, file_unsaved, own_long_enough, own_salvaged, read_long}
+use Rattle.lfs_serve.proofs.ReadLengths.{kept_long, read_long}
+use Rattle.lfs_serve.proofs.SalvagingLemmas.{file_salvaged, file_unsaved, kept_bytes, own_salvaged}
 use Rattle.lfs_serve.proofs.StepLemmas.{stopped_at}
 use Rattle.lfs_serve.proofs.salvaging.salvaged.Goals as goal
 
@@ -42,8 +42,8 @@ returns-in_err-own-clause-made g c =
     let on = c.from_residual-in_err-own in
     let p = err_from_is_err_and on.result on.ensures.1 in
     let manner : Manner = record { takes_older = request.takes_older; view = c.args.view } in
-    file_unsaved manner request.size request.image.now c.args.dir.now old new (stopped_by on.result) (Refused Memory) (kept.0.0, kept.0.2) kept.2
-    (stopped_at on.result (Refused Memory) p.0 p.1 p.2) refl
+    file_unsaved manner request.size request.image.now c.args.dir.now old new (stopped_by on.result) (Refused Memory)
+    (kept.0.0, kept.0.2) kept.2 (stopped_at on.result (Refused Memory) p.0 p.1 p.2) refl
 
 pub returns-in_err-image-clause-made : goal.returns-in_err-image-clause-made
 returns-in_err-image-clause-made g c =
@@ -54,15 +54,15 @@ returns-in_err-image-clause-made g c =
     let on = c.from_residual-in_err-image in
     let p = err_from_is_err_and on.result on.ensures.1 in
     let manner : Manner = record { takes_older = request.takes_older; view = c.args.view } in
-    file_unsaved manner request.size request.image.now c.args.dir.now old new (stopped_by on.result) (Refused Memory) (kept.0.0, kept.0.2) kept.2
-    (stopped_at on.result (Refused Memory) p.0 p.1 p.2) refl
+    file_unsaved manner request.size request.image.now c.args.dir.now old new (stopped_by on.result) (Refused Memory)
+    (kept.0.0, kept.0.2) kept.2 (stopped_at on.result (Refused Memory) p.0 p.1 p.2) refl
 
 pub salvage_bytes-requires : goal.salvage_bytes-requires
 salvage_bytes-requires g c =
     let view : View = c.args.view in
     let bytes : List ℕ = c.in_ok-handed.handed.image.items in
     let image : List ℕ = c.in_ok-image.image.items in
-    own_long_enough view.by_device c.in_ok-own.own bytes image
+    kept_long view.by_device c.in_ok-own.own bytes image
     (c.in_ok-own.ensures ∙ ap (λ (xs : List ℕ). if view.by_device then Some xs else None) c.deref-2.ensures.value)
     (read_long view.offset view.by_device c.args.request.now.size bytes image c.in_ok-image.ensures.read)
 
@@ -83,12 +83,13 @@ returns-clause-made g c =
     let none : refused_by manner (later_alone request.size bytes) ≡ None =
     ap (λ (xs : List ℕ). refused_by manner (later_alone request.size xs)) (sym c.deref.ensures.value) ∙ sym c.pass_alone.ensures
     ∙ ap stopped_by c.in_ok-pass_alone.was in
+    let own = c.in_ok-own.ensures ∙ ap (λ (xs : List ℕ). if view.by_device then Some xs else None) c.deref-2.ensures.value in
     let ends : EndsSalvaged view.by_device request.size bytes image c.args.dir.now mid.tree mid.made new ended =
-    own_salvaged view.by_device (option_map (λ (own : Vec ℕ). own.items) c.in_ok-own.own) request.size bytes image c.args.dir.now mid.tree mid.made
-    new ended (c.in_ok-own.ensures ∙ ap (λ (xs : List ℕ). if view.by_device then Some xs else None) c.deref-2.ensures.value)
+    own_salvaged c.args.dir.now mid.tree mid.made new view.by_device (kept_bytes c.in_ok-own.own) request.size bytes image ended own
     c.salvage_bytes.ensures.made in
     let reads : ReadsFrom old.files name (start_of view) most_image bytes =
     subst (λ (place : ℕ). ReadsFrom old.files name place most_image bytes) c.start.ensures
     (asked_read c.in_ok-handed.handed.kind c.start.result mid.files old.files name bytes c.in_ok-handed.ensures.kind kept.0.0
     c.in_ok-handed.ensures.handed.image) in
-    file_salvaged manner request.size name c.args.dir.now bytes image old mid new ended reads kept.1 kept.2 (left.0 ∙ kept.0.0, left.2 ∙ kept.0.2) none c.in_ok-image.ensures.read ends
+    file_salvaged manner request.size name c.args.dir.now bytes image old mid new ended reads kept.1 kept.2
+    (left.0 ∙ kept.0.0, left.2 ∙ kept.0.2) none c.in_ok-image.ensures.read ends

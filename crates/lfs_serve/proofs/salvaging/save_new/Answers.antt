@@ -1,6 +1,6 @@
 use Rattle.std.proofs.lemmas.Result.{err_from_is_err_and}
 use Rattle.lfs_host.specs.Scene.{Scene}
-use Rattle.lfs_serve.proofs.SalvagingLemmas.{there_unsaved}
+use Rattle.lfs_serve.proofs.SavingLemmas.{there_unsaved}
 use Rattle.lfs_serve.proofs.salvaging.save_new.Goals as goal
 
 pub returns-in_err-must_be_missing-clause-stopped : goal.returns-in_err-must_be_missing-clause-stopped
