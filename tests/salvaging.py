@@ -106,7 +106,8 @@ DAMAGED = [
      ["/etc: blocks 900 and 901, of 8"], {"f": b"one"}),
     ("names that don't rise", file(1, b"c.cfg", b"one") + file(2, b"b.cfg", b"two"), {}, "13 OrderFault", False, [],
      {"c.cfg": b"one", "b.cfg": b"two"}),
-    ("names that no host takes", file(1, b"\0", b"two") + directory(2, b"etc", (2, 3)) + file(3, b"\xff\\", b"one"), {},
+    ("names that no host takes",
+     file(1, b"\0", b"two") + directory(2, b"etc", (2, 3)) + file(3, b"\xff\\", b"one") + tail(SOFT, (2, 3)), {},
      "3 NoValidCommit", True, [f"blocks 2 and 3 (/etc): {UNREAD}"], {"\\xff\\x5c": b"one", "\\x00": b"two"}),
     ("a name that is taken", file(1, b"lost+found", b"one") + tail(SOFT, (2, 3)), {2: file(0, b"f", b"two")}, "17 Orphan", False,
      ["blocks 2 and 3: no path leads there: saved as lost+found~/2"], {"lost+found": b"one", "lost+found~/2/f": b"two"}),
@@ -153,16 +154,16 @@ def noise(folder):
 
 def many_names_of_one_file(folder):
     """Of 60,000 entries that name one chain one is made, and a hundred others are told."""
-    size, many = 65_536, 3_000
-    blocks, parts = {}, 20
+    size, many = 32_768, 1_000
+    blocks, parts = {}, 60
     for part in range(parts):
-        items = [] if part else superblock(size, 64)
+        items = [] if part else superblock(size, 128)
         first = 0 if part else 1
         for n in range(many):
-            items += chained(n + first, f"{part:02}{n:04}".encode(), 60, 100)
+            items += chained(n + first, f"{part:02}{n:04}".encode(), 126, 100)
         blocks[2 * part] = log(1, items + (tail(HARD, (2 * part + 2, 2 * part + 3)) if part + 1 < parts else []))
-    blocks[60] = contents(size)
-    status, told, made = saved(folder, "60,000 names", image(size, 64, blocks), f"salvage -b {size} a.img made")
+    blocks[126] = contents(size)
+    status, told, made = saved(folder, "60,000 names", image(size, 128, blocks), f"salvage -b {size} a.img made")
     lines = told.splitlines()
     first = "lfsed: a.img: doesn't mount (15 BlockTwice); nothing is lost"
     folder.check("60,000 names: status", (status, lines[0]) == (0, first), lines[:3])
