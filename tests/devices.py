@@ -413,14 +413,15 @@ def is_read(folder, name, row, reader, device):
         f"diff {words} a.img b.img": difference_of(found, there).encode(),
         f"diff {words} b.img a.img": difference_of(there, found).encode(),
         **{f"cat {words} a.img {path.decode()}": held for path, (held, _) in found.items() if held is not None},
-        f"extract {words} a.img made": b"",
+        f"extract {words} a.img made": b"", f"salvage {words} a.img saved": b"",
     }
     for line, wanted in printed.items():
         ended = folder.run(line)
         folder.check(f"{name}: {line}", ended == (0, "", wanted), ended)
-    made = extracted(beside(folder, "made")) if beside(folder, "made").exists() else {}
-    folder.check(f"{name}: extracted", made == {path: held for path, (held, _) in found.items()}, made)
-    shutil.rmtree(beside(folder, "made"), ignore_errors=True)
+    for what in "made", "saved":
+        made = extracted(beside(folder, what)) if beside(folder, what).exists() else {}
+        folder.check(f"{name}: {what}", made == {path: held for path, (held, _) in found.items()}, made)
+        shutil.rmtree(beside(folder, what), ignore_errors=True)
 
 
 def is_repacked(folder, name, row, reader, device):
