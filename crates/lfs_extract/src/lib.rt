@@ -10,4 +10,4 @@ mod name_texts;
 
 pub use extract_fault::ExtractFault;
 pub use extracting::extract_rows;
-pub use making::make_file;
+pub use making::write_file;

@@ -6,7 +6,7 @@ ghost use Rattle.lfs_fs.specs.RowHeld.{row_body_held};
 ghost use Rattle.lfs_fs.specs.RowShown.{HasBlocks, shown_node};
 ghost use Rattle.lfs_sink.specs.Send.{Sends};
 ghost use Rattle.lfs_extract.specs.Making.{contents_of};
-ghost use Rattle.lfs_host.specs.NewFolder.{FileMade, Makes};
+ghost use Rattle.lfs_host.specs.NewFolder.{Begins, FileMade, Makes};
 ghost use Rattle.lfs_host.specs.Scene.{HasRefused, KeepsFiles};
 ghost use Rattle.lfs_extract.specs.Extracted.{made_as};
 
@@ -44,12 +44,33 @@ fn fill_file<B: Blocks, F: NewFolder>(disk: &B, body: &RowBody<'_>, folder: &mut
     send_contents(disk, body, &mut FileSink::new(folder))
 }
 
-/// Makes a file of a name with the contents that a row's body has: none where it is a directory's. The caller owes that its blocks are
-/// on the disk, and no more than it has. Contents are written slice by slice. Where the host refuses to make the file or to write to it,
-/// nothing is made, and a file that was begun may be left with a beginning of its contents.
+/// Writes the contents that a row's body has, none where it is a directory's, to the file that was begun under this name, and ends it. The
+/// caller owes that the body's blocks are on the disk, and no more than it has. Contents are written slice by slice. Where the host refuses
+/// to write to the file or to end it, nothing is made, and the file may be left with a beginning of its contents.
 ///
 /// Source: own.
-pub fn make_file<B: Blocks, F: NewFolder>(
+pub fn write_file<B: Blocks, F: NewFolder>(
+    disk: &B,
+    body: &RowBody<'_>,
+    name: &str,
+    folder: &mut F,
+) -> Result<(), HostFault>
+    requires blocks { HasBlocks (B.disk disk.now) (row_body_held body.now) }
+    requires begun { Begins (F.known folder.old).made (F.known folder.old).filled }
+    ensures made { MatchResult result
+        (λ _. Makes (F.known folder.old).made (F.known folder.new).made (FileMade name.now (contents_of (B.disk disk.now) (row_body_held body.now)) ∷ []))
+        (λ _. (F.known folder.new).made ≡ (F.known folder.old).made) }
+    ensures blamed { OnErr result (HasRefused (F.known folder.new)) }
+    ensures kept { KeepsFiles (F.known folder.old) (F.known folder.new) }
+{
+    if !fill_file(disk, body, folder) {
+        return Err(HostFault);
+    }
+    folder.end_file(name)
+}
+
+/// Makes a file of a name with the contents that a row's body has.
+fn make_file<B: Blocks, F: NewFolder>(
     disk: &B,
     body: &RowBody<'_>,
     name: &str,
@@ -63,10 +84,7 @@ pub fn make_file<B: Blocks, F: NewFolder>(
     ensures kept { KeepsFiles (F.known folder.old) (F.known folder.new) }
 {
     folder.begin_file(name)?;
-    if !fill_file(disk, body, folder) {
-        return Err(HostFault);
-    }
-    folder.end_file(name)
+    write_file(disk, body, name, folder)
 }
 
 /// Makes what a row shows, under a name: a folder, or a file with its contents.

@@ -1,22 +1,25 @@
 -- What is saved of an area, entry by entry and call by call.
-use Rattle.std.proofs.Common.{◌≡◌, ℕ, ◌+◌, ◌<◌, List, [], ◌∷◌, ◌++◌, Option, length, get_or, drop, map, refl, ap, sym, subst, ◌∙◌, append_assoc, append-nil, String, string_bytes}
+use Rattle.std.proofs.Common.{◌≡◌, ℕ, ◌+◌, ◌<◌, List, [], ◌∷◌, ◌++◌, Bool, Option, length, get_or, drop, refl, ap, sym, subst, ◌∙◌, append_assoc, append-nil}
 use Rattle.std.proofs.lemmas.List.{at_drop_more}
 use Rattle.lfs_block.specs.Disk.{Disk}
-use Rattle.lfs_extract.proofs.MakingLemmas.{IsOnWay, all_way, on_way}
+use Rattle.lfs_extract.proofs.MakingLemmas.{IsOnWay, all_way, makes_then, on_way}
 use Rattle.lfs_extract.specs.declared.extract_fault.ExtractFault.{ExtractFault}
 use Rattle.lfs_host.specs.NewFolder.{Made, Makes}
+use Rattle.lfs_meta.specs.Body.{Pair}
 use Rattle.lfs_meta.specs.Entry.{StoredEntry}
-use Rattle.lfs_salvage.specs.AreaMade.{calls_made, calls_unsaved, calls_uses, entries_made, entries_unsaved, entries_uses, entry_made, entry_uses, folder_of, found_made, found_unsaved, found_uses, home_of}
+use Rattle.lfs_meta.specs.Part.{StoredPart}
+use Rattle.lfs_salvage.specs.AreaMade.{call_made, calls_made, calls_unsaved, calls_uses, entries_made, entries_unsaved, entries_uses, entry_made, entry_uses, folder_made, folder_of, found_made, found_unsaved, found_uses, home_of}
 use Rattle.lfs_salvage.specs.Fate.{fate}
-use Rattle.lfs_salvage.specs.Folder.{call_folder, way_at}
+use Rattle.lfs_salvage.specs.Folder.{folder_at, way_at}
+use Rattle.lfs_salvage.specs.Numbered.{Numbered}
 use Rattle.lfs_salvage.specs.Unsaved.{unsaved}
 use Rattle.lfs_salvage.specs.declared.block_use.BlockUse.{BlockUse}
 use Rattle.lfs_salvage.specs.declared.unsaved.Unsaved.{Unsaved}
 use Rattle.lfs_salvage.specs.Saving.{MakesFirst, Stops}
-use Rattle.lfs_salvage.proofs.SavingLemmas.{stops, way_more, way_stops}
+use Rattle.lfs_salvage.proofs.SavingLemmas.{stops, stops_first, then_stops, way_more, way_stops}
 use Rattle.lfs_survey.specs.declared.area.Area.{Area}
-use Rattle.lfs_survey.specs.declared.call.Call.{Call}
 use Rattle.lfs_survey.specs.declared.found.Found.{Found}
+use Rattle.lfs_survey.specs.declared.found.Found.TheVariants.{Part}
 use Rattle.lfs_survey.specs.declared.way.Way.{Way}
 
 -- what is to be made, what blocks are used for then, and the files that aren't saved
@@ -48,111 +51,160 @@ done_more old mid new before told more here' here rest whole h made is = record 
   unsaved = ap (λ (xs : List Unsaved). xs ++ rest.unsaved) is ∙ append_assoc told here' rest.unsaved ∙ h.unsaved;
 }
 
+-- or it ends at what comes next
+stopped : (old mid new : Option (List Made)) (before told here' : List Unsaved) (here : List Made) (rest whole : Plan)
+    → IsUnderWay old mid before told (plan_then here here' rest) whole → (fault : ExtractFault) → Stops fault mid new here
+    → Stops fault old new whole.made
+stopped old mid new before told here' here rest whole h fault stop = stops old mid here rest.made whole.made h.way fault new stop
+
+-- ---- the words that have numbers behind them
+
+-- some is done, whichever words of what is left will have numbers behind them; of what is done these have
+pub record IsDoing {N : Type 0} (old now : Option (List Made)) (before told : List Unsaved) (left whole : List N → Plan) : Type 0 where
+  pub numbered : List N
+  pub doing : (rest : List N) → IsUnderWay old now before told (left rest) (whole (numbered ++ rest))
+
+pub nothing_done : {N : Type 0} (old : Option (List Made)) (before : List Unsaved) (whole : List N → Plan)
+    → IsDoing old old before before whole whole
+nothing_done old before whole = record { numbered = []; doing = λ rest. begun old before (whole rest) }
+
+module _ {N : Type 0} (old mid : Option (List Made)) (before told : List Unsaved) (left whole : List N → Plan)
+    (h : IsDoing old mid before told left whole) (n : N) (here : List Made) (here' : List Unsaved) (next : List N → Plan)
+    (is : (rest : List N) → left (n ∷ rest) ≡ plan_then here here' (next rest)) where
+  come_to : (rest : List N) → IsUnderWay old mid before told (plan_then here here' (next rest)) (whole ((h.numbered ++ n ∷ []) ++ rest))
+  come_to rest =
+      subst (λ (ns : List N). IsUnderWay old mid before told (plan_then here here' (next rest)) (whole ns))
+      (sym (append_assoc h.numbered (n ∷ []) rest))
+      (subst (λ (p : Plan). IsUnderWay old mid before told p (whole (h.numbered ++ n ∷ rest))) (is rest) (h.doing (n ∷ rest)))
+
+  -- one more is done
+  pub doing_more : (new : Option (List Made)) (more : List Unsaved) → Makes mid new here → more ≡ told ++ here'
+      → IsDoing old new before more next whole
+  doing_more new more made tells = record {
+    numbered = h.numbered ++ n ∷ [];
+    doing = λ rest. done_more old mid new before told more here' here (next rest) (whole ((h.numbered ++ n ∷ []) ++ rest)) (come_to rest)
+        made tells;
+  }
+
+  -- or it ends there
+  pub doing_stops : (new : Option (List Made)) (fault : ExtractFault) → Stops fault mid new here
+      → (numbered : List N) × Stops fault old new (whole numbered).made
+  doing_stops new fault stop = (
+    (h.numbered ++ n ∷ []) ++ [],
+    stopped old mid new before told here' here (next []) (whole ((h.numbered ++ n ∷ []) ++ [])) (come_to []) fault stop,
+  )
+
+-- or where memory is refused
+pub doing_first : {N : Type 0} (old now : Option (List Made)) (before told : List Unsaved) (left whole : List N → Plan)
+    → IsDoing old now before told left whole → (numbered : List N) × MakesFirst old now (whole numbered).made
+doing_first old now before told left whole h =
+    let doing = h.doing [] in
+    (h.numbered ++ [], way_stops old now (left []).made (whole (h.numbered ++ [])).made doing.way)
+
+-- all is done
+module _ {N : Type 0} (old new : Option (List Made)) (before told : List Unsaved) (left whole : List N → Plan)
+    (none : (left []).made ≡ []) (nothing : (left []).unsaved ≡ []) (h : IsDoing old new before told left whole) where
+  pub all_made : (numbered : List N) × Makes old new (whole numbered).made
+  all_made = (
+    h.numbered ++ [],
+    all_way old new (whole (h.numbered ++ [])).made
+        (subst (λ (xs : List Made). IsOnWay old new xs (whole (h.numbered ++ [])).made) none (h.doing []).way),
+  )
+
+  pub all_told : told ≡ before ++ (whole (h.numbered ++ [])).unsaved
+  all_told =
+      sym (append-nil told) ∙ ap (λ (xs : List Unsaved). told ++ xs) (sym nothing) ∙ (h.doing []).unsaved
+
 -- ---- entries
 
-abbrev pub entries_plan : Disk → List ℕ → List BlockUse → ℕ → ℕ → ℕ → List StoredEntry → Plan
-entries_plan d folder uses area call index es = record {
-  made = entries_made d folder uses area call index es;
+abbrev pub entries_plan : Disk → List ℕ → ℕ → List BlockUse → ℕ → ℕ → ℕ → List StoredEntry → List Bool → Plan
+entries_plan d folder block uses area call index es numbered = record {
+  made = entries_made d folder numbered block uses area call index es;
   uses = entries_uses d uses area call index es;
   unsaved = entries_unsaved d uses area call index es;
 }
 
 -- an entry and the rest
-pub entries_more : (d : Disk) (folder : List ℕ) (uses : List BlockUse) (area call i : ℕ) (es : List StoredEntry) (e : StoredEntry)
-    → i < length es → e ≡ get_or es i e → entries_plan d folder uses area call i (drop i es)
-    ≡ plan_then (entry_made d folder uses e) (unsaved (home_of area call i) (fate d uses e))
-    (entries_plan d folder (entry_uses d uses (home_of area call i) e) area call (i + 1) (drop (i + 1) es))
-entries_more d folder uses area call i es e within is =
-    at_drop_more (entries_plan d folder uses area call i) es i e within
-    ∙ ap (λ (x : StoredEntry). plan_then (entry_made d folder uses x) (unsaved (home_of area call i) (fate d uses x))
-    (entries_plan d folder (entry_uses d uses (home_of area call i) x) area call (i + 1) (drop (i + 1) es))) (sym is)
+pub entries_more : (d : Disk) (folder : List ℕ) (block : ℕ) (uses : List BlockUse) (area call i : ℕ) (es : List StoredEntry)
+    (e : StoredEntry) (n : Bool) (rest : List Bool) → i < length es → e ≡ get_or es i e
+    → entries_plan d folder block uses area call i (drop i es) (n ∷ rest)
+    ≡ plan_then (entry_made d folder n block i uses e) (unsaved (home_of area call i) (fate d uses e))
+    (entries_plan d folder block (entry_uses d uses (home_of area call i) e) area call (i + 1) (drop (i + 1) es) rest)
+entries_more d folder block uses area call i es e n rest within is =
+    at_drop_more (λ (xs : List StoredEntry). entries_plan d folder block uses area call i xs (n ∷ rest)) es i e within
+    ∙ ap (λ (x : StoredEntry). plan_then (entry_made d folder n block i uses x) (unsaved (home_of area call i) (fate d uses x))
+    (entries_plan d folder block (entry_uses d uses (home_of area call i) x) area call (i + 1) (drop (i + 1) es) rest)) (sym is)
 
 -- ---- calls
 
-abbrev pub calls_plan : Disk → List ℕ → Area → ℕ → ℕ → List (List ℕ) → List BlockUse → List Found → Plan
-calls_plan d base a area call folders uses fs = record {
-  made = calls_made d base a area call folders uses fs;
+abbrev pub calls_plan : Disk → List ℕ → Area → ℕ → ℕ → List (List ℕ) → List BlockUse → List Found → List Numbered → Plan
+calls_plan d base a area call folders uses fs numbered = record {
+  made = calls_made d base a area call folders numbered uses fs;
   uses = calls_uses d uses area call fs;
   unsaved = calls_unsaved d uses area call fs;
 }
 
 -- what is found at a call and the rest
 pub calls_more : (d : Disk) (base : List ℕ) (a : Area) (area i : ℕ) (folders : List (List ℕ)) (uses : List BlockUse) (fs : List Found)
-    (f : Found) → i < length fs → f ≡ get_or fs i f → calls_plan d base a area i folders uses (drop i fs)
-    ≡ plan_then (found_made d (way_at a.calls.items i) (folder_of base a folders i f) uses area i f) (found_unsaved d uses area i f)
-    (calls_plan d base a area (i + 1) (folders ++ folder_of base a folders i f ∷ []) (found_uses d uses area i f) (drop (i + 1) fs))
-calls_more d base a area i folders uses fs f within is =
-    at_drop_more (calls_plan d base a area i folders uses) fs i f within
-    ∙ ap (λ (x : Found). plan_then (found_made d (way_at a.calls.items i) (folder_of base a folders i x) uses area i x)
-    (found_unsaved d uses area i x)
-    (calls_plan d base a area (i + 1) (folders ++ folder_of base a folders i x ∷ []) (found_uses d uses area i x) (drop (i + 1) fs))) (sym is)
-
--- ---- all is done
-
-pub all_done : (old new : Option (List Made)) (before told : List Unsaved) (left whole : Plan) → left.made ≡ [] → left.unsaved ≡ []
-    → IsUnderWay old new before told left whole → Makes old new whole.made × (told ≡ before ++ whole.unsaved)
-all_done old new before told left whole none nothing h = (
-  all_way old new whole.made (subst (λ (xs : List Made). IsOnWay old new xs whole.made) none h.way),
-  sym (append-nil told) ∙ ap (λ (xs : List Unsaved). told ++ xs) (sym nothing) ∙ h.unsaved,
-)
-
--- or it ends at what comes next
-pub stopped : (old mid new : Option (List Made)) (before told here' : List Unsaved) (here : List Made) (rest whole : Plan)
-    → IsUnderWay old mid before told (plan_then here here' rest) whole → (fault : ExtractFault) → Stops fault mid new here
-    → Stops fault old new whole.made
-stopped old mid new before told here' here rest whole h fault stop = stops old mid here rest.made whole.made h.way fault new stop
-
--- or where memory is refused
-pub stopped_there : (old now : Option (List Made)) (before told : List Unsaved) (left whole : Plan) → IsUnderWay old now before told left whole
-    → MakesFirst old now whole.made
-stopped_there old now before told left whole h = way_stops old now left.made whole.made h.way
+    (f : Found) (n : Numbered) (rest : List Numbered) → i < length fs → f ≡ get_or fs i f
+    → calls_plan d base a area i folders uses (drop i fs) (n ∷ rest)
+    ≡ plan_then (call_made d base a area i folders n uses f) (found_unsaved d uses area i f)
+    (calls_plan d base a area (i + 1) (folders ++ folder_of base a folders n.folder i f ∷ []) (found_uses d uses area i f) (drop (i + 1) fs) rest)
+calls_more d base a area i folders uses fs f n rest within is =
+    at_drop_more (λ (xs : List Found). calls_plan d base a area i folders uses xs (n ∷ rest)) fs i f within
+    ∙ ap (λ (x : Found). plan_then (call_made d base a area i folders n uses x) (found_unsaved d uses area i x)
+    (calls_plan d base a area (i + 1) (folders ++ folder_of base a folders n.folder i x ∷ []) (found_uses d uses area i x) (drop (i + 1) fs) rest))
+    (sym is)
 
 -- ---- one call
 
--- the folder of a call, by what the code has for it
-pub folder_is : {Y : Type 0} (base : List ℕ) (a : Area) (i : ℕ) (f : Found) (calls : List Call) (found : List Found)
-    (texts items : List (String Y)) (way : Way) (name text : List ℕ) → calls ≡ a.calls.items → found ≡ a.found.items → texts ≡ items
-    → way ≡ way_at calls i → name ≡ call_folder base found (map (λ x. string_bytes x) texts) way f → text ≡ name
-    → text ≡ folder_of base a (map (λ x. string_bytes x) items) i f
-folder_is base a i f calls found texts items way name text same_calls same_found same_texts by_way is reads =
-    reads ∙ is ∙ ap (λ (fs : List Found). call_folder base fs (map (λ x. string_bytes x) texts) way f) same_found
-    ∙ ap (λ (xs : List (List ℕ)). call_folder base a.found.items xs way f) (ap (map (λ x. string_bytes x)) same_texts)
-    ∙ ap (λ (w : Way). call_folder base a.found.items (map (λ x. string_bytes x) items) w f)
-    (by_way ∙ ap (λ (cs : List Call). way_at cs i) same_calls)
+module _ (d : Disk) (base : List ℕ) (a : Area) (number call : ℕ) (folders : List (List ℕ)) (uses : List BlockUse) (f : Found)
+    (p : Pair × StoredPart) (is : f ≡ Part p) (way : Way) (found : List Found) (by_way : way ≡ way_at a.calls.items call)
+    (same : found ≡ a.found.items) where
+  -- the folder of a part that is found
+  pub folder_is : (numbered : Bool) → folder_at base found folders numbered way ≡ folder_of base a folders numbered call f
+  folder_is numbered =
+      ap (λ (fs : List Found). folder_at base fs folders numbered way) same ∙ ap (folder_at base a.found.items folders numbered) by_way
+      ∙ sym (ap (λ (x : Found). folder_of base a folders numbered call x) is)
 
-module _ (old mid : Option (List Made)) (before told : List Unsaved) (d : Disk) (base : List ℕ) (a : Area) (number i : ℕ)
-    (folders : List (List ℕ)) (uses : List BlockUse) (f : Found) (whole : Plan)
-    (h : IsUnderWay old mid before told (calls_plan d base a number i folders uses (drop i a.found.items)) whole)
-    (within : i < length a.found.items) (is : f ≡ get_or a.found.items i f) where
-  abbrev folder : List ℕ
-  folder = folder_of base a folders i f
+  -- what is made of it
+  call_is : (numbered : Numbered) (name : List ℕ) (es : List StoredEntry) → name ≡ folder_at base found folders numbered.folder way
+      → es ≡ p.1.entries → folder_made way name ++ entries_made d name numbered.entries p.0.0 uses number call 0 es
+      ≡ call_made d base a number call folders numbered uses f
+  call_is numbered name es named are =
+      ap (λ (xs : List StoredEntry). folder_made way name ++ entries_made d name numbered.entries p.0.0 uses number call 0 xs) are
+      ∙ ap (λ (w : Way). found_made d w name numbered.entries uses number call (Part p)) by_way
+      ∙ ap (λ (n : List ℕ). found_made d (way_at a.calls.items call) n numbered.entries uses number call (Part p))
+      (named ∙ folder_is numbered.folder)
+      ∙ sym (ap (λ (x : Found). found_made d (way_at a.calls.items call) (folder_of base a folders numbered.folder call f) numbered.entries uses
+      number call x) is)
 
-  abbrev rest : Plan
-  rest = calls_plan d base a number (i + 1) (folders ++ folder ∷ []) (found_uses d uses number i f) (drop (i + 1) a.found.items)
+  -- its folder is refused, or its text
+  pub start_stops : (numbered : Bool) (old new : Option (List Made)) (fault : ExtractFault)
+      → Stops fault old new (folder_made way (folder_at base found folders numbered way))
+      → (ns : Numbered) × Stops fault old new (call_made d base a number call folders ns uses f)
+  start_stops numbered old new fault stop =
+      let name : List ℕ = folder_at base found folders numbered way in
+      let ns : Numbered = record { folder = numbered; entries = [] } in
+      (ns, subst (λ (m : List Made). Stops fault old new m) (call_is ns name p.1.entries refl refl)
+      (stops_first fault old new (folder_made way name) (entries_made d name [] p.0.0 uses number call 0 p.1.entries) stop))
 
-  here : IsUnderWay old mid before told
-      (plan_then (found_made d (way_at a.calls.items i) folder uses number i f) (found_unsaved d uses number i f) rest) whole
-  here = subst (λ (left : Plan). IsUnderWay old mid before told left whole)
-      (calls_more d base a number i folders uses a.found.items f within is) h
+  module _ (ns : Numbered) (name : List ℕ) (named : name ≡ folder_at base found folders ns.folder way) (es : List StoredEntry)
+      (are : es ≡ p.1.entries) (old mid new : Option (List Made))
+      (begun : Makes old mid (folder_made way (folder_at base found folders ns.folder way))) where
+    begun_here : Makes old mid (folder_made way name)
+    begun_here = subst (λ (n : List ℕ). Makes old mid (folder_made way n)) (sym named) begun
 
-  made_is : (way : Way) (text : List ℕ) → way ≡ way_at a.calls.items i → text ≡ folder
-      → found_made d way text uses number i f ≡ found_made d (way_at a.calls.items i) folder uses number i f
-  made_is way text by_way named =
-      ap (λ (n : List ℕ). found_made d way n uses number i f) named ∙ ap (λ (w : Way). found_made d w folder uses number i f) by_way
+    -- an entry is, or memory
+    pub entries_stop : (fault : ExtractFault) → Stops fault mid new (entries_made d name ns.entries p.0.0 uses number call 0 es)
+        → Stops fault old new (call_made d base a number call folders ns uses f)
+    entries_stop fault stop =
+        subst (λ (m : List Made). Stops fault old new m) (call_is ns name es named are)
+        (then_stops fault old mid new (folder_made way name) (entries_made d name ns.entries p.0.0 uses number call 0 es) begun_here stop)
 
-  -- what is found there is saved
-  pub call_done : (new : Option (List Made)) (more : List Unsaved) (way : Way) (text : List ℕ) → way ≡ way_at a.calls.items i
-      → text ≡ folder_of base a folders i f → Makes mid new (found_made d way text uses number i f)
-      → more ≡ told ++ found_unsaved d uses number i f
-      → IsUnderWay old new before more (calls_plan d base a number (i + 1) (folders ++ folder_of base a folders i f ∷ [])
-      (found_uses d uses number i f) (drop (i + 1) a.found.items)) whole
-  call_done new more way text by_way named made tells =
-      done_more old mid new before told more (found_unsaved d uses number i f) (found_made d (way_at a.calls.items i) folder uses number i f)
-      rest whole here (subst (λ (m : List Made). Makes mid new m) (made_is way text by_way named) made) tells
-
-  -- or it ends there
-  pub call_stops : (new : Option (List Made)) (fault : ExtractFault) (way : Way) (text : List ℕ) → way ≡ way_at a.calls.items i
-      → text ≡ folder_of base a folders i f → Stops fault mid new (found_made d way text uses number i f) → Stops fault old new whole.made
-  call_stops new fault way text by_way named stop =
-      stopped old mid new before told (found_unsaved d uses number i f) (found_made d (way_at a.calls.items i) folder uses number i f) rest whole
-      here fault (subst (λ (m : List Made). Stops fault mid new m) (made_is way text by_way named) stop)
+    -- all of it is made
+    pub entries_done : Makes mid new (entries_made d name ns.entries p.0.0 uses number call 0 es)
+        → Makes old new (call_made d base a number call folders ns uses f)
+    entries_done made =
+        subst (λ (m : List Made). Makes old new m) (call_is ns name es named are)
+        (makes_then old mid new (folder_made way name) (entries_made d name ns.entries p.0.0 uses number call 0 es) begun_here made)

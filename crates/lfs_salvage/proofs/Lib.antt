@@ -1,6 +1,7 @@
 pub mod PartLemmas
 pub mod FateLemmas
 pub mod WordLemmas
+pub mod NumberLemmas
 pub mod SavingLemmas
 pub mod AreaLemmas
 pub mod ShownLemmas

@@ -8,37 +8,36 @@ use Rattle.lfs_salvage.specs.Fate.{is_free}
 use Rattle.lfs_salvage.specs.Losses.{is_lost, losses_from, pair_at}
 use Rattle.lfs_salvage.specs.AreaMade.{area_made, area_unsaved, area_uses}
 use Rattle.lfs_salvage.specs.Lost.{area_folder, front_behind, front_made, has_start}
-use Rattle.lfs_salvage.specs.Saving.{Stops}
+use Rattle.lfs_salvage.specs.Numbered.{Numbered}
 use Rattle.lfs_salvage.specs.PartsUsed.{areas_uses, parts_uses}
 use Rattle.lfs_salvage.specs.declared.block_use.BlockUse.{BlockUse}
 use Rattle.lfs_salvage.specs.declared.front.Front.{Front}
 use Rattle.lfs_salvage.specs.declared.front.Front.TheVariants.{There}
-use Rattle.lfs_extract.proofs.MakingLemmas.{makes_nothing, on_way}
+use Rattle.lfs_extract.proofs.MakingLemmas.{makes_nothing}
 use Rattle.lfs_extract.specs.Extracted.{MakesFront}
-use Rattle.lfs_extract.specs.declared.extract_fault.ExtractFault.{ExtractFault}
 use Rattle.lfs_host.specs.NewFolder.{Made, Makes}
 use Rattle.lfs_salvage.proofs.AreaLemmas.{Plan, plan_then}
-use Rattle.lfs_salvage.proofs.SavingLemmas.{stops}
 use Rattle.lfs_survey.specs.declared.area.Area.{Area}
 use Rattle.lfs_survey.specs.declared.call.Call.{Call}
 use Rattle.lfs_survey.specs.declared.found.Found.{Found}
 
-abbrev pub lost_plan : Disk → List ℕ → List ℕ → Front → ℕ → List BlockUse → List Area → Plan
-lost_plan d dir lost front number uses areas = record {
-  made = all_lost_made d dir lost front number uses areas;
+abbrev pub lost_plan : Disk → List ℕ → List ℕ → Front → ℕ → List BlockUse → List Area → List (List Numbered) → Plan
+lost_plan d dir lost front number uses areas numbered = record {
+  made = all_lost_made d dir lost front number numbered uses areas;
   uses = all_lost_uses d number uses areas;
   unsaved = all_lost_unsaved d number uses areas;
 }
 
 -- one area and the rest
 pub lost_more : (d : Disk) (dir lost : List ℕ) (front : Front) (number i : ℕ) (uses : List BlockUse) (areas : List Area) (a : Area)
-    → i < length areas → a ≡ get_or areas i a → lost_plan d dir lost front number uses (drop i areas)
-    ≡ plan_then (lost_made d dir lost front number uses a) (lost_unsaved d number uses a)
-    (lost_plan d dir lost (front_behind front a) (number + 1) (lost_uses d number uses a) (drop (i + 1) areas))
-lost_more d dir lost front number i uses areas a within is =
-    at_drop_more (lost_plan d dir lost front number uses) areas i a within
-    ∙ ap (λ (x : Area). plan_then (lost_made d dir lost front number uses x) (lost_unsaved d number uses x)
-    (lost_plan d dir lost (front_behind front x) (number + 1) (lost_uses d number uses x) (drop (i + 1) areas))) (sym is)
+    (n : List Numbered) (rest : List (List Numbered)) → i < length areas → a ≡ get_or areas i a
+    → lost_plan d dir lost front number uses (drop i areas) (n ∷ rest)
+    ≡ plan_then (lost_made d dir lost front number n uses a) (lost_unsaved d number uses a)
+    (lost_plan d dir lost (front_behind front a) (number + 1) (lost_uses d number uses a) (drop (i + 1) areas) rest)
+lost_more d dir lost front number i uses areas a n rest within is =
+    at_drop_more (λ (xs : List Area). lost_plan d dir lost front number uses xs (n ∷ rest)) areas i a within
+    ∙ ap (λ (x : Area). plan_then (lost_made d dir lost front number n uses x) (lost_unsaved d number uses x)
+    (lost_plan d dir lost (front_behind front x) (number + 1) (lost_uses d number uses x) (drop (i + 1) areas) rest)) (sym is)
 
 -- the folders that lack behind it
 pub front_more : (front : Front) (i : ℕ) (areas : List Area) (a : Area) → i < length areas → a ≡ get_or areas i a
@@ -81,17 +80,17 @@ marks_more uses n i areas a within is =
 
 -- ---- an area to which no path leads
 
-module _ (d : Disk) (dir lost : List ℕ) (front : Front) (number : ℕ) (uses : List BlockUse) (a : Area) where
+module _ (d : Disk) (dir lost : List ℕ) (front : Front) (number : ℕ) (numbered : List Numbered) (uses : List BlockUse) (a : Area) where
   abbrev begun_made : List Made
-  begun_made = front_made dir lost front ++ area_made d (area_folder lost a) number uses a
+  begun_made = front_made dir lost front ++ area_made d (area_folder lost a) number numbered uses a
 
   -- nothing is saved where no part is found at its beginning
-  pub none_made : has_start a.found.items ≡ false → lost_made d dir lost front number uses a ≡ []
+  pub none_made : has_start a.found.items ≡ false → lost_made d dir lost front number numbered uses a ≡ []
   none_made is = ap (λ (t : Bool). if t then begun_made else []) is
 
   -- else the folders that lack are made, and then what is found
-  pub some_made : has_start a.found.items ≡ true → lost_made d dir lost front number uses a
-      ≡ front_made dir lost front ++ area_made d (area_folder lost a) number uses a
+  pub some_made : has_start a.found.items ≡ true → lost_made d dir lost front number numbered uses a
+      ≡ front_made dir lost front ++ area_made d (area_folder lost a) number numbered uses a
   some_made is = ap (λ (t : Bool). if t then begun_made else []) is
 
 pub none_used : (d : Disk) (number : ℕ) (uses : List BlockUse) (a : Area) → has_start a.found.items ≡ false
@@ -115,9 +114,3 @@ front_same front a is = ap (λ (t : Bool). if t then There else front) is
 
 pub front_there : (front : Front) (a : Area) → has_start a.found.items ≡ true → front_behind front a ≡ There
 front_there front a is = ap (λ (t : Bool). if t then There else front) is
-
--- it ends in the first of two lists
-pub stops_first : (fault : ExtractFault) (old new : Option (List Made)) (first second : List Made) → Stops fault old new first
-    → Stops fault old new (first ++ second)
-stops_first fault old new first second stop =
-    stops old old first second (first ++ second) (on_way old (first ++ second)) fault new stop

@@ -8,6 +8,7 @@ use Rattle.lfs_host.specs.NewFolder.{Made, Makes}
 use Rattle.lfs_salvage.specs.AllMade.{all_lost_made, all_lost_unsaved, all_lost_uses, front_behind_all}
 use Rattle.lfs_salvage.specs.AreaMade.{area_made, area_unsaved, area_uses}
 use Rattle.lfs_salvage.specs.Lost.{front_behind_root}
+use Rattle.lfs_salvage.specs.Numbered.{Numbered, first_area, later_areas}
 use Rattle.lfs_salvage.specs.PartsUsed.{areas_uses}
 use Rattle.lfs_salvage.specs.Saved.{AreLeft, StopsSaving, image_made, image_unsaved, image_uses, lost_of, survey_front, survey_made, survey_part, survey_unsaved, survey_uses, uses_between, uses_first}
 use Rattle.lfs_salvage.specs.Saving.{MakesFirst, Saves, Stops}
@@ -33,13 +34,15 @@ survey_len e s is = ap length is.looked ∙ behind_len (unlooked e) s.areas.item
 -- ---- the root's area, and those behind it
 
 module _ (d : Disk) (uses mid : List BlockUse) (areas : List Area) (root : Area) (later : List Area) (all : areas ≡ root ∷ later) where
-  pub survey_is_made : (dir lost : List ℕ) (front : Front) → front ≡ front_behind_root root.found.items → mid ≡ area_uses d 0 uses root
-      → area_made d dir 0 uses root ++ all_lost_made d dir lost front 1 mid later ≡ survey_made d dir lost uses areas
-  survey_is_made dir lost front lacks used =
-      ap (λ (f : Front). area_made d dir 0 uses root ++ all_lost_made d dir lost f 1 mid later) lacks
-      ∙ ap (λ (t : List BlockUse). area_made d dir 0 uses root ++ all_lost_made d dir lost (front_behind_root root.found.items) 1 t later)
-      used
-      ∙ sym (ap (survey_made d dir lost uses) all)
+  pub survey_is_made : (dir lost : List ℕ) (front : Front) (first : List Numbered) (others : List (List Numbered))
+      → front ≡ front_behind_root root.found.items → mid ≡ area_uses d 0 uses root
+      → area_made d dir 0 first uses root ++ all_lost_made d dir lost front 1 others mid later
+      ≡ survey_made d dir lost (first ∷ others) uses areas
+  survey_is_made dir lost front first others lacks used =
+      ap (λ (f : Front). area_made d dir 0 first uses root ++ all_lost_made d dir lost f 1 others mid later) lacks
+      ∙ ap (λ (t : List BlockUse). area_made d dir 0 first uses root
+      ++ all_lost_made d dir lost (front_behind_root root.found.items) 1 others t later) used
+      ∙ sym (ap (survey_made d dir lost (first ∷ others) uses) all)
 
   pub survey_is_used : mid ≡ area_uses d 0 uses root → all_lost_uses d 1 mid later ≡ survey_uses d uses areas
   survey_is_used used = ap (λ (t : List BlockUse). all_lost_uses d 1 t later) used ∙ sym (ap (survey_uses d uses) all)
@@ -64,7 +67,8 @@ told_then before told new first second whole one other all =
 -- what is made of them, what blocks are used for then, what isn't saved, and which folders lack
 pub record HasSurvey (d : Disk) (dir : List ℕ) (areas : List Area) (old mid : Option (List Made)) (uses : List BlockUse)
     (told : List Unsaved) (front : Front) : Type 0 where
-  pub made : Makes old mid (survey_part d dir areas)
+  pub numbered : List (List Numbered)
+  pub made : Makes old mid (survey_part d dir numbered areas)
   pub used : uses ≡ survey_uses d (uses_first d areas) areas
   pub unsaved : told ≡ survey_unsaved d (uses_first d areas) areas
   pub lacks : front ≡ survey_front areas
@@ -72,18 +76,19 @@ pub record HasSurvey (d : Disk) (dir : List ℕ) (areas : List Area) (old mid : 
 -- by what the code has for the areas, for the folder of what no path leads to and for what blocks are used for at first
 module _ (d : Disk) (dir lost : List ℕ) (uses : List BlockUse) (areas slice : List Area) (there : lost ≡ lost_of dir areas)
     (begun : uses ≡ uses_first d areas) (are : slice ≡ areas) where
-  pub part_is_made : survey_made d dir lost uses slice ≡ survey_part d dir areas
-  part_is_made =
-      ap (λ (l : List ℕ). survey_made d dir l uses slice) there
-      ∙ ap (λ (t : List BlockUse). survey_made d dir (lost_of dir areas) t slice) begun
-      ∙ ap (survey_made d dir (lost_of dir areas) (uses_first d areas)) are
+  pub part_is_made : (numbered : List (List Numbered)) → survey_made d dir lost numbered uses slice ≡ survey_part d dir numbered areas
+  part_is_made numbered =
+      ap (λ (l : List ℕ). survey_made d dir l numbered uses slice) there
+      ∙ ap (λ (t : List BlockUse). survey_made d dir (lost_of dir areas) numbered t slice) begun
+      ∙ ap (survey_made d dir (lost_of dir areas) numbered (uses_first d areas)) are
 
   pub has_survey : (old mid : Option (List Made)) (after : List BlockUse) (before told : List Unsaved) (front : Front)
-      → Makes old mid (survey_made d dir lost uses slice) → after ≡ survey_uses d uses slice
+      → (numbered : List (List Numbered)) × Makes old mid (survey_made d dir lost numbered uses slice) → after ≡ survey_uses d uses slice
       → told ≡ before ++ survey_unsaved d uses slice → before ≡ [] → front ≡ survey_front slice
       → HasSurvey d dir areas old mid after told front
   has_survey old mid after before told front made used unsaved none lacks = record {
-    made = subst (λ (m : List Made). Makes old mid m) part_is_made made;
+    numbered = made.0;
+    made = subst (λ (m : List Made). Makes old mid m) (part_is_made made.0) made.1;
     used = used ∙ ap (λ (t : List BlockUse). survey_uses d t slice) begun ∙ ap (survey_uses d (uses_first d areas)) are;
     unsaved = unsaved ∙ ap (λ (us : List Unsaved). us ++ survey_unsaved d uses slice) none
         ∙ ap (λ (t : List BlockUse). survey_unsaved d t slice) begun ∙ ap (survey_unsaved d (uses_first d areas)) are;
@@ -102,22 +107,23 @@ module _ (d : Disk) (dir lost : List ℕ) (areas lone marked slice : List Area) 
       ∙ ap (λ (n : ℕ). areas_uses (survey_uses d (uses_first d areas) areas) n marked) counted
       ∙ ap (areas_uses (survey_uses d (uses_first d areas) areas) (length areas)) are_marked
 
-  abbrev left_made : List Made
-  left_made = all_lost_made d dir (lost_of dir areas) (survey_front areas) (length areas) (uses_between d areas lone) lone
+  abbrev left_made : List (List Numbered) → List Made
+  left_made others = all_lost_made d dir (lost_of dir areas) (survey_front areas) (length areas) others (uses_between d areas lone) lone
 
-  left_is : all_lost_made d dir lost front first between slice ≡ left_made
-  left_is =
-      ap (λ (l : List ℕ). all_lost_made d dir l front first between slice) there
-      ∙ ap (λ (f : Front). all_lost_made d dir (lost_of dir areas) f first between slice) h.lacks
-      ∙ ap (λ (n : ℕ). all_lost_made d dir (lost_of dir areas) (survey_front areas) n between slice) counted
-      ∙ ap (λ (t : List BlockUse). all_lost_made d dir (lost_of dir areas) (survey_front areas) (length areas) t slice) between_is
-      ∙ ap (all_lost_made d dir (lost_of dir areas) (survey_front areas) (length areas) (uses_between d areas lone)) are
+  left_is : (others : List (List Numbered)) → all_lost_made d dir lost front first others between slice ≡ left_made others
+  left_is others =
+      ap (λ (l : List ℕ). all_lost_made d dir l front first others between slice) there
+      ∙ ap (λ (f : Front). all_lost_made d dir (lost_of dir areas) f first others between slice) h.lacks
+      ∙ ap (λ (n : ℕ). all_lost_made d dir (lost_of dir areas) (survey_front areas) n others between slice) counted
+      ∙ ap (λ (t : List BlockUse). all_lost_made d dir (lost_of dir areas) (survey_front areas) (length areas) others t slice) between_is
+      ∙ ap (all_lost_made d dir (lost_of dir areas) (survey_front areas) (length areas) others (uses_between d areas lone)) are
 
-  pub whole_saves : (result : Result (Unit {0}) ExtractFault) (new : Option (List Made))
-      → Saves result mid new (all_lost_made d dir lost front first between slice) → Saves result old new (image_made d dir areas lone)
-  whole_saves result new saves =
-      then_saves result old mid new (survey_part d dir areas) left_made h.made
-      (subst (λ (m : List Made). Saves result mid new m) left_is saves)
+  pub whole_saves : (others : List (List Numbered)) (result : Result (Unit {0}) ExtractFault) (new : Option (List Made))
+      → Saves result mid new (all_lost_made d dir lost front first others between slice)
+      → Saves result old new (image_made d dir h.numbered others areas lone)
+  whole_saves others result new saves =
+      then_saves result old mid new (survey_part d dir h.numbered areas) (left_made others) h.made
+      (subst (λ (m : List Made). Saves result mid new m) (left_is others) saves)
 
   pub whole_used : (after : List BlockUse) → after ≡ all_lost_uses d first between slice → after ≡ image_uses d areas lone
   whole_used after used =
@@ -135,20 +141,24 @@ module _ (d : Disk) (dir lost : List ℕ) (areas lone marked slice : List Area) 
 
 -- ---- where it ends
 
-module _ (d e : Disk) (dir : List ℕ) (old new : Option (List Made)) (survey : Survey) (is : IsSurvey e survey) where
+module _ (d e : Disk) (dir : List ℕ) (old new : Option (List Made)) (survey : Survey) (is : IsSurvey e survey)
+    (numbered : List (List Numbered)) where
   -- among the areas of the survey
-  pub stops_surveyed : (fault : ExtractFault) → Stops fault old new (survey_part d dir survey.areas.items)
+  pub stops_surveyed : (fault : ExtractFault) → Stops fault old new (survey_part d dir numbered survey.areas.items)
       → StopsSaving d e dir old new fault
-  stops_surveyed CannotWrite stop = record { survey = survey; surveyed = is; stops = inl stop }
-  stops_surveyed Memory stop = inr (record { survey = survey; surveyed = is; stops = inl stop })
+  stops_surveyed CannotWrite stop = record { survey = survey; surveyed = is; numbered = numbered; stops = inl stop }
+  stops_surveyed Memory stop = inr (record { survey = survey; surveyed = is; numbered = numbered; stops = inl stop })
   stops_surveyed HostName stop = stop
 
   -- or behind them
-  pub stops_left : (lone : List Area) → AreLeft e survey (survey_uses d (uses_first d survey.areas.items) survey.areas.items) lone
-      → (fault : ExtractFault) → Stops fault old new (image_made d dir survey.areas.items lone) → StopsSaving d e dir old new fault
-  stops_left lone left CannotWrite stop = record { survey = survey; surveyed = is; stops = inr (lone, left, stop) }
-  stops_left lone left Memory stop = inr (record { survey = survey; surveyed = is; stops = inr (lone, left, stop) })
-  stops_left lone left HostName stop = stop
+  pub stops_left : (lone : List Area) (others : List (List Numbered))
+      → AreLeft e survey (survey_uses d (uses_first d survey.areas.items) survey.areas.items) lone → (fault : ExtractFault)
+      → Stops fault old new (image_made d dir numbered others survey.areas.items lone) → StopsSaving d e dir old new fault
+  stops_left lone others left CannotWrite stop =
+      record { survey = survey; surveyed = is; numbered = numbered; stops = inr (lone, others, left, stop) }
+  stops_left lone others left Memory stop =
+      inr (record { survey = survey; surveyed = is; numbered = numbered; stops = inr (lone, others, left, stop) })
+  stops_left lone others left HostName stop = stop
 
 -- all is made, and then memory is refused
 pub all_first : (old new : Option (List Made)) (whole : List Made) → Makes old new whole → MakesFirst old new whole

@@ -1,5 +1,6 @@
 -- What is made, one after another.
-use Rattle.std.proofs.Common.{◌≡◌, ℕ, List, [], ◌∷◌, ◌++◌, Option, Result, Ok, Err, MatchResult, refl, ap, sym, subst, ◌∙◌, append_assoc, append-nil}
+use Rattle.std.proofs.Common.{◌≡◌, ◌≢◌, ℕ, false, true, List, [], ◌∷◌, ◌++◌, Option, Result, Ok, Err, MatchResult, refl, ap, sym, subst, ◌∙◌, append_assoc, append-nil}
+use Rattle.std.specs.Prelude.{is_ok, IfErr}
 use Rattle.std.proofs.lemmas.List.Elements.{All-append, All-cons, All-nil}
 use Rattle.lfs_extract.specs.Extracted.{MakesFront}
 use Rattle.lfs_extract.specs.declared.extract_fault.ExtractFault.{ExtractFault}
@@ -86,17 +87,46 @@ module _ (top : List ℕ) where
 
 -- ---- what is answered
 
--- one is made, or the host refuses it
-pub made_or_front : {E : Type 0} (result : Result (Unit {0}) E) (old new : Option (List Made)) (one : Made) (whole : List Made)
-    → whole ≡ one ∷ [] → MatchResult result (λ _. Makes old new (one ∷ [])) (λ _. new ≡ old)
-    → MatchResult result (λ _. Makes old new whole) (λ _. MakesFront old new whole)
-made_or_front (Ok done) old new one whole is made = subst (λ (m : List Made). Makes old new m) (sym is) made
-made_or_front (Err fault) old new one whole is same = subst (λ (m : List Made). MakesFront old new m) (sym is) (none_front old new one same)
+-- it is told which of the two
+pub ok_makes : {E : Type 0} (result : Result (Unit {0}) E) (old new : Option (List Made)) (one : Made) → true ≡ is_ok result
+    → MatchResult result (λ _. Makes old new (one ∷ [])) (λ _. new ≡ old) → Makes old new (one ∷ [])
+ok_makes (Ok done) old new one is made = made
+ok_makes (Err fault) old new one is same = absurd (cc)
 
--- some are made, and then others
-pub then_saves : (result : Result (Unit {0}) ExtractFault) (old mid new : Option (List Made)) (first second : List Made)
-    → Makes old mid first → Saves result mid new second → Saves result old new (first ++ second)
-then_saves (Ok done) old mid new first second made later = makes_then old mid new first second made later
-then_saves (Err fault) old mid new first second made later =
+pub err_keeps : {E : Type 0} (result : Result (Unit {0}) E) (old new : Option (List Made)) (one : Made) → false ≡ is_ok result
+    → MatchResult result (λ _. Makes old new (one ∷ [])) (λ _. new ≡ old) → new ≡ old
+err_keeps (Ok done) old new one is made = absurd (cc)
+err_keeps (Err fault) old new one is same = same
+
+-- one is to be made, and it ends before that
+pub nothing_stops : (fault : ExtractFault) (old new : Option (List Made)) (one : Made) → fault ≢ HostName → new ≡ old
+    → Stops fault old new (one ∷ [])
+nothing_stops CannotWrite old new one other same = none_front old new one same
+nothing_stops Memory old new one other same =
+    subst (λ (x : Option (List Made)). MakesFirst old x (one ∷ [])) (sym same) (none_first old (one ∷ []))
+nothing_stops HostName old new one other same = absurd (other refl)
+
+-- it ends in the first of two lists
+pub stops_first : (fault : ExtractFault) (old new : Option (List Made)) (first second : List Made) → Stops fault old new first
+    → Stops fault old new (first ++ second)
+stops_first fault old new first second stop =
+    stops old old first second (first ++ second) (on_way old (first ++ second)) fault new stop
+
+-- some are made, and then it ends
+pub then_stops : (fault : ExtractFault) (old mid new : Option (List Made)) (first second : List Made) → Makes old mid first
+    → Stops fault mid new second → Stops fault old new (first ++ second)
+then_stops fault old mid new first second made later =
     stops old mid second [] (first ++ second)
     (record { front = first; made = made; all = ap (λ (xs : List Made). first ++ xs) (append-nil second) }) fault new later
+
+-- some are made, and then others
+pub then_saves : {T : Type 0} (result : Result T ExtractFault) (old mid new : Option (List Made)) (first second : List Made)
+    → Makes old mid first → Saves result mid new second → Saves result old new (first ++ second)
+then_saves (Ok done) old mid new first second made later = makes_then old mid new first second made later
+then_saves (Err fault) old mid new first second made later = then_stops fault old mid new first second made later
+
+-- nothing is to be made
+pub nothing_saved : {T : Type 0} (result : Result T ExtractFault) (old : Option (List Made)) → IfErr result (λ fault. fault ≡ Memory)
+    → Saves result old old []
+nothing_saved (Ok value) old stop = makes_nothing old
+nothing_saved (Err fault) old stop = subst (λ (f : ExtractFault). Stops f old old []) (sym stop) (none_first old [])

@@ -120,7 +120,7 @@ is_not_own n other = by (is_host_name n) (is_utf8 n) refl where
   by true false is = refl
   by true true is = absurd (other (IsUtf8-from_is_utf8 n is))
 
-plain_text : (w : List ℕ) → All IsPlain w → IsUtf8 w
+pub plain_text : (w : List ℕ) → All IsPlain w → IsUtf8 w
 plain_text w plain = IsUtf8-from_ascii w (IsAscii-from_all w (All-weaker IsPlain (λ (b : ℕ). b < 128) (λ b is. is.ascii) w plain))
 
 pub plain_word : (w : List ℕ) → All IsPlain w → 0 < length w → w ≢ 46 ∷ [] → w ≢ 46 ∷ 46 ∷ [] → IsHostName w

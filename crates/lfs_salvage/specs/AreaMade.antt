@@ -1,13 +1,14 @@
 -- What is saved of an area (own).
-use Rattle.std.specs.Prelude.{ℕ, ◌+◌, List, [], ◌∷◌, ◌++◌, Option, Some, None}
+use Rattle.std.specs.Prelude.{ℕ, ◌+◌, Bool, List, [], ◌∷◌, ◌++◌, Option, Some, None}
 use Rattle.lfs_block.specs.Disk.{Disk}
 use Rattle.lfs_folder.specs.PathBelow.{name_in}
 use Rattle.lfs_host.specs.NewFolder.{Made, FolderMade, FileMade}
 use Rattle.lfs_meta.specs.Entry.{StoredEntry}
 use Rattle.lfs_salvage.specs.Fate.{fate, saved_bytes, uses_behind}
 use Rattle.lfs_salvage.specs.Folder.{call_folder, way_at}
+use Rattle.lfs_salvage.specs.Numbered.{Numbered, first_call, first_entry, later_calls, later_entries}
 use Rattle.lfs_salvage.specs.Unsaved.{unsaved}
-use Rattle.lfs_salvage.specs.Word.{word}
+use Rattle.lfs_salvage.specs.Word.{entry_word}
 use Rattle.lfs_salvage.specs.declared.block_use.BlockUse.{BlockUse}
 use Rattle.lfs_salvage.specs.declared.home.Home.{Home}
 use Rattle.lfs_salvage.specs.declared.unsaved.Unsaved.{Unsaved}
@@ -27,19 +28,21 @@ abbrev pub file_made : List ℕ → Option (List ℕ) → List Made
 file_made name None = []
 file_made name (Some bytes) = FileMade name bytes ∷ []
 
--- the file of an entry in a folder
-abbrev pub entry_made : Disk → List ℕ → List BlockUse → StoredEntry → List Made
-entry_made d folder uses e = file_made (name_in folder (word e.name)) (saved_bytes d e.body (fate d uses e))
+-- the file of an entry of this number of the part that begins at this block, in a folder
+abbrev pub entry_made : Disk → List ℕ → Bool → ℕ → ℕ → List BlockUse → StoredEntry → List Made
+entry_made d folder numbered block index uses e =
+    file_made (name_in folder (entry_word numbered block index e.name)) (saved_bytes d e.body (fate d uses e))
 
 -- what blocks are used for behind it
 abbrev pub entry_uses : Disk → List BlockUse → Home → StoredEntry → List BlockUse
 entry_uses d uses home e = uses_behind uses home (fate d uses e)
 
 -- those of entries, of which the first has this number: each behind the ones before it
-abbrev pub entries_made : Disk → List ℕ → List BlockUse → ℕ → ℕ → ℕ → List StoredEntry → List Made
-entries_made d folder uses area call index [] = []
-entries_made d folder uses area call index (e ∷ es) =
-    entry_made d folder uses e ++ entries_made d folder (entry_uses d uses (home_of area call index) e) area call (index + 1) es
+abbrev pub entries_made : Disk → List ℕ → List Bool → ℕ → List BlockUse → ℕ → ℕ → ℕ → List StoredEntry → List Made
+entries_made d folder numbered block uses area call index [] = []
+entries_made d folder numbered block uses area call index (e ∷ es) =
+    entry_made d folder (first_entry numbered) block index uses e
+    ++ entries_made d folder (later_entries numbered) block (entry_uses d uses (home_of area call index) e) area call (index + 1) es
 
 abbrev pub entries_uses : Disk → List BlockUse → ℕ → ℕ → ℕ → List StoredEntry → List BlockUse
 entries_uses d uses area call index [] = uses
@@ -61,9 +64,10 @@ folder_made (Entry from index) folder = FolderMade folder ∷ []
 folder_made (Next from) folder = []
 
 -- of what is found at a call, in its folder: nothing where no part is
-abbrev pub found_made : Disk → Way → List ℕ → List BlockUse → ℕ → ℕ → Found → List Made
-found_made d way folder uses area call (Part p) = folder_made way folder ++ entries_made d folder uses area call 0 p.1.entries
-found_made d way folder uses area call (Refused fault) = []
+abbrev pub found_made : Disk → Way → List ℕ → List Bool → List BlockUse → ℕ → ℕ → Found → List Made
+found_made d way folder numbered uses area call (Part p) =
+    folder_made way folder ++ entries_made d folder numbered p.0.0 uses area call 0 p.1.entries
+found_made d way folder numbered uses area call (Refused fault) = []
 
 abbrev pub found_uses : Disk → List BlockUse → ℕ → ℕ → Found → List BlockUse
 found_uses d uses area call (Part p) = entries_uses d uses area call 0 p.1.entries
@@ -76,14 +80,19 @@ found_unsaved d uses area call (Refused fault) = []
 -- ---- of what is found at calls, of which the first has this number, each behind the ones before it, whose folders these are
 
 -- the folder of a call of an area
-abbrev pub folder_of : List ℕ → Area → List (List ℕ) → ℕ → Found → List ℕ
-folder_of base a folders call f = call_folder base a.found.items folders (way_at a.calls.items call) f
+abbrev pub folder_of : List ℕ → Area → List (List ℕ) → Bool → ℕ → Found → List ℕ
+folder_of base a folders numbered call f = call_folder base a.found.items folders numbered (way_at a.calls.items call) f
 
-abbrev pub calls_made : Disk → List ℕ → Area → ℕ → ℕ → List (List ℕ) → List BlockUse → List Found → List Made
-calls_made d base a area call folders uses [] = []
-calls_made d base a area call folders uses (f ∷ fs) =
-    found_made d (way_at a.calls.items call) (folder_of base a folders call f) uses area call f
-    ++ calls_made d base a area (call + 1) (folders ++ folder_of base a folders call f ∷ []) (found_uses d uses area call f) fs
+abbrev pub call_made : Disk → List ℕ → Area → ℕ → ℕ → List (List ℕ) → Numbered → List BlockUse → Found → List Made
+call_made d base a area call folders numbered uses f =
+    found_made d (way_at a.calls.items call) (folder_of base a folders numbered.folder call f) numbered.entries uses area call f
+
+abbrev pub calls_made : Disk → List ℕ → Area → ℕ → ℕ → List (List ℕ) → List Numbered → List BlockUse → List Found → List Made
+calls_made d base a area call folders numbered uses [] = []
+calls_made d base a area call folders numbered uses (f ∷ fs) =
+    call_made d base a area call folders (first_call numbered) uses f
+    ++ calls_made d base a area (call + 1) (folders ++ folder_of base a folders (first_call numbered).folder call f ∷ [])
+    (later_calls numbered) (found_uses d uses area call f) fs
 
 abbrev pub calls_uses : Disk → List BlockUse → ℕ → ℕ → List Found → List BlockUse
 calls_uses d uses area call [] = uses
@@ -97,8 +106,8 @@ calls_unsaved d uses area call (f ∷ fs) =
 -- ---- of an area of this number, in a folder, where blocks are used so
 
 -- what is made, in order
-abbrev pub area_made : Disk → List ℕ → ℕ → List BlockUse → Area → List Made
-area_made d base number uses a = calls_made d base a number 0 [] uses a.found.items
+abbrev pub area_made : Disk → List ℕ → ℕ → List Numbered → List BlockUse → Area → List Made
+area_made d base number numbered uses a = calls_made d base a number 0 [] numbered uses a.found.items
 
 -- what blocks are used for then
 abbrev pub area_uses : Disk → ℕ → List BlockUse → Area → List BlockUse

@@ -9,6 +9,7 @@ use Rattle.lfs_host.specs.NewFolder.{Made, Makes}
 use Rattle.lfs_salvage.specs.AllMade.{all_lost_made, all_lost_unsaved, all_lost_uses, front_behind_all, marked_used}
 use Rattle.lfs_salvage.specs.AreaMade.{area_made, area_unsaved, area_uses}
 use Rattle.lfs_salvage.specs.Lost.{front_behind_root, lost_word}
+use Rattle.lfs_salvage.specs.Numbered.{Numbered, first_area, later_areas}
 use Rattle.lfs_salvage.specs.PartsUsed.{areas_uses, uses_at_first}
 use Rattle.lfs_salvage.specs.Saving.{MakesFirst}
 use Rattle.lfs_salvage.specs.declared.block_use.BlockUse.{BlockUse}
@@ -35,10 +36,11 @@ abbrev pub lost_of : List ℕ → List Area → List ℕ
 lost_of dir areas = name_in dir (lost_word (root_found areas))
 
 -- what is made of them where blocks are used so
-abbrev pub survey_made : Disk → List ℕ → List ℕ → List BlockUse → List Area → List Made
-survey_made d dir lost uses [] = []
-survey_made d dir lost uses (root ∷ later) =
-    area_made d dir 0 uses root ++ all_lost_made d dir lost (front_behind_root root.found.items) 1 (area_uses d 0 uses root) later
+abbrev pub survey_made : Disk → List ℕ → List ℕ → List (List Numbered) → List BlockUse → List Area → List Made
+survey_made d dir lost numbered uses [] = []
+survey_made d dir lost numbered uses (root ∷ later) =
+    area_made d dir 0 (first_area numbered) uses root
+    ++ all_lost_made d dir lost (front_behind_root root.found.items) 1 (later_areas numbered) (area_uses d 0 uses root) later
 
 abbrev pub survey_uses : Disk → List BlockUse → List Area → List BlockUse
 survey_uses d uses [] = uses
@@ -70,12 +72,13 @@ uses_first d areas = uses_at_first d.count areas
 abbrev pub uses_between : Disk → List Area → List Area → List BlockUse
 uses_between d areas lone = areas_uses (survey_uses d (uses_first d areas) areas) (length areas) lone
 
-abbrev pub survey_part : Disk → List ℕ → List Area → List Made
-survey_part d dir areas = survey_made d dir (lost_of dir areas) (uses_first d areas) areas
+abbrev pub survey_part : Disk → List ℕ → List (List Numbered) → List Area → List Made
+survey_part d dir numbered areas = survey_made d dir (lost_of dir areas) numbered (uses_first d areas) areas
 
-abbrev pub image_made : Disk → List ℕ → List Area → List Area → List Made
-image_made d dir areas lone = survey_part d dir areas
-    ++ all_lost_made d dir (lost_of dir areas) (survey_front areas) (length areas) (uses_between d areas lone) lone
+-- the words of the survey's areas have numbers behind them so, and those of the others
+abbrev pub image_made : Disk → List ℕ → List (List Numbered) → List (List Numbered) → List Area → List Area → List Made
+image_made d dir numbered others areas lone = survey_part d dir numbered areas
+    ++ all_lost_made d dir (lost_of dir areas) (survey_front areas) (length areas) others (uses_between d areas lone) lone
 
 abbrev pub image_uses : Disk → List Area → List Area → List BlockUse
 image_uses d areas lone = all_lost_uses d (length areas) (uses_between d areas lone) lone
@@ -93,20 +96,24 @@ pub record IsSaved (d e : Disk) (s : Saved) (survey : Survey) (lone : List Area)
   pub uses : s.salvage.uses.items ≡ image_uses d survey.areas.items lone
   pub unsaved : s.salvage.unsaved.items ≡ image_unsaved d survey.areas.items lone
 
--- all of it is made
+-- all of it is made, under words that have numbers behind them or not
 pub record SavesAll (d e : Disk) (dir : List ℕ) (old new : Option (List Made)) (s : Saved) : Type 0 where
   pub survey : Survey
   pub lone : List Area
   pub is : IsSaved d e s survey lone
-  pub made : Makes old new (image_made d dir survey.areas.items lone)
+  pub numbered : List (List Numbered)
+  pub others : List (List Numbered)
+  pub made : Makes old new (image_made d dir numbered others survey.areas.items lone)
 
 -- some of it is: of the survey, or of all
 pub record SavesSome (d e : Disk) (dir : List ℕ) (Stops : List Made → Type 0) : Type 0 where
   pub survey : Survey
   pub surveyed : IsSurvey e survey
-  pub stops : Stops (survey_part d dir survey.areas.items)
-      ⊎ ((lone : List Area) × AreLeft e survey (survey_uses d (uses_first d survey.areas.items) survey.areas.items) lone
-      × Stops (image_made d dir survey.areas.items lone))
+  pub numbered : List (List Numbered)
+  pub stops : Stops (survey_part d dir numbered survey.areas.items)
+      ⊎ ((lone : List Area) × (others : List (List Numbered))
+      × AreLeft e survey (survey_uses d (uses_first d survey.areas.items) survey.areas.items) lone
+      × Stops (image_made d dir numbered others survey.areas.items lone))
 
 -- what is made where a fault ends it: what is in front of something that the host refuses; or where memory is refused nothing, or what is
 -- in front

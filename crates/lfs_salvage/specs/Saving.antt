@@ -19,5 +19,5 @@ Stops Memory old new whole = MakesFirst old new whole
 Stops HostName old new whole = ⊥
 
 -- all is made, or what is so far
-abbrev pub Saves : Result (Unit {0}) ExtractFault → Option (List Made) → Option (List Made) → List Made → Type 0
+abbrev pub Saves : {T : Type 0} → Result T ExtractFault → Option (List Made) → Option (List Made) → List Made → Type 0
 Saves result old new whole = MatchResult result (λ _. Makes old new whole) (λ fault. Stops fault old new whole)

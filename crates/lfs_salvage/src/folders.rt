@@ -1,10 +1,18 @@
 //! The folders of calls.
 
-ghost use Rattle.std.specs.Prelude.{◌≡◌, ◌++◌, [], ◌∷◌, ℕ, List, All, IfOk, OnOk, map, slice_index_or, string_bytes};
-ghost use Rattle.lfs_salvage.specs.Below.{IsNameBelow};
-ghost use Rattle.lfs_salvage.specs.Folder.{call_folder, folder_at, name_at, way_at};
+ghost use Rattle.std.specs.Prelude.{◌≡◌, ◌++◌, [], ◌∷◌, Bool, ℕ, List, All, IfErr, IfOk, OnOk, map, slice_index_or, string_bytes};
+ghost use Rattle.lfs_extract.specs.declared.extract_fault.ExtractFault.TheVariants.{CannotWrite, Memory};
+ghost use Rattle.lfs_host.specs.NewFolder.{FolderMade};
+ghost use Rattle.lfs_host.specs.Scene.{HasRefused, KeepsFiles};
+ghost use Rattle.lfs_salvage.specs.AreaMade.{folder_made};
+ghost use Rattle.lfs_salvage.specs.Below.{IsNameBelow, MakesBelow};
+ghost use Rattle.lfs_salvage.specs.Folder.{block_at, folder_at, name_at, way_at};
+ghost use Rattle.lfs_salvage.specs.Saving.{Saves};
 
-use crate::words::name_below;
+use crate::entry_name::EntryName;
+use crate::naming::make_folder;
+use lfs_extract::ExtractFault;
+use lfs_host::NewFolder;
 use lfs_survey::{Call, Found, Way};
 use std::alloc::{AllocError, Global};
 
@@ -21,6 +29,16 @@ fn name_at(found: &[Found], from: usize, index: usize) -> &[u8]
     }
 }
 
+/// The first block of the part that is found at a call; none where none is.
+fn block_at(found: &[Found], from: usize) -> u32
+    ensures { result ≡ block_at found.now from }
+{
+    match found.get(from) {
+        Some(Found::Part(part)) => part.pair.0,
+        _ => 0,
+    }
+}
+
 /// How the call of this number is come to; it is begun with where there is no such call.
 pub(crate) fn way_at(calls: &[Call], call: usize) -> Way
     ensures { result ≡ way_at calls.now call }
@@ -29,6 +47,32 @@ pub(crate) fn way_at(calls: &[Call], call: usize) -> Way
         Some(here) => here.way,
         None => Way::Start,
     }
+}
+
+/// A folder's name, as its own text.
+pub(crate) fn name_of(alloc: Global, folder: &str) -> Result<String, ExtractFault>
+    ensures value { IfOk result (λ name. string_bytes name ≡ folder.now) }
+    ensures stopped { IfErr result (λ fault. fault ≡ Memory) }
+{
+    let name = String::from_str(alloc, folder)?;
+    Ok(name)
+}
+
+/// Makes the folder of an area, and says its name.
+fn make_base<F: NewFolder>(
+    alloc: Global,
+    base: &str,
+    folder: &mut F,
+) -> Result<String, ExtractFault>
+    ensures value { IfOk result (λ name. string_bytes name ≡ base.now) }
+    ensures made { Saves result (F.known folder.old).made (F.known folder.new).made (FolderMade base.now ∷ []) }
+    ensures below { (top : List ℕ) → IsNameBelow top base.now → MakesBelow top (F.known folder.old).made (F.known folder.new).made }
+    ensures blamed { IfErr result (λ fault. fault ≡ CannotWrite → HasRefused (F.known folder.new)) }
+    ensures kept { KeepsFiles (F.known folder.old) (F.known folder.new) }
+{
+    let name = name_of(alloc, base)?;
+    folder.make_folder(base)?;
+    Ok(name)
 }
 
 /// The folder of this number, or another one where there are fewer.
@@ -42,46 +86,48 @@ fn folder_or<'a>(folders: &'a [String], from: usize, base: &'a str) -> &'a str
     }
 }
 
-/// The folder of a call that is come to this way.
-fn folder_at(
-    alloc: Global,
-    base: &str,
-    found: &[Found],
-    folders: &[String],
-    way: Way,
-) -> Result<String, AllocError>
-    ensures value { IfOk result (λ folder. string_bytes folder ≡ folder_at base.now found.now (map (λ f. string_bytes f) folders.now) way) }
-    ensures below { (top : List ℕ) → IsNameBelow top base.now → All (λ f. IsNameBelow top (string_bytes f)) folders.now
-        → IfOk result (λ folder. IsNameBelow top (string_bytes folder)) }
+/// The name of an entry of what is found at a call, and where it stands.
+fn entry_at(found: &[Found], from: usize, index: usize) -> EntryName<'_>
+    ensures name { result.name.now ≡ name_at found.now from index }
+    ensures block { result.block ≡ block_at found.now from }
+    ensures index { result.index ≡ index }
 {
-    match way {
-        Way::Start => String::from_str(alloc, base),
-        Way::Entry { from, index } => name_below(
-            alloc,
-            folder_or(folders, from, base),
-            name_at(found, from, index),
-        ),
-        Way::Next { from } => String::from_str(alloc, folder_or(folders, from, base)),
+    EntryName {
+        name: name_at(found, from, index),
+        block: block_at(found, from),
+        index,
     }
 }
 
-/// The folder of a call at which this is found: the area's own, that of the call whose directory goes on, or the one with the word of the
-/// directory's name in the folder of its part; the area's own for a pair that isn't read.
-pub(crate) fn call_folder(
+/// The folder of a call that is come to this way, which is made where a directory begins.
+pub(crate) fn start_folder<F: NewFolder>(
     alloc: Global,
     base: &str,
     found: &[Found],
     folders: &[String],
     way: Way,
-    here: &Found,
-) -> Result<String, AllocError>
-    ensures value { IfOk result (λ folder. string_bytes folder ≡ call_folder base.now found.now (map (λ f. string_bytes f) folders.now) way here.now) }
+    folder: &mut F,
+) -> Result<String, ExtractFault>
+    ensures made { (numbered : Bool)
+        × IfOk result (λ name. string_bytes name ≡ folder_at base.now found.now (map (λ f. string_bytes f) folders.now) numbered way)
+        × Saves result (F.known folder.old).made (F.known folder.new).made
+        (folder_made way (folder_at base.now found.now (map (λ f. string_bytes f) folders.now) numbered way)) }
+    ensures named { (top : List ℕ) → IsNameBelow top base.now → All (λ f. IsNameBelow top (string_bytes f)) folders.now
+        → IfOk result (λ name. IsNameBelow top (string_bytes name)) }
     ensures below { (top : List ℕ) → IsNameBelow top base.now → All (λ f. IsNameBelow top (string_bytes f)) folders.now
-        → IfOk result (λ folder. IsNameBelow top (string_bytes folder)) }
+        → MakesBelow top (F.known folder.old).made (F.known folder.new).made }
+    ensures blamed { IfErr result (λ fault. fault ≡ CannotWrite → HasRefused (F.known folder.new)) }
+    ensures kept { KeepsFiles (F.known folder.old) (F.known folder.new) }
 {
-    match here {
-        Found::Part(_) => folder_at(alloc, base, found, folders, way),
-        Found::Refused(_) => String::from_str(alloc, base),
+    match way {
+        Way::Start => make_base(alloc, base, folder),
+        Way::Entry { from, index } => make_folder(
+            alloc,
+            folder_or(folders, from, base),
+            entry_at(found, from, index),
+            folder,
+        ),
+        Way::Next { from } => name_of(alloc, folder_or(folders, from, base)),
     }
 }
 

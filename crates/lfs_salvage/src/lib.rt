@@ -2,6 +2,7 @@
 #![tactic(auto)]
 
 mod block_use;
+mod entry_name;
 mod file_body;
 mod folders;
 mod front;
@@ -9,6 +10,7 @@ mod home;
 mod laws;
 mod losses;
 mod lost;
+mod naming;
 mod reading;
 mod salvage;
 mod saved;

@@ -1,6 +1,6 @@
 //! Saving the entries of a part that is found.
 
-ghost use Rattle.std.specs.Prelude.{◌≡◌, ◌++◌, ℕ, List, IfErr, IfSome, OnOk, Some, option_map};
+ghost use Rattle.std.specs.Prelude.{◌≡◌, ◌++◌, Bool, ℕ, List, IfErr, IfSome, OnOk, Some, option_map};
 ghost use Rattle.lfs_block.specs.Disk.{Disk};
 ghost use Rattle.lfs_extract.specs.Making.{contents_of};
 ghost use Rattle.lfs_extract.specs.declared.extract_fault.ExtractFault.TheVariants.{CannotWrite};
@@ -15,15 +15,16 @@ ghost use Rattle.lfs_salvage.specs.Fate.{HasFileBlocks, fate, saved_bytes};
 ghost use Rattle.lfs_salvage.specs.FateHeld.{fate_held};
 ghost use Rattle.lfs_salvage.specs.Saving.{Saves};
 ghost use Rattle.lfs_salvage.specs.Unsaved.{unsaved};
-ghost use Rattle.lfs_salvage.specs.Word.{word};
+ghost use Rattle.lfs_salvage.specs.Word.{entry_word};
 
+use crate::entry_name::EntryName;
 use crate::file_body::FileBody;
 use crate::home::Home;
+use crate::naming::begin_file;
 use crate::reading::file_of;
 use crate::salvage::Salvage;
-use crate::words::name_below;
 use lfs_block::Blocks;
-use lfs_extract::{ExtractFault, make_file};
+use lfs_extract::{ExtractFault, write_file};
 use lfs_fs::RowBody;
 use lfs_host::NewFolder;
 use lfs_meta::{Body, Entry};
@@ -50,61 +51,71 @@ fn saved_body<'a>(stored: &'a Body, body: &'a FileBody) -> Option<RowBody<'a>>
     }
 }
 
-/// Makes a file with a body's contents, under the host's word for a name in a folder.
+/// Makes a file with a body's contents, under the host's word for the name of an entry in a folder.
 fn make_named<B: Blocks, F: NewFolder>(
     alloc: Global,
     disk: &B,
     body: &RowBody<'_>,
-    name: &[u8],
+    named: EntryName<'_>,
     above: &str,
     folder: &mut F,
 ) -> Result<(), ExtractFault>
     requires blocks { HasBlocks (B.disk disk.now) (row_body_held body.now) }
-    ensures made { Saves result (F.known folder.old).made (F.known folder.new).made
-        (file_made (name_in above.now (word name.now)) (Some (contents_of (B.disk disk.now) (row_body_held body.now)))) }
+    ensures made { (numbered : Bool) × Saves result (F.known folder.old).made (F.known folder.new).made
+        (file_made (name_in above.now (entry_word numbered named.entry.block named.entry.index named.entry.name.now))
+        (Some (contents_of (B.disk disk.now) (row_body_held body.now)))) }
     ensures below { (top : List ℕ) → IsNameBelow top above.now → MakesBelow top (F.known folder.old).made (F.known folder.new).made }
     ensures blamed { IfErr result (λ fault. fault ≡ CannotWrite → HasRefused (F.known folder.new)) }
     ensures kept { KeepsFiles (F.known folder.old) (F.known folder.new) }
 {
-    let below = name_below(alloc, above, name)?;
-    make_file(disk, body, below.as_str(), folder)?;
+    let name = begin_file(alloc, above, named, folder)?;
+    write_file(disk, body, name.as_str(), folder)?;
     Ok(())
 }
 
-/// Makes the file of an entry, where it is saved.
+/// Makes the file of an entry of the part that begins at this block, where it is saved.
 fn make_entry<B: Blocks, F: NewFolder>(
     alloc: Global,
     disk: &B,
     entry: &Entry,
     body: &FileBody,
+    block: u32,
+    index: usize,
     above: &str,
     folder: &mut F,
 ) -> Result<(), ExtractFault>
     requires { HasFileBlocks (B.disk disk.now) (fate_held body.now) }
-    ensures made { Saves result (F.known folder.old).made (F.known folder.new).made
-        (file_made (name_in above.now (word entry.now.name)) (saved_bytes (B.disk disk.now) entry.now.body (fate_held body.now))) }
+    ensures made { (numbered : Bool) × Saves result (F.known folder.old).made (F.known folder.new).made
+        (file_made (name_in above.now (entry_word numbered block index entry.now.name))
+        (saved_bytes (B.disk disk.now) entry.now.body (fate_held body.now))) }
     ensures below { (top : List ℕ) → IsNameBelow top above.now → MakesBelow top (F.known folder.old).made (F.known folder.new).made }
     ensures blamed { IfErr result (λ fault. fault ≡ CannotWrite → HasRefused (F.known folder.new)) }
     ensures kept { KeepsFiles (F.known folder.old) (F.known folder.new) }
 {
-    match saved_body(&entry.body, body) {
-        Some(row) => make_named(alloc, disk, &row, &entry.name, above, folder),
-        None => Ok(()),
-    }
+    let Some(row) = saved_body(&entry.body, body) else {
+        return Ok(());
+    };
+    let name = EntryName {
+        name: &entry.name,
+        block,
+        index,
+    };
+    make_named(alloc, disk, &row, name, above, folder)
 }
 
-/// Saves an entry that stands here, in a folder: its file is made there, or it is kept why it isn't.
+/// Saves an entry that stands here, in the part that begins at this block, in a folder: its file is made there, or it is kept why it isn't.
 fn save_entry<B: Blocks, F: NewFolder>(
     alloc: Global,
     disk: &B,
     entry: &Entry,
     home: Home,
+    block: u32,
     above: &str,
     salvage: &mut Salvage,
     folder: &mut F,
 ) -> Result<(), ExtractFault>
-    ensures made { Saves result (F.known folder.old).made (F.known folder.new).made
-        (entry_made (B.disk disk.now) above.now salvage.old.uses.items entry.now) }
+    ensures made { (numbered : Bool) × Saves result (F.known folder.old).made (F.known folder.new).made
+        (entry_made (B.disk disk.now) above.now numbered block home.entry salvage.old.uses.items entry.now) }
     ensures uses { OnOk result (salvage.new.uses.items ≡ entry_uses (B.disk disk.now) salvage.old.uses.items home entry.now) }
     ensures unsaved { OnOk result (salvage.new.unsaved.items
         ≡ salvage.old.unsaved.items ++ unsaved home (fate (B.disk disk.now) salvage.old.uses.items entry.now)) }
@@ -114,24 +125,25 @@ fn save_entry<B: Blocks, F: NewFolder>(
 {
     let body = file_of(alloc, disk, &salvage.uses, entry)?;
     salvage.keep_unsaved(home, &body)?;
-    make_entry(alloc, disk, entry, &body, above, folder)?;
+    make_entry(alloc, disk, entry, &body, block, home.entry, above, folder)?;
     salvage.settle(home, &body);
     Ok(())
 }
 
-/// Saves the entries of the part that is found at a call of an area, in a folder.
+/// Saves the entries of the part that is found at a call of an area and begins at this block, in a folder.
 pub(crate) fn save_entries<B: Blocks, F: NewFolder>(
     alloc: Global,
     disk: &B,
     entries: &[Entry],
     area: usize,
     call: usize,
+    block: u32,
     above: &str,
     salvage: &mut Salvage,
     folder: &mut F,
 ) -> Result<(), ExtractFault>
-    ensures made { Saves result (F.known folder.old).made (F.known folder.new).made
-        (entries_made (B.disk disk.now) above.now salvage.old.uses.items area call 0 entries.now) }
+    ensures made { (numbered : List Bool) × Saves result (F.known folder.old).made (F.known folder.new).made
+        (entries_made (B.disk disk.now) above.now numbered block salvage.old.uses.items area call 0 entries.now) }
     ensures uses { OnOk result (salvage.new.uses.items ≡ entries_uses (B.disk disk.now) salvage.old.uses.items area call 0 entries.now) }
     ensures unsaved { OnOk result (salvage.new.unsaved.items
         ≡ salvage.old.unsaved.items ++ entries_unsaved (B.disk disk.now) salvage.old.uses.items area call 0 entries.now) }
@@ -145,7 +157,7 @@ pub(crate) fn save_entries<B: Blocks, F: NewFolder>(
             call,
             entry: index,
         };
-        save_entry(alloc, disk, entry, home, above, salvage, folder)?;
+        save_entry(alloc, disk, entry, home, block, above, salvage, folder)?;
     }
     Ok(())
 }

@@ -1,6 +1,6 @@
 //! Saving all that can still be read of an image.
 
-ghost use Rattle.std.specs.Prelude.{◌≡◌, ◌++◌, IfErr, IfOk, OnOk, if◌then◌else◌, length, slice_set, true};
+ghost use Rattle.std.specs.Prelude.{◌≡◌, ◌++◌, List, IfErr, IfOk, OnOk, if◌then◌else◌, length, slice_set, true};
 ghost use Rattle.lfs_extract.specs.declared.extract_fault.ExtractFault.TheVariants.{CannotWrite};
 ghost use Rattle.lfs_host.specs.Scene.{HasRefused, KeepsFiles};
 ghost use Rattle.lfs_salvage.specs.AllMade.{marked_used};
@@ -8,6 +8,7 @@ ghost use Rattle.lfs_salvage.specs.Below.{IsNameBelow, MakesBelow};
 ghost use Rattle.lfs_salvage.specs.Fate.{is_free};
 ghost use Rattle.lfs_salvage.specs.Lost.{front_behind_root};
 ghost use Rattle.lfs_salvage.specs.Saved.{AreLeft, SavesAll, StopsSaving, survey_front, survey_made, survey_unsaved, survey_uses};
+ghost use Rattle.lfs_salvage.specs.Numbered.{Numbered};
 ghost use Rattle.lfs_salvage.specs.Saving.{Saves};
 
 use crate::block_use::BlockUse;
@@ -47,8 +48,8 @@ fn save_survey<B: Blocks, F: NewFolder>(
     folder: &mut F,
 ) -> Result<(), ExtractFault>
     requires { IsNameBelow dir.now lost.now }
-    ensures made { Saves result (F.known folder.old).made (F.known folder.new).made
-        (survey_made (B.disk disk.now) dir.now lost.now salvage.old.uses.items areas.now) }
+    ensures made { (numbered : List (List Numbered)) × Saves result (F.known folder.old).made (F.known folder.new).made
+        (survey_made (B.disk disk.now) dir.now lost.now numbered salvage.old.uses.items areas.now) }
     ensures uses { OnOk result (salvage.new.uses.items ≡ survey_uses (B.disk disk.now) salvage.old.uses.items areas.now) }
     ensures unsaved { OnOk result (salvage.new.unsaved.items
         ≡ salvage.old.unsaved.items ++ survey_unsaved (B.disk disk.now) salvage.old.uses.items areas.now) }

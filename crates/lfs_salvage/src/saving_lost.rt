@@ -1,11 +1,12 @@
 //! Saving what no path leads to.
 
-ghost use Rattle.std.specs.Prelude.{◌≡◌, ◌+◌, ◌<◌, ◌^◌, ◌++◌, IfErr, OnOk, length};
+ghost use Rattle.std.specs.Prelude.{◌≡◌, ◌+◌, ◌<◌, ◌^◌, ◌++◌, List, IfErr, OnOk, length};
 ghost use Rattle.lfs_extract.specs.declared.extract_fault.ExtractFault.TheVariants.{CannotWrite};
 ghost use Rattle.lfs_host.specs.Scene.{HasRefused, KeepsFiles};
 ghost use Rattle.lfs_salvage.specs.AllMade.{all_lost_made, all_lost_unsaved, all_lost_uses, front_behind_all, lost_made, lost_unsaved, lost_uses};
 ghost use Rattle.lfs_salvage.specs.Below.{IsNameBelow, MakesBelow};
 ghost use Rattle.lfs_salvage.specs.Lost.{front_behind, front_made};
+ghost use Rattle.lfs_salvage.specs.Numbered.{Numbered};
 ghost use Rattle.lfs_salvage.specs.Saving.{Saves};
 
 use crate::front::Front;
@@ -55,8 +56,8 @@ fn save_lost<B: Blocks, F: NewFolder>(
     folder: &mut F,
 ) -> Result<(), ExtractFault>
     requires { IsNameBelow dir.now lost.now }
-    ensures made { Saves result (F.known folder.old).made (F.known folder.new).made
-        (lost_made (B.disk disk.now) dir.now lost.now front.old number salvage.old.uses.items area.now) }
+    ensures made { (numbered : List Numbered) × Saves result (F.known folder.old).made (F.known folder.new).made
+        (lost_made (B.disk disk.now) dir.now lost.now front.old number numbered salvage.old.uses.items area.now) }
     ensures uses { OnOk result (salvage.new.uses.items ≡ lost_uses (B.disk disk.now) number salvage.old.uses.items area.now) }
     ensures unsaved { OnOk result (salvage.new.unsaved.items
         ≡ salvage.old.unsaved.items ++ lost_unsaved (B.disk disk.now) number salvage.old.uses.items area.now) }
@@ -88,8 +89,8 @@ pub(crate) fn save_all_lost<B: Blocks, F: NewFolder>(
 ) -> Result<(), ExtractFault>
     requires lost { IsNameBelow dir.now lost.now }
     requires few { first + length areas.now < 2 ^ 64 }
-    ensures made { Saves result (F.known folder.old).made (F.known folder.new).made
-        (all_lost_made (B.disk disk.now) dir.now lost.now front.old first salvage.old.uses.items areas.now) }
+    ensures made { (numbered : List (List Numbered)) × Saves result (F.known folder.old).made (F.known folder.new).made
+        (all_lost_made (B.disk disk.now) dir.now lost.now front.old first numbered salvage.old.uses.items areas.now) }
     ensures uses { OnOk result (salvage.new.uses.items ≡ all_lost_uses (B.disk disk.now) first salvage.old.uses.items areas.now) }
     ensures unsaved { OnOk result (salvage.new.unsaved.items
         ≡ salvage.old.unsaved.items ++ all_lost_unsaved (B.disk disk.now) first salvage.old.uses.items areas.now) }

@@ -6,8 +6,9 @@ ghost use Rattle.lfs_folder.specs.PathBelow.{name_in};
 ghost use Rattle.lfs_listing.specs.Listing.{shown_byte};
 ghost use Rattle.lfs_meta.specs.Name.{is_name};
 ghost use Rattle.lfs_salvage.specs.Below.{IsNameBelow};
-ghost use Rattle.lfs_salvage.specs.Word.{is_own_word, other_word, word};
+ghost use Rattle.lfs_salvage.specs.Word.{is_own_word, numbered_word, other_word, word};
 
+use crate::entry_name::EntryName;
 use lfs_listing::append_all_shown;
 use lfs_meta::is_name;
 use std::alloc::{AllocError, Global};
@@ -74,4 +75,19 @@ pub(crate) fn name_below(alloc: Global, folder: &str, name: &[u8]) -> Result<Str
 {
     let word = word(alloc, name)?;
     format!(in alloc; "{folder}/{word}")
+}
+
+/// The host's name of what has its word for the name of an entry, with the entry's numbers behind it, in a folder.
+pub(crate) fn numbered_below(
+    alloc: Global,
+    folder: &str,
+    named: EntryName<'_>,
+) -> Result<String, AllocError>
+    ensures value { IfOk result (λ below. string_bytes below ≡ name_in folder.now (numbered_word (word named.entry.name.now) named.entry.block named.entry.index)) }
+    ensures below { (top : List ℕ) → IsNameBelow top folder.now
+        → IsNameBelow top (name_in folder.now (numbered_word (word named.entry.name.now) named.entry.block named.entry.index)) }
+{
+    let word = word(alloc, named.name)?;
+    let EntryName { block, index, .. } = named;
+    format!(in alloc; "{folder}/{word}~{block}.{index}")
 }

@@ -1,35 +1,118 @@
 -- The folder, and then the files.
-use Rattle.std.proofs.Common.{◌≡◌, ◌++◌, ◌∙◌, List, ℕ, Option, ap, sym, subst}
+use Rattle.std.proofs.Common.{◌≡◌, ◌∙◌, [], false, List, ℕ, Option, ap, map, string_bytes, subst, sym}
+use Rattle.std.specs.Prelude.{IfOk}
+use Rattle.std.proofs.lemmas.Result.{err_from_is_err_and}
 use Rattle.lfs_block.specs.Disk.{Disk}
 use Rattle.lfs_host.specs.NewFolder.{Made}
 use Rattle.lfs_meta.specs.Body.{Pair}
-use Rattle.lfs_meta.specs.Entry.{StoredEntry}
 use Rattle.lfs_meta.specs.Part.{StoredPart}
-use Rattle.lfs_salvage.specs.AreaMade.{entries_made, folder_made, found_made}
+use Rattle.lfs_salvage.specs.AreaMade.{call_made, folder_of}
+use Rattle.lfs_salvage.specs.Below.{IsNameBelow}
+use Rattle.lfs_salvage.specs.Folder.{way_at}
+use Rattle.lfs_salvage.specs.Numbered.{Numbered}
 use Rattle.lfs_salvage.specs.Saving.{Saves}
 use Rattle.lfs_salvage.specs.declared.block_use.BlockUse.{BlockUse}
-use Rattle.lfs_salvage.proofs.SavingLemmas.{below_then, then_saves}
+use Rattle.lfs_salvage.proofs.AreaLemmas.{entries_done, entries_stop, folder_is, start_stops}
+use Rattle.lfs_salvage.proofs.SavingLemmas.{below_then, nothing_saved}
+use Rattle.lfs_survey.specs.declared.area.Area.{Area}
+use Rattle.lfs_survey.specs.declared.call.Call.{Call}
 use Rattle.lfs_survey.specs.declared.found.Found.{Found}
 use Rattle.lfs_survey.specs.declared.found.Found.TheVariants.{Part}
+use Rattle.lfs_survey.specs.declared.way.Way.{Way}
 use Rattle.lfs_salvage.proofs.saving.save_found.Goals as goal
+
+pub returns-in-Refused-clause-made : goal.returns-in-Refused-clause-made
+returns-in-Refused-clause-made g c =
+    let d : Disk = g.B.Blocks.disk c.args.disk.now in
+    let old : Option (List Made) = (g.F.Known.known c.args.folder.now).made in
+    let base : List ℕ = c.args.base.now in
+    let a : Area = c.args.area.now in
+    let call : ℕ = c.args.call in
+    let folders : List (List ℕ) = map (λ f. string_bytes f) c.args.folders.now in
+    let uses : List BlockUse = c.args.salvage.now.uses.items in
+    let f : Found = c.args.found.now in
+    let none : Numbered = record { folder = false; entries = [] } in
+    (none,
+    subst (λ (x : Found). IfOk c.name_of.result (λ name. string_bytes name ≡ folder_of base a folders false call x)) (sym c.in-Refused.is)
+    c.name_of.ensures.value,
+    subst (λ (x : Found). Saves c.name_of.result old old (call_made d base a c.args.number call folders none uses x)) (sym c.in-Refused.is)
+    (nothing_saved c.name_of.result old c.name_of.ensures.stopped))
+
+pub returns-in_err-name-clause-made : goal.returns-in_err-name-clause-made
+returns-in_err-name-clause-made g c =
+    let d : Disk = g.B.Blocks.disk c.args.disk.now in
+    let old : Option (List Made) = (g.F.Known.known c.args.folder.now).made in
+    let base : List ℕ = c.args.base.now in
+    let a : Area = c.args.area.now in
+    let call : ℕ = c.args.call in
+    let folders : List (List ℕ) = map (λ f. string_bytes f) c.args.folders.now in
+    let uses : List BlockUse = c.args.salvage.now.uses.items in
+    let f : Found = c.args.found.now in
+    let way : Way = c.way_at-way.result in
+    let found : List Found = c.deref-2.result.now in
+    let by_way : way ≡ way_at a.calls.items call = c.way_at-way.ensures ∙ ap (λ (cs : List Call). way_at cs call) c.deref.ensures.value in
+    let mid : Option (List Made) = (g.F.Known.known c.start_folder.new.folder).made in
+    let made = c.in_err-name.ensures.made in
+    let stop = start_stops d base a c.args.number call folders uses f _ c.in-Part.is way found by_way c.deref-2.ensures.value made.0 old mid
+    c.in_err-name.field-0.0 made.2 in
+    let p = err_from_is_err_and c.from_residual.result c.from_residual.ensures.1 in
+    rw (p.1, p.2) (stop.0, tt, stop.1)
+
+pub returns-in_err-save_entries-clause-made : goal.returns-in_err-save_entries-clause-made
+returns-in_err-save_entries-clause-made g c =
+    let d : Disk = g.B.Blocks.disk c.args.disk.now in
+    let old : Option (List Made) = (g.F.Known.known c.args.folder.now).made in
+    let base : List ℕ = c.args.base.now in
+    let a : Area = c.args.area.now in
+    let call : ℕ = c.args.call in
+    let folders : List (List ℕ) = map (λ f. string_bytes f) c.args.folders.now in
+    let uses : List BlockUse = c.args.salvage.now.uses.items in
+    let f : Found = c.args.found.now in
+    let way : Way = c.way_at-way.result in
+    let found : List Found = c.deref-2.result.now in
+    let by_way : way ≡ way_at a.calls.items call = c.way_at-way.ensures ∙ ap (λ (cs : List Call). way_at cs call) c.deref.ensures.value in
+    let mid : Option (List Made) = (g.F.Known.known c.start_folder.new.folder).made in
+    let new : Option (List Made) = (g.F.Known.known c.save_entries.new.folder).made in
+    let is = c.in-Part.is ∙ ap (λ (p : Pair × StoredPart). Part p) (sym c.part.view_is) in
+    let begun = c.in_ok-name.ensures.made in
+    let made = c.in_err-save_entries.ensures.made in
+    let ns : Numbered = record { folder = begun.0; entries = made.0 } in
+    let p = err_from_is_err_and c.from_residual-in_err-save_entries.result c.from_residual-in_err-save_entries.ensures.1 in
+    rw (p.1, p.2) (ns, tt, entries_stop d base a c.args.number call folders uses f _ is way found by_way c.deref-2.ensures.value ns
+    c.as_str.result.now (c.as_str.ensures.value ∙ begun.1) c.deref-3.result.now c.deref-3.ensures.value old mid new begun.2
+    c.in_err-save_entries.field-0.0 made.1)
+
+pub returns-in_err-save_entries-clause-below : goal.returns-in_err-save_entries-clause-below
+returns-in_err-save_entries-clause-below g c = λ top above all.
+    below_then top (g.F.Known.known c.args.folder.now).made (g.F.Known.known c.start_folder.new.folder).made
+    (g.F.Known.known c.save_entries.new.folder).made (c.start_folder.ensures.below top above all)
+    (c.save_entries.ensures.below top (subst (IsNameBelow top) (sym c.as_str.ensures.value) (c.in_ok-name.ensures.named top above all)))
 
 pub returns-clause-made : goal.returns-clause-made
 returns-clause-made g c =
     let d : Disk = g.B.Blocks.disk c.args.disk.now in
     let old : Option (List Made) = (g.F.Known.known c.args.folder.now).made in
-    let mid : Option (List Made) = (g.F.Known.known c.make_start.new.folder).made in
-    let new : Option (List Made) = (g.F.Known.known c.save_entries.new.folder).made in
-    let name : List ℕ = c.args.name.now in
+    let base : List ℕ = c.args.base.now in
+    let a : Area = c.args.area.now in
+    let call : ℕ = c.args.call in
+    let folders : List (List ℕ) = map (λ f. string_bytes f) c.args.folders.now in
     let uses : List BlockUse = c.args.salvage.now.uses.items in
-    let made : Found → List Made = λ (f : Found). found_made d c.args.way name uses c.args.area c.args.call f in
-    let is : folder_made c.args.way name ++ entries_made d name uses c.args.area c.args.call 0 c.deref.result.now ≡ made c.args.found.now =
-    ap (λ (es : List StoredEntry). folder_made c.args.way name ++ entries_made d name uses c.args.area c.args.call 0 es) c.deref.ensures.value
-    ∙ ap (λ (p : Pair × StoredPart). made (Part p)) c.part.view_is ∙ sym (ap made c.in-Part.is) in
-    subst (λ (m : List Made). Saves c.save_entries.result old new m) is
-    (then_saves c.save_entries.result old mid new (folder_made c.args.way name)
-    (entries_made d name uses c.args.area c.args.call 0 c.deref.result.now) c.in_ok-make_start.ensures.made c.save_entries.ensures.made)
+    let f : Found = c.args.found.now in
+    let way : Way = c.way_at-way.result in
+    let found : List Found = c.deref-2.result.now in
+    let by_way : way ≡ way_at a.calls.items call = c.way_at-way.ensures ∙ ap (λ (cs : List Call). way_at cs call) c.deref.ensures.value in
+    let mid : Option (List Made) = (g.F.Known.known c.start_folder.new.folder).made in
+    let new : Option (List Made) = (g.F.Known.known c.save_entries.new.folder).made in
+    let is = c.in-Part.is ∙ ap (λ (p : Pair × StoredPart). Part p) (sym c.part.view_is) in
+    let begun = c.in_ok-name.ensures.made in
+    let made = c.in_ok-save_entries.ensures.made in
+    let ns : Numbered = record { folder = begun.0; entries = made.0 } in
+    (ns, begun.1 ∙ folder_is d base a c.args.number call folders uses f _ is way found by_way c.deref-2.ensures.value begun.0,
+    entries_done d base a c.args.number call folders uses f _ is way found by_way c.deref-2.ensures.value ns c.as_str.result.now
+    (c.as_str.ensures.value ∙ begun.1) c.deref-3.result.now c.deref-3.ensures.value old mid new begun.2 made.1)
 
 pub returns-clause-below : goal.returns-clause-below
-returns-clause-below g c = λ top above.
-    below_then top (g.F.Known.known c.args.folder.now).made (g.F.Known.known c.make_start.new.folder).made
-    (g.F.Known.known c.save_entries.new.folder).made (c.make_start.ensures.below top above) (c.save_entries.ensures.below top above)
+returns-clause-below g c = λ top above all.
+    below_then top (g.F.Known.known c.args.folder.now).made (g.F.Known.known c.start_folder.new.folder).made
+    (g.F.Known.known c.save_entries.new.folder).made (c.start_folder.ensures.below top above all)
+    (c.save_entries.ensures.below top (subst (IsNameBelow top) (sym c.as_str.ensures.value) (c.in_ok-name.ensures.named top above all)))

@@ -1,5 +1,5 @@
 -- The file of an entry is made where it is saved.
-use Rattle.std.proofs.Common.{◌≡◌, ◌∙◌, List, ℕ, Option, Some, None, ap, subst}
+use Rattle.std.proofs.Common.{◌≡◌, ◌∙◌, false, List, ℕ, Option, Some, None, ap, subst}
 use Rattle.lfs_block.specs.Disk.{Disk}
 use Rattle.lfs_extract.specs.Making.{contents_of}
 use Rattle.lfs_extract.proofs.MakingLemmas.{makes_nothing}
@@ -11,30 +11,36 @@ use Rattle.lfs_salvage.specs.AreaMade.{file_made}
 use Rattle.lfs_salvage.specs.Fate.{saved_bytes}
 use Rattle.lfs_salvage.specs.FateHeld.{fate_held}
 use Rattle.lfs_salvage.specs.Saving.{Saves}
-use Rattle.lfs_salvage.specs.Word.{word}
+use Rattle.lfs_salvage.specs.Word.{entry_word}
 use Rattle.lfs_salvage.proofs.saving_entries.make_entry.Goals as goal
 
 pub make_named-requires : goal.make_named-requires
 make_named-requires g c = record { blocks = c.in-Some.ensures.there (g.B.Blocks.disk c.args.disk.now) c.requires }
 
-pub returns-in-Some-clause-made : goal.returns-in-Some-clause-made
-returns-in-Some-clause-made g c =
+pub returns-clause-made : goal.returns-clause-made
+returns-clause-made g c =
     let d : Disk = g.B.Blocks.disk c.args.disk.now in
     let above : List ℕ = c.args.above.now in
     let bytes : List ℕ = contents_of d (row_body_held c.in-Some.row) in
+    let made = c.make_named.ensures.made in
     let named : c.deref.result.now ≡ c.args.entry.now.name =
     c.deref.ensures.value ∙ ap (λ (e : StoredEntry). e.name) c.entry.view_is in
     let saved : Some bytes ≡ saved_bytes d c.args.entry.now.body (fate_held c.args.body.now) =
-    c.in-Some.ensures.bytes d ∙ ap (λ (e : StoredEntry). saved_bytes d e.body (fate_held c.args.body.now)) c.entry.view_is in
-    subst (λ (m : List Made). Saves c.make_named.result (g.F.Known.known c.args.folder.now).made (g.F.Known.known c.make_named.new.folder).made m)
-    (ap (λ (n : List ℕ). file_made (name_in above (word n)) (Some bytes)) named
-    ∙ ap (λ (o : Option (List ℕ)). file_made (name_in above (word c.args.entry.now.name)) o) saved) c.make_named.ensures.made
+    c.in-Some.ensures.bytes d ∙ ap (λ (e : StoredEntry). saved_bytes d e.body (fate_held c.args.body.now)) c.entry.view_is in (
+      made.0,
+      subst (λ (m : List Made). Saves c.make_named.result (g.F.Known.known c.args.folder.now).made
+          (g.F.Known.known c.make_named.new.folder).made m)
+          (ap (λ (n : List ℕ). file_made (name_in above (entry_word made.0 c.args.block c.args.index n)) (Some bytes)) named
+          ∙ ap (λ (o : Option (List ℕ)). file_made (name_in above (entry_word made.0 c.args.block c.args.index c.args.entry.now.name)) o) saved) made.1,
+    )
 
-pub returns-in-None-clause-made : goal.returns-in-None-clause-made
-returns-in-None-clause-made g c =
+pub returns-in_default-clause-made : goal.returns-in_default-clause-made
+returns-in_default-clause-made g c =
     let d : Disk = g.B.Blocks.disk c.args.disk.now in
     let old : Option (List Made) = (g.F.Known.known c.args.folder.now).made in
     let none : None ≡ saved_bytes d c.args.entry.now.body (fate_held c.args.body.now) =
-    c.in-None.ensures.bytes d ∙ ap (λ (e : StoredEntry). saved_bytes d e.body (fate_held c.args.body.now)) c.entry.view_is in
-    subst (λ (o : Option (List ℕ)). Makes old old (file_made (name_in c.args.above.now (word c.args.entry.now.name)) o)) none
-    (makes_nothing old)
+    c.in_default.ensures.bytes d ∙ ap (λ (e : StoredEntry). saved_bytes d e.body (fate_held c.args.body.now)) c.entry.view_is in (
+      false,
+      subst (λ (o : Option (List ℕ)). Makes old old
+          (file_made (name_in c.args.above.now (entry_word false c.args.block c.args.index c.args.entry.now.name)) o)) none (makes_nothing old),
+    )

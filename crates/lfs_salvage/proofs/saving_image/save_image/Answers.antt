@@ -36,9 +36,10 @@ returns-in_err-save_survey-clause-stopped g c =
     c.in_ok-salvage.ensures.uses ∙ ap (λ (n : ℕ). uses_at_first n c.deref.result.now) c.count.ensures
     ∙ ap (uses_at_first d.count) c.deref.ensures.value in
     let p = err_from_is_err_and c.from_residual-in_err-save_survey.result c.from_residual-in_err-save_survey.ensures.1 in
-    rw (p.1, p.2) (stops_surveyed d e dir old mid survey c.in_ok-survey.ensures c.in_err-save_survey.field-0.0
+    let made = c.in_err-save_survey.ensures.made in
+    rw (p.1, p.2) (stops_surveyed d e dir old mid survey c.in_ok-survey.ensures made.0 c.in_err-save_survey.field-0.0
     (subst (λ (m : List Made). Stops c.in_err-save_survey.field-0.0 old mid m)
-    (part_is_made d dir lost uses areas c.deref-3.result.now there begun c.deref-3.ensures.value) c.in_err-save_survey.ensures.made))
+    (part_is_made d dir lost uses areas c.deref-3.result.now there begun c.deref-3.ensures.value made.0) made.1))
 
 pub returns-in_err-lone-clause-stopped : goal.returns-in_err-lone-clause-stopped
 returns-in_err-lone-clause-stopped g c =
@@ -56,11 +57,13 @@ returns-in_err-lone-clause-stopped g c =
     let begun : uses ≡ uses_first d areas =
     c.in_ok-salvage.ensures.uses ∙ ap (λ (n : ℕ). uses_at_first n c.deref.result.now) c.count.ensures
     ∙ ap (uses_at_first d.count) c.deref.ensures.value in
-    let made : Makes old mid (survey_part d dir areas) =
+    let all = c.in_ok-save_survey.ensures.made in
+    let made : Makes old mid (survey_part d dir all.0 areas) =
     subst (λ (m : List Made). Makes old mid m)
-    (part_is_made d dir lost uses areas c.deref-3.result.now there begun c.deref-3.ensures.value) c.in_ok-save_survey.ensures.made in
+    (part_is_made d dir lost uses areas c.deref-3.result.now there begun c.deref-3.ensures.value all.0) all.1 in
     let p = err_from_is_err_and c.from_residual-in_err-lone.result c.from_residual-in_err-lone.ensures.1 in
-    rw (p.1, p.2) (stops_surveyed d e dir old mid survey c.in_ok-survey.ensures Memory (all_first old mid (survey_part d dir areas) made))
+    rw (p.1, p.2) (stops_surveyed d e dir old mid survey c.in_ok-survey.ensures all.0 Memory
+    (all_first old mid (survey_part d dir all.0 areas) made))
 
 pub returns-in_err-save_all_lost-clause-stopped : goal.returns-in_err-save_all_lost-clause-stopped
 returns-in_err-save_all_lost-clause-stopped g c =
@@ -90,13 +93,14 @@ returns-in_err-save_all_lost-clause-stopped g c =
     let left : AreLeft e survey (survey_uses d (uses_first d areas) areas) lone =
     subst (λ (t : List BlockUse). AreLeft e survey t lone) (c.deref-4.ensures.value ∙ h.used) c.in_ok-lone.ensures.left in
     let counted : c.len-first.result ≡ length areas = c.len-first.ensures ∙ ap vec_len c.find_left.ensures.areas ∙ survey.areas.ok.0 in
-    let stop : Stops c.in_err-save_all_lost.field-0.0 old new (image_made d dir areas lone) =
+    let others = c.in_err-save_all_lost.ensures.made in
+    let stop : Stops c.in_err-save_all_lost.field-0.0 old new (image_made d dir h.numbered others.0 areas lone) =
     whole_saves d dir lost areas lone c.deref-5.result.now c.deref-6.result.now old mid used c.mark_areas.new.self.uses.items told front
-    c.len-first.result h there counted c.mark_areas.ensures.uses c.deref-5.ensures.value c.deref-6.ensures.value
-    (Err c.in_err-save_all_lost.field-0.0) new
-    c.in_err-save_all_lost.ensures.made in
+    c.len-first.result h there counted c.mark_areas.ensures.uses c.deref-5.ensures.value c.deref-6.ensures.value others.0
+    (Err c.in_err-save_all_lost.field-0.0) new others.1 in
     let p = err_from_is_err_and c.from_residual-in_err-save_all_lost.result c.from_residual-in_err-save_all_lost.ensures.1 in
-    rw (p.1, p.2) (stops_left d e dir old new survey c.in_ok-survey.ensures lone left c.in_err-save_all_lost.field-0.0 stop)
+    rw (p.1, p.2) (stops_left d e dir old new survey c.in_ok-survey.ensures h.numbered lone others.0 left
+    c.in_err-save_all_lost.field-0.0 stop)
 
 pub returns-in_err-save_all_lost-clause-below : goal.returns-in_err-save_all_lost-clause-below
 returns-in_err-save_all_lost-clause-below g c =
@@ -131,13 +135,14 @@ returns-in_err-append-clause-stopped g c =
     let left : AreLeft e survey (survey_uses d (uses_first d areas) areas) lone =
     subst (λ (t : List BlockUse). AreLeft e survey t lone) (c.deref-4.ensures.value ∙ h.used) c.in_ok-lone.ensures.left in
     let counted : c.len-first.result ≡ length areas = c.len-first.ensures ∙ ap vec_len c.find_left.ensures.areas ∙ survey.areas.ok.0 in
-    let made : Makes old new (image_made d dir areas lone) =
+    let others = c.in_ok-save_all_lost.ensures.made in
+    let made : Makes old new (image_made d dir h.numbered others.0 areas lone) =
     whole_saves d dir lost areas lone c.deref-5.result.now c.deref-6.result.now old mid used c.mark_areas.new.self.uses.items told front
-    c.len-first.result h there counted c.mark_areas.ensures.uses c.deref-5.ensures.value c.deref-6.ensures.value (Ok tt) new
-    c.in_ok-save_all_lost.ensures.made in
+    c.len-first.result h there counted c.mark_areas.ensures.uses c.deref-5.ensures.value c.deref-6.ensures.value others.0 (Ok tt) new
+    others.1 in
     let p = err_from_is_err_and c.from_residual-in_err-append.result c.from_residual-in_err-append.ensures.1 in
-    rw (p.1, p.2) (stops_left d e dir old new survey c.in_ok-survey.ensures lone left Memory
-    (all_first old new (image_made d dir areas lone) made))
+    rw (p.1, p.2) (stops_left d e dir old new survey c.in_ok-survey.ensures h.numbered lone others.0 left Memory
+    (all_first old new (image_made d dir h.numbered others.0 areas lone) made))
 
 pub returns-in_err-append-clause-below : goal.returns-in_err-append-clause-below
 returns-in_err-append-clause-below g c =
@@ -173,6 +178,7 @@ returns-clause-saved g c =
     subst (λ (t : List BlockUse). AreLeft e survey t lone) (c.deref-4.ensures.value ∙ h.used) c.in_ok-lone.ensures.left in
     let counted : c.len-first.result ≡ length areas = c.len-first.ensures ∙ ap vec_len c.find_left.ensures.areas ∙ survey.areas.ok.0 in
     let between : List BlockUse = c.mark_areas.new.self.uses.items in
+    let others = c.in_ok-save_all_lost.ensures.made in
     record {
       survey = survey;
       lone = lone;
@@ -188,9 +194,11 @@ returns-clause-saved g c =
             c.save_all_lost.new.salvage.unsaved.items
             (rw c.mark_areas.ensures.unsaved at c.in_ok-save_all_lost.ensures.unsaved);
       };
+      numbered = h.numbered;
+      others = others.0;
       made = whole_saves d dir lost areas lone c.deref-5.result.now c.deref-6.result.now old mid used between told front
-          c.len-first.result h there counted c.mark_areas.ensures.uses c.deref-5.ensures.value c.deref-6.ensures.value (Ok tt) new
-          c.in_ok-save_all_lost.ensures.made;
+          c.len-first.result h there counted c.mark_areas.ensures.uses c.deref-5.ensures.value c.deref-6.ensures.value others.0 (Ok tt) new
+          others.1;
     }
 
 pub returns-clause-below : goal.returns-clause-below

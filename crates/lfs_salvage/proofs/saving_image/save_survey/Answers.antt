@@ -12,9 +12,8 @@ use Rattle.lfs_salvage.specs.Saved.{survey_made, survey_unsaved}
 use Rattle.lfs_salvage.specs.Saving.{Saves, Stops}
 use Rattle.lfs_salvage.specs.declared.block_use.BlockUse.{BlockUse}
 use Rattle.lfs_salvage.specs.declared.front.Front.{Front}
-use Rattle.lfs_salvage.proofs.LostLemmas.{stops_first}
 use Rattle.lfs_salvage.proofs.SavedLemmas.{survey_is_front, survey_is_made, survey_is_unsaved, survey_is_used, told_then}
-use Rattle.lfs_salvage.proofs.SavingLemmas.{below_then, then_saves}
+use Rattle.lfs_salvage.proofs.SavingLemmas.{below_then, stops_first, then_saves}
 use Rattle.lfs_survey.specs.declared.area.Area.{Area}
 use Rattle.lfs_salvage.proofs.saving_image.save_survey.Goals as goal
 
@@ -22,9 +21,11 @@ pub returns-in_default-clause-made : goal.returns-in_default-clause-made
 returns-in_default-clause-made g c =
     let d : Disk = g.B.Blocks.disk c.args.disk.now in
     let old : Option (List Made) = (g.F.Known.known c.args.folder.now).made in
-    let none : c.args.areas.now ≡ [] = nil_from_length c.args.areas.now c.in_default.ensures.cases in
-    subst (λ (xs : List Area). Makes old old (survey_made d c.args.dir.now c.args.lost.now c.args.salvage.now.uses.items xs)) (sym none)
-    (makes_nothing old)
+    let none : c.args.areas.now ≡ [] = nil_from_length c.args.areas.now c.in_default.ensures.cases in (
+      [],
+      subst (λ (xs : List Area). Makes old old (survey_made d c.args.dir.now c.args.lost.now [] c.args.salvage.now.uses.items xs)) (sym none)
+          (makes_nothing old),
+    )
 
 pub returns-in_err-save_area-clause-made : goal.returns-in_err-save_area-clause-made
 returns-in_err-save_area-clause-made g c =
@@ -38,9 +39,13 @@ returns-in_err-save_area-clause-made g c =
     let later : List Area = c.in-Some.later.now in
     let all : c.args.areas.now ≡ root ∷ later = c.in-Some.ensures.cases.0 in
     let p = err_from_is_err_and c.from_residual.result c.from_residual.ensures.1 in
-    rw (p.1, p.2) (subst (λ (xs : List Area). Stops c.in_err-save_area.field-0.0 old new (survey_made d dir lost uses xs)) (sym all)
-    (stops_first c.in_err-save_area.field-0.0 old new (area_made d dir 0 uses root)
-    (all_lost_made d dir lost (front_behind_root root.found.items) 1 (area_uses d 0 uses root) later) c.in_err-save_area.ensures.made))
+    let made = c.in_err-save_area.ensures.made in
+    rw (p.1, p.2) (
+      made.0 ∷ [],
+      subst (λ (xs : List Area). Stops c.in_err-save_area.field-0.0 old new (survey_made d dir lost (made.0 ∷ []) uses xs)) (sym all)
+          (stops_first c.in_err-save_area.field-0.0 old new (area_made d dir 0 made.0 uses root)
+          (all_lost_made d dir lost (front_behind_root root.found.items) 1 [] (area_uses d 0 uses root) later) made.1),
+    )
 
 pub returns-clause-made : goal.returns-clause-made
 returns-clause-made g c =
@@ -56,10 +61,15 @@ returns-clause-made g c =
     let later : List Area = c.in-Some.later.now in
     let front : Front = c.front_behind_root.result in
     let lacks : front ≡ front_behind_root root.found.items = c.front_behind_root.ensures ∙ ap front_behind_root c.deref.ensures.value in
-    subst (λ (m : List Made). Saves c.save_all_lost.result old new m)
-    (survey_is_made d uses used c.args.areas.now root later c.in-Some.ensures.cases.0 dir lost front lacks c.in_ok-save_area.ensures.uses)
-    (then_saves c.save_all_lost.result old mid new (area_made d dir 0 uses root) (all_lost_made d dir lost front 1 used later)
-    c.in_ok-save_area.ensures.made c.save_all_lost.ensures.made)
+    let first = c.in_ok-save_area.ensures.made in
+    let others = c.save_all_lost.ensures.made in (
+      first.0 ∷ others.0,
+      subst (λ (m : List Made). Saves c.save_all_lost.result old new m)
+          (survey_is_made d uses used c.args.areas.now root later c.in-Some.ensures.cases.0 dir lost front first.0 others.0 lacks
+          c.in_ok-save_area.ensures.uses)
+          (then_saves c.save_all_lost.result old mid new (area_made d dir 0 first.0 uses root) (all_lost_made d dir lost front 1 others.0 used later)
+          first.1 others.1),
+    )
 
 pub returns-clause-uses : goal.returns-clause-uses
 returns-clause-uses g c =

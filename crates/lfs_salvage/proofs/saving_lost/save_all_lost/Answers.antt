@@ -1,14 +1,16 @@
 -- One area after another.
-use Rattle.std.proofs.Common.{◌≡◌, ◌+◌, ◌∙◌, List, ℕ, Option, arith, drop, refl, sym, subst}
+use Rattle.std.proofs.Common.{◌≡◌, ◌+◌, ◌∙◌, [], List, ℕ, Option, arith, drop, refl, sym, subst}
+use Rattle.std.proofs.lemmas.List.{at_drop_all}
 use Rattle.std.proofs.lemmas.Result.{err_from_is_err_and}
 use Rattle.lfs_block.specs.Disk.{Disk}
 use Rattle.lfs_host.specs.NewFolder.{Made}
 use Rattle.lfs_salvage.specs.AllMade.{front_behind_all, lost_made, lost_unsaved, lost_uses}
 use Rattle.lfs_salvage.specs.Lost.{front_behind}
+use Rattle.lfs_salvage.specs.Numbered.{Numbered}
 use Rattle.lfs_salvage.specs.declared.block_use.BlockUse.{BlockUse}
 use Rattle.lfs_salvage.specs.declared.front.Front.{Front}
 use Rattle.lfs_salvage.specs.declared.unsaved.Unsaved.{Unsaved}
-use Rattle.lfs_salvage.proofs.AreaLemmas.{IsUnderWay, Plan, begun, done_more, plan_then, stopped}
+use Rattle.lfs_salvage.proofs.AreaLemmas.{IsDoing, Plan, all_made, all_told, doing_more, doing_stops, nothing_done}
 use Rattle.lfs_salvage.proofs.LostLemmas.{front_more, lost_more, lost_plan}
 use Rattle.lfs_salvage.proofs.SavingLemmas.{below_then, nothing_below}
 use Rattle.lfs_survey.specs.declared.area.Area.{Area}
@@ -19,12 +21,12 @@ each-init g c =
     let d : Disk = g.B.Blocks.disk c.args.disk.now in
     let old : Option (List Made) = (g.F.Known.known c.args.folder.now).made in
     let before : List Unsaved = c.args.salvage.now.unsaved.items in
-    let whole : Plan = lost_plan d c.args.dir.now c.args.lost.now c.args.front.now c.args.first c.args.salvage.now.uses.items c.args.areas.now in
+    let plan : ℕ → List (List Numbered) → Plan = λ (n : ℕ).
+    lost_plan d c.args.dir.now c.args.lost.now c.args.front.now n c.args.salvage.now.uses.items c.args.areas.now in
     let none : c.args.first + 0 ≡ c.args.first = omega arith in
     record {
-      doing = subst (λ (n : ℕ). IsUnderWay old old before before
-          (lost_plan d c.args.dir.now c.args.lost.now c.args.front.now n c.args.salvage.now.uses.items c.args.areas.now) whole) (sym none)
-          (begun old before whole);
+      doing = subst (λ (n : ℕ). IsDoing old old before before (plan n) (plan c.args.first)) (sym none)
+          (nothing_done old before (plan c.args.first));
       front = refl;
       below = nothing_below c.args.dir.now old old refl;
       kept = (refl, refl, refl);
@@ -44,14 +46,16 @@ returns-in_err-save_lost-clause-made g c =
     let uses : List BlockUse = c.each.salvage.uses.items in
     let before : List Unsaved = c.args.salvage.now.unsaved.items in
     let told : List Unsaved = c.each.salvage.unsaved.items in
-    let whole : Plan = lost_plan d dir lost c.args.front.now c.args.first c.args.salvage.now.uses.items areas in
-    let rest : Plan = lost_plan d dir lost (front_behind c.each.front a) (n + 1) (lost_uses d n uses a) (drop (c.each.number + 1) areas) in
-    let doing : IsUnderWay old mid before told (plan_then (lost_made d dir lost c.each.front n uses a) (lost_unsaved d n uses a) rest) whole =
-    subst (λ (left : Plan). IsUnderWay old mid before told left whole)
-    (lost_more d dir lost c.each.front n c.each.number uses areas a c.each-test.true c.index-areas-number.is) c.each.invariant.doing in
+    let left : List (List Numbered) → Plan = lost_plan d dir lost c.each.front n uses (drop c.each.number areas) in
+    let whole : List (List Numbered) → Plan = lost_plan d dir lost c.args.front.now c.args.first c.args.salvage.now.uses.items areas in
+    let next : Front → ℕ → List BlockUse → List (List Numbered) → Plan = λ (front : Front) (m : ℕ) (t : List BlockUse).
+    lost_plan d dir lost front m t (drop (c.each.number + 1) areas) in
+    let made = c.in_err-save_lost.ensures.made in
     let p = err_from_is_err_and c.from_residual.result c.from_residual.ensures.1 in
-    rw (p.1, p.2) (stopped old mid new before told (lost_unsaved d n uses a) (lost_made d dir lost c.each.front n uses a) rest whole doing
-    c.in_err-save_lost.field-0.0 c.in_err-save_lost.ensures.made)
+    rw (p.1, p.2) (doing_stops old mid before told left whole c.each.invariant.doing made.0 (lost_made d dir lost c.each.front n made.0 uses a)
+    (lost_unsaved d n uses a) (next (front_behind c.each.front a) (n + 1) (lost_uses d n uses a))
+    (λ rest. lost_more d dir lost c.each.front n c.each.number uses areas a made.0 rest c.each-test.true c.index-areas-number.is) new
+    c.in_err-save_lost.field-0.0 made.1)
 
 pub returns-in_err-save_lost-clause-below : goal.returns-in_err-save_lost-clause-below
 returns-in_err-save_lost-clause-below g c =
@@ -72,27 +76,28 @@ each-preserved g c =
     let uses : List BlockUse = c.each.salvage.uses.items in
     let before : List Unsaved = c.args.salvage.now.unsaved.items in
     let told : List Unsaved = c.each.salvage.unsaved.items in
-    let more : List Unsaved = c.save_lost.new.salvage.unsaved.items in
-    let whole : Plan = lost_plan d dir lost c.args.front.now c.args.first c.args.salvage.now.uses.items areas in
-    let rest : Front → ℕ → List BlockUse → Plan = λ (front : Front) (m : ℕ) (t : List BlockUse).
+    let left : List (List Numbered) → Plan = lost_plan d dir lost c.each.front n uses (drop c.each.number areas) in
+    let whole : List (List Numbered) → Plan = lost_plan d dir lost c.args.front.now c.args.first c.args.salvage.now.uses.items areas in
+    let next : Front → ℕ → List BlockUse → List (List Numbered) → Plan = λ (front : Front) (m : ℕ) (t : List BlockUse).
     lost_plan d dir lost front m t (drop (c.each.number + 1) areas) in
-    let doing : IsUnderWay old mid before told
-    (plan_then (lost_made d dir lost c.each.front n uses a) (lost_unsaved d n uses a) (rest (front_behind c.each.front a) (n + 1) (lost_uses d n uses a)))
-    whole =
-    subst (λ (left : Plan). IsUnderWay old mid before told left whole)
-    (lost_more d dir lost c.each.front n c.each.number uses areas a c.each-test.true c.index-areas-number.is) c.each.invariant.doing in
-    let next : n + 1 ≡ c.args.first + (c.each.number + 1) = omega arith in
+    let more : List Unsaved = c.save_lost.new.salvage.unsaved.items in
+    let made = c.in_ok-save_lost.ensures.made in
+    let done : IsDoing old new before more (next (front_behind c.each.front a) (n + 1) (lost_uses d n uses a)) whole =
+    doing_more old mid before told left whole c.each.invariant.doing made.0 (lost_made d dir lost c.each.front n made.0 uses a)
+    (lost_unsaved d n uses a) (next (front_behind c.each.front a) (n + 1) (lost_uses d n uses a))
+    (λ rest. lost_more d dir lost c.each.front n c.each.number uses areas a made.0 rest c.each-test.true c.index-areas-number.is) new more
+    made.1 c.in_ok-save_lost.ensures.unsaved in
+    let used : c.save_lost.new.salvage.uses.items ≡ lost_uses d n uses a = c.in_ok-save_lost.ensures.uses in
+    let lacks : c.save_lost.new.front ≡ front_behind c.each.front a = c.in_ok-save_lost.ensures.front in
+    let further : n + 1 ≡ c.args.first + (c.each.number + 1) = omega arith in
     record {
-      doing = subst (λ (m : ℕ). IsUnderWay old new before more (rest c.save_lost.new.front m c.save_lost.new.salvage.uses.items) whole) next
-          (subst (λ (f : Front). IsUnderWay old new before more (rest f (n + 1) c.save_lost.new.salvage.uses.items) whole)
-          (sym c.in_ok-save_lost.ensures.front)
-          (subst (λ (t : List BlockUse). IsUnderWay old new before more (rest (front_behind c.each.front a) (n + 1) t) whole)
-          (sym c.in_ok-save_lost.ensures.uses)
-          (done_more old mid new before told more (lost_unsaved d n uses a) (lost_made d dir lost c.each.front n uses a)
-          (rest (front_behind c.each.front a) (n + 1) (lost_uses d n uses a)) whole doing c.in_ok-save_lost.ensures.made
-          c.in_ok-save_lost.ensures.unsaved)));
+      doing = subst (λ (m : ℕ). IsDoing old new before more (next c.save_lost.new.front m c.save_lost.new.salvage.uses.items) whole) further
+          (subst (λ (f : Front). IsDoing old new before more (next f (n + 1) c.save_lost.new.salvage.uses.items) whole)
+          (sym lacks)
+          (subst (λ (t : List BlockUse). IsDoing old new before more (next (front_behind c.each.front a) (n + 1) t) whole)
+          (sym used) done));
       front = subst (λ (f : Front). front_behind_all f (drop (c.each.number + 1) areas) ≡ front_behind_all c.args.front.now areas)
-          (sym c.in_ok-save_lost.ensures.front)
+          (sym lacks)
           (sym (front_more c.each.front c.each.number areas a c.each-test.true c.index-areas-number.is) ∙ c.each.invariant.front);
       below = below_then dir old mid new c.each.invariant.below c.save_lost.ensures.below;
       kept = (
@@ -101,3 +106,54 @@ each-preserved g c =
         c.save_lost.ensures.kept.2 ∙ c.each.invariant.kept.2,
       );
     }
+
+pub returns-clause-made : goal.returns-clause-made
+returns-clause-made g c =
+    let d : Disk = g.B.Blocks.disk c.args.disk.now in
+    let old : Option (List Made) = (g.F.Known.known c.args.folder.now).made in
+    let new : Option (List Made) = (g.F.Known.known c.each.folder).made in
+    let areas : List Area = c.args.areas.now in
+    let before : List Unsaved = c.args.salvage.now.unsaved.items in
+    let told : List Unsaved = c.each.salvage.unsaved.items in
+    let plan : List Area → List (List Numbered) → Plan =
+    lost_plan d c.args.dir.now c.args.lost.now c.each.front (c.args.first + c.each.number) c.each.salvage.uses.items in
+    let whole : List (List Numbered) → Plan =
+    lost_plan d c.args.dir.now c.args.lost.now c.args.front.now c.args.first c.args.salvage.now.uses.items areas in
+    let done : IsDoing old new before told (plan []) whole =
+    subst (λ (left : List (List Numbered) → Plan). IsDoing old new before told left whole)
+    (at_drop_all plan areas c.each.number c.each-test.false) c.each.invariant.doing in
+    all_made old new before told (plan []) whole refl refl done
+
+pub returns-clause-uses : goal.returns-clause-uses
+returns-clause-uses g c =
+    let d : Disk = g.B.Blocks.disk c.args.disk.now in
+    let old : Option (List Made) = (g.F.Known.known c.args.folder.now).made in
+    let new : Option (List Made) = (g.F.Known.known c.each.folder).made in
+    let areas : List Area = c.args.areas.now in
+    let before : List Unsaved = c.args.salvage.now.unsaved.items in
+    let told : List Unsaved = c.each.salvage.unsaved.items in
+    let plan : List Area → List (List Numbered) → Plan =
+    lost_plan d c.args.dir.now c.args.lost.now c.each.front (c.args.first + c.each.number) c.each.salvage.uses.items in
+    let whole : List (List Numbered) → Plan =
+    lost_plan d c.args.dir.now c.args.lost.now c.args.front.now c.args.first c.args.salvage.now.uses.items areas in
+    let done : IsDoing old new before told (plan []) whole =
+    subst (λ (left : List (List Numbered) → Plan). IsDoing old new before told left whole)
+    (at_drop_all plan areas c.each.number c.each-test.false) c.each.invariant.doing in
+    (done.doing []).uses
+
+pub returns-clause-unsaved : goal.returns-clause-unsaved
+returns-clause-unsaved g c =
+    let d : Disk = g.B.Blocks.disk c.args.disk.now in
+    let old : Option (List Made) = (g.F.Known.known c.args.folder.now).made in
+    let new : Option (List Made) = (g.F.Known.known c.each.folder).made in
+    let areas : List Area = c.args.areas.now in
+    let before : List Unsaved = c.args.salvage.now.unsaved.items in
+    let told : List Unsaved = c.each.salvage.unsaved.items in
+    let plan : List Area → List (List Numbered) → Plan =
+    lost_plan d c.args.dir.now c.args.lost.now c.each.front (c.args.first + c.each.number) c.each.salvage.uses.items in
+    let whole : List (List Numbered) → Plan =
+    lost_plan d c.args.dir.now c.args.lost.now c.args.front.now c.args.first c.args.salvage.now.uses.items areas in
+    let done : IsDoing old new before told (plan []) whole =
+    subst (λ (left : List (List Numbered) → Plan). IsDoing old new before told left whole)
+    (at_drop_all plan areas c.each.number c.each-test.false) c.each.invariant.doing in
+    all_told old new before told (plan []) whole refl refl done
