@@ -185,9 +185,11 @@ module _ (d : Disk) (base : List ℕ) (a : Area) (number call : ℕ) (folders : 
       → (ns : Numbered) × Stops fault old new (call_made d base a number call folders ns uses f)
   start_stops numbered old new fault stop =
       let name : List ℕ = folder_at base found folders numbered way in
-      let ns : Numbered = record { folder = numbered; entries = [] } in
-      (ns, subst (λ (m : List Made). Stops fault old new m) (call_is ns name p.1.entries refl refl)
-      (stops_first fault old new (folder_made way name) (entries_made d name [] p.0.0 uses number call 0 p.1.entries) stop))
+      let ns : Numbered = record { folder = numbered; entries = [] } in (
+        ns,
+        subst (λ (m : List Made). Stops fault old new m) (call_is ns name p.1.entries refl refl)
+            (stops_first fault old new (folder_made way name) (entries_made d name [] p.0.0 uses number call 0 p.1.entries) stop),
+      )
 
   module _ (ns : Numbered) (name : List ℕ) (named : name ≡ folder_at base found folders ns.folder way) (es : List StoredEntry)
       (are : es ≡ p.1.entries) (old mid new : Option (List Made))

@@ -8,7 +8,7 @@ use Rattle.lfs_host.specs.NewFolder.{Made, Makes}
 use Rattle.lfs_salvage.specs.AllMade.{all_lost_made, all_lost_unsaved, all_lost_uses, front_behind_all}
 use Rattle.lfs_salvage.specs.AreaMade.{area_made, area_unsaved, area_uses}
 use Rattle.lfs_salvage.specs.Lost.{front_behind_root}
-use Rattle.lfs_salvage.specs.Numbered.{Numbered, first_area, later_areas}
+use Rattle.lfs_salvage.specs.Numbered.{Numbered}
 use Rattle.lfs_salvage.specs.PartsUsed.{areas_uses}
 use Rattle.lfs_salvage.specs.Saved.{AreLeft, StopsSaving, image_made, image_unsaved, image_uses, lost_of, survey_front, survey_made, survey_part, survey_unsaved, survey_uses, uses_between, uses_first}
 use Rattle.lfs_salvage.specs.Saving.{MakesFirst, Saves, Stops}

@@ -31,12 +31,13 @@ returns-in-Refused-clause-made g c =
     let folders : List (List ℕ) = map (λ f. string_bytes f) c.args.folders.now in
     let uses : List BlockUse = c.args.salvage.now.uses.items in
     let f : Found = c.args.found.now in
-    let none : Numbered = record { folder = false; entries = [] } in
-    (none,
-    subst (λ (x : Found). IfOk c.name_of.result (λ name. string_bytes name ≡ folder_of base a folders false call x)) (sym c.in-Refused.is)
-    c.name_of.ensures.value,
-    subst (λ (x : Found). Saves c.name_of.result old old (call_made d base a c.args.number call folders none uses x)) (sym c.in-Refused.is)
-    (nothing_saved c.name_of.result old c.name_of.ensures.stopped))
+    let none : Numbered = record { folder = false; entries = [] } in (
+      none,
+      subst (λ (x : Found). IfOk c.name_of.result (λ name. string_bytes name ≡ folder_of base a folders false call x)) (sym c.in-Refused.is)
+          c.name_of.ensures.value,
+      subst (λ (x : Found). Saves c.name_of.result old old (call_made d base a c.args.number call folders none uses x)) (sym c.in-Refused.is)
+          (nothing_saved c.name_of.result old c.name_of.ensures.stopped),
+    )
 
 pub returns-in_err-name-clause-made : goal.returns-in_err-name-clause-made
 returns-in_err-name-clause-made g c =
@@ -50,7 +51,9 @@ returns-in_err-name-clause-made g c =
     let f : Found = c.args.found.now in
     let way : Way = c.way_at-way.result in
     let found : List Found = c.deref-2.result.now in
-    let by_way : way ≡ way_at a.calls.items call = c.way_at-way.ensures ∙ ap (λ (cs : List Call). way_at cs call) c.deref.ensures.value in
+    let by_calls : way ≡ way_at c.deref.result.now call = c.way_at-way.ensures in
+    let calls : c.deref.result.now ≡ a.calls.items = c.deref.ensures.value in
+    let by_way : way ≡ way_at a.calls.items call = by_calls ∙ ap (λ (cs : List Call). way_at cs call) calls in
     let mid : Option (List Made) = (g.F.Known.known c.start_folder.new.folder).made in
     let made = c.in_err-name.ensures.made in
     let stop = start_stops d base a c.args.number call folders uses f _ c.in-Part.is way found by_way c.deref-2.ensures.value made.0 old mid
@@ -70,17 +73,24 @@ returns-in_err-save_entries-clause-made g c =
     let f : Found = c.args.found.now in
     let way : Way = c.way_at-way.result in
     let found : List Found = c.deref-2.result.now in
-    let by_way : way ≡ way_at a.calls.items call = c.way_at-way.ensures ∙ ap (λ (cs : List Call). way_at cs call) c.deref.ensures.value in
+    let by_calls : way ≡ way_at c.deref.result.now call = c.way_at-way.ensures in
+    let calls : c.deref.result.now ≡ a.calls.items = c.deref.ensures.value in
+    let by_way : way ≡ way_at a.calls.items call = by_calls ∙ ap (λ (cs : List Call). way_at cs call) calls in
     let mid : Option (List Made) = (g.F.Known.known c.start_folder.new.folder).made in
     let new : Option (List Made) = (g.F.Known.known c.save_entries.new.folder).made in
     let is = c.in-Part.is ∙ ap (λ (p : Pair × StoredPart). Part p) (sym c.part.view_is) in
+    let text : c.as_str.result.now ≡ string_bytes c.in_ok-name.name = c.as_str.ensures.value in
     let begun = c.in_ok-name.ensures.made in
     let made = c.in_err-save_entries.ensures.made in
     let ns : Numbered = record { folder = begun.0; entries = made.0 } in
     let p = err_from_is_err_and c.from_residual-in_err-save_entries.result c.from_residual-in_err-save_entries.ensures.1 in
-    rw (p.1, p.2) (ns, tt, entries_stop d base a c.args.number call folders uses f _ is way found by_way c.deref-2.ensures.value ns
-    c.as_str.result.now (c.as_str.ensures.value ∙ begun.1) c.deref-3.result.now c.deref-3.ensures.value old mid new begun.2
-    c.in_err-save_entries.field-0.0 made.1)
+    rw (p.1, p.2) (
+      ns,
+      tt,
+      entries_stop d base a c.args.number call folders uses f _ is way found by_way c.deref-2.ensures.value ns
+          c.as_str.result.now (text ∙ begun.1) c.deref-3.result.now c.deref-3.ensures.value old mid new begun.2
+          c.in_err-save_entries.field-0.0 made.1,
+    )
 
 pub returns-in_err-save_entries-clause-below : goal.returns-in_err-save_entries-clause-below
 returns-in_err-save_entries-clause-below g c = λ top above all.
@@ -100,16 +110,21 @@ returns-clause-made g c =
     let f : Found = c.args.found.now in
     let way : Way = c.way_at-way.result in
     let found : List Found = c.deref-2.result.now in
-    let by_way : way ≡ way_at a.calls.items call = c.way_at-way.ensures ∙ ap (λ (cs : List Call). way_at cs call) c.deref.ensures.value in
+    let by_calls : way ≡ way_at c.deref.result.now call = c.way_at-way.ensures in
+    let calls : c.deref.result.now ≡ a.calls.items = c.deref.ensures.value in
+    let by_way : way ≡ way_at a.calls.items call = by_calls ∙ ap (λ (cs : List Call). way_at cs call) calls in
     let mid : Option (List Made) = (g.F.Known.known c.start_folder.new.folder).made in
     let new : Option (List Made) = (g.F.Known.known c.save_entries.new.folder).made in
     let is = c.in-Part.is ∙ ap (λ (p : Pair × StoredPart). Part p) (sym c.part.view_is) in
+    let text : c.as_str.result.now ≡ string_bytes c.in_ok-name.name = c.as_str.ensures.value in
     let begun = c.in_ok-name.ensures.made in
     let made = c.in_ok-save_entries.ensures.made in
-    let ns : Numbered = record { folder = begun.0; entries = made.0 } in
-    (ns, begun.1 ∙ folder_is d base a c.args.number call folders uses f _ is way found by_way c.deref-2.ensures.value begun.0,
-    entries_done d base a c.args.number call folders uses f _ is way found by_way c.deref-2.ensures.value ns c.as_str.result.now
-    (c.as_str.ensures.value ∙ begun.1) c.deref-3.result.now c.deref-3.ensures.value old mid new begun.2 made.1)
+    let ns : Numbered = record { folder = begun.0; entries = made.0 } in (
+      ns,
+      begun.1 ∙ folder_is d base a c.args.number call folders uses f _ is way found by_way c.deref-2.ensures.value begun.0,
+      entries_done d base a c.args.number call folders uses f _ is way found by_way c.deref-2.ensures.value ns c.as_str.result.now
+          (text ∙ begun.1) c.deref-3.result.now c.deref-3.ensures.value old mid new begun.2 made.1,
+    )
 
 pub returns-clause-below : goal.returns-clause-below
 returns-clause-below g c = λ top above all.

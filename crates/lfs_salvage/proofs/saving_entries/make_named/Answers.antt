@@ -1,5 +1,5 @@
 -- A file is made, or the host refuses it.
-use Rattle.std.proofs.Common.{◌≡◌, ◌∙◌, false, List, ℕ, Option, subst, sym}
+use Rattle.std.proofs.Common.{◌∙◌, false, List, ℕ, Option, subst, sym}
 use Rattle.std.proofs.lemmas.Result.{err_from_is_err_and}
 use Rattle.lfs_extract.specs.Making.{contents_of}
 use Rattle.lfs_folder.specs.PathBelow.{name_in}

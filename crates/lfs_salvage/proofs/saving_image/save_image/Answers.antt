@@ -1,5 +1,5 @@
 -- The areas of the survey, and then those of blocks by themselves.
-use Rattle.std.proofs.Common.{◌≡◌, ◌∙◌, List, ℕ, Ok, Err, Option, ap, length, subst, vec_len}
+use Rattle.std.proofs.Common.{◌≡◌, ◌∙◌, List, ℕ, Ok, Err, Option, ap, length, string_bytes, subst, vec_len}
 use Rattle.std.proofs.lemmas.Result.{err_from_is_err_and}
 use Rattle.lfs_block.specs.Disk.{Disk}
 use Rattle.lfs_extract.specs.declared.extract_fault.ExtractFault.TheVariants.{Memory}
@@ -30,11 +30,12 @@ returns-in_err-save_survey-clause-stopped g c =
     let survey : Survey = c.in_ok-survey.survey in
     let areas : List Area = survey.areas.items in
     let uses : List BlockUse = c.in_ok-salvage.salvage.uses.items in
-    let there : lost ≡ lost_of dir areas =
-    c.as_str-lost.ensures.value ∙ c.in_ok-lost.ensures.value ∙ ap (lost_of dir) c.deref-2.ensures.value in
+    let text : lost ≡ string_bytes c.in_ok-lost.lost = c.as_str-lost.ensures.value in
+    let named : string_bytes c.in_ok-lost.lost ≡ lost_of dir c.deref-2.result.now = c.in_ok-lost.ensures.value in
+    let there : lost ≡ lost_of dir areas = text ∙ named ∙ ap (lost_of dir) c.deref-2.ensures.value in
+    let first : uses ≡ uses_at_first c.count.result c.deref.result.now = c.in_ok-salvage.ensures.uses in
     let begun : uses ≡ uses_first d areas =
-    c.in_ok-salvage.ensures.uses ∙ ap (λ (n : ℕ). uses_at_first n c.deref.result.now) c.count.ensures
-    ∙ ap (uses_at_first d.count) c.deref.ensures.value in
+    first ∙ ap (λ (n : ℕ). uses_at_first n c.deref.result.now) c.count.ensures ∙ ap (uses_at_first d.count) c.deref.ensures.value in
     let p = err_from_is_err_and c.from_residual-in_err-save_survey.result c.from_residual-in_err-save_survey.ensures.1 in
     let made = c.in_err-save_survey.ensures.made in
     rw (p.1, p.2) (stops_surveyed d e dir old mid survey c.in_ok-survey.ensures made.0 c.in_err-save_survey.field-0.0
@@ -52,11 +53,12 @@ returns-in_err-lone-clause-stopped g c =
     let survey : Survey = c.in_ok-survey.survey in
     let areas : List Area = survey.areas.items in
     let uses : List BlockUse = c.in_ok-salvage.salvage.uses.items in
-    let there : lost ≡ lost_of dir areas =
-    c.as_str-lost.ensures.value ∙ c.in_ok-lost.ensures.value ∙ ap (lost_of dir) c.deref-2.ensures.value in
+    let text : lost ≡ string_bytes c.in_ok-lost.lost = c.as_str-lost.ensures.value in
+    let named : string_bytes c.in_ok-lost.lost ≡ lost_of dir c.deref-2.result.now = c.in_ok-lost.ensures.value in
+    let there : lost ≡ lost_of dir areas = text ∙ named ∙ ap (lost_of dir) c.deref-2.ensures.value in
+    let first : uses ≡ uses_at_first c.count.result c.deref.result.now = c.in_ok-salvage.ensures.uses in
     let begun : uses ≡ uses_first d areas =
-    c.in_ok-salvage.ensures.uses ∙ ap (λ (n : ℕ). uses_at_first n c.deref.result.now) c.count.ensures
-    ∙ ap (uses_at_first d.count) c.deref.ensures.value in
+    first ∙ ap (λ (n : ℕ). uses_at_first n c.deref.result.now) c.count.ensures ∙ ap (uses_at_first d.count) c.deref.ensures.value in
     let all = c.in_ok-save_survey.ensures.made in
     let made : Makes old mid (survey_part d dir all.0 areas) =
     subst (λ (m : List Made). Makes old mid m)
@@ -77,11 +79,12 @@ returns-in_err-save_all_lost-clause-stopped g c =
     let survey : Survey = c.in_ok-survey.survey in
     let areas : List Area = survey.areas.items in
     let uses : List BlockUse = c.in_ok-salvage.salvage.uses.items in
-    let there : lost ≡ lost_of dir areas =
-    c.as_str-lost.ensures.value ∙ c.in_ok-lost.ensures.value ∙ ap (lost_of dir) c.deref-2.ensures.value in
+    let text : lost ≡ string_bytes c.in_ok-lost.lost = c.as_str-lost.ensures.value in
+    let named : string_bytes c.in_ok-lost.lost ≡ lost_of dir c.deref-2.result.now = c.in_ok-lost.ensures.value in
+    let there : lost ≡ lost_of dir areas = text ∙ named ∙ ap (lost_of dir) c.deref-2.ensures.value in
+    let first : uses ≡ uses_at_first c.count.result c.deref.result.now = c.in_ok-salvage.ensures.uses in
     let begun : uses ≡ uses_first d areas =
-    c.in_ok-salvage.ensures.uses ∙ ap (λ (n : ℕ). uses_at_first n c.deref.result.now) c.count.ensures
-    ∙ ap (uses_at_first d.count) c.deref.ensures.value in
+    first ∙ ap (λ (n : ℕ). uses_at_first n c.deref.result.now) c.count.ensures ∙ ap (uses_at_first d.count) c.deref.ensures.value in
     let used : List BlockUse = c.save_survey.new.salvage.uses.items in
     let told : List Unsaved = c.save_survey.new.salvage.unsaved.items in
     let front : Front = c.save_survey.new.front in
@@ -119,11 +122,12 @@ returns-in_err-append-clause-stopped g c =
     let survey : Survey = c.in_ok-survey.survey in
     let areas : List Area = survey.areas.items in
     let uses : List BlockUse = c.in_ok-salvage.salvage.uses.items in
-    let there : lost ≡ lost_of dir areas =
-    c.as_str-lost.ensures.value ∙ c.in_ok-lost.ensures.value ∙ ap (lost_of dir) c.deref-2.ensures.value in
+    let text : lost ≡ string_bytes c.in_ok-lost.lost = c.as_str-lost.ensures.value in
+    let named : string_bytes c.in_ok-lost.lost ≡ lost_of dir c.deref-2.result.now = c.in_ok-lost.ensures.value in
+    let there : lost ≡ lost_of dir areas = text ∙ named ∙ ap (lost_of dir) c.deref-2.ensures.value in
+    let first : uses ≡ uses_at_first c.count.result c.deref.result.now = c.in_ok-salvage.ensures.uses in
     let begun : uses ≡ uses_first d areas =
-    c.in_ok-salvage.ensures.uses ∙ ap (λ (n : ℕ). uses_at_first n c.deref.result.now) c.count.ensures
-    ∙ ap (uses_at_first d.count) c.deref.ensures.value in
+    first ∙ ap (λ (n : ℕ). uses_at_first n c.deref.result.now) c.count.ensures ∙ ap (uses_at_first d.count) c.deref.ensures.value in
     let used : List BlockUse = c.save_survey.new.salvage.uses.items in
     let told : List Unsaved = c.save_survey.new.salvage.unsaved.items in
     let front : Front = c.save_survey.new.front in
@@ -161,11 +165,12 @@ returns-clause-saved g c =
     let survey : Survey = c.in_ok-survey.survey in
     let areas : List Area = survey.areas.items in
     let uses : List BlockUse = c.in_ok-salvage.salvage.uses.items in
-    let there : lost ≡ lost_of dir areas =
-    c.as_str-lost.ensures.value ∙ c.in_ok-lost.ensures.value ∙ ap (lost_of dir) c.deref-2.ensures.value in
+    let text : lost ≡ string_bytes c.in_ok-lost.lost = c.as_str-lost.ensures.value in
+    let named : string_bytes c.in_ok-lost.lost ≡ lost_of dir c.deref-2.result.now = c.in_ok-lost.ensures.value in
+    let there : lost ≡ lost_of dir areas = text ∙ named ∙ ap (lost_of dir) c.deref-2.ensures.value in
+    let first : uses ≡ uses_at_first c.count.result c.deref.result.now = c.in_ok-salvage.ensures.uses in
     let begun : uses ≡ uses_first d areas =
-    c.in_ok-salvage.ensures.uses ∙ ap (λ (n : ℕ). uses_at_first n c.deref.result.now) c.count.ensures
-    ∙ ap (uses_at_first d.count) c.deref.ensures.value in
+    first ∙ ap (λ (n : ℕ). uses_at_first n c.deref.result.now) c.count.ensures ∙ ap (uses_at_first d.count) c.deref.ensures.value in
     let used : List BlockUse = c.save_survey.new.salvage.uses.items in
     let told : List Unsaved = c.save_survey.new.salvage.unsaved.items in
     let front : Front = c.save_survey.new.front in

@@ -89,6 +89,10 @@ each-preserved g c =
     made.1 c.in_ok-save_lost.ensures.unsaved in
     let used : c.save_lost.new.salvage.uses.items ≡ lost_uses d n uses a = c.in_ok-save_lost.ensures.uses in
     let lacks : c.save_lost.new.front ≡ front_behind c.each.front a = c.in_ok-save_lost.ensures.front in
+    let step : front_behind_all c.each.front (drop c.each.number areas)
+    ≡ front_behind_all (front_behind c.each.front a) (drop (c.each.number + 1) areas) =
+    front_more c.each.front c.each.number areas a c.each-test.true c.index-areas-number.is in
+    let ahead : front_behind_all c.each.front (drop c.each.number areas) ≡ front_behind_all c.args.front.now areas = c.each.invariant.front in
     let further : n + 1 ≡ c.args.first + (c.each.number + 1) = omega arith in
     record {
       doing = subst (λ (m : ℕ). IsDoing old new before more (next c.save_lost.new.front m c.save_lost.new.salvage.uses.items) whole) further
@@ -98,7 +102,7 @@ each-preserved g c =
           (sym used) done));
       front = subst (λ (f : Front). front_behind_all f (drop (c.each.number + 1) areas) ≡ front_behind_all c.args.front.now areas)
           (sym lacks)
-          (sym (front_more c.each.front c.each.number areas a c.each-test.true c.index-areas-number.is) ∙ c.each.invariant.front);
+          (sym step ∙ ahead);
       below = below_then dir old mid new c.each.invariant.below c.save_lost.ensures.below;
       kept = (
         c.save_lost.ensures.kept.0 ∙ c.each.invariant.kept.0,
