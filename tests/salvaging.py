@@ -3,6 +3,7 @@
 finds in the image as it was."""
 import pathlib
 import random
+import re
 import struct
 import sys
 import tempfile
@@ -25,6 +26,11 @@ def made_in(place):
         return None
     return {tuple(str(name).encode() for name in path.relative_to(place).parts): path.read_bytes()
             for path in place.rglob("*") if path.is_file()}
+
+
+def without_numbers(names):
+    """The names on a file's way, the last one without the numbers that stand behind what was refused."""
+    return names[:-1] + (re.sub(rb"~[0-9]+\.[0-9]+\Z", b"", names[-1]),)
 
 
 def cleared(place):
@@ -109,6 +115,13 @@ DAMAGED = [
     ("names that no host takes",
      file(1, b"\0", b"two") + directory(2, b"etc", (2, 3)) + file(3, b"\xff\\", b"one") + tail(SOFT, (2, 3)), {},
      "3 NoValidCommit", True, [f"blocks 2 and 3 (/etc): {UNREAD}"], {"\\xff\\x5c": b"one", "\\x00": b"two"}),
+    ("a name twice", file(1, b"a", b"one") + file(2, b"a", b"two") + file(3, b"a", b"three"), {}, "13 OrderFault", False, [],
+     {"a": b"one", "a~0.2": b"two", "a~0.3": b"three"}),
+    ("a name of a file and of directories", file(1, b"a", b"one") + directory(2, b"a", (2, 3)) + directory(3, b"a", (5, 4)) + tail(SOFT, (2, 3)),
+     {2: file(0, b"f", b"two") + file(1, b"f", b"three") + tail(SOFT, (5, 4)), 5: file(0, b"g", b"four")}, "13 OrderFault", False, [],
+     {"a": b"one", "a~0.2/f": b"two", "a~0.2/f~2.1": b"three", "a~0.3/g": b"four"}),
+    ("a word that is another's name", file(1, b"\\xff", b"one") + directory(2, b"etc", (2, 3)) + file(3, b"\xff", b"two") + tail(SOFT, (2, 3)),
+     {}, "3 NoValidCommit", True, [f"blocks 2 and 3 (/etc): {UNREAD}"], {"\\xff": b"one", "\\xff~0.3": b"two"}),
     ("a name that is taken", file(1, b"lost+found", b"one") + tail(SOFT, (2, 3)), {2: file(0, b"f", b"two")}, "17 Orphan", False,
      ["blocks 2 and 3: no path leads there: saved as lost+found~/2"], {"lost+found": b"one", "lost+found~/2/f": b"two"}),
 ]
@@ -189,8 +202,23 @@ def calls_that_fail(folder):
                     break
                 is_told = status == 4 and told.startswith(("lfsed: 60 CannotRead\n", "lfsed: 61 CannotWrite\n"))
                 folder.check(f"{call} {at}", (is_told or status == 3) and not printed, (status, told))
+                numbered = [names for names in found if names not in whole]
+                folder.check(f"{call} {at}: one name has its numbers", len(numbered) <= (call == "open" and status == 3), numbered)
+                found = {without_numbers(names): held for names, held in found.items()}
                 is_front = all(whole.get(names, b"-").startswith(held) for names, held in found.items())
                 folder.check(f"{call} {at}: a beginning", is_front and (status == 4 or found == whole), found)
+
+
+def what_is_refused_twice(folder):
+    """A name of which the second one doesn't fit with its numbers ends the run: what comes before it is made."""
+    long = 255 * b"n"
+    folder.be(damaged_image(file(1, b"a", b"one") + file(2, long, b"two") + file(3, long, b"three") + file(4, b"z", b"four"), {}), 0)
+    place = folder.image.with_name("made")
+    ended = folder.run("salvage -b 512 a.img made")
+    told = "lfsed: 61 CannotWrite\nlfsed: made: File name too long (os error 36)\n"
+    folder.check("refused twice", ended == (4, told, b""), ended)
+    folder.check("refused twice: a beginning", made_in(place) == {(b"a",): b"one", (long,): b"two"}, made_in(place))
+    cleared(place)
 
 
 def what_is_there_stays(folder):
@@ -281,13 +309,13 @@ def damaged_images(folder, many=100, seed=11):
         harmed = harms(chance, data)
         status, told, made = saved(folder, f"image {n}", harmed)
         judge = Salvaged(data, harmed, SIZE)
-        wrong = [names for names, held in (made or {}).items() if not judge.allows(names[-1], held)]
+        wrong = [names for names, held in (made or {}).items() if not judge.allows(without_numbers(names)[-1], held)]
         folder.check(f"image {n}: nothing but what was there", not wrong, (wrong[:3], told))
 
 
 SCENES = [
-    each_kind_of_damage, a_dump_of_a_device, noise, many_names_of_one_file, calls_that_fail, what_is_there_stays, one_block_is_lost,
-    damaged_images,
+    each_kind_of_damage, a_dump_of_a_device, noise, many_names_of_one_file, calls_that_fail, what_is_refused_twice, what_is_there_stays,
+    one_block_is_lost, damaged_images,
 ]
 
 if __name__ == "__main__":
