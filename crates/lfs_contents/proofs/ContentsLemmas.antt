@@ -17,7 +17,7 @@ use Rattle.lfs_fs.specs.Tree.{Node, File, Dir, entry_in, entry_at, node, node_of
 use Rattle.lfs_fs.specs.Outlined.{outlined}
 use Rattle.lfs_fs.specs.RowShown.{HasBlocks, RowsShowTheTree, shown_body, shown_node}
 use Rattle.lfs_fs.specs.Mounted.{MountedValue, IsMountOf}
-use Rattle.lfs_fs.proofs.EntryAtLemmas.{walk-append, step_some}
+use Rattle.lfs_fs.proofs.EntryAtLemmas.{some_entry, walk-append, step_some}
 use Rattle.lfs_command.specs.declared.refusal.Refusal.{Refusal}
 use Rattle.lfs_command.specs.declared.refusal.Refusal.TheVariants.{NotFound, NotADirectory, BadPath, AttrTooLarge, NoAttr, EntryTooLarge}
 use Rattle.lfs_command.specs.declared.refusal.Refusal.TheVariants.{Memory, Exists, IsADirectory, NotEmpty, NameTooLong, FileTooLarge}
@@ -57,10 +57,6 @@ walk_reached v front (n ∷ ns) e there =
     ap (λ (o : Option Node). walk_refusal_at o (walk_refusal (tree v) (front ++ n ∷ []) ns))
     (ap (option_map node) above.2 ∙ ap Some (shows_directory f.body f.attributes above.1 above.3))
     ∙ walk_reached v (front ++ n ∷ []) ns e (ap (entry_at v) (append_assoc front (n ∷ []) ns) ∙ there)
-
-pub some_entry : (o : Option Entry) (x : Node) → option_map node o ≡ Some x → (e : Entry) × (o ≡ Some e)
-some_entry None x h = absurd (none-some x h)
-some_entry (Some e) x h = (e, refl)
 
 pub reached : (v : Volume) (path : Path) (x : Node) → tree v path ≡ Some x → walk_refusal (tree v) [] path ≡ None
 reached v path x there = let e = some_entry (entry_at v path) x there in walk_reached v [] path e.0 e.1

@@ -1,2 +1,1 @@
 pub mod ContentsLemmas
-pub mod SentLemmas

@@ -1,8 +1,7 @@
 //! The contents of a file, sent to a sink.
 
-ghost use Rattle.std.specs.Prelude.{◌≡◌, ◌⊎◌, ◌<◌, ◌≤◌, All, false, not, length, List, ℕ, MatchResult, IfOk, IfErr};
+ghost use Rattle.std.specs.Prelude.{◌≡◌, ◌⊎◌, false, List, ℕ, MatchResult, IfErr};
 ghost use Rattle.std.specs.Io.KnownBytes.{Keeps};
-ghost use Rattle.lfs_file.specs.Content.{content};
 ghost use Rattle.lfs_meta.specs.Attribute.{Attributes};
 ghost use Rattle.lfs_fs.specs.Mounted.{IsMountOf};
 ghost use Rattle.lfs_fs.specs.OutlineHeld.{outline_body_held};
@@ -16,32 +15,11 @@ ghost use Rattle.lfs_sink.specs.Send.{Sends};
 use lfs_block::Blocks;
 use lfs_command::{Refusal, names_of};
 use lfs_draft::entry_there;
-use lfs_file::read_file;
+use lfs_file::send_blocks;
 use lfs_fs::{Mounted, OutlineBody, rows_show_the_tree};
 use lfs_law::outlines_are_judged_alike;
 use lfs_sink::{Sink, send};
 use std::alloc::Global;
-
-/// Sends the contents of a file of `size` bytes in these blocks, slice by slice: `true` where they went out, `false` where the sink
-/// failed after a beginning of them. The caller owes that the blocks are on the disk, and no more than it has, and that the sink has not
-/// failed before. Takes no memory.
-///
-/// Source: DESIGN.md, "CTZ skip-lists".
-pub fn send_blocks<B: Blocks, S: Sink>(disk: &B, blocks: &[u32], size: u32, out: &mut S) -> bool
-    requires below { All (λ b. b < (B.disk disk.now).count) blocks.now }
-    requires few { length blocks.now ≤ (B.disk disk.now).count }
-    requires works { S.failed out.old ≡ false }
-    ensures sent { Sends result (S.sent out.old) (S.sent out.new) (content (B.disk disk.now) size blocks.now) }
-    ensures failed { S.failed out.new ≡ not result }
-    ensures kept { S.kept out.new ≡ S.kept out.old }
-{
-    for slice in read_file(disk, blocks, size) {
-        if !send(out, slice) {
-            return false;
-        }
-    }
-    true
-}
 
 /// Sends the contents of the file whose body this is: `IsADirectory` where it is a directory's. The caller owes that its blocks are on
 /// the disk, and no more than it has, and that the sink has not failed before.

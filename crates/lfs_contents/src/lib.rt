@@ -3,4 +3,4 @@
 
 mod contents;
 
-pub use contents::{send_blocks, send_file};
+pub use contents::send_file;

@@ -13,11 +13,11 @@ use Rattle.lfs_fs.specs.Row.{Row, RowsRise, path_precedes}
 use Rattle.lfs_fs.specs.RowShown.{RowsShowTheTree, shown_node}
 use Rattle.lfs_fs.specs.Tree.{Node, entry_at, tree}
 use Rattle.lfs_fs.specs.Volume.{Volume}
+use Rattle.lfs_fs.proofs.EntryAtLemmas.{some_entry}
 use Rattle.lfs_fs.proofs.OutlinedLemmas.{outlined_at}
 use Rattle.lfs_fs.proofs.ContainsLemmas.{contains_mapped}
 use Rattle.lfs_extract.specs.Extracted.{all_made}
 use Rattle.lfs_extract.specs.TreeMade.{AreOfTree, IsMadeAt}
-use Rattle.lfs_contents.proofs.ContentsLemmas.{some_entry}
 
 abbrev paths_of : List Row → List Path
 paths_of rows = map (λ (r : Row). r.path) rows

@@ -12,7 +12,7 @@ ghost use Rattle.lfs_extract.specs.Extracted.{made_as};
 
 use crate::file_sink::FileSink;
 use lfs_block::Blocks;
-use lfs_contents::send_blocks;
+use lfs_file::send_blocks;
 use lfs_fs::{Row, RowBody};
 use lfs_host::{HostFault, NewFolder};
 use lfs_sink::{Sink, send};

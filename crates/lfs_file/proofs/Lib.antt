@@ -5,6 +5,7 @@ pub mod LaidLemmas
 pub mod LayingLemmas
 pub mod PointerLemmas
 pub mod RoomLemmas
+pub mod SentLemmas
 pub mod SkipListLemmas
 pub mod SliceLemmas
 pub mod WalkLemmas

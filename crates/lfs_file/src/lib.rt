@@ -6,6 +6,7 @@ mod file_slices;
 mod laws;
 mod laying;
 mod pointer;
+mod sending;
 mod skip_list;
 
 pub use capacity::blocks_for;
@@ -15,4 +16,5 @@ pub use laws::{
     files_have_one_chain, laid_blocks_are_chains, laid_blocks_are_whole, least_blocks_are_least,
 };
 pub use laying::lay;
+pub use sending::send_blocks;
 pub use skip_list::chain;

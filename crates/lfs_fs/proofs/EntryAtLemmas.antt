@@ -3,7 +3,7 @@ use Rattle.std.proofs.Common.{◌≡◌, Bool, true, false, List, [], ◌∷◌,
 use Rattle.std.proofs.Common.{append_assoc, arith, zero, suc}
 use Rattle.std.specs.Prelude.{bytes_eq, find, if◌then◌else◌}
 use Rattle.std.specs.List.{All, Contains}
-use Rattle.std.specs.Option.{option_and_then}
+use Rattle.std.specs.Option.{option_and_then, option_map}
 use Rattle.std.proofs.lemmas.Option.{none-some, same_Some}
 use Rattle.std.proofs.lemmas.Slice.Eq.{bytes_eq-Decides}
 use Rattle.std.proofs.lemmas.List.Elements.{All-contains}
@@ -15,7 +15,7 @@ use Rattle.lfs_fs.specs.Graph.{step, walk}
 use Rattle.lfs_fs.specs.Entry.{Entry, target, is_named}
 use Rattle.lfs_fs.specs.Directory.{Directory, entries, begins_at}
 use Rattle.lfs_fs.specs.Volume.{Volume}
-use Rattle.lfs_fs.specs.Tree.{entry_in, entry_at, top}
+use Rattle.lfs_fs.specs.Tree.{Node, entry_in, entry_at, node, top}
 use Rattle.lfs_fs.specs.Sound.{Rise}
 use Rattle.lfs_fs.proofs.NameOrderLemmas.{precedes_irreflexive}
 use Rattle.lfs_fs.proofs.ApartLemmas.{same_bytes}
@@ -135,3 +135,8 @@ stands_below v p n f h =
       member = one.0;
       named = (bytes_eq-Decides n f.name).0 one.1;
     }
+
+-- what shows a node is an entry
+pub some_entry : (o : Option Entry) (x : Node) → option_map node o ≡ Some x → (e : Entry) × (o ≡ Some e)
+some_entry None x h = absurd (none-some x h)
+some_entry (Some e) x h = (e, refl)

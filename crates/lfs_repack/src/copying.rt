@@ -16,7 +16,7 @@ ghost use Rattle.lfs_repack.specs.RowText.{shown_text, source_text};
 use crate::laws::{rows_are_of_their_texts, rows_pack_to_their_tree};
 use crate::source_row::SourceRow;
 use lfs_block::Blocks;
-use lfs_contents::send_blocks;
+use lfs_file::send_blocks;
 use lfs_fs::{Mounted, Row, RowBody, Rows, follow, rows_show_the_tree};
 use lfs_meta::Attribute;
 use lfs_sink::MemorySink;

@@ -2,8 +2,8 @@
 use Rattle.std.proofs.Common.{◌∙◌, ◌++◌, List, ℕ, sym, ap}
 use Rattle.std.specs.List.{concat}
 use Rattle.lfs_file.specs.Content.{content}
-use Rattle.lfs_contents.proofs.SentLemmas.{slice_cut, slice_sent}
-use Rattle.lfs_contents.proofs.contents.send_blocks.Goals as goal
+use Rattle.lfs_file.proofs.SentLemmas.{slice_cut, slice_sent}
+use Rattle.lfs_file.proofs.sending.send_blocks.Goals as goal
 
 pub returns-then-not-send-clause-sent : goal.returns-then-not-send-clause-sent
 returns-then-not-send-clause-sent g c =

@@ -2,7 +2,7 @@ use Rattle.std.proofs.Common.{◌≡◌, ◌++◌, false, List, ℕ}
 use Rattle.std.specs.List.{concat}
 use Rattle.std.specs.Io.KnownBytes.{Appends}
 use Rattle.lfs_file.specs.Content.{content}
-use Rattle.lfs_contents.proofs.contents.send_blocks.Given as goal
+use Rattle.lfs_file.proofs.sending.send_blocks.Given as goal
 
 -- the slices so far went out, and those that are left are the other contents
 abbrev pub invariant-loop-slice : goal.invariant-loop-slice
