@@ -1,11 +1,12 @@
-//! Where text goes: a sink of bytes, one over std's writers and one in memory, what can be sent, sending a whole text, and one write to
-//! a writer.
+//! Where text goes: a sink of bytes, one over std's writers and one in memory, what can be sent, sending a whole text, one write to a
+//! writer, and bytes that wait before it.
 #![tactic(auto)]
 
 mod memory_sink;
 mod sending;
 mod sink;
 mod text;
+mod waiting;
 mod writer_sink;
 mod writing;
 
@@ -13,5 +14,5 @@ pub use memory_sink::MemorySink;
 pub use sending::send;
 pub use sink::Sink;
 pub use text::Text;
+pub use waiting::{write_later, write_rest, write_text};
 pub use writer_sink::Out;
-pub use writing::write_some;

@@ -14,7 +14,7 @@ fn takes_none() -> io::Error {
 /// took none. A write that is interrupted is tried again. The caller owes a byte. Takes memory for nothing but an error.
 ///
 /// Source: own.
-pub fn write_some<W: Write>(writer: &mut W, bytes: &[u8]) -> io::Result<usize>
+pub(crate) fn write_some<W: Write>(writer: &mut W, bytes: &[u8]) -> io::Result<usize>
     requires some { 0 < length bytes.now }
     ensures count { IfOk result (λ n. (0 < n) × (n ≤ length bytes.now)) }
     ensures sent { WriteAppends (W.contents writer.old) (W.contents writer.new) result bytes.now }

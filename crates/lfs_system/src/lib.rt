@@ -5,6 +5,5 @@ mod files;
 mod folders;
 mod standard;
 mod terminal;
-mod waiting;
 
 pub use terminal::Terminal;

@@ -1,6 +1,6 @@
 use Rattle.std.proofs.Common.{length}
 use Rattle.std.specs.Io.KnownBytes.{Keeps, append_known}
-use Rattle.lfs_system.proofs.waiting.write_rest.Given as goal
+use Rattle.lfs_sink.proofs.waiting.write_rest.Given as goal
 
 abbrev pub invariant-rest : goal.invariant-rest
 invariant-rest g l =

@@ -3,7 +3,9 @@
 ghost use Rattle.std.specs.Prelude.{◌≡◌, ◌<◌, ◌≤◌, [], length, IfOk, OnOk};
 ghost use Rattle.std.specs.Io.KnownBytes.{Appends, Keeps, WriteAppends, append_known};
 
-use lfs_sink::{Sink, Text, write_some};
+use crate::sink::Sink;
+use crate::text::Text;
+use crate::writing::write_some;
 use std::alloc::Global;
 use std::io::{self, Write};
 
