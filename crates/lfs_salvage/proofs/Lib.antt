@@ -9,3 +9,4 @@ pub mod ApartLemmas
 pub mod LostLemmas
 pub mod LostFolderLemmas
 pub mod SavedLemmas
+pub mod LostWordLemmas

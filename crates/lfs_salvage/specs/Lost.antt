@@ -1,5 +1,5 @@
 -- The folder for what no path leads to (own).
-use Rattle.std.specs.Prelude.{ℕ, ◌-◌, ◌++◌, max, Bool, true, false, List, [], ◌∷◌, codes, fold, if◌then◌else◌, length, nat_eq, replicate}
+use Rattle.std.specs.Prelude.{◌≢◌, ℕ, ◌-◌, ◌++◌, max, Bool, true, false, List, [], ◌∷◌, codes, fold, if◌then◌else◌, Contains, length, nat_eq, replicate}
 use Rattle.std.specs.Fmt.{decimal}
 use Rattle.std.specs.List.{starts_with}
 use Rattle.lfs_folder.specs.PathBelow.{name_in}
@@ -34,6 +34,11 @@ tildes_in fs = fold (λ m f. tildes_of m (found_entries f)) 0 fs
 -- the word that no name among these has
 abbrev pub lost_word : List Found → List ℕ
 lost_word found = lost_name ++ replicate (tildes_in found) 126
+
+-- the law: none has it
+abbrev pub LostWordIsNew : Type 0
+LostWordIsNew = (found : List Found) (f : Found) (e : StoredEntry) → Contains found f → Contains (found_entries f) e
+    → e.name ≢ lost_word found
 
 -- ---- what is in it
 

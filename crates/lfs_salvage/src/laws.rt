@@ -1,6 +1,7 @@
 //! Laws of what is saved: each function does nothing, and its contract is the law.
 
 ghost use Rattle.lfs_salvage.specs.Apart.{ChainsAreApart, PartsAreInUse};
+ghost use Rattle.lfs_salvage.specs.Lost.{LostWordIsNew};
 ghost use Rattle.lfs_salvage.specs.Shown.{LostHaveACause, SavedAreShown};
 
 use lfs_file::{blocks_of_chains_differ, files_have_one_chain};
@@ -28,4 +29,9 @@ pub fn saved_chains_are_apart()
 /// The blocks of the parts that are found are in use at first.
 pub fn parts_are_in_use()
     ensures { PartsAreInUse }
+{}
+
+/// No entry of what is found has the name that `lost_word` answers for it.
+pub fn lost_words_are_new()
+    ensures { LostWordIsNew }
 {}

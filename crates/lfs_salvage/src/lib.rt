@@ -24,7 +24,8 @@ mod words;
 pub use block_use::BlockUse;
 pub use home::Home;
 pub use laws::{
-    lost_files_have_a_cause, parts_are_in_use, saved_chains_are_apart, saved_files_are_shown,
+    lost_files_have_a_cause, lost_words_are_new, parts_are_in_use, saved_chains_are_apart,
+    saved_files_are_shown,
 };
 pub use losses::is_lost;
 pub use lost::lost_word;

@@ -52,7 +52,8 @@ fn tildes_in(found: &[Found]) -> usize
         .fold(0, |most, found| tildes_behind(most, found))
 }
 
-/// The name of the folder for what no path leads to, where this is found of the root's area: none of its names is that. Takes memory.
+/// The name of the folder for what no path leads to, where this is found of the root's area: none of its names is that
+/// (`lost_words_are_new`). Takes memory.
 ///
 /// Source: own.
 pub fn lost_word(alloc: Global, found: &[Found]) -> Result<String, AllocError>
