@@ -1,6 +1,7 @@
 -- A walk along names, one after another.
-use Rattle.std.proofs.Common.{◌≡◌, ℕ, ◌+◌, ◌<◌, List, ◌∷◌, Option, Some, None, length, drop, get_or, map, ap, sym, ◌∙◌, Bor}
-use Rattle.std.specs.Option.{option_and_then}
+use Rattle.std.proofs.Common.{◌≡◌, ℕ, ◌+◌, ◌<◌, List, ◌∷◌, Option, Some, None, length, drop, get_or, map, Result, ap, sym, ◌∙◌, Bor}
+use Rattle.std.specs.Option.{ok_or, option_and_then}
+use Rattle.std.specs.Result.{IfOk, IfErr}
 use Rattle.std.proofs.lemmas.List.{drop_more}
 use Rattle.std.proofs.lemmas.Option.{none-some}
 use Rattle.lfs_meta.specs.Name.{Name}
@@ -10,6 +11,7 @@ use Rattle.lfs_fs.specs.Directory.{Directory}
 use Rattle.lfs_fs.specs.Path.{Path}
 use Rattle.lfs_fs.specs.Tree.{entry_in}
 use Rattle.lfs_command.specs.declared.refusal.Refusal.{Refusal}
+use Rattle.lfs_command.specs.declared.refusal.Refusal.TheVariants.{NotADirectory}
 use Rattle.lfs_law.specs.PairWalk.{pair_at}
 use Rattle.lfs_law.specs.WalkRefusal.{goes_on, refuses_at, walk_all}
 
@@ -40,3 +42,14 @@ pub refuses_more : (ds : List Directory) (k j : Pair) (ns : List (Bor Name)) (i 
 refuses_more ds k j ns i d within leads =
     sym (ap (walk_all ds k) (next_name ns i d within) ∙ went (λ m. walk_all ds m (names_from ns (i + 1)))
     (entry_in ds k (get_or ns i d).now) j leads)
+
+-- the directory that an entry leads to, or that it is a file
+pub step_leads : (o : Option Entry) (k : Option Pair) (r : Result Pair Refusal) → option_and_then target o ≡ k → r ≡ ok_or k NotADirectory
+    → IfOk r (λ j. option_and_then target o ≡ Some j)
+step_leads o None r leads is = rw is tt
+step_leads o (Some j) r leads is = rw is leads
+
+pub step_refuses : (e : Entry) (o : Option Entry) (k : Option Pair) (r : Result Pair Refusal) → o ≡ Some e → target e ≡ k
+    → r ≡ ok_or k NotADirectory → IfErr r (λ f. (rest : Pair → Option Refusal) → refuses_at rest o ≡ Some f)
+step_refuses e o None r here leads is = rw is (λ rest. ap (refuses_at rest) here ∙ ap (goes_on rest) leads)
+step_refuses e o (Some j) r here leads is = rw is tt

@@ -1,5 +1,6 @@
 -- The outline keeps to what a change of an entry asks for.
 use Rattle.std.proofs.Common.{subst, sym}
+use Rattle.std.proofs.lemmas.Result.{err_from_is_err_and}
 use Rattle.lfs_fs.specs.Volume.{Volume}
 use Rattle.lfs_draft.specs.Editable.{BeginOnce, NamedOnce}
 use Rattle.lfs_draft.proofs.editing.rm_attr.Goals as goal
@@ -11,3 +12,6 @@ change-requires-clause-one c = (subst (λ (v : Volume). BeginOnce v.directories)
 pub change-requires-clause-once : goal.change-requires-clause-once
 change-requires-clause-once c = (subst (λ (v : Volume). NamedOnce v.directories) (sym c.outline.view_is) c.requires.named)
     c.home-home.result.name.now
+
+pub returns-in_err-change : goal.returns-in_err-change
+returns-in_err-change c = rw (err_from_is_err_and c.from_residual.result c.from_residual.ensures.1).1 tt

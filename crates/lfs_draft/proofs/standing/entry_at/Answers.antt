@@ -1,5 +1,6 @@
 -- What the last name names in the directory where it belongs.
 use Rattle.std.proofs.Common.{◌≡◌, List, map, ap, sym, ◌∙◌, Bor}
+use Rattle.std.proofs.lemmas.Result.{err_from_is_err_and}
 use Rattle.lfs_meta.specs.Name.{Name}
 use Rattle.lfs_fs.specs.Directory.{Directory}
 use Rattle.lfs_fs.specs.Tree.{entry_in}
@@ -15,3 +16,14 @@ returns-clause-at c =
     ∙ ap (λ (ds : List Directory). entry_in ds c.in_ok-home.home.pair c.in_ok-home.home.name.now) same
     ∙ sym (stands_at_home c.args.outline.now (map (λ (n : Bor Name). n.now) c.args.names.now) c.in_ok-home.home.pair
     c.in_ok-home.home.name.now c.in_ok-home.ensures.home)
+
+pub returns-in_err-home-clause-at : goal.returns-in_err-home-clause-at
+returns-in_err-home-clause-at c = rw (err_from_is_err_and c.from_residual.result c.from_residual.ensures.1).1 tt
+
+pub returns-in_err-home-clause-unrefused : goal.returns-in_err-home-clause-unrefused
+returns-in_err-home-clause-unrefused c = rw (err_from_is_err_and c.from_residual.result c.from_residual.ensures.1).1 tt
+
+pub returns-in_err-home-clause-refused : goal.returns-in_err-home-clause-refused
+returns-in_err-home-clause-refused c =
+    let p = err_from_is_err_and c.from_residual.result c.from_residual.ensures.1 in
+    rw (p.1, p.2) c.in_err-home.ensures.refused
