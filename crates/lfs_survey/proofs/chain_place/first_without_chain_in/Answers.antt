@@ -1,4 +1,5 @@
 -- Place by place, with the chains that are known.
+use Rattle.std.proofs.lemmas.Result.{err_from_is_err_and}
 use Rattle.lfs_block.specs.Disk.{Disk}
 use Rattle.lfs_survey.specs.Faults.{HasNoChain}
 use Rattle.lfs_survey.proofs.AllPlacesLemmas.{first_more, first_none, match_not}
@@ -17,3 +18,6 @@ pub returns : goal.returns
 returns g c =
     first_none (HasNoChain (g.B.Blocks.disk c.args.blocks.now) c.args.survey.now.areas.items) c.args.places.now c.each.place-index
     c.each-test.false c.each.invariant.none
+
+pub returns-in_err-has_no_chain : goal.returns-in_err-has_no_chain
+returns-in_err-has_no_chain g c = rw (err_from_is_err_and c.from_residual.result c.from_residual.ensures.1).1 tt

@@ -1,5 +1,6 @@
 -- The areas of the pairs that are begun with, and those behind the tails of one area after another.
 use Rattle.std.proofs.Common.{◌≡◌, ◌<◌, List, length, ◌∙◌, arith, subst}
+use Rattle.std.proofs.lemmas.Result.{err_from_is_err_and}
 use Rattle.lfs_block.specs.Disk.{Disk}
 use Rattle.lfs_meta.specs.Body.{Pair}
 use Rattle.lfs_survey.specs.Survey.{AddsAreas, area_tails}
@@ -23,3 +24,30 @@ areas-preserved g c =
     c.add_areas-in-areas.new.areas.items c.areas.next c.index.result.now c.areas.invariant within c.index.ensures
     (subst (λ (ps : List Pair). AddsAreas d c.areas.looked c.add_areas-in-areas.new.looked c.areas.areas.items
     c.add_areas-in-areas.new.areas.items ps) tails c.in_ok-add_areas-2.ensures)
+
+pub returns-in_err-add_areas-clause-areas : goal.returns-in_err-add_areas-clause-areas
+returns-in_err-add_areas-clause-areas g c = rw (err_from_is_err_and c.from_residual.result c.from_residual.ensures.1).1 tt
+
+pub returns-in_err-add_areas-clause-len : goal.returns-in_err-add_areas-clause-len
+returns-in_err-add_areas-clause-len g c = rw (err_from_is_err_and c.from_residual.result c.from_residual.ensures.1).1 tt
+
+pub returns-in_err-add_areas-clause-grows : goal.returns-in_err-add_areas-clause-grows
+returns-in_err-add_areas-clause-grows g c = rw (err_from_is_err_and c.from_residual.result c.from_residual.ensures.1).1 tt
+
+pub returns-in_err-tails-clause-areas : goal.returns-in_err-tails-clause-areas
+returns-in_err-tails-clause-areas g c = rw (err_from_is_err_and c.from_residual-in_err-tails.result c.from_residual-in_err-tails.ensures.1).1 tt
+
+pub returns-in_err-tails-clause-len : goal.returns-in_err-tails-clause-len
+returns-in_err-tails-clause-len g c = rw (err_from_is_err_and c.from_residual-in_err-tails.result c.from_residual-in_err-tails.ensures.1).1 tt
+
+pub returns-in_err-tails-clause-grows : goal.returns-in_err-tails-clause-grows
+returns-in_err-tails-clause-grows g c = rw (err_from_is_err_and c.from_residual-in_err-tails.result c.from_residual-in_err-tails.ensures.1).1 tt
+
+pub returns-in_err-add_areas-2-clause-areas : goal.returns-in_err-add_areas-2-clause-areas
+returns-in_err-add_areas-2-clause-areas g c = rw (err_from_is_err_and c.from_residual-in_err-add_areas-2.result c.from_residual-in_err-add_areas-2.ensures.1).1 tt
+
+pub returns-in_err-add_areas-2-clause-len : goal.returns-in_err-add_areas-2-clause-len
+returns-in_err-add_areas-2-clause-len g c = rw (err_from_is_err_and c.from_residual-in_err-add_areas-2.result c.from_residual-in_err-add_areas-2.ensures.1).1 tt
+
+pub returns-in_err-add_areas-2-clause-grows : goal.returns-in_err-add_areas-2-clause-grows
+returns-in_err-add_areas-2-clause-grows g c = rw (err_from_is_err_and c.from_residual-in_err-add_areas-2.result c.from_residual-in_err-add_areas-2.ensures.1).1 tt

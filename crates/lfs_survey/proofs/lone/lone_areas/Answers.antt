@@ -1,6 +1,7 @@
 -- First from the unnamed blocks on, and then from those that are left, of which none stays open.
 use Rattle.std.proofs.Common.{◌≡◌, List, false, ◌∙◌, subst}
 use Rattle.std.specs.Prelude.{All}
+use Rattle.std.proofs.lemmas.Result.{err_from_is_err_and}
 use Rattle.lfs_block.specs.Disk.{Disk}
 use Rattle.lfs_meta.specs.Body.{Pair}
 use Rattle.lfs_survey.specs.Looking.{is_open}
@@ -19,3 +20,39 @@ returns-clause-whole g c =
     (grows_then c.args.looked.now c.areas_along.new.looked after c.in_ok-areas.ensures.grows c.in_ok-left.ensures.grows)
     (subst (λ (ps : List Pair). All (λ p. is_open after p ≡ false) ps) lone
     (along_closed d c.areas_along.new.looked after c.deref-4.result.now c.in_ok-left.left.items c.in_ok-left.ensures.areas))
+
+pub returns-in_err-named-clause-areas : goal.returns-in_err-named-clause-areas
+returns-in_err-named-clause-areas g c = rw (err_from_is_err_and c.from_residual.result c.from_residual.ensures.1).1 tt
+
+pub returns-in_err-named-clause-whole : goal.returns-in_err-named-clause-whole
+returns-in_err-named-clause-whole g c = rw (err_from_is_err_and c.from_residual.result c.from_residual.ensures.1).1 tt
+
+pub returns-in_err-lone-clause-areas : goal.returns-in_err-lone-clause-areas
+returns-in_err-lone-clause-areas g c = rw (err_from_is_err_and c.from_residual-in_err-lone.result c.from_residual-in_err-lone.ensures.1).1 tt
+
+pub returns-in_err-lone-clause-whole : goal.returns-in_err-lone-clause-whole
+returns-in_err-lone-clause-whole g c = rw (err_from_is_err_and c.from_residual-in_err-lone.result c.from_residual-in_err-lone.ensures.1).1 tt
+
+pub returns-in_err-unnamed-clause-areas : goal.returns-in_err-unnamed-clause-areas
+returns-in_err-unnamed-clause-areas g c = rw (err_from_is_err_and c.from_residual-in_err-unnamed.result c.from_residual-in_err-unnamed.ensures.1).1 tt
+
+pub returns-in_err-unnamed-clause-whole : goal.returns-in_err-unnamed-clause-whole
+returns-in_err-unnamed-clause-whole g c = rw (err_from_is_err_and c.from_residual-in_err-unnamed.result c.from_residual-in_err-unnamed.ensures.1).1 tt
+
+pub returns-in_err-areas-clause-areas : goal.returns-in_err-areas-clause-areas
+returns-in_err-areas-clause-areas g c = rw (err_from_is_err_and c.from_residual-in_err-areas.result c.from_residual-in_err-areas.ensures.1).1 tt
+
+pub returns-in_err-areas-clause-whole : goal.returns-in_err-areas-clause-whole
+returns-in_err-areas-clause-whole g c = rw (err_from_is_err_and c.from_residual-in_err-areas.result c.from_residual-in_err-areas.ensures.1).1 tt
+
+pub returns-in_err-left-clause-areas : goal.returns-in_err-left-clause-areas
+returns-in_err-left-clause-areas g c = rw (err_from_is_err_and c.from_residual-in_err-left.result c.from_residual-in_err-left.ensures.1).1 tt
+
+pub returns-in_err-left-clause-whole : goal.returns-in_err-left-clause-whole
+returns-in_err-left-clause-whole g c = rw (err_from_is_err_and c.from_residual-in_err-left.result c.from_residual-in_err-left.ensures.1).1 tt
+
+pub returns-in_err-append-clause-areas : goal.returns-in_err-append-clause-areas
+returns-in_err-append-clause-areas g c = rw (err_from_is_err_and c.from_residual-in_err-append.result c.from_residual-in_err-append.ensures.1).1 tt
+
+pub returns-in_err-append-clause-whole : goal.returns-in_err-append-clause-whole
+returns-in_err-append-clause-whole g c = rw (err_from_is_err_and c.from_residual-in_err-append.result c.from_residual-in_err-append.ensures.1).1 tt

@@ -1,5 +1,6 @@
 -- Place by place.
 use Rattle.std.proofs.Common.{◌∙◌}
+use Rattle.std.proofs.lemmas.Result.{err_from_is_err_and}
 use Rattle.lfs_survey.proofs.SharedLemmas.{shared_found, shared_none}
 use Rattle.lfs_survey.proofs.shared_place.first_shared_in.Goals as goal
 
@@ -13,3 +14,6 @@ pub returns : goal.returns
 returns g c =
     shared_none (g.B.Blocks.disk c.args.blocks.now) c.args.table.now c.each.table c.args.survey.now.areas.items c.args.places.now
     c.each.place-index c.each-test.false c.each.invariant.marks
+
+pub returns-in_err-chain : goal.returns-in_err-chain
+returns-in_err-chain g c = rw (err_from_is_err_and c.from_residual.result c.from_residual.ensures.1).1 tt

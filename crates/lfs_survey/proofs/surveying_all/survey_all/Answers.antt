@@ -1,6 +1,7 @@
 -- The root's area, and those behind the tails of one area after another.
 use Rattle.std.proofs.Common.{◌≡◌, ◌<◌, ◌≤◌, Bool, List, [], ◌∷◌, ◌++◌, false, length, replicate, ap, sym, ◌∙◌, arith, subst}
 use Rattle.std.proofs.lemmas.List.{with_items_is}
+use Rattle.std.proofs.lemmas.Result.{err_from_is_err_and}
 use Rattle.lfs_block.specs.Disk.{Disk}
 use Rattle.lfs_meta.specs.Body.{Pair}
 use Rattle.lfs_survey.specs.Survey.{AddsAreas, area_tails, unlooked}
@@ -40,3 +41,18 @@ returns g c =
     surveying_all d _ c.areas.next
     (subst (λ (t : List Bool). IsSurveying d t c.areas.areas.items c.areas.next)
     (sym (with_items_is c.in_ok-looked.looked c.areas.table long)) c.areas.invariant) done
+
+pub returns-in_err-looked : goal.returns-in_err-looked
+returns-in_err-looked g c = rw (err_from_is_err_and c.from_residual.result c.from_residual.ensures.1).1 tt
+
+pub returns-in_err-survey_from : goal.returns-in_err-survey_from
+returns-in_err-survey_from g c = rw (err_from_is_err_and c.from_residual-in_err-survey_from.result c.from_residual-in_err-survey_from.ensures.1).1 tt
+
+pub returns-in_err-push : goal.returns-in_err-push
+returns-in_err-push g c = rw (err_from_is_err_and c.from_residual-in_err-push.result c.from_residual-in_err-push.ensures.1).1 tt
+
+pub returns-in_err-tails : goal.returns-in_err-tails
+returns-in_err-tails g c = rw (err_from_is_err_and c.from_residual-in_err-tails.result c.from_residual-in_err-tails.ensures.1).1 tt
+
+pub returns-in_err-add_areas : goal.returns-in_err-add_areas
+returns-in_err-add_areas g c = rw (err_from_is_err_and c.from_residual-in_err-add_areas.result c.from_residual-in_err-add_areas.ensures.1).1 tt
