@@ -14,3 +14,14 @@ returns-in_default g c =
       found = tt;
       whole = tt;
     }
+
+pub returns-in-Ok : goal.returns-in-Ok
+returns-in-Ok g c = record {
+  none = tt;
+  pair = c.in-Ok.ensures.pair;
+  found = c.in-Ok.ensures.found;
+  whole = c.in-Ok.ensures.whole;
+}
+
+pub returns-in-Memory : goal.returns-in-Memory
+returns-in-Memory g c = record { none = tt; pair = tt; found = tt; whole = tt }
