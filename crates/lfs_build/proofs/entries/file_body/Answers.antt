@@ -1,5 +1,6 @@
 use Rattle.std.proofs.Common.{◌≡◌, ◌+◌, ◌<◌, length, arith}
 use Rattle.std.proofs.lemmas.List.{length-replicate}
+use Rattle.std.proofs.lemmas.Result.{err_from_is_err_and}
 use Rattle.lfs_fs.specs.Outlined.{blank}
 use Rattle.lfs_build.proofs.HeadsOfRanges.{heads_below}
 use Rattle.lfs_build.proofs.entries.file_body.Goals as goal
@@ -11,3 +12,15 @@ returns-clause-fits c =
       heads_below c.args.next c.file_blocks.result 4294967296 c.in_ok-blocks.blocks.items within c.in_ok-blocks.ensures,
       omega (arith, c.requires.len, len),
     )
+
+pub returns-in_err-from_slice-clause-fits : goal.returns-in_err-from_slice-clause-fits
+returns-in_err-from_slice-clause-fits c = rw (err_from_is_err_and c.from_residual.result c.from_residual.ensures.1).1 tt
+
+pub returns-in_err-from_slice-clause-body : goal.returns-in_err-from_slice-clause-body
+returns-in_err-from_slice-clause-body c = rw (err_from_is_err_and c.from_residual.result c.from_residual.ensures.1).1 tt
+
+pub returns-in_err-blocks-clause-fits : goal.returns-in_err-blocks-clause-fits
+returns-in_err-blocks-clause-fits c = rw (err_from_is_err_and c.from_residual-in_err-blocks.result c.from_residual-in_err-blocks.ensures.1).1 tt
+
+pub returns-in_err-blocks-clause-body : goal.returns-in_err-blocks-clause-body
+returns-in_err-blocks-clause-body c = rw (err_from_is_err_and c.from_residual-in_err-blocks.result c.from_residual-in_err-blocks.ensures.1).1 tt

@@ -1,4 +1,5 @@
 use Rattle.std.proofs.Common.{◌≡◌, ◌∙◌, ℕ, ap, arith}
+use Rattle.std.proofs.lemmas.Result.{err_from_is_err_and}
 use Rattle.lfs_build.specs.Adding.{file_blocks}
 use Rattle.lfs_build.proofs.LaidBlocks.{AreBlocks, are_blocks, lays_none, many_blocks}
 use Rattle.lfs_build.proofs.new_volume.NewVolume.lay.Goals as goal
@@ -33,3 +34,15 @@ pub lay_contents-requires-clause-few : goal.lay_contents-requires-clause-few
 lay_contents-requires-clause-few c =
     let many = (blocks c).len in
     omega (arith, many, c.file_blocks-count.type_inv)
+
+pub returns-in_err-blocks-clause-laid : goal.returns-in_err-blocks-clause-laid
+returns-in_err-blocks-clause-laid c = rw (err_from_is_err_and c.from_residual.result c.from_residual.ensures.1).1 tt
+
+pub returns-in_err-blocks-clause-others : goal.returns-in_err-blocks-clause-others
+returns-in_err-blocks-clause-others c = rw (err_from_is_err_and c.from_residual.result c.from_residual.ensures.1).1 tt
+
+pub returns-in_err-lay_contents-clause-laid : goal.returns-in_err-lay_contents-clause-laid
+returns-in_err-lay_contents-clause-laid c = rw (err_from_is_err_and c.from_residual-in_err-lay_contents.result c.from_residual-in_err-lay_contents.ensures.1).1 tt
+
+pub returns-in_err-lay_contents-clause-others : goal.returns-in_err-lay_contents-clause-others
+returns-in_err-lay_contents-clause-others c = rw (err_from_is_err_and c.from_residual-in_err-lay_contents.result c.from_residual-in_err-lay_contents.ensures.1).1 tt

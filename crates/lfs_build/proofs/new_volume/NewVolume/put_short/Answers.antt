@@ -48,3 +48,18 @@ returns-clause-put c =
     c.ways_lead_to_ends.ensures.with_more c.in_ok-need.ensures.light
     (subst (λ (m : ℕ). t.next + m ≤ t.image.disk.count) c.in_ok-need.ensures.need c.in_ok-need.ensures.fits) c.lay.new.self c.push.new.self
     c.in_ok-lay.ensures.laid c.in_ok-lay.ensures.others c.in_ok-push.ensures
+
+pub returns-in_err-body-clause-put : goal.returns-in_err-body-clause-put
+returns-in_err-body-clause-put c = rw (err_from_is_err_and c.from_residual.result c.from_residual.ensures.1).1 tt
+
+pub returns-in_err-entry-clause-put : goal.returns-in_err-entry-clause-put
+returns-in_err-entry-clause-put c = rw (err_from_is_err_and c.from_residual-in_err-entry.result c.from_residual-in_err-entry.ensures.1).1 tt
+
+pub returns-in_err-need-clause-put : goal.returns-in_err-need-clause-put
+returns-in_err-need-clause-put c = rw (err_from_is_err_and c.from_residual-in_err-need.result c.from_residual-in_err-need.ensures.1).1 tt
+
+pub returns-in_err-lay-clause-put : goal.returns-in_err-lay-clause-put
+returns-in_err-lay-clause-put c = rw (err_from_is_err_and c.from_residual-in_err-lay.result c.from_residual-in_err-lay.ensures.1).1 tt
+
+pub returns-in_err-push-clause-put : goal.returns-in_err-push-clause-put
+returns-in_err-push-clause-put c = rw (err_from_is_err_and c.from_residual-in_err-push.result c.from_residual-in_err-push.ensures.1).1 tt
