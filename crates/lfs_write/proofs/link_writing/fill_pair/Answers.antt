@@ -1,6 +1,7 @@
 -- Both blocks of the pair are changed.
 use Rattle.std.proofs.Common.{◌≡◌, ◌≢◌, ℕ, List, [], ◌∷◌, Some, ap, arith, sym, ◌∙◌, subst, rules}
 use Rattle.std.specs.Prelude.{replicate}
+use Rattle.std.proofs.lemmas.Result.{err_from_is_err_and}
 use Rattle.lfs_meta.specs.Entry.{StoredEntry}
 use Rattle.lfs_meta.specs.Part.{StoredPart}
 use Rattle.lfs_commit.specs.Writing.{part_in, stored_part}
@@ -47,3 +48,21 @@ returns-clause-filled g c =
     c.add_change.new.changes.items c.add_change-2.new.changes.items
     (subst (λ (x : Found). x.0.0 ≢ x.0.1) (sym c.part.view_is) c.requires.fits.apart) c.size-size.ensures.value c.in-Some.ensures erased
     c.in_ok-add_change.ensures c.in_ok-add_change-2.ensures)
+
+pub returns-in_err-erased-clause-adds : goal.returns-in_err-erased-clause-adds
+returns-in_err-erased-clause-adds g c = rw (err_from_is_err_and c.from_residual.result c.from_residual.ensures.1).1 tt
+
+pub returns-in_err-erased-clause-filled : goal.returns-in_err-erased-clause-filled
+returns-in_err-erased-clause-filled g c = rw (err_from_is_err_and c.from_residual.result c.from_residual.ensures.1).1 tt
+
+pub returns-in_err-add_change-clause-adds : goal.returns-in_err-add_change-clause-adds
+returns-in_err-add_change-clause-adds g c = rw (err_from_is_err_and c.from_residual-in_err-add_change.result c.from_residual-in_err-add_change.ensures.1).1 tt
+
+pub returns-in_err-add_change-clause-filled : goal.returns-in_err-add_change-clause-filled
+returns-in_err-add_change-clause-filled g c = rw (err_from_is_err_and c.from_residual-in_err-add_change.result c.from_residual-in_err-add_change.ensures.1).1 tt
+
+pub returns-in_err-add_change-2-clause-adds : goal.returns-in_err-add_change-2-clause-adds
+returns-in_err-add_change-2-clause-adds g c = rw (err_from_is_err_and c.from_residual-in_err-add_change-2.result c.from_residual-in_err-add_change-2.ensures.1).1 tt
+
+pub returns-in_err-add_change-2-clause-filled : goal.returns-in_err-add_change-2-clause-filled
+returns-in_err-add_change-2-clause-filled g c = rw (err_from_is_err_and c.from_residual-in_err-add_change-2.result c.from_residual-in_err-add_change-2.ensures.1).1 tt

@@ -1,5 +1,6 @@
 -- The table says whether the pair is new.
 use Rattle.std.proofs.Common.{◌≡◌, true, Bool, ap, sym, ◌∙◌, subst, true≢false}
+use Rattle.std.proofs.lemmas.Result.{err_from_is_err_and}
 use Rattle.lfs_meta.specs.Body.{Pair}
 use Rattle.lfs_commit.specs.DifferenceSeen.{forced_seen}
 use Rattle.lfs_fs.specs.Directory.{Part}
@@ -48,3 +49,21 @@ returns-clause-changed g c =
           (subst (λ (p : Pair). IsPairWritten d w.is_cut-is_cut.result forced p new) c.in_ok-stored.ensures.pair
           w.in_ok-change_part.ensures.changed)))
     ]
+
+pub returns-in_err-stored-clause-adds : goal.returns-in_err-stored-clause-adds
+returns-in_err-stored-clause-adds g c = rw (err_from_is_err_and c.from_residual.result c.from_residual.ensures.1).1 tt
+
+pub returns-in_err-stored-clause-changed : goal.returns-in_err-stored-clause-changed
+returns-in_err-stored-clause-changed g c = rw (err_from_is_err_and c.from_residual.result c.from_residual.ensures.1).1 tt
+
+pub returns-in_err-fill_pair-clause-adds : goal.returns-in_err-fill_pair-clause-adds
+returns-in_err-fill_pair-clause-adds g c = rw (err_from_is_err_and c.from_residual-in_err-fill_pair.result c.from_residual-in_err-fill_pair.ensures.1).1 tt
+
+pub returns-in_err-fill_pair-clause-changed : goal.returns-in_err-fill_pair-clause-changed
+returns-in_err-fill_pair-clause-changed g c = rw (err_from_is_err_and c.from_residual-in_err-fill_pair.result c.from_residual-in_err-fill_pair.ensures.1).1 tt
+
+pub returns-in_err-change_part-clause-adds : goal.returns-in_err-change_part-clause-adds
+returns-in_err-change_part-clause-adds g c = rw (err_from_is_err_and c.from_residual-in_err-change_part.result c.from_residual-in_err-change_part.ensures.1).1 tt
+
+pub returns-in_err-change_part-clause-changed : goal.returns-in_err-change_part-clause-changed
+returns-in_err-change_part-clause-changed g c = rw (err_from_is_err_and c.from_residual-in_err-change_part.result c.from_residual-in_err-change_part.ensures.1).1 tt
