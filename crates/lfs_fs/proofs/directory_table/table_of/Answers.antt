@@ -1,5 +1,6 @@
 use Rattle.std.proofs.Common.{List, subst}
 use Rattle.std.proofs.lemmas.List.{take_all}
+use Rattle.std.proofs.lemmas.Result.{err_from_is_err_and}
 use Rattle.lfs_fs.specs.Directory.{Directory}
 use Rattle.lfs_fs.specs.DirectoryTable.{IsTableOf}
 use Rattle.lfs_fs.proofs.DirectoryTableLemmas.{taken_more, table_none}
@@ -17,3 +18,6 @@ loop-index-preserved c =
 pub returns : goal.returns
 returns c = subst (λ (ds : List Directory). IsTableOf ds c.loop-index.table.entries)
     (take_all c.loop-index.index c.args.directories.now c.loop-index-test.false) c.loop-index.invariant
+
+pub returns-in_err-insert : goal.returns-in_err-insert
+returns-in_err-insert c = rw (err_from_is_err_and c.from_residual.result c.from_residual.ensures.1).1 tt

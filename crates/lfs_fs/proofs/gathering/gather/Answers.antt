@@ -78,3 +78,39 @@ returns-clause-gathered g c =
     let table : (with_items c.in_ok-used.used used).items ≡ used = with_items_is c.in_ok-used.used used len in
     gathered d used part e part.1.entries kept.rest limits directories _ found table
     (rw (c.size-size.ensures.value, c.count-count.ensures, c.attributes_of.ensures.value, c.in_ok-directories.ensures.directories) refl)
+
+pub returns-in_err-used-clause-gathered : goal.returns-in_err-used-clause-gathered
+returns-in_err-used-clause-gathered g c = rw (err_from_is_err_and c.from_residual.result c.from_residual.ensures.1).1 tt
+
+pub returns-in_err-used-clause-good : goal.returns-in_err-used-clause-good
+returns-in_err-used-clause-good g c = rw (err_from_is_err_and c.from_residual.result c.from_residual.ensures.1).1 tt
+
+pub returns-in_err-root-clause-gathered : goal.returns-in_err-root-clause-gathered
+returns-in_err-root-clause-gathered g c = rw (err_from_is_err_and c.from_residual-in_err-root.result c.from_residual-in_err-root.ensures.1).1 tt
+
+pub returns-in_err-root-clause-good : goal.returns-in_err-root-clause-good
+returns-in_err-root-clause-good g c = rw (err_from_is_err_and c.from_residual-in_err-root.result c.from_residual-in_err-root.ensures.1).1 tt
+
+pub returns-in_err-limits-clause-gathered : goal.returns-in_err-limits-clause-gathered
+returns-in_err-limits-clause-gathered g c = rw (err_from_is_err_and c.from_residual-in_err-limits.result c.from_residual-in_err-limits.ensures.1).1 tt
+
+pub returns-in_err-limits-clause-good : goal.returns-in_err-limits-clause-good
+returns-in_err-limits-clause-good g c = rw (err_from_is_err_and c.from_residual-in_err-limits.result c.from_residual-in_err-limits.ensures.1).1 tt
+
+pub returns-in_err-joined-clause-gathered : goal.returns-in_err-joined-clause-gathered
+returns-in_err-joined-clause-gathered g c = rw (err_from_is_err_and c.from_residual-in_err-joined.result c.from_residual-in_err-joined.ensures.1).1 tt
+
+pub returns-in_err-joined-clause-good : goal.returns-in_err-joined-clause-good
+returns-in_err-joined-clause-good g c = rw (err_from_is_err_and c.from_residual-in_err-joined.result c.from_residual-in_err-joined.ensures.1).1 tt
+
+pub returns-in_err-settled-clause-gathered : goal.returns-in_err-settled-clause-gathered
+returns-in_err-settled-clause-gathered g c = rw (err_from_is_err_and c.from_residual-in_err-settled.result c.from_residual-in_err-settled.ensures.1).1 tt
+
+pub returns-in_err-settled-clause-good : goal.returns-in_err-settled-clause-good
+returns-in_err-settled-clause-good g c = rw (err_from_is_err_and c.from_residual-in_err-settled.result c.from_residual-in_err-settled.ensures.1).1 tt
+
+pub returns-in_err-directories-clause-gathered : goal.returns-in_err-directories-clause-gathered
+returns-in_err-directories-clause-gathered g c = rw (err_from_is_err_and c.from_residual-in_err-directories.result c.from_residual-in_err-directories.ensures.1).1 tt
+
+pub returns-in_err-directories-clause-good : goal.returns-in_err-directories-clause-good
+returns-in_err-directories-clause-good g c = rw (err_from_is_err_and c.from_residual-in_err-directories.result c.from_residual-in_err-directories.ensures.1).1 tt

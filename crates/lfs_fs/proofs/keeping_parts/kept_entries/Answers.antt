@@ -55,3 +55,21 @@ returns-then-not-comes_last-clause-refused g c =
     let falls = subst (λ (n : Name). EndsAtOrAfter (before ++ c.each.kept.items) n) name ends in
     next_falls r c.args.limits c.args.used.now before c.args.entries.items c.each.used c.kept_entry.new.used c.each.kept.items
     c.in-Some.entry (into_iter_items c.next.new.self) c.in_ok-next.next h c.in_ok-next.ensures.kept falls
+
+pub returns-in_err-kept-clause-kept : goal.returns-in_err-kept-clause-kept
+returns-in_err-kept-clause-kept g c = rw (err_from_is_err_and c.from_residual.result c.from_residual.ensures.1).1 tt
+
+pub returns-in_err-kept-clause-rise : goal.returns-in_err-kept-clause-rise
+returns-in_err-kept-clause-rise g c = rw (err_from_is_err_and c.from_residual.result c.from_residual.ensures.1).1 tt
+
+pub returns-in_err-next-clause-kept : goal.returns-in_err-next-clause-kept
+returns-in_err-next-clause-kept g c = rw (err_from_is_err_and c.from_residual-in_err-next.result c.from_residual-in_err-next.ensures.1).1 tt
+
+pub returns-in_err-next-clause-rise : goal.returns-in_err-next-clause-rise
+returns-in_err-next-clause-rise g c = rw (err_from_is_err_and c.from_residual-in_err-next.result c.from_residual-in_err-next.ensures.1).1 tt
+
+pub returns-in_err-push-clause-kept : goal.returns-in_err-push-clause-kept
+returns-in_err-push-clause-kept g c = rw (err_from_is_err_and c.from_residual-in_err-push.result c.from_residual-in_err-push.ensures.1).1 tt
+
+pub returns-in_err-push-clause-rise : goal.returns-in_err-push-clause-rise
+returns-in_err-push-clause-rise g c = rw (err_from_is_err_and c.from_residual-in_err-push.result c.from_residual-in_err-push.ensures.1).1 tt

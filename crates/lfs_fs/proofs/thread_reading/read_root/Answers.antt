@@ -48,3 +48,21 @@ returns-clause-good g c =
     let by_size = subst (λ (n : ℕ). FirstTaken n c.count-count.result root.1.entries) c.size-size.ensures.value entries in
     let taken = subst (λ (n : ℕ). FirstTaken d.size n root.1.entries) c.count-count.ensures by_size in
     first_taken d root.1 c.in_ok-root.ensures.found taken
+
+pub returns-in_err-root-clause-read : goal.returns-in_err-root-clause-read
+returns-in_err-root-clause-read g c = rw (err_from_is_err_and c.from_residual.result c.from_residual.ensures.1).1 tt
+
+pub returns-in_err-root-clause-good : goal.returns-in_err-root-clause-good
+returns-in_err-root-clause-good g c = rw (err_from_is_err_and c.from_residual.result c.from_residual.ensures.1).1 tt
+
+pub returns-in_err-first_fits-clause-read : goal.returns-in_err-first_fits-clause-read
+returns-in_err-first_fits-clause-read g c = rw (err_from_is_err_and c.from_residual-in_err-first_fits.result c.from_residual-in_err-first_fits.ensures.1).1 tt
+
+pub returns-in_err-first_fits-clause-good : goal.returns-in_err-first_fits-clause-good
+returns-in_err-first_fits-clause-good g c = rw (err_from_is_err_and c.from_residual-in_err-first_fits.result c.from_residual-in_err-first_fits.ensures.1).1 tt
+
+pub returns-in_err-mark_all-clause-read : goal.returns-in_err-mark_all-clause-read
+returns-in_err-mark_all-clause-read g c = rw (err_from_is_err_and c.from_residual-in_err-mark_all.result c.from_residual-in_err-mark_all.ensures.1).1 tt
+
+pub returns-in_err-mark_all-clause-good : goal.returns-in_err-mark_all-clause-good
+returns-in_err-mark_all-clause-good g c = rw (err_from_is_err_and c.from_residual-in_err-mark_all.result c.from_residual-in_err-mark_all.ensures.1).1 tt

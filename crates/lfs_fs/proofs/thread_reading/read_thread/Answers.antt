@@ -105,3 +105,15 @@ returns-clause-kept g c =
     let h = subst (λ (o : Option Pair). IsKeptTo r c.args.limits c.args.root o c.thread.used c.thread.joined) c.in_default.is
     c.thread.invariant in
     all_kept r c.args.limits h.superblock c.args.root h.rest c.thread.used c.thread.joined h.gathers
+
+pub returns-in_err-keep-clause-kept : goal.returns-in_err-keep-clause-kept
+returns-in_err-keep-clause-kept g c = rw (err_from_is_err_and c.from_residual.result c.from_residual.ensures.1).1 tt
+
+pub returns-in_err-mark_all-clause-kept : goal.returns-in_err-mark_all-clause-kept
+returns-in_err-mark_all-clause-kept g c = rw (err_from_is_err_and c.from_residual-in_err-mark_all.result c.from_residual-in_err-mark_all.ensures.1).1 tt
+
+pub returns-in_err-part-clause-kept : goal.returns-in_err-part-clause-kept
+returns-in_err-part-clause-kept g c = rw (err_from_is_err_and c.from_residual-in_err-part.result c.from_residual-in_err-part.ensures.1).1 tt
+
+pub returns-in_err-keep-2-clause-kept : goal.returns-in_err-keep-2-clause-kept
+returns-in_err-keep-2-clause-kept g c = rw (err_from_is_err_and c.from_residual-in_err-keep-2.result c.from_residual-in_err-keep-2.ensures.1).1 tt
