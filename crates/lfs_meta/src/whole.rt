@@ -24,12 +24,10 @@ use std::alloc::{AllocError, Global};
 fn kind_takes_body(kind: Kind, body: BodyRef<'_>) -> bool
     ensures { result ≡ kind_takes_body kind (body_seen body.entry) }
 {
-    match (kind, body) {
-        (Kind::File, BodyRef::Directory(..)) => false,
-        (Kind::File, _) => true,
-        (Kind::Dir, BodyRef::Directory(..)) => true,
-        (Kind::Super, BodyRef::Inline(_)) => true,
-        _ => false,
+    match kind {
+        Kind::File => !matches!(body, BodyRef::Directory(..)),
+        Kind::Dir => matches!(body, BodyRef::Directory(..)),
+        Kind::Super => matches!(body, BodyRef::Inline(_)),
     }
 }
 

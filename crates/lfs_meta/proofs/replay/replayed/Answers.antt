@@ -25,3 +25,9 @@ returns-clause-found c = replay-all c.args.tags c.replay.part c.replay.tag-itera
 pub returns-clause-fits : goal.returns-clause-fits
 returns-clause-fits c = replay-fits c.args.tags c.replay.part c.requires
     (replay-all c.args.tags c.replay.part c.replay.tag-iterator c.replay.invariant c.in-None.ensures.steps.0)
+
+pub returns-in_err-apply-clause-found : goal.returns-in_err-apply-clause-found
+returns-in_err-apply-clause-found c = rw (err_from_is_err_and c.from_residual.result c.from_residual.ensures.1).1 tt
+
+pub returns-in_err-apply-clause-fits : goal.returns-in_err-apply-clause-fits
+returns-in_err-apply-clause-fits c = rw (err_from_is_err_and c.from_residual.result c.from_residual.ensures.1).1 tt

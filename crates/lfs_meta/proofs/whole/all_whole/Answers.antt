@@ -3,6 +3,7 @@ use Rattle.std.proofs.Common.{◌≡◌, ap, sym, ◌∙◌, Some, List, arith, 
 use Rattle.std.specs.Prelude.{All}
 use Rattle.std.proofs.lemmas.List.{take_all}
 use Rattle.std.proofs.lemmas.List.Elements.{All-push}
+use Rattle.std.proofs.lemmas.Result.{err_from_is_err_and}
 use Rattle.lfs_meta.specs.Entry.{StoredEntry}
 use Rattle.lfs_meta.specs.Fits.{EntryFits}
 use Rattle.lfs_meta.specs.Whole.{whole, all_whole}
@@ -29,3 +30,30 @@ returns-clause-found c = found c
 
 pub returns-clause-whole : goal.returns-clause-whole
 returns-clause-whole c = all_whole-are c.args.drafts.now c.loop-draft.entries.items (found c)
+
+pub returns-in_err-entries-clause-found : goal.returns-in_err-entries-clause-found
+returns-in_err-entries-clause-found c = rw (err_from_is_err_and c.from_residual.result c.from_residual.ensures.1).1 tt
+
+pub returns-in_err-entries-clause-whole : goal.returns-in_err-entries-clause-whole
+returns-in_err-entries-clause-whole c = rw (err_from_is_err_and c.from_residual.result c.from_residual.ensures.1).1 tt
+
+pub returns-in_err-entries-clause-fit : goal.returns-in_err-entries-clause-fit
+returns-in_err-entries-clause-fit c = rw (err_from_is_err_and c.from_residual.result c.from_residual.ensures.1).1 tt
+
+pub returns-in_err-entry-clause-found : goal.returns-in_err-entry-clause-found
+returns-in_err-entry-clause-found c = rw (err_from_is_err_and c.from_residual-in_err-entry.result c.from_residual-in_err-entry.ensures.1).1 tt
+
+pub returns-in_err-entry-clause-whole : goal.returns-in_err-entry-clause-whole
+returns-in_err-entry-clause-whole c = rw (err_from_is_err_and c.from_residual-in_err-entry.result c.from_residual-in_err-entry.ensures.1).1 tt
+
+pub returns-in_err-entry-clause-fit : goal.returns-in_err-entry-clause-fit
+returns-in_err-entry-clause-fit c = rw (err_from_is_err_and c.from_residual-in_err-entry.result c.from_residual-in_err-entry.ensures.1).1 tt
+
+pub returns-in_err-keep-clause-found : goal.returns-in_err-keep-clause-found
+returns-in_err-keep-clause-found c = rw (err_from_is_err_and c.from_residual-in_err-keep.result c.from_residual-in_err-keep.ensures.1).1 tt
+
+pub returns-in_err-keep-clause-whole : goal.returns-in_err-keep-clause-whole
+returns-in_err-keep-clause-whole c = rw (err_from_is_err_and c.from_residual-in_err-keep.result c.from_residual-in_err-keep.ensures.1).1 tt
+
+pub returns-in_err-keep-clause-fit : goal.returns-in_err-keep-clause-fit
+returns-in_err-keep-clause-fit c = rw (err_from_is_err_and c.from_residual-in_err-keep.result c.from_residual-in_err-keep.ensures.1).1 tt
