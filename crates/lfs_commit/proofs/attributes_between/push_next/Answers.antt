@@ -1,6 +1,7 @@
 -- The new ones of lesser kinds are added, and then the value of the old one's kind, or that it is gone.
 use Rattle.std.proofs.Common.{◌≡◌, ℕ, List, ap, refl, sym, ◌∙◌, ◌+◌, arith, length}
 use Rattle.std.proofs.lemmas.Slice.{between_to_end}
+use Rattle.std.proofs.lemmas.Result.{err_from_is_err_and}
 use Rattle.lfs_tag.specs.Writing.{items}
 use Rattle.lfs_commit.specs.Difference.{gone_item}
 use Rattle.lfs_commit.proofs.EditLemmas.{items-push}
@@ -31,3 +32,12 @@ returns c more =
     (ap items c.in_ok-push.ensures.items
     ∙ items-push c.push_attributes.new.edits.items c.gone_edit.result (items c.push_attributes.new.edits.items) _ refl
     (c.gone_edit.ensures ∙ ap (gone_item c.args.id) kind))
+
+pub returns-in_err-push_attributes : goal.returns-in_err-push_attributes
+returns-in_err-push_attributes c = rw (err_from_is_err_and c.from_residual.result c.from_residual.ensures.1).1 tt
+
+pub returns-in_err-push_value : goal.returns-in_err-push_value
+returns-in_err-push_value c = rw (err_from_is_err_and c.from_residual-in_err-push_value.result c.from_residual-in_err-push_value.ensures.1).1 tt
+
+pub returns-in_err-push : goal.returns-in_err-push
+returns-in_err-push c = rw (err_from_is_err_and c.from_residual-in_err-push.result c.from_residual-in_err-push.ensures.1).1 tt

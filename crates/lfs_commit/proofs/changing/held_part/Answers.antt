@@ -13,3 +13,9 @@ returns-in_default g c =
           (has-cause c.in-Err.fault d c.args.pair c.in-Err.ensures.refused c.in_default.not-Memory));
       fit = tt;
     }
+
+pub returns-in-Ok : goal.returns-in-Ok
+returns-in-Ok g c = record { held = sym c.in-Ok.ensures.found; fit = c.in-Ok.ensures.fit }
+
+pub returns-in-Memory : goal.returns-in-Memory
+returns-in-Memory g c = record { held = tt; fit = tt }

@@ -1,6 +1,7 @@
 -- Each turn adds the next entry's tags.
 use Rattle.std.proofs.Common.{◌++◌, List, append-nil, sym, ap, ◌∙◌, subst, take}
 use Rattle.std.proofs.lemmas.List.Elements.{All-nil, All-more}
+use Rattle.std.proofs.lemmas.Result.{err_from_is_err_and}
 use Rattle.lfs_tag.specs.Commit.{Item}
 use Rattle.lfs_tag.specs.Writing.{items}
 use Rattle.lfs_meta.specs.Entry.{StoredEntry}
@@ -25,3 +26,9 @@ loop-id-preserved c = record {
       All-more EntryFits c.args.entries.now c.loop-id.id c.index-entries-id.result c.loop-id-test.true c.loop-id.invariant.fits
       (subst EntryFits c.index-entries-id.is c.push_entry.ensures.fits);
 }
+
+pub returns-in_err-push_entry-clause-pushed : goal.returns-in_err-push_entry-clause-pushed
+returns-in_err-push_entry-clause-pushed c = rw (err_from_is_err_and c.from_residual.result c.from_residual.ensures.1).1 tt
+
+pub returns-in_err-push_entry-clause-fits : goal.returns-in_err-push_entry-clause-fits
+returns-in_err-push_entry-clause-fits c = rw (err_from_is_err_and c.from_residual.result c.from_residual.ensures.1).1 tt
