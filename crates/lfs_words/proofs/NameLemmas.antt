@@ -7,7 +7,7 @@ use Rattle.std.proofs.lemmas.Slice.Eq.{bytes_eq-Decides}
 use Rattle.clap.specs.Words.{Row, Shape, Text}
 use Rattle.lfs_grammar.proofs.Lists.{Each, contained, each_in}
 use Rattle.lfs_grammar.specs.Grammar.{NamesCommand, commands}
-use Rattle.lfs_words.specs.Words.{is_other, is_question}
+use Rattle.lfs_words.specs.Words.{IsNoPast, IsNoTreeCommand, is_command, is_other, is_question}
 
 -- a command that isn't asked, and changes no tree
 abbrev is_task : Text → Bool
@@ -43,15 +43,23 @@ none_by : (a b : Bool) → a ≡ false → b ≡ false → a || b ≡ false
 none_by true b first second = absurd (let bad : true ≡ false = first in cc)
 none_by false b first second = second
 
+-- it is no command on a tree, nor on an image's length
+pub no_command : (name : Text) → IsNoTreeCommand name → name ≢ codes "setattr" → name ≢ codes "rmattr" → name ≢ codes "grow"
+    → is_command name ≡ false
+no_command name tree setattr rmattr grow =
+    none_by _ _ (no_word (codes "mkdir") name tree.0) (none_by _ _ (no_word (codes "put") name tree.1)
+    (none_by _ _ (no_word (codes "rm") name tree.2) (none_by _ _ (no_word (codes "mv") name tree.3)
+    (none_by _ _ (no_word (codes "setattr") name setattr) (none_by _ _ (no_word (codes "rmattr") name rmattr)
+    (none_by _ _ (no_word (codes "grow") name grow) refl))))))
+
 -- of what the grammar has it is one that changes a tree, or takes no image
-pub other_named : (name : Text) (rows : List Row) → NamesCommand (Some (name, rows)) → name ≢ codes "batch" → name ≢ codes "format"
-    → name ≢ codes "pack" → name ≢ codes "repack" → name ≢ codes "extract" → name ≢ codes "salvage" → name ≢ codes "undo"
-    → name ≢ codes "redo" → name ≢ codes "forget" → is_question name ≡ false → is_other name ≡ true
-other_named name rows names batch format pack repack extract salvage undo redo forget question =
+pub other_named : (name : Text) (rows : List Row) → NamesCommand (Some (name, rows)) → IsNoPast name → name ≢ codes "format"
+    → name ≢ codes "pack" → name ≢ codes "repack" → is_other name ≡ true
+other_named name rows names past format pack repack =
     let task : is_task name ≡ false =
-    none_by _ _ (no_word (codes "batch") name batch) (none_by _ _ (no_word (codes "format") name format)
+    none_by _ _ (no_word (codes "batch") name past.3) (none_by _ _ (no_word (codes "format") name format)
     (none_by _ _ (no_word (codes "pack") name pack) (none_by _ _ (no_word (codes "repack") name repack)
-    (none_by _ _ (no_word (codes "extract") name extract) (none_by _ _ (no_word (codes "salvage") name salvage)
-    (none_by _ _ (no_word (codes "undo") name undo) (none_by _ _ (no_word (codes "redo") name redo)
-    (no_word (codes "forget") name forget)))))))) in
-    other_by (is_question name) (is_other name) (other_by (is_task name) (is_question name || is_other name) (known name rows names) task) question
+    (none_by _ _ (no_word (codes "extract") name past.4.0) (none_by _ _ (no_word (codes "salvage") name past.4.1)
+    (none_by _ _ (no_word (codes "undo") name past.0) (none_by _ _ (no_word (codes "redo") name past.1)
+    (no_word (codes "forget") name past.2)))))))) in
+    other_by (is_question name) (is_other name) (other_by (is_task name) (is_question name || is_other name) (known name rows names) task) past.4.2

@@ -1,5 +1,5 @@
 -- What the words of a command line ask for (own).
-use Rattle.std.specs.Prelude.{ℕ, ◌<◌, ◌^◌, Bool, true, false, ◌≡◌, ◌⊎◌, ◌||◌, ⊤, List, [], ◌∷◌, Option, None, Some, codes, if◌then◌else◌, is_some, map}
+use Rattle.std.specs.Prelude.{ℕ, ◌<◌, ◌^◌, Bool, true, false, ◌≡◌, ◌≢◌, ◌⊎◌, ◌||◌, ⊤, List, [], ◌∷◌, Option, None, Some, codes, if◌then◌else◌, is_some, map}
 use Rattle.std.specs.Prelude.{option_map}
 use Rattle.std.specs.Borrow.{Bor}
 use Rattle.std.specs.List.{list_any}
@@ -245,6 +245,19 @@ is_other name = is_command name || bytes_eq (codes "find") name || bytes_eq (cod
 abbrev pub is_question : Text → Bool
 is_question name =
     list_any (λ other. bytes_eq other name) (codes "check" ∷ codes "ls" ∷ codes "blocks" ∷ codes "cat" ∷ codes "diff" ∷ codes "log" ∷ [])
+
+-- no name of a command on a tree that says neither an attribute nor a number
+abbrev pub IsNoTreeCommand : Text → Type 0
+IsNoTreeCommand name = (name ≢ codes "mkdir") × (name ≢ codes "put") × (name ≢ codes "rm") × (name ≢ codes "mv")
+
+-- none of a command that reads an image as it is looked at
+abbrev pub IsNoViewing : Text → Type 0
+IsNoViewing name = (name ≢ codes "extract") × (name ≢ codes "salvage") × (is_question name ≡ false)
+
+-- nor of one that has to do with the changes of the past, or that takes a script
+abbrev pub IsNoPast : Text → Type 0
+IsNoPast name =
+    (name ≢ codes "undo") × (name ≢ codes "redo") × (name ≢ codes "forget") × (name ≢ codes "batch") × IsNoViewing name
 
 -- `auto` is said for the block size by an option, and this file is named by an argument
 abbrev pub SaysAuto : Text → Text → Option (Text × List Row) → Text → Type 0

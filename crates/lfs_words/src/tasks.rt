@@ -1,12 +1,12 @@
 //! The tasks that the words of a command say.
 
-ghost use Rattle.std.specs.Prelude.{◌≡◌, ◌<◌, ◌⊎◌, IfErr, IfOk, Some, codes, false, true};
+ghost use Rattle.std.specs.Prelude.{◌≡◌, ◌<◌, ◌⊎◌, ℕ, IfErr, IfOk, Some, codes, false, true};
 ghost use Rattle.clap.specs.Words.{Text, found_of, rows_of};
 ghost use Rattle.lfs_grammar.specs.Grammar.{NamesCommand, TakesNoImage, is_change};
 ghost use Rattle.lfs_history.specs.Taking.{MayKeep};
 ghost use Rattle.lfs_request.specs.Task.{IsTaskInRange};
-ghost use Rattle.lfs_words.specs.Words.{HasContents, IsCommand, IsCommandMisuse, IsKept, IsManner, IsOffsetMisuse, IsQuery, IsSizeMisuse, IsTask, is_command};
-ghost use Rattle.lfs_words.specs.Words.{is_other, is_question};
+ghost use Rattle.lfs_words.specs.Words.{HasContents, IsCommand, IsCommandMisuse, IsKept, IsManner, IsOffsetMisuse, IsQuery, IsSizeMisuse, IsTask, IsView, is_command};
+ghost use Rattle.lfs_words.specs.Words.{IsNoPast, IsNoTreeCommand, IsNoViewing, is_other, is_question};
 ghost use Rattle.lfs_words.specs.declared.misuse.Misuse.TheVariants.{Memory, Unsaid};
 
 use crate::counting::{count_of, extent_if_said, extent_of, limits_if_said, limits_of};
@@ -17,7 +17,7 @@ use crate::viewing::view_of;
 use clap::ArgMatches;
 use lfs_command::Command;
 use lfs_history::{Move, Source};
-use lfs_request::{Manner, Query, SourceImage, Task};
+use lfs_request::{Manner, Query, SourceImage, Task, View};
 use std::alloc::Global;
 
 /// The question that a command's words say, where another image has blocks of this size.
@@ -58,19 +58,14 @@ fn contents_of<'a>(options: &ArgMatches<'a>) -> Source<'a>
     }
 }
 
-/// The command that words say, on an image of this block size.
-fn command_of<'a>(
-    alloc: Global,
+/// The command that words say which says no attribute and no number.
+fn tree_command_of<'a>(
     name: &str,
     options: &ArgMatches<'a>,
-    block: u32,
 ) -> Result<Command<&'a [u8], Source<'a>>, Misuse<'a>>
-    requires { 0 < block }
-    ensures some { IfOk result (λ command. IsCommand command name.now (rows_of (found_of options.now)) block) }
-    ensures refused { IfErr result (λ misuse. (misuse ≡ Unsaid) ⊎ (misuse ≡ Memory)
-        ⊎ IsCommandMisuse misuse name.now (rows_of (found_of options.now)) block) }
-    ensures unsaid { IfErr result (λ misuse. misuse ≡ Unsaid → NamesCommand (Some (name.now, rows_of (found_of options.now)))
-        → is_command name.now ≡ false) }
+    ensures some { IfOk result (λ command. (block : ℕ) → IsCommand command name.now (rows_of (found_of options.now)) block) }
+    ensures refused { IfErr result (λ misuse. misuse ≡ Unsaid) }
+    ensures unsaid { IfErr result (λ misuse. NamesCommand (Some (name.now, rows_of (found_of options.now))) → IsNoTreeCommand name.now) }
 {
     match name {
         "mkdir" => Ok(Command::Mkdir {
@@ -87,6 +82,25 @@ fn command_of<'a>(
             from: bytes(options, "from")?,
             to: bytes(options, "to")?,
         }),
+        _ => Err(Misuse::Unsaid),
+    }
+}
+
+/// The command that words say, on an image of this block size.
+fn command_of<'a>(
+    alloc: Global,
+    name: &str,
+    options: &ArgMatches<'a>,
+    block: u32,
+) -> Result<Command<&'a [u8], Source<'a>>, Misuse<'a>>
+    requires { 0 < block }
+    ensures some { IfOk result (λ command. IsCommand command name.now (rows_of (found_of options.now)) block) }
+    ensures refused { IfErr result (λ misuse. (misuse ≡ Unsaid) ⊎ (misuse ≡ Memory)
+        ⊎ IsCommandMisuse misuse name.now (rows_of (found_of options.now)) block) }
+    ensures unsaid { IfErr result (λ misuse. misuse ≡ Unsaid → NamesCommand (Some (name.now, rows_of (found_of options.now)))
+        → is_command name.now ≡ false) }
+{
+    match name {
         "setattr" => {
             let path = bytes(options, "path")?;
             let (kind, value) = attribute_of(alloc, options)?;
@@ -103,7 +117,7 @@ fn command_of<'a>(
         "grow" => Ok(Command::Grow {
             count: count_of(options, block, GROW)?,
         }),
-        _ => Err(Misuse::Unsaid),
+        _ => tree_command_of(name, options),
     }
 }
 
@@ -160,6 +174,64 @@ fn manner_of<'a>(options: &ArgMatches<'a>) -> Result<Manner, Misuse<'a>>
     })
 }
 
+/// What a command's words ask to be read of an image that is looked at so; another image has blocks of this size.
+fn viewing_task_of<'a>(
+    name: &str,
+    options: &ArgMatches<'a>,
+    other: u32,
+    view: View,
+) -> Result<Task<'a>, Misuse<'a>>
+    requires { IsView view (rows_of (found_of options.now)) }
+    ensures some { IfOk result (λ task. (block : ℕ) → IsTask task name.now (rows_of (found_of options.now)) block other) }
+    ensures within { IfOk result IsTaskInRange }
+    ensures refused { IfErr result (λ misuse. misuse ≡ Unsaid) }
+    ensures unsaid { IfErr result (λ misuse. NamesCommand (Some (name.now, rows_of (found_of options.now))) → IsNoViewing name.now) }
+{
+    match name {
+        "extract" => Ok(Task::Extract {
+            dir: text(options, "dir")?,
+            view,
+        }),
+        "salvage" => Ok(Task::Salvage {
+            dir: text(options, "dir")?,
+            view,
+        }),
+        _ => Ok(Task::Ask {
+            query: question_of(name, options, other)?,
+            view,
+        }),
+    }
+}
+
+/// The same, or what they ask to be done with the changes of the past, or by a script.
+fn past_task_of<'a>(
+    name: &str,
+    options: &ArgMatches<'a>,
+    other: u32,
+    view: View,
+) -> Result<Task<'a>, Misuse<'a>>
+    requires { IsView view (rows_of (found_of options.now)) }
+    ensures some { IfOk result (λ task. (block : ℕ) → IsTask task name.now (rows_of (found_of options.now)) block other) }
+    ensures within { IfOk result (λ task. NamesCommand (Some (name.now, rows_of (found_of options.now))) → IsTaskInRange task) }
+    ensures refused { IfErr result (λ misuse. misuse ≡ Unsaid) }
+    ensures unsaid { IfErr result (λ misuse. NamesCommand (Some (name.now, rows_of (found_of options.now))) → IsNoPast name.now) }
+{
+    match name {
+        "undo" => Ok(Task::Change(Move::Undo {
+            steps: number(options, "steps")?,
+        })),
+        "redo" => Ok(Task::Change(Move::Redo {
+            steps: number(options, "steps")?,
+        })),
+        "forget" => Ok(Task::Forget),
+        "batch" => Ok(Task::Batch {
+            file: options.get_str("script"),
+            keep: keep_of(options),
+        }),
+        _ => viewing_task_of(name, options, other, view),
+    }
+}
+
 /// What a command's words ask to be done that is no command on an image's tree; another image has blocks of the second size.
 fn other_task_of<'a>(
     name: &str,
@@ -187,29 +259,7 @@ fn other_task_of<'a>(
             dir: text(options, "dir")?,
         }),
         "repack" => repack_of(options, block, other),
-        "extract" => Ok(Task::Extract {
-            dir: text(options, "dir")?,
-            view,
-        }),
-        "salvage" => Ok(Task::Salvage {
-            dir: text(options, "dir")?,
-            view,
-        }),
-        "undo" => Ok(Task::Change(Move::Undo {
-            steps: number(options, "steps")?,
-        })),
-        "redo" => Ok(Task::Change(Move::Redo {
-            steps: number(options, "steps")?,
-        })),
-        "forget" => Ok(Task::Forget),
-        "batch" => Ok(Task::Batch {
-            file: options.get_str("script"),
-            keep: keep_of(options),
-        }),
-        _ => Ok(Task::Ask {
-            query: question_of(name, options, other)?,
-            view,
-        }),
+        _ => past_task_of(name, options, other, view),
     }
 }
 

@@ -3,52 +3,14 @@ use Rattle.clap.specs.Words.{Text, found_of, rows_of}
 use Rattle.lfs_grammar.specs.Grammar.{new_count, word}
 use Rattle.lfs_grammar.proofs.CommandLemmas.{new_count_is, said_of, says_of}
 use Rattle.lfs_words.specs.Words.{IsHexMisuse, IsKindMisuse}
+use Rattle.std.proofs.lemmas.Result.{IfErr-weaker, IfOk-weaker}
 use Rattle.lfs_words.proofs.Handed.{handed_on}
+use Rattle.lfs_words.proofs.NameLemmas.{no_command}
 use Rattle.lfs_words.proofs.tasks.command_of.Goals as goal
-
-pub returns-in_err-bytes-in-mkdir-clause-unsaid : goal.returns-in_err-bytes-in-mkdir-clause-unsaid
-returns-in_err-bytes-in-mkdir-clause-unsaid c =
-    let on = c.from_residual in
-    handed_on on.result c.in_err-bytes-in-mkdir.field-0.0 _ on.ensures.1
-    (λ is names.
-    let said = said_of c.args.name.now (codes "mkdir") (rows_of (found_of c.args.options.now)) c.in-mkdir.is names in
-    absurd (c.in_err-bytes-in-mkdir.ensures.none.1 (word (codes "path")) refl (said.1.1.0 refl)))
-
-pub returns-in_err-bytes-in-put-clause-unsaid : goal.returns-in_err-bytes-in-put-clause-unsaid
-returns-in_err-bytes-in-put-clause-unsaid c =
-    let on = c.from_residual-in_err-bytes-in-put in
-    handed_on on.result c.in_err-bytes-in-put.field-0.0 _ on.ensures.1
-    (λ is names.
-    let said = said_of c.args.name.now (codes "put") (rows_of (found_of c.args.options.now)) c.in-put.is names in
-    absurd (c.in_err-bytes-in-put.ensures.none.1 (word (codes "path")) refl (said.1.1.0 refl)))
-
-pub returns-in_err-bytes-in-rm-clause-unsaid : goal.returns-in_err-bytes-in-rm-clause-unsaid
-returns-in_err-bytes-in-rm-clause-unsaid c =
-    let on = c.from_residual-in_err-bytes-in-rm in
-    handed_on on.result c.in_err-bytes-in-rm.field-0.0 _ on.ensures.1
-    (λ is names.
-    let said = said_of c.args.name.now (codes "rm") (rows_of (found_of c.args.options.now)) c.in-rm.is names in
-    absurd (c.in_err-bytes-in-rm.ensures.none.1 (word (codes "path")) refl (said.1.1.0 refl)))
-
-pub returns-in_err-bytes-in-mv-clause-unsaid : goal.returns-in_err-bytes-in-mv-clause-unsaid
-returns-in_err-bytes-in-mv-clause-unsaid c =
-    let on = c.from_residual-in_err-bytes-in-mv in
-    handed_on on.result c.in_err-bytes-in-mv.field-0.0 _ on.ensures.1
-    (λ is names.
-    let said = said_of c.args.name.now (codes "mv") (rows_of (found_of c.args.options.now)) c.in-mv.is names in
-    absurd (c.in_err-bytes-in-mv.ensures.none.1 (word (codes "from")) refl (said.1.1.0 refl)))
-
-pub returns-in_err-bytes-in-mv-2-clause-unsaid : goal.returns-in_err-bytes-in-mv-2-clause-unsaid
-returns-in_err-bytes-in-mv-2-clause-unsaid c =
-    let on = c.from_residual-in_err-bytes-in-mv-2 in
-    handed_on on.result c.in_err-bytes-in-mv-2.field-0.0 _ on.ensures.1
-    (λ is names.
-    let said = said_of c.args.name.now (codes "mv") (rows_of (found_of c.args.options.now)) c.in-mv.is names in
-    absurd (c.in_err-bytes-in-mv-2.ensures.none.1 (word (codes "to")) refl (said.1.1.1.0 refl)))
 
 pub returns-in_err-path-in-setattr-clause-unsaid : goal.returns-in_err-path-in-setattr-clause-unsaid
 returns-in_err-path-in-setattr-clause-unsaid c =
-    let on = c.from_residual-in_err-path-in-setattr in
+    let on = c.from_residual in
     handed_on on.result c.in_err-path-in-setattr.field-0.0 _ on.ensures.1
     (λ is names.
     let said = said_of c.args.name.now (codes "setattr") (rows_of (found_of c.args.options.now)) c.in-setattr.is names in
@@ -122,3 +84,15 @@ returns-in_err-count_of-in-grow-clause-unsaid c =
     (λ is names.
     let says = says_of c.args.name.now (codes "grow") (rows_of (found_of c.args.options.now)) c.in-grow.is names in
     absurd (c.in_err-count_of-in-grow.ensures.unsaid is new_count refl new_count_is says.1.1.0))
+
+pub returns-in_default-clause-some : goal.returns-in_default-clause-some
+returns-in_default-clause-some c = IfOk-weaker c.tree_command_of.result _ _ (λ command is. is c.args.block) c.tree_command_of.ensures.some
+
+pub returns-in_default-clause-refused : goal.returns-in_default-clause-refused
+returns-in_default-clause-refused c = IfErr-weaker c.tree_command_of.result _ _ (λ misuse is. inl is) c.tree_command_of.ensures.refused
+
+pub returns-in_default-clause-unsaid : goal.returns-in_default-clause-unsaid
+returns-in_default-clause-unsaid c =
+    let h = c.in_default in
+    IfErr-weaker c.tree_command_of.result _ _ (λ misuse other is names. no_command c.args.name.now (other names) h.not-setattr h.not-rmattr h.not-grow)
+    c.tree_command_of.ensures.unsaid

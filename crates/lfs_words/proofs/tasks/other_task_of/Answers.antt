@@ -1,10 +1,9 @@
-use Rattle.std.proofs.Common.{◌≡◌, ◌∙◌, Some, ap, codes, inl, inr, refl, subst, sym, true}
+use Rattle.std.proofs.Common.{Some, codes, inl, inr, refl, subst, sym}
 use Rattle.std.specs.Prelude.{IfOk}
 use Rattle.std.proofs.lemmas.Result.{IfErr-weaker, IfOk-weaker}
 use Rattle.clap.specs.Words.{Text, found_of, rows_of}
-use Rattle.clap.proofs.WalkLemmas.{first_value-rows}
-use Rattle.lfs_grammar.specs.Grammar.{NamesCommand, count, is_change, steps, word}
-use Rattle.lfs_grammar.proofs.CommandLemmas.{count_is, said_of, says_of, steps_is}
+use Rattle.lfs_grammar.specs.Grammar.{NamesCommand, count, word}
+use Rattle.lfs_grammar.proofs.CommandLemmas.{count_is, said_of, says_of}
 use Rattle.lfs_words.specs.Words.{IsSizeMisuse, IsTask}
 use Rattle.lfs_words.proofs.Handed.{handed_on}
 use Rattle.lfs_words.proofs.NameLemmas.{other_named}
@@ -109,55 +108,18 @@ returns-in-repack-clause-unsaid c =
     IfErr-weaker c.repack_of.result _ _ (λ misuse never is names.
     absurd (never is (subst (λ (name : Text). NamesCommand (Some (name, rows))) c.in-repack.is names))) c.repack_of.ensures.unsaid
 
-pub returns-in_err-text-in-extract-clause-unsaid : goal.returns-in_err-text-in-extract-clause-unsaid
-returns-in_err-text-in-extract-clause-unsaid c =
-    let on = c.from_residual-in_err-text-in-extract in
-    handed_on on.result c.in_err-text-in-extract.field-0.0 _ on.ensures.1
-    (λ is names.
-    let said = said_of c.args.name.now (codes "extract") (rows_of (found_of c.args.options.now)) c.in-extract.is names in
-    absurd (c.in_err-text-in-extract.ensures.none.1 (word (codes "dir")) refl (said.1.1.0 refl)))
+pub returns-in_default-clause-some : goal.returns-in_default-clause-some
+returns-in_default-clause-some c = IfOk-weaker c.past_task_of.result _ _ (λ task is. is c.args.block) c.past_task_of.ensures.some
 
-pub returns-in_err-text-in-salvage-clause-unsaid : goal.returns-in_err-text-in-salvage-clause-unsaid
-returns-in_err-text-in-salvage-clause-unsaid c =
-    let on = c.from_residual-in_err-text-in-salvage in
-    handed_on on.result c.in_err-text-in-salvage.field-0.0 _ on.ensures.1
-    (λ is names.
-    let said = said_of c.args.name.now (codes "salvage") (rows_of (found_of c.args.options.now)) c.in-salvage.is names in
-    absurd (c.in_err-text-in-salvage.ensures.none.1 (word (codes "dir")) refl (said.1.1.0 refl)))
+pub returns-in_default-clause-within : goal.returns-in_default-clause-within
+returns-in_default-clause-within c = c.past_task_of.ensures.within
 
-pub returns-in_err-number-in-undo-clause-unsaid : goal.returns-in_err-number-in-undo-clause-unsaid
-returns-in_err-number-in-undo-clause-unsaid c =
-    let on = c.from_residual-in_err-number-in-undo in
-    handed_on on.result c.in_err-number-in-undo.field-0.0 _ on.ensures.1
-    (λ is names.
-    let said = said_of c.args.name.now (codes "undo") (rows_of (found_of c.args.options.now)) c.in-undo.is names in
-    absurd (c.in_err-number-in-undo.ensures.none.1 steps refl steps_is (said.1.1.0 refl)))
+pub returns-in_default-clause-refused : goal.returns-in_default-clause-refused
+returns-in_default-clause-refused c = IfErr-weaker c.past_task_of.result _ _ (λ misuse is. inl is) c.past_task_of.ensures.refused
 
-pub returns-in_err-number-in-redo-clause-unsaid : goal.returns-in_err-number-in-redo-clause-unsaid
-returns-in_err-number-in-redo-clause-unsaid c =
-    let on = c.from_residual-in_err-number-in-redo in
-    handed_on on.result c.in_err-number-in-redo.field-0.0 _ on.ensures.1
-    (λ is names.
-    let said = said_of c.args.name.now (codes "redo") (rows_of (found_of c.args.options.now)) c.in-redo.is names in
-    absurd (c.in_err-number-in-redo.ensures.none.1 steps refl steps_is (said.1.1.0 refl)))
-
-pub returns-in-batch-clause-some : goal.returns-in-batch-clause-some
-returns-in-batch-clause-some c = (
-  c.in-batch.is,
-  c.get_str.ensures ∙ first_value-rows (found_of c.args.options.now) (codes "script"),
-  c.keep_of.ensures.kept,
-)
-
-pub returns-in-batch-clause-within : goal.returns-in-batch-clause-within
-returns-in-batch-clause-within c = λ names.
-    let changes : is_change c.args.name.now ≡ true = ap is_change c.in-batch.is in
-    c.keep_of.ensures.within c.args.name.now changes names
-
-pub returns-in_err-question_of-in_default-clause-unsaid : goal.returns-in_err-question_of-in_default-clause-unsaid
-returns-in_err-question_of-in_default-clause-unsaid c =
-    let on = c.from_residual-in_err-question_of-in_default in
+pub returns-in_default-clause-unsaid : goal.returns-in_default-clause-unsaid
+returns-in_default-clause-unsaid c =
     let h = c.in_default in
-    handed_on on.result c.in_err-question_of-in_default.field-0.0 _ on.ensures.1
-    (λ is names.
-    other_named c.args.name.now (rows_of (found_of c.args.options.now)) names h.not-batch h.not-format h.not-pack h.not-repack h.not-extract
-    h.not-salvage h.not-undo h.not-redo h.not-forget (c.in_err-question_of-in_default.ensures.unsaid names))
+    IfErr-weaker c.past_task_of.result _ _ (λ misuse other is names.
+    other_named c.args.name.now (rows_of (found_of c.args.options.now)) names (other names) h.not-format h.not-pack h.not-repack)
+    c.past_task_of.ensures.unsaid
