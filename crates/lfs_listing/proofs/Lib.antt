@@ -7,6 +7,7 @@ pub mod CountingLemmas
 pub mod DigitLemmas
 pub mod DirectoryLemmas
 pub mod EndLemmas
+pub mod FlatLemmas
 pub mod GatheringLemmas
 pub mod KeptLemmas
 mod ListingRows

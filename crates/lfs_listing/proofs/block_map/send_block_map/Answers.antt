@@ -1,11 +1,17 @@
 -- Nothing has gone out where memory is refused before the first line.
-use Rattle.std.proofs.Common.{List, subst, ◌∙◌, ℕ}
+use Rattle.std.proofs.Common.{List, subst, sym, ◌∙◌, ℕ}
 use Rattle.std.specs.Result.{result_err}
+use Rattle.lfs_fs.specs.Sound.{IsSound}
 use Rattle.lfs_listing.specs.Unsent.{SendsListing}
 use Rattle.lfs_listing.proofs.BlockMapLemmas.{map_text}
 use Rattle.lfs_listing.proofs.BufferLemmas.{under_way}
 use Rattle.lfs_listing.proofs.UnsentLemmas.{refused}
 use Rattle.lfs_listing.proofs.block_map.send_block_map.Goals as goal
+
+pub users_with_ends-requires : goal.users_with_ends-requires
+users_with_ends-requires g c =
+    let is = c.requires.mounted.1 in
+    subst IsSound (sym is.outline) (c.outlines_are_sound.ensures is.volume is.sound)
 
 pub returns-in_err-users-clause-sent : goal.returns-in_err-users-clause-sent
 returns-in_err-users-clause-sent g c =

@@ -5,6 +5,7 @@ use Rattle.std.specs.Result.{result_err}
 use Rattle.std.proofs.lemmas.List.{length-map}
 use Rattle.lfs_fs.specs.Listed.{rows_listed}
 use Rattle.lfs_fs.specs.Row.{Row}
+use Rattle.lfs_fs.specs.Sound.{IsSound}
 use Rattle.lfs_listing.specs.BlockMap.{block_users}
 use Rattle.lfs_listing.specs.BlockSums.{block_sums, sum_line, taken}
 use Rattle.lfs_listing.specs.Listing.{shown_byte}
@@ -15,6 +16,11 @@ use Rattle.lfs_listing.proofs.CountingLemmas.{sum_le}
 use Rattle.lfs_listing.proofs.SumLemmas.{deep, lines_of_rows, sums_are_taken, users_within}
 use Rattle.lfs_listing.proofs.UnsentLemmas.{refused}
 use Rattle.lfs_listing.proofs.block_sums.send_block_sums.Goals as goal
+
+pub users_with_depths-requires : goal.users_with_depths-requires
+users_with_depths-requires g c =
+    let is = c.requires.mounted.1 in
+    subst IsSound (sym is.outline) (c.outlines_are_sound.ensures is.volume is.sound)
 
 pub returns-in_err-users-clause-sent : goal.returns-in_err-users-clause-sent
 returns-in_err-users-clause-sent g c =
