@@ -1,5 +1,5 @@
 -- Which command a name is where it is none of these.
-use Rattle.std.proofs.Common.{rules, ◌≡◌, ◌≢◌, ◌∙◌, Bool, List, [], ◌∷◌, Option, Some, ap, codes, false, refl, subst, sym, true}
+use Rattle.std.proofs.Common.{rules, ◌≡◌, ◌≢◌, ◌∙◌, Bool, List, [], Option, Some, ap, codes, false, refl, sym, true}
 use Rattle.std.specs.Prelude.{◌||◌}
 use Rattle.std.specs.Option.{option_map_or}
 use Rattle.std.specs.Str.{bytes_eq}
