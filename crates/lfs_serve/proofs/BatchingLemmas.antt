@@ -1,5 +1,5 @@
 -- The steps of a script, and how they end.
-use Rattle.std.proofs.Common.{◌≡◌, ◌⊎◌, ◌<◌, ◌+◌, ℕ, Bor, Bool, List, [], ◌∷◌, ◌++◌, Option}
+use Rattle.std.proofs.Common.{◌≡◌, ◌⊎◌, ◌<◌, ◌+◌, ℕ, Bor, Bool, List, [], ◌∷◌, ◌++◌, Option, suc, drop, add-one, drop-cons}
 use Rattle.std.proofs.Common.{get_or, length, map, take, refl, sym, ap, ap₂, subst, ◌∙◌, arith, inl, inr}
 use Rattle.std.proofs.lemmas.List.{append-nil, append_assoc, length-take-le, map-append, take_more}
 use Rattle.std.specs.Global.{Vec}
@@ -32,12 +32,28 @@ abbrev pub AreReadTo : Option Files → List ScriptLine → List ScriptLine → 
 AreReadTo files lines left read =
     (more : List (Vec ℕ)) → AllZip (HandsLine files) left more → AllZip (HandsLine files) lines (read ++ more)
 
+-- the line at a place is the first of those that are left
+line_left : (lines : List ScriptLine) (i : ℕ) (line : ScriptLine) → i < length lines → line ≡ get_or lines i line
+    → drop i lines ≡ line ∷ drop (i + 1) lines
+line_left lines i line within is =
+    rw (add-one, drop-cons lines i line) (ap (λ (l : ScriptLine). l ∷ drop (suc i) lines) (sym is))
+
 -- one line more
-pub read_further : (files : Option Files) (lines left more : List ScriptLine) (line : ScriptLine) (read : List (Vec ℕ)) (one : Vec ℕ)
+read_further : (files : Option Files) (lines left more : List ScriptLine) (line : ScriptLine) (read : List (Vec ℕ)) (one : Vec ℕ)
     → HandsLine files line one → left ≡ line ∷ more → AreReadTo files lines left read → AreReadTo files lines more (read ++ one ∷ [])
 read_further files lines left more line read one is same so_far behind zips =
     subst (AllZip (HandsLine files) lines) (sym (append_assoc read (one ∷ []) behind))
     (so_far (one ∷ behind) (subst (λ (ls : List ScriptLine). AllZip (HandsLine files) ls (one ∷ behind)) (sym same) (is, zips)))
+
+-- that at a place, which is read on a host whose files are the same
+pub read_one : (old mid : Option Files) (lines : List ScriptLine) (i : ℕ) (line : ScriptLine) (read new : List (Vec ℕ)) (one : Vec ℕ)
+    → i < length lines → line ≡ get_or lines i line → mid ≡ old → HandsLine mid line one → AreReadTo old lines (drop i lines) read
+    → new ≡ read ++ one ∷ [] → AreReadTo old lines (drop (i + 1) lines) new
+read_one old mid lines i line read new one within at same hands so_far is =
+    let here = subst (λ (f : Option Files). HandsLine f line one) same hands in
+    let left = line_left lines i line within at in
+    subst (AreReadTo old lines (drop (i + 1) lines)) (sym is)
+    (read_further old lines (drop i lines) (drop (i + 1) lines) line read one here left so_far)
 
 -- none is left
 pub all_read : (files : Option Files) (lines left : List ScriptLine) (read : List (Vec ℕ)) → left ≡ [] → AreReadTo files lines left read

@@ -1,7 +1,7 @@
 -- How making a folder of an image ends.
 use Rattle.std.proofs.Common.{◌≡◌, ◌⊎◌, ℕ, List, Option, Some, None, Result, Ok, Err, refl, sym, subst, inl, inr}
 use Rattle.std.specs.Option.{option_map}
-use Rattle.std.specs.Prelude.{IfErr, IfSome}
+use Rattle.std.specs.Prelude.{IfErr, IfSome, ⊤}
 use Rattle.std.specs.Result.{result_err}
 use Rattle.lfs_block.specs.Disk.{Disk, IsDisk}
 use Rattle.lfs_block.proofs.BytesLemmas.{image_of_disk}
@@ -24,6 +24,10 @@ use Rattle.lfs_exchange.specs.Handing.{HandsImage, IsNotTakenUp, IsUnfound, IsUn
 use Rattle.lfs_serve.specs.Later.{later_alone, refused_by}
 use Rattle.lfs_serve.specs.ReadBy.{IsReadBy}
 use Rattle.lfs_serve.specs.Extracting.{EndsBytes, EndsExtract, EndsMaking, FindsFolder, MakesRows, StopsMaking, fault_of_extracting}
+use Rattle.lfs_block.specs.declared.mount_fault.MountFault.{MountFault}
+use Rattle.lfs_block.specs.declared.mount_fault.MountFault.TheVariants as mounting
+use Rattle.lfs_fs.specs.Cause.{HasCause}
+use Rattle.lfs_request.specs.Fault.{fault_of_mount}
 
 -- what the host refuses to read
 pub unread : (fault : ReadFault) (old new : Scene) → Notes (refuses_reading fault) old new → IsUnread new (fault_of_reading fault)
@@ -42,6 +46,18 @@ pub there_ends : (d : Disk) → HasMount d → (dir : List ℕ) (tree : Option H
     → IsUnread new fault ⊎ ((fault ≡ HostEntry) × FindsFolder dir tree old new.made) → new.made ≡ old → StopsMaking d dir tree old new fault
 there_ends d mounts dir tree old new fault (inl is) same = unread_ends d dir tree old new fault is same
 there_ends d mounts dir tree old new fault (inr (is, finds)) same = subst (StopsMaking d dir tree old new) (sym is) (mounts, finds)
+
+-- an image that doesn't mount ends it, and nothing is made
+cause_ends : (d : Disk) (dir : List ℕ) (tree : Option HostTree) (s : Scene) (cause : MountFault) → HasCause d cause
+    → StopsMaking d dir tree s.made s (fault_of_mount cause)
+cause_ends d dir tree s mounting.Memory cause = (refl, inl refl)
+cause_ends d dir tree s _ cause = (cause, refl)
+
+pub unmounted_ends : (d : Disk) (dir : List ℕ) (tree : Option HostTree) (s : Scene) (cause : MountFault) (r : Result ⊤ Fault) (fault : Fault)
+    → r ≡ Err fault → fault ≡ fault_of_mount cause → HasCause d cause → EndsMaking d dir tree s.made s (result_err r)
+unmounted_ends d dir tree s cause r fault is same has =
+    subst (λ (x : Result ⊤ Fault). EndsMaking d dir tree s.made s (result_err x)) (sym is)
+    (subst (StopsMaking d dir tree s.made s) (sym same) (cause_ends d dir tree s cause has))
 
 -- the fault of a result is blamed where the result is
 pub fault_blamed : {T : Type 0} (made : Result T ExtractFault) (new : Scene) → IfErr made (λ fault. fault ≡ CannotWrite → HasRefused new)

@@ -1,5 +1,5 @@
 -- The image that bytes are, opened.
-use Rattle.std.proofs.Common.{◌≡◌, ◌⊎◌, ◌∙◌, ℕ, List, Result, Ok, Err, IfErr, sym, ap, subst, inl, inr}
+use Rattle.std.proofs.Common.{◌≡◌, ◌⊎◌, ◌∙◌, ℕ, List, Result, Ok, Err, IfErr, sym, ap, subst, inl, inr, ◌*◌, ap₂, arith, mul_comm, Fits, w32}
 use Rattle.lfs_block.specs.Disk.{Disk, IsDisk, image_of}
 use Rattle.lfs_block.proofs.BytesLemmas.{image_of_disk}
 use Rattle.lfs_command.specs.declared.refusal.Refusal.TheVariants.{Memory}
@@ -24,3 +24,9 @@ judged size bytes d is same (Err stop) (inl memory) = inl memory
 judged size bytes d is same (Err stop) (inr (cause, for, has)) =
     let at = subst (λ (e : Disk). IsDisk e) same is in
     inr (subst (JudgesSource size bytes) (sym for) (at, subst (λ (e : Disk). HasCause e cause) same has))
+
+-- an image has fewer bytes than a number of 32 bits counts
+pub image_fits : (d : Disk) (size count : ℕ) → IsDisk d → size ≡ d.size → count ≡ d.count → Fits w32 (size * count)
+image_fits d size count is size_is count_is =
+    let same : size * count ≡ d.count * d.size = ap₂ (λ (n k : ℕ). n * k) size_is count_is ∙ mul_comm d.size d.count in
+    omega (arith, same, is.geometry.length_fits)

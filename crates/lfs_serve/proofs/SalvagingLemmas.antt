@@ -1,7 +1,7 @@
 -- How salvaging an image ends, whether it mounts or not.
-use Rattle.std.proofs.Common.{◌≡◌, ℕ, Bool, true, false, List, [], Option, Some, None, inl, inr, option_map, refl, subst, sym}
+use Rattle.std.proofs.Common.{◌≡◌, ℕ, Bool, true, false, List, [], Option, Some, None, inl, inr, option_map, refl, subst, sym, ◌≤◌, length}
 use Rattle.std.specs.Global.{Vec}
-use Rattle.std.specs.Prelude.{if◌then◌else◌, is_some, unwrap_or}
+use Rattle.std.specs.Prelude.{if◌then◌else◌, is_some, unwrap_or, IfSome}
 use Rattle.lfs_block.specs.Disk.{Disk, IsDisk}
 use Rattle.lfs_block.specs.declared.mount_fault.MountFault.{MountFault}
 use Rattle.lfs_block.proofs.BytesLemmas.{image_of_disk}
@@ -26,6 +26,13 @@ abbrev pub kept_bytes : Option (Vec ℕ) → Option (List ℕ)
 kept_bytes own = option_map (λ (kept : Vec ℕ). kept.items) own
 
 module _ (dir : List ℕ) (tree : Option HostTree) (old : Option (List Made)) (new : Scene) where
+  -- how it ends of the bytes that an image has
+  pub ends_of_bytes : (own : Option (List ℕ)) (i : Disk) (size : ℕ) (bytes : List ℕ) (ended : Option Fault) → i.size ≡ size → i.bytes ≡ bytes
+      → EndsKept own i.size i.bytes dir tree old new ended → EndsKept own size bytes dir tree old new ended
+  ends_of_bytes own i size bytes ended size_is bytes_are ends =
+      subst (λ (n : ℕ). EndsKept own n bytes dir tree old new ended) size_is
+      (subst (λ (l : List ℕ). EndsKept own i.size l dir tree old new ended) bytes_are ends)
+
   -- ---- an image
 
   module _ (i : Disk) (is : IsDisk i) where
@@ -118,3 +125,8 @@ file_salvaged manner size name dir bytes image old mid new ended reads tree_is m
     let by_tree = subst (λ (t : Option HostTree). EndsSalvaged by_device size bytes image dir t mid.made new ended) tree_is ends in
     let by_made = subst (λ (o : Option (List Made)). EndsSalvaged by_device size bytes image dir old.tree o new ended) made_is by_tree in
     (keeps, inr (bytes, reads, inr (none, (image, read, by_made))))
+
+-- a file's own bytes are as many as those that an image has
+pub own_long : (own : Option (Vec ℕ)) (has bytes : List ℕ) → has ≡ bytes → IfSome own (λ kept. length bytes ≤ length kept.items)
+    → IfSome own (λ kept. length has ≤ length kept.items)
+own_long own has bytes same long = subst (λ (l : List ℕ). IfSome own (λ kept. length l ≤ length kept.items)) (sym same) long

@@ -8,12 +8,12 @@ use Rattle.lfs_extract.specs.declared.extract_fault.ExtractFault.TheVariants.{Me
 use Rattle.lfs_exchange.specs.Handing.{IsUnread}
 use Rattle.lfs_host.specs.HostTree.{HostTree, IsKind}
 use Rattle.lfs_host.specs.NewFolder.{Made}
-use Rattle.lfs_host.specs.Scene.{Scene}
+use Rattle.lfs_host.specs.Scene.{HasRefused, Scene}
 use Rattle.lfs_host.specs.declared.host_kind.HostKind.TheVariants.{Missing}
 use Rattle.lfs_request.specs.declared.fault.Fault.{Fault}
 use Rattle.lfs_request.specs.declared.fault.Fault.TheVariants.{Mount, Refused, CannotRead, HostEntry}
 use Rattle.lfs_salvage.specs.Losses.{has_loss}
-use Rattle.lfs_salvage.specs.Saved.{SavesAll}
+use Rattle.lfs_salvage.specs.Saved.{SavesAll, StopsSaving}
 use Rattle.lfs_salvage.specs.declared.saved.Saved.{Saved}
 use Rattle.lfs_serve.specs.Extracting.{FindsFolder, fault_of_extracting}
 use Rattle.lfs_serve.specs.Salvaging.{EndsSaving, IsOther}
@@ -40,6 +40,11 @@ module _ (dir : List ℕ) (tree : Option HostTree) (old : Option (List Made)) (n
 
 -- ---- saving
 
+-- what was made before is as it was
+pub saved_from : (d e : Disk) (dir : List ℕ) (mid old new : Option (List Made)) (s : Saved) → mid ≡ old → SavesAll d e dir mid new s
+    → SavesAll d e dir old new s
+saved_from d e dir mid old new s same saves = subst (λ (made : Option (List Made)). SavesAll d e dir made new s) same saves
+
 module _ (d e : Disk) (cause : MountFault) (dir : List ℕ) (tree : Option HostTree) (old : Option (List Made)) (new : Scene) where
   -- what isn't missing ends it, and nothing is made
   pub there_unsaved : (fault : Fault) → IsUnread new fault ⊎ ((fault ≡ HostEntry) × FindsFolder dir tree old new.made) → new.made ≡ old
@@ -48,6 +53,20 @@ module _ (d e : Disk) (cause : MountFault) (dir : List ℕ) (tree : Option HostT
   there_unsaved (Refused refusal) (inl unread) same = (unread, inl same)
   there_unsaved _ (inl unread) same = absurd unread
   there_unsaved fault (inr (is, finds)) same = subst (λ (f : Fault). EndsSaving d e cause dir tree old new (Some f)) (sym is) finds
+
+  -- what keeps a folder from being made ends it
+  stopped_so : (fault : ExtractFault) → IsKind tree dir Missing → StopsSaving d e dir old new.made fault → (fault ≡ CannotWrite → HasRefused new)
+      → EndsSaving d e cause dir tree old new (Some (fault_of_extracting fault))
+  stopped_so Memory missing stops blamed = (refl, inr (missing, stops))
+  stopped_so HostName missing stops blamed = absurd stops
+  stopped_so CannotWrite missing stops blamed = (blamed refl, missing, stops)
+
+  pub saving_stopped : (mid : Option (List Made)) (fault : ExtractFault) (told : Fault) → mid ≡ old → told ≡ fault_of_extracting fault
+      → IsKind tree dir Missing → StopsSaving d e dir mid new.made fault → (fault ≡ CannotWrite → HasRefused new)
+      → EndsSaving d e cause dir tree old new (Some told)
+  saving_stopped mid fault told same is missing stops blamed =
+      let so = subst (λ (made : Option (List Made)). StopsSaving d e dir made new.made fault) same stops in
+      subst (λ (f : Fault). EndsSaving d e cause dir tree old new (Some f)) (sym is) (stopped_so fault missing so blamed)
 
   -- what ends it is told
   pub saving_told : (ended : Option Fault) (fault : Fault) → ended ≡ Some fault → EndsSaving d e cause dir tree old new (Some fault)

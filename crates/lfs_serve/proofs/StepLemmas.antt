@@ -1,6 +1,6 @@
 -- How steps end, by what was handed, run and written.
-use Rattle.std.proofs.Common.{◌≡◌, ℕ, Bool, true, List, Option, Some, None, Result, Err, sym, ap, subst, ◌∙◌, inl, inr}
-use Rattle.std.specs.Prelude.{Contains, IfSome}
+use Rattle.std.proofs.Common.{◌≡◌, ℕ, Bool, true, List, Option, Some, None, Result, Err, sym, ap, subst, ◌∙◌, inl, inr, refl, Bor}
+use Rattle.std.specs.Prelude.{Contains, IfSome, IfErr}
 use Rattle.lfs_request.specs.declared.fault.Fault.{Fault}
 use Rattle.lfs_request.specs.declared.fault.Fault.TheVariants.{Refused, CannotWrite}
 use Rattle.lfs_request.specs.declared.manner.Manner.{Manner}
@@ -9,19 +9,24 @@ use Rattle.lfs_request.specs.declared.outcome.Outcome.{Outcome}
 use Rattle.lfs_request.specs.Fault.{blames_output}
 use Rattle.lfs_step.specs.declared.step.Step.{Step}
 use Rattle.lfs_step.specs.Outcome.{Answers, SendsText, given}
+use Rattle.lfs_request.specs.Query.{Question}
+use Rattle.lfs_request.specs.declared.query.Query.{Query}
+use Rattle.lfs_request.specs.declared.query.Query.TheVariants.{Check, Ls, Blocks, Cat, Diff, Log}
+use Rattle.lfs_exchange.specs.StepKind.{kind_of_query}
 use Rattle.lfs_exchange.specs.declared.step_kind.StepKind.{StepKind}
 use Rattle.lfs_exchange.specs.declared.step_kind.StepKind.TheVariants.{Makes, Asks, Recounts, Changes, Forgets}
-use Rattle.lfs_exchange.specs.Handing.{HandedBytes, HandsImage, HandsJournal, IsClaimed, IsHanded, IsUnwritten}
+use Rattle.lfs_exchange.specs.Handing.{HandedBytes, HandsImage, HandsJournal, IsClaimed, IsHanded, IsUnwritten, HandsQuestion, most_image}
 use Rattle.lfs_serve.specs.StepKind.{kind_of}
 use Rattle.lfs_exchange.specs.Storing.{LeavesFiles, SparesFiles}
-use Rattle.lfs_host.specs.Files.{Files, IsTarget}
-use Rattle.lfs_host.specs.Scene.{HasClaimed, KeepsScene, Scene, is_blamed}
+use Rattle.lfs_host.specs.Files.{Files, IsTarget, ReadsFrom}
+use Rattle.lfs_host.specs.Scene.{HasClaimed, KeepsAll, KeepsScene, Scene, is_blamed}
 use Rattle.lfs_host.proofs.BlameLemmas.{blamed_has_refused}
 use Rattle.lfs_report.specs.Stop.{stopped_by}
 use Rattle.lfs_report.specs.declared.stop.Stop.{Stop}
 use Rattle.lfs_serve.specs.Later.{later_read, refused_by}
-use Rattle.lfs_serve.specs.ReadBy.{IsReadBy, WantsMemory}
+use Rattle.lfs_serve.specs.ReadBy.{IsReadBy, WantsMemory, IsAskedBy}
 use Rattle.lfs_serve.specs.Program.{EndsStep, IsBlamed, RunsStep, StopsStep}
+use Rattle.lfs_report.specs.declared.later.Later.{Later}
 
 -- ---- the file that a name leads to
 
@@ -66,6 +71,33 @@ spares_at fault kind other placed old mid new name target at o left leads at_is 
     (subst (λ (a : List ℕ). SparesFiles fault kind placed mid new a o) at_is
     (subst (SparesFiles fault kind placed mid new at) left_is spares))))
 
+-- ---- what calls keep
+
+pub keeps_all : (old mid new : Scene) → KeepsAll old mid → KeepsAll mid new → KeepsAll old new
+keeps_all old mid new first then = (
+  (then.0.0 ∙ first.0.0, then.0.1 ∙ first.0.1, then.0.2 ∙ first.0.2),
+  then.1 ∙ first.1,
+  then.2 ∙ first.2,
+  then.3 ∙ first.3,
+  then.4 ∙ first.4,
+)
+
+-- a name leads to the same file of a host whose files are the same
+pub target_from : (name at : List ℕ) (mid old : Option Files) → mid ≡ old → IsTarget mid name at → IsTarget old name at
+target_from name at mid old same leads = subst (λ (f : Option Files). IsTarget f name at) same leads
+
+-- what is read from a place on
+pub reads_at : (files : Option Files) (name bytes : List ℕ) (place start : ℕ) → place ≡ start → ReadsFrom files name place most_image bytes
+    → ReadsFrom files name start most_image bytes
+reads_at files name bytes place start same reads = subst (λ (at : ℕ). ReadsFrom files name at most_image bytes) same reads
+
+-- ---- commits of a later version
+
+-- whether they are refused in bytes, by how it ended that they were looked for
+pub refused_so : (manner : Manner) (later : List ℕ → Later) (read bytes : List ℕ) (ended known : Option Fault) → read ≡ bytes
+    → ended ≡ refused_by manner (later read) → ended ≡ known → refused_by manner (later bytes) ≡ known
+refused_so manner later read bytes ended known same is so = ap (λ (xs : List ℕ). refused_by manner (later xs)) (sym same) ∙ sym is ∙ so
+
 -- ---- names that are claimed
 
 has_claimed : (mid new : Scene) (target at : List ℕ) → at ≡ target → new.claimed ≡ mid.claimed → HasClaimed mid target → HasClaimed new at
@@ -91,6 +123,32 @@ handed_from kind place name mid old h files is = record {
   image = subst (λ (f : Option Files). HandsImage kind place f name h.image) files is.image;
   journal = subst (λ (f : Option Files). HandsJournal kind f name h.journal) files is.journal;
 }
+
+pub handed_at : (kind : StepKind) (name : List ℕ) (s : Scene) (h : HandedBytes) (place start : ℕ) → place ≡ start → IsHanded kind place name s h
+    → IsHanded kind start name s h
+handed_at kind name s h place start same is = subst (λ (at : ℕ). IsHanded kind at name s h) same is
+
+-- ---- questions
+
+asked_kind : (by_device : Bool) (old new : Question) → IsAskedBy by_device old new → kind_of_query new ≡ kind_of_query old
+asked_kind by_device (Diff other size) (Diff read read_size) is = refl
+asked_kind by_device (Diff other size) _ is = absurd is
+asked_kind by_device old new is = ap (λ (q : Question). kind_of_query q) is
+
+hands_kind : (files : Option Files) (query : Query (Bor (List ℕ))) (asked : Question) → HandsQuestion files query asked
+    → kind_of_query asked ≡ kind_of_query query
+hands_kind files Check Check is = refl
+hands_kind files Ls Ls is = refl
+hands_kind files (Blocks sums) (Blocks same) is = refl
+hands_kind files (Cat path) (Cat text) is = refl
+hands_kind files (Diff name size) (Diff other other_size) is = refl
+hands_kind files Log Log is = refl
+hands_kind files _ _ is = absurd is
+
+-- with its other image in hand, and as that is read, a question is of the same kind
+pub question_kind : (files : Option Files) (by_device : Bool) (query : Query (Bor (List ℕ))) (asked question : Question)
+    → HandsQuestion files query asked → IsAskedBy by_device asked question → kind_of_query question ≡ kind_of_query query
+question_kind files by_device query asked question hands reads = asked_kind by_device asked question reads ∙ hands_kind files query asked hands
 
 -- ---- runs
 
@@ -123,6 +181,15 @@ step_ran step manner size name old new h image fault after outcome is none reads
 pub stopped_at : {T : Type 0} (r : Result T Stop) (fault : Fault) (stop : Stop) → r ≡ Err stop → stop.fault ≡ fault
     → stopped_by r ≡ Some fault
 stopped_at r fault stop is same = ap stopped_by is ∙ ap Some same
+
+-- what is said of a stop that is handed on
+pub stopped_as : {T : Type 0} (r : Result T Stop) (Q : Stop → Type 0) (known stop : Stop) → r ≡ Err stop → stop ≡ known → Q known → IfErr r Q
+stopped_as {T} r Q known stop is same holds = subst (λ (x : Result T Stop). IfErr x Q) (sym is) (subst Q (sym same) holds)
+
+-- or of its fault, where that is known
+pub told_as : {T : Type 0} (r : Result T Stop) (P : Fault → Type 0) (fault : Fault) (stop : Stop) → r ≡ Err stop → stop.fault ≡ fault → P fault
+    → IfErr r (λ s. P s.fault)
+told_as {T} r P fault stop is same holds = subst (λ (x : Result T Stop). IfErr x (λ s. P s.fault)) (sym is) (subst P (sym same) holds)
 
 -- ---- how steps end
 

@@ -36,9 +36,17 @@ pub(crate) fn batched<H: Host>(
     ensures rest { TaskLeavesRest (Batch file.entry keep) (H.known host.old) (H.known host.new) }
 {
     let text = script_text(alloc, host, file)?;
-    match text_batched(alloc, host, request, beside, &text, keep) {
+    let end = text_batched(alloc, host, request, beside, &text, keep);
+    lined(alloc, &text, beside, end)
+}
+
+/// The end of a script, with the line that it is about.
+fn lined(alloc: Global, text: &[u8], beside: &mut Beside, end: Result<(), Stop>) -> Result<(), Stop>
+    ensures { stopped_by result ≡ stopped_by end }
+{
+    match end {
         Ok(()) => Ok(()),
-        Err(stop) => Err(with_line(alloc, &text, beside, stop)),
+        Err(stop) => Err(with_line(alloc, text, beside, stop)),
     }
 }
 
@@ -96,7 +104,15 @@ fn lines_batched<H: Host>(
     let moves = moves_of(alloc, lines, &read)?;
     let steps = moves.as_slice();
     let handed = taken_up(alloc, host, kind_of_steps(steps), 0, request.image)?;
-    match stepped(alloc, host, request, beside, handed, Step::Change(steps)) {
+    let end = stepped(alloc, host, request, beside, handed, Step::Change(steps));
+    numbered(lines, end)
+}
+
+/// The end of lines, with the number of the one that it is about.
+fn numbered(lines: &[ScriptLine<'_>], end: Result<(), Stop>) -> Result<(), Stop>
+    ensures { stopped_by result ≡ stopped_by end }
+{
+    match end {
         Ok(()) => Ok(()),
         Err(stop) => Err(with_number(lines, stop)),
     }

@@ -1,5 +1,6 @@
 //! What is below a folder of the host, packed into a new image.
 
+ghost use Rattle.std.specs.Prelude.{◌≡◌};
 ghost use Rattle.lfs_fs.specs.Superblock.{IsLimits};
 ghost use Rattle.lfs_report.specs.Stop.{stopped_by};
 ghost use Rattle.lfs_request.specs.declared.task.Task.TheVariants.{Pack};
@@ -11,6 +12,7 @@ use crate::stepping::stepped;
 use lfs_exchange::{StepKind, taken_up};
 use lfs_fs::Limits;
 use lfs_host::Host;
+use lfs_pack::PackRow;
 use lfs_report::{Beside, Stop, with_need, with_row};
 use lfs_request::{Extent, Request};
 use lfs_step::Step;
@@ -41,10 +43,26 @@ pub(crate) fn packed<H: Host>(
         limits,
         rows,
     };
-    match stepped(alloc, host, request, beside, handed, step) {
+    let end = stepped(alloc, host, request, beside, handed, step);
+    told(alloc, request.size, limits, rows, beside, end)
+}
+
+/// The end of packing rows, with what they need, or the row that is refused. The caller owes limits that images may state.
+pub(crate) fn told(
+    alloc: Global,
+    size: u32,
+    limits: Limits,
+    rows: &[PackRow<'_>],
+    beside: &mut Beside,
+    end: Result<(), Stop>,
+) -> Result<(), Stop>
+    requires { IsLimits limits }
+    ensures { stopped_by result ≡ stopped_by end }
+{
+    match end {
         Ok(()) => Ok(()),
         Err(stop) => {
-            let stop = with_need(alloc, request.size, limits, rows, stop);
+            let stop = with_need(alloc, size, limits, rows, stop);
             Err(with_row(alloc, limits, rows, beside, stop))
         }
     }

@@ -7,11 +7,12 @@ ghost use Rattle.lfs_serve.specs.Program.{EndsTask, TaskLeavesRest};
 
 use crate::least::counted_for;
 use crate::opened::open_source;
+use crate::packing::told;
 use crate::stepping::stepped;
 use lfs_exchange::{StepKind, taken_up};
 use lfs_host::Host;
 use lfs_repack::pack_rows;
-use lfs_report::{Beside, Stop, with_need, with_row};
+use lfs_report::{Beside, Stop};
 use lfs_request::{Extent, Request, SaidLimits, SourceImage};
 use lfs_step::Step;
 use std::alloc::Global;
@@ -42,11 +43,6 @@ pub(crate) fn repacked<H: Host>(
         limits,
         rows,
     };
-    match stepped(alloc, host, request, beside, handed, step) {
-        Ok(()) => Ok(()),
-        Err(stop) => {
-            let stop = with_need(alloc, request.size, limits, rows, stop);
-            Err(with_row(alloc, limits, rows, beside, stop))
-        }
-    }
+    let end = stepped(alloc, host, request, beside, handed, step);
+    told(alloc, request.size, limits, rows, beside, end)
 }

@@ -80,14 +80,33 @@ fn salvage_bytes<H: Host>(
     ensures kept { KeepsFiles (H.known host.old) (H.known host.new) }
 {
     let seen = Sight::of(size, &bytes);
-    let image = match Image::new(bytes, size) {
-        Ok(image) => image,
-        Err((fault, bytes)) => return Err(stop_of_image(Fault::Image(fault), size, &bytes)),
-    };
-    match mount(alloc, &image) {
-        Ok(mounted) => Ok(extract_mounted(alloc, host, &image, &mounted, dir)?),
+    match Image::new(bytes, size) {
+        Ok(image) => salvage_seen(alloc, host, beside, seen, own, &image, dir),
+        Err((fault, bytes)) => Err(stop_of_image(Fault::Image(fault), size, &bytes)),
+    }
+}
+
+/// Makes a folder with all that can still be read of an image, of which this is seen. The caller owes that the file's own bytes are as
+/// many, where they are kept.
+fn salvage_seen<H: Host>(
+    alloc: Global,
+    host: &mut H,
+    beside: &mut Beside,
+    seen: Sight,
+    own: Option<Vec<u8>>,
+    image: &Image,
+    dir: &str,
+) -> Result<(), Stop>
+    requires disk { IsDisk image.now.disk }
+    requires long { IfSome own (λ kept. length image.now.disk.bytes ≤ length kept.items) }
+    ensures made { EndsKept (option_map (λ kept. kept.items) own) image.now.disk.size image.now.disk.bytes dir.now
+        (H.known host.old).tree (H.known host.old).made (H.known host.new) (stopped_by result) }
+    ensures kept { KeepsFiles (H.known host.old) (H.known host.new) }
+{
+    match mount(alloc, image) {
+        Ok(mounted) => Ok(extract_mounted(alloc, host, image, &mounted, dir)?),
         Err(MountFault::Memory) => Err(Stop::from(AllocError)),
-        Err(cause) => salvage_image(alloc, host, beside, cause, seen, own, &image, dir),
+        Err(cause) => salvage_image(alloc, host, beside, cause, seen, own, image, dir),
     }
 }
 

@@ -1,5 +1,5 @@
 -- A file that a line puts isn't read, or the steps of the lines are taken.
-use Rattle.std.proofs.Common.{rules, ◌≡◌, ℕ, List, length, Some, None, refl, sym, ap, subst, ◌∙◌, inl, inr, map}
+use Rattle.std.proofs.Common.{rules, ◌≡◌, ℕ, List, length, refl, sym, ap, subst, ◌∙◌, inl, inr, map}
 use Rattle.std.proofs.lemmas.Result.{err_from_is_err_and}
 use Rattle.std.proofs.lemmas.Slice.Zip.{AllZip-long}
 use Rattle.std.specs.Global.{Vec}
@@ -23,13 +23,13 @@ pub moves_of-requires : goal.moves_of-requires
 moves_of-requires g c =
     let files = (g.H.Known.known c.args.host.now).files in
     let read : List (Vec ℕ) = c.deref.result.now in
-    let read_is : read ≡ c.in_ok-read.read.items = search rules in
+    let read_is : read ≡ c.in_ok-read.read.items = c.deref.ensures.value in
     ap length read_is ∙ AllZip-long (HandsLine files) c.args.lines.now c.in_ok-read.read.items c.in_ok-read.ensures.read
 
-pub stepped-requires-clause-range : goal.stepped-requires-clause-range
-stepped-requires-clause-range g c =
+pub stepped-end-requires-clause-range : goal.stepped-end-requires-clause-range
+stepped-end-requires-clause-range g c =
     let steps = c.as_slice-steps.result.now in
-    let are : steps ≡ c.in_ok-moves.moves.items = search rules in
+    let are : steps ≡ c.in_ok-moves.moves.items = c.as_slice-steps.ensures.value in
     subst (λ (ms : List OnBytes). AllByRecursion (λ m. KeepsInRange (step_of m)) ms) (sym are)
     (all_in_range c.args.lines.now c.deref.result.now c.in_ok-moves.moves.items c.requires c.in_ok-moves.ensures)
 
@@ -51,9 +51,9 @@ returns-in_err-handed-clause-ended g c =
     let new : Scene = g.H.Known.known c.taken_up.new.host in
     let name = c.args.request.now.image.now in
     let steps = c.as_slice-steps.result.now in
-    let are : steps ≡ c.in_ok-moves.moves.items = search rules in
+    let are : steps ≡ c.in_ok-moves.moves.items = c.as_slice-steps.ensures.value in
     let read : List (Vec ℕ) = c.deref.result.now in
-    let read_is : read ≡ c.in_ok-read.read.items = search rules in
+    let read_is : read ≡ c.in_ok-read.read.items = c.deref.ensures.value in
     let said = subst (λ (rs : List (Vec ℕ)). map step_of c.in_ok-moves.moves.items ≡ moves_said c.args.lines.now rs) read_is c.in_ok-moves.ensures in
     let takes = takes_lines old.files c.args.lines.now c.in_ok-read.read.items steps c.in_ok-moves.moves.items c.in_ok-read.ensures.read said are in
     let fault = c.in_err-handed.field-0.0 in
@@ -67,39 +67,32 @@ returns-in_err-handed-clause-ended g c =
       (fault, stopped_at on.result fault p.0 p.1 p.2, inr (map step_of steps, takes, not)),
     )
 
-pub returns-in-Ok-clause-ended : goal.returns-in-Ok-clause-ended
-returns-in-Ok-clause-ended g c =
-    let old : Scene = g.H.Known.known c.args.host.now in
-    let mid : Scene = g.H.Known.known c.taken_up.new.host in
-    let new : Scene = g.H.Known.known c.stepped.new.host in
-    let request = c.args.request.now in
-    let steps = c.as_slice-steps.result in
-    let are : steps.now ≡ c.in_ok-moves.moves.items = search rules in
-    let read : List (Vec ℕ) = c.deref.result.now in
-    let read_is : read ≡ c.in_ok-read.read.items = search rules in
-    let said = subst (λ (rs : List (Vec ℕ)). map step_of c.in_ok-moves.moves.items ≡ moves_said c.args.lines.now rs) read_is c.in_ok-moves.ensures in
-    let takes = takes_lines old.files c.args.lines.now c.in_ok-read.read.items steps.now c.in_ok-moves.moves.items c.in_ok-read.ensures.read said are in
-    let first = c.read_lines.ensures.kept.0 in
-    let then = c.taken_up.ensures.kept.0 in
-    let ends = step_at (Change steps) (as_it_is request.takes_older) request.size request.image.now mid old new None (stopped_by c.stepped.result)
-    (then.0 ∙ first.0) (then.2 ∙ first.2) (sym (ap stopped_by c.in-Ok.is)) c.stepped.ensures.ended in
-    inl (steps, takes, ends)
-
 pub returns-clause-ended : goal.returns-clause-ended
 returns-clause-ended g c =
     let old : Scene = g.H.Known.known c.args.host.now in
     let mid : Scene = g.H.Known.known c.taken_up.new.host in
-    let new : Scene = g.H.Known.known c.stepped.new.host in
+    let new : Scene = g.H.Known.known c.stepped-end.new.host in
     let request = c.args.request.now in
     let steps = c.as_slice-steps.result in
-    let are : steps.now ≡ c.in_ok-moves.moves.items = search rules in
+    let are : steps.now ≡ c.in_ok-moves.moves.items = c.as_slice-steps.ensures.value in
     let read : List (Vec ℕ) = c.deref.result.now in
-    let read_is : read ≡ c.in_ok-read.read.items = search rules in
+    let read_is : read ≡ c.in_ok-read.read.items = c.deref.ensures.value in
     let said = subst (λ (rs : List (Vec ℕ)). map step_of c.in_ok-moves.moves.items ≡ moves_said c.args.lines.now rs) read_is c.in_ok-moves.ensures in
     let takes = takes_lines old.files c.args.lines.now c.in_ok-read.read.items steps.now c.in_ok-moves.moves.items c.in_ok-read.ensures.read said are in
     let first = c.read_lines.ensures.kept.0 in
     let then = c.taken_up.ensures.kept.0 in
-    let told = ap Some c.with_number.ensures.fault ∙ sym (ap stopped_by c.in-Err.is) in
-    let ends = step_at (Change steps) (as_it_is request.takes_older) request.size request.image.now mid old new (Some c.with_number.result.fault)
-    (stopped_by c.stepped.result) (then.0 ∙ first.0) (then.2 ∙ first.2) told c.stepped.ensures.ended in
+    let ends = step_at (Change steps) (as_it_is request.takes_older) request.size request.image.now mid old new (stopped_by c.numbered.result)
+    (stopped_by c.stepped-end.result) (then.0 ∙ first.0) (then.2 ∙ first.2) c.numbered.ensures c.stepped-end.ensures.ended in
     inl (steps, takes, ends)
+
+pub stepped-end-requires-clause-kind : goal.stepped-end-requires-clause-kind
+stepped-end-requires-clause-kind g c = c.in_ok-handed.ensures.kind ∙ c.kind_of_steps.ensures
+
+pub stepped-end-requires-clause-target : goal.stepped-end-requires-clause-target
+stepped-end-requires-clause-target g c = c.in_ok-handed.ensures.target
+
+pub stepped-end-requires-clause-claimed : goal.stepped-end-requires-clause-claimed
+stepped-end-requires-clause-claimed g c = c.in_ok-handed.ensures.claimed
+
+pub stepped-end-requires-clause-handed : goal.stepped-end-requires-clause-handed
+stepped-end-requires-clause-handed g c = c.in_ok-handed.ensures.handed

@@ -1,5 +1,5 @@
 -- A line of a text says no step, or its lines are taken.
-use Rattle.std.proofs.Common.{rules, ◌≡◌, ◌⊎◌, ℕ, List, refl, sym, subst, inl}
+use Rattle.std.proofs.Common.{◌≡◌, ◌⊎◌, ℕ, List, refl, sym, subst, inl}
 use Rattle.std.specs.List.{AllZip}
 use Rattle.lfs_request.specs.declared.fault.Fault.{Fault}
 use Rattle.lfs_exchange.specs.Handing.{IsUnread}
@@ -14,7 +14,7 @@ use Rattle.lfs_serve.proofs.batching.text_batched.Goals as goal
 pub lines_batched-requires : goal.lines_batched-requires
 lines_batched-requires g c =
     let lines : List ScriptLine = c.deref.result.now in
-    let same : lines ≡ c.in-Ok.lines.items = search rules in
+    let same : lines ≡ c.in-Ok.lines.items = c.deref.ensures.value in
     lines_in_range c.args.keep lines c.requires (subst (LinesKeep c.args.keep) (sym same) c.in-Ok.ensures.keep)
 
 pub returns-in-Ok-clause-ended : goal.returns-in-Ok-clause-ended
@@ -24,7 +24,7 @@ returns-in-Ok-clause-ended g c =
     let request = c.args.request.now in
     let text = c.args.text.now in
     let lines : List ScriptLine = c.deref.result.now in
-    let same : lines ≡ c.in-Ok.lines.items = search rules in
+    let same : lines ≡ c.in-Ok.lines.items = c.deref.ensures.value in
     let asked = subst (λ (t : List ℕ). AllZip SaysLine (asking_lines t) c.in-Ok.lines.items) c.script_of-script.ensures c.in-Ok.ensures.lines in
     let says = subst (λ (ls : List ScriptLine). AllZip SaysLine (asking_lines text) ls) (sym same) asked in
     let keeps = subst (LinesKeep c.args.keep) (sym same) c.in-Ok.ensures.keep in

@@ -1,8 +1,8 @@
 -- The image's files aren't at hand, or the other image isn't read, or the question is answered.
-use Rattle.std.proofs.Common.{Option, refl, subst, ◌∙◌, inl, inr}
+use Rattle.std.proofs.Common.{Option, refl, subst, ◌∙◌, inl, inr, sym, string_bytes}
 use Rattle.std.proofs.lemmas.Result.{err_from_is_err_and}
 use Rattle.lfs_exchange.specs.declared.step_kind.StepKind.{StepKind}
-use Rattle.lfs_exchange.specs.Handing.{HandsQuestion, IsNotTakenUp}
+use Rattle.lfs_exchange.specs.Handing.{HandsQuestion, IsNotTakenUp, HandedBytes}
 use Rattle.lfs_exchange.specs.StepKind.{kind_of_query}
 use Rattle.lfs_host.specs.Files.{Files}
 use Rattle.lfs_host.specs.Scene.{Scene}
@@ -11,7 +11,8 @@ use Rattle.lfs_report.specs.Stop.{stopped_by}
 use Rattle.lfs_request.specs.declared.fault.Fault.TheVariants.{Refused}
 use Rattle.lfs_request.specs.declared.manner.Manner.{Manner}
 use Rattle.lfs_step.specs.declared.step.Step.TheVariants.{Ask}
-use Rattle.lfs_serve.proofs.StepLemmas.{step_from, stopped_at}
+use Rattle.lfs_serve.proofs.StepLemmas.{step_from, stopped_at, claimed_at, handed_from, question_kind, target_from, handed_at}
+use Rattle.lfs_request.specs.View.{start_of}
 use Rattle.lfs_serve.proofs.plain_tasks.queried.Goals as goal
 
 pub returns-in_err-handed-clause-ended : goal.returns-in_err-handed-clause-ended
@@ -59,3 +60,57 @@ returns-clause-ended g c =
       step_from step manner request.size request.image.now mid old new (stopped_by c.stepped_in.result)
           (then.0 ∙ first.0) (then.2 ∙ first.2) c.stepped_in.ensures.ended,
     )
+
+pub returns-in_err-handed-clause-rest : goal.returns-in_err-handed-clause-rest
+returns-in_err-handed-clause-rest g c =
+    let kept = c.taken_up.ensures.kept in
+    ((λ _. kept.0.1), (λ _. kept.2))
+
+pub returns-in_err-asked-clause-rest : goal.returns-in_err-asked-clause-rest
+returns-in_err-asked-clause-rest g c =
+    let first = c.taken_up.ensures.kept in
+    let then = c.question_of.ensures.kept in
+    ((λ _. then.0.1 ∙ first.0.1), (λ _. then.2 ∙ first.2))
+
+pub returns-in_err-question-clause-rest : goal.returns-in_err-question-clause-rest
+returns-in_err-question-clause-rest g c =
+    let first = c.taken_up.ensures.kept in
+    let then = c.question_of.ensures.kept in
+    ((λ _. then.0.1 ∙ first.0.1), (λ _. then.2 ∙ first.2))
+
+pub returns-clause-rest : goal.returns-clause-rest
+returns-clause-rest g c =
+    let first = c.taken_up.ensures.kept in
+    let then = c.question_of.ensures.kept in
+    ((λ _. c.stepped_in.ensures.typed ∙ then.0.1 ∙ first.0.1), (λ _. c.stepped_in.ensures.made ∙ then.2 ∙ first.2))
+
+pub stepped_in-requires-clause-target : goal.stepped_in-requires-clause-target
+stepped_in-requires-clause-target g c =
+    let mid : Scene = g.H.Known.known c.taken_up.new.host in
+    let new : Scene = g.H.Known.known c.question_of.new.host in
+    target_from c.args.request.now.image.now (string_bytes c.in_ok-handed.handed.target) mid.files new.files (sym c.question_of.ensures.kept.0.0)
+    c.in_ok-handed.ensures.target
+
+pub stepped_in-requires-clause-claimed : goal.stepped_in-requires-clause-claimed
+stepped_in-requires-clause-claimed g c =
+    let mid : Scene = g.H.Known.known c.taken_up.new.host in
+    let new : Scene = g.H.Known.known c.question_of.new.host in
+    let at = string_bytes c.in_ok-handed.handed.target in
+    claimed_at c.in_ok-handed.handed.kind mid new at at refl c.question_of.ensures.kept.4 c.in_ok-handed.ensures.claimed
+
+pub stepped_in-requires-clause-handed : goal.stepped_in-requires-clause-handed
+stepped_in-requires-clause-handed g c =
+    let handed = c.in_ok-handed.handed in
+    let h : HandedBytes = record { image = handed.image.items; journal = handed.journal.items } in
+    let name = c.args.request.now.image.now in
+    let start = start_of c.args.view in
+    let mid : Scene = g.H.Known.known c.taken_up.new.host in
+    let new : Scene = g.H.Known.known c.question_of.new.host in
+    handed_from handed.kind start name mid new h (sym c.question_of.ensures.kept.0.0)
+    (handed_at handed.kind name mid h c.start.result start c.start.ensures c.in_ok-handed.ensures.handed)
+
+pub stepped_in-requires-clause-kind : goal.stepped_in-requires-clause-kind
+stepped_in-requires-clause-kind g c =
+    let files = (g.H.Known.known c.taken_up.new.host).files in
+    c.in_ok-handed.ensures.kind ∙ c.kind_of_query.ensures
+    ∙ sym (question_kind files c.args.view.by_device c.args.query.now c.in_ok-asked.asked c.in_ok-question.question c.in_ok-asked.ensures.question c.in_ok-question.ensures)

@@ -1,41 +1,15 @@
--- The image mounts, and a folder is made of it, or memory is wanting.
-use Rattle.std.proofs.Common.{rules, ◌≡◌, ◌∙◌, None, Option, Some, ap, refl}
-use Rattle.std.proofs.lemmas.Result.{err_from_is_err_and}
-use Rattle.std.specs.Result.{result_err}
+-- What is made of an image is made of its bytes.
 use Rattle.lfs_host.specs.Scene.{Scene}
-use Rattle.lfs_request.specs.declared.fault.Fault.{Fault}
 use Rattle.lfs_report.specs.Stop.{stopped_by}
-use Rattle.lfs_serve.proofs.SalvagingLemmas.{bytes_mounted, bytes_without_memory, kept_bytes}
-use Rattle.lfs_serve.proofs.StepLemmas.{stopped_at}
+use Rattle.lfs_serve.proofs.SalvagingLemmas.{ends_of_bytes, kept_bytes, own_long}
 use Rattle.lfs_serve.proofs.salvaging.salvage_bytes.Goals as goal
 
-pub returns-in_err-extract_mounted-in-Ok-mount-clause-made : goal.returns-in_err-extract_mounted-in-Ok-mount-clause-made
-returns-in_err-extract_mounted-in-Ok-mount-clause-made g c =
-    let old : Scene = g.H.Known.known c.args.host.now in
-    let new : Scene = g.H.Known.known c.extract_mounted.new.host in
-    let made : Option Fault = result_err c.extract_mounted.result in
-    let fault : Fault = c.in_err-extract_mounted-in-Ok-mount.field-0.0 in
-    let told : Some fault ≡ made = search rules in
-    let on = c.from_residual in
-    let p = err_from_is_err_and on.result on.ensures.1 in
-    let is = c.in-Ok.ensures in
-    bytes_mounted c.args.dir.now old.tree old.made new (kept_bytes c.args.own) c.args.size c.args.bytes.items c.in-Ok.image.disk
-    is.disk is.size is.bytes (stopped_by on.result) made (stopped_at on.result fault p.0 p.1 p.2 ∙ told) c.extract_mounted.ensures.other
-    c.extract_mounted.ensures.made
+pub salvage_seen-requires-clause-long : goal.salvage_seen-requires-clause-long
+salvage_seen-requires-clause-long g c = own_long c.args.own c.in-Ok.image.disk.bytes c.args.bytes.items c.in-Ok.ensures.bytes c.requires
 
-pub returns-in_ok-extract_mounted-in-Ok-mount-clause-made : goal.returns-in_ok-extract_mounted-in-Ok-mount-clause-made
-returns-in_ok-extract_mounted-in-Ok-mount-clause-made g c =
+pub returns-in-Ok-clause-made : goal.returns-in-Ok-clause-made
+returns-in-Ok-clause-made g c =
     let old : Scene = g.H.Known.known c.args.host.now in
-    let new : Scene = g.H.Known.known c.extract_mounted.new.host in
-    let made : Option Fault = result_err c.extract_mounted.result in
-    let told : None ≡ made = search rules in
-    let is = c.in-Ok.ensures in
-    bytes_mounted c.args.dir.now old.tree old.made new (kept_bytes c.args.own) c.args.size c.args.bytes.items c.in-Ok.image.disk
-    is.disk is.size is.bytes None made told c.extract_mounted.ensures.other c.extract_mounted.ensures.made
-
-pub returns-in-Err-Memory-clause-made : goal.returns-in-Err-Memory-clause-made
-returns-in-Err-Memory-clause-made g c =
-    let old : Scene = g.H.Known.known c.args.host.now in
-    let is = c.in-Ok.ensures in
-    bytes_without_memory c.args.dir.now old.tree old.made old (kept_bytes c.args.own) c.args.size c.args.bytes.items c.in-Ok.image.disk
-    is.disk is.size is.bytes (Some c.from.result.fault) refl (ap Some c.from.ensures)
+    let new : Scene = g.H.Known.known c.salvage_seen.new.host in
+    ends_of_bytes c.args.dir.now old.tree old.made new (kept_bytes c.args.own) c.in-Ok.image.disk c.args.size c.args.bytes.items
+    (stopped_by c.salvage_seen.result) c.in-Ok.ensures.size c.in-Ok.ensures.bytes c.salvage_seen.ensures.made

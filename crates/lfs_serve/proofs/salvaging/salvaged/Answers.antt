@@ -1,5 +1,5 @@
 -- Nothing is saved where the image's file isn't read, or a commit of a later version is refused in it.
-use Rattle.std.proofs.Common.{◌≡◌, ◌∙◌, List, None, Option, Some, ap, refl, subst, sym, ℕ}
+use Rattle.std.proofs.Common.{◌≡◌, ◌∙◌, List, None, Option, Some, ap, refl, subst, ℕ}
 use Rattle.std.specs.Prelude.{if◌then◌else◌}
 use Rattle.std.proofs.lemmas.Result.{err_from_is_err_and}
 use Rattle.lfs_exchange.specs.Handing.{most_image}
@@ -17,7 +17,7 @@ use Rattle.lfs_serve.specs.Salvaging.{EndsSalvaged}
 use Rattle.lfs_serve.proofs.ExtractingLemmas.{asked_read, not_taken_unread}
 use Rattle.lfs_serve.proofs.ReadLengths.{kept_long, read_long}
 use Rattle.lfs_serve.proofs.SalvagingLemmas.{file_salvaged, file_unsaved, kept_bytes, own_salvaged}
-use Rattle.lfs_serve.proofs.StepLemmas.{stopped_at}
+use Rattle.lfs_serve.proofs.StepLemmas.{stopped_at, refused_so}
 use Rattle.lfs_serve.proofs.salvaging.salvaged.Goals as goal
 
 pub returns-in_err-handed-clause-made : goal.returns-in_err-handed-clause-made
@@ -81,8 +81,8 @@ returns-clause-made g c =
     let left = c.salvage_bytes.ensures.kept in
     let ended : Option Fault = stopped_by c.salvage_bytes.result in
     let none : refused_by manner (later_alone request.size bytes) ≡ None =
-    ap (λ (xs : List ℕ). refused_by manner (later_alone request.size xs)) (sym c.deref.ensures.value) ∙ sym c.pass_alone.ensures
-    ∙ ap stopped_by c.in_ok-pass_alone.was in
+    refused_so manner (later_alone request.size) c.deref.result.now bytes (stopped_by c.pass_alone.result) None c.deref.ensures.value
+    c.pass_alone.ensures (ap stopped_by c.in_ok-pass_alone.was) in
     let own = c.in_ok-own.ensures ∙ ap (λ (xs : List ℕ). if view.by_device then Some xs else None) c.deref-2.ensures.value in
     let ends : EndsSalvaged view.by_device request.size bytes image c.args.dir.now mid.tree mid.made new ended =
     own_salvaged c.args.dir.now mid.tree mid.made new view.by_device (kept_bytes c.in_ok-own.own) request.size bytes image ended own
@@ -93,3 +93,9 @@ returns-clause-made g c =
     c.in_ok-handed.ensures.handed.image) in
     file_salvaged manner request.size name c.args.dir.now bytes image old mid new ended reads kept.1 kept.2
     (left.0 ∙ kept.0.0, left.2 ∙ kept.0.2) none c.in_ok-image.ensures.read ends
+
+pub returns-clause-kept : goal.returns-clause-kept
+returns-clause-kept g c =
+    let kept = c.taken_up.ensures.kept.0 in
+    let left = c.salvage_bytes.ensures.kept in
+    (left.0 ∙ kept.0, left.1 ∙ kept.1, left.2 ∙ kept.2)

@@ -1,4 +1,4 @@
-use Rattle.std.proofs.Common.{rules, ◌≡◌, ℕ, List, Some, None, refl, sym, ap, subst, ◌∙◌, string_bytes}
+use Rattle.std.proofs.Common.{rules, ◌≡◌, Some, None, refl, ap, subst, ◌∙◌, string_bytes}
 use Rattle.std.proofs.lemmas.Result.{err_from_is_err_and}
 use Rattle.lfs_command.specs.declared.refusal.Refusal.TheVariants.{Memory}
 use Rattle.lfs_request.specs.declared.fault.Fault.TheVariants.{Refused}
@@ -10,7 +10,8 @@ use Rattle.lfs_exchange.specs.declared.step_kind.StepKind.{StepKind}
 use Rattle.lfs_host.specs.Scene.{Scene}
 use Rattle.lfs_serve.specs.Later.{later_read, refused_by}
 use Rattle.lfs_serve.specs.Program.{RunsStep}
-use Rattle.lfs_serve.proofs.StepLemmas.{ends_behind, ends_later, ends_refused, ends_wanting, leaves_at, spares_at, step_ran, stopped_at}
+use Rattle.lfs_serve.proofs.StepLemmas.{ends_behind, ends_later, ends_refused, ends_wanting, leaves_at, spares_at, step_ran, stopped_at, refused_so}
+use Rattle.lfs_report.specs.Stop.{stopped_by}
 use Rattle.lfs_serve.proofs.stepping.stepped_in.Goals as goal
 
 pub returns-in_err-pass_step-clause-ended : goal.returns-in_err-pass_step-clause-ended
@@ -26,9 +27,11 @@ returns-in_err-pass_step-clause-ended g c =
     subst (λ (kind : StepKind). IsHanded kind place name old h) c.requires.kind c.requires.handed in
     let fault = c.in_err-pass_step.field-0.0.fault in
     let refused : refused_by manner (later_read step size h.image) ≡ Some fault =
-    subst (λ (bytes : List ℕ). refused_by manner (later_read step size bytes) ≡ Some fault) c.deref.ensures.value
-    (sym c.in_err-pass_step.ensures) in
-    ends_later step manner size name old old h _ fault (search rules) is refused (search rules)
+    refused_so manner (later_read step size) c.deref.result.now h.image (stopped_by c.pass_step.result) (Some fault) c.deref.ensures.value
+    c.pass_step.ensures (ap stopped_by c.in_err-pass_step.was) in
+    let p = err_from_is_err_and c.from_residual.result c.from_residual.ensures.1 in
+    ends_later step manner size name old old h (stopped_by c.from_residual.result) fault
+    (stopped_at c.from_residual.result fault p.0 p.1 (ap (λ s. s.fault) p.2)) is refused (refl, refl)
 
 pub returns-in_err-image-clause-ended : goal.returns-in_err-image-clause-ended
 returns-in_err-image-clause-ended g c =
@@ -36,7 +39,7 @@ returns-in_err-image-clause-ended g c =
     let on = c.from_residual-in_err-image in
     let p = err_from_is_err_and on.result on.ensures.1 in
     ends_wanting c.args.step c.args.manner c.args.request.now.size c.args.request.now.image.now old old _ (Refused Memory)
-    (stopped_at on.result (Refused Memory) p.0 p.1 p.2) (c.in_err-image.ensures.refused, refl) (search rules)
+    (stopped_at on.result (Refused Memory) p.0 p.1 p.2) (c.in_err-image.ensures.refused, refl) (refl, refl)
 
 pub returns-in_err-stored-in-Ok-clause-ended : goal.returns-in_err-stored-in-Ok-clause-ended
 returns-in_err-stored-in-Ok-clause-ended g c =
@@ -51,8 +54,8 @@ returns-in_err-stored-in-Ok-clause-ended g c =
     let is : IsHanded (kind_of step) place name old h =
     subst (λ (kind : StepKind). IsHanded kind place name old h) c.requires.kind c.requires.handed in
     let none : refused_by manner (later_read step size h.image) ≡ None =
-    subst (λ (bytes : List ℕ). refused_by manner (later_read step size bytes) ≡ None) c.deref.ensures.value
-    (sym c.in_ok-pass_step.ensures) in
+    refused_so manner (later_read step size) c.deref.result.now h.image (stopped_by c.pass_step.result) None c.deref.ensures.value
+    c.pass_step.ensures (ap stopped_by c.in_ok-pass_step.was) in
     let by_stored : Scene = g.H.Known.known c.stored.new.host in
     let target = string_bytes c.args.handed.target in
     let files = c.taken.ensures.kept.0 in
@@ -79,8 +82,8 @@ returns-in-Ok-clause-ended g c =
     let is : IsHanded (kind_of step) place name old h =
     subst (λ (kind : StepKind). IsHanded kind place name old h) c.requires.kind c.requires.handed in
     let none : refused_by manner (later_read step size h.image) ≡ None =
-    subst (λ (bytes : List ℕ). refused_by manner (later_read step size bytes) ≡ None) c.deref.ensures.value
-    (sym c.in_ok-pass_step.ensures) in
+    refused_so manner (later_read step size) c.deref.result.now h.image (stopped_by c.pass_step.result) None c.deref.ensures.value
+    c.pass_step.ensures (ap stopped_by c.in_ok-pass_step.was) in
     let by_stored : Scene = g.H.Known.known c.stored.new.host in
     let target = string_bytes c.args.handed.target in
     let files = c.taken.ensures.kept.0 in
@@ -106,8 +109,8 @@ returns-clause-ended g c =
     let is : IsHanded (kind_of step) place name old h =
     subst (λ (kind : StepKind). IsHanded kind place name old h) c.requires.kind c.requires.handed in
     let none : refused_by manner (later_read step size h.image) ≡ None =
-    subst (λ (bytes : List ℕ). refused_by manner (later_read step size bytes) ≡ None) c.deref.ensures.value
-    (sym c.in_ok-pass_step.ensures) in
+    refused_so manner (later_read step size) c.deref.result.now h.image (stopped_by c.pass_step.result) None c.deref.ensures.value
+    c.pass_step.ensures (ap stopped_by c.in_ok-pass_step.was) in
     let by_looked : Scene = g.H.Known.known c.with_new_image.new.host in
     let fault = c.in-Err.stop.fault in
     let looked = c.with_new_image.ensures.kept.0 in
@@ -117,3 +120,21 @@ returns-clause-ended g c =
     c.in_ok-image.ensures.read c.in-Err.ensures.ran.1 c.in-Err.ensures.ran.2 c.in-Err.ensures.ran.3 looked.2 (c.with_new_image.ensures.blamed c.in-Err.ensures.blamed) in
     ends_refused step manner size name old by_looked (Some c.with_new_image.result.fault) fault outcome (ap Some c.with_new_image.ensures.fault) runs
     (looked.0 ∙ c.taken.ensures.kept.0)
+
+pub returns-in_err-stored-in-Ok-clause-typed : goal.returns-in_err-stored-in-Ok-clause-typed
+returns-in_err-stored-in-Ok-clause-typed g c = c.stored.ensures.kept.0 ∙ c.taken.ensures.kept.1
+
+pub returns-in_err-stored-in-Ok-clause-made : goal.returns-in_err-stored-in-Ok-clause-made
+returns-in_err-stored-in-Ok-clause-made g c = c.stored.ensures.kept.2.0 ∙ c.taken.ensures.kept.2.0
+
+pub returns-in-Ok-clause-typed : goal.returns-in-Ok-clause-typed
+returns-in-Ok-clause-typed g c = c.stored.ensures.kept.0 ∙ c.taken.ensures.kept.1
+
+pub returns-in-Ok-clause-made : goal.returns-in-Ok-clause-made
+returns-in-Ok-clause-made g c = c.stored.ensures.kept.2.0 ∙ c.taken.ensures.kept.2.0
+
+pub returns-clause-typed : goal.returns-clause-typed
+returns-clause-typed g c = c.with_new_image.ensures.kept.0.1 ∙ c.taken.ensures.kept.1
+
+pub returns-clause-made : goal.returns-clause-made
+returns-clause-made g c = c.with_new_image.ensures.kept.2 ∙ c.taken.ensures.kept.2.0
