@@ -1,21 +1,25 @@
 -- How a journal is opened on an image, change by change.
-use Rattle.std.proofs.Common.{◌≡◌, ◌↔◌, ℕ, ◌≤◌, Bool, false, List, [], ◌∷◌, ◌++◌, length, take, drop, refl, ap, sym, ◌∙◌, subst, arith}
-use Rattle.std.specs.Prelude.{reverse, Contains, IsTrue}
+use Rattle.std.proofs.Common.{◌≡◌, ◌↔◌, ℕ, ◌≤◌, Bool, true, false, List, [], ◌∷◌, ◌++◌, Result, Err, length, take, drop, refl, ap, sym, ◌∙◌, subst, arith}
+use Rattle.std.specs.Prelude.{reverse, Contains, IfErr, IsTrue}
 use Rattle.std.specs.List.{AllByRecursion}
 use Rattle.std.proofs.lemmas.Bool.{false≢true}
 use Rattle.std.proofs.lemmas.List.{take-append-drop}
 use Rattle.std.proofs.lemmas.List.Elements.{Contains-append_left, Contains-append_right}
 use Rattle.lfs_block.specs.Disk.{Disk, IsDisk}
 use Rattle.lfs_block.specs.Medium.{Medium}
-use Rattle.lfs_block.specs.Patch.{ChangeSet, IsGrowth, AgreesNew, applied, reverted}
+use Rattle.lfs_block.specs.Patch.{ChangeSet, IsGrowth, AgreesNew, AgreesOld, applied, reverted}
 use Rattle.lfs_fs.specs.Volume.{Volume}
 use Rattle.lfs_fs.specs.Cause.{HasCause}
-use Rattle.lfs_fs.specs.Mounted.{IsOutlineOf}
+use Rattle.lfs_fs.specs.Mounted.{IsMountOf, IsOutlineOf, MountedValue}
 use Rattle.lfs_book.specs.Book.{Book, IsBookOf, IsPatchOf, Spells, book_of}
+use Rattle.lfs_book.specs.Faults.{IsNoJournal}
+use Rattle.lfs_book.specs.declared.journal_fault.JournalFault.{JournalFault}
+use Rattle.lfs_book.specs.declared.journal_fault.JournalFault.TheVariants.{JournalFormat as Unspelled, Memory as Unread}
+use Rattle.lfs_history.specs.Faults.{opened_fault}
 use Rattle.lfs_history.specs.declared.open_fault.OpenFault.{OpenFault}
 use Rattle.lfs_history.specs.declared.open_fault.OpenFault.TheVariants.{Mount, JournalFormat, JournalMismatch, JournalImage}
 use Rattle.lfs_history.specs.History.{IsMounted, GoesBack, GoesForward, past_of, future_of}
-use Rattle.lfs_history.specs.Opening.{RefusesOpening, others}
+use Rattle.lfs_history.specs.Opening.{RefusesOpening, others, HasHistory}
 use Rattle.lfs_journal.specs.Known.{HasRoom, HaveSize}
 use Rattle.lfs_journal.specs.Opened.{RefusesMount, RefusesMounts, DenotesChanges, OpensParts}
 use Rattle.lfs_history.proofs.MoveLemmas.{latest}
@@ -64,7 +68,33 @@ back_disagrees qs ps p d is not =
     subst (λ (xs : List ChangeSet). IsTrue false ↔ GoesBack xs d) (sym (latest ps qs p is))
     ((λ yes. absurd (false≢true yes)), (λ back. absurd (not back.1)))
 
+-- no change is left
+pub none_back : (qs : List ChangeSet) (d : Disk) → length qs ≡ 0 → IsTrue true ↔ GoesBack (reverse qs) d
+none_back [] d none = ((λ _. tt), (λ _. refl))
+none_back (q ∷ qs) d none = absurd (omega (arith, none))
+
+pub none_on : (qs : List ChangeSet) (d : Disk) → length qs ≡ 0 → IsTrue true ↔ GoesForward qs d
+none_on [] d none = ((λ _. tt), (λ _. refl))
+none_on (q ∷ qs) d none = absurd (omega (arith, none))
+
+pub on_agrees : (qs ps : List ChangeSet) (p : ChangeSet) (d : Disk) (t : Bool) → qs ≡ p ∷ ps → IsGrowth p → AgreesOld p d
+    → IsTrue t ↔ GoesForward ps (applied p d) → IsTrue t ↔ GoesForward qs d
+on_agrees qs ps p d t is growth agrees both =
+    subst (λ (xs : List ChangeSet). IsTrue t ↔ GoesForward xs d) (sym is) ((λ yes. (growth, agrees, both.0 yes)), (λ on. both.1 on.2))
+
+pub on_disagrees : (qs ps : List ChangeSet) (p : ChangeSet) (d : Disk) → qs ≡ p ∷ ps → (AgreesOld p d → ⊥) → IsTrue false ↔ GoesForward qs d
+on_disagrees qs ps p d is not =
+    subst (λ (xs : List ChangeSet). IsTrue false ↔ GoesForward xs d) (sym is) ((λ yes. absurd (false≢true yes)), (λ on. absurd (not on.1)))
+
 -- ---- images that mount
+
+pub none_before : (qs : List ChangeSet) (d : Disk) → length qs ≡ 0 → AllByRecursion IsMounted (past_of (reverse qs) d)
+none_before [] d none = tt
+none_before (q ∷ qs) d none = absurd (omega (arith, none))
+
+pub none_behind : (qs : List ChangeSet) (d : Disk) → length qs ≡ 0 → AllByRecursion IsMounted (future_of qs d)
+none_behind [] d none = tt
+none_behind (q ∷ qs) d none = absurd (omega (arith, none))
 
 pub past_first : (qs ps : List ChangeSet) (p : ChangeSet) (d : Disk) → qs ≡ ps ++ p ∷ []
     → past_of (reverse qs) d ≡ reverted p d ∷ past_of (reverse ps) (reverted p d)
@@ -75,6 +105,17 @@ first_refused (Mount fault) e es h = h
 first_refused JournalImage e es h = (e, (0, omega arith, refl), h)
 first_refused JournalFormat e es h = absurd h
 first_refused JournalMismatch e es h = absurd h
+
+pub past_first_refused : (fault : OpenFault) (qs ps : List ChangeSet) (p : ChangeSet) (d : Disk) → qs ≡ ps ++ p ∷ []
+    → RefusesMount fault (reverted p d) → RefusesMounts fault (past_of (reverse qs) d)
+past_first_refused fault qs ps p d is h =
+    subst (RefusesMounts fault) (sym (past_first qs ps p d is)) (first_refused fault (reverted p d) (past_of (reverse ps) (reverted p d)) h)
+
+pub future_first_refused : (fault : OpenFault) (qs ps : List ChangeSet) (p : ChangeSet) (d : Disk) → qs ≡ p ∷ ps
+    → RefusesMount fault (applied p d) → RefusesMounts fault (future_of qs d)
+future_first_refused fault qs ps p d is h =
+    subst (λ (xs : List ChangeSet). RefusesMounts fault (future_of xs d)) (sym is)
+    (first_refused fault (applied p d) (future_of ps (applied p d)) h)
 
 pub later_refused : (fault : OpenFault) (e : Disk) (es : List Disk) → RefusesMounts fault es → RefusesMounts fault (e ∷ es)
 later_refused (Mount fault) e es h = h
@@ -121,6 +162,17 @@ agreed d bytes j ps done disk spelled parts within size count back on =
       spelled = subst (Spells bytes) (sym is) spelled;
       agrees = record { size = refl; count = refl; back = back; on = on };
     }
+
+-- changes that don't agree are no history that a journal of them denotes
+pub not_agreed : (d e : Disk) (j : Book) (ps qs : List ChangeSet) (done : ℕ) (t : Bool) → e ≡ d → book_of j.size j.count ps done ≡ j → qs ≡ ps
+    → IsTrue t ↔ (GoesBack (reverse (take done qs)) e × GoesForward (drop done qs) e) → t ≡ false → HasHistory d j → ⊥
+not_agreed d e j ps qs done t to parts same both fails has =
+    let made : take done qs ≡ j.done = ap (λ (xs : List ChangeSet). take done xs) same ∙ ap (λ (b : Book). b.done) parts in
+    let undone : drop done qs ≡ j.undone = ap (λ (xs : List ChangeSet). drop done xs) same ∙ ap (λ (b : Book). b.undone) parts in
+    let back = subst (λ (xs : List ChangeSet). GoesBack (reverse xs) d) (sym made) has.back in
+    let on = subst (λ (xs : List ChangeSet). GoesForward xs d) (sym undone) has.on in
+    let goes = subst (λ (x : Disk). GoesBack (reverse (take done qs)) x × GoesForward (drop done qs) x) (sym to) (back, on) in
+    false≢true (sym fails ∙ both.1 goes)
 
 -- among more images
 pub refused_among : (fault : OpenFault) (es fs : List Disk) → ((e : Disk) → Contains es e → Contains fs e) → RefusesMounts fault es
@@ -180,3 +232,24 @@ parts_opened m bytes outline ps done is room = record {
     room = room;
   };
 }
+
+-- ---- exits
+
+-- what is refused with a fault that is known
+pub refused_as : {T : Type 0} (r : Result T OpenFault) (Q : OpenFault → Type 0) (known made : OpenFault) → r ≡ Err made → made ≡ known → Q known
+    → IfErr r Q
+refused_as {T} r Q known made is same holds = subst (λ (s : Result T OpenFault). IfErr s Q) (sym is) (subst Q (sym same) holds)
+
+-- an image that was mounted mounts
+pub mount_mounts : (d : Disk) (m : MountedValue) → IsMountOf d m → IsMounted d
+mount_mounts d m is = (is.volume, is.holds, is.sound)
+
+-- its outline is that
+pub mount_outlined : (d : Disk) (m : MountedValue) → IsMountOf d m → IsOutlineOf d m.outline
+mount_outlined d m is = record { volume = is.volume; holds = is.holds; sound = is.sound; outline = is.outline }
+
+-- why bytes are no journal of an image that mounts
+pub no_journal : (fault : JournalFault) (d : Disk) (bytes : List ℕ) → IsMounted d → IsNoJournal fault bytes
+    → RefusesOpening (opened_fault fault) d bytes
+no_journal Unspelled d bytes mounts is = (mounts, is)
+no_journal Unread d bytes mounts is = tt

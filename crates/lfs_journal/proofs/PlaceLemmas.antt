@@ -1,5 +1,5 @@
 -- A history is one list of changes, cut at a place.
-use Rattle.std.proofs.Common.{◌≡◌, ℕ, ◌+◌, ◌<◌, ◌≤◌, List, [], ◌∷◌, ◌++◌, length, take, drop, get_or, ap, sym, ◌∙◌, subst, arith}
+use Rattle.std.proofs.Common.{◌≡◌, ℕ, ◌+◌, ◌<◌, ◌≤◌, List, [], ◌∷◌, ◌++◌, length, take, drop, get_or, ap, sym, ◌∙◌, subst, arith, length-append}
 use Rattle.std.specs.Prelude.{reverse, Option}
 use Rattle.std.proofs.lemmas.List.{take_more, drop_more, take_all, drop_all, length-take-le, get_or_push}
 use Rattle.lfs_block.specs.Disk.{Disk}
@@ -91,6 +91,11 @@ redone_at law d e changes i j p at h is =
 pub record IsPut (old new : List ChangeSet) (i : ℕ) (p : ChangeSet) : Type 0 where
   pub all : new ≡ take i old ++ p ∷ []
   pub within : i ≤ length old
+
+-- the place is one of the list
+pub put_within : (old new : List ChangeSet) (i : ℕ) (p : ChangeSet) → IsPut old new i p → i < length new
+put_within old new i p put =
+    omega (arith, ap length put.all, length-append (take i old) (p ∷ []), length-take-le i old put.within)
 
 -- it stands at the place
 pub put_is : (old new : List ChangeSet) (i : ℕ) (p q : ChangeSet) → IsPut old new i p → q ≡ get_or new i q → q ≡ p

@@ -1,14 +1,14 @@
 -- Behind the image before a change stand those before it.
-use Rattle.std.proofs.Common.{◌≡◌, ◌<◌, ◌≤◌, ℕ, List, [], ◌∷◌, ◌++◌, length, reverse, rules, sym, ap, ◌∙◌, subst, arith, length-append}
+use Rattle.std.proofs.Common.{◌≡◌, ◌<◌, ◌≤◌, ℕ, List, [], ◌∷◌, ◌++◌, length, reverse, sym, ap, ◌∙◌, subst, arith, length-append}
 use Rattle.std.specs.List.{AllByRecursion}
-use Rattle.std.proofs.lemmas.Result.{IfOk-weaker, IfErr-weaker}
+use Rattle.std.proofs.lemmas.Result.{IfOk-weaker, IfErr-weaker, IfOk-from_err, err_from_is_err_and}
 use Rattle.lfs_block.specs.Disk.{erased_block}
 use Rattle.lfs_block.specs.Patch.{ChangeSet, AgreesOld, applied, reverted}
 use Rattle.lfs_history.specs.History.{GoesBack, IsMounted, past_of}
 use Rattle.lfs_journal.specs.Known.{HasRoom}
-use Rattle.lfs_journal.specs.Opened.{RefusesMounts}
+use Rattle.lfs_journal.specs.Opened.{RefusesMounts, RefusesMount}
 use Rattle.lfs_history.proofs.MoveLemmas.{latest}
-use Rattle.lfs_journal.proofs.OpeningLemmas.{each_last, last_of, past_mounted, past_later_refused}
+use Rattle.lfs_journal.proofs.OpeningLemmas.{each_last, last_of, past_mounted, past_later_refused, none_before, past_first_refused, refused_as}
 use Rattle.lfs_journal.proofs.RoomLemmas.{room_same}
 use Rattle.lfs_journal.proofs.mounting.+mounts_back.Goals as goal
 
@@ -17,7 +17,7 @@ before-requires t c =
     let p = c.in-Some.last.now in
     let ps = c.in-Some.earlier.now in
     let d = c.args.image.now.disk in
-    let is : c.args.patches.now ≡ ps ++ p ∷ [] = search rules in
+    let is : c.args.patches.now ≡ ps ++ p ∷ [] = c.in-Some.ensures.cases.0 in
     let back : GoesBack (p ∷ reverse ps) d = subst (λ (xs : List ChangeSet). GoesBack xs d) (latest ps c.args.patches.now p is) c.requires.agrees in
     record { patch = back.0.patch; size = back.1.size; erased = c.requires.erased; disk = c.requires.disk }
 
@@ -27,7 +27,7 @@ mounts_back-mounted-requires t c =
     let ps = c.in-Some.earlier.now in
     let d = c.args.image.now.disk in
     let room = c.args.image.now.room in
-    let is : c.args.patches.now ≡ ps ++ p ∷ [] = search rules in
+    let is : c.args.patches.now ≡ ps ++ p ∷ [] = c.in-Some.ensures.cases.0 in
     let back : GoesBack (p ∷ reverse ps) d = subst (λ (xs : List ChangeSet). GoesBack xs d) (latest ps c.args.patches.now p is) c.requires.agrees in
     let size : c.revert.new.image.disk.size ≡ d.size = c.revert.ensures.disk.size ∙ back.1.size in
     let len = ap length is ∙ length-append ps (p ∷ []) in
@@ -42,7 +42,7 @@ apply-requires-clause-agrees t c =
     let p = c.in-Some.last.now in
     let ps = c.in-Some.earlier.now in
     let d = c.args.image.now.disk in
-    let is : c.args.patches.now ≡ ps ++ p ∷ [] = search rules in
+    let is : c.args.patches.now ≡ ps ++ p ∷ [] = c.in-Some.ensures.cases.0 in
     let back : GoesBack (p ∷ reverse ps) d = subst (λ (xs : List ChangeSet). GoesBack xs d) (latest ps c.args.patches.now p is) c.requires.agrees in
     let to : c.mounts_back-mounted.new.image.disk ≡ reverted p d = c.mounts_back-mounted.ensures.disk ∙ c.revert.ensures.reverted in
     subst (AgreesOld p) (sym to) (c.reverted_patches_apply_again.ensures.agrees p d c.requires.disk back.0.patch back.1)
@@ -50,7 +50,7 @@ apply-requires-clause-agrees t c =
 pub apply-requires-clause-room : goal.apply-requires-clause-room
 apply-requires-clause-room t c =
     let p = c.in-Some.last.now in
-    let is : c.args.patches.now ≡ c.in-Some.earlier.now ++ p ∷ [] = search rules in
+    let is : c.args.patches.now ≡ c.in-Some.earlier.now ++ p ∷ [] = c.in-Some.ensures.cases.0 in
     let fits = last_of (λ q. q.after ≤ c.args.image.now.room) c.args.patches.now c.in-Some.earlier.now p is c.requires.room in
     subst (λ (n : ℕ). p.after ≤ n) (sym (c.mounts_back-mounted.ensures.room ∙ c.revert.ensures.room)) fits
 
@@ -59,7 +59,7 @@ returns-clause-disk t c =
     let p = c.in-Some.last.now in
     let ps = c.in-Some.earlier.now in
     let d = c.args.image.now.disk in
-    let is : c.args.patches.now ≡ ps ++ p ∷ [] = search rules in
+    let is : c.args.patches.now ≡ ps ++ p ∷ [] = c.in-Some.ensures.cases.0 in
     let back : GoesBack (p ∷ reverse ps) d = subst (λ (xs : List ChangeSet). GoesBack xs d) (latest ps c.args.patches.now p is) c.requires.agrees in
     let to : c.mounts_back-mounted.new.image.disk ≡ reverted p d = c.mounts_back-mounted.ensures.disk ∙ c.revert.ensures.reverted in
     c.apply.ensures.applied ∙ ap (applied p) to ∙ c.reverted_patches_apply_again.ensures.again p d c.requires.disk back.0.patch back.1
@@ -69,7 +69,7 @@ returns-clause-mounted t c =
     let p = c.in-Some.last.now in
     let ps = c.in-Some.earlier.now in
     let d = c.args.image.now.disk in
-    let is : c.args.patches.now ≡ ps ++ p ∷ [] = search rules in
+    let is : c.args.patches.now ≡ ps ++ p ∷ [] = c.in-Some.ensures.cases.0 in
     let first : IsMounted (reverted p d) = subst IsMounted c.before-2.ensures c.in_ok-mounts.ensures.mounted in
     IfOk-weaker c.mounts_back-mounted.result (λ _. AllByRecursion IsMounted (past_of (reverse ps) c.revert.new.image.disk))
     (λ _. AllByRecursion IsMounted (past_of (reverse c.args.patches.now) d))
@@ -81,8 +81,34 @@ returns-clause-refused t c =
     let p = c.in-Some.last.now in
     let ps = c.in-Some.earlier.now in
     let d = c.args.image.now.disk in
-    let is : c.args.patches.now ≡ ps ++ p ∷ [] = search rules in
+    let is : c.args.patches.now ≡ ps ++ p ∷ [] = c.in-Some.ensures.cases.0 in
     IfErr-weaker c.mounts_back-mounted.result (λ fault. RefusesMounts fault (past_of (reverse ps) c.revert.new.image.disk))
     (λ fault. RefusesMounts fault (past_of (reverse c.args.patches.now) d))
     (λ fault h. past_later_refused fault c.args.patches.now ps p d c.revert.new.image.disk is c.revert.ensures.reverted h)
     c.mounts_back-mounted.ensures.refused
+
+pub returns-in_default-clause-mounted : goal.returns-in_default-clause-mounted
+returns-in_default-clause-mounted t c = none_before c.args.patches.now c.args.image.now.disk c.in_default.ensures.cases
+
+pub returns-in_err-mounts-clause-mounted : goal.returns-in_err-mounts-clause-mounted
+returns-in_err-mounts-clause-mounted t c = IfOk-from_err c.from_residual.result _ c.from_residual.ensures.0
+
+pub returns-in_err-mounts-clause-refused : goal.returns-in_err-mounts-clause-refused
+returns-in_err-mounts-clause-refused t c =
+    let p = c.in-Some.last.now in
+    let ps = c.in-Some.earlier.now in
+    let d = c.args.image.now.disk in
+    let fault = c.in_err-mounts.field-0.0 in
+    let q = err_from_is_err_and c.from_residual.result c.from_residual.ensures.1 in
+    refused_as c.from_residual.result _ fault q.0 q.1 q.2
+    (past_first_refused fault c.args.patches.now ps p d c.in-Some.ensures.cases.0
+    (subst (RefusesMount fault) c.before-2.ensures c.in_err-mounts.ensures.refused))
+
+pub returns-clause-room : goal.returns-clause-room
+returns-clause-room t c = c.apply.ensures.room ∙ c.mounts_back-mounted.ensures.room ∙ c.revert.ensures.room
+
+pub revert-requires : goal.revert-requires
+revert-requires t c =
+    let ps = c.in-Some.earlier.now in
+    let is = latest ps c.args.patches.now c.in-Some.last.now c.in-Some.ensures.cases.0 in
+    (subst (λ (xs : List ChangeSet). GoesBack xs c.args.image.now.disk) is c.requires.agrees).1

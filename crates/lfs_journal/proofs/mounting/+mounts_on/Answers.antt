@@ -1,13 +1,13 @@
 -- Before the images behind later changes stands the one behind the next.
-use Rattle.std.proofs.Common.{◌≡◌, ◌<◌, List, ◌∷◌, length, rules, sym, ap, ◌∙◌, subst, arith}
+use Rattle.std.proofs.Common.{◌≡◌, ◌<◌, List, ◌∷◌, length, sym, ap, ◌∙◌, subst, arith}
 use Rattle.std.specs.List.{AllByRecursion}
-use Rattle.std.proofs.lemmas.Result.{IfOk-weaker, IfErr-weaker}
+use Rattle.std.proofs.lemmas.Result.{IfOk-weaker, IfErr-weaker, IfOk-from_err, err_from_is_err_and}
 use Rattle.lfs_block.specs.Disk.{erased_block}
 use Rattle.lfs_block.specs.Patch.{ChangeSet, AgreesNew, applied, reverted}
 use Rattle.lfs_history.specs.History.{GoesForward, IsMounted, future_of}
 use Rattle.lfs_journal.specs.Known.{HasRoom}
-use Rattle.lfs_journal.specs.Opened.{RefusesMounts}
-use Rattle.lfs_journal.proofs.OpeningLemmas.{future_mounted, future_later_refused}
+use Rattle.lfs_journal.specs.Opened.{RefusesMounts, RefusesMount}
+use Rattle.lfs_journal.proofs.OpeningLemmas.{future_mounted, future_later_refused, none_behind, future_first_refused, refused_as}
 use Rattle.lfs_journal.proofs.RoomLemmas.{room_same}
 use Rattle.lfs_journal.proofs.mounting.+mounts_on.Goals as goal
 
@@ -15,13 +15,13 @@ pub after-requires : goal.after-requires
 after-requires t c =
     let p = c.in-Some.first.now in
     let d = c.args.image.now.disk in
-    let is : c.args.patches.now ≡ p ∷ c.in-Some.later.now = search rules in
+    let is : c.args.patches.now ≡ p ∷ c.in-Some.later.now = c.in-Some.ensures.cases.0 in
     let on : GoesForward (p ∷ c.in-Some.later.now) d = subst (λ (xs : List ChangeSet). GoesForward xs d) is c.requires.agrees in
     record { patch = on.0.patch; size = on.1.size; erased = c.requires.erased; disk = c.requires.disk }
 
 pub apply-requires-clause-room : goal.apply-requires-clause-room
 apply-requires-clause-room t c =
-    let is : c.args.patches.now ≡ c.in-Some.first.now ∷ c.in-Some.later.now = search rules in
+    let is : c.args.patches.now ≡ c.in-Some.first.now ∷ c.in-Some.later.now = c.in-Some.ensures.cases.0 in
     (subst (HasRoom c.args.image.now.room) is c.requires.room).0
 
 pub mounts_on-mounted-requires : goal.mounts_on-mounted-requires
@@ -30,7 +30,7 @@ mounts_on-mounted-requires t c =
     let ps = c.in-Some.later.now in
     let d = c.args.image.now.disk in
     let room = c.args.image.now.room in
-    let is : c.args.patches.now ≡ p ∷ ps = search rules in
+    let is : c.args.patches.now ≡ p ∷ ps = c.in-Some.ensures.cases.0 in
     let on : GoesForward (p ∷ ps) d = subst (λ (xs : List ChangeSet). GoesForward xs d) is c.requires.agrees in
     let size : c.apply.new.image.disk.size ≡ d.size = c.apply.ensures.disk.size ∙ on.1.size in
     let len = ap length is in
@@ -43,7 +43,7 @@ pub revert-requires : goal.revert-requires
 revert-requires t c =
     let p = c.in-Some.first.now in
     let d = c.args.image.now.disk in
-    let is : c.args.patches.now ≡ p ∷ c.in-Some.later.now = search rules in
+    let is : c.args.patches.now ≡ p ∷ c.in-Some.later.now = c.in-Some.ensures.cases.0 in
     let on : GoesForward (p ∷ c.in-Some.later.now) d = subst (λ (xs : List ChangeSet). GoesForward xs d) is c.requires.agrees in
     let to : c.mounts_on-mounted.new.image.disk ≡ applied p d = c.mounts_on-mounted.ensures.disk ∙ c.apply.ensures.applied in
     subst (AgreesNew p) (sym to) (c.applied_patches_revert.ensures.agrees p d c.requires.disk on.0.patch on.1)
@@ -52,7 +52,7 @@ pub returns-clause-disk : goal.returns-clause-disk
 returns-clause-disk t c =
     let p = c.in-Some.first.now in
     let d = c.args.image.now.disk in
-    let is : c.args.patches.now ≡ p ∷ c.in-Some.later.now = search rules in
+    let is : c.args.patches.now ≡ p ∷ c.in-Some.later.now = c.in-Some.ensures.cases.0 in
     let on : GoesForward (p ∷ c.in-Some.later.now) d = subst (λ (xs : List ChangeSet). GoesForward xs d) is c.requires.agrees in
     let to : c.mounts_on-mounted.new.image.disk ≡ applied p d = c.mounts_on-mounted.ensures.disk ∙ c.apply.ensures.applied in
     c.revert.ensures.reverted ∙ ap (reverted p) to ∙ c.applied_patches_revert.ensures.back p d c.requires.disk on.0.patch on.1
@@ -62,7 +62,7 @@ returns-clause-refused t c =
     let p = c.in-Some.first.now in
     let ps = c.in-Some.later.now in
     let d = c.args.image.now.disk in
-    let is : c.args.patches.now ≡ p ∷ ps = search rules in
+    let is : c.args.patches.now ≡ p ∷ ps = c.in-Some.ensures.cases.0 in
     IfErr-weaker c.mounts_on-mounted.result (λ fault. RefusesMounts fault (future_of ps c.apply.new.image.disk))
     (λ fault. RefusesMounts fault (future_of c.args.patches.now d))
     (λ fault h. future_later_refused fault c.args.patches.now ps p d c.apply.new.image.disk is c.apply.ensures.applied h)
@@ -73,9 +73,33 @@ returns-clause-mounted t c =
     let p = c.in-Some.first.now in
     let ps = c.in-Some.later.now in
     let d = c.args.image.now.disk in
-    let is : c.args.patches.now ≡ p ∷ ps = search rules in
+    let is : c.args.patches.now ≡ p ∷ ps = c.in-Some.ensures.cases.0 in
     let first : IsMounted (applied p d) = subst IsMounted c.after.ensures c.in_ok-mounts.ensures.mounted in
     IfOk-weaker c.mounts_on-mounted.result (λ _. AllByRecursion IsMounted (future_of ps c.apply.new.image.disk))
     (λ _. AllByRecursion IsMounted (future_of c.args.patches.now d))
     (λ _ more. future_mounted c.args.patches.now ps p d c.apply.new.image.disk is c.apply.ensures.applied first more)
     c.mounts_on-mounted.ensures.mounted
+
+pub apply-requires-clause-agrees : goal.apply-requires-clause-agrees
+apply-requires-clause-agrees t c =
+    (subst (λ (xs : List ChangeSet). GoesForward xs c.args.image.now.disk) c.in-Some.ensures.cases.0 c.requires.agrees).1
+
+pub returns-in_default-clause-mounted : goal.returns-in_default-clause-mounted
+returns-in_default-clause-mounted t c = none_behind c.args.patches.now c.args.image.now.disk c.in_default.ensures.cases
+
+pub returns-in_err-mounts-clause-mounted : goal.returns-in_err-mounts-clause-mounted
+returns-in_err-mounts-clause-mounted t c = IfOk-from_err c.from_residual.result _ c.from_residual.ensures.0
+
+pub returns-in_err-mounts-clause-refused : goal.returns-in_err-mounts-clause-refused
+returns-in_err-mounts-clause-refused t c =
+    let p = c.in-Some.first.now in
+    let ps = c.in-Some.later.now in
+    let d = c.args.image.now.disk in
+    let fault = c.in_err-mounts.field-0.0 in
+    let q = err_from_is_err_and c.from_residual.result c.from_residual.ensures.1 in
+    refused_as c.from_residual.result _ fault q.0 q.1 q.2
+    (future_first_refused fault c.args.patches.now ps p d c.in-Some.ensures.cases.0
+    (subst (RefusesMount fault) c.after.ensures c.in_err-mounts.ensures.refused))
+
+pub returns-clause-room : goal.returns-clause-room
+returns-clause-room t c = c.revert.ensures.room ∙ c.mounts_on-mounted.ensures.room ∙ c.apply.ensures.room

@@ -1,11 +1,13 @@
 -- An image among some is one among more.
-use Rattle.std.proofs.Common.{◌++◌, List, take, drop, reverse, rules}
+use Rattle.std.proofs.Common.{◌++◌, List, take, drop, reverse, refl, rules, ◌∙◌}
 use Rattle.std.specs.Prelude.{IfErr}
-use Rattle.std.proofs.lemmas.Result.{err_from_is_err_and, IfErr-weaker}
+use Rattle.std.proofs.lemmas.Result.{IfErr-weaker, IfOk-from_err, err_from_is_err_and}
 use Rattle.lfs_block.specs.Disk.{Disk}
+use Rattle.lfs_block.specs.declared.mount_fault.MountFault.TheVariants.{Memory}
+use Rattle.lfs_history.specs.declared.open_fault.OpenFault.TheVariants.{Mount}
 use Rattle.lfs_history.specs.History.{past_of, future_of}
 use Rattle.lfs_journal.specs.Opened.{RefusesMounts}
-use Rattle.lfs_journal.proofs.OpeningLemmas.{refused_left, refused_right}
+use Rattle.lfs_journal.proofs.OpeningLemmas.{refused_left, refused_right, refused_as}
 use Rattle.lfs_journal.proofs.opening.others_mount.Goals as goal
 
 pub returns-in_err-mounts_back-clause-refused : goal.returns-in_err-mounts_back-clause-refused
@@ -30,3 +32,29 @@ returns-clause-refused c =
 pub returns-clause-future : goal.returns-clause-future
 returns-clause-future c =
     rw (← c.split_at.ensures.back, ← c.mounts_back.ensures.disk) c.mounts_on.ensures.mounted
+
+pub returns-in_err-erased-clause-refused : goal.returns-in_err-erased-clause-refused
+returns-in_err-erased-clause-refused c =
+    let p = err_from_is_err_and c.from_residual.result c.from_residual.ensures.1 in
+    refused_as c.from_residual.result _ (Mount Memory) p.0 p.1 (p.2 ∙ c.in_err-erased.ensures.memory) refl
+
+pub returns-in_err-erased-clause-past : goal.returns-in_err-erased-clause-past
+returns-in_err-erased-clause-past c = IfOk-from_err c.from_residual.result _ c.from_residual.ensures.0
+
+pub returns-in_err-erased-clause-future : goal.returns-in_err-erased-clause-future
+returns-in_err-erased-clause-future c = IfOk-from_err c.from_residual.result _ c.from_residual.ensures.0
+
+pub returns-in_err-mounts_back-clause-past : goal.returns-in_err-mounts_back-clause-past
+returns-in_err-mounts_back-clause-past c = IfOk-from_err c.from_residual-in_err-mounts_back.result _ c.from_residual-in_err-mounts_back.ensures.0
+
+pub returns-in_err-mounts_back-clause-future : goal.returns-in_err-mounts_back-clause-future
+returns-in_err-mounts_back-clause-future c = IfOk-from_err c.from_residual-in_err-mounts_back.result _ c.from_residual-in_err-mounts_back.ensures.0
+
+pub returns-in_err-mounts_back-clause-disk : goal.returns-in_err-mounts_back-clause-disk
+returns-in_err-mounts_back-clause-disk c = c.mounts_back.ensures.disk
+
+pub returns-clause-disk : goal.returns-clause-disk
+returns-clause-disk c = c.mounts_on.ensures.disk ∙ c.mounts_back.ensures.disk
+
+pub returns-clause-room : goal.returns-clause-room
+returns-clause-room c = c.mounts_on.ensures.room ∙ c.mounts_back.ensures.room

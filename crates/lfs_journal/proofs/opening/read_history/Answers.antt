@@ -1,6 +1,6 @@
 -- The changes that were read lead to images that mount.
 use Rattle.std.proofs.Common.{◌≡◌, ◌++◌, take, drop, reverse, rules, sym, ◌∙◌, subst}
-use Rattle.std.proofs.lemmas.Result.{err_from_is_err_and}
+use Rattle.std.proofs.lemmas.Result.{IfOk-from_err, err_from_is_err_and}
 use Rattle.lfs_block.specs.Disk.{Disk}
 use Rattle.lfs_fs.specs.Mounted.{IsOutlineOf}
 use Rattle.lfs_history.specs.History.{past_of, future_of}
@@ -46,3 +46,9 @@ returns-clause-opened c =
     let room : HasRoom c.read_changes.new.image.room ps = search rules in
     parts_opened image bytes outline ps done (subst (λ (e : Disk). IsFound e bytes outline ps done) (sym same) found)
     (room_same c.read_changes.new.image.room image.room ps c.others_mount.ensures.room room)
+
+pub returns-in_err-outline-clause-opened : goal.returns-in_err-outline-clause-opened
+returns-in_err-outline-clause-opened c = IfOk-from_err c.from_residual.result _ c.from_residual.ensures.0
+
+pub returns-in_err-others_mount-clause-opened : goal.returns-in_err-others_mount-clause-opened
+returns-in_err-others_mount-clause-opened c = IfOk-from_err c.from_residual-in_err-others_mount.result _ c.from_residual-in_err-others_mount.ensures.0

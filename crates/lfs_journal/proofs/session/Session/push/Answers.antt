@@ -1,6 +1,6 @@
 -- Room is made, the planned patch is put at the place, and made, and what isn't kept is dropped.
-use Rattle.std.proofs.Common.{◌≡◌, ◌≤◌, ℕ, List, ap, sym, ◌∙◌, subst}
-use Rattle.std.proofs.lemmas.Result.{err_from_is_err_and}
+use Rattle.std.proofs.Common.{◌≡◌, ◌≤◌, ℕ, List, ap, sym, ◌∙◌, subst, arith}
+use Rattle.std.proofs.lemmas.Result.{IfOk-from_err, err_from_is_err_and}
 use Rattle.lfs_block.specs.Disk.{Disk}
 use Rattle.lfs_block.specs.Geometry.{IsGeometry}
 use Rattle.lfs_block.specs.Patch.{ChangeSet, AgreesOld, applied}
@@ -10,7 +10,7 @@ use Rattle.lfs_command.specs.Planned.{RefusesPlan}
 use Rattle.lfs_history.specs.History.{History, history_at}
 use Rattle.lfs_history.specs.Taking.{Does, HasPlace}
 use Rattle.lfs_journal.specs.Known.{IsSession}
-use Rattle.lfs_journal.proofs.PlaceLemmas.{IsPut, put_is, put_makes, done_at}
+use Rattle.lfs_journal.proofs.PlaceLemmas.{IsPut, put_is, put_makes, done_at, put_within}
 use Rattle.lfs_journal.proofs.RoomLemmas.{room_put, room_kept, room_same, session_grows}
 use Rattle.lfs_journal.proofs.session.Session.push.Goals as goal
 
@@ -148,3 +148,35 @@ returns-clause-done c =
     c.self.invariant.at place c.in_ok-patch.ensures.planned is in
     subst (λ (old : History). Does (asked_for c.args.command.now) c.args.keep old
     (history_at c.apply.new.image.disk c.keep_latest-self-inside.new.patches.items c.keep_latest-self-inside.result)) c.self.view_is to.moves
+
+pub returns-in_err-patch-clause-done : goal.returns-in_err-patch-clause-done
+returns-in_err-patch-clause-done c = IfOk-from_err c.from_residual.result _ c.from_residual.ensures.0
+
+pub returns-in_err-patch-clause-unchanged : goal.returns-in_err-patch-clause-unchanged
+returns-in_err-patch-clause-unchanged c =
+    let p = err_from_is_err_and c.from_residual.result c.from_residual.ensures.1 in
+    rw (p.1) c.self.view_is
+
+pub returns-in_err-replace_from-clause-done : goal.returns-in_err-replace_from-clause-done
+returns-in_err-replace_from-clause-done c =
+    IfOk-from_err c.from_residual-in_err-replace_from.result _ c.from_residual-in_err-replace_from.ensures.0
+
+pub carried_out-requires-clause-mounts : goal.carried_out-requires-clause-mounts
+carried_out-requires-clause-mounts c = c.self.invariant.at.history.mounts
+
+pub carried_out-requires-clause-known : goal.carried_out-requires-clause-known
+carried_out-requires-clause-known c = c.self.invariant.known
+
+pub invariant_of-self : goal.invariant_of-self
+invariant_of-self c = record { at = c.self.invariant.at; known = c.carried_out.ensures.known; room = c.self.invariant.room }
+
+pub replace_from-requires : goal.replace_from-requires
+replace_from-requires c = omega (arith, c.self.inside.patches.ok.0, c.self.invariant.at.within)
+
+pub index-requires : goal.index-requires
+index-requires c =
+    let s = c.self.inside in
+    let news = c.replace_from.new.patches in
+    let put : IsPut s.patches.items news.items s.done c.in_ok-patch.field-0.patch =
+    record { all = c.in_ok-replace_from.ensures.done; within = c.self.invariant.at.within } in
+    omega (arith, news.ok.0, put_within s.patches.items news.items s.done c.in_ok-patch.field-0.patch put)
