@@ -211,11 +211,12 @@ def calls_that_fail(folder):
 
 def what_is_refused_twice(folder):
     """A name of which the second one doesn't fit with its numbers ends the run: what comes before it is made."""
-    long = 255 * b"n"
-    folder.be(damaged_image(file(1, b"a", b"one") + file(2, long, b"two") + file(3, long, b"three") + file(4, b"z", b"four"), {}), 0)
+    size, long = 2_048, 255 * b"n"
+    items = file(1, b"a", b"one") + file(2, long, b"two") + file(3, long, b"three") + file(4, b"z", b"four")
+    folder.be(image(size, 8, {0: log(1, superblock(size, 8) + items)}), 0)
     place = folder.image.with_name("made")
-    ended = folder.run("salvage -b 512 a.img made")
-    told = "lfsed: 61 CannotWrite\nlfsed: made: File name too long (os error 36)\n"
+    ended = folder.run(f"salvage -b {size} a.img made")
+    told = f"lfsed: 61 CannotWrite\nlfsed: made/{long.decode()}~0.3: File name too long (os error 36)\n"
     folder.check("refused twice", ended == (4, told, b""), ended)
     folder.check("refused twice: a beginning", made_in(place) == {(b"a",): b"one", (long,): b"two"}, made_in(place))
     cleared(place)
