@@ -3,10 +3,12 @@
 use std::fmt;
 
 /// The numbers of a pair's blocks, as they are told; of one block, where both are the same.
+///
+/// Source: own.
 #[derive(Clone, Copy)]
-pub(crate) struct BlocksText {
+pub struct BlocksText {
     /// The pair.
-    pub(crate) pair: (u32, u32),
+    pub pair: (u32, u32),
 }
 
 impl fmt::Display for BlocksText {

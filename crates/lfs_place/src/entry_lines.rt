@@ -25,8 +25,10 @@ pub(crate) fn chain_line(
     }
 }
 
-/// The file at a place, which has no chain.
-pub(crate) fn chain_line_at(
+/// The file at a place, which has no chain. Takes memory.
+///
+/// Source: own.
+pub fn chain_line_at(
     alloc: Global,
     image: &Image,
     survey: &Survey,
@@ -57,7 +59,9 @@ fn pointer_line(
 }
 
 /// The last block of the file at a place, and its size, where it has a chain.
-pub(crate) fn chain_of(survey: &Survey, place: EntryPlace) -> Option<(u32, u32)> {
+///
+/// Source: own.
+pub fn chain_of(survey: &Survey, place: EntryPlace) -> Option<(u32, u32)> {
     match entry_at(survey, place)?.body {
         Body::Chain { head, size } => Some((head, size)),
         _ => None,

@@ -6,17 +6,19 @@ use std::alloc::{AllocError, Global};
 const MOST: usize = 100;
 
 /// Lines, of which at most a hundred are told.
+///
+/// Source: own.
 #[derive(Drop)]
-pub(crate) struct Lines {
+pub struct Lines {
     /// Those that are told.
-    pub(crate) told: Vec<String>,
+    pub told: Vec<String>,
     /// How many more there are.
     more: usize,
 }
 
 impl Lines {
     /// No lines. Takes no memory.
-    pub(crate) fn new(alloc: Global) -> Lines {
+    pub fn new(alloc: Global) -> Lines {
         Lines {
             told: Vec::new(alloc),
             more: 0,
@@ -24,7 +26,7 @@ impl Lines {
     }
 
     /// Whether there is room for one more; else it is counted. Takes no memory.
-    pub(crate) fn takes_one(&mut self) -> bool {
+    pub fn takes_one(&mut self) -> bool {
         if self.told.len() < MOST {
             return true;
         }
@@ -32,16 +34,16 @@ impl Lines {
         false
     }
 
-    /// Adds a line, where there is one.
-    pub(crate) fn add(&mut self, line: Option<String>) -> Result<(), AllocError> {
+    /// Adds a line, where there is one. Takes memory.
+    pub fn add(&mut self, line: Option<String>) -> Result<(), AllocError> {
         if let Some(line) = line {
             self.told.push(line)?;
         }
         Ok(())
     }
 
-    /// The lines, and behind them how many more there are, and what is said of these.
-    pub(crate) fn ended(self, alloc: Global, words: &str) -> Result<Vec<String>, AllocError> {
+    /// The lines, and behind them how many more there are, and what is said of these. Takes memory.
+    pub fn ended(self, alloc: Global, words: &str) -> Result<Vec<String>, AllocError> {
         let Lines { mut told, more } = self;
         if more > 0 {
             told.push(format!(in alloc; "{more} more {words}")?)?;

@@ -6,17 +6,19 @@ use lfs_survey::{Found, Place, Survey, found_at};
 use std::alloc::{AllocError, Global};
 
 /// The place at which each block was looked at.
+///
+/// Source: own.
 #[derive(Drop)]
-pub(crate) struct Owners {
+pub struct Owners {
     /// How many blocks there are.
-    pub(crate) count: u32,
+    pub count: u32,
     /// One place a block.
     places: Vec<Option<Place>>,
 }
 
 impl Owners {
     /// Those of a survey of an image of so many blocks. Takes memory.
-    pub(crate) fn of(alloc: Global, survey: &Survey, count: u32) -> Result<Owners, AllocError> {
+    pub fn of(alloc: Global, survey: &Survey, count: u32) -> Result<Owners, AllocError> {
         let mut places = vec![in alloc; None; count as usize]?;
         for (area, here) in survey.areas.iter().enumerate() {
             own_area(&mut places, survey, area, here.calls.len());
@@ -25,7 +27,7 @@ impl Owners {
     }
 
     /// That of a block, where it was looked at.
-    pub(crate) fn at(&self, block: u32) -> Option<Place> {
+    pub fn at(&self, block: u32) -> Option<Place> {
         match self.places.get(block as usize) {
             Some(place) => *place,
             None => None,

@@ -35,7 +35,7 @@ pub(crate) fn unread_line(
 }
 
 /// The pair at a place, which isn't read for a fault, where that is of what its blocks hold.
-pub(crate) fn unread_line_at(
+pub fn unread_line_at(
     alloc: Global,
     survey: &Survey,
     fault: MountFault,
@@ -88,8 +88,10 @@ pub(crate) fn range_line(
     }
 }
 
-/// The pair at a place, which lies past an image of so many blocks, by the way that it is come to.
-pub(crate) fn past_line(
+/// The pair at a place, which lies past an image of so many blocks, by the way that it is come to. Takes memory.
+///
+/// Source: own.
+pub fn past_line(
     alloc: Global,
     survey: &Survey,
     place: Place,

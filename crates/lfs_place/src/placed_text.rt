@@ -7,8 +7,10 @@ use std::alloc::{AllocError, Global};
 use std::fmt;
 
 /// A directory or an entry, as it is told: its path, and in front of that where its area begins, unless that is the root's.
+///
+/// Source: own.
 #[derive(Drop)]
-pub(crate) struct PlacedPath<'a> {
+pub struct PlacedPath<'a> {
     /// The pair at which the area begins.
     start: Option<BlocksText>,
     /// The path from there on.
@@ -17,7 +19,7 @@ pub(crate) struct PlacedPath<'a> {
 
 impl<'a> PlacedPath<'a> {
     /// The directory of a pair. Takes memory, as the next one does.
-    pub(crate) fn of_pair(
+    pub fn of_pair(
         alloc: Global,
         survey: &'a Survey,
         place: Place,
@@ -28,7 +30,7 @@ impl<'a> PlacedPath<'a> {
     }
 
     /// An entry.
-    pub(crate) fn of_entry(
+    pub fn of_entry(
         alloc: Global,
         survey: &'a Survey,
         place: EntryPlace,
@@ -87,7 +89,9 @@ impl fmt::Display for PairText<'_> {
 }
 
 /// The blocks of the pair at a place; those of the root where there is none.
-pub(crate) fn blocks_at(survey: &Survey, place: Place) -> BlocksText {
+///
+/// Source: own.
+pub fn blocks_at(survey: &Survey, place: Place) -> BlocksText {
     match call_at(survey, place) {
         Some(call) => BlocksText { pair: call.pair },
         None => BlocksText { pair: (0, 1) },

@@ -58,8 +58,10 @@ fn double_line(alloc: Global, survey: &Survey, place: Place) -> Result<Option<St
     Ok(Some(format!(in alloc; "block {block}: {path} uses it twice")?))
 }
 
-/// The pair at a place, of which a block is another's.
-pub(crate) fn pair_line(
+/// The pair at a place, of which a block is another's. Takes memory.
+///
+/// Source: own.
+pub fn pair_line(
     alloc: Global,
     survey: &Survey,
     owners: &Owners,

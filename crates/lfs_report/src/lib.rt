@@ -33,7 +33,7 @@ pub use later::{Later, tell_later};
 pub use need::with_need;
 pub use refused_line::{stop_at, stop_of_line, with_line, with_number};
 pub use refused_row::with_row;
-pub use salvaged::{keep_saved, stop_of_salvaging};
+pub use salvaged::stop_of_salvaging;
 pub use seen::Seen;
 pub use source::{stop_of_source, stop_of_source_bytes};
 pub use stated::{Sight, Statement};

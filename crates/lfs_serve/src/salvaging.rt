@@ -22,9 +22,10 @@ use lfs_exchange::{StepKind, taken_up};
 use lfs_fs::mount;
 use lfs_host::Host;
 use lfs_lower::lower_all;
-use lfs_report::{Beside, Sight, Stop, keep_saved, stop_of_image, stop_of_salvaging};
+use lfs_report::{Beside, Sight, Stop, stop_of_image, stop_of_salvaging};
 use lfs_request::{Fault, Manner, Request, View};
-use lfs_salvage::{Saved, save_image};
+use lfs_salvage::{Saved, salvage_lines, save_image};
+use lfs_survey::Found;
 use std::alloc::{AllocError, Global};
 
 /// Makes a folder of the host with all that can still be read of an image's file, as the image is looked at: where the image mounts, the
@@ -205,7 +206,9 @@ fn ended(
     if end.is_ok() {
         beside.unmounted = Some(cause);
     }
-    keep_saved(alloc, disk, saved, beside);
+    if let Ok(lines) = salvage_lines(alloc, disk, saved) {
+        beside.lines = lines;
+    }
     end
 }
 
@@ -220,7 +223,16 @@ fn end_of(
     ensures { stopped_by result ≡ (if has_loss saved.now then Some (Mount cause) else None) }
 {
     if saved.has_loss() {
-        return Err(stop_of_salvaging(alloc, cause, image, saved, seen));
+        let is_read = is_front_read(saved);
+        return Err(stop_of_salvaging(alloc, cause, image, is_read, seen));
     }
     Ok(())
+}
+
+/// Whether a part is found at the pair with which an image begins.
+fn is_front_read(saved: &Saved) -> bool {
+    match saved.areas.first() {
+        Some(root) => matches!(root.found.first(), Some(Found::Part(_))),
+        None => false,
+    }
 }

@@ -1,11 +1,12 @@
 //! What is told of what is saved of an image.
 
 use crate::file_losses::{add_lost_files, add_other_files};
-use crate::lines::Lines;
-use crate::owners::Owners;
+use crate::lost::lost_word;
 use crate::pair_losses::{add_lost_area, add_lost_pairs, add_other_pairs};
+use crate::salvage::Salvage;
+use crate::saved::Saved;
 use lfs_block::{Blocks, Image};
-use lfs_salvage::{Salvage, Saved, lost_word};
+use lfs_place::{Lines, Owners};
 use lfs_survey::Survey;
 use std::alloc::{AllocError, Global};
 

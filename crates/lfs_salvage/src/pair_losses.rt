@@ -1,12 +1,9 @@
 //! What is told of pairs whose directories aren't saved where they are named.
 
-use crate::lines::Lines;
-use crate::owners::Owners;
-use crate::pair_lines::{past_line, unread_line_at};
-use crate::placed_text::{PlacedPath, blocks_at};
-use crate::twice_lines::pair_line;
+use crate::block_use::BlockUse;
+use crate::losses::is_lost;
 use lfs_block::MountFault;
-use lfs_salvage::{BlockUse, is_lost};
+use lfs_place::{Lines, Owners, PlacedPath, blocks_at, pair_line, past_line, unread_line_at};
 use lfs_survey::{Found, Place, Survey, Way, call_at, found_at};
 use std::alloc::{AllocError, Global};
 

@@ -1,10 +1,11 @@
 //! What is told of files that aren't saved where they are named.
 
-use crate::entry_lines::{chain_line_at, chain_of};
-use crate::lines::Lines;
-use crate::placed_text::PlacedPath;
+use crate::block_use::BlockUse;
+use crate::home::Home;
+use crate::salvage::Salvage;
+use crate::unsaved::{Unsaved, Why};
 use lfs_block::{Image, MountFault};
-use lfs_salvage::{BlockUse, Home, Salvage, Unsaved, Why};
+use lfs_place::{Lines, PlacedPath, chain_line_at, chain_of};
 use lfs_survey::{EntryPlace, Place, Survey, chain_at};
 use std::alloc::{AllocError, Global};
 
