@@ -3,8 +3,7 @@
 use crate::packing::{attributes, rows};
 use lfs_block::{Image, geometry_ok};
 use lfs_fs::mount;
-use lfs_pack::{PackRow, pack};
-use lfs_repack::{pack_rows, source_rows};
+use lfs_pack::{PackRow, pack, pack_rows, source_rows};
 use std::alloc::Global;
 
 // the bytes of an image of 8 blocks of 512 bytes of rows

@@ -8,8 +8,8 @@ use Rattle.lfs_command.specs.declared.refusal.Refusal.TheVariants.{Memory}
 use Rattle.lfs_command.specs.Command.{SetAttr}
 use Rattle.lfs_command.specs.Verdict.{verdict}
 use Rattle.lfs_command.specs.Planned.{CarriesOut}
-use Rattle.lfs_build.specs.declared.new_volume.NewVolume.{NewVolume}
-use Rattle.lfs_build.specs.NewVolumes.{RefusesRootAttribute, SetsRootAttribute}
+use Rattle.lfs_pack.specs.declared.new_volume.NewVolume.{NewVolume}
+use Rattle.lfs_pack.specs.NewVolumes.{RefusesRootAttribute, SetsRootAttribute}
 use Rattle.lfs_pack.specs.Packed.{setting}
 use Rattle.lfs_pack.specs.RowsAdded.{IsBareAt, RefusesAll, SetsAll}
 use Rattle.lfs_pack.proofs.LedOn.{one_stopped, stopped_then}

@@ -5,12 +5,12 @@ use Rattle.lfs_fs.specs.Directory.{Directory, entries}
 use Rattle.lfs_fs.specs.Outlined.{outlined}
 use Rattle.lfs_fs.specs.Pair.{root}
 use Rattle.lfs_fs.specs.Volume.{Volume}
-use Rattle.lfs_build.specs.declared.new_volume.NewVolume.{NewVolume}
-use Rattle.lfs_build.specs.declared.open_directory.OpenDirectory.{OpenDirectory}
-use Rattle.lfs_build.specs.Built.{IsBuilt}
-use Rattle.lfs_build.specs.NewVolumes.{IsAt, IsBare, TakesMore}
-use Rattle.lfs_build.specs.Opened.{IsWeighed, opened}
-use Rattle.lfs_build.specs.Rooted.{bare_directory}
+use Rattle.lfs_pack.specs.declared.new_volume.NewVolume.{NewVolume}
+use Rattle.lfs_pack.specs.declared.open_directory.OpenDirectory.{OpenDirectory}
+use Rattle.lfs_pack.specs.Built.{IsBuilt}
+use Rattle.lfs_pack.specs.NewVolumes.{IsAt, IsBare, TakesMore}
+use Rattle.lfs_pack.specs.Opened.{IsWeighed, opened}
+use Rattle.lfs_pack.specs.Rooted.{bare_directory}
 
 pub bare_takes_more : (t : NewVolume) (v : Volume) → IsBare t v → TakesMore t [] v
 bare_takes_more t v bare = record {

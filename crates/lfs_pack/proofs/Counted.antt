@@ -29,7 +29,7 @@ use Rattle.lfs_law.specs.Lengthened.{with_count}
 use Rattle.lfs_law.proofs.CarriedFollow.{CarriedFollow}
 use Rattle.lfs_law.proofs.FrugalPlans.{enough_free}
 use Rattle.lfs_law.proofs.OneWay.{IsLeftBy, left_by, one_left}
-use Rattle.lfs_ends.specs.Lead.{Lead}
+use Rattle.lfs_pack.specs.Lead.{Lead}
 use Rattle.lfs_pack.proofs.CountsKept.{KeepsCount}
 
 -- ---- a command that leaves the count

@@ -7,7 +7,7 @@ use Rattle.lfs_fs.specs.Volume.{Volume}
 use Rattle.lfs_command.specs.Command.{Command}
 use Rattle.lfs_command.specs.Growth.{count_after}
 use Rattle.lfs_law.proofs.CarriedFollow.{CarriedFollow}
-use Rattle.lfs_ends.specs.Lead.{Lead}
+use Rattle.lfs_pack.specs.Lead.{Lead}
 use Rattle.lfs_pack.specs.Packed.{Packed, commands, making, row_commands, setting}
 
 -- a command leaves as many blocks as there are

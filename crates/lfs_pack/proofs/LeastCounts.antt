@@ -8,9 +8,9 @@ use Rattle.lfs_fs.specs.Formatted.{empty_volume}
 use Rattle.lfs_fs.specs.Path.{Path}
 use Rattle.lfs_fs.specs.Volume.{Volume}
 use Rattle.lfs_law.proofs.CarriedFollow.{CarriedFollow}
-use Rattle.lfs_build.specs.declared.new_volume.NewVolume.{NewVolume}
-use Rattle.lfs_build.specs.NewVolumes.{IsAt, UsesFirst}
-use Rattle.lfs_ends.specs.Lead.{Lead}
+use Rattle.lfs_pack.specs.declared.new_volume.NewVolume.{NewVolume}
+use Rattle.lfs_pack.specs.NewVolumes.{IsAt, UsesFirst}
+use Rattle.lfs_pack.specs.Lead.{Lead}
 use Rattle.lfs_pack.specs.declared.pack_row.PackRow.{PackRow}
 use Rattle.lfs_pack.specs.Least.{IsLeastCount, most_count}
 use Rattle.lfs_pack.specs.Packed.{AreRowsOf, Packed, commands}

@@ -20,8 +20,8 @@ use Rattle.lfs_law.proofs.PathMapLemmas.{same_path_decides, same_path_or_not, pu
 use Rattle.lfs_law.proofs.CarriedFollow.{CarriedFollow}
 use Rattle.lfs_pack.specs.Packed.{Packed, packed_node, packed_at, making, setting, row_commands, commands}
 use Rattle.lfs_pack.specs.Packed.{PackedRise, KindsRise}
-use Rattle.lfs_ends.specs.Lead.{Lead}
-use Rattle.lfs_build.proofs.OpenedLemmas.{if_true}
+use Rattle.lfs_pack.specs.Lead.{Lead}
+use Rattle.lfs_pack.proofs.OpenedLemmas.{if_true}
 use Rattle.lfs_pack.specs.Laws.{LedToTheirMap}
 
 -- ---- maps

@@ -4,7 +4,7 @@ use Rattle.lfs_fs.specs.Volume.{Volume}
 use Rattle.lfs_command.specs.declared.refusal.Refusal.{Refusal}
 use Rattle.lfs_command.specs.Command.{Command}
 use Rattle.lfs_command.specs.Verdict.{verdict}
-use Rattle.lfs_ends.specs.Lead.{Lead}
+use Rattle.lfs_pack.specs.Lead.{Lead}
 use Rattle.lfs_pack.specs.RowsAdded.{AreStopped}
 
 pub led_on : (cs ds : List Command) (v u w : Volume) → Lead cs v u → Lead ds u w → Lead (cs ++ ds) v w

@@ -25,7 +25,7 @@ use Rattle.lfs_law.specs.Laws.{UsesAfter}
 use Rattle.lfs_law.proofs.CarriedFollow.{CarriedFollow}
 use Rattle.lfs_law.proofs.Cleans.{clean_uses_all}
 use Rattle.lfs_law.proofs.LeastTaken.{least_taken}
-use Rattle.lfs_ends.specs.Lead.{Lead}
+use Rattle.lfs_pack.specs.Lead.{Lead}
 use Rattle.lfs_pack.specs.Packed.{ArePackable, KindsRise, Packed, PackedRise, commands, making, row_commands, setting}
 use Rattle.lfs_pack.proofs.LedLemmas.{AllCanStand, CanStand, all_new_stand, lacking, others_stand, root_stands, row_led, split_led, with_row}
 

@@ -16,13 +16,13 @@ use Rattle.lfs_command.specs.declared.refusal.Refusal.TheVariants.{Memory}
 use Rattle.lfs_command.specs.Command.{Command}
 use Rattle.lfs_law.proofs.CarriedFollow.{CarriedFollow}
 use Rattle.lfs_edit.specs.Formatted.{disk_with}
-use Rattle.lfs_new.specs.NewImages.{AreFilled}
-use Rattle.lfs_ends.specs.Lead.{Lead}
-use Rattle.lfs_build.specs.declared.new_volume.NewVolume.{NewVolume}
+use Rattle.lfs_pack.specs.NewImages.{AreFilled}
+use Rattle.lfs_pack.specs.Lead.{Lead}
+use Rattle.lfs_pack.specs.declared.new_volume.NewVolume.{NewVolume}
 use Rattle.lfs_pack.specs.declared.pack_row.PackRow.{PackRow}
 use Rattle.lfs_pack.specs.Laws.{LedToTheirMap}
-use Rattle.lfs_build.specs.Finished.{AreErasedBeside, IsNewImageOf}
-use Rattle.lfs_build.specs.NewVolumes.{IsAt, IsBare}
+use Rattle.lfs_pack.specs.Finished.{AreErasedBeside, IsNewImageOf}
+use Rattle.lfs_pack.specs.NewVolumes.{IsAt, IsBare}
 use Rattle.lfs_pack.specs.Packed.{AreRowsOf, IsRowOf, Packed, attribute_of, commands, making, row_commands, setting}
 use Rattle.lfs_pack.specs.Packing.{IsNotPacked, IsPacked, RefusesPack, RefusesRow}
 use Rattle.lfs_pack.specs.RowsAdded.{AddsRows, AreStopped, IsBareAt, IsRowStopped, PacksVolume, RefusesAll, RefusesRows, SetsAll}

@@ -3,9 +3,9 @@ use Rattle.std.proofs.Common.{ℕ, List, Option, refl, subst, inl, inr, map}
 use Rattle.lfs_fs.specs.Path.{Path, IsPathText, TextsSpellOnePath}
 use Rattle.lfs_fs.specs.Volume.{Volume}
 use Rattle.lfs_command.specs.declared.refusal.Refusal.{Refusal}
-use Rattle.lfs_build.specs.declared.new_volume.NewVolume.{NewVolume}
+use Rattle.lfs_pack.specs.declared.new_volume.NewVolume.{NewVolume}
 use Rattle.lfs_pack.specs.declared.pack_row.PackRow.{PackRow}
-use Rattle.lfs_build.specs.NewVolumes.{HasEntry, IsAt}
+use Rattle.lfs_pack.specs.NewVolumes.{HasEntry, IsAt}
 use Rattle.lfs_pack.specs.Packed.{IsRowOf, Packed, attribute_of, making, row_bytes, row_commands, setting}
 use Rattle.lfs_pack.specs.RowsAdded.{AddsRow, AreStopped, Places, RefusesAdding, RefusesAll, RefusesPlace, SetsAll}
 use Rattle.lfs_pack.proofs.LedOn.{led_on, stopped_first, stopped_then}

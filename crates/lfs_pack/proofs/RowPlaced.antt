@@ -8,9 +8,9 @@ use Rattle.lfs_fs.specs.Row.{path_precedes}
 use Rattle.lfs_command.specs.declared.refusal.Refusal.{Refusal}
 use Rattle.lfs_command.specs.declared.refusal.Refusal.TheVariants.{BadPath, Memory}
 use Rattle.lfs_command.specs.Command.{Command, Mkdir, Put}
-use Rattle.lfs_ends.specs.Lead.{Lead}
-use Rattle.lfs_build.specs.declared.new_volume.NewVolume.{NewVolume}
-use Rattle.lfs_build.specs.NewVolumes.{PutsRow, RefusesRow}
+use Rattle.lfs_pack.specs.Lead.{Lead}
+use Rattle.lfs_pack.specs.declared.new_volume.NewVolume.{NewVolume}
+use Rattle.lfs_pack.specs.NewVolumes.{PutsRow, RefusesRow}
 use Rattle.lfs_pack.specs.Packed.{making}
 use Rattle.lfs_pack.specs.RowsAdded.{AreStopped, Places, RefusesPlace}
 use Rattle.lfs_pack.proofs.LedOn.{one_stopped}

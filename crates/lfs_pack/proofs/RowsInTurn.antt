@@ -6,10 +6,10 @@ use Rattle.lfs_fs.specs.Path.{Path, TextsSpellOnePath}
 use Rattle.lfs_fs.specs.Row.{path_precedes}
 use Rattle.lfs_fs.specs.Volume.{Volume}
 use Rattle.lfs_command.specs.declared.refusal.Refusal.{Refusal}
-use Rattle.lfs_ends.specs.Lead.{Lead}
-use Rattle.lfs_build.specs.declared.new_volume.NewVolume.{NewVolume}
+use Rattle.lfs_pack.specs.Lead.{Lead}
+use Rattle.lfs_pack.specs.declared.new_volume.NewVolume.{NewVolume}
 use Rattle.lfs_pack.specs.declared.pack_row.PackRow.{PackRow}
-use Rattle.lfs_build.specs.NewVolumes.{IsAt}
+use Rattle.lfs_pack.specs.NewVolumes.{IsAt}
 use Rattle.lfs_pack.specs.Packed.{IsRowOf, Packed, PackedRise, commands, row_commands}
 use Rattle.lfs_pack.specs.RowsAdded.{AddsRow, AddsRows, IsRowStopped, RefusesAdding, RefusesRows}
 use Rattle.lfs_pack.proofs.LedOn.{led_on}

@@ -11,7 +11,7 @@ use Rattle.lfs_command.specs.declared.refusal.Refusal.TheVariants.{Memory}
 use Rattle.lfs_pack.specs.Least.{IsLeastCount}
 use Rattle.lfs_pack.specs.Packed.{Packed, ArePackable, commands, packed_at}
 use Rattle.lfs_pack.specs.Packing.{IsPacked, RefusesPack}
-use Rattle.lfs_ends.specs.Lead.{Lead}
+use Rattle.lfs_pack.specs.Lead.{Lead}
 
 -- the commands of rows that can be packed lead from a new volume to one whose tree is the map of the rows
 abbrev pub LedToTheirMap : Type 0

@@ -14,10 +14,10 @@ use Rattle.lfs_command.specs.declared.refusal.Refusal.TheVariants.{Memory}
 use Rattle.lfs_command.specs.Command.{Command}
 use Rattle.lfs_command.specs.Verdict.{verdict}
 use Rattle.lfs_edit.specs.Formatted.{disk_with}
-use Rattle.lfs_new.specs.NewImages.{AreFilled}
-use Rattle.lfs_build.specs.Finished.{AreErasedBeside}
+use Rattle.lfs_pack.specs.NewImages.{AreFilled}
+use Rattle.lfs_pack.specs.Finished.{AreErasedBeside}
 use Rattle.lfs_pack.specs.Packed.{Packed, commands, packed_at}
-use Rattle.lfs_ends.specs.Lead.{Lead}
+use Rattle.lfs_pack.specs.Lead.{Lead}
 use Rattle.lfs_pack.specs.RowsAdded.{IsRowStopped}
 
 -- The bytes are an image with these limits, whose tree is the map of the rows. The volume is the one that the commands of the rows lead to

@@ -11,9 +11,9 @@ use Rattle.lfs_command.specs.declared.refusal.Refusal.{Refusal}
 use Rattle.lfs_command.specs.declared.refusal.Refusal.TheVariants.{Memory}
 use Rattle.lfs_command.specs.Command.{Command}
 use Rattle.lfs_command.specs.Verdict.{verdict}
-use Rattle.lfs_ends.specs.Lead.{Lead}
-use Rattle.lfs_build.specs.declared.new_volume.NewVolume.{NewVolume}
-use Rattle.lfs_build.specs.NewVolumes.{HasEntry, IsAt, IsBare}
+use Rattle.lfs_pack.specs.Lead.{Lead}
+use Rattle.lfs_pack.specs.declared.new_volume.NewVolume.{NewVolume}
+use Rattle.lfs_pack.specs.NewVolumes.{HasEntry, IsAt, IsBare}
 use Rattle.lfs_pack.specs.declared.pack_row.PackRow.{PackRow}
 use Rattle.lfs_pack.specs.Packed.{AreRowsOf, IsRowOf, Packed, PackedRise, commands, making, row_commands, setting}
 

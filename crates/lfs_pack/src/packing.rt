@@ -6,16 +6,16 @@ ghost use Rattle.lfs_fs.specs.Limits.{new_limits};
 ghost use Rattle.lfs_fs.specs.Path.{Path};
 ghost use Rattle.lfs_fs.specs.Superblock.{IsLimits};
 ghost use Rattle.lfs_fs.specs.Volume.{Volume};
-ghost use Rattle.lfs_build.specs.NewVolumes.{HasEntry, IsAt, IsBare};
+ghost use Rattle.lfs_pack.specs.NewVolumes.{HasEntry, IsAt, IsBare};
 ghost use Rattle.lfs_pack.specs.RowsAdded.{AddsRow, AddsRows, IsBareAt, PacksVolume, Places, SetsAll};
 ghost use Rattle.lfs_pack.specs.RowsAdded.{RefusesAdding, RefusesAll, RefusesPlace, RefusesRows};
 ghost use Rattle.lfs_pack.specs.Packed.{AreRowsOf, Packed, attribute_of, row_bytes};
 ghost use Rattle.lfs_pack.specs.Packing.{IsPacked, RefusesPack, RefusesRow};
 
+use crate::new_volume::NewVolume;
 use crate::pack_row::PackRow;
 use crate::packing_laws::packing_laws;
 use lfs_block::Blocks;
-use lfs_build::NewVolume;
 use lfs_command::{Refusal, names_of};
 use lfs_fs::{Limits, NEW_LIMITS};
 use std::alloc::Global;

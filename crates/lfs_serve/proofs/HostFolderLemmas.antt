@@ -18,7 +18,7 @@ use Rattle.lfs_host.specs.HostTree.{HostTree}
 use Rattle.lfs_host.specs.Scene.{Scene}
 use Rattle.lfs_pack.specs.declared.pack_row.PackRow.{PackRow}
 use Rattle.lfs_pack.specs.Packed.{ArePackable, BeginAtRoot, IsRowOf, KindsRise, Packed, PackedRise}
-use Rattle.lfs_repack.specs.RowText.{RowText, pack_text}
+use Rattle.lfs_pack.specs.RowText.{RowText, pack_text}
 use Rattle.lfs_serve.specs.HostFolder.{PacksFolder, ReadsNoFolder, folder_text, packed_of}
 
 -- ---- rows of paths can be packed

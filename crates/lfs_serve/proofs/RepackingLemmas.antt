@@ -5,7 +5,7 @@ use Rattle.lfs_exchange.specs.Handing.{most_image}
 use Rattle.lfs_host.specs.Files.{Files, ReadsFrom}
 use Rattle.lfs_host.specs.Scene.{Scene}
 use Rattle.lfs_pack.specs.declared.pack_row.PackRow.{PackRow}
-use Rattle.lfs_repack.specs.RowText.{pack_text, source_text}
+use Rattle.lfs_pack.specs.RowText.{pack_text, source_text}
 use Rattle.lfs_request.specs.declared.fault.Fault.{Fault}
 use Rattle.lfs_request.specs.SaidLimits.{limits_or}
 use Rattle.lfs_request.specs.View.{start_of}

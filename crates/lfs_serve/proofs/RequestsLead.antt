@@ -40,7 +40,7 @@ use Rattle.lfs_host.specs.Scene.{KeepsScene, Scene, WasRefused, unknown}
 use Rattle.lfs_request.specs.declared.task.Task.{Task}
 use Rattle.lfs_request.specs.declared.task.Task.TheVariants as task
 use Rattle.lfs_serve.specs.HostFolder.{packed_of}
-use Rattle.lfs_repack.specs.Repacked.{all_packed}
+use Rattle.lfs_pack.specs.Repacked.{all_packed}
 use Rattle.lfs_serve.specs.ReadBy.{IsReadBy}
 use Rattle.lfs_serve.specs.Program.{BecomesStep, EndsStep, EndsTask, IsNotBegun, StopsStep, manner_of}
 use Rattle.lfs_serve.specs.Requests.{FilesDenote, IsServedOn, IsTorn, RequestGoes, RequestsLeadOn, Served, TaskGoes, TaskGoesBy}

@@ -13,7 +13,7 @@ use Rattle.lfs_host.specs.HostTree.{HostTree}
 use Rattle.lfs_host.specs.Scene.{Scene}
 use Rattle.lfs_pack.specs.declared.pack_row.PackRow.{PackRow}
 use Rattle.lfs_pack.specs.Packed.{AreRowsOf, Packed}
-use Rattle.lfs_repack.specs.RowText.{RowText}
+use Rattle.lfs_pack.specs.RowText.{RowText}
 
 -- ---- what is read
 

@@ -6,7 +6,7 @@ use Rattle.lfs_fs.specs.Cause.{HasCause}
 use Rattle.lfs_fs.specs.Mounted.{MountedValue, IsMountOf}
 use Rattle.lfs_fs.specs.Superblock.{IsLimits}
 use Rattle.lfs_host.specs.Files.{Files}
-use Rattle.lfs_repack.specs.Copies.{AreCopies}
+use Rattle.lfs_pack.specs.Copies.{AreCopies}
 use Rattle.lfs_request.specs.declared.fault.Fault.{Fault}
 use Rattle.lfs_request.specs.declared.fault.Fault.TheVariants.{Other}
 use Rattle.lfs_request.specs.declared.other_fault.OtherFault.TheVariants as other

@@ -9,7 +9,7 @@ use Rattle.lfs_host.specs.Files.{Files, ReadsFrom}
 use Rattle.lfs_host.specs.Scene.{Scene}
 use Rattle.lfs_pack.specs.Packed.{AreRowsOf}
 use Rattle.lfs_pack.specs.declared.pack_row.PackRow.{PackRow}
-use Rattle.lfs_repack.specs.Repacked.{all_packed}
+use Rattle.lfs_pack.specs.Repacked.{all_packed}
 use Rattle.lfs_request.specs.SaidLimits.{limits_or}
 use Rattle.lfs_request.specs.View.{start_of}
 use Rattle.lfs_request.specs.declared.extent.Extent.{Extent}

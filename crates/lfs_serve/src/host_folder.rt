@@ -4,7 +4,7 @@ ghost use Rattle.std.specs.Prelude.{◌≡◌, IfErr, IfOk, map};
 ghost use Rattle.lfs_folder.specs.FolderRows.{IsFolder};
 ghost use Rattle.lfs_fs.specs.Limits.{most_file};
 ghost use Rattle.lfs_host.specs.Scene.{KeepsAll};
-ghost use Rattle.lfs_repack.specs.RowText.{pack_text};
+ghost use Rattle.lfs_pack.specs.RowText.{pack_text};
 ghost use Rattle.lfs_serve.specs.HostFolder.{ReadsNoFolder, fault_of_folder, folder_text};
 
 use lfs_command::Refusal;

@@ -14,7 +14,7 @@ use lfs_block::{Blocks, Image, MountFault};
 use lfs_exchange::read_other;
 use lfs_fs::{Limits, Mounted, mount, outlines_are_sound};
 use lfs_host::Host;
-use lfs_repack::{SourceRow, source_rows};
+use lfs_pack::{SourceRow, source_rows};
 use lfs_report::{Beside, Sight, Stop, stop_of_source, stop_of_source_bytes};
 use lfs_request::SourceImage;
 use std::alloc::{AllocError, Global};

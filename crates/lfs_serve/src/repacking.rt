@@ -11,7 +11,7 @@ use crate::packing::told;
 use crate::stepping::stepped;
 use lfs_exchange::{StepKind, taken_up};
 use lfs_host::Host;
-use lfs_repack::pack_rows;
+use lfs_pack::pack_rows;
 use lfs_report::{Beside, Stop};
 use lfs_request::{Extent, Request, SaidLimits, SourceImage};
 use lfs_step::Step;

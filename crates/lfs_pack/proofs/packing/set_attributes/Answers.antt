@@ -1,7 +1,7 @@
 -- One attribute more is set behind those before it.
 use Rattle.std.proofs.Common.{◌+◌, ℕ, List, drop, map, subst, arith}
 use Rattle.std.proofs.lemmas.Result.{err_from_is_err_and}
-use Rattle.lfs_build.specs.NewVolumes.{HasEntry, RefusesAttribute, SetsAttribute}
+use Rattle.lfs_pack.specs.NewVolumes.{HasEntry, RefusesAttribute, SetsAttribute}
 use Rattle.lfs_pack.specs.Packed.{attribute_of}
 use Rattle.lfs_pack.proofs.AttributesInTurn.{at_end, one_more, one_refused}
 use Rattle.lfs_pack.proofs.ItemsInTurn.{map_all, map_one}

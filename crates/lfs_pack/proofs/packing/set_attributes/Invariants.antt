@@ -1,6 +1,6 @@
 -- The attributes so far are set.
 use Rattle.std.proofs.Common.{drop, map}
-use Rattle.lfs_build.specs.NewVolumes.{HasEntry}
+use Rattle.lfs_pack.specs.NewVolumes.{HasEntry}
 use Rattle.lfs_pack.specs.Packed.{attribute_of}
 use Rattle.lfs_pack.proofs.AttributesInTurn.{AreBeingSet}
 use Rattle.lfs_pack.proofs.packing.set_attributes.Given as goal

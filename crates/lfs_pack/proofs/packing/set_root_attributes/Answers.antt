@@ -1,7 +1,7 @@
 -- One attribute more is set behind those before it.
 use Rattle.std.proofs.Common.{◌+◌, ℕ, List, drop, map, subst, arith}
 use Rattle.std.proofs.lemmas.Result.{err_from_is_err_and}
-use Rattle.lfs_build.specs.NewVolumes.{RefusesRootAttribute, SetsRootAttribute}
+use Rattle.lfs_pack.specs.NewVolumes.{RefusesRootAttribute, SetsRootAttribute}
 use Rattle.lfs_pack.specs.Packed.{attribute_of}
 use Rattle.lfs_pack.specs.RowsAdded.{IsBareAt}
 use Rattle.lfs_pack.proofs.AttributesInTurn.{at_end, one_more, one_refused, root_refuses, root_sets}

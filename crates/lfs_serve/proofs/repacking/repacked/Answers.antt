@@ -4,7 +4,7 @@ use Rattle.std.proofs.lemmas.Result.{err_from_is_err_and}
 use Rattle.lfs_command.specs.declared.refusal.Refusal.TheVariants.{Memory}
 use Rattle.lfs_exchange.specs.declared.step_kind.StepKind.TheVariants.{Makes}
 use Rattle.lfs_host.specs.Scene.{Scene}
-use Rattle.lfs_repack.specs.RowText.{pack_text, source_text}
+use Rattle.lfs_pack.specs.RowText.{pack_text, source_text}
 use Rattle.lfs_report.specs.Stop.{stopped_by}
 use Rattle.lfs_request.specs.declared.fault.Fault.TheVariants.{Refused}
 use Rattle.lfs_step.specs.declared.step.Step.TheVariants.{Pack}

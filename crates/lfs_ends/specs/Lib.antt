@@ -1,9 +1,0 @@
-pub mod Ending
-pub mod EndEdits
-pub mod EndCuts
-pub mod Way
-pub mod WayLaws
-pub mod Lead
-pub mod OneMore
-pub mod AtTheEnd
-pub mod EndLaws

@@ -1,4 +1,0 @@
-pub mod ChangesMade
-pub mod NewImagesHeld
-pub mod PairsFilled
-pub mod SoundOutlinesFit

@@ -1,0 +1,82 @@
+-- The contents of a built volume's files are there in an image that leaves its blocks, and those of one that a command leaves.
+use Rattle.std.proofs.Common.{ℕ, List, sym, subst, map, arith}
+use Rattle.std.specs.Prelude.{All, Contains}
+use Rattle.std.proofs.lemmas.List.Elements.{All-contains, All-contains_itself, All-map, All-weaker}
+use Rattle.std.proofs.lemmas.List.Folds.{flat_map-map}
+use Rattle.lfs_block.specs.Disk.{Disk, IsDisk}
+use Rattle.lfs_file.specs.Laws.{ContentStays, FoundStay}
+use Rattle.lfs_meta.specs.RunLaws.{RunsJoin}
+use Rattle.lfs_fs.specs.Directory.{Directory, Part, entries, parts, thread}
+use Rattle.lfs_fs.specs.Entry.{Body, Entry}
+use Rattle.lfs_fs.specs.Reading.{Reading, reading_of}
+use Rattle.lfs_fs.specs.Sound.{IsSound}
+use Rattle.lfs_fs.specs.Thread.{Link, links}
+use Rattle.lfs_fs.specs.Volume.{Volume}
+use Rattle.lfs_command.specs.Clean.{cleaned}
+use Rattle.lfs_command.specs.Command.{Command}
+use Rattle.lfs_command.specs.Cut.{cut}
+use Rattle.lfs_command.specs.DirectoryEdit.{each_part}
+use Rattle.lfs_command.specs.Edited.{edited}
+use Rattle.lfs_command.specs.Planned.{CarriesOut}
+use Rattle.lfs_law.specs.OutlineLaws.{IsThere}
+use Rattle.lfs_law.proofs.KnownBodies.{Bodies, OfBodies, OfNew, by_parts, cut_bodies, edited_bodies, link_has}
+use Rattle.lfs_law.proofs.WrittenLemmas.{chain_by, parts_of_links}
+use Rattle.lfs_law.proofs.CommandsWritten.{body_stays}
+use Rattle.lfs_pack.specs.OneMore.{AreFreeFrom}
+use Rattle.lfs_pack.specs.Built.{AreThere}
+use Rattle.lfs_pack.proofs.Leaving.{Leaves}
+use Rattle.lfs_pack.proofs.UsedBefore.{chain_before}
+
+-- ---- bodies that are there
+
+-- by parts
+parts_there : (d : Disk) (v : Volume) → AreThere d v → All (λ p. OfBodies (IsThere (reading_of d)) p.entries) (thread v.directories)
+parts_there d v there =
+    subst (All (λ (p : Part). OfBodies (IsThere (reading_of d)) p.entries)) (parts_of_links v.directories)
+    (All-map (λ (p : Part). OfBodies (IsThere (reading_of d)) p.entries) (λ (l : Link). l.part) (links v.directories)
+    (All-weaker (Contains (links v.directories)) (λ (l : Link). OfBodies (IsThere (reading_of d)) l.part.entries)
+    (λ l inside. All-weaker (Contains l.part.entries) (λ (x : Entry). IsThere (reading_of d) x.body) (there l inside) l.part.entries
+    (All-contains_itself l.part.entries))
+    (links v.directories) (All-contains_itself (links v.directories))))
+
+-- the blocks of the volume come before those that differ
+pub bodies_kept : FoundStay → ContentStays → (d f : Disk) (next before : ℕ) (v : Volume) → IsDisk d → IsSound v → AreFreeFrom v next
+    → Leaves d next before f → AreThere d v → Bodies (IsThere (reading_of f)) v.directories
+bodies_kept found content d f next before v disk sound free leaves there =
+    by_parts (IsThere (reading_of f)) v.directories
+    (All-weaker (Contains (thread v.directories)) (λ (p : Part). OfBodies (IsThere (reading_of f)) p.entries) in_part
+    (thread v.directories) (All-contains_itself (thread v.directories)))
+  where
+    was : (p : Part) → Contains (thread v.directories) p → (x : Entry) → Contains p.entries x → IsThere (reading_of d) x.body
+    was p at x inside =
+        All-contains (λ (y : Entry). IsThere (reading_of d) y.body) p.entries x
+        (All-contains (λ (q : Part). OfBodies (IsThere (reading_of d)) q.entries) (thread v.directories) p (parts_there d v there) at) inside
+
+    in_part : (p : Part) → Contains (thread v.directories) p → OfBodies (IsThere (reading_of f)) p.entries
+    in_part p at =
+        All-weaker (Contains p.entries) (λ (x : Entry). IsThere (reading_of f) x.body)
+        (λ x inside. body_stays (reading_of d) (reading_of f) x.body
+        (chain_by found content d f disk x.body leaves.disk.size (omega (arith, leaves.disk.count))
+        (λ b used. leaves.ahead b (chain_before v next sound free p at x inside b used)))
+        (was p at x inside))
+        p.entries (All-contains_itself p.entries)
+
+-- ---- what a command leaves
+
+-- marks taken off
+clean_bodies : (P : Body → Type 0) (ds : List Directory) → Bodies P ds → Bodies P (map (each_part cleaned) ds)
+clean_bodies P ds all =
+    All-map (λ (d : Directory). OfBodies P (entries d)) (each_part cleaned) ds
+    (All-weaker (λ (d : Directory). OfBodies P (entries d)) (λ (d : Directory). OfBodies P (entries (each_part cleaned d)))
+    (λ d has. subst (OfBodies P) (sym (flat_map-map (λ (p : Part). p.entries) cleaned (parts d))) has) ds all)
+
+-- what is there of the old bodies and of a file's new contents is there of those that a command leaves
+pub carried_there : RunsJoin Entry → (r : Reading) (v : Volume) (c : Command) (w : Volume) (carries : CarriesOut c v w)
+    → OfNew (IsThere r) v c carries.supplies → Bodies (IsThere r) v.directories
+    → (l : Link) → Contains (links w.directories) l → (x : Entry) → Contains l.part.entries x → IsThere r x.body
+carried_there join r v c w carries new all =
+    link_has (IsThere r) w.directories
+    (subst (λ (x : Volume). Bodies (IsThere r) x.directories) (sym carries.is)
+    (clean_bodies (IsThere r) (cut carries.chosen (edited v c carries.supplies)).directories
+    (cut_bodies join (IsThere r) carries.chosen (edited v c carries.supplies) carries.pairs.enough
+    (edited_bodies (IsThere r) v c carries.supplies (λ pair. tt) new all))))

@@ -1,0 +1,32 @@
+//! A row of an image's tree, with all that it holds in hand.
+
+use crate::pack_row::PackRow;
+
+/// A row of an image's tree, copied: the text of its path, a file's contents, and its attributes.
+///
+/// Source: own.
+#[derive(Drop)]
+pub struct SourceRow {
+    /// The text of the path.
+    pub path: Vec<u8>,
+    /// A file's contents; a directory has none.
+    pub bytes: Option<Vec<u8>>,
+    /// The attributes, by kind, with their values.
+    pub attributes: Vec<(u8, Vec<u8>)>,
+}
+
+impl SourceRow {
+    ghost use Rattle.std.specs.Prelude.{◌≡◌};
+    ghost use Rattle.lfs_pack.specs.RowText.{pack_text, source_text};
+
+    /// The row as it is packed. Takes no memory.
+    pub(crate) fn pack_row(&self) -> PackRow<'_>
+        ensures { pack_text result ≡ source_text self.now }
+    {
+        PackRow {
+            path: self.path.as_slice(),
+            bytes: self.bytes.as_deref(),
+            attributes: self.attributes.as_slice(),
+        }
+    }
+}

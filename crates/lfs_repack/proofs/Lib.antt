@@ -1,4 +1,0 @@
-pub mod TreePacked
-pub mod RowsPackable
-pub mod CopyingLemmas
-pub mod TextLemmas

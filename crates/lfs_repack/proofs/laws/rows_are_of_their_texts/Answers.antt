@@ -1,5 +1,0 @@
-use Rattle.lfs_repack.proofs.TextLemmas.{rows_are_of_their_texts}
-use Rattle.lfs_repack.proofs.laws.rows_are_of_their_texts.Goals as goal
-
-pub returns : goal.returns
-returns c = rows_are_of_their_texts

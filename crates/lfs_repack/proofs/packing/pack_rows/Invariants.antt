@@ -1,9 +1,0 @@
--- The rows so far are packed.
-use Rattle.std.proofs.Common.{drop}
-use Rattle.lfs_repack.proofs.TextLemmas.{ArePackedTo}
-use Rattle.lfs_repack.proofs.packing.pack_rows.Given as goal
-
-abbrev pub invariant-each : goal.invariant-each
-invariant-each l = record {
-  packed : ArePackedTo l.copied (drop l.row-index l.copied) l.rows.items;
-}

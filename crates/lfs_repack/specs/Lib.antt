@@ -1,4 +1,0 @@
-pub mod Repacked
-pub mod RowText
-pub mod Copies
-pub mod Laws
