@@ -1,3 +1,7 @@
+pub mod ContentsLemmas
+pub mod BetweenLemmas
+pub mod TellingLemmas
+pub mod LogLemmas
 pub mod OutcomeLemmas
 pub mod SayingLemmas
 pub mod ListingLemmas

@@ -10,11 +10,11 @@ use Rattle.lfs_fs.specs.Mounted.{MountedValue, IsMountOf}
 use Rattle.lfs_history.specs.declared.open_fault.OpenFault.{OpenFault}
 use Rattle.lfs_history.specs.History.{History, fresh_history}
 use Rattle.lfs_history.specs.Opening.{Opens}
-use Rattle.lfs_log.specs.Log.{IsLog}
 use Rattle.lfs_request.specs.declared.fault.Fault.{Fault}
 use Rattle.lfs_request.specs.declared.fault.Fault.TheVariants as fault
 use Rattle.lfs_change.proofs.ChangeLemmas.{opened_denotes}
 use Rattle.lfs_step.proofs.HistoriesLeft.{fresh_is}
+use Rattle.lfs_step.specs.Log.{IsLog}
 use Rattle.lfs_step.specs.Recounting.{IsRecount, RefusesRecount}
 
 -- ---- the text

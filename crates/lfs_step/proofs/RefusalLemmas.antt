@@ -6,12 +6,12 @@ use Rattle.lfs_fs.specs.declared.limits.Limits.{Limits}
 use Rattle.lfs_fs.specs.Mounted.{MountedValue, IsMountOf}
 use Rattle.lfs_command.specs.declared.refusal.Refusal.{Refusal}
 use Rattle.lfs_command.specs.declared.refusal.Refusal.TheVariants.{Memory}
-use Rattle.lfs_contents.specs.Contents.{RefusesContents}
 use Rattle.lfs_pack.specs.declared.pack_row.PackRow.{PackRow}
 use Rattle.lfs_pack.specs.Packed.{AreRowsOf, Packed}
 use Rattle.lfs_pack.specs.Packing.{RefusesPack}
 use Rattle.lfs_request.specs.declared.fault.Fault.TheVariants.{Refused}
 use Rattle.lfs_request.specs.declared.query.Query.TheVariants.{Cat}
+use Rattle.lfs_step.specs.Contents.{RefusesContents}
 use Rattle.lfs_step.specs.Outcome.{RefusesPacking}
 use Rattle.lfs_step.specs.Query.{RefusesReport}
 

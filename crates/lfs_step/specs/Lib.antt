@@ -1,3 +1,7 @@
+pub mod Contents
+pub mod Sent
+pub mod Log
+pub mod Between
 pub mod Step
 pub mod Outcome
 pub mod Query

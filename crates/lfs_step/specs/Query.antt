@@ -6,7 +6,6 @@ use Rattle.lfs_fs.specs.Cause.{HasCause}
 use Rattle.lfs_fs.specs.Mounted.{MountedValue, IsMountOf}
 use Rattle.lfs_command.specs.declared.refusal.Refusal.{Refusal}
 use Rattle.lfs_command.specs.declared.refusal.Refusal.TheVariants.{Memory}
-use Rattle.lfs_contents.specs.Contents.{IsContents, RefusesContents}
 use Rattle.lfs_listing.specs.BlockMap.{block_map}
 use Rattle.lfs_listing.specs.BlockSums.{block_sums}
 use Rattle.lfs_listing.specs.Listing.{listing, shown_byte}
@@ -17,6 +16,7 @@ use Rattle.lfs_request.specs.declared.fault.Fault.TheVariants.{Mount, Refused, C
 use Rattle.lfs_request.specs.Query.{Question}
 use Rattle.lfs_request.specs.declared.query.Query.TheVariants.{Check, Ls, Blocks, Cat}
 use Rattle.lfs_sink.specs.Send.{SendsBeginning}
+use Rattle.lfs_step.specs.Contents.{IsContents, RefusesContents}
 use Rattle.lfs_step.specs.Summary.{summary}
 
 -- which block holds what, or in place of that how many blocks each path takes

@@ -6,11 +6,11 @@ use Rattle.lfs_fs.specs.Cause.{HasCause}
 use Rattle.lfs_command.specs.declared.refusal.Refusal.TheVariants.{Memory}
 use Rattle.lfs_history.specs.History.{History}
 use Rattle.lfs_history.specs.declared.open_fault.OpenFault.TheVariants as opening
-use Rattle.lfs_log.specs.Log.{IsLog}
 use Rattle.lfs_request.specs.declared.fault.Fault.{Fault}
 use Rattle.lfs_request.specs.declared.fault.Fault.TheVariants.{Mount, Refused, JournalFormat, JournalMismatch, JournalImage, CannotWrite}
 use Rattle.lfs_change.specs.Change.{DenotesOn, RefusesJournal}
 use Rattle.lfs_sink.specs.Send.{SendsBeginning}
+use Rattle.lfs_step.specs.Log.{IsLog}
 
 -- the text is that of the history which an image and the bytes of a journal denote
 pub record IsRecount (d : Disk) (journal text : List ℕ) : Type 0 where

@@ -13,11 +13,11 @@ ghost use Rattle.lfs_request.specs.declared.query.Query.TheVariants.{Blocks, Cat
 ghost use Rattle.lfs_step.specs.declared.step.Step.TheVariants.{Ask};
 
 use crate::comparing::compare_bytes;
+use crate::contents::send_file;
 use crate::recounting::recount;
 use crate::sending::{fault_of_listing, sent_whole};
 use crate::summary::summary;
 use lfs_block::Image;
-use lfs_contents::send_file;
 use lfs_fs::{Mounted, mount};
 use lfs_listing::{Unsent, send_block_map, send_block_sums, send_listing};
 use lfs_request::{Fault, Outcome, Place, Query};

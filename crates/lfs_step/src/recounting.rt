@@ -6,11 +6,11 @@ ghost use Rattle.lfs_change.specs.Change.{RefusesDenoting};
 ghost use Rattle.lfs_request.specs.Fault.{blames_output};
 ghost use Rattle.lfs_step.specs.Recounting.{IsRecount, RefusesRecount, SendsRecount};
 
+use crate::log::log_of;
 use crate::sending::sent_whole;
 use lfs_block::{Blocks, Image};
 use lfs_fs::mount;
 use lfs_history::OpenFault;
-use lfs_log::log_of;
 use lfs_request::Fault;
 use lfs_sink::{Sink, send};
 use std::alloc::Global;

@@ -1,3 +1,0 @@
-pub mod BetweenLemmas
-pub mod TellingLemmas
-pub mod LogLemmas

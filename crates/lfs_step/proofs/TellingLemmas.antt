@@ -1,0 +1,71 @@
+-- What is told of the images around one.
+use Rattle.std.proofs.Common.{◌≡◌, ℕ, ◌+◌, List, [], ◌∷◌, ◌++◌, ap, sym, ◌∙◌, subst, append_assoc, append-nil}
+use Rattle.std.specs.List.{AllZip}
+use Rattle.lfs_block.specs.Disk.{Disk}
+use Rattle.lfs_block.specs.Patch.{ChangeSet}
+use Rattle.lfs_fs.specs.Mounted.{MountedValue, IsMountOf}
+use Rattle.lfs_history.specs.declared.open_fault.OpenFault.{OpenFault}
+use Rattle.lfs_journal.specs.Opened.{RefusesMount, RefusesMounts}
+use Rattle.lfs_journal.proofs.OpeningLemmas.{first_refused, later_refused}
+use Rattle.lfs_listing.specs.Difference.{difference}
+use Rattle.lfs_step.specs.Between.{TellsAll, TellsOn, images_at, later_at}
+use Rattle.lfs_step.specs.Log.{change_line, log_behind, log_from}
+
+-- nothing is told behind the last image
+pub tells_none : (d : Disk) (m : MountedValue) (ps : List ChangeSet) (at done : ℕ) (old : List ℕ) → later_at d ps at ≡ []
+    → TellsOn d m ps at done old old
+tells_none d m ps at done old none = record {
+  mounts = [];
+  are = subst (λ (es : List Disk). AllZip IsMountOf es []) (sym none) tt;
+  text = sym (append-nil old) ∙ ap (λ (es : List Disk). old ++ log_behind (at + 1) done d m es []) (sym none);
+}
+
+-- a change is told, and then those behind it
+pub tells_next : (d e : Disk) (m k : MountedValue) (ps : List ChangeSet) (i j done : ℕ) (old mid new : List ℕ) → j ≡ i + 1
+    → later_at d ps i ≡ e ∷ later_at e ps j → IsMountOf e k
+    → mid ≡ old ++ change_line (i + 1) done ++ difference d m.rows e k.rows
+    → TellsOn e k ps j done mid new → TellsOn d m ps i done old new
+tells_next d e m k ps i j done old mid new next later mounts line told =
+    let es = later_at e ps j in
+    let rest = log_behind (j + 1) done e k es told.mounts in
+    let change = change_line (i + 1) done in
+    let differs = difference d m.rows e k.rows in
+    let both : mid ≡ old ++ (change ++ differs) = line ∙ append_assoc old change differs in
+    record {
+      mounts = k ∷ told.mounts;
+      are = subst (λ (ds : List Disk). AllZip IsMountOf ds (k ∷ told.mounts)) (sym later) (mounts, told.are);
+      text = told.text ∙ ap (λ (xs : List ℕ). xs ++ rest) both ∙ append_assoc old (change ++ differs) rest
+          ∙ ap (λ (n : ℕ). old ++ (change ++ differs ++ log_behind (n + 1) done e k es told.mounts)) next
+          ∙ ap (λ (ds : List Disk). old ++ log_behind (i + 1) done d m ds (k ∷ told.mounts)) (sym later);
+    }
+
+-- all are told from the oldest image on
+pub tells_first : (d : Disk) (m : MountedValue) (ps : List ChangeSet) (at done : ℕ) (old new : List ℕ) → at ≡ 0 → IsMountOf d m
+    → TellsOn d m ps 0 done old new → TellsAll d ps at done old new
+tells_first d m ps at done old new first mounts told =
+    subst (λ (n : ℕ). TellsAll d ps n done old new) (sym first)
+    (record { mounts = m ∷ told.mounts; are = (mounts, told.are); text = told.text })
+
+-- and so they are from the image before a change
+pub tells_back : (d e : Disk) (ps : List ChangeSet) (i j done : ℕ) (old new : List ℕ) → images_at e ps i ≡ images_at d ps j
+    → TellsAll e ps i done old new → TellsAll d ps j done old new
+tells_back d e ps i j done old new images told = record {
+  mounts = told.mounts;
+  are = subst (λ (es : List Disk). AllZip IsMountOf es told.mounts) images told.are;
+  text = told.text ∙ ap (λ (es : List Disk). old ++ log_from 1 done es told.mounts) images;
+}
+
+-- the image after a change isn't mounted, or one behind it
+pub next_refused : (fault : OpenFault) (d e : Disk) (ps : List ChangeSet) (i j : ℕ) → later_at d ps i ≡ e ∷ later_at e ps j
+    → RefusesMount fault e → RefusesMounts fault (later_at d ps i)
+next_refused fault d e ps i j later h = subst (RefusesMounts fault) (sym later) (first_refused fault e (later_at e ps j) h)
+
+pub behind_refused : (fault : OpenFault) (d e : Disk) (ps : List ChangeSet) (i j : ℕ) → later_at d ps i ≡ e ∷ later_at e ps j
+    → RefusesMounts fault (later_at e ps j) → RefusesMounts fault (later_at d ps i)
+behind_refused fault d e ps i j later h = subst (RefusesMounts fault) (sym later) (later_refused fault e (later_at e ps j) h)
+
+-- one behind the oldest image isn't mounted
+pub first_image_refused : (fault : OpenFault) (d : Disk) (ps : List ChangeSet) (at : ℕ) → at ≡ 0 → RefusesMounts fault (later_at d ps 0)
+    → RefusesMounts fault (images_at d ps at)
+first_image_refused fault d ps at first h =
+    subst (λ (n : ℕ). RefusesMounts fault (images_at d ps n)) (sym first) (later_refused fault d (later_at d ps 0) h)
