@@ -1,3 +1,7 @@
+pub mod HostNameLemmas
 pub mod MakingLemmas
 pub mod NameLemmas
+pub mod PathBelowLemmas
 pub mod TreeLemmas
+pub mod WalkLemmas
+pub mod WalkStepLemmas

@@ -11,7 +11,7 @@ use Rattle.lfs_fs.specs.Row.{Row}
 use Rattle.lfs_fs.specs.RowShown.{HasBlocks, RowsShowTheTree}
 use Rattle.lfs_fs.specs.Mounted.{MountedValue, IsMountOf}
 use Rattle.lfs_fs.specs.Listed.{Listed, path_after, row_after, rows_after}
-use Rattle.lfs_folder.specs.PathBelow.{host_name}
+use Rattle.lfs_extract.specs.PathBelow.{host_name}
 use Rattle.lfs_host.specs.NewFolder.{Made, Makes}
 use Rattle.lfs_extract.specs.Extracted.{Extracts, HaveTexts, IsHostText, JudgesNames, MakesFront, StayBelow, all_made, made_of}
 use Rattle.lfs_extract.specs.declared.extract_fault.ExtractFault.{ExtractFault}

@@ -10,7 +10,7 @@ use Rattle.lfs_fs.specs.Sound.{IsSound}
 use Rattle.lfs_fs.specs.Row.{Row}
 use Rattle.lfs_fs.specs.Listed.{Listed, path_after, row_after, rows_after, rows_listed}
 use Rattle.lfs_fs.proofs.ProperLemmas.{names_of_path}
-use Rattle.lfs_folder.specs.HostNames.{IsHostName}
+use Rattle.lfs_extract.specs.HostNames.{IsHostName}
 use Rattle.lfs_extract.specs.Extracted.{IsHostText, HaveTexts, HasOtherName, StayBelow}
 
 -- ---- names of rows, one after another

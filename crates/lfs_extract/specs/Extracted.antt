@@ -6,8 +6,8 @@ use Rattle.lfs_meta.specs.Name.{Name}
 use Rattle.lfs_fs.specs.Tree.{Node, File, Dir}
 use Rattle.lfs_fs.specs.Row.{Row}
 use Rattle.lfs_fs.specs.RowShown.{shown_node}
-use Rattle.lfs_folder.specs.HostNames.{IsHostName}
-use Rattle.lfs_folder.specs.PathBelow.{host_name}
+use Rattle.lfs_extract.specs.HostNames.{IsHostName}
+use Rattle.lfs_extract.specs.PathBelow.{host_name}
 use Rattle.lfs_host.specs.NewFolder.{Made, FolderMade, FileMade, Makes}
 use Rattle.lfs_extract.specs.declared.extract_fault.ExtractFault.{ExtractFault}
 use Rattle.lfs_extract.specs.declared.extract_fault.ExtractFault.TheVariants.{Memory, HostName, CannotWrite}

@@ -6,7 +6,7 @@ use Rattle.lfs_fs.specs.Path.{Path}
 use Rattle.lfs_fs.specs.Tree.{Node}
 use Rattle.lfs_fs.specs.Mounts.{Mounts}
 use Rattle.lfs_fs.specs.Ordered.{PathsRise}
-use Rattle.lfs_folder.specs.PathBelow.{host_name}
+use Rattle.lfs_extract.specs.PathBelow.{host_name}
 use Rattle.lfs_host.specs.NewFolder.{Made}
 use Rattle.lfs_extract.specs.Extracted.{made_as}
 

@@ -3,7 +3,7 @@
 ghost use Rattle.std.specs.Prelude.{◌≡◌, IfOk, OnOk, map, string_bytes};
 ghost use Rattle.std.specs.Str.{IsUtf8};
 ghost use Rattle.lfs_fs.specs.Listed.{path_after};
-ghost use Rattle.lfs_folder.specs.PathBelow.{host_name};
+ghost use Rattle.lfs_extract.specs.PathBelow.{host_name};
 
 use lfs_fs::{Row, follow};
 use std::alloc::{AllocError, Global};

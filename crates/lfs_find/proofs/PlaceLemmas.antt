@@ -2,7 +2,7 @@
 use Rattle.std.proofs.Common.{◌≡◌, ◌⊎◌, inl, inr, ℕ, ◌+◌, ◌<◌, ◌≤◌, Bool, true, false, cond, ltb, List, length, drop, Option, Some, None, ap, sym, ◌∙◌, arith}
 use Rattle.std.proofs.lemmas.Option.{cond_some, option_and_then_some}
 use Rattle.std.proofs.lemmas.Bool.{cases_order}
-use Rattle.lfs_stated.specs.Words.{superblock_words}
+use Rattle.lfs_lower.specs.Words.{superblock_words}
 use Rattle.lfs_find.specs.Place.{HoldsNone, IsFirstPlace, fits_in, place_at, place_in, place_of}
 use Rattle.lfs_find.specs.declared.place.Place.{Place}
 

@@ -2,7 +2,7 @@
 use Rattle.std.specs.Prelude.{ℕ, ◌*◌, ◌≡◌, ◌<◌, ◌≤◌, ◌&&◌, nat_le, nat_lt, Bool, List, length, drop, Option, Some, None, option_and_then, if◌then◌else◌}
 use Rattle.std.specs.Int.{w32, from_le_bytes}
 use Rattle.lfs_block.specs.Geometry.{is_geometry}
-use Rattle.lfs_stated.specs.Words.{superblock_words}
+use Rattle.lfs_lower.specs.Words.{superblock_words}
 use Rattle.lfs_find.specs.declared.place.Place.{Place}
 
 -- what the words of a superblock's struct state that stands at a place: version, block size and number of blocks

@@ -5,7 +5,7 @@ ghost use Rattle.lfs_find.specs.Place.{HoldsNone, IsFirstPlace, place_at, place_
 
 use crate::place::Place;
 use lfs_block::{geometry_ok, little_word};
-use lfs_stated::superblock_words;
+use lfs_lower::superblock_words;
 
 /// The place that the words of a superblock's struct state, where it fits in so many bytes.
 fn place_in(at: usize, room: usize, words: &[u8]) -> Option<Place>

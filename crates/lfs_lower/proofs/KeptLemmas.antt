@@ -18,8 +18,8 @@ use Rattle.lfs_tag.specs.Reading.{TagFront, tag_at, CommitFront, with_tag, close
 use Rattle.lfs_tag.specs.Writing.{item_of, items}
 use Rattle.lfs_tag.proofs.ReadLoop.{map_none}
 use Rattle.lfs_tag.proofs.Steps.{map_some, commit_by-none, commit_by-closed, commit_by-more, commit_by-shorter}
-use Rattle.lfs_later.specs.Commits.{closes, later_at, commits_from}
-use Rattle.lfs_later.proofs.Steps.{commits_from-none, commits_from-more}
+use Rattle.lfs_lower.specs.Commits.{closes, later_at, commits_from}
+use Rattle.lfs_lower.proofs.LaterSteps.{commits_from-none, commits_from-more}
 use Rattle.lfs_lower.specs.Kept.{kept, commit_kept, found_kept, kept_behind, IsPushed, IsCommitPushed, IsCommitRead}
 use Rattle.lfs_lower.specs.Spelled.{is_said, tags_said, lowered_tag, tags_lowered}
 

@@ -8,6 +8,7 @@ pub mod JoinedParts
 pub mod JoinedWhole
 pub mod KeptLemmas
 pub mod KeptTags
+pub mod LaterSteps
 pub mod LongestFronts
 pub mod LoweredAlong
 pub mod LoweredBlocks
@@ -16,5 +17,7 @@ pub mod LoweredThrough
 pub mod PairsAlong
 pub mod PartsPut
 pub mod ReadTags
+pub mod SeenLoops
+pub mod SizeLemmas
 pub mod SpelledBlocks
 pub mod StaysOne

@@ -18,8 +18,8 @@ use Rattle.lfs_tag.specs.Writing.{tags_len}
 use Rattle.lfs_tag.proofs.Codec.{tag_takes}
 use Rattle.lfs_tag.proofs.Erased.{AllByRecursion-append}
 use Rattle.lfs_tag.proofs.Steps.{map_some, tag_cut, commit_by-shorter}
-use Rattle.lfs_later.specs.Commits.{closes, later_at, commits_from}
-use Rattle.lfs_later.proofs.Steps.{commits_from-none, commits_from-more}
+use Rattle.lfs_lower.specs.Commits.{closes, later_at, commits_from}
+use Rattle.lfs_lower.proofs.LaterSteps.{commits_from-none, commits_from-more}
 
 -- a valid tag with as many bytes of data as it says
 pub record IsRead (t : Item) : Type 0 where

@@ -1,3 +1,8 @@
+pub mod Commits
+pub mod Version
+pub mod Seen
+pub mod Words
+pub mod Size
 pub mod Spelled
 pub mod Lowered
 pub mod Along

@@ -4,18 +4,15 @@ ghost use Rattle.std.specs.Prelude.{◌≡◌, ◌++◌, [], ◌∷◌, length, 
 ghost use Rattle.lfs_tag.specs.EditData.{data_bytes};
 ghost use Rattle.lfs_tag.specs.Tag.{data_len, word_of};
 ghost use Rattle.lfs_tag.specs.Tags.{item_with};
-ghost use Rattle.lfs_later.specs.Commits.{later_at};
+ghost use Rattle.lfs_lower.specs.Commits.{later_at};
 ghost use Rattle.lfs_lower.specs.Kept.{IsCommitPushed, IsCommitRead, IsPushed, kept};
 ghost use Rattle.lfs_lower.specs.Spelled.{lowered_header, tags_lowered};
 
 use crate::header::lower_header;
+use crate::seen_commit::{SUPERBLOCK_WORD, closes};
 use lfs_block::crc32;
-use lfs_later::closes;
 use lfs_tag::{CHECKSUM, Committed, Edit, EditData, Tag, closed, tag_at};
 use std::alloc::AllocError;
-
-/// The word of a superblock's struct: one of 24 bytes, of entry 0.
-const SUPERBLOCK_WORD: u32 = 0x2010_0018;
 
 /// The data of a superblock's struct, with version 2.0 in the place of 2.1.
 fn lowered_header<'a>(content: &'a [u8]) -> EditData<'a>

@@ -1,5 +1,6 @@
-//! Images of later disk versions, and images whose superblock was expanded, lowered to version 2.0; and the image with
-//! which bytes begin.
+//! What devices write: commits of later disk versions, which a reader of version 2.0 passes over; what the first bytes of an image
+//! state of it, whether or not it mounts; images of later disk versions, and images whose superblock was expanded, lowered to
+//! version 2.0; and the image with which bytes begin.
 #![tactic(auto)]
 
 mod block;
@@ -11,8 +12,14 @@ mod kept;
 mod laws;
 mod lowering;
 mod lowering_all;
+mod seen_block;
+mod seen_commit;
+mod seen_pair;
+mod size;
 mod superblocks;
+mod version;
 mod within;
+mod words;
 
 pub use by_device::read_by_device;
 pub use joining::join;
@@ -22,4 +29,8 @@ pub use laws::{
 };
 pub use lowering::lower;
 pub use lowering_all::lower_all;
+pub use seen_commit::closes;
+pub use size::{MOST_FRONT, size_stated};
+pub use version::{StatedVersion, later_version, unread_version};
 pub use within::{read_as, read_within};
+pub use words::superblock_words;

@@ -4,9 +4,8 @@ use crate::finding::Finding;
 use crate::path_note::PathNote;
 use byteorder::{ByteOrder, LittleEndian};
 use lfs_block::{ImageFault, MountFault};
-use lfs_later::{StatedVersion, unread_version};
+use lfs_lower::{StatedVersion, superblock_words, unread_version};
 use lfs_request::{Fault, OtherFault};
-use lfs_stated::superblock_words;
 use lfs_texts::Flaw;
 
 /// The disk version that is edited.

@@ -6,7 +6,7 @@ use crate::hint::hint_at;
 use crate::line::{Piece, say, say_blocks, say_version};
 use crate::stated::{Stated, StatedPlace};
 use lfs_host::Host;
-use lfs_later::StatedVersion;
+use lfs_lower::StatedVersion;
 
 /// What is told in front of the disk version that the first block states.
 const FIRST_BLOCK: &str = "its first block states disk version ";

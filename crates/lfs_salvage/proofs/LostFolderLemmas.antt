@@ -4,8 +4,8 @@ use Rattle.std.proofs.lemmas.List.{length-append}
 use Rattle.std.proofs.lemmas.List.Elements.{All-append, All-replicate, All-weaker}
 use Rattle.std.specs.Fmt.{decimal}
 use Rattle.std.specs.Prelude.{All}
-use Rattle.lfs_folder.proofs.HostNameLemmas.{all_pass}
-use Rattle.lfs_folder.specs.HostNames.{IsHostName}
+use Rattle.lfs_extract.proofs.HostNameLemmas.{all_pass}
+use Rattle.lfs_extract.specs.HostNames.{IsHostName}
 use Rattle.lfs_host.specs.NewFolder.{Made}
 use Rattle.lfs_salvage.specs.Below.{IsBelow, IsNameBelow, MakesBelow, name_made}
 use Rattle.lfs_salvage.specs.Lost.{area_folder, first_block, lost_name, lost_word, tildes_in}

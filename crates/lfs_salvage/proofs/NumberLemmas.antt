@@ -6,7 +6,7 @@ use Rattle.std.proofs.lemmas.List.Elements.{All-append, All-cons, All-head, All-
 use Rattle.std.proofs.lemmas.Str.{IsUtf8-append}
 use Rattle.std.specs.Fmt.{decimal}
 use Rattle.std.specs.Prelude.{◌≢◌, All}
-use Rattle.lfs_folder.specs.HostNames.{IsHostName}
+use Rattle.lfs_extract.specs.HostNames.{IsHostName}
 use Rattle.lfs_salvage.specs.Word.{numbered_word, numbers}
 use Rattle.lfs_salvage.proofs.WordLemmas.{IsPlain, plain_by, plain_text, plain_word}
 

@@ -9,10 +9,10 @@ use Rattle.std.proofs.lemmas.Str.{IsUtf8-from_ascii, IsUtf8-from_is_utf8, is_utf
 use Rattle.std.proofs.lemmas.Str.Ascii.{IsAscii-from_all}
 use Rattle.std.proofs.lemmas.List.Elements.{All-append, All-cons, All-get_or, All-head, All-nil, All-push, All-tail, All-weaker}
 use Rattle.hex.specs.Hex.{encode_lower, encode_with, lower_digits}
-use Rattle.lfs_folder.specs.HostNames.{IsHostName, is_host_name}
-use Rattle.lfs_folder.specs.PathBelow.{host_name, name_in}
-use Rattle.lfs_folder.proofs.HostNameLemmas.{all_pass, is_host_name-decides}
-use Rattle.lfs_folder.proofs.PathBelowLemmas.{name_below, name_of_root}
+use Rattle.lfs_extract.specs.HostNames.{IsHostName, is_host_name}
+use Rattle.lfs_extract.specs.PathBelow.{host_name, name_in}
+use Rattle.lfs_extract.proofs.HostNameLemmas.{all_pass, is_host_name-decides}
+use Rattle.lfs_extract.proofs.PathBelowLemmas.{name_below, name_of_root}
 use Rattle.lfs_fs.specs.Path.{Path}
 use Rattle.lfs_listing.specs.Listing.{shown_byte}
 use Rattle.lfs_meta.specs.Name.{Name, IsName, is_name}

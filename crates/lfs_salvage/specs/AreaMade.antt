@@ -1,7 +1,7 @@
 -- What is saved of an area (own).
 use Rattle.std.specs.Prelude.{ℕ, ◌+◌, Bool, List, [], ◌∷◌, ◌++◌, Option, Some, None}
 use Rattle.lfs_block.specs.Disk.{Disk}
-use Rattle.lfs_folder.specs.PathBelow.{name_in}
+use Rattle.lfs_extract.specs.PathBelow.{name_in}
 use Rattle.lfs_host.specs.NewFolder.{Made, FolderMade, FileMade}
 use Rattle.lfs_meta.specs.Entry.{StoredEntry}
 use Rattle.lfs_salvage.specs.Fate.{fate, saved_bytes, uses_behind}

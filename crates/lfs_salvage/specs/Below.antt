@@ -1,7 +1,7 @@
 -- That nothing is made outside a folder (own).
 use Rattle.std.specs.Prelude.{◌≡◌, ℕ, List, Option, All}
-use Rattle.lfs_folder.specs.HostNames.{IsHostName}
-use Rattle.lfs_folder.specs.PathBelow.{host_name}
+use Rattle.lfs_extract.specs.HostNames.{IsHostName}
+use Rattle.lfs_extract.specs.PathBelow.{host_name}
 use Rattle.lfs_fs.specs.Path.{Path}
 use Rattle.lfs_host.specs.NewFolder.{Made, FolderMade, FileMade, Makes}
 

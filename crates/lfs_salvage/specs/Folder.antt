@@ -1,6 +1,6 @@
 -- The folders of calls (own).
 use Rattle.std.specs.Prelude.{ℕ, Bool, List, [], Option, slice_get, slice_index_or, unwrap_or, option_map, option_and_then}
-use Rattle.lfs_folder.specs.PathBelow.{name_in}
+use Rattle.lfs_extract.specs.PathBelow.{name_in}
 use Rattle.lfs_meta.specs.Entry.{StoredEntry}
 use Rattle.lfs_meta.specs.Name.{Name}
 use Rattle.lfs_salvage.specs.Word.{entry_word}

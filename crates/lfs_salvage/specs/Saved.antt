@@ -4,7 +4,7 @@ use Rattle.lfs_block.specs.Disk.{Disk}
 use Rattle.lfs_extract.specs.Extracted.{MakesFront}
 use Rattle.lfs_extract.specs.declared.extract_fault.ExtractFault.{ExtractFault}
 use Rattle.lfs_extract.specs.declared.extract_fault.ExtractFault.TheVariants.{CannotWrite, HostName, Memory}
-use Rattle.lfs_folder.specs.PathBelow.{name_in}
+use Rattle.lfs_extract.specs.PathBelow.{name_in}
 use Rattle.lfs_host.specs.NewFolder.{Made, Makes}
 use Rattle.lfs_salvage.specs.AllMade.{all_lost_made, all_lost_unsaved, all_lost_uses, front_behind_all, marked_used}
 use Rattle.lfs_salvage.specs.AreaMade.{area_made, area_unsaved, area_uses}

@@ -2,7 +2,7 @@
 use Rattle.std.specs.Fmt.{decimal}
 use Rattle.std.specs.Prelude.{ℕ, ◌&&◌, Bool, List, ◌∷◌, ◌++◌, if◌then◌else◌, codes, flat_map}
 use Rattle.std.specs.Str.{is_utf8}
-use Rattle.lfs_folder.specs.HostNames.{is_host_name}
+use Rattle.lfs_extract.specs.HostNames.{is_host_name}
 use Rattle.lfs_listing.specs.Listing.{shown_byte}
 use Rattle.lfs_meta.specs.Name.{Name, is_name}
 

@@ -2,7 +2,7 @@
 
 ghost use Rattle.std.specs.Prelude.{◌≡◌, ◌≢◌, [], ◌∷◌, Bool, ℕ, List, IfErr, IfOk, OnOk, string_bytes};
 ghost use Rattle.lfs_extract.specs.declared.extract_fault.ExtractFault.TheVariants.{CannotWrite, HostName};
-ghost use Rattle.lfs_folder.specs.PathBelow.{name_in};
+ghost use Rattle.lfs_extract.specs.PathBelow.{name_in};
 ghost use Rattle.lfs_host.specs.NewFolder.{Begins, FolderMade};
 ghost use Rattle.lfs_host.specs.Scene.{HasRefused, KeepsFiles};
 ghost use Rattle.lfs_salvage.specs.Below.{IsNameBelow, MakesBelow};

@@ -4,7 +4,7 @@ ghost use Rattle.std.specs.Prelude.{◌≡◌, ◌++◌, Bool, ℕ, List, IfErr,
 ghost use Rattle.lfs_block.specs.Disk.{Disk};
 ghost use Rattle.lfs_extract.specs.Making.{contents_of};
 ghost use Rattle.lfs_extract.specs.declared.extract_fault.ExtractFault.TheVariants.{CannotWrite};
-ghost use Rattle.lfs_folder.specs.PathBelow.{name_in};
+ghost use Rattle.lfs_extract.specs.PathBelow.{name_in};
 ghost use Rattle.lfs_fs.specs.RowHeld.{row_body_held};
 ghost use Rattle.lfs_fs.specs.RowShown.{HasBlocks};
 ghost use Rattle.lfs_host.specs.Scene.{HasRefused, KeepsFiles};

@@ -1,8 +1,8 @@
 //! A host's words for names.
 
 ghost use Rattle.std.specs.Prelude.{◌≡◌, ℕ, List, IfOk, MatchOption, flat_map, false, string_bytes, true};
-ghost use Rattle.lfs_folder.specs.HostNames.{IsHostName, is_host_name};
-ghost use Rattle.lfs_folder.specs.PathBelow.{name_in};
+ghost use Rattle.lfs_extract.specs.HostNames.{IsHostName, is_host_name};
+ghost use Rattle.lfs_extract.specs.PathBelow.{name_in};
 ghost use Rattle.lfs_listing.specs.Listing.{shown_byte};
 ghost use Rattle.lfs_meta.specs.Name.{is_name};
 ghost use Rattle.lfs_salvage.specs.Below.{IsNameBelow};

@@ -10,10 +10,10 @@ use Rattle.lfs_fs.specs.Ordered.{PathsRise}
 use Rattle.lfs_fs.specs.Row.{path_precedes}
 use Rattle.lfs_command.specs.declared.refusal.Refusal.TheVariants.{Memory as No_memory}
 use Rattle.lfs_request.specs.declared.fault.Fault.TheVariants.{Refused}
-use Rattle.lfs_folder.specs.declared.folder_fault.FolderFault.TheVariants.{Memory}
-use Rattle.lfs_folder.specs.declared.folder_row.FolderRow.{FolderRow}
-use Rattle.lfs_folder.specs.FolderRows.{AreFolderRows, AreSpelled, IsFolder, IsRow, PathRow, paths_of}
-use Rattle.lfs_folder.specs.HostNames.{IsHostName}
+use Rattle.lfs_extract.specs.declared.folder_fault.FolderFault.TheVariants.{Memory}
+use Rattle.lfs_extract.specs.declared.folder_row.FolderRow.{FolderRow}
+use Rattle.lfs_extract.specs.FolderRows.{AreFolderRows, AreSpelled, IsFolder, IsRow, PathRow, paths_of}
+use Rattle.lfs_extract.specs.HostNames.{IsHostName}
 use Rattle.lfs_host.specs.HostTree.{HostTree}
 use Rattle.lfs_host.specs.Scene.{Scene}
 use Rattle.lfs_pack.specs.declared.pack_row.PackRow.{PackRow}

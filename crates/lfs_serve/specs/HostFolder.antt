@@ -4,10 +4,10 @@ use Rattle.std.specs.Option.{option_map}
 use Rattle.lfs_command.specs.declared.refusal.Refusal.TheVariants as refusal
 use Rattle.lfs_request.specs.declared.fault.Fault.{Fault}
 use Rattle.lfs_request.specs.declared.fault.Fault.TheVariants as fault
-use Rattle.lfs_folder.specs.declared.folder_row.FolderRow.{FolderRow}
-use Rattle.lfs_folder.specs.declared.folder_fault.FolderFault.{FolderFault}
-use Rattle.lfs_folder.specs.declared.folder_fault.FolderFault.TheVariants.{Memory, HostEntry, HostName, CannotRead}
-use Rattle.lfs_folder.specs.FolderRows.{AreAllBelow, AreFolderRows, BlamesHost, PathRow, RefusesFolderRows}
+use Rattle.lfs_extract.specs.declared.folder_row.FolderRow.{FolderRow}
+use Rattle.lfs_extract.specs.declared.folder_fault.FolderFault.{FolderFault}
+use Rattle.lfs_extract.specs.declared.folder_fault.FolderFault.TheVariants.{Memory, HostEntry, HostName, CannotRead}
+use Rattle.lfs_extract.specs.FolderRows.{AreAllBelow, AreFolderRows, BlamesHost, PathRow, RefusesFolderRows}
 use Rattle.lfs_fs.specs.Limits.{most_file}
 use Rattle.lfs_host.specs.HostTree.{HostTree}
 use Rattle.lfs_host.specs.Scene.{Scene}

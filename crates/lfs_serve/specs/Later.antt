@@ -5,7 +5,7 @@ use Rattle.lfs_request.specs.declared.fault.Fault.{Fault}
 use Rattle.lfs_request.specs.declared.fault.Fault.TheVariants.{Mount, Other}
 use Rattle.lfs_request.specs.declared.manner.Manner.{Manner}
 use Rattle.lfs_request.specs.declared.other_fault.OtherFault.TheVariants as other
-use Rattle.lfs_later.specs.Version.{later_version}
+use Rattle.lfs_lower.specs.Version.{later_version}
 use Rattle.lfs_step.specs.declared.step.Step.{Step}
 use Rattle.lfs_request.specs.declared.query.Query.TheVariants.{Diff}
 use Rattle.lfs_step.specs.declared.step.Step.TheVariants.{Ask}

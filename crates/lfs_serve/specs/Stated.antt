@@ -3,7 +3,7 @@ use Rattle.std.specs.Prelude.{◌≡◌, ◌⊎◌, ℕ, List, Option}
 use Rattle.std.specs.Option.{unwrap_or}
 use Rattle.lfs_host.specs.Files.{ReadsFrom}
 use Rattle.lfs_host.specs.Scene.{HasRefused, Scene}
-use Rattle.lfs_stated.specs.Size.{IsStated}
+use Rattle.lfs_lower.specs.Size.{IsStated}
 
 -- the block size where none is stated
 abbrev pub usual_size : ℕ

@@ -1,14 +1,14 @@
 //! What is read of a host's folder, and what is packed of it.
 
 ghost use Rattle.std.specs.Prelude.{◌≡◌, IfErr, IfOk, map};
-ghost use Rattle.lfs_folder.specs.FolderRows.{IsFolder};
+ghost use Rattle.lfs_extract.specs.FolderRows.{IsFolder};
 ghost use Rattle.lfs_fs.specs.Limits.{most_file};
 ghost use Rattle.lfs_host.specs.Scene.{KeepsAll};
 ghost use Rattle.lfs_pack.specs.RowText.{pack_text};
 ghost use Rattle.lfs_serve.specs.HostFolder.{ReadsNoFolder, fault_of_folder, folder_text};
 
 use lfs_command::Refusal;
-use lfs_folder::{FolderFault, FolderRow, folder_rows};
+use lfs_extract::{FolderFault, FolderRow, folder_rows};
 use lfs_host::Host;
 use lfs_pack::PackRow;
 use lfs_request::Fault;

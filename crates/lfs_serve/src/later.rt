@@ -5,7 +5,7 @@ ghost use Rattle.lfs_report.specs.Stop.{stopped_by};
 ghost use Rattle.lfs_serve.specs.Later.{later_alone, later_in_source, later_read, refused_by};
 
 use lfs_block::MountFault;
-use lfs_later::later_version;
+use lfs_lower::later_version;
 use lfs_report::{Beside, Later, Statement, Stop};
 use lfs_request::{Fault, Manner, OtherFault, Query};
 use lfs_step::Step;

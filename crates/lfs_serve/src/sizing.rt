@@ -5,7 +5,7 @@ ghost use Rattle.lfs_host.specs.Scene.{KeepsAll};
 ghost use Rattle.lfs_serve.specs.Stated.{IsStatedSize};
 
 use lfs_host::{Host, ReadFault};
-use lfs_stated::{MOST_FRONT, size_stated};
+use lfs_lower::{MOST_FRONT, size_stated};
 use std::alloc::{AllocError, Global};
 
 /// The block size where none is stated, in bytes.

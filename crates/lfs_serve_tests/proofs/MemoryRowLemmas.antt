@@ -3,10 +3,10 @@ use Rattle.std.proofs.Common.{◌≡◌, ◌≢◌, ℕ, true, false, List, [], 
 use Rattle.std.specs.Prelude.{flat_map, IfErr, Result, Ok, Err}
 use Rattle.std.proofs.lemmas.List.{append-nil}
 use Rattle.lfs_fs.specs.Path.{Path}
-use Rattle.lfs_folder.specs.PathBelow.{host_name, name_in}
-use Rattle.lfs_folder.specs.FolderRows.{IsBelow, BlamesHost, RefusesTree}
-use Rattle.lfs_folder.specs.declared.folder_fault.FolderFault.{FolderFault}
-use Rattle.lfs_folder.specs.declared.folder_fault.FolderFault.TheVariants.{Memory, HostEntry, HostName, CannotRead}
+use Rattle.lfs_extract.specs.PathBelow.{host_name, name_in}
+use Rattle.lfs_extract.specs.FolderRows.{IsBelow, BlamesHost, RefusesTree}
+use Rattle.lfs_extract.specs.declared.folder_fault.FolderFault.{FolderFault}
+use Rattle.lfs_extract.specs.declared.folder_fault.FolderFault.TheVariants.{Memory, HostEntry, HostName, CannotRead}
 use Rattle.lfs_host.specs.HostTree.{HostTree, NothingThere, OtherThere}
 use Rattle.lfs_host.specs.MadeEntry.{made_as}
 use Rattle.lfs_host.specs.MemoryFiles.{files_of}

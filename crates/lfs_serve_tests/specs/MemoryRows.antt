@@ -1,8 +1,8 @@
 -- What is read of a folder of a host in memory, and why not (own).
 use Rattle.std.specs.Prelude.{◌≡◌, ◌⊎◌, ℕ, ⊤, List, true}
-use Rattle.lfs_folder.specs.declared.folder_fault.FolderFault.{FolderFault}
-use Rattle.lfs_folder.specs.declared.folder_fault.FolderFault.TheVariants.{HostEntry, CannotRead}
-use Rattle.lfs_folder.specs.FolderRows.{HasTooMany}
+use Rattle.lfs_extract.specs.declared.folder_fault.FolderFault.{FolderFault}
+use Rattle.lfs_extract.specs.declared.folder_fault.FolderFault.TheVariants.{HostEntry, CannotRead}
+use Rattle.lfs_extract.specs.FolderRows.{HasTooMany}
 use Rattle.lfs_host.specs.HostTree.{HostTree}
 use Rattle.lfs_host.specs.declared.memory_host.MemoryHost.{MemoryHost}
 

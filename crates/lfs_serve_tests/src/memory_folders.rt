@@ -1,8 +1,7 @@
 //! Folders of a host in memory, read and made.
 
 use lfs_block::{Image, geometry_ok};
-use lfs_extract::{ExtractFault, extract_rows};
-use lfs_folder::{FolderFault, FolderRow, folder_rows};
+use lfs_extract::{ExtractFault, FolderFault, FolderRow, extract_rows, folder_rows};
 use lfs_fs::mount;
 use lfs_host::{Failing, MadeEntry, MemoryHost};
 use lfs_pack::{PackRow, pack};

@@ -3,10 +3,10 @@
 ghost use Rattle.std.specs.Prelude.{◌≡◌, Some, IfErr, IfOk};
 ghost use Rattle.lfs_host.specs.MemoryFiles.{files_of};
 ghost use Rattle.lfs_host.specs.MemoryTree.{tree_of};
-ghost use Rattle.lfs_folder.specs.FolderRows.{IsFolder};
+ghost use Rattle.lfs_extract.specs.FolderRows.{IsFolder};
 ghost use Rattle.lfs_serve_tests.specs.MemoryRows.{RefusesInMemory};
 
-use lfs_folder::{FolderFault, FolderRow, folder_rows};
+use lfs_extract::{FolderFault, FolderRow, folder_rows};
 use lfs_host::{MemoryHost, memory_folders_have_no_gap};
 use std::alloc::Global;
 

@@ -1,7 +1,7 @@
 //! A folder in memory, read as rows.
 
 use crate::memory_folders::{Expected, are_rows};
-use lfs_folder::{FolderFault, folder_rows};
+use lfs_extract::{FolderFault, folder_rows};
 use lfs_host::{Folders, HostKind, Known, ListFault, ReadFault};
 use std::alloc::{AllocError, Global};
 

@@ -6,7 +6,7 @@ use Rattle.lfs_fs.specs.Path.{Path}
 use Rattle.lfs_fs.specs.Row.{Row}
 use Rattle.lfs_fs.specs.RowShown.{shown_node}
 use Rattle.lfs_fs.specs.Listed.{Listed, path_after, rows_after, rows_listed}
-use Rattle.lfs_folder.specs.PathBelow.{host_name}
+use Rattle.lfs_extract.specs.PathBelow.{host_name}
 use Rattle.lfs_host.specs.NewFolder.{Made, Makes}
 use Rattle.lfs_extract.specs.Extracted.{made_as}
 use Rattle.lfs_extract.proofs.MakingLemmas.{AreLeft, all_left, has_blocks, has_text, left_behind, named_at, one_more}

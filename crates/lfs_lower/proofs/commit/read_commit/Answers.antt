@@ -2,7 +2,7 @@ use Rattle.std.proofs.Common.{◌≡◌, true, false, sym, ◌∙◌, arith}
 use Rattle.lfs_tag.specs.Found.{tag_found}
 use Rattle.lfs_tag.specs.Reading.{TagFront}
 use Rattle.lfs_tag.proofs.Steps.{tag_at-shorter}
-use Rattle.lfs_later.specs.Commits.{closes, later_at}
+use Rattle.lfs_lower.specs.Commits.{closes, later_at}
 use Rattle.lfs_lower.proofs.KeptLemmas.{read_more, read_closes, read_ends}
 use Rattle.lfs_lower.proofs.commit.read_commit.Goals as goal
 

@@ -1,6 +1,6 @@
 -- What is left decides what the whole gives.
 use Rattle.std.proofs.Common.{length}
-use Rattle.lfs_later.specs.Commits.{later_at}
+use Rattle.lfs_lower.specs.Commits.{later_at}
 use Rattle.lfs_lower.proofs.KeptLemmas.{IsReadTo}
 use Rattle.lfs_lower.proofs.commit.read_commit.Given as goal
 

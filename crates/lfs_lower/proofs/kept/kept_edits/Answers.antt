@@ -3,7 +3,7 @@ use Rattle.lfs_block.specs.Checksum.{crc}
 use Rattle.lfs_tag.specs.declared.edit.Edit.{Edit}
 use Rattle.lfs_tag.specs.Commit.{Commit}
 use Rattle.lfs_tag.specs.Writing.{items}
-use Rattle.lfs_later.specs.Commits.{commits_from}
+use Rattle.lfs_lower.specs.Commits.{commits_from}
 use Rattle.lfs_lower.specs.Spelled.{tags_said, tags_lowered}
 use Rattle.lfs_lower.proofs.KeptLemmas.{kept_of, kept_of-said, commit_more, commit_shorter, no_commit, then_map}
 use Rattle.lfs_lower.proofs.kept.kept_edits.Goals as goal

@@ -1,7 +1,7 @@
 -- What is left decides what the whole gives.
 use Rattle.std.proofs.Common.{◌≡◌, length}
 use Rattle.lfs_tag.specs.Writing.{items}
-use Rattle.lfs_later.specs.Commits.{commits_from}
+use Rattle.lfs_lower.specs.Commits.{commits_from}
 use Rattle.lfs_lower.specs.Spelled.{lowered_tags}
 use Rattle.lfs_lower.proofs.KeptLemmas.{kept_of}
 use Rattle.lfs_lower.proofs.kept.kept_edits.Given as goal

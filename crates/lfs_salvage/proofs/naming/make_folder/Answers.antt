@@ -1,7 +1,7 @@
 -- It is made under the first name, or under the second one, or the host refuses both.
 use Rattle.std.proofs.Common.{◌≡◌, ◌∙◌, true, List, Option, subst, sym}
 use Rattle.std.proofs.lemmas.Result.{err_from_is_err_and}
-use Rattle.lfs_folder.specs.PathBelow.{name_in}
+use Rattle.lfs_extract.specs.PathBelow.{name_in}
 use Rattle.lfs_host.specs.NewFolder.{FolderMade, Made}
 use Rattle.lfs_salvage.specs.Below.{IsNameBelow, MakesBelow}
 use Rattle.lfs_salvage.specs.Word.{entry_word}

@@ -3,7 +3,7 @@ use Rattle.std.proofs.Common.{◌≡◌, ◌∙◌, false, List, ℕ, Option, So
 use Rattle.lfs_block.specs.Disk.{Disk}
 use Rattle.lfs_extract.specs.Making.{contents_of}
 use Rattle.lfs_extract.proofs.MakingLemmas.{makes_nothing}
-use Rattle.lfs_folder.specs.PathBelow.{name_in}
+use Rattle.lfs_extract.specs.PathBelow.{name_in}
 use Rattle.lfs_fs.specs.RowHeld.{row_body_held}
 use Rattle.lfs_host.specs.NewFolder.{Made, Makes}
 use Rattle.lfs_meta.specs.Entry.{StoredEntry}

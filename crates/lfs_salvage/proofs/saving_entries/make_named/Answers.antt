@@ -2,7 +2,7 @@
 use Rattle.std.proofs.Common.{◌∙◌, false, List, ℕ, Option, subst, sym}
 use Rattle.std.proofs.lemmas.Result.{err_from_is_err_and}
 use Rattle.lfs_extract.specs.Making.{contents_of}
-use Rattle.lfs_folder.specs.PathBelow.{name_in}
+use Rattle.lfs_extract.specs.PathBelow.{name_in}
 use Rattle.lfs_fs.specs.RowHeld.{row_body_held}
 use Rattle.lfs_host.specs.NewFolder.{FileMade, Made}
 use Rattle.lfs_salvage.specs.Below.{IsNameBelow, MakesBelow}

@@ -4,8 +4,8 @@ use Rattle.std.proofs.lemmas.Result.{err_from_is_err_and}
 use Rattle.lfs_command.specs.declared.refusal.Refusal.TheVariants.{Memory as No_memory}
 use Rattle.lfs_request.specs.declared.fault.Fault.TheVariants.{Refused}
 use Rattle.lfs_exchange.specs.declared.step_kind.StepKind.TheVariants.{Makes}
-use Rattle.lfs_folder.specs.declared.folder_row.FolderRow.{FolderRow}
-use Rattle.lfs_folder.specs.FolderRows.{IsFolder}
+use Rattle.lfs_extract.specs.declared.folder_row.FolderRow.{FolderRow}
+use Rattle.lfs_extract.specs.FolderRows.{IsFolder}
 use Rattle.lfs_fs.specs.Limits.{most_file}
 use Rattle.lfs_host.specs.Scene.{Scene}
 use Rattle.lfs_pack.specs.declared.pack_row.PackRow.{PackRow}

@@ -1,4 +1,0 @@
-pub mod HostNameLemmas
-pub mod PathBelowLemmas
-pub mod WalkLemmas
-pub mod WalkStepLemmas

@@ -1,3 +1,0 @@
-pub mod Commits
-pub mod Seen
-pub mod Version
