@@ -1,11 +1,13 @@
 -- What texts say of sizes, and that they say it once.
 use Rattle.std.proofs.Common.{◌≡◌, ◌∙◌, ◌<◌, ◌≤◌, ◌*◌, ◌/◌, ◌%◌, ◌^◌, ℕ, List, Option, Some, None, sym, ap, subst, inl, inr}
-use Rattle.std.proofs.Common.{arith, codes, div-add-mod', drop, le-mul_of_pos_right}
+use Rattle.std.proofs.Common.{arith, codes, div-add-mod', drop, le-mul_of_pos_right, Bool, true, false, true≢false}
 use Rattle.std.proofs.lemmas.List.{append_cancel_right}
-use Rattle.std.specs.Prelude.{Err, IsNone}
+use Rattle.std.proofs.lemmas.Slice.Eq.{bytes_eq-Decides}
+use Rattle.std.specs.Prelude.{◌≢◌, ◌⊎◌, Err, IsNone}
 use Rattle.std.specs.Option.{SomeIff}
+use Rattle.std.specs.Str.{bytes_eq}
 use Rattle.std.specs.Str.Parse.{ParsesUnsigned, digits_value, without_leading_plus}
-use Rattle.lfs_texts.specs.Sizes.{HasUnit, IsHexadecimal, SaysNoBytes, Writes}
+use Rattle.lfs_texts.specs.Sizes.{HasUnit, IsHexadecimal, SaysNoBlock, SaysNoBytes, Writes}
 
 -- the digits behind `0x`
 digits_agree : (text d e : List ℕ) → IsHexadecimal text d → IsHexadecimal text e → d ≡ e
@@ -73,3 +75,37 @@ none_within P v (Some x) iff none = absurd (cc)
 
 pub in_blocks : (bytes block : ℕ) → bytes % block ≡ 0 → bytes / block * block ≡ bytes
 in_blocks bytes block whole = omega (arith, div-add-mod' bytes block, whole)
+
+-- ---- the size of a block
+
+-- the size that a text says, where `auto` stands for the stated one
+abbrev pub IsSizeSaid : List ℕ → ℕ → ℕ → Type 0
+IsSizeSaid text stated size = ((text ≡ codes "auto") × (size ≡ stated)) ⊎ ((text ≢ codes "auto") × Writes 10 text size)
+
+pub said_auto : (text : List ℕ) (stated size : ℕ) (same : Bool) → same ≡ bytes_eq text (codes "auto") → same ≡ true → size ≡ stated
+    → IsSizeSaid text stated size
+said_auto text stated size same tells is auto = inl ((bytes_eq-Decides text (codes "auto")).0 (sym tells ∙ is), auto)
+
+pub said_digits : (text : List ℕ) (stated size number : ℕ) (same : Bool) → same ≡ bytes_eq text (codes "auto") → same ≡ false
+    → size ≡ number → Writes 10 text number → IsSizeSaid text stated size
+said_digits text stated size number same tells not is writes = inr (
+  λ auto. true≢false (sym ((bytes_eq-Decides text (codes "auto")).1 auto) ∙ sym tells ∙ not),
+  subst (Writes 10 text) (sym is) writes,
+)
+
+-- a text says one size
+said_once : (text : List ℕ) (stated size other : ℕ) → IsSizeSaid text stated size → IsSizeSaid text stated other → size ≡ other
+said_once text stated size other (inl a) (inl b) = a.1 ∙ sym b.1
+said_once text stated size other (inl a) (inr b) = absurd (b.0 a.0)
+said_once text stated size other (inr a) (inl b) = absurd (a.0 b.0)
+said_once text stated size other (inr a) (inr b) = a.1.1 ∙ sym b.1.1
+
+-- which no block has
+pub no_block_said : (text : List ℕ) (stated size : ℕ) → IsSizeSaid text stated size → ((256 ≤ size) × (65536 < size)) ⊎ (size < 256)
+    → SaysNoBlock text stated
+no_block_said text stated size is out other says =
+    let same : size ≡ other = said_once text stated size other is says.0 in
+    elim out [
+      | inl large ↦ omega (arith, same, large.1, says.2)
+      | inr small ↦ omega (arith, same, small, says.1)
+    ]

@@ -1,6 +1,11 @@
 -- The bytes of a word, and the words of a line, one behind the other.
-use Rattle.std.proofs.Common.{◌≡◌, ◌∙◌, ℕ, Option, Some, None, List, [], ◌∷◌, ◌++◌, Vec, refl, sym, ap, map, append_assoc}
+use Rattle.std.proofs.Common.{◌≡◌, ◌∙◌, ◌≤◌, ◌-◌, ℕ, Option, Some, None, Result, Ok, List, [], ◌∷◌, ◌++◌, Vec, refl, sym, ap, map, append_assoc}
+use Rattle.std.proofs.Common.{arith, drop, get_or, length, take}
+use Rattle.std.proofs.lemmas.List.{take_all}
 use Rattle.std.specs.Fmt.{option_append}
+use Rattle.std.specs.Result.{result_ok}
+use Rattle.hex.specs.Hex.{decode_pairs}
+use Rattle.hex.specs.declared.error.FromHexError.{FromHexError}
 use Rattle.lfs_texts.specs.Words.{word_bytes, word_of, word_before, all_words}
 
 -- one byte more
@@ -22,6 +27,20 @@ byte_taken text left rest behind bytes new first byte before is taken more =
     ∙ ap (option_append (Some bytes)) taken
     ∙ one_byte_more bytes byte (word_bytes behind)
     ∙ ap (λ (xs : List ℕ). option_append (Some xs) (word_bytes behind)) (sym more)
+
+-- a backslash, `x` and two digits stand for a byte
+pub escape_taken : (first byte : ℕ) (rest : List ℕ) → first ≡ 92 → 3 ≤ length rest → get_or rest 0 0 ≡ 120
+    → decode_pairs 0 (get_or rest 1 0 ∷ get_or rest 2 0 ∷ []) ≡ Ok (byte ∷ [])
+    → word_bytes (first ∷ rest) ≡ option_append (Some (byte ∷ [])) (word_bytes (take (length rest - 3) (drop 3 rest)))
+escape_taken first byte [] back long mark digits = absurd (omega (arith, long))
+escape_taken first byte (x ∷ []) back long mark digits = absurd (omega (arith, long))
+escape_taken first byte (x ∷ high ∷ []) back long mark digits = absurd (omega (arith, long))
+escape_taken first byte (x ∷ high ∷ low ∷ rest) back long mark digits =
+    ap (λ (b : ℕ). word_bytes (b ∷ x ∷ high ∷ low ∷ rest)) back
+    ∙ ap (λ (b : ℕ). word_bytes (92 ∷ b ∷ high ∷ low ∷ rest)) mark
+    ∙ ap (λ (read : Result (List ℕ) FromHexError). option_append (result_ok read) (word_bytes rest)) digits
+    ∙ ap (λ (xs : List ℕ). option_append (Some (byte ∷ [])) (word_bytes xs))
+    (sym (take_all (length (x ∷ high ∷ low ∷ rest) - 3) rest (omega arith)))
 
 -- some words before others, where there are those
 abbrev pub words_before : List (List ℕ) → Option (List (List ℕ)) → Option (List (List ℕ))

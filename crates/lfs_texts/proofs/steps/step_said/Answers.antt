@@ -1,5 +1,5 @@
 -- Four words are all that there are.
-use Rattle.std.proofs.Common.{◌≡◌, ◌∙◌, ◌∷◌, [], List, ℕ, ap, map, sym, subst, arith}
+use Rattle.std.proofs.Common.{◌≡◌, ◌∙◌, ◌∷◌, [], List, ℕ, ap, map, refl, sym, subst, arith}
 use Rattle.std.proofs.lemmas.Result.{err_from_is_err_and}
 use Rattle.lfs_texts.specs.Steps.{IsFault}
 use Rattle.lfs_texts.proofs.StepLemmas.{four_items}
@@ -23,3 +23,6 @@ returns-in_err-command-in-len4-clause-refused c =
     ∙ ap (λ (text : List ℕ). verb.items ∷ first.items ∷ second.items ∷ text ∷ []) c.deref-in-len4-4.ensures.value
     ∙ ap (map (λ w. w.items)) (sym all) in
     rw (p.1, p.2) (subst (λ (words : List (List ℕ)). IsFault words fault) texts c.in_err-command-in-len4.ensures.refused)
+
+pub returns-clause-keep : goal.returns-clause-keep
+returns-clause-keep c = refl
