@@ -17,7 +17,7 @@ WRITE = "match self.bytes.extend_from_slice(bytes) {"
 # Of each edit the file, what stands there, what is to stand there, and how its line is to begin.
 TOGETHER = {
     "all_is_sent": ("src/text.rt", SEND, "        send(out, &self[..])", "NOT REFUSED"),
-    "nothing_is_kept": ("src/memory_sink.rt", WRITE, WRITE.replace("bytes)", "&bytes[..0])"), "refused, as it must be: note: src/memory_sink.rt:"),
+    "nothing_is_kept": ("src/memory_sink.rt", WRITE, WRITE.replace("bytes)", "&bytes[..0])"), "refused, as it must be: "),
 }
 ALONE = {
     "a_name_is_wrong": ("src/text.rt", SEND, "        send(out, this)", "BAD EDIT"),
