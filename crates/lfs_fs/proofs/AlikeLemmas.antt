@@ -98,7 +98,7 @@ superblock_is_of_the_root r old_bytes new_bytes old_attributes new_attributes l 
 
 -- ---- along a thread
 
-behind_superblock : (P : StoredEntry → Type 0) (first : Bool) (s : StoredEntry) (others : List StoredEntry)
+pub behind_superblock : (P : StoredEntry → Type 0) (first : Bool) (s : StoredEntry) (others : List StoredEntry)
     → All P (if first then s ∷ others else others) → All P others
 behind_superblock P true s others all = All-tail P s others all
 behind_superblock P false s others all = all

@@ -54,7 +54,7 @@ first_stored : (P : Link → Type 0) (ls : List Link) (p : Pair) → All P ls �
 first_stored P [] p all is = cc
 first_stored P (l ∷ ls) p all is = (l, All-head P l ls all, cc)
 
-root_superblock : (r : Reading) (bytes : List ℕ) (attributes : Attributes) (l : Link) (h : IsStored r bytes attributes l)
+pub root_superblock : (r : Reading) (bytes : List ℕ) (attributes : Attributes) (l : Link) (h : IsStored r bytes attributes l)
     → l.part.pair ≡ root → h.stored.entries ≡ superblock_entry bytes attributes ∷ h.others
 root_superblock r bytes attributes l h at = h.entries ∙ ap (λ (p : Pair). stored_before bytes attributes p h.others) at
 

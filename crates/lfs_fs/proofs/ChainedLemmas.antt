@@ -138,3 +138,16 @@ pairs_of_parts (d ∷ ds) =
     ∙ ap (λ (x : List Pair). x ++ map pair_of (links ds)) (pairs_of_directory d.first d.more (tail_to ds))
     ∙ ap (λ (x : List Pair). map (λ (p : Part). p.pair) (parts d) ++ x) (pairs_of_parts ds)
     ∙ sym (map-append (λ (p : Part). p.pair) (parts d) (thread ds))
+
+-- ---- the parts of links
+
+pub part_of_links : (p : Part) (ps : List Part) (tail : Tail) → map (λ (l : Link). l.part) (links_of p ps tail) ≡ p ∷ ps
+part_of_links p [] tail = refl
+part_of_links p (q ∷ ps) tail = ap (λ (qs : List Part). p ∷ qs) (part_of_links q ps tail)
+
+pub parts_of_links : (ds : List Directory) → map (λ (l : Link). l.part) (links ds) ≡ thread ds
+parts_of_links [] = refl
+parts_of_links (d ∷ ds) =
+    map-append (λ (l : Link). l.part) (links_of d.first d.more (tail_to ds)) (links ds)
+    ∙ ap (λ (qs : List Part). qs ++ map (λ (l : Link). l.part) (links ds)) (part_of_links d.first d.more (tail_to ds))
+    ∙ ap (λ (qs : List Part). parts d ++ qs) (parts_of_links ds)

@@ -4,7 +4,7 @@ use Rattle.std.proofs.Common.{refl, ap, sym, ◌∙◌, subst, arith, append_ass
 use Rattle.std.specs.Prelude.{All, MatchBool, flat_map}
 use Rattle.std.specs.List.{Any, AllByRecursion, slice_get}
 use Rattle.std.proofs.lemmas.List.{map-append}
-use Rattle.std.proofs.lemmas.List.Elements.{All-cons, All-nil, All-head, All-tail, All-append, All-push}
+use Rattle.std.proofs.lemmas.List.Elements.{All-cons, All-nil, All-head, All-tail, All-append, All-push, All-weaker}
 use Rattle.std.proofs.lemmas.List.Sums.{sum_by-append}
 use Rattle.lfs_block.specs.declared.mount_fault.MountFault.{MountFault}
 use Rattle.lfs_block.specs.declared.mount_fault.MountFault.TheVariants as fault
@@ -79,6 +79,19 @@ rise_more (x ∷ es) e rise before = (
   All-push (λ (f : Entry). precedes x.name f.name ≡ true) es e rise.0 (All-head (λ (f : Entry). precedes f.name e.name ≡ true) x es before),
   rise_more es e rise.1 (All-tail (λ (f : Entry). precedes f.name e.name ≡ true) x es before),
 )
+
+-- names that rise, behind others that come before the first of them
+pub rise_both : (es : List Entry) (f : Entry) (fs : List Entry) → Rise es → Rise (f ∷ fs) → All (λ e. precedes e.name f.name ≡ true) es
+    → Rise (es ++ f ∷ fs)
+rise_both [] f fs rise later before = later
+rise_both (e ∷ es) f fs rise later before =
+    let here : precedes e.name f.name ≡ true = All-head (λ (x : Entry). precedes x.name f.name ≡ true) e es before in
+    let Behind : Entry → Type 0 = λ x. precedes e.name x.name ≡ true in
+    (
+      All-append Behind es (f ∷ fs) rise.0 (All-cons Behind f fs here (All-weaker (λ (x : Entry). precedes f.name x.name ≡ true) Behind
+          (λ x next. precedes_transitive e.name f.name x.name here next) fs later.0)),
+      rise_both es f fs rise.1 later (All-tail (λ (x : Entry). precedes x.name f.name ≡ true) e es before),
+    )
 
 -- ---- entries
 

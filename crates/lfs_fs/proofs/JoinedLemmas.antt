@@ -86,7 +86,7 @@ none_kept r limits others used j len marks none_ended none_joined more whole =
     rw (none_ended, none_joined) (none_gathered r limits others more used whole len marks)
 
 -- what is marked so far
-kept_marks : (r : Reading) (limits : Limits) (others : ℕ → ℕ) (ps : List PairPart) (used : List Bool) (j : Joined)
+pub kept_marks : (r : Reading) (limits : Limits) (others : ℕ → ℕ) (ps : List PairPart) (used : List Bool) (j : Joined)
     → AreKept r limits others ps used j → (length used ≡ r.count) × Marks used (λ b. others b + parts_use r b ps)
 kept_marks r limits others ps used j kept =
     let h = subst (λ (qs : List PairPart). PartsTo r limits others qs used j.directories.items j.parts.items []) (append-nil ps)
@@ -177,7 +177,7 @@ module _ (r : Reading) (limits : Limits) (e : StoredEntry) (p : PairPart) (rest 
 
 -- ---- the first part
 
-root_alone : (r : Reading) (limits : Limits) (p : PairPart) (used : List Bool) (h : IsRootTaken r limits p used)
+pub root_alone : (r : Reading) (limits : Limits) (p : PairPart) (used : List Bool) (h : IsRootTaken r limits p used)
     → RootRead r p h.superblock p.1.entries []
 root_alone r limits p used h = record {
   at = h.at;

@@ -55,6 +55,8 @@ pub mod GatheredLemmas
 pub mod GatherCauseLemmas
 pub mod SuperblockFirstLemmas
 pub mod MountLemmas
+pub mod KnownLemmas
+pub mod RereadLemmas
 pub mod ThreadThereLemmas
 pub mod EntriesThereLemmas
 pub mod SoundThereLemmas

@@ -71,3 +71,9 @@ marks_sound v new sound more b = by (nat_lt b v.count) refl
         let behind : v.count ≤ b = grind (arith, nat_tests) in
         let none : slice_index_or new b false ≡ false = get_or_past new b false (omega (arith, more.len, long)) in
         ap (λ (t : Bool). cond {A = ℕ} t 1 0) none ∙ sym (unused_past (uses b v) b v.count (sound.within b) behind)
+
+-- where no block was marked, each is used no times
+pub none_marked : (n b : ℕ) → marked (replicate n false) b ≡ 0
+none_marked zero b = refl
+none_marked (suc n) zero = refl
+none_marked (suc n) (suc b) = none_marked n b

@@ -178,7 +178,7 @@ falls_first ds ps h fall =
     (any_here (λ (d : Directory). NamesFall (entries d)) h.first h.others
     (subst NamesFall (sym same) (fall_more (part_entries ps) (part_entries h.more) fall)))
 
-one_behind : (ps : List Part) (p : Part) → part_entries ps ++ p.entries ≡ part_entries (ps ++ p ∷ [])
+pub one_behind : (ps : List Part) (p : Part) → part_entries ps ++ p.entries ≡ part_entries (ps ++ p ∷ [])
 one_behind ps p = flat_map_more (λ (x : Part). x.entries) [] ps p
 
 -- what refuses the next part refuses all

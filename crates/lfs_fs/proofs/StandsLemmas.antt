@@ -75,7 +75,7 @@ each_stands r (s ∷ es) h =
     let one : resolved r s ≡ stood_for r s ∷ [] = resolved_is r s here.0 in
     rw one (stands_for r s here, each_stands r es (All-tail (IsResolved r) s es h))
 
-all_resolve : (r : Reading) (es : List StoredEntry) (fs : List Entry) → AllZip (StandsFor r) es fs → AllZip (Resolves r) es fs
+pub all_resolve : (r : Reading) (es : List StoredEntry) (fs : List Entry) → AllZip (StandsFor r) es fs → AllZip (Resolves r) es fs
 all_resolve r [] [] h = tt
 all_resolve r [] (f ∷ fs) h = absurd h
 all_resolve r (s ∷ es) [] h = absurd h

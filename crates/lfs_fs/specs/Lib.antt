@@ -54,3 +54,5 @@ pub mod RowShown
 pub mod Header
 pub mod Stored
 pub mod Alike
+pub mod DiskBut
+pub mod Reread

@@ -28,3 +28,8 @@ abbrev pub AreTaken : MountFault → List Bool → List ℕ → Type 0
 AreTaken BlockRange used blocks = Any (λ b. length used ≤ b) blocks
 AreTaken BlockTwice used blocks = (b : ℕ) × (2 ≤ marked used b + times b blocks)
 AreTaken _ used blocks = ⊥
+
+-- blocks are marked, each of which wasn't, as often as they are used
+pub record MarksBeside (old new : List Bool) (more : ℕ → ℕ) : Type 0 where
+  pub len : length new ≡ length old
+  pub marks : Marks new (λ b. marked old b + more b)

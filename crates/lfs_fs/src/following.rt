@@ -1,6 +1,6 @@
 //! Names that come after those of the parts and entries before them.
 
-ghost use Rattle.std.specs.Prelude.{◌≡◌, ◌++◌, true, All, IfSome, IfNone, MatchBool, []};
+ghost use Rattle.std.specs.Prelude.{◌≡◌, ◌++◌, true, All, IfSome, IfNone, IsTrue, MatchBool, []};
 ghost use Rattle.lfs_fs.specs.Gathering.{EndsAtOrAfter, EndsWith, part_entries};
 ghost use Rattle.lfs_fs.specs.NameOrder.{precedes};
 ghost use Rattle.lfs_fs.specs.Sound.{Rise};
@@ -52,5 +52,17 @@ pub(crate) fn comes_last(parts: &[OutlinePart], entries: &[OutlineEntry], name: 
     match entries.last() {
         Some(last) => comes_after(last, name),
         None => comes_behind(parts, name),
+    }
+}
+
+/// Whether the names of entries that rise come after those of parts in order.
+pub(crate) fn come_last(parts: &[OutlinePart], entries: &[OutlineEntry]) -> bool
+    requires parts { Rise (part_entries parts.now) }
+    requires entries { Rise entries.now }
+    ensures { IsTrue result → Rise (part_entries parts.now ++ entries.now) }
+{
+    match entries.split_first() {
+        Some((first, _)) => comes_behind(parts, &first.name),
+        None => true,
     }
 }

@@ -24,7 +24,7 @@ pub(crate) struct Gathered {
 }
 
 /// The attributes of an entry.
-fn attributes_of(entry: Entry) -> Vec<Attribute>
+pub(crate) fn attributes_of(entry: Entry) -> Vec<Attribute>
     ensures value { result.items ≡ entry.attributes }
     ensures rise { RiseFrom 0 result.items }
 {

@@ -5,11 +5,14 @@ ghost use Rattle.lfs_fs.specs.Gathering.{as_directory};
 ghost use Rattle.lfs_fs.specs.Thread.{is_hard};
 
 use crate::delta::Delta;
+use crate::following::come_last;
 use crate::keeping_parts::kept_part;
+use crate::known_part::KnownPart;
 use crate::limits::Limits;
 use crate::outline_directory::OutlineDirectory;
 use crate::outline_part::OutlinePart;
 use crate::pushing::push;
+use crate::used_files::mark_files;
 use lfs_block::{Blocks, MountFault};
 use lfs_meta::{Part, Tail};
 use std::alloc::{AllocError, Global};
@@ -50,12 +53,13 @@ fn push_directory(
 }
 
 impl Joined {
-    ghost use Rattle.std.specs.Prelude.{◌≡◌, ◌++◌, [], IfOk, IfErr, OnOk, length};
+    ghost use Rattle.std.specs.Prelude.{◌≡◌, ◌++◌, [], Bool, IfOk, IfErr, OnOk, length};
     ghost use Rattle.std.specs.List.{AllByRecursion};
     ghost use Rattle.lfs_block.specs.Disk.{IsDisk};
     ghost use Rattle.lfs_meta.specs.Whole.{IsWhole};
-    ghost use Rattle.lfs_fs.specs.Gathering.{EntriesCause, KeepsNext, as_directory, part_entries};
+    ghost use Rattle.lfs_fs.specs.Gathering.{EntriesCause, Joins, KeepsNext, as_directory, part_entries};
     ghost use Rattle.lfs_fs.specs.Reading.{reading_of};
+    ghost use Rattle.lfs_fs.specs.Reread.{TakesOver};
     ghost use Rattle.lfs_fs.specs.Sound.{Rise};
 
     /// Before the first part.
@@ -69,6 +73,19 @@ impl Joined {
             parts: Vec::new(alloc),
             state: Delta::none(),
         }
+    }
+
+    /// Puts a part behind those of its directory, which goes on behind it or ends with it. Takes memory.
+    fn join(&mut self, alloc: Global, part: OutlinePart, goes_on: bool) -> Result<(), AllocError>
+        ensures joins { OnOk result (Joins goes_on part self.old self.new) }
+        ensures state { self.new.state ≡ self.old.state }
+    {
+        push(&mut self.parts, part)?;
+        if !goes_on {
+            let parts = replace(&mut self.parts, Vec::new(alloc));
+            push_directory(&mut self.directories, parts)?;
+        }
+        Ok(())
     }
 
     /// Keeps a part behind those so far, and marks the blocks of its files: what one of its entries is refused for, or `OrderFault` where a
@@ -92,11 +109,29 @@ impl Joined {
         let goes_on = is_hard(part.tail);
         self.state = self.state.joined(&Delta::of(&part.delta));
         let kept = kept_part(alloc, blocks, limits, used, &self.parts, part)?;
-        push(&mut self.parts, kept)?;
-        if !goes_on {
-            let parts = replace(&mut self.parts, Vec::new(alloc));
-            push_directory(&mut self.directories, parts)?;
+        self.join(alloc, kept, goes_on)?;
+        Ok(())
+    }
+
+    /// Puts a known part behind those so far, and marks the blocks of its files: `OrderFault` where its names don't come after
+    /// those of its directory, `BlockTwice` where a block of its files is marked.
+    pub(crate) fn take_over(
+        &mut self,
+        alloc: Global,
+        used: &mut [bool],
+        known: KnownPart,
+    ) -> Result<(), MountFault>
+        requires rise { Rise (part_entries self.old.parts.items) }
+        requires entries { Rise known.part.entries }
+        ensures { OnOk result (TakesOver used.old used.new known self.old self.new) }
+    {
+        let KnownPart { part, tail } = known;
+        if !come_last(&self.parts, &part.entries) {
+            return Err(MountFault::OrderFault);
         }
+        mark_files(used, &part.entries)?;
+        self.state = self.state.joined(&part.delta);
+        self.join(alloc, part, is_hard(tail))?;
         Ok(())
     }
 

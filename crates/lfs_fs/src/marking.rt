@@ -21,7 +21,7 @@ fn mark(used: &mut [bool], block: u32)
 }
 
 /// Marks blocks.
-fn mark_each(used: &mut [bool], blocks: &[u32])
+pub(crate) fn mark_each(used: &mut [bool], blocks: &[u32])
     ensures { MarksMore used.old used.new (λ b. times b blocks.now) }
 {
     'each: for block in blocks {

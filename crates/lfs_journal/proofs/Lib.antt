@@ -5,3 +5,4 @@ pub mod BatchLemmas
 pub mod KnownLemmas
 pub mod OpeningLemmas
 pub mod RoomLemmas
+pub mod BesideLemmas

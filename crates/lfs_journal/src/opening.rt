@@ -89,8 +89,8 @@ fn others_mount(
 {
     let erased = erased_block(alloc, image.size())?;
     let (made, undone) = patches.split_at(done);
-    mounts_back(alloc, image, made, &erased)?;
-    mounts_on(alloc, image, undone, &erased)
+    mounts_back(alloc, image, None, made, &erased)?;
+    mounts_on(alloc, image, None, undone, &erased)
 }
 
 /// The changes that the bytes of a journal denote on an image, which stands again as it was, with room for each image of the

@@ -51,7 +51,8 @@ use Rattle.lfs_law.proofs.LinksAdded.{times_append, written_within, set_is}
 use Rattle.lfs_law.proofs.NamedBlocks.{supplies_once}
 use Rattle.lfs_law.proofs.OutlineRoom.{sum_over}
 use Rattle.lfs_law.proofs.OutlinesWritten.{blocks_outlined, none_named}
-use Rattle.lfs_law.proofs.WrittenLemmas.{part_uses, sum_thread, two_le, pair_used, chain_by, parts_of_links, part_there, set_apart}
+use Rattle.lfs_fs.proofs.ChainedLemmas.{parts_of_links}
+use Rattle.lfs_law.proofs.WrittenLemmas.{part_uses, sum_thread, two_le, pair_used, chain_by, part_there, set_apart}
 
 -- ---- chains of the volume are there
 

@@ -14,7 +14,7 @@ use Rattle.lfs_fs.specs.Stored.{IsStored, HoldsLinks, HeldAreHeldByLinks, Stands
 use Rattle.lfs_fs.specs.Superblock.{superblock_entry}
 use Rattle.lfs_fs.specs.Thread.{Link, links}
 use Rattle.lfs_law.specs.NeedsSmall.{HeldHaveFewEntries}
-use Rattle.lfs_law.proofs.WrittenLemmas.{parts_of_links}
+use Rattle.lfs_fs.proofs.ChainedLemmas.{parts_of_links}
 
 -- no more than with the superblock's
 others_fewer : (bytes : List ℕ) (attributes : Attributes) (others : List StoredEntry) (t : Bool)

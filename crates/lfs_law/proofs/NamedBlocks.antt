@@ -45,7 +45,8 @@ use Rattle.lfs_law.proofs.OutlineRoom.{sum_over}
 use Rattle.lfs_law.proofs.OutlinesWritten.{set_uses_outlined}
 use Rattle.lfs_law.proofs.PairTotals.{parts_total, total, total_cons, link_total, last_total, made_total, edited_total}
 use Rattle.lfs_law.proofs.Placed.{IsPlaced, is_placed}
-use Rattle.lfs_law.proofs.WrittenLemmas.{part_uses, sum_thread, parts_of_links}
+use Rattle.lfs_fs.proofs.ChainedLemmas.{parts_of_links}
+use Rattle.lfs_law.proofs.WrittenLemmas.{part_uses, sum_thread}
 
 -- ---- sums
 

@@ -38,7 +38,8 @@ use Rattle.lfs_law.proofs.ChangesAt.{overlaid_none}
 use Rattle.lfs_law.proofs.LinksAdded.{times_cons, times_append, written_within, one_use, set_is}
 use Rattle.lfs_law.proofs.OutlineEntries.{outlined_entries}
 use Rattle.lfs_law.proofs.OutlineDirectories.{outlined_parts}
-use Rattle.lfs_law.proofs.WrittenLemmas.{part_there, parts_of_links}
+use Rattle.lfs_fs.proofs.ChainedLemmas.{parts_of_links}
+use Rattle.lfs_law.proofs.WrittenLemmas.{part_there}
 
 -- ---- the links of an outline
 

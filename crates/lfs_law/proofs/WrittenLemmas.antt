@@ -22,6 +22,7 @@ use Rattle.lfs_fs.specs.Uses.{times, body_uses, entry_uses, pair_uses, directory
 use Rattle.lfs_fs.specs.Reading.{reading_of}
 use Rattle.lfs_fs.specs.Stored.{IsStored}
 use Rattle.lfs_fs.specs.Alike.{ChainStays, PartStays, StoredLinksStay, SuperblockIsOfTheRoot}
+use Rattle.lfs_fs.proofs.ChainedLemmas.{parts_of_links}
 use Rattle.lfs_fs.proofs.ContainsLemmas.{contains_cases, contains_mapped}
 use Rattle.lfs_fs.proofs.CountLemmas.{element_le}
 use Rattle.lfs_fs.proofs.MarkingLemmas.{parts_split}
@@ -32,19 +33,7 @@ use Rattle.lfs_law.specs.Lengthened.{HoldsParts}
 use Rattle.lfs_law.specs.Written.{cleaned_link, Writes, IsEditOf, WrittenAreHeld, HeldAreClean}
 use Rattle.lfs_law.proofs.Decided.{same_pair_or_not}
 
--- ---- links and parts
-
-pub part_of_links : (p : Part) (ps : List Part) (tail : Tail) → map (λ (l : Link). l.part) (links_of p ps tail) ≡ p ∷ ps
-part_of_links p [] tail = refl
-part_of_links p (q ∷ ps) tail = ap (λ (qs : List Part). p ∷ qs) (part_of_links q ps tail)
-
-pub parts_of_links : (ds : List Directory) → map (λ (l : Link). l.part) (links ds) ≡ thread ds
-parts_of_links [] = refl
-parts_of_links (d ∷ ds) =
-    map-append (λ (l : Link). l.part) (links_of d.first d.more (tail_to ds)) (links ds)
-    ∙ ap (λ (qs : List Part). qs ++ map (λ (l : Link). l.part) (links ds)) (part_of_links d.first d.more (tail_to ds))
-    ∙ ap (λ (qs : List Part). parts d ++ qs) (parts_of_links ds)
-    ∙ sym (flat_map-cons parts d ds)
+-- ---- parts of links
 
 pub part_there : (ds : List Directory) (l : Link) → Contains (links ds) l → Contains (thread ds) l.part
 part_there ds l there = subst (λ (ps : List Part). Contains ps l.part) (parts_of_links ds)

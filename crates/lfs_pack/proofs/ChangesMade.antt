@@ -11,7 +11,7 @@ use Rattle.lfs_law.specs.WrittenLinks.{CanBeMade, block_after}
 use Rattle.lfs_law.proofs.ChangesAt.{overlaid_none}
 use Rattle.lfs_law.proofs.OutlinesWritten.{none_named}
 use Rattle.lfs_write.specs.Laid.{AreLaid}
-use Rattle.lfs_pack.specs.DiskBut.{IsDiskBut}
+use Rattle.lfs_fs.specs.DiskBut.{IsDiskBut}
 
 made_fit : (d : Disk) (cs : List Change) → AllByRecursion (CanBeMade d) cs → AllByRecursion (FitsDisk d) cs
 made_fit d [] made = tt

@@ -6,7 +6,7 @@ use Rattle.std.proofs.lemmas.Bool.Decides.{nat_tests}
 use Rattle.lfs_block.specs.Disk.{Disk, IsDisk, block_of}
 use Rattle.lfs_block.specs.PatchLaws.{IsDiskAs}
 use Rattle.lfs_fs.specs.Uses.{times}
-use Rattle.lfs_pack.specs.DiskBut.{IsDiskBut}
+use Rattle.lfs_fs.specs.DiskBut.{IsDiskBut}
 use Rattle.lfs_pack.proofs.Ranges.{once_if, times_range}
 
 -- image f is d but for so many blocks from one on

@@ -23,7 +23,8 @@ use Rattle.lfs_law.specs.WrittenLinks.{link_part}
 use Rattle.lfs_law.proofs.MadeBytes.{made_bytes_say}
 use Rattle.lfs_law.proofs.OutlineEntries.{outlined_entries}
 use Rattle.lfs_law.proofs.OutlinesWritten.{links_outlined, outline_there, outlined_link, entries_stand}
-use Rattle.lfs_law.proofs.WrittenLemmas.{chain_by, part_there, part_uses, parts_of_links, sum_thread}
+use Rattle.lfs_fs.proofs.ChainedLemmas.{parts_of_links}
+use Rattle.lfs_law.proofs.WrittenLemmas.{chain_by, part_there, part_uses, sum_thread}
 use Rattle.lfs_pack.specs.Filled.{FillsPair, first_blocks}
 use Rattle.lfs_pack.specs.NewImages.{NewImagesHold, TakesVolume}
 use Rattle.lfs_pack.proofs.PairsFilled.{firsts_within, name_of}

@@ -20,7 +20,7 @@ use Rattle.lfs_fs.proofs.ContainsLemmas.{contains_first}
 use Rattle.lfs_fs.proofs.CountLemmas.{element_le}
 use Rattle.lfs_law.specs.WrittenLinks.{link_part, stored_entries}
 use Rattle.lfs_law.proofs.LinksAdded.{contains_one, first_used, second_used, times_append, times_cons, times_pair}
-use Rattle.lfs_pack.specs.DiskBut.{IsDiskBut}
+use Rattle.lfs_fs.specs.DiskBut.{IsDiskBut}
 use Rattle.lfs_pack.specs.Filled.{CanFillPair, CanFillPairs, FillPairs, FillsPair, first_blocks, links_name}
 
 -- ---- which blocks are other ones

@@ -24,7 +24,8 @@ use Rattle.lfs_law.specs.SuperblockBytes.{volume_bytes}
 use Rattle.lfs_law.specs.WrittenLinks.{stored_entries}
 use Rattle.lfs_law.proofs.CutLinksFit.{pair_apart, pair_below, tails_below, entry_weighs, stored_many, body_taken, name_taken, thread_named}
 use Rattle.lfs_law.proofs.OutlineRoom.{sum_over}
-use Rattle.lfs_law.proofs.WrittenLemmas.{part_there, parts_of_links, sum_thread}
+use Rattle.lfs_fs.proofs.ChainedLemmas.{parts_of_links}
+use Rattle.lfs_law.proofs.WrittenLemmas.{part_there, sum_thread}
 use Rattle.lfs_pack.specs.Filled.{CanFillPair}
 use Rattle.lfs_pack.specs.OutlinesTaken.{FitsNewPair, SoundOutlinesCanBeTaken, front_weight}
 use Rattle.lfs_pack.proofs.NewImagesHeld.{names_of_parts, pairs_only}

@@ -20,7 +20,8 @@ use Rattle.lfs_command.specs.Edited.{edited}
 use Rattle.lfs_command.specs.Planned.{CarriesOut}
 use Rattle.lfs_law.specs.OutlineLaws.{IsThere}
 use Rattle.lfs_law.proofs.KnownBodies.{Bodies, OfBodies, OfNew, by_parts, cut_bodies, edited_bodies, link_has}
-use Rattle.lfs_law.proofs.WrittenLemmas.{chain_by, parts_of_links}
+use Rattle.lfs_fs.proofs.ChainedLemmas.{parts_of_links}
+use Rattle.lfs_law.proofs.WrittenLemmas.{chain_by}
 use Rattle.lfs_law.proofs.CommandsWritten.{body_stays}
 use Rattle.lfs_pack.specs.OneMore.{AreFreeFrom}
 use Rattle.lfs_pack.specs.Built.{AreThere}

@@ -23,7 +23,7 @@ use Rattle.lfs_command.specs.Planned.{CarriesOut}
 use Rattle.lfs_pack.specs.Ending.{with_more, last_part, takes_entry}
 use Rattle.lfs_pack.specs.EndCuts.{made}
 use Rattle.lfs_pack.specs.EndEdits.{ComesLast, EndsWithName}
-use Rattle.lfs_pack.specs.DiskBut.{IsDiskBut}
+use Rattle.lfs_fs.specs.DiskBut.{IsDiskBut}
 use Rattle.lfs_pack.specs.Built.{IsBuilt}
 
 -- how many blocks an entry needs that comes with so many, where the last part takes it, and in a new part

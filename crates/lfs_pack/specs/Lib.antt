@@ -1,4 +1,3 @@
-pub mod DiskBut
 pub mod Filled
 pub mod NewImages
 pub mod OutlinesTaken

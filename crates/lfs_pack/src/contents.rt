@@ -4,7 +4,7 @@ ghost use Rattle.std.specs.Prelude.{◌≡◌, ◌<◌, ◌^◌, All, AllPairs, 
 ghost use Rattle.lfs_block.specs.Disk.{block_of};
 ghost use Rattle.lfs_file.specs.Capacity.{least_blocks};
 ghost use Rattle.lfs_file.specs.Laying.{laid};
-ghost use Rattle.lfs_pack.specs.DiskBut.{IsDiskBut};
+ghost use Rattle.lfs_fs.specs.DiskBut.{IsDiskBut};
 
 use crate::changing::make_changes;
 use lfs_block::{Blocks, Image, changes_change_their_blocks};

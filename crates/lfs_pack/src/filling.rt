@@ -4,7 +4,7 @@ ghost use Rattle.std.specs.Prelude.{[], ◌∷◌, OnOk};
 ghost use Rattle.lfs_fs.specs.Sound.{AreAttributes};
 ghost use Rattle.lfs_law.specs.PairWritten.{link_to};
 ghost use Rattle.lfs_law.specs.SuperblockBytes.{volume_bytes};
-ghost use Rattle.lfs_pack.specs.DiskBut.{IsDiskBut};
+ghost use Rattle.lfs_fs.specs.DiskBut.{IsDiskBut};
 ghost use Rattle.lfs_pack.specs.Filled.{CanFillPair, FillPairs, first_blocks};
 
 use crate::putting::put_block;

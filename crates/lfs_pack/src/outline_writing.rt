@@ -2,7 +2,7 @@
 
 ghost use Rattle.std.specs.Prelude.{OnOk};
 ghost use Rattle.lfs_fs.specs.Thread.{links};
-ghost use Rattle.lfs_pack.specs.DiskBut.{IsDiskBut};
+ghost use Rattle.lfs_fs.specs.DiskBut.{IsDiskBut};
 ghost use Rattle.lfs_pack.specs.Filled.{CanTakeOutline, TakesOutline, first_blocks};
 
 use crate::filling::fill_pair;

@@ -2,7 +2,7 @@
 use Rattle.std.proofs.Common.{ap, map, sym, ◌∙◌, subst}
 use Rattle.lfs_block.specs.Disk.{Disk, block_of}
 use Rattle.lfs_block.specs.PatchLaws.{IsDiskAs}
-use Rattle.lfs_pack.specs.DiskBut.{IsDiskBut}
+use Rattle.lfs_fs.specs.DiskBut.{IsDiskBut}
 use Rattle.lfs_pack.proofs.ChangesMade.{contents_but, contents_laid}
 use Rattle.lfs_pack.proofs.contents.lay_contents.Goals as goal
 

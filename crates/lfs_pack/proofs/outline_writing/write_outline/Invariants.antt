@@ -3,7 +3,7 @@ use Rattle.std.proofs.Common.{drop}
 use Rattle.lfs_block.specs.Disk.{Disk, IsDisk}
 use Rattle.lfs_fs.specs.Thread.{links}
 use Rattle.lfs_law.specs.SuperblockBytes.{volume_bytes}
-use Rattle.lfs_pack.specs.DiskBut.{IsDiskBut}
+use Rattle.lfs_fs.specs.DiskBut.{IsDiskBut}
 use Rattle.lfs_pack.specs.Filled.{CanFillPairs, TakesOutline, FillPairs, first_blocks}
 use Rattle.lfs_pack.proofs.outline_writing.write_outline.Given as goal
 

@@ -1,4 +1,4 @@
-use Rattle.std.proofs.Common.{◌≡◌, ◌+◌, ◌∷◌, ◌++◌, [], ℕ, arith, subst, sym, ◌∙◌}
+use Rattle.std.proofs.Common.{◌+◌, ℕ, arith, subst, sym, ◌∙◌}
 use Rattle.std.proofs.lemmas.Result.{err_from_is_err_and}
 use Rattle.lfs_fs.specs.Ordered.{Enters}
 use Rattle.lfs_fs.proofs.WalkingLemmas.{walking_file, walking_directory, walking_fault, work_less}
