@@ -86,8 +86,7 @@ pub rise_both : (es : List Entry) (f : Entry) (fs : List Entry) → Rise es → 
 rise_both [] f fs rise later before = later
 rise_both (e ∷ es) f fs rise later before =
     let here : precedes e.name f.name ≡ true = All-head (λ (x : Entry). precedes x.name f.name ≡ true) e es before in
-    let Behind : Entry → Type 0 = λ x. precedes e.name x.name ≡ true in
-    (
+    let Behind : Entry → Type 0 = λ x. precedes e.name x.name ≡ true in (
       All-append Behind es (f ∷ fs) rise.0 (All-cons Behind f fs here (All-weaker (λ (x : Entry). precedes f.name x.name ≡ true) Behind
           (λ x next. precedes_transitive e.name f.name x.name here next) fs later.0)),
       rise_both es f fs rise.1 later (All-tail (λ (x : Entry). precedes x.name f.name ≡ true) e es before),

@@ -173,9 +173,10 @@ directory_before d ds so_far is = ap (λ (ls : List Link). ls ++ reverse (links_
 -- what is taken off was there, and what is left begins what was
 pub taken_off : (ks rest : List Link) (n : ℕ) (k : Link) → take n ks ≡ rest ++ k ∷ [] → Contains ks k × ((gone : List Link) × (ks ≡ rest ++ gone))
 taken_off ks rest n k is =
-    let whole : ks ≡ (rest ++ k ∷ []) ++ drop n ks = sym (take-append-drop n ks) ∙ ap (λ (ls : List Link). ls ++ drop n ks) is in
-    (subst (λ (ls : List Link). Contains ls k) (sym whole) (Contains-append_left (rest ++ k ∷ []) (drop n ks) k (Contains-push rest k)),
-    (k ∷ drop n ks, whole ∙ append_assoc rest (k ∷ []) (drop n ks)))
+    let whole : ks ≡ (rest ++ k ∷ []) ++ drop n ks = sym (take-append-drop n ks) ∙ ap (λ (ls : List Link). ls ++ drop n ks) is in (
+      subst (λ (ls : List Link). Contains ls k) (sym whole) (Contains-append_left (rest ++ k ∷ []) (drop n ks) k (Contains-push rest k)),
+      (k ∷ drop n ks, whole ∙ append_assoc rest (k ∷ []) (drop n ks)),
+    )
 
 -- ---- what is known
 
@@ -231,8 +232,7 @@ are_known depend found content e changed flags o ks h marks is =
 -- the size and the count of the image
 pub known_geometry : (e : Disk) (changed : List ℕ) (o : Volume) → IsOutlineBut changed e o → (o.size ≡ e.size) × (o.count ≡ e.count)
 known_geometry e changed o h =
-    let held = held_are_held_by_links (reading_of h.before) h.outline.volume h.outline.holds in
-    (
+    let held = held_are_held_by_links (reading_of h.before) h.outline.volume h.outline.holds in (
       ap (λ (x : Volume). x.size) h.outline.outline ∙ held.size ∙ sym h.but.disk.size,
       ap (λ (x : Volume). x.count) h.outline.outline ∙ held.count ∙ sym h.but.disk.count,
     )

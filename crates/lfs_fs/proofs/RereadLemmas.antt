@@ -224,8 +224,11 @@ GathersFrom r limits attributes used joined behind s so_far now j =
 module _ (r : Reading) (limits : Limits) (attributes : Attributes) (used : List Bool) (joined : Joined) (behind : Option Pair)
     (s : IsStarted r limits attributes used joined behind) where
   pub first_gathered : GathersFrom r limits attributes used joined behind s behind used joined
-  first_gathered = ([], subst (λ (o : Option Pair). GathersTo r limits s.root.superblock s.part [] o used joined) (sym s.behind_is)
-      (first_kept r limits s.part s.marked used s.root s.none joined s.is_none.directories s.is_none.parts s.is_none.state s.keeps))
+  first_gathered = (
+    [],
+    subst (λ (o : Option Pair). GathersTo r limits s.root.superblock s.part [] o used joined) (sym s.behind_is)
+        (first_kept r limits s.part s.marked used s.root s.none joined s.is_none.directories s.is_none.parts s.is_none.state s.keeps),
+  )
 
   module _ (pair : Pair) (now : List Bool) (j : Joined) (h : GathersFrom r limits attributes used joined behind s (Some pair) now j) where
     pub gathered_len : length now ≡ r.count
@@ -247,9 +250,12 @@ module _ (r : Reading) (limits : Limits) (attributes : Attributes) (used : List 
 
     pub pair_gathered : (mid new : List Bool) (k : Joined) (after : Option Pair) → AddsBlocks now mid (pair.0 ∷ pair.1 ∷ [])
         → KeepsPair r limits mid new pair after j k → GathersFrom r limits attributes used joined behind s after new k
-    pair_gathered mid new k after adds keeps = (h.0 ++ keeps.part ∷ [], subst (λ (o : Option Pair).
-        GathersTo r limits s.root.superblock s.part (h.0 ++ keeps.part ∷ []) o new k) (sym keeps.behind_is)
-        (gathers_more r limits s.root.superblock s.part h.0 now j pair keeps.part mid new k h.1 adds keeps.at keeps.read keeps.whole keeps.keeps))
+    pair_gathered mid new k after adds keeps = (
+      h.0 ++ keeps.part ∷ [],
+      subst (λ (o : Option Pair).
+          GathersTo r limits s.root.superblock s.part (h.0 ++ keeps.part ∷ []) o new k) (sym keeps.behind_is)
+          (gathers_more r limits s.root.superblock s.part h.0 now j pair keeps.part mid new k h.1 adds keeps.at keeps.read keeps.whole keeps.keeps),
+    )
 
     pub fewer_left : (mid new : List Bool) (k : Joined) (after : Option Pair) → AddsBlocks now mid (pair.0 ∷ pair.1 ∷ [])
         → KeepsPair r limits mid new pair after j k → unmarked new < unmarked now

@@ -11,7 +11,7 @@ ghost use Rattle.lfs_journal.specs.Known.{HasRoom, IsKnown};
 ghost use Rattle.lfs_journal.specs.Opened.{RefusesMount, RefusesMounts};
 
 use lfs_block::{
-    Blocks, Image, MountFault, Overlay, Patch, applied_patches_change_their_blocks,
+    Blocks, Image, MountFault, Overlay, Patch, Record, applied_patches_change_their_blocks,
     applied_patches_revert, flipped_patches_are_patches, kept_counts_change_their_blocks,
     reverted_patches_apply_again,
 };
@@ -19,12 +19,12 @@ use lfs_fs::{Outline, mount, reread};
 use lfs_history::OpenFault;
 use std::alloc::{AllocError, Global};
 
-/// The numbers of the blocks that a patch changes. Takes memory.
-fn changed_blocks(alloc: Global, patch: &Patch) -> Result<Vec<u32>, AllocError>
-    ensures { IfOk result (λ numbers. numbers.items ≡ changed_blocks patch.now.changes) }
+/// The numbers of the blocks that are changed. Takes memory.
+fn changed_blocks(alloc: Global, records: &[Record]) -> Result<Vec<u32>, AllocError>
+    ensures { IfOk result (λ numbers. numbers.items ≡ changed_blocks records.now) }
 {
     let mut numbers = Vec::new(alloc);
-    for record in patch.records() {
+    'each: for record in records {
         numbers.push(record.number)?;
     }
     Ok(numbers)
@@ -45,13 +45,13 @@ fn outline_beside<B: Blocks>(
     if patch.after() != patch.before() {
         return None;
     }
-    let changed = changed_blocks(alloc, patch).ok()?;
+    let changed = changed_blocks(alloc, patch.records()).ok()?;
     reread(alloc, blocks, outline, &changed)
 }
 
 /// The outline of an image of a history, on one side of a patch, of which that of the other side may be known; `JournalImage` where the
 /// image has a cause, and want of memory.
-fn mounted<B: Blocks>(
+fn mounted_outline<B: Blocks>(
     alloc: Global,
     blocks: &B,
     known: Option<Outline>,
@@ -96,7 +96,7 @@ pub(crate) fn mounts_back(
     let Some((last, earlier)) = patches.split_last() else {
         return Ok(());
     };
-    let outline = mounted(alloc, &Overlay::before(image, last, erased), known, last)?;
+    let outline = mounted_outline(alloc, &Overlay::before(image, last, erased), known, last)?;
     last.revert(image);
     let mounted = mounts_back(alloc, image, Some(outline), earlier, erased);
     last.apply(image);
@@ -128,7 +128,7 @@ pub(crate) fn mounts_on(
     let Some((first, later)) = patches.split_first() else {
         return Ok(());
     };
-    let outline = mounted(alloc, &Overlay::after(image, first, erased), known, first)?;
+    let outline = mounted_outline(alloc, &Overlay::after(image, first, erased), known, first)?;
     first.apply(image);
     let mounted = mounts_on(alloc, image, Some(outline), later, erased);
     first.revert(image);

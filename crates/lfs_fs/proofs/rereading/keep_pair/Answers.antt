@@ -26,13 +26,17 @@ returns-in-Some-clause-kept g c =
 pub returns-in-Some-clause-known : goal.returns-in-Some-clause-known
 returns-in-Some-clause-known g c =
     let r = reading_of (g.B.Blocks.disk c.args.blocks.now) in
-    let h = c.requires.known in
-    (h.0, known_left r c.args.limits h.0 c.args.known.now.changed.items c.take.new.self.changed.items c.args.known.now.parts.items
-    c.take.new.self.parts.items h.1 c.take.ensures.rest c.take.ensures.changed)
+    let h = c.requires.known in (
+      h.0,
+      known_left r c.args.limits h.0 c.args.known.now.changed.items c.take.new.self.changed.items c.args.known.now.parts.items
+          c.take.new.self.parts.items h.1 c.take.ensures.rest c.take.ensures.changed,
+    )
 
 pub returns-clause-known : goal.returns-clause-known
 returns-clause-known g c =
     let r = reading_of (g.B.Blocks.disk c.args.blocks.now) in
-    let h = c.requires.known in
-    (h.0, known_left r c.args.limits h.0 c.args.known.now.changed.items c.take.new.self.changed.items c.args.known.now.parts.items
-    c.take.new.self.parts.items h.1 c.take.ensures.rest c.take.ensures.changed)
+    let h = c.requires.known in (
+      h.0,
+      known_left r c.args.limits h.0 c.args.known.now.changed.items c.take.new.self.changed.items c.args.known.now.parts.items
+          c.take.new.self.parts.items h.1 c.take.ensures.rest c.take.ensures.changed,
+    )
