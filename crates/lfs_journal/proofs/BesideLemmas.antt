@@ -12,7 +12,6 @@ use Rattle.lfs_law.specs.WrittenLinks.{changed_blocks}
 use Rattle.lfs_law.proofs.ChangesAt.{overlaid_none}
 use Rattle.lfs_law.proofs.OutlinesWritten.{none_named}
 use Rattle.lfs_journal.specs.Beside.{IsBeside}
-use Rattle.lfs_journal.specs.Known.{IsKnown}
 
 pub beside_applied : KeptIsDisk → KeptBlocks → (p : ChangeSet) (d : Disk) (o : Volume) → IsDisk d → IsPatch p → AgreesOld p d
     → IsOutlineOf d o → IsBeside p (applied p d) o
@@ -46,13 +45,13 @@ beside_reverted backwards is_disk blocks p d o disk patch agrees known kept = re
 
 -- what is known, if anything is
 pub known_behind : KeptIsDisk → KeptBlocks → (p : ChangeSet) (d e : Disk) (known : Option Volume) → IsDisk d → IsPatch p → AgreesOld p d
-    → e ≡ applied p d → IsKnown d known → IfSome known (λ o. IsBeside p e o)
+    → e ≡ applied p d → IfSome known (λ o. IsOutlineOf d o) → IfSome known (λ o. IsBeside p e o)
 known_behind is_disk blocks p d e None disk patch agrees is known = tt
 known_behind is_disk blocks p d e (Some o) disk patch agrees is known =
     subst (λ (x : Disk). IsBeside p x o) (sym is) (beside_applied is_disk blocks p d o disk patch agrees known)
 
 pub known_before : FlippedIsPatch → KeptIsDisk → KeptBlocks → (p : ChangeSet) (d e : Disk) (known : Option Volume) → IsDisk d → IsPatch p
-    → AgreesNew p d → e ≡ reverted p d → IsKnown d known → IfSome known (λ o. IsBeside p e o)
+    → AgreesNew p d → e ≡ reverted p d → IfSome known (λ o. IsOutlineOf d o) → IfSome known (λ o. IsBeside p e o)
 known_before backwards is_disk blocks p d e None disk patch agrees is known = tt
 known_before backwards is_disk blocks p d e (Some o) disk patch agrees is known =
     subst (λ (x : Disk). IsBeside p x o) (sym is) (beside_reverted backwards is_disk blocks p d o disk patch agrees known)

@@ -7,7 +7,7 @@ ghost use Rattle.lfs_history.specs.History.{GoesBack, GoesForward, IsMounted, pa
 ghost use Rattle.lfs_fs.specs.Mounted.{IsOutlineOf};
 ghost use Rattle.lfs_law.specs.WrittenLinks.{changed_blocks};
 ghost use Rattle.lfs_journal.specs.Beside.{IsBeside};
-ghost use Rattle.lfs_journal.specs.Known.{HasRoom, IsKnown};
+ghost use Rattle.lfs_journal.specs.Known.{HasRoom};
 ghost use Rattle.lfs_journal.specs.Opened.{RefusesMount, RefusesMounts};
 
 use lfs_block::{
@@ -81,7 +81,7 @@ pub(crate) fn mounts_back(
     erased: &[u8],
 ) -> Result<(), OpenFault>
     requires disk { IsDisk image.old.disk }
-    requires known { IsKnown image.old.disk known }
+    requires known { IfSome known (λ outline. IsOutlineOf image.old.disk outline) }
     requires agrees { GoesBack (reverse patches.now) image.old.disk }
     requires room { HasRoom image.old.room patches.now }
     requires erased { erased.now ≡ erased_block image.old.disk.size }
@@ -113,7 +113,7 @@ pub(crate) fn mounts_on(
     erased: &[u8],
 ) -> Result<(), OpenFault>
     requires disk { IsDisk image.old.disk }
-    requires known { IsKnown image.old.disk known }
+    requires known { IfSome known (λ outline. IsOutlineOf image.old.disk outline) }
     requires agrees { GoesForward patches.now image.old.disk }
     requires room { HasRoom image.old.room patches.now }
     requires erased { erased.now ≡ erased_block image.old.disk.size }
