@@ -11,3 +11,4 @@ pub mod BareDirectories
 pub mod PathsBelow
 pub mod NoHome
 pub mod ReachSteps
+pub mod FreeingLemmas

@@ -2,3 +2,4 @@ pub mod LeastSupplies
 pub mod EntryChange
 pub mod Editable
 pub mod Reaches
+pub mod Freeing

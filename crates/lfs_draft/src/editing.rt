@@ -27,7 +27,7 @@ use lfs_meta::{remove_attribute, set_attribute};
 use std::alloc::{AllocError, Global};
 
 /// Where the last name of a path belongs to. The caller owes that no check refuses that.
-fn home<'a>(outline: &Outline, path: &[&'a [u8]]) -> Home<'a>
+pub(crate) fn home<'a>(outline: &Outline, path: &[&'a [u8]]) -> Home<'a>
     requires { first_refusal (home_checks outline.now (map (λ n. n.now) path.now)) ≡ None }
     ensures home { home_of outline.now (map (λ n. n.now) path.now) ≡ Some (result.pair, result.name.now) }
     ensures entry { entry_at outline.now (map (λ n. n.now) path.now) ≡ entry_in outline.now.directories result.pair result.name.now }

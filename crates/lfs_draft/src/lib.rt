@@ -7,6 +7,7 @@ mod directory_edit;
 mod editing;
 mod entry_change;
 mod entry_edit;
+mod freeing;
 mod home;
 mod judging;
 mod leading;
@@ -19,6 +20,7 @@ mod thread_edit;
 mod walking;
 
 pub use editing::edit;
+pub use freeing::freed_blocks;
 pub use judging::judge;
 pub use leading::leading_pair;
 pub use reaching::reach;

@@ -153,7 +153,15 @@ pub finish : (laws : CarryingLaws) (d : Disk) (c : Command) (used : List Bool) (
     → IsCutOver (leader ready.volume c (supplies_of ready.volume c)) o (drop (made_blocks ready.volume c) blocks) w
     → IsLong d ready.volume c p → SaysVolume w (volume_bytes w)
     → WritesOver (resized p.after d) ready.volume c used w (kept p) → IsFinished d c p (clean w)
-finish laws d c used blocks o w p ready cuts long says writes = record { plans = plans; outline = outline }
+finish laws d c used blocks o w p ready cuts long says writes = record {
+  plans = plans;
+  outline = outline;
+  before = v;
+  holds = ready.holds;
+  after = clean after;
+  carried = carried;
+  leaves = leaves;
+}
   where
     v : Volume
     v = ready.volume
@@ -271,10 +279,8 @@ finish laws d c used blocks o w p ready cuts long says writes = record { plans =
       free = laws.freed v c s chosen accepted pairs;
     }
 
+    leaves : clean w ≡ outlined (clean after)
+    leaves = ap clean (sym same) ∙ sym (outlined_clean after)
+
     outline : IsOutlineOf (applied p d) (clean w)
-    outline = record {
-      volume = clean after;
-      holds = holds;
-      sound = (laws.clean v after c follows).sound;
-      outline = ap clean (sym same) ∙ sym (outlined_clean after);
-    }
+    outline = record { volume = clean after; holds = holds; sound = (laws.clean v after c follows).sound; outline = leaves }

@@ -11,3 +11,4 @@ pub mod ReadyLemmas
 pub mod EditedSizes
 pub mod JudgedLemmas
 pub mod PairsDiffer
+pub mod TableLemmas

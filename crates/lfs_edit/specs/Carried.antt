@@ -27,7 +27,7 @@ use Rattle.lfs_command.specs.Ordered.{blocks_chosen, leader, overflowing_led}
 use Rattle.lfs_command.specs.Verdict.{checks, first_refusal, verdict}
 use Rattle.lfs_draft.specs.LeastSupplies.{least_supplies, made_blocks}
 use Rattle.lfs_command.specs.PairChanged.{forced_by}
-use Rattle.lfs_command.specs.Planned.{Plans, RefusesPlan}
+use Rattle.lfs_command.specs.Planned.{CarriesOut, Plans, RefusesPlan}
 use Rattle.lfs_law.specs.PlansHold.{content_blocks, is_unmarked}
 use Rattle.lfs_law.specs.PlansWritten.{LaysNew}
 use Rattle.lfs_law.specs.SuperblockBytes.{volume_bytes}
@@ -108,7 +108,17 @@ pub record WritesOver (d : Disk) (v : Volume) (c : Command) (used : List Bool) (
 abbrev pub IsRefusedBy : Disk → Command → Refusal → Type 0
 IsRefusedBy d c r = (asked : Asked) → Spells asked c → RefusesPlan d asked r
 
--- A patch carries a command out, however it is spelled, and an outline is that of the patched image.
+-- blocks are those that a command takes of the volume that an image holds: the least free ones, as many as it needs
+abbrev pub AreTakenBy : Disk → Command → List ℕ → Type 0
+AreTakenBy d c blocks = (v : Volume) → Holds (reading_of d) v → blocks ≡ take (need v c) (free_blocks (grown c v))
+
+-- A patch carries a command out, however it is spelled, and an outline is that of the patched image, and of the volume to which the
+-- command leads.
 pub record IsFinished (d : Disk) (c : Command) (p : ChangeSet) (o : Volume) : Type 0 where
   pub plans : (asked : Asked) → Spells asked c → Plans d asked p
   pub outline : IsOutlineOf (applied p d) o
+  pub before : Volume
+  pub holds : Holds (reading_of d) before
+  pub after : Volume
+  pub carried : CarriesOut c before after
+  pub leaves : o ≡ outlined after

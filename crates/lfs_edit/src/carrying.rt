@@ -7,21 +7,20 @@ ghost use Rattle.lfs_block.specs.Disk.{erased_block};
 ghost use Rattle.lfs_block.specs.Geometry.{IsBlockSize};
 ghost use Rattle.lfs_block.specs.Patch.{applied};
 ghost use Rattle.lfs_fs.specs.Mounted.{IsOutlineOf};
-ghost use Rattle.lfs_fs.specs.Free.{free_blocks};
 ghost use Rattle.lfs_fs.specs.Sound.{IsSound};
+ghost use Rattle.lfs_fs.specs.Table.{IsTableOf};
 ghost use Rattle.lfs_fs.specs.Unused.{unused};
-ghost use Rattle.lfs_fs.specs.Used.{Marks};
-ghost use Rattle.lfs_fs.specs.Uses.{uses};
 ghost use Rattle.lfs_fs.specs.Volume.{Volume};
 ghost use Rattle.lfs_command.specs.AskedFor.{asked_for, contents_len, named_command};
 ghost use Rattle.lfs_command.specs.declared.refusal.Refusal.TheVariants.{Memory};
 ghost use Rattle.lfs_draft.specs.LeastSupplies.{least_supplies};
 ghost use Rattle.lfs_cut.specs.RoomChecks.{room_checks_on};
-ghost use Rattle.lfs_edit.specs.Carried.{IsCutOver, IsCutReady, IsFinished, IsJudged, IsLed, IsRefusedBy};
+ghost use Rattle.lfs_edit.specs.Carried.{AreTakenBy, IsCutOver, IsCutReady, IsFinished, IsJudged, IsLed, IsRefusedBy};
 ghost use Rattle.lfs_cut.specs.Chosen.{HasPairsOnce};
 ghost use Rattle.lfs_command.specs.Clean.{clean};
 ghost use Rattle.lfs_command.specs.Cut.{runs};
 ghost use Rattle.lfs_draft.specs.Editable.{IsEditable};
+ghost use Rattle.lfs_command.specs.Growth.{grown};
 ghost use Rattle.lfs_law.specs.EditedOutline.{edited_outline};
 ghost use Rattle.lfs_law.specs.Lengthened.{with_count};
 ghost use Rattle.lfs_command.specs.Leading.{leading_pair};
@@ -33,21 +32,31 @@ use crate::carrying_laws::{carrying_laws, writing_laws};
 use lfs_block::{Blocks, Image, Lengthened, Patch};
 use lfs_command::{Named, Refusal, count_after, data_blocks, directory_blocks, forced_by};
 use lfs_cut::{choose, clean, cut, needed};
-use lfs_draft::{edit, leading_pair, least_supplies};
-use lfs_fs::{Outline, UsedBlocks, names_are_ordered, outlines_are_sound};
+use lfs_draft::{edit, freed_blocks, leading_pair, least_supplies};
+use lfs_fs::{
+    Outline, UsedBlocks, images_mount_to_one_tree, names_are_ordered, outlines_are_sound,
+};
 use lfs_law::{
     commands_set_a_part, counts_grow, cut_links_can_be_written, held_volumes_have_few_entries,
-    needs_are_small,
+    needs_are_small, tables_follow,
 };
 use lfs_write::{laid_for, write_links};
 use std::alloc::{AllocError, Global};
+
+/// A patch that carries a command out, with the blocks that the command takes.
+#[derive(Drop)]
+struct CarriedOut {
+    /// The patch that carries it out.
+    patch: Patch,
+    /// The blocks that it takes.
+    blocks: Vec<u32>,
+}
 
 /// The blocks that an outline uses, of so many. The caller owes that it is sound with so many, and that none has two uses. Where memory is
 /// wanting, the outline is of no use.
 fn used_of(alloc: Global, outline: &mut Outline, count: u32) -> Result<UsedBlocks, AllocError>
     requires { IsSound (with_count count outline.old) }
-    ensures marks { IfOk result (λ used. Marks used (λ b. uses b outline.old)) }
-    ensures free { IfOk result (λ used. unused used ≡ free_blocks (with_count count outline.old)) }
+    ensures table { IfOk result (λ used. IsTableOf (with_count count outline.old) used) }
     ensures same { OnOk result (outline.new ≡ outline.old) }
 {
     let before = outline.count;
@@ -55,6 +64,26 @@ fn used_of(alloc: Global, outline: &mut Outline, count: u32) -> Result<UsedBlock
     let used = outline.used_blocks(alloc)?;
     outline.count = before;
     Ok(used)
+}
+
+/// Makes the table of the blocks that an outline uses one of so many: where the outline has as many, it is, else they are counted anew.
+/// The caller owes that the outline is sound with so many. Where memory is wanting, the outline is of no use.
+fn lengthen(
+    alloc: Global,
+    outline: &mut Outline,
+    used: &mut UsedBlocks,
+    count: u32,
+) -> Result<(), AllocError>
+    requires sound { IsSound (with_count count outline.old) }
+    requires table { IsTableOf outline.old used.old }
+    ensures table { OnOk result (IsTableOf (with_count count outline.old) used.new) }
+    ensures same { OnOk result (outline.new ≡ outline.old) }
+{
+    if count == outline.count {
+        return Ok(());
+    }
+    *used = used_of(alloc, outline, count)?;
+    Ok(())
 }
 
 /// What a command makes of an outline with the least free blocks. The caller owes what `edit` asks, a block size that images have, and
@@ -188,31 +217,65 @@ fn leader(before: Option<(u32, u32)>, outline: &Outline, command: &Named<'_>) ->
 }
 
 /// Carries out a command on an outline on which no check refuses it, those on room aside: `EntryTooLarge` where some part that it sets
-/// then has an entry that weighs more than a block has room for, else `NoSpace` where fewer blocks are free than it needs. Where it is
-/// refused, the outline is of no use. `Memory` says only that a growth was refused.
-pub(crate) fn carry_judged(
+/// then has an entry that weighs more than a block has room for, else `NoSpace` where fewer blocks are free than it needs. The caller owes
+/// the table of the blocks that are used, of as many as the command leaves. Where it is refused, the outline is of no use. `Memory` says
+/// only that a growth was refused.
+fn carry_over(
     alloc: Global,
     image: &Image,
     outline: &mut Outline,
     command: &Named<'_>,
-) -> Result<Patch, Refusal>
+    used: &UsedBlocks,
+) -> Result<CarriedOut, Refusal>
     requires judged { IsJudged image.now.disk (named_command command.now) outline.old }
-    ensures finished { IfOk result (λ patch. IsFinished image.now.disk (named_command command.now) patch outline.new) }
+    requires table { IsTableOf (grown (named_command command.now) outline.old) used.now }
+    ensures finished { IfOk result (λ done. IsFinished image.now.disk (named_command command.now) done.patch outline.new) }
+    ensures taken { IfOk result (λ done. AreTakenBy image.now.disk (named_command command.now) done.blocks.items) }
     ensures refused { IfErr result (λ r. (r ≡ Memory) ⊎ IsRefusedBy image.now.disk (named_command command.now) r) }
 {
     carrying_laws();
+    images_mount_to_one_tree();
     outlines_are_sound();
     names_are_ordered();
     needs_are_small();
     held_volumes_have_few_entries();
-    counts_grow();
     let size = image.size();
-    let count = count_after(command, outline.count);
-    let used = used_of(alloc, outline, count)?;
     let before = leading_pair(outline, command);
-    edit_least(alloc, outline, command, &used)?;
+    edit_least(alloc, outline, command, used)?;
     let leading = leader(before, outline, command);
     let made = data_blocks(size, command) + directory_blocks(command);
-    let blocks = needed_blocks(alloc, outline, made, &used)?;
-    Ok(carry_ready(alloc, image, outline, command, &used, &blocks, leading)?)
+    let blocks = needed_blocks(alloc, outline, made, used)?;
+    let patch = carry_ready(alloc, image, outline, command, used, &blocks, leading)?;
+    Ok(CarriedOut { patch, blocks })
+}
+
+/// The same, with the table of the blocks that the outline uses, which becomes that of the outline that the command leaves. Where it is
+/// refused, outline and table are of no use.
+pub(crate) fn carry_judged(
+    alloc: Global,
+    image: &Image,
+    outline: &mut Outline,
+    used: &mut UsedBlocks,
+    command: &Named<'_>,
+) -> Result<Patch, Refusal>
+    requires judged { IsJudged image.now.disk (named_command command.now) outline.old }
+    requires table { IsTableOf outline.old used.old }
+    ensures finished { IfOk result (λ patch. IsFinished image.now.disk (named_command command.now) patch outline.new) }
+    ensures table { OnOk result (IsTableOf outline.new used.new) }
+    ensures refused { IfErr result (λ r. (r ≡ Memory) ⊎ IsRefusedBy image.now.disk (named_command command.now) r) }
+{
+    carrying_laws();
+    images_mount_to_one_tree();
+    outlines_are_sound();
+    names_are_ordered();
+    counts_grow();
+    tables_follow();
+    let _size = image.size();
+    let count = count_after(command, outline.count);
+    lengthen(alloc, outline, used, count)?;
+    let gone = freed_blocks(alloc, outline, command)?;
+    let CarriedOut { patch, blocks } = carry_over(alloc, image, outline, command, used)?;
+    used.take(&blocks);
+    used.give_back(&gone);
+    Ok(patch)
 }

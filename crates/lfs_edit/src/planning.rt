@@ -9,7 +9,7 @@ use crate::carrying::carry_judged;
 use lfs_block::{Image, Patch};
 use lfs_command::{Asked, Refusal, by_names};
 use lfs_draft::judge;
-use lfs_fs::{Mounted, outline_of};
+use lfs_fs::{Mounted, outline_of, outlines_are_sound};
 use lfs_law::outlines_are_judged_alike;
 use std::alloc::Global;
 
@@ -28,8 +28,10 @@ pub fn plan(
     ensures refused { IfErr result (λ refusal. RefusesPlan image.now.disk (asked_for command.now) refusal) }
 {
     outlines_are_judged_alike();
+    outlines_are_sound();
     let command = by_names(alloc, command)?;
     judge(mounted.outline(), &command)?;
     let mut outline = outline_of(alloc, image)?;
-    carry_judged(alloc, image, &mut outline, &command)
+    let mut used = outline.used_blocks(alloc)?;
+    carry_judged(alloc, image, &mut outline, &mut used, &command)
 }

@@ -1,6 +1,6 @@
 -- The blocks that a table of flags leaves unused.
 use Rattle.std.proofs.Common.{◌≡◌, ℕ, ◌+◌, ◌-◌, ◌<◌, Bool, true, false, not, List, [], ◌∷◌, ◌++◌, suc, length, take, drop, get_or, cond}
-use Rattle.std.proofs.Common.{refl, ap, sym, ◌∙◌, arith, add-one, drop-cons}
+use Rattle.std.proofs.Common.{◌≤◌, zero, refl, ap, sym, ◌∙◌, arith, add-one, drop-cons}
 use Rattle.std.specs.Prelude.{◌==◌, if◌then◌else◌, count_by}
 use Rattle.std.specs.List.{filter, range_with_len}
 use Rattle.std.proofs.lemmas.List.{length_push, append_assoc}
@@ -10,6 +10,7 @@ use Rattle.lfs_fs.specs.Volume.{Volume}
 use Rattle.lfs_fs.specs.Uses.{uses}
 use Rattle.lfs_fs.specs.Free.{free_blocks}
 use Rattle.lfs_fs.specs.Unused.{unused_from, unused}
+use Rattle.lfs_fs.specs.Used.{AreMarkedBelow}
 
 -- as many as flags that aren't set
 pub length_unused : (first : ℕ) (flags : List Bool) → length (unused_from first flags) ≡ count_by (λ (used : Bool). not used) flags
@@ -40,6 +41,17 @@ more_unused first flags i d within clear =
     let next : drop i flags ≡ get_or flags i d ∷ drop (suc i) flags = drop-cons flags i d within in
     let head : drop i flags ≡ false ∷ drop (suc i) flags = next ∙ ap (λ (u : Bool). u ∷ drop (suc i) flags) clear in
     ap (unused_from first) head ∙ ap (λ (k : ℕ). first ∷ unused_from (first + 1) (drop k flags)) (sym (add-one i))
+
+-- blocks in front that are all marked are passed by
+below_by : (flags : List Bool) (n : ℕ) → n ≤ length flags → ((b : ℕ) → b < n → get_or flags b false ≡ true)
+    → unused_from n (drop n flags) ≡ unused flags
+below_by flags zero within each = refl
+below_by flags (suc n) within each =
+    ap (λ (k : ℕ). unused_from k (drop k flags)) (sym (add-one n)) ∙ sym (more_used n flags n false (omega arith) (each n (omega arith)))
+    ∙ below_by flags n (omega arith) (λ b less. each b (omega arith))
+
+pub unused_below : (flags : List Bool) (n : ℕ) → AreMarkedBelow n flags → unused_from n (drop n flags) ≡ unused flags
+unused_below flags n below = below_by flags n below.within below.each
 
 -- what is taken, with the least of what is left, where a used block is passed by
 pub lowest_more_used : (n i : ℕ) (flags : List Bool) (lowest : List ℕ) (d : Bool) → i < length flags → get_or flags i d ≡ true

@@ -56,3 +56,4 @@ pub mod Stored
 pub mod Alike
 pub mod DiskBut
 pub mod Reread
+pub mod Table

@@ -47,6 +47,7 @@ impl Outline {
     ghost use Rattle.std.specs.Prelude.{◌≡◌, IfOk, length};
     ghost use Rattle.lfs_fs.specs.Free.{free_blocks};
     ghost use Rattle.lfs_fs.specs.Sound.{IsSound};
+    ghost use Rattle.lfs_fs.specs.Table.{IsTableOf};
     ghost use Rattle.lfs_fs.specs.Unused.{unused};
     ghost use Rattle.lfs_fs.specs.Used.{Marks};
     ghost use Rattle.lfs_fs.specs.Uses.{uses};
@@ -56,6 +57,7 @@ impl Outline {
         requires { IsSound self.now }
         ensures marks { IfOk result (λ used. Marks used (λ b. uses b self.now)) }
         ensures free { IfOk result (λ used. unused used ≡ free_blocks self.now) }
+        ensures table { IfOk result (λ used. IsTableOf self.now used) }
     {
         let mut flags = vec![in alloc; false; self.count as usize]?;
         mark_directories(&mut flags, &self.directories);

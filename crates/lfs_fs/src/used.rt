@@ -1,7 +1,7 @@
 //! The table of used blocks: one flag a block.
 
 ghost use Rattle.std.specs.Prelude.{[], ◌∷◌, OnOk, IfErr};
-ghost use Rattle.lfs_fs.specs.Used.{AddsBlocks, AreTaken};
+ghost use Rattle.lfs_fs.specs.Used.{AddsBlocks, AreMarked, AreTaken};
 
 use lfs_block::MountFault;
 
@@ -19,6 +19,14 @@ fn mark(used: &mut [bool], block: u32) -> Result<(), MountFault>
     }
     used[index] = true;
     Ok(())
+}
+
+/// Takes the mark off a block. The caller owes that it is marked.
+pub(crate) fn unmark(used: &mut [bool], block: u32)
+    requires { AreMarked used.old (block ∷ []) }
+    ensures { AddsBlocks used.new used.old (block ∷ []) }
+{
+    used[block as usize] = false;
 }
 
 /// Marks blocks: `BlockRange` where there isn't one of them, `BlockTwice` where one is marked or stands twice. After a

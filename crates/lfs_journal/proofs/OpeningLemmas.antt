@@ -228,9 +228,10 @@ parts_opened m bytes outline ps done is room = record {
         few = is.agreed.spelled.book.few;
       };
     };
-    known = is.known;
+    known = tt;
     room = room;
   };
+  outline = is.known;
 }
 
 -- ---- exits

@@ -6,9 +6,9 @@ use Rattle.std.proofs.lemmas.List.{take_more}
 use Rattle.lfs_block.specs.Disk.{Disk}
 use Rattle.lfs_block.specs.Medium.{Medium}
 use Rattle.lfs_block.specs.Patch.{ChangeSet}
-use Rattle.lfs_fs.specs.Volume.{Volume}
 use Rattle.lfs_history.specs.History.{IsHistoryAt}
 use Rattle.lfs_history.specs.Moves.{kept_changes, dropped}
+use Rattle.lfs_journal.specs.declared.known.Known.{Known}
 use Rattle.lfs_journal.specs.Known.{HasRoom, IsKnown, IsSession}
 
 -- ---- lists
@@ -68,7 +68,7 @@ pub room_same : (old new : ℕ) (ps : List ChangeSet) → new ≡ old → HasRoo
 room_same old new ps same room = subst (λ (n : ℕ). HasRoom n ps) (sym same) room
 
 -- a session whose image got more room, and of which something else is known
-pub session_grows : (old new : Medium) (before after : Option Volume) (changes : List ChangeSet) (done : ℕ) → new.disk ≡ old.disk
+pub session_grows : (old new : Medium) (before after : Option Known) (changes : List ChangeSet) (done : ℕ) → new.disk ≡ old.disk
     → old.room ≤ new.room → IsSession old before changes done → IsKnown old.disk after → IsSession new after changes done
 session_grows old new before after changes done same more is known = record {
   at = subst (λ (d : Disk). IsHistoryAt d changes done) (sym same) is.at;

@@ -4,14 +4,15 @@ use Rattle.std.specs.List.{AllByRecursion}
 use Rattle.lfs_block.specs.Disk.{Disk}
 use Rattle.lfs_block.specs.Medium.{Medium}
 use Rattle.lfs_block.specs.Patch.{ChangeSet}
-use Rattle.lfs_fs.specs.Volume.{Volume}
 use Rattle.lfs_fs.specs.Mounted.{IsOutlineOf}
+use Rattle.lfs_fs.specs.Table.{IsTableOf}
 use Rattle.lfs_history.specs.History.{IsHistoryAt}
+use Rattle.lfs_journal.specs.declared.known.Known.{Known}
 
--- what is known is the outline of the image
-abbrev pub IsKnown : Disk → Option Volume → Type 0
+-- what is known is the outline of the image, and the table of the blocks that it uses
+abbrev pub IsKnown : Disk → Option Known → Type 0
 IsKnown d None = Unit {0}
-IsKnown d (Some outline) = IsOutlineOf d outline
+IsKnown d (Some known) = IsOutlineOf d known.outline × IsTableOf known.outline known.used
 
 -- there is room for the image after each change, and so for the one before it, since none cuts
 abbrev pub HasRoom : ℕ → List ChangeSet → Type 0
@@ -27,7 +28,7 @@ pub record ReservesFor (changes : List ChangeSet) (done : Bool) (old new : Mediu
   pub room : IsTrue done → HasRoom new.room changes
 
 -- an image with one list of changes, of which so many were made, with room for each image of the history, and what is known of it
-pub record IsSession (m : Medium) (outline : Option Volume) (changes : List ChangeSet) (done : ℕ) : Type 0 where
+pub record IsSession (m : Medium) (found : Option Known) (changes : List ChangeSet) (done : ℕ) : Type 0 where
   pub at : IsHistoryAt m.disk changes done
-  pub known : IsKnown m.disk outline
+  pub known : IsKnown m.disk found
   pub room : HasRoom m.room changes

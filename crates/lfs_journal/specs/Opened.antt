@@ -1,9 +1,10 @@
 -- What is opened of an image and the bytes of its journal (own).
-use Rattle.std.specs.Prelude.{◌≡◌, ℕ, ◌≤◌, List, Some, Contains, length}
+use Rattle.std.specs.Prelude.{◌≡◌, ℕ, ◌≤◌, List, None, Contains, length}
 use Rattle.lfs_block.specs.Disk.{Disk, IsDisk}
 use Rattle.lfs_block.specs.Medium.{Medium}
 use Rattle.lfs_block.specs.declared.mount_fault.MountFault.TheVariants.{Memory}
 use Rattle.lfs_block.specs.Patch.{ChangeSet}
+use Rattle.lfs_fs.specs.Mounted.{IsOutlineOf}
 use Rattle.lfs_fs.specs.Volume.{Volume}
 use Rattle.lfs_book.specs.Book.{Spells, book_of}
 use Rattle.lfs_history.specs.declared.open_fault.OpenFault.{OpenFault}
@@ -32,7 +33,8 @@ pub record DenotesChanges (d : Disk) (bytes : List ℕ) (patches : List ChangeSe
   pub agrees : HasHistory d (book_of d.size d.count patches done)
 
 -- what a session keeps of an image and the bytes of its journal
-pub record OpensParts (m : Medium) (bytes : List ℕ) (outline : Volume) (patches : List ChangeSet) (done : ℕ) : Type 0 where
+pub record OpensParts (m : Medium) (bytes : List ℕ) (o : Volume) (patches : List ChangeSet) (done : ℕ) : Type 0 where
   pub spelled : Spells bytes (book_of m.disk.size m.disk.count patches done)
   pub agrees : HasHistory m.disk (book_of m.disk.size m.disk.count patches done)
-  pub session : IsSession m (Some outline) patches done
+  pub outline : IsOutlineOf m.disk o
+  pub session : IsSession m None patches done

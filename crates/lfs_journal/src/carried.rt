@@ -3,50 +3,49 @@
 ghost use Rattle.std.specs.Prelude.{IfOk, IfErr};
 ghost use Rattle.lfs_block.specs.Patch.{applied};
 ghost use Rattle.lfs_fs.specs.Mounted.{IsOutlineOf};
+ghost use Rattle.lfs_fs.specs.Table.{IsTableOf};
 ghost use Rattle.lfs_command.specs.AskedFor.{asked_for};
 ghost use Rattle.lfs_command.specs.Planned.{Plans, RefusesPlan};
 ghost use Rattle.lfs_history.specs.History.{IsMounted};
 ghost use Rattle.lfs_journal.specs.Known.{IsKnown};
 
+use crate::known::{Known, take_known};
 use lfs_block::{Image, Patch};
 use lfs_edit::{Asked, Refusal, carry_out};
-use lfs_fs::{Outline, outline_of};
 use std::alloc::Global;
 
-/// A patch of an image, and the outline of the patched image.
+/// A patch of an image, and what is known of the patched image.
 #[derive(Drop)]
 pub(crate) struct Carried {
     pub(crate) patch: Patch,
-    pub(crate) outline: Outline,
+    pub(crate) known: Known,
 }
 
-/// Carries a command out on an image and its outline, which is read again where it isn't known. It is known no longer once the
-/// command is carried out, or memory was wanting. The caller owes that the image mounts.
+/// Carries a command out on an image, its outline and the table of the blocks that it uses, which are read again where they aren't
+/// known. They are known no longer once the command is carried out, or memory was wanting. The caller owes that the image mounts.
 pub(crate) fn carried_out(
     alloc: Global,
     image: &Image,
-    outline: &mut Option<Outline>,
+    known: &mut Option<Known>,
     command: &Asked<'_>,
 ) -> Result<Carried, Refusal>
     requires mounts { IsMounted image.now.disk }
-    requires known { IsKnown image.now.disk outline.old }
+    requires known { IsKnown image.now.disk known.old }
     ensures planned { IfOk result (λ change. Plans image.now.disk (asked_for command.now) change.patch) }
-    ensures outline { IfOk result (λ change. IsOutlineOf (applied change.patch image.now.disk) change.outline) }
+    ensures outline { IfOk result (λ change. IsOutlineOf (applied change.patch image.now.disk) change.known.outline) }
+    ensures table { IfOk result (λ change. IsTableOf change.known.outline change.known.used) }
     ensures refused { IfErr result (λ refusal. RefusesPlan image.now.disk (asked_for command.now) refusal) }
-    ensures known { IsKnown image.now.disk outline.new }
+    ensures known { IsKnown image.now.disk known.new }
 {
-    let mut taken = match outline.take() {
-        Some(taken) => taken,
-        None => outline_of(alloc, image)?,
-    };
-    match carry_out(alloc, image, &mut taken, command) {
+    let mut taken = take_known(alloc, image, known)?;
+    match carry_out(alloc, image, &mut taken.outline, &mut taken.used, command) {
         Ok(patch) => Ok(Carried {
             patch,
-            outline: taken,
+            known: taken,
         }),
         Err(Refusal::Memory) => Err(Refusal::Memory),
         Err(refusal) => {
-            *outline = Some(taken);
+            *known = Some(taken);
             Err(refusal)
         }
     }

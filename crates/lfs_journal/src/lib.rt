@@ -5,6 +5,7 @@ mod agreeing;
 mod batching;
 mod carried;
 mod keeping;
+mod known;
 mod mounting;
 mod moving;
 mod opening;

@@ -2,6 +2,7 @@
 
 use crate::carried::{Carried, carried_out};
 use crate::keeping::keep_latest;
+use crate::known::{Known, known_by};
 use crate::opening::{Opened, read_history};
 use crate::refused::Refused;
 use crate::replacing::replace_from;
@@ -20,15 +21,15 @@ use std::marker::Model;
 use std::mem::forget;
 
 /// An image with its changes, up to 1,000, each of which can be taken back exactly, and made again. Its meaning is a
-/// `History`: each image that was and can be again, all of which mount. Between commands it keeps the image's outline, which
-/// is read again only behind a change that was taken back or made again, and where memory was wanting. It keeps room for each
-/// of these images, so that taking changes back and making them again takes no memory.
+/// `History`: each image that was and can be again, all of which mount. Between commands it keeps the image's outline and the table
+/// of the blocks that it uses, which are read again only behind a change that was taken back or made again, and where memory was
+/// wanting. It keeps room for each of these images, so that taking changes back and making them again takes no memory.
 ///
 /// Source: own.
 #[derive(Drop)]
 pub struct Session {
     image: Image,
-    outline: Option<Outline>,
+    known: Option<Known>,
     patches: Vec<Patch>,
     done: usize,
 }
@@ -41,7 +42,7 @@ impl Model for Session {
 
     ghost view = { λ s. history_at s.image.disk s.patches.items s.done };
 
-    ghost invariant = { λ s. IsSession s.image s.outline s.patches.items s.done };
+    ghost invariant = { λ s. IsSession s.image s.known s.patches.items s.done };
 }
 
 impl Session {
@@ -65,12 +66,15 @@ impl Session {
         ensures handed_back { IfErr result (λ unmounted. unmounted.image ≡ image) }
     {
         match mount(alloc, &image) {
-            Ok(mounted) => Ok(Session {
-                image,
-                outline: Some(mounted.into_outline()),
-                patches: Vec::new(alloc),
-                done: 0,
-            }),
+            Ok(mounted) => {
+                let known = known_by(alloc, mounted.into_outline());
+                Ok(Session {
+                    image,
+                    known,
+                    patches: Vec::new(alloc),
+                    done: 0,
+                })
+            }
             Err(fault) => Err(Unmounted { fault, image }),
         }
     }
@@ -92,12 +96,15 @@ impl Session {
                     patches,
                     done,
                 },
-            ) => Ok(Session {
-                image,
-                outline: Some(outline),
-                patches,
-                done,
-            }),
+            ) => {
+                let known = known_by(alloc, outline);
+                Ok(Session {
+                    image,
+                    known,
+                    patches,
+                    done,
+                })
+            }
             Err(fault) => Err(Refused { fault, image }),
         }
     }
@@ -129,7 +136,10 @@ impl Session {
     pub fn outline(&self) -> Option<&Outline>
         ensures { IfSome result (λ outline. IsOutlineOf self.now.present outline.now) }
     {
-        self.outline.as_ref()
+        match &self.known {
+            Some(known) => Some(&known.outline),
+            None => None,
+        }
     }
 
     /// The image as it is now, without its changes. Takes no memory.
@@ -148,12 +158,12 @@ impl Session {
     {
         let Session {
             image,
-            outline,
+            known,
             patches,
             done,
         } = self;
         let journal = Journal::new(image.size(), image.count(), patches, done);
-        forget(outline);
+        forget(known);
         (image, journal)
     }
 
@@ -203,18 +213,13 @@ impl Session {
         applied_patches_change_their_blocks();
         applied_patches_revert();
         cuts_follow();
-        let Carried { patch, outline } = carried_out(
-            alloc,
-            &self.image,
-            &mut self.outline,
-            command,
-        )?;
+        let Carried { patch, known } = carried_out(alloc, &self.image, &mut self.known, command)?;
         if !self.image.reserve(patch.after()) {
             return Err(StepFault::Refused(Refusal::Memory));
         }
         replace_from(&mut self.patches, self.done, patch)?;
         self.patches[self.done].apply(&mut self.image);
-        self.outline = Some(outline);
+        self.known = Some(known);
         self.done = keep_latest(&mut self.patches, keep);
         Ok(())
     }
@@ -244,7 +249,7 @@ impl Session {
             return Err(StepFault::NothingToUndo);
         }
         self.patches[self.done - 1].revert(&mut self.image);
-        self.outline = None;
+        self.known = None;
         self.done -= 1;
         Ok(())
     }
@@ -261,7 +266,7 @@ impl Session {
             return Err(StepFault::NothingToRedo);
         }
         self.patches[self.done].apply(&mut self.image);
-        self.outline = None;
+        self.known = None;
         self.done += 1;
         Ok(())
     }

@@ -83,3 +83,4 @@ pub mod FreshPairs
 pub mod HeldBytes
 pub mod MadeBytes
 pub mod CarriedFollow
+pub mod TablesFollow

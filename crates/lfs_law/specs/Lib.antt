@@ -19,3 +19,4 @@ pub mod WalkRefusal
 pub mod PlansWritten
 pub mod OutlineCarried
 pub mod HomeChecks
+pub mod TablesFollow

@@ -4,6 +4,7 @@ ghost use Rattle.lfs_law.specs.CommandsSet.{CommandsSetAPart};
 ghost use Rattle.lfs_law.specs.CountsGrow.{CountsGrow};
 ghost use Rattle.lfs_law.specs.Laws.{CleansFollow, CommandsAreFrugal, CommandsFollow, CommandsLeadOneWay, CutsAreFrugal, CutsFollow, FewPartsChange, FreeAfter, FreeAfterHeld, NeedIsExact, NeedIsTheSame, UsesAfter};
 ghost use Rattle.lfs_law.specs.NeedsSmall.{HeldHaveFewEntries, NeedsAreSmall};
+ghost use Rattle.lfs_law.specs.TablesFollow.{TablesFollow};
 ghost use Rattle.lfs_law.specs.Written.{HeldAreClean, WrittenAreHeld};
 
 use lfs_file::chains_stay_on_their_blocks;
@@ -108,6 +109,17 @@ pub fn free_after()
     ensures uses { UsesAfter }
     ensures free { FreeAfter }
     ensures held { FreeAfterHeld }
+{
+    names_are_ordered();
+    entries_are_cut_greedily();
+}
+
+/// A law: a table of the blocks that a volume uses, of as many as an accepted command leaves, becomes that of what it leaves: the
+/// blocks that it takes can be marked, and then those unmarked that it removes or replaces. Takes no memory.
+///
+/// Source: own.
+pub fn tables_follow()
+    ensures { TablesFollow }
 {
     names_are_ordered();
     entries_are_cut_greedily();

@@ -9,7 +9,7 @@ mod written_laws;
 pub use laws::{
     commands_are_frugal, commands_follow, commands_lead_one_way, commands_set_a_part, counts_grow,
     cuts_follow, free_after, held_volumes_have_few_entries, need_is_exact, needs_are_small,
-    written_volumes_are_held,
+    tables_follow, written_volumes_are_held,
 };
 pub use outline_laws::{
     cuts_keep_outlines, outlines_are_carried, outlines_are_judged_alike, outlines_follow,

@@ -1,26 +1,23 @@
--- A command that no check refuses can be edited, and what it leaves is refused for want of room, or ready.
-use Rattle.std.proofs.Common.{◌≡◌, ◌+◌, ℕ, take, ap, sym, subst, ◌∙◌, arith, inl, inr}
-use Rattle.std.specs.Prelude.{sum_by}
+-- What no check refuses is carried out, and the table of used blocks follows.
+use Rattle.std.proofs.Common.{◌≡◌, ℕ, ap, sym, subst, ◌∙◌}
 use Rattle.std.proofs.lemmas.Result.{err_from_is_err_and}
-use Rattle.lfs_fs.specs.Free.{free_blocks}
 use Rattle.lfs_fs.specs.Sound.{IsSound}
-use Rattle.lfs_fs.specs.Unused.{unused}
+use Rattle.lfs_fs.specs.Table.{IsTableOf}
+use Rattle.lfs_fs.specs.Used.{AddsBlocks, AreMarked, CanBeMarked}
+use Rattle.lfs_fs.specs.Uses.{times}
 use Rattle.lfs_fs.specs.Volume.{Volume}
 use Rattle.lfs_draft.specs.Editable.{IsEditable}
-use Rattle.lfs_draft.specs.LeastSupplies.{least_supplies, made_blocks}
-use Rattle.lfs_cut.specs.RoomChecks.{room_checks_on}
-use Rattle.lfs_command.specs.Growth.{count_after}
-use Rattle.lfs_command.specs.Leading.{leading_pair}
+use Rattle.lfs_command.specs.Freed.{freed_uses}
+use Rattle.lfs_command.specs.Growth.{count_after, grown}
 use Rattle.lfs_command.specs.AskedFor.{named_command}
-use Rattle.lfs_law.specs.EditedOutline.{edited_outline}
 use Rattle.lfs_law.specs.Lengthened.{with_count}
-use Rattle.lfs_command.specs.Need.{dirty_parts, part_blocks}
-use Rattle.lfs_command.specs.Verdict.{first_refusal}
-use Rattle.lfs_edit.proofs.JudgedLemmas.{contents_short, editable, led, long_sound, refused_by, unweighed, unweighed_leads, weighed}
+use Rattle.lfs_edit.specs.Carried.{IsJudged}
+use Rattle.lfs_edit.proofs.JudgedLemmas.{editable, long_sound}
+use Rattle.lfs_edit.proofs.TableLemmas.{table_behind}
 use Rattle.lfs_edit.proofs.carrying.carry_judged.Goals as goal
 
-pub used_of-requires : goal.used_of-requires
-used_of-requires c =
+pub lengthen-requires-clause-sound : goal.lengthen-requires-clause-sound
+lengthen-requires-clause-sound c =
     let d = c.args.image.now.disk in
     let command = named_command c.args.command.now in
     let o = c.args.outline.now in
@@ -29,130 +26,78 @@ used_of-requires c =
     (long_sound c.counts_grow.ensures c.outlines_are_sound.ensures c.carrying_laws.ensures c.names_are_ordered.ensures d
     c.size-size.ensures.disk command o c.requires.judged)
 
-pub edit_least-requires-clause-editable : goal.edit_least-requires-clause-editable
-edit_least-requires-clause-editable c =
-    subst (λ (o : Volume). IsEditable o (named_command c.args.command.now)) (sym c.in_ok-used.ensures.same)
+pub freed_blocks-requires : goal.freed_blocks-requires
+freed_blocks-requires c =
+    subst (λ (o : Volume). IsEditable o (named_command c.args.command.now)) (sym c.in_ok-lengthen.ensures.same)
     (editable c.outlines_are_sound.ensures c.carrying_laws.ensures c.names_are_ordered.ensures c.args.image.now.disk
     (named_command c.args.command.now) c.args.outline.now c.requires.judged)
 
-pub edit_least-requires-clause-len : goal.edit_least-requires-clause-len
-edit_least-requires-clause-len c =
-    contents_short c.args.outline.now c.args.command.now
-    (editable c.outlines_are_sound.ensures c.carrying_laws.ensures c.names_are_ordered.ensures c.args.image.now.disk
-    (named_command c.args.command.now) c.args.outline.now c.requires.judged)
+pub carry_over-requires-clause-judged : goal.carry_over-requires-clause-judged
+carry_over-requires-clause-judged c =
+    subst (IsJudged c.args.image.now.disk (named_command c.args.command.now)) (sym c.in_ok-lengthen.ensures.same) c.requires.judged
 
-pub data_blocks-requires-clause-len : goal.data_blocks-requires-clause-len
-data_blocks-requires-clause-len c =
-    contents_short c.args.outline.now c.args.command.now
-    (editable c.outlines_are_sound.ensures c.carrying_laws.ensures c.names_are_ordered.ensures c.args.image.now.disk
-    (named_command c.args.command.now) c.args.outline.now c.requires.judged)
+pub carry_over-requires-clause-table : goal.carry_over-requires-clause-table
+carry_over-requires-clause-table c =
+    let command = named_command c.args.command.now in
+    let o = c.args.outline.now in
+    let counted = c.count_after-count.ensures ∙ ap (λ (v : Volume). count_after command v.count) c.outline.view_is in
+    subst (λ (x : Volume). IsTableOf (grown command x) c.lengthen.new.used) (sym c.in_ok-lengthen.ensures.same)
+    (subst (λ (n : ℕ). IsTableOf (with_count n o) c.lengthen.new.used) counted c.in_ok-lengthen.ensures.table)
 
-pub overflow_add-made : goal.overflow_add-made
-overflow_add-made c =
+pub take-requires : goal.take-requires
+take-requires c =
     let d = c.args.image.now.disk in
     let command = named_command c.args.command.now in
-    let before = c.args.outline.now in
+    let o = c.args.outline.now in
+    let used = c.lengthen.new.used in
+    let done = c.in_ok-patch.field-0 in
+    let gone = c.in_ok-gone.gone.items in
     let counted = c.count_after-count.ensures ∙ ap (λ (v : Volume). count_after command v.count) c.outline.view_is in
-    let free = c.in_ok-used.ensures.free ∙ ap (λ (n : ℕ). free_blocks (with_count n before)) counted in
-    let edits = c.in_ok-edit_least.ensures ∙ ap (λ (x : Volume). edited_outline x command (least_supplies x command
-    (unused c.in_ok-used.used))) c.in_ok-used.ensures.same in
-    let u = unweighed c.carrying_laws.ensures d command before c.edit_least.new.outline c.in_ok-used.used c.requires.judged
-    c.in_ok-used.ensures.marks free edits in
-    let known = weighed c.carrying_laws.ensures c.needs_are_small.ensures c.held_volumes_have_few_entries.ensures d command
-    c.in_ok-used.used c.edit_least.new.outline c.size-size.ensures.disk u in
-    omega (
-      arith,
-      known.needed,
-      known.small,
-      c.data_blocks.ensures u.volume (known.size ∙ sym c.size-size.ensures.value),
-      c.directory_blocks.ensures,
-    )
+    let table = subst (λ (n : ℕ). IsTableOf (with_count n o) used) counted c.in_ok-lengthen.ensures.table in
+    let freed = subst (λ (x : Volume). (b : ℕ) → times b gone ≡ freed_uses x command b) c.in_ok-lengthen.ensures.same c.in_ok-gone.ensures in
+    let leads = table_behind c.tables_follow.ensures c.carrying_laws.ensures.judged c.images_mount_to_one_tree.ensures.volume d command o
+    c.carry_over.new.outline done.patch used done.blocks.items gone c.requires.judged table freed c.in_ok-patch.ensures.taken
+    c.in_ok-patch.ensures.finished in
+    subst (CanBeMarked used) (sym c.deref.ensures.value) leads.free
 
-pub needed_blocks-requires-clause-size : goal.needed_blocks-requires-clause-size
-needed_blocks-requires-clause-size c =
+pub give_back-requires : goal.give_back-requires
+give_back-requires c =
     let d = c.args.image.now.disk in
     let command = named_command c.args.command.now in
-    let before = c.args.outline.now in
+    let o = c.args.outline.now in
+    let used = c.lengthen.new.used in
+    let done = c.in_ok-patch.field-0 in
+    let gone = c.in_ok-gone.gone.items in
     let counted = c.count_after-count.ensures ∙ ap (λ (v : Volume). count_after command v.count) c.outline.view_is in
-    let free = c.in_ok-used.ensures.free ∙ ap (λ (n : ℕ). free_blocks (with_count n before)) counted in
-    let edits = c.in_ok-edit_least.ensures ∙ ap (λ (x : Volume). edited_outline x command (least_supplies x command
-    (unused c.in_ok-used.used))) c.in_ok-used.ensures.same in
-    let u = unweighed c.carrying_laws.ensures d command before c.edit_least.new.outline c.in_ok-used.used c.requires.judged
-    c.in_ok-used.ensures.marks free edits in
-    let known = weighed c.carrying_laws.ensures c.needs_are_small.ensures c.held_volumes_have_few_entries.ensures d command
-    c.in_ok-used.used c.edit_least.new.outline c.size-size.ensures.disk u in
-    omega (arith, known.frame, c.size-size.ensures.disk.geometry.size_fits.1)
+    let table = subst (λ (n : ℕ). IsTableOf (with_count n o) used) counted c.in_ok-lengthen.ensures.table in
+    let freed = subst (λ (x : Volume). (b : ℕ) → times b gone ≡ freed_uses x command b) c.in_ok-lengthen.ensures.same c.in_ok-gone.ensures in
+    let leads = table_behind c.tables_follow.ensures c.carrying_laws.ensures.judged c.images_mount_to_one_tree.ensures.volume d command o
+    c.carry_over.new.outline done.patch used done.blocks.items gone c.requires.judged table freed c.in_ok-patch.ensures.taken
+    c.in_ok-patch.ensures.finished in
+    let more = c.take.new.self in
+    let adds = subst (AddsBlocks used more) c.deref.ensures.value c.take.ensures in
+    subst (AreMarked more) (sym c.deref-2.ensures.value) (leads.marked more adds)
 
-pub needed_blocks-requires-clause-small : goal.needed_blocks-requires-clause-small
-needed_blocks-requires-clause-small c =
+pub returns-in_err-patch-clause-refused : goal.returns-in_err-patch-clause-refused
+returns-in_err-patch-clause-refused c =
+    let p = err_from_is_err_and c.from_residual-in_err-patch.result c.from_residual-in_err-patch.ensures.1 in
+    rw (p.1, p.2) c.in_err-patch.ensures.refused
+
+pub returns-clause-table : goal.returns-clause-table
+returns-clause-table c =
     let d = c.args.image.now.disk in
     let command = named_command c.args.command.now in
-    let before = c.args.outline.now in
+    let o = c.args.outline.now in
+    let used = c.lengthen.new.used in
+    let done = c.in_ok-patch.field-0 in
+    let gone = c.in_ok-gone.gone.items in
     let counted = c.count_after-count.ensures ∙ ap (λ (v : Volume). count_after command v.count) c.outline.view_is in
-    let free = c.in_ok-used.ensures.free ∙ ap (λ (n : ℕ). free_blocks (with_count n before)) counted in
-    let edits = c.in_ok-edit_least.ensures ∙ ap (λ (x : Volume). edited_outline x command (least_supplies x command
-    (unused c.in_ok-used.used))) c.in_ok-used.ensures.same in
-    let u = unweighed c.carrying_laws.ensures d command before c.edit_least.new.outline c.in_ok-used.used c.requires.judged
-    c.in_ok-used.ensures.marks free edits in
-    let known = weighed c.carrying_laws.ensures c.needs_are_small.ensures c.held_volumes_have_few_entries.ensures d command
-    c.in_ok-used.used c.edit_least.new.outline c.size-size.ensures.disk u in
-    omega (
-      arith,
-      known.needed,
-      known.small,
-      c.data_blocks.ensures u.volume (known.size ∙ sym c.size-size.ensures.value),
-      c.directory_blocks.ensures,
-    )
-
-pub returns-in_err-blocks-clause-refused : goal.returns-in_err-blocks-clause-refused
-returns-in_err-blocks-clause-refused c =
-    let d = c.args.image.now.disk in
-    let command = named_command c.args.command.now in
-    let used = c.in_ok-used.used in
-    let o = c.edit_least.new.outline in
-    let before = c.args.outline.now in
-    let counted = c.count_after-count.ensures ∙ ap (λ (v : Volume). count_after command v.count) c.outline.view_is in
-    let free = c.in_ok-used.ensures.free ∙ ap (λ (n : ℕ). free_blocks (with_count n before)) counted in
-    let edits = c.in_ok-edit_least.ensures ∙ ap (λ (x : Volume). edited_outline x command (least_supplies x command
-    (unused c.in_ok-used.used))) c.in_ok-used.ensures.same in
-    let u = unweighed c.carrying_laws.ensures d command before o used c.requires.judged c.in_ok-used.ensures.marks free edits in
-    let known = weighed c.carrying_laws.ensures c.needs_are_small.ensures c.held_volumes_have_few_entries.ensures d command used o
-    c.size-size.ensures.disk u in
-    let made : c.data_blocks.result + c.directory_blocks.result ≡ made_blocks u.volume command =
-    omega (arith, c.data_blocks.ensures u.volume (known.size ∙ sym c.size-size.ensures.value), c.directory_blocks.ensures) in
-    let p = err_from_is_err_and c.from_residual-in_err-blocks.result c.from_residual-in_err-blocks.ensures.1 in
-    rw (p.1, p.2) (elim c.in_err-blocks.ensures.refused [
-      | inl memory ↦ inl memory
-      | inr refused ↦ inr (refused_by d command used o u c.in_err-blocks.field-0.0 known
-          (ap (λ (n : ℕ). first_refusal (room_checks_on o n (unused used))) (sym made) ∙ refused))
-    ])
-
-pub carry_ready-requires-clause-led : goal.carry_ready-requires-clause-led
-carry_ready-requires-clause-led c =
-    let d = c.args.image.now.disk in
-    let command = named_command c.args.command.now in
-    let used = c.in_ok-used.used in
-    let o = c.edit_least.new.outline in
-    let before = c.args.outline.now in
-    let counted = c.count_after-count.ensures ∙ ap (λ (v : Volume). count_after command v.count) c.outline.view_is in
-    let free = c.in_ok-used.ensures.free ∙ ap (λ (n : ℕ). free_blocks (with_count n before)) counted in
-    let edits = c.in_ok-edit_least.ensures ∙ ap (λ (x : Volume). edited_outline x command (least_supplies x command
-    (unused c.in_ok-used.used))) c.in_ok-used.ensures.same in
-    let u = unweighed c.carrying_laws.ensures d command before o used c.requires.judged c.in_ok-used.ensures.marks free edits in
-    let known = weighed c.carrying_laws.ensures c.needs_are_small.ensures c.held_volumes_have_few_entries.ensures d command used o
-    c.size-size.ensures.disk u in
-    let made : c.data_blocks.result + c.directory_blocks.result ≡ made_blocks u.volume command =
-    omega (arith, c.data_blocks.ensures u.volume (known.size ∙ sym c.size-size.ensures.value), c.directory_blocks.ensures) in
-    led d command used o u c.deref.result.now c.leader-leading.result known
-    (ap (λ (n : ℕ). first_refusal (room_checks_on o n (unused used))) (sym made) ∙ c.in_ok-blocks.ensures.unrefused)
-    (c.deref.ensures.value ∙ c.in_ok-blocks.ensures.blocks ∙ ap (λ (n : ℕ). take (n + sum_by (part_blocks o) (dirty_parts o)) (unused used))
-    made)
-    (unweighed_leads c.carrying_laws.ensures d command before o used c.requires.judged c.in_ok-used.ensures.marks free edits
-    c.leading_pair-before.result c.leader-leading.result
-    (c.leading_pair-before.ensures ∙ ap (λ (x : Volume). leading_pair x command) c.in_ok-used.ensures.same) c.leader-leading.ensures)
-
-pub carry_ready-requires-clause-len : goal.carry_ready-requires-clause-len
-carry_ready-requires-clause-len c =
-    contents_short c.args.outline.now c.args.command.now
-    (editable c.outlines_are_sound.ensures c.carrying_laws.ensures c.names_are_ordered.ensures c.args.image.now.disk
-    (named_command c.args.command.now) c.args.outline.now c.requires.judged)
+    let table = subst (λ (n : ℕ). IsTableOf (with_count n o) used) counted c.in_ok-lengthen.ensures.table in
+    let freed = subst (λ (x : Volume). (b : ℕ) → times b gone ≡ freed_uses x command b) c.in_ok-lengthen.ensures.same c.in_ok-gone.ensures in
+    let leads = table_behind c.tables_follow.ensures c.carrying_laws.ensures.judged c.images_mount_to_one_tree.ensures.volume d command o
+    c.carry_over.new.outline done.patch used done.blocks.items gone c.requires.judged table freed c.in_ok-patch.ensures.taken
+    c.in_ok-patch.ensures.finished in
+    let more = c.take.new.self in
+    let last = c.give_back.new.self in
+    leads.table more last (subst (AddsBlocks used more) c.deref.ensures.value c.take.ensures)
+    (subst (AddsBlocks last more) c.deref-2.ensures.value c.give_back.ensures)

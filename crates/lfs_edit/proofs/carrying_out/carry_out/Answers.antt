@@ -12,13 +12,11 @@ returns-in_err-judge-clause-refused c =
     (asked_for c.args.command.now) (named_command c.in_ok-command.command)
     c.in_ok-command.ensures.spelled c.in_err-judge.field-0.0 c.in_err-judge.ensures.refused)
 
-pub carry_or_restore-requires : goal.carry_or_restore-requires
-carry_or_restore-requires c = record {
-  judged = record {
-    outline = c.requires.outline;
-    names = c.in_ok-command.ensures.spelled.0;
-    unrefused = c.in_ok-judge.ensures.unrefused;
-  };
+pub carry_or_restore-requires-clause-judged : goal.carry_or_restore-requires-clause-judged
+carry_or_restore-requires-clause-judged c = record {
+  outline = c.requires.outline;
+  names = c.in_ok-command.ensures.spelled.0;
+  unrefused = c.in_ok-judge.ensures.unrefused;
 }
 
 pub returns-clause-planned : goal.returns-clause-planned
@@ -30,3 +28,7 @@ pub returns-clause-refused : goal.returns-clause-refused
 returns-clause-refused c =
     IfErr-weaker c.carry_or_restore.result _ _ (λ r refused. refused (asked_for c.args.command.now) c.in_ok-command.ensures.spelled)
     c.carry_or_restore.ensures.refused
+
+pub returns-clause-outline : goal.returns-clause-outline
+returns-clause-outline c =
+    IfOk-weaker c.carry_or_restore.result _ _ (λ patch finished. finished.outline) c.carry_or_restore.ensures.finished

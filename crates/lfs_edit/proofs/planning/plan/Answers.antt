@@ -6,6 +6,7 @@ use Rattle.lfs_fs.specs.Mounted.{IsMountOf, IsOutlineOf, MountedValue}
 use Rattle.lfs_command.specs.AskedFor.{asked_for, named_command}
 use Rattle.lfs_edit.specs.Carried.{IsJudged}
 use Rattle.lfs_edit.proofs.JudgedLemmas.{may_be_refused, refused_on}
+use Rattle.lfs_edit.proofs.TableLemmas.{outline_sound}
 use Rattle.lfs_edit.proofs.planning.plan.Goals as goal
 
 outline_of_mount : (d : Disk) (m : MountedValue) → IsMountOf d m → IsOutlineOf d m.outline
@@ -28,18 +29,20 @@ outline_of-requires c = record {
   );
 }
 
-pub carry_judged-requires : goal.carry_judged-requires
-carry_judged-requires c =
+pub used_blocks-requires : goal.used_blocks-requires
+used_blocks-requires c =
+    outline_sound c.outlines_are_sound.ensures c.args.image.now.disk c.in_ok-outline.outline c.in_ok-outline.ensures.read
+
+pub carry_judged-requires-clause-judged : goal.carry_judged-requires-clause-judged
+carry_judged-requires-clause-judged c =
     let same = c.in_ok-outline.ensures.only c.args.mounted.now.outline (outline_of_mount c.args.image.now.disk
     c.args.mounted.now c.requires.mounted) in
-    record {
-      judged = subst (IsJudged c.args.image.now.disk (named_command c.in_ok-command.command)) (c.outline.ensures ∙ sym same) (record {
-        outline = subst (IsOutlineOf c.args.image.now.disk) (sym c.outline.ensures)
-            (outline_of_mount c.args.image.now.disk c.args.mounted.now c.requires.mounted);
-        names = c.in_ok-command.ensures.spelled.0;
-        unrefused = c.in_ok-judge.ensures.unrefused;
-      });
-    }
+    subst (IsJudged c.args.image.now.disk (named_command c.in_ok-command.command)) (c.outline.ensures ∙ sym same) (record {
+      outline = subst (IsOutlineOf c.args.image.now.disk) (sym c.outline.ensures)
+          (outline_of_mount c.args.image.now.disk c.args.mounted.now c.requires.mounted);
+      names = c.in_ok-command.ensures.spelled.0;
+      unrefused = c.in_ok-judge.ensures.unrefused;
+    })
 
 pub returns-clause-planned : goal.returns-clause-planned
 returns-clause-planned c =

@@ -88,15 +88,15 @@ apply-requires-clause-room c =
 pub invariant_of-self-then-not-reserve : goal.invariant_of-self-then-not-reserve
 invariant_of-self-then-not-reserve c =
     let s = c.self.inside in
-    session_grows s.image c.reserve.new.self s.outline c.carried_out.new.outline s.patches.items s.done c.reserve.ensures.disk
+    session_grows s.image c.reserve.new.self s.known c.carried_out.new.known s.patches.items s.done c.reserve.ensures.disk
     c.reserve.ensures.most c.self.invariant c.carried_out.ensures.known
 
 pub invariant_of-self-in_err-replace_from : goal.invariant_of-self-in_err-replace_from
 invariant_of-self-in_err-replace_from c =
     let s = c.self.inside in
-    subst (λ (changes : List ChangeSet). IsSession c.reserve.new.self c.carried_out.new.outline changes s.done)
+    subst (λ (changes : List ChangeSet). IsSession c.reserve.new.self c.carried_out.new.known changes s.done)
     (sym c.in_err-replace_from.ensures.unchanged)
-    (session_grows s.image c.reserve.new.self s.outline c.carried_out.new.outline s.patches.items s.done c.reserve.ensures.disk
+    (session_grows s.image c.reserve.new.self s.known c.carried_out.new.known s.patches.items s.done c.reserve.ensures.disk
     c.reserve.ensures.most c.self.invariant c.carried_out.ensures.known)
 
 pub invariant_of-self-2 : goal.invariant_of-self-2
@@ -119,9 +119,12 @@ invariant_of-self-2 c =
           s.image.disk c.apply.new.image.disk s.patches.items news c.keep_latest-self-inside.new.patches.items s.done c.keep_latest-self-inside.result change.patch q
           put c.index.ensures c.keep_latest-self-inside.ensures.kept c.keep_latest-self-inside.ensures.left
           c.self.invariant.at place c.in_ok-patch.ensures.planned to).keeps;
-      known = subst (λ (e : Disk). IsOutlineOf e change.outline)
-          (sym (put_makes s.image.disk c.apply.new.image.disk s.patches.items news s.done change.patch q put c.index.ensures to))
-          c.in_ok-patch.ensures.outline;
+      known = (
+        subst (λ (e : Disk). IsOutlineOf e change.known.outline)
+            (sym (put_makes s.image.disk c.apply.new.image.disk s.patches.items news s.done change.patch q put c.index.ensures to))
+            c.in_ok-patch.ensures.outline,
+        c.in_ok-patch.ensures.table,
+      );
       room = room_same c.reserve.new.self.room c.apply.new.image.room c.keep_latest-self-inside.new.patches.items c.apply.ensures.room
           (room_kept c.reserve.new.self.room c.args.keep news c.keep_latest-self-inside.new.patches.items c.keep_latest-self-inside.ensures.kept
           (room_put s.image.room c.reserve.new.self.room s.patches.items news s.done change.patch c.reserve.ensures.most
