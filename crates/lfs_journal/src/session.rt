@@ -131,7 +131,7 @@ impl Session {
         &self.image
     }
 
-    /// The outline of the image as it is now, where it is known: behind a mount, a command, or a refusal that isn't want of memory.
+    /// The outline of the image as it is now, where it is known: behind a mount or a command, where memory wasn't wanting.
     /// Takes no memory.
     pub fn outline(&self) -> Option<&Outline>
         ensures { IfSome result (λ outline. IsOutlineOf self.now.present outline.now) }
