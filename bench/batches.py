@@ -1,6 +1,6 @@
 #!/usr/bin/env python3
-"""Measures changes by the program on images of 1 MiB and of 64 MiB in blocks of 4,096 bytes: a script of 200 lines in one run beside
-one `put`, by the time until it ends, synced files included; and one edit, an attribute of the root, beside `check` and `cp` of the image
+"""Measures changes by the program on images of 1 MiB and of 64 MiB in blocks of 4,096 bytes: a script of 200 lines in one run, and on the
+larger image one of 1,000, beside one `put`, by the time until it ends, synced files included; and one edit, an attribute of the root, beside `check` and `cp` of the image
 together, by processor time. Each run begins with the same image, which the disk has, and no journal; of each the least of fifteen runs.
 Ends with 1 where a mark is missed."""
 import os
@@ -17,7 +17,7 @@ sys.path.insert(0, str(HOME / "tests"))
 
 from support.folder import PROGRAM, contents, spread
 
-SIZE, LINES, ROUNDS = 4_096, 200, 15
+SIZE, LINES, MANY, ROUNDS = 4_096, 200, 1_000, 15
 MISSED = []
 
 
@@ -64,7 +64,14 @@ class Images:
         spent([PROGRAM, "pack", "--block", str(SIZE), "--count", str(count), self.image, self.place])
         self.host.write_bytes(contents(100))
         self.paths = [f"/{path.relative_to(self.place)}" for path in sorted(self.place.rglob("*")) if path.is_file()]
-        self.script.write_text("".join(f"put {path} {self.host}\n" for path in self.paths[:: len(self.paths) // LINES][:LINES]))
+        self.many = room / "many"
+        self.write(self.script, LINES)
+        self.write(self.many, MANY)
+
+    def write(self, script, lines):
+        """Writes a script of so many lines, where there are as many files: each puts a file in the place of another one."""
+        if lines <= len(self.paths):
+            script.write_text("".join(f"put {path} {self.host}\n" for path in self.paths[:: len(self.paths) // lines][:lines]))
 
     def begin(self):
         """Makes a new copy of the image, without a journal, and waits until the disk has it: else a run would wait for what was written
@@ -93,6 +100,11 @@ class Images:
               f"{1_000 * put[1]:.1f} and {1_000 * batch[1]:.1f} ms, edit {1_000 * edit:.1f} ms, check {1_000 * check:.1f} ms, "
               f"cp {1_000 * copied:.1f} ms")
         mark(f"{LINES} lines by one put", batch[0] / put[0], 3)
+        if self.many.exists():
+            many = self.least("batch", self.copy, self.many)
+            print(f"  {MANY} lines {1_000 * many[0]:.1f} ms until they end, {1_000 * many[1]:.1f} ms of the processor")
+            mark(f"{MANY} lines by one put", many[0] / put[0], 1.6)
+            self.many.unlink()
         mark("an edit by check and cp", edit / (check + copied), 1.3)
 
 
