@@ -115,7 +115,8 @@ def measure(room, name, fill):
         rate = min(edits) / check
         if rate > MOST:
             MISSED.append(name)
-        print(f"{name}, {lines.__doc__.split('.')[0]}: an edit {1_000 * min(edits):.0f} ms, check {1_000 * check:.0f} ms, "
+        kind = " ".join(lines.__doc__.split()).rstrip(".")
+        print(f"{name}. {kind}: an edit {1_000 * min(edits):.0f} ms, check {1_000 * check:.0f} ms, "
               f"{rate:.1f} checks, to be at most {MOST}{' MISSED' if rate > MOST else ''}")
     shutil.rmtree(place)
 
