@@ -21,6 +21,8 @@ mod files;
 #[cfg(test)]
 mod images;
 #[cfg(test)]
+mod joints;
+#[cfg(test)]
 mod journals;
 #[cfg(test)]
 mod logs;

@@ -10,7 +10,7 @@ use lfs_block::{Blocks, Image, Lengthened, Overlay, Patch, Record, geometry_ok};
 use std::alloc::{AllocError, Global};
 
 /// What the blocks of the image are filled with.
-const SHORT: [u8; 4] = [0, 1, 2, 3];
+pub(crate) const SHORT: [u8; 4] = [0, 1, 2, 3];
 
 /// So many bytes of one value.
 fn filled(alloc: Global, size: u32, fill: u8) -> Result<Vec<u8>, AllocError>
@@ -27,7 +27,13 @@ fn erased(alloc: Global, size: u32) -> Result<Vec<u8>, AllocError>
 }
 
 /// The change of a block's bytes, of one value before and of one after.
-fn record(alloc: Global, size: u32, number: u32, old: u8, new: u8) -> Result<Record, AllocError>
+pub(crate) fn record(
+    alloc: Global,
+    size: u32,
+    number: u32,
+    old: u8,
+    new: u8,
+) -> Result<Record, AllocError>
     ensures number { IfOk result (λ r. r.number ≡ number) }
     ensures whole { IfOk result (λ r. IsBlockChange size r) }
     ensures old { IfOk result (λ r. r.old ≡ replicate size old) }
@@ -53,7 +59,7 @@ fn patch_of(alloc: Global, size: u32, after: u32, second: u32, old: u8) -> Resul
 }
 
 /// The patch that lengthens the image to six blocks, and writes into blocks 1 and 5; or the one that writes into blocks 1 and 3.
-fn sample(alloc: Global, is_longer: bool) -> Result<Patch, AllocError> {
+pub(crate) fn sample(alloc: Global, is_longer: bool) -> Result<Patch, AllocError> {
     if is_longer {
         patch_of(alloc, 256, 6, 5, 0xff)
     } else {
@@ -62,14 +68,14 @@ fn sample(alloc: Global, is_longer: bool) -> Result<Patch, AllocError> {
 }
 
 /// The image of four blocks that these patches are made of.
-fn short(alloc: Global) -> Option<Image>
+pub(crate) fn short(alloc: Global) -> Option<Image>
     ensures { IfSome result (λ image. image.disk.size ≡ 256) }
 {
     filled_image(alloc, 256, &SHORT)
 }
 
 /// Whether so many blocks of 256 bytes begin with these.
-fn begin(blocks: &impl Blocks, firsts: &[u8]) -> bool {
+pub(crate) fn begin(blocks: &impl Blocks, firsts: &[u8]) -> bool {
     for n in 0..blocks.count() {
         if blocks.block(n).first() != firsts.get(n as usize) {
             return false;

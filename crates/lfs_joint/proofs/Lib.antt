@@ -1,0 +1,4 @@
+pub mod LaidLemmas
+pub mod JointLemmas
+pub mod NameLemmas
+pub mod PlaceLemmas
