@@ -126,7 +126,7 @@ _lfsed() {
       words='IMAGE'
       ;;
     batch)
-      options='-b --block --keep --older -h --help'
+      options='-b --block --one --keep --older -h --help'
       words='IMAGE FILE'
       ;;
     explain)

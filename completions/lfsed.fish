@@ -209,6 +209,7 @@ complete -c lfsed -n '__fish_seen_subcommand_from forget' -s h -l help -d 'Print
 complete -c lfsed -n '__lfsed_at batch 0' -F
 complete -c lfsed -n '__lfsed_at batch 1' -F
 complete -c lfsed -n '__fish_seen_subcommand_from batch' -s b -l block -x -d 'Size of a block, a multiple of 16 from 256 to 65536, or auto [default: 4096]'
+complete -c lfsed -n '__fish_seen_subcommand_from batch' -l one -d 'Make one change of all steps, which one undo takes back; undo, redo and forget are none of them'
 complete -c lfsed -n '__fish_seen_subcommand_from batch' -l keep -x -d 'Number of the latest changes that are kept, from 1 to 1000; all where it is not said'
 complete -c lfsed -n '__fish_seen_subcommand_from batch' -l older -d 'Go on with the state before commits of a later disk version, which are not read'
 complete -c lfsed -n '__fish_seen_subcommand_from batch' -s h -l help -d 'Print help'

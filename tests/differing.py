@@ -12,8 +12,7 @@ from support.texts import difference_of
 
 NO_FORMAT, NO_MATCH, NO_IMAGE = "lfsed: 50 JournalFormat\n", "lfsed: 51 JournalMismatch\n", "lfsed: 52 JournalImage\n"
 NO_UNDO, NO_REDO = "lfsed: 53 NothingToUndo\n", "lfsed: 54 NothingToRedo\n"
-IN_ORDER = """- f          0 /ab
-+ f          1 /ab
+IN_ORDER = """~ f          1 /ab
 - f          0 /a
 - d          - /b
 - @ 74 01
@@ -131,8 +130,8 @@ def block_sizes(folder):
 
     small, large, differing = of(256, file(1, b"f", b"abc")), of(1_024, file(1, b"f", b"abc")), of(512, file(1, b"e") + file(2, b"f", b"xyz"))
     for old, new, printed in (
-        (small, large, ""), (large, small, ""), (small, differing, "+ f          0 /e\n- f          3 /f\n+ f          3 /f\n"),
-        (differing, large, "- f          0 /e\n- f          3 /f\n+ f          3 /f\n"),
+        (small, large, ""), (large, small, ""), (small, differing, "+ f          0 /e\n~ f          3 /f\n"),
+        (differing, large, "- f          0 /e\n~ f          3 /f\n"),
     ):
         folder.be(old, 0)
         other(folder).write_bytes(new)

@@ -1,7 +1,8 @@
 #!/usr/bin/env python3
 """Compares the documents with the repository: each path that they name is there, each function of a crate with each clause that stands
-behind it, each definition that is named with its file; crates.txt, the crates and the tables of crates agree and have one order; the
-kit that the README names is the one at hand, or one with the same logic."""
+behind it, each definition that is named with its file; what programs make of the sources is current; crates.txt, the crates and what
+is listed of them agree and have one order; the kit that PROOFS.md names is the one at hand, or one with the same logic; the documents
+together, and each of their sentences, aren't too long."""
 import pathlib
 import re
 import subprocess
@@ -11,6 +12,10 @@ from support.counts import Counts
 
 HOME = pathlib.Path(__file__).resolve().parent.parent
 DOCUMENTS = sorted([*HOME.glob("*.md"), *HOME.glob("docs/*.md")])
+# What makes files of the sources.
+GENERATORS = "bin/contracts", "bin/map", "bin/pictures"
+# How many words all documents may have, and one sentence outside tables and blocks.
+MOST_WORDS, MOST_WORDS_OF_A_SENTENCE = 26_000, 40
 # Folders below which a path that is named stands.
 FOLDERS = "bench", "bin", "completions", "crates", "docs", "man", "tests"
 
@@ -55,6 +60,12 @@ def check_paths(counts, document, text):
             counts.check(f"{document.name}: {path}", any((base / path).exists() for base in bases))
 
 
+def check_links(counts, document, text):
+    """Each file that a document links to, or shows, is there."""
+    for path in re.findall(r"\]\(([\w./-]+)(?:#[\w-]*)?\)", text):
+        counts.check(f"{document.name}: {path}", (document.parent / path).exists())
+
+
 def check_functions(counts, document, text, all_crates):
     """Each name of a crate is there, and each clause, or field of a record, in the brackets behind it."""
     fields = {field for crate in all_crates.values() for field in crate.fields}
@@ -77,30 +88,64 @@ def check_definitions(counts, document, text, all_crates):
 
 
 def check_order(counts, all_crates):
-    """crates.txt, the crates and the table of the architecture agree, in one order; so do the headings of what is proved."""
-    listed = re.findall(r"^(\w+):", (HOME / "crates.txt").read_text(), re.MULTILINE)
+    """crates.txt, the crates and what is listed of them agree, in one order; so do the headings of crates.txt and of what is proved."""
+    text = (HOME / "crates.txt").read_text()
+    listed = re.findall(r"^(\w+):", text, re.MULTILINE)
     counts.check("crates.txt has the crates", sorted(listed) == sorted(all_crates), {*listed} ^ {*all_crates})
     architecture = (HOME / "docs/ARCHITECTURE.md").read_text()
-    table = re.findall(r"^\| `(\w+)` \| (?:`\w+`(?:, `\w+`)*)? ?\| ", architecture[:architecture.index("## How a layer")], re.MULTILINE)
+    table = re.findall(r"^\| `(\w+)` \| [^|]* \|$", architecture[:architecture.index("## How a layer")], re.MULTILINE)
     counts.check("ARCHITECTURE.md has the order of crates.txt", table == listed, [pair for pair in zip(table, listed) if pair[0] != pair[1]][:1])
-    proved = re.findall(r"\*\*(lfs\w*)\*\*", (HOME / "docs/PROOFS.md").read_text())
-    counts.check("PROOFS.md has the order of crates.txt", proved == listed, [pair for pair in zip(proved, listed) if pair[0] != pair[1]][:1])
+    groups = [each.capitalize() for each in re.findall(r"^# ([\w ]+)$", text, re.MULTILINE)]
+    proved = (HOME / "docs/PROOFS.md").read_text()
+    headings = re.findall(r"^### (.*)$", proved[proved.index("## Crate by crate"):], re.MULTILINE)
+    counts.check("PROOFS.md has the headings of crates.txt", headings == groups, {*headings} ^ {*groups})
+
+
+def check_generated(counts):
+    """What programs make of the sources is current."""
+    for program in GENERATORS:
+        made = subprocess.run([HOME / program, "--check"], stdout=subprocess.PIPE, text=True, check=False)
+        counts.check(f"{program} --check", made.returncode == 0, made.stdout.strip())
+
+
+def paragraphs(text):
+    """The paragraphs of a document, without its blocks, tables, headings and marks; each point of a list is one."""
+    text = re.sub(r"^```.*?^```$|^(?:\||#|<!--).*?$", "", text, flags=re.MULTILINE | re.DOTALL)
+    text = re.sub(r"^\s*(?:[-*]|\d+\.) ", "\n\n", text, flags=re.MULTILINE)
+    return [" ".join(each.split()) for each in re.split(r"\n\s*\n", text) if each.strip()]
+
+
+def sentences(text):
+    """The sentences of a document."""
+    return [each for paragraph in paragraphs(text) for each in re.split(r"(?<=[.?!])[*)\"]*\s+", paragraph)]
+
+
+def check_length(counts, texts):
+    """The documents together, and each of their sentences, have at most so many words."""
+    words = sum(len(text.split()) for text in texts.values())
+    counts.check(f"the documents have at most {MOST_WORDS} words", words <= MOST_WORDS, words)
+    for document, text in texts.items():
+        long = [each for each in sentences(text) if len(each.split()) > MOST_WORDS_OF_A_SENTENCE]
+        counts.check(f"{document.name}: sentences have at most {MOST_WORDS_OF_A_SENTENCE} words", not long, long[:1])
 
 
 def check_kit(counts):
-    """The kit that the README names has the logic of the one at hand."""
+    """The kit that PROOFS.md names has the logic of the one at hand."""
     version = subprocess.run(["rt", "version"], stdout=subprocess.PIPE, text=True, check=True).stdout
     logic = re.search(r"logic (\w+)", version).group(1)
-    counts.check("README.md names the kit", f"logic {logic}" in (HOME / "README.md").read_text(), version)
+    counts.check("PROOFS.md names the kit", f"logic {logic}" in (HOME / "docs/PROOFS.md").read_text(), version)
 
 
 def main():
     counts, all_crates = Counts(), crates()
-    for document in DOCUMENTS:
-        text = document.read_text()
+    texts = {document: document.read_text() for document in DOCUMENTS}
+    for document, text in texts.items():
         check_paths(counts, document, text)
+        check_links(counts, document, text)
         check_functions(counts, document, text, all_crates)
         check_definitions(counts, document, text, all_crates)
+    check_length(counts, texts)
+    check_generated(counts)
     check_order(counts, all_crates)
     check_kit(counts)
     return counts.end()

@@ -186,6 +186,7 @@ RUNS_THAT_CALL = (
     (["put", "a.img", "/f"], "open read write statx flock fchmod fsync rename"),
     (["put", "link.img", "/f"], "open read write statx flock fchmod fsync rename realpath"),
     (["batch", "a.img", "steps"], "open read write statx flock fchmod fsync rename"),
+    (["batch", "--one", "a.img", "steps"], "open read write statx flock fchmod fsync rename"),
     (["undo", "a.img"], "open read write statx flock fchmod fsync rename"),
     (["forget", "a.img"], "open read write statx flock fchmod fsync rename"),
     (["format", "--count", "8", "a.img"], "open write statx flock fchmod fsync rename"),

@@ -62,7 +62,7 @@ COMPLETED = [
     ("lfsed check --block = ", ""),
     ("lfsed put fw.img /x < f", "fw.img"),
     ("lfsed b", "batch blocks"),
-    ("lfsed batch --", "--block --help --keep --older"),
+    ("lfsed batch --", "--block --help --keep --older --one"),
     ("lfsed batch --keep 3 f", "fw.img"),
     ("lfsed batch fw.img ", "fw.img src"),
     ("lfsed batch fw.img fw.img ", ""),

@@ -174,6 +174,10 @@ def script_rows(runs):
         steps.write_bytes(text)
         runs.row(["batch", "--keep=2", "a.img", "steps"], made)
     runs.row(["batch", "a.img"], made, taken)
+    one = b"# steps\nmkdir /d\nput /d/x host\\x20file\nput /d/x host\\x20file\nsetattr /d/x 74 0102\nmv /d /e\ngrow 18\n"
+    for text in one, one + b"rm /none\n", b"", one + b"undo\n":
+        steps.write_bytes(text)
+        runs.row(["batch", "--one", "--keep=2", "a.img", "steps"], made)
 
 
 def comparing_rows(runs):

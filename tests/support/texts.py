@@ -43,11 +43,18 @@ def marked(mark, path, row):
     return "".join(f"{mark} {line}\n" for line in lines_of(path, None if held is None else len(held), attributes).splitlines())
 
 
+def is_rewritten(node, other):
+    """Whether two nodes are files with the same attributes and other contents."""
+    return node is not None and other is not None and node != other and None not in (node[0], other[0]) and node[1] == other[1]
+
+
 def difference_of(old, new):
     """What differs between two trees, each of which has the bytes, or None, and the attributes at each path."""
     text = ""
     for path in sorted({*old, *new}, key=in_order):
-        if old.get(path) != new.get(path):
+        if is_rewritten(old.get(path), new.get(path)):
+            text += marked("~", path, (new[path][0], {}))
+        elif old.get(path) != new.get(path):
             text += marked("-", path, old[path]) if path in old else ""
             text += marked("+", path, new[path]) if path in new else ""
     return text

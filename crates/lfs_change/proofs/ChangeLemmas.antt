@@ -7,7 +7,7 @@ use Rattle.lfs_fs.specs.Cause.{HasCause}
 use Rattle.lfs_history.specs.declared.open_fault.OpenFault.{OpenFault}
 use Rattle.lfs_history.specs.declared.open_fault.OpenFault.TheVariants as opening
 use Rattle.lfs_history.specs.declared.step_fault.StepFault.{StepFault}
-use Rattle.lfs_history.specs.declared.step_fault.StepFault.TheVariants.{Refused as Refused_step, NothingToUndo, NothingToRedo, JournalFull}
+use Rattle.lfs_history.specs.declared.step_fault.StepFault.TheVariants.{Refused as Refused_step, RefusedAt, NothingToUndo, NothingToRedo, JournalFull}
 use Rattle.lfs_history.specs.Batch.{StopsAt, TakesAll}
 use Rattle.lfs_history.specs.History.{History, IsHistory}
 use Rattle.lfs_history.specs.Opening.{Opens, RefusesOpening}
@@ -16,7 +16,7 @@ use Rattle.lfs_request.specs.declared.fault.Fault.{Fault}
 use Rattle.lfs_request.specs.declared.fault.Fault.TheVariants.{Image}
 use Rattle.lfs_request.specs.Fault.{blames_output, fault_of_step, fault_of_mount, fault_of_opening}
 use Rattle.lfs_request.specs.declared.outcome.Outcome.{Outcome}
-use Rattle.lfs_change.specs.Change.{AnswersChange, AnswersImage, DenotesOn, RefusesChange, RefusesDenoting, RefusesImage, RefusesStep}
+use Rattle.lfs_change.specs.Change.{AnswersChange, AnswersImage, DenotesOn, RefusesChange, RefusesDenoting, RefusesImage, RefusesStep, place_of}
 use Rattle.lfs_block.proofs.BytesLemmas.{image_of_disk}
 
 -- ---- what is denoted
@@ -66,20 +66,22 @@ opening_refuses opening.JournalMismatch steps at d journal refuses = refuses
 opening_refuses opening.JournalImage steps at d journal refuses = refuses
 
 step_refuses : (f : StepFault) (steps : List Move) (at : ℕ) (d : Disk) (journal : List ℕ) → RefusesStep steps at d journal f
-    → RefusesImage steps at d journal (fault_of_step f)
-step_refuses (Refused_step r) steps at d journal refuses = inr refuses
+    → RefusesImage steps (place_of at f) d journal (fault_of_step f)
+step_refuses (Refused_step r) steps at d journal refuses = inr (inl refuses)
+step_refuses (RefusedAt within r) steps at d journal refuses = inr (inr (at, refuses))
 step_refuses NothingToUndo steps at d journal refuses = refuses
 step_refuses NothingToRedo steps at d journal refuses = refuses
 step_refuses JournalFull steps at d journal refuses = refuses
 
 pub stop_refuses : (f : StepFault) (steps : List Move) (at : ℕ) (d : Disk) (journal : List ℕ) (old mid : History) → DenotesOn d journal old
-    → StopsAt steps at f old mid → RefusesImage steps at d journal (fault_of_step f)
+    → StopsAt steps at f old mid → RefusesImage steps (place_of at f) d journal (fault_of_step f)
 stop_refuses f steps at d journal old mid denotes stops =
     step_refuses f steps at d journal (record { old = old; denotes = denotes; mid = mid; stops = stops })
 
 -- a step's fault isn't one of standard output
 pub step_is_silent : (f : StepFault) → blames_output (Some (fault_of_step f)) ≡ false
 step_is_silent (Refused_step r) = refl
+step_is_silent (RefusedAt within r) = refl
 step_is_silent NothingToUndo = refl
 step_is_silent NothingToRedo = refl
 step_is_silent JournalFull = refl

@@ -40,12 +40,12 @@ book : ℕ → ℕ → List ChangeSet → List ChangeSet → Book
 book size count done undone = record { size = size; count = count; done = done; undone = undone }
 
 -- the journal of a history is as long as these bytes, in a version, and is to get no more bytes in version 2
-record IsAsLong (journal : List ℕ) (h : History) : Type 0 where
+pub record IsAsLong (journal : List ℕ) (h : History) : Type 0 where
   pub version : ℕ
   pub len : length (bytes_in version (journal_of h)) ≡ journal_length journal
   pub more : respelling version (length h.done) ≤ respelling (version_of journal) (done_of journal)
 
-denoted_length : (d : Disk) (journal : List ℕ) (h : History) → DenotesOn d journal h → IsAsLong journal h
+pub denoted_length : (d : Disk) (journal : List ℕ) (h : History) → DenotesOn d journal h → IsAsLong journal h
 unfolding book
 denoted_length d [] h denotes = record {
   version = 2;

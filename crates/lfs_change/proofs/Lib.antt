@@ -3,3 +3,4 @@ pub mod ForgettingLemmas
 pub mod LawLemmas
 pub mod GrowthLemmas
 pub mod TakenBackLemmas
+pub mod TogetherLemmas

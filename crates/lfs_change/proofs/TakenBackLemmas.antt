@@ -9,7 +9,7 @@ use Rattle.lfs_history.proofs.RepeatLemmas.{one_more}
 use Rattle.lfs_journal.proofs.CountLemmas.{past_left}
 use Rattle.lfs_history.specs.History.{History}
 use Rattle.lfs_history.specs.Moves.{Undoes, Repeats}
-use Rattle.lfs_history.specs.Taking.{Move, Do, Undo, Redo, Forget, Takes}
+use Rattle.lfs_history.specs.Taking.{Move, Do, Together, Undo, Redo, Forget, Takes}
 use Rattle.lfs_change.specs.KeptPast.{AllButLast, KeepsPast}
 
 -- the present image and those before it
@@ -35,6 +35,7 @@ undone_images (suc n) old new (mid, first, rest) = undone_images n mid new rest 
 one_made : (step : Move) (old mid : History) → KeepsPast step → Takes step None old mid → images old ≡ drop 1 (images mid)
 one_made (Do asked None) old mid keeps does = sym does.pushes.past
 one_made (Do asked (Some n)) old mid keeps does = absurd keeps
+one_made (Together asked keep) old mid keeps does = absurd keeps
 one_made (Undo n) old mid keeps does = absurd keeps
 one_made (Redo n) old mid keeps does = absurd keeps
 one_made Forget old mid keeps does = absurd keeps

@@ -3,12 +3,13 @@ use Rattle.std.specs.Prelude.{◌≡◌, ◌≢◌, ◌⊎◌, ℕ, List, [], �
 use Rattle.lfs_block.specs.Disk.{Disk, IsDisk, image_of}
 use Rattle.lfs_block.specs.ImageFault.{IsNoImage}
 use Rattle.lfs_fs.specs.Cause.{HasCause}
+use Rattle.lfs_command.specs.declared.refusal.Refusal.{Refusal}
 use Rattle.lfs_command.specs.declared.refusal.Refusal.TheVariants.{Memory}
 use Rattle.lfs_book.specs.Book.{journal_bytes}
 use Rattle.lfs_history.specs.declared.open_fault.OpenFault.{OpenFault}
 use Rattle.lfs_history.specs.declared.open_fault.OpenFault.TheVariants as opening
 use Rattle.lfs_history.specs.declared.step_fault.StepFault.{StepFault}
-use Rattle.lfs_history.specs.declared.step_fault.StepFault.TheVariants.{Refused as Refused_step}
+use Rattle.lfs_history.specs.declared.step_fault.StepFault.TheVariants.{Refused as Refused_step, RefusedAt}
 use Rattle.lfs_history.specs.Batch.{StopsAt, TakesAll}
 use Rattle.lfs_history.specs.History.{History, IsHistory, fresh_history}
 use Rattle.lfs_history.specs.Opening.{Opens, RefusesOpening, journal_of}
@@ -52,11 +53,22 @@ pub record RefusesStep (steps : List Move) (at : ℕ) (disk : Disk) (journal : L
   pub mid : History
   pub stops : StopsAt steps at why old mid
 
+-- of the commands that are one of the steps, one is refused, behind so many of them
+abbrev pub RefusesPart : List Move → ℕ → Disk → List ℕ → Refusal → Type 0
+RefusesPart steps at disk journal why = (place : ℕ) × RefusesStep steps place disk journal (RefusedAt at why)
+
+-- how many could be done before what is refused: of the steps, or of the commands that are the one that is refused
+abbrev pub place_of : ℕ → StepFault → ℕ
+place_of at (RefusedAt within refusal) = within
+place_of at fault = at
+
 -- why an image isn't changed: a cause that it has, then what its journal is refused for, then what a step is; or want of memory
 abbrev pub RefusesImage : List Move → ℕ → Disk → List ℕ → Fault → Type 0
 RefusesImage steps at disk journal (Mount fault) = HasCause disk fault
-RefusesImage steps at disk journal (Refused refusal) = (refusal ≡ Memory) ⊎ RefusesStep steps at disk journal (Refused_step refusal)
+RefusesImage steps at disk journal (Refused refusal) =
+    (refusal ≡ Memory) ⊎ RefusesStep steps at disk journal (Refused_step refusal) ⊎ RefusesPart steps at disk journal refusal
 RefusesImage steps at disk journal (fault.Step (Refused_step refusal)) = ⊥
+RefusesImage steps at disk journal (fault.Step (RefusedAt within refusal)) = ⊥
 RefusesImage steps at disk journal (fault.Step fault) = RefusesStep steps at disk journal fault
 RefusesImage steps at disk journal JournalFormat = RefusesJournal opening.JournalFormat disk journal
 RefusesImage steps at disk journal JournalMismatch = RefusesJournal opening.JournalMismatch disk journal

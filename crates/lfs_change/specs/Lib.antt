@@ -2,3 +2,4 @@ pub mod KeptPast
 pub mod Change
 pub mod Forgetting
 pub mod Laws
+pub mod TogetherLaws

@@ -7,7 +7,7 @@ ghost use Rattle.lfs_history.specs.Batch.{TakesAll};
 ghost use Rattle.lfs_history.specs.Meaning.{step_of};
 ghost use Rattle.lfs_history.specs.Moves.{Repeats, Undoes};
 ghost use Rattle.lfs_history.specs.Taking.{KeepsInRange};
-ghost use Rattle.lfs_change.specs.Change.{AnswersChange, AnswersImage, DenotesOn, RefusesImage};
+ghost use Rattle.lfs_change.specs.Change.{AnswersChange, AnswersImage, DenotesOn, RefusesImage, place_of};
 ghost use Rattle.lfs_request.specs.Fault.{blames_output, fault_of_step, status_of};
 ghost use Rattle.lfs_change.specs.KeptPast.{AllButLast};
 
@@ -68,14 +68,14 @@ fn session_changed(alloc: Global, steps: &[Move<'_>], session: Session, journal:
     match taken_in(alloc, steps, &mut session) {
         Ok(()) => outcome_of(session),
         Err(stopped) => {
-            let place = place_of(alloc, steps, &session);
+            let place = path_place(alloc, steps, &session);
             outcome_of_stop(image_bytes(session), journal, stopped, place)
         }
     }
 }
 
 /// Where on its path the first of some steps is refused; behind others that were taken back the session knows no outline, and so no place.
-fn place_of(alloc: Global, steps: &[Move<'_>], session: &Session) -> Option<Place> {
+fn path_place(alloc: Global, steps: &[Move<'_>], session: &Session) -> Option<Place> {
     let Move::Do { command, .. } = steps.first()? else {
         return None;
     };
@@ -93,7 +93,7 @@ fn taken_in(alloc: Global, steps: &[Move<'_>], session: &mut Session) -> Result<
     requires fronts { AllButLast (map step_of steps.now) }
     ensures takes { OnOk result (TakesAll (map step_of steps.now) session.old session.new) }
     ensures refused { IfErr result (λ stopped. (disk : Disk) → (journal : List ℕ) → DenotesOn disk journal session.old
-        → RefusesImage (map step_of steps.now) stopped.at disk journal (fault_of_step stopped.fault)) }
+        → RefusesImage (map step_of steps.now) (place_of stopped.at stopped.fault) disk journal (fault_of_step stopped.fault)) }
     ensures unchanged { OnErr result (session.new.present ≡ session.old.present) }
 {
     if let Err(stopped) = session.take_all(alloc, steps) {

@@ -1,10 +1,11 @@
 //! Laws of bytes on which steps are taken: each function does nothing but call laws, and its contract is the law.
 
+ghost use Rattle.lfs_change.specs.TogetherLaws.{BytesAreChangedTogether, JournalsOfBytesGrowByTheNeeds, OneUndoTakesAllBack};
 ghost use Rattle.lfs_change.specs.Laws.{ChangedBytesAreDenoted, ChangedBytesAreEquations, JournalsOfBytesGrowByTheNeed, JournalsOfBytesGrowOnTheKept, UndoneBytesStandAgain};
 
 use lfs_history::{
-    commands_push_equations, journals_grow_by_the_need, runs_keep_histories, saved_histories_open,
-    steps_keep_size, undo_is_exact,
+    commands_push_equations, commands_push_equations_together, journals_grow_by_the_need,
+    runs_keep_histories, saved_histories_open, steps_keep_size, undo_is_exact,
 };
 
 /// A law: the image and the journal that steps leave denote the history that they leave. Takes no memory.
@@ -52,5 +53,24 @@ pub fn journals_of_bytes_grow_by_the_need()
     ensures whole { JournalsOfBytesGrowByTheNeed }
     ensures kept { JournalsOfBytesGrowOnTheKept }
 {
+    journals_grow_by_the_need();
+}
+
+/// A law: bytes that several commands changed as one change are an image that mounts to their equations of the tree of the image before,
+/// one after another (`equations`). One undo takes all of it back byte for byte, by the journal that they left (`undone`). That is longer
+/// than the one before by no more than three numbers and, for each block that a command needs, and two more each, the block's number,
+/// its bytes before and its bytes after; than one of version 1 also by two numbers for each change that is kept (`growth`). Takes no
+/// memory.
+///
+/// Source: own.
+pub fn bytes_are_changed_together()
+    ensures equations { BytesAreChangedTogether }
+    ensures undone { OneUndoTakesAllBack }
+    ensures growth { JournalsOfBytesGrowByTheNeeds }
+{
+    changed_bytes_are_denoted();
+    commands_push_equations_together();
+    saved_histories_open();
+    undo_is_exact();
     journals_grow_by_the_need();
 }

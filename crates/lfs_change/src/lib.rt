@@ -13,6 +13,6 @@ mod outcomes;
 pub use changing::changed;
 pub use forgetting::forgotten;
 pub use laws::{
-    changed_bytes_are_denoted, changed_bytes_are_equations, journals_of_bytes_grow_by_the_need,
-    undone_bytes_stand_again,
+    bytes_are_changed_together, changed_bytes_are_denoted, changed_bytes_are_equations,
+    journals_of_bytes_grow_by_the_need, undone_bytes_stand_again,
 };

@@ -3,8 +3,10 @@
 ghost use Rattle.std.specs.Prelude.{◌≡◌, None, Some, false};
 ghost use Rattle.lfs_book.specs.Book.{journal_bytes};
 ghost use Rattle.lfs_history.specs.Opening.{journal_of};
+ghost use Rattle.lfs_change.specs.Change.{place_of};
 ghost use Rattle.lfs_request.specs.Fault.{blames_output, fault_of_step, status_of};
 
+use lfs_history::StepFault;
 use lfs_journal::{Session, Stopped};
 use lfs_request::{Fault, Outcome, Place};
 
@@ -27,6 +29,16 @@ pub(crate) fn outcome_of(session: Session) -> Outcome
     Outcome::done(image.into_bytes(), journal)
 }
 
+/// How many could be done before what is refused: of the steps, or of the commands that are the one that is refused.
+fn place_of(stopped: Stopped) -> usize
+    ensures { result ≡ place_of stopped.at stopped.fault }
+{
+    match stopped.fault {
+        StepFault::RefusedAt { at, .. } => at,
+        _ => stopped.at,
+    }
+}
+
 /// The outcome of several steps that aren't done, with the bytes that were handed in.
 pub(crate) fn outcome_of_stop(
     image: Vec<u8>,
@@ -36,10 +48,10 @@ pub(crate) fn outcome_of_stop(
 ) -> Outcome
     ensures kept { (result.image ≡ image) × (result.journal.items ≡ journal.items) }
     ensures fault { result.fault ≡ Some (fault_of_step stopped.fault) }
-    ensures at { result.at ≡ stopped.at }
+    ensures at { result.at ≡ place_of stopped.at stopped.fault }
     ensures failed { blames_output result.fault ≡ false }
     ensures status { result.status ≡ status_of result.fault }
 {
     let fault = Some(Fault::from(stopped.fault));
-    Outcome::placed(image, journal, fault, stopped.at, place)
+    Outcome::placed(image, journal, fault, place_of(stopped), place)
 }

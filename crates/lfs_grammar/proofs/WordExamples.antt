@@ -187,23 +187,28 @@ putting_says : (text_at (codes "block") putting ≡ Some (Some (codes "auto")))
 unfolding clap_on_literals
 putting_says = (refl, refl, refl)
 
--- lfsed batch --keep 3 a.img steps, and without a file
+-- lfsed batch --keep 3 a.img steps, without a file, and as one change
 abbrev batching : List Text
 batching = codes "lfsed" ∷ codes "batch" ∷ codes "--keep" ∷ codes "3" ∷ codes "a.img" ∷ codes "steps" ∷ []
 
 abbrev batching_input : List Text
 batching_input = codes "lfsed" ∷ codes "batch" ∷ codes "a.img" ∷ []
 
-batching_is_taken : IsTaken batching × IsTaken batching_input
+abbrev batching_one : List Text
+batching_one = codes "lfsed" ∷ codes "batch" ∷ codes "--one" ∷ codes "a.img" ∷ []
+
+batching_is_taken : IsTaken batching × IsTaken batching_input × IsTaken batching_one
 unfolding clap_on_literals
-batching_is_taken = (refl, refl)
+batching_is_taken = (refl, refl, refl)
 
 batching_says : (text_at (codes "script") batching ≡ Some (Some (codes "steps")))
     × (number_at (codes "keep") batching ≡ Some (Some (codes "3")))
     × (text_at (codes "image") batching_input ≡ Some (Some (codes "a.img")))
     × (text_at (codes "script") batching_input ≡ Some None)
+    × (text_at (codes "one") batching_input ≡ Some (Some (codes "false")))
+    × (text_at (codes "one") batching_one ≡ Some (Some (codes "true")))
 unfolding clap_on_literals
-batching_says = (refl, refl, refl, refl)
+batching_says = (refl, refl, refl, refl, refl, refl)
 
 -- how many blocks needn't be said, as far as the grammar goes
 no_count_is_taken : IsTaken (codes "lfsed" ∷ codes "format" ∷ codes "a.img" ∷ [])

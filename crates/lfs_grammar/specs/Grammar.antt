@@ -103,6 +103,10 @@ is_new = flag (codes "new")
 abbrev pub sum : Rule
 sum = flag (codes "sum")
 
+-- the steps of a script are one change
+abbrev pub one : Rule
+one = flag (codes "one")
+
 -- images are read as a device does
 abbrev pub device : Rule
 device = flag (codes "device")
@@ -145,6 +149,7 @@ rule_at argument.FileMaxOrSource = file_max_or_source
 rule_at argument.AttrMaxOrSource = attr_max_or_source
 rule_at argument.New = is_new
 rule_at argument.Sum = sum
+rule_at argument.One = one
 rule_at argument.Device = device
 rule_at argument.Offset = offset
 rule_at argument.OffsetInSource = offset
@@ -271,7 +276,7 @@ commands =
     ∷ reading (codes "undo") (steps ∷ [])
     ∷ reading (codes "redo") (steps ∷ [])
     ∷ reading (codes "forget") []
-    ∷ changing (codes "batch") (script ∷ [])
+    ∷ changing (codes "batch") (script ∷ one ∷ [])
     ∷ (command (codes "explain") (faults ∷ [])).top
     ∷ []
 

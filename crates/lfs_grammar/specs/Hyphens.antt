@@ -20,9 +20,13 @@ abbrev pub names_limit_option : Text → Bool
 names_limit_option word =
     begins_with word (codes "--name-max") || begins_with word (codes "--file-max") || begins_with word (codes "--attr-max")
 
+-- an option of the changes of the past, by its long name
+abbrev pub names_past_option : Text → Bool
+names_past_option word = begins_with word (codes "--keep") || begins_with word (codes "--steps")
+
 -- an option of a change, by its long name
 abbrev pub names_change_option : Text → Bool
-names_change_option word = begins_with word (codes "--keep") || begins_with word (codes "--steps")
+names_change_option word = names_past_option word || begins_with word (codes "--one")
 
 -- an option that says how an image is looked at, by its long name
 abbrev pub names_view_option : Text → Bool

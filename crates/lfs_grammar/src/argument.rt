@@ -41,6 +41,8 @@ pub(crate) enum Argument {
     New,
     /// That it is printed how many blocks each path takes.
     Sum,
+    /// That the steps of a script are one change.
+    One,
     /// That images are read as a device does.
     Device,
     /// Where in its file an image begins.
@@ -224,6 +226,13 @@ static SUM: ArgumentRow = ArgumentRow {
     help: "Print how many blocks each path takes, with all that is below it",
 };
 
+/// That the steps of a script are one change.
+static ONE: ArgumentRow = ArgumentRow {
+    id: "one",
+    form: Form::Flag,
+    help: "Make one change of all steps, which one undo takes back; undo, redo and forget are none of them",
+};
+
 /// That images are read as a device does.
 static DEVICE: ArgumentRow = ArgumentRow {
     id: "device",
@@ -391,6 +400,7 @@ fn row_of(argument: Argument) -> &'static ArgumentRow
         Argument::AttrMaxOrSource => &ATTR_MAX_OR_SOURCE,
         Argument::New => &NEW,
         Argument::Sum => &SUM,
+        Argument::One => &ONE,
         Argument::Device => &DEVICE,
         Argument::Offset => &OFFSET,
         Argument::OffsetInSource => &OFFSET_IN_SOURCE,

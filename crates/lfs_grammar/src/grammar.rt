@@ -328,6 +328,7 @@ static COMMANDS: [CommandRow; 24] = [
             Argument::Block,
             Argument::Image,
             Argument::Script,
+            Argument::One,
             Argument::Keep,
             Argument::Older,
         ],

@@ -3,7 +3,7 @@
 ghost use Rattle.std.specs.Prelude.{◌≡◌, IfOk, map};
 ghost use Rattle.clap.specs.Words.{first_of, found_of, rows_of, subcommand_rows_of};
 ghost use Rattle.lfs_grammar.specs.Hyphens.{are_plain_names, dashed, is_plain_name, is_stray, names_change_option, names_files_plainly};
-ghost use Rattle.lfs_grammar.specs.Hyphens.{names_image_option, names_limit_option, names_long_option, names_new_option, names_option, names_view_option};
+ghost use Rattle.lfs_grammar.specs.Hyphens.{names_image_option, names_limit_option, names_long_option, names_new_option, names_option, names_past_option, names_view_option};
 
 use clap::ArgMatches;
 use std::alloc::{AllocError, Global};
@@ -41,6 +41,13 @@ fn names_limit_option(word: &str) -> bool
 /// Whether a word is an option of a change, by its long name.
 fn names_change_option(word: &str) -> bool
     ensures { result ≡ names_change_option word.now }
+{
+    names_past_option(word) || word.starts_with("--one")
+}
+
+/// Whether a word is an option of the changes of the past, by its long name.
+fn names_past_option(word: &str) -> bool
+    ensures { result ≡ names_past_option word.now }
 {
     word.starts_with("--keep") || word.starts_with("--steps")
 }

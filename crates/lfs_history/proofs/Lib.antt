@@ -1,6 +1,7 @@
 pub mod KeptLemmas
 pub mod MoveLemmas
 pub mod RepeatLemmas
+pub mod TogetherLemmas
 pub mod RunLemmas
 pub mod RefusedLemmas
 pub mod EquationLemmas
@@ -9,3 +10,4 @@ pub mod BookLemmas
 pub mod SavedLemmas
 pub mod GrowthLemmas
 pub mod SizeLemmas
+pub mod NeedsLemmas

@@ -136,10 +136,10 @@ planned_mounts law d asked p plans =
     (plans.next, plans.after, follows.sound)
 
 -- where all of the past is kept
-push_keeps_all : Make → Follow → (asked : Asked) (p : ChangeSet) (old new : History) → IsHistory old → length old.done < most_changes
-    → Plans old.present asked p → Pushes p None old new → IsHistory new
-push_keeps_all law follow asked p old new h room plans u =
-    let behind = is_behind law p old new.present h plans.patch plans.stands u.present in
+change_keeps_all : Make → (p : ChangeSet) (old new : History) → IsHistory old → length old.done < most_changes → IsGrowth p
+    → AgreesOld p old.present → IsMounted (applied p old.present) → Pushes p None old new → IsHistory new
+change_keeps_all law p old new h room growth stands mounts u =
+    let behind = is_behind law p old new.present h growth stands u.present in
     let turned : reverse new.done ≡ p ∷ reverse old.done = latest old.done new.done p u.done in
     let len : length (new.done ++ new.undone) ≡ length old.done + 1 =
     ap (λ (us : List ChangeSet). length (new.done ++ us)) u.undone ∙ ap length (append-nil new.done) ∙ ap length u.done
@@ -150,18 +150,23 @@ push_keeps_all law follow asked p old new h room plans u =
       back = subst (λ (ps : List ChangeSet). GoesBack ps new.present) (sym turned) behind.back;
       on = subst (λ (us : List ChangeSet). GoesForward us new.present) (sym u.undone) tt;
       disk = behind.disk;
-      mounts = subst IsMounted (sym u.present) (planned_mounts follow old.present asked p plans);
+      mounts = subst IsMounted (sym u.present) mounts;
       past_mounts = subst (AllByRecursion IsMounted) (sym u.past) (h.mounts, h.past_mounts);
       future_mounts = subst (AllByRecursion IsMounted) (sym u.future) tt;
       few = omega arith;
     }
 
 -- else it is pushed on what is kept
+pub change_keeps : Make → (keep : Option ℕ) (p : ChangeSet) (old new : History) → IsHistory old → HasPlace keep old → IsGrowth p
+    → AgreesOld p old.present → IsMounted (applied p old.present) → Pushes p keep old new → IsHistory new
+change_keeps law keep p old new h place growth stands mounts u =
+    change_keeps_all law p (kept_history (but_one keep) old) new (kept_is_history (but_one keep) old h) (kept_room keep old place)
+    growth stands mounts (pushes_kept p keep old new place u)
+
 pub push_keeps : Make → Follow → (asked : Asked) (keep : Option ℕ) (p : ChangeSet) (old new : History) → IsHistory old
     → HasPlace keep old → Plans old.present asked p → Pushes p keep old new → IsHistory new
 push_keeps law follow asked keep p old new h place plans u =
-    push_keeps_all law follow asked p (kept_history (but_one keep) old) new (kept_is_history (but_one keep) old h) (kept_room keep old place)
-    plans (pushes_kept p keep old new place u)
+    change_keeps law keep p old new h place plans.patch plans.stands (planned_mounts follow old.present asked p plans) u
 
 -- ---- all is forgotten
 

@@ -3,10 +3,11 @@ use Rattle.std.proofs.Common.{◌≡◌, ℕ, zero, suc, List, [], ◌∷◌, So
 use Rattle.std.specs.Prelude.{reverse}
 use Rattle.lfs_block.specs.Disk.{Disk}
 use Rattle.lfs_block.specs.Patch.{ChangeSet, applied, reverted}
-use Rattle.lfs_history.specs.declared.step_fault.StepFault.TheVariants.{Refused, NothingToUndo, NothingToRedo, JournalFull}
+use Rattle.lfs_history.specs.declared.step_fault.StepFault.TheVariants.{Refused, RefusedAt, NothingToUndo, NothingToRedo}
+use Rattle.lfs_history.specs.declared.step_fault.StepFault.TheVariants.{JournalFull}
 use Rattle.lfs_history.specs.History.{History, IsHistory, past_of, future_of}
 use Rattle.lfs_history.specs.Moves.{Undoes, Redoes, Repeats}
-use Rattle.lfs_history.specs.Taking.{Move, Do, Undo, Redo, Forget, Reply, Takes}
+use Rattle.lfs_history.specs.Taking.{Move, Do, Together, Undo, Redo, Forget, Reply, Takes}
 use Rattle.lfs_history.specs.Laws.{RunsKeepHistories}
 use Rattle.lfs_history.proofs.MoveLemmas.{latest, first_same}
 use Rattle.lfs_history.proofs.BookLemmas.{applied_size, reverted_size}
@@ -59,15 +60,25 @@ pub taken_size : RunsKeepHistories → (step : Move) (reply : Reply) (old new : 
 taken_size law (Do asked keep) None old new h does = made_size does.change old.present new.present does.pushes.present
 taken_size law (Do asked keep) (Some JournalFull) old new h takes = kept_size old new takes.1
 taken_size law (Do asked keep) (Some (Refused r)) old new h takes = kept_size old new takes.2
+taken_size law (Do asked keep) (Some (RefusedAt at r)) old new h takes = absurd takes
+taken_size law (Together [] keep) None old new h takes = kept_size old new takes
+taken_size law (Together (a ∷ asked) keep) None old new h does = made_size does.change old.present new.present does.pushes.present
+taken_size law (Together asked keep) (Some JournalFull) old new h takes = kept_size old new takes.1
+taken_size law (Together asked keep) (Some (RefusedAt at r)) old new h takes = kept_size old new takes.2
+taken_size law (Together asked keep) (Some (Refused r)) old new h takes = absurd takes
+taken_size law (Together asked keep) (Some NothingToUndo) old new h takes = absurd takes
+taken_size law (Together asked keep) (Some NothingToRedo) old new h takes = absurd takes
 taken_size law (Do asked keep) (Some NothingToUndo) old new h takes = absurd takes
 taken_size law (Do asked keep) (Some NothingToRedo) old new h takes = absurd takes
 taken_size law (Undo n) None old new h takes = repeated_size Undoes (undo_keeps_size law) n old new h takes
 taken_size law (Undo n) (Some NothingToUndo) old new h takes = kept_size old new takes.1
+taken_size law (Undo n) (Some (RefusedAt at r)) old new h takes = absurd takes
 taken_size law (Undo n) (Some (Refused r)) old new h takes = absurd takes
 taken_size law (Undo n) (Some NothingToRedo) old new h takes = absurd takes
 taken_size law (Undo n) (Some JournalFull) old new h takes = absurd takes
 taken_size law (Redo n) None old new h takes = repeated_size Redoes (redo_keeps_size law) n old new h takes
 taken_size law (Redo n) (Some NothingToRedo) old new h takes = kept_size old new takes.1
+taken_size law (Redo n) (Some (RefusedAt at r)) old new h takes = absurd takes
 taken_size law (Redo n) (Some (Refused r)) old new h takes = absurd takes
 taken_size law (Redo n) (Some NothingToUndo) old new h takes = absurd takes
 taken_size law (Redo n) (Some JournalFull) old new h takes = absurd takes

@@ -8,10 +8,11 @@ use Rattle.lfs_book.specs.declared.journal_fault.JournalFault.TheVariants.{Journ
 use Rattle.lfs_history.specs.declared.open_fault.OpenFault.{OpenFault}
 use Rattle.lfs_history.specs.declared.open_fault.OpenFault.TheVariants.{Mount, JournalFormat, JournalMismatch, JournalImage}
 use Rattle.lfs_history.specs.declared.step_fault.StepFault.{StepFault}
-use Rattle.lfs_history.specs.declared.step_fault.StepFault.TheVariants.{Refused, NothingToUndo, NothingToRedo, JournalFull}
+use Rattle.lfs_history.specs.declared.step_fault.StepFault.TheVariants.{Refused, RefusedAt, NothingToUndo, NothingToRedo, JournalFull}
 
 abbrev pub step_fault_number : StepFault → ℕ
 step_fault_number (Refused refusal) = refusal_number refusal
+step_fault_number (RefusedAt at refusal) = refusal_number refusal
 step_fault_number NothingToUndo = 53
 step_fault_number NothingToRedo = 54
 step_fault_number JournalFull = 55

@@ -1,6 +1,8 @@
 pub mod Faults
 pub mod History
 pub mod Moves
+pub mod Place
+pub mod Together
 pub mod Taking
 pub mod Batch
 pub mod Meaning
@@ -8,3 +10,4 @@ pub mod Laws
 pub mod Opening
 pub mod OpeningLaws
 pub mod Filling
+pub mod TogetherLaws

@@ -1,19 +1,22 @@
 -- Moves of a session, their replies, and runs of them (own).
-use Rattle.std.specs.Prelude.{◌≡◌, ℕ, ◌<◌, ◌≤◌, List, [], ◌∷◌, Option, Some, None, length}
+use Rattle.std.specs.Prelude.{◌≡◌, ℕ, ◌<◌, List, [], ◌∷◌, Option, Some, None, length}
 use Rattle.lfs_block.specs.Patch.{ChangeSet}
-use Rattle.lfs_book.specs.Book.{most_changes}
 use Rattle.lfs_command.specs.Command.{Asked}
 use Rattle.lfs_command.specs.Planned.{Plans, RefusesPlan}
 use Rattle.lfs_history.specs.declared.step_fault.StepFault.{StepFault}
-use Rattle.lfs_history.specs.declared.step_fault.StepFault.TheVariants.{Refused, NothingToUndo, NothingToRedo, JournalFull}
+use Rattle.lfs_history.specs.declared.step_fault.StepFault.TheVariants.{Refused, RefusedAt, NothingToUndo, NothingToRedo}
+use Rattle.lfs_history.specs.declared.step_fault.StepFault.TheVariants.{JournalFull}
 use Rattle.lfs_history.specs.History.{History}
 use Rattle.lfs_history.specs.Moves.{Pushes, Undoes, Redoes, Repeats, Forgets}
+pub use Rattle.lfs_history.specs.Place.{MayKeep, HasPlace, IsFull}
+use Rattle.lfs_history.specs.Together.{DoesTogether, IsFullFor, RefusesTogether}
 
--- A command is carried out, and then so many images of the past are kept, or all of them where no number is said; so many of the
--- latest changes are taken back, or so many of those that were taken back last are made again, all of them or none; all but the image
--- is forgotten.
+-- A command is carried out, or several are as one change, and then so many images of the past are kept, or all of them where no number
+-- is said; so many of the latest changes are taken back, or so many of those that were taken back last are made again, all of them or
+-- none; all but the image is forgotten.
 pub data Move : Type 0 where
   Do : (asked : Asked) → (keep : Option ℕ) → Move
+  Together : (asked : List Asked) → (keep : Option ℕ) → Move
   Undo : (steps : ℕ) → Move
   Redo : (steps : ℕ) → Move
   Forget : Move
@@ -22,25 +25,11 @@ pub data Move : Type 0 where
 abbrev pub Reply : Type 0
 Reply = Option StepFault
 
--- how many images of the past may be kept: from 1 to 1,000, or all
-abbrev pub MayKeep : Option ℕ → Type 0
-MayKeep None = Unit {0}
-MayKeep (Some keep) = (1 ≤ keep) × (keep ≤ most_changes)
-
 -- what a move keeps may be kept: its caller owes it
 abbrev pub KeepsInRange : Move → Type 0
 KeepsInRange (Do asked keep) = MayKeep keep
+KeepsInRange (Together asked keep) = MayKeep keep
 KeepsInRange _ = Unit {0}
-
--- there is room for a change more; where a number is kept there always is
-abbrev pub HasPlace : Option ℕ → History → Type 0
-HasPlace None h = length h.done < most_changes
-HasPlace (Some keep) h = MayKeep (Some keep)
-
--- there is none
-abbrev pub IsFull : Option ℕ → History → Type 0
-IsFull None h = most_changes ≤ length h.done
-IsFull (Some keep) h = ⊥
 
 -- there is room for a change, and a patch that carries the command out on the present image is made
 pub record Does (asked : Asked) (keep : Option ℕ) (old new : History) : Type 0 where
@@ -54,6 +43,9 @@ abbrev pub Takes : Move → Reply → History → History → Type 0
 Takes (Do asked keep) None old new = Does asked keep old new
 Takes (Do asked keep) (Some JournalFull) old new = IsFull keep old × (new ≡ old)
 Takes (Do asked keep) (Some (Refused r)) old new = HasPlace keep old × RefusesPlan old.present asked r × (new ≡ old)
+Takes (Together asked keep) None old new = DoesTogether asked keep old new
+Takes (Together asked keep) (Some JournalFull) old new = IsFullFor asked keep old × (new ≡ old)
+Takes (Together asked keep) (Some (RefusedAt at r)) old new = HasPlace keep old × RefusesTogether old.present asked at r × (new ≡ old)
 Takes (Undo steps) None old new = Repeats Undoes steps old new
 Takes (Undo steps) (Some NothingToUndo) old new = (length old.past < steps) × (new ≡ old)
 Takes (Redo steps) None old new = Repeats Redoes steps old new

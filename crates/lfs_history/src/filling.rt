@@ -26,6 +26,12 @@ pub fn filled<'a>(step: &'a Move<'a, Source<'a>>, read: &'a [u8]) -> Move<'a>
 {
     let (command, keep) = match step {
         Move::Do { command, keep } => (command, *keep),
+        Move::Together { commands, keep } => {
+            return Move::Together {
+                commands: *commands,
+                keep: *keep,
+            };
+        }
         Move::Undo { steps } => return Move::Undo { steps: *steps },
         Move::Redo { steps } => return Move::Redo { steps: *steps },
         Move::Forget => return Move::Forget,

@@ -11,8 +11,9 @@ mod step_fault;
 
 pub use filling::filled;
 pub use laws::{
-    commands_are_equations, commands_push_equations, histories_are_books,
-    journals_grow_by_the_need, redo_is_exact, runs_keep_histories, saved_histories_open,
+    commands_are_equations, commands_are_made_together, commands_push_equations,
+    commands_push_equations_together, histories_are_books, journals_grow_by_the_need,
+    lists_of_one_are_commands, redo_is_exact, runs_keep_histories, saved_histories_open,
     steps_keep_size, undo_and_redo_keep_images, undo_is_exact,
 };
 pub use moves::Move;

@@ -12,6 +12,13 @@ use thiserror::Error;
 pub enum StepFault {
     /// The command is refused, or a growth of memory was.
     Refused(Refusal),
+    /// Of several commands that are to be one change, this one is refused, or a growth of memory was at it.
+    RefusedAt {
+        /// How many commands stand before it.
+        at: usize,
+        /// Why it is refused.
+        refusal: Refusal,
+    },
     /// Fewer changes are there to be taken back than were to be.
     NothingToUndo,
     /// Fewer changes were taken back since the last that was made than were to be made again.
@@ -29,7 +36,7 @@ impl StepFault {
         ensures { result ≡ step_fault_number self }
     {
         match self {
-            StepFault::Refused(refusal) => refusal.number(),
+            StepFault::Refused(refusal) | StepFault::RefusedAt { refusal, .. } => refusal.number(),
             StepFault::NothingToUndo => 53,
             StepFault::NothingToRedo => 54,
             StepFault::JournalFull => 55,
@@ -39,7 +46,7 @@ impl StepFault {
     /// The fault's name, as the program prints it.
     pub fn name(self) -> &'static str {
         match self {
-            StepFault::Refused(refusal) => refusal.name(),
+            StepFault::Refused(refusal) | StepFault::RefusedAt { refusal, .. } => refusal.name(),
             StepFault::NothingToUndo => "NothingToUndo",
             StepFault::NothingToRedo => "NothingToRedo",
             StepFault::JournalFull => "JournalFull",
@@ -50,7 +57,7 @@ impl StepFault {
 impl fmt::Display for StepFault {
     fn fmt<W: fmt::Write>(&self, f: &mut fmt::Formatter<W>) -> fmt::Result {
         match self {
-            StepFault::Refused(refusal) => refusal.fmt(f),
+            StepFault::Refused(refusal) | StepFault::RefusedAt { refusal, .. } => refusal.fmt(f),
             fault => f.write_str(fault.name()),
         }
     }

@@ -6,3 +6,5 @@ pub mod KnownLemmas
 pub mod OpeningLemmas
 pub mod RoomLemmas
 pub mod BesideLemmas
+pub mod JoiningLemmas
+pub mod TogetherLemmas

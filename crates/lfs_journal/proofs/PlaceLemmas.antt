@@ -6,11 +6,11 @@ use Rattle.lfs_block.specs.Disk.{Disk}
 use Rattle.lfs_block.specs.Patch.{ChangeSet, IsGrowth, AgreesOld, AgreesNew, applied, reverted}
 use Rattle.lfs_command.specs.Command.{Asked}
 use Rattle.lfs_command.specs.Planned.{Plans}
-use Rattle.lfs_history.specs.History.{History, IsHistoryAt, history_at, past_of, future_of, GoesBack, GoesForward}
+use Rattle.lfs_history.specs.History.{History, IsHistoryAt, IsMounted, history_at, past_of, future_of, GoesBack, GoesForward}
 use Rattle.lfs_history.specs.Moves.{Pushes, Undoes, Redoes, kept_changes, but_one}
 use Rattle.lfs_history.specs.Taking.{Does, HasPlace}
 use Rattle.lfs_history.proofs.KeptLemmas.{kept_past, image_kept, change_kept}
-use Rattle.lfs_history.proofs.MoveLemmas.{TakeBack, Make, Follow, latest, undo_keeps, redo_keeps, push_keeps}
+use Rattle.lfs_history.proofs.MoveLemmas.{TakeBack, Make, Follow, change_keeps, latest, planned_mounts, undo_keeps, redo_keeps}
 
 -- the change at a place, between those before it and those behind it
 pub record IsAt (changes : List ChangeSet) (i j : ℕ) (p : ChangeSet) : Type 0 where
@@ -108,19 +108,17 @@ pub put_makes : (d e : Disk) (old new : List ChangeSet) (i : ℕ) (p q : ChangeS
 put_makes d e old new i p q put read is = is ∙ ap (λ (x : ChangeSet). applied x d) (put_is old new i p q put read)
 
 -- what is kept then is all that is left, and what was put is in front
-pub done_at : Make → Follow → (asked : Asked) (keep : Option ℕ) (d e : Disk) (old new kept : List ChangeSet) (i j : ℕ) (p q : ChangeSet)
-    → IsPut old new i p → q ≡ get_or new i q → kept ≡ kept_changes keep new → j ≡ length kept
-    → IsHistoryAt d old i → HasPlace keep (history_at d old i) → Plans d asked p → e ≡ applied q d
-    → MovesTo (Does asked keep) (history_at d old i) e kept j
-done_at law follow asked keep d e old new kept i j p q put read latest_are many h place plans is =
+pub pushed_at : Make → (keep : Option ℕ) (d e : Disk) (old new kept : List ChangeSet) (i j : ℕ) (p : ChangeSet) → IsPut old new i p
+    → kept ≡ kept_changes keep new → j ≡ length kept → IsHistoryAt d old i → HasPlace keep (history_at d old i) → IsGrowth p
+    → AgreesOld p d → IsMounted (applied p d) → e ≡ applied p d → MovesTo (Pushes p keep) (history_at d old i) e kept j
+pushed_at law keep d e old new kept i j p put latest_are many h place growth stands mounts to =
     let before = take i old in
     let left = kept_changes (but_one keep) before in
     let all : take j kept ≡ kept = take_all j kept (omega arith) in
     let none : drop j kept ≡ [] = drop_all j kept (omega arith) in
     let made : take j kept ≡ kept_changes keep (before ++ p ∷ []) = all ∙ latest_are ∙ ap (kept_changes keep) put.all in
     let beside : take j kept ≡ left ++ p ∷ [] = made ∙ change_kept keep (history_at d old i) before p place in
-    let to : e ≡ applied p d = put_makes d e old new i p q put read is in
-    let back : reverted p e ≡ d = ap (reverted p) to ∙ law.back p d h.history.disk plans.patch.patch plans.stands in
+    let back : reverted p e ≡ d = ap (reverted p) to ∙ law.back p d h.history.disk growth.patch stands in
     let pushes : Pushes p keep (history_at d old i) (history_at e kept j) = record {
       past = ap (λ (ps : List ChangeSet). past_of ps e) (latest left (take j kept) p beside)
           ∙ ap (λ (x : Disk). x ∷ past_of (reverse left) x) back
@@ -132,9 +130,22 @@ done_at law follow asked keep d e old new kept i j p q put read latest_are many 
       undone = none;
     } in
     record {
-      moves = record { room = place; change = p; plans = plans; pushes = pushes };
+      moves = pushes;
       keeps = record {
         within = omega arith;
-        history = push_keeps law follow asked keep p (history_at d old i) (history_at e kept j) h.history place plans pushes;
+        history = change_keeps law keep p (history_at d old i) (history_at e kept j) h.history place growth stands mounts pushes;
       };
+    }
+
+-- so it is once a command is done
+pub done_at : Make → Follow → (asked : Asked) (keep : Option ℕ) (d e : Disk) (old new kept : List ChangeSet) (i j : ℕ) (p q : ChangeSet)
+    → IsPut old new i p → q ≡ get_or new i q → kept ≡ kept_changes keep new → j ≡ length kept
+    → IsHistoryAt d old i → HasPlace keep (history_at d old i) → Plans d asked p → e ≡ applied q d
+    → MovesTo (Does asked keep) (history_at d old i) e kept j
+done_at law follow asked keep d e old new kept i j p q put read latest_are many h place plans is =
+    let to = pushed_at law keep d e old new kept i j p put latest_are many h place plans.patch plans.stands
+    (planned_mounts follow d asked p plans) (put_makes d e old new i p q put read is) in
+    record {
+      moves = record { room = place; change = p; plans = plans; pushes = to.moves };
+      keeps = to.keeps;
     }

@@ -4,6 +4,7 @@
 mod agreeing;
 mod batching;
 mod carried;
+mod joining;
 mod keeping;
 mod known;
 mod mounting;

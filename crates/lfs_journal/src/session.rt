@@ -1,6 +1,7 @@
 //! An image with its changes.
 
 use crate::carried::{Carried, carried_out};
+use crate::joining::{Unjoined, joined};
 use crate::keeping::keep_latest;
 use crate::known::{Known, known_by};
 use crate::opening::{Opened, read_history};
@@ -14,7 +15,7 @@ use lfs_block::{
 use lfs_book::{Journal, MOST_CHANGES, write_journal};
 use lfs_edit::{Asked, Refusal};
 use lfs_fs::{Outline, mount};
-use lfs_history::StepFault;
+use lfs_history::{StepFault, commands_are_made_together};
 use lfs_law::cuts_follow;
 use std::alloc::Global;
 use std::marker::Model;
@@ -46,7 +47,7 @@ impl Model for Session {
 }
 
 impl Session {
-    ghost use Rattle.std.specs.Prelude.{◌≡◌, [], length, None, Some, IfOk, IfErr, IfSome, OnOk, OnErr};
+    ghost use Rattle.std.specs.Prelude.{◌≡◌, ◌≢◌, [], length, map, None, Some, IfOk, IfErr, IfSome, OnOk, OnErr};
     ghost use Rattle.lfs_fs.specs.Cause.{HasCause};
     ghost use Rattle.lfs_fs.specs.Mounted.{IsOutlineOf};
     ghost use Rattle.lfs_book.specs.Book.{journal_bytes};
@@ -55,7 +56,8 @@ impl Session {
     ghost use Rattle.lfs_history.specs.History.{IsHistory, fresh_history};
     ghost use Rattle.lfs_history.specs.Moves.{Undoes, Redoes, Forgets};
     ghost use Rattle.lfs_history.specs.Opening.{Opens, RefusesOpening, journal_of};
-    ghost use Rattle.lfs_history.specs.Taking.{Does, Takes, Do, MayKeep, HasPlace};
+    ghost use Rattle.lfs_history.specs.Taking.{Does, Takes, Do, MayKeep, HasPlace, Together};
+    ghost use Rattle.lfs_history.specs.Together.{DoesTogether};
 
     /// A session of an image that nothing was done to. A refusal hands the image back: the image has the cause that the
     /// fault names, and `Memory` says only that a growth was refused.
@@ -222,6 +224,66 @@ impl Session {
         self.known = Some(known);
         self.done = keep_latest(&mut self.patches, keep);
         Ok(())
+    }
+
+    /// Carries commands out, one after another, as one change that can be taken back; what was undone is dropped, and then all images of the
+    /// past but the nearest, as many as are said. The caller owes that these are 1 to 1,000, or all. No command is no change. Any refusal
+    /// leaves all as it was: `JournalFull` where 1,000 changes were made and all are kept, then the first command that is refused, with its
+    /// place.
+    pub fn together(
+        &mut self,
+        alloc: Global,
+        commands: &[Asked<'_>],
+        keep: Option<u32>,
+    ) -> Result<(), StepFault>
+        requires { MayKeep keep }
+        ensures done { OnOk result (DoesTogether (map asked_for commands.now) keep self.old self.new) }
+        ensures refused { IfErr result (λ fault. Takes (Together (map asked_for commands.now) keep) (Some fault) self.old self.new) }
+        ensures unchanged { OnErr result (self.new ≡ self.old) }
+    {
+        if commands.is_empty() {
+            return Ok(());
+        }
+        if keep.is_none() && self.done >= MOST_CHANGES as usize {
+            return Err(StepFault::JournalFull);
+        }
+        self.push_all(alloc, commands, keep)
+    }
+
+    /// Carries commands out, one at least, where there is room for a change, and then keeps as many images of the past as are said. Room
+    /// for the change is made before anything changes.
+    fn push_all(
+        &mut self,
+        alloc: Global,
+        commands: &[Asked<'_>],
+        keep: Option<u32>,
+    ) -> Result<(), StepFault>
+        requires some { commands.now ≢ [] }
+        requires place { HasPlace keep self.old }
+        ensures done { OnOk result (DoesTogether (map asked_for commands.now) keep self.old self.new) }
+        ensures refused { IfErr result (λ fault. Takes (Together (map asked_for commands.now) keep) (Some fault) self.old self.new) }
+        ensures unchanged { OnErr result (self.new ≡ self.old) }
+    {
+        applied_patches_change_their_blocks();
+        applied_patches_revert();
+        commands_are_made_together();
+        if self.patches.reserve(1).is_err() {
+            return Err(StepFault::RefusedAt {
+                at: 0,
+                refusal: Refusal::Memory,
+            });
+        }
+        match joined(alloc, &mut self.image, &mut self.known, commands) {
+            Ok(Some(patch)) => {
+                prove!(self.image.count() <= self.image.room());
+                let put = replace_from(&mut self.patches, self.done, patch);
+                prove!(put.is_ok());
+                self.done = keep_latest(&mut self.patches, keep);
+                Ok(())
+            }
+            Ok(None) => Ok(()),
+            Err(Unjoined { at, refusal }) => Err(StepFault::RefusedAt { at, refusal }),
+        }
     }
 
     /// How many changes can be taken back. Takes no memory.

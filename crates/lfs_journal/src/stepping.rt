@@ -29,6 +29,7 @@ impl Session {
                 command,
                 keep: Some(keep),
             } => self.command_keep(alloc, command, *keep),
+            Move::Together { commands, keep } => self.together(alloc, commands, *keep),
             Move::Undo { steps } => self.undo_steps(*steps),
             Move::Redo { steps } => self.redo_steps(*steps),
             Move::Forget => {

@@ -10,7 +10,7 @@ use Rattle.lfs_block.specs.Disk.{Disk}
 use Rattle.lfs_fs.specs.Path.{Path}
 use Rattle.lfs_fs.specs.Row.{PathsAreOrdered, Row, path_precedes}
 use Rattle.lfs_fs.specs.RowShown.{shown_node}
-use Rattle.lfs_listing.specs.Difference.{added, changed, difference, difference_at, removed, shows_same}
+use Rattle.lfs_listing.specs.Difference.{added, are_alike, changed, difference, difference_at, marked_line, removed, shows_same}
 use Rattle.lfs_listing.specs.Listing.{attribute_line, entry_line}
 use Rattle.lfs_listing.proofs.SameNodes.{same_node_decides}
 
@@ -53,12 +53,20 @@ added_stands : (r : Row) (rest : List ℕ) → added r ++ rest ≡ [] → ⊥
 added_stands r rest none =
     plus_stands (mark_stands (codes "+ ") (entry_line r.path r.entry) (flat_map (λ a. codes "+ " ++ attribute_line a) r.entry.attributes) rest none)
 
+tilde_stands : codes "~ " ≡ [] → ⊥
+tilde_stands none = cc
+
+rewritten_stands : (r : Row) → marked_line (codes "~ ") r ≡ [] → ⊥
+rewritten_stands r none = tilde_stands (first_none (codes "~ ") (entry_line r.path r.entry) none)
+
 -- ---- from no difference to the same rows
 
-shown_by : (d e : Disk) (a b : Row) (same : Bool) → (same ≡ true → shown_node d a.entry ≡ shown_node e b.entry)
-    → (if same then [] else removed a ++ added b) ≡ [] → shown_node d a.entry ≡ shown_node e b.entry
-shown_by d e a b true is none = is refl
-shown_by d e a b false is none = absurd (removed_stands a (added b) none)
+shown_by : (d e : Disk) (a b : Row) (same alike : Bool) → (same ≡ true → shown_node d a.entry ≡ shown_node e b.entry)
+    → (if same then [] else (if alike then marked_line (codes "~ ") b else removed a ++ added b)) ≡ []
+    → shown_node d a.entry ≡ shown_node e b.entry
+shown_by d e a b true alike is none = is refl
+shown_by d e a b false true is none = absurd (rewritten_stands b none)
+shown_by d e a b false false is none = absurd (removed_stands a (added b) none)
 
 never : false ≡ true → ⊥
 never h = cc
@@ -85,7 +93,7 @@ first_by order d e a b false true later behind tail second first none = absurd (
 first_by order d e a b false false later behind tail second first none = (
   record {
     path = same_path order a.path b.path first second;
-    shown = shown_by d e a b (shows_same d a.entry e b.entry) (same_node_decides (shown_node d a.entry) (shown_node e b.entry)).0
+    shown = shown_by d e a b (shows_same d a.entry e b.entry) (are_alike a.entry b.entry) (same_node_decides (shown_node d a.entry) (shown_node e b.entry)).0
         (first_none (changed d a e b) tail none);
   },
   second_none (changed d a e b) tail none,
@@ -104,7 +112,8 @@ none_differ_same order d e (a ∷ left) (b ∷ right) none =
 
 none_by : (d e : Disk) (a b : Row) (after before same : Bool) (later behind tail : List ℕ) → after ≡ false → before ≡ false → same ≡ true
     → tail ≡ []
-    → (if after then added b ++ later else (if before then removed a ++ behind else (if same then [] else removed a ++ added b) ++ tail)) ≡ []
+    → (if after then added b ++ later else (if before then removed a ++ behind
+    else (if same then [] else (if are_alike a.entry b.entry then marked_line (codes "~ ") b else removed a ++ added b)) ++ tail)) ≡ []
 none_by d e a b after before same later behind tail second first equal none = rw (second, first, equal, none) refl
 
 pub same_differ_none : PathsAreOrdered → (d e : Disk) (left right : List Row) → AreSameRows d left e right → difference d left e right ≡ []

@@ -1,8 +1,8 @@
 -- What differs between the trees of two images (own).
-use Rattle.std.specs.Prelude.{ℕ, ◌==◌, ◌&&◌, Bool, true, false, List, [], ◌∷◌, ◌++◌, if◌then◌else◌, bytes_eq, flat_map, codes}
+use Rattle.std.specs.Prelude.{ℕ, ◌==◌, ◌&&◌, not, Bool, true, false, List, [], ◌∷◌, ◌++◌, if◌then◌else◌, bytes_eq, flat_map, codes}
 use Rattle.lfs_block.specs.Disk.{Disk}
 use Rattle.lfs_meta.specs.Attribute.{Attributes}
-use Rattle.lfs_fs.specs.Entry.{Entry}
+use Rattle.lfs_fs.specs.Entry.{Entry, leads}
 use Rattle.lfs_fs.specs.Tree.{Node, File, Dir}
 use Rattle.lfs_fs.specs.Row.{Row, path_precedes}
 use Rattle.lfs_fs.specs.RowShown.{shown_node}
@@ -46,9 +46,19 @@ removed r = marked_lines (codes "- ") r
 abbrev pub added : Row → List ℕ
 added r = marked_lines (codes "+ ") r
 
--- what differs at a path that both have
+-- the line of a row with a mark in front, without its attributes
+abbrev pub marked_line : List ℕ → Row → List ℕ
+marked_line mark r = mark ++ entry_line r.path r.entry
+
+-- two files with the same attributes: only their contents can differ
+abbrev pub are_alike : Entry → Entry → Bool
+are_alike a b = not (leads a) && (not (leads b) && same_attributes a.attributes b.attributes)
+
+-- what differs at a path that both have: nothing, or of files their contents alone, which the second's line says
 abbrev pub changed : Disk → Row → Disk → Row → List ℕ
-changed d a e b = if shows_same d a.entry e b.entry then [] else removed a ++ added b
+changed d a e b =
+    if shows_same d a.entry e b.entry then []
+    else (if are_alike a.entry b.entry then marked_line (codes "~ ") b else removed a ++ added b)
 
 -- ---- rows
 

@@ -4,7 +4,7 @@ ghost use Rattle.std.specs.Prelude.{◌≡◌, IfOk, map};
 ghost use Rattle.lfs_fs.specs.Listed.{rows_after};
 ghost use Rattle.lfs_listing.specs.Ahead.{rows_ahead};
 
-use crate::marking::append_marked;
+use crate::marking::{append_marked, append_marked_entry};
 use crate::order::order_of;
 use crate::paths::follow_row;
 use lfs_fs::{Row, Rows};
@@ -49,7 +49,7 @@ impl<'a> Ahead<'a> {
     ghost use Rattle.std.specs.Prelude.{◌≡◌, ◌++◌, ◌==◌, IfOk, OnOk, drop, false, length};
     ghost use Rattle.std.specs.Option.{option_map};
     ghost use Rattle.lfs_fs.specs.Listed.{rows_listed};
-    ghost use Rattle.lfs_listing.specs.Ahead.{first_entry, first_marked};
+    ghost use Rattle.lfs_listing.specs.Ahead.{first_entry, first_line, first_marked};
     ghost use Rattle.lfs_listing.specs.Order.{rows_order};
 
     /// All rows.
@@ -93,6 +93,16 @@ impl<'a> Ahead<'a> {
     {
         match &self.row {
             Some(row) => append_marked(text, mark, &self.path, row),
+            None => Ok(()),
+        }
+    }
+
+    /// Adds the line of the first one, without its attributes, with a mark in front.
+    pub(crate) fn append_line(&self, text: &mut Vec<u8>, mark: &[u8]) -> Result<(), AllocError>
+        ensures { OnOk result (text.new.items ≡ text.old.items ++ first_line mark.now self.now) }
+    {
+        match &self.row {
+            Some(row) => append_marked_entry(text, mark, &self.path, row),
             None => Ok(()),
         }
     }

@@ -72,8 +72,9 @@ fn send_merged<A: Blocks, B: Blocks, S: Sink>(
 }
 
 /// Sends what differs between the trees of two mounted images, row by row in the order of paths: the lines of a row that only the
-/// first has, each with `- ` in front; those of a row that only the second has, with `+ `; and where both have another kind, other
-/// contents or other attributes at a path, the first's and then the second's. Equal trees send nothing. `between` is the patch that
+/// first has, each with `- ` in front; those of a row that only the second has, with `+ `; and where both have another kind or other
+/// attributes at a path, the first's and then the second's. Of files that differ in their contents alone the second's own line is sent,
+/// with `~ ` in front. Equal trees send nothing. `between` is the patch that
 /// leads from the first to the second, where it is known: the blocks that it leaves aren't read. The caller owes that each image
 /// mounts to what it is with, and that the sink has not failed before. `CannotWrite` where the sink fails, and a beginning went out,
 /// not all; `Memory` says only that a growth was refused, and a beginning went out, perhaps all. At most 64 KiB of the text and the

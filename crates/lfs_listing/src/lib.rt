@@ -38,5 +38,8 @@ pub use block_sums::send_block_sums;
 pub use differing::{MountedImage, send_difference};
 pub use escaping::append_all_shown;
 pub use laws::{differences_show_trees, users_are_uses};
+pub use order::order_of;
+pub use paths::follow_row;
+pub use reading::has_contents;
 pub use sending::send_listing;
 pub use unsent::Unsent;

@@ -1,7 +1,7 @@
 //! The lines of rows, each with a mark in front.
 
 ghost use Rattle.std.specs.Prelude.{◌≡◌, ◌++◌, OnOk, flat_map, map};
-ghost use Rattle.lfs_listing.specs.Difference.{marked_lines};
+ghost use Rattle.lfs_listing.specs.Difference.{marked_line, marked_lines};
 ghost use Rattle.lfs_listing.specs.Listing.{attribute_line};
 
 use crate::attributes::append_attribute;
@@ -25,6 +25,20 @@ fn append_marked_attributes(
     Ok(())
 }
 
+/// Adds the line of a row at a path, without its attributes, with a mark in front.
+pub(crate) fn append_marked_entry(
+    text: &mut Vec<u8>,
+    mark: &[u8],
+    path: &[&[u8]],
+    row: &Row<'_>,
+) -> Result<(), AllocError>
+    ensures { OnOk result (text.new.items
+        ≡ text.old.items ++ marked_line mark.now (record { path = map (λ n. n.now) path.now; entry = row.now.entry })) }
+{
+    text.extend_from_slice(mark)?;
+    append_entry(text, path, row)
+}
+
 /// Adds the lines of a row at a path, each with a mark in front.
 pub(crate) fn append_marked(
     text: &mut Vec<u8>,
@@ -35,7 +49,6 @@ pub(crate) fn append_marked(
     ensures { OnOk result (text.new.items
         ≡ text.old.items ++ marked_lines mark.now (record { path = map (λ n. n.now) path.now; entry = row.now.entry })) }
 {
-    text.extend_from_slice(mark)?;
-    append_entry(text, path, row)?;
+    append_marked_entry(text, mark, path, row)?;
     append_marked_attributes(text, mark, row.attributes)
 }

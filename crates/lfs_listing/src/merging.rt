@@ -3,11 +3,13 @@
 ghost use Rattle.std.specs.Prelude.{◌≡◌, ◌+◌, ◌<◌, ◌==◌, ◌&&◌, ◌++◌, OnOk, false, length};
 ghost use Rattle.lfs_listing.specs.Ahead.{first_changed};
 ghost use Rattle.lfs_listing.specs.Comparing.{AreWhole};
-ghost use Rattle.lfs_listing.specs.Difference.{difference};
+ghost use Rattle.lfs_listing.specs.Difference.{are_alike, difference};
 
 use crate::ahead::Ahead;
 use crate::images::Images;
+use crate::same_attributes::have_same_attributes;
 use lfs_block::Blocks;
+use lfs_fs::Row;
 use std::alloc::AllocError;
 use std::cmp::Ordering;
 
@@ -16,6 +18,16 @@ const REMOVED: &[u8] = b"- ";
 
 /// In front of the lines of a row that only the second image has.
 const ADDED: &[u8] = b"+ ";
+
+/// In front of the line of a file of which only the contents differ.
+const REWRITTEN: &[u8] = b"~ ";
+
+/// Whether two rows are files with the same attributes. Takes no memory.
+fn are_alike(row: &Row<'_>, other: &Row<'_>) -> bool
+    ensures { result ≡ are_alike row.now.entry other.now.entry }
+{
+    !row.is_dir() && !other.is_dir() && have_same_attributes(row.attributes, other.attributes)
+}
 
 /// Adds what differs between the first rows of two images. The caller owes that all can be read.
 fn append_changed<A: Blocks, B: Blocks>(
@@ -33,6 +45,9 @@ fn append_changed<A: Blocks, B: Blocks>(
     };
     if images.show_same(row, other) {
         return Ok(());
+    }
+    if are_alike(row, other) {
+        return second.append_line(text, REWRITTEN);
     }
     first.append_first(text, REMOVED)?;
     second.append_first(text, ADDED)

@@ -20,7 +20,9 @@ fn name_order(left: &[u8], right: &[u8]) -> Ordering
 }
 
 /// Which of two paths comes first: one before its extensions, else by the first names in which they differ. Takes no memory.
-pub(crate) fn order_of(left: &[&[u8]], right: &[&[u8]]) -> Ordering
+///
+/// Source: own.
+pub fn order_of(left: &[&[u8]], right: &[&[u8]]) -> Ordering
     ensures { result ≡ path_order (map (λ n. n.now) left.now) (map (λ n. n.now) right.now) }
 {
     'each: for (index, name) in left.iter().enumerate() {

@@ -30,8 +30,11 @@ pub(crate) fn begins_with<A: Blocks, B: Blocks>(
     true
 }
 
-/// Whether a file of `size` bytes in these blocks has these contents. The caller owes that it can be read. Takes no memory.
-pub(crate) fn has_contents<A: Blocks>(disk: &A, blocks: &[u32], size: u32, bytes: &[u8]) -> bool
+/// Whether a file of `size` bytes in these blocks has these contents: where their length is another one, nothing is read. The caller owes
+/// that it can be read. Takes no memory.
+///
+/// Source: own.
+pub fn has_contents<A: Blocks>(disk: &A, blocks: &[u32], size: u32, bytes: &[u8]) -> bool
     requires { IsWhole (A.disk disk.now) (Chain blocks.now (blank size)) }
     ensures { result ≡ bytes_eq (content (A.disk disk.now) size blocks.now) bytes.now }
 {

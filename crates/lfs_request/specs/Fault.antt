@@ -8,7 +8,7 @@ use Rattle.lfs_command.specs.Faults.{refusal_number}
 use Rattle.lfs_history.specs.declared.open_fault.OpenFault.{OpenFault}
 use Rattle.lfs_history.specs.declared.open_fault.OpenFault.TheVariants as opening
 use Rattle.lfs_history.specs.declared.step_fault.StepFault.{StepFault}
-use Rattle.lfs_history.specs.declared.step_fault.StepFault.TheVariants.{Refused as Refused_step}
+use Rattle.lfs_history.specs.declared.step_fault.StepFault.TheVariants.{Refused as Refused_step, RefusedAt}
 use Rattle.lfs_history.specs.Faults.{step_fault_number}
 use Rattle.lfs_request.specs.declared.fault.Fault.{Fault}
 use Rattle.lfs_request.specs.declared.fault.Fault.TheVariants.{Image, Mount, Refused, Step, JournalFormat, JournalMismatch, JournalImage, CannotRead, CannotWrite, HostEntry, HostName, BadHex, BadLine, Other}
@@ -60,9 +60,10 @@ abbrev pub fault_of_mount : MountFault → Fault
 fault_of_mount No_memory = Refused Memory
 fault_of_mount fault = Mount fault
 
--- a refusal of a step is spelled as the refusal
+-- a refusal of a step, or of one of the commands that are one change, is spelled as the refusal
 abbrev pub fault_of_step : StepFault → Fault
 fault_of_step (Refused_step refusal) = Refused refusal
+fault_of_step (RefusedAt at refusal) = Refused refusal
 fault_of_step fault = Step fault
 
 -- a fault of the image is spelled as that of mounting it

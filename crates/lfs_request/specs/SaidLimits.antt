@@ -1,5 +1,5 @@
 -- Limits of a new image, as far as they are said (own).
-use Rattle.std.specs.Prelude.{ℕ, ◌≤◌, IfSome}
+use Rattle.std.specs.Prelude.{◌≤◌, IfSome}
 use Rattle.std.specs.Option.{unwrap_or}
 use Rattle.lfs_fs.specs.Limits.{most_file, most_held}
 use Rattle.lfs_fs.specs.declared.limits.Limits.{Limits}

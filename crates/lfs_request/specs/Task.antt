@@ -2,7 +2,7 @@
 use Rattle.std.specs.Prelude.{⊤}
 use Rattle.lfs_fs.specs.Superblock.{IsLimits}
 use Rattle.lfs_history.specs.Taking.{MayKeep}
-use Rattle.lfs_history.specs.declared.moves.Move.TheVariants.{Do}
+use Rattle.lfs_history.specs.declared.moves.Move.TheVariants.{Do, Together}
 use Rattle.lfs_request.specs.declared.task.Task.{Task}
 use Rattle.lfs_request.specs.declared.task.Task.TheVariants.{Format, Pack, Repack, Change, Batch}
 use Rattle.lfs_request.specs.SaidLimits.{AreSaidInRange}
@@ -14,5 +14,6 @@ IsTaskInRange (Format count limits) = IsLimits limits
 IsTaskInRange (Pack extent limits dir) = IsLimits limits
 IsTaskInRange (Repack source extent limits) = AreSaidInRange limits
 IsTaskInRange (Change (Do command keep)) = MayKeep keep
-IsTaskInRange (Batch file keep) = MayKeep keep
+IsTaskInRange (Change (Together commands keep)) = MayKeep keep
+IsTaskInRange (Batch file keep one) = MayKeep keep
 IsTaskInRange _ = ⊤

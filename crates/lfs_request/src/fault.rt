@@ -163,6 +163,7 @@ impl From<StepFault> for Fault {
     fn from(fault: StepFault) -> Fault {
         match fault {
             StepFault::Refused(refusal) => Fault::Refused(refusal),
+            StepFault::RefusedAt { refusal, .. } => Fault::Refused(refusal),
             fault => Fault::Step(fault),
         }
     }

@@ -69,5 +69,7 @@ pub enum Task<'a> {
         file: Option<&'a str>,
         /// How many images of the past are kept behind each command, 1 to 1,000; all of them for `None`.
         keep: Option<u32>,
+        /// Whether they are one change, in which there are commands alone.
+        one: bool,
     },
 }

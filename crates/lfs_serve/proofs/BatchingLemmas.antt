@@ -1,11 +1,13 @@
 -- The steps of a script, and how they end.
-use Rattle.std.proofs.Common.{◌≡◌, ◌⊎◌, ◌<◌, ◌+◌, ℕ, Bor, Bool, List, [], ◌∷◌, ◌++◌, Option, suc, drop, add-one, drop-cons}
+use Rattle.std.proofs.Common.{◌≡◌, ◌⊎◌, ◌<◌, ◌+◌, ℕ, Bor, Bool, true, false, List, [], ◌∷◌, ◌++◌, Option, suc, drop, add-one, drop-cons}
 use Rattle.std.proofs.Common.{get_or, length, map, take, refl, sym, ap, ap₂, subst, ◌∙◌, arith, inl, inr}
+use Rattle.std.proofs.lemmas.Grind.{flat_map-append}
 use Rattle.std.proofs.lemmas.List.{append-nil, append_assoc, length-take-le, map-append, take_more}
 use Rattle.std.specs.Global.{Vec}
 use Rattle.std.specs.List.{AllByRecursion, AllZip}
+use Rattle.lfs_command.specs.Command.{Asked}
 use Rattle.lfs_history.specs.declared.moves.Move.{Move}
-use Rattle.lfs_history.specs.declared.moves.Move.TheVariants.{Do, Undo, Redo, Forget}
+use Rattle.lfs_history.specs.declared.moves.Move.TheVariants.{Do, Together, Undo, Redo, Forget}
 use Rattle.lfs_history.specs.declared.source.Source.{Source}
 use Rattle.lfs_history.specs.Filling.{bytes_given}
 use Rattle.lfs_history.specs.Meaning.{OnBytes, step_by, step_of}
@@ -20,7 +22,7 @@ use Rattle.lfs_texts.specs.declared.script_line.ScriptLine.{ScriptLine}
 use Rattle.lfs_request.specs.declared.task.Task.TheVariants as task
 use Rattle.lfs_step.specs.declared.step.Step.TheVariants.{Change}
 use Rattle.lfs_exchange.specs.StepKind.{kind_of_steps}
-use Rattle.lfs_serve.specs.Batching.{BecomesBatch, BecomesNoBatch, HandsLine, KeepInRange, LinesKeep, MeansMove, ReadsScript, SaysNoSteps, TakesLines, TakesText, move_said, moves_said}
+use Rattle.lfs_serve.specs.Batching.{BecomesBatch, BecomesNoBatch, HandsLine, KeepInRange, LinesKeep, MeansMove, ReadsScript, SaysNoSteps, TakesLines, TakesText, as_asked, command_in, commands_in, listed, move_said, moves_said}
 use Rattle.lfs_serve.specs.Lines.{EndsLines}
 use Rattle.lfs_serve.specs.Program.{EndsTask, as_it_is}
 use Rattle.lfs_serve.proofs.StepLemmas.{step_from}
@@ -99,6 +101,7 @@ said_more lines read i d e old new move same within so_far is said =
 said_in_range : (step : Move Source) (read : List ℕ) (keep : Option ℕ) → MayKeep keep → Keeps keep step
     → KeepsInRange (step_by (bytes_given read) step)
 said_in_range (Do command kept) read keep may is = subst MayKeep (sym is) may
+said_in_range (Together commands kept) read keep may is = subst MayKeep (sym is) may
 said_in_range (Undo steps) read keep may is = tt
 said_in_range (Redo steps) read keep may is = tt
 said_in_range Forget read keep may is = tt
@@ -121,6 +124,39 @@ pub all_in_range : (lines : List ScriptLine) (read : List (Vec ℕ)) (moves : Li
     → map step_of moves ≡ moves_said lines read → AllByRecursion (λ m. KeepsInRange (step_of m)) moves
 all_in_range lines read moves keeps same =
     in_range_of moves (subst (AllByRecursion KeepsInRange) (sym same) (all_said_in_range lines read keeps))
+
+-- ---- one change
+
+-- the commands among the steps so far, and one step more
+pub commands_further : (moves : List OnBytes) (i : ℕ) (d step : OnBytes) (old new : List Asked) → i < length moves → step ≡ get_or moves i d
+    → old ≡ commands_in (map step_of (take i moves)) → new ≡ old ++ listed (command_in (step_of step))
+    → new ≡ commands_in (map step_of (take (i + 1) moves))
+commands_further moves i d step old new within at so_far is =
+    let more : change.Move → List Asked = λ m. listed (command_in m) in
+    let front : List change.Move = map step_of (take i moves) in
+    is ∙ ap (λ (cs : List Asked). cs ++ more (step_of step)) so_far
+    ∙ ap (λ (cs : List Asked). commands_in front ++ cs) (sym (append-nil (more (step_of step))))
+    ∙ sym (flat_map-append more front (step_of step ∷ []))
+    ∙ ap commands_in (sym (map-append step_of (take i moves) (step ∷ [])))
+    ∙ ap (λ (ms : List OnBytes). commands_in (map step_of ms))
+    (ap (λ (m : OnBytes). take i moves ++ m ∷ []) at ∙ sym (take_more moves i d within))
+
+-- steps that are no one change stay as they are
+pub as_they_are : (one : Bool) (keep : Option ℕ) (moves : List change.Move) → one ≡ false → moves ≡ as_asked one keep moves
+as_they_are one keep [] is = refl
+as_they_are one keep (move ∷ moves) is = rw (is) refl
+
+pub none_as_asked : (one : Bool) (keep : Option ℕ) (moves : List OnBytes) → length moves ≡ 0
+    → map step_of moves ≡ as_asked one keep (map step_of moves)
+none_as_asked one keep [] none = refl
+none_as_asked one keep (move ∷ moves) none = absurd (omega (arith, none))
+
+-- those that are have their commands in one
+pub as_one : (one : Bool) (keep : Option ℕ) (moves : List OnBytes) (asked : List Asked) → one ≡ true → 0 < length moves
+    → asked ≡ commands_in (map step_of moves) → change.Together asked keep ∷ [] ≡ as_asked one keep (map step_of moves)
+as_one one keep [] asked is some are = absurd (omega (arith, some))
+as_one one keep (move ∷ moves) asked is some are =
+    rw (is) (ap (λ (cs : List Asked). change.Together cs keep ∷ []) are)
 
 -- the steps that are taken are those of the lines
 pub takes_lines : (files : Option Files) (lines : List ScriptLine) (read : List (Vec ℕ)) (steps moves : List OnBytes)
@@ -159,27 +195,38 @@ ends_by a b why because older size name old new ended fault is turn cause ends =
     ]
     )
 
+-- from a scene whose files and whose output are those of another one
+pub ends_from : (becomes : List change.Move → Type 0) (why : Fault → Type 0) (older : Bool) (size : ℕ) (name : List ℕ) (old mid new : Scene)
+    (fault : Option Fault) → KeepsScene old mid → EndsLines becomes why older size name mid new fault
+    → EndsLines becomes why older size name old new fault
+ends_from becomes why older size name old mid new fault kept ends =
+    elim ends [
+      | inl did ↦ inl (did.0, did.1, step_from (Change did.0) (as_it_is older) size name mid old new fault kept.0 kept.1 did.2)
+      | inr not ↦ inr ((not.0.0 ∙ kept.0, not.0.1 ∙ kept.1), not.1)
+    ]
+
 -- why a script becomes no steps
-no_batch : (file : Option (Bor (List ℕ))) (text : List ℕ) (old new : Scene) (why : Fault) → ReadsScript file old text
-    → IsUnread new why ⊎ SaysNoSteps text why → BecomesNoBatch file old new why
-no_batch file text old new why reads (inl unread) = inl unread
-no_batch file text old new why reads (inr says) = inr (text, reads, says)
+no_batch : (file : Option (Bor (List ℕ))) (text : List ℕ) (one : Bool) (old new : Scene) (why : Fault) → ReadsScript file old text
+    → IsUnread new why ⊎ SaysNoSteps one text why → BecomesNoBatch file one old new why
+no_batch file text one old new why reads (inl unread) = inl unread
+no_batch file text one old new why reads (inr says) = inr (text, reads, says)
 
 -- the steps that a text says on the scene behind its reading
-from_mid : (file : Option (Bor (List ℕ))) (text : List ℕ) (keep : Option ℕ) (old mid : Scene) (moves : List change.Move) → ReadsScript file old text
-    → mid.files ≡ old.files → TakesText mid.files keep text moves → BecomesBatch file keep old moves
-from_mid file text keep old mid moves reads files takes = (text, reads, subst (λ (f : Option Files). TakesText f keep text moves) files takes)
+from_mid : (file : Option (Bor (List ℕ))) (text : List ℕ) (keep : Option ℕ) (one : Bool) (old mid : Scene) (moves : List change.Move)
+    → ReadsScript file old text → mid.files ≡ old.files → TakesText mid.files keep one text moves → BecomesBatch file keep one old moves
+from_mid file text keep one old mid moves reads files takes =
+    (text, reads, subst (λ (f : Option Files). TakesText f keep one text moves) files takes)
 
-pub script_ends : (file : Option (Bor (List ℕ))) (text : List ℕ) (keep : Option ℕ) (older : Bool) (size : ℕ) (name : List ℕ) (old mid new : Scene)
-    (ended fault : Option Fault) → ended ≡ fault → ReadsScript file old text → KeepsScene old mid
-    → EndsLines (TakesText mid.files keep text) (λ why. IsUnread new why ⊎ SaysNoSteps text why) older size name mid new fault
-    → EndsTask (task.Batch file keep) older size name old new ended
-script_ends file text keep older size name old mid new ended fault is reads kept ends =
-    subst (EndsTask (task.Batch file keep) older size name old new) (sym is) (
+pub script_ends : (file : Option (Bor (List ℕ))) (text : List ℕ) (keep : Option ℕ) (one : Bool) (older : Bool) (size : ℕ) (name : List ℕ)
+    (old mid new : Scene) (ended fault : Option Fault) → ended ≡ fault → ReadsScript file old text → KeepsScene old mid
+    → EndsLines (TakesText mid.files keep one text) (λ why. IsUnread new why ⊎ SaysNoSteps one text why) older size name mid new fault
+    → EndsTask (task.Batch file keep one) older size name old new ended
+script_ends file text keep one older size name old mid new ended fault is reads kept ends =
+    subst (EndsTask (task.Batch file keep one) older size name old new) (sym is) (
     elim ends [
       | inl did ↦ inl (
         Change did.0,
-        from_mid file text keep old mid (map step_of did.0.now) reads kept.0 did.1,
+        from_mid file text keep one old mid (map step_of did.0.now) reads kept.0 did.1,
         step_from (Change did.0) (as_it_is older) size name mid old new fault kept.0 kept.1 did.2,
       )
       | inr not ↦
@@ -189,8 +236,8 @@ script_ends file text keep older size name old mid new ended fault is reads kept
               not.1.0,
               not.1.1,
               elim not.1.2 [
-                | inl none ↦ inl (no_batch file text old new not.1.0 reads none)
-                | inr apart ↦ inr (kind_of_steps apart.0, (apart.0, from_mid file text keep old mid apart.0 reads kept.0 apart.1, refl), apart.2)
+                | inl none ↦ inl (no_batch file text one old new not.1.0 reads none)
+                | inr apart ↦ inr (kind_of_steps apart.0, (apart.0, from_mid file text keep one old mid apart.0 reads kept.0 apart.1, refl), apart.2)
               ],
             ),
           )

@@ -321,7 +321,7 @@ good_step (task.Salvage dir view) size scene (Pack count stated rows) becomes = 
 good_step (task.Ask query view) size scene (Pack count stated rows) becomes = absurd becomes
 good_step task.Forget size scene (Pack count stated rows) becomes = absurd becomes
 good_step (task.Change move) size scene (Pack count stated rows) becomes = absurd becomes
-good_step (task.Batch file keep) size scene (Pack count stated rows) becomes = absurd becomes
+good_step (task.Batch file keep one) size scene (Pack count stated rows) becomes = absurd becomes
 good_step t size scene (Format count limits) becomes = tt
 good_step t size scene (Ask query) becomes = tt
 good_step t size scene Forget becomes = tt
@@ -412,8 +412,8 @@ task_ends laws fault task.Forget older size name scene behind old new h before l
 task_ends laws fault (task.Change move) older size name scene behind old new h before later denotes ends =
     step_ends laws fault (task.Change move) older size name scene behind old new h (λ next goes. goes) (λ s becomes. inl refl) before later
     denotes ends
-task_ends laws fault (task.Batch file keep) older size name scene behind old new h before later denotes ends =
-    step_ends laws fault (task.Batch file keep) older size name scene behind old new h (λ next goes. goes) (λ s becomes. inl refl) before later
+task_ends laws fault (task.Batch file keep one) older size name scene behind old new h before later denotes ends =
+    step_ends laws fault (task.Batch file keep one) older size name scene behind old new h (λ next goes. goes) (λ s becomes. inl refl) before later
     denotes ends
 
 -- ---- requests

@@ -1,9 +1,10 @@
 -- The steps of a script, which are taken all or not at all (own).
 use Rattle.std.specs.Borrow.{Bor}
 use Rattle.std.specs.Global.{Vec}
-use Rattle.std.specs.Prelude.{◌≡◌, ◌⊎◌, ℕ, List, [], ◌∷◌, Option, Some, None}
+use Rattle.std.specs.Prelude.{◌≡◌, ◌⊎◌, ℕ, Bool, true, if◌then◌else◌, List, [], ◌∷◌, Option, Some, None, flat_map}
 use Rattle.std.specs.List.{AllByRecursion, AllZip}
 use Rattle.lfs_fs.specs.Limits.{most_file}
+use Rattle.lfs_command.specs.Command.{Asked}
 use Rattle.lfs_command.specs.declared.command.Command.TheVariants.{Put}
 use Rattle.lfs_history.specs.declared.moves.Move.{Move}
 use Rattle.lfs_history.specs.declared.moves.Move.TheVariants.{Do}
@@ -18,6 +19,7 @@ use Rattle.lfs_host.specs.Files.{Files, ReadsFile, ReadsInput}
 use Rattle.lfs_host.specs.Scene.{Scene}
 use Rattle.lfs_exchange.specs.Handing.{IsUnread}
 use Rattle.lfs_report.specs.RefusedLine.{fault_of_line}
+use Rattle.lfs_texts.specs.OneChange.{first_other}
 use Rattle.lfs_texts.specs.Script.{IsFirstFault, SaysLine, asking_lines}
 use Rattle.lfs_texts.specs.Steps.{Keeps}
 use Rattle.lfs_texts.specs.declared.script_fault.ScriptFault.{ScriptFault}
@@ -61,10 +63,42 @@ LinesKeep keep lines = AllByRecursion (λ line. Keeps keep line.step) lines
 abbrev pub KeepInRange : List ScriptLine → Type 0
 KeepInRange lines = AllByRecursion (λ line. (read : List ℕ) → KeepsInRange (move_said line read)) lines
 
--- those that the lines of a text say
-abbrev pub TakesText : Option Files → Option ℕ → List ℕ → List change.Move → Type 0
-TakesText files keep text moves =
-    (lines : List ScriptLine) × AllZip SaysLine (asking_lines text) lines × LinesKeep keep lines × TakesLines files lines moves
+-- ---- one change
+
+-- the command that a step carries out, if it is one
+abbrev pub command_in : change.Move → Option Asked
+command_in (change.Do asked keep) = Some asked
+command_in _ = None
+
+-- what there may be, as a list
+abbrev pub listed : {X : Type 0} → Option X → List X
+listed None = []
+listed (Some x) = x ∷ []
+
+-- the commands among steps, in their order
+abbrev pub commands_in : List change.Move → List Asked
+commands_in moves = flat_map (λ move. listed (command_in move)) moves
+
+-- steps as they are asked for: as they are, or their commands as one change, which is none where there is no step
+abbrev pub as_asked : Bool → Option ℕ → List change.Move → List change.Move
+as_asked one keep [] = []
+as_asked one keep (move ∷ moves) =
+    if one then change.Together (commands_in (move ∷ moves)) keep ∷ [] else move ∷ moves
+
+-- lines that are to be one change say commands alone
+abbrev pub MayBeOne : Bool → List ScriptLine → Type 0
+MayBeOne one lines = one ≡ true → first_other lines ≡ None
+
+-- the steps that lines become: those that they mean, as they are asked for
+abbrev pub BecomesOf : Option Files → List ScriptLine → Bool → Option ℕ → List change.Move → Type 0
+BecomesOf files lines one keep moves =
+    (meant : List change.Move) × TakesLines files lines meant × (moves ≡ as_asked one keep meant)
+
+-- those that the lines of a text become
+abbrev pub TakesText : Option Files → Option ℕ → Bool → List ℕ → List change.Move → Type 0
+TakesText files keep one text moves =
+    (lines : List ScriptLine) × AllZip SaysLine (asking_lines text) lines × LinesKeep keep lines × MayBeOne one lines
+    × BecomesOf files lines one keep moves
 
 -- the text of a script: that of a file of the host, or what comes on standard input
 abbrev pub ReadsScript : Option (Bor (List ℕ)) → Scene → List ℕ → Type 0
@@ -72,15 +106,23 @@ ReadsScript (Some name) scene text = ReadsFile scene.files name.now most_file te
 ReadsScript None scene text = ReadsInput scene.typed most_file text
 
 -- the steps that a script becomes
-abbrev pub BecomesBatch : Option (Bor (List ℕ)) → Option ℕ → Scene → List change.Move → Type 0
-BecomesBatch file keep scene moves = (text : List ℕ) × ReadsScript file scene text × TakesText scene.files keep text moves
+abbrev pub BecomesBatch : Option (Bor (List ℕ)) → Option ℕ → Bool → Scene → List change.Move → Type 0
+BecomesBatch file keep one scene moves = (text : List ℕ) × ReadsScript file scene text × TakesText scene.files keep one text moves
 
 -- ---- a script that becomes no steps
 
--- a line of a text says no step: the first that doesn't
-abbrev pub SaysNoSteps : List ℕ → Fault → Type 0
-SaysNoSteps text why = (first : ScriptFault) × IsFirstFault text first × (why ≡ fault_of_line first.fault)
+-- a line of a text that is to be one change says no command: the first that doesn't, where each says a step
+abbrev pub SaysOther : List ℕ → ScriptFault → Type 0
+SaysOther text first = (lines : List ScriptLine) × AllZip SaysLine (asking_lines text) lines × (first_other lines ≡ Some first)
+
+-- a line of a text says no step, or no part of one change
+abbrev pub IsRefusedLine : Bool → List ℕ → ScriptFault → Type 0
+IsRefusedLine one text first = IsFirstFault text first ⊎ ((one ≡ true) × SaysOther text first)
+
+-- a text says no steps, for the line that is refused
+abbrev pub SaysNoSteps : Bool → List ℕ → Fault → Type 0
+SaysNoSteps one text why = (first : ScriptFault) × IsRefusedLine one text first × (why ≡ fault_of_line first.fault)
 
 -- why a script becomes none: it isn't read, or a file that it puts isn't, or a line says no step
-abbrev pub BecomesNoBatch : Option (Bor (List ℕ)) → Scene → Scene → Fault → Type 0
-BecomesNoBatch file old new why = IsUnread new why ⊎ ((text : List ℕ) × ReadsScript file old text × SaysNoSteps text why)
+abbrev pub BecomesNoBatch : Option (Bor (List ℕ)) → Bool → Scene → Scene → Fault → Type 0
+BecomesNoBatch file one old new why = IsUnread new why ⊎ ((text : List ℕ) × ReadsScript file old text × SaysNoSteps one text why)

@@ -90,7 +90,7 @@ BecomesStep (Ask query view) size s (step.Ask question) =
 BecomesStep Forget size s step.Forget = ⊤
 BecomesStep (Change move) size s (step.Change steps) =
     (read : List ℕ) × HandsInput move s.files s.typed read × (map step_of steps.now ≡ step_by (bytes_given read) move ∷ [])
-BecomesStep (Batch file keep) size s (step.Change steps) = BecomesBatch file keep s (map step_of steps.now)
+BecomesStep (Batch file keep one) size s (step.Change steps) = BecomesBatch file keep one s (map step_of steps.now)
 BecomesStep _ size s _ = ⊥
 
 -- the manner in which the image is read that a task is done on: as all of its file, as it is, or as the task looks at it
@@ -113,12 +113,12 @@ HasKind (Salvage dir view) s kind = ⊥
 HasKind (Ask query view) s kind = kind ≡ kind_of_query query
 HasKind Forget s kind = kind ≡ Forgets
 HasKind (Change move) s kind = kind ≡ Changes
-HasKind (Batch file keep) s kind = (moves : List change.Move) × BecomesBatch file keep s moves × (kind ≡ kind_of_steps moves)
+HasKind (Batch file keep one) s kind = (moves : List change.Move) × BecomesBatch file keep one s moves × (kind ≡ kind_of_steps moves)
 
 -- why what is read for a task isn't, but for the image's files: its folder, its script, or contents, or another image, also as it is read
 abbrev pub IsNotRead : Task → Scene → Scene → Fault → Type 0
 IsNotRead (Pack extent limits dir) old new why = ReadsNoFolder old.tree dir.now new why
-IsNotRead (Batch file keep) old new why = BecomesNoBatch file old new why
+IsNotRead (Batch file keep one) old new why = BecomesNoBatch file one old new why
 IsNotRead (Change move) old new why = IsUnread new why
 IsNotRead (Repack source extent said) old new why = RefusesSource source old new why
 IsNotRead (Ask query view) old new why = IsOtherUnread new why
@@ -144,7 +144,7 @@ EndsTask task older size name old new fault =
 -- whether a task reads standard input: a file that is put from there, or a script that comes there
 abbrev pub task_reads_input : Task → Bool
 task_reads_input (Change move) = reads_input move
-task_reads_input (Batch None keep) = true
+task_reads_input (Batch None keep one) = true
 task_reads_input _ = false
 
 -- whether a task makes a folder

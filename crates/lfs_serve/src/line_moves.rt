@@ -1,13 +1,15 @@
 //! What the lines of a script put, and the moves that they say.
 
-ghost use Rattle.std.specs.Prelude.{◌≡◌, IfErr, IfOk, length, map};
+ghost use Rattle.std.specs.Prelude.{◌≡◌, ◌++◌, IfErr, IfOk, OnOk, length, map};
 ghost use Rattle.std.specs.List.{AllZip};
+ghost use Rattle.std.specs.Option.{option_map};
 ghost use Rattle.lfs_exchange.specs.Handing.{IsUnread};
 ghost use Rattle.lfs_history.specs.Meaning.{step_of};
 ghost use Rattle.lfs_host.specs.Scene.{KeepsAll};
-ghost use Rattle.lfs_serve.specs.Batching.{HandsContents, HandsLine, moves_said};
+ghost use Rattle.lfs_command.specs.AskedFor.{asked_for};
+ghost use Rattle.lfs_serve.specs.Batching.{HandsContents, HandsLine, command_in, commands_in, listed, moves_said};
 
-use lfs_command::Command;
+use lfs_command::{Asked, Command};
 use lfs_exchange::read_contents;
 use lfs_history::{Move, Source, filled};
 use lfs_host::Host;
@@ -69,4 +71,42 @@ pub(crate) fn moves_of<'a>(
         moves.push(filled(&line.step, &read[at]))?;
     }
     Ok(moves)
+}
+
+/// The command that a move carries out, if it is one.
+fn command_in<'a>(step: &Move<'a>) -> Option<Asked<'a>>
+    ensures { option_map asked_for result ≡ command_in (step_of step.now) }
+{
+    match step {
+        Move::Do { command, .. } => Some(*command),
+        _ => None,
+    }
+}
+
+/// The commands among moves, in their order. Takes memory.
+pub(crate) fn commands_of<'a>(
+    alloc: Global,
+    moves: &[Move<'a>],
+) -> Result<Vec<Asked<'a>>, AllocError>
+    ensures { IfOk result (λ commands. map asked_for commands.items ≡ commands_in (map step_of moves.now)) }
+{
+    let mut commands = Vec::new(alloc);
+    'each: for step in moves {
+        take_command(command_in(step), &mut commands)?;
+    }
+    Ok(commands)
+}
+
+/// Puts a command behind others, if there is one.
+fn take_command<'a>(
+    command: Option<Asked<'a>>,
+    commands: &mut Vec<Asked<'a>>,
+) -> Result<(), AllocError>
+    ensures { OnOk result (map asked_for commands.new.items
+        ≡ map asked_for commands.old.items ++ listed (option_map asked_for command.entry)) }
+{
+    if let Some(command) = command {
+        commands.push(command)?;
+    }
+    Ok(())
 }

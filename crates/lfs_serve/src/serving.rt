@@ -83,6 +83,8 @@ fn done<H: Host>(
         Task::Ask { query, view } => queried(alloc, host, request, beside, query, *view),
         Task::Forget => forgotten(alloc, host, request, beside),
         Task::Change(step) => changed(alloc, host, request, beside, step),
-        Task::Batch { file, keep } => batched(alloc, host, request, beside, *file, *keep),
+        Task::Batch { file, keep, one } => {
+            batched(alloc, host, request, beside, *file, *keep, *one)
+        }
     }
 }

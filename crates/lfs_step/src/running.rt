@@ -22,7 +22,8 @@ use crate::step::Step;
 use lfs_block::{ImageFault, geometry_ok};
 use lfs_book::write_journal;
 use lfs_change::{
-    changed, changed_bytes_are_equations, forgotten, journals_of_bytes_grow_by_the_need,
+    bytes_are_changed_together, changed, changed_bytes_are_equations, forgotten,
+    journals_of_bytes_grow_by_the_need,
 };
 use lfs_command::Refusal;
 use lfs_edit::format_within;
@@ -45,7 +46,8 @@ use std::alloc::Global;
 /// behind a command, that this is 1 to 1,000.
 ///
 /// A step that is done leaves an image and a journal that denote the history to which it leads; a command, an image that mounts to the
-/// command's equation, and a journal that has grown by no more than the command's need. Takes memory.
+/// command's equation, and a journal that has grown by no more than the command's need; so do commands that are one change, with their
+/// equations one after another, and their needs together. Takes memory.
 ///
 /// Source: own.
 pub fn run<S: Sink>(
@@ -67,6 +69,7 @@ pub fn run<S: Sink>(
     ensures kept { S.kept out.new ≡ S.kept out.old }
     ensures status { result.status ≡ status_of result.fault }
 {
+    bytes_are_changed_together();
     changed_bytes_are_equations();
     journals_of_bytes_grow_by_the_need();
     steps_leave_histories();

@@ -4,7 +4,7 @@ use Rattle.std.specs.Prelude.{slice_index_or}
 use Rattle.std.specs.Str.{IsUtf8}
 use Rattle.lfs_command.specs.declared.command.Command.{Command}
 use Rattle.lfs_command.specs.declared.command.Command.TheVariants.{Mkdir, Put, Rm, Mv, SetAttr, RmAttr, Grow}
-use Rattle.lfs_history.specs.declared.moves.Move.TheVariants.{Do, Undo, Redo, Forget}
+use Rattle.lfs_history.specs.declared.moves.Move.TheVariants.{Do, Together, Undo, Redo, Forget}
 use Rattle.lfs_history.specs.declared.source.Source.{Source}
 use Rattle.lfs_history.specs.declared.source.Source.TheVariants.{Input, File, Said}
 use Rattle.lfs_texts.specs.Steps.{SaysCommand, SaysNone}
@@ -29,6 +29,7 @@ put_says_no_command path file none (Grow n) says = absurd (cc)
 -- so it says no step
 pub put_says_none : (path file : List ℕ) → (IsUtf8 file → ⊥) → SaysNone (codes "put" ∷ path ∷ file ∷ [])
 put_says_none path file none (Do command keep) says = put_says_no_command path file none command says
+put_says_none path file none (Together commands keep) says = absurd says
 put_says_none path file none (Undo steps) says = absurd (cc)
 put_says_none path file none (Redo steps) says = absurd (cc)
 put_says_none path file none Forget says = absurd (cc)

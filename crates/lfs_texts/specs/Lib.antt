@@ -6,3 +6,4 @@ pub mod Flaws
 pub mod Steps
 pub mod Lines
 pub mod Script
+pub mod OneChange

@@ -6,7 +6,7 @@ use Rattle.std.specs.Str.Parse.{IsNumeral, digits_value, without_leading_plus}
 use Rattle.lfs_command.specs.declared.command.Command.{Command}
 use Rattle.lfs_command.specs.declared.command.Command.TheVariants.{Mkdir, Put, Rm, Mv, SetAttr, RmAttr, Grow}
 use Rattle.lfs_history.specs.declared.moves.Move.{Move}
-use Rattle.lfs_history.specs.declared.moves.Move.TheVariants.{Do, Undo, Redo, Forget}
+use Rattle.lfs_history.specs.declared.moves.Move.TheVariants.{Do, Together, Undo, Redo, Forget}
 use Rattle.lfs_history.specs.declared.source.Source.{Source}
 use Rattle.lfs_history.specs.declared.source.Source.TheVariants.{File, Said}
 use Rattle.lfs_texts.specs.Digits.{SpellsByte, SpellsBytes, SpellsNoByte, SpellsNoBytes}
@@ -38,6 +38,7 @@ SaysCommand words _ = ⊥
 -- words say a step: a command, or a change that is taken back or made again, or a history of the image alone
 abbrev pub Says : List (List ℕ) → Move Source → Type 0
 Says words (Do command keep) = SaysCommand words command
+Says words (Together commands keep) = ⊥
 Says words (Undo steps) = (steps ≡ 1) × (words ≡ codes "undo" ∷ [])
 Says words (Redo steps) = (steps ≡ 1) × (words ≡ codes "redo" ∷ [])
 Says words Forget = words ≡ codes "forget" ∷ []
@@ -45,6 +46,7 @@ Says words Forget = words ≡ codes "forget" ∷ []
 -- so many images of the past are kept behind a step that is a command
 abbrev pub Keeps : Option ℕ → Move Source → Type 0
 Keeps keep (Do command kept) = kept ≡ keep
+Keeps keep (Together commands kept) = kept ≡ keep
 Keeps keep step = ⊤
 
 -- words say no step

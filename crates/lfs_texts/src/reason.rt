@@ -34,6 +34,8 @@ pub enum Reason {
     BadKind,
     /// The value of an attribute isn't two hexadecimal digits a byte.
     BadValue,
+    /// The step is no command, where all of them are to be one change.
+    NoCommand,
 }
 
 impl Reason {
@@ -53,6 +55,7 @@ impl Reason {
             Reason::BadFile => "FILE is no UTF-8",
             Reason::BadKind => "KIND isn't two digits, 0 to 9 or a to f",
             Reason::BadValue => "HEX isn't two digits for each byte, 0 to 9 or a to f",
+            Reason::NoCommand => "undo, redo and forget are no part of one change",
         }
     }
 }

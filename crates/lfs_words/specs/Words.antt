@@ -12,7 +12,7 @@ use Rattle.lfs_command.specs.declared.command.Command.{Command}
 use Rattle.lfs_command.specs.declared.command.Command.TheVariants.{Mkdir, Put, Rm, Mv, SetAttr, RmAttr, Grow}
 use Rattle.lfs_fs.specs.declared.limits.Limits.{Limits}
 use Rattle.lfs_history.specs.declared.moves.Move.TheVariants as move
-use Rattle.lfs_history.specs.declared.moves.Move.TheVariants.{Do, Undo, Redo}
+use Rattle.lfs_history.specs.declared.moves.Move.TheVariants.{Do, Together, Undo, Redo}
 use Rattle.lfs_history.specs.declared.source.Source.{Source}
 use Rattle.lfs_history.specs.declared.source.Source.TheVariants.{Input, File, Said}
 use Rattle.lfs_request.specs.declared.extent.Extent.{Extent}
@@ -193,8 +193,10 @@ IsTask (Change (Do command kept)) name rows block other = IsCommand command name
 IsTask (Change (Undo steps)) name rows block other = (name ≡ codes "undo") × HasNumber rows (codes "steps") steps
 IsTask (Change (Redo steps)) name rows block other = (name ≡ codes "redo") × HasNumber rows (codes "steps") steps
 IsTask (Change move.Forget) name rows block other = ⊥
-IsTask (Batch file kept) name rows block other =
+IsTask (Change (Together commands kept)) name rows block other = ⊥
+IsTask (Batch file kept one) name rows block other =
     (name ≡ codes "batch") × (option_map (λ f. f.now) file ≡ first_of (codes "script") rows) × IsKept kept rows
+    × (one ≡ is_flagged (codes "one") rows)
 
 -- the request that a command and its options ask for, where `auto` stands for these block sizes
 abbrev pub IsRequest : Request → Text → List Row → AutoSizes → Type 0

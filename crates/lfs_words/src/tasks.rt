@@ -227,6 +227,7 @@ fn past_task_of<'a>(
         "batch" => Ok(Task::Batch {
             file: options.get_str("script"),
             keep: keep_of(options),
+            one: said(options, "one"),
         }),
         _ => viewing_task_of(name, options, other, view),
     }

@@ -326,7 +326,7 @@ const EXPLANATIONS: [Explanation; 49] = [
          and what is wrong there. The steps are `mkdir PATH`, `put PATH FILE`, `rm PATH`, `mv FROM TO`, \
          `setattr PATH KIND HEX`, `rmattr PATH KIND`, `grow COUNT`, `undo`, `redo` and `forget`, with one space \
          between words. In a word `\\x` and two hexadecimal digits stand for a byte, and each byte but a \
-         backslash for itself. No step was taken.",
+         backslash for itself. Of one change (`--one`) `undo`, `redo` and `forget` are no part. No step was taken.",
     },
 ];
 

@@ -10,4 +10,4 @@ returns c =
     runs_keep
     (record { disk = again.disk; agrees = again.agrees; again = again.again })
     (record { disk = made.disk; agrees = back.agrees; back = back.back })
-    (record { cut = follow.cut; clean = follow.clean })
+    (record { cut = follow.cut; clean = follow.clean }) c.composed_patches_apply.ensures.all

@@ -11,11 +11,12 @@ returns g c =
     let o = c.taken.result in
     let answers = c.taken.ensures.answers in
     let law = c.journals_of_bytes_grow_by_the_need.ensures in
+    let together = c.bytes_are_changed_together.ensures in
     record {
       answers = answers;
       history = keeps c.steps_leave_histories.ensures step handed o answers;
-      equation = keeps_equations c.changed_bytes_are_equations.ensures step handed o answers;
-      growth = keeps_needs law.whole law.kept step handed o answers;
+      equation = keeps_equations c.changed_bytes_are_equations.ensures together.equations step handed o answers;
+      growth = keeps_needs law.whole law.kept together.growth step handed o answers;
       sent = c.taken.ensures.sent;
       failed = c.taken.ensures.failed;
       kept = c.taken.ensures.kept;
