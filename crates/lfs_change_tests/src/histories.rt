@@ -202,3 +202,116 @@ fn one_does_what_many_do(alloc: Global) -> bool {
 fn one_session_does_what_many_do(rt: HostRuntime) {
     assert!(rt; one_does_what_many_do(rt.alloc()));
 }
+
+// makes a directory
+const MAKE: Asked<'static> = Command::Mkdir { path: b"/a" };
+
+// puts a file into it
+const FILL: Asked<'static> = Command::Put {
+    path: b"/a/x",
+    bytes: &[7; 65],
+};
+
+// sets an attribute of the file
+const MARK: Asked<'static> = Command::SetAttr {
+    path: b"/a/x",
+    kind: 1,
+    value: &[2],
+};
+
+// commands that are all carried out
+const MADE: [Asked<'static>; 3] = [MAKE, FILL, MARK];
+
+// commands of which the second is refused
+const REFUSED: [Asked<'static>; 2] = [Command::Mkdir { path: b"/b" }, Command::Rm { path: b"/c" }];
+
+// lists of commands, of which one is refused, and what is undone before it is made again behind it
+const LISTS: [Move<'static>; 5] = [
+    Move::Together {
+        commands: &MADE,
+        keep: None,
+    },
+    Move::Undo { steps: 1 },
+    Move::Together {
+        commands: &REFUSED,
+        keep: None,
+    },
+    Move::Redo { steps: 1 },
+    Move::Undo { steps: 1 },
+];
+
+// what is replied to them
+const TOLD: [Result<(), StepFault>; 5] = [
+    Ok(()),
+    Ok(()),
+    Err(StepFault::RefusedAt {
+        at: 1,
+        refusal: Refusal::NotFound,
+    }),
+    Ok(()),
+    Ok(()),
+];
+
+// whether a session replies so to these lists
+fn replies_to_lists(alloc: Global, session: &mut Session) -> bool {
+    replies_to(alloc, session, &LISTS, &TOLD)
+}
+
+// whether one undo takes a list back, whose image a refused list leaves
+fn takes_lists_back(alloc: Global) -> bool {
+    let Some(mut session) = new_session(alloc) else {
+        return false;
+    };
+    match new_image(alloc) {
+        Some(image) => replies_to_lists(alloc, &mut session) && has_image(&session, &image),
+        None => false,
+    }
+}
+
+#[test]
+fn lists_are_one_change(rt: HostRuntime) {
+    assert!(rt; takes_lists_back(rt.alloc()));
+}
+
+// the image of a new session behind these steps
+fn image_behind(alloc: Global, steps: &[Move<'_>]) -> Option<Image>
+    requires { AllByRecursion (λ step. KeepsInRange (step_of step)) steps.now }
+{
+    let mut session = new_session(alloc)?;
+    if session.take_all(alloc, steps).is_err() {
+        return None;
+    }
+    Some(session.into_image())
+}
+
+// the same commands, one by one
+const ONE_BY_ONE: [Move<'static>; 3] = [
+    Move::Do {
+        command: MAKE,
+        keep: None,
+    },
+    Move::Do {
+        command: FILL,
+        keep: None,
+    },
+    Move::Do {
+        command: MARK,
+        keep: None,
+    },
+];
+
+// whether a list makes the image that its commands make one by one
+fn makes_the_same(alloc: Global) -> bool {
+    let Some(image) = image_behind(alloc, &ONE_BY_ONE) else {
+        return false;
+    };
+    let Some(mut session) = new_session(alloc) else {
+        return false;
+    };
+    session.together(alloc, &MADE, Some(1)).is_ok() && has_image(&session, &image)
+}
+
+#[test]
+fn lists_make_what_their_commands_make(rt: HostRuntime) {
+    assert!(rt; makes_the_same(rt.alloc()));
+}

@@ -23,6 +23,8 @@ mod reaching;
 #[cfg(test)]
 mod repacking;
 #[cfg(test)]
+mod syncing;
+#[cfg(test)]
 mod weighing;
 #[cfg(test)]
 mod writers;

@@ -1,0 +1,220 @@
+-- A path and its parents are made as directories.
+use Rattle.std.proofs.Common.{◌≡◌, Bool, true, false, List, [], ◌∷◌, ◌++◌, Option, Some, None, refl, ap, sym, ◌∙◌, subst, inl, inr}
+use Rattle.std.proofs.Common.{append-nil, append_assoc}
+use Rattle.std.specs.Prelude.{bytes_eq, if◌then◌else◌, is_some, ◌&&◌}
+use Rattle.std.specs.List.{AllByRecursion}
+use Rattle.std.proofs.lemmas.Slice.Eq.{bytes_eq-Decides}
+use Rattle.lfs_meta.specs.Name.{Name}
+use Rattle.lfs_fs.specs.Path.{Path}
+use Rattle.lfs_fs.specs.Tree.{Node, Dir}
+use Rattle.lfs_fs.proofs.EntryAtLemmas.{by_last_name}
+use Rattle.lfs_command.specs.Command.{Command, Mkdir}
+use Rattle.lfs_command.specs.PathMap.{below, same_path}
+use Rattle.lfs_command.specs.Verdict.{is_directory}
+use Rattle.lfs_law.proofs.Decided.{same_name_or_not}
+use Rattle.lfs_law.proofs.PathMapLemmas.{below_longer, below_some, same_path_decides}
+use Rattle.lfs_sync.specs.Synced.{equations, lacking, with_parents, with_parents_by}
+use Rattle.lfs_sync.specs.SyncLaws.{IsRooted, MadeIsWithParents}
+use Rattle.lfs_sync.proofs.DoneLemmas.{IsSimple, below_behind, done_all, done_append, done_is, simple_append}
+use Rattle.lfs_sync.proofs.DoneLemmas.{other_below, other_front, other_itself, other_longer, other_outside, outside_longer, same_behind}
+use Rattle.lfs_sync.proofs.DoneLemmas.{same_itself}
+
+-- ---- the directories that lack
+
+lacking_simple : (tree : Path → Option Node) (front ns : Path) → AllByRecursion IsSimple (lacking tree front ns)
+lacking_simple tree front [] = tt
+lacking_simple tree front (n ∷ []) = tt
+lacking_simple tree front (n ∷ m ∷ ns) = by (is_some (tree (front ++ n ∷ []))) (lacking_simple tree (front ++ n ∷ []) (m ∷ ns))
+  where
+    by : (b : Bool) → AllByRecursion IsSimple (lacking tree (front ++ n ∷ []) (m ∷ ns))
+        → AllByRecursion IsSimple (if b then lacking tree (front ++ n ∷ []) (m ∷ ns)
+        else Mkdir (front ++ n ∷ []) ∷ lacking tree (front ++ n ∷ []) (m ∷ ns))
+    by true later = later
+    by false later = (tt, later)
+
+-- a directory is made elsewhere, or isn't made
+one_elsewhere : (b : Bool) (p path : Path) (cs : List Command) (old : Option Node) → same_path p path ≡ false
+    → done_all path (if b then cs else Mkdir p ∷ cs) old ≡ done_all path cs old
+one_elsewhere true p path cs old other = refl
+one_elsewhere false p path cs old other = ap (λ (c : Bool). done_all path cs (if c then Some (Dir []) else old)) other
+
+lacking_outside : (tree : Path → Option Node) (front ns path : Path) (old : Option Node) → below front path ≡ None
+    → done_all path (lacking tree front ns) old ≡ old
+lacking_outside tree front [] path old outside = refl
+lacking_outside tree front (n ∷ []) path old outside = refl
+lacking_outside tree front (n ∷ m ∷ ns) path old outside =
+    one_elsewhere (is_some (tree (front ++ n ∷ []))) (front ++ n ∷ []) path (lacking tree (front ++ n ∷ []) (m ∷ ns)) old
+    (other_outside front (n ∷ []) path outside)
+    ∙ lacking_outside tree (front ++ n ∷ []) (m ∷ ns) path old (outside_longer front (n ∷ []) path outside)
+
+lacking_itself : (tree : Path → Option Node) (front ns : Path) (old : Option Node) → done_all front (lacking tree front ns) old ≡ old
+lacking_itself tree front [] old = refl
+lacking_itself tree front (n ∷ []) old = refl
+lacking_itself tree front (n ∷ m ∷ ns) old =
+    one_elsewhere (is_some (tree (front ++ n ∷ []))) (front ++ n ∷ []) front (lacking tree (front ++ n ∷ []) (m ∷ ns)) old
+    (other_longer front n)
+    ∙ lacking_outside tree (front ++ n ∷ []) (m ∷ ns) front old (below_longer front n)
+
+-- what is made of a front: nothing of the whole, and a directory where nothing is
+abbrev parent_by : Option Path → Option Node → Option Node → Option Node
+parent_by None here old = old
+parent_by (Some []) here old = old
+parent_by (Some (m ∷ rest)) (Some x) old = old
+parent_by (Some (m ∷ rest)) None old = Some (Dir [])
+
+-- what lacks of a front is what is made of it
+abbrev LacksAt : (Path → Option Node) → Path → Path → Path → Option Node → Type 0
+LacksAt tree front ns q old =
+    done_all (front ++ q) (lacking tree front ns) old ≡ parent_by (below q ns) (tree (front ++ q)) old
+
+none_or_whole : (b : Bool) (here old : Option Node) → old ≡ parent_by (if b then Some [] else None) here old
+none_or_whole true here old = refl
+none_or_whole false here old = refl
+
+none_either : (b : Bool) (here old : Option Node) → old ≡ parent_by (if b then None else None) here old
+none_either true here old = refl
+none_either false here old = refl
+
+last_by : (n k : Name) (q : Path) (here old : Option Node) → old ≡ parent_by (below (k ∷ q) (n ∷ [])) here old
+last_by n k [] here old = none_or_whole (bytes_eq k n) here old
+last_by n k (j ∷ q) here old = none_either (bytes_eq k n) here old
+
+same_bytes : (n : Name) → bytes_eq n n ≡ true
+same_bytes n = (bytes_eq-Decides n n).1 refl
+
+other_bytes : (b : Bool) (n k : Name) → (n ≡ k → ⊥) → (b ≡ true → n ≡ k) → b ≡ false
+other_bytes true n k other same = absurd (other (same refl))
+other_bytes false n k other same = refl
+
+and_false : (b : Bool) → (b && false) ≡ false
+and_false true = refl
+and_false false = refl
+
+module _ (tree : Path → Option Node) (front : Path) (n m : Name) (ns : Path) (old : Option Node) where
+  abbrev first : Path
+  first = front ++ n ∷ []
+
+  abbrev later : List Command
+  later = lacking tree first (m ∷ ns)
+
+  -- a path with another name
+  other_name : (k : Name) (q : Path) → (n ≡ k → ⊥) → LacksAt tree front (n ∷ m ∷ ns) (k ∷ q) old
+  other_name k q other =
+      let outside : below first (front ++ k ∷ q) ≡ None =
+      below_behind front (n ∷ []) (k ∷ q)
+      ∙ ap (λ (b : Bool). if b then Some q else None) (other_bytes (bytes_eq n k) n k other (bytes_eq-Decides n k).0) in
+      one_elsewhere (is_some (tree first)) first (front ++ k ∷ q) later old (other_itself first (front ++ k ∷ q) outside)
+      ∙ lacking_outside tree first (m ∷ ns) (front ++ k ∷ q) old outside
+      ∙ ap (λ (b : Bool). parent_by (if b then below q (m ∷ ns) else None) (tree (front ++ k ∷ q)) old)
+      (sym (other_bytes (bytes_eq k n) k n (λ same. other (sym same)) (bytes_eq-Decides k n).0))
+
+  made_first : (here : Option Node) → tree first ≡ here
+      → done_all first (if is_some here then later else Mkdir first ∷ later) old ≡ parent_by (Some (m ∷ ns)) here old
+  made_first (Some x) is = lacking_itself tree first (m ∷ ns) old
+  made_first None is =
+      ap (λ (b : Bool). done_all first later (if b then Some (Dir []) else old)) (same_itself first)
+      ∙ lacking_itself tree first (m ∷ ns) (Some (Dir []))
+
+  -- the first one
+  same_name : (q : Path) → ((j : Name) (rest : Path) → LacksAt tree first (m ∷ ns) (j ∷ rest) old)
+      → LacksAt tree front (n ∷ m ∷ ns) (n ∷ q) old
+  same_name [] more =
+      made_first (tree first) refl
+      ∙ ap (λ (b : Bool). parent_by (if b then Some (m ∷ ns) else None) (tree first) old) (sym (same_bytes n))
+  same_name (j ∷ rest) more =
+      one_elsewhere (is_some (tree first)) first (front ++ n ∷ j ∷ rest) later old
+      (same_behind front (n ∷ []) (n ∷ j ∷ rest) ∙ and_false (bytes_eq n n))
+      ∙ subst (λ (p : Path). done_all p later old ≡ parent_by (below (j ∷ rest) (m ∷ ns)) (tree p) old)
+      (append_assoc front (n ∷ []) (j ∷ rest)) (more j rest)
+      ∙ ap (λ (b : Bool). parent_by (if b then below (j ∷ rest) (m ∷ ns) else None) (tree (front ++ n ∷ j ∷ rest)) old) (sym (same_bytes n))
+
+lacks_at : (tree : Path → Option Node) (front ns : Path) (k : Name) (q : Path) (old : Option Node) → LacksAt tree front ns (k ∷ q) old
+lacks_at tree front [] k q old = refl
+lacks_at tree front (n ∷ []) k q old = last_by n k q (tree (front ++ k ∷ q)) old
+lacks_at tree front (n ∷ m ∷ ns) k q old = elim (same_name_or_not n k) [
+  | inl same ↦ subst (λ (l : Name). LacksAt tree front (n ∷ m ∷ ns) (l ∷ q) old) same
+      (same_name tree front n m ns old q (λ j rest. lacks_at tree (front ++ n ∷ []) (m ∷ ns) j rest old))
+  | inr other ↦ other_name tree front n m ns old k q other
+]
+
+-- ---- all of them
+
+some_directory : (o : Option Node) → is_directory o ≡ true → is_some o ≡ true
+some_directory None is = cc
+some_directory (Some x) is = refl
+
+kept_some : (rest : Path) (o : Option Node) → is_some o ≡ true → o ≡ with_parents_by (Some rest) o
+kept_some rest None some' = cc
+kept_some rest (Some x) some' = refl
+
+-- what is there has its parents
+rooted : (tree : Path → Option Node) → IsRooted tree → (p rest : Path) → is_some (tree (p ++ rest)) ≡ true → is_some (tree p) ≡ true
+rooted tree is p =
+    by_last_name (λ (rest : Path). is_some (tree (p ++ rest)) ≡ true → is_some (tree p) ≡ true)
+    (λ there. ap (λ (q : Path). is_some (tree q)) (sym (append-nil p)) ∙ there)
+    (λ rest n above there. above (some_directory (tree (p ++ rest)) (is (p ++ rest) n
+    (ap (λ (q : Path). is_some (tree q)) (append_assoc p rest (n ∷ [])) ∙ there))))
+
+-- a directory that is there has all of its parents
+all_there : (tree : Path → Option Node) (to path : Path) (left : Option Path) → IsRooted tree → is_directory (tree to) ≡ true
+    → below path to ≡ left → tree path ≡ with_parents_by left (tree path)
+all_there tree to path None is there outside = refl
+all_there tree to path (Some rest) is there inside =
+    kept_some rest (tree path) (rooted tree is path rest
+    (ap (λ (p : Path). is_some (tree p)) (sym (below_some path to rest inside)) ∙ some_directory (tree to) there))
+
+last_made : (to path : Path) (b : Bool) (old : Option Node) → same_path to path ≡ b
+    → done_all path (Mkdir to ∷ []) old ≡ (if b then Some (Dir []) else old)
+last_made to path b old same = ap (λ (c : Bool). if c then Some (Dir []) else old) same
+
+-- the root stays
+root_stays : (tree : Path → Option Node) (to : Path) → is_directory (tree []) ≡ true → is_directory (tree to) ≡ false
+    → done_all [] (Mkdir to ∷ []) (tree []) ≡ with_parents_by (Some to) (tree [])
+root_stays tree [] top none = cc
+root_stays tree (n ∷ to) top none = kept_some (n ∷ to) (tree []) (some_directory (tree []) top)
+
+-- what the last command leaves, of what the others leave
+last_by_rest : (tree : Path → Option Node) (to : Path) (k : Name) (q : Path) (left : Option Path) → below (k ∷ q) to ≡ left → tree to ≡ None
+    → done_all (k ∷ q) (Mkdir to ∷ []) (parent_by left (tree (k ∷ q)) (tree (k ∷ q))) ≡ with_parents_by left (tree (k ∷ q))
+last_by_rest tree to k q None outside none = last_made to (k ∷ q) false (tree (k ∷ q)) (other_front to (k ∷ q) outside)
+last_by_rest tree to k q (Some []) inside none =
+    let is : to ≡ k ∷ q = below_some (k ∷ q) to [] inside ∙ append-nil (k ∷ q) in
+    let empty : tree (k ∷ q) ≡ None = ap tree (sym is) ∙ none in
+    last_made to (k ∷ q) true (tree (k ∷ q)) ((same_path_decides to (k ∷ q)).1 is)
+    ∙ ap (λ (o : Option Node). with_parents_by (Some []) o) (sym empty)
+last_by_rest tree to k q (Some (m ∷ rest)) inside none =
+    last_made to (k ∷ q) false (parent_by (Some (m ∷ rest)) (tree (k ∷ q)) (tree (k ∷ q)))
+    (other_below to (k ∷ q) m rest (below_some (k ∷ q) to (m ∷ rest) inside))
+    ∙ parent_is (tree (k ∷ q))
+  where
+    parent_is : (here : Option Node) → parent_by (Some (m ∷ rest)) here here ≡ with_parents_by (Some (m ∷ rest)) here
+    parent_is None = refl
+    parent_is (Some x) = refl
+
+none_there : (o : Option Node) → is_some o ≡ is_directory o → is_directory o ≡ false → o ≡ None
+none_there None same none = refl
+none_there (Some x) same none = absurd (cc (same, none))
+
+module _ (tree : Path → Option Node) (to : Path) (top : is_directory (tree []) ≡ true) (is : IsRooted tree)
+    (whole : is_some (tree to) ≡ is_directory (tree to)) where
+  made_simple : AllByRecursion IsSimple (lacking tree [] to ++ Mkdir to ∷ [])
+  made_simple = simple_append (lacking tree [] to) (Mkdir to ∷ []) (lacking_simple tree [] to) (tt, tt)
+
+  made_there : is_directory (tree to) ≡ false → (path : Path)
+      → done_all path (lacking tree [] to ++ Mkdir to ∷ []) (tree path) ≡ with_parents to tree path
+  made_there none [] =
+      done_append [] (lacking tree [] to) (Mkdir to ∷ []) (tree [])
+      ∙ ap (done_all [] (Mkdir to ∷ [])) (lacking_itself tree [] to (tree []))
+      ∙ root_stays tree to top none
+  made_there none (k ∷ q) =
+      done_append (k ∷ q) (lacking tree [] to) (Mkdir to ∷ []) (tree (k ∷ q))
+      ∙ ap (done_all (k ∷ q) (Mkdir to ∷ [])) (lacks_at tree [] to k q (tree (k ∷ q)))
+      ∙ last_by_rest tree to k q (below (k ∷ q) to) refl (none_there (tree to) whole none)
+
+  made_by : (b : Bool) → is_directory (tree to) ≡ b → (path : Path)
+      → equations (if b then [] else lacking tree [] to ++ Mkdir to ∷ []) tree path ≡ with_parents to tree path
+  made_by true there path = all_there tree to path (below path to) is there refl
+  made_by false none path = done_is (lacking tree [] to ++ Mkdir to ∷ []) made_simple tree path ∙ made_there none path
+
+pub made_is_with_parents : MadeIsWithParents
+made_is_with_parents tree to top is whole path = made_by tree to top is whole (is_directory (tree to)) refl path

@@ -1,0 +1,8 @@
+use Rattle.std.proofs.Common.{◌≡◌, drop}
+use Rattle.lfs_command.specs.PathMap.{below}
+use Rattle.lfs_sync.specs.Sides.{names}
+use Rattle.lfs_sync.proofs.holding.is_below.Given as goal
+
+-- what is left of both decides
+abbrev pub invariant-each : goal.invariant-each
+invariant-each l = below (drop l.index (names l.at)) (drop l.index (names l.path)) ≡ below (names l.at) (names l.path)

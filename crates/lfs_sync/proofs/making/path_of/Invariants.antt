@@ -1,0 +1,7 @@
+use Rattle.std.proofs.Common.{◌≡◌, map, take}
+use Rattle.lfs_sync.specs.Sides.{names}
+use Rattle.lfs_sync.proofs.making.path_of.Given as goal
+
+-- the names so far
+abbrev pub invariant-each : goal.invariant-each
+invariant-each l = map (λ n. n.items) l.owned.items ≡ names (take l.name-index l.path)

@@ -1,0 +1,25 @@
+//! Commands that are planned.
+
+/// What is done at a path.
+///
+/// Source: own.
+#[derive(Clone, Copy, Drop)]
+pub enum PlannedKind {
+    /// What stands there is removed.
+    Rm,
+    /// A directory is made.
+    Mkdir,
+    /// A file's contents are put: those of the row at this place.
+    Put(usize),
+}
+
+/// A command that is planned, which keeps the text of its path.
+///
+/// Source: own.
+#[derive(Drop)]
+pub struct Planned {
+    /// The text of the path.
+    pub text: Vec<u8>,
+    /// What is done there.
+    pub kind: PlannedKind,
+}
